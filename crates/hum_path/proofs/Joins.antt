@@ -1,0 +1,29 @@
+-- Joins under different exclusive interpretations, place by place.
+use Rattle.std.proofs.Common.{◌≡◌, ℕ, suc, zero, ◌+◌, ◌<◌, false, List, [], ◌∷◌, length, drop, refl, arith, add-one}
+use Rattle.std.specs.declared.vec.Vec.{Vec}
+use Rattle.std.specs.declared.alloc.Global.{Global}
+use Rattle.hum_path.specs.declared.signs.Sign.{Sign}
+use Rattle.hum_path.specs.Spines.{texts}
+use Rattle.hum_path.specs.Rules.{mixes_join, has_mixed_join}
+
+pub mixes_short : (names : List (List ℕ)) (signs : List Sign) → length signs < 2 → false ≡ mixes_join names signs
+mixes_short [] [] h = refl
+mixes_short [] (s ∷ []) h = refl
+mixes_short [] (s ∷ t ∷ ss) h = refl
+mixes_short (n ∷ []) [] h = refl
+mixes_short (n ∷ []) (s ∷ []) h = refl
+mixes_short (n ∷ []) (s ∷ t ∷ ss) h = refl
+mixes_short (n ∷ m ∷ ns) [] h = refl
+mixes_short (n ∷ m ∷ ns) (s ∷ []) h = refl
+mixes_short (n ∷ m ∷ ns) (s ∷ t ∷ ss) h = absurd (omega arith)
+
+-- one place further
+pub mixed_more : (names : List (Vec ℕ Global)) (signs : List Sign) (j : ℕ) → length names ≡ length signs → j < length signs → mixes_join (texts (drop j names)) (drop j signs) ≡ false → has_mixed_join (texts (drop (j + 1) names)) (drop (j + 1) signs) ≡ has_mixed_join (texts (drop j names)) (drop j signs)
+mixed_more names signs j same within h = rw add-one (further names signs j same within h)
+  where
+    further : (names : List (Vec ℕ Global)) (signs : List Sign) (j : ℕ) → length names ≡ length signs → j < length signs → mixes_join (texts (drop j names)) (drop j signs) ≡ false → has_mixed_join (texts (drop (suc j) names)) (drop (suc j) signs) ≡ has_mixed_join (texts (drop j names)) (drop j signs)
+    further [] [] j same within h = absurd (omega arith)
+    further [] (s ∷ ss) j same within h = absurd (omega arith)
+    further (n ∷ ns) [] j same within h = absurd (omega arith)
+    further (n ∷ ns) (s ∷ ss) zero same within h = rw h refl
+    further (n ∷ ns) (s ∷ ss) (suc j) same within h = further ns ss j (omega arith) (omega arith) h

@@ -1,0 +1,7 @@
+pub mod Examples
+pub mod Joins
+pub mod Plain
+pub mod Staying
+pub mod Steady
+pub mod Widths
+pub mod Within

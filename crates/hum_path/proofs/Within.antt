@@ -1,0 +1,74 @@
+-- Each spine comes from a spine under a token.
+use Rattle.std.proofs.Common.{◌≡◌, ℕ, zero, suc, ◌+◌, ◌<◌, ◌≤◌, Bool, true, false, List, [], ◌∷◌, ◌++◌, length, map, arith, inl, inr, ◌==◌, Some, slice_get, subst}
+use Rattle.std.proofs.lemmas.Option.{same_Some}
+use Rattle.std.proofs.lemmas.List.{length-map}
+use Rattle.std.specs.List.{AllByRecursion}
+use Rattle.std.proofs.lemmas.Bool.{cases_Bool}
+use Rattle.hum_path.specs.declared.signs.Sign.{Sign}
+use Rattle.hum_path.specs.declared.signs.Sign.TheVariants.{Split, Join, Exchange, Add, End, Exclusive, Plain}
+use Rattle.hum_path.specs.declared.moved.Move.{Move}
+use Rattle.hum_record.specs.declared.SpinedKind.TheVariants.{Local, Interpretation, Values}
+use Rattle.hum_record.specs.Row.{Row, Comment, Spined, tokens_of}
+use Rattle.hum_path.specs.Sign.{sign_of, is_join, is_exchange, steers}
+use Rattle.hum_path.specs.Step.{ComeFrom}
+use Rattle.hum_path.specs.Spines.{Path, Unopened, Spines, exchanges, partner, heirs, heirs_from, same_upto, moves_at, source}
+
+-- moves that come from places below n
+abbrev pub From : ℕ → List Move → Type 0
+From n = AllByRecursion (λ m. source m < n)
+
+both : (n : ℕ) (ms ks : List Move) → From n ms → From n ks → From n (ms ++ ks)
+both n [] ks h k = k
+both n (m ∷ ms) ks h k = (h.0, both n ms ks h.1 k)
+
+exchanged_below : (n j : ℕ) (signs : List Sign) → j + length signs ≤ n → AllByRecursion (λ p. p < n) (exchanges j signs)
+exchanged_below n j [] h = tt
+exchanged_below n j (sign ∷ signs) h = elim (cases_Bool (is_exchange sign)) as (λ _. AllByRecursion (λ p. p < n) (exchanges j (sign ∷ signs))) [
+  | inl w ↦ rw w (omega arith, exchanged_below n (j + 1) signs (omega arith))
+  | inr w ↦ rw w (exchanged_below n (j + 1) signs (omega arith))
+]
+
+partner_below : (n j : ℕ) (pair : List ℕ) → AllByRecursion (λ p. p < n) pair → j < n → partner pair j < n
+partner_below n j [] h below = below
+partner_below n j (a ∷ []) h below = below
+partner_below n j (a ∷ b ∷ more) h below = elim (cases_Bool (j == a)) as (λ _. partner (a ∷ b ∷ more) j < n) [ inl w ↦ rw w h.1.0 | inr w ↦ rw w h.0 ]
+
+heirs_below : (n j : ℕ) (pair : List ℕ) (after_join : Bool) (sign : Sign) (signs : List Sign) → AllByRecursion (λ p. p < n) pair → j < n → From n (heirs pair j after_join sign signs)
+heirs_below n j pair after_join Split signs p h = (h, (h, tt))
+heirs_below n j pair true Join signs p h = tt
+heirs_below n j pair false Join signs p h = (h, tt)
+heirs_below n j pair after_join Exchange signs p h = (partner_below n j pair p h, tt)
+heirs_below n j pair after_join Add signs p h = (h, (h, tt))
+heirs_below n j pair after_join End signs p h = tt
+heirs_below n j pair after_join Exclusive signs p h = (h, tt)
+heirs_below n j pair after_join Plain signs p h = (h, tt)
+
+all_below : (n j : ℕ) (pair : List ℕ) (after_join : Bool) (signs : List Sign) → AllByRecursion (λ p. p < n) pair → j + length signs ≤ n → From n (heirs_from pair j after_join signs)
+all_below n j pair after_join [] p h = tt
+all_below n j pair after_join (sign ∷ signs) p h =
+    both n (heirs pair j after_join sign signs) _ (heirs_below n j pair after_join sign signs p (omega arith)) (all_below n (j + 1) pair (is_join sign) signs p (omega arith))
+
+pub same_below : (n j m : ℕ) → j + m ≤ n → From n (same_upto j m)
+same_below n j zero h = tt
+same_below n j (suc m) h = (omega arith, same_below n (j + 1) m (omega arith))
+
+-- under an interpretation
+pub moves_below : (path : Path) (tokens : List (List ℕ)) → From (length tokens) (moves_at path tokens)
+moves_below Unopened tokens = same_below (length tokens) 0 (length tokens) (omega arith)
+moves_below (Spines names) tokens =
+    let signs = map sign_of tokens in
+    let size : length signs ≡ length tokens = length-map tokens sign_of in
+    all_below (length tokens) 0 (exchanges 0 signs) false signs (exchanged_below (length tokens) 0 signs (omega (arith, size))) (omega (arith, size))
+
+-- at a place
+pub from_at : (n : ℕ) (ms : List Move) (i : ℕ) (m : Move) → From n ms → slice_get ms i ≡ Some m → source m < n
+from_at n [] i m h e = cc
+from_at n (k ∷ ms) zero m h e = subst (λ (x : Move). source x < n) (same_Some k m e) h.0
+from_at n (k ∷ ms) (suc i) m h e = from_at n ms i m h.1 e
+
+-- under a record that asks something of the spines
+pub steered_below : (path : Path) (row : Row) → steers row ≡ true → ComeFrom row (moves_at path (tokens_of row))
+steered_below path (Comment text) h = cc
+steered_below path (Spined Local tokens) h = cc
+steered_below path (Spined Values tokens) h = cc
+steered_below path (Spined Interpretation tokens) h = moves_below path tokens

@@ -1,0 +1,6 @@
+pub mod Sign
+pub mod Spines
+pub mod Rules
+pub mod Score
+pub mod Chains
+pub mod Step

@@ -1,0 +1,44 @@
+-- What one step over a record answers.
+use Rattle.std.specs.Prelude.{◌≡◌, ◌≢◌, ◌<◌, ◌≤◌, Bool, false, ℕ, List, [], length, None, Some, Result, Ok, Err}
+use Rattle.std.specs.List.{list_any, find, AllByRecursion}
+use Rattle.std.specs.declared.vec.Vec.{Vec}
+use Rattle.std.specs.declared.alloc.Global.{Global}
+use Rattle.hum_record.specs.Row.{Row, Comment, Spined}
+use Rattle.hum_record.specs.Spelling.{is_empty}
+use Rattle.hum_path.specs.declared.moved.Move.{Move}
+use Rattle.hum_path.specs.declared.moved.Moves.{Moves}
+use Rattle.hum_path.specs.declared.PathFault.{PathFault}
+use Rattle.hum_path.specs.declared.PathFault.TheVariants.{Memory}
+use Rattle.hum_path.specs.declared.steering.NextSpines.{NextSpines}
+use Rattle.hum_path.specs.Spines.{Path, moves, after, moves_at, names_after, source, texts}
+use Rattle.hum_path.specs.Rules.{fault_of, breaks, in_order, Refuses}
+
+-- each spine comes from one under a token of the record; a global comment has no tokens
+abbrev pub ComeFrom : Row → List Move → Type 0
+ComeFrom (Comment text) found = Unit {0}
+ComeFrom (Spined kind tokens) found = AllByRecursion (λ move. source move < length tokens) found
+
+-- where a record that asks nothing of the spines breaks no rule, all stay; else the first rule that it breaks
+abbrev pub IsStay : Path → Row → Result Moves PathFault → Type 0
+IsStay path row (Ok found) =
+    (fault_of path row ≡ None)
+    × (after path row ≡ path)
+    × (found ≡ moves path row)
+    × ComeFrom row found
+IsStay path row (Err fault) = (fault_of path row ≡ Some fault) × (fault ≢ Memory)
+
+-- where an interpretation breaks no rule, the moves and the exclusive interpretations after it;
+-- else the first rule that it breaks
+abbrev pub IsStep : Path → List (List ℕ) → Result NextSpines PathFault → Type 0
+IsStep path tokens (Ok next) =
+    (find (breaks path tokens) in_order ≡ None)
+    × (next.moves.items ≡ moves_at path tokens)
+    × (texts next.names.items ≡ names_after path tokens)
+    × (length next.names.items ≤ 4096)
+IsStep path tokens (Err fault) = Refuses fault (find (breaks path tokens) in_order)
+
+-- the fields of a path
+pub record IsTidy (opened waits : Bool) (names : List (Vec ℕ Global)) : Type 0 where
+  pub at_most : length names ≤ 4096
+  pub unopened : opened ≡ false → names ≡ []
+  pub waiting : waits ≡ list_any is_empty (texts names)

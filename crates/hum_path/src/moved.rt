@@ -1,0 +1,102 @@
+//! Where the spines after a record come from.
+ghost use Rattle.std.specs.Prelude.{◌≡◌, ◌==◌, ◌<◌, ◌≤◌, Some, length, slice_get, IfSome, IfNone};
+ghost use Rattle.hum_path.specs.Spines.{same_upto};
+
+use std::marker::Model;
+
+/// Where a spine after a record comes from. Spines are counted from 0, from the left.
+#[derive(Clone, Copy, Debug, PartialEq, Eq)]
+pub enum Move {
+    /// It is that spine.
+    Same(u16),
+    /// It is the left child of that spine.
+    Left(u16),
+    /// It is the right child of that spine.
+    Right(u16),
+    /// It is what the spines from the first to the last are joined to.
+    Join(u16, u16),
+    /// It was added to the right of that spine.
+    Added(u16),
+}
+
+/// For each spine after a record, where it comes from.
+#[derive(Debug, Drop)]
+pub struct Moves {
+    // a list, or so many spines that stay where they are
+    listed: Option<Vec<Move>>,
+    width: u16,
+}
+
+impl Model for Moves {
+    ghost use Rattle.std.specs.Prelude.{List, ◌≤◌};
+    ghost use Rattle.hum_path.specs.declared.moved.Move.{Move};
+    ghost use Rattle.hum_path.specs.Spines.{moves_in};
+
+    ghost Value = { List Move };
+
+    ghost view = { λ m. moves_in m.listed m.width };
+
+    ghost invariant = { λ m. m.width ≤ 4096 };
+}
+
+#[tactic(auto, using(crate::proofs::Steady::same_upto_length))]
+impl Moves {
+    /// So many spines, each where it was.
+    pub(crate) fn kept(width: u16) -> Moves
+        requires { width ≤ 4096 }
+        ensures { result ≡ same_upto 0 width }
+    {
+        Moves {
+            listed: None,
+            width,
+        }
+    }
+
+    pub(crate) fn listed(moves: Vec<Move>) -> Moves
+        ensures { result ≡ moves.items }
+    {
+        Moves {
+            listed: Some(moves),
+            width: 0,
+        }
+    }
+
+    /// How many spines there are after the record.
+    pub fn len(&self) -> usize
+        ensures { result ≡ length self.now }
+    {
+        match &self.listed {
+            None => self.width as usize,
+            Some(moves) => moves.len(),
+        }
+    }
+
+    /// Whether there are no spines after the record.
+    pub fn is_empty(&self) -> bool
+        ensures { result ≡ (length self.now == 0) }
+    {
+        self.len() == 0
+    }
+
+    /// Where a spine comes from.
+    pub fn get(&self, i: usize) -> Move
+        requires { i < length self.now }
+        ensures { slice_get self.now i ≡ Some result }
+    {
+        match &self.listed {
+            None => Move::Same(i as u16),
+            Some(moves) => moves[i],
+        }
+    }
+
+    /// The moves as a slice, or none where each spine stays where it is.
+    pub fn as_listed(&self) -> Option<&[Move]>
+        ensures listed { IfSome result (λ moves. moves.now ≡ self.now) }
+        ensures kept { IfNone result (self.now ≡ same_upto 0 (length self.now)) }
+    {
+        match &self.listed {
+            None => None,
+            Some(moves) => Some(moves.as_slice()),
+        }
+    }
+}

@@ -1,0 +1,156 @@
+//! The tests of the path rules.
+ghost use Rattle.std.specs.Prelude.{◌≡◌, ◌≢◌, ◌<◌, length, drop, false, map, IfOk, IfSome};
+ghost use Rattle.hum_path.specs.declared.PathFault.TheVariants.{Memory};
+ghost use Rattle.std.specs.List.{list_any, list_all, find};
+ghost use Rattle.hum_record.specs.Spelling.{is_empty};
+ghost use Rattle.hum_record.specs.Row.{tokens_of};
+ghost use Rattle.hum_path.specs.Sign.{sign_of, is_exclusive, is_path_indicator};
+ghost use Rattle.hum_path.specs.Spines.{path_in, texts};
+ghost use Rattle.hum_path.specs.Rules.{has_bare, stays_unnamed, has_unnamed, has_lone_join};
+ghost use Rattle.hum_path.specs.Rules.{mixes_join, has_mixed_join, names_and_steers};
+ghost use Rattle.hum_path.specs.Rules.{breaks_as_text, in_order};
+
+use crate::PathFault;
+use crate::signs::{Sign, token_sign};
+use hum_record::Record;
+use std::alloc::{AllocError, Global};
+
+pub fn signs(alloc: Global, row: &Record) -> Result<Vec<Sign>, AllocError>
+    ensures { IfOk result (λ v. v.items ≡ map sign_of (tokens_of row.now)) }
+{
+    let mut signs = Vec::new(alloc);
+    for j in 0..row.width() {
+        signs.push(token_sign(row.token(j)))?;
+    }
+    Ok(signs)
+}
+
+pub fn has_bare(row: &Record) -> bool
+    ensures { result ≡ has_bare (tokens_of row.now) }
+{
+    for j in 0..row.width() {
+        if b"**".as_slice() == row.token(j) {
+            return true;
+        }
+    }
+    false
+}
+
+fn stays_unnamed(name: &[u8], sign: Sign) -> bool
+    ensures { result ≡ stays_unnamed name.now sign }
+{
+    name.is_empty() && !sign.is_exclusive()
+}
+
+pub fn has_unnamed(names: &[Vec<u8>], signs: &[Sign]) -> bool
+    requires { length names.now ≡ length signs.now }
+    ensures { result ≡ has_unnamed (texts names.now) signs.now }
+{
+    for j in 0..signs.len() {
+        if stays_unnamed(&names[j], signs[j]) {
+            return true;
+        }
+    }
+    false
+}
+
+pub fn has_lone_join(signs: &[Sign]) -> bool
+    ensures { result ≡ has_lone_join false signs.now }
+{
+    let mut after_join = false;
+    for j in 0..signs.len() {
+        let here = signs[j].is_join();
+        let before_join = signs.len() - j > 1 && signs[j + 1].is_join();
+        if here && !(after_join || before_join) {
+            return true;
+        }
+        after_join = here;
+    }
+    false
+}
+
+fn mixes_join(names: &[Vec<u8>], signs: &[Sign], j: usize) -> bool
+    requires same { length names.now ≡ length signs.now }
+    requires within { j < length signs.now }
+    ensures { result ≡ mixes_join (texts (drop j names.now)) (drop j signs.now) }
+{
+    if signs.len() - j < 2 {
+        return false;
+    }
+    signs[j].is_join() && signs[j + 1].is_join() && names[j].as_slice() != names[j + 1].as_slice()
+}
+
+pub fn has_mixed_join(names: &[Vec<u8>], signs: &[Sign]) -> bool
+    requires { length names.now ≡ length signs.now }
+    ensures { result ≡ has_mixed_join (texts names.now) signs.now }
+{
+    for j in 0..signs.len() {
+        if mixes_join(names, signs, j) {
+            return true;
+        }
+    }
+    false
+}
+
+pub fn all_exclusive(signs: &[Sign]) -> bool
+    ensures { result ≡ list_all is_exclusive signs.now }
+{
+    signs.iter().all(|s| s.is_exclusive())
+}
+
+pub fn names_and_steers(signs: &[Sign]) -> bool
+    ensures { result ≡ names_and_steers signs.now }
+{
+    any_exclusive(signs) && any_indicator(signs)
+}
+
+fn any_exclusive(signs: &[Sign]) -> bool
+    ensures { result ≡ list_any is_exclusive signs.now }
+{
+    signs.iter().any(|s| s.is_exclusive())
+}
+
+fn any_indicator(signs: &[Sign]) -> bool
+    ensures { result ≡ list_any is_path_indicator signs.now }
+{
+    signs.iter().any(|s| s.is_path_indicator())
+}
+
+/// Whether a spine waits for its exclusive interpretation.
+pub fn has_nameless(names: &[Vec<u8>]) -> bool
+    ensures { result ≡ list_any is_empty (texts names.now) }
+{
+    for name in names {
+        if name.is_empty() {
+            return true;
+        }
+    }
+    false
+}
+
+/// The first rule that a record breaks which asks nothing of the spines.
+pub fn text_fault(
+    opened: bool,
+    waits: bool,
+    names: &[Vec<u8>],
+    row: &Record,
+) -> Option<PathFault>
+    requires { waits ≡ list_any is_empty (texts names.now) }
+    ensures first { result
+        ≡ find (breaks_as_text (path_in opened (texts names.now)) (tokens_of row.now)) in_order }
+    ensures told { IfSome result (λ fault. fault ≢ Memory) }
+{
+    if !opened {
+        return Some(PathFault::P1);
+    }
+    if names.is_empty() {
+        return Some(PathFault::P7);
+    }
+    if row.width() != names.len() {
+        return Some(PathFault::P2);
+    }
+    if waits {
+        return Some(PathFault::P6);
+    }
+    None
+}

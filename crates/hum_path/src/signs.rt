@@ -1,0 +1,99 @@
+//! What a token asks of the spines.
+ghost use Rattle.std.specs.Prelude.{◌≡◌, not};
+ghost use Rattle.std.specs.List.{list_all};
+ghost use Rattle.hum_record.specs.Row.{tokens_of};
+ghost use Rattle.hum_path.specs.Sign.{sign_of, is_join, is_exchange, is_exclusive, is_plain};
+ghost use Rattle.hum_path.specs.Sign.{is_path_indicator, all_plain, steers};
+
+use hum_record::{Kind, Record};
+
+/// What a token of an interpretation asks of the spines (Humdrum Toolkit: Reference Manual, syntax).
+#[derive(Clone, Copy, Debug, PartialEq, Eq)]
+pub enum Sign {
+    /// `*^`: two spines
+    Split,
+    /// `*v`: one spine of all that stand side by side
+    Join,
+    /// `*x`: two spines change places
+    Exchange,
+    /// `*+`: one spine more, to the right
+    Add,
+    /// `*-`: the end of a spine
+    End,
+    /// `**name`: what the spine's data are
+    Exclusive,
+    /// nothing
+    Plain,
+}
+
+impl Sign {
+    pub fn is_join(self) -> bool
+        ensures { result ≡ is_join self }
+    {
+        matches!(self, Sign::Join)
+    }
+
+    pub fn is_exchange(self) -> bool
+        ensures { result ≡ is_exchange self }
+    {
+        matches!(self, Sign::Exchange)
+    }
+
+    pub fn is_exclusive(self) -> bool
+        ensures { result ≡ is_exclusive self }
+    {
+        matches!(self, Sign::Exclusive)
+    }
+
+    pub fn is_plain(self) -> bool
+        ensures { result ≡ is_plain self }
+    {
+        matches!(self, Sign::Plain)
+    }
+
+    pub fn is_path_indicator(self) -> bool
+        ensures { result ≡ is_path_indicator self }
+    {
+        !matches!(self, Sign::Exclusive | Sign::Plain)
+    }
+}
+
+/// What a token of an interpretation asks.
+pub fn token_sign(token: &[u8]) -> Sign
+    ensures { result ≡ sign_of token.now }
+{
+    if token.starts_with(b"**") {
+        Sign::Exclusive
+    } else if token == b"*^".as_slice() {
+        Sign::Split
+    } else if token == b"*v".as_slice() {
+        Sign::Join
+    } else if token == b"*x".as_slice() {
+        Sign::Exchange
+    } else if token == b"*+".as_slice() {
+        Sign::Add
+    } else if token == b"*-".as_slice() {
+        Sign::End
+    } else {
+        Sign::Plain
+    }
+}
+
+/// Whether each token of an interpretation asks nothing of the spines.
+fn all_plain(row: &Record) -> bool
+    ensures { result ≡ all_plain (tokens_of row.now) }
+{
+    for j in 0..row.width() {
+        if !token_sign(row.token(j)).is_plain() {
+            return false;
+        }
+    }
+    true
+}
+
+/// Whether a record has a path indicator or an exclusive interpretation.
+pub fn steers(row: &Record) -> bool
+    ensures { result ≡ steers row.now }
+{
+    row.kind() == Kind::Interpretation && !all_plain(row)
+}

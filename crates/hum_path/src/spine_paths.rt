@@ -1,0 +1,165 @@
+//! The spines of a score, record by record.
+ghost use Rattle.std.specs.Prelude.{◌≡◌, ◌≢◌, ◌<◌, ◌≤◌, [], true, false, IsTrue};
+ghost use Rattle.std.specs.Prelude.{if◌then◌else◌, slice_index_or, Ok, Err, IfOk, IfErr, OnOk, None};
+ghost use Rattle.hum_path.specs.Sign.{steers};
+ghost use Rattle.hum_path.specs.Spines.{Unopened, exclusives, width, moves, after};
+ghost use Rattle.hum_path.specs.Rules.{fault_of, Refuses, is_unfinished, is_closed};
+ghost use Rattle.hum_path.specs.Step.{ComeFrom, IsStay};
+ghost use Rattle.hum_path.specs.declared.PathFault.TheVariants.{Memory, P8};
+
+use crate::PathFault;
+use crate::moved::Moves;
+use crate::rules::{has_nameless, text_fault};
+use crate::signs::steers;
+use crate::steering::{NextSpines, spines_after};
+use hum_record::{Kind, Record};
+use std::alloc::Global;
+use std::marker::Model;
+
+/// The spines of a score, record by record.
+#[derive(Debug, Drop)]
+pub struct Paths {
+    alloc: Global,
+    opened: bool,
+    names: Vec<Vec<u8>>,
+    // whether an added spine waits for its exclusive interpretation
+    waits: bool,
+    spent: bool,
+}
+
+impl Model for Paths {
+    ghost use Rattle.hum_path.specs.Spines.{Tracked, path_in, texts};
+    ghost use Rattle.hum_path.specs.Step.{IsTidy};
+
+    ghost Value = { Tracked };
+
+    ghost view = { λ p. record { path = path_in p.opened (texts p.names.items); spent = p.spent } };
+
+    ghost invariant = { λ p. IsTidy p.opened p.waits p.names.items };
+}
+
+impl Paths {
+    /// No spines yet: the first record that isn't a global comment opens them.
+    pub fn new(alloc: Global) -> Self
+        ensures { result ≡ record { path = Unopened; spent = false } }
+    {
+        Paths {
+            alloc,
+            opened: false,
+            names: Vec::new(alloc),
+            waits: false,
+            spent: false,
+        }
+    }
+
+    /// How many spines there are, at most 4,096.
+    pub fn width(&self) -> usize
+        ensures width { result ≡ width self.now.path }
+        ensures at_most { result ≤ 4096 }
+    {
+        self.names.len()
+    }
+
+    /// The exclusive interpretation of a spine, counted from 0: empty for an added spine until it has
+    /// its own.
+    pub fn exclusive(&self, j: usize) -> &[u8]
+        requires { j < width self.now.path }
+        ensures { result.now ≡ slice_index_or (exclusives self.now.path) j [] }
+    {
+        self.names[j].as_slice()
+    }
+
+    /// Whether no spine is open.
+    pub fn is_closed(&self) -> bool
+        ensures { result ≡ is_closed self.now.path }
+    {
+        self.names.is_empty()
+    }
+
+    /// Whether a score may end here.
+    ///
+    /// # Errors
+    /// P8 while a spine is open.
+    pub fn close(&self) -> Result<(), PathFault>
+        ensures { result ≡ (if is_unfinished self.now.path then Err P8 else Ok tt) }
+    {
+        if self.names.is_empty() {
+            Ok(())
+        } else {
+            Err(PathFault::P8)
+        }
+    }
+
+    /// Takes one more record, and says where each spine after it comes from.
+    ///
+    /// A record without a path indicator or an exclusive interpretation takes no memory.
+    ///
+    /// # Errors
+    /// The first path rule that the record breaks, and then nothing changes; or want of memory, which
+    /// each later call answers again.
+    pub fn step(&mut self, row: &Record) -> Result<Moves, PathFault>
+        // No rule is broken, and the spines are those after the record.
+        ensures sound { OnOk result (fault_of self.old.path row.now ≡ None) }
+        ensures moves { IfOk result (λ found. found ≡ moves self.old.path row.now) }
+        ensures after { OnOk result (self.new ≡ record self.old { path = after self.old.path row.now }) }
+        ensures sources { IfOk result (ComeFrom row.now) }
+
+        // The first rule that is broken. Then nothing changes.
+        ensures refused { IfErr result (λ fault. Refuses fault (fault_of self.old.path row.now)) }
+        ensures unchanged { IfErr result (λ fault. fault ≢ Memory → self.new ≡ self.old) }
+
+        // After want of memory there is no more.
+        ensures spent { IfErr result (λ fault. fault ≡ Memory → IsTrue self.new.spent) }
+        ensures again { IsTrue self.old.spent → result ≡ Err Memory }
+    {
+        if self.spent {
+            return Err(PathFault::Memory);
+        }
+        if steers(row) {
+            self.steer(row)
+        } else {
+            self.stay(row)
+        }
+    }
+
+    /// The same of a record that asks nothing of the spines.
+    fn stay(&self, row: &Record) -> Result<Moves, PathFault>
+        requires { steers row.now ≡ false }
+        ensures { IsStay self.now.path row.now result }
+    {
+        match row.kind() {
+            Kind::Global => Ok(Moves::kept(self.names.len() as u16)),
+            _ => match text_fault(self.opened, self.waits, &self.names, row) {
+                Some(fault) => Err(fault),
+                None => Ok(Moves::kept(self.names.len() as u16)),
+            },
+        }
+    }
+
+    /// The same of an interpretation that asks something of the spines.
+    fn steer(&mut self, row: &Record) -> Result<Moves, PathFault>
+        requires steers { steers row.now ≡ true }
+        requires alive { self.old.spent ≡ false }
+        ensures sound { OnOk result (fault_of self.old.path row.now ≡ None) }
+        ensures moves { IfOk result (λ found. found ≡ moves self.old.path row.now) }
+        ensures after { OnOk result (self.new ≡ record self.old { path = after self.old.path row.now }) }
+        ensures sources { IfOk result (ComeFrom row.now) }
+        ensures refused { IfErr result (λ fault. Refuses fault (fault_of self.old.path row.now)) }
+        ensures unchanged { IfErr result (λ fault. fault ≢ Memory → self.new ≡ self.old) }
+        ensures spent { IfErr result (λ fault. fault ≡ Memory → IsTrue self.new.spent) }
+    {
+        match spines_after(self.alloc, self.opened, &self.names, row) {
+            Ok(NextSpines { moves, names }) => {
+                self.waits = has_nameless(&names);
+                self.names = names;
+                self.opened = true;
+                Ok(Moves::listed(moves))
+            }
+            Err(PathFault::Memory) => {
+                self.spent = true;
+                Err(PathFault::Memory)
+            }
+            Err(fault) => Err(fault),
+        }
+    }
+}

@@ -1,0 +1,223 @@
+//! A score, read from a source record by record.
+ghost use Rattle.std.specs.Prelude.{◌≡◌, ◌≢◌, ℕ, ◌<◌, ◌≤◌, ◌⊎◌, true, false, length};
+ghost use Rattle.std.specs.Prelude.{List, [], None, Some, Ok, Err, IfOk, IfErr, IfSome, OnOk};
+ghost use Rattle.hum_path.specs.Spines.{after};
+ghost use Rattle.hum_path.specs.Rules.{fault_of, Refuses};
+ghost use Rattle.std.specs.Io.KnownBytes.{Consumes, IsAtEnd};
+ghost use Rattle.hum_read.specs.Denoted.{end_at};
+ghost use Rattle.hum_read.specs.Reading.{answer_of, stop_by};
+ghost use Rattle.hum_record.specs.Spelling.{has_byte};
+ghost use Rattle.hum_text.specs.Reading.{NeedsRead, IsUnread, bytes_read, left_to_do};
+
+use crate::ReadError;
+use crate::rules::{path_rule, record_rule, text_rule};
+use hum_path::{PathFault, Paths};
+use hum_record::Record;
+use hum_stage::{Command, End, Fault, Rule};
+use hum_text::calls::Source;
+use hum_text::reader as lines;
+use hum_text::reader::LineReader;
+use hum_text::{Limits, TextFault};
+use std::alloc::Global;
+use std::marker::Model;
+
+/// What a poll gives.
+#[derive(Debug, Drop)]
+pub enum Step {
+    /// The next record.
+    Record(Record),
+    /// Nothing yet: the poll has made a read, which gave bytes.
+    More,
+    /// Nothing more: every record was given, or a rule is broken.
+    End(End),
+}
+
+/// The end of a score that breaks a rule in this line.
+fn broken(stage: u8, line: u64, rule: Rule) -> End
+    ensures { result ≡ end_at stage (Some (line, rule)) }
+{
+    End::Broken(Fault {
+        stage,
+        command: Command::Read,
+        line,
+        rule,
+    })
+}
+
+/// Why a reader stops after so many lines, by a fault of the next.
+fn stop(stage: u8, given: u64, fault: TextFault) -> Result<End, ReadError>
+    requires { given ≤ 4294967295 }
+    ensures { result ≡ stop_by stage given fault }
+{
+    match text_rule(fault) {
+        Some(rule) => Ok(broken(stage, given + 1, rule)),
+        None if fault == TextFault::Read => Err(ReadError::Read),
+        None => Err(ReadError::Memory),
+    }
+}
+
+/// What a reader answers that has stopped.
+fn answer(why: Result<End, ReadError>) -> Result<Step, ReadError>
+    ensures { result ≡ answer_of why }
+{
+    match why {
+        Ok(end) => Ok(Step::End(end)),
+        Err(error) => Err(error),
+    }
+}
+
+/// Takes the spines past a record.
+fn pass(paths: &mut Paths, row: &Record) -> Result<(), PathFault>
+    ensures sound { OnOk result (fault_of paths.old.path row.now ≡ None) }
+    ensures after { OnOk result (paths.new.path ≡ after paths.old.path row.now) }
+    ensures refused { IfErr result (λ fault. Refuses fault (fault_of paths.old.path row.now)) }
+{
+    match paths.step(row) {
+        Ok(_) => Ok(()),
+        Err(fault) => Err(fault),
+    }
+}
+
+/// The records of a source: the stage `read`.
+#[derive(Drop)]
+pub struct ScoreReader<R> {
+    alloc: Global,
+    stage: u8,
+    lines: LineReader<R>,
+    paths: Paths,
+    // the end that was told, or why nothing more can be read
+    stopped: Option<Result<End, ReadError>>,
+}
+
+impl<R> Model for ScoreReader<R> {
+    ghost use Rattle.hum_read.specs.Reading.{Scores, IsTidy};
+
+    ghost Value = { Scores R };
+
+    ghost view = { λ r. record {
+        stage = r.stage; lines = r.lines; spines = r.paths; stopped = r.stopped } };
+
+    ghost invariant = { λ r. IsTidy r.lines r.stopped };
+}
+
+impl<R: Source> ScoreReader<R> {
+    ghost use Rattle.hum_record.specs.Row.{Row};
+    ghost use Rattle.hum_read.specs.Reading.{IsFresh, HasRead, GivesNext, ReadsLine};
+    ghost use Rattle.hum_read.specs.Reading.{IsWholeText, Denotes};
+    ghost use Rattle.hum_read.specs.Reading.{IsCalledOnce, Nears, stop_of, answer_of, refusal};
+
+    /// The reader of a source of which nothing was read yet, as the stage of this number, from 1.
+    pub fn new(alloc: Global, stage: u8, source: R) -> ScoreReader<R>
+        ensures fresh { IsFresh result }
+        ensures opening { (all : List ℕ) → HasRead result all [] all }
+        ensures stage { result.stage ≡ stage }
+        ensures source { result.lines.source ≡ source }
+    {
+        ScoreReader {
+            alloc,
+            stage,
+            lines: LineReader::new(alloc, source, Limits::standard()),
+            paths: Paths::new(alloc),
+            stopped: None,
+        }
+    }
+
+    /// The last line that was given is refused by a rule, or memory ran out.
+    fn refuse(&mut self, rule: Option<Rule>) -> Result<Step, ReadError>
+        ensures answer { result ≡ answer_of (refusal self.old.stage self.old.lines.given rule) }
+        ensures state { self.new ≡ record self.old {
+            stopped = Some (refusal self.old.stage self.old.lines.given rule) } }
+    {
+        let why = match rule {
+            Some(rule) => Ok(broken(self.stage, self.lines.given(), rule)),
+            None => Err(ReadError::Memory),
+        };
+        self.stopped = Some(why);
+        answer(why)
+    }
+
+    /// What a line gives that was just read.
+    fn read_line(&mut self, text: Vec<u8>) -> Result<Step, ReadError>
+        requires going { self.old.stopped ≡ None }
+        requires short { length text.items ≤ 1048576 }
+        requires one_line { has_byte 10 text.items ≡ false }
+        requires few { self.old.lines.given ≤ 4294967295 }
+        ensures gives { ReadsLine self.old text.items result self.new }
+        ensures lines { self.new.lines ≡ self.old.lines }
+        ensures stage { self.new.stage ≡ self.old.stage }
+        ensures stops { self.new.stopped ≡ stop_of result }
+        ensures told { result ≢ Ok Step.More }
+        ensures not_read { result ≢ Err ReadError.Read }
+    {
+        let record = match Record::parse(self.alloc, text) {
+            Ok(record) => record,
+            Err(fault) => return self.refuse(record_rule(fault)),
+        };
+        match pass(&mut self.paths, &record) {
+            Ok(()) => Ok(Step::Record(record)),
+            Err(fault) => self.refuse(path_rule(fault)),
+        }
+    }
+
+    /// How a text without fault ends.
+    fn close(&self) -> End
+        ensures { (all : List ℕ) (rows : List Row) (rest : List ℕ) → HasRead self.now all rows rest
+            → IsWholeText all rows → Denotes self.now.stage all rows result }
+    {
+        match self.paths.close() {
+            Ok(()) => End::Closed,
+            Err(_) => broken(self.stage, self.lines.given() + 1, Rule::P8),
+        }
+    }
+
+    /// The next step.
+    ///
+    /// # Errors
+    /// A failed read, and want of memory, which each later poll answers again.
+    pub fn poll(&mut self) -> Result<Step, ReadError>
+        // What is given depends on the bytes read so far alone, however the input goes on.
+        ensures gives { self.old.stopped ≡ None → GivesNext self.old result self.new }
+
+        // An end and an error last.
+        ensures stops { self.new.stopped ≡ stop_of result }
+        ensures again { IfSome self.old.stopped
+            (λ s. (result ≡ answer_of s) × (self.new ≡ self.old)) }
+        ensures stage { self.new.stage ≡ self.old.stage }
+
+        // It reads where it has to, and then once.
+        ensures unread { ¬ NeedsRead self.old.lines → IsUnread self.old.lines self.new.lines }
+        ensures once { NeedsRead self.old.lines
+            → IsCalledOnce R.calls R.failed self.old.lines.source self.new.lines.source }
+        ensures consumes { Consumes (R.remaining self.old.lines.source)
+            (R.remaining self.new.lines.source) (bytes_read self.old.lines self.new.lines) }
+        ensures at_end { self.new.lines.ended ≡ true
+            → (self.old.lines.ended ≡ true) ⊎ IsAtEnd (R.remaining self.new.lines.source) }
+        ensures failed { result ≡ Err ReadError.Read
+            → (self.old.stopped ≡ Some (Err ReadError.Read))
+            ⊎ (R.failed self.new.lines.source ≡ true) }
+
+        // So each run of polls ends.
+        ensures nears { IfOk result (λ step.
+            Nears step (left_to_do self.old.lines) (left_to_do self.new.lines)) }
+    {
+        match self.stopped {
+            Some(Ok(end)) => return Ok(Step::End(end)),
+            Some(Err(error)) => return Err(error),
+            None => {}
+        }
+        match self.lines.poll() {
+            Ok(lines::Step::Line(text)) => self.read_line(text),
+            Ok(lines::Step::More) => Ok(Step::More),
+            Ok(lines::Step::End) => {
+                let end = self.close();
+                self.stopped = Some(Ok(end));
+                Ok(Step::End(end))
+            }
+            Err(fault) => {
+                let why = stop(self.stage, self.lines.given(), fault);
+                self.stopped = Some(why);
+                answer(why)
+            }
+        }
+    }
+}

@@ -1,0 +1,95 @@
+-- A record in the making keeps its text and where its tokens end.
+use Rattle.std.proofs.Common.{◌≡◌, ◌≢◌, ℕ, ◌+◌, ◌≤◌, List, [], ◌∷◌, ◌++◌, length, refl, sym, ap, ◌∙◌, arith, append_assoc, length-append, Some}
+use Rattle.std.specs.List.{AllByRecursion}
+use Rattle.hum_record.specs.declared.Kind.TheVariants.{Global}
+use Rattle.hum_record.specs.declared.SpinedKind.{SpinedKind}
+use Rattle.hum_record.specs.Row.{Row, Comment, Spined, kind_of, tokens_of}
+use Rattle.hum_record.specs.Spelling.{IsToken, IsTextOf, parts}
+use Rattle.hum_record.specs.Fields.{ends_from, AreFields}
+use Rattle.hum_record.specs.Building.{spelled, tab_between, tokens_in, IsDraft}
+use Rattle.hum_record.proofs.Ends.{ends_push}
+use Rattle.hum_record.proofs.Laws.{parts_join, parts_filled}
+
+spelled_push : (ts : List (List ℕ)) (t : List ℕ) → ts ≢ [] → spelled (ts ++ t ∷ []) ≡ spelled ts ++ (9 ∷ t)
+spelled_push [] t filled = absurd (filled refl)
+spelled_push (x ∷ []) t filled = refl
+spelled_push (x ∷ y ∷ ts) t filled = ap (λ rest. x ++ (9 ∷ rest)) (spelled_push (y ∷ ts) t (λ e. cc)) ∙ sym (append_assoc x (9 ∷ spelled (y ∷ ts)) (9 ∷ t))
+
+-- the text of one token more
+spelled_more : (text ends t : List ℕ) → spelled (tokens_in text ends ++ t ∷ []) ≡ spelled (tokens_in text ends) ++ (tab_between ends ++ t)
+spelled_more text [] t = refl
+spelled_more text (end ∷ ends) t = spelled_push (parts text) t (parts_filled text)
+
+lawful_push : (k : SpinedKind) (ts : List (List ℕ)) (t : List ℕ) → AllByRecursion (IsToken k) ts → IsToken k t → AllByRecursion (IsToken k) (ts ++ t ∷ [])
+lawful_push k [] t h is = (is, tt)
+lawful_push k (x ∷ ts) t h is = (h.0, lawful_push k ts t h.1 is)
+
+-- lawful tokens are the parts of their text
+again : (k : SpinedKind) (ts : List (List ℕ)) → ts ≢ [] → AllByRecursion (IsToken k) ts → parts (spelled ts) ≡ ts
+again k [] filled h = absurd (filled refl)
+again k (t ∷ ts) filled h = parts_join k t ts h
+
+tokens_push : (text ends : List ℕ) (end : ℕ) → tokens_in text (ends ++ end ∷ []) ≡ parts text
+tokens_push text [] end = refl
+tokens_push text (e ∷ ends) end = refl
+
+push_filled : (ts : List (List ℕ)) (t : List ℕ) → ts ++ t ∷ [] ≢ []
+push_filled [] t e = cc
+push_filled (x ∷ ts) t e = cc
+
+-- the text with one token more
+more_text : (k : SpinedKind) (text ends t : List ℕ) → IsDraft k text ends → text ++ (tab_between ends ++ t) ≡ spelled (tokens_in text ends ++ t ∷ [])
+more_text k text ends t draft = ap (λ front. front ++ (tab_between ends ++ t)) draft.spelling ∙ sym (spelled_more text ends t)
+
+-- the tokens with one more
+pub more_tokens : (k : SpinedKind) (text ends t : List ℕ) (end : ℕ) → IsDraft k text ends → IsToken k t → tokens_in (text ++ (tab_between ends ++ t)) (ends ++ end ∷ []) ≡ tokens_in text ends ++ t ∷ []
+more_tokens k text ends t end draft is =
+    tokens_push (text ++ (tab_between ends ++ t)) ends end
+    ∙ ap parts (more_text k text ends t draft)
+    ∙ again k (tokens_in text ends ++ t ∷ []) (push_filled (tokens_in text ends) t) (lawful_push k (tokens_in text ends) t draft.lawful is)
+
+more_length : (text between t : List ℕ) → length (text ++ (between ++ t)) ≡ length text + length between + length t
+more_length text between t = omega (arith, length-append text (between ++ t), length-append between t)
+
+-- a draft with one token more
+pub draft_more : (k : SpinedKind) (text ends t : List ℕ) → IsDraft k text ends → IsToken k t → length text + length (tab_between ends) + length t ≤ 1048576 → IsDraft k (text ++ (tab_between ends ++ t)) (ends ++ length (text ++ (tab_between ends ++ t)) ∷ [])
+draft_more k text ends t draft is fits =
+    let all = text ++ (tab_between ends ++ t) in
+    let tokens = more_tokens k text ends t (length all) draft is in
+    let spells = more_text k text ends t draft in
+    record {
+      spelling = spells ∙ ap spelled (sym tokens);
+      lawful = rw tokens (lawful_push k (tokens_in text ends) t draft.lawful is);
+      cut = ap (λ front. front ++ length all ∷ []) draft.cut ∙ ap (λ n. ends_from 0 (tokens_in text ends) ++ n ∷ []) (ap length spells ∙ omega arith) ∙ sym (ends_push 0 (tokens_in text ends) t) ∙ ap (ends_from 0) (sym tokens);
+      at_most = omega (arith, more_length text (tab_between ends) t, fits);
+    }
+
+pub draft_length : (k : SpinedKind) (text ends t : List ℕ) → IsDraft k text ends → length (spelled (tokens_in text ends ++ t ∷ [])) ≡ length text + length (tab_between ends) + length t
+draft_length k text ends t draft = ap length (sym (more_text k text ends t draft)) ∙ more_length text (tab_between ends) t
+
+-- a draft with tokens is a record
+pub draft_fields : (k : SpinedKind) (text ends : List ℕ) → IsDraft k text ends → tokens_in text ends ≢ [] → AreFields (Some k) text ends
+draft_fields k text [] draft filled = absurd (filled refl)
+draft_fields k text (end ∷ ends) draft filled = record { lawful = (draft.spelling, filled, draft.lawful, draft.at_most); cut = draft.cut }
+
+pub draft_row : (k : SpinedKind) (text ends : List ℕ) → tokens_in text ends ≢ [] → Spined k (parts text) ≡ Spined k (tokens_in text ends)
+draft_row k text [] filled = absurd (filled refl)
+draft_row k text (end ∷ ends) filled = refl
+
+-- more tokens make a text no shorter
+spelled_grows : (x : List ℕ) (xs ys : List (List ℕ)) → length (spelled (x ∷ xs)) ≤ length (spelled ((x ∷ xs) ++ ys))
+spelled_grows x [] [] = omega arith
+spelled_grows x [] (y ∷ ys) = let size = length-append x (9 ∷ spelled (y ∷ ys)) in omega (arith, size)
+spelled_grows x (z ∷ zs) ys =
+    let ih = spelled_grows z zs ys in
+    let a = length-append x (9 ∷ spelled (z ∷ zs)) in
+    let b = length-append x (9 ∷ spelled ((z ∷ zs) ++ ys)) in
+    omega (arith, ih, a, b)
+
+pub spelled_front : (xs ys : List (List ℕ)) → length (spelled xs) ≤ length (spelled (xs ++ ys))
+spelled_front [] ys = omega arith
+spelled_front (x ∷ xs) ys = spelled_grows x xs ys
+
+pub filled_tokens : (row : Row) (text : List ℕ) → IsTextOf row text → (kind_of row ≡ Global → ⊥) → tokens_of row ≢ []
+filled_tokens (Comment comment) text h spined = absurd (spined refl)
+filled_tokens (Spined kind tokens) text h spined = h.1

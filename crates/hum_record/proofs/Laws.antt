@@ -1,0 +1,309 @@
+-- What reading accepts is a record's text, and each record's text is read as that record.
+use Rattle.std.proofs.Common.{◌≡◌, ◌≢◌, ℕ, zero, suc, get_or, ◌<◌, ◌≤◌, Bool, true, false, ◌&&◌, ◌||◌, not, cond, List, [], ◌∷◌, ◌++◌, length, Result, Ok, Err, refl, sym, ap, ◌∙◌, subst, arith, ◌⊎◌, inl, inr, Option, None, Some}
+use Rattle.std.specs.List.{list_any, All, AllByRecursion, onto_first, join_with_byte}
+use Rattle.std.proofs.lemmas.Bool.Decides.{eqb_tells}
+use Rattle.std.proofs.lemmas.Bool.{or_from, or_parts, not-false, cases_Bool, eqb-true, and_parts, cond-false, ne_eqb, and_right}
+use Rattle.std.specs.Prelude.{◌==◌}
+use Rattle.std.proofs.lemmas.List.Splits.{join_with_byte-slice_split, slice_split_at, slice_split_none, length-slice_split}
+use Rattle.std.proofs.lemmas.List.Elements.{All-from_recursion}
+use Rattle.std.proofs.lemmas.List.Folds.{list_any-append}
+use Rattle.hum_record.specs.declared.SpinedKind.{SpinedKind}
+use Rattle.hum_record.specs.declared.SpinedKind.TheVariants.{Local, Interpretation, Values}
+use Rattle.hum_record.specs.declared.RecordFault.{RecordFault}
+use Rattle.hum_record.specs.declared.RecordFault.TheVariants.{S4, S5, S6, S8, L1, Memory}
+use Rattle.hum_record.specs.Row.{Row, Comment, Spined, width_of, token_at, text_of}
+use Rattle.hum_record.specs.Spelling.{Breaks, has_byte, is_comment, is_empty, kind_of_token, kind_of_first, same_kind, mixes_kinds, kind_of_tokens, parts, IsToken, IsTokenOf, IsTextOf, spined, reading, Gives, Fails}
+use Rattle.std.specs.Prelude.{IfOk, IfErr, MatchResult}
+use Rattle.hum_record.specs.Fields.{row_in, AreFields, ends_from}
+
+-- which way a choice went
+chosen : {A : Type 0} (b : Bool) (x y z : A) → cond b x y ≡ z → ((b ≡ true) × (x ≡ z)) ⊎ ((b ≡ false) × (y ≡ z))
+chosen true x y z h = inl (refl, h)
+chosen false x y z h = inr (refl, h)
+
+same_kind_is : (a b : SpinedKind) → same_kind a b ≡ true → a ≡ b
+same_kind_is Local Local h = refl
+same_kind_is Interpretation Interpretation h = refl
+same_kind_is Values Values h = refl
+same_kind_is Local Interpretation h = cc
+same_kind_is Local Values h = cc
+same_kind_is Interpretation Local h = cc
+same_kind_is Interpretation Values h = cc
+same_kind_is Values Local h = cc
+same_kind_is Values Interpretation h = cc
+
+same_kind_refl : (a : SpinedKind) → same_kind a a ≡ true
+same_kind_refl Local = refl
+same_kind_refl Interpretation = refl
+same_kind_refl Values = refl
+
+-- each fails the test
+each : (p : List ℕ → Bool) (P : List ℕ → Type 0) → ((t : List ℕ) → p t ≡ false → P t) → (ts : List (List ℕ)) → list_any p ts ≡ false → AllByRecursion P ts
+each p P f [] h = tt
+each p P f (t ∷ ts) h = let both = or_parts (p t) (list_any p ts) h in (f t both.0, each p P f ts both.1)
+
+free_onto : (b x : ℕ) (ts : List (List ℕ)) → (x == b) ≡ false → AllByRecursion (λ t. has_byte b t ≡ false) ts → AllByRecursion (λ t. has_byte b t ≡ false) (onto_first x ts)
+free_onto b x [] e h = (or_from _ _ e refl, tt)
+free_onto b x (t ∷ ts) e h = (or_from _ _ e h.0, h.1)
+
+-- a part has no tab
+pub free_of_tabs : (text : List ℕ) → AllByRecursion (λ t. has_byte 9 t ≡ false) (parts text)
+free_of_tabs [] = (refl, tt)
+free_of_tabs (x ∷ xs) = elim (eqb_tells x 9) as (λ _. AllByRecursion (λ t. has_byte 9 t ≡ false) (parts (x ∷ xs))) [
+  | inl w ↦ rw w.0 (refl, free_of_tabs xs)
+  | inr w ↦ rw w.0 (free_onto 9 x (parts xs) w.0 (free_of_tabs xs))
+]
+
+-- a part has no byte that the text hasn't
+pub free_of : (b : ℕ) (text : List ℕ) → has_byte b text ≡ false → AllByRecursion (λ t. has_byte b t ≡ false) (parts text)
+free_of b [] h = (refl, tt)
+free_of b (x ∷ xs) h =
+    let both = or_parts (x == b) (has_byte b xs) h in
+    elim (eqb_tells x 9) as (λ _. AllByRecursion (λ t. has_byte b t ≡ false) (parts (x ∷ xs))) [
+      | inl w ↦ rw w.0 (refl, free_of b xs both.1)
+      | inr w ↦ rw w.0 (free_onto b x (parts xs) both.0 (free_of b xs both.1))
+    ]
+
+comment_is_local : (t : List ℕ) → is_comment t ≡ true → kind_of_token t ≡ Local
+comment_is_local [] h = cc
+comment_is_local (b ∷ bs) h = elim (eqb_tells b 33) as (λ _. kind_of_token (b ∷ bs) ≡ Local) [
+  | inl w ↦ rw w.0 refl
+  | inr w ↦ absurd (w.1 (sym (eqb-true 33 b (and_parts _ _ h).0)))
+]
+
+split_test : (a b c : Bool) → (a && (b || c)) ≡ false → ((a && b) ≡ false) × ((a && c) ≡ false)
+split_test true b c h = or_parts b c h
+split_test false b c h = (refl, refl)
+
+not_comment : (k : SpinedKind) (t : List ℕ) → kind_of_token t ≡ k → (same_kind k Local && is_comment t) ≡ false → is_comment t ≡ false
+not_comment k t e h = elim (cases_Bool (is_comment t)) as (λ _. is_comment t ≡ false) [
+  | inl is ↦ let l : k ≡ Local = sym e ∙ comment_is_local t is in rw l at h
+  | inr isnt ↦ isnt
+]
+
+lawful : (k : SpinedKind) (ts : List (List ℕ)) → list_any is_empty ts ≡ false → AllByRecursion (λ t. has_byte 9 t ≡ false) ts → AllByRecursion (λ t. has_byte 13 t ≡ false) ts → AllByRecursion (λ t. has_byte 10 t ≡ false) ts → list_any (λ t. not (same_kind (kind_of_token t) k)) ts ≡ false → (same_kind k Local && list_any is_comment ts) ≡ false → AllByRecursion (IsToken k) ts
+lawful k [] filled tabs returns lines kinds comments = tt
+lawful k (t ∷ ts) filled tabs returns lines kinds comments =
+    let f = or_parts (is_empty t) (list_any is_empty ts) filled in
+    let g = or_parts (not (same_kind (kind_of_token t) k)) _ kinds in
+    let c = split_test (same_kind k Local) (is_comment t) (list_any is_comment ts) comments in
+    let of_kind : kind_of_token t ≡ k = same_kind_is _ _ (not-false _ g.0) in (
+      record {
+        filled = λ e. let bad : is_empty t ≡ true = rw e refl in cc;
+        one_token = tabs.0;
+        one_line = returns.0;
+        no_line_end = lines.0;
+        of_kind = of_kind;
+        no_comment = not_comment k t of_kind c.0;
+      },
+      lawful k ts f.1 tabs.1 returns.1 lines.1 g.1 c.1,
+    )
+
+spined_ok : (r : Result SpinedKind RecordFault) (ts : List (List ℕ)) (row : Row) → spined r ts ≡ Ok row → (k : SpinedKind) × (r ≡ Ok k) × (Spined k ts ≡ row)
+spined_ok (Ok k) ts row h = (k, refl, cc)
+spined_ok (Err e) ts row h = cc
+
+kinds_ok : (ts : List (List ℕ)) (k : SpinedKind) → kind_of_tokens ts ≡ Ok k → (list_any is_empty ts ≡ false) × (mixes_kinds ts ≡ false) × ((same_kind (kind_of_first ts) Local && list_any is_comment ts) ≡ false) × (kind_of_first ts ≡ k)
+kinds_ok ts k h = elim (chosen (list_any is_empty ts) _ _ _ h) [
+  | inl w ↦ let z = w.1 in cc
+  | inr w ↦ elim (chosen (mixes_kinds ts) _ _ _ w.1) [
+    | inl v ↦ let z = v.1 in cc
+    | inr v ↦ elim (chosen (same_kind (kind_of_first ts) Local && list_any is_comment ts) _ _ _ v.1) [
+      | inl u ↦ let z = u.1 in cc
+      | inr u ↦ (w.0, v.0, u.0, let z = u.1 in cc)
+    ]
+  ]
+]
+
+-- a text has a part
+pub parts_filled : (text : List ℕ) → parts text ≢ []
+parts_filled text e = let n = ap length e ∙ refl in let m = length-slice_split (λ b. b == 9) text in omega (arith, n, m)
+
+-- What is read has this text.
+pub found : (text : List ℕ) (row : Row) → length text ≤ 1048576 → has_byte 10 text ≡ false → reading text ≡ Ok row → IsTextOf row text
+found text row fits line h = elim (chosen (has_byte 13 text) _ _ _ h) [
+  | inl w ↦ let z = w.1 in cc
+  | inr w ↦ elim (chosen (is_comment text) _ _ _ w.1) [
+    | inl v ↦ let same : Comment text ≡ row = (let z = v.1 in cc) in subst (λ (r : Row). IsTextOf r text) same (refl, v.0, w.0, line, fits)
+    | inr v ↦
+        let s = spined_ok (kind_of_tokens (parts text)) (parts text) row v.1 in
+        let k = kinds_ok (parts text) s.0 s.1 in
+        subst (λ (r : Row). IsTextOf r text) s.2
+        (sym (join_with_byte-slice_split 9 text), parts_filled text, lawful s.0 (parts text) k.0 (free_of_tabs text) (free_of 13 text w.0) (free_of 10 text line) (rw (← k.3) k.1) (rw (← k.3) k.2), fits)
+  ]
+]
+
+-- The other way
+
+no_byte : (b : ℕ) (t : List ℕ) → has_byte b t ≡ false → AllByRecursion (λ x. (x == b) ≡ false) t
+no_byte b [] h = tt
+no_byte b (x ∷ xs) h = let both = or_parts (x == b) (has_byte b xs) h in (both.0, no_byte b xs both.1)
+
+no_tab : (t : List ℕ) → has_byte 9 t ≡ false → All (λ x. (x == 9) ≡ false) t
+no_tab t h = All-from_recursion (λ x. (x == 9) ≡ false) t (no_byte 9 t h)
+
+-- tokens joined are cut again
+pub parts_join : (k : SpinedKind) (t : List ℕ) (ts : List (List ℕ)) → AllByRecursion (IsToken k) (t ∷ ts) → parts (join_with_byte 9 (t ∷ ts)) ≡ t ∷ ts
+parts_join k t [] h = slice_split_none (λ x. x == 9) t (no_tab t h.0.one_token)
+parts_join k t (u ∷ ts) h = slice_split_at (λ x. x == 9) t 9 (join_with_byte 9 (u ∷ ts)) (no_tab t h.0.one_token) refl ∙ ap (λ rest. t ∷ rest) (parts_join k u ts h.1)
+
+join_free : (k : SpinedKind) (ts : List (List ℕ)) → AllByRecursion (IsToken k) ts → has_byte 13 (join_with_byte 9 ts) ≡ false
+join_free k [] h = refl
+join_free k (t ∷ []) h = h.0.one_line
+join_free k (t ∷ u ∷ ts) h = list_any-append (λ x. x == 13) t (9 ∷ join_with_byte 9 (u ∷ ts)) ∙ or_from _ _ h.0.one_line (join_free k (u ∷ ts) h.1)
+
+no_comment_front : (t rest : List ℕ) → t ≢ [] → is_comment t ≡ false → is_comment (t ++ 9 ∷ rest) ≡ false
+no_comment_front [] rest filled h = absurd (filled refl)
+no_comment_front (b ∷ []) rest filled h = and_right (33 == b) false refl
+no_comment_front (b ∷ c ∷ bs) rest filled h = h
+
+join_no_comment : (k : SpinedKind) (ts : List (List ℕ)) → AllByRecursion (IsToken k) ts → is_comment (join_with_byte 9 ts) ≡ false
+join_no_comment k [] h = refl
+join_no_comment k (t ∷ []) h = h.0.no_comment
+join_no_comment k (t ∷ u ∷ ts) h = no_comment_front t _ h.0.filled h.0.no_comment
+
+all_filled : (k : SpinedKind) (ts : List (List ℕ)) → AllByRecursion (IsToken k) ts → list_any is_empty ts ≡ false
+all_filled k [] h = refl
+all_filled k ([] ∷ ts) h = absurd (h.0.filled refl)
+all_filled k ((b ∷ bs) ∷ ts) h = or_from _ _ (ne_eqb _ 0 (λ e. omega (arith, e))) (all_filled k ts h.1)
+
+all_kind : (k : SpinedKind) (ts : List (List ℕ)) → AllByRecursion (IsToken k) ts → list_any (λ t. not (same_kind (kind_of_token t) k)) ts ≡ false
+all_kind k [] h = refl
+all_kind k (t ∷ ts) h = or_from _ _ (rw (h.0.of_kind, same_kind_refl k) refl) (all_kind k ts h.1)
+
+no_comments : (k : SpinedKind) (ts : List (List ℕ)) → AllByRecursion (IsToken k) ts → list_any is_comment ts ≡ false
+no_comments k [] h = refl
+no_comments k (t ∷ ts) h = or_from _ _ h.0.no_comment (no_comments k ts h.1)
+
+kinds_again : (k : SpinedKind) (t : List ℕ) (ts : List (List ℕ)) → AllByRecursion (IsToken k) (t ∷ ts) → kind_of_tokens (t ∷ ts) ≡ Ok k
+kinds_again k t ts h =
+    let first : kind_of_token t ≡ k = h.0.of_kind in
+    let kinds : mixes_kinds (t ∷ ts) ≡ false = subst (λ kind. list_any (λ t. not (same_kind (kind_of_token t) kind)) (t ∷ ts) ≡ false) (sym first) (all_kind k (t ∷ ts) h) in
+    let comments : list_any is_comment (t ∷ ts) ≡ false = no_comments k (t ∷ ts) h in
+    cond-false _ _ _ (all_filled k (t ∷ ts) h)
+    ∙ cond-false _ _ _ kinds
+    ∙ cond-false _ _ _ (and_right (same_kind (kind_of_token t) Local) _ comments)
+    ∙ ap (λ kind. Ok kind) first
+
+-- A record's text is read as that record.
+pub only : (text : List ℕ) (row : Row) → IsTextOf row text → reading text ≡ Ok row
+only text (Comment comment) h = rw (h.2, h.1) (ap (λ t. Ok (Comment t)) h.0)
+only text (Spined k []) h = absurd (h.1 refl)
+only text (Spined k (t ∷ ts)) h =
+    ap reading h.0
+    ∙ cond-false _ _ _ (join_free k (t ∷ ts) h.2)
+    ∙ cond-false _ _ _ (join_no_comment k (t ∷ ts) h.2)
+    ∙ rw (parts_join k t ts h.2, kinds_again k t ts h.2) refl
+
+-- What a function that reads keeps and answers
+
+pub fails : {A : Type 0} (fault : RecordFault) (read : Result A RecordFault) → read ≡ Err fault → Fails fault read
+fails S4 read h = h
+fails S5 read h = h
+fails S6 read h = h
+fails S8 read h = h
+fails L1 read h = h
+fails Memory read h = tt
+
+pub reads_comment : (text : List ℕ) → has_byte 13 text ≡ false → is_comment text ≡ true → reading text ≡ Ok (Comment text)
+reads_comment text line comment = rw (line, comment) refl
+
+reads : (text : List ℕ) → has_byte 13 text ≡ false → is_comment text ≡ false → reading text ≡ spined (kind_of_tokens (parts text)) (parts text)
+reads text line comment = rw (line, comment) refl
+
+pub reads_fault : (text : List ℕ) (fault : RecordFault) → has_byte 13 text ≡ false → is_comment text ≡ false → kind_of_tokens (parts text) ≡ Err fault → Fails fault (reading text)
+reads_fault text fault line comment h = fails fault _ (reads text line comment ∙ rw h refl)
+
+pub reads_spined : (text : List ℕ) (k : SpinedKind) → has_byte 13 text ≡ false → is_comment text ≡ false → kind_of_tokens (parts text) ≡ Ok k → reading text ≡ Ok (Spined k (parts text))
+reads_spined text k line comment h =
+    reads text line comment ∙ ap (λ kind. spined kind (parts text)) h
+
+pub comment_fields : (text : List ℕ) → length text ≤ 1048576 → has_byte 10 text ≡ false → has_byte 13 text ≡ false → is_comment text ≡ true → AreFields None text []
+comment_fields text fits line return comment = record { lawful = (refl, comment, return, line, fits); cut = refl }
+
+pub spined_fields : (text ends : List ℕ) (k : SpinedKind) → length text ≤ 1048576 → has_byte 10 text ≡ false → has_byte 13 text ≡ false → is_comment text ≡ false → kind_of_tokens (parts text) ≡ Ok k → ends ≡ ends_from 0 (parts text) → AreFields (Some k) text ends
+spined_fields text ends k fits line return comment h e =
+    record {
+      lawful = found text _ fits line (reads_spined text k return comment h);
+      cut = e;
+    }
+
+pub gives_found : (r : Result Row RecordFault) (text : List ℕ) → length text ≤ 1048576 → has_byte 10 text ≡ false → Gives r (reading text) → IfOk r (λ row. IsTextOf row text)
+gives_found (Ok row) text fits line h = found text row fits line h
+gives_found (Err fault) text fits line h = tt
+
+not_fault : (fault : RecordFault) (row : Row) (read : Result Row RecordFault) → read ≡ Ok row → Fails fault read → fault ≡ Memory
+not_fault S4 row read e h = cc
+not_fault S5 row read e h = cc
+not_fault S6 row read e h = cc
+not_fault S8 row read e h = cc
+not_fault L1 row read e h = cc
+not_fault Memory row read e h = refl
+
+pub gives_only : (r : Result Row RecordFault) (text : List ℕ) → Gives r (reading text) → (row : Row) → IsTextOf row text → MatchResult r (λ read. read ≡ row) (λ fault. fault ≡ Memory)
+gives_only (Ok read) text h row is = let e = only text row is in cc
+gives_only (Err fault) text h row is = not_fault fault row (reading text) (only text row is) h
+
+lawful_at : (k : SpinedKind) (ts : List (List ℕ)) (j : ℕ) → AllByRecursion (IsToken k) ts → j < length ts → IsToken k (get_or ts j [])
+lawful_at k [] j h below = absurd (omega arith)
+lawful_at k (t ∷ ts) zero h below = h.0
+lawful_at k (t ∷ ts) (suc j) h below = lawful_at k ts j h.1 (omega arith)
+
+text_in : (kind : Option SpinedKind) (text : List ℕ) → IsTextOf (row_in kind text) text → text ≡ text_of (row_in kind text)
+text_in None text h = refl
+text_in (Some kind) text h = h.0
+
+-- a record's text is read as that record
+pub reads_back : (kind : Option SpinedKind) (text : List ℕ) (row : Row) → row_in kind text ≡ row → IsTextOf (row_in kind text) text → reading (text_of row) ≡ Ok row
+reads_back kind text row is h = ap (λ (r : Row). reading (text_of r)) (sym is) ∙ ap reading (sym (text_in kind text h)) ∙ only text (row_in kind text) h ∙ ap (λ (r : Row). Ok r) is
+
+-- The faults
+
+kinds_broken : (ts : List (List ℕ)) (fault : RecordFault) → kind_of_tokens ts ≡ Err fault → ((fault ≡ S4) × (list_any is_empty ts ≡ true)) ⊎ (((fault ≡ S5) × (mixes_kinds ts ≡ true)) ⊎ ((fault ≡ S6) × ((same_kind (kind_of_first ts) Local && list_any is_comment ts) ≡ true)))
+kinds_broken ts fault h = elim (chosen (list_any is_empty ts) _ _ _ h) [
+  | inl w ↦ inl ((let z = w.1 in cc), w.0)
+  | inr w ↦ elim (chosen (mixes_kinds ts) _ _ _ w.1) [
+    | inl v ↦ inr (inl ((let z = v.1 in cc), v.0))
+    | inr v ↦ elim (chosen (same_kind (kind_of_first ts) Local && list_any is_comment ts) _ _ _ v.1) [
+      | inl u ↦ inr (inr ((let z = u.1 in cc), u.0))
+      | inr u ↦ let z = u.1 in cc
+    ]
+  ]
+]
+
+spined_err : (r : Result SpinedKind RecordFault) (ts : List (List ℕ)) (fault : RecordFault) → spined r ts ≡ Err fault → r ≡ Err fault
+spined_err (Ok k) ts fault h = cc
+spined_err (Err e) ts fault h = cc
+
+-- a text that is refused breaks the rule of its fault
+pub breaks : (text : List ℕ) (fault : RecordFault) → reading text ≡ Err fault → Breaks fault text
+breaks text fault h = elim (chosen (has_byte 13 text) _ _ _ h) [
+  | inl w ↦ let same : S8 ≡ fault = (let z = w.1 in cc) in subst (λ (f : RecordFault). Breaks f text) same w.0
+  | inr w ↦ elim (chosen (is_comment text) _ _ _ w.1) [
+    | inl v ↦ let z = v.1 in cc
+    | inr v ↦ elim (kinds_broken (parts text) fault (spined_err _ _ _ v.1)) [
+      | inl a ↦ subst (λ (f : RecordFault). Breaks f text) (sym a.0) a.1
+      | inr a ↦ elim a [
+        | inl b ↦ subst (λ (f : RecordFault). Breaks f text) (sym b.0) b.1
+        | inr b ↦ let both = and_parts _ _ b.1 in subst (λ (f : RecordFault). Breaks f text) (sym b.0) (same_kind_is _ _ both.0, both.1)
+      ]
+    ]
+  ]
+]
+
+told : (fault : RecordFault) (read : Result Row RecordFault) → Fails fault read → fault ≢ Memory → read ≡ Err fault
+told S4 read h other = h
+told S5 read h other = h
+told S6 read h other = h
+told S8 read h other = h
+told L1 read h other = h
+told Memory read h other = absurd (other refl)
+
+pub gives_broken : (r : Result Row RecordFault) (text : List ℕ) → Gives r (reading text) → IfErr r (λ fault. fault ≢ Memory → Breaks fault text)
+gives_broken (Ok row) text h = tt
+gives_broken (Err fault) text h = λ other. breaks text fault (told fault (reading text) h other)
+
+-- each token of a record is a token of its kind
+pub token_lawful : (row : Row) (text : List ℕ) (j : ℕ) → IsTextOf row text → j < width_of row → IsTokenOf row (token_at row j)
+token_lawful (Comment comment) text j h below = absurd (omega arith)
+token_lawful (Spined k ts) text j h below = lawful_at k ts j h.2 below

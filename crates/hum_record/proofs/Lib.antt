@@ -1,0 +1,7 @@
+mod Examples
+pub mod Long
+pub mod Parts
+pub mod Ends
+pub mod Cuts
+pub mod Laws
+pub mod Drafts

@@ -1,0 +1,8 @@
+use Rattle.std.proofs.Common.{◌∙◌}
+use Rattle.hum_record.proofs.Ends.{width_counts}
+use Rattle.hum_record.proofs.reading.Record.width.Goals as goal
+
+pub returns : goal.returns
+returns c =
+    c.len.ensures.value
+    ∙ width_counts c.self.inside.spined c.self.inside.text.items c.self.inside.ends.items c.args.self.now c.self.invariant c.self.view_is

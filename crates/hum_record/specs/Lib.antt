@@ -1,0 +1,5 @@
+pub mod Row
+pub mod Spelling
+pub mod Fields
+pub mod Cutting
+pub mod Building

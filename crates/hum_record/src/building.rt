@@ -1,0 +1,136 @@
+//! A record in the making.
+ghost use Rattle.std.specs.Prelude.{◌≡◌, ◌≢◌, ℕ, ◌+◌, ◌<◌, ◌≤◌, ◌^◌, [], ◌∷◌, ◌++◌, false, nat_le, length, IsTrue, Err, OnOk, IfErr};
+ghost use Rattle.hum_record.specs.Spelling.{IsToken};
+ghost use Rattle.hum_record.specs.Building.{tab_between};
+ghost use Rattle.hum_record.specs.declared.RecordFault.TheVariants.{L1, Memory};
+
+use crate::reading::Record;
+use crate::tokens::Ends;
+use crate::{RecordFault, SpinedKind};
+use smallvec::SmallVec;
+use std::alloc::{AllocError, Global};
+use std::marker::Model;
+
+/// The most bytes that a record's text may have.
+const MOST_BYTES: usize = 1_048_576;
+
+/// The bytes that are asked for with the first token, so that few records grow again.
+const FIRST_BYTES: usize = 64;
+
+/// A spined record in the making: its kind, and the tokens so far.
+///
+/// After a refused growth of memory it is *spent*: each later `push` answers
+/// [`RecordFault::Memory`] again.
+#[derive(Drop)]
+pub struct RecordBuilder {
+    text: Vec<u8>,
+    kind: SpinedKind,
+    ends: Ends,
+    spent: bool,
+}
+
+impl Model for RecordBuilder {
+    ghost use Rattle.hum_record.specs.Building.{Draft};
+
+    ghost Value = { Draft };
+
+    ghost use Rattle.hum_record.specs.Building.{draft_of, IsDraftUnless};
+
+    ghost view = { λ b. draft_of b.kind b.text.items b.ends.items b.spent };
+
+    ghost invariant = { λ b. IsDraftUnless b.spent b.kind b.text.items b.ends.items };
+}
+
+impl RecordBuilder {
+    ghost use Rattle.hum_record.specs.Building.{Draft, spelled};
+    ghost use Rattle.hum_record.specs.Row.{Spined};
+
+    /// A record of a kind, as yet without tokens.
+    pub fn new(alloc: Global, kind: SpinedKind) -> Self
+        ensures { result ≡ record { kind = kind; tokens = []; spent = false } }
+    {
+        RecordBuilder {
+            text: Vec::new(alloc),
+            kind,
+            ends: SmallVec::new(alloc),
+            spent: false,
+        }
+    }
+
+    /// Adds a token at the end.
+    ///
+    /// The fault is [`RecordFault::L1`] where the text would pass 1,048,576 bytes. The builder is
+    /// then as it was.
+    pub fn push(&mut self, token: &[u8]) -> Result<(), RecordFault>
+        requires { IsToken self.old.kind token.now }
+        ensures pushed { OnOk result
+            (self.new ≡ record self.old { tokens = self.old.tokens ++ token.now ∷ [] }) }
+        ensures fits { OnOk result
+            (length (spelled (self.old.tokens ++ token.now ∷ [])) ≤ 1048576) }
+        ensures refused { IfErr result (λ fault. fault ≢ Memory →
+            (fault ≡ L1)
+            × (1048576 < length (spelled (self.old.tokens ++ token.now ∷ [])))
+            × (self.new ≡ self.old)) }
+        ensures spent { IfErr result (λ fault. fault ≡ Memory → IsTrue self.new.spent) }
+        ensures again { IsTrue self.old.spent → result ≡ Err Memory }
+    {
+        if self.spent {
+            return Err(RecordFault::Memory);
+        }
+        if !has_room(&self.text, &self.ends, token) {
+            return Err(RecordFault::L1);
+        }
+        match append(&mut self.text, &mut self.ends, token) {
+            Ok(()) => Ok(()),
+            Err(_) => {
+                self.spent = true;
+                Err(RecordFault::Memory)
+            }
+        }
+    }
+
+    /// The record of the tokens that were added.
+    pub fn finish(self) -> Record
+        requires filled { self.tokens ≢ [] }
+        requires sound { self.spent ≡ false }
+        ensures { result ≡ Spined self.kind self.tokens }
+    {
+        let RecordBuilder {
+            text,
+            kind,
+            ends,
+            spent: _,
+        } = self;
+        Record::of_tokens(text, kind, ends)
+    }
+}
+
+/// Whether a token may still be added.
+fn has_room(text: &[u8], ends: &[u32], token: &[u8]) -> bool
+    requires { length text.now ≤ 1048576 }
+    ensures { result
+        ≡ nat_le (length text.now + length (tab_between ends.now) + length token.now) 1048576 }
+{
+    if token.len() > MOST_BYTES {
+        return false;
+    }
+    let between = if ends.is_empty() { 0 } else { 1 };
+    text.len() + between + token.len() <= MOST_BYTES
+}
+
+/// Adds a token behind the others, and a tab before it if there are any.
+fn append(text: &mut Vec<u8>, ends: &mut Ends, token: &[u8]) -> Result<(), AllocError>
+    requires { length text.old.items + length token.now < 2 ^ 31 }
+    ensures text { OnOk result
+        (text.new.items ≡ text.old.items ++ (tab_between ends.old.items ++ token.now)) }
+    ensures ends { OnOk result (ends.new.items ≡ ends.old.items ++ length text.new.items ∷ []) }
+{
+    if ends.is_empty() {
+        text.reserve(token.len().max(FIRST_BYTES))?;
+    } else {
+        text.push(b'\t')?;
+    }
+    text.extend_from_slice(token)?;
+    ends.push(text.len() as u32)?;
+    Ok(())
+}

@@ -1,0 +1,102 @@
+//! Records of a Humdrum score: what one line says, as its kind and its tokens.
+//!
+//! A line whose text begins with `!!` is a *global comment* and belongs to no spine. Any other line
+//! has one *token* for each spine, a tab between two, and its tokens are all local comments (they
+//! begin with `!`), all interpretations (they begin with `*`) or all data (they begin with neither).
+//! The rules are those of the Humdrum Toolkit's reference manual, in its chapter on the syntax
+//! (<https://www.humdrum.org/guide/ch05/>).
+//!
+//! [`Record::parse`] reads a line, and [`RecordBuilder`] makes a record token by token.
+#![tactic(auto)]
+
+ghost use Rattle.std.specs.Prelude.{◌≡◌};
+ghost use Rattle.hum_record.specs.Row.{as_kind};
+ghost use Rattle.hum_record.specs.declared.RecordFault.TheVariants.{Memory};
+
+mod building;
+mod reading;
+mod tokens;
+
+pub use building::RecordBuilder;
+pub use reading::Record;
+use std::alloc::{AllocError, AllocFailed};
+use thiserror::Error;
+
+/// What a record is.
+#[derive(Clone, Copy, Debug, PartialEq, Eq)]
+pub enum Kind {
+    /// A global comment: it begins with `!!`, and has no tokens.
+    Global,
+    /// Local comments: each token begins with `!`.
+    Local,
+    /// Interpretations: each token begins with `*`.
+    Interpretation,
+    /// Data: no token begins with `!` or `*`.
+    Values,
+}
+
+/// What the tokens of a spined record are. All of them are of this one kind.
+#[derive(Clone, Copy, Debug, PartialEq, Eq)]
+pub enum SpinedKind {
+    /// Local comments: each token begins with `!`, and none with `!!`.
+    Local,
+    /// Interpretations: each token begins with `*`.
+    Interpretation,
+    /// Data: no token begins with `!` or `*`.
+    Values,
+}
+
+impl From<SpinedKind> for Kind {
+    ghost from_gives = { λ spined kind. kind ≡ as_kind spined };
+
+    #[inline]
+    fn from(spined: SpinedKind) -> Kind {
+        match spined {
+            SpinedKind::Local => Kind::Local,
+            SpinedKind::Interpretation => Kind::Interpretation,
+            SpinedKind::Values => Kind::Values,
+        }
+    }
+}
+
+/// Why a text is no record, or a token has no place in one.
+#[derive(Clone, Copy, Debug, PartialEq, Eq, Error)]
+pub enum RecordFault {
+    /// Two tabs in a row, or a tab at an end of the line.
+    #[error("a token is empty (S4)")]
+    S4,
+    /// Comments, interpretations and data side by side.
+    #[error("tokens are of different kinds (S5)")]
+    S5,
+    /// A local comment with a token that begins with `!!`.
+    #[error("a token of a local comment begins with two exclamation marks (S6)")]
+    S6,
+    /// A carriage return within the line.
+    #[error("a carriage return stands within the line (S8)")]
+    S8,
+    /// A record of over 1,048,576 bytes.
+    #[error("the record would pass 1,048,576 bytes (L1)")]
+    L1,
+    /// Memory ran out.
+    #[error("out of memory")]
+    Memory,
+}
+
+impl From<AllocError> for RecordFault {
+    ghost from_gives = { λ _ e. e ≡ Memory };
+
+    fn from(_e: AllocError) -> RecordFault {
+        RecordFault::Memory
+    }
+}
+
+impl<T: Drop> From<AllocFailed<T>> for RecordFault {
+    ghost from_gives = { λ _ e. e ≡ Memory };
+
+    fn from(_e: AllocFailed<T>) -> RecordFault {
+        RecordFault::Memory
+    }
+}
+
+#[cfg(test)]
+mod tests;

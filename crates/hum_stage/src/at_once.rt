@@ -1,0 +1,138 @@
+//! The stage round a command that decides each record at once.
+ghost use Rattle.std.specs.Prelude.{◌≡◌, true, length};
+ghost use Rattle.hum_stage.specs.Meaning.{Moment, opening};
+ghost use Rattle.hum_stage.specs.Decided.{at_once};
+ghost use Rattle.hum_stage.specs.Standing.{Standing};
+
+use crate::contract::Stage;
+use crate::deciding::Decides;
+use crate::faults::{Command, End, Fault, Rule, State};
+use hum_record::Record;
+use std::alloc::{AllocError, Global};
+use std::collections::VecDeque;
+
+// how many records a stage may give
+const LIMIT: u64 = 4_294_967_295;
+
+/// A command that decides each record at once, as a stage.
+#[derive(Drop)]
+pub struct AtOnce<C> {
+    memory: C,
+    stage: u8,
+    command: Command,
+    line: u64,
+    total: u64,
+    queue: VecDeque<Record>,
+    fault: Option<Fault>,
+    ended: Option<End>,
+    spent: bool,
+}
+
+impl<C: Decides> AtOnce<C> {
+    ghost use Rattle.std.specs.Prelude.{[], List, Result};
+    ghost use Rattle.hum_record.specs.Row.{Row};
+    ghost use Rattle.hum_stage.specs.declared.faults.Rule.{Rule};
+
+    /// The stage of this number, from 1, for a command whose memory stands for no record yet.
+    pub fn new(alloc: Global, stage: u8, command: Command, memory: C) -> AtOnce<C>
+        ensures { (decide : List Row → Row → Result (List Row) Rule) → C.follows memory decide []
+            → ⟦<AtOnce<C> as Stage>⟧.stands result (opening (at_once stage command decide)) }
+    {
+        AtOnce {
+            memory,
+            stage,
+            command,
+            line: 0,
+            total: 0,
+            queue: VecDeque::new(alloc),
+            fault: None,
+            ended: None,
+            spent: false,
+        }
+    }
+
+    /// Breaks a rule at the last record that was put.
+    fn refuse(&mut self, rule: Rule)
+        ensures { self.new ≡ record self.old { fault = Some (record {
+            stage = self.old.stage; command = self.old.command; line = self.old.line; rule = rule }) } }
+    {
+        self.fault = Some(Fault {
+            stage: self.stage,
+            command: self.command,
+            line: self.line,
+            rule,
+        });
+    }
+}
+
+impl<C: Decides> Stage for AtOnce<C> {
+    ghost stands = { λ s t. Standing (C.follows s.memory) (record {
+        stage = s.stage; command = s.command; line = s.line;
+        total = s.total; queue = s.queue.items; fault = s.fault }) s.ended s.spent t };
+
+    ghost left = { λ s. length s.queue.items };
+
+    ghost spent = { λ s. s.spent ≡ true };
+
+    ghost use Rattle.hum_stage.specs.Laws.{standing_remains, standing_lawful};
+
+    ghost remains = { λ s t h. standing_remains _ _ _ _ t h };
+
+    ghost lawful = { λ s t h. standing_lawful _ _ _ _ t h };
+
+    fn put(&mut self, next: Record) -> Result<(), AllocError> {
+        if self.spent {
+            return Err(AllocError);
+        }
+        self.line += 1;
+        if self.fault.is_some() {
+            return Ok(());
+        }
+        let room = LIMIT - self.total;
+        self.spent = true;
+        let refused = self.memory.step(next, room, &mut self.queue)?;
+        self.spent = false;
+        if let Some(rule) = refused {
+            self.queue.clear();
+            self.refuse(rule);
+            return Ok(());
+        }
+        let count = self.queue.len() as u64;
+        if count > room {
+            self.queue.clear();
+            self.refuse(Rule::L2);
+        } else {
+            self.total += count;
+        }
+        Ok(())
+    }
+
+    fn end(&mut self, end: End) {
+        self.ended = Some(end);
+    }
+
+    fn take(&mut self) -> Result<Option<Record>, AllocError> {
+        if self.spent {
+            return Err(AllocError);
+        }
+        Ok(self.queue.pop_front())
+    }
+
+    fn state(&self) -> State {
+        if !self.queue.is_empty() {
+            return State::Gives;
+        }
+        match self.ended {
+            None => State::Wants,
+            Some(End::Broken(fault)) => State::Done(End::Broken(fault)),
+            Some(End::Closed) => match self.fault {
+                None => State::Done(End::Closed),
+                Some(fault) => State::Done(End::Broken(fault)),
+            },
+        }
+    }
+
+    fn held(&self) -> usize {
+        if self.queue.is_empty() { 0 } else { 1 }
+    }
+}

@@ -1,0 +1,61 @@
+//! The contract of a stage.
+//!
+//! A state stands for a moment: the meaning of its command, the records put so far, how many
+//! of what is settled were given, and the end once it came. Each call is one step from moment to
+//! moment, so whatever calls were made, what a stage has given is a front of what its command makes
+//! of its whole input, and it is all of it once the stage is done.
+ghost use Rattle.std.specs.Prelude.{◌≡◌, ℕ, ◌+◌, ◌⊎◌, length, IfOk, OnOk, OnErr, IsErr};
+ghost use Rattle.hum_stage.specs.Meaning.{Moment, IsLawful, MayPut, MayEnd, all_of};
+ghost use Rattle.hum_stage.specs.Meaning.{HasPut, HasEnded, HasTaken, ShowsState, ShowsHeld};
+
+use crate::faults::{End, State};
+use hum_record::Record;
+use std::alloc::AllocError;
+
+/// A command over a stream of records.
+///
+/// After want of memory a stage is spent: each later call that takes memory answers it again.
+pub trait Stage {
+    /// What a state stands for.
+    ghost stands: { Self → Moment → Type 0 };
+
+    /// How many records it can give before it wants one.
+    ghost left: { Self → ℕ };
+
+    /// Memory was wanted, and each call that takes memory fails.
+    ghost spent: { Self → Type 0 };
+
+    /// Puts one record more into a stage that wants it; those put with this one are a score.
+    fn put(&mut self, next: Record) -> Result<(), AllocError>
+        requires { spent self.old ⊎ MayPut (stands self.old) next }
+        ensures ok { OnOk result (HasPut (stands self.old) (stands self.new) next) }
+        ensures err { OnErr result (spent self.new) }
+        ensures stays_spent { spent self.old → IsErr result };
+
+    /// Says that no record comes any more.
+    fn end(&mut self, end: End)
+        requires { spent self.old ⊎ MayEnd (stands self.old) end }
+        ensures ended { HasEnded (stands self.old) (stands self.new) end }
+        ensures stays_spent { spent self.old → spent self.new };
+
+    /// The next record that is settled, if there is one.
+    fn take(&mut self) -> Result<Option<Record>, AllocError>
+        ensures ok { IfOk result (HasTaken (stands self.old) (stands self.new)) }
+        ensures err { OnErr result (spent self.new) }
+        ensures stays_spent { spent self.old → IsErr result };
+
+    /// What it is ready for: it gives while it has records that are settled, then wants more, and is
+    /// done after the end.
+    fn state(&self) -> State
+        ensures { ShowsState (stands self.now) result };
+
+    /// How many records wait inside.
+    fn held(&self) -> usize
+        ensures { ShowsHeld (stands self.now) result };
+
+    /// What is left is all that is settled, less what was given.
+    ghost remains: { (s : Self) (t : Moment) → stands s t → left s + t.given ≡ length (all_of t) };
+
+    /// The command keeps what it has settled, and decides of each record by itself.
+    ghost lawful: { (s : Self) (t : Moment) → stands s t → IsLawful t.meaning };
+}

@@ -1,0 +1,53 @@
+//! Whole lists through a stage.
+ghost use Rattle.std.specs.Prelude.{◌≡◌, ℕ, ◌≤◌, length, IfOk, OnOk};
+ghost use Rattle.hum_stage.specs.Score.{IsScore, IsClosed};
+ghost use Rattle.hum_stage.specs.Meaning.{Meaning, Moment, opening, IsWhole, TookAll};
+
+use crate::contract::Stage;
+use crate::faults::{End, State};
+use hum_record::Record;
+use std::alloc::{AllocError, Global};
+use std::collections::VecDeque;
+
+/// Takes all that is settled.
+pub fn drain<S: Stage>(stage: &mut S, out: &mut Vec<Record>) -> Result<(), AllocError>
+    requires { (t : Moment) × S.stands stage.old t }
+    ensures { OnOk result ((t : Moment) → S.stands stage.old t
+        → TookAll (S.stands stage.new) out.old.items out.new.items t) }
+{
+    while let Some(next) = stage.take()? {
+        out.push(next)?;
+    }
+    Ok(())
+}
+
+/// Puts all records into a stage that was given none, and takes what it gives: exactly what its command
+/// makes of the list, and how that ends.
+///
+/// # Errors
+/// Want of memory.
+pub fn whole<S: Stage + Drop>(
+    alloc: Global,
+    mut stage: S,
+    records: Vec<Record>,
+    end: End,
+) -> Result<(Vec<Record>, End), AllocError>
+    requires fresh { (m : Meaning) × S.stands stage (opening m) }
+    requires score { IsScore records.items }
+    requires closed { end ≡ End.Closed → IsClosed records.items }
+    requires few { length records.items ≤ 4294967295 }
+    ensures { IfOk result (λ r. (m : Meaning) → S.stands stage (opening m)
+        → IsWhole m records.items end r.0.items r.1) }
+{
+    let mut rest = VecDeque::from_vec(records);
+    let mut out = Vec::new(alloc);
+    while let Some(next) = rest.pop_front() {
+        stage.put(next)?;
+        drain(&mut stage, &mut out)?;
+    }
+    stage.end(end);
+    let State::Done(ending) = stage.state() else {
+        unreachable!()
+    };
+    Ok((out, ending))
+}

@@ -1,0 +1,312 @@
+-- How the rules go on from line to line.
+use Rattle.std.proofs.Common.{◌≡◌, ℕ, zero, suc, ◌+◌, ◌-◌, ◌<◌, Bool, true, false, ◌==◌, if◌then◌else◌, List}
+use Rattle.std.proofs.Common.{[], ◌∷◌, ◌++◌, length, get_or, take, map, refl, ap, sym, ◌∙◌, subst, arith}
+use Rattle.std.proofs.Common.{None, Some, inl, inr, append_assoc, length-append, length-take, add-one}
+use Rattle.std.proofs.lemmas.Bool.{eqb-true, eq-eqb, cases_lt}
+use Rattle.std.proofs.lemmas.List.{take_more, get_or-take, append-nil, get_or_append_left, get_or-append-add}
+use Rattle.hum_text.specs.declared.Limits.{Limits}
+use Rattle.hum_text.specs.declared.TextFault.{TextFault}
+use Rattle.hum_text.specs.declared.TextFault.TheVariants.{S1}
+use Rattle.hum_text.specs.Text.{pieces, lines, without_cr, ends_in_lf, rule_in, rule_of_line, rule_at}
+use Rattle.hum_text.specs.Text.{rule_at_end, fault_after, fault_of, IsAtStart}
+use Rattle.hum_text.specs.Reading.{Stands}
+use Rattle.hum_text.proofs.PieceLemmas.{NoLf, IsAtStart-lf, pieces-line, pieces-append, pieces-whole}
+use Rattle.hum_text.proofs.PieceLemmas.{pieces-part, pieces-none}
+
+at-end : {A : Type 0} (xs : List A) (x d : A) → get_or (xs ++ x ∷ []) (length xs) d ≡ x
+at-end [] x d = refl
+at-end (y ∷ xs) x d = at-end xs x d
+
+pub last-snoc : {A : Type 0} (xs : List A) (x d : A) → get_or (xs ++ x ∷ []) (length (xs ++ x ∷ []) - 1) d ≡ x
+last-snoc xs x d =
+    let count : length (xs ++ x ∷ []) - 1 ≡ length xs = simp length-append (omega arith) in
+    ap (λ (n : ℕ). get_or (xs ++ x ∷ []) n d) count ∙ at-end xs x d
+
+-- the rule of a prefix whose last piece and end are known
+rule-at-parts : (l : Limits) (p : List ℕ) (ps : List (List ℕ)) (q : List ℕ) (e : Bool) → pieces p ≡ ps ++ q ∷ []
+    → ends_in_lf p ≡ e → rule_at l p ≡ rule_in l (length ps + 1) q e (length p)
+unfolding rule_at
+rule-at-parts l p ps q e cut ends =
+    let count : length (ps ++ q ∷ []) ≡ length ps + 1 = simp length-append in
+    rw cut (rw last-snoc (rw count (rw ends refl)))
+
+end-parts : (p : List ℕ) (ps : List (List ℕ)) (q : List ℕ) → pieces p ≡ ps ++ q ∷ [] → ends_in_lf p ≡ false
+    → 0 < length p → rule_at_end p ≡ (if length (without_cr q) == 0 then Some S1 else None)
+unfolding rule_at_end
+end-parts p ps q cut ends long =
+    let some : (length p == 0) ≡ false = grind arith in
+    rw (some, ends, cut, last-snoc) refl
+
+-- at a line's start the end breaks no rule
+ends-at-start : (b : ℕ) (bs : List ℕ) → IsAtStart (b ∷ bs) → ends_in_lf (b ∷ bs) ≡ true
+unfolding IsAtStart
+ends-at-start b [] s = rw s refl
+ends-at-start b (c ∷ bs) s = ap (λ (n : ℕ). get_or (b ∷ c ∷ bs) n 0 == 10) one ∙ ends-at-start c bs s where
+  one : suc (suc (length bs)) - 1 ≡ suc (suc (length bs) - 1)
+  one = omega arith
+
+pub start-end : (p : List ℕ) → IsAtStart p → rule_at_end p ≡ None
+unfolding rule_at_end
+start-end [] s = refl
+start-end (b ∷ bs) s =
+    let some : (length (b ∷ bs) == 0) ≡ false = grind arith in
+    rw (some, ends-at-start b bs s) refl
+
+free-front : (held : List ℕ) (k : ℕ) → ((j : ℕ) → j < k → get_or held j 0 ≡ 10 → ⊥) → NoLf (take k held)
+free-front held k free = λ j low is.
+    let lt : j < k = omega (arith, simp length-take at low) in
+    free j lt (sym (get_or-take k held j 0 lt) ∙ is)
+
+free-more : (held : List ℕ) (k : ℕ) → ((j : ℕ) → j < k → get_or held j 0 ≡ 10 → ⊥) → (get_or held k 0 == 10) ≡ false
+    → NoLf (take (k + 1) held)
+free-more held k free other = free-front held (k + 1) (λ j low is. elim (cases_lt j k) [
+  | inl lt ↦ free j lt is
+  | inr ge ↦
+      let same : j ≡ k = omega arith in
+      let ten : (get_or held k 0 == 10) ≡ true = eq-eqb _ 10 (ap (λ (n : ℕ). get_or held n 0) (sym same) ∙ is) in
+      cc
+])
+
+-- byte k of a line after a line's start breaks what the line's rule says
+pub rule-at-line : (l : Limits) (before held : List ℕ) (k : ℕ) → IsAtStart before → k < length held
+    → ((j : ℕ) → j < k → get_or held j 0 ≡ 10 → ⊥)
+    → rule_at l (before ++ take (k + 1) held) ≡ rule_of_line l (length (pieces before) + 1) (length before) held k
+rule-at-line l before held k s h free =
+    let p : List ℕ = before ++ take (k + 1) held in
+    let more : take (k + 1) held ≡ take k held ++ get_or held k 0 ∷ [] = take_more held k 0 h in
+    let len : length p ≡ length before + (k + 1) = simp (length-append, length-take) (omega arith) in
+    let whole : p ≡ (before ++ take k held) ++ get_or held k 0 ∷ [] =
+    ap (λ (zs : List ℕ). before ++ zs) more ∙ sym (append_assoc before (take k held) (get_or held k 0 ∷ [])) in
+    let last : ends_in_lf p ≡ (get_or held k 0 == 10) =
+    ap ends_in_lf whole ∙ ap (λ (n : ℕ). n == 10) (last-snoc (before ++ take k held) (get_or held k 0) 0) in
+    elim (get_or held k 0 == 10) as (λ (v : Bool). (get_or held k 0 == 10) ≡ v → rule_at l (before ++ take (k + 1) held)
+    ≡ (if v then rule_in l (length (pieces before) + 1) (take k held) true (length before + (k + 1))
+    else rule_in l (length (pieces before) + 1) (take (k + 1) held) false (length before + (k + 1)))) [
+      | true ↦ λ is.
+          let cut : pieces p ≡ pieces before ++ take k held ∷ [] =
+          ap (λ (zs : List ℕ). pieces (before ++ zs)) (more
+          ∙ ap (λ (n : ℕ). take k held ++ n ∷ []) (eqb-true _ 10 is))
+          ∙ pieces-append before (take k held ++ 10 ∷ []) s
+          ∙ ap (λ (zs : List (List ℕ)). pieces before ++ zs) (pieces-whole (take k held) (free-front held k free)) in
+          rule-at-parts l p (pieces before) (take k held) true cut (last ∙ is)
+          ∙ ap (λ (n : ℕ). rule_in l (length (pieces before) + 1) (take k held) true n) len
+      | false ↦ λ is.
+          let long : 0 < length (take (k + 1) held) = simp length-take (omega arith) in
+          let cut : pieces p ≡ pieces before ++ take (k + 1) held ∷ [] =
+          pieces-append before (take (k + 1) held) s
+          ∙ ap (λ (zs : List (List ℕ)). pieces before ++ zs)
+          (pieces-part (take (k + 1) held) long (free-more held k free is)) in
+          rule-at-parts l p (pieces before) (take (k + 1) held) false cut (last ∙ is)
+          ∙ ap (λ (n : ℕ). rule_in l (length (pieces before) + 1) (take (k + 1) held) false n) len
+    ] refl
+
+-- bytes that break no rule are passed
+pub skip : (l : Limits) (before q r : List ℕ) → ((k : ℕ) → k < length q → rule_at l (before ++ take (suc k) q) ≡ None)
+    → fault_after l before (q ++ r) ≡ fault_after l (before ++ q) r
+unfolding fault_after
+skip l before [] r none = rw append-nil refl
+skip l before (b ∷ q) r none =
+    let here : rule_at l (before ++ b ∷ []) ≡ None = none 0 (omega arith) in
+    rw here (skip l (before ++ b ∷ []) q r (λ k h. rw append_assoc (none (suc k) (omega arith)))
+    ∙ ap (λ (p : List ℕ). fault_after l p r) (append_assoc before (b ∷ []) q))
+
+-- the first rule that breaks is the fault
+pub hit : (l : Limits) (before q r : List ℕ) (k : ℕ) (f : TextFault) → k < length q
+    → rule_at l (before ++ take (suc k) q) ≡ Some f → ((j : ℕ) → j < k → rule_at l (before ++ take (suc j) q) ≡ None)
+    → fault_after l before (q ++ r) ≡ Some (length (pieces (before ++ take (suc k) q)), f)
+unfolding fault_after
+hit l before [] r k f h is none = absurd (omega arith)
+hit l before (b ∷ q) r zero f h is none = rw is refl
+hit l before (b ∷ q) r (suc k) f h is none =
+    let here : rule_at l (before ++ b ∷ []) ≡ None = none 0 (omega arith) in
+    rw here (hit l (before ++ b ∷ []) q r k f (omega arith) (rw append_assoc is)
+    (λ j low. rw append_assoc (none (suc j) (omega arith)))
+    ∙ ap (λ (p : List ℕ). Some (length (pieces p), f)) (append_assoc before (b ∷ []) (take (suc k) q)))
+
+some-rest : (q : List ℕ) (b : ℕ) (r : List ℕ) → q ++ b ∷ r ≡ [] → ⊥
+some-rest [] b r is = cc
+some-rest (c ∷ q) b r is = cc
+
+at-start : {l : Limits} {all : List ℕ} {given : List (List ℕ)} {rest : List ℕ} {n t : ℕ}
+    → (st : Stands l all given rest n t) → (rest ≡ [] → ⊥) → IsAtStart st.before
+at-start st some = elim st.start [ inl s ↦ s | inr e ↦ absurd (some e.0) ]
+
+ap2 : {A B C : Type 0} (f : A → B → C) {a a' : A} {b b' : B} → a ≡ a' → b ≡ b' → f a b ≡ f a' b'
+ap2 {A} f {a} {a'} {b} {b'} p q = ap (λ (x : A). f x b) p ∙ ap (f a') q
+
+-- the bytes of a line before its last are not LF
+free-held : (q : List ℕ) → NoLf q → (k : ℕ) → k < length (q ++ 10 ∷ []) → (j : ℕ) → j < k
+    → get_or (q ++ 10 ∷ []) j 0 ≡ 10 → ⊥
+free-held q free k h j low is =
+    let lt : j < length q = omega (arith, simp length-append at h) in
+    free j lt (sym (get_or_append_left q (10 ∷ []) 0 j lt) ∙ is)
+
+-- A line that breaks no rule, with its LF, is given.
+pub step-line : (l : Limits) (all : List ℕ) (given : List (List ℕ)) (q r : List ℕ) (n t : ℕ)
+    → Stands l all given (q ++ 10 ∷ r) n t → NoLf q
+    → ((k : ℕ) → k < length (q ++ 10 ∷ []) → rule_of_line l (n + 1) t (q ++ 10 ∷ []) k ≡ None)
+    → Stands l all (given ++ without_cr q ∷ []) r (n + 1) (t + (length q + 1))
+step-line l all given q r n t st free none =
+    let s : IsAtStart st.before = at-start st (some-rest q 10 r) in
+    let held : List ℕ = q ++ 10 ∷ [] in
+    let split : q ++ 10 ∷ r ≡ held ++ r = sym (append_assoc q (10 ∷ []) r) in
+    let cut : pieces (st.before ++ held) ≡ pieces st.before ++ q ∷ [] =
+    pieces-append st.before held s ∙ ap (λ (zs : List (List ℕ)). pieces st.before ++ zs) (pieces-whole q free) in
+    record {
+      before = st.before ++ held;
+      whole = st.whole ∙ ap (λ (zs : List ℕ). st.before ++ zs) split ∙ sym (append_assoc st.before held r);
+      start = inl (subst IsAtStart (append_assoc st.before q (10 ∷ [])) (IsAtStart-lf (st.before ++ q)));
+      left = st.left ∙ ap (λ (ps : List (List ℕ)). given ++ map without_cr ps) (pieces-line q r free)
+          ∙ sym (append_assoc given (without_cr q ∷ []) (lines r));
+      fault = st.fault ∙ ap (λ (zs : List ℕ). fault_after l st.before zs) split ∙ skip l st.before held r (λ k h.
+          rw (← add-one k) (rule-at-line l st.before held k s h (free-held q free k h)
+          ∙ ap2 (λ (a b : ℕ). rule_of_line l (a + 1) b held k) st.count st.size ∙ none k h));
+      count = ap length cut ∙ simp length-append (omega (arith, st.count));
+      size = simp length-append (omega (arith, st.size));
+      number = simp length-append (omega (arith, st.number));
+    }
+
+not-nil : (q : List ℕ) → 0 < length q → q ≡ [] → ⊥
+not-nil [] long is = absurd (omega arith)
+not-nil (b ∷ q) long is = cc
+
+long-some : (held r : List ℕ) (k : ℕ) → k < length held → held ++ r ≡ [] → ⊥
+long-some [] r k h is = absurd (omega arith)
+long-some (b ∷ q) r k h is = cc
+
+long-without : (q : List ℕ) → 0 < length (without_cr q) → 0 < length q
+long-without [] some = some
+long-without (b ∷ q) some = omega arith
+
+kept : (q : List ℕ) → 0 < length (without_cr q) → (if length (without_cr q) == 0 then Some S1 else None) ≡ None
+kept q some = let other : (length (without_cr q) == 0) ≡ false = grind arith in rw other refl
+
+gone : (q : List ℕ) → length (without_cr q) ≡ 0 → (if length (without_cr q) == 0 then Some S1 else None) ≡ Some S1
+gone q empty = rw empty refl
+
+last-free : (before q : List ℕ) → 0 < length q → NoLf q → ends_in_lf (before ++ q) ≡ false
+last-free before q long free =
+    let at : length (before ++ q) - 1 ≡ length before + (length q - 1) = simp length-append (omega arith) in
+    let last : get_or (before ++ q) (length (before ++ q) - 1) 0 ≡ get_or q (length q - 1) 0 =
+    ap (λ (n : ℕ). get_or (before ++ q) n 0) at ∙ get_or-append-add before q (length q - 1) 0 in
+    elim (ends_in_lf (before ++ q)) as (λ (v : Bool). ends_in_lf (before ++ q) ≡ v → v ≡ false) [
+      | true ↦ λ is. absurd (free (length q - 1) (omega arith) (sym last ∙ eqb-true _ 10 is))
+      | false ↦ λ is. refl
+    ] refl
+
+at-end-fault : (l : Limits) (p : List ℕ) (f : TextFault) → rule_at_end p ≡ Some f
+    → fault_after l p [] ≡ Some (length (pieces p), f)
+unfolding fault_after
+at-end-fault l p f is = rw is refl
+
+at-end-none : (l : Limits) (p : List ℕ) → rule_at_end p ≡ None → fault_after l p [] ≡ None
+unfolding fault_after
+at-end-none l p is = rw is refl
+
+-- how many lines have begun at byte k of a line
+begun : (before held : List ℕ) (k : ℕ) → IsAtStart before → k < length held
+    → ((j : ℕ) → j < k → get_or held j 0 ≡ 10 → ⊥)
+    → length (pieces (before ++ take (suc k) held)) ≡ length (pieces before) + 1
+begun before held k s h free =
+    let more : take (suc k) held ≡ take k held ++ get_or held k 0 ∷ [] = rw (← add-one k) (take_more held k 0 h) in
+    elim (get_or held k 0 == 10) as (λ (v : Bool). (get_or held k 0 == 10) ≡ v
+    → length (pieces (before ++ take (suc k) held)) ≡ length (pieces before) + 1) [
+      | true ↦ λ is. ap length (ap (λ (zs : List ℕ). pieces (before ++ zs)) (more
+          ∙ ap (λ (n : ℕ). take k held ++ n ∷ []) (eqb-true _ 10 is))
+          ∙ pieces-append before (take k held ++ 10 ∷ []) s
+          ∙ ap (λ (zs : List (List ℕ)). pieces before ++ zs) (pieces-whole (take k held) (free-front held k free)))
+          ∙ simp length-append
+      | false ↦ λ is.
+          let long : 0 < length (take (suc k) held) = simp length-take (omega arith) in
+          let part : NoLf (take (suc k) held) = rw (← add-one k) (free-more held k free is) in
+          ap length (pieces-append before (take (suc k) held) s
+          ∙ ap (λ (zs : List (List ℕ)). pieces before ++ zs) (pieces-part (take (suc k) held) long part))
+          ∙ simp length-append
+    ] refl
+
+-- The first byte of a line that breaks a rule is the fault.
+pub step-fault : (l : Limits) (all : List ℕ) (given : List (List ℕ)) (held r : List ℕ) (n t k : ℕ) (f : TextFault)
+    → Stands l all given (held ++ r) n t → k < length held
+    → ((j : ℕ) → j < k → get_or held j 0 ≡ 10 → ⊥) → rule_of_line l (n + 1) t held k ≡ Some f
+    → ((j : ℕ) → j < k → rule_of_line l (n + 1) t held j ≡ None)
+    → fault_of l all ≡ Some (n + 1, f)
+step-fault l all given held r n t k f st h free is none =
+    let s : IsAtStart st.before = at-start st (long-some held r k h) in
+    st.fault ∙ hit l st.before held r k f h
+    (rw (← add-one k) (rule-at-line l st.before held k s h free
+    ∙ ap2 (λ (a b : ℕ). rule_of_line l (a + 1) b held k) st.count st.size ∙ is))
+    (λ j low. rw (← add-one j) (rule-at-line l st.before held j s (omega arith) (λ i lower. free i (omega arith))
+    ∙ ap2 (λ (a b : ℕ). rule_of_line l (a + 1) b held j) st.count st.size ∙ none j low))
+    ∙ ap (λ (m : ℕ). Some (m, f)) (begun st.before held k s h free ∙ ap (λ (m : ℕ). m + 1) st.count)
+
+-- The last line, which no LF ends, is given where it breaks no rule and isn't one CR.
+pub step-last : (l : Limits) (all : List ℕ) (given : List (List ℕ)) (q : List ℕ) (n t : ℕ) → Stands l all given q n t
+    → NoLf q → 0 < length (without_cr q)
+    → ((k : ℕ) → k < length q → rule_of_line l (n + 1) t q k ≡ None)
+    → Stands l all (given ++ without_cr q ∷ []) [] (n + 1) (t + length q)
+step-last l all given q n t st free some none =
+    let long : 0 < length q = long-without q some in
+    let s : IsAtStart st.before = at-start st (not-nil q long) in
+    let cut : pieces (st.before ++ q) ≡ pieces st.before ++ q ∷ [] =
+    pieces-append st.before q s ∙ ap (λ (zs : List (List ℕ)). pieces st.before ++ zs) (pieces-part q long free) in
+    record {
+      before = st.before ++ q;
+      whole = st.whole ∙ sym (append-nil (st.before ++ q));
+      start = inr (
+        refl,
+        end-parts (st.before ++ q) (pieces st.before) q cut (last-free st.before q long free)
+            (simp length-append (omega arith)) ∙ kept q some,
+      );
+      left = st.left ∙ ap (λ (ps : List (List ℕ)). given ++ map without_cr ps) (pieces-part q long free)
+          ∙ sym (append_assoc given (without_cr q ∷ []) (lines [])
+          ∙ ap (λ (ps : List (List ℕ)). given ++ (without_cr q ∷ map without_cr ps)) pieces-none);
+      fault = st.fault ∙ ap (λ (zs : List ℕ). fault_after l st.before zs) (sym (append-nil q))
+          ∙ skip l st.before q [] (λ k h.
+          rw (← add-one k) (rule-at-line l st.before q k s h (λ j low. free j (omega arith))
+          ∙ ap2 (λ (a b : ℕ). rule_of_line l (a + 1) b q k) st.count st.size ∙ none k h));
+      count = ap length cut ∙ simp length-append (omega (arith, st.count));
+      size = simp length-append (omega (arith, st.size));
+      number = simp length-append (omega (arith, st.number));
+    }
+
+-- The last line is one CR.
+pub step-end-fault : (l : Limits) (all : List ℕ) (given : List (List ℕ)) (q : List ℕ) (n t : ℕ)
+    → Stands l all given q n t → NoLf q → 0 < length q → length (without_cr q) ≡ 0
+    → ((k : ℕ) → k < length q → rule_of_line l (n + 1) t q k ≡ None)
+    → fault_of l all ≡ Some (n + 1, S1)
+step-end-fault l all given q n t st free long empty none =
+    let s : IsAtStart st.before = at-start st (not-nil q long) in
+    let cut : pieces (st.before ++ q) ≡ pieces st.before ++ q ∷ [] =
+    pieces-append st.before q s ∙ ap (λ (zs : List (List ℕ)). pieces st.before ++ zs) (pieces-part q long free) in
+    let count : length (pieces (st.before ++ q)) ≡ n + 1 =
+    ap length cut ∙ simp length-append (omega (arith, st.count)) in
+    let rule : rule_at_end (st.before ++ q) ≡ Some S1 =
+    end-parts (st.before ++ q) (pieces st.before) q cut (last-free st.before q long free)
+    (simp length-append (omega arith)) ∙ gone q empty in
+    st.fault ∙ ap (λ (zs : List ℕ). fault_after l st.before zs) (sym (append-nil q)) ∙ skip l st.before q [] (λ k h.
+    rw (← add-one k) (rule-at-line l st.before q k s h (λ j low. free j (omega arith))
+    ∙ ap2 (λ (a b : ℕ). rule_of_line l (a + 1) b q k) st.count st.size ∙ none k h))
+    ∙ at-end-fault l (st.before ++ q) S1 rule ∙ ap (λ (m : ℕ). Some (m, S1)) count
+
+-- At the end all lines were given, and there is no fault.
+pub step-end : (l : Limits) (all : List ℕ) (given : List (List ℕ)) (n t : ℕ) → Stands l all given [] n t
+    → (lines all ≡ given) × (fault_of l all ≡ None)
+step-end l all given n t st =
+    let none : rule_at_end st.before ≡ None = elim st.start [ inl s ↦ start-end st.before s | inr e ↦ e.1 ] in (
+      st.left ∙ ap (λ (ps : List (List ℕ)). given ++ map without_cr ps) pieces-none ∙ append-nil given,
+      st.fault ∙ at-end-none l st.before none,
+    )
+
+-- Before the first line all of the text stands.
+pub stands-new : (l : Limits) (all : List ℕ) → Stands l all [] all 0 0
+unfolding IsAtStart
+stands-new l all = record {
+  before = [];
+  whole = refl;
+  start = inl tt;
+  left = refl;
+  fault = refl;
+  count = ap length pieces-none;
+  size = refl;
+  number = refl;
+}

@@ -1,0 +1,155 @@
+//! Readers and writers that show how often they were called and whether a call failed.
+ghost use Rattle.std.specs.Prelude.{◌≡◌, ℕ, Bool, List, ◌||◌, ◌==◌, is_err, false, length};
+ghost use Rattle.std.specs.Prelude.{◌<◌, ◌≤◌, Option};
+ghost use Rattle.std.specs.Io.{ReadsAtMost, WritesAtMost};
+ghost use Rattle.std.specs.Io.KnownBytes.{ReadConsumes, WriteAppends, Keeps};
+ghost use Rattle.hum_text.specs.Calls.{counted, write_fails};
+
+use std::io;
+use std::io::{Read, Write};
+use std::marker::Model;
+
+/// How many bytes a read asks for at most.
+pub const LARGEST_READ: usize = 65_536;
+
+/// What bytes are read from.
+pub trait Source {
+    // the bytes that reads will give from here on, where they are known
+    ghost remaining: { Self → Option (List ℕ) };
+    // how many calls were made
+    ghost calls: { Self → ℕ };
+    // whether a call failed
+    ghost failed: { Self → Bool };
+
+    /// Reads into `buf`, which has room for 1 to 65,536 bytes. 0 bytes are the end.
+    fn read(&mut self, buf: &mut [u8]) -> io::Result<usize>
+        requires some { 0 < length buf.old }
+        requires bounded { length buf.old ≤ LARGEST_READ }
+        ensures bound { ReadsAtMost result buf.new }
+        ensures bytes { ReadConsumes (remaining self.old) (remaining self.new) result buf.new }
+        ensures calls { calls self.new ≡ counted (calls self.old) }
+        ensures failed { failed self.new ≡ (failed self.old || is_err result) };
+}
+
+/// What bytes are written to.
+pub trait Sink {
+    // the bytes that it holds, where they are known
+    ghost contents: { Self → Option (List ℕ) };
+    // how many calls were made
+    ghost calls: { Self → ℕ };
+    // whether a call failed
+    ghost failed: { Self → Bool };
+
+    /// Writes some of the bytes. Taking none is a failure.
+    fn write(&mut self, buf: &[u8]) -> io::Result<usize>
+        ensures bound { WritesAtMost result buf.now }
+        ensures bytes { WriteAppends (contents self.old) (contents self.new) result buf.now }
+        ensures calls { calls self.new ≡ counted (calls self.old) }
+        ensures failed { failed self.new ≡ (failed self.old || write_fails result) };
+
+    /// Hands on what was written and still waits.
+    fn flush(&mut self) -> io::Result<()>
+        ensures bytes { Keeps (contents self.old) (contents self.new) }
+        ensures calls { calls self.new ≡ counted (calls self.old) }
+        ensures failed { failed self.new ≡ (failed self.old || is_err result) };
+}
+
+/// Any reader or writer of std, with what is shown of the calls on it.
+#[derive(Debug, Drop)]
+pub struct Marked<T> {
+    inner: T,
+    calls: u64,
+    failed: bool,
+}
+
+impl<T> Model for Marked<T> {
+    ghost use Rattle.hum_text.specs.Calls.{Calls};
+
+    ghost Value = { Calls T };
+
+    ghost view = { λ m. record { inner = m.inner; calls = m.calls; failed = m.failed } };
+}
+
+impl<T> Marked<T> {
+    /// A reader or a writer on which no call was made yet.
+    pub fn new(inner: T) -> Marked<T>
+        ensures { result ≡ record { inner = inner; calls = 0; failed = false } }
+    {
+        Marked {
+            inner,
+            calls: 0,
+            failed: false,
+        }
+    }
+
+    // Counts a call, and marks whether it failed.
+    fn note(&mut self, failed: bool)
+        ensures { self.new ≡ record self.old {
+          calls = counted self.old.calls;
+          failed = self.old.failed || failed;
+        } }
+    {
+        self.calls = self.calls.saturating_add(1);
+        self.failed = self.failed || failed;
+    }
+
+    /// The reader or the writer that it was made of.
+    pub fn into_inner(self) -> T
+        ensures { result ≡ self.inner }
+    {
+        let Marked {
+            inner,
+            calls: _,
+            failed: _,
+        } = self;
+        inner
+    }
+
+    /// How many calls were made; at the greatest number the count stays.
+    pub fn calls(&self) -> u64
+        ensures { result ≡ self.now.calls }
+    {
+        self.calls
+    }
+
+    /// Whether a call failed, a write of 0 bytes too.
+    pub fn failed(&self) -> bool
+        ensures { result ≡ self.now.failed }
+    {
+        self.failed
+    }
+}
+
+impl<T: Read> Source for Marked<T> {
+    ghost remaining = { λ m. T.remaining m.inner };
+
+    ghost calls = { λ m. m.calls };
+
+    ghost failed = { λ m. m.failed };
+
+    fn read(&mut self, buf: &mut [u8]) -> io::Result<usize> {
+        let result = self.inner.read(buf);
+        self.note(result.is_err());
+        result
+    }
+}
+
+impl<T: Write> Sink for Marked<T> {
+    ghost contents = { λ m. T.contents m.inner };
+
+    ghost calls = { λ m. m.calls };
+
+    ghost failed = { λ m. m.failed };
+
+    fn write(&mut self, buf: &[u8]) -> io::Result<usize> {
+        let result = self.inner.write(buf);
+        self.note(!matches!(&result, Ok(1..)));
+        result
+    }
+
+    fn flush(&mut self) -> io::Result<()> {
+        let result = self.inner.flush();
+        self.note(result.is_err());
+        result
+    }
+}

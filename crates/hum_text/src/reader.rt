@@ -1,0 +1,284 @@
+//! The lines of a source, one at a time.
+ghost use Rattle.std.specs.Prelude.{◌≡◌, ◌≢◌, ◌==◌, ℕ, ◌+◌, ◌<◌, ◌≤◌, Bool, true, false, List, [], ◌++◌};
+ghost use Rattle.std.specs.Prelude.{length, take, drop, slice_index, ◌⊎◌, Some, None};
+ghost use Rattle.std.specs.Prelude.{IfOk, IfErr, OnOk, OnErr, IsErrOf, IfSome, IfNone};
+ghost use Rattle.std.specs.List.{list_any};
+ghost use Rattle.std.specs.Io.KnownBytes.{Consumes, IsAtEnd};
+ghost use Rattle.memchr.specs.Find.{IsFirstByte, is_byte};
+ghost use Rattle.hum_text.specs.Text.{lf, without_cr, IsLawful, BreaksFirst};
+
+use crate::block::Block;
+use crate::calls::Source;
+use crate::rules::{first_fault, strip_cr};
+use crate::{Limits, TextFault};
+use std::alloc::Global;
+use std::marker::Model;
+
+/// What a poll gives.
+#[derive(Debug, Drop)]
+pub enum Step {
+    /// The next line, without its line end.
+    Line(Vec<u8>),
+    /// Nothing yet: the poll has made a read, which gave bytes.
+    More,
+    /// Nothing more: every line was given.
+    End,
+}
+
+/// The lines of a source.
+#[derive(Drop)]
+pub struct LineReader<R> {
+    alloc: Global,
+    source: R,
+    limits: Limits,
+    block: Block,
+    given: u64,
+    taken: u64,
+    ended: bool,
+    fault: Option<TextFault>,
+}
+
+impl<R> Model for LineReader<R> {
+    ghost use Rattle.hum_text.specs.Reading.{Reader};
+
+    ghost Value = { Reader R };
+
+    ghost view = { λ r. record {
+      source = r.source;
+      limits = r.limits;
+      pending = r.block;
+      given = r.given;
+      taken = r.taken;
+      ended = r.ended;
+      fault = r.fault;
+    } };
+
+    ghost use Rattle.std.specs.Prelude.{◌≤◌};
+
+    ghost invariant = { λ r. r.given ≤ r.limits.records };
+}
+
+// How many bytes stand up to place k, it included.
+fn through(held: &[u8], k: usize) -> usize
+    requires { k < length held.now }
+    ensures { result ≡ k + 1 }
+{
+    held[..k].len() + 1
+}
+
+impl<R: Source> LineReader<R> {
+    ghost use Rattle.hum_text.specs.Reading.{opening, Holds, GivesNext, bytes_read, IsLine};
+    ghost use Rattle.hum_text.specs.Reading.{NeedsRead, ReadsOnce, IsUnread, IsFed};
+    ghost use Rattle.hum_text.specs.Reading.{IsOver, KeepsLimits, Fails, left_to_do, Nears};
+
+    /// The reader of a source of which nothing was read yet.
+    pub fn new(alloc: Global, source: R, limits: Limits) -> LineReader<R>
+        ensures opening { result ≡ opening source limits }
+        ensures holds { (all : List ℕ) → Holds result all [] all }
+    {
+        LineReader {
+            alloc,
+            source,
+            limits,
+            block: Block::new(alloc),
+            given: 0,
+            taken: 0,
+            ended: false,
+            fault: None,
+        }
+    }
+
+    /// How many lines were given.
+    pub fn given(&self) -> u64
+        ensures given { result ≡ self.now.given }
+        ensures at_most { result ≤ self.now.limits.records }
+    {
+        self.given
+    }
+
+    // From here on each poll gives this fault.
+    fn fail(&mut self, fault: TextFault) -> Result<Step, TextFault>
+        ensures result { result ≡ Err fault }
+        ensures state { self.new ≡ record self.old { fault = Some fault } }
+    {
+        self.fault = Some(fault);
+        Err(fault)
+    }
+
+    // Hands out the first `len` bytes as a line, and drops `size` bytes.
+    fn hand_out(&mut self, len: usize, size: usize) -> Result<Step, TextFault>
+        requires order { len ≤ size }
+        requires within { size ≤ length self.old.pending }
+        requires records { self.old.given < self.old.limits.records }
+        requires bytes { self.old.taken + size ≤ self.old.limits.bytes }
+        requires short { length (without_cr (take len self.old.pending)) ≤ self.old.limits.line }
+        requires free { list_any (λ b. b == lf) (without_cr (take len self.old.pending)) ≡ false }
+        ensures within { IfOk result (λ step. KeepsLimits self.old.limits step self.new.given) }
+        ensures line { IfOk result (λ step. IsLine step (without_cr (take len self.old.pending))) }
+        ensures ok { OnOk result (self.new ≡ record self.old {
+          pending = drop size self.old.pending;
+          given = self.old.given + 1;
+          taken = self.old.taken + size;
+        }) }
+        ensures err { OnErr result (self.new ≡ record self.old { fault = Some TextFault.Memory }) }
+        ensures memory { OnErr result (result ≡ Err TextFault.Memory) }
+    {
+        match Vec::from_slice(self.alloc, strip_cr(&self.block.as_slice()[..len])) {
+            Ok(line) => {
+                self.block.consume(size);
+                self.given += 1;
+                self.taken += size as u64;
+                Ok(Step::Line(line))
+            }
+            Err(_) => self.fail(TextFault::Memory),
+        }
+    }
+
+    // The first fault in the first `size` bytes, of which only the last may be LF.
+    fn fault_in(&self, size: usize) -> Option<TextFault>
+        requires within { size ≤ length self.now.pending }
+        requires one_line { (k : ℕ) → k + 1 < size → slice_index self.now.pending k ≢ lf }
+        ensures found { IfSome result (BreaksFirst self.now.limits (self.now.given + 1)
+            self.now.taken (take size self.now.pending)) }
+        ensures none { IfNone result (IsLawful self.now.limits (self.now.given + 1)
+            self.now.taken (take size self.now.pending)) }
+        ensures records { IfNone result (0 < size → self.now.given < self.now.limits.records) }
+        ensures bytes { IfNone result (0 < size → self.now.taken + size ≤ self.now.limits.bytes) }
+    {
+        let held = &self.block.as_slice()[..size];
+        first_fault(&self.limits, self.given, self.taken, held)
+    }
+
+    // The line whose LF is at `k`, or the first fault in it.
+    fn whole_line(&mut self, k: usize) -> Result<Step, TextFault>
+        requires sound { self.old.fault ≡ None }
+        requires first { IsFirstByte (is_byte lf) self.old.pending (Some k) }
+        ensures within { IfOk result (λ step. KeepsLimits self.old.limits step self.new.given) }
+        ensures gives { GivesNext self.old result self.new }
+        ensures unread { IsUnread self.old self.new }
+        ensures not_more { result ≢ Ok Step.More }
+        ensures not_read { result ≢ Err TextFault.Read }
+        ensures sound { OnOk result (self.new.fault ≡ None) }
+        ensures err { IfErr result (Fails self.old self.new) }
+        ensures nears { IfOk result
+            (λ step. Nears step (left_to_do self.old) (left_to_do self.new)) }
+        ensures limits { self.new.limits ≡ self.old.limits }
+        ensures not_end { result ≢ Ok Step.End }
+    {
+        let size = through(self.block.as_slice(), k);
+        match self.fault_in(size) {
+            Some(fault) => self.fail(fault),
+            None => self.hand_out(k, size),
+        }
+    }
+
+    // The last line, which no LF ends, or the first fault in it; or the end.
+    fn last_line(&mut self) -> Result<Step, TextFault>
+        requires sound { self.old.fault ≡ None }
+        requires unended { IsFirstByte (is_byte lf) self.old.pending None }
+        requires ended { self.old.ended ≡ true }
+        ensures within { IfOk result (λ step. KeepsLimits self.old.limits step self.new.given) }
+        ensures gives { GivesNext self.old result self.new }
+        ensures unread { IsUnread self.old self.new }
+        ensures not_more { result ≢ Ok Step.More }
+        ensures not_read { result ≢ Err TextFault.Read }
+        ensures sound { OnOk result (self.new.fault ≡ None) }
+        ensures err { IfErr result (Fails self.old self.new) }
+        ensures nears { IfOk result
+            (λ step. Nears step (left_to_do self.old) (left_to_do self.new)) }
+        ensures limits { self.new.limits ≡ self.old.limits }
+        ensures end { result ≡ Ok Step.End → IsOver self.new }
+        ensures over { IsOver self.old → (result ≡ Ok Step.End) × (self.new ≡ self.old) }
+    {
+        let size = self.block.as_slice().len();
+        if size == 0 {
+            return Ok(Step::End);
+        }
+        let is_empty = strip_cr(self.block.as_slice()).is_empty();
+        match self.fault_in(size) {
+            Some(fault) => self.fail(fault),
+            None if is_empty => self.fail(TextFault::S1),
+            None => self.hand_out(size, size),
+        }
+    }
+
+    // What a poll gives where no LF was read: a fault of the line so far, or what a read gives.
+    fn read_on(&mut self) -> Result<Step, TextFault>
+        requires sound { self.old.fault ≡ None }
+        requires unended { IsFirstByte (is_byte lf) self.old.pending None }
+        requires going { self.old.ended ≡ false }
+        ensures within { IfOk result (λ step. KeepsLimits self.old.limits step self.new.given) }
+        ensures gives { GivesNext self.old result self.new }
+        ensures reads_not { ¬ NeedsRead self.old → IsUnread self.old self.new }
+        ensures reads_once { NeedsRead self.old
+            → ReadsOnce R.calls R.failed self.old result self.new }
+        ensures more { result ≡ Ok Step.More → IsFed self.old self.new }
+        ensures unfed { result ≢ Ok Step.More → bytes_read self.old self.new ≡ [] }
+        ensures consumes { Consumes (R.remaining self.old.source) (R.remaining self.new.source)
+            (bytes_read self.old self.new) }
+        ensures at_end { self.new.ended ≡ true → IsAtEnd (R.remaining self.new.source) }
+        ensures failed { result ≡ Err TextFault.Read → R.failed self.new.source ≡ true }
+        ensures end { result ≡ Ok Step.End → IsOver self.new }
+        ensures sound { OnOk result (self.new.fault ≡ None) }
+        ensures err { IfErr result (Fails self.old self.new) }
+        ensures nears { IfOk result
+            (λ step. Nears step (left_to_do self.old) (left_to_do self.new)) }
+        ensures limits { self.new.limits ≡ self.old.limits }
+    {
+        match self.fault_in(self.block.as_slice().len()) {
+            Some(fault) => self.fail(fault),
+            None => match self.block.fill(&mut self.source) {
+                Err(fault) => self.fail(fault),
+                Ok(0) => {
+                    self.ended = true;
+                    self.last_line()
+                }
+                Ok(_) => Ok(Step::More),
+            },
+        }
+    }
+
+    /// The next step. A line or a fault that was read is given without a read, and no poll reads
+    /// twice. After a fault it gives that fault again, and after the end the end.
+    pub fn poll(&mut self) -> Result<Step, TextFault>
+        // What is given depends on the bytes read so far alone, however the input goes on.
+        ensures gives { self.old.fault ≡ None → GivesNext self.old result self.new }
+
+        // It reads where it has to, and then once.
+        ensures reads_not { ¬ NeedsRead self.old → IsUnread self.old self.new }
+        ensures reads_once { NeedsRead self.old
+            → ReadsOnce R.calls R.failed self.old result self.new }
+        ensures more { result ≡ Ok Step.More → IsFed self.old self.new }
+        ensures unfed { result ≢ Ok Step.More → bytes_read self.old self.new ≡ [] }
+        ensures consumes { Consumes (R.remaining self.old.source) (R.remaining self.new.source)
+            (bytes_read self.old self.new) }
+        ensures at_end { self.new.ended ≡ true
+            → (self.old.ended ≡ true) ⊎ IsAtEnd (R.remaining self.new.source) }
+        ensures failed { result ≡ Err TextFault.Read
+            → (self.old.fault ≡ Some TextFault.Read) ⊎ (R.failed self.new.source ≡ true) }
+
+        // A line keeps to the limits.
+        ensures within { IfOk result (λ step. KeepsLimits self.old.limits step self.new.given) }
+
+        // The end and a fault last.
+        ensures end { result ≡ Ok Step.End → IsOver self.new }
+        ensures over { IsOver self.old → (result ≡ Ok Step.End) × (self.new ≡ self.old) }
+        ensures sound { OnOk result (self.new.fault ≡ None) }
+        ensures err { IfErr result (Fails self.old self.new) }
+        ensures again { IfSome self.old.fault (λ f. (result ≡ Err f) × (self.new ≡ self.old)) }
+
+        // So each run of polls ends.
+        ensures nears { IfOk result
+            (λ step. Nears step (left_to_do self.old) (left_to_do self.new)) }
+        ensures limits { self.new.limits ≡ self.old.limits }
+    {
+        if let Some(fault) = self.fault {
+            return Err(fault);
+        }
+        match self.block.line_end() {
+            Some(k) => self.whole_line(k),
+            None if self.ended => self.last_line(),
+            None => self.read_on(),
+        }
+    }
+}

@@ -1,0 +1,11 @@
+use Rattle.std.proofs.Common.{subst}
+use Rattle.humpipe.proofs.Appending.{front_first, front_second, err-of, last-err}
+use Rattle.humpipe.proofs.writing.write_record.Goals as goal
+
+pub returns-in_err-write_all-clause-err : goal.returns-in_err-write_all-clause-err
+returns-in_err-write_all-clause-err g c =
+    err-of _ _ (front_first _ _ _ _ (rw c.text.ensures.text at c.in_err-write_all.ensures.err))
+
+pub returns-clause-err : goal.returns-clause-err
+returns-clause-err g c =
+    last-err _ _ _ _ _ _ (rw c.text.ensures.text at c.in_ok-write_all.ensures.ok) c.write_all-2.ensures.err

@@ -1,0 +1,164 @@
+//! A score through a stage to a sink, record by record.
+ghost use Rattle.std.specs.Prelude.{◌≡◌, ◌≢◌, ℕ, List, [], ◌∷◌, ◌++◌, true};
+ghost use Rattle.std.specs.Prelude.{Err, IfOk, OnOk, OnErr};
+ghost use Rattle.std.specs.Io.KnownBytes.{Appends, Consumes, IsAtEnd, Keeps};
+ghost use Rattle.hum_record.specs.Row.{text_of};
+ghost use Rattle.humpipe.specs.Writing.{WroteFront};
+ghost use Rattle.hum_stage.specs.Meaning.{Meaning, Moment, MayPut, HasPut, opening};
+ghost use Rattle.hum_read.specs.Reading.{IsFresh};
+ghost use Rattle.humpipe.specs.Run.{GaveAll, GaveFront, MayFinish, FinishesBy};
+ghost use Rattle.hum_rid.specs.Rid.{meaning};
+ghost use Rattle.humpipe.specs.Run.{HasEnded, HasFailed, HasRun, HasFinished};
+
+use crate::writing::write_record;
+use hum_read::{ReadError, ScoreReader, Step};
+use hum_record::Record;
+use hum_rid::{Rid, RidOptions};
+use hum_stage::{End, Stage, State};
+use hum_text::calls::{Sink, Source};
+use std::alloc::Global;
+
+/// Why a run stopped before its end.
+#[derive(Clone, Copy, Debug, PartialEq, Eq)]
+pub enum Failure {
+    /// The source failed.
+    Read,
+    /// The sink failed, or took no byte.
+    Write,
+    /// There was no memory.
+    Memory,
+}
+
+/// Writes a record that was taken.
+fn write_out<W: Sink>(sink: &mut W, row: Record) -> Result<(), Failure>
+    ensures ok { OnOk result (Appends (W.contents sink.old) (W.contents sink.new)
+        (text_of row ++ 10 ∷ [])) }
+    ensures err { OnErr result (WroteFront (W.contents sink.old) (W.contents sink.new)
+        (text_of row ++ 10 ∷ [])) }
+    ensures write { OnErr result (result ≡ Err Failure.Write) }
+    ensures failed { OnErr result (W.failed sink.new ≡ true) }
+{
+    match write_record(sink, &row) {
+        Ok(()) => Ok(()),
+        Err(_) => Err(Failure::Write),
+    }
+}
+
+/// Writes what the stage has settled.
+fn give<S: Stage, W: Sink>(stage: &mut S, sink: &mut W) -> Result<(), Failure>
+    requires { (t : Moment) × S.stands stage.old t }
+    ensures ok { OnOk result (GaveAll (S.stands stage.old) (S.stands stage.new)
+        (W.contents sink.old) (W.contents sink.new)) }
+    ensures err { OnErr result (GaveFront (S.stands stage.old)
+        (W.contents sink.old) (W.contents sink.new)) }
+    ensures failed { result ≡ Err Failure.Write → W.failed sink.new ≡ true }
+    ensures not_read { result ≢ Err Failure.Read }
+{
+    loop {
+        match stage.take() {
+            Ok(None) => return Ok(()),
+            Ok(Some(row)) => write_out(sink, row)?,
+            Err(_) => return Err(Failure::Memory),
+        }
+    }
+}
+
+/// Puts a record into a stage that wants it.
+fn put<S: Stage>(stage: &mut S, row: Record) -> Result<(), Failure>
+    requires { MayPut (S.stands stage.old) row }
+    ensures ok { OnOk result (HasPut (S.stands stage.old) (S.stands stage.new) row) }
+    ensures err { OnErr result (result ≡ Err Failure.Memory) }
+{
+    match stage.put(row) {
+        Ok(()) => Ok(()),
+        Err(_) => Err(Failure::Memory),
+    }
+}
+
+/// Tells the stage the end, once all that is settled was given.
+fn finish<S: Stage, W: Sink>(stage: &mut S, sink: &mut W, end: End) -> Result<End, Failure>
+    requires { MayFinish (S.stands stage.old) end }
+    ensures ok { IfOk result (FinishesBy (S.stands stage.old) end) }
+    ensures kept { Keeps (W.contents sink.old) (W.contents sink.new) }
+    ensures err { OnErr result (result ≡ Err Failure.Write) }
+    ensures failed { OnErr result (W.failed sink.new ≡ true) }
+{
+    stage.end(end);
+    let State::Done(ending) = stage.state() else {
+        unreachable!()
+    };
+    match sink.flush() {
+        Ok(()) => Ok(ending),
+        Err(_) => Err(Failure::Write),
+    }
+}
+
+/// Reads a score through a stage, and writes what it gives: exactly the text of the command over the
+/// score that the bytes denote. At most one record is on its way at a time.
+///
+/// # Errors
+/// A failed read or write, and want of memory. What was written is then a front of the text, however
+/// the input goes on.
+pub fn run<R: Source, S: Stage, W: Sink>(
+    source: &mut ScoreReader<R>,
+    stage: &mut S,
+    sink: &mut W,
+) -> Result<End, Failure>
+    requires source { IsFresh source.old }
+    requires stage { (m : Meaning) × S.stands stage.old (opening m) }
+    ensures whole { IfOk result (λ end. (read : List ℕ)
+        × Consumes (R.remaining source.old.lines.source) (R.remaining source.new.lines.source) read
+        × HasEnded (S.stands stage.old) source.old.stage read
+        (W.contents sink.old) (W.contents sink.new) source.new end) }
+    ensures front { OnErr result ((read : List ℕ)
+        × Consumes (R.remaining source.old.lines.source) (R.remaining source.new.lines.source) read
+        × HasFailed (S.stands stage.old) read
+        (W.contents sink.old) (W.contents sink.new) source.new) }
+    ensures ended { source.new.lines.ended ≡ true
+        → IsAtEnd (R.remaining source.new.lines.source) }
+    ensures read_failed { result ≡ Err Failure.Read
+        → R.failed source.new.lines.source ≡ true }
+    ensures write_failed { result ≡ Err Failure.Write → W.failed sink.new ≡ true }
+{
+    loop {
+        match source.poll() {
+            Ok(Step::Record(row)) => {
+                put(stage, row)?;
+                give(stage, sink)?;
+            }
+            Ok(Step::More) => {}
+            Ok(Step::End(end)) => return finish(stage, sink, end),
+            Err(ReadError::Read) => return Err(Failure::Read),
+            Err(ReadError::Memory) => return Err(Failure::Memory),
+        }
+    }
+}
+
+/// Reads a score through rid, the second stage, and writes what is left.
+///
+/// # Errors
+/// As [`run`].
+pub fn run_rid<R: Source, W: Sink>(
+    alloc: Global,
+    source: &mut ScoreReader<R>,
+    options: RidOptions,
+    sink: &mut W,
+) -> Result<End, Failure>
+    requires { IsFresh source.old }
+    ensures whole { IfOk result (λ end. (read : List ℕ)
+        × Consumes (R.remaining source.old.lines.source) (R.remaining source.new.lines.source) read
+        × HasFinished source.old.stage (meaning 2 options) read
+        (W.contents sink.old) (W.contents sink.new) source.new end) }
+    ensures front { OnErr result ((read : List ℕ)
+        × Consumes (R.remaining source.old.lines.source) (R.remaining source.new.lines.source) read
+        × HasRun (meaning 2 options) read
+        (W.contents sink.old) (W.contents sink.new) source.new) }
+    ensures ended { source.new.lines.ended ≡ true
+        → IsAtEnd (R.remaining source.new.lines.source) }
+    ensures read_failed { result ≡ Err Failure.Read
+        → R.failed source.new.lines.source ≡ true }
+    ensures write_failed { result ≡ Err Failure.Write → W.failed sink.new ≡ true }
+{
+    let mut stage = Rid::new(alloc, 2, options);
+    run(source, &mut stage, sink)
+}
