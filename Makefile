@@ -27,7 +27,7 @@ test:
 	rt ci
 
 bench: humpipe
-	sh bench/run
+	python3 bench/run.py
 
 install: humpipe
 	install -D -m 755 humpipe $(DESTDIR)$(PREFIX)/bin/humpipe

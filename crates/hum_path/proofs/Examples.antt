@@ -1,13 +1,13 @@
 -- Small scores, by the definitions.
-use Rattle.std.proofs.Common.{◌≡◌, ℕ, List, [], ◌∷◌, None, Some, refl}
+use Rattle.std.proofs.Common.{◌≡◌, ℕ, List, [], ◌∷◌, take, drop, None, Some, refl}
 use lib.Chars.{codes}
 use Rattle.hum_record.specs.declared.SpinedKind.TheVariants.{Interpretation, Values}
 use Rattle.hum_record.specs.Row.{Row, Comment, Spined}
 use Rattle.hum_path.specs.declared.moved.Move.TheVariants.{Same, Left, Right, Join as Joined, Added}
 use Rattle.hum_path.specs.declared.PathFault.TheVariants.{P1, P2, P3, P5, P6, P7}
 use Rattle.hum_path.specs.Spines.{Unopened, Spines, moves}
-use Rattle.hum_path.specs.Score.{path_after, score_fault}
-use Rattle.hum_path.specs.Chains.{history, future, origins}
+use Rattle.hum_path.specs.Score.{path_after, passed, score_fault}
+use Rattle.hum_path.specs.Chains.{history, future, reach, origins}
 
 pub one : List ℕ → Row
 one t = Spined Interpretation (t ∷ [])
@@ -69,3 +69,42 @@ origins_added = refl
 
 history_added : history (Spined Values (codes "a" ∷ codes "b" ∷ []) ∷ Spined Interpretation (codes "*" ∷ codes "**x" ∷ []) ∷ Spined Interpretation (codes "*+" ∷ []) ∷ Spined Interpretation (codes "**x" ∷ []) ∷ []) 1 ≡ codes "b" ∷ codes "**x" ∷ []
 history_added = refl
+
+-- **x **y, *^ *, b c d, *v *v *, e f, *- *-
+abbrev rows_split : List Row
+rows_split =
+    Spined Interpretation (codes "**x" ∷ codes "**y" ∷ []) ∷ Spined Interpretation (codes "*^" ∷ codes "*" ∷ [])
+    ∷ Spined Values (codes "b" ∷ codes "c" ∷ codes "d" ∷ []) ∷ Spined Interpretation (codes "*v" ∷ codes "*v" ∷ codes "*" ∷ [])
+    ∷ Spined Values (codes "e" ∷ codes "f" ∷ []) ∷ Spined Interpretation (codes "*-" ∷ codes "*-" ∷ []) ∷ []
+
+sound_split : score_fault [] rows_split ≡ None
+sound_split = refl
+
+-- at a split the future goes on with the left child, and joined spines go on as one
+future_split : future Unopened rows_split 0 ≡ codes "**x" ∷ codes "*^" ∷ codes "b" ∷ codes "*v" ∷ codes "e" ∷ codes "*-" ∷ []
+future_split = refl
+
+future_beside : future Unopened rows_split 1 ≡ codes "**y" ∷ codes "*" ∷ codes "d" ∷ codes "*" ∷ codes "f" ∷ codes "*-" ∷ []
+future_beside = refl
+
+-- the same records after the opening, whose spine ends
+future_right : future (Spines (codes "**x" ∷ codes "**x" ∷ codes "**y" ∷ [])) (drop 2 rows_split) 1 ≡ codes "c" ∷ codes "*v" ∷ codes "e" ∷ codes "*-" ∷ []
+future_right = refl
+
+-- both children come from the one spine, and so does what they are joined to
+origins_split : origins (passed [] (take 3 rows_split)) ≡ 0 ∷ 0 ∷ 1 ∷ []
+origins_split = refl
+
+origins_joined : origins (passed [] (take 5 rows_split)) ≡ 0 ∷ 1 ∷ []
+origins_joined = refl
+
+-- the reach of a history ends with the nearest exclusive interpretation
+reach_cut : reach (codes "b" ∷ codes "*clefG2" ∷ codes "**z" ∷ codes "a" ∷ codes "**x" ∷ []) ≡ codes "b" ∷ codes "*clefG2" ∷ codes "**z" ∷ []
+reach_cut = refl
+
+reach_whole : reach (history past7 0) ≡ history past7 0
+reach_whole = refl
+
+-- **x **y, *+ *, * **z *: the added spine's origin is that of the spine to its left
+origins_between : origins (Spined Interpretation (codes "*" ∷ codes "**z" ∷ codes "*" ∷ []) ∷ Spined Interpretation (codes "*+" ∷ codes "*" ∷ []) ∷ Spined Interpretation (codes "**x" ∷ codes "**y" ∷ []) ∷ []) ≡ 0 ∷ 0 ∷ 1 ∷ []
+origins_between = refl

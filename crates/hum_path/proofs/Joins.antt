@@ -18,10 +18,14 @@ mixes_short (n ∷ m ∷ ns) (s ∷ []) h = refl
 mixes_short (n ∷ m ∷ ns) (s ∷ t ∷ ss) h = absurd (omega arith)
 
 -- one place further
-pub mixed_more : (names : List (Vec ℕ Global)) (signs : List Sign) (j : ℕ) → length names ≡ length signs → j < length signs → mixes_join (texts (drop j names)) (drop j signs) ≡ false → has_mixed_join (texts (drop (j + 1) names)) (drop (j + 1) signs) ≡ has_mixed_join (texts (drop j names)) (drop j signs)
+pub mixed_more : (names : List (Vec ℕ Global)) (signs : List Sign) (j : ℕ) → length names ≡ length signs
+    → j < length signs → mixes_join (texts (drop j names)) (drop j signs) ≡ false
+    → has_mixed_join (texts (drop (j + 1) names)) (drop (j + 1) signs) ≡ has_mixed_join (texts (drop j names)) (drop j signs)
 mixed_more names signs j same within h = rw add-one (further names signs j same within h)
   where
-    further : (names : List (Vec ℕ Global)) (signs : List Sign) (j : ℕ) → length names ≡ length signs → j < length signs → mixes_join (texts (drop j names)) (drop j signs) ≡ false → has_mixed_join (texts (drop (suc j) names)) (drop (suc j) signs) ≡ has_mixed_join (texts (drop j names)) (drop j signs)
+    further : (names : List (Vec ℕ Global)) (signs : List Sign) (j : ℕ) → length names ≡ length signs
+        → j < length signs → mixes_join (texts (drop j names)) (drop j signs) ≡ false
+        → has_mixed_join (texts (drop (suc j) names)) (drop (suc j) signs) ≡ has_mixed_join (texts (drop j names)) (drop j signs)
     further [] [] j same within h = absurd (omega arith)
     further [] (s ∷ ss) j same within h = absurd (omega arith)
     further (n ∷ ns) [] j same within h = absurd (omega arith)

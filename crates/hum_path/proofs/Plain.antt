@@ -1,5 +1,7 @@
 -- Interpretations without path indicator and exclusive interpretation change nothing.
-use Rattle.std.proofs.Common.{◌≡◌, ◌∙◌, refl, sym, ap, ℕ, zero, suc, ◌+◌, Bool, true, false, List, [], ◌∷◌, length, map, drop, get_or, arith, add-one, drop-cons, cond, Option, Some, None}
+use Rattle.std.proofs.Common.{◌≡◌, ◌∙◌, refl, sym, ap, ℕ, zero, suc, ◌+◌, Bool, true, false, List}
+use Rattle.std.proofs.Common.{[], ◌∷◌, length, map, drop, get_or, arith, add-one, drop-cons, cond}
+use Rattle.std.proofs.Common.{Option, Some, None}
 use Rattle.std.specs.List.{list_all, find}
 use Rattle.std.proofs.lemmas.List.{drop_all, length-map}
 use Rattle.std.proofs.lemmas.Bool.{and_parts}
@@ -14,7 +16,8 @@ use Rattle.hum_path.specs.Spines.{Spines, exchanges, heirs_from, same_upto, move
 use Rattle.hum_path.specs.Rules.{breaks, in_order}
 
 -- none passes the test
-pub find_head : {X : Type 0} (p : X → Bool) (x : X) (xs : List X) → find p (x ∷ xs) ≡ None → (p x ≡ false) × (find p xs ≡ None)
+pub find_head : {X : Type 0} (p : X → Bool) (x : X) (xs : List X) → find p (x ∷ xs) ≡ None
+    → (p x ≡ false) × (find p xs ≡ None)
 find_head p x xs h = one (p x) x (find p xs) h
   where
     one : {X : Type 0} (b : Bool) (x : X) (o : Option X) → cond b (Some x) o ≡ None → (b ≡ false) × (o ≡ None)
@@ -22,14 +25,16 @@ find_head p x xs h = one (p x) x (find p xs) h
     one false x o h = (refl, h)
 
 -- as wide as the spines
-pub sound_width : (names : List (List ℕ)) (tokens : List (List ℕ)) → find (breaks (Spines names) tokens) in_order ≡ None → length tokens ≡ length names
+pub sound_width : (names : List (List ℕ)) (tokens : List (List ℕ))
+    → find (breaks (Spines names) tokens) in_order ≡ None → length tokens ≡ length names
 sound_width names tokens h =
     let a = find_head (breaks (Spines names) tokens) P7 (P1 ∷ P2 ∷ P6 ∷ P10 ∷ P11 ∷ P3 ∷ P4 ∷ P5 ∷ P9 ∷ []) h in
     let b = find_head (breaks (Spines names) tokens) P1 (P2 ∷ P6 ∷ P10 ∷ P11 ∷ P3 ∷ P4 ∷ P5 ∷ P9 ∷ []) a.1 in
     let c = find_head (breaks (Spines names) tokens) P2 (P6 ∷ P10 ∷ P11 ∷ P3 ∷ P4 ∷ P5 ∷ P9 ∷ []) b.1 in
     grind (arith, nat_tests, c.0)
 
-plain_heirs : (pair : List ℕ) (j : ℕ) (after_join : Bool) (signs : List Sign) → list_all is_plain signs ≡ true → heirs_from pair j after_join signs ≡ same_upto j (length signs)
+plain_heirs : (pair : List ℕ) (j : ℕ) (after_join : Bool) (signs : List Sign) → list_all is_plain signs ≡ true
+    → heirs_from pair j after_join signs ≡ same_upto j (length signs)
 plain_heirs pair j b [] h = refl
 plain_heirs pair j b (Plain ∷ signs) h = ap (λ (ms : List Move). Same j ∷ ms) (plain_heirs pair (j + 1) false signs h)
 plain_heirs pair j b (Split ∷ signs) h = cc
@@ -51,12 +56,15 @@ not_exclusive Add h = refl
 not_exclusive End h = refl
 not_exclusive Exclusive h = cc
 
-plain_at : (tokens : List (List ℕ)) (j : ℕ) → list_all is_plain (map sign_of tokens) ≡ true → is_exclusive (sign_of (get_or tokens j [])) ≡ false
+plain_at : (tokens : List (List ℕ)) (j : ℕ) → list_all is_plain (map sign_of tokens) ≡ true
+    → is_exclusive (sign_of (get_or tokens j [])) ≡ false
 plain_at [] j h = refl
-plain_at (t ∷ ts) zero h = not_exclusive (sign_of t) (and_parts (is_plain (sign_of t)) (list_all is_plain (map sign_of ts)) h).0
+plain_at (t ∷ ts) zero h =
+    not_exclusive (sign_of t) (and_parts (is_plain (sign_of t)) (list_all is_plain (map sign_of ts)) h).0
 plain_at (t ∷ ts) (suc j) h = plain_at ts j (and_parts (is_plain (sign_of t)) (list_all is_plain (map sign_of ts)) h).1
 
-plain_names : (names tokens : List (List ℕ)) (j n : ℕ) → list_all is_plain (map sign_of tokens) ≡ true → j + n ≡ length names → map (renamed names tokens) (same_upto j n) ≡ drop j names
+plain_names : (names tokens : List (List ℕ)) (j n : ℕ) → list_all is_plain (map sign_of tokens) ≡ true
+    → j + n ≡ length names → map (renamed names tokens) (same_upto j n) ≡ drop j names
 plain_names names tokens j zero h e = sym (drop_all j names (omega (arith, e)))
 plain_names names tokens j (suc n) h e =
     let first : renamed names tokens (Same j) ≡ get_or names j [] = ap (λ (b : Bool). cond b (get_or tokens j []) (get_or names j [])) (plain_at tokens j h) in
@@ -64,7 +72,8 @@ plain_names names tokens j (suc n) h e =
     rw (drop-cons names j [] (omega (arith, e))) (ap (λ (x : List ℕ). x ∷ map (renamed names tokens) (same_upto (j + 1) n)) first ∙ ap (λ (xs : List (List ℕ)). get_or names j [] ∷ xs) rest)
 
 -- no name changes
-pub plain_stays : (names tokens : List (List ℕ)) → list_all is_plain (map sign_of tokens) ≡ true → length tokens ≡ length names → names_after (Spines names) tokens ≡ names
+pub plain_stays : (names tokens : List (List ℕ)) → list_all is_plain (map sign_of tokens) ≡ true
+    → length tokens ≡ length names → names_after (Spines names) tokens ≡ names
 plain_stays names tokens h e =
     let size : length (map sign_of tokens) ≡ length names = length-map tokens sign_of ∙ e in
     rw (plain_moves (map sign_of tokens) h, size) (plain_names names tokens 0 (length names) h (omega arith))

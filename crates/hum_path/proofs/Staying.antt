@@ -1,5 +1,7 @@
 -- A record that asks nothing of the spines leaves them as they are, and is refused as a text is.
-use Rattle.std.proofs.Common.{◌≡◌, ◌≢◌, ◌∙◌, refl, sym, ap, ℕ, suc, ◌+◌, ◌<◌, ◌≤◌, nat_lt, Bool, true, false, not, ◌&&◌, ◌||◌, ◌==◌, List, [], ◌∷◌, length, map, None, Some, inl, inr, arith, subst}
+use Rattle.std.proofs.Common.{◌≡◌, ◌≢◌, ◌∙◌, refl, sym, ap, ℕ, ◌+◌, ◌≤◌, nat_lt, Bool}
+use Rattle.std.proofs.Common.{true, false, ◌&&◌, ◌==◌, List, [], ◌∷◌, length, map, None}
+use Rattle.std.proofs.Common.{Some, inl, inr, arith, subst}
 use Rattle.std.specs.List.{list_any, list_all, find}
 use Rattle.std.specs.Str.{bytes_eq}
 use Rattle.std.proofs.lemmas.Bool.{cases_Bool, and_parts, or_from, not-false}
@@ -16,13 +18,15 @@ use Rattle.hum_record.specs.Spelling.{is_empty, IsTextOf}
 use Rattle.hum_record.specs.Row.{Row, Comment, Spined, kind_of, tokens_of, text_of}
 use Rattle.hum_path.specs.declared.signs.Sign.{Sign}
 use Rattle.hum_path.specs.declared.signs.Sign.TheVariants.{Split, Join, Exchange, Add, End, Exclusive, Plain}
-use Rattle.hum_path.specs.declared.PathFault.TheVariants.{P1, P2, P3, P4, P5, P6, P7, P9, P10, P11}
-use Rattle.hum_path.specs.declared.moved.Move.{Move}
-use Rattle.hum_path.specs.Sign.{sign_of, is_join, is_exclusive, is_path_indicator, is_plain, all_plain, steers}
-use Rattle.hum_path.specs.Spines.{Path, Unopened, Spines, width, exchanges, moves, moves_under, same_upto, after, path_in, texts}
-use Rattle.hum_path.specs.Rules.{breaks, breaks_as_text, in_order, fault_of, has_bare, has_unnamed, stays_unnamed, names_and_steers, has_lone_join, has_mixed_join, mixes_join}
+use Rattle.hum_path.specs.declared.PathFault.TheVariants.{P1}
+use Rattle.hum_path.specs.Sign.{sign_of, is_exclusive, is_plain, all_plain, steers}
+use Rattle.hum_path.specs.Spines.{Path, Unopened, Spines, width, exchanges, moves, moves_under}
+use Rattle.hum_path.specs.Spines.{same_upto, after, path_in, texts}
+use Rattle.hum_path.specs.Rules.{breaks, breaks_as_text, in_order, fault_of, has_bare, has_unnamed}
+use Rattle.hum_path.specs.Rules.{has_lone_join, has_mixed_join}
+use Rattle.hum_path.specs.Rules.{mixes_join}
 use Rattle.hum_path.specs.Step.{ComeFrom, IsTidy}
-use Rattle.hum_path.proofs.Plain.{find_head, sound_width, plain_moves, plain_stays, not_exclusive}
+use Rattle.hum_path.proofs.Plain.{sound_width, plain_moves, plain_stays, not_exclusive}
 use Rattle.hum_path.proofs.Steady.{same_upto_length}
 use Rattle.hum_path.proofs.Widths.{text_width}
 use Rattle.hum_path.proofs.Within.{same_below}
@@ -65,7 +69,8 @@ mixes_none (name ∷ []) signs = refl
 mixes_none (name ∷ other ∷ names) [] = refl
 mixes_none (name ∷ other ∷ names) (next ∷ signs) = refl
 
-plain_mixed : (names : List (List ℕ)) (signs : List Sign) → list_all is_plain signs ≡ true → has_mixed_join names signs ≡ false
+plain_mixed : (names : List (List ℕ)) (signs : List Sign) → list_all is_plain signs ≡ true
+    → has_mixed_join names signs ≡ false
 plain_mixed [] [] h = refl
 plain_mixed [] (sign ∷ signs) h = refl
 plain_mixed (name ∷ names) [] h = refl
@@ -82,11 +87,13 @@ and_true true = refl
 and_true false = refl
 
 -- none gets a name, so each that waits goes on waiting
-plain_unnamed : (names : List (List ℕ)) (signs : List Sign) → list_all is_plain signs ≡ true → length signs ≡ length names → has_unnamed names signs ≡ list_any is_empty names
+plain_unnamed : (names : List (List ℕ)) (signs : List Sign) → list_all is_plain signs ≡ true
+    → length signs ≡ length names → has_unnamed names signs ≡ list_any is_empty names
 plain_unnamed [] [] h e = refl
 plain_unnamed [] (sign ∷ signs) h e = absurd (omega (arith, e))
 plain_unnamed (name ∷ names) [] h e = absurd (omega (arith, e))
-plain_unnamed (name ∷ names) (Plain ∷ signs) h e = rw (and_true (length name == 0), plain_unnamed names signs h (omega (arith, e))) refl
+plain_unnamed (name ∷ names) (Plain ∷ signs) h e =
+    rw (and_true (length name == 0), plain_unnamed names signs h (omega (arith, e))) refl
 plain_unnamed (name ∷ names) (Split ∷ signs) h e = cc
 plain_unnamed (name ∷ names) (Join ∷ signs) h e = cc
 plain_unnamed (name ∷ names) (Exchange ∷ signs) h e = cc
@@ -110,7 +117,9 @@ plain_bare (t ∷ ts) h =
     or_from _ _ (bare_exclusive t (not_exclusive (sign_of t) both.0)) (plain_bare ts both.1)
 
 -- as wide as the spines, an interpretation that asks nothing breaks a rule just where a text does
-plain_as_wide : (names tokens : List (List ℕ)) → all_plain tokens ≡ true → length names ≤ 4096 → length tokens ≡ length names → find (breaks (Spines names) tokens) in_order ≡ find (breaks_as_text (Spines names) tokens) in_order
+plain_as_wide : (names tokens : List (List ℕ)) → all_plain tokens ≡ true → length names ≤ 4096
+    → length tokens ≡ length names
+    → find (breaks (Spines names) tokens) in_order ≡ find (breaks_as_text (Spines names) tokens) in_order
 plain_as_wide names tokens h few e =
     let signs = map sign_of tokens in
     let size : length signs ≡ length tokens = length-map tokens sign_of in
@@ -125,7 +134,8 @@ plain_as_wide names tokens h few e =
     rw (unnamed, bare, named, lone, wide, places, mixed, fits) refl
 
 -- an interpretation that asks nothing breaks a rule just where a text does
-pub plain_breaks : (path : Path) (tokens : List (List ℕ)) → all_plain tokens ≡ true → tokens ≢ [] → width path ≤ 4096 → find (breaks path tokens) in_order ≡ find (breaks_as_text path tokens) in_order
+pub plain_breaks : (path : Path) (tokens : List (List ℕ)) → all_plain tokens ≡ true → tokens ≢ []
+    → width path ≤ 4096 → find (breaks path tokens) in_order ≡ find (breaks_as_text path tokens) in_order
 plain_breaks Unopened [] h filled few = absurd (filled refl)
 plain_breaks Unopened (t ∷ ts) h filled few =
     let both = and_parts (is_plain (sign_of t)) (all_plain ts) h in
@@ -135,7 +145,9 @@ plain_breaks (Spines names) tokens h filled few = elim (cases_Bool (length token
   | inr other ↦ rw other refl
 ]
 
-plain_after : (path : Path) (tokens : List (List ℕ)) → all_plain tokens ≡ true → tokens ≢ [] → find (breaks path tokens) in_order ≡ None → (after path (Spined Interpretation tokens) ≡ path) × (moves path (Spined Interpretation tokens) ≡ same_upto 0 (width path)) × (length tokens ≡ width path)
+plain_after : (path : Path) (tokens : List (List ℕ)) → all_plain tokens ≡ true → tokens ≢ []
+    → find (breaks path tokens) in_order ≡ None
+    → (after path (Spined Interpretation tokens) ≡ path) × (moves path (Spined Interpretation tokens) ≡ same_upto 0 (width path)) × (length tokens ≡ width path)
 plain_after Unopened [] h filled sound = absurd (filled refl)
 plain_after Unopened (t ∷ ts) h filled sound =
     let both = and_parts (is_plain (sign_of t)) (all_plain ts) h in
@@ -163,7 +175,10 @@ comment_stays path (Spined Local tokens) is = cc
 comment_stays path (Spined Interpretation tokens) is = cc
 comment_stays path (Spined Values tokens) is = cc
 
-text_stays : (kind : SpinedKind) (path : Path) (tokens : List (List ℕ)) → fault_of path (Spined kind tokens) ≡ None → length tokens ≡ width path → (after path (Spined kind tokens) ≡ path) → (moves path (Spined kind tokens) ≡ same_upto 0 (width path)) → Stays path (Spined kind tokens)
+text_stays : (kind : SpinedKind) (path : Path) (tokens : List (List ℕ))
+    → fault_of path (Spined kind tokens) ≡ None → length tokens ≡ width path
+    → (after path (Spined kind tokens) ≡ path) → (moves path (Spined kind tokens) ≡ same_upto 0 (width path))
+    → Stays path (Spined kind tokens)
 text_stays kind path tokens sound wide stays kept = record {
   sound = sound;
   path_stays = stays;
@@ -172,17 +187,23 @@ text_stays kind path tokens sound wide stays kept = record {
 }
 
 -- the first rule that a record of tokens breaks, as a text; and if there is none, nothing changes
-pub quiet_stays : (path : Path) (row : Row) → steers row ≡ false → (kind_of row ≡ AnyGlobal → ⊥) → IsTextOf row (text_of row) → width path ≤ 4096 → (fault_of path row ≡ find (breaks_as_text path (tokens_of row)) in_order) × (fault_of path row ≡ None → Stays path row)
+pub quiet_stays : (path : Path) (row : Row) → steers row ≡ false → (kind_of row ≡ AnyGlobal → ⊥)
+    → IsTextOf row (text_of row) → width path ≤ 4096
+    → (fault_of path row ≡ find (breaks_as_text path (tokens_of row)) in_order) × (fault_of path row ≡ None → Stays path row)
 quiet_stays path (Comment text) quiet spined lawful few = absurd (spined refl)
-quiet_stays path (Spined Local tokens) quiet spined lawful few = (refl, λ sound. text_stays Local path tokens sound (text_width path tokens sound) refl refl)
-quiet_stays path (Spined Values tokens) quiet spined lawful few = (refl, λ sound. text_stays Values path tokens sound (text_width path tokens sound) refl refl)
+quiet_stays path (Spined Local tokens) quiet spined lawful few =
+    (refl, λ sound. text_stays Local path tokens sound (text_width path tokens sound) refl refl)
+quiet_stays path (Spined Values tokens) quiet spined lawful few =
+    (refl, λ sound. text_stays Values path tokens sound (text_width path tokens sound) refl refl)
 quiet_stays path (Spined Interpretation tokens) quiet spined lawful few =
     let plain = not-false (all_plain tokens) quiet in (
       plain_breaks path tokens plain lawful.1 few,
-      λ sound. let p = plain_after path tokens plain lawful.1 sound in text_stays Interpretation path tokens sound p.2 p.0 p.1,
+      λ sound. let p =
+          plain_after path tokens plain lawful.1 sound in text_stays Interpretation path tokens sound p.2 p.0 p.1,
     )
 
 -- the fields show the width
-pub width_in : (opened waits : Bool) (names : List (Vec ℕ Global)) → IsTidy opened waits names → width (path_in opened (texts names)) ≡ length names
+pub width_in : (opened waits : Bool) (names : List (Vec ℕ Global)) → IsTidy opened waits names
+    → width (path_in opened (texts names)) ≡ length names
 width_in true waits names tidy = length-map names (λ v. v.items)
 width_in false waits names tidy = ap length (sym (tidy.unopened refl))

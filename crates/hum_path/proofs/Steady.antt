@@ -1,5 +1,6 @@
 -- Spines that stay where they are.
-use Rattle.std.proofs.Common.{◌≡◌, ◌∙◌, ℕ, zero, suc, ◌+◌, ◌<◌, List, [], ◌∷◌, length, refl, ap, arith, Some, slice_get, ◌++◌, ◌-◌, append_assoc}
+use Rattle.std.proofs.Common.{◌≡◌, ◌∙◌, ℕ, zero, suc, ◌+◌, ◌<◌, List, [], ◌∷◌, length, refl, ap}
+use Rattle.std.proofs.Common.{arith, Some, slice_get, ◌++◌, ◌-◌, append_assoc}
 use Rattle.hum_path.specs.declared.moved.Move.{Move}
 use Rattle.hum_path.specs.declared.moved.Move.TheVariants.{Same}
 use Rattle.hum_path.specs.Spines.{same_upto}
@@ -16,5 +17,6 @@ get-same_upto j (suc n) (suc i) h = get-same_upto (j + 1) n i (omega arith) ∙ 
 pub get-same_upto_first : (n i : ℕ) → i < n → slice_get (same_upto 0 n) i ≡ Some (Same i)
 get-same_upto_first n i h = get-same_upto 0 n i h ∙ ap (λ k. Some (Same k)) (omega arith)
 
-pub same_more : (moves : List Move) (j n : ℕ) → j < n → (moves ++ Same j ∷ []) ++ same_upto (j + 1) (n - (j + 1)) ≡ moves ++ same_upto j (n - j)
+pub same_more : (moves : List Move) (j n : ℕ) → j < n
+    → (moves ++ Same j ∷ []) ++ same_upto (j + 1) (n - (j + 1)) ≡ moves ++ same_upto j (n - j)
 same_more moves j n within = let e : n - j ≡ suc (n - (j + 1)) = omega arith in rw (append_assoc, e) refl

@@ -15,7 +15,8 @@ use Rattle.hum_path.proofs.Steady.{same_upto_length}
 use Rattle.hum_path.proofs.Plain.{find_head}
 
 -- as wide as the spines
-pub text_width : (path : Path) (tokens : List (List ℕ)) → find (breaks_as_text path tokens) in_order ≡ None → length tokens ≡ width path
+pub text_width : (path : Path) (tokens : List (List ℕ)) → find (breaks_as_text path tokens) in_order ≡ None
+    → length tokens ≡ width path
 text_width Unopened tokens h = cc
 text_width (Spines names) tokens h =
     let a = find_head (breaks_as_text (Spines names) tokens) P7 (P1 ∷ P2 ∷ P6 ∷ P10 ∷ P11 ∷ P3 ∷ P4 ∷ P5 ∷ P9 ∷ []) h in
@@ -24,11 +25,13 @@ text_width (Spines names) tokens h =
     grind (arith, nat_tests, c.0)
 
 -- as many moves as spines after
-pub moves_width : (path : Path) (tokens : List (List ℕ)) → length (moves_at path tokens) ≡ length (names_after path tokens)
+pub moves_width : (path : Path) (tokens : List (List ℕ))
+    → length (moves_at path tokens) ≡ length (names_after path tokens)
 moves_width Unopened tokens = same_upto_length 0 (length tokens)
 moves_width (Spines names) tokens = sym (length-map (moves_under (map sign_of tokens)) (renamed names tokens))
 
-longer_length : (tokens : List (List ℕ)) (above : List (List (List ℕ))) → length tokens ≡ length above → length (longer tokens above) ≡ length above
+longer_length : (tokens : List (List ℕ)) (above : List (List (List ℕ))) → length tokens ≡ length above
+    → length (longer tokens above) ≡ length above
 longer_length [] above h = refl
 longer_length (t ∷ ts) [] h = absurd (omega (arith, h))
 longer_length (t ∷ ts) (chain ∷ above) h = ap suc (longer_length ts above (omega (arith, h)))
@@ -36,13 +39,17 @@ longer_length (t ∷ ts) (chain ∷ above) h = ap suc (longer_length ts above (o
 pub columns_width : (past : List Row) → IsOpen past → length (columns past) ≡ width (path_after past)
 columns_width [] h = refl
 columns_width (Comment text ∷ past) h = columns_width past h.0
-columns_width (Spined Interpretation tokens ∷ past) h = length-map (moves_at (path_after past) tokens) (chain_of tokens (columns past)) ∙ moves_width (path_after past) tokens
-columns_width (Spined Local tokens ∷ past) h = let ih = columns_width past h.0 in longer_length tokens (columns past) (text_width (path_after past) tokens h.1 ∙ sym ih) ∙ ih
-columns_width (Spined Values tokens ∷ past) h = let ih = columns_width past h.0 in longer_length tokens (columns past) (text_width (path_after past) tokens h.1 ∙ sym ih) ∙ ih
+columns_width (Spined Interpretation tokens ∷ past) h =
+    length-map (moves_at (path_after past) tokens) (chain_of tokens (columns past)) ∙ moves_width (path_after past) tokens
+columns_width (Spined Local tokens ∷ past) h =
+    let ih = columns_width past h.0 in longer_length tokens (columns past) (text_width (path_after past) tokens h.1 ∙ sym ih) ∙ ih
+columns_width (Spined Values tokens ∷ past) h =
+    let ih = columns_width past h.0 in longer_length tokens (columns past) (text_width (path_after past) tokens h.1 ∙ sym ih) ∙ ih
 
 pub origins_width : (past : List Row) → IsOpen past → length (origins past) ≡ width (path_after past)
 origins_width [] h = refl
 origins_width (Comment text ∷ past) h = origins_width past h.0
-origins_width (Spined Interpretation tokens ∷ past) h = length-map (moves_at (path_after past) tokens) (origin_of (origins past)) ∙ moves_width (path_after past) tokens
+origins_width (Spined Interpretation tokens ∷ past) h =
+    length-map (moves_at (path_after past) tokens) (origin_of (origins past)) ∙ moves_width (path_after past) tokens
 origins_width (Spined Local tokens ∷ past) h = origins_width past h.0
 origins_width (Spined Values tokens ∷ past) h = origins_width past h.0

@@ -1,5 +1,6 @@
 -- Each spine comes from a spine under a token.
-use Rattle.std.proofs.Common.{◌≡◌, ℕ, zero, suc, ◌+◌, ◌<◌, ◌≤◌, Bool, true, false, List, [], ◌∷◌, ◌++◌, length, map, arith, inl, inr, ◌==◌, Some, slice_get, subst}
+use Rattle.std.proofs.Common.{◌≡◌, ℕ, zero, suc, ◌+◌, ◌<◌, ◌≤◌, Bool, true, false, List, [], ◌∷◌}
+use Rattle.std.proofs.Common.{◌++◌, length, map, arith, inl, inr, ◌==◌, Some, slice_get, subst}
 use Rattle.std.proofs.lemmas.Option.{same_Some}
 use Rattle.std.proofs.lemmas.List.{length-map}
 use Rattle.std.specs.List.{AllByRecursion}
@@ -11,7 +12,8 @@ use Rattle.hum_record.specs.declared.SpinedKind.TheVariants.{Local, Interpretati
 use Rattle.hum_record.specs.Row.{Row, Comment, Spined, tokens_of}
 use Rattle.hum_path.specs.Sign.{sign_of, is_join, is_exchange, steers}
 use Rattle.hum_path.specs.Step.{ComeFrom}
-use Rattle.hum_path.specs.Spines.{Path, Unopened, Spines, exchanges, partner, heirs, heirs_from, same_upto, moves_at, source}
+use Rattle.hum_path.specs.Spines.{Path, Unopened, Spines, exchanges, partner, heirs, heirs_from}
+use Rattle.hum_path.specs.Spines.{same_upto, moves_at, source}
 
 -- moves that come from places below n
 abbrev pub From : ℕ → List Move → Type 0
@@ -33,7 +35,8 @@ partner_below n j [] h below = below
 partner_below n j (a ∷ []) h below = below
 partner_below n j (a ∷ b ∷ more) h below = elim (cases_Bool (j == a)) as (λ _. partner (a ∷ b ∷ more) j < n) [ inl w ↦ rw w h.1.0 | inr w ↦ rw w h.0 ]
 
-heirs_below : (n j : ℕ) (pair : List ℕ) (after_join : Bool) (sign : Sign) (signs : List Sign) → AllByRecursion (λ p. p < n) pair → j < n → From n (heirs pair j after_join sign signs)
+heirs_below : (n j : ℕ) (pair : List ℕ) (after_join : Bool) (sign : Sign) (signs : List Sign)
+    → AllByRecursion (λ p. p < n) pair → j < n → From n (heirs pair j after_join sign signs)
 heirs_below n j pair after_join Split signs p h = (h, (h, tt))
 heirs_below n j pair true Join signs p h = tt
 heirs_below n j pair false Join signs p h = (h, tt)
@@ -43,7 +46,8 @@ heirs_below n j pair after_join End signs p h = tt
 heirs_below n j pair after_join Exclusive signs p h = (h, tt)
 heirs_below n j pair after_join Plain signs p h = (h, tt)
 
-all_below : (n j : ℕ) (pair : List ℕ) (after_join : Bool) (signs : List Sign) → AllByRecursion (λ p. p < n) pair → j + length signs ≤ n → From n (heirs_from pair j after_join signs)
+all_below : (n j : ℕ) (pair : List ℕ) (after_join : Bool) (signs : List Sign) → AllByRecursion (λ p. p < n) pair
+    → j + length signs ≤ n → From n (heirs_from pair j after_join signs)
 all_below n j pair after_join [] p h = tt
 all_below n j pair after_join (sign ∷ signs) p h =
     both n (heirs pair j after_join sign signs) _ (heirs_below n j pair after_join sign signs p (omega arith)) (all_below n (j + 1) pair (is_join sign) signs p (omega arith))

@@ -14,8 +14,8 @@ mod spine_paths;
 mod steering;
 
 pub use moved::{Move, Moves};
-pub use spine_paths::Paths;
 pub use signs::{Sign, steers, token_sign};
+pub use spine_paths::Paths;
 use std::alloc::{AllocError, AllocFailed};
 use thiserror::Error;
 
@@ -63,3 +63,6 @@ impl<T: Drop> From<AllocFailed<T>> for PathFault {
         PathFault::Memory
     }
 }
+
+#[cfg(test)]
+mod tests;

@@ -15,7 +15,8 @@ use crate::signs::{Sign, token_sign};
 use hum_record::Record;
 use std::alloc::{AllocError, Global};
 
-pub fn signs(alloc: Global, row: &Record) -> Result<Vec<Sign>, AllocError>
+/// What each token of a record asks of the spines.
+pub(crate) fn signs(alloc: Global, row: &Record) -> Result<Vec<Sign>, AllocError>
     ensures { IfOk result (λ v. v.items ≡ map sign_of (tokens_of row.now)) }
 {
     let mut signs = Vec::new(alloc);
@@ -25,7 +26,8 @@ pub fn signs(alloc: Global, row: &Record) -> Result<Vec<Sign>, AllocError>
     Ok(signs)
 }
 
-pub fn has_bare(row: &Record) -> bool
+/// Whether an exclusive interpretation has no name.
+pub(crate) fn has_bare(row: &Record) -> bool
     ensures { result ≡ has_bare (tokens_of row.now) }
 {
     for j in 0..row.width() {
@@ -42,7 +44,8 @@ fn stays_unnamed(name: &[u8], sign: Sign) -> bool
     name.is_empty() && !sign.is_exclusive()
 }
 
-pub fn has_unnamed(names: &[Vec<u8>], signs: &[Sign]) -> bool
+/// Whether an added spine waits for its exclusive interpretation, and is not given one.
+pub(crate) fn has_unnamed(names: &[Vec<u8>], signs: &[Sign]) -> bool
     requires { length names.now ≡ length signs.now }
     ensures { result ≡ has_unnamed (texts names.now) signs.now }
 {
@@ -54,7 +57,8 @@ pub fn has_unnamed(names: &[Vec<u8>], signs: &[Sign]) -> bool
     false
 }
 
-pub fn has_lone_join(signs: &[Sign]) -> bool
+/// Whether a join has none beside it.
+pub(crate) fn has_lone_join(signs: &[Sign]) -> bool
     ensures { result ≡ has_lone_join false signs.now }
 {
     let mut after_join = false;
@@ -80,7 +84,8 @@ fn mixes_join(names: &[Vec<u8>], signs: &[Sign], j: usize) -> bool
     signs[j].is_join() && signs[j + 1].is_join() && names[j].as_slice() != names[j + 1].as_slice()
 }
 
-pub fn has_mixed_join(names: &[Vec<u8>], signs: &[Sign]) -> bool
+/// Whether joins stand side by side under different exclusive interpretations.
+pub(crate) fn has_mixed_join(names: &[Vec<u8>], signs: &[Sign]) -> bool
     requires { length names.now ≡ length signs.now }
     ensures { result ≡ has_mixed_join (texts names.now) signs.now }
 {
@@ -92,13 +97,15 @@ pub fn has_mixed_join(names: &[Vec<u8>], signs: &[Sign]) -> bool
     false
 }
 
-pub fn all_exclusive(signs: &[Sign]) -> bool
+/// Whether each token is an exclusive interpretation.
+pub(crate) fn all_exclusive(signs: &[Sign]) -> bool
     ensures { result ≡ list_all is_exclusive signs.now }
 {
     signs.iter().all(|s| s.is_exclusive())
 }
 
-pub fn names_and_steers(signs: &[Sign]) -> bool
+/// Whether an exclusive interpretation stands beside a path indicator.
+pub(crate) fn names_and_steers(signs: &[Sign]) -> bool
     ensures { result ≡ names_and_steers signs.now }
 {
     any_exclusive(signs) && any_indicator(signs)
@@ -117,7 +124,7 @@ fn any_indicator(signs: &[Sign]) -> bool
 }
 
 /// Whether a spine waits for its exclusive interpretation.
-pub fn has_nameless(names: &[Vec<u8>]) -> bool
+pub(crate) fn has_nameless(names: &[Vec<u8>]) -> bool
     ensures { result ≡ list_any is_empty (texts names.now) }
 {
     for name in names {
@@ -129,7 +136,7 @@ pub fn has_nameless(names: &[Vec<u8>]) -> bool
 }
 
 /// The first rule that a record breaks which asks nothing of the spines.
-pub fn text_fault(
+pub(crate) fn text_fault(
     opened: bool,
     waits: bool,
     names: &[Vec<u8>],

@@ -7,7 +7,8 @@ ghost use Rattle.hum_path.specs.Sign.{is_path_indicator, all_plain, steers};
 
 use hum_record::{Kind, Record};
 
-/// What a token of an interpretation asks of the spines (Humdrum Toolkit: Reference Manual, syntax).
+/// What a token of an interpretation asks of the spines (Humdrum Toolkit: Reference Manual,
+/// syntax).
 #[derive(Clone, Copy, Debug, PartialEq, Eq)]
 pub enum Sign {
     /// `*^`: two spines
@@ -27,30 +28,35 @@ pub enum Sign {
 }
 
 impl Sign {
+    /// Whether it joins spines.
     pub fn is_join(self) -> bool
         ensures { result ≡ is_join self }
     {
         matches!(self, Sign::Join)
     }
 
+    /// Whether two spines change places.
     pub fn is_exchange(self) -> bool
         ensures { result ≡ is_exchange self }
     {
         matches!(self, Sign::Exchange)
     }
 
+    /// Whether it says what the spine's data are.
     pub fn is_exclusive(self) -> bool
         ensures { result ≡ is_exclusive self }
     {
         matches!(self, Sign::Exclusive)
     }
 
+    /// Whether it asks nothing.
     pub fn is_plain(self) -> bool
         ensures { result ≡ is_plain self }
     {
         matches!(self, Sign::Plain)
     }
 
+    /// Whether it splits, joins, exchanges, adds or ends spines.
     pub fn is_path_indicator(self) -> bool
         ensures { result ≡ is_path_indicator self }
     {

@@ -1,6 +1,7 @@
 //! The spines of a score, record by record.
 ghost use Rattle.std.specs.Prelude.{◌≡◌, ◌≢◌, ◌<◌, ◌≤◌, [], true, false, IsTrue};
-ghost use Rattle.std.specs.Prelude.{if◌then◌else◌, slice_index_or, Ok, Err, IfOk, IfErr, OnOk, None};
+ghost use Rattle.std.specs.Prelude.{if◌then◌else◌, slice_index_or, Ok, Err, None};
+ghost use Rattle.std.specs.Prelude.{IfOk, IfErr, OnOk};
 ghost use Rattle.hum_path.specs.Sign.{steers};
 ghost use Rattle.hum_path.specs.Spines.{Unopened, exclusives, width, moves, after};
 ghost use Rattle.hum_path.specs.Rules.{fault_of, Refuses, is_unfinished, is_closed};
@@ -60,8 +61,8 @@ impl Paths {
         self.names.len()
     }
 
-    /// The exclusive interpretation of a spine, counted from 0: empty for an added spine until it has
-    /// its own.
+    /// The exclusive interpretation of a spine, counted from 0: empty for an added spine until it
+    /// has its own.
     pub fn exclusive(&self, j: usize) -> &[u8]
         requires { j < width self.now.path }
         ensures { result.now ≡ slice_index_or (exclusives self.now.path) j [] }
@@ -101,7 +102,8 @@ impl Paths {
         // No rule is broken, and the spines are those after the record.
         ensures sound { OnOk result (fault_of self.old.path row.now ≡ None) }
         ensures moves { IfOk result (λ found. found ≡ moves self.old.path row.now) }
-        ensures after { OnOk result (self.new ≡ record self.old { path = after self.old.path row.now }) }
+        ensures after { OnOk result
+            (self.new ≡ record self.old { path = after self.old.path row.now }) }
         ensures sources { IfOk result (ComeFrom row.now) }
 
         // The first rule that is broken. Then nothing changes.
@@ -142,7 +144,8 @@ impl Paths {
         requires alive { self.old.spent ≡ false }
         ensures sound { OnOk result (fault_of self.old.path row.now ≡ None) }
         ensures moves { IfOk result (λ found. found ≡ moves self.old.path row.now) }
-        ensures after { OnOk result (self.new ≡ record self.old { path = after self.old.path row.now }) }
+        ensures after { OnOk result
+            (self.new ≡ record self.old { path = after self.old.path row.now }) }
         ensures sources { IfOk result (ComeFrom row.now) }
         ensures refused { IfErr result (λ fault. Refuses fault (fault_of self.old.path row.now)) }
         ensures unchanged { IfErr result (λ fault. fault ≢ Memory → self.new ≡ self.old) }

@@ -8,8 +8,9 @@ ghost use Rattle.hum_path.specs.Step.{IsStep};
 
 use crate::PathFault;
 use crate::moved::Move;
-use crate::rules::{all_exclusive, has_bare, has_lone_join, has_mixed_join, has_unnamed};
-use crate::rules::{names_and_steers, signs};
+use crate::rules::{
+    all_exclusive, has_bare, has_lone_join, has_mixed_join, has_unnamed, names_and_steers, signs,
+};
 use crate::signs::{Sign, token_sign};
 use hum_record::Record;
 use std::alloc::{AllocError, Global};
@@ -67,7 +68,8 @@ fn push_heirs(
     right: &[Sign],
 ) -> Result<(), AllocError>
     requires { j + length right.now < 4096 }
-    ensures { OnOk result (moves.new.items ≡ moves.old.items ++ heirs pair.now j after_join sign right.now) }
+    ensures { OnOk result
+        (moves.new.items ≡ moves.old.items ++ heirs pair.now j after_join sign right.now) }
 {
     match sign {
         Sign::Split => {
@@ -165,7 +167,8 @@ fn all_renamed(
     row: &Record,
     moves: &[Move],
 ) -> Result<Vec<Vec<u8>>, AllocError>
-    ensures { IfOk result (λ v. texts v.items ≡ map (renamed (texts names.now) (tokens_of row.now)) moves.now) }
+    ensures { IfOk result (λ after. texts after.items
+        ≡ map (renamed (texts names.now) (tokens_of row.now)) moves.now) }
 {
     let mut after = Vec::new(alloc);
     for from in moves {
@@ -204,11 +207,7 @@ fn open(alloc: Global, row: &Record) -> Result<NextSpines, PathFault>
 }
 
 /// The spines after a record, and their exclusive interpretations.
-fn advance(
-    alloc: Global,
-    names: &[Vec<u8>],
-    row: &Record,
-) -> Result<NextSpines, PathFault>
+fn advance(alloc: Global, names: &[Vec<u8>], row: &Record) -> Result<NextSpines, PathFault>
     requires { length names.now ≤ 4096 }
     ensures { IsStep (Spines (texts names.now)) (tokens_of row.now) result }
 {
@@ -246,7 +245,8 @@ fn advance(
     Ok(NextSpines { moves, names })
 }
 
-pub fn spines_after(
+/// The spines after an interpretation that asks something of them, or the first rule it breaks.
+pub(crate) fn spines_after(
     alloc: Global,
     opened: bool,
     names: &[Vec<u8>],

@@ -1,1 +1,3 @@
+mod Examples
 pub mod Denoting
+pub mod Polling

@@ -1,2 +1,3 @@
 pub mod Denoted
 pub mod Reading
+pub mod Steps

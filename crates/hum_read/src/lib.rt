@@ -17,3 +17,6 @@ pub enum ReadError {
     #[error("out of memory")]
     Memory,
 }
+
+#[cfg(test)]
+mod tests;

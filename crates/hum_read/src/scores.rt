@@ -5,7 +5,8 @@ ghost use Rattle.hum_path.specs.Spines.{after};
 ghost use Rattle.hum_path.specs.Rules.{fault_of, Refuses};
 ghost use Rattle.std.specs.Io.KnownBytes.{Consumes, IsAtEnd};
 ghost use Rattle.hum_read.specs.Denoted.{end_at};
-ghost use Rattle.hum_read.specs.Reading.{answer_of, stop_by};
+ghost use Rattle.hum_read.specs.Reading.{answer_of};
+ghost use Rattle.hum_read.specs.Steps.{stop_by};
 ghost use Rattle.hum_record.specs.Spelling.{has_byte};
 ghost use Rattle.hum_text.specs.Reading.{NeedsRead, IsUnread, bytes_read, left_to_do};
 
@@ -15,9 +16,8 @@ use hum_path::{PathFault, Paths};
 use hum_record::Record;
 use hum_stage::{Command, End, Fault, Rule};
 use hum_text::calls::Source;
-use hum_text::reader as lines;
 use hum_text::reader::LineReader;
-use hum_text::{Limits, TextFault};
+use hum_text::{Limits, TextFault, reader as lines};
 use std::alloc::Global;
 use std::marker::Model;
 
@@ -90,21 +90,26 @@ pub struct ScoreReader<R> {
 }
 
 impl<R> Model for ScoreReader<R> {
-    ghost use Rattle.hum_read.specs.Reading.{Scores, IsTidy};
+    ghost use Rattle.hum_read.specs.Reading.{Scores};
+    ghost use Rattle.hum_read.specs.Steps.{IsTidy};
 
     ghost Value = { Scores R };
 
     ghost view = { λ r. record {
-        stage = r.stage; lines = r.lines; spines = r.paths; stopped = r.stopped } };
+      stage = r.stage;
+      lines = r.lines;
+      spines = r.paths;
+      stopped = r.stopped;
+    } };
 
     ghost invariant = { λ r. IsTidy r.lines r.stopped };
 }
 
 impl<R: Source> ScoreReader<R> {
     ghost use Rattle.hum_record.specs.Row.{Row};
-    ghost use Rattle.hum_read.specs.Reading.{IsFresh, HasRead, GivesNext, ReadsLine};
-    ghost use Rattle.hum_read.specs.Reading.{IsWholeText, Denotes};
-    ghost use Rattle.hum_read.specs.Reading.{IsCalledOnce, Nears, stop_of, answer_of, refusal};
+    ghost use Rattle.hum_read.specs.Reading.{IsFresh, HasRead, GivesNext, Denotes};
+    ghost use Rattle.hum_read.specs.Reading.{IsCalledAtMostOnce, Nears, stop_of, answer_of};
+    ghost use Rattle.hum_read.specs.Steps.{ReadsLine, IsWholeText, refusal};
 
     /// The reader of a source of which nothing was read yet, as the stage of this number, from 1.
     pub fn new(alloc: Global, stage: u8, source: R) -> ScoreReader<R>
@@ -126,7 +131,8 @@ impl<R: Source> ScoreReader<R> {
     fn refuse(&mut self, rule: Option<Rule>) -> Result<Step, ReadError>
         ensures answer { result ≡ answer_of (refusal self.old.stage self.old.lines.given rule) }
         ensures state { self.new ≡ record self.old {
-            stopped = Some (refusal self.old.stage self.old.lines.given rule) } }
+          stopped = Some (refusal self.old.stage self.old.lines.given rule);
+        } }
     {
         let why = match rule {
             Some(rule) => Ok(broken(self.stage, self.lines.given(), rule)),
@@ -187,7 +193,8 @@ impl<R: Source> ScoreReader<R> {
         // It reads where it has to, and then once.
         ensures unread { ¬ NeedsRead self.old.lines → IsUnread self.old.lines self.new.lines }
         ensures once { NeedsRead self.old.lines
-            → IsCalledOnce R.calls R.failed self.old.lines.source self.new.lines.source }
+            → IsCalledAtMostOnce R.calls R.failed
+            self.old.lines.source self.new.lines.source }
         ensures consumes { Consumes (R.remaining self.old.lines.source)
             (R.remaining self.new.lines.source) (bytes_read self.old.lines self.new.lines) }
         ensures at_end { self.new.lines.ended ≡ true

@@ -5,21 +5,22 @@
 #![tactic(auto)]
 
 mod bundle;
+mod first;
 mod outcome;
 mod plan;
 mod run;
+#[cfg(test)]
+mod tests;
 mod writing;
 
 use crate::bundle::LARGEST_BUNDLE;
+use crate::first::{run_bundle, run_source};
 use crate::outcome::Outcome;
 use crate::plan::LONGEST_PLAN;
-use crate::run::{Failure, run_rid};
-use hum_read::ScoreReader;
-use hum_rid::RidOptions;
-use hum_text::calls::{LARGEST_READ, Marked, Sink, Source};
+use crate::run::Failure;
+use hum_text::calls::{LARGEST_READ, Marked};
 use std::alloc::Global;
-use std::fs::File;
-use std::io::{self, BufWriter, ErrorKind, Read};
+use std::io::{self, BufWriter, ErrorKind, Printer, Read};
 use std::process::ExitCode;
 use std::{env, fs};
 
@@ -37,38 +38,21 @@ fn read_up_to<R: Read>(alloc: Global, reader: &mut R, most: usize) -> io::Result
     Ok(bytes)
 }
 
-/// Runs a score from this reader through the plan's command to standard output.
-fn run_to_output<R: Read + Drop>(rt: &HostRuntime, reader: R, options: RidOptions) -> Outcome {
-    let Ok(writer) = BufWriter::with_capacity(rt.alloc(), LARGEST_READ, io::writer(rt)) else {
-        return Outcome::Failed(Failure::Memory);
-    };
-    let mut sink = Marked::new(writer);
-    let mut source = ScoreReader::new(rt.alloc(), 1, Marked::new(reader));
-    match run_rid(rt.alloc(), &mut source, options, &mut sink) {
-        Ok(end) => Outcome::Ended(end),
-        Err(failure) => match sink.flush() {
-            Ok(()) => Outcome::Failed(failure),
-            Err(_) => Outcome::Failed(failure),
-        },
-    }
+/// Standard output, in blocks.
+fn output(rt: &HostRuntime) -> io::Result<Marked<BufWriter<Printer<'_, HostRuntime>>>> {
+    let writer = BufWriter::with_capacity(rt.alloc(), LARGEST_READ, io::writer(rt))?;
+    Ok(Marked::new(writer))
 }
 
 /// Standard input as a bundle.
-fn run_bundle(rt: &HostRuntime) -> Outcome {
+fn run_input(rt: &HostRuntime) -> Outcome {
     let bundle = match read_up_to(rt.alloc(), &mut rt.reader(), LARGEST_BUNDLE) {
         Ok(bundle) => bundle,
         Err(error) => return unread(&error),
     };
-    if bundle.len() > LARGEST_BUNDLE {
-        return Outcome::TooLarge;
-    }
-    match plan::read_plan(rt.alloc(), bundle::plan_part(&bundle)) {
+    match output(rt) {
+        Ok(mut sink) => run_bundle(rt.alloc(), &bundle, &mut sink),
         Err(_) => Outcome::Failed(Failure::Memory),
-        Ok(None) => Outcome::Unsupported,
-        Ok(Some(plan)) => match bundle::score(&bundle, plan.file) {
-            None => Outcome::CannotOpen,
-            Some(score) => run_to_output(rt, score, plan.options),
-        },
     }
 }
 
@@ -87,7 +71,10 @@ fn run_files(rt: &HostRuntime, pipeline: &str) -> Outcome {
         Ok(None) => Outcome::Unsupported,
         Ok(Some(plan)) => match fs::open(rt, plan.file) {
             Err(_) => Outcome::CannotOpen,
-            Ok(file) => run_to_output(rt, file, plan.options),
+            Ok(file) => match output(rt) {
+                Ok(mut sink) => run_source(rt.alloc(), Marked::new(file), plan.options, &mut sink),
+                Err(_) => Outcome::Failed(Failure::Memory),
+            },
         },
     }
 }
@@ -108,7 +95,7 @@ fn run_program(rt: &HostRuntime) -> Outcome {
     };
     let _program = args.next();
     match args.next() {
-        None => run_bundle(rt),
+        None => run_input(rt),
         Some(pipeline) => {
             if pipeline.as_str().starts_with('-') || args.next().is_some() {
                 return Outcome::Usage;

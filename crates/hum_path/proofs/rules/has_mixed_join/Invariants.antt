@@ -4,4 +4,5 @@ use Rattle.hum_path.specs.Spines.{texts}
 use Rattle.hum_path.proofs.rules.has_mixed_join.Given as goal
 
 abbrev pub invariant-loop-j : goal.invariant-loop-j
-invariant-loop-j l = has_mixed_join (texts (drop l.j l.names)) (drop l.j l.signs) ≡ has_mixed_join (texts l.names) l.signs
+invariant-loop-j l =
+    has_mixed_join (texts (drop l.j l.names)) (drop l.j l.signs) ≡ has_mixed_join (texts l.names) l.signs

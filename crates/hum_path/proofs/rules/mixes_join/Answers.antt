@@ -4,4 +4,5 @@ use Rattle.hum_path.proofs.Joins.{mixes_short}
 use Rattle.hum_path.proofs.rules.mixes_join.Goals as goal
 
 pub returns-then-signs-j-lt2 : goal.returns-then-signs-j-lt2
-returns-then-signs-j-lt2 c = mixes_short (texts (drop c.args.j c.args.names.now)) (drop c.args.j c.args.signs.now) (omega (arith, length-drop c.args.j c.args.signs.now))
+returns-then-signs-j-lt2 c =
+    mixes_short (texts (drop c.args.j c.args.names.now)) (drop c.args.j c.args.signs.now) (omega (arith, length-drop c.args.j c.args.signs.now))

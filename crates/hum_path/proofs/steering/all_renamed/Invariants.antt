@@ -5,4 +5,5 @@ use Rattle.hum_path.specs.Spines.{renamed}
 use Rattle.hum_path.proofs.steering.all_renamed.Given as goal
 
 abbrev pub invariant-loop-from : goal.invariant-loop-from
-invariant-loop-from l = texts l.after.items ++ map (renamed (texts l.names) (tokens_of l.row)) (drop l.from-index l.moves) ≡ map (renamed (texts l.names) (tokens_of l.row)) l.moves
+invariant-loop-from l =
+    texts l.after.items ++ map (renamed (texts l.names) (tokens_of l.row)) (drop l.from-index l.moves) ≡ map (renamed (texts l.names) (tokens_of l.row)) l.moves

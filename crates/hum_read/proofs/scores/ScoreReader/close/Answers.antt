@@ -1,12 +1,13 @@
 use Rattle.std.proofs.Common.{◌∙◌, sym, ap}
 use Rattle.hum_path.specs.Rules.{is_unfinished}
-use Rattle.hum_read.proofs.Denoting.{text-closed, text-unfinished, is-closed, is-unfinished}
+use Rattle.hum_read.proofs.Polling.{text-closed, text-unfinished, is-closed, is-unfinished}
 use Rattle.hum_read.proofs.scores.ScoreReader.close.Goals as goal
 
 pub returns-in-Ok : goal.returns-in-Ok
 returns-in-Ok g c = λ all rows rest h whole.
     let none = is-closed _ c.in-Ok.field-0 (sym c.close.ensures ∙ c.in-Ok.is) in
-    text-closed c.args.self.now all rows rest h whole (ap (λ v. is_unfinished v.spines.path) (sym c.self.view_is) ∙ none)
+    text-closed c.args.self.now all rows rest h whole
+    (ap (λ v. is_unfinished v.spines.path) (sym c.self.view_is) ∙ none)
 
 pub returns-in-Err : goal.returns-in-Err
 returns-in-Err g c = λ all rows rest h whole.

@@ -1,6 +1,5 @@
-use Rattle.std.proofs.Common.{◌≡◌, ◌++◌, List, ℕ, ◌∙◌, sym, ap, subst, refl, true, []}
-use Rattle.hum_text.specs.Reading.{Holds, bytes_read}
-use Rattle.hum_read.proofs.Denoting.{has-line, has-read, text-stopped}
+use Rattle.std.proofs.Common.{◌∙◌, ap, refl}
+use Rattle.hum_read.proofs.Polling.{has-line, has-read, text-stopped}
 use Rattle.hum_read.proofs.scores.ScoreReader.poll.Goals as goal
 
 pub returns-in-Ok-Line-clause-gives : goal.returns-in-Ok-Line-clause-gives
@@ -8,8 +7,10 @@ returns-in-Ok-Line-clause-gives g c = rw (← c.self.view_is) (λ going all rows
     let fine = c.self.invariant.going c.in-None.is in
     let same = c.read_line.ensures.lines in
     let holds = rw same at h.holds in
-    let next = rw c.in-Ok-Line.field-0-is at (c.in-Ok-Line.ensures.gives fine all h.given rest holds (rw same at end)) in
-    c.read_line.ensures.gives all rows rest (has-line _ _ all rows c.in-Ok-Line.text.items _ rest h c.poll.ensures.limits refl next))
+    let next = rw c.in-Ok-Line.field-0-is at
+    (c.in-Ok-Line.ensures.gives fine all h.given rest holds (rw same at end)) in
+    c.read_line.ensures.gives all rows rest
+    (has-line _ _ all rows c.in-Ok-Line.text.items _ rest h c.poll.ensures.limits refl next))
 
 pub returns-in-Ok-End-clause-gives : goal.returns-in-Ok-End-clause-gives
 returns-in-Ok-End-clause-gives g c = rw (← c.self.view_is) (λ going all rows rest h end.
@@ -22,5 +23,6 @@ pub returns-in-Err-clause-gives : goal.returns-in-Err-clause-gives
 returns-in-Err-clause-gives g c = rw (← c.self.view_is) (λ going all rows rest h end.
     let fine = c.self.invariant.going c.in-None.is in
     let next = c.in-Err.ensures.gives fine all h.given rest h.holds end in
-    text-stopped _ all rows _ c.in-Err.fault c.answer.result c.given.result _ h (c.given.ensures.given ∙ ap (λ v. v.given) c.in-Err.ensures.err)
+    text-stopped _ all rows _ c.in-Err.fault c.answer.result c.given.result _ h
+    (c.given.ensures.given ∙ ap (λ v. v.given) c.in-Err.ensures.err)
     (rw c.stop-why.ensures at c.answer.ensures) next)

@@ -1,0 +1,175 @@
+//! Small scores, by hand: where the spines come from, and each rule broken once.
+ghost use Rattle.std.specs.Prelude.{◌≡◌, ◌≤◌, false, length};
+ghost use Rattle.hum_record.specs.Spelling.{has_byte};
+
+use crate::{Move, Moves, PathFault, Paths};
+use hum_record::{Record, RecordBuilder, SpinedKind};
+use std::alloc::Global;
+use std::process::Abort;
+use std::test::Fail;
+
+fn step(alloc: Global, paths: &mut Paths, text: &[u8]) -> Result<Result<Moves, PathFault>, Fail>
+    requires at_most { length text.now ≤ 1048576 }
+    requires one_line { has_byte 10 text.now ≡ false }
+{
+    let row = Record::parse(alloc, text.to_vec(alloc)?)?;
+    Ok(paths.step(&row))
+}
+
+// Takes a record that breaks no rule.
+fn check_moves(
+    rt: &impl Abort,
+    alloc: Global,
+    paths: &mut Paths,
+    text: &[u8],
+    want: &[Move],
+) -> Result<(), Fail>
+    requires at_most { length text.now ≤ 1048576 }
+    requires one_line { has_byte 10 text.now ≡ false }
+{
+    let found = step(alloc, paths, text)??;
+    assert_eq!(rt; found.len(), want.len());
+    assert_eq!(rt; found.is_empty(), want.is_empty());
+    for (i, from) in want.iter().enumerate() {
+        if i < found.len() {
+            assert_eq!(rt; found.get(i), *from, "spine {i}");
+        }
+    }
+    if let Some(listed) = found.as_listed() {
+        assert_eq!(rt; listed, want);
+    }
+    Ok(())
+}
+
+// Takes a record that breaks a rule: the spines stay.
+fn check_refused(
+    rt: &impl Abort,
+    alloc: Global,
+    paths: &mut Paths,
+    text: &[u8],
+    want: PathFault,
+) -> Result<(), Fail>
+    requires at_most { length text.now ≤ 1048576 }
+    requires one_line { has_byte 10 text.now ≡ false }
+{
+    let width = paths.width();
+    assert_eq!(rt; step(alloc, paths, text)?.err(), Some(want));
+    assert_eq!(rt; paths.width(), width);
+    Ok(())
+}
+
+fn check_names(rt: &impl Abort, paths: &Paths, want: &[&'static [u8]]) {
+    assert_eq!(rt; paths.width(), want.len());
+    for (j, name) in want.iter().enumerate() {
+        if j < paths.width() {
+            assert_eq!(rt; paths.exclusive(j), *name, "spine {j}");
+        }
+    }
+}
+
+#[test]
+fn follows_spines(rt: HostRuntime) -> Result<(), Fail> {
+    let alloc = rt.alloc();
+    let mut paths = Paths::new(alloc);
+    assert!(rt; paths.is_closed());
+    let two = [Move::Same(0), Move::Same(1)];
+    let three = [Move::Same(0), Move::Same(1), Move::Same(2)];
+    check_moves(&rt, alloc, &mut paths, b"!!title", &[])?;
+    check_moves(&rt, alloc, &mut paths, b"**x\t**y", &two)?;
+    check_moves(
+        &rt,
+        alloc,
+        &mut paths,
+        b"*x\t*x",
+        &[Move::Same(1), Move::Same(0)],
+    )?;
+    check_names(&rt, &paths, &[b"**y", b"**x"]);
+    let split = [Move::Left(0), Move::Right(0), Move::Same(1)];
+    check_moves(&rt, alloc, &mut paths, b"*^\t*", &split)?;
+    check_moves(&rt, alloc, &mut paths, b"1\t2\t3", &three)?;
+    check_moves(&rt, alloc, &mut paths, b"*\t*clefG2\t*", &three)?;
+    check_moves(
+        &rt,
+        alloc,
+        &mut paths,
+        b"*v\t*v\t*",
+        &[Move::Join(0, 1), Move::Same(2)],
+    )?;
+    let added = [Move::Same(0), Move::Added(0), Move::Same(1)];
+    check_moves(&rt, alloc, &mut paths, b"*+\t*", &added)?;
+    check_names(&rt, &paths, &[b"**y", b"", b"**x"]);
+    check_moves(&rt, alloc, &mut paths, b"*\t**z\t*", &three)?;
+    check_names(&rt, &paths, &[b"**y", b"**z", b"**x"]);
+    assert_eq!(rt; paths.close(), Err(PathFault::P8));
+    check_moves(&rt, alloc, &mut paths, b"*-\t*-\t*-", &[])?;
+    assert!(rt; paths.is_closed());
+    assert_eq!(rt; paths.close(), Ok(()));
+    Ok(())
+}
+
+#[test]
+fn refuses_what_breaks_a_rule(rt: HostRuntime) -> Result<(), Fail> {
+    let alloc = rt.alloc();
+    let mut paths = Paths::new(alloc);
+    check_refused(&rt, alloc, &mut paths, b"4c", PathFault::P1)?;
+    check_refused(&rt, alloc, &mut paths, b"**x\t*", PathFault::P1)?;
+    check_refused(&rt, alloc, &mut paths, b"**x\t**", PathFault::P10)?;
+    let three = [Move::Same(0), Move::Same(1), Move::Same(2)];
+    check_moves(&rt, alloc, &mut paths, b"**x\t**x\t**y", &three)?;
+    check_refused(&rt, alloc, &mut paths, b"1\t2", PathFault::P2)?;
+    check_refused(&rt, alloc, &mut paths, b"*v\t*\t*", PathFault::P3)?;
+    check_refused(&rt, alloc, &mut paths, b"*\t*\t*x", PathFault::P4)?;
+    check_refused(&rt, alloc, &mut paths, b"*\t*v\t*v", PathFault::P5)?;
+    check_refused(&rt, alloc, &mut paths, b"*\t**\t*", PathFault::P10)?;
+    check_refused(&rt, alloc, &mut paths, b"**x\t*^\t*", PathFault::P11)?;
+    check_names(&rt, &paths, &[b"**x", b"**x", b"**y"]);
+    let added = [Move::Same(0), Move::Added(0)];
+    check_moves(&rt, alloc, &mut paths, b"*+\t*-\t*-", &added)?;
+    check_refused(&rt, alloc, &mut paths, b"1\t2", PathFault::P6)?;
+    check_refused(&rt, alloc, &mut paths, b"*\t*", PathFault::P6)?;
+    check_moves(
+        &rt,
+        alloc,
+        &mut paths,
+        b"*\t**z",
+        &[Move::Same(0), Move::Same(1)],
+    )?;
+    check_moves(&rt, alloc, &mut paths, b"*-\t*-", &[])?;
+    check_refused(&rt, alloc, &mut paths, b"1", PathFault::P7)?;
+    check_refused(&rt, alloc, &mut paths, b"*", PathFault::P7)?;
+    Ok(())
+}
+
+// A record that splits so many spines, and at least one.
+fn splits(alloc: Global, width: usize) -> Result<Record, Fail> {
+    let mut builder = RecordBuilder::new(alloc, SpinedKind::Interpretation);
+    builder.push(b"*^")?;
+    for _ in 1..width {
+        builder.push(b"*^")?;
+    }
+    Ok(builder.finish())
+}
+
+#[test]
+fn refuses_more_than_4096_spines(rt: HostRuntime) -> Result<(), Fail> {
+    let alloc = rt.alloc();
+    let mut paths = Paths::new(alloc);
+    check_moves(&rt, alloc, &mut paths, b"**x", &[Move::Same(0)])?;
+    for _ in 0..12 {
+        let row = splits(alloc, paths.width())?;
+        paths.step(&row)?;
+    }
+    assert_eq!(rt; paths.width(), 4096);
+    let row = splits(alloc, 4096)?;
+    assert_eq!(rt; paths.step(&row).err(), Some(PathFault::P9));
+    assert_eq!(rt; paths.width(), 4096);
+    Ok(())
+}
+
+#[test]
+fn prints_its_faults(rt: HostRuntime) -> Result<(), Fail> {
+    let alloc = rt.alloc();
+    let text = format!(in alloc; "{} {}", PathFault::P10, PathFault::Memory)?;
+    assert_eq!(rt; text.as_str(), "P10 out of memory");
+    Ok(())
+}

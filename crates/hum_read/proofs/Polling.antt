@@ -1,0 +1,231 @@
+-- What the parts of a poll give.
+use Rattle.std.proofs.Common.{◌≡◌, ℕ, ◌+◌, ◌<◌, ◌≤◌, Bool, true, false, List, [], ◌∷◌, ◌++◌, length, cond}
+use Rattle.std.proofs.Common.{Option, None, Some, Result, Ok, Err, inl, inr, ◌⊎◌}
+use Rattle.std.proofs.Common.{refl, ap, sym, ◌∙◌, subst, arith, length-append}
+use Rattle.hum_text.specs.declared.TextFault.{TextFault}
+use Rattle.hum_text.specs.declared.TextFault.TheVariants as text
+use Rattle.hum_text.specs.Text.{fault_of, IsOfText}
+use Rattle.hum_text.specs.Reading.{Reader, Holds}
+use Rattle.hum_record.specs.declared.RecordFault.{RecordFault}
+use Rattle.hum_record.specs.declared.RecordFault.TheVariants as of_record
+use Rattle.hum_record.specs.Row.{Row}
+use Rattle.hum_record.specs.Spelling.{reading, Fails}
+use Rattle.hum_path.specs.declared.PathFault.{PathFault}
+use Rattle.hum_path.specs.declared.PathFault.TheVariants as of_path
+use Rattle.hum_path.specs.Spines.{Path, Unopened, after}
+use Rattle.hum_path.specs.Rules.{is_unfinished, Refuses, fault_of as path_fault_of}
+use Rattle.hum_stage.specs.declared.faults.Rule.{Rule}
+use Rattle.hum_stage.specs.declared.faults.Rule.TheVariants as rule
+use Rattle.hum_stage.specs.declared.faults.End.{End}
+use Rattle.hum_stage.specs.declared.faults.End.TheVariants.{Closed}
+use Rattle.hum_stage.specs.Score.{through}
+use Rattle.hum_stage.proofs.Scores.{through-append, Follow-append}
+use Rattle.hum_read.specs.declared.ReadError.{ReadError}
+use Rattle.hum_read.specs.declared.scores.Step.{Step}
+use Rattle.hum_read.specs.Denoted.{read_after, on_spines, unless, standard, score_of, end_at, broken_at}
+use Rattle.hum_read.specs.Denoted.{text_rule, record_rule, path_rule}
+use Rattle.hum_read.specs.Reading.{Scores, HasRead, ahead, Denotes, Gives, answer_of}
+use Rattle.hum_read.specs.Steps.{HasLine, IsWholeText, refusal, stop_by}
+use Rattle.hum_read.proofs.Denoting.{read-more, refused-next, broken-next, ended-next, denotes-broken, denotes-closed}
+
+-- The line that was just given is refused by this rule, or memory ran out.
+gives-refused : {R : Type 0} (v : Scores R) (all : List ℕ) (rows : List Row) (line rest : List ℕ)
+    (rule : Option Rule) (result : Result Step ReadError) (After : List Row → Type 0)
+    → result ≡ answer_of (refusal v.stage v.lines.given rule) → HasLine v all rows line rest
+    → read_after (through Unopened rows) line ≡ Err rule → Gives v.stage all rows result After
+gives-refused v all rows line rest None result After told h is =
+    let G : Result Step ReadError → Type 0 = λ r. Gives v.stage all rows r After in
+    subst G (sym told) tt
+gives-refused v all rows line rest (Some rule) result After told h is =
+    let G : Result Step ReadError → Type 0 = λ r. Gives v.stage all rows r After in
+    let count : v.lines.given ≡ length rows + 1 =
+    (let n = h.holds.stands.number in let m = length-append h.given (line ∷ []) in
+    let k = h.as_many in omega (arith, n, m, k)) in
+    let score = refused-next v.lines all h.given line rows rest (Some rule) h.limits h.read h.holds is in
+    let denotes : Denotes v.stage all rows (end_at v.stage (Some (v.lines.given, rule))) =
+    denotes-broken v.stage all rows (length rows + 1) rule _ score
+    (ap (λ (n : ℕ). end_at v.stage (Some (n, rule))) count) in
+    subst G (sym told) denotes
+
+-- a text that was refused breaks that rule, unless memory ran out
+parse-refused : (fault : RecordFault) (read : Result Row RecordFault) → Fails fault read
+    → (record_rule fault ≡ None) ⊎ (read ≡ Err fault)
+parse-refused of_record.S4 read h = inr h
+parse-refused of_record.S5 read h = inr h
+parse-refused of_record.S6 read h = inr h
+parse-refused of_record.S8 read h = inr h
+parse-refused of_record.L1 read h = inr h
+parse-refused of_record.Memory read h = inl refl
+
+-- a record that was refused breaks that rule of the spines, unless memory ran out
+step-refused : (fault : PathFault) (broken : Option PathFault) → Refuses fault broken
+    → (path_rule fault ≡ None) ⊎ (broken ≡ Some fault)
+step-refused of_path.P1 broken h = inr h
+step-refused of_path.P2 broken h = inr h
+step-refused of_path.P3 broken h = inr h
+step-refused of_path.P4 broken h = inr h
+step-refused of_path.P5 broken h = inr h
+step-refused of_path.P6 broken h = inr h
+step-refused of_path.P7 broken h = inr h
+step-refused of_path.P8 broken h = inr h
+step-refused of_path.P9 broken h = inr h
+step-refused of_path.P10 broken h = inr h
+step-refused of_path.P11 broken h = inr h
+step-refused of_path.Memory broken h = inl refl
+
+-- memory ran out
+gives-memory : (stage given : ℕ) (all : List ℕ) (rows : List Row) (rule : Option Rule)
+    (result : Result Step ReadError) (After : List Row → Type 0)
+    → result ≡ answer_of (refusal stage given rule) → rule ≡ None → Gives stage all rows result After
+gives-memory stage given all rows rule result After told none =
+    let G : Result Step ReadError → Type 0 = λ r. Gives stage all rows r After in
+    subst G (sym (told ∙ ap (λ (r : Option Rule). answer_of (refusal stage given r)) none)) tt
+
+-- The text of the line is refused.
+pub text-refused : {R : Type 0} (v : Scores R) (line : List ℕ) (fault : RecordFault)
+    (result : Result Step ReadError) (all : List ℕ) (rows : List Row) (rest : List ℕ) (After : List Row → Type 0)
+    → Fails fault (reading line) → result ≡ answer_of (refusal v.stage v.lines.given (record_rule fault))
+    → HasLine v all rows line rest → Gives v.stage all rows result After
+text-refused v line fault result all rows rest After fails told h =
+    elim (parse-refused fault (reading line) fails) as (λ _. Gives v.stage all rows result After) [
+      | inl memory ↦ gives-memory v.stage v.lines.given all rows (record_rule fault) result After told memory
+      | inr is ↦ gives-refused v all rows line rest (record_rule fault) result After told h
+          (ap (on_spines (through Unopened rows)) is)
+    ]
+
+-- The record of the line breaks a rule of the spines.
+pub record-refused : {R : Type 0} (v : Scores R) (line : List ℕ) (row : Row) (fault : PathFault)
+    (result : Result Step ReadError) (all : List ℕ) (rows : List Row) (rest : List ℕ) (After : List Row → Type 0)
+    → reading line ≡ Ok row → Refuses fault (path_fault_of v.spines.path row)
+    → result ≡ answer_of (refusal v.stage v.lines.given (path_rule fault))
+    → HasLine v all rows line rest → Gives v.stage all rows result After
+record-refused v line row fault result all rows rest After read refuses told h =
+    elim (step-refused fault (path_fault_of v.spines.path row) refuses) as (λ _. Gives v.stage all rows result After) [
+      | inl memory ↦ gives-memory v.stage v.lines.given all rows (path_rule fault) result After told memory
+      | inr is ↦ gives-refused v all rows line rest (path_rule fault) result After told h
+          (ap (on_spines (through Unopened rows)) read
+          ∙ ap (unless row) (ap (λ (p : Path). path_fault_of p row) (sym h.path) ∙ is))
+    ]
+
+-- The record of the line is given.
+pub record-given : {R : Type 0} (v w : Scores R) (line : List ℕ) (row : Row) (all : List ℕ) (rows : List Row)
+    (rest : List ℕ) → reading line ≡ Ok row → path_fault_of v.spines.path row ≡ None → w.lines ≡ v.lines
+    → w.spines.path ≡ after v.spines.path row → v.lines.given ≤ 4294967295 → HasLine v all rows line rest
+    → HasRead w all (rows ++ row ∷ []) rest × (length rows < 4294967295)
+record-given v w line row all rows rest read sound lines path few h =
+    let here : path_fault_of (through Unopened rows) row ≡ None =
+    ap (λ (p : Path). path_fault_of p row) (sym h.path) ∙ sound in
+    let reads : read_after (through Unopened rows) line ≡ Ok row =
+    ap (on_spines (through Unopened rows)) read ∙ ap (unless row) here in
+    let size = length-append h.given (line ∷ []) in
+    let more = length-append rows (row ∷ []) in
+    let number = h.holds.stands.number in
+    let many = h.as_many in
+    let H : Reader _ → Type 0 = λ r. Holds r all (h.given ++ line ∷ []) rest in (
+      record {
+        limits = ap (λ r. r.limits) lines ∙ h.limits;
+        given = h.given ++ line ∷ [];
+        holds = subst H (sym lines) h.holds;
+        read = read-more h.given rows line row h.read reads;
+        score = Follow-append Unopened rows (row ∷ []) h.score (here, tt);
+        path = path ∙ ap (λ (p : Path). after p row) h.path ∙ sym (through-append Unopened rows (row ∷ []));
+        as_many = omega (arith, size, more, many);
+      },
+      omega (arith, size, number, many, few),
+    )
+
+-- the text is broken in the next line, or nothing more can be read
+text-broken : (stage : ℕ) (f : TextFault) (result : Result Step ReadError) (given : ℕ) (all : List ℕ)
+    (rows : List Row) (After : List Row → Type 0)
+    → result ≡ answer_of (stop_by stage given f) → given ≡ length rows
+    → (IsOfText f → score_of all ≡ ahead rows (broken_at (length rows + 1) (text_rule f)))
+    → Gives stage all rows result After
+text-broken stage f result given all rows After told count is =
+    let G : Result Step ReadError → Type 0 = λ r. Gives stage all rows r After in
+    subst G (sym told) (by_fault f is)
+  where
+    line : (rule : Rule) → end_at stage (Some (given + 1, rule)) ≡ end_at stage (Some (length rows + 1, rule))
+    line rule = ap (λ (n : ℕ). end_at stage (Some (n + 1, rule))) count
+
+    by_fault : (f : TextFault)
+        → (IsOfText f → score_of all ≡ ahead rows (broken_at (length rows + 1) (text_rule f)))
+        → Gives stage all rows (answer_of (stop_by stage given f)) After
+    by_fault text.S1 is = denotes-broken stage all rows (length rows + 1) rule.S1 _ (is tt) (line rule.S1)
+    by_fault text.S2 is = denotes-broken stage all rows (length rows + 1) rule.S2 _ (is tt) (line rule.S2)
+    by_fault text.S3 is = denotes-broken stage all rows (length rows + 1) rule.S3 _ (is tt) (line rule.S3)
+    by_fault text.S7 is = denotes-broken stage all rows (length rows + 1) rule.S7 _ (is tt) (line rule.S7)
+    by_fault text.Read is = tt
+    by_fault text.Memory is = tt
+
+-- The lines have ended, and no spine is open.
+pub text-closed : {R : Type 0} (v : Scores R) (all : List ℕ) (rows : List Row) (rest : List ℕ)
+    → HasRead v all rows rest → IsWholeText all rows → is_unfinished v.spines.path ≡ false
+    → Denotes v.stage all rows Closed
+text-closed v all rows rest h whole none =
+    denotes-closed v.stage all rows h.score (ended-next all whole.given rows whole.read whole.whole whole.sound)
+    (ap is_unfinished (sym h.path) ∙ none)
+
+-- The lines have ended, and spines are open.
+pub text-unfinished : {R : Type 0} (v : Scores R) (all : List ℕ) (rows : List Row) (rest : List ℕ) (given : ℕ)
+    (end : End) → HasRead v all rows rest → IsWholeText all rows → is_unfinished v.spines.path ≡ true
+    → given ≡ v.lines.given → end ≡ end_at v.stage (Some (given + 1, rule.P8)) → Denotes v.stage all rows end
+text-unfinished v all rows rest given end h whole some count told =
+    let number = h.holds.stands.number in
+    let many = h.as_many in
+    let line : given + 1 ≡ length rows + 1 = omega (arith, count, number, many) in
+    let unfinished : is_unfinished (through Unopened rows) ≡ true = ap is_unfinished (sym h.path) ∙ some in
+    let is : score_of all ≡ ahead rows (broken_at (length rows + 1) (Some rule.P8)) =
+    ended-next all whole.given rows whole.read whole.whole whole.sound ∙ rw unfinished refl in
+    denotes-broken v.stage all rows (length rows + 1) rule.P8 end is
+    (told ∙ ap (λ (n : ℕ). end_at v.stage (Some (n, rule.P8))) line)
+
+-- which way the test for open spines went
+pub is-closed : (b : Bool) (u : Unit {0})
+    → ◌≡◌ {A = Result (Unit {0}) PathFault} (cond b (Err of_path.P8) (Ok tt)) (Ok u) → b ≡ false
+is-closed true u h = cc
+is-closed false u h = refl
+
+pub is-unfinished : (b : Bool) (f : PathFault)
+    → ◌≡◌ {A = Result (Unit {0}) PathFault} (cond b (Err of_path.P8) (Ok tt)) (Err f) → b ≡ true
+is-unfinished true f h = refl
+is-unfinished false f h = cc
+
+-- what the lines have given, as what the reader of scores has: a line, or none
+pub has-line : {R : Type 0} (v w : Scores R) (all : List ℕ) (rows : List Row) (line read rest : List ℕ)
+    → (h : HasRead v all rows read) → w.lines.limits ≡ v.lines.limits → w.spines.path ≡ v.spines.path
+    → Holds w.lines all (h.given ++ line ∷ []) rest → HasLine w all rows line rest
+has-line v w all rows line read rest h limits path holds = record {
+  limits = limits ∙ h.limits;
+  given = h.given;
+  holds = holds;
+  read = h.read;
+  score = h.score;
+  path = path ∙ h.path;
+  as_many = h.as_many;
+}
+
+pub has-read : {R : Type 0} (v w : Scores R) (all : List ℕ) (rows : List Row) (read rest : List ℕ)
+    → (h : HasRead v all rows read) → w.lines.limits ≡ v.lines.limits → w.spines.path ≡ v.spines.path
+    → Holds w.lines all h.given rest → HasRead w all rows rest
+has-read v w all rows read rest h limits path holds = record {
+  limits = limits ∙ h.limits;
+  given = h.given;
+  holds = holds;
+  read = h.read;
+  score = h.score;
+  path = path ∙ h.path;
+  as_many = h.as_many;
+}
+
+-- The first fault of the text is in the next line.
+pub text-stopped : {R : Type 0} (v : Scores R) (all : List ℕ) (rows : List Row) (read : List ℕ) (f : TextFault)
+    (result : Result Step ReadError) (given : ℕ) (After : List Row → Type 0)
+    → (h : HasRead v all rows read) → given ≡ v.lines.given → result ≡ answer_of (stop_by v.stage given f)
+    → (IsOfText f → fault_of v.lines.limits all ≡ Some (length h.given + 1, f))
+    → Gives v.stage all rows result After
+text-stopped v all rows read f result given After h count told is =
+    let number = h.holds.stands.number in
+    let many = h.as_many in
+    text-broken v.stage f result given all rows After told (omega (arith, count, number, many)) (λ of_text.
+    let here : fault_of standard all ≡ Some (length rows + 1, f) = rw (h.limits, many) at (is of_text) in
+    broken-next v.lines all h.given rows read f h.read many h.holds here)

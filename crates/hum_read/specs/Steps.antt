@@ -1,0 +1,64 @@
+-- The parts of a poll: a line that was just given, the end of the lines, and a stop.
+use Rattle.std.specs.Prelude.{◌≡◌, ℕ, ◌+◌, List, [], ◌∷◌, ◌++◌, length}
+use Rattle.std.specs.Prelude.{Option, None, Some, Result, Ok, Err}
+use Rattle.hum_text.specs.declared.TextFault.{TextFault}
+use Rattle.hum_text.specs.declared.TextFault.TheVariants as text
+use Rattle.hum_text.specs.Text.{lines, fault_of}
+use Rattle.hum_text.specs.Reading.{Reader, Holds}
+use Rattle.hum_record.specs.Row.{Row}
+use Rattle.hum_path.specs.Spines.{Unopened}
+use Rattle.hum_stage.specs.declared.faults.End.{End}
+use Rattle.hum_stage.specs.Score.{through, IsScore}
+use Rattle.hum_stage.specs.declared.faults.Rule.{Rule}
+use Rattle.hum_stage.specs.declared.faults.Rule.TheVariants.{S1, S2, S3, S7}
+use Rattle.hum_read.specs.declared.ReadError.{ReadError}
+use Rattle.hum_read.specs.declared.ReadError.TheVariants.{Read, Memory}
+use Rattle.hum_read.specs.declared.scores.Step.{Step}
+use Rattle.hum_read.specs.Denoted.{standard, end_at}
+use Rattle.hum_read.specs.Reading.{Scores, HasRead, AreRead, Gives}
+
+-- a reader that goes on has met no fault
+pub record IsTidy {R : Type 0} (lines : Reader R) (stopped : Option (Result End ReadError))
+    : Type 0 where
+  pub limits : lines.limits ≡ standard
+  pub going : stopped ≡ None → lines.fault ≡ None
+
+-- Of all these bytes the reader has given these records, one for each line but the last, which was
+-- given and isn't read as a record yet.
+pub record HasLine {R : Type 0} (v : Scores R) (all : List ℕ) (rows : List Row) (line rest : List ℕ)
+    : Type 0 where
+  pub limits : v.lines.limits ≡ standard
+  pub given : List (List ℕ)
+  pub holds : Holds v.lines all (given ++ line ∷ []) rest
+  pub read : AreRead given rows
+  pub score : IsScore rows
+  pub path : v.spines.path ≡ through Unopened rows
+  pub as_many : length given ≡ length rows
+
+-- the line that was just given is read
+abbrev pub ReadsLine : {R : Type 0} → Scores R → List ℕ → Result Step ReadError → Scores R → Type 0
+ReadsLine old line result new =
+    (all : List ℕ) (rows : List Row) (rest : List ℕ)
+    → HasLine old all rows line rest
+    → Gives old.stage all rows result (λ after. HasRead new all after rest)
+
+-- all lines of a text without fault are read as these records
+pub record IsWholeText (all : List ℕ) (rows : List Row) : Type 0 where
+  pub given : List (List ℕ)
+  pub read : AreRead given rows
+  pub whole : lines all ≡ given
+  pub sound : fault_of standard all ≡ None
+
+-- why a reader stops where a line is refused by a rule, or memory runs out
+abbrev pub refusal : ℕ → ℕ → Option Rule → Result End ReadError
+refusal stage line None = Err Memory
+refusal stage line (Some rule) = Ok (end_at stage (Some (line, rule)))
+
+-- why it stops after so many lines, by a fault of the next
+abbrev pub stop_by : ℕ → ℕ → TextFault → Result End ReadError
+stop_by stage given text.Read = Err Read
+stop_by stage given text.Memory = Err Memory
+stop_by stage given text.S1 = Ok (end_at stage (Some (given + 1, S1)))
+stop_by stage given text.S2 = Ok (end_at stage (Some (given + 1, S2)))
+stop_by stage given text.S3 = Ok (end_at stage (Some (given + 1, S3)))
+stop_by stage given text.S7 = Ok (end_at stage (Some (given + 1, S7)))

@@ -1,0 +1,210 @@
+//! Whole bundles, and sources and sinks that fail.
+use crate::first::{run_bundle, run_source};
+use hum_rid::RidOptions;
+use hum_text::calls::Marked;
+use std::alloc::Global;
+use std::io::{self, Error, ErrorKind, Read, Write};
+use std::test::Fail;
+
+// The bundle of a plan and a score, its text, and the line that the program tells.
+const ROWS: [(&[u8], &[u8], &str); 20] = [
+    (b"out: read a | rid -G\n--- a\n", b"", ""),
+    (b"out: read a\n--- a\n!!x\r\n**x\r\n*-", b"!!x\n**x\n*-\n", ""),
+    (
+        b"# skipped\n \nout: read 'a' | rid -Tid\n--- a\n!!x\n**kern\n*clefG2\n*\n!a\n.\n4c\n*-\n",
+        b"!!x\n**kern\n!a\n4c\n*-\n",
+        "",
+    ),
+    (
+        b"out: read a | rid -GL -Id\n--- b\n--- a\n!!x\n**kern\n*clefG2\n*\n!a\n.\n4c\n*-\n",
+        b"4c\n",
+        "",
+    ),
+    (
+        b"out: read a | rid -l\n--- a\n**kern\n4c\n",
+        b"**kern\n4c\n",
+        "humpipe: stage 1 (read), line 3: P8",
+    ),
+    (
+        b"out: read a | rid -l\n--- a\n**x\t**y\n*v\t*\n",
+        b"**x\t**y\n",
+        "humpipe: stage 1 (read), line 2: P3",
+    ),
+    (
+        b"out: read a | rid -l\n--- a\n**x\t**y\n*v\t*v\n",
+        b"**x\t**y\n",
+        "humpipe: stage 1 (read), line 2: P5",
+    ),
+    (
+        b"out: read a | rid -l\n--- a\n**x\t**y\n!a\t!!b\n",
+        b"**x\t**y\n",
+        "humpipe: stage 1 (read), line 2: S6",
+    ),
+    (
+        b"out: read a | rid -l\n--- a\n**x\t**y\n1\t*\n",
+        b"**x\t**y\n",
+        "humpipe: stage 1 (read), line 2: S5",
+    ),
+    (
+        b"out: read a | rid -l\n--- a\n**x\n1\t2\n",
+        b"**x\n",
+        "humpipe: stage 1 (read), line 2: P2",
+    ),
+    (
+        b"out: read a | rid -l\n--- a\n**x\n*+\n*\t*\n",
+        b"**x\n*+\n",
+        "humpipe: stage 1 (read), line 3: P6",
+    ),
+    (
+        b"out: read a | rid -l\n--- a\n**x\n*-\n1\n",
+        b"**x\n*-\n",
+        "humpipe: stage 1 (read), line 3: P7",
+    ),
+    (
+        b"out: read a | rid -l\n--- a\n4c\n",
+        b"",
+        "humpipe: stage 1 (read), line 1: P1",
+    ),
+    (
+        b"out: read a | rid -l\n--- a\n**x\n1\r2\n",
+        b"**x\n",
+        "humpipe: stage 1 (read), line 2: S8",
+    ),
+    (
+        b"out: read a | rid -l\n--- a\n**x\t**y\n1\t\t2\n",
+        b"**x\t**y\n",
+        "humpipe: stage 1 (read), line 2: S4",
+    ),
+    (
+        b"out: read a | rid -l\n--- a\n**x\n**\n*-\n",
+        b"**x\n",
+        "humpipe: stage 1 (read), line 2: P10",
+    ),
+    (
+        b"out: read a | rid -l\n--- a\n**x\n*-\n\r",
+        b"**x\n*-\n",
+        "humpipe: stage 1 (read), line 3: S1",
+    ),
+    (
+        b"out: read a | rid -l\n--- a\n**x\t**y\n*x\t*\n",
+        b"**x\t**y\n",
+        "humpipe: stage 1 (read), line 2: P4",
+    ),
+    (
+        b"out: read b | rid -G\n--- a\n**x\n*-\n",
+        b"",
+        "humpipe: stage 1 (read): cannot open",
+    ),
+    (
+        b"out: read a | rid -G | rid -L\n--- a\n**x\n*-\n",
+        b"",
+        "humpipe: plan not supported",
+    ),
+];
+
+#[test]
+fn bundles(rt: HostRuntime) -> Result<(), Fail> {
+    for (bundle, text, told) in ROWS {
+        let mut sink = Marked::new(Vec::new(rt.alloc()));
+        let outcome = run_bundle(rt.alloc(), bundle, &mut sink);
+        let line = format!(in rt.alloc(); "{outcome}")?;
+        assert_eq!(rt; line.as_str(), told, "{bundle:?}");
+        assert_eq!(rt; sink.into_inner().as_slice(), text, "{bundle:?}");
+    }
+    Ok(())
+}
+
+// Gives its text in pieces of three bytes, and fails after so many reads.
+#[derive(Drop)]
+struct Failing {
+    text: &'static [u8],
+    good: usize,
+}
+
+impl Read for Failing {
+    fn read(&mut self, buf: &mut [u8]) -> io::Result<usize> {
+        if self.good == 0 {
+            return Err(Error::from(ErrorKind::Other));
+        }
+        self.good -= 1;
+        let n = 3usize.min(buf.len()).min(self.text.len());
+        let (front, rest) = self.text.split_at(n);
+        buf[..n].copy_from_slice(front);
+        self.text = rest;
+        Ok(n)
+    }
+}
+
+// Takes so many bytes, three at a time, and then fails.
+#[derive(Drop)]
+struct Narrow {
+    bytes: Vec<u8>,
+    room: usize,
+}
+
+impl Write for Narrow {
+    fn write(&mut self, buf: &[u8]) -> io::Result<usize> {
+        let n = 3usize.min(buf.len()).min(self.room);
+        if n == 0 || self.bytes.extend_from_slice(&buf[..n]).is_err() {
+            return Err(Error::from(ErrorKind::Other));
+        }
+        self.room -= n;
+        Ok(n)
+    }
+
+    fn flush(&mut self) -> io::Result<()> {
+        Ok(())
+    }
+}
+
+fn comments_off() -> RidOptions {
+    RidOptions {
+        global_comments: true,
+        empty_global_comments: false,
+        local_comments: false,
+        null_local_comments: false,
+        interpretations: false,
+        null_interpretations: false,
+        tandems: false,
+        values: false,
+        null_values: false,
+    }
+}
+
+// What was written of a score that is read and written in such pieces, and what is told.
+fn told(alloc: Global, good: usize, room: usize) -> Result<(Vec<u8>, String), Fail> {
+    let text = b"!!x\n**kern\n4c\n*-\n";
+    let mut sink = Marked::new(Narrow {
+        bytes: Vec::new(alloc),
+        room,
+    });
+    let outcome = run_source(
+        alloc,
+        Marked::new(Failing { text, good }),
+        comments_off(),
+        &mut sink,
+    );
+    let line = format!(in alloc; "{outcome}")?;
+    let Narrow { bytes, room: _ } = sink.into_inner();
+    Ok((bytes, line))
+}
+
+#[test]
+fn failures(rt: HostRuntime) -> Result<(), Fail> {
+    let whole = b"**kern\n4c\n*-\n";
+    for good in 0..9usize {
+        let (bytes, line) = told(rt.alloc(), good, 100)?;
+        assert!(rt; whole.starts_with(bytes.as_slice()));
+        let failed = "humpipe: stage 1 (read): read failed";
+        assert_eq!(rt; line.as_str(), if good < 7 { failed } else { "" }, "{good}");
+    }
+    let (bytes, _) = told(rt.alloc(), 5, 100)?;
+    assert_eq!(rt; bytes.as_slice(), b"**kern\n4c\n".as_slice());
+    for room in 0..13usize {
+        let (bytes, line) = told(rt.alloc(), 100, room)?;
+        assert_eq!(rt; bytes.len(), room);
+        assert!(rt; whole.starts_with(bytes.as_slice()));
+        assert_eq!(rt; line.as_str(), "humpipe: write failed");
+    }
+    Ok(())
+}
