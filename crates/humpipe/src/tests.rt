@@ -114,6 +114,26 @@ fn bundles(rt: HostRuntime) -> Result<(), Fail> {
     Ok(())
 }
 
+// A line of 1,048,576 bytes passes, and one of a byte more is refused before anything is written.
+#[test]
+fn long_lines(rt: HostRuntime) -> Result<(), Fail> {
+    let refused = "humpipe: stage 1 (read), line 1: S2";
+    for (letters, size, told) in [(1_048_574usize, 1_048_577, ""), (1_048_575, 0, refused)] {
+        let mut bundle = Vec::new(rt.alloc());
+        bundle.extend_from_slice(b"out: read a | rid -l\n--- a\n!!")?;
+        for _ in 0..letters {
+            bundle.push(b'a')?;
+        }
+        bundle.push(b'\n')?;
+        let mut sink = Marked::new(Vec::new(rt.alloc()));
+        let outcome = run_bundle(rt.alloc(), &bundle, &mut sink);
+        let line = format!(in rt.alloc(); "{outcome}")?;
+        assert_eq!(rt; line.as_str(), told);
+        assert_eq!(rt; sink.into_inner().len(), size);
+    }
+    Ok(())
+}
+
 // Gives its text in pieces of three bytes, and fails after so many reads.
 #[derive(Drop)]
 struct Failing {
