@@ -17,7 +17,8 @@ chain_of tokens above (Added j) = []
 chain_of tokens above (Same j) = slice_index_or tokens j [] ∷ slice_index_or above j []
 chain_of tokens above (Left j) = slice_index_or tokens j [] ∷ slice_index_or above j []
 chain_of tokens above (Right j) = slice_index_or tokens j [] ∷ slice_index_or above j []
-chain_of tokens above (Joined first last) = slice_index_or tokens first [] ∷ slice_index_or above first []
+chain_of tokens above (Joined first last) =
+    slice_index_or tokens first [] ∷ slice_index_or above first []
 
 -- each chain with one cell more
 abbrev pub longer : List (List ℕ) → List (List (List ℕ)) → List (List (List ℕ))
@@ -49,13 +50,15 @@ abbrev pub below_at : (ℕ → List (List ℕ)) → Option ℕ → List (List �
 below_at below None = []
 below_at below (Some j) = below j
 
--- The next cell of the spine at place j and those below it, the nearest first, in records in their order.
+-- The next cell of the spine at place j and those below it, the nearest first, in records in their
+-- order.
 abbrev pub future : Path → List Row → ℕ → List (List ℕ)
 future path [] j = []
 future path (Comment text ∷ rows) j = future path rows j
 future path (Spined Interpretation tokens ∷ rows) j =
     slice_index_or tokens j []
-    ∷ below_at (future (after path (Spined Interpretation tokens)) rows) (position (goes_on j) (moves_at path tokens))
+    ∷ below_at (future (after path (Spined Interpretation tokens)) rows)
+    (position (goes_on j) (moves_at path tokens))
 future path (Spined kind tokens ∷ rows) j = slice_index_or tokens j [] ∷ future path rows j
 
 -- the part of a chain that isn't beyond its nearest exclusive interpretation

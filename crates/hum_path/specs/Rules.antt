@@ -21,7 +21,8 @@ first_is test (sign ∷ signs) = test sign
 abbrev pub has_lone_join : Bool → List Sign → Bool
 has_lone_join after_join [] = false
 has_lone_join after_join (sign ∷ signs) =
-    (is_join sign && not (after_join || first_is is_join signs)) || has_lone_join (is_join sign) signs
+    (is_join sign && not (after_join || first_is is_join signs))
+    || has_lone_join (is_join sign) signs
 
 -- whether the first two are joins under different exclusive interpretations
 abbrev pub mixes_join : List (List ℕ) → List Sign → Bool

@@ -46,7 +46,8 @@ partner (a ∷ b ∷ more) j = if j == a then b else a
 -- left, and the signs to its right.
 abbrev pub heirs : List ℕ → ℕ → Bool → Sign → List Sign → List Move
 heirs pair j after_join Split signs = Left j ∷ Right j ∷ []
-heirs pair j after_join Join signs = if after_join then [] else Joined j (j + joins_at_front signs) ∷ []
+heirs pair j after_join Join signs =
+    if after_join then [] else Joined j (j + joins_at_front signs) ∷ []
 heirs pair j after_join Exchange signs = Same (partner pair j) ∷ []
 heirs pair j after_join Add signs = Same j ∷ Added j ∷ []
 heirs pair j after_join End signs = []

@@ -18,7 +18,8 @@ abbrev pub ComeFrom : Row → List Move → Type 0
 ComeFrom (Comment text) found = Unit {0}
 ComeFrom (Spined kind tokens) found = AllByRecursion (λ move. source move < length tokens) found
 
--- where a record that asks nothing of the spines breaks no rule, all stay; else the first rule that it breaks
+-- where a record that asks nothing of the spines breaks no rule, all stay; else the first rule that
+-- it breaks
 abbrev pub IsStay : Path → Row → Result Moves PathFault → Type 0
 IsStay path row (Ok found) =
     (fault_of path row ≡ None)

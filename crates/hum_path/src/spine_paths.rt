@@ -96,8 +96,8 @@ impl Paths {
     /// A record without a path indicator or an exclusive interpretation takes no memory.
     ///
     /// # Errors
-    /// The first path rule that the record breaks, and then nothing changes; or want of memory, which
-    /// each later call answers again.
+    /// The first path rule that the record breaks, and then nothing changes; or want of memory,
+    /// which each later call answers again.
     pub fn step(&mut self, row: &Record) -> Result<Moves, PathFault>
         // No rule is broken, and the spines are those after the record.
         ensures sound { OnOk result (fault_of self.old.path row.now ≡ None) }

@@ -1,4 +1,8 @@
-//! The command read: the score that bytes denote, record by record.
+//! The command `read`: the score that bytes denote, record by record.
+//!
+//! [`ScoreReader`] takes the lines of a source, reads each as a record and follows the spines
+//! through it. It ends with the score, or at the first rule that is broken: its line counts from 1,
+//! and a spine that stays open is found in the line after the last.
 #![tactic(auto)]
 
 mod rules;

@@ -61,7 +61,7 @@ fn read_all(rt: &impl Abort, alloc: Global, source: Pieces) -> Result<Reading, F
         assert_eq!(rt; again, Some(stop));
         return Ok(Reading { texts, stop });
     }
-    Err("no end").map_err(Fail::from)
+    Err(Fail::from("no end"))
 }
 
 fn end_of(fault: Option<(u64, Rule)>) -> End {
@@ -130,6 +130,18 @@ fn a_read_fails(rt: HostRuntime) -> Result<(), Fail> {
         let reading = read_all(&rt, rt.alloc(), Pieces { text, size, good })?;
         assert_eq!(rt; reading.texts.as_slice(), texts, "by {size}");
         assert_eq!(rt; reading.stop, Err(ReadError::Read), "by {size}");
+    }
+    Ok(())
+}
+
+#[test]
+fn errors_print(rt: HostRuntime) -> Result<(), Fail> {
+    for (error, text) in [
+        (ReadError::Read, "read failed"),
+        (ReadError::Memory, "out of memory"),
+    ] {
+        let printed = format!(in rt.alloc(); "{error}")?;
+        assert_eq!(rt; printed.as_str(), text);
     }
     Ok(())
 }

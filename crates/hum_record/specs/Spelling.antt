@@ -67,7 +67,8 @@ kind_of_first (token ∷ tokens) = kind_of_token token
 
 -- whether some token is of another kind than the first
 abbrev pub mixes_kinds : List (List ℕ) → Bool
-mixes_kinds tokens = list_any (λ token. not (same_kind (kind_of_token token) (kind_of_first tokens))) tokens
+mixes_kinds tokens =
+    list_any (λ token. not (same_kind (kind_of_token token) (kind_of_first tokens))) tokens
 
 -- The one kind of the tokens of a spined record, or the first rule that they break.
 abbrev pub kind_of_tokens : List (List ℕ) → Result SpinedKind RecordFault

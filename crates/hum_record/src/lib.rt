@@ -1,10 +1,10 @@
 //! Records of a Humdrum score: what one line says, as its kind and its tokens.
 //!
-//! A line whose text begins with `!!` is a *global comment* and belongs to no spine. Any other line
-//! has one *token* for each spine, a tab between two, and its tokens are all local comments (they
-//! begin with `!`), all interpretations (they begin with `*`) or all data (they begin with neither).
-//! The rules are those of the Humdrum Toolkit's reference manual, in its chapter on the syntax
-//! (<https://www.humdrum.org/guide/ch05/>).
+//! A line whose text begins with `!!` is a *global comment* and belongs to no spine. Any other
+//! line has one *token* for each spine, a tab between two, and its tokens are all local comments
+//! (they begin with `!`), all interpretations (they begin with `*`) or all data (they begin with
+//! neither). The rules are those of the Humdrum Toolkit's reference manual, in its chapter on the
+//! syntax (<https://www.humdrum.org/guide/ch05/>).
 //!
 //! [`Record::parse`] reads a line, and [`RecordBuilder`] makes a record token by token.
 #![tactic(auto)]

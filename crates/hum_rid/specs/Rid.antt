@@ -28,7 +28,8 @@ drops options (Spined Local tokens) =
     options.local_comments || (options.null_local_comments && all_are (codes "!") tokens)
 drops options (Spined Interpretation tokens) =
     options.interpretations
-    || ((options.null_interpretations && all_are (codes "*") tokens) || (options.tandems && has_tandems tokens))
+    || ((options.null_interpretations && all_are (codes "*") tokens)
+    || (options.tandems && has_tandems tokens))
 drops options (Spined Values tokens) =
     options.values || (options.null_values && all_are (codes ".") tokens)
 

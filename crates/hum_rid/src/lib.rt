@@ -107,7 +107,8 @@ impl Rid {
         ensures stands { ⟦<Rid as Stage>⟧.stands result (opening (meaning stage options)) }
 
         // Of scores it makes scores, unless all interpretations are dropped.
-        ensures keeps { options.interpretations ≡ false → KeepsScore (meaning stage options).outcomes }
+        ensures keeps { options.interpretations ≡ false
+            → KeepsScore (meaning stage options).outcomes }
     {
         Rid {
             inner: AtOnce::new(alloc, stage, Command::Rid, options),
@@ -148,3 +149,6 @@ impl Stage for Rid {
         self.inner.held()
     }
 }
+
+#[cfg(test)]
+mod tests;

@@ -1,5 +1,6 @@
 -- Commands that decide each record at once.
-use Rattle.std.specs.Prelude.{◌≡◌, ℕ, ◌-◌, ◌<◌, nat_le, false, List, [], ◌∷◌, length, if◌then◌else◌, Option, Some, None, Result, Ok, Err}
+use Rattle.std.specs.Prelude.{◌≡◌, ℕ, ◌-◌, ◌<◌, nat_le, false, List, [], ◌∷◌, length, if◌then◌else◌}
+use Rattle.std.specs.Prelude.{Option, Some, None, Result, Ok, Err}
 use Rattle.hum_record.specs.Row.{Row}
 use Rattle.hum_path.specs.Spines.{Path, Unopened}
 use Rattle.hum_path.specs.Rules.{is_unfinished}
@@ -16,15 +17,19 @@ abbrev pub outcome : Result (List Row) Rule → Outcome
 outcome (Ok rows) = Becomes rows
 outcome (Err rule) = Refused rule
 
--- What a command makes of each record, by what it decides of one after those before it, the newest first.
-abbrev pub decisions : (List Row → Row → Result (List Row) Rule) → List Row → List Row → List Outcome
+-- What a command makes of each record, by what it decides of one after those before it, the newest
+-- first.
+abbrev pub decisions :
+    (List Row → Row → Result (List Row) Rule) → List Row → List Row → List Outcome
 decisions decide past [] = []
 decisions decide past (row ∷ rows) = outcome (decide past row) ∷ decisions decide (row ∷ past) rows
 
 -- No stage gives more records than there is room for.
 abbrev pub limit : ℕ → List Outcome → List Outcome
 limit room [] = []
-limit room (Becomes rows ∷ os) = if nat_le (length rows) room then Becomes rows ∷ limit (room - length rows) os else Refused L2 ∷ os
+limit room (Becomes rows ∷ os) =
+    if nat_le (length rows) room then Becomes rows ∷ limit (room - length rows) os
+    else Refused L2 ∷ os
 limit room (Refused rule ∷ os) = Refused rule ∷ os
 limit room (Undecided ∷ os) = Undecided ∷ os
 
@@ -35,29 +40,46 @@ in_room room (Err rule) = Err rule
 
 -- what the stage of such a command means
 abbrev pub at_once : ℕ → Command → (List Row → Row → Result (List Row) Rule) → Meaning
-at_once stage command decide = record { stage = stage; command = command; outcomes = λ p. limit 4294967295 (decisions decide [] p) }
+at_once stage command decide = record {
+  stage = stage;
+  command = command;
+  outcomes = λ p. limit 4294967295 (decisions decide [] p);
+}
 
 -- a memory that stands for records may be given one that goes on with them as a score
-pub record MayStep (follows : (List Row → Row → Result (List Row) Rule) → List Row → Type 0) (row : Row) : Type 0 where
+pub record MayStep (follows : (List Row → Row → Result (List Row) Rule) → List Row → Type 0)
+    (row : Row) : Type 0 where
   pub decide : List Row → Row → Result (List Row) Rule
   pub past : List Row
   pub memory : follows decide past
   pub score : IsOpen (row ∷ past)
   pub few : length past < 4294967295
 
--- What one step answered and put out: the records that the record becomes, and the memory goes on; or the rule by which it is refused.
-abbrev pub Steps : (List Row → Row → Result (List Row) Rule) → List Row → Row → ((List Row → Row → Result (List Row) Rule) → List Row → Type 0) → ℕ → List Row → Option Rule → Type 0
-Steps decide past row follows room rows None = (decide past row ≡ Ok rows) × follows decide (row ∷ past)
+-- What one step answered and put out: the records that the record becomes, and the memory goes on;
+-- or the rule by which it is refused.
+abbrev pub Steps : (List Row → Row → Result (List Row) Rule) → List Row → Row
+    → ((List Row → Row → Result (List Row) Rule) → List Row → Type 0) → ℕ → List Row
+    → Option Rule → Type 0
+Steps decide past row follows room rows None =
+    (decide past row ≡ Ok rows) × follows decide (row ∷ past)
 Steps decide past row follows room rows (Some rule) = in_room room (decide past row) ≡ Err rule
 
 -- The same for each way of deciding and each past that the memory stood for.
-abbrev pub HasStepped : ((List Row → Row → Result (List Row) Rule) → List Row → Type 0) → ((List Row → Row → Result (List Row) Rule) → List Row → Type 0) → Row → ℕ → List Row → Option Rule → Type 0
+abbrev pub HasStepped : ((List Row → Row → Result (List Row) Rule) → List Row → Type 0)
+    → ((List Row → Row → Result (List Row) Rule) → List Row → Type 0) → Row → ℕ → List Row
+    → Option Rule → Type 0
 HasStepped before after next room out refused =
     (decide : List Row → Row → Result (List Row) Rule) (past : List Row)
     → before decide past → IsOpen (next ∷ past) → Steps decide past next after room out refused
 
--- How a command that decides each record at once keeps scores: after records, those given lead to spines in some relation to them.
-pub record Keeps (decide : List Row → Row → Result (List Row) Rule) (Leads : List Row → Path → Type 0) : Type 0 where
+-- How a command that decides each record at once keeps scores: after records, those given lead to
+-- spines in some relation to them.
+pub record Keeps (decide : List Row → Row → Result (List Row) Rule)
+    (Leads : List Row → Path → Type 0) : Type 0 where
   pub opening : Leads [] Unopened
-  pub next : (past : List Row) (row : Row) (given : Path) (rows : List Row) → IsOpen (row ∷ past) → Leads past given → decide past row ≡ Ok rows → Follow given rows × Leads (row ∷ past) (through given rows)
-  pub closing : (past : List Row) (given : Path) → IsOpen past → is_unfinished (path_after past) ≡ false → Leads past given → is_unfinished given ≡ false
+  pub next : (past : List Row) (row : Row) (given : Path) (rows : List Row) → IsOpen (row ∷ past)
+      → Leads past given → decide past row ≡ Ok rows
+      → Follow given rows × Leads (row ∷ past) (through given rows)
+  pub closing : (past : List Row) (given : Path) → IsOpen past
+      → is_unfinished (path_after past) ≡ false
+      → Leads past given → is_unfinished given ≡ false

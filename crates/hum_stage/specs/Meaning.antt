@@ -1,5 +1,6 @@
 -- What a stage means, over whole lists.
-use Rattle.std.specs.Prelude.{◌≡◌, ℕ, ◌+◌, ◌<◌, ◌≤◌, nat_lt, List, [], ◌∷◌, ◌++◌, length, if◌then◌else◌, Option, Some, None, is_some, drop}
+use Rattle.std.specs.Prelude.{◌≡◌, ℕ, ◌+◌, ◌<◌, ◌≤◌, nat_lt, List, [], ◌∷◌, ◌++◌, length}
+use Rattle.std.specs.Prelude.{if◌then◌else◌, Option, Some, None, is_some, drop}
 use Rattle.std.specs.Prelude.{MatchOption, slice_get}
 use Rattle.hum_stage.specs.declared.faults.Rule.{Rule}
 use Rattle.hum_stage.specs.declared.faults.Command.{Command}
@@ -23,7 +24,8 @@ output m p = settled (m.outcomes p)
 
 abbrev pub fault_at : ℕ → Command → Option (ℕ × Rule) → Option Fault
 fault_at stage command None = None
-fault_at stage command (Some r) = Some (record { stage = stage; command = command; line = r.0; rule = r.1 })
+fault_at stage command (Some r) =
+    Some (record { stage = stage; command = command; line = r.0; rule = r.1 })
 
 -- the stage's own fault
 abbrev pub own_fault : Meaning → List Row → Option Fault
@@ -47,7 +49,8 @@ abbrev pub opening : Meaning → Moment
 opening m = record { meaning = m; put = []; given = 0; ended = None }
 
 abbrev pub after_put : Moment → Row → Moment
-after_put t r = record { meaning = t.meaning; put = t.put ++ r ∷ []; given = t.given; ended = t.ended }
+after_put t r =
+    record { meaning = t.meaning; put = t.put ++ r ∷ []; given = t.given; ended = t.ended }
 
 abbrev pub after_take : Moment → Moment
 after_take t = record { meaning = t.meaning; put = t.put; given = t.given + 1; ended = t.ended }
@@ -68,7 +71,9 @@ resting_state own None = Wants
 resting_state own (Some e) = Done (end_of e own)
 
 abbrev pub state_of : Moment → State
-state_of t = if nat_lt t.given (length (all_of t)) then Gives else resting_state (own_fault t.meaning t.put) t.ended
+state_of t =
+    if nat_lt t.given (length (all_of t)) then Gives
+    else resting_state (own_fault t.meaning t.put) t.ended
 
 abbrev pub held_at : Moment → ℕ
 held_at t = held_of t.given (is_some t.ended) (t.meaning.outcomes t.put)
@@ -103,7 +108,8 @@ HasEnded before after end = (t : Moment) → before t → t.ended ≡ None → a
 abbrev pub HasTaken : (Moment → Type 0) → (Moment → Type 0) → Option Row → Type 0
 HasTaken before after taken =
     (t : Moment) → before t
-    → (taken ≡ slice_get (all_of t) t.given) × MatchOption taken (after t) (λ _. after (after_take t))
+    → (taken ≡ slice_get (all_of t) t.given)
+    × MatchOption taken (after t) (λ _. after (after_take t))
 
 abbrev pub ShowsState : (Moment → Type 0) → State → Type 0
 ShowsState stands state = (t : Moment) → stands t → state ≡ state_of t
@@ -123,19 +129,22 @@ Goes (Undecided ∷ os) new = Unit {0}
 -- what every command keeps
 pub record IsLawful (m : Meaning) : Type 0 where
   pub each : (p : List Row) → length (m.outcomes p) ≡ length p
-  pub grows : (p : List Row) (r : Row) → IsScore (p ++ r ∷ []) → Goes (m.outcomes p) (m.outcomes (p ++ r ∷ []))
+  pub grows : (p : List Row) (r : Row) → IsScore (p ++ r ∷ [])
+      → Goes (m.outcomes p) (m.outcomes (p ++ r ∷ []))
   pub limited : (p : List Row) → length p ≤ 4294967295 → length (output m p) ≤ 4294967295
 
 -- Of scores it makes scores: of a closed one a closed one, unless it refuses.
 pub record KeepsScore (outcomes : List Row → List Outcome) : Type 0 where
   pub score : (p : List Row) → IsScore p → IsScore (settled (outcomes p))
-  pub closed : (p : List Row) → IsClosed p → refusal 1 (outcomes p) ≡ None → IsClosed (settled (outcomes p))
+  pub closed : (p : List Row) → IsClosed p → refusal 1 (outcomes p) ≡ None
+      → IsClosed (settled (outcomes p))
 
 abbrev pub given_to : Moment → ℕ → Moment
 given_to t n = record { meaning = t.meaning; put = t.put; given = n; ended = t.ended }
 
 -- from before to after, records of all that is settled at t were taken, up to the n-th
-pub record TookTo (new : Moment → Type 0) (before after : List Row) (t : Moment) (n : ℕ) : Type 0 where
+pub record TookTo (new : Moment → Type 0) (before after : List Row) (t : Moment) (n : ℕ)
+    : Type 0 where
   pub stand : new (given_to t n)
   pub list : after ++ drop n (all_of t) ≡ before ++ drop t.given (all_of t)
 

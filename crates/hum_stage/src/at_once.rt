@@ -51,11 +51,20 @@ impl<C: Decides> AtOnce<C> {
         }
     }
 
-    /// Breaks a rule at the last record that was put.
+    /// Breaks a rule at the last record that was put, which then becomes nothing.
     fn refuse(&mut self, rule: Rule)
-        ensures { self.new ≡ record self.old { fault = Some (record {
-            stage = self.old.stage; command = self.old.command; line = self.old.line; rule = rule }) } }
+        ensures fault { self.new ≡ record self.old {
+          queue = self.new.queue;
+          fault = Some (record {
+            stage = self.old.stage;
+            command = self.old.command;
+            line = self.old.line;
+            rule = rule;
+          });
+        } }
+        ensures nothing { self.new.queue.items ≡ [] }
     {
+        self.queue.clear();
         self.fault = Some(Fault {
             stage: self.stage,
             command: self.command,
@@ -67,8 +76,13 @@ impl<C: Decides> AtOnce<C> {
 
 impl<C: Decides> Stage for AtOnce<C> {
     ghost stands = { λ s t. Standing (C.follows s.memory) (record {
-        stage = s.stage; command = s.command; line = s.line;
-        total = s.total; queue = s.queue.items; fault = s.fault }) s.ended s.spent t };
+      stage = s.stage;
+      command = s.command;
+      line = s.line;
+      total = s.total;
+      queue = s.queue.items;
+      fault = s.fault;
+    }) s.ended s.spent t };
 
     ghost left = { λ s. length s.queue.items };
 
@@ -93,13 +107,11 @@ impl<C: Decides> Stage for AtOnce<C> {
         let refused = self.memory.step(next, room, &mut self.queue)?;
         self.spent = false;
         if let Some(rule) = refused {
-            self.queue.clear();
             self.refuse(rule);
             return Ok(());
         }
         let count = self.queue.len() as u64;
         if count > room {
-            self.queue.clear();
             self.refuse(Rule::L2);
         } else {
             self.total += count;

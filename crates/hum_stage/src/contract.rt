@@ -44,8 +44,8 @@ pub trait Stage {
         ensures err { OnErr result (spent self.new) }
         ensures stays_spent { spent self.old → IsErr result };
 
-    /// What it is ready for: it gives while it has records that are settled, then wants more, and is
-    /// done after the end.
+    /// What it is ready for: it gives while it has records that are settled, then wants more, and
+    /// is done after the end.
     fn state(&self) -> State
         ensures { ShowsState (stands self.now) result };
 

@@ -15,8 +15,8 @@ pub trait Decides {
     ghost follows: { Self → (List Row → Row → Result (List Row) Rule) → List Row → Type 0 };
 
     /// Puts what the next record becomes into the empty list, or answers the rule by which it is
-    /// refused. There is room for so many records: a command that would give more may stop and answer
-    /// L2.
+    /// refused. There is room for so many records: a command that would give more may stop and
+    /// answer L2.
     fn step(
         &mut self,
         next: Record,
@@ -25,5 +25,6 @@ pub trait Decides {
     ) -> Result<Option<Rule>, AllocError>
         requires score { MayStep (follows self.old) next }
         requires empty { out.old.items ≡ [] }
-        ensures { IfOk result (HasStepped (follows self.old) (follows self.new) next room out.new.items) };
+        ensures { IfOk result
+            (HasStepped (follows self.old) (follows self.new) next room out.new.items) };
 }

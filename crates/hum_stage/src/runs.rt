@@ -21,8 +21,8 @@ pub fn drain<S: Stage>(stage: &mut S, out: &mut Vec<Record>) -> Result<(), Alloc
     Ok(())
 }
 
-/// Puts all records into a stage that was given none, and takes what it gives: exactly what its command
-/// makes of the list, and how that ends.
+/// Puts all records into a stage that was given none, and takes what it gives: exactly what its
+/// command makes of the list, and how that ends.
 ///
 /// # Errors
 /// Want of memory.

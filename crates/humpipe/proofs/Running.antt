@@ -1,14 +1,13 @@
 -- A run, record by record.
-use Rattle.std.proofs.Common.{◌≡◌, ◌∙◌, ℕ, ◌+◌, ◌<◌, ◌≤◌, true, false, List, [], ◌∷◌, ◌++◌, length, drop, Option, Some, None, refl, sym, ap, subst, append_assoc, append-nil, arith, ◌⊎◌, inl, inr}
+use Rattle.std.proofs.Common.{◌≡◌, ◌∙◌, ℕ, ◌<◌, true, false, List, [], ◌∷◌, ◌++◌, length, drop, Option, Some, None, refl, sym, ap, subst, append_assoc, append-nil, arith, ◌⊎◌, inl, inr}
 use Rattle.std.proofs.lemmas.Bool.{false≢true}
 use Rattle.std.specs.Io.KnownBytes.{Appends, Consumes, Keeps, IsAtEnd}
-use Rattle.hum_text.specs.Reading.{Reader, NeedsRead, IsUnread, bytes_read}
-use Rattle.hum_record.specs.Row.{Row, text_of}
+use Rattle.hum_text.specs.Reading.{NeedsRead, IsUnread, bytes_read}
+use Rattle.hum_record.specs.Row.{Row}
 use Rattle.hum_path.specs.Spines.{Unopened}
 use Rattle.hum_stage.specs.declared.faults.End.{End}
-use Rattle.hum_stage.specs.declared.faults.End.TheVariants.{Closed}
-use Rattle.hum_stage.specs.Score.{IsScore, IsClosed}
-use Rattle.hum_stage.specs.Meaning.{Meaning, Moment, IsLawful, MayPut, HasPut, opening, output, own_fault, end_of, all_of, given_to, settled_moment, after_put, after_end, state_of}
+use Rattle.hum_stage.specs.Score.{IsScore}
+use Rattle.hum_stage.specs.Meaning.{Meaning, Moment, IsLawful, MayPut, HasPut, opening, output, own_fault, end_of, settled_moment, after_put, after_end, state_of}
 use Rattle.hum_stage.specs.declared.faults.State.TheVariants.{Done}
 use Rattle.std.specs.Prelude.{nat_lt, Result, Ok, Err, IfOk, OnErr}
 use Rattle.std.proofs.lemmas.Bool.Decides.{nat_tests}
@@ -17,7 +16,7 @@ use Rattle.hum_read.specs.Denoted.{score_of, end_at}
 use Rattle.hum_read.specs.Reading.{Scores, IsFresh, HasRead, Denotes}
 use Rattle.hum_read.proofs.Denoting.{score-of, front-rows, fresh-reads}
 use Rattle.humpipe.specs.Writing.{text_of_all, WroteFront}
-use Rattle.humpipe.specs.Run.{written_of, ending_of, MayGoOn, HasRun, HasFinished, HasEnded, HasFailed, GaveAll, GaveFront, MayFinish, FinishesBy}
+use Rattle.humpipe.specs.Run.{written_of, MayGoOn, HasRun, HasFinished, HasEnded, HasFailed, GaveAll, GaveFront, MayFinish, FinishesBy}
 use Rattle.humpipe.proofs.Appending.{appends_none, appends_trans, keeps_appends, front_first, front_second, err-of}
 use Rattle.humpipe.proofs.Giving.{text_of_all-append}
 

@@ -23,8 +23,8 @@ pub enum Outcome {
 }
 
 impl Outcome {
-    /// The exit status: 0 for a whole run, 1 for a fault of a stage, 2 for a command line, a plan or a
-    /// bundle that is refused, 3 for a failure outside.
+    /// The exit status: 0 for a whole run, 1 for a fault of a stage, 2 for a command line, a plan
+    /// or a bundle that is refused, 3 for a failure outside.
     pub fn status(&self) -> u8 {
         match self {
             Outcome::Ended(End::Closed) => 0,

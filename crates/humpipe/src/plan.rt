@@ -1,8 +1,8 @@
 //! The plan of one score and at most one command: what is understood before plans come in whole.
 //!
-//! `out: read NAME`, or behind it a bar and `rid` with its letters. Lines of blanks alone and lines
-//! that begin with `#` are skipped. Words are cut at blanks and bars; between two quotes a word may hold
-//! either.
+//! `out: read NAME`, or behind it a bar and `rid` with its letters. Lines of blanks alone and
+//! lines that begin with `#` are skipped. Words are cut at blanks and bars; between two quotes a
+//! word may hold either.
 ghost use Rattle.std.specs.Prelude.{◌<◌, ◌≤◌, length, IfSome};
 
 use hum_rid::RidOptions;

@@ -93,12 +93,12 @@ fn finish<S: Stage, W: Sink>(stage: &mut S, sink: &mut W, end: End) -> Result<En
     }
 }
 
-/// Reads a score through a stage, and writes what it gives: exactly the text of the command over the
-/// score that the bytes denote. At most one record is on its way at a time.
+/// Reads a score through a stage, and writes what it gives: exactly the text of the command over
+/// the score that the bytes denote. At most one record is on its way at a time.
 ///
 /// # Errors
-/// A failed read or write, and want of memory. What was written is then a front of the text, however
-/// the input goes on.
+/// A failed read or write, and want of memory. What was written is then a front of the text,
+/// however the input goes on.
 pub fn run<R: Source, S: Stage, W: Sink>(
     source: &mut ScoreReader<R>,
     stage: &mut S,

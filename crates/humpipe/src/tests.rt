@@ -9,7 +9,11 @@ use std::test::Fail;
 // The bundle of a plan and a score, its text, and the line that the program tells.
 const ROWS: [(&[u8], &[u8], &str); 20] = [
     (b"out: read a | rid -G\n--- a\n", b"", ""),
-    (b"out: read a\n--- a\n!!x\r\n**x\r\n*-", b"!!x\n**x\n*-\n", ""),
+    (
+        b"out: read a\n--- a\n!!x\r\n**x\r\n*-",
+        b"!!x\n**x\n*-\n",
+        "",
+    ),
     (
         b"# skipped\n \nout: read 'a' | rid -Tid\n--- a\n!!x\n**kern\n*clefG2\n*\n!a\n.\n4c\n*-\n",
         b"!!x\n**kern\n!a\n4c\n*-\n",

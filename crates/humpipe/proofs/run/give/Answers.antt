@@ -1,4 +1,4 @@
-use Rattle.std.proofs.Common.{◌+◌, ◌∙◌, sym, arith}
+use Rattle.std.proofs.Common.{◌+◌, arith}
 use Rattle.hum_stage.specs.Meaning.{given_to}
 use Rattle.humpipe.proofs.Giving.{giving-none, giving-more, giving-all, giving-part, giving-front, giving-fails}
 use Rattle.humpipe.proofs.run.give.Goals as goal

@@ -1,4 +1,4 @@
-use Rattle.std.proofs.Common.{◌≡◌, ◌-◌, ◌≤◌, ℕ, length, drop, sym, subst, arith, length-drop}
+use Rattle.std.proofs.Common.{drop, sym, subst, arith, length-drop}
 use Rattle.std.proofs.lemmas.List.{take_all}
 use Rattle.humpipe.specs.Writing.{Wrote}
 use Rattle.humpipe.proofs.Appending.{wrote_more}

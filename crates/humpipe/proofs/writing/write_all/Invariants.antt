@@ -1,4 +1,4 @@
-use Rattle.std.proofs.Common.{ℕ, length}
+use Rattle.std.proofs.Common.{length}
 use Rattle.humpipe.specs.Writing.{Wrote}
 use Rattle.humpipe.proofs.writing.write_all.Given as goal
 

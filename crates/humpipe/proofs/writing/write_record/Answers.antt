@@ -1,5 +1,4 @@
-use Rattle.std.proofs.Common.{subst}
-use Rattle.humpipe.proofs.Appending.{front_first, front_second, err-of, last-err}
+use Rattle.humpipe.proofs.Appending.{front_first, err-of, last-err}
 use Rattle.humpipe.proofs.writing.write_record.Goals as goal
 
 pub returns-in_err-write_all-clause-err : goal.returns-in_err-write_all-clause-err
