@@ -7,8 +7,13 @@ use std::io::{self, Error, ErrorKind, Read, Write};
 use std::test::Fail;
 
 // The bundle of a plan and a score, its text, and the line that the program tells.
-const ROWS: [(&[u8], &[u8], &str); 20] = [
+const ROWS: [(&[u8], &[u8], &str); 22] = [
     (b"out: read a | rid -G\n--- a\n", b"", ""),
+    (
+        b"out: read a | rid -G\n--- a\n!!x\n**kern\n4c\n!!y\n*-\n",
+        b"**kern\n4c\n*-\n",
+        "",
+    ),
     (
         b"out: read a\n--- a\n!!x\r\n**x\r\n*-",
         b"!!x\n**x\n*-\n",
@@ -83,6 +88,11 @@ const ROWS: [(&[u8], &[u8], &str); 20] = [
         b"out: read a | rid -l\n--- a\n**x\n**\n*-\n",
         b"**x\n",
         "humpipe: stage 1 (read), line 2: P10",
+    ),
+    (
+        b"out: read a | rid -l\n--- a\n**x\t**y\n**z\t*-\n",
+        b"**x\t**y\n",
+        "humpipe: stage 1 (read), line 2: P11",
     ),
     (
         b"out: read a | rid -l\n--- a\n**x\n*-\n\r",
