@@ -1,3 +1,4 @@
+pub mod Carry
 pub mod Examples
 pub mod Joins
 pub mod Plain

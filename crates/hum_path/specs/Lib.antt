@@ -3,4 +3,5 @@ pub mod Spines
 pub mod Rules
 pub mod Score
 pub mod Chains
+pub mod Memories
 pub mod Step

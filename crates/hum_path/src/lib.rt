@@ -7,12 +7,14 @@
 ghost use Rattle.std.specs.Prelude.{◌≡◌};
 ghost use Rattle.hum_path.specs.declared.PathFault.TheVariants.{Memory};
 
+mod carried;
 mod moved;
 mod rules;
 mod signs;
 mod spine_paths;
 mod steering;
 
+pub use carried::{Carried, ColumnMemory};
 pub use moved::{Move, Moves};
 pub use signs::{Sign, steers, token_sign};
 pub use spine_paths::Paths;

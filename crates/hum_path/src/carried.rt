@@ -1,0 +1,214 @@
+//! One memory for each spine.
+ghost use Rattle.std.specs.Prelude.{◌≡◌, ◌∷◌, ◌<◌, true, false, map, length, List, [], ℕ};
+ghost use Rattle.std.specs.Prelude.{slice_index_or, IsTrue, IsErr, OnOk, OnErr, IfOk};
+ghost use Rattle.std.specs.List.{AllByRecursion};
+ghost use Rattle.hum_record.specs.declared.SpinedKind.{SpinedKind};
+ghost use Rattle.hum_record.specs.declared.Kind.TheVariants.{Interpretation};
+ghost use Rattle.hum_record.specs.Row.{Row, kind_of, width_of, tokens_of};
+ghost use Rattle.hum_record.specs.Spelling.{IsToken, IsTokenOf};
+ghost use Rattle.hum_path.specs.Spines.{source, same_upto, moves};
+ghost use Rattle.hum_path.specs.Score.{path_after};
+ghost use Rattle.hum_path.specs.Step.{ComeFrom};
+ghost use Rattle.hum_path.specs.Memories.{memory_of, seen_each, Remember};
+
+use crate::moved::{Move, Moves};
+use hum_record::{Kind, Record};
+use std::alloc::{AllocError, Global};
+use std::marker::Model;
+
+/// What is remembered of a column, from its first cell on.
+pub trait ColumnMemory: Drop {
+    /// How it remembers.
+    type Rule;
+
+    /// What is remembered of no cell.
+    ghost beginning: { Self };
+
+    /// What is remembered after one more cell.
+    ghost seen: { Self.Rule → List ℕ → Self → Self };
+
+    /// The memory of no cell.
+    fn fresh(alloc: Global) -> Self
+        ensures { result ≡ beginning };
+
+    /// Sees one more cell.
+    fn see(&mut self, rule: &Self::Rule, token: &[u8]) -> Result<(), AllocError>
+        requires { (kind : SpinedKind) × IsToken kind token.now }
+        ensures { OnOk result (self.new ≡ seen rule.now token.now self.old) };
+
+    /// The same memory once more.
+    fn copy(&self) -> Result<Self, AllocError>
+        ensures { IfOk result (λ memory. memory ≡ self.now) };
+}
+
+/// The memories of the spines.
+#[derive(Drop)]
+pub struct Carried<M: ColumnMemory> {
+    alloc: Global,
+    memories: Vec<M>,
+    spent: bool,
+}
+
+impl<M: ColumnMemory> Model for Carried<M> {
+    ghost use Rattle.hum_path.specs.Memories.{Memories};
+
+    ghost Value = { Memories M };
+
+    ghost view = { λ c. record { each = c.memories.items; spent = c.spent } };
+}
+
+/// A memory sees the token in a column.
+fn see_token<M: ColumnMemory>(
+    memory: &mut M,
+    rule: &M::Rule,
+    row: &Record,
+    j: usize,
+) -> Result<(), AllocError>
+    requires { j < width_of row.now }
+    ensures { OnOk result
+        (memory.new ≡ M.seen rule.now (slice_index_or (tokens_of row.now) j []) memory.old) }
+{
+    memory.see(rule, row.token(j))
+}
+
+/// The memory of a spine after a record, from those before.
+fn next_one<M: ColumnMemory>(
+    alloc: Global,
+    rule: &M::Rule,
+    row: &Record,
+    memories: &[M],
+    from: Move,
+) -> Result<M, AllocError>
+    requires { source from < width_of row.now }
+    ensures { IfOk result (λ memory. memory
+        ≡ memory_of (M.seen rule.now) M.beginning (tokens_of row.now) memories.now from) }
+{
+    match from {
+        Move::Added(_) => Ok(M::fresh(alloc)),
+        Move::Same(j) | Move::Left(j) | Move::Right(j) | Move::Join(j, _) => {
+            let mut memory = if (j as usize) < memories.len() {
+                memories[j as usize].copy()?
+            } else {
+                M::fresh(alloc)
+            };
+            see_token(&mut memory, rule, row, j as usize)?;
+            Ok(memory)
+        }
+    }
+}
+
+fn next_all<M: ColumnMemory>(
+    alloc: Global,
+    rule: &M::Rule,
+    row: &Record,
+    memories: &[M],
+    found: &Moves,
+) -> Result<Vec<M>, AllocError>
+    requires { AllByRecursion (λ move. source move < width_of row.now) found.now }
+    ensures { IfOk result (λ next. next.items
+        ≡ map (memory_of (M.seen rule.now) M.beginning (tokens_of row.now) memories.now) found.now) }
+{
+    let mut next = Vec::new(alloc);
+    for i in 0..found.len() {
+        next.push(next_one(alloc, rule, row, memories, found.get(i))?)?;
+    }
+    Ok(next)
+}
+
+/// Each memory sees the token under it.
+fn see_each<M: ColumnMemory>(
+    rule: &M::Rule,
+    row: &Record,
+    memories: &mut Vec<M>,
+) -> Result<(), AllocError>
+    ensures { OnOk result
+        (memories.new.items ≡ seen_each (M.seen rule.now) (tokens_of row.now) memories.old.items) }
+{
+    for j in 0..row.width() {
+        if j >= memories.len() {
+            return Ok(());
+        }
+        see_token(&mut memories[j], rule, row, j)?;
+    }
+    Ok(())
+}
+
+/// Whether a record moves some of so many spines.
+fn moves_some(row: &Record, found: &Moves, width: usize) -> bool
+    ensures yes { result ≡ true → kind_of row.now ≡ Interpretation }
+    ensures no { result ≡ false → kind_of row.now ≡ Interpretation
+        → found.now ≡ same_upto 0 width }
+{
+    match row.kind() {
+        Kind::Interpretation => match found.as_listed() {
+            None => found.len() != width,
+            Some(_) => true,
+        },
+        _ => false,
+    }
+}
+
+/// The memories go on under a record.
+fn go_on<M: ColumnMemory>(
+    alloc: Global,
+    rule: &M::Rule,
+    row: &Record,
+    found: &Moves,
+    memories: &mut Vec<M>,
+) -> Result<(), AllocError>
+    requires { ComeFrom row.now found.now }
+    ensures { OnOk result ((past : List Row)
+        → Remember (M.seen rule.now) M.beginning past memories.old.items
+        → found.now ≡ moves (path_after past) row.now
+        → Remember (M.seen rule.now) M.beginning (row.now ∷ past) memories.new.items) }
+{
+    if moves_some(row, found, memories.len()) {
+        *memories = next_all(alloc, rule, row, memories, found)?;
+        return Ok(());
+    }
+    see_each(rule, row, memories)
+}
+
+impl<M: ColumnMemory> Carried<M> {
+    /// No spines yet.
+    pub fn new(alloc: Global) -> Self
+        ensures { result ≡ record { each = []; spent = false } }
+    {
+        Carried {
+            alloc,
+            memories: Vec::new(alloc),
+            spent: false,
+        }
+    }
+
+    /// The memory of a spine, counted from 0.
+    pub fn at(&self, j: usize) -> &M
+        requires { j < length self.now.each }
+        ensures { result.now ≡ slice_index_or self.now.each j result.now }
+    {
+        &self.memories[j]
+    }
+
+    /// Takes one more record, whose moves are known: memories of the cells above stay memories of
+    /// the cells above.
+    ///
+    /// # Errors
+    /// Want of memory, which each later call answers again.
+    pub fn follow(&mut self, rule: &M::Rule, row: &Record, found: &Moves) -> Result<(), AllocError>
+        requires { ComeFrom row.now found.now }
+        ensures memories { OnOk result ((past : List Row)
+            → Remember (M.seen rule.now) M.beginning past self.old.each
+            → found.now ≡ moves (path_after past) row.now
+            → Remember (M.seen rule.now) M.beginning (row.now ∷ past) self.new.each) }
+        ensures spent { OnErr result (IsTrue self.new.spent) }
+        ensures again { IsTrue self.old.spent → IsErr result }
+    {
+        if self.spent {
+            return Err(AllocError);
+        }
+        self.spent = true;
+        go_on(self.alloc, rule, row, found, &mut self.memories)?;
+        self.spent = false;
+        Ok(())
+    }
+}
