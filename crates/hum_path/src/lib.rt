@@ -9,6 +9,7 @@ ghost use Rattle.hum_path.specs.declared.PathFault.TheVariants.{Memory};
 
 mod carried;
 mod moved;
+mod origins;
 mod rules;
 mod signs;
 mod spine_paths;
@@ -16,6 +17,7 @@ mod steering;
 
 pub use carried::{Carried, ColumnMemory};
 pub use moved::{Move, Moves};
+pub use origins::Origins;
 pub use signs::{Sign, steers, token_sign};
 pub use spine_paths::Paths;
 use std::alloc::{AllocError, AllocFailed};
