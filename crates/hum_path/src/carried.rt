@@ -181,6 +181,13 @@ impl<M: ColumnMemory> Carried<M> {
         }
     }
 
+    /// How many spines there are.
+    pub fn width(&self) -> usize
+        ensures { result ≡ length self.now.each }
+    {
+        self.memories.len()
+    }
+
     /// The memory of a spine, counted from 0.
     pub fn at(&self, j: usize) -> &M
         requires { j < length self.now.each }

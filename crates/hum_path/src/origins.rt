@@ -84,6 +84,13 @@ impl Origins {
         }
     }
 
+    /// How many spines there are.
+    pub fn width(&self) -> usize
+        ensures { result ≡ length self.now.each }
+    {
+        self.places.len()
+    }
+
     /// The opening spine of a spine, both counted from 0.
     pub fn at(&self, j: usize) -> u16
         requires { j < length self.now.each }

@@ -1,10 +1,11 @@
 //! Small scores, by hand: where the spines come from, and each rule broken once.
-ghost use Rattle.std.specs.Prelude.{◌≡◌, ◌≤◌, false, length};
+ghost use Rattle.std.specs.Prelude.{◌≡◌, ◌≤◌, [], false, length};
 ghost use Rattle.hum_record.specs.Spelling.{has_byte};
 
-use crate::{Move, Moves, PathFault, Paths};
+use crate::{Carried, ColumnMemory, Move, Moves, Origins, PathFault, Paths};
 use hum_record::{Record, RecordBuilder, SpinedKind};
-use std::alloc::Global;
+use std::alloc::{AllocError, Global};
+use std::marker::Model;
 use std::process::Abort;
 use std::test::Fail;
 
@@ -171,5 +172,114 @@ fn prints_its_faults(rt: HostRuntime) -> Result<(), Fail> {
     let alloc = rt.alloc();
     let text = format!(in alloc; "{} {}", PathFault::P10, PathFault::Memory)?;
     assert_eq!(rt; text.as_str(), "P10 out of memory");
+    Ok(())
+}
+
+/// The nearest cell above.
+#[derive(Drop)]
+struct Nearest {
+    alloc: Global,
+    token: Vec<u8>,
+}
+
+impl Model for Nearest {
+    ghost use Rattle.std.specs.Prelude.{ℕ, List};
+
+    ghost Value = { List ℕ };
+
+    ghost view = { λ m. m.token.items };
+}
+
+impl ColumnMemory for Nearest {
+    type Rule = ();
+
+    ghost beginning = { [] };
+
+    ghost seen = { λ _ token _. token };
+
+    fn fresh(alloc: Global) -> Self {
+        Nearest {
+            alloc,
+            token: Vec::new(alloc),
+        }
+    }
+
+    fn see(&mut self, _rule: &(), token: &[u8]) -> Result<(), AllocError> {
+        self.token.clear();
+        self.token.extend_from_slice(token)?;
+        Ok(())
+    }
+
+    fn copy(&self) -> Result<Self, AllocError> {
+        Ok(Nearest {
+            alloc: self.alloc,
+            token: self.token.as_slice().to_vec(self.alloc)?,
+        })
+    }
+}
+
+fn check_nearest(rt: &impl Abort, carried: &Carried<Nearest>, want: &[&'static [u8]]) {
+    assert_eq!(rt; carried.width(), want.len());
+    for (i, token) in want.iter().enumerate() {
+        if i < carried.width() {
+            let memory = carried.at(i);
+            assert_eq!(rt; memory.token.as_slice(), *token, "spine {i}");
+        }
+    }
+}
+
+fn check_origins(rt: &impl Abort, origins: &Origins, want: &[u16]) {
+    assert_eq!(rt; origins.width(), want.len());
+    for (i, origin) in want.iter().enumerate() {
+        if i < origins.width() {
+            assert_eq!(rt; origins.at(i), *origin, "spine {i}");
+        }
+    }
+}
+
+// Takes a record, and compares the nearest cell above each spine after it, and its opening spine.
+fn check_memories(
+    rt: &impl Abort,
+    alloc: Global,
+    spines: (&mut Paths, &mut Carried<Nearest>, &mut Origins),
+    text: &[u8],
+    nearest: &[&'static [u8]],
+    opening: &[u16],
+) -> Result<(), Fail>
+    requires at_most { length text.now ≤ 1048576 }
+    requires one_line { has_byte 10 text.now ≡ false }
+{
+    let (paths, carried, origins) = spines;
+    let row = Record::parse(alloc, text.to_vec(alloc)?)?;
+    let found = paths.step(&row)?;
+    carried.follow(&(), &row, &found)?;
+    origins.follow(&row, &found)?;
+    check_nearest(rt, carried, nearest);
+    check_origins(rt, origins, opening);
+    Ok(())
+}
+
+const REMEMBERED: [(&[u8], &[&[u8]], &[u16]); 9] = [
+    (b"!!c", &[], &[]),
+    (b"**x\t**y", &[b"**x", b"**y"], &[0, 1]),
+    (b"*x\t*x", &[b"*x", b"*x"], &[1, 0]),
+    (b"a\tb", &[b"a", b"b"], &[1, 0]),
+    (b"*^\t*I", &[b"*^", b"*^", b"*I"], &[1, 1, 0]),
+    (b"c\td\te", &[b"c", b"d", b"e"], &[1, 1, 0]),
+    (b"*\t*\t*M", &[b"*", b"*", b"*M"], &[1, 1, 0]),
+    (b"*v\t*v\t*+", &[b"*v", b"*+", b""], &[1, 0, 0]),
+    (b"*\t*\t**z", &[b"*", b"*", b"**z"], &[1, 0, 0]),
+];
+
+#[test]
+fn remembers_columns(rt: HostRuntime) -> Result<(), Fail> {
+    let alloc = rt.alloc();
+    let mut paths = Paths::new(alloc);
+    let mut carried = Carried::new(alloc);
+    let mut origins = Origins::new(alloc);
+    for (text, nearest, opening) in REMEMBERED {
+        let spines = (&mut paths, &mut carried, &mut origins);
+        check_memories(&rt, alloc, spines, text, nearest, opening)?;
+    }
     Ok(())
 }
