@@ -105,6 +105,7 @@ module _ {M : Type 0} (see : List ℕ → M → M) (fresh : M) where
         | inl end ↦ inr (let inside = h.0 in omega (arith, inside, end))
         | inr more ↦ inr (omega (arith, more))
       ]
+
       few : (n : ℕ) → AllByRecursion (λ move. source move < length tokens) (same_upto 0 n) → n ≤ length tokens
       few n h = elim (last 0 n h) [
         | inl end ↦ omega (arith, end)

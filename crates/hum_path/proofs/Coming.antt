@@ -33,6 +33,7 @@ shifted a above j k (suc n) e within =
     let first : origin_of (a ∷ above) (Same k) ≡ origin_of above (Same j) = rw e (known above j (suc j) j (omega (arith, within))) in
     let rest = shifted a above (j + 1) (k + 1) n (omega (arith, e)) (omega (arith, within)) in
     cc
+
 -- where each spine stays, each opening spine does
 stays : (above : List ℕ) → map (origin_of above) (same_upto 0 (length above)) ≡ above
 stays [] = refl

@@ -105,8 +105,8 @@ fn next_all<M: ColumnMemory>(
     found: &Moves,
 ) -> Result<Vec<M>, AllocError>
     requires { AllByRecursion (λ move. source move < width_of row.now) found.now }
-    ensures { IfOk result (λ next. next.items
-        ≡ map (memory_of (M.seen rule.now) M.beginning (tokens_of row.now) memories.now) found.now) }
+    ensures { IfOk result (λ next. next.items ≡ map
+        (memory_of (M.seen rule.now) M.beginning (tokens_of row.now) memories.now) found.now) }
 {
     let mut next = Vec::new(alloc);
     for i in 0..found.len() {

@@ -13,5 +13,5 @@ returns g c =
     let size = c.args.memories.now.ok.0 in
     let len = c.len.ensures in
     on_ok c.see_each.result (λ is past h told.
-      sees_on (g.M.ColumnMemory.seen c.args.rule.now) g.M.ColumnMemory.beginning c.args.row.now past c.args.memories.now.items c.see_each.new.memories.items c.args.found.now
-      c.requires (λ k. rw (len, size) at c.moves_some.ensures.no c.if-moves_some.false k) is h told) c.see_each.ensures
+    sees_on (g.M.ColumnMemory.seen c.args.rule.now) g.M.ColumnMemory.beginning c.args.row.now past c.args.memories.now.items c.see_each.new.memories.items c.args.found.now
+    c.requires (λ k. rw (len, size) at c.moves_some.ensures.no c.if-moves_some.false k) is h told) c.see_each.ensures
