@@ -20,6 +20,7 @@ use hum_text::reader::LineReader;
 use hum_text::{Limits, TextFault, reader as lines};
 use std::alloc::Global;
 use std::marker::Model;
+use std::mem;
 
 /// What a poll gives.
 #[derive(Debug, Drop)]
@@ -87,6 +88,8 @@ pub struct ScoreReader<R> {
     paths: Paths,
     // the end that was told, or why nothing more can be read
     stopped: Option<Result<End, ReadError>>,
+    // what the next record is read into
+    spare: Vec<u32>,
 }
 
 impl<R> Model for ScoreReader<R> {
@@ -124,10 +127,24 @@ impl<R: Source> ScoreReader<R> {
             lines: LineReader::new(alloc, source, Limits::standard()),
             paths: Paths::new(alloc),
             stopped: None,
+            spare: Vec::new(alloc),
         }
     }
 
+    /// Takes a record that was done with, so that the next one needs no memory of its own.
+    pub fn reuse(&mut self, row: Record)
+        ensures { self.new ≡ self.old }
+    {
+        let (text, ends) = row.into_buffers();
+        self.lines.reuse(text);
+        self.spare = ends;
+    }
+
+    // Were these inlined, their answers would be taken to pieces as small as a fault's fields, and
+    // each record be put together from such pieces.
+
     /// The last line that was given is refused by a rule, or memory ran out.
+    #[inline(never)]
     fn refuse(&mut self, rule: Option<Rule>) -> Result<Step, ReadError>
         ensures answer { result ≡ answer_of (refusal self.old.stage self.old.lines.given rule) }
         ensures state { self.new ≡ record self.old {
@@ -143,6 +160,7 @@ impl<R: Source> ScoreReader<R> {
     }
 
     /// What a line gives that was just read.
+    #[inline(never)]
     fn read_line(&mut self, text: Vec<u8>) -> Result<Step, ReadError>
         requires going { self.old.stopped ≡ None }
         requires short { length text.items ≤ 1048576 }
@@ -155,7 +173,8 @@ impl<R: Source> ScoreReader<R> {
         ensures told { result ≢ Ok Step.More }
         ensures not_read { result ≢ Err ReadError.Read }
     {
-        let record = match Record::parse(self.alloc, text) {
+        let buffer = mem::replace(&mut self.spare, Vec::new(self.alloc));
+        let record = match Record::parse_into(buffer, text) {
             Ok(record) => record,
             Err(fault) => return self.refuse(record_rule(fault)),
         };
@@ -180,6 +199,7 @@ impl<R: Source> ScoreReader<R> {
     ///
     /// # Errors
     /// A failed read, and want of memory, which each later poll answers again.
+    #[inline(never)]
     pub fn poll(&mut self) -> Result<Step, ReadError>
         // What is given depends on the bytes read so far alone, however the input goes on.
         ensures gives { self.old.stopped ≡ None → GivesNext self.old result self.new }

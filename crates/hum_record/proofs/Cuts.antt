@@ -1,68 +1,135 @@
--- One pass over the tokens of a text.
-use Rattle.std.proofs.Common.{◌≡◌, ℕ, ◌+◌, ◌<◌, Bool, true, false, ◌||◌, not, List, [], ◌∷◌, ◌++◌, length, take, drop, refl, sym, ap, ◌∙◌, arith, length-drop, length-take-le}
+-- The tabs of a text, and where its tokens end.
+use Rattle.std.proofs.Common.{◌≡◌, ◌≢◌, ◌∙◌, refl, sym, ap, ℕ, ◌+◌, ◌<◌, ◌≤◌, Bool, true, false, not, ◌||◌, List, [], ◌∷◌, ◌++◌}
+use Rattle.std.proofs.Common.{length, take, get_or, set, inl, inr, arith, append_assoc, length-append, length-take-le, add-one}
 use Rattle.std.specs.Prelude.{◌==◌}
-use Rattle.std.specs.List.{list_any}
-use Rattle.std.proofs.lemmas.Bool.{cond-true, cond-false, ne_eqb}
-use Rattle.std.proofs.lemmas.List.{append-nil}
+use Rattle.std.specs.List.{list_any, onto_first}
+use Rattle.std.proofs.lemmas.Bool.Decides.{eqb_tells}
+use Rattle.std.proofs.lemmas.List.Folds.{list_any-append}
+use Rattle.std.proofs.lemmas.List.{append-nil, take-set, take_more_set}
+use Rattle.std.proofs.Math.Seq.{take-suc}
+use mir.Val.{bool_byte}
 use Rattle.hum_record.specs.declared.SpinedKind.{SpinedKind}
-use Rattle.hum_record.specs.declared.tokens.Cut.{Cut}
-use Rattle.hum_record.specs.Spelling.{is_comment, is_empty, kind_of_token, same_kind, kind_of_first, parts}
-use Rattle.hum_record.specs.Fields.{ends_from, parts_after}
-use Rattle.hum_record.specs.Cutting.{TellsOf}
-use Rattle.hum_record.proofs.Ends.{ends_more, any_more}
-use Rattle.hum_record.proofs.Parts.{kind_of_parts, same_test}
+use Rattle.hum_record.specs.Spelling.{has_byte, kind_of_token, same_kind, parts}
+use Rattle.hum_record.specs.Fields.{ends_from}
+use Rattle.hum_record.specs.Cutting.{tabs_from}
+use Rattle.hum_record.proofs.Laws.{parts_filled}
 
 -- whether a token is of another kind
 abbrev pub is_other : SpinedKind → List ℕ → Bool
 is_other kind token = not (same_kind (kind_of_token token) kind)
 
--- what was told of the tokens so far agrees with what the rest of the text tells
-pub record SoFar (text rest : List ℕ) (kind : SpinedKind) (start : ℕ) (ends : List ℕ) (empty mixed comment : Bool) : Type 0 where
-  pub place : start + length rest ≡ length text
-  pub all_ends : ends ++ ends_from start (parts rest) ≡ ends_from 0 (parts text)
-  pub any_empty : (empty || list_any is_empty (parts rest)) ≡ list_any is_empty (parts text)
-  pub any_other : (mixed || list_any (is_other kind) (parts rest)) ≡ list_any (is_other kind) (parts text)
-  pub any_comment : (comment || list_any is_comment (parts rest)) ≡ list_any is_comment (parts text)
-
--- the next token, of so many bytes
-pub next_token : (text rest : List ℕ) (kind : SpinedKind) (start : ℕ) (ends : List ℕ) (empty mixed comment : Bool) (len : ℕ)
-    → SoFar text rest kind start ends empty mixed comment → len < length rest → parts rest ≡ take len rest ∷ parts_after len rest
-    → SoFar text (drop (len + 1) rest) kind (start + (len + 1)) (ends ++ (start + len) ∷ []) (empty || is_empty (take len rest)) (mixed || is_other kind (take len rest)) (comment || is_comment (take len rest))
-next_token text rest kind start ends empty mixed comment len so_far below cut =
-    let token = take len rest in
-    let after = drop (len + 1) rest in
-    let size : length token ≡ len = length-take-le len rest (omega arith) in
-    let next : start + len + 1 ≡ start + (len + 1) = omega arith in
-    let later : parts_after len rest ≡ parts after = cond-false _ _ _ (ne_eqb len (length rest) (λ e. omega (arith, e, below))) in
-    let both : parts rest ≡ token ∷ parts after = cut ∙ ap (λ ts. token ∷ ts) later in
-    record {
-      place = omega (arith, so_far.place, length-drop (len + 1) rest, below);
-      all_ends = rw (size, next) at (ends_more ends _ start token (parts after) (parts rest) both so_far.all_ends);
-      any_empty = any_more is_empty empty _ token (parts after) (parts rest) both so_far.any_empty;
-      any_other = any_more (is_other kind) mixed _ token (parts after) (parts rest) both so_far.any_other;
-      any_comment = any_more is_comment comment _ token (parts after) (parts rest) both so_far.any_comment;
-    }
-
 or_false : (b : Bool) → (b || false) ≡ b
 or_false true = refl
 or_false false = refl
 
--- the last token, which ends with the text
-pub last_token : (text rest : List ℕ) (kind : SpinedKind) (start : ℕ) (ends : List ℕ) (empty mixed comment : Bool) (len : ℕ) (cut : Cut)
-    → SoFar text rest kind start ends empty mixed comment → len ≡ length rest → parts rest ≡ take len rest ∷ parts_after len rest → kind ≡ kind_of_token text
-    → cut.ends.items ≡ ends ++ (start + len) ∷ [] → cut.kind ≡ kind → cut.has_empty ≡ (empty || is_empty (take len rest)) → cut.mixes_kinds ≡ (mixed || is_other kind (take len rest)) → cut.has_comment ≡ (comment || is_comment (take len rest))
-    → TellsOf (parts text) cut
-last_token text rest kind start ends empty mixed comment len cut so_far all first shows e k f m c =
-    let size : length (take len rest) ≡ len = length-take-le len rest (omega arith) in
-    let none : parts_after len rest ≡ [] = cond-true _ _ _ (ap (λ n. len == n) (sym all) ∙ same_test len) in
-    let one : parts rest ≡ take len rest ∷ [] = first ∙ ap (λ ts. take len rest ∷ ts) none in
-    let kind_is : kind ≡ kind_of_first (parts text) = shows ∙ kind_of_parts text in
-    let ended : ends ++ (start + length (take len rest)) ∷ [] ≡ ends_from 0 (parts text) = sym (append-nil _) ∙ ends_more ends _ start (take len rest) [] (parts rest) one so_far.all_ends in
-    let others : (mixed || is_other kind (take len rest)) ≡ list_any (is_other kind) (parts text) = sym (or_false _) ∙ any_more (is_other kind) mixed _ (take len rest) [] (parts rest) one so_far.any_other in
-    record {
-      ends = e ∙ (rw size at ended);
-      first = k ∙ kind_is;
-      empty = f ∙ sym (or_false _) ∙ any_more is_empty empty _ (take len rest) [] (parts rest) one so_far.any_empty;
-      mixed = m ∙ others ∙ ap (λ (k : SpinedKind). list_any (is_other k) (parts text)) kind_is;
-      comment = c ∙ sym (or_false _) ∙ any_more is_comment comment _ (take len rest) [] (parts rest) one so_far.any_comment;
-    }
+-- the tabs of two texts, one behind the other
+pub tabs_append : (start : ℕ) (xs ys : List ℕ) → tabs_from start (xs ++ ys) ≡ tabs_from start xs ++ tabs_from (start + length xs) ys
+tabs_append start [] ys = ap (λ (n : ℕ). tabs_from n ys) (omega arith)
+tabs_append start (x ∷ xs) ys =
+    let next : tabs_from (start + 1) (xs ++ ys) ≡ tabs_from (start + 1) xs ++ tabs_from (start + length (x ∷ xs)) ys =
+    tabs_append (start + 1) xs ys ∙ ap (λ (n : ℕ). tabs_from (start + 1) xs ++ tabs_from n ys) (omega arith) in
+    by_test (x == 9) refl next
+  where
+    by_test : (b : Bool) → (x == 9) ≡ b → tabs_from (start + 1) (xs ++ ys) ≡ tabs_from (start + 1) xs ++ tabs_from (start + length (x ∷ xs)) ys
+        → tabs_from start ((x ∷ xs) ++ ys) ≡ tabs_from start (x ∷ xs) ++ tabs_from (start + length (x ∷ xs)) ys
+    by_test true w next = rw w (ap (λ ts. start ∷ ts) next)
+    by_test false w next = rw w next
+
+-- one byte more of a block, whose tabs so far are marked
+pub mark_next : (block marks : List ℕ) (start tabs i : ℕ) → i < length block → tabs < length marks → take tabs marks ≡ tabs_from start (take i block)
+    → take (tabs + bool_byte (get_or block i 0 == 9)) (set marks tabs (start + i)) ≡ tabs_from start (take (i + 1) block)
+mark_next block marks start tabs i below room so_far = by_test (get_or block i 0 == 9) refl
+  where
+    all : tabs_from start (take (i + 1) block) ≡ tabs_from start (take i block) ++ tabs_from (start + i) (get_or block i 0 ∷ [])
+    all =
+        ap (λ (n : ℕ). tabs_from start (take n block)) (add-one i)
+        ∙ ap (tabs_from start) (take-suc block i 0 below)
+        ∙ tabs_append start (take i block) (get_or block i 0 ∷ [])
+        ∙ ap (λ (n : ℕ). tabs_from start (take i block) ++ tabs_from (start + n) (get_or block i 0 ∷ [])) (length-take-le i block (omega arith))
+
+    by_test : (b : Bool) → (get_or block i 0 == 9) ≡ b → take (tabs + bool_byte b) (set marks tabs (start + i)) ≡ tabs_from start (take (i + 1) block)
+    by_test true w =
+        let one : tabs_from (start + i) (get_or block i 0 ∷ []) ≡ (start + i) ∷ [] = rw w refl in
+        take_more_set marks tabs (start + i) room ∙ ap (λ ts. ts ++ (start + i) ∷ []) so_far
+        ∙ sym (all ∙ ap (λ ts. tabs_from start (take i block) ++ ts) one)
+    by_test false w =
+        let none : tabs_from (start + i) (get_or block i 0 ∷ []) ≡ [] = rw w refl in
+        ap (λ (n : ℕ). take n (set marks tabs (start + i))) (omega arith) ∙ take-set marks tabs (start + i) ∙ so_far
+        ∙ sym (all ∙ ap (λ ts. tabs_from start (take i block) ++ ts) none ∙ append-nil _)
+
+pub at_most_one : (tabs i : ℕ) (b : Bool) → tabs ≤ i → tabs + bool_byte b ≤ i + 1
+at_most_one tabs i true h = omega (arith, h)
+at_most_one tabs i false h = omega (arith, h)
+
+-- the same for a carriage return
+pub return_next : (block : List ℕ) (i : ℕ) (so_far : Bool) → i < length block → so_far ≡ has_byte 13 (take i block)
+    → (so_far || (get_or block i 0 == 13)) ≡ has_byte 13 (take (i + 1) block)
+return_next block i so_far below e =
+    ap (λ b. b || (get_or block i 0 == 13)) e
+    ∙ sym (
+    ap (λ (n : ℕ). has_byte 13 (take n block)) (add-one i) ∙ ap (has_byte 13) (take-suc block i 0 below)
+    ∙ list_any-append (λ x. x == 13) (take i block) (get_or block i 0 ∷ [])
+    ∙ ap (λ b. has_byte 13 (take i block) || b) (or_false (get_or block i 0 == 13))
+    )
+
+-- a byte more in front of the first token
+ends_onto : (start x : ℕ) (ts : List (List ℕ)) → ts ≢ [] → ends_from start (onto_first x ts) ≡ ends_from (start + 1) ts
+ends_onto start x [] filled = absurd (filled refl)
+ends_onto start x (t ∷ ts) filled =
+    let same : start + length (x ∷ t) ≡ start + 1 + length t = omega arith in
+    ap (λ (n : ℕ). n ∷ ends_from (n + 1) ts) same
+
+-- A token ends at each tab, and the last one with the text.
+pub ends_tabs : (start : ℕ) (text : List ℕ) → ends_from start (parts text) ≡ tabs_from start text ++ (start + length text) ∷ []
+ends_tabs start [] = refl
+ends_tabs start (x ∷ xs) =
+    let next : ends_from (start + 1) (parts xs) ≡ tabs_from (start + 1) xs ++ (start + length (x ∷ xs)) ∷ [] =
+    ends_tabs (start + 1) xs ∙ ap (λ (n : ℕ). tabs_from (start + 1) xs ++ n ∷ []) (omega arith) in
+    elim (eqb_tells x 9) as (λ _. ends_from start (parts (x ∷ xs)) ≡ tabs_from start (x ∷ xs) ++ (start + length (x ∷ xs)) ∷ []) [
+      | inl w ↦
+          let here : start + 0 ≡ start = omega arith in
+          rw (w.0, here) (ap (λ ts. start ∷ ts) next)
+      | inr w ↦ rw w.0 (ends_onto start x (parts xs) (parts_filled xs) ∙ next)
+    ]
+
+-- What was found in the blocks so far agrees with what stands in the rest of the text.
+pub record SoFar (text rest : List ℕ) (start : ℕ) (ends : List ℕ) (has_return : Bool) : Type 0 where
+  pub place : start + length rest ≡ length text
+  pub tabs : ends ++ tabs_from start rest ≡ tabs_from 0 text
+  pub returns : (has_return || has_byte 13 rest) ≡ has_byte 13 text
+
+or_associates : (a b c : Bool) → ((a || b) || c) ≡ (a || (b || c))
+or_associates true b c = refl
+or_associates false b c = refl
+
+pub nothing_yet : (text : List ℕ) → SoFar text text 0 [] false
+nothing_yet text = record { place = omega arith; tabs = refl; returns = refl }
+
+-- the next block
+pub next_block : (text rest block tail : List ℕ) (start : ℕ) (ends : List ℕ) (has_return : Bool) → SoFar text rest start ends has_return
+    → rest ≡ block ++ tail → SoFar text tail (start + length block) (ends ++ tabs_from start block) (has_return || has_byte 13 block)
+next_block text rest block tail start ends has_return so_far cut = record {
+  place = let size = ap length cut in omega (arith, size, length-append block tail, so_far.place);
+  tabs =
+      append_assoc ends (tabs_from start block) (tabs_from (start + length block) tail)
+      ∙ ap (λ ts. ends ++ ts) (sym (ap (tabs_from start) cut ∙ tabs_append start block tail))
+      ∙ so_far.tabs;
+  returns =
+      or_associates has_return (has_byte 13 block) (has_byte 13 tail)
+      ∙ ap (λ b. has_return || b) (sym (ap (has_byte 13) cut ∙ list_any-append (λ x. x == 13) block tail))
+      ∙ so_far.returns;
+}
+
+-- at the end of the text
+pub all_found : (text rest : List ℕ) (start : ℕ) (ends : List ℕ) (has_return : Bool) → SoFar text rest start ends has_return → rest ≡ []
+    → (has_return ≡ has_byte 13 text) × (ends ++ length text ∷ [] ≡ ends_from 0 (parts text))
+all_found text rest start ends has_return so_far done =
+    let none : (has_return || false) ≡ has_byte 13 text = rw done at so_far.returns in
+    let all : ends ++ [] ≡ tabs_from 0 text = rw done at so_far.tabs in
+    (sym (or_false has_return) ∙ none, ap (λ ts. ts ++ length text ∷ []) (sym (append-nil ends) ∙ all) ∙ ap (λ (n : ℕ). tabs_from 0 text ++ n ∷ []) (omega arith) ∙ sym (ends_tabs 0 text))
+
+-- one token more
+pub any_take : (p : List ℕ → Bool) (ts : List (List ℕ)) (j : ℕ) → j < length ts → list_any p (take (j + 1) ts) ≡ (list_any p (take j ts) || p (get_or ts j []))
+any_take p ts j below =
+    ap (λ (n : ℕ). list_any p (take n ts)) (add-one j) ∙ ap (list_any p) (take-suc ts j [] below)
+    ∙ list_any-append p (take j ts) (get_or ts j [] ∷ []) ∙ ap (λ b. list_any p (take j ts) || b) (or_false (p (get_or ts j [])))

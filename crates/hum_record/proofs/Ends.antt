@@ -1,11 +1,11 @@
 -- Where tokens end in their text.
-use Rattle.std.proofs.Common.{◌≡◌, ◌≢◌, ℕ, zero, suc, ◌+◌, ◌-◌, ◌<◌, ◌≤◌, Bool, true, false, ◌||◌, List, [], ◌∷◌, ◌++◌, Option, None, Some, length, get_or, refl, sym, ap, subst, ◌∙◌, arith, append_assoc, length-append}
+use Rattle.std.proofs.Common.{◌≡◌, ◌≢◌, ℕ, zero, suc, ◌+◌, ◌-◌, ◌<◌, ◌≤◌, Bool, true, false, ◌||◌, List, [], ◌∷◌, ◌++◌, length, get_or, refl, sym, ap, subst, ◌∙◌, arith, append_assoc, length-append}
 use Rattle.std.specs.List.{list_any, join_with_byte}
 use Rattle.std.specs.Prelude.{slice_range}
+use Rattle.std.proofs.lemmas.List.Splits.{join_with_byte-slice_split}
 use Rattle.std.proofs.lemmas.List.{append-nil, drop_at, take_at}
-use Rattle.hum_record.specs.declared.SpinedKind.{SpinedKind}
-use Rattle.hum_record.specs.Row.{Row, tokens_of, width_of, token_at}
-use Rattle.hum_record.specs.Spelling.{parts}
+use Rattle.hum_record.specs.Row.{Row, Comment, Spined, tokens_of, width_of, token_at}
+use Rattle.hum_record.specs.Spelling.{IsTextOf, parts}
 use Rattle.hum_record.specs.Fields.{ends_from, begins_at, row_in, AreFields}
 
 pub length-ends_from : (start : ℕ) (ts : List (List ℕ)) → length (ends_from start ts) ≡ length ts
@@ -65,6 +65,17 @@ begins_same ends (suc j) = refl
 pub token_lies : (text ends : List ℕ) (ts : List (List ℕ)) (j : ℕ) → text ≡ join_with_byte 9 ts → ends ≡ ends_from 0 ts → j < length ts → Lies text (get_or ts j []) (begins_at ends j) (get_or ends j 0)
 token_lies text ends ts j e cut below = rw (← begins_same ends j, cut) (lies_from text [] 0 ts j refl e below)
 
+-- there are as many parts as ends
+pub parts_count : (text ends : List ℕ) → ends ≡ ends_from 0 (parts text) → length ends ≡ length (parts text)
+parts_count text ends cut = ap length cut ∙ length-ends_from 0 (parts text)
+
+-- a part of a text lies in it from where it begins to where it ends
+pub part_lies : (text ends : List ℕ) (j : ℕ) → ends ≡ ends_from 0 (parts text) → j < length ends
+    → Lies text (get_or (parts text) j []) (begins_at ends j) (get_or ends j 0)
+part_lies text ends j cut below =
+    let size = parts_count text ends cut in
+    token_lies text ends (parts text) j (sym (join_with_byte-slice_split 9 text)) cut (omega (arith, size, below))
+
 -- Where one more token ends
 
 joined_cons : (x : List ℕ) (ts : List (List ℕ)) → ts ≢ [] → join_with_byte 9 (x ∷ ts) ≡ x ++ (9 ∷ join_with_byte 9 ts)
@@ -83,13 +94,17 @@ ends_push start (x ∷ ts) t =
 -- Records
 
 -- a token of a record lies in its text from where it begins to where it ends
-pub piece_lies : (kind : Option SpinedKind) (text ends : List ℕ) (row : Row) (j : ℕ) → AreFields kind text ends → row_in kind text ≡ row → j < width_of row → Lies text (token_at row j) (begins_at ends j) (get_or ends j 0)
-piece_lies None text ends row j fields is below = absurd (let n = ap width_of is in omega (arith, n, below))
-piece_lies (Some kind) text ends row j fields is below =
-    let tokens : parts text ≡ tokens_of row = ap tokens_of is in
-    subst (λ (ts : List (List ℕ)). Lies text (get_or ts j []) (begins_at ends j) (get_or ends j 0)) tokens
-    (token_lies text ends (parts text) j fields.lawful.0 fields.cut (let n = ap length tokens in omega (arith, n, below)))
+row_lies : (row : Row) (text ends : List ℕ) (j : ℕ) → IsTextOf row text → ends ≡ ends_from 0 (tokens_of row) → j < width_of row
+    → Lies text (token_at row j) (begins_at ends j) (get_or ends j 0)
+row_lies (Comment comment) text ends j h cut below = absurd (omega (arith, below))
+row_lies (Spined kind tokens) text ends j h cut below = token_lies text ends tokens j h.0 cut below
+
+pub piece_lies : (text ends : List ℕ) (row : Row) (j : ℕ) → AreFields text ends → row_in text ≡ row → j < width_of row
+    → Lies text (token_at row j) (begins_at ends j) (get_or ends j 0)
+piece_lies text ends row j fields is below =
+    row_lies row text ends j (subst (λ (r : Row). IsTextOf r text) is fields.lawful)
+    (fields.cut ∙ ap (λ (r : Row). ends_from 0 (tokens_of r)) is) below
 
 -- a record has as many tokens as ends
-pub width_counts : (kind : Option SpinedKind) (text ends : List ℕ) (row : Row) → AreFields kind text ends → row_in kind text ≡ row → length ends ≡ width_of row
-width_counts kind text ends row fields is = ap length fields.cut ∙ length-ends_from 0 (tokens_of (row_in kind text)) ∙ ap width_of is
+pub width_counts : (text ends : List ℕ) (row : Row) → AreFields text ends → row_in text ≡ row → length ends ≡ width_of row
+width_counts text ends row fields is = ap length fields.cut ∙ length-ends_from 0 (tokens_of (row_in text)) ∙ ap width_of is

@@ -1,8 +1,8 @@
 -- What reading accepts is a record's text, and each record's text is read as that record.
-use Rattle.std.proofs.Common.{◌≡◌, ◌≢◌, ℕ, zero, suc, get_or, ◌<◌, ◌≤◌, Bool, true, false, ◌&&◌, ◌||◌, not, cond, List, [], ◌∷◌, ◌++◌, length, Result, Ok, Err, refl, sym, ap, ◌∙◌, subst, arith, ◌⊎◌, inl, inr, Option, None, Some}
+use Rattle.std.proofs.Common.{◌≡◌, ◌≢◌, ℕ, zero, suc, get_or, ◌<◌, ◌≤◌, Bool, true, false, ◌&&◌, ◌||◌, not, cond, List, [], ◌∷◌, ◌++◌, length, Result, Ok, Err, refl, sym, ap, ◌∙◌, subst, arith, ◌⊎◌, inl, inr}
 use Rattle.std.specs.List.{list_any, All, AllByRecursion, onto_first, join_with_byte}
 use Rattle.std.proofs.lemmas.Bool.Decides.{eqb_tells}
-use Rattle.std.proofs.lemmas.Bool.{or_from, or_parts, not-false, cases_Bool, eqb-true, and_parts, cond-false, ne_eqb, and_right}
+use Rattle.std.proofs.lemmas.Bool.{or_from, or_parts, not-false, cases_Bool, eqb-true, and_parts, cond-true, cond-false, ne_eqb, and_right}
 use Rattle.std.specs.Prelude.{◌==◌}
 use Rattle.std.proofs.lemmas.List.Splits.{join_with_byte-slice_split, slice_split_at, slice_split_none, length-slice_split}
 use Rattle.std.proofs.lemmas.List.Elements.{All-from_recursion}
@@ -11,10 +11,11 @@ use Rattle.hum_record.specs.declared.SpinedKind.{SpinedKind}
 use Rattle.hum_record.specs.declared.SpinedKind.TheVariants.{Local, Interpretation, Values}
 use Rattle.hum_record.specs.declared.RecordFault.{RecordFault}
 use Rattle.hum_record.specs.declared.RecordFault.TheVariants.{S4, S5, S6, S8, L1, Memory}
-use Rattle.hum_record.specs.Row.{Row, Comment, Spined, width_of, token_at, text_of}
+use Rattle.hum_record.specs.Row.{Row, Comment, Spined, width_of, token_at, tokens_of, text_of}
 use Rattle.hum_record.specs.Spelling.{Breaks, has_byte, is_comment, is_empty, kind_of_token, kind_of_first, same_kind, mixes_kinds, kind_of_tokens, parts, IsToken, IsTokenOf, IsTextOf, spined, reading, Gives, Fails}
 use Rattle.std.specs.Prelude.{IfOk, IfErr, MatchResult}
 use Rattle.hum_record.specs.Fields.{row_in, AreFields, ends_from}
+use Rattle.hum_record.proofs.Parts.{kind_of_parts}
 
 -- which way a choice went
 chosen : {A : Type 0} (b : Bool) (x y z : A) → cond b x y ≡ z → ((b ≡ true) × (x ≡ z)) ⊎ ((b ≡ false) × (y ≡ z))
@@ -218,15 +219,36 @@ pub reads_spined : (text : List ℕ) (k : SpinedKind) → has_byte 13 text ≡ f
 reads_spined text k line comment h =
     reads text line comment ∙ ap (λ kind. spined kind (parts text)) h
 
-pub comment_fields : (text : List ℕ) → length text ≤ 1048576 → has_byte 10 text ≡ false → has_byte 13 text ≡ false → is_comment text ≡ true → AreFields None text []
-comment_fields text fits line return comment = record { lawful = (refl, comment, return, line, fits); cut = refl }
+-- what a text is read as is the record of it
+pub row_read : (text : List ℕ) (row : Row) → reading text ≡ Ok row → row_in text ≡ row
+row_read text row h = elim (chosen (has_byte 13 text) _ _ _ h) [
+  | inl w ↦ let z = w.1 in cc
+  | inr w ↦ elim (chosen (is_comment text) _ _ _ w.1) [
+    | inl v ↦ cond-true _ _ _ v.0 ∙ (let z = v.1 in cc)
+    | inr v ↦
+        let s = spined_ok (kind_of_tokens (parts text)) (parts text) row v.1 in
+        let k = kinds_ok (parts text) s.0 s.1 in
+        cond-false _ _ _ v.0 ∙ ap (λ kind. Spined kind (parts text)) (kind_of_parts text ∙ k.3) ∙ s.2
+  ]
+]
 
-pub spined_fields : (text ends : List ℕ) (k : SpinedKind) → length text ≤ 1048576 → has_byte 10 text ≡ false → has_byte 13 text ≡ false → is_comment text ≡ false → kind_of_tokens (parts text) ≡ Ok k → ends ≡ ends_from 0 (parts text) → AreFields (Some k) text ends
-spined_fields text ends k fits line return comment h e =
+-- what it is read as, if it is read as a record
+pub reads_row : (text : List ℕ) (row : Row) → reading text ≡ Ok row → reading text ≡ Ok (row_in text)
+reads_row text row h = h ∙ ap (λ (r : Row). Ok r) (sym (row_read text row h))
+
+pub read_fields : (text ends : List ℕ) (row : Row) → length text ≤ 1048576 → has_byte 10 text ≡ false → reading text ≡ Ok row → ends ≡ ends_from 0 (tokens_of row) → AreFields text ends
+read_fields text ends row fits line h e =
+    let is = row_read text row h in
     record {
-      lawful = found text _ fits line (reads_spined text k return comment h);
-      cut = e;
+      lawful = subst (λ (r : Row). IsTextOf r text) (sym is) (found text row fits line h);
+      cut = e ∙ ap (λ (r : Row). ends_from 0 (tokens_of r)) (sym is);
     }
+
+pub comment_fields : (text : List ℕ) → length text ≤ 1048576 → has_byte 10 text ≡ false → has_byte 13 text ≡ false → is_comment text ≡ true → AreFields text []
+comment_fields text fits line return comment = read_fields text [] (Comment text) fits line (reads_comment text return comment) refl
+
+pub spined_fields : (text ends : List ℕ) (k : SpinedKind) → length text ≤ 1048576 → has_byte 10 text ≡ false → has_byte 13 text ≡ false → is_comment text ≡ false → kind_of_tokens (parts text) ≡ Ok k → ends ≡ ends_from 0 (parts text) → AreFields text ends
+spined_fields text ends k fits line return comment h e = read_fields text ends (Spined k (parts text)) fits line (reads_spined text k return comment h) e
 
 pub gives_found : (r : Result Row RecordFault) (text : List ℕ) → length text ≤ 1048576 → has_byte 10 text ≡ false → Gives r (reading text) → IfOk r (λ row. IsTextOf row text)
 gives_found (Ok row) text fits line h = found text row fits line h
@@ -249,13 +271,13 @@ lawful_at k [] j h below = absurd (omega arith)
 lawful_at k (t ∷ ts) zero h below = h.0
 lawful_at k (t ∷ ts) (suc j) h below = lawful_at k ts j h.1 (omega arith)
 
-text_in : (kind : Option SpinedKind) (text : List ℕ) → IsTextOf (row_in kind text) text → text ≡ text_of (row_in kind text)
-text_in None text h = refl
-text_in (Some kind) text h = h.0
+text_is : (row : Row) (text : List ℕ) → IsTextOf row text → text ≡ text_of row
+text_is (Comment comment) text h = h.0
+text_is (Spined kind tokens) text h = h.0
 
 -- a record's text is read as that record
-pub reads_back : (kind : Option SpinedKind) (text : List ℕ) (row : Row) → row_in kind text ≡ row → IsTextOf (row_in kind text) text → reading (text_of row) ≡ Ok row
-reads_back kind text row is h = ap (λ (r : Row). reading (text_of r)) (sym is) ∙ ap reading (sym (text_in kind text h)) ∙ only text (row_in kind text) h ∙ ap (λ (r : Row). Ok r) is
+pub reads_back : (text : List ℕ) (row : Row) → IsTextOf row text → reading (text_of row) ≡ Ok row
+reads_back text row h = ap reading (sym (text_is row text h)) ∙ only text row h
 
 -- The faults
 
@@ -307,3 +329,17 @@ gives_broken (Err fault) text h = λ other. breaks text fault (told fault (readi
 pub token_lawful : (row : Row) (text : List ℕ) (j : ℕ) → IsTextOf row text → j < width_of row → IsTokenOf row (token_at row j)
 token_lawful (Comment comment) text j h below = absurd (omega arith)
 token_lawful (Spined k ts) text j h below = lawful_at k ts j h.2 below
+
+-- What is answered of tokens, by what was found of them.
+
+pub kinds_empty : (ts : List (List ℕ)) → list_any is_empty ts ≡ true → Err S4 ≡ kind_of_tokens ts
+kinds_empty ts empty = sym (cond-true _ _ _ empty)
+
+pub kinds_mixed : (ts : List (List ℕ)) → list_any is_empty ts ≡ false → mixes_kinds ts ≡ true → Err S5 ≡ kind_of_tokens ts
+kinds_mixed ts empty mixed = sym (cond-false _ _ _ empty ∙ cond-true _ _ _ mixed)
+
+pub kinds_comment : (ts : List (List ℕ)) → list_any is_empty ts ≡ false → mixes_kinds ts ≡ false → (same_kind (kind_of_first ts) Local && list_any is_comment ts) ≡ true → Err S6 ≡ kind_of_tokens ts
+kinds_comment ts empty mixed comment = sym (cond-false _ _ _ empty ∙ cond-false _ _ _ mixed ∙ cond-true _ _ _ comment)
+
+pub kinds_one : (ts : List (List ℕ)) → list_any is_empty ts ≡ false → mixes_kinds ts ≡ false → (same_kind (kind_of_first ts) Local && list_any is_comment ts) ≡ false → Ok (kind_of_first ts) ≡ kind_of_tokens ts
+kinds_one ts empty mixed comment = sym (cond-false _ _ _ empty ∙ cond-false _ _ _ mixed ∙ cond-false _ _ _ comment)

@@ -1,14 +1,19 @@
--- What one pass over a text tells of its tokens.
-use Rattle.std.specs.Prelude.{◌≡◌, ℕ, List}
-use Rattle.std.specs.List.{list_any}
-use Rattle.hum_record.specs.declared.tokens.Cut.{Cut}
-use Rattle.hum_record.specs.Spelling.{is_comment, is_empty, kind_of_first, mixes_kinds}
+-- Where the tokens of a text end.
+use Rattle.std.specs.Prelude.{◌≡◌, ◌==◌, ◌+◌, ℕ, true, false, List, [], ◌∷◌}
+use Rattle.std.specs.Prelude.{Option, None, Some, if◌then◌else◌}
+use Rattle.std.specs.declared.vec.Vec.{Vec}
+use Rattle.std.specs.declared.alloc.Global.{Global}
+use Rattle.hum_record.specs.Spelling.{has_byte, parts}
 use Rattle.hum_record.specs.Fields.{ends_from}
 
--- a cut tells of these tokens
-pub record TellsOf (tokens : List (List ℕ)) (cut : Cut) : Type 0 where
-  pub ends : cut.ends.items ≡ ends_from 0 tokens
-  pub first : cut.kind ≡ kind_of_first tokens
-  pub empty : cut.has_empty ≡ list_any is_empty tokens
-  pub mixed : cut.mixes_kinds ≡ mixes_kinds tokens
-  pub comment : cut.has_comment ≡ list_any is_comment tokens
+-- the places of the tabs in a text whose first byte has this place
+abbrev pub tabs_from : ℕ → List ℕ → List ℕ
+tabs_from start [] = []
+tabs_from start (byte ∷ text) =
+    if byte == 9 then start ∷ tabs_from (start + 1) text else tabs_from (start + 1) text
+
+-- where the tokens of a text end, or none where a carriage return stands in it
+abbrev pub AreEndsOf : List ℕ → Option (Vec ℕ Global) → Type 0
+AreEndsOf text None = has_byte 13 text ≡ true
+AreEndsOf text (Some ends) =
+    (has_byte 13 text ≡ false) × (ends.items ≡ ends_from 0 (parts text))

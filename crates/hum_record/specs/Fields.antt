@@ -1,8 +1,8 @@
 -- What a record's fields stand for.
-use Rattle.std.specs.Prelude.{◌≡◌, ◌==◌, ℕ, zero, suc, ◌+◌, List, [], ◌∷◌, Option, None, Some, length, drop, slice_index, if◌then◌else◌}
-use Rattle.hum_record.specs.declared.SpinedKind.{SpinedKind}
+use Rattle.std.specs.Prelude.{◌≡◌, ◌==◌, ℕ, zero, suc, ◌+◌, List, [], ◌∷◌, length, drop}
+use Rattle.std.specs.Prelude.{slice_index, if◌then◌else◌}
 use Rattle.hum_record.specs.Row.{Row, Comment, Spined, tokens_of}
-use Rattle.hum_record.specs.Spelling.{IsTextOf, parts}
+use Rattle.hum_record.specs.Spelling.{IsTextOf, is_comment, kind_of_token, parts}
 
 -- where each of some tokens ends in their text; the first begins at a place, and a tab follows each
 abbrev pub ends_from : ℕ → List (List ℕ) → List ℕ
@@ -19,12 +19,12 @@ begins_at ends (suc before) = slice_index ends before + 1
 abbrev pub parts_after : ℕ → List ℕ → List (List ℕ)
 parts_after end text = if end == length text then [] else parts (drop (end + 1) text)
 
--- what the kind and the text stand for; a global comment has no kind
-abbrev pub row_in : Option SpinedKind → List ℕ → Row
-row_in None text = Comment text
-row_in (Some kind) text = Spined kind (parts text)
+-- The record of a text: a global comment, or tokens of the kind that the first byte shows.
+abbrev pub row_in : List ℕ → Row
+row_in text =
+    if is_comment text then Comment text else Spined (kind_of_token text) (parts text)
 
 -- the fields of a record: its text, and where its tokens end in it
-pub record AreFields (kind : Option SpinedKind) (text ends : List ℕ) : Type 0 where
-  pub lawful : IsTextOf (row_in kind text) text
-  pub cut : ends ≡ ends_from 0 (tokens_of (row_in kind text))
+pub record AreFields (text ends : List ℕ) : Type 0 where
+  pub lawful : IsTextOf (row_in text) text
+  pub cut : ends ≡ ends_from 0 (tokens_of (row_in text))

@@ -5,9 +5,7 @@ ghost use Rattle.hum_record.specs.Building.{tab_between};
 ghost use Rattle.hum_record.specs.declared.RecordFault.TheVariants.{L1, Memory};
 
 use crate::reading::Record;
-use crate::tokens::Ends;
 use crate::{RecordFault, SpinedKind};
-use smallvec::SmallVec;
 use std::alloc::{AllocError, Global};
 use std::marker::Model;
 
@@ -25,7 +23,7 @@ const FIRST_BYTES: usize = 64;
 pub struct RecordBuilder {
     text: Vec<u8>,
     kind: SpinedKind,
-    ends: Ends,
+    ends: Vec<u32>,
     spent: bool,
 }
 
@@ -52,7 +50,7 @@ impl RecordBuilder {
         RecordBuilder {
             text: Vec::new(alloc),
             kind,
-            ends: SmallVec::new(alloc),
+            ends: Vec::new(alloc),
             spent: false,
         }
     }
@@ -95,13 +93,8 @@ impl RecordBuilder {
         requires sound { self.spent ≡ false }
         ensures { result ≡ Spined self.kind self.tokens }
     {
-        let RecordBuilder {
-            text,
-            kind,
-            ends,
-            spent: _,
-        } = self;
-        Record::of_tokens(text, kind, ends)
+        let RecordBuilder { text, ends, .. } = self;
+        Record::of_tokens(text, ends)
     }
 }
 
@@ -119,7 +112,7 @@ fn has_room(text: &[u8], ends: &[u32], token: &[u8]) -> bool
 }
 
 /// Adds a token behind the others, and a tab before it if there are any.
-fn append(text: &mut Vec<u8>, ends: &mut Ends, token: &[u8]) -> Result<(), AllocError>
+fn append(text: &mut Vec<u8>, ends: &mut Vec<u32>, token: &[u8]) -> Result<(), AllocError>
     requires { length text.old.items + length token.now < 2 ^ 31 }
     ensures text { OnOk result
         (text.new.items ≡ text.old.items ++ (tab_between ends.old.items ++ token.now)) }

@@ -4,10 +4,9 @@ ghost use Rattle.hum_record.specs.Spelling.{IsTokenOf, IsTextOf, has_byte, is_co
 ghost use Rattle.hum_record.specs.Row.{Row, kind_of, row_of, tokens_of, width_of, token_at, text_of};
 ghost use Rattle.hum_record.specs.declared.RecordFault.TheVariants.{Memory};
 
-use crate::tokens::{Cut, Ends, token_at_end};
-use crate::{Kind, RecordFault, SpinedKind};
+use crate::tokens::{ends_of, lawful_kind, token_at_end, token_kind};
+use crate::{Kind, RecordFault};
 use memchr::memchr;
-use smallvec::SmallVec;
 use std::alloc::{AllocError, Global};
 use std::marker::Model;
 
@@ -15,8 +14,7 @@ use std::marker::Model;
 #[derive(Debug, Drop)]
 pub struct Record {
     text: Vec<u8>,
-    spined: Option<SpinedKind>,
-    ends: Ends,
+    ends: Vec<u32>,
 }
 
 impl Model for Record {
@@ -26,15 +24,13 @@ impl Model for Record {
 
     ghost use Rattle.hum_record.specs.Fields.{row_in, AreFields};
 
-    ghost view = { λ r. row_in r.spined r.text.items };
+    ghost view = { λ r. row_in r.text.items };
 
-    ghost invariant = { λ r. AreFields r.spined r.text.items r.ends.items };
+    ghost invariant = { λ r. AreFields r.text.items r.ends.items };
 }
 
 impl Record {
-    ghost use Rattle.hum_record.specs.Row.{Spined};
-    ghost use Rattle.hum_record.specs.Spelling.{parts};
-    ghost use Rattle.hum_record.specs.Fields.{AreFields};
+    ghost use Rattle.hum_record.specs.Fields.{AreFields, row_in};
 
     /// Reads the text of one line, without its line end.
     ///
@@ -58,44 +54,44 @@ impl Record {
         // Which fault it is.
         ensures exact { Gives result (reading text.items) }
     {
-        Self::read(alloc, text)
+        Self::parse_into(Vec::new(alloc), text)
     }
 
-    fn read(alloc: Global, text: Vec<u8>) -> Result<Record, RecordFault>
+    /// Reads a text as [`Record::parse`] does, into a buffer of [`Record::into_buffers`], whatever
+    /// that holds.
+    pub fn parse_into(buffer: Vec<u32>, text: Vec<u8>) -> Result<Record, RecordFault>
         requires at_most { length text.items ≤ 1048576 }
         requires one_line { has_byte 10 text.items ≡ false }
         ensures { Gives result (reading text.items) }
     {
-        if has_return(&text) {
-            return Err(RecordFault::S8);
-        }
+        let mut ends = buffer;
+        ends.clear();
         if is_global(&text) {
-            return Ok(Record {
-                text,
-                spined: None,
-                ends: SmallVec::new(alloc),
-            });
+            if has_return(&text) {
+                return Err(RecordFault::S8);
+            }
+            return Ok(Record { text, ends });
         }
-        let cut = Cut::new(alloc, &text)?;
-        let kind = cut.lawful_kind()?;
-        let Cut { ends, .. } = cut;
-        Ok(Record {
-            text,
-            spined: Some(kind),
-            ends,
-        })
+        let Some(ends) = ends_of(ends, &text)? else {
+            return Err(RecordFault::S8);
+        };
+        lawful_kind(&text, &ends)?;
+        Ok(Record { text, ends })
     }
 
-    /// The record of tokens of a kind, by their text and where each ends in it.
-    pub(crate) fn of_tokens(text: Vec<u8>, kind: SpinedKind, ends: Ends) -> Record
-        requires { AreFields (Some kind) text.items ends.items }
-        ensures { result ≡ Spined kind (parts text.items) }
+    /// The record of a text, by where each token ends in it.
+    pub(crate) fn of_tokens(text: Vec<u8>, ends: Vec<u32>) -> Record
+        requires { AreFields text.items ends.items }
+        ensures { result ≡ row_in text.items }
     {
-        Record {
-            text,
-            spined: Some(kind),
-            ends,
-        }
+        Record { text, ends }
+    }
+
+    /// The buffers of a record that is done with, of its text and of where its tokens end: with
+    /// them the next record needs no memory of its own.
+    pub fn into_buffers(self) -> (Vec<u8>, Vec<u32>) {
+        let Record { text, ends } = self;
+        (text, ends)
     }
 
     /// A second record that is the same.
@@ -103,9 +99,8 @@ impl Record {
         ensures { IfOk result (λ r. r ≡ self.now) }
     {
         Ok(Record {
-            text: self.text.as_slice().to_vec(alloc)?,
-            spined: self.spined,
-            ends: SmallVec::from_slice(alloc, self.ends.as_slice())?,
+            text: self.text.to_vec(alloc)?,
+            ends: self.ends.to_vec(alloc)?,
         })
     }
 
@@ -117,9 +112,10 @@ impl Record {
         ensures shape { self.now ≡ row_of result (text_of self.now) (tokens_of self.now) }
         ensures at_most { length (text_of self.now) ≤ 1048576 }
     {
-        match self.spined {
-            None => Kind::Global,
-            Some(kind) => kind.into(),
+        if is_global(&self.text) {
+            Kind::Global
+        } else {
+            token_kind(&self.text).into()
         }
     }
 
@@ -138,7 +134,7 @@ impl Record {
         ensures token { result.now ≡ token_at self.now j }
         ensures lawful { IsTokenOf self.now result.now }
     {
-        token_at_end(&self.text, self.ends.as_slice(), j)
+        token_at_end(&self.text, &self.ends, j)
     }
 
     /// The whole text: the tokens, a tab between two.

@@ -1,31 +1,22 @@
-//! The cut of a line into tokens, in one pass.
-ghost use Rattle.std.specs.Prelude.{◌≡◌, ◌<◌, ◌≤◌, ℕ, List, ◌∷◌, take, slice_index, slice_range, length, IfOk};
-ghost use Rattle.hum_record.specs.Spelling.{kind_of_token, kind_of_tokens, parts};
-ghost use Rattle.hum_record.specs.Fields.{parts_after, begins_at};
+//! The cut of a line into tokens.
+ghost use Rattle.std.specs.Prelude.{◌≡◌, ◌<◌, ◌≤◌, ◌+◌, ◌^◌, ◌&&◌, [], take, length, IfOk};
+ghost use Rattle.std.specs.Prelude.{slice_index, slice_range};
+ghost use Rattle.std.specs.List.{list_any};
+ghost use Rattle.hum_record.specs.Spelling.{has_byte, kind_of_token, kind_of_tokens, parts};
+ghost use Rattle.hum_record.specs.Spelling.{is_comment, same_kind};
+ghost use Rattle.hum_record.specs.declared.SpinedKind.TheVariants.{Local};
+ghost use Rattle.hum_record.specs.Fields.{begins_at, ends_from};
+ghost use Rattle.hum_record.specs.Cutting.{tabs_from, AreEndsOf};
 
 use crate::{RecordFault, SpinedKind};
-use smallvec::SmallVec;
-use std::alloc::{AllocError, Global};
+use std::alloc::AllocError;
 
-/// Where each token ends in the text, in bytes from its begin. Up to eight take no allocation.
-pub type Ends = SmallVec<u32, 8>;
-
-/// What one pass over a text tells of its tokens.
-#[derive(Drop)]
-pub struct Cut {
-    pub ends: Ends,
-    /// The kind of the first token.
-    pub kind: SpinedKind,
-    pub has_empty: bool,
-    /// Whether some token is of another kind than the first.
-    pub mixes_kinds: bool,
-    /// Whether some token begins with `!!`.
-    pub has_comment: bool,
-}
+/// How many bytes are searched for tabs in one go.
+const BLOCK: usize = 32;
 
 /// The kind that a token's first byte shows.
 #[inline]
-fn token_kind(token: &[u8]) -> SpinedKind
+pub fn token_kind(token: &[u8]) -> SpinedKind
     ensures { result ≡ kind_of_token token.now }
 {
     match token {
@@ -35,74 +26,108 @@ fn token_kind(token: &[u8]) -> SpinedKind
     }
 }
 
-/// The length of a text's first token.
-#[inline]
-fn token_len(text: &[u8]) -> usize
-    ensures within { result ≤ length text.now }
-    ensures first { parts text.now ≡ take result text.now ∷ parts_after result text.now }
-{
-    for (i, byte) in text.iter().enumerate() {
-        if *byte == b'\t' {
-            return i;
-        }
-    }
-    text.len()
+/// What a block of a text has: how many tabs, and whether a carriage return.
+#[derive(Drop)]
+struct Found {
+    tabs: usize,
+    has_return: bool,
 }
 
-impl Cut {
-    ghost use Rattle.hum_record.specs.Cutting.{TellsOf};
+/// Marks the place of each tab in a block of a text that begins at a place.
+///
+/// It doesn't branch at a tab: where a token ends cannot be foretold.
+#[inline]
+fn mark_tabs(block: &[u8], start: u32, marks: &mut [u32]) -> Found
+    requires room { length block.now ≤ length marks.old }
+    requires few { start + length block.now < 2 ^ 32 }
+    ensures within { result.tabs ≤ length marks.new }
+    ensures room { length marks.new ≡ length marks.old }
+    ensures marks { take result.tabs marks.new ≡ tabs_from start block.now }
+    ensures returns { result.has_return ≡ has_byte 13 block.now }
+{
+    let mut tabs = 0;
+    let mut has_return = false;
+    for (i, byte) in block.iter().enumerate() {
+        marks[tabs] = start + i as u32;
+        tabs += (*byte == b'\t') as usize;
+        has_return |= *byte == b'\r';
+    }
+    Found { tabs, has_return }
+}
 
-    /// Cuts a text at its tabs.
-    #[inline]
-    pub fn new(alloc: Global, text: &[u8]) -> Result<Cut, AllocError>
-        requires { length text.now ≤ 1048576 }
-        ensures { IfOk result (λ cut. TellsOf (parts text.now) cut) }
-    {
-        let kind = token_kind(text);
-        let mut ends = SmallVec::new(alloc);
-        let mut has_empty = false;
-        let mut mixes_kinds = false;
-        let mut has_comment = false;
-        let mut start = 0;
-        let mut rest = text;
-        'tokens: loop {
-            let len = token_len(rest);
-            let token = &rest[..len];
-            has_empty |= token.is_empty();
-            mixes_kinds |= token_kind(token) != kind;
-            has_comment |= token.starts_with(b"!!");
-            ends.push((start + len) as u32)?;
-            if len >= rest.len() {
-                return Ok(Cut {
-                    ends,
-                    kind,
-                    has_empty,
-                    mixes_kinds,
-                    has_comment,
-                });
-            }
-            start += len + 1;
-            rest = &rest[len + 1..];
+/// Where each token of a text ends, put into an empty list, or none where a carriage return stands
+/// in the text.
+#[inline]
+pub fn ends_of(list: Vec<u32>, text: &[u8]) -> Result<Option<Vec<u32>>, AllocError>
+    requires at_most { length text.now ≤ 1048576 }
+    requires empty { list.items ≡ [] }
+    ensures { IfOk result (λ ends. AreEndsOf text.now ends) }
+{
+    let mut ends = list;
+    let mut marks = [0u32; BLOCK];
+    let mut has_return = false;
+    let mut start = 0;
+    let mut rest = text;
+    while !rest.is_empty() {
+        let (block, tail) = rest.split_at(rest.len().min(BLOCK));
+        let found = mark_tabs(block, start as u32, &mut marks);
+        ends.extend_from_slice(&marks[..found.tabs])?;
+        has_return |= found.has_return;
+        start += block.len();
+        rest = tail;
+    }
+    if has_return {
+        return Ok(None);
+    }
+    ends.push(text.len() as u32)?;
+    Ok(Some(ends))
+}
+
+/// The one kind of a text's tokens, by where each ends, or the first rule that they break.
+#[inline]
+pub fn lawful_kind(text: &[u8], ends: &[u32]) -> Result<SpinedKind, RecordFault>
+    requires { ends.now ≡ ends_from 0 (parts text.now) }
+    ensures { result ≡ kind_of_tokens (parts text.now) }
+{
+    let kind = token_kind(text);
+    let mut has_empty = false;
+    let mut mixes_kinds = false;
+    for j in 0..ends.len() {
+        let token = token_at_end(text, ends, j);
+        has_empty |= token.is_empty();
+        mixes_kinds |= token_kind(token) != kind;
+    }
+    if has_empty {
+        return Err(RecordFault::S4);
+    }
+    if mixes_kinds {
+        return Err(RecordFault::S5);
+    }
+    if is_local_with_comment(kind, text, ends) {
+        return Err(RecordFault::S6);
+    }
+    Ok(kind)
+}
+
+/// Whether tokens are local comments of which one begins with `!!`.
+fn is_local_with_comment(kind: SpinedKind, text: &[u8], ends: &[u32]) -> bool
+    requires { ends.now ≡ ends_from 0 (parts text.now) }
+    ensures { result ≡ (same_kind kind Local && list_any is_comment (parts text.now)) }
+{
+    kind == SpinedKind::Local && has_comment(text, ends)
+}
+
+/// Whether some token of a text begins with `!!`, by where each token ends.
+fn has_comment(text: &[u8], ends: &[u32]) -> bool
+    requires { ends.now ≡ ends_from 0 (parts text.now) }
+    ensures { result ≡ list_any is_comment (parts text.now) }
+{
+    for j in 0..ends.len() {
+        if token_at_end(text, ends, j).starts_with(b"!!") {
+            return true;
         }
     }
-
-    /// The one kind of the tokens, or the first rule that they break.
-    #[inline]
-    pub fn lawful_kind(&self) -> Result<SpinedKind, RecordFault>
-        ensures { (tokens : List (List ℕ)) → TellsOf tokens self.now →
-            result ≡ kind_of_tokens tokens }
-    {
-        if self.has_empty {
-            return Err(RecordFault::S4);
-        }
-        if self.mixes_kinds {
-            return Err(RecordFault::S5);
-        }
-        if self.kind == SpinedKind::Local && self.has_comment {
-            return Err(RecordFault::S6);
-        }
-        Ok(self.kind)
-    }
+    false
 }
 
 /// The token `j` of a text, by where each token ends: it begins past the tab behind the one before.

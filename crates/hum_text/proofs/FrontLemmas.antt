@@ -1,9 +1,9 @@
 -- The lines that were given stand before the first fault.
-use Rattle.std.proofs.Common.{◌≡◌, ℕ, suc, ◌+◌, ◌<◌, ◌≤◌, List, [], ◌∷◌, ◌++◌, length, refl, ap, sym, ◌∙◌, subst, arith, Option, None, Some, append_assoc, length-append, inl, inr, ◌⊎◌}
+use Rattle.std.proofs.Common.{◌≡◌, ℕ, suc, ◌+◌, ◌<◌, List, [], ◌∷◌, ◌++◌, length, ap, sym, ◌∙◌, subst, arith, Option, None, Some, append_assoc, length-append, inl, inr, ◌⊎◌}
 use Rattle.hum_text.specs.declared.Limits.{Limits}
 use Rattle.hum_text.specs.declared.TextFault.{TextFault}
-use Rattle.hum_text.specs.Text.{onto, pieces, rule_at, rule_at_end, or_later, fault_after, fault_of, IsAtStart}
-use Rattle.hum_text.specs.Reading.{Reader, Stands, Holds}
+use Rattle.hum_text.specs.Text.{pieces, rule_at, rule_at_end, or_later, fault_after, fault_of, IsAtStart}
+use Rattle.hum_text.specs.Reading.{Reader, Holds}
 use Rattle.hum_text.proofs.PieceLemmas.{pieces-append, pieces-some}
 use Rattle.hum_text.proofs.TextLemmas.{start-end}
 

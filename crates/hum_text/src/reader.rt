@@ -13,6 +13,7 @@ use crate::rules::{first_fault, strip_cr};
 use crate::{Limits, TextFault};
 use std::alloc::Global;
 use std::marker::Model;
+use std::mem;
 
 /// What a poll gives.
 #[derive(Debug, Drop)]
@@ -36,6 +37,8 @@ pub struct LineReader<R> {
     taken: u64,
     ended: bool,
     fault: Option<TextFault>,
+    // what the next line is put into
+    spare: Vec<u8>,
 }
 
 impl<R> Model for LineReader<R> {
@@ -85,7 +88,15 @@ impl<R: Source> LineReader<R> {
             taken: 0,
             ended: false,
             fault: None,
+            spare: Vec::new(alloc),
         }
+    }
+
+    /// Takes a line that was done with, so that the next one needs no memory of its own.
+    pub fn reuse(&mut self, line: Vec<u8>)
+        ensures { self.new ≡ self.old }
+    {
+        self.spare = line;
     }
 
     /// How many lines were given.
@@ -123,8 +134,10 @@ impl<R: Source> LineReader<R> {
         ensures err { OnErr result (self.new ≡ record self.old { fault = Some TextFault.Memory }) }
         ensures memory { OnErr result (result ≡ Err TextFault.Memory) }
     {
-        match Vec::from_slice(self.alloc, strip_cr(&self.block.as_slice()[..len])) {
-            Ok(line) => {
+        let mut line = mem::replace(&mut self.spare, Vec::new(self.alloc));
+        line.clear();
+        match line.extend_from_slice(strip_cr(&self.block.as_slice()[..len])) {
+            Ok(()) => {
                 self.block.consume(size);
                 self.given += 1;
                 self.taken += size as u64;

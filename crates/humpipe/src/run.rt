@@ -30,23 +30,28 @@ pub enum Failure {
 }
 
 /// Writes a record that was taken.
-fn write_out<W: Sink>(sink: &mut W, row: Record) -> Result<(), Failure>
+fn write_out<W: Sink>(sink: &mut W, row: &Record) -> Result<(), Failure>
     ensures ok { OnOk result (Appends (W.contents sink.old) (W.contents sink.new)
-        (text_of row ++ 10 ∷ [])) }
+        (text_of row.now ++ 10 ∷ [])) }
     ensures err { OnErr result (WroteFront (W.contents sink.old) (W.contents sink.new)
-        (text_of row ++ 10 ∷ [])) }
+        (text_of row.now ++ 10 ∷ [])) }
     ensures write { OnErr result (result ≡ Err Failure.Write) }
     ensures failed { OnErr result (W.failed sink.new ≡ true) }
 {
-    match write_record(sink, &row) {
+    match write_record(sink, row) {
         Ok(()) => Ok(()),
         Err(_) => Err(Failure::Write),
     }
 }
 
-/// Writes what the stage has settled.
-fn give<S: Stage, W: Sink>(stage: &mut S, sink: &mut W) -> Result<(), Failure>
+/// Writes what the stage has settled, and lets the reader use it for the records to come.
+fn give<R: Source, S: Stage, W: Sink>(
+    source: &mut ScoreReader<R>,
+    stage: &mut S,
+    sink: &mut W,
+) -> Result<(), Failure>
     requires { (t : Moment) × S.stands stage.old t }
+    ensures source { source.new ≡ source.old }
     ensures ok { OnOk result (GaveAll (S.stands stage.old) (S.stands stage.new)
         (W.contents sink.old) (W.contents sink.new)) }
     ensures err { OnErr result (GaveFront (S.stands stage.old)
@@ -57,7 +62,10 @@ fn give<S: Stage, W: Sink>(stage: &mut S, sink: &mut W) -> Result<(), Failure>
     loop {
         match stage.take() {
             Ok(None) => return Ok(()),
-            Ok(Some(row)) => write_out(sink, row)?,
+            Ok(Some(row)) => {
+                write_out(sink, &row)?;
+                source.reuse(row);
+            }
             Err(_) => return Err(Failure::Memory),
         }
     }
@@ -124,7 +132,7 @@ pub fn run<R: Source, S: Stage, W: Sink>(
         match source.poll() {
             Ok(Step::Record(row)) => {
                 put(stage, row)?;
-                give(stage, sink)?;
+                give(source, stage, sink)?;
             }
             Ok(Step::More) => {}
             Ok(Step::End(end)) => return finish(stage, sink, end),

@@ -34,16 +34,16 @@ give-requires g c = (
 
 pub loop-row-preserved-in-Continue-branch-2 : goal.loop-row-preserved-in-Continue-branch-2
 loop-row-preserved-in-Continue-branch-2 g c =
-    run-record _ _ _ _ _ _ _ _ _ c.in-Ok-Record.row c.loop-row.invariant c.poll.ensures.unread
+    rw c.in_ok-give-in-Ok-Record.ensures.source (run-record _ _ _ _ _ _ _ _ _ c.in-Ok-Record.row c.loop-row.invariant c.poll.ensures.unread
     (record { each = λ all rows rest has may. rw c.in-Ok-Record.field-0-is at (c.in-Ok-Record.ensures.gives c.loop-row.invariant.going all rows rest has may) })
     _ _ (g.S.Stage.stands c.put.new.stage) (g.S.Stage.stands c.give.new.stage) (λ m s. g.met.S.Stage.lawful _ _ s) c.in_ok-put-in-Ok-Record.ensures.ok c.in_ok-give-in-Ok-Record.ensures.ok
-    c.poll.ensures.consumes c.poll.ensures.stage (rw c.in-Ok-Record.field-0-is at c.in-Ok-Record.ensures.stops) c.poll.ensures.at_end (λ e. ap g.R.Source.remaining e)
+    c.poll.ensures.consumes c.poll.ensures.stage (rw c.in-Ok-Record.field-0-is at c.in-Ok-Record.ensures.stops) c.poll.ensures.at_end (λ e. ap g.R.Source.remaining e))
 
 pub returns-in_err-give-in-Ok-Record-clause-front : goal.returns-in_err-give-in-Ok-Record-clause-front
 returns-in_err-give-in-Ok-Record-clause-front g c =
-    stopped-record _ _ _ (g.S.Stage.stands c.put.new.stage) _ _ _ _ _ _ _ _ _ c.in-Ok-Record.row c.loop-row.invariant c.poll.ensures.unread
+    rw c.in_err-give-in-Ok-Record.ensures.source (stopped-record _ _ _ (g.S.Stage.stands c.put.new.stage) _ _ _ _ _ _ _ _ _ c.in-Ok-Record.row c.loop-row.invariant c.poll.ensures.unread
     (record { each = λ all rows rest has may. rw c.in-Ok-Record.field-0-is at (c.in-Ok-Record.ensures.gives c.loop-row.invariant.going all rows rest has may) })
-    c.poll.ensures.consumes (λ m s. g.met.S.Stage.lawful _ _ s) c.in_ok-put-in-Ok-Record.ensures.ok c.in_err-give-in-Ok-Record.ensures.err
+    c.poll.ensures.consumes (λ m s. g.met.S.Stage.lawful _ _ s) c.in_ok-put-in-Ok-Record.ensures.ok c.in_err-give-in-Ok-Record.ensures.err)
 
 pub finish-requires : goal.finish-requires
 finish-requires g c =

@@ -1,15 +1,21 @@
-use Rattle.std.proofs.Common.{◌∙◌, sym, ap}
+use Rattle.std.proofs.Common.{◌≡◌, ◌≢◌, ◌∙◌, [], sym, ap, false}
 use Rattle.hum_record.specs.Row.{Spined}
-use Rattle.hum_record.specs.Building.{Draft}
+use Rattle.hum_record.specs.Building.{Draft, tokens_in}
 use Rattle.hum_record.proofs.Drafts.{draft_fields, draft_row}
 use Rattle.hum_record.proofs.building.RecordBuilder.finish.Goals as goal
 
 pub of_tokens-requires : goal.of_tokens-requires
 of_tokens-requires c =
-    draft_fields c.self.inside.kind c.self.inside.text.items c.self.inside.ends.items (c.self.invariant (ap (λ d. d.spent) c.self.view_is ∙ c.requires.sound)) (λ e. c.requires.filled (sym (ap (λ d. d.tokens) c.self.view_is) ∙ e))
+    let inside = c.self.inside in
+    let sound : inside.spent ≡ false = ap (λ d. d.spent) c.self.view_is ∙ c.requires.sound in
+    let filled : tokens_in inside.text.items inside.ends.items ≢ [] = λ e. c.requires.filled (sym (ap (λ d. d.tokens) c.self.view_is) ∙ e) in
+    draft_fields inside.kind inside.text.items inside.ends.items (c.self.invariant sound) filled
 
 pub returns : goal.returns
 returns c =
+    let inside = c.self.inside in
+    let sound : inside.spent ≡ false = ap (λ d. d.spent) c.self.view_is ∙ c.requires.sound in
+    let filled : tokens_in inside.text.items inside.ends.items ≢ [] = λ e. c.requires.filled (sym (ap (λ d. d.tokens) c.self.view_is) ∙ e) in
     c.of_tokens.ensures
-    ∙ draft_row c.self.inside.kind c.self.inside.text.items c.self.inside.ends.items (λ e. c.requires.filled (sym (ap (λ d. d.tokens) c.self.view_is) ∙ e))
+    ∙ draft_row inside.kind inside.text.items inside.ends.items (c.self.invariant sound) filled
     ∙ ap (λ (d : Draft). Spined d.kind d.tokens) c.self.view_is

@@ -8,7 +8,7 @@ use Rattle.hum_record.proofs.building.RecordBuilder.push.Goals as goal
 pub returns-then-not-has_room-clause-refused : goal.returns-then-not-has_room-clause-refused
 returns-then-not-has_room-clause-refused c h =
     let inside = c.self.inside in
-    let room = rw (c.deref.ensures.value, c.deref-2.ensures) at c.has_room.ensures in
+    let room = rw (c.deref.ensures.value, c.deref-2.ensures.value) at c.has_room.ensures in
     let draft = c.self.invariant c.if-self.false in
     let len = draft_length inside.kind inside.text.items inside.ends.items c.args.token.now draft in
     let over : 1048576 < (length inside.text.items + length (tab_between inside.ends.items) + length c.args.token.now) = leb-false _ _ (sym room ∙ c.if-not-has_room.true) in
@@ -17,7 +17,7 @@ returns-then-not-has_room-clause-refused c h =
 pub invariant_of-self : goal.invariant_of-self
 invariant_of-self c sound =
     let inside = c.self.inside in
-    let room = rw (c.deref.ensures.value, c.deref-2.ensures) at c.has_room.ensures in
+    let room = rw (c.deref.ensures.value, c.deref-2.ensures.value) at c.has_room.ensures in
     let under : (length inside.text.items + length (tab_between inside.ends.items) + length c.args.token.now) ≤ 1048576 = leb-true _ _ (sym room ∙ c.if-not-has_room.false) in
     let is : IsToken inside.kind c.args.token.now = subst (λ (d : Draft). IsToken d.kind c.args.token.now) (sym c.self.view_is) c.requires in
     rw (c.in-Ok.ensures.ends, c.in-Ok.ensures.text) (draft_more inside.kind inside.text.items inside.ends.items c.args.token.now (c.self.invariant sound) is under)
@@ -34,7 +34,7 @@ returns-in-Ok-clause-pushed c =
 pub returns-in-Ok-clause-fits : goal.returns-in-Ok-clause-fits
 returns-in-Ok-clause-fits c =
     let inside = c.self.inside in
-    let room = rw (c.deref.ensures.value, c.deref-2.ensures) at c.has_room.ensures in
+    let room = rw (c.deref.ensures.value, c.deref-2.ensures.value) at c.has_room.ensures in
     let draft = c.self.invariant c.if-self.false in
     let len = draft_length inside.kind inside.text.items inside.ends.items c.args.token.now draft in
     let under : (length inside.text.items + length (tab_between inside.ends.items) + length c.args.token.now) ≤ 1048576 = leb-true _ _ (sym room ∙ c.if-not-has_room.false) in

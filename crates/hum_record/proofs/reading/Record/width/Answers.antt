@@ -4,5 +4,6 @@ use Rattle.hum_record.proofs.reading.Record.width.Goals as goal
 
 pub returns : goal.returns
 returns c =
-    c.len.ensures.value
-    ∙ width_counts c.self.inside.spined c.self.inside.text.items c.self.inside.ends.items c.args.self.now c.self.invariant c.self.view_is
+    c.len.ensures
+    ∙ c.self.inside.ends.ok.0
+    ∙ width_counts c.self.inside.text.items c.self.inside.ends.items c.args.self.now c.self.invariant c.self.view_is

@@ -1,4 +1,4 @@
-use Rattle.std.proofs.Common.{◌≡◌, ◌+◌, ◌<◌, length, take, arith}
+use Rattle.std.proofs.Common.{◌+◌, ◌<◌, length, take, arith}
 use Rattle.hum_text.proofs.ReadingLemmas.{gives-line, gives-fault, found-fault, first-free, whole-given}
 use Rattle.hum_text.specs.Text.{IsLawful}
 use Rattle.hum_text.proofs.LimitLemmas.{whole-short, whole-free}
