@@ -1,0 +1,2 @@
+//! The command extract: chosen columns.
+#![tactic(auto)]
