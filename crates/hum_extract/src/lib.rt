@@ -1,2 +1,6 @@
 //! The command extract: chosen columns.
 #![tactic(auto)]
+
+mod choice;
+
+pub use choice::{Choice, Field, FieldRange};
