@@ -1,11 +1,12 @@
 -- What is remembered of the records so far.
-use Rattle.std.specs.Prelude.{◌≡◌, Bool, true, false, List, map, slice_index_or, Result, Option, None, Some}
-use Rattle.hum_record.specs.Row.{Row}
+use Rattle.std.specs.Prelude.{◌≡◌, Bool, false, List, [], ◌∷◌, length, map, slice_index_or, Result}
+use Rattle.hum_record.specs.Row.{Row, Comment, Spined}
 use Rattle.hum_path.specs.declared.moved.Move.{Move}
 use Rattle.hum_path.specs.Spines.{Path, source}
 use Rattle.hum_path.specs.Score.{path_after}
 use Rattle.hum_stage.specs.declared.faults.Rule.{Rule}
-use Rattle.hum_extract.specs.Choice.{Choice, flags}
+use Rattle.hum_spread.specs.Spread.{filled}
+use Rattle.hum_extract.specs.Choice.{Choice, flags, chosen}
 use Rattle.hum_extract.specs.Extract.{extract}
 
 -- for each column that comes by a move whether it is chosen, given the same of those before
@@ -13,8 +14,18 @@ abbrev pub moved : List Bool → List Move → List Bool
 moved flags moves = map (λ move. slice_index_or flags (source move) false) moves
 
 -- a memory of spines and of what is chosen of them stands for these records
-pub record Follows (choice : Choice) (path : Path) (marks : List Bool)
+pub record Follows (choice : Choice) (path : Path) (each : List Bool)
     (decide : List Row → Row → Result (List Row) Rule) (past : List Row) : Type 0 where
   pub command : decide ≡ extract choice
   pub spines : path ≡ path_after past
-  pub marks : marks ≡ flags choice past
+  pub marks : each ≡ flags choice past
+
+-- the marks of a spined record's columns
+abbrev pub AsWide : List Bool → Row → Type 0
+AsWide flags (Comment text) = Unit {0}
+AsWide flags (Spined kind tokens) = length flags ≡ length tokens
+
+-- what is left of a record with the chosen tokens alone, if there are any
+abbrev pub kept : List Bool → Row → List Row
+kept flags (Comment text) = Comment text ∷ []
+kept flags (Spined kind tokens) = filled kind (chosen flags tokens ∷ [])

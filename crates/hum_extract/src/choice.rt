@@ -8,6 +8,7 @@ ghost use Rattle.std.specs.Str.{bytes_eq};
 ghost use Rattle.hum_path.specs.Spines.{texts};
 ghost use Rattle.hum_extract.specs.Written.{field_of, range_of, choice_of};
 
+use crate::marks::has_chosen;
 use hum_record::Record;
 use std::alloc::{AllocError, Global};
 
@@ -87,17 +88,6 @@ fn some_is(names: &[Vec<u8>], name: &[u8]) -> bool
 {
     for other in names {
         if name == other.as_slice() {
-            return true;
-        }
-    }
-    false
-}
-
-fn has_chosen(marks: &[bool]) -> bool
-    ensures { result ≡ list_any (λ b. b) marks.now }
-{
-    for mark in marks {
-        if *mark {
             return true;
         }
     }

@@ -2,5 +2,6 @@
 #![tactic(auto)]
 
 mod choice;
+mod marks;
 
 pub use choice::{Choice, Field, FieldRange};
