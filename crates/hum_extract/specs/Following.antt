@@ -1,10 +1,12 @@
 -- What is remembered of the records so far.
-use Rattle.std.specs.Prelude.{◌≡◌, Bool, false, List, [], ◌∷◌, length, map, slice_index_or, Result}
+use Rattle.std.specs.Prelude.{◌≡◌, ℕ, Bool, false, List, [], ◌∷◌, length, map, slice_index_or}
+use Rattle.std.specs.Prelude.{Option, None, Some, Result, Ok, Err}
 use Rattle.hum_record.specs.Row.{Row, Comment, Spined}
 use Rattle.hum_path.specs.declared.moved.Move.{Move}
 use Rattle.hum_path.specs.Spines.{Path, source}
 use Rattle.hum_path.specs.Score.{path_after}
 use Rattle.hum_stage.specs.declared.faults.Rule.{Rule}
+use Rattle.hum_stage.specs.Decided.{in_room}
 use Rattle.hum_spread.specs.Spread.{filled}
 use Rattle.hum_extract.specs.Choice.{Choice, flags, chosen}
 use Rattle.hum_extract.specs.Extract.{extract}
@@ -29,3 +31,8 @@ AsWide flags (Spined kind tokens) = length flags ≡ length tokens
 abbrev pub kept : List Bool → Row → List Row
 kept flags (Comment text) = Comment text ∷ []
 kept flags (Spined kind tokens) = filled kind (chosen flags tokens ∷ [])
+
+-- What is answered of one record: the records that it becomes, or the rule by which it is refused.
+abbrev pub Answers : Result (List Row) Rule → ℕ → List Row → Option Rule → Type 0
+Answers decided room rows None = decided ≡ Ok rows
+Answers decided room rows (Some rule) = in_room room decided ≡ Err rule

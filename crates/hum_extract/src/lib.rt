@@ -2,6 +2,7 @@
 #![tactic(auto)]
 
 mod choice;
+mod columns;
 mod marks;
 
 pub use choice::{Choice, Field, FieldRange};

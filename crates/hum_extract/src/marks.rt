@@ -1,12 +1,14 @@
 //! Which columns are chosen.
-ghost use Rattle.std.specs.Prelude.{◌≡◌, ◌≢◌, true, ◌++◌, ◌∷◌, [], length, IfOk, OnOk, ◌≤◌};
+ghost use Rattle.std.specs.Prelude.{◌≡◌, ◌≢◌, true, false, slice_index_or, ◌++◌, ◌∷◌, [], length, IfOk, OnOk, ◌≤◌};
 ghost use Rattle.std.specs.List.{list_any, list_all};
 ghost use Rattle.hum_record.specs.Row.{Spined, as_kind, kind_of, tokens_of, width_of};
 ghost use Rattle.hum_record.specs.Building.{spelled};
 ghost use Rattle.hum_spread.specs.Spread.{filled};
 ghost use Rattle.hum_extract.specs.Choice.{chosen};
-ghost use Rattle.hum_extract.specs.Following.{AsWide, kept};
+ghost use Rattle.hum_extract.specs.Following.{AsWide, kept, moved};
+ghost use Rattle.hum_path.specs.Spines.{source};
 
+use hum_path::{Move, Moves};
 use hum_record::{Kind, Record, RecordBuilder, SpinedKind};
 use hum_spread::push_fitting;
 use std::alloc::{AllocError, Global};
@@ -55,6 +57,17 @@ fn all_chosen(marks: &[bool]) -> bool
         }
     }
     true
+}
+
+/// Whether a column that comes by a move is chosen.
+fn mark_at(marks: &[bool], from: Move) -> bool
+    ensures { result ≡ slice_index_or marks.now (source from) false }
+{
+    match from {
+        Move::Same(j) | Move::Left(j) | Move::Right(j) | Move::Join(j, _) | Move::Added(j) => {
+            (j as usize) < marks.len() && marks[j as usize]
+        }
+    }
 }
 
 /// The record of the chosen tokens of a record.
@@ -135,5 +148,16 @@ impl Marks {
             Kind::Interpretation => self.keep_spined(alloc, SpinedKind::Interpretation, row, out),
             Kind::Values => self.keep_spined(alloc, SpinedKind::Values, row, out),
         }
+    }
+
+    /// The marks of the columns that come of these by moves.
+    pub fn moved(&self, alloc: Global, found: &Moves) -> Result<Marks, AllocError>
+        ensures { IfOk result (λ marks. marks ≡ moved self.now found.now) }
+    {
+        let mut each = Vec::new(alloc);
+        for i in 0..found.len() {
+            each.push(mark_at(&self.each, found.get(i)))?;
+        }
+        Ok(Marks::new(each))
     }
 }
