@@ -11,6 +11,7 @@ ghost use Rattle.hum_record.specs.Spelling.{IsToken};
 ghost use Rattle.hum_record.specs.Building.{spelled};
 
 mod pieces;
+mod writing;
 
 use hum_record::{RecordBuilder, RecordFault};
 pub use pieces::Piece;
