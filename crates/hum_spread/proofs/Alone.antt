@@ -1,8 +1,8 @@
 -- Pieces that are written one join after another.
 use Rattle.std.proofs.Common.{◌≡◌, ◌≢◌, ◌∙◌, refl, sym, ap, ℕ, zero, suc, ◌+◌, ◌-◌, ◌<◌, ◌≤◌, Bool, true, false, cond, subst}
-use Rattle.std.proofs.Common.{List, [], ◌∷◌, ◌++◌, length, map, drop, get_or, arith, add-one, append_assoc, append-nil, drop-cons, inl, inr, not, ◌&&◌, ◌||◌}
+use Rattle.std.proofs.Common.{List, [], ◌∷◌, ◌++◌, length, map, drop, get_or, arith, add-one, append_assoc, append-nil, drop-cons, inl, inr, not, ◌&&◌, ◌||◌, ◌==◌}
 use Rattle.std.specs.List.{AllByRecursion}
-use Rattle.std.proofs.lemmas.Bool.{cases_Bool}
+use Rattle.std.proofs.lemmas.Bool.{cases_Bool, false≢true}
 use Rattle.std.proofs.lemmas.List.{drop_all, drop-drop}
 use lib.Chars.{codes}
 use Rattle.hum_record.specs.declared.SpinedKind.{SpinedKind}
@@ -269,3 +269,56 @@ passed_all first front ps i h same =
     ∙ sym (done_behind front [])
     ∙ ap first_done (ap (λ (rest : List Piece). behind front rest) (sym all) ∙ same)
     ∙ done_behind first ps
+
+one_more : (n : ℕ) → 1 ≤ n → suc (before_last n) ≡ n
+one_more zero h = absurd (omega arith)
+one_more (suc n) h = refl
+
+-- so many records have no room
+pub too_many : (room n : ℕ) (ps : List Piece) → ps ≢ [] → 1 ≤ n → spread ps ≡ one_by_one (before_last n) ps → room < n
+    → room < length (filled Interpretation (spread ps))
+too_many room n ps some h is over = rw (is, filled_count (before_last n) ps some, one_more n h) over
+
+-- one record more
+
+pub alone_fits_behind : (front : List (List ℕ)) (ps : List Piece) → Fit (behind front ps)
+    → length (spelled (nulls (length front) ++ first_alone ps)) ≤ 1048576
+alone_fits_behind front ps fit =
+    subst (λ (ts : List (List ℕ)). length (spelled ts) ≤ 1048576) (alone_behind front ps) (alone_fits (behind front ps) fit)
+
+pub alone_filled_behind : (front : List (List ℕ)) (ps : List Piece) → behind front ps ≢ []
+    → nulls (length front) ++ first_alone ps ≢ []
+alone_filled_behind front ps some none = alone_filled (behind front ps) some (alone_behind front ps ∙ none)
+
+pub left_behind : (front front' : List (List ℕ)) (ps : List Piece) (start n : ℕ)
+    → behind front' (drop n (drop start ps)) ≡ behind front (first_done (drop start ps))
+    → behind front' (drop (start + n) ps) ≡ first_done (behind front (drop start ps))
+left_behind front front' ps start n h =
+    ap (λ (rest : List Piece). behind front' rest) (sym (drop-drop n start ps)) ∙ h ∙ sym (done_behind front (drop start ps))
+
+pub one_written : (out : List Row) (n i : ℕ) (front : List (List ℕ)) (ps left : List Piece) → i < n → behind front ps ≢ []
+    → left ≡ first_done (behind front ps)
+    → (out ++ Spined Interpretation (nulls (length front) ++ first_alone ps) ∷ []) ++ filled Interpretation (one_by_one (n - (i + 1)) left)
+    ≡ out ++ filled Interpretation (one_by_one (n - i) (behind front ps))
+one_written out n i front ps left h some is =
+    let e : n - i ≡ suc (n - (i + 1)) = omega arith in
+    let all = behind front ps in
+    let next = filled_more Interpretation (first_alone all) (one_by_one (n - (i + 1)) (first_done all)) (alone_filled all some) in
+    rw (append_assoc, ← alone_behind front ps, is, e, next) refl
+
+pub last_written : (out : List Row) (n i : ℕ) (front : List (List ℕ)) (ps : List Piece) → n ≤ i → behind front ps ≢ []
+    → out ++ Spined Interpretation (front ++ tokens_in ps) ∷ [] ≡ out ++ filled Interpretation (one_by_one (n - i) (behind front ps))
+last_written out n i front ps h some =
+    let e : n - i ≡ 0 = omega arith in
+    rw (e, filled_more Interpretation (tokens_in (behind front ps)) [] (tokens_filled (behind front ps) some), tokens_behind front ps) refl
+
+pub all_fits_behind : (front : List (List ℕ)) (ps : List Piece) → Fit (behind front ps) → length (spelled (front ++ tokens_in ps)) ≤ 1048576
+all_fits_behind front ps fit = subst (λ (ts : List (List ℕ)). length (spelled ts) ≤ 1048576) (tokens_behind front ps) fit.at_most
+
+pub all_filled_behind : (front : List (List ℕ)) (ps : List Piece) → behind front ps ≢ [] → front ++ tokens_in ps ≢ []
+all_filled_behind front ps some none = tokens_filled (behind front ps) some (tokens_behind front ps ∙ none)
+
+pub not_empty : {X : Type 0} (xs : List X) (b : Bool) → b ≡ length xs == 0 → b ≡ false → xs ≢ []
+not_empty xs b is off none =
+    let zero_length : length xs ≡ 0 = ap length none in
+    absurd (false≢true (sym off ∙ is ∙ ap (λ n. n == 0) zero_length))
