@@ -3,6 +3,7 @@
 
 mod choice;
 mod columns;
+mod cutting;
 mod marks;
 
 pub use choice::{Choice, Field, FieldRange};
