@@ -1,10 +1,12 @@
 -- What is remembered of the records so far.
 use Rattle.std.specs.Prelude.{◌≡◌, ℕ, Bool, false, List, [], ◌∷◌, length, map, slice_index_or}
-use Rattle.std.specs.Prelude.{Option, None, Some, Result, Ok, Err}
+use Rattle.std.specs.Prelude.{Option, None, Some, IfNone, Result, Ok, Err}
 use Rattle.hum_record.specs.Row.{Row, Comment, Spined}
 use Rattle.hum_path.specs.declared.moved.Move.{Move}
-use Rattle.hum_path.specs.Spines.{Path, source}
-use Rattle.hum_path.specs.Score.{path_after}
+use Rattle.hum_path.specs.Spines.{Path, source, moves}
+use Rattle.hum_path.specs.Rules.{is_closed}
+use Rattle.hum_path.specs.Score.{IsOpen, path_after}
+use Rattle.hum_path.specs.Step.{ComeFrom}
 use Rattle.hum_stage.specs.declared.faults.Rule.{Rule}
 use Rattle.hum_stage.specs.Decided.{in_room}
 use Rattle.hum_spread.specs.Spread.{filled}
@@ -36,3 +38,19 @@ kept flags (Spined kind tokens) = filled kind (chosen flags tokens ∷ [])
 abbrev pub Answers : Result (List Row) Rule → ℕ → List Row → Option Rule → Type 0
 Answers decided room rows None = decided ≡ Ok rows
 Answers decided room rows (Some rule) = in_room room decided ≡ Err rule
+
+-- One record more of a score: what is chosen so far, whether no spine is open, and where the spines
+-- after the record come from.
+pub record Stand (choice : Choice) (marks : List Bool) (opens : Bool) (found : List Move)
+    (row : Row) (past : List Row) : Type 0 where
+  pub each : marks ≡ flags choice past
+  pub score : IsOpen (row ∷ past)
+  pub closed : opens ≡ is_closed (path_after past)
+  pub moves : found ≡ moves (path_after past) row
+  pub sources : ComeFrom row found
+
+-- What was made of it: the answer, and what is chosen then.
+abbrev pub Takes : Choice → List Row → Row → ℕ → List Bool → List Row → Option Rule → Type 0
+Takes choice past row room marks after refused =
+    Answers (extract choice past row) room after refused
+    × IfNone refused (marks ≡ flags choice (row ∷ past))

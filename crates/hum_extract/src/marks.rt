@@ -102,6 +102,13 @@ impl Marks {
         Marks { each, some, all }
     }
 
+    /// For each column whether it is chosen.
+    pub fn each(&self) -> &[bool]
+        ensures { result.now ≡ self.now }
+    {
+        &self.each
+    }
+
     /// Gives what is left of a spined record.
     fn keep_spined(
         &self,
