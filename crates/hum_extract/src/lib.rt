@@ -70,3 +70,6 @@ impl Stage for Extract {
         self.inner.held()
     }
 }
+
+#[cfg(test)]
+mod tests;
