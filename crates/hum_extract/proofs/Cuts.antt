@@ -1,9 +1,8 @@
 -- Which interpretations can be cut, and what is left of them.
-use Rattle.std.proofs.Common.{◌≡◌, ◌≢◌, ◌∙◌, refl, sym, ap, ℕ, zero, suc, ◌+◌, ◌<◌, ◌≤◌, Bool, true, false, cond, subst, not, ◌&&◌, ◌||◌}
-use Rattle.std.proofs.Common.{List, [], ◌∷◌, ◌++◌, length, map, drop, get_or, arith, add-one, drop-cons, append_assoc, Option, None, Some, inl, inr}
+use Rattle.std.proofs.Common.{◌≡◌, ◌≢◌, ◌∙◌, refl, sym, ap, ℕ, suc, ◌+◌, ◌<◌, ◌≤◌, Bool, true, false, cond, subst, ◌&&◌, ◌||◌}
+use Rattle.std.proofs.Common.{List, [], ◌∷◌, ◌++◌, length, map, drop, get_or, arith, add-one, drop-cons, Option, None, Some}
 use Rattle.std.specs.Option.{option_to_list}
-use Rattle.std.specs.List.{list_all, AllByRecursion}
-use Rattle.std.proofs.lemmas.Bool.{cases_Bool}
+use Rattle.std.specs.List.{AllByRecursion}
 use lib.Chars.{codes}
 use Rattle.hum_record.specs.declared.SpinedKind.TheVariants.{Interpretation}
 use Rattle.hum_record.specs.declared.SpinedKind.{SpinedKind}
@@ -12,11 +11,11 @@ use Rattle.hum_record.specs.Spelling.{IsToken, IsTextOf}
 use Rattle.hum_record.specs.Building.{spelled}
 use Rattle.hum_path.specs.declared.signs.Sign.{Sign}
 use Rattle.hum_path.specs.Sign.{sign_of, is_join, is_exchange}
-use Rattle.hum_spread.specs.Spread.{Piece, piece, tokens_in}
+use Rattle.hum_spread.specs.Spread.{Piece, tokens_in}
 use Rattle.hum_spread.specs.Writing.{Fit}
 use Rattle.hum_spread.proofs.Weights.{weight, no_longer}
 use Rattle.hum_spread.proofs.Alone.{Lawful, null_lawful}
-use Rattle.hum_extract.specs.Extract.{differ, is_torn, exchanged_flags, is_lone, chosen_before, chosen_between, softened, pieces, cut}
+use Rattle.hum_extract.specs.Extract.{differ, is_torn, exchanged_flags, is_lone, chosen_before, chosen_between, softened, pieces}
 
 -- the same by the left neighbour
 abbrev pub torn_after : Bool → Bool → List Bool → List Sign → Bool

@@ -1,25 +1,23 @@
 -- What is chosen goes on along the columns.
-use Rattle.std.proofs.Common.{◌≡◌, ◌≢◌, ◌∙◌, refl, sym, ap, ℕ, zero, suc, ◌+◌, ◌<◌, ◌≤◌, Bool, true, false, cond, subst, ◌==◌}
-use Rattle.std.proofs.Common.{List, [], ◌∷◌, length, map, drop, get_or, arith, add-one, drop-cons, not, ◌&&◌, ◌||◌, None}
-use Rattle.std.specs.List.{list_all, list_any, find, AllByRecursion}
-use Rattle.std.specs.Prelude.{Result, Ok, Err}
+use Rattle.std.proofs.Common.{◌≡◌, ◌≢◌, ◌∙◌, refl, sym, ap, ℕ, zero, suc, ◌+◌, ◌<◌, ◌≤◌, Bool, true, false, subst}
+use Rattle.std.proofs.Common.{List, [], ◌∷◌, length, map, drop, get_or, arith, add-one, drop-cons, None}
+use Rattle.std.specs.List.{list_all, find, AllByRecursion}
 use Rattle.std.proofs.lemmas.List.{drop_all, length-map}
 use Rattle.std.proofs.lemmas.Bool.{and_parts, not-false, false≢true}
-use Rattle.hum_record.specs.declared.SpinedKind.TheVariants.{Local, Interpretation, Values}
+use Rattle.hum_record.specs.declared.SpinedKind.TheVariants.{Interpretation}
 use Rattle.hum_record.specs.Row.{Row, Comment, Spined, tokens_of}
 use Rattle.hum_path.specs.declared.PathFault.TheVariants.{P1, P2, P3, P4, P5, P6, P7, P9, P10, P11}
 use Rattle.hum_path.specs.declared.moved.Move.{Move}
 use Rattle.hum_path.specs.declared.moved.Move.TheVariants.{Same}
-use Rattle.hum_path.specs.Sign.{sign_of, is_exclusive, is_plain, all_plain, steers}
-use Rattle.hum_path.specs.Spines.{Path, Unopened, Spines, width, source, same_upto, moves, moves_at, moves_under}
-use Rattle.hum_path.specs.Rules.{breaks, breaks_as_text, in_order, fault_of, is_closed}
+use Rattle.hum_path.specs.Sign.{sign_of, is_exclusive, is_plain, all_plain}
+use Rattle.hum_path.specs.Spines.{Path, Unopened, Spines, width, source, same_upto, moves}
+use Rattle.hum_path.specs.Rules.{breaks, breaks_as_text, in_order, fault_of}
 use Rattle.hum_path.specs.Score.{IsOpen, path_after}
 use Rattle.hum_path.specs.Chains.{origin_of, origins}
 use Rattle.hum_path.specs.Step.{ComeFrom}
 use Rattle.hum_path.proofs.Plain.{find_head, sound_width, plain_moves, not_exclusive}
-use Rattle.hum_path.proofs.Widths.{text_width, origins_width}
-use Rattle.hum_stage.specs.declared.faults.Rule.{Rule}
-use Rattle.hum_extract.specs.Choice.{Choice, is_chosen, each_chosen, opening_flags, opening_if, opening_of, flags}
+use Rattle.hum_path.proofs.Widths.{origins_width}
+use Rattle.hum_extract.specs.Choice.{Choice, each_chosen, opening_flags, opening_if, opening_of, flags}
 use Rattle.hum_extract.specs.Following.{AsWide, moved}
 
 each_length : (choice : Choice) (width j : ℕ) (names : List (List ℕ)) → length (each_chosen choice width j names) ≡ length names
@@ -81,9 +79,9 @@ pub flags_move : (choice : Choice) (past : List Row) (tokens names : List (List 
     → flags choice (Spined Interpretation tokens ∷ past) ≡ moved (flags choice past) found
 flags_move choice past tokens names found h e sound told within =
     let wide : length tokens ≡ length (origins past) =
-      sound_width names tokens (rw e at sound) ∙ sym (origins_width past h ∙ ap width e) in
+    sound_width names tokens (rw e at sound) ∙ sym (origins_width past h ∙ ap width e) in
     let all : AllByRecursion (λ m. source m < length (origins past)) found =
-      subst (λ (n : ℕ). AllByRecursion (λ m. source m < n) found) wide within in
+    subst (λ (n : ℕ). AllByRecursion (λ m. source m < n) found) wide within in
     let same : opening_if (path_after past) tokens (opening_of past) ≡ opening_of past = rw e refl in
     rw (same, ← told) (come (λ o. get_or (opening_flags choice (opening_of past)) o false) (origins past) found all)
 
@@ -117,15 +115,16 @@ pub flags_plain : (choice : Choice) (past : List Row) (tokens names : List (List
 flags_plain choice past tokens names h e sound plain =
     let fs = flags choice past in
     let size : length (map sign_of tokens) ≡ length fs =
-      length-map tokens sign_of ∙ sound_width names tokens (rw e at sound) ∙ sym (flags_width choice past h ∙ ap width e) in
+    length-map tokens sign_of ∙ sound_width names tokens (rw e at sound) ∙ sym (flags_width choice past h ∙ ap width e) in
     let told : same_upto 0 (length fs) ≡ moves (path_after past) (Spined Interpretation tokens) =
-      rw (e, plain_moves (map sign_of tokens) plain, size) refl in
+    rw (e, plain_moves (map sign_of tokens) plain, size) refl in
     flags_move choice past tokens names (same_upto 0 (length fs)) h e sound told (within fs (length tokens) (omega (arith, size, length-map tokens sign_of)))
     ∙ moved_none fs
   where
     below : (n j m : ℕ) → j + m ≤ n → AllByRecursion (λ (k : Move). source k < n) (same_upto j m)
     below n j zero e = tt
     below n j (suc m) e = (omega arith, below n (j + 1) m (omega arith))
+
     within : (fs : List Bool) (n : ℕ) → length fs ≡ n → AllByRecursion (λ (k : Move). source k < n) (same_upto 0 (length fs))
     within fs n e = below n 0 (length fs) (omega (arith, e))
 

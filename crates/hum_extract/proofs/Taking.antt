@@ -1,30 +1,28 @@
 -- One record more.
-use Rattle.std.proofs.Common.{◌≡◌, ◌≢◌, ◌∙◌, refl, sym, ap, ℕ, suc, ◌+◌, Bool, true, false, cond, subst, ◌==◌, not, ◌&&◌, ◌||◌}
+use Rattle.std.proofs.Common.{◌≡◌, ◌≢◌, ◌∙◌, refl, sym, ap, ℕ, suc, Bool, true, false, ◌==◌, not}
 use Rattle.std.proofs.Common.{List, [], ◌∷◌, length, map, arith, Option, None, Some}
 use Rattle.std.specs.Prelude.{Result, Ok, Err, IfOk, IfNone}
-use Rattle.std.specs.List.{list_all, find}
-use Rattle.std.proofs.lemmas.Bool.{and_parts, not-false, false≢true}
+use Rattle.std.specs.List.{list_all}
+use Rattle.std.proofs.lemmas.Bool.{and_parts, false≢true}
 use Rattle.std.proofs.lemmas.Bool.Decides.{nat_tests}
-use Rattle.hum_record.specs.declared.SpinedKind.{SpinedKind}
 use Rattle.hum_record.specs.declared.SpinedKind.TheVariants.{Local, Interpretation, Values}
 use Rattle.hum_record.specs.Row.{Row, Comment, Spined, tokens_of, width_of, text_of}
 use Rattle.hum_record.specs.Spelling.{IsTextOf}
 use Rattle.hum_path.specs.declared.signs.Sign.{Sign}
 use Rattle.hum_path.specs.declared.signs.Sign.TheVariants.{Split, Join, Exchange, Add, End, Exclusive, Plain}
-use Rattle.hum_path.specs.declared.PathFault.TheVariants.{P1, P2, P3, P4, P5, P6, P7, P9, P10, P11}
 use Rattle.hum_path.specs.declared.moved.Move.{Move}
-use Rattle.hum_path.specs.Sign.{sign_of, is_join, is_exchange, is_plain, all_plain, steers}
+use Rattle.hum_path.specs.Sign.{sign_of, is_join, is_plain, all_plain, steers}
 use Rattle.hum_path.specs.Spines.{Path, Unopened, Spines, width, moves}
-use Rattle.hum_path.specs.Rules.{breaks, in_order, fault_of, is_closed}
-use Rattle.hum_path.specs.Score.{IsOpen, path_after}
+use Rattle.hum_path.specs.Rules.{fault_of, is_closed}
+use Rattle.hum_path.specs.Score.{path_after}
 use Rattle.hum_path.specs.Step.{ComeFrom}
 use Rattle.hum_path.proofs.Plain.{sound_width}
 use Rattle.hum_path.proofs.Widths.{text_width}
 use Rattle.hum_stage.specs.declared.faults.Rule.{Rule}
 use Rattle.hum_stage.specs.Decided.{in_room}
-use Rattle.hum_spread.specs.Spread.{Piece, piece, joins, tokens_in, touches, spread, filled}
-use Rattle.hum_extract.specs.Choice.{Choice, flags, chosen, opening_flags, opening_of, opening_if}
-use Rattle.hum_extract.specs.Extract.{is_torn, differ, exchanged_flags, softened, pieces, cut, opened, interpreted, extract}
+use Rattle.hum_spread.specs.Spread.{tokens_in, touches, filled}
+use Rattle.hum_extract.specs.Choice.{Choice, flags, chosen, opening_flags}
+use Rattle.hum_extract.specs.Extract.{is_torn, exchanged_flags, softened, pieces, cut, opened, interpreted}
 use Rattle.hum_extract.specs.Following.{AsWide, kept, moved, Answers, Stand, Takes}
 use Rattle.hum_extract.proofs.Flags.{flags_width, flags_open, flags_move, flags_text, flags_plain, opening_steers}
 
@@ -151,20 +149,23 @@ module _ {choice : Choice} {marks : List Bool} {opens : Bool} {found : List Move
   pub takes_still : (row : Row) (past : List Row) (room : ℕ) (out : List Row) → Stand choice marks opens found row past
       → IsTextOf row (text_of row) → steers row ≡ false → out ≡ kept marks row → Takes choice past row room marks out None
   takes_still (Comment text) past room out s lawful still e = (ap Ok (sym e), s.each)
-  takes_still (Spined Local tokens) past room out s lawful still e =
-      (ap Ok (ap (λ fs. filled Local (chosen fs tokens ∷ [])) (sym s.each) ∙ sym e),
-      s.each ∙ rw (flags_text choice past tokens s.score.1) refl)
-  takes_still (Spined Values tokens) past room out s lawful still e =
-      (ap Ok (ap (λ fs. filled Values (chosen fs tokens ∷ [])) (sym s.each) ∙ sym e),
-      s.each ∙ rw (flags_text choice past tokens s.score.1) refl)
+  takes_still (Spined Local tokens) past room out s lawful still e = (
+    ap Ok (ap (λ fs. filled Local (chosen fs tokens ∷ [])) (sym s.each) ∙ sym e),
+    s.each ∙ rw (flags_text choice past tokens s.score.1) refl,
+  )
+  takes_still (Spined Values tokens) past room out s lawful still e = (
+    ap Ok (ap (λ fs. filled Values (chosen fs tokens ∷ [])) (sym s.each) ∙ sym e),
+    s.each ∙ rw (flags_text choice past tokens s.score.1) refl,
+  )
   takes_still (Spined Interpretation tokens) past room out s lawful still e =
       let plain = stays_plain tokens still in
       let path = plain_path (path_after past) tokens lawful.1 plain s.score.1 in
       let same = flags_plain choice past tokens (names_in (path_after past)) s.score.0 path s.score.1 plain in
       let decided : interpreted choice (path_after past) (flags choice past) tokens ≡ Ok (filled Interpretation (chosen (flags choice past) tokens ∷ [])) =
-        ap (λ (p : Path). interpreted choice p (flags choice past) tokens) path ∙ plain_cut (flags choice past) tokens plain in
-      (decided ∙ ap Ok (ap (λ fs. filled Interpretation (chosen fs tokens ∷ [])) (sym s.each) ∙ sym e),
-      s.each ∙ sym same)
+      ap (λ (p : Path). interpreted choice p (flags choice past) tokens) path ∙ plain_cut (flags choice past) tokens plain in (
+        decided ∙ ap Ok (ap (λ fs. filled Interpretation (chosen fs tokens ∷ [])) (sym s.each) ∙ sym e),
+        s.each ∙ sym same,
+      )
 
   -- the opening record
   pub takes_opening : (row : Row) (past : List Row) (room : ℕ) (out : List Row) (after : List Bool) (refused : Option Rule)
@@ -177,7 +178,7 @@ module _ {choice : Choice} {marks : List Bool} {opens : Bool} {found : List Move
       let sound : fault_of (path_after past) (Spined Interpretation tokens) ≡ None = rw k at s.score.1 in
       let path = closed_path (path_after past) tokens sound (sym s.closed ∙ on) in
       let decided : interpreted choice (path_after past) (flags choice past) tokens ≡ opened choice tokens =
-        ap (λ (p : Path). interpreted choice p (flags choice past) tokens) path in
+      ap (λ (p : Path). interpreted choice p (flags choice past) tokens) path in
       let marks_then = flags_open choice past tokens s.score.0 path in
       rw k (one refused answers marked decided marks_then)
     where
@@ -199,11 +200,11 @@ module _ {choice : Choice} {marks : List Bool} {opens : Bool} {found : List Move
       let path = spines_path (path_after past) (sym s.closed ∙ off) in
       let sound : fault_of (path_after past) (Spined Interpretation tokens) ≡ None = rw k at s.score.1 in
       let decided : interpreted choice (path_after past) (flags choice past) tokens ≡ cut marks tokens =
-        ap (λ (p : Path). interpreted choice p (flags choice past) tokens) path ∙ ap (λ fs. cut fs tokens) (sym s.each) in
+      ap (λ (p : Path). interpreted choice p (flags choice past) tokens) path ∙ ap (λ fs. cut fs tokens) (sym s.each) in
       let told : found ≡ moves (path_after past) (Spined Interpretation tokens) = rw k at s.moves in
       let from : ComeFrom (Spined Interpretation tokens) found = s.sources in
       let marks_then : after ≡ flags choice (Spined Interpretation tokens ∷ past) =
-        marked ∙ ap (λ fs. moved fs found) s.each ∙ sym (flags_move choice past tokens (names_in (path_after past)) found s.score.0 path sound told from) in
+      marked ∙ ap (λ fs. moved fs found) s.each ∙ sym (flags_move choice past tokens (names_in (path_after past)) found s.score.0 path sound told from) in
       rw k (one refused answers decided marks_then)
     where
       one : (refused : Option Rule) → Answers (cut marks tokens) room out refused

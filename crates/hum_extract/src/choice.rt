@@ -128,11 +128,7 @@ impl Choice {
     }
 
     /// The same, unless a field beyond the width is named or no opening spine is chosen.
-    pub(crate) fn marks(
-        &self,
-        alloc: Global,
-        row: &Record,
-    ) -> Result<Option<Vec<bool>>, AllocError>
+    pub(crate) fn marks(&self, alloc: Global, row: &Record) -> Result<Option<Vec<bool>>, AllocError>
         ensures { IfOk result (λ found. MatchOption found
             (misses (choice_of self.now) (tokens_of row.now) ≡ true)
             (λ marks. (misses (choice_of self.now) (tokens_of row.now) ≡ false)

@@ -127,9 +127,23 @@ const EXCHANGE: [&'static [u8]; 5] = [
 fn keeps_a_lone_exchange_in_place(rt: HostRuntime) -> Result<(), Fail> {
     let alloc = rt.alloc();
     let first = only(alloc, 1)?;
-    check(&rt, alloc, first, &EXCHANGE, &[b"**a", b"1", b"*", b"1", b"*-"], None)?;
+    check(
+        &rt,
+        alloc,
+        first,
+        &EXCHANGE,
+        &[b"**a", b"1", b"*", b"1", b"*-"],
+        None,
+    )?;
     let two = fields(alloc, &[(Field::Number(1), Field::Number(2))])?;
-    check(&rt, alloc, two, &EXCHANGE, &[b"**a\t**b", b"1\t2"], Some((3, Rule::X3)))?;
+    check(
+        &rt,
+        alloc,
+        two,
+        &EXCHANGE,
+        &[b"**a\t**b", b"1\t2"],
+        Some((3, Rule::X3)),
+    )?;
     let outer = fields(
         alloc,
         &[
@@ -172,7 +186,14 @@ fn refuses_a_torn_join_and_a_field_beyond(rt: HostRuntime) -> Result<(), Fail> {
     let alloc = rt.alloc();
     let lines: [&'static [u8]; 5] = [b"**x\t**x", b"1\t2", b"*v\t*v", b"3", b"*-"];
     let first = only(alloc, 1)?;
-    check(&rt, alloc, first, &lines, &[b"**x", b"1"], Some((3, Rule::X1)))?;
+    check(
+        &rt,
+        alloc,
+        first,
+        &lines,
+        &[b"**x", b"1"],
+        Some((3, Rule::X1)),
+    )?;
     let third = only(alloc, 3)?;
     check(&rt, alloc, third, &lines, &[], Some((1, Rule::X2)))?;
     let beyond = fields(alloc, &[(Field::Number(5), Field::Last)])?;
@@ -193,7 +214,14 @@ fn counts_fields_from_the_end(rt: HostRuntime) -> Result<(), Fail> {
         b"*-\t*-\t*-",
     ];
     let last = fields(alloc, &[(Field::Last, Field::Last)])?;
-    check(&rt, alloc, last, &lines, &[b"!!score", b"**c", b"!c", b"3", b"*-"], None)?;
+    check(
+        &rt,
+        alloc,
+        last,
+        &lines,
+        &[b"!!score", b"**c", b"!c", b"3", b"*-"],
+        None,
+    )?;
     let from_two = fields(alloc, &[(Field::Number(2), Field::Last)])?;
     let want: [&'static [u8]; 5] = [b"!!score", b"**b\t**c", b"!b\t!c", b"2\t3", b"*-\t*-"];
     check(&rt, alloc, from_two, &lines, &want, None)?;

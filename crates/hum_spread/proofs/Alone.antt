@@ -1,6 +1,6 @@
 -- Pieces that are written one join after another.
 use Rattle.std.proofs.Common.{◌≡◌, ◌≢◌, ◌∙◌, refl, sym, ap, ℕ, zero, suc, ◌+◌, ◌-◌, ◌<◌, ◌≤◌, Bool, true, false, cond, subst}
-use Rattle.std.proofs.Common.{List, [], ◌∷◌, ◌++◌, length, map, drop, get_or, arith, add-one, append_assoc, append-nil, drop-cons, inl, inr, not, ◌&&◌, ◌||◌, ◌==◌}
+use Rattle.std.proofs.Common.{List, [], ◌∷◌, ◌++◌, length, drop, get_or, arith, add-one, append_assoc, drop-cons, inl, inr, ◌&&◌, ◌||◌, ◌==◌}
 use Rattle.std.specs.List.{AllByRecursion}
 use Rattle.std.proofs.lemmas.Bool.{cases_Bool, false≢true}
 use Rattle.std.proofs.lemmas.List.{drop_all, drop-drop}
@@ -15,8 +15,8 @@ use Rattle.hum_spread.specs.declared.writing.Phase.{Phase}
 use Rattle.hum_spread.specs.declared.writing.Phase.TheVariants.{Before, Inside, After}
 use Rattle.hum_spread.specs.Spread.{Piece, piece, joins, goes_on, tokens_in, touches, joins_in, first_alone, join_alone}
 use Rattle.hum_spread.specs.Spread.{first_done, join_done, one_by_one, before_last, spread, filled}
-use Rattle.hum_spread.specs.Writing.{Fit, HasSpread, draft, behind, null_each, alone_from, next_phase, shown, nulls}
-use Rattle.hum_spread.proofs.Weights.{weight, weight-append, spelled_weight, no_longer}
+use Rattle.hum_spread.specs.Writing.{Fit, draft, behind, null_each, alone_from, next_phase, shown, nulls}
+use Rattle.hum_spread.proofs.Weights.{weight, no_longer}
 
 abbrev pub Lawful : List Piece → Type 0
 Lawful = AllByRecursion (λ p. IsToken Interpretation p.token)
@@ -177,7 +177,7 @@ pub front_of : (xs : List (List ℕ)) (x : List ℕ) (rest all : List (List ℕ)
     → length (spelled all) ≤ 1048576 → length (spelled (xs ++ x ∷ [])) ≤ 1048576
 front_of xs x rest all e fits =
     let more : length (spelled (xs ++ x ∷ [])) ≤ length (spelled all) =
-      subst (λ (ys : List (List ℕ)). length (spelled (xs ++ x ∷ [])) ≤ length (spelled ys)) (append_assoc xs (x ∷ []) rest ∙ e) (spelled_front (xs ++ x ∷ []) rest) in
+    subst (λ (ys : List (List ℕ)). length (spelled (xs ++ x ∷ [])) ≤ length (spelled ys)) (append_assoc xs (x ∷ []) rest ∙ e) (spelled_front (xs ++ x ∷ []) rest) in
     omega (arith, more, fits)
 
 pub draft_push : (b new : Draft) (t : List ℕ) → b ≡ draft b.tokens → new ≡ record b { tokens = b.tokens ++ t ∷ [] }
@@ -236,7 +236,7 @@ null_fits front p rest begins fit =
     let done = done_fit (behind front (p ∷ rest)) fit in
     let next : first_done (p ∷ rest) ≡ piece false (codes "*") ∷ join_done rest = rw begins refl in
     let list : front ++ (codes "*" ∷ tokens_in (join_done rest)) ≡ tokens_in (first_done (behind front (p ∷ rest))) =
-      ap (λ ps. front ++ tokens_in ps) (sym next) ∙ sym (tokens_behind front (first_done (p ∷ rest))) ∙ ap tokens_in (sym (done_behind front (p ∷ rest))) in
+    ap (λ ps. front ++ tokens_in ps) (sym next) ∙ sym (tokens_behind front (first_done (p ∷ rest))) ∙ ap tokens_in (sym (done_behind front (p ∷ rest))) in
     front_of front (codes "*") (tokens_in (join_done rest)) _ list done.at_most
 
 pub passed_join : (first front : List (List ℕ)) (ps : List Piece) (i n : ℕ) (p : Piece) → i < length ps → p ≡ get_or ps i p

@@ -1,5 +1,5 @@
 -- Two joins that have come side by side.
-use Rattle.std.proofs.Common.{◌≡◌, true, false, List, [], ◌∷◌, refl}
+use Rattle.std.proofs.Common.{◌≡◌, true, false, [], ◌∷◌, refl}
 use lib.Chars.{codes}
 use Rattle.hum_spread.specs.Spread.{piece, spread}
 

@@ -1,4 +1,4 @@
-use Rattle.std.proofs.Common.{◌≡◌, ◌∙◌, sym, rules, arith, false}
+use Rattle.std.proofs.Common.{◌∙◌, sym, false}
 use Rattle.hum_spread.proofs.Alone.{touches_some}
 use Rattle.hum_spread.proofs.records_for.Goals as goal
 

@@ -1,4 +1,4 @@
-use Rattle.std.proofs.Common.{◌≡◌, ◌∙◌, sym, subst, List}
+use Rattle.std.proofs.Common.{◌∙◌, sym, subst, List}
 use Rattle.hum_spread.specs.Spread.{Piece}
 use Rattle.hum_spread.specs.Writing.{Fit}
 use Rattle.hum_extract.proofs.Cuts.{pieces_fit}

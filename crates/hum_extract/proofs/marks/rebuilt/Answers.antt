@@ -1,4 +1,4 @@
-use Rattle.std.proofs.Common.{◌≡◌, ◌∙◌, ◌<◌, ◌≤◌, sym, rules, arith, length}
+use Rattle.std.proofs.Common.{◌∙◌, sym}
 use Rattle.hum_record.specs.Row.{tokens_of}
 use Rattle.hum_extract.proofs.Chosen.{chosen_some, takes_one, skips_one, one_fits, all_passed}
 use Rattle.hum_extract.proofs.marks.rebuilt.Goals as goal
@@ -16,14 +16,14 @@ loop-j-preserved c = elim c.if-mark.branch [
         kind = rw made c.loop-j.invariant.kind;
         alive = rw made c.loop-j.invariant.alive;
         list = rw (made, w.token.ensures.token)
-          (takes_one c.args.marks.now (tokens_of c.args.row.now) c.loop-j.builder.tokens c.loop-j.j c.loop-j-test.true c.requires.as_wide w.if-mark.true ∙ c.loop-j.invariant.list);
+            (takes_one c.args.marks.now (tokens_of c.args.row.now) c.loop-j.builder.tokens c.loop-j.j c.loop-j-test.true c.requires.as_wide w.if-mark.true ∙ c.loop-j.invariant.list);
       }
   | else-mark w ↦ record {
-      kind = rw w.builder-is c.loop-j.invariant.kind;
-      alive = rw w.builder-is c.loop-j.invariant.alive;
-      list = rw w.builder-is
+    kind = rw w.builder-is c.loop-j.invariant.kind;
+    alive = rw w.builder-is c.loop-j.invariant.alive;
+    list = rw w.builder-is
         (skips_one c.args.marks.now (tokens_of c.args.row.now) c.loop-j.builder.tokens c.loop-j.j c.loop-j-test.true c.requires.as_wide w.if-mark.false ∙ c.loop-j.invariant.list);
-    }
+  }
 ]
 
 pub finish-requires-clause-filled : goal.finish-requires-clause-filled

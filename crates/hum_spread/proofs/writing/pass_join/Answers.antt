@@ -1,7 +1,6 @@
-use Rattle.std.proofs.Common.{◌≡◌, ◌∙◌, ◌+◌, ◌<◌, ◌≤◌, ◌++◌, ◌∷◌, [], length, length-append, arith, drop, ap, sym}
+use Rattle.std.proofs.Common.{◌∙◌, ◌∷◌, [], length-append, arith, sym}
 use lib.Chars.{codes}
-use Rattle.hum_spread.specs.Writing.{draft, behind}
-use Rattle.hum_spread.proofs.Alone.{fit_here, token_lawful, token_fits, null_fits, passed_join, passed_token, passed_all, draft_push, drafted}
+use Rattle.hum_spread.proofs.Alone.{fit_here, token_lawful, token_fits, null_fits, passed_join, passed_all, draft_push, drafted}
 use Rattle.hum_spread.proofs.writing.pass_join.Goals as goal
 
 pub push_fitting-requires-clause-fits : goal.push_fitting-requires-clause-fits
@@ -30,18 +29,20 @@ returns-then-begins c =
     let done = rw back at c.join_len.ensures.pieces in
     let most = c.join_len.ensures.at_most in
     let right = c.split_at.ensures.back_len in
-    let size = length-append c.loop-i.last.tokens (codes "*" ∷ []) in
-    (rw made (passed_join c.args.last.now.tokens c.loop-i.last.tokens c.args.pieces.now c.loop-i.i c.join_len.result p c.loop-i-test.true c.index-pieces-i.is c.loop-i.invariant.same (sym c.begins.ensures ∙ c.if-begins.true) done),
-    drafted c.push_fitting.new.builder _ made,
-    rw made (omega (arith, size, c.loop-i.invariant.count)),
-    omega arith,
-    omega (arith, most, right))
+    let size = length-append c.loop-i.last.tokens (codes "*" ∷ []) in (
+      rw made (passed_join c.args.last.now.tokens c.loop-i.last.tokens c.args.pieces.now c.loop-i.i c.join_len.result p c.loop-i-test.true c.index-pieces-i.is c.loop-i.invariant.same (sym c.begins.ensures ∙ c.if-begins.true) done),
+      drafted c.push_fitting.new.builder _ made,
+      rw made (omega (arith, size, c.loop-i.invariant.count)),
+      omega arith,
+      omega (arith, most, right),
+    )
 
 pub returns : goal.returns
 returns c =
-    let at = c.loop-i-test.false in
-    (passed_all c.args.last.now.tokens c.loop-i.last.tokens c.args.pieces.now c.loop-i.i at c.loop-i.invariant.same,
-    c.loop-i.invariant.made,
-    omega (arith, c.loop-i.invariant.count),
-    omega arith,
-    omega arith)
+    let at = c.loop-i-test.false in (
+      passed_all c.args.last.now.tokens c.loop-i.last.tokens c.args.pieces.now c.loop-i.i at c.loop-i.invariant.same,
+      c.loop-i.invariant.made,
+      omega (arith, c.loop-i.invariant.count),
+      omega arith,
+      omega arith,
+    )

@@ -1,5 +1,4 @@
-use Rattle.std.proofs.Common.{◌≡◌, ◌∙◌, ◌+◌, ◌++◌, ap, sym, drop}
-use Rattle.hum_spread.specs.Writing.{draft}
+use Rattle.std.proofs.Common.{◌∙◌, ◌++◌, ap, sym}
 use Rattle.hum_spread.proofs.Alone.{tokens_at, lawful_at, front_of, draft_push, drafted, list_push}
 use Rattle.hum_spread.proofs.writing.push_all.Goals as goal
 

@@ -1,5 +1,4 @@
-use Rattle.std.proofs.Common.{◌≡◌, ◌∙◌, ◌+◌, ◌++◌, ap, sym, drop}
-use Rattle.hum_spread.specs.Writing.{draft, alone_from}
+use Rattle.std.proofs.Common.{◌∙◌, ◌++◌, ap, sym}
 use Rattle.hum_spread.proofs.Alone.{alone_at, lawful_at, front_of, draft_push, drafted, list_push}
 use Rattle.hum_spread.proofs.writing.push_alone.Goals as goal
 
@@ -19,5 +18,5 @@ loop-piece-preserved c =
       made = drafted c.push_fitting.new.builder _ made;
       lawful = (lawful_at c.args.pieces.now c.loop-piece.piece-index p c.loop-piece-test.true c.piece-item.is c.loop-piece.invariant.lawful).1;
       list = rw c.next_phase-phase.ensures (list_push c.push_fitting.new.builder c.loop-piece.builder.tokens c.shown.result.now _ _ _ made
-        (rw (c.shown.ensures.value, c.next_phase-phase.ensures) next) c.loop-piece.invariant.list);
+          (rw (c.shown.ensures.value, c.next_phase-phase.ensures) next) c.loop-piece.invariant.list);
     }

@@ -1,6 +1,6 @@
-use Rattle.std.proofs.Common.{◌≡◌, ◌∙◌, ◌-◌, ◌+◌, ◌++◌, ap, sym}
+use Rattle.std.proofs.Common.{◌∙◌, ◌-◌, ◌+◌, ◌++◌, ap, sym}
 use lib.Chars.{codes}
-use Rattle.hum_spread.specs.Writing.{draft, nulls}
+use Rattle.hum_spread.specs.Writing.{nulls}
 use Rattle.hum_spread.proofs.Alone.{nulls_more, front_of, draft_push, drafted, list_push}
 use Rattle.hum_spread.proofs.writing.push_nulls.Goals as goal
 

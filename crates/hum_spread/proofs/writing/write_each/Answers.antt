@@ -1,7 +1,6 @@
-use Rattle.std.proofs.Common.{◌≡◌, ◌≢◌, ◌∙◌, ◌+◌, ◌<◌, ◌≤◌, ◌++◌, ◌∷◌, [], length, arith, drop, ap, sym, subst, List}
+use Rattle.std.proofs.Common.{◌∙◌, arith, drop, sym, subst}
 use Rattle.std.proofs.lemmas.List.{length-drop}
-use Rattle.hum_spread.specs.Spread.{Piece, first_done}
-use Rattle.hum_spread.specs.Writing.{Fit, draft, behind}
+use Rattle.hum_spread.specs.Writing.{Fit}
 use Rattle.hum_spread.proofs.Alone.{alone_fits_behind, alone_filled_behind, left_behind, one_written, last_written, all_fits_behind}
 use Rattle.hum_spread.proofs.Alone.{all_filled_behind, done_fit, done_filled}
 use Rattle.hum_spread.proofs.writing.write_each.Goals as goal
@@ -28,7 +27,7 @@ loop-preserved c =
       less = omega (arith, passed.3, c.loop.invariant.less);
       within = omega (arith, passed.4, size, c.loop.invariant.within);
       list = rw (c.in_ok-push_back.ensures.items, c.in_ok-record.ensures, c.split_at.ensures.back, c.loop.invariant.before)
-        (one_written c.loop.out.items c.args.records c.loop.counter c.loop.last.tokens rest _ c.loop-test.true c.loop.invariant.some left ∙ c.loop.invariant.list);
+          (one_written c.loop.out.items c.args.records c.loop.counter c.loop.last.tokens rest _ c.loop-test.true c.loop.invariant.some left ∙ c.loop.invariant.list);
     }
 
 pub push_all-requires-clause-fits : goal.push_all-requires-clause-fits

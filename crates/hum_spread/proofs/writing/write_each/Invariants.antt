@@ -13,5 +13,5 @@ invariant-loop l = record {
   less : l.before ≤ l.start;
   within : l.start ≤ length l.pieces;
   list : l.out.items ++ filled Interpretation (one_by_one (l.records - l.counter) (behind l.last.tokens (drop l.start l.pieces)))
-    ≡ l.fn.out.items ++ filled Interpretation (one_by_one (before_last l.records) l.pieces);
+      ≡ l.fn.out.items ++ filled Interpretation (one_by_one (before_last l.records) l.pieces);
 }

@@ -1,4 +1,4 @@
-use Rattle.std.proofs.Common.{◌≡◌, ◌++◌, drop, length}
+use Rattle.std.proofs.Common.{◌≡◌, ◌++◌, drop}
 use Rattle.hum_record.specs.Row.{tokens_of, width_of}
 use Rattle.hum_extract.specs.Choice.{each_chosen, opening_flags}
 use Rattle.hum_extract.specs.Written.{choice_of}

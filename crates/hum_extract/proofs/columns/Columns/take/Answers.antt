@@ -1,8 +1,7 @@
-use Rattle.std.proofs.Common.{◌≡◌, ◌∙◌, sym, ap, true, false, subst, length, List, Option}
+use Rattle.std.proofs.Common.{◌≡◌, ◌∙◌, sym, ap, false, length, List}
 use Rattle.std.specs.Prelude.{IfNone}
 use Rattle.hum_record.specs.Row.{Row, tokens_of}
 use Rattle.hum_path.specs.Sign.{steers}
-use Rattle.hum_stage.specs.declared.faults.Rule.{Rule}
 use Rattle.hum_extract.specs.Choice.{opening_flags}
 use Rattle.hum_extract.specs.Extract.{opened}
 use Rattle.hum_extract.specs.Written.{choice_of}

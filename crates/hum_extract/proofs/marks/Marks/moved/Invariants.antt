@@ -1,5 +1,4 @@
-use Rattle.std.proofs.Common.{◌≡◌, ◌++◌, false, drop, get_or, map}
-use Rattle.hum_path.specs.Spines.{source}
+use Rattle.std.proofs.Common.{◌≡◌, ◌++◌, drop}
 use Rattle.hum_extract.specs.Following.{moved}
 use Rattle.hum_extract.proofs.marks.Marks.moved.Given as goal
 
