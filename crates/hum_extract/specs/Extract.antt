@@ -36,7 +36,8 @@ is_lone _ = false
 
 -- a chosen column stands strictly between the exchanged ones
 abbrev pub chosen_before : List Bool → List Sign → Bool
-chosen_before (f ∷ flags) (s ∷ signs) = if is_exchange s then false else f || chosen_before flags signs
+chosen_before (f ∷ flags) (s ∷ signs) =
+    if is_exchange s then false else f || chosen_before flags signs
 chosen_before _ _ = false
 
 abbrev pub chosen_between : List Bool → List Sign → Bool

@@ -5,10 +5,12 @@ use Rattle.hum_stage.specs.declared.faults.Command.TheVariants.{Extract}
 use Rattle.hum_stage.specs.Meaning.{Meaning}
 use Rattle.hum_stage.specs.Decided.{at_once}
 use Rattle.hum_extract.specs.declared.choice.Field.{Field as WrittenField}
-use Rattle.hum_extract.specs.declared.choice.Field.TheVariants.{Number as WrittenNumber, Last as WrittenLast}
+use Rattle.hum_extract.specs.declared.choice.Field.TheVariants.{Number as WrittenNumber}
+use Rattle.hum_extract.specs.declared.choice.Field.TheVariants.{Last as WrittenLast}
 use Rattle.hum_extract.specs.declared.choice.FieldRange.{FieldRange}
 use Rattle.hum_extract.specs.declared.choice.Choice.{Choice as WrittenChoice}
-use Rattle.hum_extract.specs.declared.choice.Choice.TheVariants.{Fields as WrittenFields, Names as WrittenNames}
+use Rattle.hum_extract.specs.declared.choice.Choice.TheVariants.{Fields as WrittenFields}
+use Rattle.hum_extract.specs.declared.choice.Choice.TheVariants.{Names as WrittenNames}
 use Rattle.hum_extract.specs.Choice.{Field, Number, Last, Range, Choice, Fields, Names}
 use Rattle.hum_extract.specs.Extract.{extract}
 

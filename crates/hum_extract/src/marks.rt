@@ -1,5 +1,6 @@
 //! Which columns are chosen.
-ghost use Rattle.std.specs.Prelude.{◌≡◌, ◌≢◌, true, false, slice_index_or, ◌++◌, ◌∷◌, [], length, IfOk, OnOk, ◌≤◌};
+ghost use Rattle.std.specs.Prelude.{◌≡◌, ◌≢◌, true, false, slice_index_or, ◌++◌, ◌∷◌, []};
+ghost use Rattle.std.specs.Prelude.{length, IfOk, OnOk, ◌≤◌};
 ghost use Rattle.std.specs.List.{list_any, list_all};
 ghost use Rattle.hum_record.specs.Row.{Spined, as_kind, kind_of, tokens_of, width_of};
 ghost use Rattle.hum_record.specs.Building.{spelled};

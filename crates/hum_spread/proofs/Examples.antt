@@ -9,3 +9,21 @@ neighbours : spread (
     ≡ (codes "*v" ∷ codes "*v" ∷ codes "*" ∷ codes "*" ∷ codes "*" ∷ [])
     ∷ (codes "*" ∷ codes "*v" ∷ codes "*v" ∷ codes "*^" ∷ []) ∷ []
 neighbours = refl
+
+-- Two joins apart, and none.
+apart : spread (
+    piece true (codes "*v") ∷ piece false (codes "*v") ∷ piece false (codes "*^") ∷ piece true (codes "*v") ∷ piece false (codes "*v") ∷ [])
+    ≡ (codes "*v" ∷ codes "*v" ∷ codes "*^" ∷ codes "*v" ∷ codes "*v" ∷ []) ∷ []
+apart = refl
+
+none : spread (piece false (codes "*-") ∷ piece false (codes "*") ∷ []) ≡ (codes "*-" ∷ codes "*" ∷ []) ∷ []
+none = refl
+
+-- Three joins, two of them side by side: each is alone.
+three : spread (
+    piece true (codes "*v") ∷ piece false (codes "*v") ∷ piece true (codes "*v") ∷ piece false (codes "*v") ∷ piece false (codes "*^")
+    ∷ piece true (codes "*v") ∷ piece false (codes "*v") ∷ [])
+    ≡ (codes "*v" ∷ codes "*v" ∷ codes "*" ∷ codes "*" ∷ codes "*" ∷ codes "*" ∷ codes "*" ∷ [])
+    ∷ (codes "*" ∷ codes "*v" ∷ codes "*v" ∷ codes "*" ∷ codes "*" ∷ codes "*" ∷ [])
+    ∷ (codes "*" ∷ codes "*" ∷ codes "*^" ∷ codes "*v" ∷ codes "*v" ∷ []) ∷ []
+three = refl

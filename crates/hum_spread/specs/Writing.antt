@@ -10,7 +10,8 @@ use Rattle.hum_record.specs.Building.{Draft, spelled}
 use Rattle.hum_spread.specs.declared.writing.Phase.{Phase}
 use Rattle.hum_spread.specs.declared.writing.Phase.TheVariants.{Before, Inside, After}
 use Rattle.hum_spread.specs.declared.writing.Passed.{Passed}
-use Rattle.hum_spread.specs.Spread.{Piece, piece, goes_on, tokens_in, first_alone, first_done, join_alone}
+use Rattle.hum_spread.specs.Spread.{Piece, piece, goes_on, tokens_in, first_alone, first_done}
+use Rattle.hum_spread.specs.Spread.{join_alone}
 use Rattle.hum_spread.specs.Spread.{spread, filled}
 
 -- tokens of an interpretation that isn't too long

@@ -74,3 +74,6 @@ fn records_for(pieces: &[Piece<'_>]) -> usize
 {
     if touches(pieces) { joins_in(pieces) } else { 1 }
 }
+
+#[cfg(test)]
+mod tests;
