@@ -116,7 +116,7 @@ impl Columns {
         ensures taken { IfOk result (λ refused. (past : List Row)
             → Stand (choice_of self.old.choice) self.old.marks opens found.now row past
             → Takes (choice_of self.old.choice) past row room self.new.marks out.new.items
-              refused) }
+            refused) }
         ensures rest { OnOk result (self.new ≡ record self.old { marks = self.new.marks }) }
     {
         if !asks(&row) {

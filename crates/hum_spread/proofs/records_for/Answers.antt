@@ -1,5 +1,5 @@
 use Rattle.std.proofs.Common.{◌∙◌, sym, false}
-use Rattle.hum_spread.proofs.Alone.{touches_some}
+use Rattle.hum_spread.proofs.OneByOne.{touches_some}
 use Rattle.hum_spread.proofs.records_for.Goals as goal
 
 pub returns-then-touches-clause-some : goal.returns-then-touches-clause-some

@@ -1,4 +1,4 @@
-use Rattle.hum_spread.proofs.Alone.{too_many, not_empty}
+use Rattle.hum_spread.proofs.OneByOne.{too_many, not_empty}
 use Rattle.hum_spread.proofs.spread.Goals as goal
 
 pub returns-then-records-room : goal.returns-then-records-room

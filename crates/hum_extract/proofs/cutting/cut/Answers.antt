@@ -1,7 +1,7 @@
 use Rattle.std.proofs.Common.{◌∙◌, sym, subst, List}
 use Rattle.hum_spread.specs.Spread.{Piece}
 use Rattle.hum_spread.specs.Writing.{Fit}
-use Rattle.hum_extract.proofs.Cuts.{pieces_fit}
+use Rattle.hum_extract.proofs.Placewise.{pieces_fit}
 use Rattle.hum_extract.proofs.cutting.cut.Goals as goal
 
 pub spread-requires : goal.spread-requires

@@ -2,7 +2,7 @@ use Rattle.std.proofs.Common.{◌≡◌, drop, map}
 use Rattle.hum_record.specs.Row.{tokens_of}
 use Rattle.hum_path.specs.Sign.{sign_of}
 use Rattle.hum_extract.specs.Extract.{is_torn}
-use Rattle.hum_extract.proofs.Cuts.{torn_after}
+use Rattle.hum_extract.proofs.Placewise.{torn_after}
 use Rattle.hum_extract.proofs.cutting.is_torn.Given as goal
 
 abbrev pub invariant-loop-j : goal.invariant-loop-j

@@ -1,4 +1,4 @@
-use Rattle.hum_spread.proofs.Alone.{nulls_fit}
+use Rattle.hum_spread.proofs.OneByOne.{nulls_fit}
 use Rattle.hum_spread.proofs.writing.alone.Goals as goal
 
 pub push_nulls-requires-clause-fits : goal.push_nulls-requires-clause-fits

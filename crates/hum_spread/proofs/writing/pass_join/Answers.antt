@@ -1,6 +1,6 @@
 use Rattle.std.proofs.Common.{◌∙◌, ◌∷◌, [], length-append, arith, sym}
 use lib.Chars.{codes}
-use Rattle.hum_spread.proofs.Alone.{fit_here, token_lawful, token_fits, null_fits, passed_join, passed_all, draft_push, drafted}
+use Rattle.hum_spread.proofs.OneByOne.{fit_here, token_lawful, token_fits, null_fits, passed_join, passed_all, draft_push, drafted}
 use Rattle.hum_spread.proofs.writing.pass_join.Goals as goal
 
 pub push_fitting-requires-clause-fits : goal.push_fitting-requires-clause-fits

@@ -1,5 +1,5 @@
 use Rattle.std.proofs.Common.{◌∙◌, ◌++◌, ap, sym}
-use Rattle.hum_spread.proofs.Alone.{alone_at, lawful_at, front_of, draft_push, drafted, list_push}
+use Rattle.hum_spread.proofs.OneByOne.{alone_at, lawful_at, front_of, draft_push, drafted, list_push}
 use Rattle.hum_spread.proofs.writing.push_alone.Goals as goal
 
 pub push_fitting-requires-clause-fits : goal.push_fitting-requires-clause-fits

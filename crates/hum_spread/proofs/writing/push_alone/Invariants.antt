@@ -1,7 +1,7 @@
 use Rattle.std.proofs.Common.{◌≡◌, ◌++◌, drop}
 use Rattle.hum_spread.specs.Spread.{first_alone}
 use Rattle.hum_spread.specs.Writing.{draft, alone_from}
-use Rattle.hum_spread.proofs.Alone.{Lawful}
+use Rattle.hum_spread.proofs.OneByOne.{Lawful}
 use Rattle.hum_spread.proofs.writing.push_alone.Given as goal
 
 abbrev pub invariant-loop-piece : goal.invariant-loop-piece

@@ -1,7 +1,7 @@
 use Rattle.std.proofs.Common.{◌∙◌, ◌-◌, ◌+◌, ◌++◌, ap, sym}
 use lib.Chars.{codes}
 use Rattle.hum_spread.specs.Writing.{nulls}
-use Rattle.hum_spread.proofs.Alone.{nulls_more, front_of, draft_push, drafted, list_push}
+use Rattle.hum_spread.proofs.OneByOne.{nulls_more, front_of, draft_push, drafted, list_push}
 use Rattle.hum_spread.proofs.writing.push_nulls.Goals as goal
 
 pub push_fitting-requires-clause-fits : goal.push_fitting-requires-clause-fits

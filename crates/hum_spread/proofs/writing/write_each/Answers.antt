@@ -1,8 +1,8 @@
 use Rattle.std.proofs.Common.{◌∙◌, arith, drop, sym, subst}
 use Rattle.std.proofs.lemmas.List.{length-drop}
 use Rattle.hum_spread.specs.Writing.{Fit}
-use Rattle.hum_spread.proofs.Alone.{alone_fits_behind, alone_filled_behind, left_behind, one_written, last_written, all_fits_behind}
-use Rattle.hum_spread.proofs.Alone.{all_filled_behind, done_fit, done_filled}
+use Rattle.hum_spread.proofs.OneByOne.{alone_fits_behind, alone_filled_behind, left_behind, one_written, last_written, all_fits_behind}
+use Rattle.hum_spread.proofs.OneByOne.{all_filled_behind, done_fit, done_filled}
 use Rattle.hum_spread.proofs.writing.write_each.Goals as goal
 
 pub alone-requires-clause-fits : goal.alone-requires-clause-fits

@@ -14,7 +14,7 @@ use Rattle.hum_path.specs.Sign.{sign_of, is_join, is_exchange}
 use Rattle.hum_spread.specs.Spread.{Piece, tokens_in}
 use Rattle.hum_spread.specs.Writing.{Fit}
 use Rattle.hum_spread.proofs.Weights.{weight, no_longer}
-use Rattle.hum_spread.proofs.Alone.{Lawful, null_lawful}
+use Rattle.hum_spread.proofs.OneByOne.{Lawful, null_lawful}
 use Rattle.hum_extract.specs.Extract.{differ, is_torn, exchanged_flags, is_lone, chosen_before, chosen_between, softened, pieces}
 
 -- the same by the left neighbour
