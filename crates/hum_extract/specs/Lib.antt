@@ -1,0 +1,4 @@
+pub mod Choice
+pub mod Extract
+pub mod Written
+pub mod Following

@@ -1,0 +1,148 @@
+//! Interpretations of which some columns are dropped.
+ghost use Rattle.std.specs.Prelude.{◌≡◌, [], ◌&&◌, false, length, map, IfOk};
+ghost use Rattle.hum_record.specs.Row.{Spined, tokens_of, width_of, text_of};
+ghost use Rattle.hum_record.specs.declared.SpinedKind.TheVariants.{Interpretation};
+ghost use Rattle.hum_record.specs.Spelling.{IsTextOf};
+ghost use Rattle.hum_path.specs.Sign.{sign_of};
+ghost use Rattle.hum_extract.specs.Extract.{differ, is_torn, exchanged_flags, is_lone};
+ghost use Rattle.hum_extract.specs.Extract.{chosen_between, softened, pieces, cut};
+ghost use Rattle.hum_extract.specs.Following.{Answers};
+
+use hum_path::token_sign;
+use hum_record::Record;
+use hum_spread::{Piece, spread};
+use hum_stage::Rule;
+use std::alloc::{AllocError, Global};
+use std::collections::VecDeque;
+
+fn differ(a: bool, b: bool) -> bool
+    ensures { result ≡ differ a b }
+{
+    a != b
+}
+
+/// Whether neighbours tear a join: both join, and one is chosen and the other isn't.
+fn tears(left_joins: bool, left: bool, joins: bool, mark: bool) -> bool
+    ensures { result ≡ (left_joins && (joins && differ left mark)) }
+{
+    left_joins && joins && differ(left, mark)
+}
+
+/// Whether one join has chosen and dropped columns.
+fn is_torn(marks: &[bool], row: &Record) -> bool
+    requires { length marks.now ≡ width_of row.now }
+    ensures { result ≡ is_torn marks.now (map sign_of (tokens_of row.now)) }
+{
+    let mut left_joins = false;
+    let mut left = false;
+    for (j, mark) in marks.iter().enumerate() {
+        let joins = token_sign(row.token(j)).is_join();
+        if tears(left_joins, left, joins, *mark) {
+            return true;
+        }
+        left_joins = joins;
+        left = *mark;
+    }
+    false
+}
+
+/// Whether of the exchanged columns one is chosen and the other isn't.
+fn is_lone(marks: &[bool], row: &Record) -> bool
+    requires { length marks.now ≡ width_of row.now }
+    ensures { result
+        ≡ is_lone (exchanged_flags marks.now (map sign_of (tokens_of row.now))) }
+{
+    let mut first = None;
+    for (j, mark) in marks.iter().enumerate() {
+        if token_sign(row.token(j)).is_exchange() {
+            match first {
+                None => first = Some(*mark),
+                Some(other) => return differ(other, *mark),
+            }
+        }
+    }
+    false
+}
+
+/// Whether a chosen column stands strictly between the exchanged ones.
+fn chosen_between(marks: &[bool], row: &Record) -> bool
+    requires { length marks.now ≡ width_of row.now }
+    ensures { result ≡ chosen_between marks.now (map sign_of (tokens_of row.now)) }
+{
+    let mut inside = false;
+    for (j, mark) in marks.iter().enumerate() {
+        let exchanges = token_sign(row.token(j)).is_exchange();
+        if inside && exchanges {
+            return false;
+        }
+        if inside && *mark {
+            return true;
+        }
+        inside |= exchanges;
+    }
+    false
+}
+
+/// A chosen column that is exchanged with a dropped one stays where it is.
+fn softened(lone: bool, token: &[u8]) -> &[u8]
+    ensures { result.now ≡ softened lone token.now }
+{
+    if lone && token_sign(token).is_exchange() {
+        b"*"
+    } else {
+        token
+    }
+}
+
+/// The chosen tokens, each with whether it begins a join of the record.
+fn kept_pieces<'r>(
+    alloc: Global,
+    marks: &[bool],
+    lone: bool,
+    row: &'r Record,
+) -> Result<Vec<Piece<'r>>, AllocError>
+    requires { length marks.now ≡ width_of row.now }
+    ensures { IfOk result (λ kept. kept.items
+        ≡ pieces false marks.now (map (softened lone) (tokens_of row.now))) }
+{
+    let mut kept = Vec::new(alloc);
+    let mut after_join = false;
+    for (j, mark) in marks.iter().enumerate() {
+        let token = softened(lone, row.token(j));
+        let joins = token_sign(token).is_join();
+        if *mark {
+            kept.push(Piece::new(joins && !after_join, token))?;
+        }
+        after_join = joins;
+    }
+    Ok(kept)
+}
+
+/// What an interpretation after the opening record becomes.
+pub fn cut(
+    alloc: Global,
+    marks: &[bool],
+    row: &Record,
+    room: u64,
+    out: &mut VecDeque<Record>,
+) -> Result<Option<Rule>, AllocError>
+    requires kind { row.now ≡ Spined Interpretation (tokens_of row.now) }
+    requires lawful { IsTextOf row.now (text_of row.now) }
+    requires as_wide { length marks.now ≡ width_of row.now }
+    requires empty { out.old.items ≡ [] }
+    ensures { IfOk result (Answers (cut marks.now (tokens_of row.now)) room out.new.items) }
+{
+    if is_torn(marks, row) {
+        return Ok(Some(Rule::X1));
+    }
+    let lone = is_lone(marks, row);
+    if lone && chosen_between(marks, row) {
+        return Ok(Some(Rule::X3));
+    }
+    let pieces = kept_pieces(alloc, marks, lone, row)?;
+    if spread(alloc, &pieces, room, out)? {
+        Ok(None)
+    } else {
+        Ok(Some(Rule::L2))
+    }
+}
