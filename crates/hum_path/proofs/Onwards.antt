@@ -12,6 +12,7 @@ use Rattle.hum_path.specs.Sign.{sign_of, is_join, is_exchange, is_exclusive}
 use Rattle.hum_path.specs.Spines.{Spines, exchanges, partner, heirs_from, moves_under, renamed, names_after, source}
 use Rattle.hum_path.specs.Rules.{is_pair_or_none}
 use Rattle.hum_path.specs.Onward.{beginnings, onward, at_next, put_next, swapped, renamed_each, AgreesAt, Agrees, from_places}
+use Rattle.hum_path.proofs.Within.{exchanged_below, partner_below}
 
 -- what a function makes of all moves
 pub onward_by_moves : {X : Type 0} (f : Move → X) (added : X → X) (pair : List ℕ) (j : ℕ) (b : Bool) (signs : List Sign) (xs : List X)
@@ -143,3 +144,81 @@ places_swapped {X} none ss xs len two = by_pair (exchanges 0 ss) refl two
       where
         many : (n : ℕ) → ((suc (suc (suc n)) == 0) || (suc (suc (suc n)) == 2)) ≡ true → ⊥
         many n e = grind (arith, nat_tests, e)
+
+-- the exclusive interpretations
+get_renamed : (names tokens : List (List ℕ)) (k : ℕ) → length names ≡ length tokens
+    → get_or (renamed_each names tokens) k [] ≡ cond (is_exclusive (sign_of (get_or tokens k []))) (get_or tokens k []) (get_or names k [])
+get_renamed [] [] k len = refl
+get_renamed [] (t ∷ ts) k len = absurd (omega (arith, len))
+get_renamed (n ∷ ns) [] k len = absurd (omega (arith, len))
+get_renamed (n ∷ ns) (t ∷ ts) zero len = refl
+get_renamed (n ∷ ns) (t ∷ ts) (suc k) len = get_renamed ns ts k (omega (arith, len))
+
+names_agree : (pair : List ℕ) (names tokens : List (List ℕ)) (j : ℕ) (s : Sign) → length names ≡ length tokens → sign_of (get_or tokens j []) ≡ s
+    → AgreesAt (renamed names tokens) (λ _. []) pair j s (get_or (renamed_each names tokens) (cond (is_exchange s) (partner pair j) j) [])
+names_agree pair names tokens j s len e = by_sign s e (get_renamed names tokens j len) (get_renamed names tokens (partner pair j) len)
+  where
+    by_sign : (s : Sign) → sign_of (get_or tokens j []) ≡ s
+        → get_or (renamed_each names tokens) j [] ≡ cond (is_exclusive (sign_of (get_or tokens j []))) (get_or tokens j []) (get_or names j [])
+        → get_or (renamed_each names tokens) (partner pair j) []
+        ≡ cond (is_exclusive (sign_of (get_or tokens (partner pair j) []))) (get_or tokens (partner pair j) []) (get_or names (partner pair j) [])
+        → AgreesAt (renamed names tokens) (λ _. []) pair j s (get_or (renamed_each names tokens) (cond (is_exchange s) (partner pair j) j) [])
+    by_sign Split e here there = let own = here ∙ ap (λ (x : Sign). cond (is_exclusive x) (get_or tokens j []) (get_or names j [])) e in (sym own, sym own)
+    by_sign Join e here there = let own = here ∙ ap (λ (x : Sign). cond (is_exclusive x) (get_or tokens j []) (get_or names j [])) e in λ last. sym own
+    by_sign Exchange e here there = sym there
+    by_sign Add e here there = (sym here, refl)
+    by_sign End e here there = tt
+    by_sign Exclusive e here there = sym here
+    by_sign Plain e here there = sym here
+
+all_names_agree : (pair : List ℕ) (names tokens : List (List ℕ)) (j : ℕ) (ts : List (List ℕ)) → length names ≡ length tokens
+    → ((k : ℕ) → get_or tokens (j + k) [] ≡ get_or ts k [])
+    → Agrees (renamed names tokens) (λ _. []) pair j (map sign_of ts) (from_places [] pair (renamed_each names tokens) j (map sign_of ts))
+all_names_agree pair names tokens j [] len at = tt
+all_names_agree pair names tokens j (t ∷ ts) len at =
+    let here : get_or tokens j [] ≡ t = ap (λ (k : ℕ). get_or tokens k []) (omega arith) ∙ at 0 in
+    (names_agree pair names tokens j (sign_of t) len (ap sign_of here), all_names_agree pair names tokens (j + 1) ts len (next_at [] tokens j t ts at))
+
+pub each_length : (names tokens : List (List ℕ)) → length names ≡ length tokens → length (renamed_each names tokens) ≡ length tokens
+each_length [] [] len = refl
+each_length [] (t ∷ ts) len = absurd (omega (arith, len))
+each_length (n ∷ ns) [] len = absurd (omega (arith, len))
+each_length (n ∷ ns) (t ∷ ts) len = ap suc (each_length ns ts (omega (arith, len)))
+
+-- the exclusive interpretations after a record, by its signs and each column's own
+pub names_onward : (names tokens : List (List ℕ)) → length names ≡ length tokens → is_pair_or_none (exchanges 0 (map sign_of tokens)) ≡ true
+    → names_after (Spines names) tokens
+    ≡ onward (λ _. []) (beginnings false (map sign_of tokens)) (map sign_of tokens) (swapped (map sign_of tokens) (renamed_each names tokens))
+names_onward names tokens len two =
+    let signs = map sign_of tokens in
+    let size : length signs ≡ length (renamed_each names tokens) = length-map tokens sign_of ∙ sym (each_length names tokens len) in
+    let agree = all_names_agree (exchanges 0 signs) names tokens 0 tokens len (λ k. ap (λ (n : ℕ). get_or tokens n []) (omega arith)) in
+    onward_by_moves (renamed names tokens) (λ _. []) (exchanges 0 signs) 0 false signs _ agree
+    ∙ ap (λ (xs : List (List ℕ)). onward (λ _. []) (beginnings false signs) signs xs) (places_swapped [] signs (renamed_each names tokens) size two)
+
+-- what is the same for all moves from a place
+place_agrees : {X : Type 0} (none : X) (f : Move → X) (pair : List ℕ) (xs : List X) (j : ℕ) (s : Sign) → ((m : Move) → source m < length xs → f m ≡ get_or xs (source m) none)
+    → j < length xs → partner pair j < length xs → AgreesAt f (λ x. x) pair j s (get_or xs (cond (is_exchange s) (partner pair j) j) none)
+place_agrees none f pair xs j Split at here there = (at _ here, at _ here)
+place_agrees none f pair xs j Join at here there = λ last. at _ here
+place_agrees none f pair xs j Exchange at here there = at _ there
+place_agrees none f pair xs j Add at here there = (at _ here, at _ here)
+place_agrees none f pair xs j End at here there = tt
+place_agrees none f pair xs j Exclusive at here there = at _ here
+place_agrees none f pair xs j Plain at here there = at _ here
+
+all_agree : {X : Type 0} (none : X) (f : Move → X) (pair : List ℕ) (xs : List X) (j : ℕ) (ss : List Sign) → ((m : Move) → source m < length xs → f m ≡ get_or xs (source m) none)
+    → AllByRecursion (λ p. p < length xs) pair → j + length ss ≤ length xs → Agrees f (λ x. x) pair j ss (from_places none pair xs j ss)
+all_agree none f pair xs j [] at below within = tt
+all_agree none f pair xs j (s ∷ ss) at below within =
+    let here : j < length xs = omega (arith, within) in
+    (place_agrees none f pair xs j s at here (partner_below (length xs) j pair below here), all_agree none f pair xs (j + 1) ss at below (omega (arith, within)))
+
+-- what stands at each move's source, carried on
+pub sources_onward : {X : Type 0} (none : X) (f : Move → X) (xs : List X) (ss : List Sign) → ((m : Move) → source m < length xs → f m ≡ get_or xs (source m) none)
+    → length ss ≡ length xs → is_pair_or_none (exchanges 0 ss) ≡ true → map f (moves_under ss) ≡ onward (λ x. x) (beginnings false ss) ss (swapped ss xs)
+sources_onward {X} none f xs ss at len two =
+    let below = exchanged_below (length xs) 0 ss (omega (arith, len)) in
+    let agree = all_agree none f (exchanges 0 ss) xs 0 ss at below (omega (arith, len)) in
+    onward_by_moves f (λ x. x) (exchanges 0 ss) 0 false ss _ agree
+    ∙ ap (λ (ys : List X). onward (λ x. x) (beginnings false ss) ss ys) (places_swapped none ss xs len two)
