@@ -178,3 +178,115 @@ done_joins (p ∷ ps) n h = by_test p.begins refl h (λ h. done_joins ps n h)
         → joins_in (cond t (piece false (codes "*") ∷ join_done ps) (p ∷ first_done ps)) ≡ n
     by_test true w h more = let e = rest ps in omega (arith, e, h)
     by_test false w h more = rw w (more h)
+
+-- Exchanges stand apart from joins.
+join_stays : (s : Sign) → is_join s ≡ true → is_exchange s ≡ false
+join_stays s h = rw (is_join_at s h) refl
+
+rest_at_next : {X : Type 0} (other : X) (ps : List Piece) (xs : List X)
+    → at_next other (signs_in (join_done ps)) (rest_merged ps xs) ≡ at_next other (signs_in ps) xs
+rest_at_next other [] xs = refl
+rest_at_next {X} other (p ∷ ps) [] = none (join_done (p ∷ ps))
+  where
+    none : (qs : List Piece) → at_next other (signs_in qs) [] ≡ other
+    none [] = refl
+    none (q ∷ qs) = refl
+rest_at_next other (p ∷ ps) (x ∷ xs) =
+    elim (cases_Bool (goes_on p)) as (λ _. at_next other (signs_in (join_done (p ∷ ps))) (rest_merged (p ∷ ps) (x ∷ xs)) ≡ at_next other (signs_in (p ∷ ps)) (x ∷ xs)) [
+      | inl w ↦ rw (w, join_stays (sign_of p.token) (and_parts (joins p) (not p.begins) w).0) (rest_at_next other ps xs)
+      | inr w ↦ rw w refl
+    ]
+
+rest_put_next : {X : Type 0} (other : X) (ps : List Piece) (xs : List X)
+    → put_next other (signs_in (join_done ps)) (rest_merged ps xs) ≡ rest_merged ps (put_next other (signs_in ps) xs)
+rest_put_next other [] xs = refl
+rest_put_next {X} other (p ∷ ps) [] = none (join_done (p ∷ ps))
+  where
+    none : (qs : List Piece) → put_next other (signs_in qs) [] ≡ []
+    none [] = refl
+    none (q ∷ qs) = refl
+rest_put_next other (p ∷ ps) (x ∷ xs) =
+    elim (cases_Bool (goes_on p)) as (λ _. put_next other (signs_in (join_done (p ∷ ps))) (rest_merged (p ∷ ps) (x ∷ xs)) ≡ rest_merged (p ∷ ps) (put_next other (signs_in (p ∷ ps)) (x ∷ xs))) [
+      | inl w ↦ rw (w, join_stays (sign_of p.token) (and_parts (joins p) (not p.begins) w).0) (rw w (rest_put_next other ps xs))
+      | inr w ↦ elim (cases_Bool (is_exchange (sign_of p.token))) as (λ _. put_next other (signs_in (join_done (p ∷ ps))) (rest_merged (p ∷ ps) (x ∷ xs)) ≡ rest_merged (p ∷ ps) (put_next other (signs_in (p ∷ ps)) (x ∷ xs))) [
+        | inl v ↦ rw (w, v) (rw w refl)
+        | inr v ↦ rw (w, v) (rw w refl)
+      ]
+    ]
+
+rest_swapped : {X : Type 0} (ps : List Piece) (xs : List X)
+    → swapped (signs_in (join_done ps)) (rest_merged ps xs) ≡ rest_merged ps (swapped (signs_in ps) xs)
+rest_swapped [] xs = refl
+rest_swapped (p ∷ ps) [] = none (join_done (p ∷ ps))
+  where
+    none : {X : Type 0} (qs : List Piece) → swapped {X = X} (signs_in qs) [] ≡ []
+    none [] = refl
+    none (q ∷ qs) = refl
+rest_swapped (p ∷ ps) (x ∷ xs) =
+    elim (cases_Bool (goes_on p)) as (λ _. swapped (signs_in (join_done (p ∷ ps))) (rest_merged (p ∷ ps) (x ∷ xs)) ≡ rest_merged (p ∷ ps) (swapped (signs_in (p ∷ ps)) (x ∷ xs))) [
+      | inl w ↦ rw (w, join_stays (sign_of p.token) (and_parts (joins p) (not p.begins) w).0) (rw w (rest_swapped ps xs))
+      | inr w ↦ elim (cases_Bool (is_exchange (sign_of p.token))) as (λ _. swapped (signs_in (join_done (p ∷ ps))) (rest_merged (p ∷ ps) (x ∷ xs)) ≡ rest_merged (p ∷ ps) (swapped (signs_in (p ∷ ps)) (x ∷ xs))) [
+        | inl v ↦ rw (w, v) (rw w refl)
+        | inr v ↦ rw (w, v) (rw w refl)
+      ]
+    ]
+
+-- a piece that begins a join
+begin_stays : (b : Bool) (m : List ℕ) (p : Piece) (ps : List Piece) (n : List ℕ) (ns : List (List ℕ)) → Formed b m (p ∷ ps) (n ∷ ns)
+    → p.begins ≡ true → is_exchange (sign_of p.token) ≡ false
+begin_stays b m p ps n ns f w = join_stays (sign_of p.token) (f.0 w).0
+
+done_at_next : {X : Type 0} (other : X) (b : Bool) (m : List ℕ) (ps : List Piece) (ns : List (List ℕ)) (xs : List X) → Formed b m ps ns
+    → at_next other (signs_in (first_done ps)) (merged ps xs) ≡ at_next other (signs_in ps) xs
+done_at_next other b m [] ns xs f = refl
+done_at_next other b m (p ∷ ps) [] xs f = absurd f
+done_at_next {X} other b m (p ∷ ps) (n ∷ ns) [] f = none (first_done (p ∷ ps))
+  where
+    none : (qs : List Piece) → at_next other (signs_in qs) [] ≡ other
+    none [] = refl
+    none (q ∷ qs) = refl
+done_at_next {X} other b m (p ∷ ps) (n ∷ ns) (x ∷ xs) f =
+    elim (cases_Bool p.begins) as (λ _. at_next other (signs_in (first_done (p ∷ ps))) (merged (p ∷ ps) (x ∷ xs)) ≡ at_next other (signs_in (p ∷ ps)) (x ∷ xs)) [
+      | inl w ↦ rw (w, begin_stays b m p ps n ns f w) (rest_at_next other ps xs)
+      | inr w ↦ rw w (ap (λ (y : X). cond (is_exchange (sign_of p.token)) x y) (done_at_next other (joins p) n ps ns xs f.1.1))
+    ]
+
+done_put_next : {X : Type 0} (other : X) (b : Bool) (m : List ℕ) (ps : List Piece) (ns : List (List ℕ)) (xs : List X) → Formed b m ps ns
+    → put_next other (signs_in (first_done ps)) (merged ps xs) ≡ merged ps (put_next other (signs_in ps) xs)
+done_put_next other b m [] ns xs f = refl
+done_put_next other b m (p ∷ ps) [] xs f = absurd f
+done_put_next {X} other b m (p ∷ ps) (n ∷ ns) [] f = none (first_done (p ∷ ps))
+  where
+    none : (qs : List Piece) → put_next other (signs_in qs) [] ≡ []
+    none [] = refl
+    none (q ∷ qs) = refl
+done_put_next {X} other b m (p ∷ ps) (n ∷ ns) (x ∷ xs) f =
+    elim (cases_Bool p.begins) as (λ _. put_next other (signs_in (first_done (p ∷ ps))) (merged (p ∷ ps) (x ∷ xs)) ≡ merged (p ∷ ps) (put_next other (signs_in (p ∷ ps)) (x ∷ xs))) [
+      | inl w ↦ rw (w, begin_stays b m p ps n ns f w) ((ap (λ (ys : List X). x ∷ ys) (rest_put_next other ps xs)))
+      | inr w ↦ elim (cases_Bool (is_exchange (sign_of p.token))) as (λ _. put_next other (signs_in (first_done (p ∷ ps))) (merged (p ∷ ps) (x ∷ xs)) ≡ merged (p ∷ ps) (put_next other (signs_in (p ∷ ps)) (x ∷ xs))) [
+        | inl v ↦ rw (w, v) refl
+        | inr v ↦ rw (w, v) ((ap (λ (ys : List X). x ∷ ys) (done_put_next other (joins p) n ps ns xs f.1.1)))
+      ]
+    ]
+
+-- the first join, and then the exchange: as the other way round
+pub done_swapped : {X : Type 0} (b : Bool) (m : List ℕ) (ps : List Piece) (ns : List (List ℕ)) (xs : List X) → Formed b m ps ns
+    → swapped (signs_in (first_done ps)) (merged ps xs) ≡ merged ps (swapped (signs_in ps) xs)
+done_swapped b m [] ns xs f = refl
+done_swapped b m (p ∷ ps) [] xs f = absurd f
+done_swapped {X} b m (p ∷ ps) (n ∷ ns) [] f = none (first_done (p ∷ ps))
+  where
+    none : (qs : List Piece) → swapped {X = X} (signs_in qs) [] ≡ []
+    none [] = refl
+    none (q ∷ qs) = refl
+done_swapped {X} b m (p ∷ ps) (n ∷ ns) (x ∷ xs) f =
+    elim (cases_Bool p.begins) as (λ _. swapped (signs_in (first_done (p ∷ ps))) (merged (p ∷ ps) (x ∷ xs)) ≡ merged (p ∷ ps) (swapped (signs_in (p ∷ ps)) (x ∷ xs))) [
+      | inl w ↦ rw (w, begin_stays b m p ps n ns f w) ((ap (λ (ys : List X). x ∷ ys) (rest_swapped ps xs)))
+      | inr w ↦ elim (cases_Bool (is_exchange (sign_of p.token))) as (λ _. swapped (signs_in (first_done (p ∷ ps))) (merged (p ∷ ps) (x ∷ xs)) ≡ merged (p ∷ ps) (swapped (signs_in (p ∷ ps)) (x ∷ xs))) [
+        | inl v ↦
+            let other = done_at_next x (joins p) n ps ns xs f.1.1 in
+            let back = done_put_next x (joins p) n ps ns xs f.1.1 in
+            rw (w, v) (rw (other, back) refl)
+        | inr v ↦ rw (w, v) ((ap (λ (ys : List X). x ∷ ys) (done_swapped (joins p) n ps ns xs f.1.1)))
+      ]
+    ]
