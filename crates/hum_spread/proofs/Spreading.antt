@@ -48,7 +48,7 @@ merged [] xs = xs
 merged (p ∷ pieces) [] = []
 merged (p ∷ pieces) (x ∷ xs) = if p.begins then x ∷ rest_merged pieces xs else x ∷ merged pieces xs
 
-is_join_at : (s : Sign) → is_join s ≡ true → s ≡ Join
+pub is_join_at : (s : Sign) → is_join s ≡ true → s ≡ Join
 is_join_at Join h = refl
 is_join_at Split h = cc
 is_join_at Exchange h = cc

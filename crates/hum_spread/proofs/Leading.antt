@@ -1,0 +1,367 @@
+-- The records that tokens are spread over break no rule, and lead where one record would.
+use Rattle.std.proofs.Common.{◌≡◌, ◌∙◌, refl, sym, ap, ℕ, zero, suc, ◌+◌, ◌≤◌, ◌==◌, Bool, true, false, not, ◌&&◌, ◌||◌}
+use Rattle.std.proofs.Common.{List, [], ◌∷◌, ◌++◌, length, map, cond, arith, inl, inr, None}
+use Rattle.std.specs.Prelude.{nat_lt}
+use Rattle.std.specs.List.{list_any, find}
+use Rattle.std.specs.Str.{bytes_eq}
+use Rattle.std.proofs.lemmas.Bool.{cases_Bool, and_parts, or_parts, or_from, false≢true, not-false}
+use Rattle.std.proofs.lemmas.Bool.Decides.{nat_tests}
+use Rattle.std.proofs.lemmas.List.{length-map}
+use Rattle.std.proofs.lemmas.Slice.Eq.{bytes_eq-Decides}
+use lib.Chars.{codes}
+use Rattle.hum_record.specs.declared.SpinedKind.TheVariants.{Interpretation}
+use Rattle.hum_record.specs.Row.{Row, Spined}
+use Rattle.hum_path.specs.declared.signs.Sign.{Sign}
+use Rattle.hum_path.specs.declared.signs.Sign.TheVariants.{Split, Join, Exchange, Add, End, Exclusive, Plain}
+use Rattle.hum_path.specs.Sign.{sign_of, is_join, is_exchange, is_exclusive, is_path_indicator}
+use Rattle.hum_path.specs.Spines.{Path, Spines, exclusives, exchanges, moves_under, names_after, renamed, after}
+use Rattle.hum_path.specs.Rules.{breaks, in_order, fault_of, has_unnamed, has_bare, names_and_steers, has_lone_join, first_is, is_pair_or_none, has_mixed_join, stays_unnamed}
+use Rattle.hum_path.specs.Onward.{beginnings, onward, swapped, renamed_each}
+use Rattle.hum_path.proofs.Onwards.{names_onward, swapped_none, each_length, begins_length}
+use Rattle.hum_spread.specs.Spread.{Piece, piece, joins, goes_on, tokens_in, touches, joins_in, join_alone, first_alone, join_done, first_done, one_by_one, before_last, spread, filled}
+use Rattle.hum_spread.proofs.Spreading.{marks, signs_in, next_goes_on, Formed, formed_length, rest_merged, merged, first_onward, done_onward, done_formed, done_joins, done_swapped, is_join_at}
+
+-- Records follow on spines under exclusive interpretations, and these stand after them.
+abbrev pub Lead : List (List ℕ) → List Row → List (List ℕ) → Type 0
+Lead names [] end = names ≡ end
+Lead names (row ∷ rows) end =
+    (fault_of (Spines names) row ≡ None) × Lead (exclusives (after (Spines names) row)) rows end
+
+-- what pieces come to at once
+abbrev pub come_to : List Piece → List (List ℕ) → List (List ℕ)
+come_to pieces names =
+    onward (λ _. []) (marks pieces) (signs_in pieces) (swapped (signs_in pieces) (renamed_each names (tokens_in pieces)))
+
+-- pieces that break no rule but that joins may touch
+pub record Fits (pieces : List Piece) (names : List (List ℕ)) : Type 0 where
+  pub formed : Formed false [] pieces names
+  pub unnamed : has_unnamed names (signs_in pieces) ≡ false
+  pub bare : has_bare (tokens_in pieces) ≡ false
+  pub steers : names_and_steers (signs_in pieces) ≡ false
+  pub pair : is_pair_or_none (exchanges 0 (signs_in pieces)) ≡ true
+
+-- The rules one by one.
+pub sound_by_rules : (names tokens : List (List ℕ)) (k : ℕ) → length tokens ≡ suc k → length tokens ≡ length names → has_unnamed names (map sign_of tokens) ≡ false
+    → has_bare tokens ≡ false → names_and_steers (map sign_of tokens) ≡ false → has_lone_join false (map sign_of tokens) ≡ false
+    → is_pair_or_none (exchanges 0 (map sign_of tokens)) ≡ true → has_mixed_join names (map sign_of tokens) ≡ false
+    → length (names_after (Spines names) tokens) ≤ 4096 → find (breaks (Spines names) tokens) in_order ≡ None
+sound_by_rules names tokens k some len p6 p10 p11 p3 p4 p5 p9 =
+    let here : (length names == 0) ≡ false = grind (arith, nat_tests, some, len) in
+    let same : (length tokens == length names) ≡ true = grind (arith, nat_tests, len) in
+    let size = length-map (moves_under (map sign_of tokens)) (renamed names tokens) in
+    let few : nat_lt 4096 (length (moves_under (map sign_of tokens))) ≡ false = grind (arith, nat_tests, p9, size) in
+    rw (here, same, p6, p10, p11, p3, p4, p5, few) refl
+
+pieces_size : (ps : List Piece) → length (tokens_in ps) ≡ length ps
+pieces_size ps = length-map ps (λ p. p.token)
+
+signs_size : (ps : List Piece) → length (signs_in ps) ≡ length ps
+signs_size ps = length-map (tokens_in ps) sign_of ∙ pieces_size ps
+
+-- Where no join touches another, each begins where its piece says.
+not_after : (b m j : Bool) → (m ≡ true → j ≡ true) → ((j && not m) ≡ true → b ≡ true) → (b && m) ≡ false → (j && not b) ≡ m
+not_after true true true h g t = cc
+not_after true true false h g t = cc
+not_after true false true h g t = refl
+not_after true false false h g t = refl
+not_after false true true h g t = refl
+not_after false true false h g t = h refl
+not_after false false true h g t = sym (g refl)
+not_after false false false h g t = refl
+
+pub begins_marks : (b : Bool) (m : List ℕ) (ps : List Piece) (ns : List (List ℕ)) → Formed b m ps ns → touches b ps ≡ false → beginnings b (signs_in ps) ≡ marks ps
+begins_marks b m [] ns f t = refl
+begins_marks b m (p ∷ ps) [] f t = absurd f
+begins_marks b m (p ∷ ps) (n ∷ ns) f t =
+    let both = or_parts (b && p.begins) (touches (joins p) ps) t in
+    let here = not_after b p.begins (joins p) (λ e. (f.0 e).0) (λ e. (f.1.0 e).0) both.0 in
+    rw (here, begins_marks (joins p) n ps ns f.1.1 both.1) refl
+
+-- no join is lone
+next_joins : (ps : List Piece) → next_goes_on ps ≡ true → first_is is_join (signs_in ps) ≡ true
+next_joins [] h = h
+next_joins (p ∷ ps) h = (and_parts (joins p) (not p.begins) h).0
+
+beside : (b m j : Bool) (next : Bool) → (m ≡ true → next ≡ true) → ((j && not m) ≡ true → b ≡ true) → (j && not (b || next)) ≡ false
+beside true m true next h g = refl
+beside true m false next h g = refl
+beside false true true next h g = rw (h refl) refl
+beside false true false next h g = refl
+beside false false true next h g = absurd (false≢true (g refl))
+beside false false false next h g = refl
+
+pub formed_lone : (b : Bool) (m : List ℕ) (ps : List Piece) (ns : List (List ℕ)) → Formed b m ps ns → has_lone_join b (signs_in ps) ≡ false
+formed_lone b m [] ns f = refl
+formed_lone b m (p ∷ ps) [] f = absurd f
+formed_lone b m (p ∷ ps) (n ∷ ns) f =
+    or_from (joins p && not (b || first_is is_join (signs_in ps))) (has_lone_join (joins p) (signs_in ps))
+      (beside b p.begins (joins p) (first_is is_join (signs_in ps)) (λ e. next_joins ps (f.0 e).1) (λ e. (f.1.0 e).0))
+      (formed_lone (joins p) n ps ns f.1.1)
+
+-- no join is mixed
+same_name : (m n : List ℕ) → m ≡ n → not (bytes_eq m n) ≡ false
+same_name m n e = let same = (bytes_eq-Decides m n).1 e in rw same refl
+
+unmixed : (b g j : Bool) (m n : List ℕ) → ((j && not g) ≡ true → (b ≡ true) × (m ≡ n)) → (b && g) ≡ false → (b && (j && not (bytes_eq m n))) ≡ false
+unmixed false g j m n h t = refl
+unmixed true true j m n h t = absurd (false≢true (sym t))
+unmixed true false false m n h t = refl
+unmixed true false true m n h t = same_name m n (h refl).1
+
+pub formed_mixed : (s : Sign) (m : List ℕ) (ps : List Piece) (ns : List (List ℕ)) → Formed (is_join s) m ps ns → touches (is_join s) ps ≡ false → has_mixed_join (m ∷ ns) (s ∷ signs_in ps) ≡ false
+formed_mixed s m [] [] f t = refl
+formed_mixed s m [] (n ∷ ns) f t = absurd f
+formed_mixed s m (p ∷ ps) [] f t = absurd f
+formed_mixed s m (p ∷ ps) (n ∷ ns) f t =
+    let both = or_parts (is_join s && p.begins) (touches (joins p) ps) t in
+    or_from (is_join s && (joins p && not (bytes_eq m n))) (has_mixed_join (n ∷ ns) (signs_in (p ∷ ps)))
+      (unmixed (is_join s) p.begins (joins p) m n f.1.0 both.0)
+      (formed_mixed (sign_of p.token) n ps ns f.1.1 both.1)
+
+-- nothing stands to the left of the first
+mixed_first : (ps : List Piece) (ns : List (List ℕ)) → Formed false [] ps ns → touches false ps ≡ false → has_mixed_join ns (signs_in ps) ≡ false
+mixed_first [] [] f t = refl
+mixed_first [] (n ∷ ns) f t = absurd f
+mixed_first (p ∷ ps) [] f t = absurd f
+mixed_first (p ∷ ps) (n ∷ ns) f t = formed_mixed Plain [] (p ∷ ps) (n ∷ ns) f t
+
+-- One record, where no join touches another.
+pub one_comes : (ps : List Piece) (ns : List (List ℕ)) → Fits ps ns → touches false ps ≡ false → names_after (Spines ns) (tokens_in ps) ≡ come_to ps ns
+one_comes ps ns fits t =
+    let len : length ns ≡ length (tokens_in ps) = sym (formed_length false [] ps ns fits.formed) ∙ sym (pieces_size ps) in
+    names_onward ns (tokens_in ps) len fits.pair
+    ∙ ap (λ (bs : List Bool). onward (λ _. []) bs (signs_in ps) (swapped (signs_in ps) (renamed_each ns (tokens_in ps)))) (begins_marks false [] ps ns fits.formed t)
+
+pub one_sound : (ps : List Piece) (ns : List (List ℕ)) (k : ℕ) → length ps ≡ suc k → Fits ps ns → touches false ps ≡ false → length (come_to ps ns) ≤ 4096
+    → find (breaks (Spines ns) (tokens_in ps)) in_order ≡ None
+one_sound ps ns k some fits t few =
+    let size = pieces_size ps in
+    let len = formed_length false [] ps ns fits.formed in
+    let same = ap length (one_comes ps ns fits t) in
+    sound_by_rules ns (tokens_in ps) k (omega (arith, size, some)) (omega (arith, size, len)) fits.unnamed fits.bare fits.steers
+      (formed_lone false [] ps ns fits.formed) fits.pair (mixed_first ps ns fits.formed t) (omega (arith, same, few))
+
+-- one record more
+one_more : (names tokens end : List (List ℕ)) (rows : List (List (List ℕ))) (k : ℕ) → length tokens ≡ suc k → find (breaks (Spines names) tokens) in_order ≡ None
+    → Lead (names_after (Spines names) tokens) (filled Interpretation rows) end → Lead names (filled Interpretation (tokens ∷ rows)) end
+one_more names [] end rows k some sound more = absurd (omega (arith, some))
+one_more names (t ∷ ts) end rows k some sound more = (sound, more)
+
+pub one_leads : (ps : List Piece) (ns : List (List ℕ)) → Fits ps ns → touches false ps ≡ false → length (come_to ps ns) ≤ 4096
+    → Lead ns (filled Interpretation (tokens_in ps ∷ [])) (come_to ps ns)
+one_leads [] [] fits t few = refl
+one_leads [] (n ∷ ns) fits t few = absurd fits.formed
+one_leads (p ∷ ps) ns fits t few =
+    one_more ns (tokens_in (p ∷ ps)) (come_to (p ∷ ps) ns) [] (length ps) (pieces_size (p ∷ ps)) (one_sound (p ∷ ps) ns (length ps) refl fits t few) (one_comes (p ∷ ps) ns fits t)
+
+-- The record with the first join alone.
+alone_size : (ps : List Piece) → length (join_alone ps) ≡ length ps
+alone_size [] = refl
+alone_size (p ∷ ps) = elim (cases_Bool (goes_on p)) as (λ _. length (join_alone (p ∷ ps)) ≡ suc (length ps)) [
+  | inl w ↦ rw w (ap suc (alone_size ps))
+  | inr w ↦ rw w (length-map (p ∷ ps) (λ _. codes "*"))
+]
+
+first_size : (ps : List Piece) → length (first_alone ps) ≡ length ps
+first_size [] = refl
+first_size (p ∷ ps) = elim (cases_Bool p.begins) as (λ _. length (first_alone (p ∷ ps)) ≡ suc (length ps)) [
+  | inl w ↦ rw w (ap suc (alone_size ps))
+  | inr w ↦ rw w (ap suc (first_size ps))
+]
+
+-- what neither null tokens nor joins are, none is
+stars_none : (test : List ℕ → Bool) (ps : List Piece) → test (codes "*") ≡ false → list_any test (map (λ _. codes "*") ps) ≡ false
+stars_none test [] h = refl
+stars_none test (p ∷ ps) h = or_from (test (codes "*")) (list_any test (map (λ _. codes "*") ps)) h (stars_none test ps h)
+
+alone_none : (test : List ℕ → Bool) (ps : List Piece) → test (codes "*") ≡ false → list_any test (tokens_in ps) ≡ false → list_any test (join_alone ps) ≡ false
+alone_none test [] star h = refl
+alone_none test (p ∷ ps) star h =
+    let both = or_parts (test p.token) (list_any test (tokens_in ps)) h in
+    elim (cases_Bool (goes_on p)) as (λ _. list_any test (join_alone (p ∷ ps)) ≡ false) [
+      | inl w ↦ rw w (or_from (test p.token) (list_any test (join_alone ps)) both.0 (alone_none test ps star both.1))
+      | inr w ↦ rw w (stars_none test (p ∷ ps) star)
+    ]
+
+first_none : (test : List ℕ → Bool) (ps : List Piece) → test (codes "*") ≡ false → list_any test (tokens_in ps) ≡ false → list_any test (first_alone ps) ≡ false
+first_none test [] star h = refl
+first_none test (p ∷ ps) star h =
+    let both = or_parts (test p.token) (list_any test (tokens_in ps)) h in
+    elim (cases_Bool p.begins) as (λ _. list_any test (first_alone (p ∷ ps)) ≡ false) [
+      | inl w ↦ rw w (or_from (test p.token) (list_any test (join_alone ps)) both.0 (alone_none test ps star both.1))
+      | inr w ↦ rw w (or_from (test (codes "*")) (list_any test (first_alone ps)) star (first_none test ps star both.1))
+    ]
+
+-- the same of what is left
+left_none : (test : List ℕ → Bool) (ps : List Piece) → list_any test (tokens_in ps) ≡ false → list_any test (tokens_in (join_done ps)) ≡ false
+left_none test [] h = refl
+left_none test (p ∷ ps) h = elim (cases_Bool (goes_on p)) as (λ _. list_any test (tokens_in (join_done (p ∷ ps))) ≡ false) [
+  | inl w ↦ rw w (left_none test ps (or_parts (test p.token) (list_any test (tokens_in ps)) h).1)
+  | inr w ↦ rw w h
+]
+
+done_none : (test : List ℕ → Bool) (ps : List Piece) → test (codes "*") ≡ false → list_any test (tokens_in ps) ≡ false → list_any test (tokens_in (first_done ps)) ≡ false
+done_none test [] star h = refl
+done_none test (p ∷ ps) star h =
+    let both = or_parts (test p.token) (list_any test (tokens_in ps)) h in
+    elim (cases_Bool p.begins) as (λ _. list_any test (tokens_in (first_done (p ∷ ps))) ≡ false) [
+      | inl w ↦ rw w (or_from (test (codes "*")) (list_any test (tokens_in (join_done ps))) star (left_none test ps both.1))
+      | inr w ↦ rw w (or_from (test p.token) (list_any test (tokens_in (first_done ps))) both.0 (done_none test ps star both.1))
+    ]
+
+rest_none : {X : Type 0} (test : X → Bool) (ps : List Piece) (xs : List X) → list_any test xs ≡ false → list_any test (rest_merged ps xs) ≡ false
+rest_none test [] xs h = h
+rest_none test (p ∷ ps) [] h = refl
+rest_none test (p ∷ ps) (x ∷ xs) h = elim (cases_Bool (goes_on p)) as (λ _. list_any test (rest_merged (p ∷ ps) (x ∷ xs)) ≡ false) [
+  | inl w ↦ rw w (rest_none test ps xs (or_parts (test x) (list_any test xs) h).1)
+  | inr w ↦ rw w h
+]
+
+merged_none : {X : Type 0} (test : X → Bool) (ps : List Piece) (xs : List X) → list_any test xs ≡ false → list_any test (merged ps xs) ≡ false
+merged_none test [] xs h = h
+merged_none test (p ∷ ps) [] h = refl
+merged_none test (p ∷ ps) (x ∷ xs) h =
+    let both = or_parts (test x) (list_any test xs) h in
+    elim (cases_Bool p.begins) as (λ _. list_any test (merged (p ∷ ps) (x ∷ xs)) ≡ false) [
+      | inl w ↦ rw w (or_from (test x) (list_any test (rest_merged ps xs)) both.0 (rest_none test ps xs both.1))
+      | inr w ↦ rw w (or_from (test x) (list_any test (merged ps xs)) both.0 (merged_none test ps xs both.1))
+    ]
+
+rest_fewer : {X : Type 0} (ps : List Piece) (xs : List X) → length (rest_merged ps xs) ≤ length xs
+rest_fewer [] xs = omega arith
+rest_fewer (p ∷ ps) [] = omega arith
+rest_fewer (p ∷ ps) (x ∷ xs) = elim (cases_Bool (goes_on p)) as (λ _. length (rest_merged (p ∷ ps) (x ∷ xs)) ≤ length (x ∷ xs)) [
+  | inl w ↦ rw w (let ih = rest_fewer ps xs in omega (arith, ih))
+  | inr w ↦ rw w (omega arith)
+]
+
+merged_fewer : {X : Type 0} (ps : List Piece) (xs : List X) → length (merged ps xs) ≤ length xs
+merged_fewer [] xs = omega arith
+merged_fewer (p ∷ ps) [] = omega arith
+merged_fewer (p ∷ ps) (x ∷ xs) = elim (cases_Bool p.begins) as (λ _. length (merged (p ∷ ps) (x ∷ xs)) ≤ length (x ∷ xs)) [
+  | inl w ↦ rw w (let fewer = rest_fewer ps xs in omega (arith, fewer))
+  | inr w ↦ rw w (let ih = merged_fewer ps xs in omega (arith, ih))
+]
+
+-- its signs
+stars_lone : (b : Bool) (ps : List Piece) → has_lone_join b (map sign_of (map (λ _. codes "*") ps)) ≡ false
+stars_lone b [] = refl
+stars_lone b (p ∷ ps) = stars_lone false ps
+
+alone_lone : (ps : List Piece) → has_lone_join true (map sign_of (join_alone ps)) ≡ false
+alone_lone [] = refl
+alone_lone (p ∷ ps) = elim (cases_Bool (goes_on p)) as (λ _. has_lone_join true (map sign_of (join_alone (p ∷ ps))) ≡ false) [
+  | inl w ↦
+      let join = (and_parts (joins p) (not p.begins) w).0 in
+      rw (w, join) (alone_lone ps)
+  | inr w ↦ rw w (stars_lone true (p ∷ ps))
+]
+
+alone_joins : (ps : List Piece) → next_goes_on ps ≡ true → first_is is_join (map sign_of (join_alone ps)) ≡ true
+alone_joins [] h = h
+alone_joins (p ∷ ps) h = rw h (and_parts (joins p) (not p.begins) h).0
+
+first_lone : (b : Bool) (m : List ℕ) (ps : List Piece) (ns : List (List ℕ)) → Formed b m ps ns → has_lone_join false (map sign_of (first_alone ps)) ≡ false
+first_lone b m [] ns f = refl
+first_lone b m (p ∷ ps) [] f = absurd f
+first_lone b m (p ∷ ps) (n ∷ ns) f = elim (cases_Bool p.begins) as (λ _. has_lone_join false (map sign_of (first_alone (p ∷ ps))) ≡ false) [
+  | inl w ↦
+      let join = (f.0 w).0 in
+      let next = alone_joins ps (f.0 w).1 in
+      rw (w, join, next) (alone_lone ps)
+  | inr w ↦ rw w (first_lone (joins p) n ps ns f.1.1)
+]
+
+stars_mixed : (m : List ℕ) (ps : List Piece) (ns : List (List ℕ)) (s : Sign) → length ps ≡ length ns → has_mixed_join (m ∷ ns) (s ∷ map sign_of (map (λ _. codes "*") ps)) ≡ false
+stars_mixed m [] [] s len = refl
+stars_mixed m [] (n ∷ ns) s len = absurd (omega (arith, len))
+stars_mixed m (p ∷ ps) [] s len = absurd (omega (arith, len))
+stars_mixed m (p ∷ ps) (n ∷ ns) s len =
+    or_from (is_join s && (false && not (bytes_eq m n))) (has_mixed_join (n ∷ ns) (Plain ∷ map sign_of (map (λ _. codes "*") ps))) (never (is_join s)) (stars_mixed n ps ns Plain (omega (arith, len)))
+  where
+    never : (b : Bool) → (b && false) ≡ false
+    never true = refl
+    never false = refl
+
+alone_mixed : (b : Bool) (m : List ℕ) (ps : List Piece) (ns : List (List ℕ)) → Formed b m ps ns → has_mixed_join (m ∷ ns) (Join ∷ map sign_of (join_alone ps)) ≡ false
+alone_mixed b m [] [] f = refl
+alone_mixed b m [] (n ∷ ns) f = absurd f
+alone_mixed b m (p ∷ ps) [] f = absurd f
+alone_mixed b m (p ∷ ps) (n ∷ ns) f = by_test (goes_on p) refl (alone_mixed (joins p) n ps ns f.1.1)
+  where
+    by_test : (t : Bool) → goes_on p ≡ t → has_mixed_join (n ∷ ns) (Join ∷ map sign_of (join_alone ps)) ≡ false
+        → has_mixed_join (m ∷ n ∷ ns) (Join ∷ map sign_of (cond t (p.token ∷ join_alone ps) (map (λ _. codes "*") (p ∷ ps)))) ≡ false
+    by_test true w rest =
+        let join = (and_parts (joins p) (not p.begins) w).0 in
+        let same = same_name m n (f.1.0 w).1 in
+        rw (is_join_at (sign_of p.token) join, same) rest
+    by_test false w rest = stars_mixed m (p ∷ ps) (n ∷ ns) Join (formed_length b m (p ∷ ps) (n ∷ ns) f)
+
+first_mixed : (b : Bool) (m o : List ℕ) (ps : List Piece) (ns : List (List ℕ)) → Formed b m ps ns → has_mixed_join (o ∷ ns) (Plain ∷ map sign_of (first_alone ps)) ≡ false
+first_mixed b m o [] [] f = refl
+first_mixed b m o [] (n ∷ ns) f = absurd f
+first_mixed b m o (p ∷ ps) [] f = absurd f
+first_mixed b m o (p ∷ ps) (n ∷ ns) f = by_test p.begins refl (alone_mixed (joins p) n ps ns f.1.1) (first_mixed (joins p) n n ps ns f.1.1)
+  where
+    by_test : (t : Bool) → p.begins ≡ t → has_mixed_join (n ∷ ns) (Join ∷ map sign_of (join_alone ps)) ≡ false → has_mixed_join (n ∷ ns) (Plain ∷ map sign_of (first_alone ps)) ≡ false
+        → has_mixed_join (o ∷ n ∷ ns) (Plain ∷ map sign_of (cond t (p.token ∷ join_alone ps) (codes "*" ∷ first_alone ps))) ≡ false
+    by_test true w alone more = rw (is_join_at (sign_of p.token) (f.0 w).0) alone
+    by_test false w alone more = more
+
+first_unmixed : (ps : List Piece) (ns : List (List ℕ)) → Formed false [] ps ns → has_mixed_join ns (map sign_of (first_alone ps)) ≡ false
+first_unmixed [] [] f = refl
+first_unmixed [] (n ∷ ns) f = absurd f
+first_unmixed (p ∷ ps) [] f = absurd f
+first_unmixed (p ∷ ps) (n ∷ ns) f = by_test p.begins (first_mixed false [] [] (p ∷ ps) (n ∷ ns) f)
+  where
+    by_test : (t : Bool) → has_mixed_join ([] ∷ n ∷ ns) (Plain ∷ map sign_of (cond t (p.token ∷ join_alone ps) (codes "*" ∷ first_alone ps))) ≡ false
+        → has_mixed_join (n ∷ ns) (map sign_of (cond t (p.token ∷ join_alone ps) (codes "*" ∷ first_alone ps))) ≡ false
+    by_test true h = h
+    by_test false h = h
+
+-- it exchanges none
+stars_exchange : (j : ℕ) (ps : List Piece) → exchanges j (map sign_of (map (λ _. codes "*") ps)) ≡ []
+stars_exchange j [] = refl
+stars_exchange j (p ∷ ps) = stars_exchange (j + 1) ps
+
+alone_exchange : (j : ℕ) (ps : List Piece) → exchanges j (map sign_of (join_alone ps)) ≡ []
+alone_exchange j [] = refl
+alone_exchange j (p ∷ ps) = elim (cases_Bool (goes_on p)) as (λ _. exchanges j (map sign_of (join_alone (p ∷ ps))) ≡ []) [
+  | inl w ↦ rw (w, is_join_at (sign_of p.token) (and_parts (joins p) (not p.begins) w).0) (alone_exchange (j + 1) ps)
+  | inr w ↦ rw w (stars_exchange j (p ∷ ps))
+]
+
+first_exchange : (j : ℕ) (b : Bool) (m : List ℕ) (ps : List Piece) (ns : List (List ℕ)) → Formed b m ps ns → exchanges j (map sign_of (first_alone ps)) ≡ []
+first_exchange j b m [] ns f = refl
+first_exchange j b m (p ∷ ps) [] f = absurd f
+first_exchange j b m (p ∷ ps) (n ∷ ns) f = elim (cases_Bool p.begins) as (λ _. exchanges j (map sign_of (first_alone (p ∷ ps))) ≡ []) [
+  | inl w ↦ rw (w, is_join_at (sign_of p.token) (f.0 w).0) (alone_exchange (j + 1) ps)
+  | inr w ↦ rw w (first_exchange (j + 1) (joins p) n ps ns f.1.1)
+]
+
+-- as many exchanges are left
+as_many : (i j : ℕ) (ss : List Sign) → length (exchanges i ss) ≡ length (exchanges j ss)
+as_many i j [] = refl
+as_many i j (s ∷ ss) = elim (cases_Bool (is_exchange s)) as (λ _. length (exchanges i (s ∷ ss)) ≡ length (exchanges j (s ∷ ss))) [
+  | inl w ↦ rw w (ap suc (as_many (i + 1) (j + 1) ss))
+  | inr w ↦ rw w (as_many (i + 1) (j + 1) ss)
+]
+
+left_exchanges : (i j : ℕ) (ps : List Piece) → length (exchanges i (signs_in (join_done ps))) ≡ length (exchanges j (signs_in ps))
+left_exchanges i j [] = refl
+left_exchanges i j (p ∷ ps) = elim (cases_Bool (goes_on p)) as (λ _. length (exchanges i (signs_in (join_done (p ∷ ps)))) ≡ length (exchanges j (signs_in (p ∷ ps)))) [
+  | inl w ↦ rw (w, is_join_at (sign_of p.token) (and_parts (joins p) (not p.begins) w).0) (left_exchanges i (j + 1) ps)
+  | inr w ↦ rw w (as_many i j (signs_in (p ∷ ps)))
+]
+
+done_exchanges : (i j : ℕ) (b : Bool) (m : List ℕ) (ps : List Piece) (ns : List (List ℕ)) → Formed b m ps ns
+    → length (exchanges i (signs_in (first_done ps))) ≡ length (exchanges j (signs_in ps))
+done_exchanges i j b m [] ns f = refl
+done_exchanges i j b m (p ∷ ps) [] f = absurd f
+done_exchanges i j b m (p ∷ ps) (n ∷ ns) f = elim (cases_Bool p.begins) as (λ _. length (exchanges i (signs_in (first_done (p ∷ ps)))) ≡ length (exchanges j (signs_in (p ∷ ps)))) [
+  | inl w ↦ rw (w, is_join_at (sign_of p.token) (f.0 w).0) (left_exchanges (i + 1) (j + 1) ps)
+  | inr w ↦ elim (cases_Bool (is_exchange (sign_of p.token))) as (λ _. length (exchanges i (signs_in (first_done (p ∷ ps)))) ≡ length (exchanges j (signs_in (p ∷ ps)))) [
+    | inl v ↦ rw (w, v) (ap suc (done_exchanges (i + 1) (j + 1) (joins p) n ps ns f.1.1))
+    | inr v ↦ rw (w, v) (done_exchanges (i + 1) (j + 1) (joins p) n ps ns f.1.1)
+  ]
+]
