@@ -365,3 +365,134 @@ done_exchanges i j b m (p ∷ ps) (n ∷ ns) f = elim (cases_Bool p.begins) as (
     | inr v ↦ rw (w, v) (done_exchanges (i + 1) (j + 1) (joins p) n ps ns f.1.1)
   ]
 ]
+
+-- Where a join touches another no name changes.
+abbrev pub is_nameless : List ℕ → Bool
+is_nameless name = length name == 0
+
+pub record Steady (pieces : List Piece) (names : List (List ℕ)) : Type 0 where
+  pub formed : Formed false [] pieces names
+  pub named : list_any is_nameless names ≡ false
+  pub bare : has_bare (tokens_in pieces) ≡ false
+  pub stay : list_any (λ t. is_exclusive (sign_of t)) (tokens_in pieces) ≡ false
+  pub pair : is_pair_or_none (exchanges 0 (signs_in pieces)) ≡ true
+
+any_sign : (test : Sign → Bool) (ts : List (List ℕ)) → list_any test (map sign_of ts) ≡ list_any (λ t. test (sign_of t)) ts
+any_sign test [] = refl
+any_sign test (t ∷ ts) = ap (λ (b : Bool). test (sign_of t) || b) (any_sign test ts)
+
+none_unnamed : (ns : List (List ℕ)) (ss : List Sign) → list_any is_nameless ns ≡ false → has_unnamed ns ss ≡ false
+none_unnamed [] ss h = refl
+none_unnamed (n ∷ ns) [] h = refl
+none_unnamed (n ∷ ns) (s ∷ ss) h =
+    let both = or_parts (is_nameless n) (list_any is_nameless ns) h in
+    let rest = none_unnamed ns ss both.1 in
+    rw (both.0, rest) refl
+
+steady_steers : (ts : List (List ℕ)) → list_any (λ t. is_exclusive (sign_of t)) ts ≡ false → names_and_steers (map sign_of ts) ≡ false
+steady_steers ts h = let none = any_sign is_exclusive ts ∙ h in rw none refl
+
+pub steady_fits : (ps : List Piece) (ns : List (List ℕ)) → Steady ps ns → Fits ps ns
+steady_fits ps ns h = record {
+  formed = h.formed;
+  unnamed = none_unnamed ns (signs_in ps) h.named;
+  bare = h.bare;
+  steers = steady_steers (tokens_in ps) h.stay;
+  pair = h.pair;
+}
+
+pair_of : (xs ys : List ℕ) → length xs ≡ length ys → is_pair_or_none ys ≡ true → is_pair_or_none xs ≡ true
+pair_of xs ys e h = rw e h
+
+done_steady : (ps : List Piece) (ns : List (List ℕ)) → Steady ps ns → Steady (first_done ps) (merged ps ns)
+done_steady ps ns h = record {
+  formed = done_formed false [] ps ns h.formed;
+  named = merged_none is_nameless ps ns h.named;
+  bare = done_none (bytes_eq (codes "**")) ps refl h.bare;
+  stay = done_none (λ t. is_exclusive (sign_of t)) ps refl h.stay;
+  pair = pair_of (exchanges 0 (signs_in (first_done ps))) (exchanges 0 (signs_in ps)) (done_exchanges 0 0 false [] ps ns h.formed) h.pair;
+}
+
+-- no name of theirs
+same_names : (ns ts : List (List ℕ)) → length ns ≡ length ts → list_any (λ t. is_exclusive (sign_of t)) ts ≡ false → renamed_each ns ts ≡ ns
+same_names [] [] len h = refl
+same_names [] (t ∷ ts) len h = absurd (omega (arith, len))
+same_names (n ∷ ns) [] len h = absurd (omega (arith, len))
+same_names (n ∷ ns) (t ∷ ts) len h =
+    let both = or_parts (is_exclusive (sign_of t)) (list_any (λ u. is_exclusive (sign_of u)) ts) h in
+    let rest = same_names ns ts (omega (arith, len)) both.1 in
+    rw (both.0, rest) refl
+
+steady_comes : (ps : List Piece) (ns : List (List ℕ)) → Steady ps ns → come_to ps ns ≡ onward (λ _. []) (marks ps) (signs_in ps) (swapped (signs_in ps) ns)
+steady_comes ps ns h =
+    let size = pieces_size ps in
+    let len = formed_length false [] ps ns h.formed in
+    ap (λ (xs : List (List ℕ)). onward (λ _. []) (marks ps) (signs_in ps) (swapped (signs_in ps) xs)) (same_names ns (tokens_in ps) (omega (arith, size, len)) h.stay)
+
+-- The record with the first join alone, and what is left to do.
+first_comes : (ps : List Piece) (ns : List (List ℕ)) → Steady ps ns → names_after (Spines ns) (first_alone ps) ≡ merged ps ns
+first_comes ps ns h =
+    let size = first_size ps in
+    let len = formed_length false [] ps ns h.formed in
+    let wide : length ns ≡ length (first_alone ps) = omega (arith, size, len) in
+    let none = first_exchange 0 false [] ps ns h.formed in
+    let stay = first_none (λ t. is_exclusive (sign_of t)) ps refl h.stay in
+    names_onward ns (first_alone ps) wide (rw none refl)
+    ∙ (rw (same_names ns (first_alone ps) wide stay, swapped_none 0 (map sign_of (first_alone ps)) ns none) (first_onward (λ _. []) false [] ps ns ns h.formed len))
+
+first_sound : (ps : List Piece) (ns : List (List ℕ)) (k : ℕ) → length ps ≡ suc k → Steady ps ns → length ns ≤ 4096
+    → find (breaks (Spines ns) (first_alone ps)) in_order ≡ None
+first_sound ps ns k some h few =
+    let size = first_size ps in
+    let len = formed_length false [] ps ns h.formed in
+    let same = ap length (first_comes ps ns h) in
+    let fewer = merged_fewer ps ns in
+    let none = first_exchange 0 false [] ps ns h.formed in
+    sound_by_rules ns (first_alone ps) k (omega (arith, size, some)) (omega (arith, size, len)) (none_unnamed ns (map sign_of (first_alone ps)) h.named)
+      (first_none (bytes_eq (codes "**")) ps refl h.bare) (steady_steers (first_alone ps) (first_none (λ t. is_exclusive (sign_of t)) ps refl h.stay))
+      (first_lone false [] ps ns h.formed) (rw none refl) (first_unmixed ps ns h.formed) (omega (arith, same, few, fewer))
+
+left_comes : (ps : List Piece) (ns : List (List ℕ)) → Steady ps ns → come_to (first_done ps) (merged ps ns) ≡ come_to ps ns
+left_comes ps ns h =
+    steady_comes (first_done ps) (merged ps ns) (done_steady ps ns h)
+    ∙ (rw (done_swapped false [] ps ns ns h.formed) (done_onward (λ _. []) false [] ps ns (swapped (signs_in ps) ns) h.formed)
+    ∙ sym (steady_comes ps ns h))
+
+-- Joins that touch are two at least.
+touching_joins : (b : Bool) (m : List ℕ) (ps : List Piece) (ns : List (List ℕ)) → Formed b m ps ns → touches b ps ≡ true → cond b 1 2 ≤ joins_in ps
+touching_joins b m [] ns f t = absurd (false≢true t)
+touching_joins b m (p ∷ ps) [] f t = absurd f
+touching_joins b m (p ∷ ps) (n ∷ ns) f t = by_test b p.begins (joins p) (λ e. (f.0 e).0) (λ e. (f.1.0 e).0) t (λ t. touching_joins (joins p) n ps ns f.1.1 t)
+  where
+    by_test : (b g j : Bool) → (g ≡ true → j ≡ true) → ((j && not g) ≡ true → b ≡ true) → ((b && g) || touches j ps) ≡ true
+        → (touches j ps ≡ true → cond j 1 2 ≤ joins_in ps) → cond b 1 2 ≤ cond g (joins_in ps + 1) (joins_in ps)
+    by_test true true j f g t more = omega arith
+    by_test true false true f g t more = more t
+    by_test true false false f g t more = let k = more t in omega (arith, k)
+    by_test false true true f g t more = let k = more t in omega (arith, k)
+    by_test false true false f g t more = absurd (false≢true (f refl))
+    by_test false false true f g t more = absurd (false≢true (g refl))
+    by_test false false false f g t more = more t
+
+one_apart : (ps : List Piece) (ns : List (List ℕ)) → Formed false [] ps ns → joins_in ps ≤ 1 → touches false ps ≡ false
+one_apart ps ns f few = elim (cases_Bool (touches false ps)) as (λ _. touches false ps ≡ false) [
+  | inl w ↦ absurd (let two = touching_joins false [] ps ns f w in omega (arith, two, few))
+  | inr w ↦ w
+]
+
+-- So many records with one join alone, and the last.
+by_one : (n : ℕ) (ps : List Piece) (ns : List (List ℕ)) → Steady ps ns → joins_in ps ≤ suc n → (1 ≤ n → joins_in ps ≡ suc n) → length ns ≤ 4096 → length (come_to ps ns) ≤ 4096
+    → Lead ns (filled Interpretation (one_by_one n ps)) (come_to ps ns)
+by_one zero ps ns h few exact w e = one_leads ps ns (steady_fits ps ns h) (one_apart ps ns h.formed few) e
+by_one (suc n) [] ns h few exact w e = let none : 0 ≡ suc (suc n) = exact (omega arith) in absurd (omega (arith, none))
+by_one (suc n) (p ∷ ps) ns h few exact w e =
+    let left = left_comes (p ∷ ps) ns h in
+    let all : joins_in (p ∷ ps) ≡ suc (suc n) = exact (omega arith) in
+    let fewer : joins_in (first_done (p ∷ ps)) ≡ suc n = done_joins (p ∷ ps) (suc n) all in
+    let narrow = merged_fewer (p ∷ ps) ns in
+    let size = ap length left in
+    let more : Lead (merged (p ∷ ps) ns) (filled Interpretation (one_by_one n (first_done (p ∷ ps)))) (come_to (first_done (p ∷ ps)) (merged (p ∷ ps) ns)) =
+      by_one n (first_done (p ∷ ps)) (merged (p ∷ ps) ns) (done_steady (p ∷ ps) ns h) (omega (arith, fewer)) (λ k. fewer) (omega (arith, narrow, w)) (omega (arith, size, e)) in
+    one_more ns (first_alone (p ∷ ps)) (come_to (p ∷ ps) ns) (one_by_one n (first_done (p ∷ ps))) (length ps) (first_size (p ∷ ps))
+      (first_sound (p ∷ ps) ns (length ps) refl h w)
+      (rw (first_comes (p ∷ ps) ns h, ← left) more)
