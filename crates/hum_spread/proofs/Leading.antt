@@ -496,3 +496,68 @@ by_one (suc n) (p ∷ ps) ns h few exact w e =
     one_more ns (first_alone (p ∷ ps)) (come_to (p ∷ ps) ns) (one_by_one n (first_done (p ∷ ps))) (length ps) (first_size (p ∷ ps))
       (first_sound (p ∷ ps) ns (length ps) refl h w)
       (rw (first_comes (p ∷ ps) ns h, ← left) more)
+
+-- Where joins touch, the record steers: no token names a spine, and no spine waits for its name.
+touching_steers : (b : Bool) (m : List ℕ) (ps : List Piece) (ns : List (List ℕ)) → Formed b m ps ns → touches b ps ≡ true → list_any is_path_indicator (signs_in ps) ≡ true
+touching_steers b m [] ns f t = absurd (false≢true t)
+touching_steers b m (p ∷ ps) [] f t = absurd f
+touching_steers b m (p ∷ ps) (n ∷ ns) f t = elim (cases_Bool p.begins) as (λ _. list_any is_path_indicator (signs_in (p ∷ ps)) ≡ true) [
+  | inl w ↦ rw (is_join_at (sign_of p.token) (f.0 w).0) refl
+  | inr w ↦ or_right (is_path_indicator (sign_of p.token)) (list_any is_path_indicator (signs_in ps)) (touching_steers (joins p) n ps ns f.1.1 (later b p.begins (touches (joins p) ps) w t))
+]
+  where
+    or_right : (a c : Bool) → c ≡ true → (a || c) ≡ true
+    or_right true c h = refl
+    or_right false c h = h
+    later : (b g c : Bool) → g ≡ false → ((b && g) || c) ≡ true → c ≡ true
+    later true true c w h = cc
+    later true false c w h = h
+    later false g c w h = h
+
+all_named : (ns ts : List (List ℕ)) → length ns ≡ length ts → has_unnamed ns (map sign_of ts) ≡ false → list_any (λ t. is_exclusive (sign_of t)) ts ≡ false → list_any is_nameless ns ≡ false
+all_named [] ts len u h = refl
+all_named (n ∷ ns) [] len u h = absurd (omega (arith, len))
+all_named (n ∷ ns) (t ∷ ts) len u h =
+    let here = or_parts (stays_unnamed n (sign_of t)) (has_unnamed ns (map sign_of ts)) u in
+    let stay = or_parts (is_exclusive (sign_of t)) (list_any (λ u. is_exclusive (sign_of u)) ts) h in
+    or_from (is_nameless n) (list_any is_nameless ns) (named (is_nameless n) (is_exclusive (sign_of t)) here.0 stay.0) (all_named ns ts (omega (arith, len)) here.1 stay.1)
+  where
+    named : (a e : Bool) → (a && not e) ≡ false → e ≡ false → a ≡ false
+    named true true u h = cc
+    named true false u h = absurd (false≢true (sym u))
+    named false e u h = refl
+
+touching_steady : (ps : List Piece) (ns : List (List ℕ)) → Fits ps ns → touches false ps ≡ true → Steady ps ns
+touching_steady ps ns fits t =
+    let steers = touching_steers false [] ps ns fits.formed t in
+    let none : list_any is_exclusive (signs_in ps) ≡ false = only_left (list_any is_exclusive (signs_in ps)) (list_any is_path_indicator (signs_in ps)) fits.steers steers in
+    let stay : list_any (λ u. is_exclusive (sign_of u)) (tokens_in ps) ≡ false = sym (any_sign is_exclusive (tokens_in ps)) ∙ none in
+    let size = pieces_size ps in
+    let len = formed_length false [] ps ns fits.formed in
+    record {
+      formed = fits.formed;
+      named = all_named ns (tokens_in ps) (omega (arith, size, len)) fits.unnamed stay;
+      bare = fits.bare;
+      stay = stay;
+      pair = fits.pair;
+    }
+  where
+    only_left : (a c : Bool) → (a && c) ≡ false → c ≡ true → a ≡ false
+    only_left true true h w = absurd (false≢true (sym h))
+    only_left true false h w = absurd (false≢true w)
+    only_left false c h w = refl
+
+-- The spread rule: its records break no path rule, and lead where the pieces lead at once.
+pub spread_leads : (ps : List Piece) (ns : List (List ℕ)) → Fits ps ns → length ns ≤ 4096 → length (come_to ps ns) ≤ 4096
+    → Lead ns (filled Interpretation (spread ps)) (come_to ps ns)
+spread_leads ps ns fits w e = by_test (touches false ps) refl
+  where
+    before : (k : ℕ) → 2 ≤ k → k ≡ suc (before_last k)
+    before zero h = absurd (omega (arith, h))
+    before (suc k) h = refl
+    by_test : (t : Bool) → touches false ps ≡ t → Lead ns (filled Interpretation (cond t (one_by_one (before_last (joins_in ps)) ps) (tokens_in ps ∷ []))) (come_to ps ns)
+    by_test false t = one_leads ps ns fits t e
+    by_test true t =
+        let two = touching_joins false [] ps ns fits.formed t in
+        let all = before (joins_in ps) two in
+        by_one (before_last (joins_in ps)) ps ns (touching_steady ps ns fits t) (omega (arith, all)) (λ k. all) w e
