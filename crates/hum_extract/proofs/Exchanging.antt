@@ -1,0 +1,270 @@
+-- Exchanged columns, of which both, none or one is chosen.
+use Rattle.std.proofs.Common.{◌≡◌, ◌∙◌, refl, sym, ap, ℕ, suc, ◌+◌, ◌==◌, Bool, true, false, not, ◌&&◌, ◌||◌, List, [], ◌∷◌, ◌++◌, length, map, arith, cond, inl, inr}
+use Rattle.std.proofs.lemmas.Bool.{cases_Bool, and_parts, or_parts, or_from, not-false, false≢true}
+use Rattle.std.proofs.lemmas.List.{nil_from_length}
+use Rattle.hum_path.specs.declared.signs.Sign.{Sign}
+use Rattle.hum_path.specs.declared.signs.Sign.TheVariants.{Split, Join, Exchange, Add, End, Exclusive, Plain}
+use Rattle.hum_path.specs.Sign.{is_join, is_exchange}
+use Rattle.hum_path.specs.Spines.{exchanges}
+use Rattle.hum_path.specs.Rules.{is_pair_or_none}
+use Rattle.hum_path.specs.Onward.{beginnings, at_next, put_next, swapped}
+use Rattle.hum_path.proofs.Onwards.{swapped_none}
+use Rattle.hum_extract.specs.Choice.{chosen}
+use Rattle.hum_extract.specs.Extract.{differ, exchanged_flags, is_lone, chosen_before, chosen_between}
+
+-- as many flags as exchanged columns
+pub flags_size : (j : ℕ) (fs : List Bool) (ss : List Sign) → length fs ≡ length ss → length (exchanged_flags fs ss) ≡ length (exchanges j ss)
+flags_size j [] [] len = refl
+flags_size j [] (s ∷ ss) len = absurd (omega (arith, len))
+flags_size j (f ∷ fs) [] len = refl
+flags_size j (f ∷ fs) (s ∷ ss) len = elim (cases_Bool (is_exchange s)) as (λ _. length (exchanged_flags (f ∷ fs) (s ∷ ss)) ≡ length (exchanges j (s ∷ ss))) [
+  | inl w ↦ rw w (ap suc (flags_size (j + 1) fs ss (omega (arith, len))))
+  | inr w ↦ rw w (flags_size (j + 1) fs ss (omega (arith, len)))
+]
+
+-- the chosen ones of them
+pub chosen_exchanges : (j : ℕ) (fs : List Bool) (ss : List Sign) → length (exchanges j (chosen fs ss)) ≡ length (chosen (exchanged_flags fs ss) (exchanged_flags fs ss))
+chosen_exchanges j [] ss = refl
+chosen_exchanges j (f ∷ fs) [] = refl
+chosen_exchanges j (true ∷ fs) (s ∷ ss) = elim (cases_Bool (is_exchange s)) as (λ _. length (exchanges j (chosen (true ∷ fs) (s ∷ ss))) ≡ length (chosen (exchanged_flags (true ∷ fs) (s ∷ ss)) (exchanged_flags (true ∷ fs) (s ∷ ss)))) [
+  | inl w ↦ rw w (ap suc (chosen_exchanges (j + 1) fs ss))
+  | inr w ↦ rw w (chosen_exchanges (j + 1) fs ss)
+]
+chosen_exchanges j (false ∷ fs) (s ∷ ss) = elim (cases_Bool (is_exchange s)) as (λ _. length (exchanges j (chosen (false ∷ fs) (s ∷ ss))) ≡ length (chosen (exchanged_flags (false ∷ fs) (s ∷ ss)) (exchanged_flags (false ∷ fs) (s ∷ ss)))) [
+  | inl w ↦ rw w (chosen_exchanges j fs ss)
+  | inr w ↦ rw w (chosen_exchanges j fs ss)
+]
+
+-- The next exchanged column's flag.
+flag_at : (d g : Bool) (gs fs : List Bool) (ss : List Sign) → exchanged_flags fs ss ≡ g ∷ gs → at_next d ss fs ≡ g
+flag_at d g gs [] ss e = cc
+flag_at d g gs (f ∷ fs) [] e = cc
+flag_at d g gs (f ∷ fs) (s ∷ ss) e = by_test (is_exchange s) e (λ e. flag_at d g gs fs ss e)
+  where
+    by_test : (t : Bool) → cond t (f ∷ exchanged_flags fs ss) (exchanged_flags fs ss) ≡ g ∷ gs → (exchanged_flags fs ss ≡ g ∷ gs → at_next d ss fs ≡ g)
+        → cond t f (at_next d ss fs) ≡ g
+    by_test true e more = cc
+    by_test false e more = more e
+
+flag_put : (g : Bool) (gs fs : List Bool) (ss : List Sign) → exchanged_flags fs ss ≡ g ∷ gs → put_next g ss fs ≡ fs
+flag_put g gs [] ss e = cc
+flag_put g gs (f ∷ fs) [] e = cc
+flag_put g gs (f ∷ fs) (s ∷ ss) e = by_test (is_exchange s) e (λ e. flag_put g gs fs ss e)
+  where
+    by_test : (t : Bool) → cond t (f ∷ exchanged_flags fs ss) (exchanged_flags fs ss) ≡ g ∷ gs → (exchanged_flags fs ss ≡ g ∷ gs → put_next g ss fs ≡ fs)
+        → cond t (g ∷ fs) (f ∷ put_next g ss fs) ≡ f ∷ fs
+    by_test true e more = let same : f ≡ g = cc in ap (λ (b : Bool). b ∷ fs) (sym same)
+    by_test false e more = ap (λ (bs : List Bool). f ∷ bs) (more e)
+
+-- two of one flag
+swapped_same : (g : Bool) (fs : List Bool) (ss : List Sign) → exchanged_flags fs ss ≡ g ∷ g ∷ [] → swapped ss fs ≡ fs
+swapped_same g [] ss e = cc
+swapped_same g (f ∷ fs) [] e = cc
+swapped_same g (f ∷ fs) (s ∷ ss) e = by_test (is_exchange s) e (λ e. swapped_same g fs ss e)
+  where
+    by_test : (t : Bool) → cond t (f ∷ exchanged_flags fs ss) (exchanged_flags fs ss) ≡ g ∷ g ∷ [] → (exchanged_flags fs ss ≡ g ∷ g ∷ [] → swapped ss fs ≡ fs)
+        → cond t (at_next f ss fs ∷ put_next f ss fs) (f ∷ swapped ss fs) ≡ f ∷ fs
+    by_test true e more =
+        let same : f ≡ g = cc in
+        let last : exchanged_flags fs ss ≡ g ∷ [] = cc in
+        rw (same, flag_at g g [] fs ss last, flag_put g [] fs ss last) refl
+    by_test false e more = ap (λ (bs : List Bool). f ∷ bs) (more e)
+
+-- both chosen: the next one
+at_chosen : {X : Type 0} (d : X) (gs fs : List Bool) (ss : List Sign) (xs : List X) → length ss ≡ length xs → exchanged_flags fs ss ≡ true ∷ gs
+    → at_next d (chosen fs ss) (chosen fs xs) ≡ at_next d ss xs
+at_chosen d gs [] ss xs len e = cc
+at_chosen d gs (f ∷ fs) [] xs len e = cc
+at_chosen d gs (f ∷ fs) (s ∷ ss) [] len e = absurd (omega (arith, len))
+at_chosen {X} d gs (f ∷ fs) (s ∷ ss) (x ∷ xs) len e = by_test f (is_exchange s) refl e (λ e. at_chosen d gs fs ss xs (omega (arith, len)) e)
+  where
+    by_test : (f t : Bool) → is_exchange s ≡ t → cond t (f ∷ exchanged_flags fs ss) (exchanged_flags fs ss) ≡ true ∷ gs
+        → (exchanged_flags fs ss ≡ true ∷ gs → at_next d (chosen fs ss) (chosen fs xs) ≡ at_next d ss xs)
+        → at_next d (chosen (f ∷ fs) (s ∷ ss)) (chosen (f ∷ fs) (x ∷ xs)) ≡ cond t x (at_next d ss xs)
+    by_test true true w e more = rw w refl
+    by_test true false w e more = rw w (more e)
+    by_test false true w e more = let wrong : false ≡ true = cc in absurd (false≢true wrong)
+    by_test false false w e more = more e
+
+put_chosen : {X : Type 0} (y : X) (gs fs : List Bool) (ss : List Sign) (xs : List X) → length ss ≡ length xs → exchanged_flags fs ss ≡ true ∷ gs
+    → chosen fs (put_next y ss xs) ≡ put_next y (chosen fs ss) (chosen fs xs)
+put_chosen y gs [] ss xs len e = cc
+put_chosen y gs (f ∷ fs) [] xs len e = cc
+put_chosen y gs (f ∷ fs) (s ∷ ss) [] len e = absurd (omega (arith, len))
+put_chosen {X} y gs (f ∷ fs) (s ∷ ss) (x ∷ xs) len e = by_test f (is_exchange s) refl e (λ e. put_chosen y gs fs ss xs (omega (arith, len)) e)
+  where
+    by_test : (f t : Bool) → is_exchange s ≡ t → cond t (f ∷ exchanged_flags fs ss) (exchanged_flags fs ss) ≡ true ∷ gs
+        → (exchanged_flags fs ss ≡ true ∷ gs → chosen fs (put_next y ss xs) ≡ put_next y (chosen fs ss) (chosen fs xs))
+        → chosen (f ∷ fs) (cond t (y ∷ xs) (x ∷ put_next y ss xs)) ≡ put_next y (chosen (f ∷ fs) (s ∷ ss)) (chosen (f ∷ fs) (x ∷ xs))
+    by_test true true w e more = rw w refl
+    by_test true false w e more = rw w (ap (λ (ys : List X). x ∷ ys) (more e))
+    by_test false true w e more = let wrong : false ≡ true = cc in absurd (false≢true wrong)
+    by_test false false w e more = more e
+
+swapped_both : {X : Type 0} (fs : List Bool) (ss : List Sign) (xs : List X) → length ss ≡ length xs → exchanged_flags fs ss ≡ true ∷ true ∷ []
+    → chosen fs (swapped ss xs) ≡ swapped (chosen fs ss) (chosen fs xs)
+swapped_both [] ss xs len e = cc
+swapped_both (f ∷ fs) [] xs len e = cc
+swapped_both (f ∷ fs) (s ∷ ss) [] len e = absurd (omega (arith, len))
+swapped_both {X} (f ∷ fs) (s ∷ ss) (x ∷ xs) len e = by_test f (is_exchange s) refl e (omega (arith, len)) (λ e. swapped_both fs ss xs (omega (arith, len)) e)
+  where
+    by_test : (f t : Bool) → is_exchange s ≡ t → cond t (f ∷ exchanged_flags fs ss) (exchanged_flags fs ss) ≡ true ∷ true ∷ [] → length ss ≡ length xs
+        → (exchanged_flags fs ss ≡ true ∷ true ∷ [] → chosen fs (swapped ss xs) ≡ swapped (chosen fs ss) (chosen fs xs))
+        → chosen (f ∷ fs) (cond t (at_next x ss xs ∷ put_next x ss xs) (x ∷ swapped ss xs)) ≡ swapped (chosen (f ∷ fs) (s ∷ ss)) (chosen (f ∷ fs) (x ∷ xs))
+    by_test true true w e len more =
+        let last : exchanged_flags fs ss ≡ true ∷ [] = cc in
+        rw w (rw (at_chosen x [] fs ss xs len last, put_chosen x [] fs ss xs len last) refl)
+    by_test true false w e len more = rw w (ap (λ (ys : List X). x ∷ ys) (more e))
+    by_test false true w e len more = let wrong : false ≡ true = cc in absurd (false≢true wrong)
+    by_test false false w e len more = more e
+
+-- none chosen
+put_dropped : {X : Type 0} (y : X) (gs fs : List Bool) (ss : List Sign) (xs : List X) → length ss ≡ length xs → exchanged_flags fs ss ≡ false ∷ gs
+    → chosen fs (put_next y ss xs) ≡ chosen fs xs
+put_dropped y gs [] ss xs len e = cc
+put_dropped y gs (f ∷ fs) [] xs len e = cc
+put_dropped y gs (f ∷ fs) (s ∷ ss) [] len e = absurd (omega (arith, len))
+put_dropped {X} y gs (f ∷ fs) (s ∷ ss) (x ∷ xs) len e = by_test f (is_exchange s) e (λ e. put_dropped y gs fs ss xs (omega (arith, len)) e)
+  where
+    by_test : (f t : Bool) → cond t (f ∷ exchanged_flags fs ss) (exchanged_flags fs ss) ≡ false ∷ gs
+        → (exchanged_flags fs ss ≡ false ∷ gs → chosen fs (put_next y ss xs) ≡ chosen fs xs)
+        → chosen (f ∷ fs) (cond t (y ∷ xs) (x ∷ put_next y ss xs)) ≡ chosen (f ∷ fs) (x ∷ xs)
+    by_test true true e more = let wrong : true ≡ false = cc in absurd (false≢true (sym wrong))
+    by_test true false e more = ap (λ (ys : List X). x ∷ ys) (more e)
+    by_test false true e more = refl
+    by_test false false e more = more e
+
+swapped_dropped : {X : Type 0} (fs : List Bool) (ss : List Sign) (xs : List X) → length ss ≡ length xs → exchanged_flags fs ss ≡ false ∷ false ∷ []
+    → chosen fs (swapped ss xs) ≡ chosen fs xs
+swapped_dropped [] ss xs len e = cc
+swapped_dropped (f ∷ fs) [] xs len e = cc
+swapped_dropped (f ∷ fs) (s ∷ ss) [] len e = absurd (omega (arith, len))
+swapped_dropped {X} (f ∷ fs) (s ∷ ss) (x ∷ xs) len e = by_test f (is_exchange s) e (omega (arith, len)) (λ e. swapped_dropped fs ss xs (omega (arith, len)) e)
+  where
+    by_test : (f t : Bool) → cond t (f ∷ exchanged_flags fs ss) (exchanged_flags fs ss) ≡ false ∷ false ∷ [] → length ss ≡ length xs
+        → (exchanged_flags fs ss ≡ false ∷ false ∷ [] → chosen fs (swapped ss xs) ≡ chosen fs xs)
+        → chosen (f ∷ fs) (cond t (at_next x ss xs ∷ put_next x ss xs) (x ∷ swapped ss xs)) ≡ chosen (f ∷ fs) (x ∷ xs)
+    by_test true true e len more = let wrong : true ≡ false = cc in absurd (false≢true (sym wrong))
+    by_test true false e len more = ap (λ (ys : List X). x ∷ ys) (more e)
+    by_test false true e len more = let last : exchanged_flags fs ss ≡ false ∷ [] = cc in put_dropped x [] fs ss xs len last
+    by_test false false e len more = more e
+
+-- One chosen, with no chosen column between: the first,
+lone_first : {X : Type 0} (x : X) (gs fs : List Bool) (ss : List Sign) (xs : List X) → length ss ≡ length xs → exchanged_flags fs ss ≡ false ∷ gs
+    → chosen_before fs ss ≡ false → chosen (put_next true ss fs) (put_next x ss xs) ≡ x ∷ chosen fs xs
+lone_first x gs [] ss xs len e none = cc
+lone_first x gs (f ∷ fs) [] xs len e none = cc
+lone_first x gs (f ∷ fs) (s ∷ ss) [] len e none = absurd (omega (arith, len))
+lone_first {X} x gs (f ∷ fs) (s ∷ ss) (y ∷ xs) len e none = by_test f (is_exchange s) e none (λ e none. lone_first x gs fs ss xs (omega (arith, len)) e none)
+  where
+    by_test : (f t : Bool) → cond t (f ∷ exchanged_flags fs ss) (exchanged_flags fs ss) ≡ false ∷ gs → cond t false (f || chosen_before fs ss) ≡ false
+        → (exchanged_flags fs ss ≡ false ∷ gs → chosen_before fs ss ≡ false → chosen (put_next true ss fs) (put_next x ss xs) ≡ x ∷ chosen fs xs)
+        → chosen (cond t (true ∷ fs) (f ∷ put_next true ss fs)) (cond t (x ∷ xs) (y ∷ put_next x ss xs)) ≡ x ∷ chosen (f ∷ fs) (y ∷ xs)
+    by_test true true e none more = let wrong : true ≡ false = cc in absurd (false≢true (sym wrong))
+    by_test true false e none more = absurd (false≢true (sym none))
+    by_test false true e none more = refl
+    by_test false false e none more = more e none
+
+-- and the second.
+lone_second : {X : Type 0} (x d : X) (gs fs : List Bool) (ss : List Sign) (xs : List X) → length ss ≡ length xs → exchanged_flags fs ss ≡ true ∷ gs
+    → chosen_before fs ss ≡ false → at_next d ss xs ∷ chosen (put_next false ss fs) (put_next x ss xs) ≡ chosen fs xs
+lone_second x d gs [] ss xs len e none = cc
+lone_second x d gs (f ∷ fs) [] xs len e none = cc
+lone_second x d gs (f ∷ fs) (s ∷ ss) [] len e none = absurd (omega (arith, len))
+lone_second {X} x d gs (f ∷ fs) (s ∷ ss) (y ∷ xs) len e none = by_test f (is_exchange s) e none (λ e none. lone_second x d gs fs ss xs (omega (arith, len)) e none)
+  where
+    by_test : (f t : Bool) → cond t (f ∷ exchanged_flags fs ss) (exchanged_flags fs ss) ≡ true ∷ gs → cond t false (f || chosen_before fs ss) ≡ false
+        → (exchanged_flags fs ss ≡ true ∷ gs → chosen_before fs ss ≡ false → at_next d ss xs ∷ chosen (put_next false ss fs) (put_next x ss xs) ≡ chosen fs xs)
+        → cond t y (at_next d ss xs) ∷ chosen (cond t (false ∷ fs) (f ∷ put_next false ss fs)) (cond t (x ∷ xs) (y ∷ put_next x ss xs)) ≡ chosen (f ∷ fs) (y ∷ xs)
+    by_test true true e none more = refl
+    by_test true false e none more = absurd (false≢true (sym none))
+    by_test false true e none more = let wrong : false ≡ true = cc in absurd (false≢true wrong)
+    by_test false false e none more = more e none
+
+-- it stays where it is
+pub swapped_lone : {X : Type 0} (g h : Bool) (fs : List Bool) (ss : List Sign) (xs : List X) → length ss ≡ length xs → exchanged_flags fs ss ≡ g ∷ h ∷ [] → differ g h ≡ true
+    → chosen_between fs ss ≡ false → chosen (swapped ss fs) (swapped ss xs) ≡ chosen fs xs
+swapped_lone g h [] ss xs len e d none = cc
+swapped_lone g h (f ∷ fs) [] xs len e d none = cc
+swapped_lone g h (f ∷ fs) (s ∷ ss) [] len e d none = absurd (omega (arith, len))
+swapped_lone {X} g h (f ∷ fs) (s ∷ ss) (x ∷ xs) len e d none = by_test f (is_exchange s) e none (λ e none. swapped_lone g h fs ss xs (omega (arith, len)) e d none)
+  where
+    first : (f h : Bool) → differ f h ≡ true → exchanged_flags fs ss ≡ h ∷ [] → chosen_before fs ss ≡ false
+        → chosen (at_next f ss fs ∷ put_next f ss fs) (at_next x ss xs ∷ put_next x ss xs) ≡ chosen (f ∷ fs) (x ∷ xs)
+    first true true d e none = absurd (false≢true d)
+    first true false d e none = rw (flag_at true false [] fs ss e) (lone_first x [] fs ss xs (omega (arith, len)) e none)
+    first false true d e none = rw (flag_at false true [] fs ss e) (lone_second x x [] fs ss xs (omega (arith, len)) e none)
+    first false false d e none = absurd (false≢true d)
+    by_test : (f t : Bool) → cond t (f ∷ exchanged_flags fs ss) (exchanged_flags fs ss) ≡ g ∷ h ∷ [] → cond t (chosen_before fs ss) (chosen_between fs ss) ≡ false
+        → (exchanged_flags fs ss ≡ g ∷ h ∷ [] → chosen_between fs ss ≡ false → chosen (swapped ss fs) (swapped ss xs) ≡ chosen fs xs)
+        → chosen (cond t (at_next f ss fs ∷ put_next f ss fs) (f ∷ swapped ss fs)) (cond t (at_next x ss xs ∷ put_next x ss xs) (x ∷ swapped ss xs)) ≡ chosen (f ∷ fs) (x ∷ xs)
+    by_test f true e none more =
+        let own : f ≡ g = cc in
+        let last : exchanged_flags fs ss ≡ h ∷ [] = cc in
+        first f h (rw own d) last none
+    by_test true false e none more = ap (λ (ys : List X). x ∷ ys) (more e none)
+    by_test false false e none more = more e none
+
+-- What is the same under each exchange doesn't change.
+begin_at : (b : Bool) (ss : List Sign) → at_next false ss (beginnings b ss) ≡ false
+begin_at b [] = refl
+begin_at b (Exchange ∷ ss) = refl
+begin_at b (Split ∷ ss) = begin_at false ss
+begin_at b (Join ∷ ss) = begin_at true ss
+begin_at b (Add ∷ ss) = begin_at false ss
+begin_at b (End ∷ ss) = begin_at false ss
+begin_at b (Exclusive ∷ ss) = begin_at false ss
+begin_at b (Plain ∷ ss) = begin_at false ss
+
+begin_put : (b : Bool) (ss : List Sign) → put_next false ss (beginnings b ss) ≡ beginnings b ss
+begin_put b [] = refl
+begin_put b (Exchange ∷ ss) = refl
+begin_put b (Split ∷ ss) = ap (λ (bs : List Bool). false ∷ bs) (begin_put false ss)
+begin_put b (Join ∷ ss) = ap (λ (bs : List Bool). (true && not b) ∷ bs) (begin_put true ss)
+begin_put b (Add ∷ ss) = ap (λ (bs : List Bool). false ∷ bs) (begin_put false ss)
+begin_put b (End ∷ ss) = ap (λ (bs : List Bool). false ∷ bs) (begin_put false ss)
+begin_put b (Exclusive ∷ ss) = ap (λ (bs : List Bool). false ∷ bs) (begin_put false ss)
+begin_put b (Plain ∷ ss) = ap (λ (bs : List Bool). false ∷ bs) (begin_put false ss)
+
+pub begin_swapped : (b : Bool) (ss : List Sign) → swapped ss (beginnings b ss) ≡ beginnings b ss
+begin_swapped b [] = refl
+begin_swapped b (Exchange ∷ ss) = rw (begin_at false ss, begin_put false ss) refl
+begin_swapped b (Split ∷ ss) = ap (λ (bs : List Bool). false ∷ bs) (begin_swapped false ss)
+begin_swapped b (Join ∷ ss) = ap (λ (bs : List Bool). (true && not b) ∷ bs) (begin_swapped true ss)
+begin_swapped b (Add ∷ ss) = ap (λ (bs : List Bool). false ∷ bs) (begin_swapped false ss)
+begin_swapped b (End ∷ ss) = ap (λ (bs : List Bool). false ∷ bs) (begin_swapped false ss)
+begin_swapped b (Exclusive ∷ ss) = ap (λ (bs : List Bool). false ∷ bs) (begin_swapped false ss)
+begin_swapped b (Plain ∷ ss) = ap (λ (bs : List Bool). false ∷ bs) (begin_swapped false ss)
+
+is_exchange_at : (s : Sign) → is_exchange s ≡ true → s ≡ Exchange
+is_exchange_at Exchange h = refl
+is_exchange_at Split h = cc
+is_exchange_at Join h = cc
+is_exchange_at Add h = cc
+is_exchange_at End h = cc
+is_exchange_at Exclusive h = cc
+is_exchange_at Plain h = cc
+
+sign_at : (ss : List Sign) → at_next Exchange ss ss ≡ Exchange
+sign_at [] = refl
+sign_at (s ∷ ss) = elim (cases_Bool (is_exchange s)) as (λ _. at_next Exchange (s ∷ ss) (s ∷ ss) ≡ Exchange) [
+  | inl w ↦ rw w (is_exchange_at s w)
+  | inr w ↦ rw w (sign_at ss)
+]
+
+sign_put : (ss : List Sign) → put_next Exchange ss ss ≡ ss
+sign_put [] = refl
+sign_put (s ∷ ss) = elim (cases_Bool (is_exchange s)) as (λ _. put_next Exchange (s ∷ ss) (s ∷ ss) ≡ s ∷ ss) [
+  | inl w ↦ rw w (ap (λ (t : Sign). t ∷ ss) (sym (is_exchange_at s w)))
+  | inr w ↦ rw w (ap (λ (ts : List Sign). s ∷ ts) (sign_put ss))
+]
+
+pub sign_swapped : (ss : List Sign) → swapped ss ss ≡ ss
+sign_swapped [] = refl
+sign_swapped (Exchange ∷ ss) = rw (sign_at ss, sign_put ss) refl
+sign_swapped (Split ∷ ss) = ap (λ (ts : List Sign). Split ∷ ts) (sign_swapped ss)
+sign_swapped (Join ∷ ss) = ap (λ (ts : List Sign). Join ∷ ts) (sign_swapped ss)
+sign_swapped (Add ∷ ss) = ap (λ (ts : List Sign). Add ∷ ts) (sign_swapped ss)
+sign_swapped (End ∷ ss) = ap (λ (ts : List Sign). End ∷ ts) (sign_swapped ss)
+sign_swapped (Exclusive ∷ ss) = ap (λ (ts : List Sign). Exclusive ∷ ts) (sign_swapped ss)
+sign_swapped (Plain ∷ ss) = ap (λ (ts : List Sign). Plain ∷ ts) (sign_swapped ss)
