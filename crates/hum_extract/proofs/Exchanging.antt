@@ -1,6 +1,7 @@
 -- Exchanged columns, of which both, none or one is chosen.
 use Rattle.std.proofs.Common.{◌≡◌, ◌∙◌, refl, sym, ap, ℕ, suc, ◌+◌, ◌==◌, Bool, true, false, not, ◌&&◌, ◌||◌, List, [], ◌∷◌, ◌++◌, length, map, arith, cond, inl, inr}
 use Rattle.std.proofs.lemmas.Bool.{cases_Bool, and_parts, or_parts, or_from, not-false, false≢true}
+use Rattle.std.proofs.lemmas.Bool.Decides.{nat_tests}
 use Rattle.std.proofs.lemmas.List.{nil_from_length}
 use Rattle.hum_path.specs.declared.signs.Sign.{Sign}
 use Rattle.hum_path.specs.declared.signs.Sign.TheVariants.{Split, Join, Exchange, Add, End, Exclusive, Plain}
@@ -268,3 +269,72 @@ sign_swapped (Add ∷ ss) = ap (λ (ts : List Sign). Add ∷ ts) (sign_swapped s
 sign_swapped (End ∷ ss) = ap (λ (ts : List Sign). End ∷ ts) (sign_swapped ss)
 sign_swapped (Exclusive ∷ ss) = ap (λ (ts : List Sign). Exclusive ∷ ts) (sign_swapped ss)
 sign_swapped (Plain ∷ ss) = ap (λ (ts : List Sign). Plain ∷ ts) (sign_swapped ss)
+
+-- two flags or none
+two_or_none : (fs : List Bool) (ss : List Sign) → length fs ≡ length ss → is_pair_or_none (exchanges 0 ss) ≡ true
+    → ((length (exchanged_flags fs ss) == 0) || (length (exchanged_flags fs ss) == 2)) ≡ true
+two_or_none fs ss len two = rw (flags_size 0 fs ss len) two
+
+too_many : (n : ℕ) → ((suc (suc (suc n)) == 0) || (suc (suc (suc n)) == 2)) ≡ true → ⊥
+too_many n e = grind (arith, nat_tests, e)
+
+differ_not : (g h : Bool) → differ g h ≡ false → g ≡ h
+differ_not true true e = refl
+differ_not true false e = absurd (false≢true (sym e))
+differ_not false true e = absurd (false≢true (sym e))
+differ_not false false e = refl
+
+none_exchanged : (j : ℕ) (fs : List Bool) (ss : List Sign) → length fs ≡ length ss → exchanged_flags fs ss ≡ [] → exchanges j ss ≡ []
+none_exchanged j fs ss len e = let size = flags_size j fs ss len in let none = ap length e in nil_from_length (exchanges j ss) (omega (arith, size, none))
+
+none_left : (j : ℕ) (fs : List Bool) (ss : List Sign) (gs : List Bool) → exchanged_flags fs ss ≡ gs → chosen gs gs ≡ [] → exchanges j (chosen fs ss) ≡ []
+none_left j fs ss gs e none =
+    nil_from_length (exchanges j (chosen fs ss)) (chosen_exchanges j fs ss ∙ ap length (ap (λ (bs : List Bool). chosen bs bs) e ∙ none))
+
+-- Where both are chosen or none is, the exchange is one of the chosen columns.
+pub swapped_chosen : {X : Type 0} (fs : List Bool) (ss : List Sign) (xs : List X) → length fs ≡ length ss → length ss ≡ length xs
+    → is_pair_or_none (exchanges 0 ss) ≡ true → is_lone (exchanged_flags fs ss) ≡ false
+    → (swapped ss fs ≡ fs) × (chosen fs (swapped ss xs) ≡ swapped (chosen fs ss) (chosen fs xs))
+swapped_chosen {X} fs ss xs len wide two lone = by_flags (exchanged_flags fs ss) refl (two_or_none fs ss len two) lone
+  where
+    by_flags : (gs : List Bool) → exchanged_flags fs ss ≡ gs → ((length gs == 0) || (length gs == 2)) ≡ true → is_lone gs ≡ false
+        → (swapped ss fs ≡ fs) × (chosen fs (swapped ss xs) ≡ swapped (chosen fs ss) (chosen fs xs))
+    by_flags [] e two lone =
+        let none = none_exchanged 0 fs ss len e in
+        let left = none_left 0 fs ss [] e refl in
+        (swapped_none 0 ss fs none, ap (λ (ys : List X). chosen fs ys) (swapped_none 0 ss xs none) ∙ sym (swapped_none 0 (chosen fs ss) (chosen fs xs) left))
+    by_flags (g ∷ []) e two lone = cc
+    by_flags (true ∷ true ∷ []) e two lone = (swapped_same true fs ss e, swapped_both fs ss xs wide e)
+    by_flags (false ∷ false ∷ []) e two lone =
+        let left = none_left 0 fs ss (false ∷ false ∷ []) e refl in
+        (swapped_same false fs ss e, swapped_dropped fs ss xs wide e ∙ sym (swapped_none 0 (chosen fs ss) (chosen fs xs) left))
+    by_flags (true ∷ false ∷ []) e two lone = absurd (false≢true (sym lone))
+    by_flags (false ∷ true ∷ []) e two lone = absurd (false≢true (sym lone))
+    by_flags (g ∷ h ∷ i ∷ gs) e two lone = absurd (too_many (length gs) two)
+
+-- there is one, or none
+pub pair_chosen : (fs : List Bool) (ss : List Sign) → length fs ≡ length ss → is_pair_or_none (exchanges 0 ss) ≡ true → is_lone (exchanged_flags fs ss) ≡ false
+    → is_pair_or_none (exchanges 0 (chosen fs ss)) ≡ true
+pair_chosen fs ss len two lone = rw (chosen_exchanges 0 fs ss) (by_flags (exchanged_flags fs ss) (two_or_none fs ss len two) lone)
+  where
+    by_flags : (gs : List Bool) → ((length gs == 0) || (length gs == 2)) ≡ true → is_lone gs ≡ false → ((length (chosen gs gs) == 0) || (length (chosen gs gs) == 2)) ≡ true
+    by_flags [] two lone = refl
+    by_flags (g ∷ []) two lone = cc
+    by_flags (true ∷ true ∷ []) two lone = refl
+    by_flags (false ∷ false ∷ []) two lone = refl
+    by_flags (true ∷ false ∷ []) two lone = absurd (false≢true (sym lone))
+    by_flags (false ∷ true ∷ []) two lone = absurd (false≢true (sym lone))
+    by_flags (g ∷ h ∷ i ∷ gs) two lone = absurd (too_many (length gs) two)
+
+-- Where one is chosen, what is chosen stays in its order.
+pub lone_stays : {X : Type 0} (fs : List Bool) (ss : List Sign) (xs : List X) → length fs ≡ length ss → length ss ≡ length xs
+    → is_pair_or_none (exchanges 0 ss) ≡ true → is_lone (exchanged_flags fs ss) ≡ true → chosen_between fs ss ≡ false
+    → chosen (swapped ss fs) (swapped ss xs) ≡ chosen fs xs
+lone_stays {X} fs ss xs len wide two lone none = by_flags (exchanged_flags fs ss) refl (two_or_none fs ss len two) lone
+  where
+    by_flags : (gs : List Bool) → exchanged_flags fs ss ≡ gs → ((length gs == 0) || (length gs == 2)) ≡ true → is_lone gs ≡ true
+        → chosen (swapped ss fs) (swapped ss xs) ≡ chosen fs xs
+    by_flags [] e two lone = absurd (false≢true lone)
+    by_flags (g ∷ []) e two lone = absurd (false≢true lone)
+    by_flags (g ∷ h ∷ []) e two lone = swapped_lone g h fs ss xs wide e lone none
+    by_flags (g ∷ h ∷ i ∷ gs) e two lone = absurd (too_many (length gs) two)

@@ -130,6 +130,22 @@ swapped_none {X} j (s ∷ ss) (x ∷ xs) e = by_test (is_exchange s) e (λ e. sw
     by_test true e more = cc
     by_test false e more = ap (λ (ys : List X). x ∷ ys) (more e)
 
+put_length : {X : Type 0} (y : X) (ss : List Sign) (xs : List X) → length (put_next y ss xs) ≡ length xs
+put_length y [] xs = refl
+put_length y (s ∷ ss) [] = refl
+put_length y (s ∷ ss) (x ∷ xs) = elim (cases_Bool (is_exchange s)) as (λ _. length (put_next y (s ∷ ss) (x ∷ xs)) ≡ suc (length xs)) [
+  | inl w ↦ rw w refl
+  | inr w ↦ rw w (ap suc (put_length y ss xs))
+]
+
+pub swapped_length : {X : Type 0} (ss : List Sign) (xs : List X) → length (swapped ss xs) ≡ length xs
+swapped_length [] xs = refl
+swapped_length (s ∷ ss) [] = refl
+swapped_length (s ∷ ss) (x ∷ xs) = elim (cases_Bool (is_exchange s)) as (λ _. length (swapped (s ∷ ss) (x ∷ xs)) ≡ suc (length xs)) [
+  | inl w ↦ rw w (ap suc (put_length x ss xs))
+  | inr w ↦ rw w (ap suc (swapped_length ss xs))
+]
+
 pub places_swapped : {X : Type 0} (none : X) (ss : List Sign) (xs : List X) → length ss ≡ length xs
     → is_pair_or_none (exchanges 0 ss) ≡ true → from_places none (exchanges 0 ss) xs 0 ss ≡ swapped ss xs
 places_swapped {X} none ss xs len two = by_pair (exchanges 0 ss) refl two
