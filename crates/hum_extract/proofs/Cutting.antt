@@ -14,9 +14,14 @@ use Rattle.hum_path.specs.Spines.{Spines, exchanges, names_after}
 use Rattle.hum_path.specs.Rules.{first_is, has_lone_join, has_mixed_join, has_unnamed, has_bare, names_and_steers, is_pair_or_none, stays_unnamed}
 use Rattle.hum_path.specs.Onward.{beginnings, onward, onward_one, swapped, renamed_each}
 use Rattle.hum_path.proofs.Onwards.{names_onward, swapped_none, swapped_length, each_length, begins_length}
+use Rattle.hum_path.proofs.Obeyed.{Obeys}
+use Rattle.hum_spread.specs.Spread.{Piece, tokens_in}
+use Rattle.hum_spread.proofs.Spreading.{marks, signs_in}
+use Rattle.hum_spread.proofs.Leading.{Fits, come_to}
 use Rattle.hum_extract.specs.Choice.{chosen}
 use Rattle.hum_extract.specs.Extract.{differ, is_torn, exchanged_flags, is_lone, chosen_between, softened, pieces}
 use Rattle.hum_extract.proofs.Selecting.{chosen_length, chosen_none, chosen_map, chosen_each, chosen_onward}
+use Rattle.hum_extract.proofs.Joining.{pieces_tokens, pieces_marks, pieces_formed}
 use Rattle.hum_extract.proofs.Exchanging.{swapped_chosen, pair_chosen, lone_stays, begin_swapped, sign_swapped}
 
 -- what a softened token's sign becomes
@@ -201,3 +206,70 @@ chosen_comes {X} added true fs ss xs len wide two is none =
   where
     cuts : {bs cs : List Bool} {ts us : List Sign} {ys zs : List X} → bs ≡ cs → ts ≡ us → ys ≡ zs → onward added bs ts ys ≡ onward added cs us zs
     cuts a b c = rw (a, b, c) refl
+
+-- The pieces that are cut out of an interpretation.
+abbrev pub pieces_of : List Bool → List (List ℕ) → List Piece
+pieces_of flags tokens =
+    pieces false flags (map (softened (is_lone (exchanged_flags flags (map sign_of tokens)))) tokens)
+
+chosen_unnamed : (fs : List Bool) (ns : List (List ℕ)) (ss : List Sign) → has_unnamed ns ss ≡ false → has_unnamed (chosen fs ns) (chosen fs ss) ≡ false
+chosen_unnamed [] ns ss h = refl
+chosen_unnamed (f ∷ fs) [] ss h = refl
+chosen_unnamed (true ∷ fs) (n ∷ ns) [] h = refl
+chosen_unnamed (false ∷ fs) (n ∷ ns) [] h = none (chosen fs ns)
+  where
+    none : (ms : List (List ℕ)) → has_unnamed ms [] ≡ false
+    none [] = refl
+    none (m ∷ ms) = refl
+chosen_unnamed (true ∷ fs) (n ∷ ns) (s ∷ ss) h =
+    let both = or_parts (stays_unnamed n s) (has_unnamed ns ss) h in
+    or_from (stays_unnamed n s) (has_unnamed (chosen fs ns) (chosen fs ss)) both.0 (chosen_unnamed fs ns ss both.1)
+chosen_unnamed (false ∷ fs) (n ∷ ns) (s ∷ ss) h = chosen_unnamed fs ns ss (or_parts (stays_unnamed n s) (has_unnamed ns ss) h).1
+
+-- an exclusive interpretation or a path indicator is missing
+chosen_steers : (lone : Bool) (fs : List Bool) (ss : List Sign) → names_and_steers ss ≡ false → names_and_steers (chosen fs (map (soften lone) ss)) ≡ false
+chosen_steers lone fs ss h = elim (cases_Bool (list_any is_exclusive ss)) as (λ _. names_and_steers (chosen fs (map (soften lone) ss)) ≡ false) [
+  | inl w ↦
+      let none : list_any is_path_indicator ss ≡ false = rw w at h in
+      let left = chosen_none is_path_indicator fs (map (soften lone) ss) (soft_indicators lone ss none) in
+      rw left (never (list_any is_exclusive (chosen fs (map (soften lone) ss))))
+  | inr w ↦
+      let left = chosen_none is_exclusive fs (map (soften lone) ss) (soft_exclusives lone ss ∙ w) in
+      rw left refl
+]
+  where
+    never : (b : Bool) → (b && false) ≡ false
+    never true = refl
+    never false = refl
+
+chosen_pair : (lone : Bool) (fs : List Bool) (ss : List Sign) → length fs ≡ length ss → is_pair_or_none (exchanges 0 ss) ≡ true → is_lone (exchanged_flags fs ss) ≡ lone
+    → is_pair_or_none (exchanges 0 (chosen fs (map (soften lone) ss))) ≡ true
+chosen_pair false fs ss len two is = rw (soft_none ss) (pair_chosen fs ss len two is)
+chosen_pair true fs ss len two is = rw (← chosen_map (soften true) fs ss, soft_exchanges 0 (chosen fs ss)) refl
+
+cut_signs : (fs : List Bool) (lone : Bool) (ts : List (List ℕ)) → signs_in (pieces false fs (map (softened lone) ts)) ≡ chosen fs (map (soften lone) (map sign_of ts))
+cut_signs fs lone ts =
+    ap (λ (us : List (List ℕ)). map sign_of us) (pieces_tokens false fs (map (softened lone) ts))
+    ∙ (chosen_map sign_of fs (map (softened lone) ts) ∙ ap (λ (ss : List Sign). chosen fs ss) (soft_signs lone ts))
+
+-- They break no rule that stands at one token or one join.
+pub cut_fits : (fs : List Bool) (names tokens : List (List ℕ)) → length fs ≡ length tokens → Obeys names tokens → is_torn fs (map sign_of tokens) ≡ false
+    → Fits (pieces_of fs tokens) (chosen fs names)
+cut_fits fs names tokens len keeps torn =
+    let lone : Bool = is_lone (exchanged_flags fs (map sign_of tokens)) in
+    let signs = cut_signs fs (is_lone (exchanged_flags fs (map sign_of tokens))) tokens in
+    let soft = soft_signs (is_lone (exchanged_flags fs (map sign_of tokens))) tokens in
+    let count = length-map tokens sign_of in
+    let size = length-map tokens (softened (is_lone (exchanged_flags fs (map sign_of tokens)))) in
+    let wide = keeps.wide in
+    record {
+      formed = pieces_formed fs (map (softened (is_lone (exchanged_flags fs (map sign_of tokens)))) tokens) names (omega (arith, len, size)) (omega (arith, wide, size))
+        (rw soft (soft_torn (is_lone (exchanged_flags fs (map sign_of tokens))) fs (map sign_of tokens) ∙ torn))
+        (rw soft (soft_lone (is_lone (exchanged_flags fs (map sign_of tokens))) false (map sign_of tokens) ∙ keeps.lone))
+        (rw soft (soft_mixed (is_lone (exchanged_flags fs (map sign_of tokens))) names (map sign_of tokens) ∙ keeps.mixed));
+      unnamed = rw signs (chosen_unnamed fs names (map (soften (is_lone (exchanged_flags fs (map sign_of tokens)))) (map sign_of tokens)) (soft_unnamed (is_lone (exchanged_flags fs (map sign_of tokens))) names (map sign_of tokens) ∙ keeps.unnamed));
+      bare = rw (pieces_tokens false fs (map (softened (is_lone (exchanged_flags fs (map sign_of tokens)))) tokens))
+        (chosen_none (bytes_eq (codes "**")) fs (map (softened (is_lone (exchanged_flags fs (map sign_of tokens)))) tokens) (soft_bare (is_lone (exchanged_flags fs (map sign_of tokens))) tokens keeps.bare));
+      steers = rw signs (chosen_steers (is_lone (exchanged_flags fs (map sign_of tokens))) fs (map sign_of tokens) keeps.steers);
+      pair = rw signs (chosen_pair (is_lone (exchanged_flags fs (map sign_of tokens))) fs (map sign_of tokens) (omega (arith, len, count)) keeps.pair refl);
+    }

@@ -2,6 +2,7 @@ pub mod Carry
 pub mod Coming
 pub mod Examples
 pub mod Joins
+pub mod Obeyed
 pub mod Onwards
 pub mod Plain
 pub mod Staying
