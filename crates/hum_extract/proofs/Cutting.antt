@@ -15,12 +15,16 @@ use Rattle.hum_path.specs.Rules.{first_is, has_lone_join, has_mixed_join, has_un
 use Rattle.hum_path.specs.Onward.{beginnings, onward, onward_one, swapped, renamed_each}
 use Rattle.hum_path.proofs.Onwards.{names_onward, swapped_none, swapped_length, each_length, begins_length}
 use Rattle.hum_path.proofs.Obeyed.{Obeys}
-use Rattle.hum_spread.specs.Spread.{Piece, tokens_in}
+use Rattle.hum_record.specs.declared.SpinedKind.TheVariants.{Interpretation}
+use Rattle.hum_record.specs.Row.{Row}
+use Rattle.hum_stage.specs.declared.faults.Rule.{Rule}
+use Rattle.hum_stage.specs.declared.faults.Rule.TheVariants.{X1, X3}
+use Rattle.hum_spread.specs.Spread.{Piece, tokens_in, spread, filled}
 use Rattle.hum_spread.proofs.Spreading.{marks, signs_in}
-use Rattle.hum_spread.proofs.Leading.{Fits, come_to}
+use Rattle.hum_spread.proofs.Leading.{Fits, come_to, Lead, spread_leads}
 use Rattle.hum_extract.specs.Choice.{chosen}
-use Rattle.hum_extract.specs.Extract.{differ, is_torn, exchanged_flags, is_lone, chosen_between, softened, pieces}
-use Rattle.hum_extract.proofs.Selecting.{chosen_length, chosen_none, chosen_map, chosen_each, chosen_onward}
+use Rattle.hum_extract.specs.Extract.{differ, is_torn, exchanged_flags, is_lone, chosen_between, softened, pieces, cut}
+use Rattle.hum_extract.proofs.Selecting.{chosen_length, chosen_fewer, chosen_none, chosen_map, chosen_each, chosen_onward}
 use Rattle.hum_extract.proofs.Joining.{pieces_tokens, pieces_marks, pieces_formed}
 use Rattle.hum_extract.proofs.Exchanging.{swapped_chosen, pair_chosen, lone_stays, begin_swapped, sign_swapped}
 
@@ -252,24 +256,72 @@ cut_signs fs lone ts =
     ap (λ (us : List (List ℕ)). map sign_of us) (pieces_tokens false fs (map (softened lone) ts))
     ∙ (chosen_map sign_of fs (map (softened lone) ts) ∙ ap (λ (ss : List Sign). chosen fs ss) (soft_signs lone ts))
 
+fits_at : (lone : Bool) (fs : List Bool) (names tokens : List (List ℕ)) → length fs ≡ length tokens → Obeys names tokens → is_torn fs (map sign_of tokens) ≡ false
+    → is_lone (exchanged_flags fs (map sign_of tokens)) ≡ lone → Fits (pieces false fs (map (softened lone) tokens)) (chosen fs names)
+fits_at lone fs names tokens len keeps torn is =
+    let signs = cut_signs fs lone tokens in
+    let soft = soft_signs lone tokens in
+    let count = length-map tokens sign_of in
+    let size = length-map tokens (softened lone) in
+    let wide = keeps.wide in
+    record {
+      formed = pieces_formed fs (map (softened lone) tokens) names (omega (arith, len, size)) (omega (arith, wide, size))
+        (rw soft (soft_torn lone fs (map sign_of tokens) ∙ torn))
+        (rw soft (soft_lone lone false (map sign_of tokens) ∙ keeps.lone))
+        (rw soft (soft_mixed lone names (map sign_of tokens) ∙ keeps.mixed));
+      unnamed = rw signs (chosen_unnamed fs names (map (soften lone) (map sign_of tokens)) (soft_unnamed lone names (map sign_of tokens) ∙ keeps.unnamed));
+      bare = rw (pieces_tokens false fs (map (softened lone) tokens)) (chosen_none (bytes_eq (codes "**")) fs (map (softened lone) tokens) (soft_bare lone tokens keeps.bare));
+      steers = rw signs (chosen_steers lone fs (map sign_of tokens) keeps.steers);
+      pair = rw signs (chosen_pair lone fs (map sign_of tokens) (omega (arith, len, count)) keeps.pair is);
+    }
+
 -- They break no rule that stands at one token or one join.
 pub cut_fits : (fs : List Bool) (names tokens : List (List ℕ)) → length fs ≡ length tokens → Obeys names tokens → is_torn fs (map sign_of tokens) ≡ false
     → Fits (pieces_of fs tokens) (chosen fs names)
-cut_fits fs names tokens len keeps torn =
-    let lone : Bool = is_lone (exchanged_flags fs (map sign_of tokens)) in
-    let signs = cut_signs fs (is_lone (exchanged_flags fs (map sign_of tokens))) tokens in
-    let soft = soft_signs (is_lone (exchanged_flags fs (map sign_of tokens))) tokens in
+cut_fits fs names tokens len keeps torn = fits_at (is_lone (exchanged_flags fs (map sign_of tokens))) fs names tokens len keeps torn refl
+
+comes_at : (lone : Bool) (fs : List Bool) (names tokens : List (List ℕ)) → length fs ≡ length tokens → Obeys names tokens
+    → is_lone (exchanged_flags fs (map sign_of tokens)) ≡ lone → (lone && chosen_between fs (map sign_of tokens)) ≡ false
+    → come_to (pieces false fs (map (softened lone) tokens)) (chosen fs names)
+    ≡ chosen (onward (λ f. f) (beginnings false (map sign_of tokens)) (map sign_of tokens) (swapped (map sign_of tokens) fs)) (names_after (Spines names) tokens)
+comes_at lone fs names tokens len keeps is none =
+    let signs : List Sign = map sign_of tokens in
+    let size = length-map tokens (softened lone) in
     let count = length-map tokens sign_of in
-    let size = length-map tokens (softened (is_lone (exchanged_flags fs (map sign_of tokens)))) in
     let wide = keeps.wide in
-    record {
-      formed = pieces_formed fs (map (softened (is_lone (exchanged_flags fs (map sign_of tokens)))) tokens) names (omega (arith, len, size)) (omega (arith, wide, size))
-        (rw soft (soft_torn (is_lone (exchanged_flags fs (map sign_of tokens))) fs (map sign_of tokens) ∙ torn))
-        (rw soft (soft_lone (is_lone (exchanged_flags fs (map sign_of tokens))) false (map sign_of tokens) ∙ keeps.lone))
-        (rw soft (soft_mixed (is_lone (exchanged_flags fs (map sign_of tokens))) names (map sign_of tokens) ∙ keeps.mixed));
-      unnamed = rw signs (chosen_unnamed fs names (map (soften (is_lone (exchanged_flags fs (map sign_of tokens)))) (map sign_of tokens)) (soft_unnamed (is_lone (exchanged_flags fs (map sign_of tokens))) names (map sign_of tokens) ∙ keeps.unnamed));
-      bare = rw (pieces_tokens false fs (map (softened (is_lone (exchanged_flags fs (map sign_of tokens)))) tokens))
-        (chosen_none (bytes_eq (codes "**")) fs (map (softened (is_lone (exchanged_flags fs (map sign_of tokens)))) tokens) (soft_bare (is_lone (exchanged_flags fs (map sign_of tokens))) tokens keeps.bare));
-      steers = rw signs (chosen_steers (is_lone (exchanged_flags fs (map sign_of tokens))) fs (map sign_of tokens) keeps.steers);
-      pair = rw signs (chosen_pair (is_lone (exchanged_flags fs (map sign_of tokens))) fs (map sign_of tokens) (omega (arith, len, count)) keeps.pair refl);
-    }
+    let each = each_length names tokens wide in
+    let marked : marks (pieces false fs (map (softened lone) tokens)) ≡ chosen fs (beginnings false (map sign_of tokens)) =
+      pieces_marks false fs (map (softened lone) tokens)
+      ∙ ap (λ (bs : List Bool). chosen fs bs) (ap (λ (ss : List Sign). beginnings false ss) (soft_signs lone tokens) ∙ soft_begins lone false (map sign_of tokens)) in
+    let own : renamed_each (chosen fs names) (tokens_in (pieces false fs (map (softened lone) tokens))) ≡ chosen fs (renamed_each names tokens) =
+      ap (λ (ts : List (List ℕ)). renamed_each (chosen fs names) ts) (pieces_tokens false fs (map (softened lone) tokens))
+      ∙ (chosen_each fs names (map (softened lone) tokens) (omega (arith, wide, size)) ∙ ap (λ (ns : List (List ℕ)). chosen fs ns) (soft_each lone names tokens)) in
+    let whole = chosen_comes (λ _. []) lone fs (map sign_of tokens) (renamed_each names tokens) (omega (arith, len, count)) (omega (arith, count, each)) keeps.pair is none in
+    rw (marked, own, cut_signs fs lone tokens, names_onward names tokens wide keeps.pair) whole
+
+-- They come to the chosen spines.
+pub cut_comes : (fs : List Bool) (names tokens : List (List ℕ)) → length fs ≡ length tokens → Obeys names tokens
+    → (is_lone (exchanged_flags fs (map sign_of tokens)) && chosen_between fs (map sign_of tokens)) ≡ false
+    → come_to (pieces_of fs tokens) (chosen fs names)
+    ≡ chosen (onward (λ f. f) (beginnings false (map sign_of tokens)) (map sign_of tokens) (swapped (map sign_of tokens) fs)) (names_after (Spines names) tokens)
+cut_comes fs names tokens len keeps none = comes_at (is_lone (exchanged_flags fs (map sign_of tokens))) fs names tokens len keeps refl none
+
+-- The records that an interpretation is cut to.
+pub cut_leads : (fs : List Bool) (names tokens : List (List ℕ)) (rows : List Row) → length fs ≡ length tokens → Obeys names tokens → length names ≤ 4096 → cut fs tokens ≡ Ok rows
+    → Lead (chosen fs names) rows (chosen (onward (λ f. f) (beginnings false (map sign_of tokens)) (map sign_of tokens) (swapped (map sign_of tokens) fs)) (names_after (Spines names) tokens))
+cut_leads fs names tokens rows len keeps few e =
+    by_tests (is_torn fs (map sign_of tokens)) (is_lone (exchanged_flags fs (map sign_of tokens)) && chosen_between fs (map sign_of tokens)) refl refl e
+  where
+    by_tests : (torn between : Bool) → is_torn fs (map sign_of tokens) ≡ torn → (is_lone (exchanged_flags fs (map sign_of tokens)) && chosen_between fs (map sign_of tokens)) ≡ between
+        → ◌≡◌ {A = Result (List Row) Rule} (cond torn (Err X1) (cond between (Err X3) (Ok (filled Interpretation (spread (pieces_of fs tokens)))))) (Ok rows)
+        → Lead (chosen fs names) rows (chosen (onward (λ f. f) (beginnings false (map sign_of tokens)) (map sign_of tokens) (swapped (map sign_of tokens) fs)) (names_after (Spines names) tokens))
+    by_tests true between a b e = cc
+    by_tests false true a b e = cc
+    by_tests false false a b e =
+        let out : filled Interpretation (spread (pieces_of fs tokens)) ≡ rows = cc in
+        let comes = cut_comes fs names tokens len keeps b in
+        let size = ap length comes in
+        let less = chosen_fewer fs names in
+        let fewer = chosen_fewer (onward (λ f. f) (beginnings false (map sign_of tokens)) (map sign_of tokens) (swapped (map sign_of tokens) fs)) (names_after (Spines names) tokens) in
+        let after = keeps.few in
+        rw (← out, ← comes) (spread_leads (pieces_of fs tokens) (chosen fs names) (cut_fits fs names tokens len keeps a) (omega (arith, less, few)) (omega (arith, size, fewer, after)))
