@@ -3,7 +3,7 @@ use Rattle.std.proofs.Common.{◌≡◌, ◌∙◌, refl, sym, ap, ℕ, suc, ◌
 use Rattle.std.specs.Prelude.{nat_lt, Result, Ok, Err}
 use Rattle.std.specs.List.{list_any, find}
 use Rattle.std.specs.Str.{bytes_eq}
-use Rattle.std.proofs.lemmas.Bool.{cases_Bool, and_parts, or_parts, or_from, not-false, false≢true}
+use Rattle.std.proofs.lemmas.Bool.{and_parts, or_parts, or_from, not-false, false≢true}
 use Rattle.std.proofs.lemmas.Bool.Decides.{nat_tests}
 use Rattle.std.proofs.lemmas.List.{length-map}
 use lib.Chars.{codes}
@@ -15,6 +15,7 @@ use Rattle.hum_path.specs.Rules.{first_is, has_lone_join, has_mixed_join, has_un
 use Rattle.hum_path.specs.Onward.{beginnings, onward, onward_one, swapped, renamed_each}
 use Rattle.hum_path.proofs.Onwards.{names_onward, swapped_none, swapped_length, each_length, begins_length}
 use Rattle.hum_path.proofs.Obeyed.{Obeys}
+use Rattle.hum_path.proofs.Cases.{by_bool}
 use Rattle.hum_record.specs.declared.SpinedKind.TheVariants.{Interpretation}
 use Rattle.hum_record.specs.Row.{Row}
 use Rattle.hum_stage.specs.declared.faults.Rule.{Rule}
@@ -33,10 +34,9 @@ abbrev pub soften : Bool → Sign → Sign
 soften lone sign = cond (lone && is_exchange sign) Plain sign
 
 soft_sign : (lone : Bool) (t : List ℕ) → sign_of (softened lone t) ≡ soften lone (sign_of t)
-soft_sign lone t = elim (cases_Bool (lone && is_exchange (sign_of t))) as (λ _. sign_of (softened lone t) ≡ soften lone (sign_of t)) [
-  | inl w ↦ rw w refl
-  | inr w ↦ rw w refl
-]
+soft_sign lone t = by_bool (lone && is_exchange (sign_of t))
+  (λ w. rw w refl)
+  (λ w. rw w refl)
 
 pub soft_signs : (lone : Bool) (ts : List (List ℕ)) → map sign_of (map (softened lone) ts) ≡ map (soften lone) (map sign_of ts)
 soft_signs lone [] = refl
@@ -146,10 +146,9 @@ soft_each lone (n ∷ ns) (t ∷ ts) = let rest = soft_each lone ns ts in rw (on
     apart Plain h = cc
     one : (lone : Bool) → cond (is_exclusive (sign_of (softened lone t))) (softened lone t) n ≡ cond (is_exclusive (sign_of t)) t n
     one false = refl
-    one true = elim (cases_Bool (is_exchange (sign_of t))) as (λ _. cond (is_exclusive (sign_of (softened true t))) (softened true t) n ≡ cond (is_exclusive (sign_of t)) t n) [
-      | inl w ↦ rw (w, apart (sign_of t) w) refl
-      | inr w ↦ rw w refl
-    ]
+    one true = by_bool (is_exchange (sign_of t))
+      (λ w. rw (w, apart (sign_of t) w) refl)
+      (λ w. rw w refl)
 
 -- and carries on the same
 soft_onward : {X : Type 0} (added : X → X) (lone : Bool) (bs : List Bool) (ss : List Sign) (xs : List X) → onward added bs (map (soften lone) ss) xs ≡ onward added bs ss xs
@@ -232,15 +231,14 @@ chosen_unnamed (false ∷ fs) (n ∷ ns) (s ∷ ss) h = chosen_unnamed fs ns ss 
 
 -- an exclusive interpretation or a path indicator is missing
 chosen_steers : (lone : Bool) (fs : List Bool) (ss : List Sign) → names_and_steers ss ≡ false → names_and_steers (chosen fs (map (soften lone) ss)) ≡ false
-chosen_steers lone fs ss h = elim (cases_Bool (list_any is_exclusive ss)) as (λ _. names_and_steers (chosen fs (map (soften lone) ss)) ≡ false) [
-  | inl w ↦
-      let none : list_any is_path_indicator ss ≡ false = rw w at h in
-      let left = chosen_none is_path_indicator fs (map (soften lone) ss) (soft_indicators lone ss none) in
-      rw left (never (list_any is_exclusive (chosen fs (map (soften lone) ss))))
-  | inr w ↦
-      let left = chosen_none is_exclusive fs (map (soften lone) ss) (soft_exclusives lone ss ∙ w) in
-      rw left refl
-]
+chosen_steers lone fs ss h = by_bool (list_any is_exclusive ss)
+  (λ w.
+    let none : list_any is_path_indicator ss ≡ false = rw w at h in
+    let left = chosen_none is_path_indicator fs (map (soften lone) ss) (soft_indicators lone ss none) in
+    rw left (never (list_any is_exclusive (chosen fs (map (soften lone) ss)))))
+  (λ w.
+    let left = chosen_none is_exclusive fs (map (soften lone) ss) (soft_exclusives lone ss ∙ w) in
+    rw left refl)
   where
     never : (b : Bool) → (b && false) ≡ false
     never true = refl

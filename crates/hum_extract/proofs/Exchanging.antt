@@ -1,6 +1,6 @@
 -- Exchanged columns, of which both, none or one is chosen.
 use Rattle.std.proofs.Common.{◌≡◌, ◌∙◌, refl, sym, ap, ℕ, suc, ◌+◌, ◌==◌, Bool, true, false, not, ◌&&◌, ◌||◌, List, [], ◌∷◌, ◌++◌, length, map, arith, cond, inl, inr}
-use Rattle.std.proofs.lemmas.Bool.{cases_Bool, and_parts, or_parts, or_from, not-false, false≢true}
+use Rattle.std.proofs.lemmas.Bool.{and_parts, or_parts, or_from, not-false, false≢true}
 use Rattle.std.proofs.lemmas.Bool.Decides.{nat_tests}
 use Rattle.std.proofs.lemmas.List.{nil_from_length}
 use Rattle.hum_path.specs.declared.signs.Sign.{Sign}
@@ -10,6 +10,7 @@ use Rattle.hum_path.specs.Spines.{exchanges}
 use Rattle.hum_path.specs.Rules.{is_pair_or_none}
 use Rattle.hum_path.specs.Onward.{beginnings, at_next, put_next, swapped}
 use Rattle.hum_path.proofs.Onwards.{swapped_none}
+use Rattle.hum_path.proofs.Cases.{by_bool}
 use Rattle.hum_extract.specs.Choice.{chosen}
 use Rattle.hum_extract.specs.Extract.{differ, exchanged_flags, is_lone, chosen_before, chosen_between}
 
@@ -18,23 +19,20 @@ pub flags_size : (j : ℕ) (fs : List Bool) (ss : List Sign) → length fs ≡ l
 flags_size j [] [] len = refl
 flags_size j [] (s ∷ ss) len = absurd (omega (arith, len))
 flags_size j (f ∷ fs) [] len = refl
-flags_size j (f ∷ fs) (s ∷ ss) len = elim (cases_Bool (is_exchange s)) as (λ _. length (exchanged_flags (f ∷ fs) (s ∷ ss)) ≡ length (exchanges j (s ∷ ss))) [
-  | inl w ↦ rw w (ap suc (flags_size (j + 1) fs ss (omega (arith, len))))
-  | inr w ↦ rw w (flags_size (j + 1) fs ss (omega (arith, len)))
-]
+flags_size j (f ∷ fs) (s ∷ ss) len = by_bool (is_exchange s)
+  (λ w. rw w (ap suc (flags_size (j + 1) fs ss (omega (arith, len)))))
+  (λ w. rw w (flags_size (j + 1) fs ss (omega (arith, len))))
 
 -- the chosen ones of them
 pub chosen_exchanges : (j : ℕ) (fs : List Bool) (ss : List Sign) → length (exchanges j (chosen fs ss)) ≡ length (chosen (exchanged_flags fs ss) (exchanged_flags fs ss))
 chosen_exchanges j [] ss = refl
 chosen_exchanges j (f ∷ fs) [] = refl
-chosen_exchanges j (true ∷ fs) (s ∷ ss) = elim (cases_Bool (is_exchange s)) as (λ _. length (exchanges j (chosen (true ∷ fs) (s ∷ ss))) ≡ length (chosen (exchanged_flags (true ∷ fs) (s ∷ ss)) (exchanged_flags (true ∷ fs) (s ∷ ss)))) [
-  | inl w ↦ rw w (ap suc (chosen_exchanges (j + 1) fs ss))
-  | inr w ↦ rw w (chosen_exchanges (j + 1) fs ss)
-]
-chosen_exchanges j (false ∷ fs) (s ∷ ss) = elim (cases_Bool (is_exchange s)) as (λ _. length (exchanges j (chosen (false ∷ fs) (s ∷ ss))) ≡ length (chosen (exchanged_flags (false ∷ fs) (s ∷ ss)) (exchanged_flags (false ∷ fs) (s ∷ ss)))) [
-  | inl w ↦ rw w (chosen_exchanges j fs ss)
-  | inr w ↦ rw w (chosen_exchanges j fs ss)
-]
+chosen_exchanges j (true ∷ fs) (s ∷ ss) = by_bool (is_exchange s)
+  (λ w. rw w (ap suc (chosen_exchanges (j + 1) fs ss)))
+  (λ w. rw w (chosen_exchanges (j + 1) fs ss))
+chosen_exchanges j (false ∷ fs) (s ∷ ss) = by_bool (is_exchange s)
+  (λ w. rw w (chosen_exchanges j fs ss))
+  (λ w. rw w (chosen_exchanges j fs ss))
 
 -- The next exchanged column's flag.
 flag_at : (d g : Bool) (gs fs : List Bool) (ss : List Sign) → exchanged_flags fs ss ≡ g ∷ gs → at_next d ss fs ≡ g
@@ -248,17 +246,15 @@ is_exchange_at Plain h = cc
 
 sign_at : (ss : List Sign) → at_next Exchange ss ss ≡ Exchange
 sign_at [] = refl
-sign_at (s ∷ ss) = elim (cases_Bool (is_exchange s)) as (λ _. at_next Exchange (s ∷ ss) (s ∷ ss) ≡ Exchange) [
-  | inl w ↦ rw w (is_exchange_at s w)
-  | inr w ↦ rw w (sign_at ss)
-]
+sign_at (s ∷ ss) = by_bool (is_exchange s)
+  (λ w. rw w (is_exchange_at s w))
+  (λ w. rw w (sign_at ss))
 
 sign_put : (ss : List Sign) → put_next Exchange ss ss ≡ ss
 sign_put [] = refl
-sign_put (s ∷ ss) = elim (cases_Bool (is_exchange s)) as (λ _. put_next Exchange (s ∷ ss) (s ∷ ss) ≡ s ∷ ss) [
-  | inl w ↦ rw w (ap (λ (t : Sign). t ∷ ss) (sym (is_exchange_at s w)))
-  | inr w ↦ rw w (ap (λ (ts : List Sign). s ∷ ts) (sign_put ss))
-]
+sign_put (s ∷ ss) = by_bool (is_exchange s)
+  (λ w. rw w (ap (λ (t : Sign). t ∷ ss) (sym (is_exchange_at s w))))
+  (λ w. rw w (ap (λ (ts : List Sign). s ∷ ts) (sign_put ss)))
 
 pub sign_swapped : (ss : List Sign) → swapped ss ss ≡ ss
 sign_swapped [] = refl

@@ -1,4 +1,5 @@
 pub mod Carry
+pub mod Cases
 pub mod Coming
 pub mod Examples
 pub mod Joins

@@ -2,7 +2,6 @@
 use Rattle.std.proofs.Common.{◌≡◌, ◌∙◌, refl, sym, ap, ℕ, zero, suc, ◌+◌, ◌<◌, ◌≤◌, ◌==◌, Bool, true, false}
 use Rattle.std.proofs.Common.{List, [], ◌∷◌, map, length, get_or, cond, arith, inl, inr, ◌||◌}
 use Rattle.std.specs.List.{AllByRecursion}
-use Rattle.std.proofs.lemmas.Bool.{cases_Bool}
 use Rattle.std.proofs.lemmas.Bool.Decides.{nat_tests}
 use Rattle.std.proofs.lemmas.List.{length-map}
 use Rattle.hum_path.specs.declared.signs.Sign.{Sign}
@@ -13,6 +12,7 @@ use Rattle.hum_path.specs.Spines.{Spines, exchanges, partner, heirs_from, moves_
 use Rattle.hum_path.specs.Rules.{is_pair_or_none}
 use Rattle.hum_path.specs.Onward.{beginnings, onward, at_next, put_next, swapped, renamed_each, AgreesAt, Agrees, from_places}
 use Rattle.hum_path.proofs.Within.{exchanged_below, partner_below}
+use Rattle.hum_path.proofs.Cases.{by_bool}
 
 -- what a function makes of all moves
 pub onward_by_moves : {X : Type 0} (f : Move → X) (added : X → X) (pair : List ℕ) (j : ℕ) (b : Bool) (signs : List Sign) (xs : List X)
@@ -133,18 +133,16 @@ swapped_none {X} j (s ∷ ss) (x ∷ xs) e = by_test (is_exchange s) e (λ e. sw
 put_length : {X : Type 0} (y : X) (ss : List Sign) (xs : List X) → length (put_next y ss xs) ≡ length xs
 put_length y [] xs = refl
 put_length y (s ∷ ss) [] = refl
-put_length y (s ∷ ss) (x ∷ xs) = elim (cases_Bool (is_exchange s)) as (λ _. length (put_next y (s ∷ ss) (x ∷ xs)) ≡ suc (length xs)) [
-  | inl w ↦ rw w refl
-  | inr w ↦ rw w (ap suc (put_length y ss xs))
-]
+put_length y (s ∷ ss) (x ∷ xs) = by_bool (is_exchange s)
+  (λ w. rw w refl)
+  (λ w. rw w (ap suc (put_length y ss xs)))
 
 pub swapped_length : {X : Type 0} (ss : List Sign) (xs : List X) → length (swapped ss xs) ≡ length xs
 swapped_length [] xs = refl
 swapped_length (s ∷ ss) [] = refl
-swapped_length (s ∷ ss) (x ∷ xs) = elim (cases_Bool (is_exchange s)) as (λ _. length (swapped (s ∷ ss) (x ∷ xs)) ≡ suc (length xs)) [
-  | inl w ↦ rw w (ap suc (put_length x ss xs))
-  | inr w ↦ rw w (ap suc (swapped_length ss xs))
-]
+swapped_length (s ∷ ss) (x ∷ xs) = by_bool (is_exchange s)
+  (λ w. rw w (ap suc (put_length x ss xs)))
+  (λ w. rw w (ap suc (swapped_length ss xs)))
 
 pub places_swapped : {X : Type 0} (none : X) (ss : List Sign) (xs : List X) → length ss ≡ length xs
     → is_pair_or_none (exchanges 0 ss) ≡ true → from_places none (exchanges 0 ss) xs 0 ss ≡ swapped ss xs

@@ -4,7 +4,7 @@ use Rattle.std.proofs.Common.{List, [], ◌∷◌, ◌++◌, length, map, cond, 
 use Rattle.std.specs.Prelude.{nat_lt}
 use Rattle.std.specs.List.{list_any, find}
 use Rattle.std.specs.Str.{bytes_eq}
-use Rattle.std.proofs.lemmas.Bool.{cases_Bool, and_parts, or_parts, or_from, false≢true, not-false}
+use Rattle.std.proofs.lemmas.Bool.{and_parts, or_parts, or_from, false≢true, not-false}
 use Rattle.std.proofs.lemmas.Bool.Decides.{nat_tests}
 use Rattle.std.proofs.lemmas.List.{length-map}
 use Rattle.std.proofs.lemmas.Slice.Eq.{bytes_eq-Decides}
@@ -18,6 +18,7 @@ use Rattle.hum_path.specs.Spines.{Path, Spines, exclusives, exchanges, moves_und
 use Rattle.hum_path.specs.Rules.{breaks, in_order, fault_of, has_unnamed, has_bare, names_and_steers, has_lone_join, first_is, is_pair_or_none, has_mixed_join, stays_unnamed}
 use Rattle.hum_path.specs.Onward.{beginnings, onward, swapped, renamed_each}
 use Rattle.hum_path.proofs.Onwards.{names_onward, swapped_none, each_length, begins_length}
+use Rattle.hum_path.proofs.Cases.{by_bool}
 use Rattle.hum_spread.specs.Spread.{Piece, piece, joins, goes_on, tokens_in, touches, joins_in, join_alone, first_alone, join_done, first_done, one_by_one, before_last, spread, filled}
 use Rattle.hum_spread.proofs.Spreading.{marks, signs_in, next_goes_on, Formed, formed_length, rest_merged, merged, first_onward, done_onward, done_formed, done_joins, done_swapped, is_join_at}
 
@@ -157,17 +158,15 @@ one_leads (p ∷ ps) ns fits t few =
 -- The record with the first join alone.
 alone_size : (ps : List Piece) → length (join_alone ps) ≡ length ps
 alone_size [] = refl
-alone_size (p ∷ ps) = elim (cases_Bool (goes_on p)) as (λ _. length (join_alone (p ∷ ps)) ≡ suc (length ps)) [
-  | inl w ↦ rw w (ap suc (alone_size ps))
-  | inr w ↦ rw w (length-map (p ∷ ps) (λ _. codes "*"))
-]
+alone_size (p ∷ ps) = by_bool (goes_on p)
+  (λ w. rw w (ap suc (alone_size ps)))
+  (λ w. rw w (length-map (p ∷ ps) (λ _. codes "*")))
 
 first_size : (ps : List Piece) → length (first_alone ps) ≡ length ps
 first_size [] = refl
-first_size (p ∷ ps) = elim (cases_Bool p.begins) as (λ _. length (first_alone (p ∷ ps)) ≡ suc (length ps)) [
-  | inl w ↦ rw w (ap suc (alone_size ps))
-  | inr w ↦ rw w (ap suc (first_size ps))
-]
+first_size (p ∷ ps) = by_bool p.begins
+  (λ w. rw w (ap suc (alone_size ps)))
+  (λ w. rw w (ap suc (first_size ps)))
 
 -- what neither null tokens nor joins are, none is
 stars_none : (test : List ℕ → Bool) (ps : List Piece) → test (codes "*") ≡ false → list_any test (map (λ _. codes "*") ps) ≡ false
@@ -178,70 +177,62 @@ alone_none : (test : List ℕ → Bool) (ps : List Piece) → test (codes "*") �
 alone_none test [] star h = refl
 alone_none test (p ∷ ps) star h =
     let both = or_parts (test p.token) (list_any test (tokens_in ps)) h in
-    elim (cases_Bool (goes_on p)) as (λ _. list_any test (join_alone (p ∷ ps)) ≡ false) [
-      | inl w ↦ rw w (or_from (test p.token) (list_any test (join_alone ps)) both.0 (alone_none test ps star both.1))
-      | inr w ↦ rw w (stars_none test (p ∷ ps) star)
-    ]
+    by_bool (goes_on p)
+      (λ w. rw w (or_from (test p.token) (list_any test (join_alone ps)) both.0 (alone_none test ps star both.1)))
+      (λ w. rw w (stars_none test (p ∷ ps) star))
 
 first_none : (test : List ℕ → Bool) (ps : List Piece) → test (codes "*") ≡ false → list_any test (tokens_in ps) ≡ false → list_any test (first_alone ps) ≡ false
 first_none test [] star h = refl
 first_none test (p ∷ ps) star h =
     let both = or_parts (test p.token) (list_any test (tokens_in ps)) h in
-    elim (cases_Bool p.begins) as (λ _. list_any test (first_alone (p ∷ ps)) ≡ false) [
-      | inl w ↦ rw w (or_from (test p.token) (list_any test (join_alone ps)) both.0 (alone_none test ps star both.1))
-      | inr w ↦ rw w (or_from (test (codes "*")) (list_any test (first_alone ps)) star (first_none test ps star both.1))
-    ]
+    by_bool p.begins
+      (λ w. rw w (or_from (test p.token) (list_any test (join_alone ps)) both.0 (alone_none test ps star both.1)))
+      (λ w. rw w (or_from (test (codes "*")) (list_any test (first_alone ps)) star (first_none test ps star both.1)))
 
 -- the same of what is left
 left_none : (test : List ℕ → Bool) (ps : List Piece) → list_any test (tokens_in ps) ≡ false → list_any test (tokens_in (join_done ps)) ≡ false
 left_none test [] h = refl
-left_none test (p ∷ ps) h = elim (cases_Bool (goes_on p)) as (λ _. list_any test (tokens_in (join_done (p ∷ ps))) ≡ false) [
-  | inl w ↦ rw w (left_none test ps (or_parts (test p.token) (list_any test (tokens_in ps)) h).1)
-  | inr w ↦ rw w h
-]
+left_none test (p ∷ ps) h = by_bool (goes_on p)
+  (λ w. rw w (left_none test ps (or_parts (test p.token) (list_any test (tokens_in ps)) h).1))
+  (λ w. rw w h)
 
 done_none : (test : List ℕ → Bool) (ps : List Piece) → test (codes "*") ≡ false → list_any test (tokens_in ps) ≡ false → list_any test (tokens_in (first_done ps)) ≡ false
 done_none test [] star h = refl
 done_none test (p ∷ ps) star h =
     let both = or_parts (test p.token) (list_any test (tokens_in ps)) h in
-    elim (cases_Bool p.begins) as (λ _. list_any test (tokens_in (first_done (p ∷ ps))) ≡ false) [
-      | inl w ↦ rw w (or_from (test (codes "*")) (list_any test (tokens_in (join_done ps))) star (left_none test ps both.1))
-      | inr w ↦ rw w (or_from (test p.token) (list_any test (tokens_in (first_done ps))) both.0 (done_none test ps star both.1))
-    ]
+    by_bool p.begins
+      (λ w. rw w (or_from (test (codes "*")) (list_any test (tokens_in (join_done ps))) star (left_none test ps both.1)))
+      (λ w. rw w (or_from (test p.token) (list_any test (tokens_in (first_done ps))) both.0 (done_none test ps star both.1)))
 
 rest_none : {X : Type 0} (test : X → Bool) (ps : List Piece) (xs : List X) → list_any test xs ≡ false → list_any test (rest_merged ps xs) ≡ false
 rest_none test [] xs h = h
 rest_none test (p ∷ ps) [] h = refl
-rest_none test (p ∷ ps) (x ∷ xs) h = elim (cases_Bool (goes_on p)) as (λ _. list_any test (rest_merged (p ∷ ps) (x ∷ xs)) ≡ false) [
-  | inl w ↦ rw w (rest_none test ps xs (or_parts (test x) (list_any test xs) h).1)
-  | inr w ↦ rw w h
-]
+rest_none test (p ∷ ps) (x ∷ xs) h = by_bool (goes_on p)
+  (λ w. rw w (rest_none test ps xs (or_parts (test x) (list_any test xs) h).1))
+  (λ w. rw w h)
 
 merged_none : {X : Type 0} (test : X → Bool) (ps : List Piece) (xs : List X) → list_any test xs ≡ false → list_any test (merged ps xs) ≡ false
 merged_none test [] xs h = h
 merged_none test (p ∷ ps) [] h = refl
 merged_none test (p ∷ ps) (x ∷ xs) h =
     let both = or_parts (test x) (list_any test xs) h in
-    elim (cases_Bool p.begins) as (λ _. list_any test (merged (p ∷ ps) (x ∷ xs)) ≡ false) [
-      | inl w ↦ rw w (or_from (test x) (list_any test (rest_merged ps xs)) both.0 (rest_none test ps xs both.1))
-      | inr w ↦ rw w (or_from (test x) (list_any test (merged ps xs)) both.0 (merged_none test ps xs both.1))
-    ]
+    by_bool p.begins
+      (λ w. rw w (or_from (test x) (list_any test (rest_merged ps xs)) both.0 (rest_none test ps xs both.1)))
+      (λ w. rw w (or_from (test x) (list_any test (merged ps xs)) both.0 (merged_none test ps xs both.1)))
 
 rest_fewer : {X : Type 0} (ps : List Piece) (xs : List X) → length (rest_merged ps xs) ≤ length xs
 rest_fewer [] xs = omega arith
 rest_fewer (p ∷ ps) [] = omega arith
-rest_fewer (p ∷ ps) (x ∷ xs) = elim (cases_Bool (goes_on p)) as (λ _. length (rest_merged (p ∷ ps) (x ∷ xs)) ≤ length (x ∷ xs)) [
-  | inl w ↦ rw w (let ih = rest_fewer ps xs in omega (arith, ih))
-  | inr w ↦ rw w (omega arith)
-]
+rest_fewer (p ∷ ps) (x ∷ xs) = by_bool (goes_on p)
+  (λ w. rw w (let ih = rest_fewer ps xs in omega (arith, ih)))
+  (λ w. rw w (omega arith))
 
 merged_fewer : {X : Type 0} (ps : List Piece) (xs : List X) → length (merged ps xs) ≤ length xs
 merged_fewer [] xs = omega arith
 merged_fewer (p ∷ ps) [] = omega arith
-merged_fewer (p ∷ ps) (x ∷ xs) = elim (cases_Bool p.begins) as (λ _. length (merged (p ∷ ps) (x ∷ xs)) ≤ length (x ∷ xs)) [
-  | inl w ↦ rw w (let fewer = rest_fewer ps xs in omega (arith, fewer))
-  | inr w ↦ rw w (let ih = merged_fewer ps xs in omega (arith, ih))
-]
+merged_fewer (p ∷ ps) (x ∷ xs) = by_bool p.begins
+  (λ w. rw w (let fewer = rest_fewer ps xs in omega (arith, fewer)))
+  (λ w. rw w (let ih = merged_fewer ps xs in omega (arith, ih)))
 
 -- its signs
 stars_lone : (b : Bool) (ps : List Piece) → has_lone_join b (map sign_of (map (λ _. codes "*") ps)) ≡ false
@@ -250,12 +241,11 @@ stars_lone b (p ∷ ps) = stars_lone false ps
 
 alone_lone : (ps : List Piece) → has_lone_join true (map sign_of (join_alone ps)) ≡ false
 alone_lone [] = refl
-alone_lone (p ∷ ps) = elim (cases_Bool (goes_on p)) as (λ _. has_lone_join true (map sign_of (join_alone (p ∷ ps))) ≡ false) [
-  | inl w ↦
-      let join = (and_parts (joins p) (not p.begins) w).0 in
-      rw (w, join) (alone_lone ps)
-  | inr w ↦ rw w (stars_lone true (p ∷ ps))
-]
+alone_lone (p ∷ ps) = by_bool (goes_on p)
+  (λ w.
+    let join = (and_parts (joins p) (not p.begins) w).0 in
+    rw (w, join) (alone_lone ps))
+  (λ w. rw w (stars_lone true (p ∷ ps)))
 
 alone_joins : (ps : List Piece) → next_goes_on ps ≡ true → first_is is_join (map sign_of (join_alone ps)) ≡ true
 alone_joins [] h = h
@@ -264,13 +254,12 @@ alone_joins (p ∷ ps) h = rw h (and_parts (joins p) (not p.begins) h).0
 first_lone : (b : Bool) (m : List ℕ) (ps : List Piece) (ns : List (List ℕ)) → Formed b m ps ns → has_lone_join false (map sign_of (first_alone ps)) ≡ false
 first_lone b m [] ns f = refl
 first_lone b m (p ∷ ps) [] f = absurd f
-first_lone b m (p ∷ ps) (n ∷ ns) f = elim (cases_Bool p.begins) as (λ _. has_lone_join false (map sign_of (first_alone (p ∷ ps))) ≡ false) [
-  | inl w ↦
-      let join = (f.0 w).0 in
-      let next = alone_joins ps (f.0 w).1 in
-      rw (w, join, next) (alone_lone ps)
-  | inr w ↦ rw w (first_lone (joins p) n ps ns f.1.1)
-]
+first_lone b m (p ∷ ps) (n ∷ ns) f = by_bool p.begins
+  (λ w.
+    let join = (f.0 w).0 in
+    let next = alone_joins ps (f.0 w).1 in
+    rw (w, join, next) (alone_lone ps))
+  (λ w. rw w (first_lone (joins p) n ps ns f.1.1))
 
 stars_mixed : (m : List ℕ) (ps : List Piece) (ns : List (List ℕ)) (s : Sign) → length ps ≡ length ns → has_mixed_join (m ∷ ns) (s ∷ map sign_of (map (λ _. codes "*") ps)) ≡ false
 stars_mixed m [] [] s len = refl
@@ -326,45 +315,40 @@ stars_exchange j (p ∷ ps) = stars_exchange (j + 1) ps
 
 alone_exchange : (j : ℕ) (ps : List Piece) → exchanges j (map sign_of (join_alone ps)) ≡ []
 alone_exchange j [] = refl
-alone_exchange j (p ∷ ps) = elim (cases_Bool (goes_on p)) as (λ _. exchanges j (map sign_of (join_alone (p ∷ ps))) ≡ []) [
-  | inl w ↦ rw (w, is_join_at (sign_of p.token) (and_parts (joins p) (not p.begins) w).0) (alone_exchange (j + 1) ps)
-  | inr w ↦ rw w (stars_exchange j (p ∷ ps))
-]
+alone_exchange j (p ∷ ps) = by_bool (goes_on p)
+  (λ w. rw (w, is_join_at (sign_of p.token) (and_parts (joins p) (not p.begins) w).0) (alone_exchange (j + 1) ps))
+  (λ w. rw w (stars_exchange j (p ∷ ps)))
 
 first_exchange : (j : ℕ) (b : Bool) (m : List ℕ) (ps : List Piece) (ns : List (List ℕ)) → Formed b m ps ns → exchanges j (map sign_of (first_alone ps)) ≡ []
 first_exchange j b m [] ns f = refl
 first_exchange j b m (p ∷ ps) [] f = absurd f
-first_exchange j b m (p ∷ ps) (n ∷ ns) f = elim (cases_Bool p.begins) as (λ _. exchanges j (map sign_of (first_alone (p ∷ ps))) ≡ []) [
-  | inl w ↦ rw (w, is_join_at (sign_of p.token) (f.0 w).0) (alone_exchange (j + 1) ps)
-  | inr w ↦ rw w (first_exchange (j + 1) (joins p) n ps ns f.1.1)
-]
+first_exchange j b m (p ∷ ps) (n ∷ ns) f = by_bool p.begins
+  (λ w. rw (w, is_join_at (sign_of p.token) (f.0 w).0) (alone_exchange (j + 1) ps))
+  (λ w. rw w (first_exchange (j + 1) (joins p) n ps ns f.1.1))
 
 -- as many exchanges are left
 as_many : (i j : ℕ) (ss : List Sign) → length (exchanges i ss) ≡ length (exchanges j ss)
 as_many i j [] = refl
-as_many i j (s ∷ ss) = elim (cases_Bool (is_exchange s)) as (λ _. length (exchanges i (s ∷ ss)) ≡ length (exchanges j (s ∷ ss))) [
-  | inl w ↦ rw w (ap suc (as_many (i + 1) (j + 1) ss))
-  | inr w ↦ rw w (as_many (i + 1) (j + 1) ss)
-]
+as_many i j (s ∷ ss) = by_bool (is_exchange s)
+  (λ w. rw w (ap suc (as_many (i + 1) (j + 1) ss)))
+  (λ w. rw w (as_many (i + 1) (j + 1) ss))
 
 left_exchanges : (i j : ℕ) (ps : List Piece) → length (exchanges i (signs_in (join_done ps))) ≡ length (exchanges j (signs_in ps))
 left_exchanges i j [] = refl
-left_exchanges i j (p ∷ ps) = elim (cases_Bool (goes_on p)) as (λ _. length (exchanges i (signs_in (join_done (p ∷ ps)))) ≡ length (exchanges j (signs_in (p ∷ ps)))) [
-  | inl w ↦ rw (w, is_join_at (sign_of p.token) (and_parts (joins p) (not p.begins) w).0) (left_exchanges i (j + 1) ps)
-  | inr w ↦ rw w (as_many i j (signs_in (p ∷ ps)))
-]
+left_exchanges i j (p ∷ ps) = by_bool (goes_on p)
+  (λ w. rw (w, is_join_at (sign_of p.token) (and_parts (joins p) (not p.begins) w).0) (left_exchanges i (j + 1) ps))
+  (λ w. rw w (as_many i j (signs_in (p ∷ ps))))
 
 done_exchanges : (i j : ℕ) (b : Bool) (m : List ℕ) (ps : List Piece) (ns : List (List ℕ)) → Formed b m ps ns
     → length (exchanges i (signs_in (first_done ps))) ≡ length (exchanges j (signs_in ps))
 done_exchanges i j b m [] ns f = refl
 done_exchanges i j b m (p ∷ ps) [] f = absurd f
-done_exchanges i j b m (p ∷ ps) (n ∷ ns) f = elim (cases_Bool p.begins) as (λ _. length (exchanges i (signs_in (first_done (p ∷ ps)))) ≡ length (exchanges j (signs_in (p ∷ ps)))) [
-  | inl w ↦ rw (w, is_join_at (sign_of p.token) (f.0 w).0) (left_exchanges (i + 1) (j + 1) ps)
-  | inr w ↦ elim (cases_Bool (is_exchange (sign_of p.token))) as (λ _. length (exchanges i (signs_in (first_done (p ∷ ps)))) ≡ length (exchanges j (signs_in (p ∷ ps)))) [
-    | inl v ↦ rw (w, v) (ap suc (done_exchanges (i + 1) (j + 1) (joins p) n ps ns f.1.1))
-    | inr v ↦ rw (w, v) (done_exchanges (i + 1) (j + 1) (joins p) n ps ns f.1.1)
-  ]
-]
+done_exchanges i j b m (p ∷ ps) (n ∷ ns) f = by_bool p.begins
+  (λ w. rw (w, is_join_at (sign_of p.token) (f.0 w).0) (left_exchanges (i + 1) (j + 1) ps))
+  (λ w.
+    by_bool (is_exchange (sign_of p.token))
+      (λ v. rw (w, v) (ap suc (done_exchanges (i + 1) (j + 1) (joins p) n ps ns f.1.1)))
+      (λ v. rw (w, v) (done_exchanges (i + 1) (j + 1) (joins p) n ps ns f.1.1)))
 
 -- Where a join touches another no name changes.
 abbrev pub is_nameless : List ℕ → Bool
@@ -475,10 +459,9 @@ touching_joins b m (p ∷ ps) (n ∷ ns) f t = by_test b p.begins (joins p) (λ 
     by_test false false false f g t more = more t
 
 one_apart : (ps : List Piece) (ns : List (List ℕ)) → Formed false [] ps ns → joins_in ps ≤ 1 → touches false ps ≡ false
-one_apart ps ns f few = elim (cases_Bool (touches false ps)) as (λ _. touches false ps ≡ false) [
-  | inl w ↦ absurd (let two = touching_joins false [] ps ns f w in omega (arith, two, few))
-  | inr w ↦ w
-]
+one_apart ps ns f few = by_bool (touches false ps)
+  (λ w. absurd (let two = touching_joins false [] ps ns f w in omega (arith, two, few)))
+  (λ w. w)
 
 -- So many records with one join alone, and the last.
 by_one : (n : ℕ) (ps : List Piece) (ns : List (List ℕ)) → Steady ps ns → joins_in ps ≤ suc n → (1 ≤ n → joins_in ps ≡ suc n) → length ns ≤ 4096 → length (come_to ps ns) ≤ 4096
@@ -501,10 +484,9 @@ by_one (suc n) (p ∷ ps) ns h few exact w e =
 touching_steers : (b : Bool) (m : List ℕ) (ps : List Piece) (ns : List (List ℕ)) → Formed b m ps ns → touches b ps ≡ true → list_any is_path_indicator (signs_in ps) ≡ true
 touching_steers b m [] ns f t = absurd (false≢true t)
 touching_steers b m (p ∷ ps) [] f t = absurd f
-touching_steers b m (p ∷ ps) (n ∷ ns) f t = elim (cases_Bool p.begins) as (λ _. list_any is_path_indicator (signs_in (p ∷ ps)) ≡ true) [
-  | inl w ↦ rw (is_join_at (sign_of p.token) (f.0 w).0) refl
-  | inr w ↦ or_right (is_path_indicator (sign_of p.token)) (list_any is_path_indicator (signs_in ps)) (touching_steers (joins p) n ps ns f.1.1 (later b p.begins (touches (joins p) ps) w t))
-]
+touching_steers b m (p ∷ ps) (n ∷ ns) f t = by_bool p.begins
+  (λ w. rw (is_join_at (sign_of p.token) (f.0 w).0) refl)
+  (λ w. or_right (is_path_indicator (sign_of p.token)) (list_any is_path_indicator (signs_in ps)) (touching_steers (joins p) n ps ns f.1.1 (later b p.begins (touches (joins p) ps) w t)))
   where
     or_right : (a c : Bool) → c ≡ true → (a || c) ≡ true
     or_right true c h = refl

@@ -3,12 +3,13 @@ use Rattle.std.proofs.Common.{◌≡◌, ◌∙◌, refl, sym, ap, ℕ, zero, su
 use Rattle.std.proofs.Common.{List, [], ◌∷◌, ◌++◌, length, map, cond, arith, inl, inr}
 use Rattle.std.specs.Prelude.{if◌then◌else◌}
 use Rattle.std.specs.List.{list_any}
-use Rattle.std.proofs.lemmas.Bool.{cases_Bool, and_parts, or_parts, or_from, false≢true}
+use Rattle.std.proofs.lemmas.Bool.{and_parts, or_parts, or_from, false≢true}
 use lib.Chars.{codes}
 use Rattle.hum_path.specs.declared.signs.Sign.{Sign}
 use Rattle.hum_path.specs.declared.signs.Sign.TheVariants.{Split, Join, Exchange, Add, End, Exclusive, Plain}
 use Rattle.hum_path.specs.Sign.{sign_of, is_join, is_exchange}
 use Rattle.hum_path.specs.Onward.{beginnings, onward_one, onward, at_next, put_next, swapped}
+use Rattle.hum_path.proofs.Cases.{by_bool}
 use Rattle.hum_spread.specs.Spread.{Piece, piece, joins, goes_on, tokens_in, join_alone, first_alone, join_done, first_done, joins_in}
 
 abbrev pub marks : List Piece → List Bool
@@ -72,12 +73,11 @@ rest_onward added [] [] h = refl
 rest_onward added [] (x ∷ xs) h = absurd (omega (arith, h))
 rest_onward added (p ∷ ps) [] h = absurd (omega (arith, h))
 rest_onward added (p ∷ ps) (x ∷ xs) h =
-    elim (cases_Bool (goes_on p)) as (λ _. onward added (beginnings true (map sign_of (join_alone (p ∷ ps)))) (map sign_of (join_alone (p ∷ ps))) (x ∷ xs) ≡ rest_merged (p ∷ ps) (x ∷ xs)) [
-      | inl w ↦
-          let join = is_join_at (sign_of p.token) (and_parts (joins p) (not p.begins) w).0 in
-          rw (w, join) (rest_onward added ps xs (omega (arith, h)))
-      | inr w ↦ rw w (stars_onward added true (p ∷ ps) (x ∷ xs) h)
-    ]
+    by_bool (goes_on p)
+      (λ w.
+        let join = is_join_at (sign_of p.token) (and_parts (joins p) (not p.begins) w).0 in
+        rw (w, join) (rest_onward added ps xs (omega (arith, h))))
+      (λ w. rw w (stars_onward added true (p ∷ ps) (x ∷ xs) h))
 
 pub first_onward : {X : Type 0} (added : X → X) (b : Bool) (m : List ℕ) (ps : List Piece) (ns : List (List ℕ)) (xs : List X) → Formed b m ps ns → length ps ≡ length xs
     → onward added (beginnings false (map sign_of (first_alone ps))) (map sign_of (first_alone ps)) xs ≡ merged ps xs
@@ -86,12 +86,11 @@ first_onward added b m [] ns (x ∷ xs) f h = absurd (omega (arith, h))
 first_onward added b m (p ∷ ps) ns [] f h = absurd (omega (arith, h))
 first_onward added b m (p ∷ ps) [] (x ∷ xs) f h = absurd f
 first_onward {X} added b m (p ∷ ps) (n ∷ ns) (x ∷ xs) f h =
-    elim (cases_Bool p.begins) as (λ _. onward added (beginnings false (map sign_of (first_alone (p ∷ ps)))) (map sign_of (first_alone (p ∷ ps))) (x ∷ xs) ≡ merged (p ∷ ps) (x ∷ xs)) [
-      | inl w ↦
-          let join = is_join_at (sign_of p.token) (f.0 w).0 in
-          rw (w, join) (ap (λ (zs : List X). x ∷ zs) (rest_onward added ps xs (omega (arith, h))))
-      | inr w ↦ rw w (ap (λ (zs : List X). x ∷ zs) (first_onward added (joins p) n ps ns xs f.1.1 (omega (arith, h))))
-    ]
+    by_bool p.begins
+      (λ w.
+        let join = is_join_at (sign_of p.token) (f.0 w).0 in
+        rw (w, join) (ap (λ (zs : List X). x ∷ zs) (rest_onward added ps xs (omega (arith, h)))))
+      (λ w. rw w (ap (λ (zs : List X). x ∷ zs) (first_onward added (joins p) n ps ns xs f.1.1 (omega (arith, h)))))
 
 -- the first join, and then what is left
 rest_done_onward : {X : Type 0} (added : X → X) (ps : List Piece) (xs : List X)
@@ -103,14 +102,13 @@ rest_done_onward added (p ∷ ps) [] = cases_empty (join_done (p ∷ ps))
     cases_empty [] = refl
     cases_empty (q ∷ qs) = refl
 rest_done_onward {X} added (p ∷ ps) (x ∷ xs) =
-    elim (cases_Bool (goes_on p)) as (λ _. onward added (marks (join_done (p ∷ ps))) (signs_in (join_done (p ∷ ps))) (rest_merged (p ∷ ps) (x ∷ xs)) ≡ onward added (marks (p ∷ ps)) (signs_in (p ∷ ps)) (x ∷ xs)) [
-      | inl w ↦
-          let both = and_parts (joins p) (not p.begins) w in
-          let join = is_join_at (sign_of p.token) both.0 in
-          let later : p.begins ≡ false = unmarked p.begins both.1 in
-          rw (w, join, later) (rest_done_onward added ps xs)
-      | inr w ↦ rw w refl
-    ]
+    by_bool (goes_on p)
+      (λ w.
+        let both = and_parts (joins p) (not p.begins) w in
+        let join = is_join_at (sign_of p.token) both.0 in
+        let later : p.begins ≡ false = unmarked p.begins both.1 in
+        rw (w, join, later) (rest_done_onward added ps xs))
+      (λ w. rw w refl)
   where
     unmarked : (b : Bool) → not b ≡ true → b ≡ false
     unmarked true h = cc
@@ -126,12 +124,11 @@ done_onward added b m (p ∷ ps) (n ∷ ns) [] f = cases_empty (first_done (p �
     cases_empty [] = refl
     cases_empty (q ∷ qs) = refl
 done_onward {X} added b m (p ∷ ps) (n ∷ ns) (x ∷ xs) f =
-    elim (cases_Bool p.begins) as (λ _. onward added (marks (first_done (p ∷ ps))) (signs_in (first_done (p ∷ ps))) (merged (p ∷ ps) (x ∷ xs)) ≡ onward added (marks (p ∷ ps)) (signs_in (p ∷ ps)) (x ∷ xs)) [
-      | inl w ↦
-          let join = is_join_at (sign_of p.token) (f.0 w).0 in
-          rw (w, join) (ap (λ (zs : List X). x ∷ zs) (rest_done_onward added ps xs))
-      | inr w ↦ rw w (ap (λ (zs : List X). onward_one added false (sign_of p.token) x ++ zs) (done_onward added (joins p) n ps ns xs f.1.1))
-    ]
+    by_bool p.begins
+      (λ w.
+        let join = is_join_at (sign_of p.token) (f.0 w).0 in
+        rw (w, join) (ap (λ (zs : List X). x ∷ zs) (rest_done_onward added ps xs)))
+      (λ w. rw w (ap (λ (zs : List X). onward_one added false (sign_of p.token) x ++ zs) (done_onward added (joins p) n ps ns xs f.1.1)))
 
 -- what is left is formed
 rest_formed : (b c : Bool) (m o : List ℕ) (ps : List Piece) (ns : List (List ℕ)) → Formed b m ps ns → Formed c o (join_done ps) (rest_merged ps ns)
@@ -164,12 +161,11 @@ done_joins (p ∷ ps) n h = by_test p.begins refl h (λ h. done_joins ps n h)
   where
     rest : (qs : List Piece) → joins_in (join_done qs) ≡ joins_in qs
     rest [] = refl
-    rest (q ∷ qs) = elim (cases_Bool (goes_on q)) as (λ _. joins_in (join_done (q ∷ qs)) ≡ joins_in (q ∷ qs)) [
-      | inl w ↦
-          let later : q.begins ≡ false = unmarked q.begins (and_parts (joins q) (not q.begins) w).1 in
-          rw (w, later) (rest qs)
-      | inr w ↦ rw w refl
-    ]
+    rest (q ∷ qs) = by_bool (goes_on q)
+      (λ w.
+        let later : q.begins ≡ false = unmarked q.begins (and_parts (joins q) (not q.begins) w).1 in
+        rw (w, later) (rest qs))
+      (λ w. rw w refl)
       where
         unmarked : (b : Bool) → not b ≡ true → b ≡ false
         unmarked true h = cc
@@ -192,10 +188,9 @@ rest_at_next {X} other (p ∷ ps) [] = none (join_done (p ∷ ps))
     none [] = refl
     none (q ∷ qs) = refl
 rest_at_next other (p ∷ ps) (x ∷ xs) =
-    elim (cases_Bool (goes_on p)) as (λ _. at_next other (signs_in (join_done (p ∷ ps))) (rest_merged (p ∷ ps) (x ∷ xs)) ≡ at_next other (signs_in (p ∷ ps)) (x ∷ xs)) [
-      | inl w ↦ rw (w, join_stays (sign_of p.token) (and_parts (joins p) (not p.begins) w).0) (rest_at_next other ps xs)
-      | inr w ↦ rw w refl
-    ]
+    by_bool (goes_on p)
+      (λ w. rw (w, join_stays (sign_of p.token) (and_parts (joins p) (not p.begins) w).0) (rest_at_next other ps xs))
+      (λ w. rw w refl)
 
 rest_put_next : {X : Type 0} (other : X) (ps : List Piece) (xs : List X)
     → put_next other (signs_in (join_done ps)) (rest_merged ps xs) ≡ rest_merged ps (put_next other (signs_in ps) xs)
@@ -206,13 +201,12 @@ rest_put_next {X} other (p ∷ ps) [] = none (join_done (p ∷ ps))
     none [] = refl
     none (q ∷ qs) = refl
 rest_put_next other (p ∷ ps) (x ∷ xs) =
-    elim (cases_Bool (goes_on p)) as (λ _. put_next other (signs_in (join_done (p ∷ ps))) (rest_merged (p ∷ ps) (x ∷ xs)) ≡ rest_merged (p ∷ ps) (put_next other (signs_in (p ∷ ps)) (x ∷ xs))) [
-      | inl w ↦ rw (w, join_stays (sign_of p.token) (and_parts (joins p) (not p.begins) w).0) (rw w (rest_put_next other ps xs))
-      | inr w ↦ elim (cases_Bool (is_exchange (sign_of p.token))) as (λ _. put_next other (signs_in (join_done (p ∷ ps))) (rest_merged (p ∷ ps) (x ∷ xs)) ≡ rest_merged (p ∷ ps) (put_next other (signs_in (p ∷ ps)) (x ∷ xs))) [
-        | inl v ↦ rw (w, v) (rw w refl)
-        | inr v ↦ rw (w, v) (rw w refl)
-      ]
-    ]
+    by_bool (goes_on p)
+      (λ w. rw (w, join_stays (sign_of p.token) (and_parts (joins p) (not p.begins) w).0) (rw w (rest_put_next other ps xs)))
+      (λ w.
+        by_bool (is_exchange (sign_of p.token))
+          (λ v. rw (w, v) (rw w refl))
+          (λ v. rw (w, v) (rw w refl)))
 
 rest_swapped : {X : Type 0} (ps : List Piece) (xs : List X)
     → swapped (signs_in (join_done ps)) (rest_merged ps xs) ≡ rest_merged ps (swapped (signs_in ps) xs)
@@ -223,13 +217,12 @@ rest_swapped (p ∷ ps) [] = none (join_done (p ∷ ps))
     none [] = refl
     none (q ∷ qs) = refl
 rest_swapped (p ∷ ps) (x ∷ xs) =
-    elim (cases_Bool (goes_on p)) as (λ _. swapped (signs_in (join_done (p ∷ ps))) (rest_merged (p ∷ ps) (x ∷ xs)) ≡ rest_merged (p ∷ ps) (swapped (signs_in (p ∷ ps)) (x ∷ xs))) [
-      | inl w ↦ rw (w, join_stays (sign_of p.token) (and_parts (joins p) (not p.begins) w).0) (rw w (rest_swapped ps xs))
-      | inr w ↦ elim (cases_Bool (is_exchange (sign_of p.token))) as (λ _. swapped (signs_in (join_done (p ∷ ps))) (rest_merged (p ∷ ps) (x ∷ xs)) ≡ rest_merged (p ∷ ps) (swapped (signs_in (p ∷ ps)) (x ∷ xs))) [
-        | inl v ↦ rw (w, v) (rw w refl)
-        | inr v ↦ rw (w, v) (rw w refl)
-      ]
-    ]
+    by_bool (goes_on p)
+      (λ w. rw (w, join_stays (sign_of p.token) (and_parts (joins p) (not p.begins) w).0) (rw w (rest_swapped ps xs)))
+      (λ w.
+        by_bool (is_exchange (sign_of p.token))
+          (λ v. rw (w, v) (rw w refl))
+          (λ v. rw (w, v) (rw w refl)))
 
 -- a piece that begins a join
 begin_stays : (b : Bool) (m : List ℕ) (p : Piece) (ps : List Piece) (n : List ℕ) (ns : List (List ℕ)) → Formed b m (p ∷ ps) (n ∷ ns)
@@ -246,10 +239,9 @@ done_at_next {X} other b m (p ∷ ps) (n ∷ ns) [] f = none (first_done (p ∷ 
     none [] = refl
     none (q ∷ qs) = refl
 done_at_next {X} other b m (p ∷ ps) (n ∷ ns) (x ∷ xs) f =
-    elim (cases_Bool p.begins) as (λ _. at_next other (signs_in (first_done (p ∷ ps))) (merged (p ∷ ps) (x ∷ xs)) ≡ at_next other (signs_in (p ∷ ps)) (x ∷ xs)) [
-      | inl w ↦ rw (w, begin_stays b m p ps n ns f w) (rest_at_next other ps xs)
-      | inr w ↦ rw w (ap (λ (y : X). cond (is_exchange (sign_of p.token)) x y) (done_at_next other (joins p) n ps ns xs f.1.1))
-    ]
+    by_bool p.begins
+      (λ w. rw (w, begin_stays b m p ps n ns f w) (rest_at_next other ps xs))
+      (λ w. rw w (ap (λ (y : X). cond (is_exchange (sign_of p.token)) x y) (done_at_next other (joins p) n ps ns xs f.1.1)))
 
 done_put_next : {X : Type 0} (other : X) (b : Bool) (m : List ℕ) (ps : List Piece) (ns : List (List ℕ)) (xs : List X) → Formed b m ps ns
     → put_next other (signs_in (first_done ps)) (merged ps xs) ≡ merged ps (put_next other (signs_in ps) xs)
@@ -261,13 +253,12 @@ done_put_next {X} other b m (p ∷ ps) (n ∷ ns) [] f = none (first_done (p ∷
     none [] = refl
     none (q ∷ qs) = refl
 done_put_next {X} other b m (p ∷ ps) (n ∷ ns) (x ∷ xs) f =
-    elim (cases_Bool p.begins) as (λ _. put_next other (signs_in (first_done (p ∷ ps))) (merged (p ∷ ps) (x ∷ xs)) ≡ merged (p ∷ ps) (put_next other (signs_in (p ∷ ps)) (x ∷ xs))) [
-      | inl w ↦ rw (w, begin_stays b m p ps n ns f w) ((ap (λ (ys : List X). x ∷ ys) (rest_put_next other ps xs)))
-      | inr w ↦ elim (cases_Bool (is_exchange (sign_of p.token))) as (λ _. put_next other (signs_in (first_done (p ∷ ps))) (merged (p ∷ ps) (x ∷ xs)) ≡ merged (p ∷ ps) (put_next other (signs_in (p ∷ ps)) (x ∷ xs))) [
-        | inl v ↦ rw (w, v) refl
-        | inr v ↦ rw (w, v) ((ap (λ (ys : List X). x ∷ ys) (done_put_next other (joins p) n ps ns xs f.1.1)))
-      ]
-    ]
+    by_bool p.begins
+      (λ w. rw (w, begin_stays b m p ps n ns f w) ((ap (λ (ys : List X). x ∷ ys) (rest_put_next other ps xs))))
+      (λ w.
+        by_bool (is_exchange (sign_of p.token))
+          (λ v. rw (w, v) refl)
+          (λ v. rw (w, v) ((ap (λ (ys : List X). x ∷ ys) (done_put_next other (joins p) n ps ns xs f.1.1)))))
 
 -- the first join, and then the exchange: as the other way round
 pub done_swapped : {X : Type 0} (b : Bool) (m : List ℕ) (ps : List Piece) (ns : List (List ℕ)) (xs : List X) → Formed b m ps ns
@@ -280,13 +271,12 @@ done_swapped {X} b m (p ∷ ps) (n ∷ ns) [] f = none (first_done (p ∷ ps))
     none [] = refl
     none (q ∷ qs) = refl
 done_swapped {X} b m (p ∷ ps) (n ∷ ns) (x ∷ xs) f =
-    elim (cases_Bool p.begins) as (λ _. swapped (signs_in (first_done (p ∷ ps))) (merged (p ∷ ps) (x ∷ xs)) ≡ merged (p ∷ ps) (swapped (signs_in (p ∷ ps)) (x ∷ xs))) [
-      | inl w ↦ rw (w, begin_stays b m p ps n ns f w) ((ap (λ (ys : List X). x ∷ ys) (rest_swapped ps xs)))
-      | inr w ↦ elim (cases_Bool (is_exchange (sign_of p.token))) as (λ _. swapped (signs_in (first_done (p ∷ ps))) (merged (p ∷ ps) (x ∷ xs)) ≡ merged (p ∷ ps) (swapped (signs_in (p ∷ ps)) (x ∷ xs))) [
-        | inl v ↦
+    by_bool p.begins
+      (λ w. rw (w, begin_stays b m p ps n ns f w) ((ap (λ (ys : List X). x ∷ ys) (rest_swapped ps xs))))
+      (λ w.
+        by_bool (is_exchange (sign_of p.token))
+          (λ v.
             let other = done_at_next x (joins p) n ps ns xs f.1.1 in
             let back = done_put_next x (joins p) n ps ns xs f.1.1 in
-            rw (w, v) (rw (other, back) refl)
-        | inr v ↦ rw (w, v) ((ap (λ (ys : List X). x ∷ ys) (done_swapped (joins p) n ps ns xs f.1.1)))
-      ]
-    ]
+            rw (w, v) (rw (other, back) refl))
+          (λ v. rw (w, v) ((ap (λ (ys : List X). x ∷ ys) (done_swapped (joins p) n ps ns xs f.1.1)))))
