@@ -34,175 +34,162 @@ chosen_exchanges j (false ∷ fs) (s ∷ ss) = by_bool (is_exchange s)
   (λ w. rw w (chosen_exchanges j fs ss))
   (λ w. rw w (chosen_exchanges j fs ss))
 
--- The next exchanged column's flag.
+parts : {f g : Bool} {fs gs : List Bool} → f ∷ fs ≡ g ∷ gs → (f ≡ g) × (fs ≡ gs)
+parts e = (cc, cc)
+
+dropped_first : {X : Type 0} {fs gs : List Bool} → false ∷ fs ≡ true ∷ gs → X
+dropped_first e = absurd (false≢true (parts e).0)
+
+chosen_first : {X : Type 0} {fs gs : List Bool} → true ∷ fs ≡ false ∷ gs → X
+chosen_first e = absurd (false≢true (sym (parts e).0))
+
+-- The next exchanged column's flag,
 flag_at : (d g : Bool) (gs fs : List Bool) (ss : List Sign) → exchanged_flags fs ss ≡ g ∷ gs → at_next d ss fs ≡ g
 flag_at d g gs [] ss e = cc
 flag_at d g gs (f ∷ fs) [] e = cc
-flag_at d g gs (f ∷ fs) (s ∷ ss) e = by_test (is_exchange s) e (λ e. flag_at d g gs fs ss e)
-  where
-    by_test : (t : Bool) → cond t (f ∷ exchanged_flags fs ss) (exchanged_flags fs ss) ≡ g ∷ gs → (exchanged_flags fs ss ≡ g ∷ gs → at_next d ss fs ≡ g)
-        → cond t f (at_next d ss fs) ≡ g
-    by_test true e more = cc
-    by_test false e more = more e
+flag_at d g gs (f ∷ fs) (s ∷ ss) e =
+    by_bool (is_exchange s) (λ w. rw w (parts (rw w at e)).0) (λ w. rw w (flag_at d g gs fs ss (rw w at e)))
 
+-- put where it was
 flag_put : (g : Bool) (gs fs : List Bool) (ss : List Sign) → exchanged_flags fs ss ≡ g ∷ gs → put_next g ss fs ≡ fs
 flag_put g gs [] ss e = cc
 flag_put g gs (f ∷ fs) [] e = cc
-flag_put g gs (f ∷ fs) (s ∷ ss) e = by_test (is_exchange s) e (λ e. flag_put g gs fs ss e)
-  where
-    by_test : (t : Bool) → cond t (f ∷ exchanged_flags fs ss) (exchanged_flags fs ss) ≡ g ∷ gs → (exchanged_flags fs ss ≡ g ∷ gs → put_next g ss fs ≡ fs)
-        → cond t (g ∷ fs) (f ∷ put_next g ss fs) ≡ f ∷ fs
-    by_test true e more = let same : f ≡ g = cc in ap (λ (b : Bool). b ∷ fs) (sym same)
-    by_test false e more = ap (λ (bs : List Bool). f ∷ bs) (more e)
+flag_put g gs (f ∷ fs) (s ∷ ss) e =
+    by_bool (is_exchange s)
+      (λ w. rw w (ap (λ (b : Bool). b ∷ fs) (sym (parts (rw w at e)).0)))
+      (λ w. rw w (ap (λ (bs : List Bool). f ∷ bs) (flag_put g gs fs ss (rw w at e))))
 
 -- two of one flag
 swapped_same : (g : Bool) (fs : List Bool) (ss : List Sign) → exchanged_flags fs ss ≡ g ∷ g ∷ [] → swapped ss fs ≡ fs
 swapped_same g [] ss e = cc
 swapped_same g (f ∷ fs) [] e = cc
-swapped_same g (f ∷ fs) (s ∷ ss) e = by_test (is_exchange s) e (λ e. swapped_same g fs ss e)
-  where
-    by_test : (t : Bool) → cond t (f ∷ exchanged_flags fs ss) (exchanged_flags fs ss) ≡ g ∷ g ∷ [] → (exchanged_flags fs ss ≡ g ∷ g ∷ [] → swapped ss fs ≡ fs)
-        → cond t (at_next f ss fs ∷ put_next f ss fs) (f ∷ swapped ss fs) ≡ f ∷ fs
-    by_test true e more =
-        let same : f ≡ g = cc in
-        let last : exchanged_flags fs ss ≡ g ∷ [] = cc in
-        rw (same, flag_at g g [] fs ss last, flag_put g [] fs ss last) refl
-    by_test false e more = ap (λ (bs : List Bool). f ∷ bs) (more e)
+swapped_same g (f ∷ fs) (s ∷ ss) e =
+    by_bool (is_exchange s)
+      (λ w.
+        let both = parts (rw w at e) in
+        rw (w, both.0, flag_at g g [] fs ss both.1, flag_put g [] fs ss both.1) refl)
+      (λ w. rw w (ap (λ (bs : List Bool). f ∷ bs) (swapped_same g fs ss (rw w at e))))
 
--- both chosen: the next one
-at_chosen : {X : Type 0} (d : X) (gs fs : List Bool) (ss : List Sign) (xs : List X) → length ss ≡ length xs → exchanged_flags fs ss ≡ true ∷ gs
-    → at_next d (chosen fs ss) (chosen fs xs) ≡ at_next d ss xs
+-- both chosen: the next one,
+at_chosen : {X : Type 0} (d : X) (gs fs : List Bool) (ss : List Sign) (xs : List X) → length ss ≡ length xs
+    → exchanged_flags fs ss ≡ true ∷ gs → at_next d (chosen fs ss) (chosen fs xs) ≡ at_next d ss xs
 at_chosen d gs [] ss xs len e = cc
 at_chosen d gs (f ∷ fs) [] xs len e = cc
 at_chosen d gs (f ∷ fs) (s ∷ ss) [] len e = absurd (omega (arith, len))
-at_chosen {X} d gs (f ∷ fs) (s ∷ ss) (x ∷ xs) len e = by_test f (is_exchange s) refl e (λ e. at_chosen d gs fs ss xs (omega (arith, len)) e)
-  where
-    by_test : (f t : Bool) → is_exchange s ≡ t → cond t (f ∷ exchanged_flags fs ss) (exchanged_flags fs ss) ≡ true ∷ gs
-        → (exchanged_flags fs ss ≡ true ∷ gs → at_next d (chosen fs ss) (chosen fs xs) ≡ at_next d ss xs)
-        → at_next d (chosen (f ∷ fs) (s ∷ ss)) (chosen (f ∷ fs) (x ∷ xs)) ≡ cond t x (at_next d ss xs)
-    by_test true true w e more = rw w refl
-    by_test true false w e more = rw w (more e)
-    by_test false true w e more = let wrong : false ≡ true = cc in absurd (false≢true wrong)
-    by_test false false w e more = more e
+at_chosen d gs (true ∷ fs) (s ∷ ss) (x ∷ xs) len e =
+    by_bool (is_exchange s) (λ w. rw w refl) (λ w. rw w (at_chosen d gs fs ss xs (omega (arith, len)) (rw w at e)))
+at_chosen d gs (false ∷ fs) (s ∷ ss) (x ∷ xs) len e =
+    by_bool (is_exchange s) (λ w. dropped_first (rw w at e)) (λ w. rw w (at_chosen d gs fs ss xs (omega (arith, len)) (rw w at e)))
 
-put_chosen : {X : Type 0} (y : X) (gs fs : List Bool) (ss : List Sign) (xs : List X) → length ss ≡ length xs → exchanged_flags fs ss ≡ true ∷ gs
-    → chosen fs (put_next y ss xs) ≡ put_next y (chosen fs ss) (chosen fs xs)
+put_chosen : {X : Type 0} (y : X) (gs fs : List Bool) (ss : List Sign) (xs : List X) → length ss ≡ length xs
+    → exchanged_flags fs ss ≡ true ∷ gs → chosen fs (put_next y ss xs) ≡ put_next y (chosen fs ss) (chosen fs xs)
 put_chosen y gs [] ss xs len e = cc
 put_chosen y gs (f ∷ fs) [] xs len e = cc
 put_chosen y gs (f ∷ fs) (s ∷ ss) [] len e = absurd (omega (arith, len))
-put_chosen {X} y gs (f ∷ fs) (s ∷ ss) (x ∷ xs) len e = by_test f (is_exchange s) refl e (λ e. put_chosen y gs fs ss xs (omega (arith, len)) e)
-  where
-    by_test : (f t : Bool) → is_exchange s ≡ t → cond t (f ∷ exchanged_flags fs ss) (exchanged_flags fs ss) ≡ true ∷ gs
-        → (exchanged_flags fs ss ≡ true ∷ gs → chosen fs (put_next y ss xs) ≡ put_next y (chosen fs ss) (chosen fs xs))
-        → chosen (f ∷ fs) (cond t (y ∷ xs) (x ∷ put_next y ss xs)) ≡ put_next y (chosen (f ∷ fs) (s ∷ ss)) (chosen (f ∷ fs) (x ∷ xs))
-    by_test true true w e more = rw w refl
-    by_test true false w e more = rw w (ap (λ (ys : List X). x ∷ ys) (more e))
-    by_test false true w e more = let wrong : false ≡ true = cc in absurd (false≢true wrong)
-    by_test false false w e more = more e
+put_chosen {X} y gs (true ∷ fs) (s ∷ ss) (x ∷ xs) len e =
+    by_bool (is_exchange s)
+      (λ w. rw w refl)
+      (λ w. rw w (ap (λ (ys : List X). x ∷ ys) (put_chosen y gs fs ss xs (omega (arith, len)) (rw w at e))))
+put_chosen y gs (false ∷ fs) (s ∷ ss) (x ∷ xs) len e =
+    by_bool (is_exchange s) (λ w. dropped_first (rw w at e)) (λ w. rw w (put_chosen y gs fs ss xs (omega (arith, len)) (rw w at e)))
 
-swapped_both : {X : Type 0} (fs : List Bool) (ss : List Sign) (xs : List X) → length ss ≡ length xs → exchanged_flags fs ss ≡ true ∷ true ∷ []
-    → chosen fs (swapped ss xs) ≡ swapped (chosen fs ss) (chosen fs xs)
+-- and the exchange
+swapped_both : {X : Type 0} (fs : List Bool) (ss : List Sign) (xs : List X) → length ss ≡ length xs
+    → exchanged_flags fs ss ≡ true ∷ true ∷ [] → chosen fs (swapped ss xs) ≡ swapped (chosen fs ss) (chosen fs xs)
 swapped_both [] ss xs len e = cc
 swapped_both (f ∷ fs) [] xs len e = cc
 swapped_both (f ∷ fs) (s ∷ ss) [] len e = absurd (omega (arith, len))
-swapped_both {X} (f ∷ fs) (s ∷ ss) (x ∷ xs) len e = by_test f (is_exchange s) refl e (omega (arith, len)) (λ e. swapped_both fs ss xs (omega (arith, len)) e)
-  where
-    by_test : (f t : Bool) → is_exchange s ≡ t → cond t (f ∷ exchanged_flags fs ss) (exchanged_flags fs ss) ≡ true ∷ true ∷ [] → length ss ≡ length xs
-        → (exchanged_flags fs ss ≡ true ∷ true ∷ [] → chosen fs (swapped ss xs) ≡ swapped (chosen fs ss) (chosen fs xs))
-        → chosen (f ∷ fs) (cond t (at_next x ss xs ∷ put_next x ss xs) (x ∷ swapped ss xs)) ≡ swapped (chosen (f ∷ fs) (s ∷ ss)) (chosen (f ∷ fs) (x ∷ xs))
-    by_test true true w e len more =
-        let last : exchanged_flags fs ss ≡ true ∷ [] = cc in
-        rw w (rw (at_chosen x [] fs ss xs len last, put_chosen x [] fs ss xs len last) refl)
-    by_test true false w e len more = rw w (ap (λ (ys : List X). x ∷ ys) (more e))
-    by_test false true w e len more = let wrong : false ≡ true = cc in absurd (false≢true wrong)
-    by_test false false w e len more = more e
+swapped_both {X} (true ∷ fs) (s ∷ ss) (x ∷ xs) len e =
+    by_bool (is_exchange s)
+      (λ w.
+        let last = (parts (rw w at e)).1 in
+        let same : length ss ≡ length xs = omega (arith, len) in
+        rw w (rw (at_chosen x [] fs ss xs same last, put_chosen x [] fs ss xs same last) refl))
+      (λ w. rw w (ap (λ (ys : List X). x ∷ ys) (swapped_both fs ss xs (omega (arith, len)) (rw w at e))))
+swapped_both (false ∷ fs) (s ∷ ss) (x ∷ xs) len e =
+    by_bool (is_exchange s) (λ w. dropped_first (rw w at e)) (λ w. rw w (swapped_both fs ss xs (omega (arith, len)) (rw w at e)))
 
 -- none chosen
-put_dropped : {X : Type 0} (y : X) (gs fs : List Bool) (ss : List Sign) (xs : List X) → length ss ≡ length xs → exchanged_flags fs ss ≡ false ∷ gs
-    → chosen fs (put_next y ss xs) ≡ chosen fs xs
+put_dropped : {X : Type 0} (y : X) (gs fs : List Bool) (ss : List Sign) (xs : List X) → length ss ≡ length xs
+    → exchanged_flags fs ss ≡ false ∷ gs → chosen fs (put_next y ss xs) ≡ chosen fs xs
 put_dropped y gs [] ss xs len e = cc
 put_dropped y gs (f ∷ fs) [] xs len e = cc
 put_dropped y gs (f ∷ fs) (s ∷ ss) [] len e = absurd (omega (arith, len))
-put_dropped {X} y gs (f ∷ fs) (s ∷ ss) (x ∷ xs) len e = by_test f (is_exchange s) e (λ e. put_dropped y gs fs ss xs (omega (arith, len)) e)
-  where
-    by_test : (f t : Bool) → cond t (f ∷ exchanged_flags fs ss) (exchanged_flags fs ss) ≡ false ∷ gs
-        → (exchanged_flags fs ss ≡ false ∷ gs → chosen fs (put_next y ss xs) ≡ chosen fs xs)
-        → chosen (f ∷ fs) (cond t (y ∷ xs) (x ∷ put_next y ss xs)) ≡ chosen (f ∷ fs) (x ∷ xs)
-    by_test true true e more = let wrong : true ≡ false = cc in absurd (false≢true (sym wrong))
-    by_test true false e more = ap (λ (ys : List X). x ∷ ys) (more e)
-    by_test false true e more = refl
-    by_test false false e more = more e
+put_dropped {X} y gs (true ∷ fs) (s ∷ ss) (x ∷ xs) len e =
+    by_bool (is_exchange s)
+      (λ w. chosen_first (rw w at e))
+      (λ w. rw w (ap (λ (ys : List X). x ∷ ys) (put_dropped y gs fs ss xs (omega (arith, len)) (rw w at e))))
+put_dropped y gs (false ∷ fs) (s ∷ ss) (x ∷ xs) len e =
+    by_bool (is_exchange s) (λ w. rw w refl) (λ w. rw w (put_dropped y gs fs ss xs (omega (arith, len)) (rw w at e)))
 
-swapped_dropped : {X : Type 0} (fs : List Bool) (ss : List Sign) (xs : List X) → length ss ≡ length xs → exchanged_flags fs ss ≡ false ∷ false ∷ []
-    → chosen fs (swapped ss xs) ≡ chosen fs xs
+swapped_dropped : {X : Type 0} (fs : List Bool) (ss : List Sign) (xs : List X) → length ss ≡ length xs
+    → exchanged_flags fs ss ≡ false ∷ false ∷ [] → chosen fs (swapped ss xs) ≡ chosen fs xs
 swapped_dropped [] ss xs len e = cc
 swapped_dropped (f ∷ fs) [] xs len e = cc
 swapped_dropped (f ∷ fs) (s ∷ ss) [] len e = absurd (omega (arith, len))
-swapped_dropped {X} (f ∷ fs) (s ∷ ss) (x ∷ xs) len e = by_test f (is_exchange s) e (omega (arith, len)) (λ e. swapped_dropped fs ss xs (omega (arith, len)) e)
-  where
-    by_test : (f t : Bool) → cond t (f ∷ exchanged_flags fs ss) (exchanged_flags fs ss) ≡ false ∷ false ∷ [] → length ss ≡ length xs
-        → (exchanged_flags fs ss ≡ false ∷ false ∷ [] → chosen fs (swapped ss xs) ≡ chosen fs xs)
-        → chosen (f ∷ fs) (cond t (at_next x ss xs ∷ put_next x ss xs) (x ∷ swapped ss xs)) ≡ chosen (f ∷ fs) (x ∷ xs)
-    by_test true true e len more = let wrong : true ≡ false = cc in absurd (false≢true (sym wrong))
-    by_test true false e len more = ap (λ (ys : List X). x ∷ ys) (more e)
-    by_test false true e len more = let last : exchanged_flags fs ss ≡ false ∷ [] = cc in put_dropped x [] fs ss xs len last
-    by_test false false e len more = more e
+swapped_dropped {X} (true ∷ fs) (s ∷ ss) (x ∷ xs) len e =
+    by_bool (is_exchange s)
+      (λ w. chosen_first (rw w at e))
+      (λ w. rw w (ap (λ (ys : List X). x ∷ ys) (swapped_dropped fs ss xs (omega (arith, len)) (rw w at e))))
+swapped_dropped (false ∷ fs) (s ∷ ss) (x ∷ xs) len e =
+    by_bool (is_exchange s)
+      (λ w. rw w (put_dropped x [] fs ss xs (omega (arith, len)) (parts (rw w at e)).1))
+      (λ w. rw w (swapped_dropped fs ss xs (omega (arith, len)) (rw w at e)))
 
 -- One chosen, with no chosen column between: the first,
-lone_first : {X : Type 0} (x : X) (gs fs : List Bool) (ss : List Sign) (xs : List X) → length ss ≡ length xs → exchanged_flags fs ss ≡ false ∷ gs
-    → chosen_before fs ss ≡ false → chosen (put_next true ss fs) (put_next x ss xs) ≡ x ∷ chosen fs xs
+lone_first : {X : Type 0} (x : X) (gs fs : List Bool) (ss : List Sign) (xs : List X) → length ss ≡ length xs
+    → exchanged_flags fs ss ≡ false ∷ gs → chosen_before fs ss ≡ false
+    → chosen (put_next true ss fs) (put_next x ss xs) ≡ x ∷ chosen fs xs
 lone_first x gs [] ss xs len e none = cc
 lone_first x gs (f ∷ fs) [] xs len e none = cc
 lone_first x gs (f ∷ fs) (s ∷ ss) [] len e none = absurd (omega (arith, len))
-lone_first {X} x gs (f ∷ fs) (s ∷ ss) (y ∷ xs) len e none = by_test f (is_exchange s) e none (λ e none. lone_first x gs fs ss xs (omega (arith, len)) e none)
-  where
-    by_test : (f t : Bool) → cond t (f ∷ exchanged_flags fs ss) (exchanged_flags fs ss) ≡ false ∷ gs → cond t false (f || chosen_before fs ss) ≡ false
-        → (exchanged_flags fs ss ≡ false ∷ gs → chosen_before fs ss ≡ false → chosen (put_next true ss fs) (put_next x ss xs) ≡ x ∷ chosen fs xs)
-        → chosen (cond t (true ∷ fs) (f ∷ put_next true ss fs)) (cond t (x ∷ xs) (y ∷ put_next x ss xs)) ≡ x ∷ chosen (f ∷ fs) (y ∷ xs)
-    by_test true true e none more = let wrong : true ≡ false = cc in absurd (false≢true (sym wrong))
-    by_test true false e none more = absurd (false≢true (sym none))
-    by_test false true e none more = refl
-    by_test false false e none more = more e none
+lone_first x gs (true ∷ fs) (s ∷ ss) (y ∷ xs) len e none =
+    by_bool (is_exchange s) (λ w. chosen_first (rw w at e)) (λ w. absurd (false≢true (sym (rw w at none))))
+lone_first x gs (false ∷ fs) (s ∷ ss) (y ∷ xs) len e none =
+    by_bool (is_exchange s)
+      (λ w. rw w refl)
+      (λ w. rw w (lone_first x gs fs ss xs (omega (arith, len)) (rw w at e) (rw w at none)))
 
--- and the second.
-lone_second : {X : Type 0} (x d : X) (gs fs : List Bool) (ss : List Sign) (xs : List X) → length ss ≡ length xs → exchanged_flags fs ss ≡ true ∷ gs
-    → chosen_before fs ss ≡ false → at_next d ss xs ∷ chosen (put_next false ss fs) (put_next x ss xs) ≡ chosen fs xs
+-- the second,
+lone_second : {X : Type 0} (x d : X) (gs fs : List Bool) (ss : List Sign) (xs : List X) → length ss ≡ length xs
+    → exchanged_flags fs ss ≡ true ∷ gs → chosen_before fs ss ≡ false
+    → at_next d ss xs ∷ chosen (put_next false ss fs) (put_next x ss xs) ≡ chosen fs xs
 lone_second x d gs [] ss xs len e none = cc
 lone_second x d gs (f ∷ fs) [] xs len e none = cc
 lone_second x d gs (f ∷ fs) (s ∷ ss) [] len e none = absurd (omega (arith, len))
-lone_second {X} x d gs (f ∷ fs) (s ∷ ss) (y ∷ xs) len e none = by_test f (is_exchange s) e none (λ e none. lone_second x d gs fs ss xs (omega (arith, len)) e none)
-  where
-    by_test : (f t : Bool) → cond t (f ∷ exchanged_flags fs ss) (exchanged_flags fs ss) ≡ true ∷ gs → cond t false (f || chosen_before fs ss) ≡ false
-        → (exchanged_flags fs ss ≡ true ∷ gs → chosen_before fs ss ≡ false → at_next d ss xs ∷ chosen (put_next false ss fs) (put_next x ss xs) ≡ chosen fs xs)
-        → cond t y (at_next d ss xs) ∷ chosen (cond t (false ∷ fs) (f ∷ put_next false ss fs)) (cond t (x ∷ xs) (y ∷ put_next x ss xs)) ≡ chosen (f ∷ fs) (y ∷ xs)
-    by_test true true e none more = refl
-    by_test true false e none more = absurd (false≢true (sym none))
-    by_test false true e none more = let wrong : false ≡ true = cc in absurd (false≢true wrong)
-    by_test false false e none more = more e none
+lone_second x d gs (true ∷ fs) (s ∷ ss) (y ∷ xs) len e none =
+    by_bool (is_exchange s) (λ w. rw w refl) (λ w. absurd (false≢true (sym (rw w at none))))
+lone_second x d gs (false ∷ fs) (s ∷ ss) (y ∷ xs) len e none =
+    by_bool (is_exchange s)
+      (λ w. dropped_first (rw w at e))
+      (λ w. rw w (lone_second x d gs fs ss xs (omega (arith, len)) (rw w at e) (rw w at none)))
 
--- it stays where it is
-pub swapped_lone : {X : Type 0} (g h : Bool) (fs : List Bool) (ss : List Sign) (xs : List X) → length ss ≡ length xs → exchanged_flags fs ss ≡ g ∷ h ∷ [] → differ g h ≡ true
-    → chosen_between fs ss ≡ false → chosen (swapped ss fs) (swapped ss xs) ≡ chosen fs xs
+lone_either : {X : Type 0} (f g : Bool) (fs : List Bool) (ss : List Sign) (x : X) (xs : List X) → length ss ≡ length xs → differ f g ≡ true
+    → exchanged_flags fs ss ≡ g ∷ [] → chosen_before fs ss ≡ false
+    → chosen (at_next f ss fs ∷ put_next f ss fs) (at_next x ss xs ∷ put_next x ss xs) ≡ chosen (f ∷ fs) (x ∷ xs)
+lone_either true true fs ss x xs len d e none = absurd (false≢true d)
+lone_either true false fs ss x xs len d e none = rw (flag_at true false [] fs ss e) (lone_first x [] fs ss xs len e none)
+lone_either false true fs ss x xs len d e none = rw (flag_at false true [] fs ss e) (lone_second x x [] fs ss xs len e none)
+lone_either false false fs ss x xs len d e none = absurd (false≢true d)
+
+-- stays where it is.
+swapped_lone : {X : Type 0} (g h : Bool) (fs : List Bool) (ss : List Sign) (xs : List X) → length ss ≡ length xs
+    → exchanged_flags fs ss ≡ g ∷ h ∷ [] → differ g h ≡ true → chosen_between fs ss ≡ false
+    → chosen (swapped ss fs) (swapped ss xs) ≡ chosen fs xs
 swapped_lone g h [] ss xs len e d none = cc
 swapped_lone g h (f ∷ fs) [] xs len e d none = cc
 swapped_lone g h (f ∷ fs) (s ∷ ss) [] len e d none = absurd (omega (arith, len))
-swapped_lone {X} g h (f ∷ fs) (s ∷ ss) (x ∷ xs) len e d none = by_test f (is_exchange s) e none (λ e none. swapped_lone g h fs ss xs (omega (arith, len)) e d none)
+swapped_lone {X} g h (f ∷ fs) (s ∷ ss) (x ∷ xs) len e d none =
+    by_bool (is_exchange s)
+      (λ w.
+        let both = parts (rw w at e) in
+        rw w (lone_either f h fs ss x xs (omega (arith, len)) (rw both.0 d) both.1 (rw w at none)))
+      (λ w. rw w (on f (swapped_lone g h fs ss xs (omega (arith, len)) (rw w at e) d (rw w at none))))
   where
-    first : (f h : Bool) → differ f h ≡ true → exchanged_flags fs ss ≡ h ∷ [] → chosen_before fs ss ≡ false
-        → chosen (at_next f ss fs ∷ put_next f ss fs) (at_next x ss xs ∷ put_next x ss xs) ≡ chosen (f ∷ fs) (x ∷ xs)
-    first true true d e none = absurd (false≢true d)
-    first true false d e none = rw (flag_at true false [] fs ss e) (lone_first x [] fs ss xs (omega (arith, len)) e none)
-    first false true d e none = rw (flag_at false true [] fs ss e) (lone_second x x [] fs ss xs (omega (arith, len)) e none)
-    first false false d e none = absurd (false≢true d)
-    by_test : (f t : Bool) → cond t (f ∷ exchanged_flags fs ss) (exchanged_flags fs ss) ≡ g ∷ h ∷ [] → cond t (chosen_before fs ss) (chosen_between fs ss) ≡ false
-        → (exchanged_flags fs ss ≡ g ∷ h ∷ [] → chosen_between fs ss ≡ false → chosen (swapped ss fs) (swapped ss xs) ≡ chosen fs xs)
-        → chosen (cond t (at_next f ss fs ∷ put_next f ss fs) (f ∷ swapped ss fs)) (cond t (at_next x ss xs ∷ put_next x ss xs) (x ∷ swapped ss xs)) ≡ chosen (f ∷ fs) (x ∷ xs)
-    by_test f true e none more =
-        let own : f ≡ g = cc in
-        let last : exchanged_flags fs ss ≡ h ∷ [] = cc in
-        first f h (rw own d) last none
-    by_test true false e none more = ap (λ (ys : List X). x ∷ ys) (more e none)
-    by_test false false e none more = more e none
+    on : (f : Bool) → chosen (swapped ss fs) (swapped ss xs) ≡ chosen fs xs
+        → chosen (f ∷ swapped ss fs) (x ∷ swapped ss xs) ≡ chosen (f ∷ fs) (x ∷ xs)
+    on true h = ap (λ (ys : List X). x ∷ ys) h
+    on false h = h
 
 -- What is the same under each exchange doesn't change.
 begin_at : (b : Bool) (ss : List Sign) → at_next false ss (beginnings b ss) ≡ false
