@@ -39,96 +39,94 @@ pub begins_length : (b : Bool) (ss : List Sign) → length (beginnings b ss) ≡
 begins_length b [] = refl
 begins_length b (s ∷ ss) = ap suc (begins_length (is_join s) ss)
 
-next_at : {X : Type 0} (none : X) (vs : List X) (j : ℕ) (x : X) (xs : List X) → ((k : ℕ) → get_or vs (j + k) none ≡ get_or (x ∷ xs) k none)
-    → (k : ℕ) → get_or vs (j + 1 + k) none ≡ get_or xs k none
+-- The xs that stand in a list from place j on.
+abbrev pub StandFrom : {X : Type 0} → X → List X → ℕ → List X → Type 0
+StandFrom none vs j xs = (k : ℕ) → get_or vs (j + k) none ≡ get_or xs k none
+
+first_at : {X : Type 0} (none : X) (vs : List X) (j : ℕ) (x : X) (xs : List X) → StandFrom none vs j (x ∷ xs) → get_or vs j none ≡ x
+first_at none vs j x xs at = ap (λ (k : ℕ). get_or vs k none) (omega arith) ∙ at 0
+
+next_at : {X : Type 0} (none : X) (vs : List X) (j : ℕ) (x : X) (xs : List X) → StandFrom none vs j (x ∷ xs) → StandFrom none vs (j + 1) xs
 next_at none vs j x xs at k = ap (λ (n : ℕ). get_or vs n none) (omega arith) ∙ at (suc k)
+
+parts : {i j : ℕ} {is js : List ℕ} → i ∷ is ≡ j ∷ js → (i ≡ j) × (is ≡ js)
+parts e = (cc, cc)
+
+filled_is : {X : Type 0} {i : ℕ} {is : List ℕ} → i ∷ is ≡ [] → X
+filled_is e = absurd (none e)
+  where
+    none : {i : ℕ} {is : List ℕ} → i ∷ is ≡ [] → ⊥
+    none e = cc
 
 -- By place and by lists: without exchange,
 from_own : {X : Type 0} (none : X) (pair : List ℕ) (vs : List X) (j : ℕ) (ss : List Sign) (xs : List X) → length ss ≡ length xs
-    → exchanges j ss ≡ [] → ((k : ℕ) → get_or vs (j + k) none ≡ get_or xs k none) → from_places none pair vs j ss ≡ xs
+    → exchanges j ss ≡ [] → StandFrom none vs j xs → from_places none pair vs j ss ≡ xs
 from_own none pair vs j [] [] len e at = refl
 from_own none pair vs j [] (x ∷ xs) len e at = absurd (omega (arith, len))
 from_own none pair vs j (s ∷ ss) [] len e at = absurd (omega (arith, len))
-from_own {X} none pair vs j (s ∷ ss) (x ∷ xs) len e at =
-    let here : get_or vs j none ≡ x = ap (λ (k : ℕ). get_or vs k none) (omega arith) ∙ at 0 in
-    by_test (is_exchange s) e here (λ e. from_own none pair vs (j + 1) ss xs (omega (arith, len)) e (next_at none vs j x xs at))
-  where
-    by_test : (b : Bool) → cond b (j ∷ exchanges (j + 1) ss) (exchanges (j + 1) ss) ≡ [] → get_or vs j none ≡ x
-        → (exchanges (j + 1) ss ≡ [] → from_places none pair vs (j + 1) ss ≡ xs)
-        → get_or vs (cond b (partner pair j) j) none ∷ from_places none pair vs (j + 1) ss ≡ x ∷ xs
-    by_test true e here more = cc
-    by_test false e here more = rw (here, more e) refl
+from_own none pair vs j (s ∷ ss) (x ∷ xs) len e at =
+    by_bool (is_exchange s)
+      (λ w. filled_is (rw w at e))
+      (λ w.
+        let rest = from_own none pair vs (j + 1) ss xs (omega (arith, len)) (rw w at e) (next_at none vs j x xs at) in
+        rw (w, first_at none vs j x xs at, rest) refl)
 
 -- behind the first one,
 from_second : {X : Type 0} (none : X) (a b : ℕ) (vs : List X) (j : ℕ) (ss : List Sign) (xs : List X) → length ss ≡ length xs
-    → exchanges j ss ≡ b ∷ [] → a < j → ((k : ℕ) → get_or vs (j + k) none ≡ get_or xs k none)
+    → exchanges j ss ≡ b ∷ [] → a < j → StandFrom none vs j xs
     → from_places none (a ∷ b ∷ []) vs j ss ≡ put_next (get_or vs a none) ss xs
 from_second none a b vs j [] xs len e less at = cc
 from_second none a b vs j (s ∷ ss) [] len e less at = absurd (omega (arith, len))
-from_second {X} none a b vs j (s ∷ ss) (x ∷ xs) len e less at =
-    let here : get_or vs j none ≡ x = ap (λ (k : ℕ). get_or vs k none) (omega arith) ∙ at 0 in
-    by_test (is_exchange s) e here (λ e. from_second none a b vs (j + 1) ss xs (omega (arith, len)) e (omega (arith, less)) (next_at none vs j x xs at))
-  where
-    by_test : (t : Bool) → cond t (j ∷ exchanges (j + 1) ss) (exchanges (j + 1) ss) ≡ b ∷ [] → get_or vs j none ≡ x
-        → (exchanges (j + 1) ss ≡ b ∷ [] → from_places none (a ∷ b ∷ []) vs (j + 1) ss ≡ put_next (get_or vs a none) ss xs)
-        → get_or vs (cond t (partner (a ∷ b ∷ []) j) j) none ∷ from_places none (a ∷ b ∷ []) vs (j + 1) ss
-        ≡ cond t (get_or vs a none ∷ xs) (x ∷ put_next (get_or vs a none) ss xs)
-    by_test true e here more =
-        let last : exchanges (j + 1) ss ≡ [] = cc in
+from_second none a b vs j (s ∷ ss) (x ∷ xs) len e less at =
+    by_bool (is_exchange s)
+      (λ w.
+        let last = (parts (rw w at e)).1 in
         let later : (j == a) ≡ false = grind (arith, nat_tests, less) in
         let rest = from_own none (a ∷ b ∷ []) vs (j + 1) ss xs (omega (arith, len)) last (next_at none vs j x xs at) in
-        rw (later, rest) refl
-    by_test false e here more = rw (here, more e) refl
+        rw (w, later, rest) refl)
+      (λ w.
+        let more = next_at none vs j x xs at in
+        let rest = from_second none a b vs (j + 1) ss xs (omega (arith, len)) (rw w at e) (omega (arith, less)) more in
+        rw (w, first_at none vs j x xs at, rest) refl)
 
 -- the one that the first changes places with,
 second_at : {X : Type 0} (none other : X) (b : ℕ) (vs : List X) (j : ℕ) (ss : List Sign) (xs : List X) → length ss ≡ length xs
-    → exchanges j ss ≡ b ∷ [] → ((k : ℕ) → get_or vs (j + k) none ≡ get_or xs k none) → get_or vs b none ≡ at_next other ss xs
+    → exchanges j ss ≡ b ∷ [] → StandFrom none vs j xs → get_or vs b none ≡ at_next other ss xs
 second_at none other b vs j [] xs len e at = cc
 second_at none other b vs j (s ∷ ss) [] len e at = absurd (omega (arith, len))
-second_at {X} none other b vs j (s ∷ ss) (x ∷ xs) len e at =
-    let here : get_or vs j none ≡ x = ap (λ (k : ℕ). get_or vs k none) (omega arith) ∙ at 0 in
-    by_test (is_exchange s) e here (λ e. second_at none other b vs (j + 1) ss xs (omega (arith, len)) e (next_at none vs j x xs at))
-  where
-    by_test : (t : Bool) → cond t (j ∷ exchanges (j + 1) ss) (exchanges (j + 1) ss) ≡ b ∷ [] → get_or vs j none ≡ x
-        → (exchanges (j + 1) ss ≡ b ∷ [] → get_or vs b none ≡ at_next other ss xs)
-        → get_or vs b none ≡ cond t x (at_next other ss xs)
-    by_test true e here more = let same : j ≡ b = cc in rw (← same) here
-    by_test false e here more = more e
+second_at none other b vs j (s ∷ ss) (x ∷ xs) len e at =
+    by_bool (is_exchange s)
+      (λ w. rw (w, ← (parts (rw w at e)).0) (first_at none vs j x xs at))
+      (λ w. rw w (second_at none other b vs (j + 1) ss xs (omega (arith, len)) (rw w at e) (next_at none vs j x xs at)))
 
 -- and with two.
 from_both : {X : Type 0} (none : X) (a b : ℕ) (vs : List X) (j : ℕ) (ss : List Sign) (xs : List X) → length ss ≡ length xs
-    → exchanges j ss ≡ a ∷ b ∷ [] → ((k : ℕ) → get_or vs (j + k) none ≡ get_or xs k none)
-    → from_places none (a ∷ b ∷ []) vs j ss ≡ swapped ss xs
+    → exchanges j ss ≡ a ∷ b ∷ [] → StandFrom none vs j xs → from_places none (a ∷ b ∷ []) vs j ss ≡ swapped ss xs
 from_both none a b vs j [] xs len e at = cc
 from_both none a b vs j (s ∷ ss) [] len e at = absurd (omega (arith, len))
-from_both {X} none a b vs j (s ∷ ss) (x ∷ xs) len e at =
-    let here : get_or vs j none ≡ x = ap (λ (k : ℕ). get_or vs k none) (omega arith) ∙ at 0 in
-    by_test (is_exchange s) e here (λ e. from_both none a b vs (j + 1) ss xs (omega (arith, len)) e (next_at none vs j x xs at))
-  where
-    by_test : (t : Bool) → cond t (j ∷ exchanges (j + 1) ss) (exchanges (j + 1) ss) ≡ a ∷ b ∷ [] → get_or vs j none ≡ x
-        → (exchanges (j + 1) ss ≡ a ∷ b ∷ [] → from_places none (a ∷ b ∷ []) vs (j + 1) ss ≡ swapped ss xs)
-        → get_or vs (cond t (partner (a ∷ b ∷ []) j) j) none ∷ from_places none (a ∷ b ∷ []) vs (j + 1) ss
-        ≡ cond t (at_next x ss xs ∷ put_next x ss xs) (x ∷ swapped ss xs)
-    by_test true e here more =
-        let same : j ≡ a = cc in
-        let last : exchanges (j + 1) ss ≡ b ∷ [] = cc in
+from_both none a b vs j (s ∷ ss) (x ∷ xs) len e at =
+    by_bool (is_exchange s)
+      (λ w.
+        let both = parts (rw w at e) in
+        let same = both.0 in
+        let more = next_at none vs j x xs at in
         let now : (j == a) ≡ true = grind (arith, nat_tests, same) in
-        let other = second_at none x b vs (j + 1) ss xs (omega (arith, len)) last (next_at none vs j x xs at) in
-        let rest = from_second none a b vs (j + 1) ss xs (omega (arith, len)) last (omega (arith, same)) (next_at none vs j x xs at) in
-        let first : get_or vs a none ≡ x = ap (λ (k : ℕ). get_or vs k none) (sym same) ∙ here in
-        rw (now, other, rest, first) refl
-    by_test false e here more = rw (here, more e) refl
+        let other = second_at none x b vs (j + 1) ss xs (omega (arith, len)) both.1 more in
+        let rest = from_second none a b vs (j + 1) ss xs (omega (arith, len)) both.1 (omega (arith, same)) more in
+        let first : get_or vs a none ≡ x = ap (λ (k : ℕ). get_or vs k none) (sym same) ∙ first_at none vs j x xs at in
+        rw (w, now, other, rest, first) refl)
+      (λ w.
+        let rest = from_both none a b vs (j + 1) ss xs (omega (arith, len)) (rw w at e) (next_at none vs j x xs at) in
+        rw (w, first_at none vs j x xs at, rest) refl)
 
 -- nothing changes places
 pub swapped_none : {X : Type 0} (j : ℕ) (ss : List Sign) (xs : List X) → exchanges j ss ≡ [] → swapped ss xs ≡ xs
 swapped_none j [] xs e = refl
 swapped_none j (s ∷ ss) [] e = refl
-swapped_none {X} j (s ∷ ss) (x ∷ xs) e = by_test (is_exchange s) e (λ e. swapped_none (j + 1) ss xs e)
-  where
-    by_test : (t : Bool) → cond t (j ∷ exchanges (j + 1) ss) (exchanges (j + 1) ss) ≡ [] → (exchanges (j + 1) ss ≡ [] → swapped ss xs ≡ xs)
-        → cond t (at_next x ss xs ∷ put_next x ss xs) (x ∷ swapped ss xs) ≡ x ∷ xs
-    by_test true e more = cc
-    by_test false e more = ap (λ (ys : List X). x ∷ ys) (more e)
+swapped_none {X} j (s ∷ ss) (x ∷ xs) e =
+    by_bool (is_exchange s)
+      (λ w. filled_is (rw w at e))
+      (λ w. rw w (ap (λ (ys : List X). x ∷ ys) (swapped_none (j + 1) ss xs (rw w at e))))
 
 put_length : {X : Type 0} (y : X) (ss : List Sign) (xs : List X) → length (put_next y ss xs) ≡ length xs
 put_length y [] xs = refl
@@ -144,54 +142,58 @@ swapped_length (s ∷ ss) (x ∷ xs) = by_bool (is_exchange s)
   (λ w. rw w (ap suc (put_length x ss xs)))
   (λ w. rw w (ap suc (swapped_length ss xs)))
 
+too_many : (n : ℕ) → ((suc (suc (suc n)) == 0) || (suc (suc (suc n)) == 2)) ≡ true → ⊥
+too_many n e = grind (arith, nat_tests, e)
+
+-- By the places of two exchanged ones, or of none, the lists are as swapped.
 pub places_swapped : {X : Type 0} (none : X) (ss : List Sign) (xs : List X) → length ss ≡ length xs
     → is_pair_or_none (exchanges 0 ss) ≡ true → from_places none (exchanges 0 ss) xs 0 ss ≡ swapped ss xs
 places_swapped {X} none ss xs len two = by_pair (exchanges 0 ss) refl two
   where
-    own : (k : ℕ) → get_or xs (0 + k) none ≡ get_or xs k none
+    own : StandFrom none xs 0 xs
     own k = ap (λ (n : ℕ). get_or xs n none) (omega arith)
-    by_pair : (pair : List ℕ) → exchanges 0 ss ≡ pair → is_pair_or_none pair ≡ true → from_places none pair xs 0 ss ≡ swapped ss xs
+    by_pair : (pair : List ℕ) → exchanges 0 ss ≡ pair → is_pair_or_none pair ≡ true
+        → from_places none pair xs 0 ss ≡ swapped ss xs
     by_pair [] e two = from_own none [] xs 0 ss xs len e own ∙ sym (swapped_none 0 ss xs e)
     by_pair (a ∷ []) e two = cc
     by_pair (a ∷ b ∷ []) e two = from_both none a b xs 0 ss xs len e own
-    by_pair (a ∷ b ∷ c ∷ more) e two = absurd (many (length more) two)
-      where
-        many : (n : ℕ) → ((suc (suc (suc n)) == 0) || (suc (suc (suc n)) == 2)) ≡ true → ⊥
-        many n e = grind (arith, nat_tests, e)
+    by_pair (a ∷ b ∷ c ∷ more) e two = absurd (too_many (length more) two)
 
--- the exclusive interpretations
+-- an exclusive interpretation's own token, or the name that was
+abbrev pub name_at : List (List ℕ) → List (List ℕ) → ℕ → List ℕ
+name_at names tokens j = cond (is_exclusive (sign_of (get_or tokens j []))) (get_or tokens j []) (get_or names j [])
+
 get_renamed : (names tokens : List (List ℕ)) (k : ℕ) → length names ≡ length tokens
-    → get_or (renamed_each names tokens) k [] ≡ cond (is_exclusive (sign_of (get_or tokens k []))) (get_or tokens k []) (get_or names k [])
+    → get_or (renamed_each names tokens) k [] ≡ name_at names tokens k
 get_renamed [] [] k len = refl
 get_renamed [] (t ∷ ts) k len = absurd (omega (arith, len))
 get_renamed (n ∷ ns) [] k len = absurd (omega (arith, len))
 get_renamed (n ∷ ns) (t ∷ ts) zero len = refl
 get_renamed (n ∷ ns) (t ∷ ts) (suc k) len = get_renamed ns ts k (omega (arith, len))
 
-names_agree : (pair : List ℕ) (names tokens : List (List ℕ)) (j : ℕ) (s : Sign) → length names ≡ length tokens → sign_of (get_or tokens j []) ≡ s
-    → AgreesAt (renamed names tokens) (λ _. []) pair j s (get_or (renamed_each names tokens) (cond (is_exchange s) (partner pair j) j) [])
-names_agree pair names tokens j s len e = by_sign s e (get_renamed names tokens j len) (get_renamed names tokens (partner pair j) len)
-  where
-    by_sign : (s : Sign) → sign_of (get_or tokens j []) ≡ s
-        → get_or (renamed_each names tokens) j [] ≡ cond (is_exclusive (sign_of (get_or tokens j []))) (get_or tokens j []) (get_or names j [])
-        → get_or (renamed_each names tokens) (partner pair j) []
-        ≡ cond (is_exclusive (sign_of (get_or tokens (partner pair j) []))) (get_or tokens (partner pair j) []) (get_or names (partner pair j) [])
-        → AgreesAt (renamed names tokens) (λ _. []) pair j s (get_or (renamed_each names tokens) (cond (is_exchange s) (partner pair j) j) [])
-    by_sign Split e here there = let own = here ∙ ap (λ (x : Sign). cond (is_exclusive x) (get_or tokens j []) (get_or names j [])) e in (sym own, sym own)
-    by_sign Join e here there = let own = here ∙ ap (λ (x : Sign). cond (is_exclusive x) (get_or tokens j []) (get_or names j [])) e in λ last. sym own
-    by_sign Exchange e here there = sym there
-    by_sign Add e here there = (sym here, refl)
-    by_sign End e here there = tt
-    by_sign Exclusive e here there = sym here
-    by_sign Plain e here there = sym here
+names_agree : (pair : List ℕ) (names tokens : List (List ℕ)) (j : ℕ) (s : Sign) (vs : List (List ℕ)) → sign_of (get_or tokens j []) ≡ s
+    → get_or vs j [] ≡ name_at names tokens j → get_or vs (partner pair j) [] ≡ name_at names tokens (partner pair j)
+    → AgreesAt (renamed names tokens) (λ _. []) pair j s (get_or vs (cond (is_exchange s) (partner pair j) j) [])
+names_agree pair names tokens j Split vs e here there = let own = rw e at here in (sym own, sym own)
+names_agree pair names tokens j Join vs e here there = let own = rw e at here in λ last. sym own
+names_agree pair names tokens j Exchange vs e here there = sym there
+names_agree pair names tokens j Add vs e here there = (sym here, refl)
+names_agree pair names tokens j End vs e here there = tt
+names_agree pair names tokens j Exclusive vs e here there = sym here
+names_agree pair names tokens j Plain vs e here there = sym here
 
 all_names_agree : (pair : List ℕ) (names tokens : List (List ℕ)) (j : ℕ) (ts : List (List ℕ)) → length names ≡ length tokens
-    → ((k : ℕ) → get_or tokens (j + k) [] ≡ get_or ts k [])
+    → StandFrom [] tokens j ts
     → Agrees (renamed names tokens) (λ _. []) pair j (map sign_of ts) (from_places [] pair (renamed_each names tokens) j (map sign_of ts))
 all_names_agree pair names tokens j [] len at = tt
 all_names_agree pair names tokens j (t ∷ ts) len at =
-    let here : get_or tokens j [] ≡ t = ap (λ (k : ℕ). get_or tokens k []) (omega arith) ∙ at 0 in
-    (names_agree pair names tokens j (sign_of t) len (ap sign_of here), all_names_agree pair names tokens (j + 1) ts len (next_at [] tokens j t ts at))
+    let here = get_renamed names tokens j len in
+    let there = get_renamed names tokens (partner pair j) len in
+    let sign : sign_of (get_or tokens j []) ≡ sign_of t = ap sign_of (first_at [] tokens j t ts at) in
+    (
+      names_agree pair names tokens j (sign_of t) (renamed_each names tokens) sign here there,
+      all_names_agree pair names tokens (j + 1) ts len (next_at [] tokens j t ts at),
+    )
 
 pub each_length : (names tokens : List (List ℕ)) → length names ≡ length tokens → length (renamed_each names tokens) ≡ length tokens
 each_length [] [] len = refl
