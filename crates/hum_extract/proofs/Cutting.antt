@@ -12,6 +12,7 @@ use Rattle.hum_path.specs.declared.signs.Sign.TheVariants.{Split, Join, Exchange
 use Rattle.hum_path.specs.Sign.{sign_of, is_join, is_exchange, is_exclusive, is_path_indicator}
 use Rattle.hum_path.specs.Spines.{Spines, exchanges, names_after}
 use Rattle.hum_path.specs.Rules.{first_is, has_lone_join, has_mixed_join, has_unnamed, has_bare, names_and_steers, is_pair_or_none, stays_unnamed}
+use Rattle.hum_path.specs.Score.{Lead}
 use Rattle.hum_path.specs.Onward.{beginnings, onward, onward_one, swapped, renamed_each}
 use Rattle.hum_path.proofs.Onwards.{names_onward, swapped_none, swapped_length, each_length, begins_length}
 use Rattle.hum_path.proofs.Obeyed.{Obeys}
@@ -22,7 +23,7 @@ use Rattle.hum_stage.specs.declared.faults.Rule.{Rule}
 use Rattle.hum_stage.specs.declared.faults.Rule.TheVariants.{X1, X3}
 use Rattle.hum_spread.specs.Spread.{Piece, tokens_in, spread, filled}
 use Rattle.hum_spread.proofs.Spreading.{marks, signs_in}
-use Rattle.hum_spread.proofs.Leading.{Fits, come_to, Lead, spread_leads}
+use Rattle.hum_spread.proofs.Leading.{Fits, come_to, spread_leads}
 use Rattle.hum_extract.specs.Choice.{chosen}
 use Rattle.hum_extract.specs.Extract.{differ, is_torn, exchanged_flags, is_lone, chosen_between, softened, pieces, cut}
 use Rattle.hum_extract.proofs.Selecting.{chosen_length, chosen_fewer, chosen_none, chosen_map, chosen_each, chosen_onward}

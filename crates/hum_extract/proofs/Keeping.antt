@@ -27,13 +27,13 @@ use Rattle.hum_path.proofs.Widths.{origins_width, text_width}
 use Rattle.hum_path.proofs.Onwards.{sources_onward}
 use Rattle.hum_path.proofs.Obeyed.{Opens, opens, Obeys, obeys, narrow}
 use Rattle.hum_spread.specs.Spread.{filled}
-use Rattle.hum_spread.proofs.Leading.{Lead}
 use Rattle.hum_stage.specs.declared.faults.Rule.{Rule}
 use Rattle.hum_stage.specs.declared.faults.Rule.TheVariants.{X2}
 use Rattle.hum_stage.specs.Score.{through, Follow}
 use Rattle.hum_stage.specs.Meaning.{KeepsScore}
 use Rattle.hum_stage.specs.Decided.{decisions, limit, Keeps}
 use Rattle.hum_stage.proofs.Keeping.{at_once_keeps}
+use Rattle.hum_stage.proofs.Scores.{lead_follows}
 use Rattle.hum_extract.specs.Choice.{Choice, each_chosen, opening_flags, misses, names_beyond, opening_if, opening_of, flags, chosen, chosen_path}
 use Rattle.hum_extract.specs.Extract.{cut, opened, interpreted, extract}
 use Rattle.hum_extract.proofs.Selecting.{chosen_length, chosen_fewer, chosen_none}
@@ -41,16 +41,6 @@ use Rattle.hum_extract.proofs.Cutting.{cut_leads}
 
 abbrev pub Leads : Choice → List Row → Path → Type 0
 Leads choice past given = given ≡ chosen_path (flags choice past) (path_after past)
-
--- Records that lead to spines follow on the path, and it goes through them to these.
-pub lead_follows : (names end : List (List ℕ)) (rows : List Row) → Lead names rows end
-    → Follow (Spines names) rows × (through (Spines names) rows ≡ Spines end)
-lead_follows names end [] h = (tt, ap Spines h)
-lead_follows names end (Comment text ∷ rows) h = let more = lead_follows names end rows h.1 in ((h.0, more.0), more.1)
-lead_follows names end (Spined Local tokens ∷ rows) h = let more = lead_follows names end rows h.1 in ((h.0, more.0), more.1)
-lead_follows names end (Spined Values tokens ∷ rows) h = let more = lead_follows names end rows h.1 in ((h.0, more.0), more.1)
-lead_follows names end (Spined Interpretation tokens ∷ rows) h =
-    let more = lead_follows (names_after (Spines names) tokens) end rows h.1 in ((h.0, more.0), more.1)
 
 -- A local comment or data: the first three rules.
 text_sound : (names tokens : List (List ℕ)) (k : ℕ) → length tokens ≡ suc k → length tokens ≡ length names → list_any is_empty names ≡ false

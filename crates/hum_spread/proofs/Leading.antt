@@ -16,17 +16,12 @@ use Rattle.hum_path.specs.declared.signs.Sign.TheVariants.{Split, Join, Exchange
 use Rattle.hum_path.specs.Sign.{sign_of, is_join, is_exchange, is_exclusive, is_path_indicator}
 use Rattle.hum_path.specs.Spines.{Path, Spines, exclusives, exchanges, moves_under, names_after, renamed, after}
 use Rattle.hum_path.specs.Rules.{breaks, in_order, fault_of, has_unnamed, has_bare, names_and_steers, has_lone_join, first_is, is_pair_or_none, has_mixed_join, stays_unnamed}
+use Rattle.hum_path.specs.Score.{Lead}
 use Rattle.hum_path.specs.Onward.{beginnings, onward, swapped, renamed_each}
 use Rattle.hum_path.proofs.Onwards.{names_onward, swapped_none, each_length, begins_length}
 use Rattle.hum_path.proofs.Cases.{by_bool}
 use Rattle.hum_spread.specs.Spread.{Piece, piece, joins, goes_on, tokens_in, touches, joins_in, join_alone, first_alone, join_done, first_done, one_by_one, before_last, spread, filled}
 use Rattle.hum_spread.proofs.Spreading.{marks, signs_in, next_goes_on, Formed, formed_length, rest_merged, merged, first_onward, done_onward, done_formed, done_joins, done_swapped, is_join_at}
-
--- Records follow on spines under exclusive interpretations, and these stand after them.
-abbrev pub Lead : List (List ℕ) → List Row → List (List ℕ) → Type 0
-Lead names [] end = names ≡ end
-Lead names (row ∷ rows) end =
-    (fault_of (Spines names) row ≡ None) × Lead (exclusives (after (Spines names) row)) rows end
 
 -- what pieces come to at once
 abbrev pub come_to : List Piece → List (List ℕ) → List (List ℕ)
