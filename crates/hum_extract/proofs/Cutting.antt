@@ -116,7 +116,8 @@ soft_exclusives : (lone : Bool) (ss : List Sign) → list_any is_exclusive (map 
 soft_exclusives lone [] = refl
 soft_exclusives lone (s ∷ ss) = let rest = soft_exclusives lone ss in rw (soft_exclusive lone s, rest) refl
 
-soft_indicators : (lone : Bool) (ss : List Sign) → list_any is_path_indicator ss ≡ false → list_any is_path_indicator (map (soften lone) ss) ≡ false
+soft_indicators : (lone : Bool) (ss : List Sign) → list_any is_path_indicator ss ≡ false
+    → list_any is_path_indicator (map (soften lone) ss) ≡ false
 soft_indicators lone [] h = refl
 soft_indicators lone (s ∷ ss) h =
     let both = or_parts (is_path_indicator s) (list_any is_path_indicator ss) h in
@@ -152,7 +153,8 @@ soft_each lone (n ∷ ns) (t ∷ ts) = let rest = soft_each lone ns ts in rw (on
       (λ w. rw w refl)
 
 -- and carries on the same
-soft_onward : {X : Type 0} (added : X → X) (lone : Bool) (bs : List Bool) (ss : List Sign) (xs : List X) → onward added bs (map (soften lone) ss) xs ≡ onward added bs ss xs
+soft_onward : {X : Type 0} (added : X → X) (lone : Bool) (bs : List Bool) (ss : List Sign) (xs : List X)
+    → onward added bs (map (soften lone) ss) xs ≡ onward added bs ss xs
 soft_onward added lone [] ss xs = refl
 soft_onward added lone (b ∷ bs) [] xs = refl
 soft_onward added lone (b ∷ bs) (s ∷ ss) [] = refl
@@ -184,7 +186,8 @@ soft_none [] = refl
 soft_none (s ∷ ss) = ap (λ (ts : List Sign). s ∷ ts) (soft_none ss)
 
 -- The chosen ones of what is carried on, by the chosen columns.
-chosen_comes : {X : Type 0} (added : X → X) (lone : Bool) (fs : List Bool) (ss : List Sign) (xs : List X) → length fs ≡ length ss → length ss ≡ length xs
+chosen_comes : {X : Type 0} (added : X → X) (lone : Bool) (fs : List Bool) (ss : List Sign) (xs : List X) → length fs ≡ length ss
+    → length ss ≡ length xs
     → is_pair_or_none (exchanges 0 ss) ≡ true → is_lone (exchanged_flags fs ss) ≡ lone → (lone && chosen_between fs ss) ≡ false
     → onward added (chosen fs (beginnings false ss)) (chosen fs (map (soften lone) ss)) (swapped (chosen fs (map (soften lone) ss)) (chosen fs xs))
     ≡ chosen (onward (λ f. f) (beginnings false ss) ss (swapped ss fs)) (onward added (beginnings false ss) ss (swapped ss xs))
@@ -208,7 +211,8 @@ chosen_comes {X} added true fs ss xs len wide two is none =
     let right = whole ∙ cuts begins signs columns in
     rw (right, ← soft, still) (soft_onward added true (chosen fs (beginnings false ss)) (chosen fs ss) (chosen fs xs))
   where
-    cuts : {bs cs : List Bool} {ts us : List Sign} {ys zs : List X} → bs ≡ cs → ts ≡ us → ys ≡ zs → onward added bs ts ys ≡ onward added cs us zs
+    cuts : {bs cs : List Bool} {ts us : List Sign} {ys zs : List X} → bs ≡ cs → ts ≡ us → ys ≡ zs
+        → onward added bs ts ys ≡ onward added cs us zs
     cuts a b c = rw (a, b, c) refl
 
 -- The pieces that are cut out of an interpretation.
@@ -216,7 +220,8 @@ abbrev pub pieces_of : List Bool → List (List ℕ) → List Piece
 pieces_of flags tokens =
     pieces false flags (map (softened (is_lone (exchanged_flags flags (map sign_of tokens)))) tokens)
 
-chosen_unnamed : (fs : List Bool) (ns : List (List ℕ)) (ss : List Sign) → has_unnamed ns ss ≡ false → has_unnamed (chosen fs ns) (chosen fs ss) ≡ false
+chosen_unnamed : (fs : List Bool) (ns : List (List ℕ)) (ss : List Sign) → has_unnamed ns ss ≡ false
+    → has_unnamed (chosen fs ns) (chosen fs ss) ≡ false
 chosen_unnamed [] ns ss h = refl
 chosen_unnamed (f ∷ fs) [] ss h = refl
 chosen_unnamed (true ∷ fs) (n ∷ ns) [] h = refl
@@ -231,7 +236,8 @@ chosen_unnamed (true ∷ fs) (n ∷ ns) (s ∷ ss) h =
 chosen_unnamed (false ∷ fs) (n ∷ ns) (s ∷ ss) h = chosen_unnamed fs ns ss (or_parts (stays_unnamed n s) (has_unnamed ns ss) h).1
 
 -- an exclusive interpretation or a path indicator is missing
-chosen_steers : (lone : Bool) (fs : List Bool) (ss : List Sign) → names_and_steers ss ≡ false → names_and_steers (chosen fs (map (soften lone) ss)) ≡ false
+chosen_steers : (lone : Bool) (fs : List Bool) (ss : List Sign) → names_and_steers ss ≡ false
+    → names_and_steers (chosen fs (map (soften lone) ss)) ≡ false
 chosen_steers lone fs ss h = by_bool (list_any is_exclusive ss)
   (λ w.
     let none : list_any is_path_indicator ss ≡ false = rw w at h in
@@ -245,17 +251,20 @@ chosen_steers lone fs ss h = by_bool (list_any is_exclusive ss)
     never true = refl
     never false = refl
 
-chosen_pair : (lone : Bool) (fs : List Bool) (ss : List Sign) → length fs ≡ length ss → is_pair_or_none (exchanges 0 ss) ≡ true → is_lone (exchanged_flags fs ss) ≡ lone
+chosen_pair : (lone : Bool) (fs : List Bool) (ss : List Sign) → length fs ≡ length ss → is_pair_or_none (exchanges 0 ss) ≡ true
+    → is_lone (exchanged_flags fs ss) ≡ lone
     → is_pair_or_none (exchanges 0 (chosen fs (map (soften lone) ss))) ≡ true
 chosen_pair false fs ss len two is = rw (soft_none ss) (pair_chosen fs ss len two is)
 chosen_pair true fs ss len two is = rw (← chosen_map (soften true) fs ss, soft_exchanges 0 (chosen fs ss)) refl
 
-cut_signs : (fs : List Bool) (lone : Bool) (ts : List (List ℕ)) → signs_in (pieces false fs (map (softened lone) ts)) ≡ chosen fs (map (soften lone) (map sign_of ts))
+cut_signs : (fs : List Bool) (lone : Bool) (ts : List (List ℕ))
+    → signs_in (pieces false fs (map (softened lone) ts)) ≡ chosen fs (map (soften lone) (map sign_of ts))
 cut_signs fs lone ts =
     ap (λ (us : List (List ℕ)). map sign_of us) (pieces_tokens false fs (map (softened lone) ts))
     ∙ (chosen_map sign_of fs (map (softened lone) ts) ∙ ap (λ (ss : List Sign). chosen fs ss) (soft_signs lone ts))
 
-fits_at : (lone : Bool) (fs : List Bool) (names tokens : List (List ℕ)) → length fs ≡ length tokens → Obeys names tokens → is_torn fs (map sign_of tokens) ≡ false
+fits_at : (lone : Bool) (fs : List Bool) (names tokens : List (List ℕ)) → length fs ≡ length tokens → Obeys names tokens
+    → is_torn fs (map sign_of tokens) ≡ false
     → is_lone (exchanged_flags fs (map sign_of tokens)) ≡ lone → Fits (pieces false fs (map (softened lone) tokens)) (chosen fs names)
 fits_at lone fs names tokens len keeps torn is =
     let signs = cut_signs fs lone tokens in
@@ -275,7 +284,8 @@ fits_at lone fs names tokens len keeps torn is =
     }
 
 -- They break no rule that stands at one token or one join.
-pub cut_fits : (fs : List Bool) (names tokens : List (List ℕ)) → length fs ≡ length tokens → Obeys names tokens → is_torn fs (map sign_of tokens) ≡ false
+pub cut_fits : (fs : List Bool) (names tokens : List (List ℕ)) → length fs ≡ length tokens → Obeys names tokens
+    → is_torn fs (map sign_of tokens) ≡ false
     → Fits (pieces_of fs tokens) (chosen fs names)
 cut_fits fs names tokens len keeps torn = fits_at (is_lone (exchanged_flags fs (map sign_of tokens))) fs names tokens len keeps torn refl
 
@@ -306,12 +316,14 @@ pub cut_comes : (fs : List Bool) (names tokens : List (List ℕ)) → length fs 
 cut_comes fs names tokens len keeps none = comes_at (is_lone (exchanged_flags fs (map sign_of tokens))) fs names tokens len keeps refl none
 
 -- The records that an interpretation is cut to.
-pub cut_leads : (fs : List Bool) (names tokens : List (List ℕ)) (rows : List Row) → length fs ≡ length tokens → Obeys names tokens → length names ≤ 4096 → cut fs tokens ≡ Ok rows
+pub cut_leads : (fs : List Bool) (names tokens : List (List ℕ)) (rows : List Row) → length fs ≡ length tokens → Obeys names tokens
+    → length names ≤ 4096 → cut fs tokens ≡ Ok rows
     → Lead (chosen fs names) rows (chosen (onward (λ f. f) (beginnings false (map sign_of tokens)) (map sign_of tokens) (swapped (map sign_of tokens) fs)) (names_after (Spines names) tokens))
 cut_leads fs names tokens rows len keeps few e =
     by_tests (is_torn fs (map sign_of tokens)) (is_lone (exchanged_flags fs (map sign_of tokens)) && chosen_between fs (map sign_of tokens)) refl refl e
   where
-    by_tests : (torn between : Bool) → is_torn fs (map sign_of tokens) ≡ torn → (is_lone (exchanged_flags fs (map sign_of tokens)) && chosen_between fs (map sign_of tokens)) ≡ between
+    by_tests : (torn between : Bool) → is_torn fs (map sign_of tokens) ≡ torn
+        → (is_lone (exchanged_flags fs (map sign_of tokens)) && chosen_between fs (map sign_of tokens)) ≡ between
         → ◌≡◌ {A = Result (List Row) Rule} (cond torn (Err X1) (cond between (Err X3) (Ok (filled Interpretation (spread (pieces_of fs tokens)))))) (Ok rows)
         → Lead (chosen fs names) rows (chosen (onward (λ f. f) (beginnings false (map sign_of tokens)) (map sign_of tokens) (swapped (map sign_of tokens) fs)) (names_after (Spines names) tokens))
     by_tests true between a b e = cc

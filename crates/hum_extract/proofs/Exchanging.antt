@@ -15,7 +15,8 @@ use Rattle.hum_extract.specs.Choice.{chosen}
 use Rattle.hum_extract.specs.Extract.{differ, exchanged_flags, is_lone, chosen_before, chosen_between}
 
 -- as many flags as exchanged columns
-pub flags_size : (j : ℕ) (fs : List Bool) (ss : List Sign) → length fs ≡ length ss → length (exchanged_flags fs ss) ≡ length (exchanges j ss)
+pub flags_size : (j : ℕ) (fs : List Bool) (ss : List Sign) → length fs ≡ length ss
+    → length (exchanged_flags fs ss) ≡ length (exchanges j ss)
 flags_size j [] [] len = refl
 flags_size j [] (s ∷ ss) len = absurd (omega (arith, len))
 flags_size j (f ∷ fs) [] len = refl
@@ -24,7 +25,8 @@ flags_size j (f ∷ fs) (s ∷ ss) len = by_bool (is_exchange s)
   (λ w. rw w (flags_size (j + 1) fs ss (omega (arith, len))))
 
 -- the chosen ones of them
-pub chosen_exchanges : (j : ℕ) (fs : List Bool) (ss : List Sign) → length (exchanges j (chosen fs ss)) ≡ length (chosen (exchanged_flags fs ss) (exchanged_flags fs ss))
+pub chosen_exchanges : (j : ℕ) (fs : List Bool) (ss : List Sign)
+    → length (exchanges j (chosen fs ss)) ≡ length (chosen (exchanged_flags fs ss) (exchanged_flags fs ss))
 chosen_exchanges j [] ss = refl
 chosen_exchanges j (f ∷ fs) [] = refl
 chosen_exchanges j (true ∷ fs) (s ∷ ss) = by_bool (is_exchange s)
@@ -268,9 +270,11 @@ differ_not false true e = absurd (false≢true (sym e))
 differ_not false false e = refl
 
 none_exchanged : (j : ℕ) (fs : List Bool) (ss : List Sign) → length fs ≡ length ss → exchanged_flags fs ss ≡ [] → exchanges j ss ≡ []
-none_exchanged j fs ss len e = let size = flags_size j fs ss len in let none = ap length e in nil_from_length (exchanges j ss) (omega (arith, size, none))
+none_exchanged j fs ss len e =
+    let size = flags_size j fs ss len in let none = ap length e in nil_from_length (exchanges j ss) (omega (arith, size, none))
 
-none_left : (j : ℕ) (fs : List Bool) (ss : List Sign) (gs : List Bool) → exchanged_flags fs ss ≡ gs → chosen gs gs ≡ [] → exchanges j (chosen fs ss) ≡ []
+none_left : (j : ℕ) (fs : List Bool) (ss : List Sign) (gs : List Bool) → exchanged_flags fs ss ≡ gs → chosen gs gs ≡ []
+    → exchanges j (chosen fs ss) ≡ []
 none_left j fs ss gs e none =
     nil_from_length (exchanges j (chosen fs ss)) (chosen_exchanges j fs ss ∙ ap length (ap (λ (bs : List Bool). chosen bs bs) e ∙ none))
 
@@ -296,11 +300,13 @@ swapped_chosen {X} fs ss xs len wide two lone = by_flags (exchanged_flags fs ss)
     by_flags (g ∷ h ∷ i ∷ gs) e two lone = absurd (too_many (length gs) two)
 
 -- there is one, or none
-pub pair_chosen : (fs : List Bool) (ss : List Sign) → length fs ≡ length ss → is_pair_or_none (exchanges 0 ss) ≡ true → is_lone (exchanged_flags fs ss) ≡ false
+pub pair_chosen : (fs : List Bool) (ss : List Sign) → length fs ≡ length ss → is_pair_or_none (exchanges 0 ss) ≡ true
+    → is_lone (exchanged_flags fs ss) ≡ false
     → is_pair_or_none (exchanges 0 (chosen fs ss)) ≡ true
 pair_chosen fs ss len two lone = rw (chosen_exchanges 0 fs ss) (by_flags (exchanged_flags fs ss) (two_or_none fs ss len two) lone)
   where
-    by_flags : (gs : List Bool) → ((length gs == 0) || (length gs == 2)) ≡ true → is_lone gs ≡ false → ((length (chosen gs gs) == 0) || (length (chosen gs gs) == 2)) ≡ true
+    by_flags : (gs : List Bool) → ((length gs == 0) || (length gs == 2)) ≡ true → is_lone gs ≡ false
+        → ((length (chosen gs gs) == 0) || (length (chosen gs gs) == 2)) ≡ true
     by_flags [] two lone = refl
     by_flags (g ∷ []) two lone = cc
     by_flags (true ∷ true ∷ []) two lone = refl

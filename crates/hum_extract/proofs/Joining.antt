@@ -38,7 +38,8 @@ goes true true a b = refl
 goes true false a b = absurd (false≢true b)
 goes false k a b = absurd (false≢true a)
 
-next_chosen : (s : Sign) (fs : List Bool) (ts : List (List ℕ)) → length fs ≡ length ts → is_join s ≡ true → first_is is_join (map sign_of ts) ≡ true
+next_chosen : (s : Sign) (fs : List Bool) (ts : List (List ℕ)) → length fs ≡ length ts → is_join s ≡ true
+    → first_is is_join (map sign_of ts) ≡ true
     → is_torn (true ∷ fs) (s ∷ map sign_of ts) ≡ false → next_goes_on (pieces (is_join s) fs ts) ≡ true
 next_chosen s fs [] len join first torn = absurd (false≢true first)
 next_chosen s [] (t ∷ ts) len join first torn = absurd (omega (arith, len))
@@ -55,15 +56,18 @@ begins_well true false false lone h = absurd (false≢true (sym lone))
 begins_well false p next lone h = absurd (false≢true h)
 
 -- and one that goes on has one to its left, which is chosen
-goes_well : (j p f : Bool) (m n : List ℕ) → (p && (j && differ f true)) ≡ false → (p && (j && not (bytes_eq m n))) ≡ false → (j && not (j && not p)) ≡ true
+goes_well : (j p f : Bool) (m n : List ℕ) → (p && (j && differ f true)) ≡ false → (p && (j && not (bytes_eq m n))) ≡ false
+    → (j && not (j && not p)) ≡ true
     → (p ≡ true) × ((f ≡ true) × (m ≡ n))
 goes_well true true true m n torn mixed h = (refl, (refl, (bytes_eq-Decides m n).0 (not-false (bytes_eq m n) mixed)))
 goes_well true true false m n torn mixed h = absurd (false≢true (sym torn))
 goes_well true false f m n torn mixed h = absurd (false≢true h)
 goes_well false p f m n torn mixed h = absurd (false≢true h)
 
-formed_from : (f : Bool) (s : Sign) (name : List ℕ) (b : Bool) (before : List ℕ) (fs : List Bool) (ts ns : List (List ℕ)) → length fs ≡ length ts → length ns ≡ length ts
-    → is_torn (f ∷ fs) (s ∷ map sign_of ts) ≡ false → has_lone_join (is_join s) (map sign_of ts) ≡ false → has_mixed_join (name ∷ ns) (s ∷ map sign_of ts) ≡ false
+formed_from : (f : Bool) (s : Sign) (name : List ℕ) (b : Bool) (before : List ℕ) (fs : List Bool) (ts ns : List (List ℕ))
+    → length fs ≡ length ts → length ns ≡ length ts
+    → is_torn (f ∷ fs) (s ∷ map sign_of ts) ≡ false → has_lone_join (is_join s) (map sign_of ts) ≡ false
+    → has_mixed_join (name ∷ ns) (s ∷ map sign_of ts) ≡ false
     → (f ≡ true → (b ≡ is_join s) × (before ≡ name)) → Formed b before (pieces (is_join s) fs ts) (chosen fs ns)
 formed_from f s name b before [] [] ns len wide torn lone mixed at = tt
 formed_from f s name b before [] (t ∷ ts) ns len wide torn lone mixed at = absurd (omega (arith, len))

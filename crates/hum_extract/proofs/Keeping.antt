@@ -72,14 +72,17 @@ text_next fs kind names tokens (u ∷ us) other h e =
     by_kind Values other h = ((h, tt), refl)
     by_kind Interpretation other h = absurd (other refl)
 
-text_case : (fs : List Bool) (kind : SpinedKind) (path : Path) (tokens : List (List ℕ)) (given : Path) (rows : List Row) → (kind ≡ Interpretation → ⊥)
+text_case : (fs : List Bool) (kind : SpinedKind) (path : Path) (tokens : List (List ℕ)) (given : Path) (rows : List Row)
+    → (kind ≡ Interpretation → ⊥)
     → find (breaks_as_text path tokens) in_order ≡ None → given ≡ chosen_path fs path → filled kind (chosen fs tokens ∷ []) ≡ rows
     → Follow given rows × (through given rows ≡ chosen_path fs path)
 text_case fs kind Unopened tokens given rows other h leads e = cc
-text_case fs kind (Spines names) tokens given rows other h leads e = rw (leads, ← e) (text_next fs kind names tokens (chosen fs tokens) other h refl)
+text_case fs kind (Spines names) tokens given rows other h leads e =
+    rw (leads, ← e) (text_next fs kind names tokens (chosen fs tokens) other h refl)
 
 -- it chooses as before
-later_opening : (path : Path) (tokens before : List (List ℕ)) → find (breaks_as_text path tokens) in_order ≡ None → opening_if path tokens before ≡ before
+later_opening : (path : Path) (tokens before : List (List ℕ)) → find (breaks_as_text path tokens) in_order ≡ None
+    → opening_if path tokens before ≡ before
 later_opening Unopened tokens before h = cc
 later_opening (Spines names) tokens before h = refl
 
@@ -114,7 +117,8 @@ chosen_opens fs tokens h = record {
   few = let most = h.few in let fewer = chosen_fewer fs tokens in omega (arith, most, fewer);
 }
   where
-    exclusive : (fs : List Bool) (ts : List (List ℕ)) → list_all is_exclusive (map sign_of ts) ≡ true → list_all is_exclusive (map sign_of (chosen fs ts)) ≡ true
+    exclusive : (fs : List Bool) (ts : List (List ℕ)) → list_all is_exclusive (map sign_of ts) ≡ true
+        → list_all is_exclusive (map sign_of (chosen fs ts)) ≡ true
     exclusive [] ts h = refl
     exclusive (f ∷ fs) [] h = refl
     exclusive (true ∷ fs) (t ∷ ts) h =
@@ -123,7 +127,8 @@ chosen_opens fs tokens h = record {
     exclusive (false ∷ fs) (t ∷ ts) h = exclusive fs ts (and_parts (is_exclusive (sign_of t)) (list_all is_exclusive (map sign_of ts)) h).1
 
 -- each opening spine is its own origin
-own_flags : (all : List Bool) (j n : ℕ) → j + n ≡ length all → map (λ o. get_or all o false) (map (origin_of []) (same_upto j n)) ≡ drop j all
+own_flags : (all : List Bool) (j n : ℕ) → j + n ≡ length all
+    → map (λ o. get_or all o false) (map (origin_of []) (same_upto j n)) ≡ drop j all
 own_flags all j zero h = sym (drop_all j all (omega (arith, h)))
 own_flags all j (suc n) h =
     let rest : map (λ o. get_or all o false) (map (origin_of []) (same_upto (j + 1) n)) ≡ drop (suc j) all =
@@ -155,7 +160,8 @@ open_next choice past tokens rows sound at h e =
         rw (← one, is) ((rw is at sound, tt), refl)
 
 -- Flags go on along the columns.
-flags_onward : (choice : Choice) (past : List Row) (names tokens : List (List ℕ)) → IsOpen past → path_after past ≡ Spines names → Obeys names tokens
+flags_onward : (choice : Choice) (past : List Row) (names tokens : List (List ℕ)) → IsOpen past → path_after past ≡ Spines names
+    → Obeys names tokens
     → flags choice (Spined Interpretation tokens ∷ past)
     ≡ onward (λ f. f) (beginnings false (map sign_of tokens)) (map sign_of tokens) (swapped (map sign_of tokens) (flags choice past))
 flags_onward choice past names tokens sound at keeps =
@@ -169,7 +175,8 @@ flags_onward choice past names tokens sound at keeps =
       (λ m below. sym (get_or-map (λ origin. get_or (opening_flags choice (opening_of past)) origin false) (origins past) (source m) (source m) false (omega (arith, below, size))))
       (omega (arith, count, size, wide, own)) keeps.pair)
 
-cut_next : (choice : Choice) (past : List Row) (names tokens : List (List ℕ)) (rows : List Row) → IsOpen past → path_after past ≡ Spines names
+cut_next : (choice : Choice) (past : List Row) (names tokens : List (List ℕ)) (rows : List Row) → IsOpen past
+    → path_after past ≡ Spines names
     → find (breaks (Spines names) tokens) in_order ≡ None → cut (flags choice past) tokens ≡ Ok rows
     → Follow (Spines (chosen (flags choice past) names)) rows
     × (through (Spines (chosen (flags choice past) names)) rows ≡ Spines (chosen (flags choice (Spined Interpretation tokens ∷ past)) (names_after (Spines names) tokens)))
@@ -182,7 +189,8 @@ cut_next choice past names tokens rows sound at h e =
     rw (flags_onward choice past names tokens sound at keeps)
       (lead_follows (chosen (flags choice past) names) _ rows (cut_leads (flags choice past) names tokens rows (omega (arith, size, wide, own)) keeps most e))
 
-extract_next : (choice : Choice) (past : List Row) (row : Row) (given : Path) (rows : List Row) → IsOpen (row ∷ past) → Leads choice past given
+extract_next : (choice : Choice) (past : List Row) (row : Row) (given : Path) (rows : List Row) → IsOpen (row ∷ past)
+    → Leads choice past given
     → extract choice past row ≡ Ok rows → Follow given rows × Leads choice (row ∷ past) (through given rows)
 extract_next choice past (Comment text) given rows sound leads e =
     let one : Comment text ∷ [] ≡ rows = cc in rw (← one) ((refl, tt), leads)
@@ -194,11 +202,14 @@ extract_next choice past (Spined Values tokens) given rows sound leads e =
     rw (later_opening (path_after past) tokens (opening_of past) sound.1) (text_case (flags choice past) Values (path_after past) tokens given rows (λ x. cc) sound.1 leads one)
 extract_next choice past (Spined Interpretation tokens) given rows sound leads e = at_path (path_after past) refl sound.1 leads e
   where
-    at_path : (path : Path) → path_after past ≡ path → find (breaks path tokens) in_order ≡ None → given ≡ chosen_path (flags choice past) path
+    at_path : (path : Path) → path_after past ≡ path → find (breaks path tokens) in_order ≡ None
+        → given ≡ chosen_path (flags choice past) path
         → interpreted choice path (flags choice past) tokens ≡ Ok rows
         → Follow given rows × (through given rows ≡ Spines (chosen (flags choice (Spined Interpretation tokens ∷ past)) (names_after (path_after past) tokens)))
-    at_path Unopened at h leads e = rw (leads, ap (λ (p : Path). names_after p tokens) at) (open_next choice past tokens rows sound.0 at h e)
-    at_path (Spines names) at h leads e = rw (leads, ap (λ (p : Path). names_after p tokens) at) (cut_next choice past names tokens rows sound.0 at h e)
+    at_path Unopened at h leads e =
+        rw (leads, ap (λ (p : Path). names_after p tokens) at) (open_next choice past tokens rows sound.0 at h e)
+    at_path (Spines names) at h leads e =
+        rw (leads, ap (λ (p : Path). names_after p tokens) at) (cut_next choice past names tokens rows sound.0 at h e)
 
 extract_closing : (fs : List Bool) (path : Path) → is_unfinished path ≡ false → is_unfinished (chosen_path fs path) ≡ false
 extract_closing fs Unopened h = refl

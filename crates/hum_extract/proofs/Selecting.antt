@@ -8,7 +8,8 @@ use Rattle.hum_path.specs.Sign.{sign_of, is_exclusive}
 use Rattle.hum_path.specs.Onward.{onward_one, onward, renamed_each}
 use Rattle.hum_extract.specs.Choice.{chosen}
 
-pub chosen_length : {X Y : Type 0} (fs : List Bool) (xs : List X) (ys : List Y) → length xs ≡ length ys → length (chosen fs xs) ≡ length (chosen fs ys)
+pub chosen_length : {X Y : Type 0} (fs : List Bool) (xs : List X) (ys : List Y) → length xs ≡ length ys
+    → length (chosen fs xs) ≡ length (chosen fs ys)
 chosen_length [] xs ys h = refl
 chosen_length (f ∷ fs) [] [] h = refl
 chosen_length (f ∷ fs) [] (y ∷ ys) h = absurd (omega (arith, h))
@@ -23,7 +24,8 @@ chosen_fewer (true ∷ fs) (x ∷ xs) = let ih = chosen_fewer fs xs in omega (ar
 chosen_fewer (false ∷ fs) (x ∷ xs) = let ih = chosen_fewer fs xs in omega (arith, ih)
 
 -- what none of a list is, none of what is chosen is
-pub chosen_none : {X : Type 0} (test : X → Bool) (fs : List Bool) (xs : List X) → list_any test xs ≡ false → list_any test (chosen fs xs) ≡ false
+pub chosen_none : {X : Type 0} (test : X → Bool) (fs : List Bool) (xs : List X) → list_any test xs ≡ false
+    → list_any test (chosen fs xs) ≡ false
 chosen_none test [] xs h = refl
 chosen_none test (f ∷ fs) [] h = refl
 chosen_none test (true ∷ fs) (x ∷ xs) h =
@@ -36,7 +38,8 @@ chosen_map f (g ∷ fs) [] = refl
 chosen_map {X} {Y} f (true ∷ fs) (x ∷ xs) = ap (λ (ys : List Y). f x ∷ ys) (chosen_map f fs xs)
 chosen_map f (false ∷ fs) (x ∷ xs) = chosen_map f fs xs
 
-pub chosen_each : (fs : List Bool) (ns ts : List (List ℕ)) → length ns ≡ length ts → renamed_each (chosen fs ns) (chosen fs ts) ≡ chosen fs (renamed_each ns ts)
+pub chosen_each : (fs : List Bool) (ns ts : List (List ℕ)) → length ns ≡ length ts
+    → renamed_each (chosen fs ns) (chosen fs ts) ≡ chosen fs (renamed_each ns ts)
 chosen_each [] ns ts h = refl
 chosen_each (f ∷ fs) [] [] h = refl
 chosen_each (f ∷ fs) [] (t ∷ ts) h = absurd (omega (arith, h))
@@ -46,8 +49,10 @@ chosen_each (true ∷ fs) (n ∷ ns) (t ∷ ts) h =
 chosen_each (false ∷ fs) (n ∷ ns) (t ∷ ts) h = chosen_each fs ns ts (omega (arith, h))
 
 -- A column's children are chosen with it.
-pub chosen_onward : {X : Type 0} (added : X → X) (fs begins : List Bool) (signs : List Sign) (xs : List X) → length begins ≡ length signs → length signs ≡ length xs
-    → chosen (onward (λ f. f) begins signs fs) (onward added begins signs xs) ≡ onward added (chosen fs begins) (chosen fs signs) (chosen fs xs)
+pub chosen_onward : {X : Type 0} (added : X → X) (fs begins : List Bool) (signs : List Sign) (xs : List X) → length begins ≡ length signs
+    → length signs ≡ length xs
+    → chosen (onward (λ f. f) begins signs fs) (onward added begins signs xs)
+    ≡ onward added (chosen fs begins) (chosen fs signs) (chosen fs xs)
 chosen_onward added [] [] ss xs a b = refl
 chosen_onward added [] (g ∷ bs) [] xs a b = absurd (omega (arith, a))
 chosen_onward added [] (g ∷ bs) (s ∷ ss) xs a b = refl
@@ -58,7 +63,8 @@ chosen_onward {X} added (f ∷ fs) (g ∷ bs) (s ∷ ss) (x ∷ xs) a b =
     cell f g s (onward (λ f. f) bs ss fs) (onward added bs ss xs) (chosen_onward added fs bs ss xs (omega (arith, a)) (omega (arith, b)))
   where
     cell : (f g : Bool) (s : Sign) (gs : List Bool) (ys : List X) → chosen gs ys ≡ onward added (chosen fs bs) (chosen fs ss) (chosen fs xs)
-        → chosen (onward_one (λ f. f) g s f ++ gs) (onward_one added g s x ++ ys) ≡ onward added (chosen (f ∷ fs) (g ∷ bs)) (chosen (f ∷ fs) (s ∷ ss)) (chosen (f ∷ fs) (x ∷ xs))
+        → chosen (onward_one (λ f. f) g s f ++ gs) (onward_one added g s x ++ ys)
+        ≡ onward added (chosen (f ∷ fs) (g ∷ bs)) (chosen (f ∷ fs) (s ∷ ss)) (chosen (f ∷ fs) (x ∷ xs))
     cell true g Split gs ys h = ap (λ zs. x ∷ x ∷ zs) h
     cell true true Join gs ys h = ap (λ zs. x ∷ zs) h
     cell true false Join gs ys h = h

@@ -213,7 +213,8 @@ names_onward names tokens len two =
     ∙ ap (λ (xs : List (List ℕ)). onward (λ _. []) (beginnings false signs) signs xs) (places_swapped [] signs (renamed_each names tokens) size two)
 
 -- what is the same for all moves from a place
-place_agrees : {X : Type 0} (none : X) (f : Move → X) (pair : List ℕ) (xs : List X) (j : ℕ) (s : Sign) → ((m : Move) → source m < length xs → f m ≡ get_or xs (source m) none)
+place_agrees : {X : Type 0} (none : X) (f : Move → X) (pair : List ℕ) (xs : List X) (j : ℕ) (s : Sign)
+    → ((m : Move) → source m < length xs → f m ≡ get_or xs (source m) none)
     → j < length xs → partner pair j < length xs → AgreesAt f (λ x. x) pair j s (get_or xs (cond (is_exchange s) (partner pair j) j) none)
 place_agrees none f pair xs j Split at here there = (at _ here, at _ here)
 place_agrees none f pair xs j Join at here there = λ last. at _ here
@@ -223,7 +224,8 @@ place_agrees none f pair xs j End at here there = tt
 place_agrees none f pair xs j Exclusive at here there = at _ here
 place_agrees none f pair xs j Plain at here there = at _ here
 
-all_agree : {X : Type 0} (none : X) (f : Move → X) (pair : List ℕ) (xs : List X) (j : ℕ) (ss : List Sign) → ((m : Move) → source m < length xs → f m ≡ get_or xs (source m) none)
+all_agree : {X : Type 0} (none : X) (f : Move → X) (pair : List ℕ) (xs : List X) (j : ℕ) (ss : List Sign)
+    → ((m : Move) → source m < length xs → f m ≡ get_or xs (source m) none)
     → AllByRecursion (λ p. p < length xs) pair → j + length ss ≤ length xs → Agrees f (λ x. x) pair j ss (from_places none pair xs j ss)
 all_agree none f pair xs j [] at below within = tt
 all_agree none f pair xs j (s ∷ ss) at below within =
@@ -231,8 +233,10 @@ all_agree none f pair xs j (s ∷ ss) at below within =
     (place_agrees none f pair xs j s at here (partner_below (length xs) j pair below here), all_agree none f pair xs (j + 1) ss at below (omega (arith, within)))
 
 -- what stands at each move's source, carried on
-pub sources_onward : {X : Type 0} (none : X) (f : Move → X) (xs : List X) (ss : List Sign) → ((m : Move) → source m < length xs → f m ≡ get_or xs (source m) none)
-    → length ss ≡ length xs → is_pair_or_none (exchanges 0 ss) ≡ true → map f (moves_under ss) ≡ onward (λ x. x) (beginnings false ss) ss (swapped ss xs)
+pub sources_onward : {X : Type 0} (none : X) (f : Move → X) (xs : List X) (ss : List Sign)
+    → ((m : Move) → source m < length xs → f m ≡ get_or xs (source m) none)
+    → length ss ≡ length xs → is_pair_or_none (exchanges 0 ss) ≡ true
+    → map f (moves_under ss) ≡ onward (λ x. x) (beginnings false ss) ss (swapped ss xs)
 sources_onward {X} none f xs ss at len two =
     let below = exchanged_below (length xs) 0 ss (omega (arith, len)) in
     let agree = all_agree none f (exchanges 0 ss) xs 0 ss at below (omega (arith, len)) in

@@ -37,7 +37,8 @@ pub record Fits (pieces : List Piece) (names : List (List ℕ)) : Type 0 where
   pub pair : is_pair_or_none (exchanges 0 (signs_in pieces)) ≡ true
 
 -- The rules one by one.
-pub sound_by_rules : (names tokens : List (List ℕ)) (k : ℕ) → length tokens ≡ suc k → length tokens ≡ length names → has_unnamed names (map sign_of tokens) ≡ false
+pub sound_by_rules : (names tokens : List (List ℕ)) (k : ℕ) → length tokens ≡ suc k → length tokens ≡ length names
+    → has_unnamed names (map sign_of tokens) ≡ false
     → has_bare tokens ≡ false → names_and_steers (map sign_of tokens) ≡ false → has_lone_join false (map sign_of tokens) ≡ false
     → is_pair_or_none (exchanges 0 (map sign_of tokens)) ≡ true → has_mixed_join names (map sign_of tokens) ≡ false
     → length (names_after (Spines names) tokens) ≤ 4096 → find (breaks (Spines names) tokens) in_order ≡ None
@@ -65,7 +66,8 @@ not_after false true false h g t = h refl
 not_after false false true h g t = sym (g refl)
 not_after false false false h g t = refl
 
-pub begins_marks : (b : Bool) (m : List ℕ) (ps : List Piece) (ns : List (List ℕ)) → Formed b m ps ns → touches b ps ≡ false → beginnings b (signs_in ps) ≡ marks ps
+pub begins_marks : (b : Bool) (m : List ℕ) (ps : List Piece) (ns : List (List ℕ)) → Formed b m ps ns → touches b ps ≡ false
+    → beginnings b (signs_in ps) ≡ marks ps
 begins_marks b m [] ns f t = refl
 begins_marks b m (p ∷ ps) [] f t = absurd f
 begins_marks b m (p ∷ ps) (n ∷ ns) f t =
@@ -98,13 +100,15 @@ formed_lone b m (p ∷ ps) (n ∷ ns) f =
 same_name : (m n : List ℕ) → m ≡ n → not (bytes_eq m n) ≡ false
 same_name m n e = let same = (bytes_eq-Decides m n).1 e in rw same refl
 
-unmixed : (b g j : Bool) (m n : List ℕ) → ((j && not g) ≡ true → (b ≡ true) × (m ≡ n)) → (b && g) ≡ false → (b && (j && not (bytes_eq m n))) ≡ false
+unmixed : (b g j : Bool) (m n : List ℕ) → ((j && not g) ≡ true → (b ≡ true) × (m ≡ n)) → (b && g) ≡ false
+    → (b && (j && not (bytes_eq m n))) ≡ false
 unmixed false g j m n h t = refl
 unmixed true true j m n h t = absurd (false≢true (sym t))
 unmixed true false false m n h t = refl
 unmixed true false true m n h t = same_name m n (h refl).1
 
-pub formed_mixed : (s : Sign) (m : List ℕ) (ps : List Piece) (ns : List (List ℕ)) → Formed (is_join s) m ps ns → touches (is_join s) ps ≡ false → has_mixed_join (m ∷ ns) (s ∷ signs_in ps) ≡ false
+pub formed_mixed : (s : Sign) (m : List ℕ) (ps : List Piece) (ns : List (List ℕ)) → Formed (is_join s) m ps ns
+    → touches (is_join s) ps ≡ false → has_mixed_join (m ∷ ns) (s ∷ signs_in ps) ≡ false
 formed_mixed s m [] [] f t = refl
 formed_mixed s m [] (n ∷ ns) f t = absurd f
 formed_mixed s m (p ∷ ps) [] f t = absurd f
@@ -115,20 +119,23 @@ formed_mixed s m (p ∷ ps) (n ∷ ns) f t =
       (formed_mixed (sign_of p.token) n ps ns f.1.1 both.1)
 
 -- nothing stands to the left of the first
-mixed_first : (ps : List Piece) (ns : List (List ℕ)) → Formed false [] ps ns → touches false ps ≡ false → has_mixed_join ns (signs_in ps) ≡ false
+mixed_first : (ps : List Piece) (ns : List (List ℕ)) → Formed false [] ps ns → touches false ps ≡ false
+    → has_mixed_join ns (signs_in ps) ≡ false
 mixed_first [] [] f t = refl
 mixed_first [] (n ∷ ns) f t = absurd f
 mixed_first (p ∷ ps) [] f t = absurd f
 mixed_first (p ∷ ps) (n ∷ ns) f t = formed_mixed Plain [] (p ∷ ps) (n ∷ ns) f t
 
 -- One record, where no join touches another.
-pub one_comes : (ps : List Piece) (ns : List (List ℕ)) → Fits ps ns → touches false ps ≡ false → names_after (Spines ns) (tokens_in ps) ≡ come_to ps ns
+pub one_comes : (ps : List Piece) (ns : List (List ℕ)) → Fits ps ns → touches false ps ≡ false
+    → names_after (Spines ns) (tokens_in ps) ≡ come_to ps ns
 one_comes ps ns fits t =
     let len : length ns ≡ length (tokens_in ps) = sym (formed_length false [] ps ns fits.formed) ∙ sym (pieces_size ps) in
     names_onward ns (tokens_in ps) len fits.pair
     ∙ ap (λ (bs : List Bool). onward (λ _. []) bs (signs_in ps) (swapped (signs_in ps) (renamed_each ns (tokens_in ps)))) (begins_marks false [] ps ns fits.formed t)
 
-pub one_sound : (ps : List Piece) (ns : List (List ℕ)) (k : ℕ) → length ps ≡ suc k → Fits ps ns → touches false ps ≡ false → length (come_to ps ns) ≤ 4096
+pub one_sound : (ps : List Piece) (ns : List (List ℕ)) (k : ℕ) → length ps ≡ suc k → Fits ps ns → touches false ps ≡ false
+    → length (come_to ps ns) ≤ 4096
     → find (breaks (Spines ns) (tokens_in ps)) in_order ≡ None
 one_sound ps ns k some fits t few =
     let size = pieces_size ps in
@@ -138,7 +145,8 @@ one_sound ps ns k some fits t few =
       (formed_lone false [] ps ns fits.formed) fits.pair (mixed_first ps ns fits.formed t) (omega (arith, same, few))
 
 -- one record more
-one_more : (names tokens end : List (List ℕ)) (rows : List (List (List ℕ))) (k : ℕ) → length tokens ≡ suc k → find (breaks (Spines names) tokens) in_order ≡ None
+one_more : (names tokens end : List (List ℕ)) (rows : List (List (List ℕ))) (k : ℕ) → length tokens ≡ suc k
+    → find (breaks (Spines names) tokens) in_order ≡ None
     → Lead (names_after (Spines names) tokens) (filled Interpretation rows) end → Lead names (filled Interpretation (tokens ∷ rows)) end
 one_more names [] end rows k some sound more = absurd (omega (arith, some))
 one_more names (t ∷ ts) end rows k some sound more = (sound, more)
@@ -168,7 +176,8 @@ stars_none : (test : List ℕ → Bool) (ps : List Piece) → test (codes "*") �
 stars_none test [] h = refl
 stars_none test (p ∷ ps) h = or_from (test (codes "*")) (list_any test (map (λ _. codes "*") ps)) h (stars_none test ps h)
 
-alone_none : (test : List ℕ → Bool) (ps : List Piece) → test (codes "*") ≡ false → list_any test (tokens_in ps) ≡ false → list_any test (join_alone ps) ≡ false
+alone_none : (test : List ℕ → Bool) (ps : List Piece) → test (codes "*") ≡ false → list_any test (tokens_in ps) ≡ false
+    → list_any test (join_alone ps) ≡ false
 alone_none test [] star h = refl
 alone_none test (p ∷ ps) star h =
     let both = or_parts (test p.token) (list_any test (tokens_in ps)) h in
@@ -176,7 +185,8 @@ alone_none test (p ∷ ps) star h =
       (λ w. rw w (or_from (test p.token) (list_any test (join_alone ps)) both.0 (alone_none test ps star both.1)))
       (λ w. rw w (stars_none test (p ∷ ps) star))
 
-first_none : (test : List ℕ → Bool) (ps : List Piece) → test (codes "*") ≡ false → list_any test (tokens_in ps) ≡ false → list_any test (first_alone ps) ≡ false
+first_none : (test : List ℕ → Bool) (ps : List Piece) → test (codes "*") ≡ false → list_any test (tokens_in ps) ≡ false
+    → list_any test (first_alone ps) ≡ false
 first_none test [] star h = refl
 first_none test (p ∷ ps) star h =
     let both = or_parts (test p.token) (list_any test (tokens_in ps)) h in
@@ -185,13 +195,15 @@ first_none test (p ∷ ps) star h =
       (λ w. rw w (or_from (test (codes "*")) (list_any test (first_alone ps)) star (first_none test ps star both.1)))
 
 -- the same of what is left
-left_none : (test : List ℕ → Bool) (ps : List Piece) → list_any test (tokens_in ps) ≡ false → list_any test (tokens_in (join_done ps)) ≡ false
+left_none : (test : List ℕ → Bool) (ps : List Piece) → list_any test (tokens_in ps) ≡ false
+    → list_any test (tokens_in (join_done ps)) ≡ false
 left_none test [] h = refl
 left_none test (p ∷ ps) h = by_bool (goes_on p)
   (λ w. rw w (left_none test ps (or_parts (test p.token) (list_any test (tokens_in ps)) h).1))
   (λ w. rw w h)
 
-done_none : (test : List ℕ → Bool) (ps : List Piece) → test (codes "*") ≡ false → list_any test (tokens_in ps) ≡ false → list_any test (tokens_in (first_done ps)) ≡ false
+done_none : (test : List ℕ → Bool) (ps : List Piece) → test (codes "*") ≡ false → list_any test (tokens_in ps) ≡ false
+    → list_any test (tokens_in (first_done ps)) ≡ false
 done_none test [] star h = refl
 done_none test (p ∷ ps) star h =
     let both = or_parts (test p.token) (list_any test (tokens_in ps)) h in
@@ -199,14 +211,16 @@ done_none test (p ∷ ps) star h =
       (λ w. rw w (or_from (test (codes "*")) (list_any test (tokens_in (join_done ps))) star (left_none test ps both.1)))
       (λ w. rw w (or_from (test p.token) (list_any test (tokens_in (first_done ps))) both.0 (done_none test ps star both.1)))
 
-rest_none : {X : Type 0} (test : X → Bool) (ps : List Piece) (xs : List X) → list_any test xs ≡ false → list_any test (rest_merged ps xs) ≡ false
+rest_none : {X : Type 0} (test : X → Bool) (ps : List Piece) (xs : List X) → list_any test xs ≡ false
+    → list_any test (rest_merged ps xs) ≡ false
 rest_none test [] xs h = h
 rest_none test (p ∷ ps) [] h = refl
 rest_none test (p ∷ ps) (x ∷ xs) h = by_bool (goes_on p)
   (λ w. rw w (rest_none test ps xs (or_parts (test x) (list_any test xs) h).1))
   (λ w. rw w h)
 
-merged_none : {X : Type 0} (test : X → Bool) (ps : List Piece) (xs : List X) → list_any test xs ≡ false → list_any test (merged ps xs) ≡ false
+merged_none : {X : Type 0} (test : X → Bool) (ps : List Piece) (xs : List X) → list_any test xs ≡ false
+    → list_any test (merged ps xs) ≡ false
 merged_none test [] xs h = h
 merged_none test (p ∷ ps) [] h = refl
 merged_none test (p ∷ ps) (x ∷ xs) h =
@@ -246,7 +260,8 @@ alone_joins : (ps : List Piece) → next_goes_on ps ≡ true → first_is is_joi
 alone_joins [] h = h
 alone_joins (p ∷ ps) h = rw h (and_parts (joins p) (not p.begins) h).0
 
-first_lone : (b : Bool) (m : List ℕ) (ps : List Piece) (ns : List (List ℕ)) → Formed b m ps ns → has_lone_join false (map sign_of (first_alone ps)) ≡ false
+first_lone : (b : Bool) (m : List ℕ) (ps : List Piece) (ns : List (List ℕ)) → Formed b m ps ns
+    → has_lone_join false (map sign_of (first_alone ps)) ≡ false
 first_lone b m [] ns f = refl
 first_lone b m (p ∷ ps) [] f = absurd f
 first_lone b m (p ∷ ps) (n ∷ ns) f = by_bool p.begins
@@ -256,7 +271,8 @@ first_lone b m (p ∷ ps) (n ∷ ns) f = by_bool p.begins
     rw (w, join, next) (alone_lone ps))
   (λ w. rw w (first_lone (joins p) n ps ns f.1.1))
 
-stars_mixed : (m : List ℕ) (ps : List Piece) (ns : List (List ℕ)) (s : Sign) → length ps ≡ length ns → has_mixed_join (m ∷ ns) (s ∷ map sign_of (map (λ _. codes "*") ps)) ≡ false
+stars_mixed : (m : List ℕ) (ps : List Piece) (ns : List (List ℕ)) (s : Sign) → length ps ≡ length ns
+    → has_mixed_join (m ∷ ns) (s ∷ map sign_of (map (λ _. codes "*") ps)) ≡ false
 stars_mixed m [] [] s len = refl
 stars_mixed m [] (n ∷ ns) s len = absurd (omega (arith, len))
 stars_mixed m (p ∷ ps) [] s len = absurd (omega (arith, len))
@@ -267,7 +283,8 @@ stars_mixed m (p ∷ ps) (n ∷ ns) s len =
     never true = refl
     never false = refl
 
-alone_mixed : (b : Bool) (m : List ℕ) (ps : List Piece) (ns : List (List ℕ)) → Formed b m ps ns → has_mixed_join (m ∷ ns) (Join ∷ map sign_of (join_alone ps)) ≡ false
+alone_mixed : (b : Bool) (m : List ℕ) (ps : List Piece) (ns : List (List ℕ)) → Formed b m ps ns
+    → has_mixed_join (m ∷ ns) (Join ∷ map sign_of (join_alone ps)) ≡ false
 alone_mixed b m [] [] f = refl
 alone_mixed b m [] (n ∷ ns) f = absurd f
 alone_mixed b m (p ∷ ps) [] f = absurd f
@@ -281,13 +298,15 @@ alone_mixed b m (p ∷ ps) (n ∷ ns) f = by_test (goes_on p) refl (alone_mixed 
         rw (is_join_at (sign_of p.token) join, same) rest
     by_test false w rest = stars_mixed m (p ∷ ps) (n ∷ ns) Join (formed_length b m (p ∷ ps) (n ∷ ns) f)
 
-first_mixed : (b : Bool) (m o : List ℕ) (ps : List Piece) (ns : List (List ℕ)) → Formed b m ps ns → has_mixed_join (o ∷ ns) (Plain ∷ map sign_of (first_alone ps)) ≡ false
+first_mixed : (b : Bool) (m o : List ℕ) (ps : List Piece) (ns : List (List ℕ)) → Formed b m ps ns
+    → has_mixed_join (o ∷ ns) (Plain ∷ map sign_of (first_alone ps)) ≡ false
 first_mixed b m o [] [] f = refl
 first_mixed b m o [] (n ∷ ns) f = absurd f
 first_mixed b m o (p ∷ ps) [] f = absurd f
 first_mixed b m o (p ∷ ps) (n ∷ ns) f = by_test p.begins refl (alone_mixed (joins p) n ps ns f.1.1) (first_mixed (joins p) n n ps ns f.1.1)
   where
-    by_test : (t : Bool) → p.begins ≡ t → has_mixed_join (n ∷ ns) (Join ∷ map sign_of (join_alone ps)) ≡ false → has_mixed_join (n ∷ ns) (Plain ∷ map sign_of (first_alone ps)) ≡ false
+    by_test : (t : Bool) → p.begins ≡ t → has_mixed_join (n ∷ ns) (Join ∷ map sign_of (join_alone ps)) ≡ false
+        → has_mixed_join (n ∷ ns) (Plain ∷ map sign_of (first_alone ps)) ≡ false
         → has_mixed_join (o ∷ n ∷ ns) (Plain ∷ map sign_of (cond t (p.token ∷ join_alone ps) (codes "*" ∷ first_alone ps))) ≡ false
     by_test true w alone more = rw (is_join_at (sign_of p.token) (f.0 w).0) alone
     by_test false w alone more = more
@@ -298,7 +317,8 @@ first_unmixed [] (n ∷ ns) f = absurd f
 first_unmixed (p ∷ ps) [] f = absurd f
 first_unmixed (p ∷ ps) (n ∷ ns) f = by_test p.begins (first_mixed false [] [] (p ∷ ps) (n ∷ ns) f)
   where
-    by_test : (t : Bool) → has_mixed_join ([] ∷ n ∷ ns) (Plain ∷ map sign_of (cond t (p.token ∷ join_alone ps) (codes "*" ∷ first_alone ps))) ≡ false
+    by_test : (t : Bool)
+        → has_mixed_join ([] ∷ n ∷ ns) (Plain ∷ map sign_of (cond t (p.token ∷ join_alone ps) (codes "*" ∷ first_alone ps))) ≡ false
         → has_mixed_join (n ∷ ns) (map sign_of (cond t (p.token ∷ join_alone ps) (codes "*" ∷ first_alone ps))) ≡ false
     by_test true h = h
     by_test false h = h
@@ -314,7 +334,8 @@ alone_exchange j (p ∷ ps) = by_bool (goes_on p)
   (λ w. rw (w, is_join_at (sign_of p.token) (and_parts (joins p) (not p.begins) w).0) (alone_exchange (j + 1) ps))
   (λ w. rw w (stars_exchange j (p ∷ ps)))
 
-first_exchange : (j : ℕ) (b : Bool) (m : List ℕ) (ps : List Piece) (ns : List (List ℕ)) → Formed b m ps ns → exchanges j (map sign_of (first_alone ps)) ≡ []
+first_exchange : (j : ℕ) (b : Bool) (m : List ℕ) (ps : List Piece) (ns : List (List ℕ)) → Formed b m ps ns
+    → exchanges j (map sign_of (first_alone ps)) ≡ []
 first_exchange j b m [] ns f = refl
 first_exchange j b m (p ∷ ps) [] f = absurd f
 first_exchange j b m (p ∷ ps) (n ∷ ns) f = by_bool p.begins
@@ -402,7 +423,8 @@ same_names (n ∷ ns) (t ∷ ts) len h =
     let rest = same_names ns ts (omega (arith, len)) both.1 in
     rw (both.0, rest) refl
 
-steady_comes : (ps : List Piece) (ns : List (List ℕ)) → Steady ps ns → come_to ps ns ≡ onward (λ _. []) (marks ps) (signs_in ps) (swapped (signs_in ps) ns)
+steady_comes : (ps : List Piece) (ns : List (List ℕ)) → Steady ps ns
+    → come_to ps ns ≡ onward (λ _. []) (marks ps) (signs_in ps) (swapped (signs_in ps) ns)
 steady_comes ps ns h =
     let size = pieces_size ps in
     let len = formed_length false [] ps ns h.formed in
@@ -438,10 +460,12 @@ left_comes ps ns h =
     ∙ sym (steady_comes ps ns h))
 
 -- Joins that touch are two at least.
-touching_joins : (b : Bool) (m : List ℕ) (ps : List Piece) (ns : List (List ℕ)) → Formed b m ps ns → touches b ps ≡ true → cond b 1 2 ≤ joins_in ps
+touching_joins : (b : Bool) (m : List ℕ) (ps : List Piece) (ns : List (List ℕ)) → Formed b m ps ns → touches b ps ≡ true
+    → cond b 1 2 ≤ joins_in ps
 touching_joins b m [] ns f t = absurd (false≢true t)
 touching_joins b m (p ∷ ps) [] f t = absurd f
-touching_joins b m (p ∷ ps) (n ∷ ns) f t = by_test b p.begins (joins p) (λ e. (f.0 e).0) (λ e. (f.1.0 e).0) t (λ t. touching_joins (joins p) n ps ns f.1.1 t)
+touching_joins b m (p ∷ ps) (n ∷ ns) f t =
+    by_test b p.begins (joins p) (λ e. (f.0 e).0) (λ e. (f.1.0 e).0) t (λ t. touching_joins (joins p) n ps ns f.1.1 t)
   where
     by_test : (b g j : Bool) → (g ≡ true → j ≡ true) → ((j && not g) ≡ true → b ≡ true) → ((b && g) || touches j ps) ≡ true
         → (touches j ps ≡ true → cond j 1 2 ≤ joins_in ps) → cond b 1 2 ≤ cond g (joins_in ps + 1) (joins_in ps)
@@ -459,7 +483,8 @@ one_apart ps ns f few = by_bool (touches false ps)
   (λ w. w)
 
 -- So many records with one join alone, and the last.
-by_one : (n : ℕ) (ps : List Piece) (ns : List (List ℕ)) → Steady ps ns → joins_in ps ≤ suc n → (1 ≤ n → joins_in ps ≡ suc n) → length ns ≤ 4096 → length (come_to ps ns) ≤ 4096
+by_one : (n : ℕ) (ps : List Piece) (ns : List (List ℕ)) → Steady ps ns → joins_in ps ≤ suc n → (1 ≤ n → joins_in ps ≡ suc n)
+    → length ns ≤ 4096 → length (come_to ps ns) ≤ 4096
     → Lead ns (filled Interpretation (one_by_one n ps)) (come_to ps ns)
 by_one zero ps ns h few exact w e = one_leads ps ns (steady_fits ps ns h) (one_apart ps ns h.formed few) e
 by_one (suc n) [] ns h few exact w e = let none : 0 ≡ suc (suc n) = exact (omega arith) in absurd (omega (arith, none))
@@ -476,7 +501,8 @@ by_one (suc n) (p ∷ ps) ns h few exact w e =
       (rw (first_comes (p ∷ ps) ns h, ← left) more)
 
 -- Where joins touch, the record steers: no token names a spine, and no spine waits for its name.
-touching_steers : (b : Bool) (m : List ℕ) (ps : List Piece) (ns : List (List ℕ)) → Formed b m ps ns → touches b ps ≡ true → list_any is_path_indicator (signs_in ps) ≡ true
+touching_steers : (b : Bool) (m : List ℕ) (ps : List Piece) (ns : List (List ℕ)) → Formed b m ps ns → touches b ps ≡ true
+    → list_any is_path_indicator (signs_in ps) ≡ true
 touching_steers b m [] ns f t = absurd (false≢true t)
 touching_steers b m (p ∷ ps) [] f t = absurd f
 touching_steers b m (p ∷ ps) (n ∷ ns) f t = by_bool p.begins
@@ -491,7 +517,8 @@ touching_steers b m (p ∷ ps) (n ∷ ns) f t = by_bool p.begins
     later true false c w h = h
     later false g c w h = h
 
-all_named : (ns ts : List (List ℕ)) → length ns ≡ length ts → has_unnamed ns (map sign_of ts) ≡ false → list_any (λ t. is_exclusive (sign_of t)) ts ≡ false → list_any is_nameless ns ≡ false
+all_named : (ns ts : List (List ℕ)) → length ns ≡ length ts → has_unnamed ns (map sign_of ts) ≡ false
+    → list_any (λ t. is_exclusive (sign_of t)) ts ≡ false → list_any is_nameless ns ≡ false
 all_named [] ts len u h = refl
 all_named (n ∷ ns) [] len u h = absurd (omega (arith, len))
 all_named (n ∷ ns) (t ∷ ts) len u h =
@@ -532,7 +559,8 @@ spread_leads ps ns fits w e = by_test (touches false ps) refl
     before : (k : ℕ) → 2 ≤ k → k ≡ suc (before_last k)
     before zero h = absurd (omega (arith, h))
     before (suc k) h = refl
-    by_test : (t : Bool) → touches false ps ≡ t → Lead ns (filled Interpretation (cond t (one_by_one (before_last (joins_in ps)) ps) (tokens_in ps ∷ []))) (come_to ps ns)
+    by_test : (t : Bool) → touches false ps ≡ t
+        → Lead ns (filled Interpretation (cond t (one_by_one (before_last (joins_in ps)) ps) (tokens_in ps ∷ []))) (come_to ps ns)
     by_test false t = one_leads ps ns fits t e
     by_test true t =
         let two = touching_joins false [] ps ns fits.formed t in

@@ -79,7 +79,8 @@ rest_onward added (p ∷ ps) (x ∷ xs) h =
         rw (w, join) (rest_onward added ps xs (omega (arith, h))))
       (λ w. rw w (stars_onward added true (p ∷ ps) (x ∷ xs) h))
 
-pub first_onward : {X : Type 0} (added : X → X) (b : Bool) (m : List ℕ) (ps : List Piece) (ns : List (List ℕ)) (xs : List X) → Formed b m ps ns → length ps ≡ length xs
+pub first_onward : {X : Type 0} (added : X → X) (b : Bool) (m : List ℕ) (ps : List Piece) (ns : List (List ℕ)) (xs : List X)
+    → Formed b m ps ns → length ps ≡ length xs
     → onward added (beginnings false (map sign_of (first_alone ps))) (map sign_of (first_alone ps)) xs ≡ merged ps xs
 first_onward added b m [] ns [] f h = refl
 first_onward added b m [] ns (x ∷ xs) f h = absurd (omega (arith, h))
@@ -114,7 +115,8 @@ rest_done_onward {X} added (p ∷ ps) (x ∷ xs) =
     unmarked true h = cc
     unmarked false h = refl
 
-pub done_onward : {X : Type 0} (added : X → X) (b : Bool) (m : List ℕ) (ps : List Piece) (ns : List (List ℕ)) (xs : List X) → Formed b m ps ns
+pub done_onward : {X : Type 0} (added : X → X) (b : Bool) (m : List ℕ) (ps : List Piece) (ns : List (List ℕ)) (xs : List X)
+    → Formed b m ps ns
     → onward added (marks (first_done ps)) (signs_in (first_done ps)) (merged ps xs) ≡ onward added (marks ps) (signs_in ps) xs
 done_onward added b m [] ns xs f = refl
 done_onward added b m (p ∷ ps) [] xs f = absurd f
@@ -131,7 +133,8 @@ done_onward {X} added b m (p ∷ ps) (n ∷ ns) (x ∷ xs) f =
       (λ w. rw w (ap (λ (zs : List X). onward_one added false (sign_of p.token) x ++ zs) (done_onward added (joins p) n ps ns xs f.1.1)))
 
 -- what is left is formed
-rest_formed : (b c : Bool) (m o : List ℕ) (ps : List Piece) (ns : List (List ℕ)) → Formed b m ps ns → Formed c o (join_done ps) (rest_merged ps ns)
+rest_formed : (b c : Bool) (m o : List ℕ) (ps : List Piece) (ns : List (List ℕ)) → Formed b m ps ns
+    → Formed c o (join_done ps) (rest_merged ps ns)
 rest_formed b c m o [] [] f = tt
 rest_formed b c m o [] (n ∷ ns) f = absurd f
 rest_formed b c m o (p ∷ ps) [] f = absurd f
@@ -142,14 +145,16 @@ rest_formed b c m o (p ∷ ps) (n ∷ ns) f = by_test (goes_on p) refl (rest_for
     by_test true w rest = rest
     by_test false w rest = (f.0, (λ e. absurd (false≢true (sym w ∙ e)), f.1.1))
 
-pub done_formed : (b : Bool) (m : List ℕ) (ps : List Piece) (ns : List (List ℕ)) → Formed b m ps ns → Formed b m (first_done ps) (merged ps ns)
+pub done_formed : (b : Bool) (m : List ℕ) (ps : List Piece) (ns : List (List ℕ)) → Formed b m ps ns
+    → Formed b m (first_done ps) (merged ps ns)
 done_formed b m [] [] f = tt
 done_formed b m [] (n ∷ ns) f = absurd f
 done_formed b m (p ∷ ps) [] f = absurd f
 done_formed b m (p ∷ ps) (n ∷ ns) f =
     by_test p.begins refl (rest_formed (joins p) false n n ps ns f.1.1) (done_formed (joins p) n ps ns f.1.1)
   where
-    by_test : (t : Bool) → p.begins ≡ t → Formed false n (join_done ps) (rest_merged ps ns) → Formed (joins p) n (first_done ps) (merged ps ns)
+    by_test : (t : Bool) → p.begins ≡ t → Formed false n (join_done ps) (rest_merged ps ns)
+        → Formed (joins p) n (first_done ps) (merged ps ns)
         → Formed b m (cond t (piece false (codes "*") ∷ join_done ps) (p ∷ first_done ps)) (cond t (n ∷ rest_merged ps ns) (n ∷ merged ps ns))
     by_test true w rest more = (λ e. absurd (false≢true e), (λ e. absurd (false≢true e), rest))
     by_test false w rest more = (λ e. absurd (false≢true (sym w ∙ e)), (f.1.0, more))
@@ -170,7 +175,8 @@ done_joins (p ∷ ps) n h = by_test p.begins refl h (λ h. done_joins ps n h)
         unmarked : (b : Bool) → not b ≡ true → b ≡ false
         unmarked true h = cc
         unmarked false h = refl
-    by_test : (t : Bool) → p.begins ≡ t → cond t (joins_in ps + 1) (joins_in ps) ≡ suc n → (joins_in ps ≡ suc n → joins_in (first_done ps) ≡ n)
+    by_test : (t : Bool) → p.begins ≡ t → cond t (joins_in ps + 1) (joins_in ps) ≡ suc n
+        → (joins_in ps ≡ suc n → joins_in (first_done ps) ≡ n)
         → joins_in (cond t (piece false (codes "*") ∷ join_done ps) (p ∷ first_done ps)) ≡ n
     by_test true w h more = let e = rest ps in omega (arith, e, h)
     by_test false w h more = rw w (more h)
