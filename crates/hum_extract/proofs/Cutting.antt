@@ -185,12 +185,16 @@ soft_none : (ss : List Sign) → map (soften false) ss ≡ ss
 soft_none [] = refl
 soft_none (s ∷ ss) = ap (λ (ts : List Sign). s ∷ ts) (soft_none ss)
 
+-- the flags of the columns after a record
+abbrev pub flags_after : List Bool → List Sign → List Bool
+flags_after flags signs = onward (λ f. f) (beginnings false signs) signs (swapped signs flags)
+
 -- The chosen ones of what is carried on, by the chosen columns.
 chosen_comes : {X : Type 0} (added : X → X) (lone : Bool) (fs : List Bool) (ss : List Sign) (xs : List X) → length fs ≡ length ss
     → length ss ≡ length xs
     → is_pair_or_none (exchanges 0 ss) ≡ true → is_lone (exchanged_flags fs ss) ≡ lone → (lone && chosen_between fs ss) ≡ false
     → onward added (chosen fs (beginnings false ss)) (chosen fs (map (soften lone) ss)) (swapped (chosen fs (map (soften lone) ss)) (chosen fs xs))
-    ≡ chosen (onward (λ f. f) (beginnings false ss) ss (swapped ss fs)) (onward added (beginnings false ss) ss (swapped ss xs))
+    ≡ chosen (flags_after fs ss) (onward added (beginnings false ss) ss (swapped ss xs))
 chosen_comes added false fs ss xs len wide two is none =
     let both = swapped_chosen fs ss xs len wide two is in
     let swap = swapped_length ss xs in
@@ -215,10 +219,14 @@ chosen_comes {X} added true fs ss xs len wide two is none =
         → onward added bs ts ys ≡ onward added cs us zs
     cuts a b c = rw (a, b, c) refl
 
+-- whether of two exchanged columns one is chosen
+abbrev pub has_lone : List Bool → List (List ℕ) → Bool
+has_lone flags tokens = is_lone (exchanged_flags flags (map sign_of tokens))
+
 -- The pieces that are cut out of an interpretation.
 abbrev pub pieces_of : List Bool → List (List ℕ) → List Piece
 pieces_of flags tokens =
-    pieces false flags (map (softened (is_lone (exchanged_flags flags (map sign_of tokens)))) tokens)
+    pieces false flags (map (softened (has_lone flags tokens)) tokens)
 
 chosen_unnamed : (fs : List Bool) (ns : List (List ℕ)) (ss : List Sign) → has_unnamed ns ss ≡ false
     → has_unnamed (chosen fs ns) (chosen fs ss) ≡ false
@@ -265,7 +273,7 @@ cut_signs fs lone ts =
 
 fits_at : (lone : Bool) (fs : List Bool) (names tokens : List (List ℕ)) → length fs ≡ length tokens → Obeys names tokens
     → is_torn fs (map sign_of tokens) ≡ false
-    → is_lone (exchanged_flags fs (map sign_of tokens)) ≡ lone → Fits (pieces false fs (map (softened lone) tokens)) (chosen fs names)
+    → has_lone fs tokens ≡ lone → Fits (pieces false fs (map (softened lone) tokens)) (chosen fs names)
 fits_at lone fs names tokens len keeps torn is =
     let signs = cut_signs fs lone tokens in
     let soft = soft_signs lone tokens in
@@ -287,12 +295,12 @@ fits_at lone fs names tokens len keeps torn is =
 pub cut_fits : (fs : List Bool) (names tokens : List (List ℕ)) → length fs ≡ length tokens → Obeys names tokens
     → is_torn fs (map sign_of tokens) ≡ false
     → Fits (pieces_of fs tokens) (chosen fs names)
-cut_fits fs names tokens len keeps torn = fits_at (is_lone (exchanged_flags fs (map sign_of tokens))) fs names tokens len keeps torn refl
+cut_fits fs names tokens len keeps torn = fits_at (has_lone fs tokens) fs names tokens len keeps torn refl
 
 comes_at : (lone : Bool) (fs : List Bool) (names tokens : List (List ℕ)) → length fs ≡ length tokens → Obeys names tokens
-    → is_lone (exchanged_flags fs (map sign_of tokens)) ≡ lone → (lone && chosen_between fs (map sign_of tokens)) ≡ false
+    → has_lone fs tokens ≡ lone → (lone && chosen_between fs (map sign_of tokens)) ≡ false
     → come_to (pieces false fs (map (softened lone) tokens)) (chosen fs names)
-    ≡ chosen (onward (λ f. f) (beginnings false (map sign_of tokens)) (map sign_of tokens) (swapped (map sign_of tokens) fs)) (names_after (Spines names) tokens)
+    ≡ chosen (flags_after fs (map sign_of tokens)) (names_after (Spines names) tokens)
 comes_at lone fs names tokens len keeps is none =
     let signs : List Sign = map sign_of tokens in
     let size = length-map tokens (softened lone) in
@@ -310,22 +318,22 @@ comes_at lone fs names tokens len keeps is none =
 
 -- They come to the chosen spines.
 pub cut_comes : (fs : List Bool) (names tokens : List (List ℕ)) → length fs ≡ length tokens → Obeys names tokens
-    → (is_lone (exchanged_flags fs (map sign_of tokens)) && chosen_between fs (map sign_of tokens)) ≡ false
+    → (has_lone fs tokens && chosen_between fs (map sign_of tokens)) ≡ false
     → come_to (pieces_of fs tokens) (chosen fs names)
-    ≡ chosen (onward (λ f. f) (beginnings false (map sign_of tokens)) (map sign_of tokens) (swapped (map sign_of tokens) fs)) (names_after (Spines names) tokens)
-cut_comes fs names tokens len keeps none = comes_at (is_lone (exchanged_flags fs (map sign_of tokens))) fs names tokens len keeps refl none
+    ≡ chosen (flags_after fs (map sign_of tokens)) (names_after (Spines names) tokens)
+cut_comes fs names tokens len keeps none = comes_at (has_lone fs tokens) fs names tokens len keeps refl none
 
 -- The records that an interpretation is cut to.
 pub cut_leads : (fs : List Bool) (names tokens : List (List ℕ)) (rows : List Row) → length fs ≡ length tokens → Obeys names tokens
     → length names ≤ 4096 → cut fs tokens ≡ Ok rows
-    → Lead (chosen fs names) rows (chosen (onward (λ f. f) (beginnings false (map sign_of tokens)) (map sign_of tokens) (swapped (map sign_of tokens) fs)) (names_after (Spines names) tokens))
+    → Lead (chosen fs names) rows (chosen (flags_after fs (map sign_of tokens)) (names_after (Spines names) tokens))
 cut_leads fs names tokens rows len keeps few e =
-    by_tests (is_torn fs (map sign_of tokens)) (is_lone (exchanged_flags fs (map sign_of tokens)) && chosen_between fs (map sign_of tokens)) refl refl e
+    by_tests (is_torn fs (map sign_of tokens)) (has_lone fs tokens && chosen_between fs (map sign_of tokens)) refl refl e
   where
     by_tests : (torn between : Bool) → is_torn fs (map sign_of tokens) ≡ torn
-        → (is_lone (exchanged_flags fs (map sign_of tokens)) && chosen_between fs (map sign_of tokens)) ≡ between
+        → (has_lone fs tokens && chosen_between fs (map sign_of tokens)) ≡ between
         → ◌≡◌ {A = Result (List Row) Rule} (cond torn (Err X1) (cond between (Err X3) (Ok (filled Interpretation (spread (pieces_of fs tokens)))))) (Ok rows)
-        → Lead (chosen fs names) rows (chosen (onward (λ f. f) (beginnings false (map sign_of tokens)) (map sign_of tokens) (swapped (map sign_of tokens) fs)) (names_after (Spines names) tokens))
+        → Lead (chosen fs names) rows (chosen (flags_after fs (map sign_of tokens)) (names_after (Spines names) tokens))
     by_tests true between a b e = cc
     by_tests false true a b e = cc
     by_tests false false a b e =
@@ -333,6 +341,6 @@ cut_leads fs names tokens rows len keeps few e =
         let comes = cut_comes fs names tokens len keeps b in
         let size = ap length comes in
         let less = chosen_fewer fs names in
-        let fewer = chosen_fewer (onward (λ f. f) (beginnings false (map sign_of tokens)) (map sign_of tokens) (swapped (map sign_of tokens) fs)) (names_after (Spines names) tokens) in
+        let fewer = chosen_fewer (flags_after fs (map sign_of tokens)) (names_after (Spines names) tokens) in
         let after = keeps.few in
         rw (← out, ← comes) (spread_leads (pieces_of fs tokens) (chosen fs names) (cut_fits fs names tokens len keeps a) (omega (arith, less, few)) (omega (arith, size, fewer, after)))

@@ -37,7 +37,7 @@ use Rattle.hum_stage.proofs.Scores.{lead_follows}
 use Rattle.hum_extract.specs.Choice.{Choice, each_chosen, opening_flags, misses, names_beyond, opening_if, opening_of, flags, chosen, chosen_path}
 use Rattle.hum_extract.specs.Extract.{cut, opened, interpreted, extract}
 use Rattle.hum_extract.proofs.Selecting.{chosen_length, chosen_fewer, chosen_none}
-use Rattle.hum_extract.proofs.Cutting.{cut_leads}
+use Rattle.hum_extract.proofs.Cutting.{flags_after, cut_leads}
 
 abbrev pub Leads : Choice → List Row → Path → Type 0
 Leads choice past given = given ≡ chosen_path (flags choice past) (path_after past)
@@ -163,7 +163,7 @@ open_next choice past tokens rows sound at h e =
 flags_onward : (choice : Choice) (past : List Row) (names tokens : List (List ℕ)) → IsOpen past → path_after past ≡ Spines names
     → Obeys names tokens
     → flags choice (Spined Interpretation tokens ∷ past)
-    ≡ onward (λ f. f) (beginnings false (map sign_of tokens)) (map sign_of tokens) (swapped (map sign_of tokens) (flags choice past))
+    ≡ flags_after (flags choice past) (map sign_of tokens)
 flags_onward choice past names tokens sound at keeps =
     let chooses : ℕ → Bool = λ origin. get_or (opening_flags choice (opening_of past)) origin false in
     let count = length-map tokens sign_of in
