@@ -289,7 +289,10 @@ swapped_chosen {X} fs ss xs len wide two lone = by_flags (exchanged_flags fs ss)
     by_flags [] e two lone =
         let none = none_exchanged 0 fs ss len e in
         let left = none_left 0 fs ss [] e refl in
-        (swapped_none 0 ss fs none, ap (λ (ys : List X). chosen fs ys) (swapped_none 0 ss xs none) ∙ sym (swapped_none 0 (chosen fs ss) (chosen fs xs) left))
+        (
+          swapped_none 0 ss fs none,
+          ap (λ (ys : List X). chosen fs ys) (swapped_none 0 ss xs none) ∙ sym (swapped_none 0 (chosen fs ss) (chosen fs xs) left),
+        )
     by_flags (g ∷ []) e two lone = cc
     by_flags (true ∷ true ∷ []) e two lone = (swapped_same true fs ss e, swapped_both fs ss xs wide e)
     by_flags (false ∷ false ∷ []) e two lone =

@@ -42,6 +42,10 @@ use Rattle.hum_extract.proofs.Cutting.{flags_after, cut_leads}
 abbrev pub Leads : Choice → List Row → Path → Type 0
 Leads choice past given = given ≡ chosen_path (flags choice past) (path_after past)
 
+-- Records break no rule on a path, and lead to another.
+abbrev pub Reach : Path → List Row → Path → Type 0
+Reach path rows end = Follow path rows × (through path rows ≡ end)
+
 -- A local comment or data: the first three rules.
 text_sound : (names tokens : List (List ℕ)) (k : ℕ) → length tokens ≡ suc k → length tokens ≡ length names → list_any is_empty names ≡ false
     → find (breaks_as_text (Spines names) tokens) in_order ≡ None
@@ -59,15 +63,16 @@ text_named names tokens h =
 
 text_next : (fs : List Bool) (kind : SpinedKind) (names tokens us : List (List ℕ)) → (kind ≡ Interpretation → ⊥)
     → find (breaks_as_text (Spines names) tokens) in_order ≡ None → chosen fs tokens ≡ us
-    → Follow (Spines (chosen fs names)) (filled kind (us ∷ [])) × (through (Spines (chosen fs names)) (filled kind (us ∷ [])) ≡ Spines (chosen fs names))
+    → Reach (Spines (chosen fs names)) (filled kind (us ∷ [])) (Spines (chosen fs names))
 text_next fs kind names tokens [] other h e = (tt, refl)
 text_next fs kind names tokens (u ∷ us) other h e =
     let size = chosen_length fs tokens names (text_width (Spines names) tokens h) in
     let same = ap length e in
-    by_kind kind other (text_sound (chosen fs names) (u ∷ us) (length us) refl (omega (arith, same, size)) (chosen_none is_empty fs names (text_named names tokens h)))
+    let named = chosen_none is_empty fs names (text_named names tokens h) in
+    by_kind kind other (text_sound (chosen fs names) (u ∷ us) (length us) refl (omega (arith, same, size)) named)
   where
     by_kind : (kind : SpinedKind) → (kind ≡ Interpretation → ⊥) → find (breaks_as_text (Spines (chosen fs names)) (u ∷ us)) in_order ≡ None
-        → Follow (Spines (chosen fs names)) (Spined kind (u ∷ us) ∷ []) × (through (Spines (chosen fs names)) (Spined kind (u ∷ us) ∷ []) ≡ Spines (chosen fs names))
+        → Reach (Spines (chosen fs names)) (Spined kind (u ∷ us) ∷ []) (Spines (chosen fs names))
     by_kind Local other h = ((h, tt), refl)
     by_kind Values other h = ((h, tt), refl)
     by_kind Interpretation other h = absurd (other refl)
@@ -75,7 +80,7 @@ text_next fs kind names tokens (u ∷ us) other h e =
 text_case : (fs : List Bool) (kind : SpinedKind) (path : Path) (tokens : List (List ℕ)) (given : Path) (rows : List Row)
     → (kind ≡ Interpretation → ⊥)
     → find (breaks_as_text path tokens) in_order ≡ None → given ≡ chosen_path fs path → filled kind (chosen fs tokens ∷ []) ≡ rows
-    → Follow given rows × (through given rows ≡ chosen_path fs path)
+    → Reach given rows (chosen_path fs path)
 text_case fs kind Unopened tokens given rows other h leads e = cc
 text_case fs kind (Spines names) tokens given rows other h leads e =
     rw (leads, ← e) (text_next fs kind names tokens (chosen fs tokens) other h refl)
@@ -91,7 +96,8 @@ all_chosen : {X : Type 0} (test : X → Bool) (fs : List Bool) (xs : List X) →
 all_chosen test [] xs h = refl
 all_chosen test (f ∷ fs) [] h = refl
 all_chosen test (true ∷ fs) (x ∷ xs) h =
-    let both = and_parts (test x) (list_all test xs) h in and_from (test x) (list_all test (chosen fs xs)) both.0 (all_chosen test fs xs both.1)
+    let both = and_parts (test x) (list_all test xs) h in
+    and_from (test x) (list_all test (chosen fs xs)) both.0 (all_chosen test fs xs both.1)
 all_chosen test (false ∷ fs) (x ∷ xs) h = all_chosen test fs xs (and_parts (test x) (list_all test xs) h).1
 
 each_size : (choice : Choice) (width j : ℕ) (names : List (List ℕ)) → length (each_chosen choice width j names) ≡ length names
@@ -139,25 +145,32 @@ flags_opened : (choice : Choice) (past : List Row) (tokens : List (List ℕ)) �
     → flags choice (Spined Interpretation tokens ∷ past) ≡ opening_flags choice tokens
 flags_opened choice past tokens sound at =
     let none : origins past ≡ [] = nil_from_length (origins past) (origins_width past sound ∙ ap width at) in
-    rw (at, none) (own_flags (opening_flags choice tokens) 0 (length tokens) (let size = each_size choice (length tokens) 0 tokens in omega (arith, size)))
+    let size = each_size choice (length tokens) 0 tokens in
+    rw (at, none) (own_flags (opening_flags choice tokens) 0 (length tokens) (omega (arith, size)))
 
 open_next : (choice : Choice) (past : List Row) (tokens : List (List ℕ)) (rows : List Row) → IsOpen past → path_after past ≡ Unopened
     → find (breaks Unopened tokens) in_order ≡ None → opened choice tokens ≡ Ok rows
-    → Follow Unopened rows × (through Unopened rows ≡ Spines (chosen (flags choice (Spined Interpretation tokens ∷ past)) tokens))
+    → Reach Unopened rows (Spines (chosen (flags choice (Spined Interpretation tokens ∷ past)) tokens))
 open_next choice past tokens rows sound at h e =
     rw (flags_opened choice past tokens sound at) (by_test (misses choice tokens) refl (chosen (opening_flags choice tokens) tokens) refl e)
   where
     by_test : (b : Bool) → misses choice tokens ≡ b → (us : List (List ℕ)) → chosen (opening_flags choice tokens) tokens ≡ us
         → ◌≡◌ {A = Result (List Row) Rule} (cond b (Err X2) (Ok (filled Interpretation (us ∷ [])))) (Ok rows)
-        → Follow Unopened rows × (through Unopened rows ≡ Spines (chosen (opening_flags choice tokens) tokens))
+        → Reach Unopened rows (Spines (chosen (opening_flags choice tokens) tokens))
     by_test true missed us is e = cc
     by_test false missed [] is e =
-        let any = not-false _ (or_parts (names_beyond choice (length tokens)) (not (list_any (λ b. b) (opening_flags choice tokens))) missed).1 in
+        let none = not (list_any (λ b. b) (opening_flags choice tokens)) in
+        let any = not-false _ (or_parts (names_beyond choice (length tokens)) none missed).1 in
         absurd (some_chosen (opening_flags choice tokens) tokens (each_size choice (length tokens) 0 tokens) any is)
     by_test false missed (u ∷ us) is e =
         let one : Spined Interpretation (u ∷ us) ∷ [] ≡ rows = cc in
-        let sound = opening_sound (chosen (opening_flags choice tokens) tokens) (chosen_opens (opening_flags choice tokens) tokens (opens tokens h)) in
+        let keeps = chosen_opens (opening_flags choice tokens) tokens (opens tokens h) in
+        let sound = opening_sound (chosen (opening_flags choice tokens) tokens) keeps in
         rw (← one, is) ((rw is at sound, tt), refl)
+
+-- whether what comes from an opening spine is chosen
+abbrev pub is_from : Choice → List Row → ℕ → Bool
+is_from choice past origin = get_or (opening_flags choice (opening_of past)) origin false
 
 -- Flags go on along the columns.
 flags_onward : (choice : Choice) (past : List Row) (names tokens : List (List ℕ)) → IsOpen past → path_after past ≡ Spines names
@@ -165,29 +178,29 @@ flags_onward : (choice : Choice) (past : List Row) (names tokens : List (List �
     → flags choice (Spined Interpretation tokens ∷ past)
     ≡ flags_after (flags choice past) (map sign_of tokens)
 flags_onward choice past names tokens sound at keeps =
-    let chooses : ℕ → Bool = λ origin. get_or (opening_flags choice (opening_of past)) origin false in
     let count = length-map tokens sign_of in
-    let size = length-map (origins past) (λ origin. get_or (opening_flags choice (opening_of past)) origin false) in
+    let size = length-map (origins past) (is_from choice past) in
     let wide = origins_width past sound ∙ ap width at in
     let own = keeps.wide in
-    rw at (map-map (λ origin. get_or (opening_flags choice (opening_of past)) origin false) (origin_of (origins past)) (moves_under (map sign_of tokens))
-    ∙ sources_onward false (λ m. get_or (opening_flags choice (opening_of past)) (origin_of (origins past) m) false) (flags choice past) (map sign_of tokens)
-      (λ m below. sym (get_or-map (λ origin. get_or (opening_flags choice (opening_of past)) origin false) (origins past) (source m) (source m) false (omega (arith, below, size))))
+    rw at (map-map (is_from choice past) (origin_of (origins past)) (moves_under (map sign_of tokens))
+    ∙ sources_onward false (λ m. is_from choice past (origin_of (origins past) m)) (flags choice past) (map sign_of tokens)
+      (λ m below. sym (get_or-map (is_from choice past) (origins past) (source m) (source m) false (omega (arith, below, size))))
       (omega (arith, count, size, wide, own)) keeps.pair)
 
 cut_next : (choice : Choice) (past : List Row) (names tokens : List (List ℕ)) (rows : List Row) → IsOpen past
     → path_after past ≡ Spines names
     → find (breaks (Spines names) tokens) in_order ≡ None → cut (flags choice past) tokens ≡ Ok rows
-    → Follow (Spines (chosen (flags choice past) names)) rows
-    × (through (Spines (chosen (flags choice past) names)) rows ≡ Spines (chosen (flags choice (Spined Interpretation tokens ∷ past)) (names_after (Spines names) tokens)))
+    → Reach (Spines (chosen (flags choice past) names)) rows
+      (Spines (chosen (flags choice (Spined Interpretation tokens ∷ past)) (names_after (Spines names) tokens)))
 cut_next choice past names tokens rows sound at h e =
     let keeps = obeys names tokens h in
     let own = keeps.wide in
-    let size = length-map (origins past) (λ origin. get_or (opening_flags choice (opening_of past)) origin false) in
+    let size = length-map (origins past) (is_from choice past) in
     let wide = origins_width past sound ∙ ap width at in
     let most : length names ≤ 4096 = rw at at (narrow past sound) in
     rw (flags_onward choice past names tokens sound at keeps)
-      (lead_follows (chosen (flags choice past) names) _ rows (cut_leads (flags choice past) names tokens rows (omega (arith, size, wide, own)) keeps most e))
+      (lead_follows (chosen (flags choice past) names) _ rows
+        (cut_leads (flags choice past) names tokens rows (omega (arith, size, wide, own)) keeps most e))
 
 extract_next : (choice : Choice) (past : List Row) (row : Row) (given : Path) (rows : List Row) → IsOpen (row ∷ past)
     → Leads choice past given
@@ -196,16 +209,18 @@ extract_next choice past (Comment text) given rows sound leads e =
     let one : Comment text ∷ [] ≡ rows = cc in rw (← one) ((refl, tt), leads)
 extract_next choice past (Spined Local tokens) given rows sound leads e =
     let one : filled Local (chosen (flags choice past) tokens ∷ []) ≡ rows = cc in
-    rw (later_opening (path_after past) tokens (opening_of past) sound.1) (text_case (flags choice past) Local (path_after past) tokens given rows (λ x. cc) sound.1 leads one)
+    rw (later_opening (path_after past) tokens (opening_of past) sound.1)
+      (text_case (flags choice past) Local (path_after past) tokens given rows (λ x. cc) sound.1 leads one)
 extract_next choice past (Spined Values tokens) given rows sound leads e =
     let one : filled Values (chosen (flags choice past) tokens ∷ []) ≡ rows = cc in
-    rw (later_opening (path_after past) tokens (opening_of past) sound.1) (text_case (flags choice past) Values (path_after past) tokens given rows (λ x. cc) sound.1 leads one)
+    rw (later_opening (path_after past) tokens (opening_of past) sound.1)
+      (text_case (flags choice past) Values (path_after past) tokens given rows (λ x. cc) sound.1 leads one)
 extract_next choice past (Spined Interpretation tokens) given rows sound leads e = at_path (path_after past) refl sound.1 leads e
   where
     at_path : (path : Path) → path_after past ≡ path → find (breaks path tokens) in_order ≡ None
         → given ≡ chosen_path (flags choice past) path
         → interpreted choice path (flags choice past) tokens ≡ Ok rows
-        → Follow given rows × (through given rows ≡ Spines (chosen (flags choice (Spined Interpretation tokens ∷ past)) (names_after (path_after past) tokens)))
+        → Reach given rows (Spines (chosen (flags choice (Spined Interpretation tokens ∷ past)) (names_after (path_after past) tokens)))
     at_path Unopened at h leads e =
         rw (leads, ap (λ (p : Path). names_after p tokens) at) (open_next choice past tokens rows sound.0 at h e)
     at_path (Spines names) at h leads e =

@@ -29,7 +29,8 @@ pub chosen_none : {X : Type 0} (test : X → Bool) (fs : List Bool) (xs : List X
 chosen_none test [] xs h = refl
 chosen_none test (f ∷ fs) [] h = refl
 chosen_none test (true ∷ fs) (x ∷ xs) h =
-    let both = or_parts (test x) (list_any test xs) h in or_from (test x) (list_any test (chosen fs xs)) both.0 (chosen_none test fs xs both.1)
+    let both = or_parts (test x) (list_any test xs) h in
+    or_from (test x) (list_any test (chosen fs xs)) both.0 (chosen_none test fs xs both.1)
 chosen_none test (false ∷ fs) (x ∷ xs) h = chosen_none test fs xs (or_parts (test x) (list_any test xs) h).1
 
 pub chosen_map : {X Y : Type 0} (f : X → Y) (fs : List Bool) (xs : List X) → map f (chosen fs xs) ≡ chosen fs (map f xs)
