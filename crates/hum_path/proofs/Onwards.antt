@@ -204,13 +204,15 @@ each_length (n ∷ ns) (t ∷ ts) len = ap suc (each_length ns ts (omega (arith,
 -- the exclusive interpretations after a record, by its signs and each column's own
 pub names_onward : (names tokens : List (List ℕ)) → length names ≡ length tokens → is_pair_or_none (exchanges 0 (map sign_of tokens)) ≡ true
     → names_after (Spines names) tokens
-    ≡ onward (λ _. []) (beginnings false (map sign_of tokens)) (map sign_of tokens) (swapped (map sign_of tokens) (renamed_each names tokens))
+    ≡ onward (λ _. []) (beginnings false (map sign_of tokens)) (map sign_of tokens)
+      (swapped (map sign_of tokens) (renamed_each names tokens))
 names_onward names tokens len two =
     let signs = map sign_of tokens in
     let size : length signs ≡ length (renamed_each names tokens) = length-map tokens sign_of ∙ sym (each_length names tokens len) in
     let agree = all_names_agree (exchanges 0 signs) names tokens 0 tokens len (λ k. ap (λ (n : ℕ). get_or tokens n []) (omega arith)) in
     onward_by_moves (renamed names tokens) (λ _. []) (exchanges 0 signs) 0 false signs _ agree
-    ∙ ap (λ (xs : List (List ℕ)). onward (λ _. []) (beginnings false signs) signs xs) (places_swapped [] signs (renamed_each names tokens) size two)
+    ∙ ap (λ (xs : List (List ℕ)). onward (λ _. []) (beginnings false signs) signs xs)
+      (places_swapped [] signs (renamed_each names tokens) size two)
 
 -- what is the same for all moves from a place
 place_agrees : {X : Type 0} (none : X) (f : Move → X) (pair : List ℕ) (xs : List X) (j : ℕ) (s : Sign)
@@ -230,7 +232,10 @@ all_agree : {X : Type 0} (none : X) (f : Move → X) (pair : List ℕ) (xs : Lis
 all_agree none f pair xs j [] at below within = tt
 all_agree none f pair xs j (s ∷ ss) at below within =
     let here : j < length xs = omega (arith, within) in
-    (place_agrees none f pair xs j s at here (partner_below (length xs) j pair below here), all_agree none f pair xs (j + 1) ss at below (omega (arith, within)))
+    (
+      place_agrees none f pair xs j s at here (partner_below (length xs) j pair below here),
+      all_agree none f pair xs (j + 1) ss at below (omega (arith, within)),
+    )
 
 -- what stands at each move's source, carried on
 pub sources_onward : {X : Type 0} (none : X) (f : Move → X) (xs : List X) (ss : List Sign)

@@ -132,7 +132,8 @@ pub one_comes : (ps : List Piece) (ns : List (List ℕ)) → Fits ps ns → touc
 one_comes ps ns fits t =
     let len : length ns ≡ length (tokens_in ps) = sym (formed_length false [] ps ns fits.formed) ∙ sym (pieces_size ps) in
     names_onward ns (tokens_in ps) len fits.pair
-    ∙ ap (λ (bs : List Bool). onward (λ _. []) bs (signs_in ps) (swapped (signs_in ps) (renamed_each ns (tokens_in ps)))) (begins_marks false [] ps ns fits.formed t)
+    ∙ ap (λ (bs : List Bool). onward (λ _. []) bs (signs_in ps) (swapped (signs_in ps) (renamed_each ns (tokens_in ps))))
+      (begins_marks false [] ps ns fits.formed t)
 
 pub one_sound : (ps : List Piece) (ns : List (List ℕ)) (k : ℕ) → length ps ≡ suc k → Fits ps ns → touches false ps ≡ false
     → length (come_to ps ns) ≤ 4096
@@ -156,7 +157,8 @@ pub one_leads : (ps : List Piece) (ns : List (List ℕ)) → Fits ps ns → touc
 one_leads [] [] fits t few = refl
 one_leads [] (n ∷ ns) fits t few = absurd fits.formed
 one_leads (p ∷ ps) ns fits t few =
-    one_more ns (tokens_in (p ∷ ps)) (come_to (p ∷ ps) ns) [] (length ps) (pieces_size (p ∷ ps)) (one_sound (p ∷ ps) ns (length ps) refl fits t few) (one_comes (p ∷ ps) ns fits t)
+    one_more ns (tokens_in (p ∷ ps)) (come_to (p ∷ ps) ns) [] (length ps) (pieces_size (p ∷ ps))
+      (one_sound (p ∷ ps) ns (length ps) refl fits t few) (one_comes (p ∷ ps) ns fits t)
 
 -- The record with the first join alone.
 alone_size : (ps : List Piece) → length (join_alone ps) ≡ length ps
@@ -277,7 +279,8 @@ stars_mixed m [] [] s len = refl
 stars_mixed m [] (n ∷ ns) s len = absurd (omega (arith, len))
 stars_mixed m (p ∷ ps) [] s len = absurd (omega (arith, len))
 stars_mixed m (p ∷ ps) (n ∷ ns) s len =
-    or_from (is_join s && (false && not (bytes_eq m n))) (has_mixed_join (n ∷ ns) (Plain ∷ map sign_of (map (λ _. codes "*") ps))) (never (is_join s)) (stars_mixed n ps ns Plain (omega (arith, len)))
+    or_from (is_join s && (false && not (bytes_eq m n))) (has_mixed_join (n ∷ ns) (Plain ∷ map sign_of (map (λ _. codes "*") ps)))
+      (never (is_join s)) (stars_mixed n ps ns Plain (omega (arith, len)))
   where
     never : (b : Bool) → (b && false) ≡ false
     never true = refl
@@ -428,7 +431,8 @@ steady_comes : (ps : List Piece) (ns : List (List ℕ)) → Steady ps ns
 steady_comes ps ns h =
     let size = pieces_size ps in
     let len = formed_length false [] ps ns h.formed in
-    ap (λ (xs : List (List ℕ)). onward (λ _. []) (marks ps) (signs_in ps) (swapped (signs_in ps) xs)) (same_names ns (tokens_in ps) (omega (arith, size, len)) h.stay)
+    ap (λ (xs : List (List ℕ)). onward (λ _. []) (marks ps) (signs_in ps) (swapped (signs_in ps) xs))
+      (same_names ns (tokens_in ps) (omega (arith, size, len)) h.stay)
 
 -- The record with the first join alone, and what is left to do.
 first_comes : (ps : List Piece) (ns : List (List ℕ)) → Steady ps ns → names_after (Spines ns) (first_alone ps) ≡ merged ps ns
@@ -439,7 +443,8 @@ first_comes ps ns h =
     let none = first_exchange 0 false [] ps ns h.formed in
     let stay = first_none (λ t. is_exclusive (sign_of t)) ps refl h.stay in
     names_onward ns (first_alone ps) wide (rw none refl)
-    ∙ (rw (same_names ns (first_alone ps) wide stay, swapped_none 0 (map sign_of (first_alone ps)) ns none) (first_onward (λ _. []) false [] ps ns ns h.formed len))
+    ∙ (rw (same_names ns (first_alone ps) wide stay, swapped_none 0 (map sign_of (first_alone ps)) ns none)
+      (first_onward (λ _. []) false [] ps ns ns h.formed len))
 
 first_sound : (ps : List Piece) (ns : List (List ℕ)) (k : ℕ) → length ps ≡ suc k → Steady ps ns → length ns ≤ 4096
     → find (breaks (Spines ns) (first_alone ps)) in_order ≡ None
@@ -449,8 +454,10 @@ first_sound ps ns k some h few =
     let same = ap length (first_comes ps ns h) in
     let fewer = merged_fewer ps ns in
     let none = first_exchange 0 false [] ps ns h.formed in
-    sound_by_rules ns (first_alone ps) k (omega (arith, size, some)) (omega (arith, size, len)) (none_unnamed ns (map sign_of (first_alone ps)) h.named)
-      (first_none (bytes_eq (codes "**")) ps refl h.bare) (steady_steers (first_alone ps) (first_none (λ t. is_exclusive (sign_of t)) ps refl h.stay))
+    let stay = first_none (λ t. is_exclusive (sign_of t)) ps refl h.stay in
+    sound_by_rules ns (first_alone ps) k (omega (arith, size, some)) (omega (arith, size, len))
+      (none_unnamed ns (map sign_of (first_alone ps)) h.named)
+      (first_none (bytes_eq (codes "**")) ps refl h.bare) (steady_steers (first_alone ps) stay)
       (first_lone false [] ps ns h.formed) (rw none refl) (first_unmixed ps ns h.formed) (omega (arith, same, few, fewer))
 
 left_comes : (ps : List Piece) (ns : List (List ℕ)) → Steady ps ns → come_to (first_done ps) (merged ps ns) ≡ come_to ps ns
@@ -494,8 +501,9 @@ by_one (suc n) (p ∷ ps) ns h few exact w e =
     let fewer : joins_in (first_done (p ∷ ps)) ≡ suc n = done_joins (p ∷ ps) (suc n) all in
     let narrow = merged_fewer (p ∷ ps) ns in
     let size = ap length left in
-    let more : Lead (merged (p ∷ ps) ns) (filled Interpretation (one_by_one n (first_done (p ∷ ps)))) (come_to (first_done (p ∷ ps)) (merged (p ∷ ps) ns)) =
-      by_one n (first_done (p ∷ ps)) (merged (p ∷ ps) ns) (done_steady (p ∷ ps) ns h) (omega (arith, fewer)) (λ k. fewer) (omega (arith, narrow, w)) (omega (arith, size, e)) in
+    let more =
+      by_one n (first_done (p ∷ ps)) (merged (p ∷ ps) ns) (done_steady (p ∷ ps) ns h) (omega (arith, fewer)) (λ k. fewer)
+        (omega (arith, narrow, w)) (omega (arith, size, e)) in
     one_more ns (first_alone (p ∷ ps)) (come_to (p ∷ ps) ns) (one_by_one n (first_done (p ∷ ps))) (length ps) (first_size (p ∷ ps))
       (first_sound (p ∷ ps) ns (length ps) refl h w)
       (rw (first_comes (p ∷ ps) ns h, ← left) more)
@@ -507,7 +515,9 @@ touching_steers b m [] ns f t = absurd (false≢true t)
 touching_steers b m (p ∷ ps) [] f t = absurd f
 touching_steers b m (p ∷ ps) (n ∷ ns) f t = by_bool p.begins
   (λ w. rw (is_join_at (sign_of p.token) (f.0 w).0) refl)
-  (λ w. or_right (is_path_indicator (sign_of p.token)) (list_any is_path_indicator (signs_in ps)) (touching_steers (joins p) n ps ns f.1.1 (later b p.begins (touches (joins p) ps) w t)))
+  (λ w.
+    let more = later b p.begins (touches (joins p) ps) w t in
+    or_right (is_path_indicator (sign_of p.token)) (list_any is_path_indicator (signs_in ps)) (touching_steers (joins p) n ps ns f.1.1 more))
   where
     or_right : (a c : Bool) → c ≡ true → (a || c) ≡ true
     or_right true c h = refl
@@ -524,7 +534,8 @@ all_named (n ∷ ns) [] len u h = absurd (omega (arith, len))
 all_named (n ∷ ns) (t ∷ ts) len u h =
     let here = or_parts (stays_unnamed n (sign_of t)) (has_unnamed ns (map sign_of ts)) u in
     let stay = or_parts (is_exclusive (sign_of t)) (list_any (λ u. is_exclusive (sign_of u)) ts) h in
-    or_from (is_nameless n) (list_any is_nameless ns) (named (is_nameless n) (is_exclusive (sign_of t)) here.0 stay.0) (all_named ns ts (omega (arith, len)) here.1 stay.1)
+    or_from (is_nameless n) (list_any is_nameless ns) (named (is_nameless n) (is_exclusive (sign_of t)) here.0 stay.0)
+      (all_named ns ts (omega (arith, len)) here.1 stay.1)
   where
     named : (a e : Bool) → (a && not e) ≡ false → e ≡ false → a ≡ false
     named true true u h = cc
@@ -534,7 +545,8 @@ all_named (n ∷ ns) (t ∷ ts) len u h =
 touching_steady : (ps : List Piece) (ns : List (List ℕ)) → Fits ps ns → touches false ps ≡ true → Steady ps ns
 touching_steady ps ns fits t =
     let steers = touching_steers false [] ps ns fits.formed t in
-    let none : list_any is_exclusive (signs_in ps) ≡ false = only_left (list_any is_exclusive (signs_in ps)) (list_any is_path_indicator (signs_in ps)) fits.steers steers in
+    let none =
+      only_left (list_any is_exclusive (signs_in ps)) (list_any is_path_indicator (signs_in ps)) fits.steers steers in
     let stay : list_any (λ u. is_exclusive (sign_of u)) (tokens_in ps) ≡ false = sym (any_sign is_exclusive (tokens_in ps)) ∙ none in
     let size = pieces_size ps in
     let len = formed_length false [] ps ns fits.formed in

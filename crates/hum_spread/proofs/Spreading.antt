@@ -155,7 +155,8 @@ done_formed b m (p ∷ ps) (n ∷ ns) f =
   where
     by_test : (t : Bool) → p.begins ≡ t → Formed false n (join_done ps) (rest_merged ps ns)
         → Formed (joins p) n (first_done ps) (merged ps ns)
-        → Formed b m (cond t (piece false (codes "*") ∷ join_done ps) (p ∷ first_done ps)) (cond t (n ∷ rest_merged ps ns) (n ∷ merged ps ns))
+        → Formed b m (cond t (piece false (codes "*") ∷ join_done ps) (p ∷ first_done ps))
+          (cond t (n ∷ rest_merged ps ns) (n ∷ merged ps ns))
     by_test true w rest more = (λ e. absurd (false≢true e), (λ e. absurd (false≢true e), rest))
     by_test false w rest more = (λ e. absurd (false≢true (sym w ∙ e)), (f.1.0, more))
 
