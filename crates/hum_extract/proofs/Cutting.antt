@@ -1,17 +1,17 @@
 -- An interpretation, cut to its chosen columns, leads to the chosen ones of the spines after it.
-use Rattle.std.proofs.Common.{◌≡◌, ◌∙◌, refl, sym, ap, ℕ, suc, ◌+◌, ◌≤◌, ◌==◌, Bool, true, false, not, ◌&&◌, ◌||◌, List, [], ◌∷◌, ◌++◌, length, map, arith, cond, inl, inr, None, Option}
-use Rattle.std.specs.Prelude.{nat_lt, Result, Ok, Err}
-use Rattle.std.specs.List.{list_any, find}
+use Rattle.std.proofs.Common.{◌≡◌, ◌∙◌, refl, sym, ap, ℕ, ◌+◌, ◌≤◌, Bool, true, false, ◌&&◌, List, [], ◌∷◌, length, map, arith, cond}
+use Rattle.std.specs.Prelude.{Result, Ok, Err}
+use Rattle.std.specs.List.{list_any}
 use Rattle.std.specs.Str.{bytes_eq}
-use Rattle.std.proofs.lemmas.Bool.{and_parts, or_parts, or_from, not-false, false≢true}
-use Rattle.std.proofs.lemmas.Bool.Decides.{nat_tests}
+use Rattle.std.proofs.lemmas.Bool.{or_parts, or_from}
 use Rattle.std.proofs.lemmas.List.{length-map}
 use lib.Chars.{codes}
 use Rattle.hum_path.specs.declared.signs.Sign.{Sign}
 use Rattle.hum_path.specs.declared.signs.Sign.TheVariants.{Split, Join, Exchange, Add, End, Exclusive, Plain}
 use Rattle.hum_path.specs.Sign.{sign_of, is_join, is_exchange, is_exclusive, is_path_indicator}
 use Rattle.hum_path.specs.Spines.{Spines, exchanges, names_after}
-use Rattle.hum_path.specs.Rules.{first_is, has_lone_join, has_mixed_join, has_unnamed, has_bare, names_and_steers, is_pair_or_none, stays_unnamed}
+use Rattle.hum_path.specs.Rules.{first_is, has_lone_join, has_mixed_join, has_unnamed, has_bare}
+use Rattle.hum_path.specs.Rules.{names_and_steers, is_pair_or_none, stays_unnamed}
 use Rattle.hum_path.specs.Score.{Lead}
 use Rattle.hum_path.specs.Onward.{beginnings, onward, onward_one, swapped, renamed_each}
 use Rattle.hum_path.proofs.Onwards.{names_onward, swapped_none, swapped_length, each_length, begins_length}
@@ -23,10 +23,11 @@ use Rattle.hum_stage.specs.declared.faults.Rule.{Rule}
 use Rattle.hum_stage.specs.declared.faults.Rule.TheVariants.{X1, X3}
 use Rattle.hum_spread.specs.Spread.{Piece, tokens_in, spread, filled}
 use Rattle.hum_spread.proofs.Spreading.{marks, signs_in}
-use Rattle.hum_spread.proofs.Leading.{Fits, come_to, spread_leads}
+use Rattle.hum_spread.proofs.Fitting.{Fits, come_to}
+use Rattle.hum_spread.proofs.Leading.{spread_leads}
 use Rattle.hum_extract.specs.Choice.{chosen}
-use Rattle.hum_extract.specs.Extract.{differ, is_torn, exchanged_flags, is_lone, chosen_between, softened, pieces, cut}
-use Rattle.hum_extract.proofs.Selecting.{chosen_length, chosen_fewer, chosen_none, chosen_map, chosen_each, chosen_onward}
+use Rattle.hum_extract.specs.Extract.{is_torn, exchanged_flags, is_lone, chosen_between, softened, pieces, cut}
+use Rattle.hum_extract.proofs.Selecting.{chosen_fewer, chosen_none, chosen_map, chosen_each, chosen_onward}
 use Rattle.hum_extract.proofs.Joining.{pieces_tokens, pieces_marks, pieces_formed}
 use Rattle.hum_extract.proofs.Exchanging.{swapped_chosen, pair_chosen, lone_stays, begin_swapped, sign_swapped}
 

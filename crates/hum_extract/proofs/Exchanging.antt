@@ -1,11 +1,12 @@
 -- Exchanged columns, of which both, none or one is chosen.
-use Rattle.std.proofs.Common.{◌≡◌, ◌∙◌, refl, sym, ap, ℕ, suc, ◌+◌, ◌==◌, Bool, true, false, not, ◌&&◌, ◌||◌, List, [], ◌∷◌, ◌++◌, length, map, arith, cond, inl, inr}
-use Rattle.std.proofs.lemmas.Bool.{and_parts, or_parts, or_from, not-false, false≢true}
+use Rattle.std.proofs.Common.{◌≡◌, ◌∙◌, refl, sym, ap, ℕ, suc, ◌+◌, ◌==◌, Bool, true, false, not}
+use Rattle.std.proofs.Common.{◌&&◌, ◌||◌, List, [], ◌∷◌, length, arith}
+use Rattle.std.proofs.lemmas.Bool.{false≢true}
 use Rattle.std.proofs.lemmas.Bool.Decides.{nat_tests}
 use Rattle.std.proofs.lemmas.List.{nil_from_length}
 use Rattle.hum_path.specs.declared.signs.Sign.{Sign}
 use Rattle.hum_path.specs.declared.signs.Sign.TheVariants.{Split, Join, Exchange, Add, End, Exclusive, Plain}
-use Rattle.hum_path.specs.Sign.{is_join, is_exchange}
+use Rattle.hum_path.specs.Sign.{is_exchange}
 use Rattle.hum_path.specs.Spines.{exchanges}
 use Rattle.hum_path.specs.Rules.{is_pair_or_none}
 use Rattle.hum_path.specs.Onward.{beginnings, at_next, put_next, swapped}

@@ -1,14 +1,14 @@
 -- Joins that aren't torn stay joins among the chosen columns.
-use Rattle.std.proofs.Common.{◌≡◌, ◌∙◌, refl, sym, ap, ℕ, suc, Bool, true, false, not, ◌&&◌, ◌||◌, List, [], ◌∷◌, length, map, arith, cond}
+use Rattle.std.proofs.Common.{◌≡◌, ◌∙◌, refl, sym, ap, ℕ, Bool, true, false, not, ◌&&◌, ◌||◌, List, [], ◌∷◌, length, map, arith}
 use Rattle.std.specs.Str.{bytes_eq}
-use Rattle.std.proofs.lemmas.Bool.{and_parts, or_parts, not-false, false≢true}
+use Rattle.std.proofs.lemmas.Bool.{or_parts, not-false, false≢true}
 use Rattle.std.proofs.lemmas.Slice.Eq.{bytes_eq-Decides}
 use Rattle.hum_path.specs.declared.signs.Sign.{Sign}
 use Rattle.hum_path.specs.declared.signs.Sign.TheVariants.{Plain}
 use Rattle.hum_path.specs.Sign.{sign_of, is_join}
 use Rattle.hum_path.specs.Rules.{first_is, has_lone_join, has_mixed_join}
 use Rattle.hum_path.specs.Onward.{beginnings}
-use Rattle.hum_spread.specs.Spread.{Piece, piece, tokens_in}
+use Rattle.hum_spread.specs.Spread.{tokens_in}
 use Rattle.hum_spread.proofs.Spreading.{marks, next_goes_on, Formed}
 use Rattle.hum_extract.specs.Choice.{chosen}
 use Rattle.hum_extract.specs.Extract.{differ, is_torn, pieces}

@@ -1,5 +1,5 @@
 -- What is extracted of a score is a score.
-use Rattle.std.proofs.Common.{◌≡◌, ◌∙◌, refl, sym, ap, ℕ, zero, suc, ◌+◌, ◌<◌, ◌≤◌, ◌==◌, Bool, true, false, not, List, [], ◌∷◌, length, map}
+use Rattle.std.proofs.Common.{◌≡◌, ◌∙◌, refl, sym, ap, ℕ, zero, suc, ◌+◌, ◌≤◌, ◌==◌, Bool, true, false, not, List, [], ◌∷◌, length, map}
 use Rattle.std.proofs.Common.{get_or, arith, cond, add-one, drop, drop-cons}
 use Rattle.std.specs.Prelude.{None, Result, Ok, Err, nat_lt}
 use Rattle.std.specs.List.{list_any, list_all, find}
@@ -13,15 +13,12 @@ use Rattle.hum_record.specs.declared.SpinedKind.{SpinedKind}
 use Rattle.hum_record.specs.declared.SpinedKind.TheVariants.{Local, Interpretation, Values}
 use Rattle.hum_record.specs.Row.{Row, Comment, Spined}
 use Rattle.hum_record.specs.Spelling.{is_empty}
-use Rattle.hum_path.specs.declared.signs.Sign.{Sign}
-use Rattle.hum_path.specs.declared.moved.Move.{Move}
 use Rattle.hum_path.specs.declared.PathFault.TheVariants.{P1, P2, P3, P4, P5, P6, P7, P9, P10, P11}
 use Rattle.hum_path.specs.Sign.{sign_of, is_exclusive}
-use Rattle.hum_path.specs.Spines.{Path, Unopened, Spines, width, exclusives, after, names_after, same_upto, moves_under, exchanges, source}
-use Rattle.hum_path.specs.Rules.{breaks, breaks_as_text, in_order, fault_of, is_unfinished, has_bare, is_pair_or_none}
+use Rattle.hum_path.specs.Spines.{Path, Unopened, Spines, width, names_after, same_upto, moves_under, source}
+use Rattle.hum_path.specs.Rules.{breaks, breaks_as_text, in_order, is_unfinished}
 use Rattle.hum_path.specs.Score.{IsOpen, path_after}
 use Rattle.hum_path.specs.Chains.{origins, origin_of}
-use Rattle.hum_path.specs.Onward.{beginnings, onward, swapped}
 use Rattle.hum_path.proofs.Plain.{find_head}
 use Rattle.hum_path.proofs.Widths.{origins_width, text_width}
 use Rattle.hum_path.proofs.Onwards.{sources_onward}
@@ -34,7 +31,8 @@ use Rattle.hum_stage.specs.Meaning.{KeepsScore}
 use Rattle.hum_stage.specs.Decided.{decisions, limit, Keeps}
 use Rattle.hum_stage.proofs.Keeping.{at_once_keeps}
 use Rattle.hum_stage.proofs.Scores.{lead_follows}
-use Rattle.hum_extract.specs.Choice.{Choice, each_chosen, opening_flags, misses, names_beyond, opening_if, opening_of, flags, chosen, chosen_path}
+use Rattle.hum_extract.specs.Choice.{Choice, each_chosen, opening_flags, misses, names_beyond}
+use Rattle.hum_extract.specs.Choice.{opening_if, opening_of, flags, chosen, chosen_path}
 use Rattle.hum_extract.specs.Extract.{cut, opened, interpreted, extract}
 use Rattle.hum_extract.proofs.Selecting.{chosen_length, chosen_fewer, chosen_none}
 use Rattle.hum_extract.proofs.Cutting.{flags_after, cut_leads}

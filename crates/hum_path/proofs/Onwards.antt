@@ -1,6 +1,6 @@
 -- Moves by place, and what they carry on.
 use Rattle.std.proofs.Common.{◌≡◌, ◌∙◌, refl, sym, ap, ℕ, zero, suc, ◌+◌, ◌<◌, ◌≤◌, ◌==◌, Bool, true, false}
-use Rattle.std.proofs.Common.{List, [], ◌∷◌, map, length, get_or, cond, arith, inl, inr, ◌||◌}
+use Rattle.std.proofs.Common.{List, [], ◌∷◌, map, length, get_or, cond, arith, ◌||◌}
 use Rattle.std.specs.List.{AllByRecursion}
 use Rattle.std.proofs.lemmas.Bool.Decides.{nat_tests}
 use Rattle.std.proofs.lemmas.List.{length-map}
