@@ -37,8 +37,8 @@ soften lone sign = cond (lone && is_exchange sign) Plain sign
 
 soft_sign : (lone : Bool) (t : List ℕ) → sign_of (softened lone t) ≡ soften lone (sign_of t)
 soft_sign lone t = by_bool (lone && is_exchange (sign_of t))
-  (λ w. rw w refl)
-  (λ w. rw w refl)
+    (λ w. rw w refl)
+    (λ w. rw w refl)
 
 pub soft_signs : (lone : Bool) (ts : List (List ℕ)) → map sign_of (map (softened lone) ts) ≡ map (soften lone) (map sign_of ts)
 soft_signs lone [] = refl
@@ -123,14 +123,14 @@ soft_indicators lone [] h = refl
 soft_indicators lone (s ∷ ss) h =
     let both = or_parts (is_path_indicator s) (list_any is_path_indicator ss) h in
     or_from (is_path_indicator (soften lone s)) (list_any is_path_indicator (map (soften lone) ss))
-      (soft_indicator lone s both.0) (soft_indicators lone ss both.1)
+    (soft_indicator lone s both.0) (soft_indicators lone ss both.1)
 
 soft_bare : (lone : Bool) (ts : List (List ℕ)) → has_bare ts ≡ false → has_bare (map (softened lone) ts) ≡ false
 soft_bare lone [] h = refl
 soft_bare lone (t ∷ ts) h =
     let both = or_parts (bytes_eq (codes "**") t) (has_bare ts) h in
     or_from (bytes_eq (codes "**") (softened lone t)) (has_bare (map (softened lone) ts))
-      (one (lone && is_exchange (sign_of t)) both.0) (soft_bare lone ts both.1)
+    (one (lone && is_exchange (sign_of t)) both.0) (soft_bare lone ts both.1)
   where
     one : (b : Bool) → bytes_eq (codes "**") t ≡ false → bytes_eq (codes "**") (cond b (codes "*") t) ≡ false
     one true h = refl
@@ -149,11 +149,12 @@ soft_each lone (n ∷ ns) (t ∷ ts) = let rest = soft_each lone ns ts in rw (on
     apart End h = cc
     apart Exclusive h = cc
     apart Plain h = cc
+
     one : (lone : Bool) → cond (is_exclusive (sign_of (softened lone t))) (softened lone t) n ≡ cond (is_exclusive (sign_of t)) t n
     one false = refl
     one true = by_bool (is_exchange (sign_of t))
-      (λ w. rw (w, apart (sign_of t) w) refl)
-      (λ w. rw w refl)
+        (λ w. rw (w, apart (sign_of t) w) refl)
+        (λ w. rw w refl)
 
 -- and carries on the same
 soft_onward : {X : Type 0} (added : X → X) (lone : Bool) (bs : List Bool) (ss : List Sign) (xs : List X)
@@ -197,7 +198,7 @@ chosen_comes : {X : Type 0} (added : X → X) (lone : Bool) (fs : List Bool) (ss
     → length ss ≡ length xs
     → is_pair_or_none (exchanges 0 ss) ≡ true → is_lone (exchanged_flags fs ss) ≡ lone → (lone && chosen_between fs ss) ≡ false
     → onward added (chosen fs (beginnings false ss)) (chosen fs (map (soften lone) ss))
-      (swapped (chosen fs (map (soften lone) ss)) (chosen fs xs))
+    (swapped (chosen fs (map (soften lone) ss)) (chosen fs xs))
     ≡ chosen (flags_after fs ss) (onward added (beginnings false ss) ss (swapped ss xs))
 chosen_comes added false fs ss xs len wide two is none =
     let both = swapped_chosen fs ss xs len wide two is in
@@ -210,13 +211,13 @@ chosen_comes {X} added true fs ss xs len wide two is none =
     let swap = swapped_length ss xs in
     let soft : map (soften true) (chosen fs ss) ≡ chosen fs (map (soften true) ss) = chosen_map (soften true) fs ss in
     let still : swapped (map (soften true) (chosen fs ss)) (chosen fs xs) ≡ chosen fs xs =
-      swapped_none 0 (map (soften true) (chosen fs ss)) (chosen fs xs) (soft_exchanges 0 (chosen fs ss)) in
+    swapped_none 0 (map (soften true) (chosen fs ss)) (chosen fs xs) (soft_exchanges 0 (chosen fs ss)) in
     let whole = chosen_onward added (swapped ss fs) (beginnings false ss) ss (swapped ss xs) size (omega (arith, wide, swap)) in
     let begins : chosen (swapped ss fs) (beginnings false ss) ≡ chosen fs (beginnings false ss) =
-      ap (λ (bs : List Bool). chosen (swapped ss fs) bs) (sym (begin_swapped false ss))
-      ∙ lone_stays fs ss (beginnings false ss) len (sym size) two is none in
+    ap (λ (bs : List Bool). chosen (swapped ss fs) bs) (sym (begin_swapped false ss))
+    ∙ lone_stays fs ss (beginnings false ss) len (sym size) two is none in
     let signs : chosen (swapped ss fs) ss ≡ chosen fs ss =
-      ap (λ (ts : List Sign). chosen (swapped ss fs) ts) (sym (sign_swapped ss)) ∙ lone_stays fs ss ss len refl two is none in
+    ap (λ (ts : List Sign). chosen (swapped ss fs) ts) (sym (sign_swapped ss)) ∙ lone_stays fs ss ss len refl two is none in
     let columns = lone_stays fs ss xs len wide two is none in
     let right = whole ∙ cuts begins signs columns in
     rw (right, ← soft, still) (soft_onward added true (chosen fs (beginnings false ss)) (chosen fs ss) (chosen fs xs))
@@ -253,11 +254,11 @@ chosen_unnamed (false ∷ fs) (n ∷ ns) (s ∷ ss) h = chosen_unnamed fs ns ss 
 chosen_steers : (lone : Bool) (fs : List Bool) (ss : List Sign) → names_and_steers ss ≡ false
     → names_and_steers (chosen fs (map (soften lone) ss)) ≡ false
 chosen_steers lone fs ss h = by_bool (list_any is_exclusive ss)
-  (λ w.
+    (λ w.
     let none : list_any is_path_indicator ss ≡ false = rw w at h in
     let left = chosen_none is_path_indicator fs (map (soften lone) ss) (soft_indicators lone ss none) in
     rw left (never (list_any is_exclusive (chosen fs (map (soften lone) ss)))))
-  (λ w.
+    (λ w.
     let left = chosen_none is_exclusive fs (map (soften lone) ss) (soft_exclusives lone ss ∙ w) in
     rw left refl)
   where
@@ -288,13 +289,13 @@ fits_at lone fs names tokens len keeps torn is =
     let wide = keeps.wide in
     record {
       formed = pieces_formed fs (map (softened lone) tokens) names (omega (arith, len, size)) (omega (arith, wide, size))
-        (rw soft (soft_torn lone fs (map sign_of tokens) ∙ torn))
-        (rw soft (soft_lone lone false (map sign_of tokens) ∙ keeps.lone))
-        (rw soft (soft_mixed lone names (map sign_of tokens) ∙ keeps.mixed));
+          (rw soft (soft_torn lone fs (map sign_of tokens) ∙ torn))
+          (rw soft (soft_lone lone false (map sign_of tokens) ∙ keeps.lone))
+          (rw soft (soft_mixed lone names (map sign_of tokens) ∙ keeps.mixed));
       unnamed = rw signs
-        (chosen_unnamed fs names (map (soften lone) (map sign_of tokens)) (soft_unnamed lone names (map sign_of tokens) ∙ keeps.unnamed));
+          (chosen_unnamed fs names (map (soften lone) (map sign_of tokens)) (soft_unnamed lone names (map sign_of tokens) ∙ keeps.unnamed));
       bare = rw (pieces_tokens false fs (map (softened lone) tokens))
-        (chosen_none (bytes_eq (codes "**")) fs (map (softened lone) tokens) (soft_bare lone tokens keeps.bare));
+          (chosen_none (bytes_eq (codes "**")) fs (map (softened lone) tokens) (soft_bare lone tokens keeps.bare));
       steers = rw signs (chosen_steers lone fs (map sign_of tokens) keeps.steers);
       pair = rw signs (chosen_pair lone fs (map sign_of tokens) (omega (arith, len, count)) keeps.pair is);
     }
@@ -316,17 +317,17 @@ comes_at lone fs names tokens len keeps is none =
     let wide = keeps.wide in
     let each = each_length names tokens wide in
     let marked : marks (pieces false fs (map (softened lone) tokens)) ≡ chosen fs (beginnings false (map sign_of tokens)) =
-      pieces_marks false fs (map (softened lone) tokens)
-      ∙ ap (λ (bs : List Bool). chosen fs bs)
-        (ap (λ (ss : List Sign). beginnings false ss) (soft_signs lone tokens) ∙ soft_begins lone false (map sign_of tokens)) in
+    pieces_marks false fs (map (softened lone) tokens)
+    ∙ ap (λ (bs : List Bool). chosen fs bs)
+    (ap (λ (ss : List Sign). beginnings false ss) (soft_signs lone tokens) ∙ soft_begins lone false (map sign_of tokens)) in
     let own : renamed_each (chosen fs names) (tokens_in (pieces false fs (map (softened lone) tokens)))
-      ≡ chosen fs (renamed_each names tokens) =
-      ap (λ (ts : List (List ℕ)). renamed_each (chosen fs names) ts) (pieces_tokens false fs (map (softened lone) tokens))
-      ∙ (chosen_each fs names (map (softened lone) tokens) (omega (arith, wide, size))
-      ∙ ap (λ (ns : List (List ℕ)). chosen fs ns) (soft_each lone names tokens)) in
+    ≡ chosen fs (renamed_each names tokens) =
+    ap (λ (ts : List (List ℕ)). renamed_each (chosen fs names) ts) (pieces_tokens false fs (map (softened lone) tokens))
+    ∙ (chosen_each fs names (map (softened lone) tokens) (omega (arith, wide, size))
+    ∙ ap (λ (ns : List (List ℕ)). chosen fs ns) (soft_each lone names tokens)) in
     let whole =
-      chosen_comes (λ _. []) lone fs (map sign_of tokens) (renamed_each names tokens) (omega (arith, len, count))
-        (omega (arith, count, each)) keeps.pair is none in
+    chosen_comes (λ _. []) lone fs (map sign_of tokens) (renamed_each names tokens) (omega (arith, len, count))
+    (omega (arith, count, each)) keeps.pair is none in
     rw (marked, own, cut_signs fs lone tokens, names_onward names tokens wide keeps.pair) whole
 
 -- They come to the chosen spines.
@@ -346,7 +347,7 @@ cut_leads fs names tokens rows len keeps few e =
     by_tests : (torn between : Bool) → is_torn fs (map sign_of tokens) ≡ torn
         → (has_lone fs tokens && chosen_between fs (map sign_of tokens)) ≡ between
         → ◌≡◌ {A = Result (List Row) Rule}
-          (cond torn (Err X1) (cond between (Err X3) (Ok (filled Interpretation (spread (pieces_of fs tokens)))))) (Ok rows)
+        (cond torn (Err X1) (cond between (Err X3) (Ok (filled Interpretation (spread (pieces_of fs tokens)))))) (Ok rows)
         → Lead (chosen fs names) rows (chosen (flags_after fs (map sign_of tokens)) (names_after (Spines names) tokens))
     by_tests true between a b e = cc
     by_tests false true a b e = cc
@@ -358,5 +359,5 @@ cut_leads fs names tokens rows len keeps few e =
         let fewer = chosen_fewer (flags_after fs (map sign_of tokens)) (names_after (Spines names) tokens) in
         let after = keeps.few in
         rw (← out, ← comes)
-          (spread_leads (pieces_of fs tokens) (chosen fs names) (cut_fits fs names tokens len keeps a) (omega (arith, less, few))
-            (omega (arith, size, fewer, after)))
+        (spread_leads (pieces_of fs tokens) (chosen fs names) (cut_fits fs names tokens len keeps a) (omega (arith, less, few))
+        (omega (arith, size, fewer, after)))

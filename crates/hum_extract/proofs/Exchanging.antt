@@ -22,8 +22,8 @@ flags_size j [] [] len = refl
 flags_size j [] (s ∷ ss) len = absurd (omega (arith, len))
 flags_size j (f ∷ fs) [] len = refl
 flags_size j (f ∷ fs) (s ∷ ss) len = by_bool (is_exchange s)
-  (λ w. rw w (ap suc (flags_size (j + 1) fs ss (omega (arith, len)))))
-  (λ w. rw w (flags_size (j + 1) fs ss (omega (arith, len))))
+    (λ w. rw w (ap suc (flags_size (j + 1) fs ss (omega (arith, len)))))
+    (λ w. rw w (flags_size (j + 1) fs ss (omega (arith, len))))
 
 -- the chosen ones of them
 pub chosen_exchanges : (j : ℕ) (fs : List Bool) (ss : List Sign)
@@ -31,11 +31,11 @@ pub chosen_exchanges : (j : ℕ) (fs : List Bool) (ss : List Sign)
 chosen_exchanges j [] ss = refl
 chosen_exchanges j (f ∷ fs) [] = refl
 chosen_exchanges j (true ∷ fs) (s ∷ ss) = by_bool (is_exchange s)
-  (λ w. rw w (ap suc (chosen_exchanges (j + 1) fs ss)))
-  (λ w. rw w (chosen_exchanges (j + 1) fs ss))
+    (λ w. rw w (ap suc (chosen_exchanges (j + 1) fs ss)))
+    (λ w. rw w (chosen_exchanges (j + 1) fs ss))
 chosen_exchanges j (false ∷ fs) (s ∷ ss) = by_bool (is_exchange s)
-  (λ w. rw w (chosen_exchanges j fs ss))
-  (λ w. rw w (chosen_exchanges j fs ss))
+    (λ w. rw w (chosen_exchanges j fs ss))
+    (λ w. rw w (chosen_exchanges j fs ss))
 
 parts : {f g : Bool} {fs gs : List Bool} → f ∷ fs ≡ g ∷ gs → (f ≡ g) × (fs ≡ gs)
 parts e = (cc, cc)
@@ -59,8 +59,8 @@ flag_put g gs [] ss e = cc
 flag_put g gs (f ∷ fs) [] e = cc
 flag_put g gs (f ∷ fs) (s ∷ ss) e =
     by_bool (is_exchange s)
-      (λ w. rw w (ap (λ (b : Bool). b ∷ fs) (sym (parts (rw w at e)).0)))
-      (λ w. rw w (ap (λ (bs : List Bool). f ∷ bs) (flag_put g gs fs ss (rw w at e))))
+    (λ w. rw w (ap (λ (b : Bool). b ∷ fs) (sym (parts (rw w at e)).0)))
+    (λ w. rw w (ap (λ (bs : List Bool). f ∷ bs) (flag_put g gs fs ss (rw w at e))))
 
 -- two of one flag
 swapped_same : (g : Bool) (fs : List Bool) (ss : List Sign) → exchanged_flags fs ss ≡ g ∷ g ∷ [] → swapped ss fs ≡ fs
@@ -68,10 +68,10 @@ swapped_same g [] ss e = cc
 swapped_same g (f ∷ fs) [] e = cc
 swapped_same g (f ∷ fs) (s ∷ ss) e =
     by_bool (is_exchange s)
-      (λ w.
-        let both = parts (rw w at e) in
-        rw (w, both.0, flag_at g g [] fs ss both.1, flag_put g [] fs ss both.1) refl)
-      (λ w. rw w (ap (λ (bs : List Bool). f ∷ bs) (swapped_same g fs ss (rw w at e))))
+    (λ w.
+    let both = parts (rw w at e) in
+    rw (w, both.0, flag_at g g [] fs ss both.1, flag_put g [] fs ss both.1) refl)
+    (λ w. rw w (ap (λ (bs : List Bool). f ∷ bs) (swapped_same g fs ss (rw w at e))))
 
 -- both chosen: the next one,
 at_chosen : {X : Type 0} (d : X) (gs fs : List Bool) (ss : List Sign) (xs : List X) → length ss ≡ length xs
@@ -91,8 +91,8 @@ put_chosen y gs (f ∷ fs) [] xs len e = cc
 put_chosen y gs (f ∷ fs) (s ∷ ss) [] len e = absurd (omega (arith, len))
 put_chosen {X} y gs (true ∷ fs) (s ∷ ss) (x ∷ xs) len e =
     by_bool (is_exchange s)
-      (λ w. rw w refl)
-      (λ w. rw w (ap (λ (ys : List X). x ∷ ys) (put_chosen y gs fs ss xs (omega (arith, len)) (rw w at e))))
+    (λ w. rw w refl)
+    (λ w. rw w (ap (λ (ys : List X). x ∷ ys) (put_chosen y gs fs ss xs (omega (arith, len)) (rw w at e))))
 put_chosen y gs (false ∷ fs) (s ∷ ss) (x ∷ xs) len e =
     by_bool (is_exchange s) (λ w. dropped_first (rw w at e)) (λ w. rw w (put_chosen y gs fs ss xs (omega (arith, len)) (rw w at e)))
 
@@ -104,11 +104,11 @@ swapped_both (f ∷ fs) [] xs len e = cc
 swapped_both (f ∷ fs) (s ∷ ss) [] len e = absurd (omega (arith, len))
 swapped_both {X} (true ∷ fs) (s ∷ ss) (x ∷ xs) len e =
     by_bool (is_exchange s)
-      (λ w.
-        let last = (parts (rw w at e)).1 in
-        let same : length ss ≡ length xs = omega (arith, len) in
-        rw w (rw (at_chosen x [] fs ss xs same last, put_chosen x [] fs ss xs same last) refl))
-      (λ w. rw w (ap (λ (ys : List X). x ∷ ys) (swapped_both fs ss xs (omega (arith, len)) (rw w at e))))
+    (λ w.
+    let last = (parts (rw w at e)).1 in
+    let same : length ss ≡ length xs = omega (arith, len) in
+    rw w (rw (at_chosen x [] fs ss xs same last, put_chosen x [] fs ss xs same last) refl))
+    (λ w. rw w (ap (λ (ys : List X). x ∷ ys) (swapped_both fs ss xs (omega (arith, len)) (rw w at e))))
 swapped_both (false ∷ fs) (s ∷ ss) (x ∷ xs) len e =
     by_bool (is_exchange s) (λ w. dropped_first (rw w at e)) (λ w. rw w (swapped_both fs ss xs (omega (arith, len)) (rw w at e)))
 
@@ -120,8 +120,8 @@ put_dropped y gs (f ∷ fs) [] xs len e = cc
 put_dropped y gs (f ∷ fs) (s ∷ ss) [] len e = absurd (omega (arith, len))
 put_dropped {X} y gs (true ∷ fs) (s ∷ ss) (x ∷ xs) len e =
     by_bool (is_exchange s)
-      (λ w. chosen_first (rw w at e))
-      (λ w. rw w (ap (λ (ys : List X). x ∷ ys) (put_dropped y gs fs ss xs (omega (arith, len)) (rw w at e))))
+    (λ w. chosen_first (rw w at e))
+    (λ w. rw w (ap (λ (ys : List X). x ∷ ys) (put_dropped y gs fs ss xs (omega (arith, len)) (rw w at e))))
 put_dropped y gs (false ∷ fs) (s ∷ ss) (x ∷ xs) len e =
     by_bool (is_exchange s) (λ w. rw w refl) (λ w. rw w (put_dropped y gs fs ss xs (omega (arith, len)) (rw w at e)))
 
@@ -132,12 +132,12 @@ swapped_dropped (f ∷ fs) [] xs len e = cc
 swapped_dropped (f ∷ fs) (s ∷ ss) [] len e = absurd (omega (arith, len))
 swapped_dropped {X} (true ∷ fs) (s ∷ ss) (x ∷ xs) len e =
     by_bool (is_exchange s)
-      (λ w. chosen_first (rw w at e))
-      (λ w. rw w (ap (λ (ys : List X). x ∷ ys) (swapped_dropped fs ss xs (omega (arith, len)) (rw w at e))))
+    (λ w. chosen_first (rw w at e))
+    (λ w. rw w (ap (λ (ys : List X). x ∷ ys) (swapped_dropped fs ss xs (omega (arith, len)) (rw w at e))))
 swapped_dropped (false ∷ fs) (s ∷ ss) (x ∷ xs) len e =
     by_bool (is_exchange s)
-      (λ w. rw w (put_dropped x [] fs ss xs (omega (arith, len)) (parts (rw w at e)).1))
-      (λ w. rw w (swapped_dropped fs ss xs (omega (arith, len)) (rw w at e)))
+    (λ w. rw w (put_dropped x [] fs ss xs (omega (arith, len)) (parts (rw w at e)).1))
+    (λ w. rw w (swapped_dropped fs ss xs (omega (arith, len)) (rw w at e)))
 
 -- One chosen, with no chosen column between: the first,
 lone_first : {X : Type 0} (x : X) (gs fs : List Bool) (ss : List Sign) (xs : List X) → length ss ≡ length xs
@@ -150,8 +150,8 @@ lone_first x gs (true ∷ fs) (s ∷ ss) (y ∷ xs) len e none =
     by_bool (is_exchange s) (λ w. chosen_first (rw w at e)) (λ w. absurd (false≢true (sym (rw w at none))))
 lone_first x gs (false ∷ fs) (s ∷ ss) (y ∷ xs) len e none =
     by_bool (is_exchange s)
-      (λ w. rw w refl)
-      (λ w. rw w (lone_first x gs fs ss xs (omega (arith, len)) (rw w at e) (rw w at none)))
+    (λ w. rw w refl)
+    (λ w. rw w (lone_first x gs fs ss xs (omega (arith, len)) (rw w at e) (rw w at none)))
 
 -- the second,
 lone_second : {X : Type 0} (x d : X) (gs fs : List Bool) (ss : List Sign) (xs : List X) → length ss ≡ length xs
@@ -164,8 +164,8 @@ lone_second x d gs (true ∷ fs) (s ∷ ss) (y ∷ xs) len e none =
     by_bool (is_exchange s) (λ w. rw w refl) (λ w. absurd (false≢true (sym (rw w at none))))
 lone_second x d gs (false ∷ fs) (s ∷ ss) (y ∷ xs) len e none =
     by_bool (is_exchange s)
-      (λ w. dropped_first (rw w at e))
-      (λ w. rw w (lone_second x d gs fs ss xs (omega (arith, len)) (rw w at e) (rw w at none)))
+    (λ w. dropped_first (rw w at e))
+    (λ w. rw w (lone_second x d gs fs ss xs (omega (arith, len)) (rw w at e) (rw w at none)))
 
 lone_either : {X : Type 0} (f g : Bool) (fs : List Bool) (ss : List Sign) (x : X) (xs : List X) → length ss ≡ length xs → differ f g ≡ true
     → exchanged_flags fs ss ≡ g ∷ [] → chosen_before fs ss ≡ false
@@ -184,10 +184,10 @@ swapped_lone g h (f ∷ fs) [] xs len e d none = cc
 swapped_lone g h (f ∷ fs) (s ∷ ss) [] len e d none = absurd (omega (arith, len))
 swapped_lone {X} g h (f ∷ fs) (s ∷ ss) (x ∷ xs) len e d none =
     by_bool (is_exchange s)
-      (λ w.
-        let both = parts (rw w at e) in
-        rw w (lone_either f h fs ss x xs (omega (arith, len)) (rw both.0 d) both.1 (rw w at none)))
-      (λ w. rw w (on f (swapped_lone g h fs ss xs (omega (arith, len)) (rw w at e) d (rw w at none))))
+    (λ w.
+    let both = parts (rw w at e) in
+    rw w (lone_either f h fs ss x xs (omega (arith, len)) (rw both.0 d) both.1 (rw w at none)))
+    (λ w. rw w (on f (swapped_lone g h fs ss xs (omega (arith, len)) (rw w at e) d (rw w at none))))
   where
     on : (f : Bool) → chosen (swapped ss fs) (swapped ss xs) ≡ chosen fs xs
         → chosen (f ∷ swapped ss fs) (x ∷ swapped ss xs) ≡ chosen (f ∷ fs) (x ∷ xs)
@@ -237,14 +237,14 @@ is_exchange_at Plain h = cc
 sign_at : (ss : List Sign) → at_next Exchange ss ss ≡ Exchange
 sign_at [] = refl
 sign_at (s ∷ ss) = by_bool (is_exchange s)
-  (λ w. rw w (is_exchange_at s w))
-  (λ w. rw w (sign_at ss))
+    (λ w. rw w (is_exchange_at s w))
+    (λ w. rw w (sign_at ss))
 
 sign_put : (ss : List Sign) → put_next Exchange ss ss ≡ ss
 sign_put [] = refl
 sign_put (s ∷ ss) = by_bool (is_exchange s)
-  (λ w. rw w (ap (λ (t : Sign). t ∷ ss) (sym (is_exchange_at s w))))
-  (λ w. rw w (ap (λ (ts : List Sign). s ∷ ts) (sign_put ss)))
+    (λ w. rw w (ap (λ (t : Sign). t ∷ ss) (sym (is_exchange_at s w))))
+    (λ w. rw w (ap (λ (ts : List Sign). s ∷ ts) (sign_put ss)))
 
 pub sign_swapped : (ss : List Sign) → swapped ss ss ≡ ss
 sign_swapped [] = refl
@@ -289,8 +289,7 @@ swapped_chosen {X} fs ss xs len wide two lone = by_flags (exchanged_flags fs ss)
         → (swapped ss fs ≡ fs) × (chosen fs (swapped ss xs) ≡ swapped (chosen fs ss) (chosen fs xs))
     by_flags [] e two lone =
         let none = none_exchanged 0 fs ss len e in
-        let left = none_left 0 fs ss [] e refl in
-        (
+        let left = none_left 0 fs ss [] e refl in (
           swapped_none 0 ss fs none,
           ap (λ (ys : List X). chosen fs ys) (swapped_none 0 ss xs none) ∙ sym (swapped_none 0 (chosen fs ss) (chosen fs xs) left),
         )

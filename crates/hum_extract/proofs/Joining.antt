@@ -77,26 +77,25 @@ formed_from f s name b before (true ∷ fs) (t ∷ ts) (n ∷ ns) len wide torn 
     let signs = map sign_of ts in
     let tear = or_parts (is_join s && (is_join (sign_of t) && differ f true)) (is_torn (true ∷ fs) (sign_of t ∷ signs)) torn in
     let alone =
-      or_parts (is_join (sign_of t) && not (is_join s || first_is is_join signs)) (has_lone_join (is_join (sign_of t)) signs) lone in
-    let mix = or_parts (is_join s && (is_join (sign_of t) && not (bytes_eq name n))) (has_mixed_join (n ∷ ns) (sign_of t ∷ signs)) mixed in
-    (
+    or_parts (is_join (sign_of t) && not (is_join s || first_is is_join signs)) (has_lone_join (is_join (sign_of t)) signs) lone in
+    let mix = or_parts (is_join s && (is_join (sign_of t) && not (bytes_eq name n))) (has_mixed_join (n ∷ ns) (sign_of t ∷ signs)) mixed in (
       λ e. let well = begins_well (is_join (sign_of t)) (is_join s) (first_is is_join signs) alone.0 e in
-        (well.0, next_chosen (sign_of t) fs ts (omega (arith, len)) well.0 well.1 tear.1),
+          (well.0, next_chosen (sign_of t) fs ts (omega (arith, len)) well.0 well.1 tear.1),
       (
         λ e. let well = goes_well (is_join (sign_of t)) (is_join s) f name n tear.0 mix.0 e in
-          let left = at well.1.0 in (left.0 ∙ well.0, left.1 ∙ well.1.1),
+            let left = at well.1.0 in (left.0 ∙ well.0, left.1 ∙ well.1.1),
         formed_from true (sign_of t) n (is_join (sign_of t)) n fs ts ns (omega (arith, len)) (omega (arith, wide)) tear.1 alone.1 mix.1
-          (λ e. (refl, refl))
-      )
+            (λ e. (refl, refl)),
+      ),
     )
 formed_from f s name b before (false ∷ fs) (t ∷ ts) (n ∷ ns) len wide torn lone mixed at =
     let signs = map sign_of ts in
     let tear = or_parts (is_join s && (is_join (sign_of t) && differ f false)) (is_torn (false ∷ fs) (sign_of t ∷ signs)) torn in
     let alone =
-      or_parts (is_join (sign_of t) && not (is_join s || first_is is_join signs)) (has_lone_join (is_join (sign_of t)) signs) lone in
+    or_parts (is_join (sign_of t) && not (is_join s || first_is is_join signs)) (has_lone_join (is_join (sign_of t)) signs) lone in
     let mix = or_parts (is_join s && (is_join (sign_of t) && not (bytes_eq name n))) (has_mixed_join (n ∷ ns) (sign_of t ∷ signs)) mixed in
     formed_from false (sign_of t) n b before fs ts ns (omega (arith, len)) (omega (arith, wide)) tear.1 alone.1 mix.1
-      (λ e. absurd (false≢true e))
+    (λ e. absurd (false≢true e))
 
 -- The chosen tokens are formed, where no join is torn, lone or mixed.
 pub pieces_formed : (fs : List Bool) (ts ns : List (List ℕ)) → length fs ≡ length ts → length ns ≡ length ts
@@ -104,12 +103,13 @@ pub pieces_formed : (fs : List Bool) (ts ns : List (List ℕ)) → length fs ≡
     → Formed false [] (pieces false fs ts) (chosen fs ns)
 pieces_formed fs ts ns len wide torn lone mixed =
     formed_from false Plain [] false [] fs ts ns len wide (start fs (map sign_of ts) torn) lone (unmixed ns (map sign_of ts) mixed)
-      (λ e. absurd (false≢true e))
+    (λ e. absurd (false≢true e))
   where
     start : (fs : List Bool) (ss : List Sign) → is_torn fs ss ≡ false → is_torn (false ∷ fs) (Plain ∷ ss) ≡ false
     start [] ss h = refl
     start (f ∷ fs) [] h = refl
     start (f ∷ fs) (s ∷ ss) h = h
+
     unmixed : (ns : List (List ℕ)) (ss : List Sign) → has_mixed_join ns ss ≡ false → has_mixed_join ([] ∷ ns) (Plain ∷ ss) ≡ false
     unmixed [] ss h = refl
     unmixed (n ∷ ns) [] h = refl

@@ -136,7 +136,7 @@ own_flags : (all : List Bool) (j n : ℕ) → j + n ≡ length all
 own_flags all j zero h = sym (drop_all j all (omega (arith, h)))
 own_flags all j (suc n) h =
     let rest : map (λ o. get_or all o false) (map (origin_of []) (same_upto (j + 1) n)) ≡ drop (suc j) all =
-      own_flags all (j + 1) n (omega (arith, h)) ∙ ap (λ (k : ℕ). drop k all) (add-one j) in
+    own_flags all (j + 1) n (omega (arith, h)) ∙ ap (λ (k : ℕ). drop k all) (add-one j) in
     rw (drop-cons all j false (omega (arith, h))) (ap (λ (fs : List Bool). get_or all j false ∷ fs) rest)
 
 flags_opened : (choice : Choice) (past : List Row) (tokens : List (List ℕ)) → IsOpen past → path_after past ≡ Unopened
@@ -182,14 +182,14 @@ flags_onward choice past names tokens sound at keeps =
     let own = keeps.wide in
     rw at (map-map (is_from choice past) (origin_of (origins past)) (moves_under (map sign_of tokens))
     ∙ sources_onward false (λ m. is_from choice past (origin_of (origins past) m)) (flags choice past) (map sign_of tokens)
-      (λ m below. sym (get_or-map (is_from choice past) (origins past) (source m) (source m) false (omega (arith, below, size))))
-      (omega (arith, count, size, wide, own)) keeps.pair)
+    (λ m below. sym (get_or-map (is_from choice past) (origins past) (source m) (source m) false (omega (arith, below, size))))
+    (omega (arith, count, size, wide, own)) keeps.pair)
 
 cut_next : (choice : Choice) (past : List Row) (names tokens : List (List ℕ)) (rows : List Row) → IsOpen past
     → path_after past ≡ Spines names
     → find (breaks (Spines names) tokens) in_order ≡ None → cut (flags choice past) tokens ≡ Ok rows
     → Reach (Spines (chosen (flags choice past) names)) rows
-      (Spines (chosen (flags choice (Spined Interpretation tokens ∷ past)) (names_after (Spines names) tokens)))
+    (Spines (chosen (flags choice (Spined Interpretation tokens ∷ past)) (names_after (Spines names) tokens)))
 cut_next choice past names tokens rows sound at h e =
     let keeps = obeys names tokens h in
     let own = keeps.wide in
@@ -197,8 +197,8 @@ cut_next choice past names tokens rows sound at h e =
     let wide = origins_width past sound ∙ ap width at in
     let most : length names ≤ 4096 = rw at at (narrow past sound) in
     rw (flags_onward choice past names tokens sound at keeps)
-      (lead_follows (chosen (flags choice past) names) _ rows
-        (cut_leads (flags choice past) names tokens rows (omega (arith, size, wide, own)) keeps most e))
+    (lead_follows (chosen (flags choice past) names) _ rows
+    (cut_leads (flags choice past) names tokens rows (omega (arith, size, wide, own)) keeps most e))
 
 extract_next : (choice : Choice) (past : List Row) (row : Row) (given : Path) (rows : List Row) → IsOpen (row ∷ past)
     → Leads choice past given
@@ -208,11 +208,11 @@ extract_next choice past (Comment text) given rows sound leads e =
 extract_next choice past (Spined Local tokens) given rows sound leads e =
     let one : filled Local (chosen (flags choice past) tokens ∷ []) ≡ rows = cc in
     rw (later_opening (path_after past) tokens (opening_of past) sound.1)
-      (text_case (flags choice past) Local (path_after past) tokens given rows (λ x. cc) sound.1 leads one)
+    (text_case (flags choice past) Local (path_after past) tokens given rows (λ x. cc) sound.1 leads one)
 extract_next choice past (Spined Values tokens) given rows sound leads e =
     let one : filled Values (chosen (flags choice past) tokens ∷ []) ≡ rows = cc in
     rw (later_opening (path_after past) tokens (opening_of past) sound.1)
-      (text_case (flags choice past) Values (path_after past) tokens given rows (λ x. cc) sound.1 leads one)
+    (text_case (flags choice past) Values (path_after past) tokens given rows (λ x. cc) sound.1 leads one)
 extract_next choice past (Spined Interpretation tokens) given rows sound leads e = at_path (path_after past) refl sound.1 leads e
   where
     at_path : (path : Path) → path_after past ≡ path → find (breaks path tokens) in_order ≡ None

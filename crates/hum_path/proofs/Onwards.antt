@@ -66,10 +66,10 @@ from_own none pair vs j [] (x ∷ xs) len e at = absurd (omega (arith, len))
 from_own none pair vs j (s ∷ ss) [] len e at = absurd (omega (arith, len))
 from_own none pair vs j (s ∷ ss) (x ∷ xs) len e at =
     by_bool (is_exchange s)
-      (λ w. filled_is (rw w at e))
-      (λ w.
-        let rest = from_own none pair vs (j + 1) ss xs (omega (arith, len)) (rw w at e) (next_at none vs j x xs at) in
-        rw (w, first_at none vs j x xs at, rest) refl)
+    (λ w. filled_is (rw w at e))
+    (λ w.
+    let rest = from_own none pair vs (j + 1) ss xs (omega (arith, len)) (rw w at e) (next_at none vs j x xs at) in
+    rw (w, first_at none vs j x xs at, rest) refl)
 
 -- behind the first one,
 from_second : {X : Type 0} (none : X) (a b : ℕ) (vs : List X) (j : ℕ) (ss : List Sign) (xs : List X) → length ss ≡ length xs
@@ -79,15 +79,15 @@ from_second none a b vs j [] xs len e less at = cc
 from_second none a b vs j (s ∷ ss) [] len e less at = absurd (omega (arith, len))
 from_second none a b vs j (s ∷ ss) (x ∷ xs) len e less at =
     by_bool (is_exchange s)
-      (λ w.
-        let last = (parts (rw w at e)).1 in
-        let later : (j == a) ≡ false = grind (arith, nat_tests, less) in
-        let rest = from_own none (a ∷ b ∷ []) vs (j + 1) ss xs (omega (arith, len)) last (next_at none vs j x xs at) in
-        rw (w, later, rest) refl)
-      (λ w.
-        let more = next_at none vs j x xs at in
-        let rest = from_second none a b vs (j + 1) ss xs (omega (arith, len)) (rw w at e) (omega (arith, less)) more in
-        rw (w, first_at none vs j x xs at, rest) refl)
+    (λ w.
+    let last = (parts (rw w at e)).1 in
+    let later : (j == a) ≡ false = grind (arith, nat_tests, less) in
+    let rest = from_own none (a ∷ b ∷ []) vs (j + 1) ss xs (omega (arith, len)) last (next_at none vs j x xs at) in
+    rw (w, later, rest) refl)
+    (λ w.
+    let more = next_at none vs j x xs at in
+    let rest = from_second none a b vs (j + 1) ss xs (omega (arith, len)) (rw w at e) (omega (arith, less)) more in
+    rw (w, first_at none vs j x xs at, rest) refl)
 
 -- the one that the first changes places with,
 second_at : {X : Type 0} (none other : X) (b : ℕ) (vs : List X) (j : ℕ) (ss : List Sign) (xs : List X) → length ss ≡ length xs
@@ -96,8 +96,8 @@ second_at none other b vs j [] xs len e at = cc
 second_at none other b vs j (s ∷ ss) [] len e at = absurd (omega (arith, len))
 second_at none other b vs j (s ∷ ss) (x ∷ xs) len e at =
     by_bool (is_exchange s)
-      (λ w. rw (w, ← (parts (rw w at e)).0) (first_at none vs j x xs at))
-      (λ w. rw w (second_at none other b vs (j + 1) ss xs (omega (arith, len)) (rw w at e) (next_at none vs j x xs at)))
+    (λ w. rw (w, ← (parts (rw w at e)).0) (first_at none vs j x xs at))
+    (λ w. rw w (second_at none other b vs (j + 1) ss xs (omega (arith, len)) (rw w at e) (next_at none vs j x xs at)))
 
 -- and with two.
 from_both : {X : Type 0} (none : X) (a b : ℕ) (vs : List X) (j : ℕ) (ss : List Sign) (xs : List X) → length ss ≡ length xs
@@ -106,18 +106,18 @@ from_both none a b vs j [] xs len e at = cc
 from_both none a b vs j (s ∷ ss) [] len e at = absurd (omega (arith, len))
 from_both none a b vs j (s ∷ ss) (x ∷ xs) len e at =
     by_bool (is_exchange s)
-      (λ w.
-        let both = parts (rw w at e) in
-        let same = both.0 in
-        let more = next_at none vs j x xs at in
-        let now : (j == a) ≡ true = grind (arith, nat_tests, same) in
-        let other = second_at none x b vs (j + 1) ss xs (omega (arith, len)) both.1 more in
-        let rest = from_second none a b vs (j + 1) ss xs (omega (arith, len)) both.1 (omega (arith, same)) more in
-        let first : get_or vs a none ≡ x = ap (λ (k : ℕ). get_or vs k none) (sym same) ∙ first_at none vs j x xs at in
-        rw (w, now, other, rest, first) refl)
-      (λ w.
-        let rest = from_both none a b vs (j + 1) ss xs (omega (arith, len)) (rw w at e) (next_at none vs j x xs at) in
-        rw (w, first_at none vs j x xs at, rest) refl)
+    (λ w.
+    let both = parts (rw w at e) in
+    let same = both.0 in
+    let more = next_at none vs j x xs at in
+    let now : (j == a) ≡ true = grind (arith, nat_tests, same) in
+    let other = second_at none x b vs (j + 1) ss xs (omega (arith, len)) both.1 more in
+    let rest = from_second none a b vs (j + 1) ss xs (omega (arith, len)) both.1 (omega (arith, same)) more in
+    let first : get_or vs a none ≡ x = ap (λ (k : ℕ). get_or vs k none) (sym same) ∙ first_at none vs j x xs at in
+    rw (w, now, other, rest, first) refl)
+    (λ w.
+    let rest = from_both none a b vs (j + 1) ss xs (omega (arith, len)) (rw w at e) (next_at none vs j x xs at) in
+    rw (w, first_at none vs j x xs at, rest) refl)
 
 -- nothing changes places
 pub swapped_none : {X : Type 0} (j : ℕ) (ss : List Sign) (xs : List X) → exchanges j ss ≡ [] → swapped ss xs ≡ xs
@@ -125,22 +125,22 @@ swapped_none j [] xs e = refl
 swapped_none j (s ∷ ss) [] e = refl
 swapped_none {X} j (s ∷ ss) (x ∷ xs) e =
     by_bool (is_exchange s)
-      (λ w. filled_is (rw w at e))
-      (λ w. rw w (ap (λ (ys : List X). x ∷ ys) (swapped_none (j + 1) ss xs (rw w at e))))
+    (λ w. filled_is (rw w at e))
+    (λ w. rw w (ap (λ (ys : List X). x ∷ ys) (swapped_none (j + 1) ss xs (rw w at e))))
 
 put_length : {X : Type 0} (y : X) (ss : List Sign) (xs : List X) → length (put_next y ss xs) ≡ length xs
 put_length y [] xs = refl
 put_length y (s ∷ ss) [] = refl
 put_length y (s ∷ ss) (x ∷ xs) = by_bool (is_exchange s)
-  (λ w. rw w refl)
-  (λ w. rw w (ap suc (put_length y ss xs)))
+    (λ w. rw w refl)
+    (λ w. rw w (ap suc (put_length y ss xs)))
 
 pub swapped_length : {X : Type 0} (ss : List Sign) (xs : List X) → length (swapped ss xs) ≡ length xs
 swapped_length [] xs = refl
 swapped_length (s ∷ ss) [] = refl
 swapped_length (s ∷ ss) (x ∷ xs) = by_bool (is_exchange s)
-  (λ w. rw w (ap suc (put_length x ss xs)))
-  (λ w. rw w (ap suc (swapped_length ss xs)))
+    (λ w. rw w (ap suc (put_length x ss xs)))
+    (λ w. rw w (ap suc (swapped_length ss xs)))
 
 too_many : (n : ℕ) → ((suc (suc (suc n)) == 0) || (suc (suc (suc n)) == 2)) ≡ true → ⊥
 too_many n e = grind (arith, nat_tests, e)
@@ -152,6 +152,7 @@ places_swapped {X} none ss xs len two = by_pair (exchanges 0 ss) refl two
   where
     own : StandFrom none xs 0 xs
     own k = ap (λ (n : ℕ). get_or xs n none) (omega arith)
+
     by_pair : (pair : List ℕ) → exchanges 0 ss ≡ pair → is_pair_or_none pair ≡ true
         → from_places none pair xs 0 ss ≡ swapped ss xs
     by_pair [] e two = from_own none [] xs 0 ss xs len e own ∙ sym (swapped_none 0 ss xs e)
@@ -189,8 +190,7 @@ all_names_agree pair names tokens j [] len at = tt
 all_names_agree pair names tokens j (t ∷ ts) len at =
     let here = get_renamed names tokens j len in
     let there = get_renamed names tokens (partner pair j) len in
-    let sign : sign_of (get_or tokens j []) ≡ sign_of t = ap sign_of (first_at [] tokens j t ts at) in
-    (
+    let sign : sign_of (get_or tokens j []) ≡ sign_of t = ap sign_of (first_at [] tokens j t ts at) in (
       names_agree pair names tokens j (sign_of t) (renamed_each names tokens) sign here there,
       all_names_agree pair names tokens (j + 1) ts len (next_at [] tokens j t ts at),
     )
@@ -205,14 +205,14 @@ each_length (n ∷ ns) (t ∷ ts) len = ap suc (each_length ns ts (omega (arith,
 pub names_onward : (names tokens : List (List ℕ)) → length names ≡ length tokens → is_pair_or_none (exchanges 0 (map sign_of tokens)) ≡ true
     → names_after (Spines names) tokens
     ≡ onward (λ _. []) (beginnings false (map sign_of tokens)) (map sign_of tokens)
-      (swapped (map sign_of tokens) (renamed_each names tokens))
+    (swapped (map sign_of tokens) (renamed_each names tokens))
 names_onward names tokens len two =
     let signs = map sign_of tokens in
     let size : length signs ≡ length (renamed_each names tokens) = length-map tokens sign_of ∙ sym (each_length names tokens len) in
     let agree = all_names_agree (exchanges 0 signs) names tokens 0 tokens len (λ k. ap (λ (n : ℕ). get_or tokens n []) (omega arith)) in
     onward_by_moves (renamed names tokens) (λ _. []) (exchanges 0 signs) 0 false signs _ agree
     ∙ ap (λ (xs : List (List ℕ)). onward (λ _. []) (beginnings false signs) signs xs)
-      (places_swapped [] signs (renamed_each names tokens) size two)
+    (places_swapped [] signs (renamed_each names tokens) size two)
 
 -- what is the same for all moves from a place
 place_agrees : {X : Type 0} (none : X) (f : Move → X) (pair : List ℕ) (xs : List X) (j : ℕ) (s : Sign)
@@ -231,8 +231,7 @@ all_agree : {X : Type 0} (none : X) (f : Move → X) (pair : List ℕ) (xs : Lis
     → AllByRecursion (λ p. p < length xs) pair → j + length ss ≤ length xs → Agrees f (λ x. x) pair j ss (from_places none pair xs j ss)
 all_agree none f pair xs j [] at below within = tt
 all_agree none f pair xs j (s ∷ ss) at below within =
-    let here : j < length xs = omega (arith, within) in
-    (
+    let here : j < length xs = omega (arith, within) in (
       place_agrees none f pair xs j s at here (partner_below (length xs) j pair below here),
       all_agree none f pair xs (j + 1) ss at below (omega (arith, within)),
     )

@@ -88,8 +88,8 @@ formed_lone b m [] ns f = refl
 formed_lone b m (p ∷ ps) [] f = absurd f
 formed_lone b m (p ∷ ps) (n ∷ ns) f =
     or_from (joins p && not (b || first_is is_join (signs_in ps))) (has_lone_join (joins p) (signs_in ps))
-      (beside b p.begins (joins p) (first_is is_join (signs_in ps)) (λ e. next_joins ps (f.0 e).1) (λ e. (f.1.0 e).0))
-      (formed_lone (joins p) n ps ns f.1.1)
+    (beside b p.begins (joins p) (first_is is_join (signs_in ps)) (λ e. next_joins ps (f.0 e).1) (λ e. (f.1.0 e).0))
+    (formed_lone (joins p) n ps ns f.1.1)
 
 -- no join is mixed
 pub same_name : (m n : List ℕ) → m ≡ n → not (bytes_eq m n) ≡ false
@@ -110,8 +110,8 @@ formed_mixed s m (p ∷ ps) [] f t = absurd f
 formed_mixed s m (p ∷ ps) (n ∷ ns) f t =
     let both = or_parts (is_join s && p.begins) (touches (joins p) ps) t in
     or_from (is_join s && (joins p && not (bytes_eq m n))) (has_mixed_join (n ∷ ns) (signs_in (p ∷ ps)))
-      (unmixed (is_join s) p.begins (joins p) m n f.1.0 both.0)
-      (formed_mixed (sign_of p.token) n ps ns f.1.1 both.1)
+    (unmixed (is_join s) p.begins (joins p) m n f.1.0 both.0)
+    (formed_mixed (sign_of p.token) n ps ns f.1.1 both.1)
 
 -- nothing stands to the left of the first
 mixed_first : (ps : List Piece) (ns : List (List ℕ)) → Formed false [] ps ns → touches false ps ≡ false
@@ -128,7 +128,7 @@ one_comes ps ns fits t =
     let len : length ns ≡ length (tokens_in ps) = sym (formed_length false [] ps ns fits.formed) ∙ sym (pieces_size ps) in
     names_onward ns (tokens_in ps) len fits.pair
     ∙ ap (λ (bs : List Bool). onward (λ _. []) bs (signs_in ps) (swapped (signs_in ps) (renamed_each ns (tokens_in ps))))
-      (begins_marks false [] ps ns fits.formed t)
+    (begins_marks false [] ps ns fits.formed t)
 
 pub one_sound : (ps : List Piece) (ns : List (List ℕ)) (k : ℕ) → length ps ≡ suc k → Fits ps ns → touches false ps ≡ false
     → length (come_to ps ns) ≤ 4096
@@ -138,7 +138,7 @@ one_sound ps ns k some fits t few =
     let len = formed_length false [] ps ns fits.formed in
     let same = ap length (one_comes ps ns fits t) in
     sound_by_rules ns (tokens_in ps) k (omega (arith, size, some)) (omega (arith, size, len)) fits.unnamed fits.bare fits.steers
-      (formed_lone false [] ps ns fits.formed) fits.pair (mixed_first ps ns fits.formed t) (omega (arith, same, few))
+    (formed_lone false [] ps ns fits.formed) fits.pair (mixed_first ps ns fits.formed t) (omega (arith, same, few))
 
 -- one record more
 pub one_more : (names tokens end : List (List ℕ)) (rows : List (List (List ℕ))) (k : ℕ) → length tokens ≡ suc k
@@ -153,4 +153,4 @@ one_leads [] [] fits t few = refl
 one_leads [] (n ∷ ns) fits t few = absurd fits.formed
 one_leads (p ∷ ps) ns fits t few =
     one_more ns (tokens_in (p ∷ ps)) (come_to (p ∷ ps) ns) [] (length ps) (pieces_size (p ∷ ps))
-      (one_sound (p ∷ ps) ns (length ps) refl fits t few) (one_comes (p ∷ ps) ns fits t)
+    (one_sound (p ∷ ps) ns (length ps) refl fits t few) (one_comes (p ∷ ps) ns fits t)

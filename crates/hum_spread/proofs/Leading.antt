@@ -86,7 +86,7 @@ steady_comes ps ns h =
     let size = pieces_size ps in
     let len = formed_length false [] ps ns h.formed in
     ap (λ (xs : List (List ℕ)). onward (λ _. []) (marks ps) (signs_in ps) (swapped (signs_in ps) xs))
-      (same_names ns (tokens_in ps) (omega (arith, size, len)) h.stay)
+    (same_names ns (tokens_in ps) (omega (arith, size, len)) h.stay)
 
 -- The record with the first join alone, and what is left to do.
 first_comes : (ps : List Piece) (ns : List (List ℕ)) → Steady ps ns → names_after (Spines ns) (first_alone ps) ≡ merged ps ns
@@ -98,7 +98,7 @@ first_comes ps ns h =
     let stay = first_none (λ t. is_exclusive (sign_of t)) ps refl h.stay in
     names_onward ns (first_alone ps) wide (rw none refl)
     ∙ (rw (same_names ns (first_alone ps) wide stay, swapped_none 0 (map sign_of (first_alone ps)) ns none)
-      (first_onward (λ _. []) false [] ps ns ns h.formed len))
+    (first_onward (λ _. []) false [] ps ns ns h.formed len))
 
 first_sound : (ps : List Piece) (ns : List (List ℕ)) (k : ℕ) → length ps ≡ suc k → Steady ps ns → length ns ≤ 4096
     → find (breaks (Spines ns) (first_alone ps)) in_order ≡ None
@@ -110,9 +110,9 @@ first_sound ps ns k some h few =
     let none = first_exchange 0 false [] ps ns h.formed in
     let stay = first_none (λ t. is_exclusive (sign_of t)) ps refl h.stay in
     sound_by_rules ns (first_alone ps) k (omega (arith, size, some)) (omega (arith, size, len))
-      (none_unnamed ns (map sign_of (first_alone ps)) h.named)
-      (first_none (bytes_eq (codes "**")) ps refl h.bare) (steady_steers (first_alone ps) stay)
-      (first_lone false [] ps ns h.formed) (rw none refl) (first_unmixed ps ns h.formed) (omega (arith, same, few, fewer))
+    (none_unnamed ns (map sign_of (first_alone ps)) h.named)
+    (first_none (bytes_eq (codes "**")) ps refl h.bare) (steady_steers (first_alone ps) stay)
+    (first_lone false [] ps ns h.formed) (rw none refl) (first_unmixed ps ns h.formed) (omega (arith, same, few, fewer))
 
 left_comes : (ps : List Piece) (ns : List (List ℕ)) → Steady ps ns → come_to (first_done ps) (merged ps ns) ≡ come_to ps ns
 left_comes ps ns h =
@@ -140,8 +140,8 @@ touching_joins b m (p ∷ ps) (n ∷ ns) f t =
 
 one_apart : (ps : List Piece) (ns : List (List ℕ)) → Formed false [] ps ns → joins_in ps ≤ 1 → touches false ps ≡ false
 one_apart ps ns f few = by_bool (touches false ps)
-  (λ w. absurd (let two = touching_joins false [] ps ns f w in omega (arith, two, few)))
-  (λ w. w)
+    (λ w. absurd (let two = touching_joins false [] ps ns f w in omega (arith, two, few)))
+    (λ w. w)
 
 -- So many records with one join alone, and the last.
 by_one : (n : ℕ) (ps : List Piece) (ns : List (List ℕ)) → Steady ps ns → joins_in ps ≤ suc n → (1 ≤ n → joins_in ps ≡ suc n)
@@ -156,11 +156,11 @@ by_one (suc n) (p ∷ ps) ns h few exact w e =
     let narrow = merged_fewer (p ∷ ps) ns in
     let size = ap length left in
     let more =
-      by_one n (first_done (p ∷ ps)) (merged (p ∷ ps) ns) (done_steady (p ∷ ps) ns h) (omega (arith, fewer)) (λ k. fewer)
-        (omega (arith, narrow, w)) (omega (arith, size, e)) in
+    by_one n (first_done (p ∷ ps)) (merged (p ∷ ps) ns) (done_steady (p ∷ ps) ns h) (omega (arith, fewer)) (λ k. fewer)
+    (omega (arith, narrow, w)) (omega (arith, size, e)) in
     one_more ns (first_alone (p ∷ ps)) (come_to (p ∷ ps) ns) (one_by_one n (first_done (p ∷ ps))) (length ps) (first_size (p ∷ ps))
-      (first_sound (p ∷ ps) ns (length ps) refl h w)
-      (rw (first_comes (p ∷ ps) ns h, ← left) more)
+    (first_sound (p ∷ ps) ns (length ps) refl h w)
+    (rw (first_comes (p ∷ ps) ns h, ← left) more)
 
 -- Where joins touch, the record steers: no token names a spine, and no spine waits for its name.
 touching_steers : (b : Bool) (m : List ℕ) (ps : List Piece) (ns : List (List ℕ)) → Formed b m ps ns → touches b ps ≡ true
@@ -168,14 +168,15 @@ touching_steers : (b : Bool) (m : List ℕ) (ps : List Piece) (ns : List (List �
 touching_steers b m [] ns f t = absurd (false≢true t)
 touching_steers b m (p ∷ ps) [] f t = absurd f
 touching_steers b m (p ∷ ps) (n ∷ ns) f t = by_bool p.begins
-  (λ w. rw (is_join_at (sign_of p.token) (f.0 w).0) refl)
-  (λ w.
+    (λ w. rw (is_join_at (sign_of p.token) (f.0 w).0) refl)
+    (λ w.
     let more = touching_steers (joins p) n ps ns f.1.1 (later b p.begins (touches (joins p) ps) w t) in
     or_right (is_path_indicator (sign_of p.token)) (list_any is_path_indicator (signs_in ps)) more)
   where
     or_right : (a c : Bool) → c ≡ true → (a || c) ≡ true
     or_right true c h = refl
     or_right false c h = h
+
     later : (b g c : Bool) → g ≡ false → ((b && g) || c) ≡ true → c ≡ true
     later true true c w h = cc
     later true false c w h = h
@@ -189,7 +190,7 @@ all_named (n ∷ ns) (t ∷ ts) len u h =
     let here = or_parts (stays_unnamed n (sign_of t)) (has_unnamed ns (map sign_of ts)) u in
     let stay = or_parts (is_exclusive (sign_of t)) (list_any (λ u. is_exclusive (sign_of u)) ts) h in
     or_from (is_nameless n) (list_any is_nameless ns) (named (is_nameless n) (is_exclusive (sign_of t)) here.0 stay.0)
-      (all_named ns ts (omega (arith, len)) here.1 stay.1)
+    (all_named ns ts (omega (arith, len)) here.1 stay.1)
   where
     named : (a e : Bool) → (a && not e) ≡ false → e ≡ false → a ≡ false
     named true true u h = cc
@@ -200,7 +201,7 @@ touching_steady : (ps : List Piece) (ns : List (List ℕ)) → Fits ps ns → to
 touching_steady ps ns fits t =
     let steers = touching_steers false [] ps ns fits.formed t in
     let none =
-      only_left (list_any is_exclusive (signs_in ps)) (list_any is_path_indicator (signs_in ps)) fits.steers steers in
+    only_left (list_any is_exclusive (signs_in ps)) (list_any is_path_indicator (signs_in ps)) fits.steers steers in
     let stay : list_any (λ u. is_exclusive (sign_of u)) (tokens_in ps) ≡ false = sym (any_sign is_exclusive (tokens_in ps)) ∙ none in
     let size = pieces_size ps in
     let len = formed_length false [] ps ns fits.formed in
@@ -225,6 +226,7 @@ spread_leads ps ns fits w e = by_test (touches false ps) refl
     before : (k : ℕ) → 2 ≤ k → k ≡ suc (before_last k)
     before zero h = absurd (omega (arith, h))
     before (suc k) h = refl
+
     by_test : (t : Bool) → touches false ps ≡ t
         → Lead ns (filled Interpretation (cond t (one_by_one (before_last (joins_in ps)) ps) (tokens_in ps ∷ []))) (come_to ps ns)
     by_test false t = one_leads ps ns fits t e

@@ -73,10 +73,10 @@ rest_onward added [] (x ∷ xs) h = absurd (omega (arith, h))
 rest_onward added (p ∷ ps) [] h = absurd (omega (arith, h))
 rest_onward added (p ∷ ps) (x ∷ xs) h =
     by_bool (goes_on p)
-      (λ w.
-        let join = is_join_at (sign_of p.token) (and_parts (joins p) (not p.begins) w).0 in
-        rw (w, join) (rest_onward added ps xs (omega (arith, h))))
-      (λ w. rw w (stars_onward added true (p ∷ ps) (x ∷ xs) h))
+    (λ w.
+    let join = is_join_at (sign_of p.token) (and_parts (joins p) (not p.begins) w).0 in
+    rw (w, join) (rest_onward added ps xs (omega (arith, h))))
+    (λ w. rw w (stars_onward added true (p ∷ ps) (x ∷ xs) h))
 
 pub first_onward : {X : Type 0} (added : X → X) (b : Bool) (m : List ℕ) (ps : List Piece) (ns : List (List ℕ)) (xs : List X)
     → Formed b m ps ns → length ps ≡ length xs
@@ -87,10 +87,10 @@ first_onward added b m (p ∷ ps) ns [] f h = absurd (omega (arith, h))
 first_onward added b m (p ∷ ps) [] (x ∷ xs) f h = absurd f
 first_onward {X} added b m (p ∷ ps) (n ∷ ns) (x ∷ xs) f h =
     by_bool p.begins
-      (λ w.
-        let join = is_join_at (sign_of p.token) (f.0 w).0 in
-        rw (w, join) (ap (λ (zs : List X). x ∷ zs) (rest_onward added ps xs (omega (arith, h)))))
-      (λ w. rw w (ap (λ (zs : List X). x ∷ zs) (first_onward added (joins p) n ps ns xs f.1.1 (omega (arith, h)))))
+    (λ w.
+    let join = is_join_at (sign_of p.token) (f.0 w).0 in
+    rw (w, join) (ap (λ (zs : List X). x ∷ zs) (rest_onward added ps xs (omega (arith, h)))))
+    (λ w. rw w (ap (λ (zs : List X). x ∷ zs) (first_onward added (joins p) n ps ns xs f.1.1 (omega (arith, h)))))
 
 -- the first join, and then what is left
 rest_done_onward : {X : Type 0} (added : X → X) (ps : List Piece) (xs : List X)
@@ -103,12 +103,12 @@ rest_done_onward added (p ∷ ps) [] = cases_empty (join_done (p ∷ ps))
     cases_empty (q ∷ qs) = refl
 rest_done_onward {X} added (p ∷ ps) (x ∷ xs) =
     by_bool (goes_on p)
-      (λ w.
-        let both = and_parts (joins p) (not p.begins) w in
-        let join = is_join_at (sign_of p.token) both.0 in
-        let later : p.begins ≡ false = unmarked p.begins both.1 in
-        rw (w, join, later) (rest_done_onward added ps xs))
-      (λ w. rw w refl)
+    (λ w.
+    let both = and_parts (joins p) (not p.begins) w in
+    let join = is_join_at (sign_of p.token) both.0 in
+    let later : p.begins ≡ false = unmarked p.begins both.1 in
+    rw (w, join, later) (rest_done_onward added ps xs))
+    (λ w. rw w refl)
   where
     unmarked : (b : Bool) → not b ≡ true → b ≡ false
     unmarked true h = cc
@@ -126,10 +126,10 @@ done_onward added b m (p ∷ ps) (n ∷ ns) [] f = cases_empty (first_done (p �
     cases_empty (q ∷ qs) = refl
 done_onward {X} added b m (p ∷ ps) (n ∷ ns) (x ∷ xs) f =
     by_bool p.begins
-      (λ w.
-        let join = is_join_at (sign_of p.token) (f.0 w).0 in
-        rw (w, join) (ap (λ (zs : List X). x ∷ zs) (rest_done_onward added ps xs)))
-      (λ w. rw w (ap (λ (zs : List X). onward_one added false (sign_of p.token) x ++ zs) (done_onward added (joins p) n ps ns xs f.1.1)))
+    (λ w.
+    let join = is_join_at (sign_of p.token) (f.0 w).0 in
+    rw (w, join) (ap (λ (zs : List X). x ∷ zs) (rest_done_onward added ps xs)))
+    (λ w. rw w (ap (λ (zs : List X). onward_one added false (sign_of p.token) x ++ zs) (done_onward added (joins p) n ps ns xs f.1.1)))
 
 -- what is left is formed
 rest_formed : (b c : Bool) (m o : List ℕ) (ps : List Piece) (ns : List (List ℕ)) → Formed b m ps ns
@@ -155,7 +155,7 @@ done_formed b m (p ∷ ps) (n ∷ ns) f =
     by_test : (t : Bool) → p.begins ≡ t → Formed false n (join_done ps) (rest_merged ps ns)
         → Formed (joins p) n (first_done ps) (merged ps ns)
         → Formed b m (cond t (piece false (codes "*") ∷ join_done ps) (p ∷ first_done ps))
-          (cond t (n ∷ rest_merged ps ns) (n ∷ merged ps ns))
+        (cond t (n ∷ rest_merged ps ns) (n ∷ merged ps ns))
     by_test true w rest more = (λ e. absurd (false≢true e), (λ e. absurd (false≢true e), rest))
     by_test false w rest more = (λ e. absurd (false≢true (sym w ∙ e)), (f.1.0, more))
 
@@ -167,14 +167,15 @@ done_joins (p ∷ ps) n h = by_test p.begins refl h (λ h. done_joins ps n h)
     rest : (qs : List Piece) → joins_in (join_done qs) ≡ joins_in qs
     rest [] = refl
     rest (q ∷ qs) = by_bool (goes_on q)
-      (λ w.
+        (λ w.
         let later : q.begins ≡ false = unmarked q.begins (and_parts (joins q) (not q.begins) w).1 in
         rw (w, later) (rest qs))
-      (λ w. rw w refl)
+        (λ w. rw w refl)
       where
         unmarked : (b : Bool) → not b ≡ true → b ≡ false
         unmarked true h = cc
         unmarked false h = refl
+
     by_test : (t : Bool) → p.begins ≡ t → cond t (joins_in ps + 1) (joins_in ps) ≡ suc n
         → (joins_in ps ≡ suc n → joins_in (first_done ps) ≡ n)
         → joins_in (cond t (piece false (codes "*") ∷ join_done ps) (p ∷ first_done ps)) ≡ n
@@ -195,8 +196,8 @@ rest_at_next {X} other (p ∷ ps) [] = none (join_done (p ∷ ps))
     none (q ∷ qs) = refl
 rest_at_next other (p ∷ ps) (x ∷ xs) =
     by_bool (goes_on p)
-      (λ w. rw (w, join_stays (sign_of p.token) (and_parts (joins p) (not p.begins) w).0) (rest_at_next other ps xs))
-      (λ w. rw w refl)
+    (λ w. rw (w, join_stays (sign_of p.token) (and_parts (joins p) (not p.begins) w).0) (rest_at_next other ps xs))
+    (λ w. rw w refl)
 
 rest_put_next : {X : Type 0} (other : X) (ps : List Piece) (xs : List X)
     → put_next other (signs_in (join_done ps)) (rest_merged ps xs) ≡ rest_merged ps (put_next other (signs_in ps) xs)
@@ -208,11 +209,11 @@ rest_put_next {X} other (p ∷ ps) [] = none (join_done (p ∷ ps))
     none (q ∷ qs) = refl
 rest_put_next other (p ∷ ps) (x ∷ xs) =
     by_bool (goes_on p)
-      (λ w. rw (w, join_stays (sign_of p.token) (and_parts (joins p) (not p.begins) w).0) (rw w (rest_put_next other ps xs)))
-      (λ w.
-        by_bool (is_exchange (sign_of p.token))
-          (λ v. rw (w, v) (rw w refl))
-          (λ v. rw (w, v) (rw w refl)))
+    (λ w. rw (w, join_stays (sign_of p.token) (and_parts (joins p) (not p.begins) w).0) (rw w (rest_put_next other ps xs)))
+    (λ w.
+    by_bool (is_exchange (sign_of p.token))
+    (λ v. rw (w, v) (rw w refl))
+    (λ v. rw (w, v) (rw w refl)))
 
 rest_swapped : {X : Type 0} (ps : List Piece) (xs : List X)
     → swapped (signs_in (join_done ps)) (rest_merged ps xs) ≡ rest_merged ps (swapped (signs_in ps) xs)
@@ -224,11 +225,11 @@ rest_swapped (p ∷ ps) [] = none (join_done (p ∷ ps))
     none (q ∷ qs) = refl
 rest_swapped (p ∷ ps) (x ∷ xs) =
     by_bool (goes_on p)
-      (λ w. rw (w, join_stays (sign_of p.token) (and_parts (joins p) (not p.begins) w).0) (rw w (rest_swapped ps xs)))
-      (λ w.
-        by_bool (is_exchange (sign_of p.token))
-          (λ v. rw (w, v) (rw w refl))
-          (λ v. rw (w, v) (rw w refl)))
+    (λ w. rw (w, join_stays (sign_of p.token) (and_parts (joins p) (not p.begins) w).0) (rw w (rest_swapped ps xs)))
+    (λ w.
+    by_bool (is_exchange (sign_of p.token))
+    (λ v. rw (w, v) (rw w refl))
+    (λ v. rw (w, v) (rw w refl)))
 
 -- a piece that begins a join
 begin_stays : (b : Bool) (m : List ℕ) (p : Piece) (ps : List Piece) (n : List ℕ) (ns : List (List ℕ)) → Formed b m (p ∷ ps) (n ∷ ns)
@@ -246,8 +247,8 @@ done_at_next {X} other b m (p ∷ ps) (n ∷ ns) [] f = none (first_done (p ∷ 
     none (q ∷ qs) = refl
 done_at_next {X} other b m (p ∷ ps) (n ∷ ns) (x ∷ xs) f =
     by_bool p.begins
-      (λ w. rw (w, begin_stays b m p ps n ns f w) (rest_at_next other ps xs))
-      (λ w. rw w (ap (λ (y : X). cond (is_exchange (sign_of p.token)) x y) (done_at_next other (joins p) n ps ns xs f.1.1)))
+    (λ w. rw (w, begin_stays b m p ps n ns f w) (rest_at_next other ps xs))
+    (λ w. rw w (ap (λ (y : X). cond (is_exchange (sign_of p.token)) x y) (done_at_next other (joins p) n ps ns xs f.1.1)))
 
 done_put_next : {X : Type 0} (other : X) (b : Bool) (m : List ℕ) (ps : List Piece) (ns : List (List ℕ)) (xs : List X) → Formed b m ps ns
     → put_next other (signs_in (first_done ps)) (merged ps xs) ≡ merged ps (put_next other (signs_in ps) xs)
@@ -260,11 +261,11 @@ done_put_next {X} other b m (p ∷ ps) (n ∷ ns) [] f = none (first_done (p ∷
     none (q ∷ qs) = refl
 done_put_next {X} other b m (p ∷ ps) (n ∷ ns) (x ∷ xs) f =
     by_bool p.begins
-      (λ w. rw (w, begin_stays b m p ps n ns f w) ((ap (λ (ys : List X). x ∷ ys) (rest_put_next other ps xs))))
-      (λ w.
-        by_bool (is_exchange (sign_of p.token))
-          (λ v. rw (w, v) refl)
-          (λ v. rw (w, v) ((ap (λ (ys : List X). x ∷ ys) (done_put_next other (joins p) n ps ns xs f.1.1)))))
+    (λ w. rw (w, begin_stays b m p ps n ns f w) ((ap (λ (ys : List X). x ∷ ys) (rest_put_next other ps xs))))
+    (λ w.
+    by_bool (is_exchange (sign_of p.token))
+    (λ v. rw (w, v) refl)
+    (λ v. rw (w, v) ((ap (λ (ys : List X). x ∷ ys) (done_put_next other (joins p) n ps ns xs f.1.1)))))
 
 -- the first join, and then the exchange: as the other way round
 pub done_swapped : {X : Type 0} (b : Bool) (m : List ℕ) (ps : List Piece) (ns : List (List ℕ)) (xs : List X) → Formed b m ps ns
@@ -278,11 +279,11 @@ done_swapped {X} b m (p ∷ ps) (n ∷ ns) [] f = none (first_done (p ∷ ps))
     none (q ∷ qs) = refl
 done_swapped {X} b m (p ∷ ps) (n ∷ ns) (x ∷ xs) f =
     by_bool p.begins
-      (λ w. rw (w, begin_stays b m p ps n ns f w) ((ap (λ (ys : List X). x ∷ ys) (rest_swapped ps xs))))
-      (λ w.
-        by_bool (is_exchange (sign_of p.token))
-          (λ v.
-            let other = done_at_next x (joins p) n ps ns xs f.1.1 in
-            let back = done_put_next x (joins p) n ps ns xs f.1.1 in
-            rw (w, v) (rw (other, back) refl))
-          (λ v. rw (w, v) ((ap (λ (ys : List X). x ∷ ys) (done_swapped (joins p) n ps ns xs f.1.1)))))
+    (λ w. rw (w, begin_stays b m p ps n ns f w) ((ap (λ (ys : List X). x ∷ ys) (rest_swapped ps xs))))
+    (λ w.
+    by_bool (is_exchange (sign_of p.token))
+    (λ v.
+    let other = done_at_next x (joins p) n ps ns xs f.1.1 in
+    let back = done_put_next x (joins p) n ps ns xs f.1.1 in
+    rw (w, v) (rw (other, back) refl))
+    (λ v. rw (w, v) ((ap (λ (ys : List X). x ∷ ys) (done_swapped (joins p) n ps ns xs f.1.1)))))
