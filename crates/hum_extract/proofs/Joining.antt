@@ -75,10 +75,9 @@ formed_from f s name b before (g ∷ fs) [] ns len wide torn lone mixed at = abs
 formed_from f s name b before (g ∷ fs) (t ∷ ts) [] len wide torn lone mixed at = absurd (omega (arith, wide))
 formed_from f s name b before (true ∷ fs) (t ∷ ts) (n ∷ ns) len wide torn lone mixed at =
     let signs = map sign_of ts in
-    let tear = or_parts (is_join s && (is_join (sign_of t) && differ f true)) (is_torn (true ∷ fs) (sign_of t ∷ signs)) torn in
-    let alone =
-    or_parts (is_join (sign_of t) && not (is_join s || first_is is_join signs)) (has_lone_join (is_join (sign_of t)) signs) lone in
-    let mix = or_parts (is_join s && (is_join (sign_of t) && not (bytes_eq name n))) (has_mixed_join (n ∷ ns) (sign_of t ∷ signs)) mixed in (
+    let tear = or_parts _ (is_torn (true ∷ fs) (sign_of t ∷ signs)) torn in
+    let alone = or_parts _ (has_lone_join (is_join (sign_of t)) signs) lone in
+    let mix = or_parts _ (has_mixed_join (n ∷ ns) (sign_of t ∷ signs)) mixed in (
       λ e. let well = begins_well (is_join (sign_of t)) (is_join s) (first_is is_join signs) alone.0 e in
           (well.0, next_chosen (sign_of t) fs ts (omega (arith, len)) well.0 well.1 tear.1),
       (
@@ -90,10 +89,9 @@ formed_from f s name b before (true ∷ fs) (t ∷ ts) (n ∷ ns) len wide torn 
     )
 formed_from f s name b before (false ∷ fs) (t ∷ ts) (n ∷ ns) len wide torn lone mixed at =
     let signs = map sign_of ts in
-    let tear = or_parts (is_join s && (is_join (sign_of t) && differ f false)) (is_torn (false ∷ fs) (sign_of t ∷ signs)) torn in
-    let alone =
-    or_parts (is_join (sign_of t) && not (is_join s || first_is is_join signs)) (has_lone_join (is_join (sign_of t)) signs) lone in
-    let mix = or_parts (is_join s && (is_join (sign_of t) && not (bytes_eq name n))) (has_mixed_join (n ∷ ns) (sign_of t ∷ signs)) mixed in
+    let tear = or_parts _ (is_torn (false ∷ fs) (sign_of t ∷ signs)) torn in
+    let alone = or_parts _ (has_lone_join (is_join (sign_of t)) signs) lone in
+    let mix = or_parts _ (has_mixed_join (n ∷ ns) (sign_of t ∷ signs)) mixed in
     formed_from false (sign_of t) n b before fs ts ns (omega (arith, len)) (omega (arith, wide)) tear.1 alone.1 mix.1
     (λ e. absurd (false≢true e))
 
