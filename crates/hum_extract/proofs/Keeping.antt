@@ -35,7 +35,7 @@ use Rattle.hum_extract.specs.Choice.{Choice, each_chosen, opening_flags, misses,
 use Rattle.hum_extract.specs.Choice.{opening_if, opening_of, flags, chosen, chosen_path}
 use Rattle.hum_extract.specs.Extract.{cut, opened, interpreted, extract}
 use Rattle.hum_extract.proofs.Selecting.{chosen_length, chosen_fewer, chosen_none}
-use Rattle.hum_extract.proofs.Cutting.{flags_after, cut_leads}
+use Rattle.hum_extract.proofs.CutLeads.{flags_after, cut_leads}
 
 abbrev pub Leads : Choice → List Row → Path → Type 0
 Leads choice past given = given ≡ chosen_path (flags choice past) (path_after past)

@@ -20,8 +20,8 @@ use Rattle.hum_spread.proofs.Spreading.{marks, signs_in, Formed, formed_length, 
 use Rattle.hum_spread.proofs.Spreading.{first_onward, done_onward, done_formed, done_joins}
 use Rattle.hum_spread.proofs.Spreading.{done_swapped, is_join_at}
 use Rattle.hum_spread.proofs.Fitting.{come_to, Fits, sound_by_rules, pieces_size, one_more, one_leads}
-use Rattle.hum_spread.proofs.Alone.{first_size, first_none, done_none, merged_none, merged_fewer, first_lone, first_unmixed}
-use Rattle.hum_spread.proofs.Alone.{first_exchange, done_exchanges}
+use Rattle.hum_spread.proofs.FirstJoin.{first_size, first_none, done_none, merged_none, merged_fewer, first_lone, first_unmixed}
+use Rattle.hum_spread.proofs.FirstJoin.{first_exchange, done_exchanges}
 
 -- Where a join touches another no name changes.
 abbrev pub is_nameless : List ℕ → Bool
