@@ -264,12 +264,6 @@ two_or_none fs ss len two = rw (flags_size 0 fs ss len) two
 too_many : (n : ℕ) → ((suc (suc (suc n)) == 0) || (suc (suc (suc n)) == 2)) ≡ true → ⊥
 too_many n e = grind (arith, nat_tests, e)
 
-differ_not : (g h : Bool) → differ g h ≡ false → g ≡ h
-differ_not true true e = refl
-differ_not true false e = absurd (false≢true (sym e))
-differ_not false true e = absurd (false≢true (sym e))
-differ_not false false e = refl
-
 none_exchanged : (j : ℕ) (fs : List Bool) (ss : List Sign) → length fs ≡ length ss → exchanged_flags fs ss ≡ [] → exchanges j ss ≡ []
 none_exchanged j fs ss len e =
     let size = flags_size j fs ss len in let none = ap length e in nil_from_length (exchanges j ss) (omega (arith, size, none))

@@ -90,14 +90,6 @@ later_opening Unopened tokens before h = cc
 later_opening (Spines names) tokens before h = refl
 
 -- At the opening.
-all_chosen : {X : Type 0} (test : X → Bool) (fs : List Bool) (xs : List X) → list_all test xs ≡ true → list_all test (chosen fs xs) ≡ true
-all_chosen test [] xs h = refl
-all_chosen test (f ∷ fs) [] h = refl
-all_chosen test (true ∷ fs) (x ∷ xs) h =
-    let both = and_parts (test x) (list_all test xs) h in
-    and_from (test x) (list_all test (chosen fs xs)) both.0 (all_chosen test fs xs both.1)
-all_chosen test (false ∷ fs) (x ∷ xs) h = all_chosen test fs xs (and_parts (test x) (list_all test xs) h).1
-
 each_size : (choice : Choice) (width j : ℕ) (names : List (List ℕ)) → length (each_chosen choice width j names) ≡ length names
 each_size choice width j [] = refl
 each_size choice width j (n ∷ ns) = ap suc (each_size choice width (j + 1) ns)
