@@ -31,12 +31,12 @@ pub trait ColumnMemory: Drop {
     fn fresh(alloc: Global) -> Self
         ensures { result ≡ beginning };
 
-    /// Sees one more cell. The rule may use what it holds for its own work, as a pattern its tables,
-    /// and says the same afterwards.
+    /// Sees one more cell. The rule may work with what it holds, as a pattern with its tables, and
+    /// stays what it was.
     fn see(&mut self, rule: &mut Self::Rule, token: &[u8]) -> Result<(), AllocError>
         requires { (kind : SpinedKind) × IsToken kind token.now }
         ensures seen { OnOk result (self.new ≡ seen rule.old token.now self.old) }
-        ensures kept { seen rule.new ≡ seen rule.old };
+        ensures kept { rule.new ≡ rule.old };
 
     /// The same memory once more.
     fn copy(&self) -> Result<Self, AllocError>
@@ -69,7 +69,7 @@ fn see_token<M: ColumnMemory>(
     requires { j < width_of row.now }
     ensures seen { OnOk result
         (memory.new ≡ M.seen rule.old (slice_index_or (tokens_of row.now) j []) memory.old) }
-    ensures kept { M.seen rule.new ≡ M.seen rule.old }
+    ensures kept { rule.new ≡ rule.old }
 {
     memory.see(rule, row.token(j))
 }
@@ -85,7 +85,7 @@ fn next_one<M: ColumnMemory>(
     requires { source from < width_of row.now }
     ensures next { IfOk result (λ memory. memory
         ≡ memory_of (M.seen rule.old) M.beginning (tokens_of row.now) memories.now from) }
-    ensures kept { M.seen rule.new ≡ M.seen rule.old }
+    ensures kept { rule.new ≡ rule.old }
 {
     match from {
         Move::Added(_) => Ok(M::fresh(alloc)),
@@ -111,7 +111,7 @@ fn next_all<M: ColumnMemory>(
     requires { AllByRecursion (λ move. source move < width_of row.now) found.now }
     ensures next { IfOk result (λ next. next.items ≡ map
         (memory_of (M.seen rule.old) M.beginning (tokens_of row.now) memories.now) found.now) }
-    ensures kept { M.seen rule.new ≡ M.seen rule.old }
+    ensures kept { rule.new ≡ rule.old }
 {
     let mut next = Vec::new(alloc);
     for i in 0..found.len() {
@@ -128,7 +128,7 @@ fn see_each<M: ColumnMemory>(
 ) -> Result<(), AllocError>
     ensures seen { OnOk result
         (memories.new.items ≡ seen_each (M.seen rule.old) (tokens_of row.now) memories.old.items) }
-    ensures kept { M.seen rule.new ≡ M.seen rule.old }
+    ensures kept { rule.new ≡ rule.old }
 {
     for j in 0..row.width() {
         if j >= memories.len() {
@@ -167,7 +167,7 @@ fn go_on<M: ColumnMemory>(
         → Remember (M.seen rule.old) M.beginning past memories.old.items
         → found.now ≡ moves (path_after past) row.now
         → Remember (M.seen rule.old) M.beginning (row.now ∷ past) memories.new.items) }
-    ensures kept { M.seen rule.new ≡ M.seen rule.old }
+    ensures kept { rule.new ≡ rule.old }
 {
     if moves_some(row, found, memories.len()) {
         *memories = next_all(alloc, rule, row, memories, found)?;
@@ -219,8 +219,8 @@ impl<M: ColumnMemory> Carried<M> {
             → Remember (M.seen rule.old) M.beginning past self.old.each
             → found.now ≡ moves (path_after past) row.now
             → Remember (M.seen rule.old) M.beginning (row.now ∷ past) self.new.each) }
-        // The rule says what it said.
-        ensures kept { M.seen rule.new ≡ M.seen rule.old }
+        // The rule stays what it was.
+        ensures kept { rule.new ≡ rule.old }
         ensures spent { OnErr result (IsTrue self.new.spent) }
         ensures again { IsTrue self.old.spent → IsErr result }
     {
