@@ -1,2 +1,5 @@
 mod Examples
+pub mod Keeping
+pub mod Nearest
+pub mod Steps
 pub mod Tokens
