@@ -1,5 +1,5 @@
 -- What is remembered of a column is what a null token below it repeats.
-use Rattle.std.proofs.Common.{◌≡◌, ◌∙◌, refl, sym, ap, ℕ, Bool, true, false, ◌&&◌, ◌==◌, List, [], ◌∷◌, map, cond, Option, None, Some, inl, inr, arith}
+use Rattle.std.proofs.Common.{◌≡◌, ◌∙◌, refl, sym, ℕ, Bool, true, false, ◌==◌, List, [], ◌∷◌, map, cond, Option, None, Some, inl, inr, arith}
 use Rattle.std.specs.List.{find}
 use Rattle.std.proofs.lemmas.Bool.{cases_Bool, and_parts}
 use Rattle.std.proofs.lemmas.Bool.Decides.{nat_tests}
@@ -13,7 +13,7 @@ use Rattle.hum_path.specs.declared.signs.Sign.TheVariants.{Split, Join, Exchange
 use Rattle.hum_path.specs.Sign.{sign_of, is_exclusive}
 use Rattle.hum_path.specs.Chains.{reach}
 use Rattle.hum_path.specs.Memories.{remembered}
-use Rattle.hum_ditto.specs.Ditto.{is_data, is_null, is_skipped, may_repeat, repeated}
+use Rattle.hum_ditto.specs.Ditto.{may_repeat, repeated}
 use Rattle.hum_ditto.specs.Memory.{last_seen}
 
 -- the nearest of a reach, once one cell more is in it

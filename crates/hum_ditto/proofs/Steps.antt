@@ -1,14 +1,14 @@
 -- What the state does at a record is what the command decides.
-use Rattle.std.proofs.Common.{◌≡◌, ◌∙◌, refl, sym, ap, ℕ, ◌+◌, ◌<◌, ◌≤◌, Bool, true, false, List, [], ◌∷◌, length, map, arith, Option, None, Some}
+use Rattle.std.proofs.Common.{◌≡◌, ◌∙◌, refl, sym, ap, ℕ, ◌<◌, ◌≤◌, true, false, List, [], ◌∷◌, length, arith, Option, None}
 use Rattle.std.specs.Prelude.{nat_le, Result, Ok, Err}
 use Rattle.std.specs.List.{list_any}
 use Rattle.std.proofs.lemmas.Bool.Decides.{nat_tests}
 use Rattle.std.proofs.lemmas.List.{length-map}
-use Rattle.hum_record.specs.declared.Kind.TheVariants.{Global, Local as AnyLocal, Interpretation as AnyInterpretation, Values as AnyValues}
+use Rattle.hum_record.specs.declared.Kind.TheVariants.{Global, Values as AnyValues}
 use Rattle.hum_record.specs.declared.SpinedKind.TheVariants.{Local, Interpretation, Values}
 use Rattle.hum_record.specs.Row.{Row, Comment, Spined, kind_of, tokens_of, width_of, text_of}
 use Rattle.hum_record.specs.Building.{spelled}
-use Rattle.hum_path.specs.Spines.{Path, after, moves}
+use Rattle.hum_path.specs.Spines.{Path, after}
 use Rattle.hum_path.specs.Score.{IsOpen, path_after}
 use Rattle.hum_path.specs.Chains.{columns}
 use Rattle.hum_path.specs.Memories.{remembered, Remember}
@@ -17,7 +17,7 @@ use Rattle.hum_stage.specs.declared.faults.Rule.{Rule}
 use Rattle.hum_stage.specs.declared.faults.Rule.TheVariants.{L1}
 use Rattle.hum_stage.specs.Decided.{in_room}
 use Rattle.hum_ditto.specs.declared.DittoOptions.{DittoOptions}
-use Rattle.hum_ditto.specs.Ditto.{is_null, all_filled, new_tokens, if_fits, ditto}
+use Rattle.hum_ditto.specs.Ditto.{is_null, all_filled, if_fits}
 use Rattle.hum_ditto.specs.Memory.{last_seen, Follows}
 use Rattle.hum_ditto.proofs.Nearest.{all_remembered}
 use Rattle.hum_ditto.proofs.Tokens.{nothing_filled}

@@ -1,5 +1,5 @@
 -- What is remembered of a column.
-use Rattle.std.specs.Prelude.{◌≡◌, ℕ, Bool, true, List, Option, None, Some, Result, if◌then◌else◌}
+use Rattle.std.specs.Prelude.{◌≡◌, ℕ, Bool, List, Option, None, Some, Result, if◌then◌else◌}
 use Rattle.hum_record.specs.Row.{Row}
 use Rattle.hum_path.specs.Sign.{sign_of, is_exclusive}
 use Rattle.hum_path.specs.Spines.{Path}

@@ -106,7 +106,13 @@ pub(crate) fn rebuilt(
 {
     let mut builder = RecordBuilder::new(alloc, SpinedKind::Values);
     for j in 0..row.width() {
-        match push_filled(parentheses, memories.at(j), row.token(j), shown, &mut builder) {
+        match push_filled(
+            parentheses,
+            memories.at(j),
+            row.token(j),
+            shown,
+            &mut builder,
+        ) {
             Ok(()) => {}
             Err(fault) => return Err(fault),
         }

@@ -60,7 +60,13 @@ impl Decides for Repeats {
             return Ok(None);
         }
         let parentheses = self.options.parentheses;
-        match rebuilt(self.alloc, parentheses, &next, &self.carried, &mut self.shown) {
+        match rebuilt(
+            self.alloc,
+            parentheses,
+            &next,
+            &self.carried,
+            &mut self.shown,
+        ) {
             Ok(made) => {
                 self.carried.follow(&mut self.options.skip, &next, &found)?;
                 out.push_back(made)?;
@@ -133,3 +139,6 @@ impl Stage for Ditto {
         self.inner.held()
     }
 }
+
+#[cfg(test)]
+mod tests;

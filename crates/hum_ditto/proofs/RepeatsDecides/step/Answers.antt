@@ -1,4 +1,4 @@
-use Rattle.std.proofs.Common.{◌≡◌, ◌∙◌, ◌∷◌, ◌++◌, ap, arith, List, []}
+use Rattle.std.proofs.Common.{◌≡◌, ◌∙◌, ◌∷◌, ◌++◌, ap, List, []}
 use Rattle.hum_record.specs.Row.{Row}
 use Rattle.hum_record.specs.declared.RecordFault.TheVariants.{Memory}
 use Rattle.hum_path.specs.Spines.{Path, moves}
@@ -24,7 +24,7 @@ returns-in-Ok-rebuilt c = λ decide past h sound.
     let out = c.in_ok-push_back-in-Ok-rebuilt.ensures.items ∙ ap (λ (rows : List Row). rows ++ c.in-Ok-rebuilt.made ∷ []) c.requires.empty in (
       rw out (gives_made _ _ _ decide past h c.args.next c.in-Ok-rebuilt.made kind c.in-Ok-rebuilt.ensures.made c.in-Ok-rebuilt.ensures.fits),
       follows_on _ _ _ decide past h c.args.next _ _ _ (ap (λ p. p.path) c.in-Ok.ensures.after) c.follow-in-Ok-rebuilt.ensures.kept
-      (c.in_ok-follow-in-Ok-rebuilt.ensures.memories past h.remembered told),
+          (c.in_ok-follow-in-Ok-rebuilt.ensures.memories past h.remembered told),
     )
 
 pub returns-in-Err-L1 : goal.returns-in-Err-L1
