@@ -1,5 +1,5 @@
 -- Memories go on along the columns.
-use Rattle.std.proofs.Common.{◌≡◌, ◌≢◌, ◌∙◌, ◌+◌, ◌<◌, ◌≤◌, ◌++◌, ℕ, zero, suc, List, [], ◌∷◌, Some, length, map, drop, take}
+use Rattle.std.proofs.Common.{◌≡◌, ◌∙◌, ◌+◌, ◌<◌, ◌≤◌, ◌++◌, ℕ, zero, suc, List, [], ◌∷◌, Some, length, map, drop, take}
 use Rattle.std.proofs.Common.{◌⊎◌, inl, inr, refl, sym, ap, arith, get_or, slice_get, append_assoc, append-nil, add-one}
 use Rattle.std.specs.Prelude.{slice_set, Result, Ok, Err, OnOk}
 use Rattle.std.specs.List.{AllByRecursion}

@@ -6,7 +6,7 @@ use Rattle.hum_record.specs.declared.SpinedKind.TheVariants.{Local, Interpretati
 use Rattle.hum_record.specs.Row.{Row, Comment, Spined, kind_of}
 use Rattle.hum_path.specs.declared.moved.Move.{Move}
 use Rattle.hum_path.specs.declared.moved.Move.TheVariants.{Same}
-use Rattle.hum_path.specs.Spines.{moves, moves_at, same_upto}
+use Rattle.hum_path.specs.Spines.{moves, same_upto}
 use Rattle.hum_path.specs.Score.{path_after}
 use Rattle.hum_path.specs.Chains.{origin_of, origins}
 

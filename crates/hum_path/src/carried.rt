@@ -31,10 +31,12 @@ pub trait ColumnMemory: Drop {
     fn fresh(alloc: Global) -> Self
         ensures { result ≡ beginning };
 
-    /// Sees one more cell.
-    fn see(&mut self, rule: &Self::Rule, token: &[u8]) -> Result<(), AllocError>
+    /// Sees one more cell. The rule may work with what it holds, as a pattern with its tables, and
+    /// stays what it was.
+    fn see(&mut self, rule: &mut Self::Rule, token: &[u8]) -> Result<(), AllocError>
         requires { (kind : SpinedKind) × IsToken kind token.now }
-        ensures { OnOk result (self.new ≡ seen rule.now token.now self.old) };
+        ensures seen { OnOk result (self.new ≡ seen rule.old token.now self.old) }
+        ensures kept { rule.new ≡ rule.old };
 
     /// The same memory once more.
     fn copy(&self) -> Result<Self, AllocError>
@@ -60,13 +62,14 @@ impl<M: ColumnMemory> Model for Carried<M> {
 /// A memory sees the token in a column.
 fn see_token<M: ColumnMemory>(
     memory: &mut M,
-    rule: &M::Rule,
+    rule: &mut M::Rule,
     row: &Record,
     j: usize,
 ) -> Result<(), AllocError>
     requires { j < width_of row.now }
-    ensures { OnOk result
-        (memory.new ≡ M.seen rule.now (slice_index_or (tokens_of row.now) j []) memory.old) }
+    ensures seen { OnOk result
+        (memory.new ≡ M.seen rule.old (slice_index_or (tokens_of row.now) j []) memory.old) }
+    ensures kept { rule.new ≡ rule.old }
 {
     memory.see(rule, row.token(j))
 }
@@ -74,14 +77,15 @@ fn see_token<M: ColumnMemory>(
 /// The memory of a spine after a record, from those before.
 fn next_one<M: ColumnMemory>(
     alloc: Global,
-    rule: &M::Rule,
+    rule: &mut M::Rule,
     row: &Record,
     memories: &[M],
     from: Move,
 ) -> Result<M, AllocError>
     requires { source from < width_of row.now }
-    ensures { IfOk result (λ memory. memory
-        ≡ memory_of (M.seen rule.now) M.beginning (tokens_of row.now) memories.now from) }
+    ensures next { IfOk result (λ memory. memory
+        ≡ memory_of (M.seen rule.old) M.beginning (tokens_of row.now) memories.now from) }
+    ensures kept { rule.new ≡ rule.old }
 {
     match from {
         Move::Added(_) => Ok(M::fresh(alloc)),
@@ -99,14 +103,15 @@ fn next_one<M: ColumnMemory>(
 
 fn next_all<M: ColumnMemory>(
     alloc: Global,
-    rule: &M::Rule,
+    rule: &mut M::Rule,
     row: &Record,
     memories: &[M],
     found: &Moves,
 ) -> Result<Vec<M>, AllocError>
     requires { AllByRecursion (λ move. source move < width_of row.now) found.now }
-    ensures { IfOk result (λ next. next.items ≡ map
-        (memory_of (M.seen rule.now) M.beginning (tokens_of row.now) memories.now) found.now) }
+    ensures next { IfOk result (λ next. next.items ≡ map
+        (memory_of (M.seen rule.old) M.beginning (tokens_of row.now) memories.now) found.now) }
+    ensures kept { rule.new ≡ rule.old }
 {
     let mut next = Vec::new(alloc);
     for i in 0..found.len() {
@@ -117,12 +122,13 @@ fn next_all<M: ColumnMemory>(
 
 /// Each memory sees the token under it.
 fn see_each<M: ColumnMemory>(
-    rule: &M::Rule,
+    rule: &mut M::Rule,
     row: &Record,
     memories: &mut Vec<M>,
 ) -> Result<(), AllocError>
-    ensures { OnOk result
-        (memories.new.items ≡ seen_each (M.seen rule.now) (tokens_of row.now) memories.old.items) }
+    ensures seen { OnOk result
+        (memories.new.items ≡ seen_each (M.seen rule.old) (tokens_of row.now) memories.old.items) }
+    ensures kept { rule.new ≡ rule.old }
 {
     for j in 0..row.width() {
         if j >= memories.len() {
@@ -151,16 +157,17 @@ pub(crate) fn moves_some(row: &Record, found: &Moves, width: usize) -> bool
 /// The memories go on under a record.
 fn go_on<M: ColumnMemory>(
     alloc: Global,
-    rule: &M::Rule,
+    rule: &mut M::Rule,
     row: &Record,
     found: &Moves,
     memories: &mut Vec<M>,
 ) -> Result<(), AllocError>
     requires { ComeFrom row.now found.now }
-    ensures { OnOk result ((past : List Row)
-        → Remember (M.seen rule.now) M.beginning past memories.old.items
+    ensures memories { OnOk result ((past : List Row)
+        → Remember (M.seen rule.old) M.beginning past memories.old.items
         → found.now ≡ moves (path_after past) row.now
-        → Remember (M.seen rule.now) M.beginning (row.now ∷ past) memories.new.items) }
+        → Remember (M.seen rule.old) M.beginning (row.now ∷ past) memories.new.items) }
+    ensures kept { rule.new ≡ rule.old }
 {
     if moves_some(row, found, memories.len()) {
         *memories = next_all(alloc, rule, row, memories, found)?;
@@ -201,12 +208,19 @@ impl<M: ColumnMemory> Carried<M> {
     ///
     /// # Errors
     /// Want of memory, which each later call answers again.
-    pub fn follow(&mut self, rule: &M::Rule, row: &Record, found: &Moves) -> Result<(), AllocError>
+    pub fn follow(
+        &mut self,
+        rule: &mut M::Rule,
+        row: &Record,
+        found: &Moves,
+    ) -> Result<(), AllocError>
         requires { ComeFrom row.now found.now }
         ensures memories { OnOk result ((past : List Row)
-            → Remember (M.seen rule.now) M.beginning past self.old.each
+            → Remember (M.seen rule.old) M.beginning past self.old.each
             → found.now ≡ moves (path_after past) row.now
-            → Remember (M.seen rule.now) M.beginning (row.now ∷ past) self.new.each) }
+            → Remember (M.seen rule.old) M.beginning (row.now ∷ past) self.new.each) }
+        // The rule stays what it was.
+        ensures kept { rule.new ≡ rule.old }
         ensures spent { OnErr result (IsTrue self.new.spent) }
         ensures again { IsTrue self.old.spent → IsErr result }
     {

@@ -204,7 +204,7 @@ impl ColumnMemory for Nearest {
         }
     }
 
-    fn see(&mut self, _rule: &(), token: &[u8]) -> Result<(), AllocError> {
+    fn see(&mut self, _rule: &mut (), token: &[u8]) -> Result<(), AllocError> {
         self.token.clear();
         self.token.extend_from_slice(token)?;
         Ok(())
@@ -252,7 +252,7 @@ fn check_memories(
     let (paths, carried, origins) = spines;
     let row = Record::parse(alloc, text.to_vec(alloc)?)?;
     let found = paths.step(&row)?;
-    carried.follow(&(), &row, &found)?;
+    carried.follow(&mut (), &row, &found)?;
     origins.follow(&row, &found)?;
     check_nearest(rt, carried, nearest);
     check_origins(rt, origins, opening);

@@ -1,0 +1,90 @@
+-- What the state does at a record is what the command decides.
+use Rattle.std.proofs.Common.{◌≡◌, ◌∙◌, refl, sym, ap, ℕ, ◌<◌, ◌≤◌, true, false, List, [], ◌∷◌, ◌++◌, length, arith, Option, None}
+use Rattle.std.specs.Prelude.{nat_le, Result, Ok, Err}
+use Rattle.std.specs.List.{list_any}
+use Rattle.std.proofs.lemmas.Bool.Decides.{nat_tests}
+use Rattle.std.proofs.lemmas.List.{length-map}
+use Rattle.hum_record.specs.declared.Kind.TheVariants.{Global, Values as AnyValues}
+use Rattle.hum_record.specs.declared.SpinedKind.TheVariants.{Local, Interpretation, Values}
+use Rattle.hum_record.specs.Row.{Row, Comment, Spined, kind_of, tokens_of, width_of, text_of}
+use Rattle.hum_record.specs.Building.{spelled}
+use Rattle.hum_path.specs.declared.moved.Move.{Move}
+use Rattle.hum_path.specs.Spines.{Path, after, moves}
+use Rattle.hum_path.specs.Score.{IsOpen, path_after}
+use Rattle.hum_path.specs.Chains.{columns}
+use Rattle.hum_path.specs.Memories.{remembered, Remember}
+use Rattle.hum_path.proofs.Widths.{columns_width, text_width}
+use Rattle.hum_stage.specs.declared.faults.Rule.{Rule}
+use Rattle.hum_stage.specs.declared.faults.Rule.TheVariants.{L1}
+use Rattle.hum_stage.specs.Decided.{in_room}
+use Rattle.hum_ditto.specs.declared.DittoOptions.{DittoOptions}
+use Rattle.hum_ditto.specs.Ditto.{is_null, all_filled, if_fits}
+use Rattle.hum_ditto.specs.Memory.{last_seen, Follows}
+use Rattle.hum_ditto.proofs.Nearest.{all_remembered}
+use Rattle.hum_ditto.proofs.Tokens.{nothing_filled}
+
+-- what was put into the empty list
+pub alone : (given before : List Row) (row : Row) → given ≡ before ++ row ∷ [] → before ≡ [] → given ≡ row ∷ []
+alone given before row is empty = rw empty at is
+
+-- the moves that the spines told are those after the records
+pub told : (found : List Move) (path : Path) (past : List Row) (row : Row) → found ≡ moves path row → path ≡ path_after past
+    → found ≡ moves (path_after past) row
+told found path past row is spines = rw spines at is
+
+comment_no_data : Global ≡ AnyValues → ⊥
+comment_no_data e = cc
+
+module _ (options : DittoOptions) (path : Path) (memories : List (Option (List ℕ))) (decide : List Row → Row → Result (List Row) Rule) (past : List Row)
+    (h : Follows options path memories decide past) where
+  decided : (tokens : List (List ℕ)) → decide past (Spined Values tokens) ≡ if_fits (Spined Values (all_filled options.parentheses memories tokens))
+  decided tokens = rw (h.command, h.remembered, all_remembered options.skip (columns past)) refl
+
+  -- a record that fits
+  pub gives_made : (row made : Row) → kind_of row ≡ AnyValues → made ≡ Spined Values (all_filled options.parentheses memories (tokens_of row))
+      → length (spelled (all_filled options.parentheses memories (tokens_of row))) ≤ 1048576 → decide past row ≡ Ok (made ∷ [])
+  gives_made (Comment text) made k is within = absurd (comment_no_data k)
+  gives_made (Spined Local tokens) made k is within = absurd cc
+  gives_made (Spined Interpretation tokens) made k is within = absurd cc
+  gives_made (Spined Values tokens) made k is within =
+      let test : nat_le (length (spelled (all_filled options.parentheses memories tokens))) 1048576 ≡ true = grind (arith, nat_tests, within) in
+      rw is (decided tokens ∙ rw test refl)
+
+  -- one that doesn't
+  pub refuses_long : (row : Row) (room : ℕ) → kind_of row ≡ AnyValues
+      → 1048576 < length (spelled (all_filled options.parentheses memories (tokens_of row))) → in_room room (decide past row) ≡ Err L1
+  refuses_long (Comment text) room k over = absurd (comment_no_data k)
+  refuses_long (Spined Local tokens) room k over = absurd cc
+  refuses_long (Spined Interpretation tokens) room k over = absurd cc
+  refuses_long (Spined Values tokens) room k over =
+      let test : nat_le (length (spelled (all_filled options.parentheses memories tokens))) 1048576 ≡ false = grind (arith, nat_tests, over) in
+      let long : if_fits (Spined Values (all_filled options.parentheses memories tokens)) ≡ Err L1 = rw test refl in
+      rw (decided tokens, long) refl
+
+  -- a record that stays
+  pub gives_same : (row : Row) → length (text_of row) ≤ 1048576 → (kind_of row ≡ AnyValues → list_any is_null (tokens_of row) ≡ false)
+      → decide past row ≡ Ok (row ∷ [])
+  gives_same (Comment text) within none = rw h.command refl
+  gives_same (Spined Local tokens) within none = rw h.command refl
+  gives_same (Spined Interpretation tokens) within none = rw h.command refl
+  gives_same (Spined Values tokens) within none =
+      let test : nat_le (length (spelled tokens)) 1048576 ≡ true = grind (arith, nat_tests, within) in
+      rw (decided tokens, nothing_filled options.parentheses memories tokens (none refl), test) refl
+
+  -- each token of a data record has its memory
+  pub memories_width : (row : Row) → IsOpen (row ∷ past) → kind_of row ≡ AnyValues → length memories ≡ width_of row
+  memories_width (Comment text) sound k = absurd (comment_no_data k)
+  memories_width (Spined Local tokens) sound k = absurd cc
+  memories_width (Spined Interpretation tokens) sound k = absurd cc
+  memories_width (Spined Values tokens) sound k =
+      ap length h.remembered ∙ length-map (columns past) (remembered (last_seen options.skip) None)
+      ∙ columns_width past sound.0 ∙ sym (text_width (path_after past) tokens sound.1)
+
+  -- the state goes on with the record
+  pub follows_on : (row : Row) (path' : Path) (skip' : Option (List ℕ)) (memories' : List (Option (List ℕ))) → path' ≡ after path row → skip' ≡ options.skip
+      → Remember (last_seen options.skip) None (row ∷ past) memories' → Follows (record { skip = skip'; parentheses = options.parentheses }) path' memories' decide (row ∷ past)
+  follows_on row path' skip' memories' is same remember = rw same (record {
+    command = h.command;
+    spines = is ∙ ap (λ (p : Path). after p row) h.spines;
+    remembered = remember;
+  })

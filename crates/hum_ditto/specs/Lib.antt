@@ -1,0 +1,2 @@
+pub mod Ditto
+pub mod Memory

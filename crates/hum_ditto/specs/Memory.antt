@@ -1,0 +1,28 @@
+-- What is remembered of a column.
+use Rattle.std.specs.Prelude.{◌≡◌, ℕ, Bool, List, Option, None, Some, Result, if◌then◌else◌}
+use Rattle.hum_record.specs.Row.{Row}
+use Rattle.hum_path.specs.Sign.{sign_of, is_exclusive}
+use Rattle.hum_path.specs.Spines.{Path}
+use Rattle.hum_path.specs.Score.{path_after}
+use Rattle.hum_path.specs.Memories.{Remember}
+use Rattle.hum_stage.specs.declared.faults.Rule.{Rule}
+use Rattle.hum_ditto.specs.declared.DittoOptions.{DittoOptions}
+use Rattle.hum_ditto.specs.Ditto.{may_repeat, ditto}
+
+-- The token that a null token would repeat, after one cell more.
+abbrev pub last_seen : Option (List ℕ) → List ℕ → Option (List ℕ) → Option (List ℕ)
+last_seen skip token last =
+    if is_exclusive (sign_of token) then None
+    else if may_repeat skip token then Some token
+    else last
+
+-- what a memory's fields hold
+abbrev pub held_in : Bool → List ℕ → Option (List ℕ)
+held_in held token = if held then Some token else None
+
+-- The state decides as the command does, has followed the spines, and remembers each column.
+pub record Follows (options : DittoOptions) (path : Path) (memories : List (Option (List ℕ)))
+    (decide : List Row → Row → Result (List Row) Rule) (past : List Row) : Type 0 where
+  pub command : decide ≡ ditto options
+  pub spines : path ≡ path_after past
+  pub remembered : Remember (last_seen options.skip) None past memories

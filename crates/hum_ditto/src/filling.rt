@@ -1,0 +1,121 @@
+//! Data records whose null tokens are filled.
+ghost use Rattle.std.specs.Prelude.{◌≡◌, ◌≢◌, ◌≤◌, ◌<◌, ◌∷◌, ◌++◌, [], true, false, length};
+ghost use Rattle.std.specs.Prelude.{IfOk, IfErr, OnOk};
+ghost use Rattle.std.specs.List.{list_any};
+ghost use Rattle.hum_record.specs.declared.Kind.TheVariants.{Values as AnyValues};
+ghost use Rattle.hum_record.specs.declared.SpinedKind.TheVariants.{Values};
+ghost use Rattle.hum_record.specs.declared.RecordFault.TheVariants.{Memory};
+ghost use Rattle.hum_record.specs.Row.{Spined, tokens_of, width_of, kind_of, text_of};
+ghost use Rattle.hum_record.specs.Spelling.{IsToken};
+ghost use Rattle.hum_record.specs.Building.{spelled};
+ghost use Rattle.hum_ditto.specs.Ditto.{is_null, written, filled, all_filled};
+
+use crate::last_seen::{LastSeen, is_null};
+use hum_path::Carried;
+use hum_record::{Kind, Record, RecordBuilder, RecordFault, SpinedKind};
+use std::alloc::{AllocError, Global};
+
+/// Whether a record has a null data token.
+fn has_null(row: &Record) -> bool
+    ensures { result ≡ list_any is_null (tokens_of row.now) }
+{
+    for j in 0..row.width() {
+        if is_null(row.token(j)) {
+            return true;
+        }
+    }
+    false
+}
+
+/// Whether a record is data with a null token.
+pub(crate) fn is_to_fill(row: &Record) -> bool
+    ensures kind { result ≡ true → kind_of row.now ≡ AnyValues }
+    ensures tokens { result ≡ true → tokens_of row.now ≢ [] }
+    ensures kept { result ≡ false → kind_of row.now ≡ AnyValues
+        → list_any is_null (tokens_of row.now) ≡ false }
+    ensures at_most { length (text_of row.now) ≤ 1048576 }
+{
+    row.kind() == Kind::Values && has_null(row)
+}
+
+/// Writes a token in parentheses.
+fn parenthesize(token: &[u8], shown: &mut Vec<u8>) -> Result<(), AllocError>
+    ensures { OnOk result (shown.new.items ≡ written true token.now) }
+{
+    shown.clear();
+    shown.push(b'(')?;
+    shown.extend_from_slice(token)?;
+    shown.push(b')')?;
+    Ok(())
+}
+
+/// Adds what a token becomes, by what is remembered of its column.
+fn push_filled(
+    parentheses: bool,
+    memory: &LastSeen,
+    token: &[u8],
+    shown: &mut Vec<u8>,
+    builder: &mut RecordBuilder,
+) -> Result<(), RecordFault>
+    requires lawful { IsToken Values token.now }
+    requires kind { builder.old.kind ≡ Values }
+    ensures pushed { OnOk result (builder.new ≡ record builder.old {
+      tokens = builder.old.tokens ++ filled parentheses memory.now token.now ∷ [];
+    }) }
+    ensures fits { OnOk result (length (spelled
+        (builder.old.tokens ++ filled parentheses memory.now token.now ∷ [])) ≤ 1048576) }
+    ensures refused { IfErr result (λ fault. fault ≢ Memory → 1048576 < length (spelled
+        (builder.old.tokens ++ filled parentheses memory.now token.now ∷ []))) }
+{
+    if !is_null(token) {
+        return builder.push(token);
+    }
+    match memory.token() {
+        None => builder.push(token),
+        Some(source) => {
+            if parentheses {
+                parenthesize(source, shown)?;
+                builder.push(shown)
+            } else {
+                builder.push(source)
+            }
+        }
+    }
+}
+
+/// The record that a data record becomes, by what is remembered of its columns.
+///
+/// # Errors
+/// L1 where its text would pass 1,048,576 bytes, or want of memory.
+pub(crate) fn rebuilt(
+    alloc: Global,
+    parentheses: bool,
+    row: &Record,
+    memories: &Carried<LastSeen>,
+    shown: &mut Vec<u8>,
+) -> Result<Record, RecordFault>
+    requires kind { kind_of row.now ≡ AnyValues }
+    requires width { length memories.now.each ≡ width_of row.now }
+    requires tokens { tokens_of row.now ≢ [] }
+    ensures made { IfOk result (λ made. made
+        ≡ Spined Values (all_filled parentheses memories.now.each (tokens_of row.now))) }
+    ensures fits { OnOk result (length (spelled
+        (all_filled parentheses memories.now.each (tokens_of row.now))) ≤ 1048576) }
+    ensures refused { IfErr result (λ fault. fault ≢ Memory → 1048576 < length (spelled
+        (all_filled parentheses memories.now.each (tokens_of row.now)))) }
+{
+    let mut builder = RecordBuilder::new(alloc, SpinedKind::Values);
+    for j in 0..row.width() {
+        match push_filled(
+            parentheses,
+            memories.at(j),
+            row.token(j),
+            shown,
+            &mut builder,
+        ) {
+            Ok(()) => {}
+            Err(fault) => return Err(fault),
+        }
+    }
+    Ok(builder.finish())
+}

@@ -1,0 +1,3 @@
+mod Examples
+pub mod OnLiterals
+pub mod Reading

@@ -1,0 +1,113 @@
+//! Patterns: regular expressions that are tried on tokens.
+//!
+//! A pattern has the syntax of Rust's crate `regex` (<https://docs.rs/regex/latest/regex/#syntax>),
+//! and it matches a token where it has a match anywhere in the token's bytes.
+#![tactic(auto)]
+
+ghost use Rattle.std.specs.Prelude.{◌≡◌, IfOk, IfErr, OnOk};
+ghost use Rattle.hum_pattern.specs.Meaning.{IsExpression, IsNone, matched, first_end};
+ghost use Rattle.hum_pattern.specs.declared.PatternFault.TheVariants.{Refused, TooLarge, Memory};
+
+use regex::Error as RegexError;
+use regex::bytes::{Matcher, Regex};
+use std::alloc::{AllocError, AllocFailed, Global};
+use std::marker::Model;
+use thiserror::Error;
+
+/// Why a text gives no pattern.
+#[derive(Clone, Copy, Debug, PartialEq, Eq, Error)]
+pub enum PatternFault {
+    /// The text is no regular expression, or nests deeper than 250.
+    #[error("the text is no regular expression")]
+    Refused,
+    /// The expression would take over 10 MiB.
+    #[error("the regular expression is too large")]
+    TooLarge,
+    /// Memory ran out.
+    #[error("out of memory")]
+    Memory,
+}
+
+impl From<AllocError> for PatternFault {
+    ghost from_gives = { λ _ e. e ≡ Memory };
+
+    fn from(_e: AllocError) -> PatternFault {
+        PatternFault::Memory
+    }
+}
+
+impl<T: Drop> From<AllocFailed<T>> for PatternFault {
+    ghost from_gives = { λ _ e. e ≡ Memory };
+
+    fn from(_e: AllocFailed<T>) -> PatternFault {
+        PatternFault::Memory
+    }
+}
+
+/// A regular expression, with what its searches write to.
+///
+/// What is worked out of its text stays in memory to the program's end, so that each search has the
+/// tables that those before it filled.
+#[derive(Drop)]
+pub struct Pattern {
+    regex: &'static Regex,
+    matcher: Matcher<'static>,
+}
+
+impl Model for Pattern {
+    ghost use Rattle.std.specs.Prelude.{ℕ, List};
+    ghost use Rattle.regex.specs.Bytes.{regex_source, matcher_pattern};
+    ghost use Rattle.hum_pattern.specs.Searching.{SearchesFor};
+
+    ghost Value = { List ℕ };
+
+    ghost view = { λ p. regex_source p.regex.now };
+
+    ghost invariant = { λ p. SearchesFor (regex_source p.regex.now) (matcher_pattern p.matcher) };
+}
+
+impl Pattern {
+    /// The pattern of a text.
+    ///
+    /// # Errors
+    /// [`PatternFault::Refused`] and [`PatternFault::TooLarge`] by the text, and want of memory.
+    pub fn new(alloc: Global, text: &str) -> Result<Pattern, PatternFault>
+        ensures text { IfOk result (λ pattern. pattern ≡ text.now) }
+        ensures sound { OnOk result (IsExpression text.now) }
+        ensures refused { IfErr result (λ fault. fault ≡ Refused → IsNone text.now) }
+        ensures too_large { IfErr result (λ fault. fault ≡ TooLarge → IsExpression text.now) }
+    {
+        match Regex::new(alloc, text) {
+            Ok(regex) => {
+                let regex: &'static Regex = Box::leak(Box::new(alloc, regex)?);
+                Ok(Pattern {
+                    regex,
+                    matcher: regex.matcher(alloc)?,
+                })
+            }
+            Err(RegexError::Syntax(_)) => Err(PatternFault::Refused),
+            Err(RegexError::OutOfMemory) => Err(PatternFault::Memory),
+            Err(RegexError::CompiledTooBig) => Err(PatternFault::TooLarge),
+            Err(RegexError::Internal) => Err(PatternFault::TooLarge),
+        }
+    }
+
+    /// Whether the pattern has a match anywhere in a token.
+    pub fn matches(&mut self, token: &[u8]) -> bool
+        ensures found { result ≡ matched self.old token.now }
+        ensures same { self.new ≡ self.old }
+    {
+        self.matcher.is_match(token)
+    }
+
+    /// Where the leftmost match ends in a token, counted in bytes from its beginning.
+    pub fn end_of_first(&mut self, token: &[u8]) -> Option<usize>
+        ensures found { result ≡ first_end self.old token.now }
+        ensures same { self.new ≡ self.old }
+    {
+        self.matcher.shortest_match(token)
+    }
+}
+
+#[cfg(test)]
+mod tests;
