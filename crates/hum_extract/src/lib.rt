@@ -1,7 +1,7 @@
 //! The command extract: chosen columns.
 #![tactic(auto)]
 
-ghost use Rattle.hum_stage.specs.Meaning.{opening};
+ghost use Rattle.hum_stage.specs.Meaning.{opening, KeepsScore};
 ghost use Rattle.hum_extract.specs.Written.{meaning};
 
 mod choice;
@@ -30,6 +30,9 @@ impl Extract {
     pub fn new(alloc: Global, stage: u8, choice: Choice) -> Extract
         // It stands for what is chosen, with nothing put yet.
         ensures stands { ⟦<Extract as Stage>⟧.stands result (opening (meaning stage choice)) }
+
+        // Of scores it makes scores.
+        ensures keeps { KeepsScore (meaning stage choice).outcomes }
     {
         Extract {
             inner: AtOnce::new(alloc, stage, Command::Extract, Columns::new(alloc, choice)),

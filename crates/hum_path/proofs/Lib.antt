@@ -1,7 +1,10 @@
 pub mod Carry
+pub mod Cases
 pub mod Coming
 pub mod Examples
 pub mod Joins
+pub mod Obeyed
+pub mod Onwards
 pub mod Plain
 pub mod Staying
 pub mod Steady

@@ -23,14 +23,14 @@ both : (n : ℕ) (ms ks : List Move) → From n ms → From n ks → From n (ms 
 both n [] ks h k = k
 both n (m ∷ ms) ks h k = (h.0, both n ms ks h.1 k)
 
-exchanged_below : (n j : ℕ) (signs : List Sign) → j + length signs ≤ n → AllByRecursion (λ p. p < n) (exchanges j signs)
+pub exchanged_below : (n j : ℕ) (signs : List Sign) → j + length signs ≤ n → AllByRecursion (λ p. p < n) (exchanges j signs)
 exchanged_below n j [] h = tt
 exchanged_below n j (sign ∷ signs) h = elim (cases_Bool (is_exchange sign)) as (λ _. AllByRecursion (λ p. p < n) (exchanges j (sign ∷ signs))) [
   | inl w ↦ rw w (omega arith, exchanged_below n (j + 1) signs (omega arith))
   | inr w ↦ rw w (exchanged_below n (j + 1) signs (omega arith))
 ]
 
-partner_below : (n j : ℕ) (pair : List ℕ) → AllByRecursion (λ p. p < n) pair → j < n → partner pair j < n
+pub partner_below : (n j : ℕ) (pair : List ℕ) → AllByRecursion (λ p. p < n) pair → j < n → partner pair j < n
 partner_below n j [] h below = below
 partner_below n j (a ∷ []) h below = below
 partner_below n j (a ∷ b ∷ more) h below = elim (cases_Bool (j == a)) as (λ _. partner (a ∷ b ∷ more) j < n) [ inl w ↦ rw w h.1.0 | inr w ↦ rw w h.0 ]

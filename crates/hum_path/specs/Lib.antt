@@ -1,5 +1,6 @@
 pub mod Sign
 pub mod Spines
+pub mod Onward
 pub mod Rules
 pub mod Score
 pub mod Chains

@@ -4,7 +4,7 @@ use Rattle.std.specs.Prelude.{List, [], ◌∷◌, Option, None, Some}
 use Rattle.hum_record.specs.Row.{Row}
 use Rattle.hum_path.specs.declared.PathFault.{PathFault}
 use Rattle.hum_path.specs.declared.PathFault.TheVariants.{P8}
-use Rattle.hum_path.specs.Spines.{Path, Unopened, after}
+use Rattle.hum_path.specs.Spines.{Path, Unopened, Spines, exclusives, after}
 use Rattle.hum_path.specs.Rules.{fault_of, is_unfinished}
 
 -- the spines after records
@@ -35,3 +35,10 @@ abbrev pub score_fault : List Row → List Row → Option (ℕ × PathFault)
 score_fault past [] = if is_unfinished (path_after past) then Some (length past + 1, P8) else None
 score_fault past (row ∷ rows) =
     fault_or (length past + 1) (fault_of (path_after past) row) (score_fault (row ∷ past) rows)
+
+-- Records in their order break no rule on spines under some exclusive interpretations, and those
+-- that stand after them are told.
+abbrev pub Lead : List (List ℕ) → List Row → List (List ℕ) → Type 0
+Lead names [] end = names ≡ end
+Lead names (row ∷ rows) end =
+    (fault_of (Spines names) row ≡ None) × Lead (exclusives (after (Spines names) row)) rows end
