@@ -1,22 +1,22 @@
 //! The program of one score and at most one command, over any source and any sink.
 use crate::bundle::{LARGEST_BUNDLE, plan_part, score};
+use crate::options::CommandOptions;
 use crate::outcome::Outcome;
 use crate::plan::read_plan;
-use crate::run::{Failure, run_rid};
+use crate::run::{Failure, run_command};
 use hum_read::ScoreReader;
-use hum_rid::RidOptions;
 use hum_text::calls::{Marked, Sink, Source};
 use std::alloc::Global;
 
-/// Runs the score of a source through rid. What was settled is written also where the source fails.
+/// Runs the score of a source through a command. What was settled is written also where the source fails.
 pub fn run_source<R: Source + Drop, W: Sink>(
     alloc: Global,
     source: R,
-    options: RidOptions,
+    options: CommandOptions,
     sink: &mut W,
 ) -> Outcome {
     let mut scores = ScoreReader::new(alloc, 1, source);
-    match run_rid(alloc, &mut scores, options, sink) {
+    match run_command(alloc, &mut scores, options, sink) {
         Ok(end) => Outcome::Ended(end),
         Err(Failure::Write) => Outcome::Failed(Failure::Write),
         Err(failure) => match sink.flush() {

@@ -6,6 +6,7 @@
 
 mod bundle;
 mod first;
+mod options;
 mod outcome;
 mod plan;
 mod run;

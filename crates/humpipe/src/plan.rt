@@ -1,22 +1,22 @@
 //! The plan of one score and at most one command: what is understood before plans come in whole.
 //!
-//! `out: read NAME`, or behind it a bar and `rid` with its letters. Lines of blanks alone and
+//! `out: read NAME`, or behind it a bar and one command with its words. Lines of blanks alone and
 //! lines that begin with `#` are skipped. Words are cut at blanks and bars; between two quotes a
 //! word may hold either.
 ghost use Rattle.std.specs.Prelude.{◌<◌, ◌≤◌, length, IfSome};
 
-use hum_rid::RidOptions;
+use crate::options::{CommandOptions, command_options, no_letters};
 use std::alloc::{AllocError, Global};
 use std::str;
 
 /// How long a plan may be, in bytes.
 pub const LONGEST_PLAN: usize = 65_536;
 
-/// The name of the score, and what is dropped of it: nothing where the plan has no command.
+/// The name of the score, and the command that it goes through.
 #[derive(Drop)]
 pub struct FirstPlan<'a> {
     pub file: &'a str,
-    pub options: RidOptions,
+    pub options: CommandOptions,
 }
 
 /// A word or a bar of a line.
@@ -118,83 +118,51 @@ fn pieces(alloc: Global, line: &[u8]) -> Result<Option<Vec<Piece<'_>>>, AllocErr
     Ok(Some(pieces))
 }
 
-/// Nothing is dropped.
-fn no_letters() -> RidOptions {
-    RidOptions {
-        global_comments: false,
-        empty_global_comments: false,
-        local_comments: false,
-        null_local_comments: false,
-        interpretations: false,
-        null_interpretations: false,
-        tandems: false,
-        values: false,
-        null_values: false,
-    }
-}
-
-/// Takes a word of rid's letters, and says whether it is one.
-fn take_letters(options: &mut RidOptions, word: &[u8]) -> bool {
-    let [b'-', letters @ ..] = word else {
-        return false;
-    };
-    for letter in letters {
-        match *letter {
-            b'G' => options.global_comments = true,
-            b'g' => options.empty_global_comments = true,
-            b'L' => options.local_comments = true,
-            b'l' => options.null_local_comments = true,
-            b'I' => options.interpretations = true,
-            b'i' => options.null_interpretations = true,
-            b'T' => options.tandems = true,
-            b'D' => options.values = true,
-            b'd' => options.null_values = true,
-            _ => return false,
+/// The words of a stage, or none where a bar stands among them.
+fn words<'a>(alloc: Global, pieces: &[Piece<'a>]) -> Result<Option<Vec<&'a [u8]>>, AllocError> {
+    let mut words = Vec::new(alloc);
+    for piece in pieces {
+        match *piece {
+            Piece::Word(word) => words.push(word)?,
+            Piece::Bar => return Ok(None),
         }
     }
-    !letters.is_empty()
+    Ok(Some(words))
 }
 
-/// The options of rid's words: at least one, and each of letters.
-fn rid_options(words: &[Piece<'_>]) -> Option<RidOptions> {
-    let mut options = no_letters();
-    for piece in words {
-        let Piece::Word(word) = *piece else {
-            return None;
-        };
-        if !take_letters(&mut options, word) {
-            return None;
-        }
+/// The command behind `read`: without one, nothing is dropped.
+fn command(alloc: Global, pieces: &[Piece<'_>]) -> Result<Option<CommandOptions>, AllocError> {
+    match pieces {
+        [] => Ok(Some(CommandOptions::Rid(no_letters()))),
+        [Piece::Bar, Piece::Word(name), rest @ ..] => match words(alloc, rest)? {
+            Some(words) => command_options(alloc, *name, &words),
+            None => Ok(None),
+        },
+        _ => Ok(None),
     }
-    if words.is_empty() {
-        return None;
-    }
-    Some(options)
 }
 
 /// The branch that pieces spell.
-fn branch<'a>(pieces: &[Piece<'a>]) -> Option<FirstPlan<'a>> {
+fn branch<'a>(alloc: Global, pieces: &[Piece<'a>]) -> Result<Option<FirstPlan<'a>>, AllocError> {
     let [
         Piece::Word(name),
         Piece::Word(read),
         Piece::Word(file),
-        command @ ..,
+        rest @ ..,
     ] = pieces
     else {
-        return None;
+        return Ok(None);
     };
     if *name != b"out:".as_slice() || *read != b"read".as_slice() || file.is_empty() {
-        return None;
+        return Ok(None);
     }
-    let options = match command {
-        [] => no_letters(),
-        [Piece::Bar, Piece::Word(rid), words @ ..] if *rid == b"rid".as_slice() => {
-            rid_options(words)?
-        }
-        _ => return None,
+    let Ok(file) = str::from_utf8(*file) else {
+        return Ok(None);
     };
-    let file = str::from_utf8(*file).ok()?;
-    Some(FirstPlan { file, options })
+    match command(alloc, rest)? {
+        Some(options) => Ok(Some(FirstPlan { file, options })),
+        None => Ok(None),
+    }
 }
 
 /// A line without one CR at its end.
@@ -221,7 +189,7 @@ pub fn read_plan(alloc: Global, plan: &[u8]) -> Result<Option<FirstPlan<'_>>, Al
         }
         match pieces(alloc, line)? {
             None => return Ok(None),
-            Some(pieces) => match branch(&pieces) {
+            Some(pieces) => match branch(alloc, &pieces)? {
                 None => return Ok(None),
                 Some(plan) => found = Some(plan),
             },

@@ -7,13 +7,16 @@ ghost use Rattle.humpipe.specs.Writing.{WroteFront};
 ghost use Rattle.hum_stage.specs.Meaning.{Meaning, Moment, MayPut, HasPut, opening};
 ghost use Rattle.hum_read.specs.Reading.{IsFresh};
 ghost use Rattle.humpipe.specs.Run.{GaveAll, GaveFront, MayFinish, FinishesBy};
-ghost use Rattle.hum_rid.specs.Rid.{meaning};
+ghost use Rattle.humpipe.specs.Commands.{meaning};
 ghost use Rattle.humpipe.specs.Run.{HasEnded, HasFailed, HasRun, HasFinished};
 
+use crate::options::CommandOptions;
 use crate::writing::write_record;
+use hum_ditto::Ditto;
+use hum_extract::Extract;
 use hum_read::{ReadError, ScoreReader, Step};
 use hum_record::Record;
-use hum_rid::{Rid, RidOptions};
+use hum_rid::Rid;
 use hum_stage::{End, Stage, State};
 use hum_text::calls::{Sink, Source};
 use std::alloc::Global;
@@ -142,14 +145,39 @@ pub fn run<R: Source, S: Stage, W: Sink>(
     }
 }
 
-/// Reads a score through rid, the second stage, and writes what is left.
+/// The same for a stage that is done with afterwards.
+fn run_stage<R: Source, S: Stage + Drop, W: Sink>(
+    source: &mut ScoreReader<R>,
+    mut stage: S,
+    sink: &mut W,
+) -> Result<End, Failure>
+    requires source { IsFresh source.old }
+    requires stage { (m : Meaning) × S.stands stage (opening m) }
+    ensures whole { IfOk result (λ end. (read : List ℕ)
+        × Consumes (R.remaining source.old.lines.source) (R.remaining source.new.lines.source) read
+        × HasEnded (S.stands stage) source.old.stage read
+        (W.contents sink.old) (W.contents sink.new) source.new end) }
+    ensures front { OnErr result ((read : List ℕ)
+        × Consumes (R.remaining source.old.lines.source) (R.remaining source.new.lines.source) read
+        × HasFailed (S.stands stage) read
+        (W.contents sink.old) (W.contents sink.new) source.new) }
+    ensures ended { source.new.lines.ended ≡ true
+        → IsAtEnd (R.remaining source.new.lines.source) }
+    ensures read_failed { result ≡ Err Failure.Read
+        → R.failed source.new.lines.source ≡ true }
+    ensures write_failed { result ≡ Err Failure.Write → W.failed sink.new ≡ true }
+{
+    run(source, &mut stage, sink)
+}
+
+/// Reads a score through a command, the second stage, and writes what it gives.
 ///
 /// # Errors
 /// As [`run`].
-pub fn run_rid<R: Source, W: Sink>(
+pub fn run_command<R: Source, W: Sink>(
     alloc: Global,
     source: &mut ScoreReader<R>,
-    options: RidOptions,
+    options: CommandOptions,
     sink: &mut W,
 ) -> Result<End, Failure>
     requires { IsFresh source.old }
@@ -167,6 +195,9 @@ pub fn run_rid<R: Source, W: Sink>(
         → R.failed source.new.lines.source ≡ true }
     ensures write_failed { result ≡ Err Failure.Write → W.failed sink.new ≡ true }
 {
-    let mut stage = Rid::new(alloc, 2, options);
-    run(source, &mut stage, sink)
+    match options {
+        CommandOptions::Rid(options) => run_stage(source, Rid::new(alloc, 2, options), sink),
+        CommandOptions::Extract(choice) => run_stage(source, Extract::new(alloc, 2, choice), sink),
+        CommandOptions::Ditto(options) => run_stage(source, Ditto::new(alloc, 2, options), sink),
+    }
 }

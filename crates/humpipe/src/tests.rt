@@ -1,5 +1,6 @@
 //! Whole bundles, and sources and sinks that fail.
 use crate::first::{run_bundle, run_source};
+use crate::options::CommandOptions;
 use hum_rid::RidOptions;
 use hum_text::calls::Marked;
 use std::alloc::Global;
@@ -215,7 +216,7 @@ fn told(alloc: Global, good: usize, room: usize) -> Result<(Vec<u8>, String), Fa
     let outcome = run_source(
         alloc,
         Marked::new(Failing { text, good }),
-        comments_off(),
+        CommandOptions::Rid(comments_off()),
         &mut sink,
     );
     let line = format!(in alloc; "{outcome}")?;

@@ -1,0 +1,14 @@
+-- What the commands of a plan mean.
+use Rattle.std.specs.Prelude.{ℕ}
+use Rattle.hum_stage.specs.Meaning.{Meaning}
+use Rattle.hum_rid.specs.Rid.{meaning as meaning_of_rid}
+use Rattle.hum_extract.specs.Written.{meaning as meaning_of_extract}
+use Rattle.hum_ditto.specs.Ditto.{meaning as meaning_of_ditto}
+use Rattle.humpipe.specs.declared.options.CommandOptions.{CommandOptions}
+use Rattle.humpipe.specs.declared.options.CommandOptions.TheVariants.{Rid, Extract, Ditto}
+
+-- what the stage of this number means, by its command
+abbrev pub meaning : ℕ → CommandOptions → Meaning
+meaning stage (Rid options) = meaning_of_rid stage options
+meaning stage (Extract choice) = meaning_of_extract stage choice
+meaning stage (Ditto options) = meaning_of_ditto stage options
