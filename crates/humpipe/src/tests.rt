@@ -8,7 +8,7 @@ use std::io::{self, Error, ErrorKind, Read, Write};
 use std::test::Fail;
 
 // The bundle of a plan and a score, its text, and the line that the program tells.
-const ROWS: [(&[u8], &[u8], &str); 22] = [
+const ROWS: [(&[u8], &[u8], &str); 40] = [
     (b"out: read a | rid -G\n--- a\n", b"", ""),
     (
         b"out: read a | rid -G\n--- a\n!!x\n**kern\n4c\n!!y\n*-\n",
@@ -112,6 +112,96 @@ const ROWS: [(&[u8], &[u8], &str); 22] = [
     ),
     (
         b"out: read a | rid -G | rid -L\n--- a\n**x\n*-\n",
+        b"",
+        "humpipe: plan not supported",
+    ),
+    (
+        b"out: read a | extract -f 1,2\n--- a\n**a\t**b\t**c\n1\t2\t3\n*x\t*\t*x\n3\t2\t1\n*-\t*-\t*-\n",
+        b"**a\t**b\n1\t2\n",
+        "humpipe: stage 2 (extract), line 3: X3",
+    ),
+    (
+        b"out: read a | extract -f 1\n--- a\n**a\t**b\t**c\n1\t2\t3\n*x\t*\t*x\n3\t2\t1\n*-\t*-\t*-\n",
+        b"**a\n1\n*\n1\n*-\n",
+        "",
+    ),
+    (
+        b"out: read a | extract -f 1\n--- a\n**x\t**x\n1\t2\n*v\t*v\n3\n*-\n",
+        b"**x\n1\n",
+        "humpipe: stage 2 (extract), line 3: X1",
+    ),
+    (
+        b"out: read a | extract -f 3\n--- a\n**x\t**x\n1\t2\n*v\t*v\n3\n*-\n",
+        b"",
+        "humpipe: stage 2 (extract), line 1: X2",
+    ),
+    (
+        b"out: read a | extract -i '**b,**c'\n--- a\n!!x\n**a\t**b\n1\t2\n*-\t*-\n",
+        b"!!x\n**b\n2\n*-\n",
+        "",
+    ),
+    (
+        b"out: read a | extract -i **d\n--- a\n**a\t**b\n1\t2\n*-\t*-\n",
+        b"",
+        "humpipe: stage 2 (extract), line 1: X2",
+    ),
+    (
+        b"out: read a | extract -f $\n--- a\n**a\t**b\n1\t2\n*-\t*-\n",
+        b"**b\n2\n*-\n",
+        "",
+    ),
+    (
+        b"out: read a | extract -f 2-$,1-1\n--- a\n**a\t**b\n1\t2\n*-\t*-\n",
+        b"**a\t**b\n1\t2\n*-\t*-\n",
+        "",
+    ),
+    (
+        b"out: read a | ditto\n--- a\n**a\t**b\n1\t2\n.\t.\n*x\t*x\n.\t.\n*-\t*-\n",
+        b"**a\t**b\n1\t2\n1\t2\n*x\t*x\n2\t1\n*-\t*-\n",
+        "",
+    ),
+    (
+        b"out: read a | ditto -p -s '^='\n--- a\n**a\n.\n4c\n=1\n.\n*-\n",
+        b"**a\n.\n4c\n=1\n(4c)\n*-\n",
+        "",
+    ),
+    (
+        b"out: read a | ditto -s '('\n--- a\n**a\n*-\n",
+        b"",
+        "humpipe: plan not supported",
+    ),
+    (
+        b"out: read a | ditto -p -p\n--- a\n**a\n*-\n",
+        b"",
+        "humpipe: plan not supported",
+    ),
+    (
+        b"out: read a | extract -f 0\n--- a\n**a\n*-\n",
+        b"",
+        "humpipe: plan not supported",
+    ),
+    (
+        b"out: read a | extract -f 2-1\n--- a\n**a\n*-\n",
+        b"",
+        "humpipe: plan not supported",
+    ),
+    (
+        b"out: read a | extract -f 1,\n--- a\n**a\n*-\n",
+        b"",
+        "humpipe: plan not supported",
+    ),
+    (
+        b"out: read a | extract -f 4097\n--- a\n**a\n*-\n",
+        b"",
+        "humpipe: plan not supported",
+    ),
+    (
+        b"out: read a | extract -f 4096\n--- a\n**a\n*-\n",
+        b"",
+        "humpipe: stage 2 (extract), line 1: X2",
+    ),
+    (
+        b"out: read a | extract -i **\n--- a\n**a\n*-\n",
         b"",
         "humpipe: plan not supported",
     ),
