@@ -12,18 +12,18 @@ use Rattle.hum_path.specs.declared.signs.Sign.{Sign}
 use Rattle.hum_path.specs.declared.signs.Sign.TheVariants.{Split, Join, Exchange, Add, End, Exclusive, Plain}
 use Rattle.hum_path.specs.declared.moved.Move.{Move}
 use Rattle.hum_path.specs.Sign.{sign_of, is_join, is_plain, all_plain, steers}
-use Rattle.hum_path.specs.Spines.{Path, Unopened, Spines, width, moves}
+use Rattle.hum_path.specs.Spines.{Path, Unopened, Spines, width, moves, after}
 use Rattle.hum_path.specs.Rules.{fault_of, is_closed}
-use Rattle.hum_path.specs.Score.{path_after}
+use Rattle.hum_path.specs.Score.{IsOpen, path_after}
 use Rattle.hum_path.specs.Step.{ComeFrom}
-use Rattle.hum_path.proofs.Plain.{sound_width}
+use Rattle.hum_path.proofs.Plain.{sound_width, plain_stays}
 use Rattle.hum_path.proofs.Widths.{text_width}
 use Rattle.hum_stage.specs.declared.faults.Rule.{Rule}
 use Rattle.hum_stage.specs.Decided.{in_room}
 use Rattle.hum_spread.specs.Spread.{tokens_in, touches, filled}
 use Rattle.hum_extract.specs.Choice.{Choice, flags, chosen, opening_flags}
 use Rattle.hum_extract.specs.Extract.{is_torn, exchanged_flags, softened, pieces, cut, opened, interpreted}
-use Rattle.hum_extract.specs.Following.{AsWide, kept, moved, Answers, Stand, Takes}
+use Rattle.hum_extract.specs.Following.{AsWide, kept, moved, Answers, Follows, Stand, Takes}
 use Rattle.hum_extract.proofs.Flags.{flags_width, flags_open, flags_move, flags_text, flags_plain, opening_steers}
 
 -- an interpretation that asks nothing
@@ -123,19 +123,60 @@ plain_path : (path : Path) (tokens : List (List ℕ)) → tokens ≢ [] → all_
 plain_path Unopened tokens some plain sound = absurd (opening_steers tokens some plain sound)
 plain_path (Spines names) tokens some plain sound = refl
 
-module _ {choice : Choice} {marks : List Bool} {opens : Bool} {found : List Move} where
-  -- the marks are as many as the tokens
-  pub wide_still : (row : Row) (past : List Row) → Stand choice marks opens found row past → IsTextOf row (text_of row)
-      → steers row ≡ false → AsWide marks row
-  wide_still (Comment text) past s lawful still = tt
-  wide_still (Spined Local tokens) past s lawful still =
-      ap length s.each ∙ flags_width choice past s.score.0 ∙ sym (text_width (path_after past) tokens s.score.1)
-  wide_still (Spined Values tokens) past s lawful still =
-      ap length s.each ∙ flags_width choice past s.score.0 ∙ sym (text_width (path_after past) tokens s.score.1)
-  wide_still (Spined Interpretation tokens) past s lawful still =
-      ap length s.each ∙ flags_width choice past s.score.0
-      ∙ sym (interpreted_width (path_after past) tokens lawful.1 (stays_plain tokens still) s.score.1)
+-- a record that asks nothing of the spines
 
+module _ {choice : Choice} {path : Path} {marks : List Bool} {decide : List Row → Row → Result (List Row) Rule} where
+  -- the marks are as many as the tokens
+  pub wide_still : (row : Row) (past : List Row) → Follows choice path marks decide past → IsOpen (row ∷ past)
+      → IsTextOf row (text_of row) → steers row ≡ false → AsWide marks row
+  wide_still (Comment text) past s score lawful still = tt
+  wide_still (Spined Local tokens) past s score lawful still =
+      ap length s.marks ∙ flags_width choice past score.0 ∙ sym (text_width (path_after past) tokens score.1)
+  wide_still (Spined Values tokens) past s score lawful still =
+      ap length s.marks ∙ flags_width choice past score.0 ∙ sym (text_width (path_after past) tokens score.1)
+  wide_still (Spined Interpretation tokens) past s score lawful still =
+      ap length s.marks ∙ flags_width choice past score.0
+      ∙ sym (interpreted_width (path_after past) tokens lawful.1 (stays_plain tokens still) score.1)
+
+  -- it stays without the columns that aren't chosen
+  pub gives_still : (row : Row) (past out : List Row) → Follows choice path marks decide past → IsOpen (row ∷ past)
+      → IsTextOf row (text_of row) → steers row ≡ false → out ≡ kept marks row → decide past row ≡ Ok out
+  gives_still (Comment text) past out s score lawful still e =
+      rw s.command (ap Ok (sym e))
+  gives_still (Spined Local tokens) past out s score lawful still e =
+      rw s.command (ap Ok (ap (λ fs. filled Local (chosen fs tokens ∷ [])) (sym s.marks) ∙ sym e))
+  gives_still (Spined Values tokens) past out s score lawful still e =
+      rw s.command (ap Ok (ap (λ fs. filled Values (chosen fs tokens ∷ [])) (sym s.marks) ∙ sym e))
+  gives_still (Spined Interpretation tokens) past out s score lawful still e =
+      let plain = stays_plain tokens still in
+      let at = plain_path (path_after past) tokens lawful.1 plain score.1 in
+      let decided : interpreted choice (path_after past) (flags choice past) tokens ≡ Ok (filled Interpretation (chosen (flags choice past) tokens ∷ [])) =
+      ap (λ (p : Path). interpreted choice p (flags choice past) tokens) at ∙ plain_cut (flags choice past) tokens plain in
+      rw s.command (decided ∙ ap Ok (ap (λ fs. filled Interpretation (chosen fs tokens ∷ [])) (sym s.marks) ∙ sym e))
+
+  -- nothing moves
+  pub follows_still : (row : Row) (past : List Row) → Follows choice path marks decide past → IsOpen (row ∷ past)
+      → IsTextOf row (text_of row) → steers row ≡ false → Follows choice path marks decide (row ∷ past)
+  follows_still (Comment text) past s score lawful still = record { command = s.command; spines = s.spines; marks = s.marks }
+  follows_still (Spined Local tokens) past s score lawful still =
+      record { command = s.command; spines = s.spines; marks = s.marks ∙ rw (flags_text choice past tokens score.1) refl }
+  follows_still (Spined Values tokens) past s score lawful still =
+      record { command = s.command; spines = s.spines; marks = s.marks ∙ rw (flags_text choice past tokens score.1) refl }
+  follows_still (Spined Interpretation tokens) past s score lawful still =
+      let plain = stays_plain tokens still in
+      let at = plain_path (path_after past) tokens lawful.1 plain score.1 in
+      let names = names_in (path_after past) in
+      let sound : fault_of (Spines names) (Spined Interpretation tokens) ≡ None = rw at at score.1 in
+      let same : after (path_after past) (Spined Interpretation tokens) ≡ path_after past =
+      ap (λ (p : Path). after p (Spined Interpretation tokens)) at
+      ∙ ap Spines (plain_stays names tokens plain (sound_width names tokens sound)) ∙ sym at in
+      record {
+        command = s.command;
+        spines = s.spines ∙ sym same;
+        marks = s.marks ∙ sym (flags_plain choice past tokens names score.0 at score.1 plain);
+      }
+
+module _ {choice : Choice} {marks : List Bool} {opens : Bool} {found : List Move} where
   pub wide_steered : (row : Row) (past : List Row) → Stand choice marks opens found row past
       → row ≡ Spined Interpretation (tokens_of row) → opens ≡ false → length marks ≡ width_of row
   wide_steered (Comment text) past s is off = cc
@@ -144,28 +185,6 @@ module _ {choice : Choice} {marks : List Bool} {opens : Bool} {found : List Move
       let path = spines_path (path_after past) (sym s.closed ∙ off) in
       let sound : fault_of (Spines (names_in (path_after past))) (Spined Interpretation tokens) ≡ None = rw (k, path) at s.score.1 in
       ap length s.each ∙ flags_width choice past s.score.0 ∙ ap width path ∙ sym (sound_width (names_in (path_after past)) tokens sound)
-
-  -- a record that asks nothing of the spines
-  pub takes_still : (row : Row) (past : List Row) (room : ℕ) (out : List Row) → Stand choice marks opens found row past
-      → IsTextOf row (text_of row) → steers row ≡ false → out ≡ kept marks row → Takes choice past row room marks out None
-  takes_still (Comment text) past room out s lawful still e = (ap Ok (sym e), s.each)
-  takes_still (Spined Local tokens) past room out s lawful still e = (
-    ap Ok (ap (λ fs. filled Local (chosen fs tokens ∷ [])) (sym s.each) ∙ sym e),
-    s.each ∙ rw (flags_text choice past tokens s.score.1) refl,
-  )
-  takes_still (Spined Values tokens) past room out s lawful still e = (
-    ap Ok (ap (λ fs. filled Values (chosen fs tokens ∷ [])) (sym s.each) ∙ sym e),
-    s.each ∙ rw (flags_text choice past tokens s.score.1) refl,
-  )
-  takes_still (Spined Interpretation tokens) past room out s lawful still e =
-      let plain = stays_plain tokens still in
-      let path = plain_path (path_after past) tokens lawful.1 plain s.score.1 in
-      let same = flags_plain choice past tokens (names_in (path_after past)) s.score.0 path s.score.1 plain in
-      let decided : interpreted choice (path_after past) (flags choice past) tokens ≡ Ok (filled Interpretation (chosen (flags choice past) tokens ∷ [])) =
-      ap (λ (p : Path). interpreted choice p (flags choice past) tokens) path ∙ plain_cut (flags choice past) tokens plain in (
-        decided ∙ ap Ok (ap (λ fs. filled Interpretation (chosen fs tokens ∷ [])) (sym s.each) ∙ sym e),
-        s.each ∙ sym same,
-      )
 
   -- the opening record
   pub takes_opening : (row : Row) (past : List Row) (room : ℕ) (out : List Row) (after : List Bool) (refused : Option Rule)

@@ -1,7 +1,9 @@
 -- What is remembered of the records so far.
-use Rattle.std.specs.Prelude.{◌≡◌, ℕ, Bool, false, List, [], ◌∷◌, length, map, slice_index_or}
+use Rattle.std.specs.Prelude.{◌≡◌, ◌≢◌, ◌≤◌, ℕ, Bool, false, List, [], ◌∷◌, length, map, slice_index_or}
 use Rattle.std.specs.Prelude.{Option, None, Some, IfNone, Result, Ok, Err}
-use Rattle.hum_record.specs.Row.{Row, Comment, Spined}
+use Rattle.hum_record.specs.declared.SpinedKind.{SpinedKind}
+use Rattle.hum_record.specs.Row.{Row, Comment, Spined, tokens_of}
+use Rattle.hum_record.specs.Building.{spelled}
 use Rattle.hum_path.specs.declared.moved.Move.{Move}
 use Rattle.hum_path.specs.Spines.{Path, source, moves}
 use Rattle.hum_path.specs.Rules.{is_closed}
@@ -23,6 +25,12 @@ pub record Follows (choice : Choice) (path : Path) (each : List Bool)
   pub command : decide ≡ extract choice
   pub spines : path ≡ path_after past
   pub marks : each ≡ flags choice past
+
+-- a record of this kind, which has tokens and isn't too long
+pub record IsSpined (kind : SpinedKind) (row : Row) : Type 0 where
+  pub shape : row ≡ Spined kind (tokens_of row)
+  pub some : tokens_of row ≢ []
+  pub at_most : length (spelled (tokens_of row)) ≤ 1048576
 
 -- the marks of a spined record's columns
 abbrev pub AsWide : List Bool → Row → Type 0

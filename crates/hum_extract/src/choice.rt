@@ -12,7 +12,7 @@ use crate::marks::has_chosen;
 use hum_record::Record;
 use std::alloc::{AllocError, Global};
 
-/// A field of the opening record.
+/// A field of the opening record, which has one for each opening spine.
 #[derive(Clone, Copy, Debug, PartialEq, Eq)]
 pub enum Field {
     /// by its number, from 1
@@ -21,7 +21,8 @@ pub enum Field {
     Last,
 }
 
-/// The fields from one to another.
+/// The fields from one to another, both included. Where the first comes after the last there are
+/// none.
 #[derive(Clone, Copy, Debug, PartialEq, Eq)]
 pub struct FieldRange {
     pub first: Field,

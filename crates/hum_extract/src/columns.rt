@@ -1,5 +1,5 @@
 //! The chosen columns, record by record.
-ghost use Rattle.std.specs.Prelude.{◌≡◌, List, [], None, IfOk, IfNone, OnOk};
+ghost use Rattle.std.specs.Prelude.{◌≡◌, true, List, [], None, IfOk, IfNone, OnOk};
 ghost use Rattle.hum_record.specs.Row.{Row, Spined, tokens_of, text_of};
 ghost use Rattle.hum_record.specs.Spelling.{IsTextOf};
 ghost use Rattle.hum_path.specs.Sign.{steers};
@@ -100,9 +100,9 @@ impl Columns {
         }
     }
 
-    /// Takes one more record: whether no spine is open before it, and where the spines after it
-    /// come from, is known.
-    fn take(
+    /// Takes one more record that asks something of the spines: whether no spine is open before it,
+    /// and where the spines after it come from, is known.
+    fn steer(
         &mut self,
         opens: bool,
         found: &Moves,
@@ -110,6 +110,8 @@ impl Columns {
         room: u64,
         out: &mut VecDeque<Record>,
     ) -> Result<Option<Rule>, AllocError>
+        requires steers { steers row ≡ true }
+        requires lawful { IsTextOf row (text_of row) }
         requires stand { (past : List Row)
             × Stand (choice_of self.old.choice) self.old.marks opens found.now row past }
         requires empty { out.old.items ≡ [] }
@@ -119,10 +121,6 @@ impl Columns {
             refused) }
         ensures rest { OnOk result (self.new ≡ record self.old { marks = self.new.marks }) }
     {
-        if !asks(&row) {
-            self.marks.keep(self.alloc, row, out)?;
-            return Ok(None);
-        }
         if opens {
             return opened(self.alloc, &self.choice, &mut self.marks, row, room, out);
         }
@@ -144,8 +142,12 @@ impl Decides for Columns {
         room: u64,
         out: &mut VecDeque<Record>,
     ) -> Result<Option<Rule>, AllocError> {
+        if !asks(&next) {
+            self.marks.keep(self.alloc, next, out)?;
+            return Ok(None);
+        }
         let opens = self.paths.is_closed();
         let found = passed(&mut self.paths, &next)?;
-        self.take(opens, &found, next, room, out)
+        self.steer(opens, &found, next, room, out)
     }
 }

@@ -1,4 +1,7 @@
-//! The command extract: chosen columns.
+//! The command extract: chosen columns (Humdrum Toolkit: Reference Manual, extract).
+//!
+//! A [`Choice`] names opening spines; [`Extract`] is the stage that keeps the columns that come of
+//! them, along splits, joins, exchanges and added spines.
 #![tactic(auto)]
 
 ghost use Rattle.hum_stage.specs.Meaning.{opening, KeepsScore};
@@ -18,8 +21,11 @@ use std::alloc::{AllocError, Global};
 /// The command extract, as a stage.
 ///
 /// It refuses the opening record by X2 where a field beyond the width is named or no spine is
-/// chosen; a later interpretation by X1 where one join has chosen and dropped columns, and by X3
-/// where of two exchanged columns one is chosen, and a chosen one stands strictly between them.
+/// chosen; a later interpretation by X1 where one join has chosen and dropped columns, else by X3
+/// where of two exchanged columns one is chosen, and a chosen one stands strictly between them; and
+/// by L2 what there is no room for.
+///
+/// What it remembers is one mark for each spine, and the spines' exclusive interpretations.
 #[derive(Drop)]
 pub struct Extract {
     inner: AtOnce<Columns>,

@@ -1,12 +1,11 @@
 //! Which columns are chosen.
 ghost use Rattle.std.specs.Prelude.{◌≡◌, ◌≢◌, true, false, slice_index_or, ◌++◌, ◌∷◌, []};
-ghost use Rattle.std.specs.Prelude.{length, IfOk, OnOk, ◌≤◌};
+ghost use Rattle.std.specs.Prelude.{length, IfOk, OnOk, MatchOption};
 ghost use Rattle.std.specs.List.{list_any, list_all};
-ghost use Rattle.hum_record.specs.Row.{Spined, as_kind, kind_of, tokens_of, width_of};
-ghost use Rattle.hum_record.specs.Building.{spelled};
+ghost use Rattle.hum_record.specs.Row.{Comment, Spined, tokens_of, width_of, text_of};
 ghost use Rattle.hum_spread.specs.Spread.{filled};
 ghost use Rattle.hum_extract.specs.Choice.{chosen};
-ghost use Rattle.hum_extract.specs.Following.{AsWide, kept, moved};
+ghost use Rattle.hum_extract.specs.Following.{AsWide, IsSpined, kept, moved};
 ghost use Rattle.hum_path.specs.Spines.{source};
 
 use hum_path::{Move, Moves};
@@ -60,6 +59,19 @@ fn all_chosen(marks: &[bool]) -> bool
     true
 }
 
+/// The kind of a spined record.
+fn spined_kind(row: &Record) -> Option<SpinedKind>
+    ensures { MatchOption result (row.now ≡ Comment (text_of row.now))
+        (λ kind. IsSpined kind row.now) }
+{
+    match row.kind() {
+        Kind::Global => None,
+        Kind::Local => Some(SpinedKind::Local),
+        Kind::Interpretation => Some(SpinedKind::Interpretation),
+        Kind::Values => Some(SpinedKind::Values),
+    }
+}
+
 /// Whether a column that comes by a move is chosen.
 fn mark_at(marks: &[bool], from: Move) -> bool
     ensures { result ≡ slice_index_or marks.now (source from) false }
@@ -78,10 +90,9 @@ fn rebuilt(
     marks: &[bool],
     row: &Record,
 ) -> Result<Record, AllocError>
-    requires kind { row.now ≡ Spined kind (tokens_of row.now) }
+    requires spined { IsSpined kind row.now }
     requires as_wide { length marks.now ≡ width_of row.now }
     requires some { list_any (λ b. b) marks.now ≡ true }
-    requires fits { length (spelled (tokens_of row.now)) ≤ 1048576 }
     ensures { IfOk result (λ made. made ≡ Spined kind (chosen marks.now (tokens_of row.now))) }
 {
     let mut builder = RecordBuilder::new(alloc, kind);
@@ -118,10 +129,8 @@ impl Marks {
         row: Record,
         out: &mut VecDeque<Record>,
     ) -> Result<(), AllocError>
-        requires kind { row ≡ Spined kind (tokens_of row) }
-        requires filled { tokens_of row ≢ [] }
+        requires spined { IsSpined kind row }
         requires as_wide { length self.now ≡ width_of row }
-        requires fits { length (spelled (tokens_of row)) ≤ 1048576 }
         ensures { OnOk result (out.new.items
             ≡ out.old.items ++ filled kind (chosen self.now (tokens_of row) ∷ [])) }
     {
@@ -147,14 +156,12 @@ impl Marks {
         requires { AsWide self.now row }
         ensures { OnOk result (out.new.items ≡ out.old.items ++ kept self.now row) }
     {
-        match row.kind() {
-            Kind::Global => {
+        match spined_kind(&row) {
+            None => {
                 out.push_back(row)?;
                 Ok(())
             }
-            Kind::Local => self.keep_spined(alloc, SpinedKind::Local, row, out),
-            Kind::Interpretation => self.keep_spined(alloc, SpinedKind::Interpretation, row, out),
-            Kind::Values => self.keep_spined(alloc, SpinedKind::Values, row, out),
+            Some(kind) => self.keep_spined(alloc, kind, row, out),
         }
     }
 

@@ -6,7 +6,7 @@ use Rattle.hum_extract.proofs.marks.rebuilt.Goals.{then-mark+in_ok-push_fitting,
 
 pub push_fitting-requires-clause-fits : goal.push_fitting-requires-clause-fits
 push_fitting-requires-clause-fits c =
-    rw c.token.ensures.token (one_fits c.args.marks.now (tokens_of c.args.row.now) c.loop-j.builder.tokens c.loop-j.j c.loop-j-test.true c.requires.as_wide c.if-mark.true c.loop-j.invariant.list c.requires.fits)
+    rw c.token.ensures.token (one_fits c.args.marks.now (tokens_of c.args.row.now) c.loop-j.builder.tokens c.loop-j.j c.loop-j-test.true c.requires.as_wide c.if-mark.true c.loop-j.invariant.list c.requires.spined.at_most)
 
 pub loop-j-preserved : goal.loop-j-preserved
 loop-j-preserved c = elim c.if-mark.branch [

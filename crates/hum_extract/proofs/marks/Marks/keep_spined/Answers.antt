@@ -7,7 +7,7 @@ pub returns-then-self : goal.returns-then-self
 returns-then-self c =
     let w : list_all (λ b. b) c.args.self.now ≡ true = rw (← c.self.view_is) (sym c.self.invariant.1 ∙ c.if-self.true) in
     c.in_ok-push_back.ensures.items
-    ∙ ap (λ rest. c.args.out.now.items ++ rest) (all_kept c.args.kind c.args.self.now c.args.row c.requires.kind c.requires.filled w c.requires.as_wide)
+    ∙ ap (λ rest. c.args.out.now.items ++ rest) (all_kept c.args.kind c.args.self.now c.args.row c.requires.spined.shape c.requires.spined.some w c.requires.as_wide)
 
 pub returns-then-not-self : goal.returns-then-not-self
 returns-then-not-self c =
