@@ -1,4 +1,4 @@
-use Rattle.hum_rid.proofs.Reading.{one_more, spines_after}
+use Rattle.hum_stage.proofs.OneMore.{one_more, spines_after}
 use Rattle.hum_rid.proofs.tests.add.Goals as goal
 
 pub returns-clause-score : goal.returns-clause-score

@@ -1,4 +1,4 @@
-use Rattle.hum_ditto.proofs.Reading.{one_more, spines_after}
+use Rattle.hum_stage.proofs.OneMore.{one_more, spines_after}
 use Rattle.hum_ditto.proofs.tests.Score.with.Goals as goal
 
 pub invariant_of-result : goal.invariant_of-result
