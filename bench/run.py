@@ -12,6 +12,10 @@ import time
 HERE = os.path.dirname(os.path.abspath(__file__))
 TOP = os.path.dirname(HERE)
 DATA = os.path.join(HERE, 'data')
+# the columns as they stand in each line; nothing is followed
+EXTRACT = 'BEGIN { FS = OFS = "\\t" } /^!!/ { print; next } { print $1, $3 }'
+DITTO = ('BEGIN { FS = OFS = "\\t" } /^[!*]/ { print; next } '
+         '{ for (i = 1; i <= NF; i++) if ($i == ".") $i = (i in last) ? last[i] : "."; else last[i] = $i; print }')
 SIZES = [int(size) for size in os.environ.get('BENCH_MEGABYTES', '10 100').split()]
 
 
@@ -55,22 +59,26 @@ def plain_filter():
     return binary
 
 
-def main():
-    os.makedirs(DATA, exist_ok=True)
-    os.chdir(TOP)
-    filter_program = plain_filter()
-    for size in SIZES:
-        score = os.path.join(DATA, f'score{size}.krn')
-        if not os.path.exists(score):
-            subprocess.run([sys.executable, os.path.join(HERE, 'make_score.py'), str(size), score], check=True)
-        plan = os.path.join(DATA, f'rid{size}.hpl')
+def tasks(score, filter_program):
+    """Each command with its words in a plan, and the programs beside it."""
+    plain = [('plain filter (Rust)', [filter_program, score])] if filter_program else []
+    return [
+        ('rid -G', [('grep -v', ['grep', '-v', '^!!', score]), ('mawk', ['mawk', '!/^!!/', score])] + plain),
+        ('extract -f 1,3', [('cut', ['cut', '-f', '1,3', score]), ('mawk', ['mawk', EXTRACT, score])]),
+        ('ditto', [('mawk', ['mawk', DITTO, score])]),
+    ]
+
+
+def run(size, filter_program):
+    score = os.path.join(DATA, f'score{size}.krn')
+    if not os.path.exists(score):
+        subprocess.run([sys.executable, os.path.join(HERE, 'make_score.py'), str(size), score], check=True)
+    for command, peers in tasks(score, filter_program):
+        plan = os.path.join(DATA, 'plan.hpl')
         with open(plan, 'w') as out:
-            out.write(f'out: read {score} | rid -G\n')
-        peers = [('grep -v', ['grep', '-v', '^!!', score]), ('mawk', ['mawk', '!/^!!/', score])]
-        if filter_program:
-            peers.append(('plain filter (Rust)', [filter_program, score]))
+            out.write(f'out: read {score} | {command}\n')
         ours, memory = measured(['./humpipe', plan])
-        print(f'{size} MB, rid -G')
+        print(f'{size} MB, {command}')
         print(f'  {"humpipe":22} {ours:6.2f} s  {memory:6.1f} MiB')
         for name, words in peers:
             if not shutil.which(words[0]):
@@ -79,6 +87,14 @@ def main():
             theirs, their_memory = measured(words)
             ratio = ours / theirs if theirs > 0 else float('inf')
             print(f'  {name:22} {theirs:6.2f} s  {their_memory:6.1f} MiB  humpipe takes {ratio:.2f} times as long')
+
+
+def main():
+    os.makedirs(DATA, exist_ok=True)
+    os.chdir(TOP)
+    filter_program = plain_filter()
+    for size in SIZES:
+        run(size, filter_program)
 
 
 main()
