@@ -1,6 +1,6 @@
 -- What is remembered of the records so far.
-use Rattle.std.specs.Prelude.{◌≡◌, ◌≢◌, ◌≤◌, ℕ, Bool, false, List, [], ◌∷◌, length, map, slice_index_or}
-use Rattle.std.specs.Prelude.{Option, None, Some, IfNone, Result, Ok, Err}
+use Rattle.std.specs.Prelude.{◌≡◌, ◌≢◌, ◌≤◌, ℕ, Bool, false, List, [], ◌∷◌, length, map}
+use Rattle.std.specs.Prelude.{slice_index_or, Option, None, Some, IfNone, Result, Ok, Err}
 use Rattle.hum_record.specs.declared.SpinedKind.{SpinedKind}
 use Rattle.hum_record.specs.Row.{Row, Comment, Spined, tokens_of}
 use Rattle.hum_record.specs.Building.{spelled}
@@ -32,7 +32,7 @@ pub record IsSpined (kind : SpinedKind) (row : Row) : Type 0 where
   pub some : tokens_of row ≢ []
   pub at_most : length (spelled (tokens_of row)) ≤ 1048576
 
--- the marks of a spined record's columns
+-- as many marks as a spined record has tokens
 abbrev pub AsWide : List Bool → Row → Type 0
 AsWide flags (Comment text) = Unit {0}
 AsWide flags (Spined kind tokens) = length flags ≡ length tokens
