@@ -8,7 +8,8 @@ use hum_read::ScoreReader;
 use hum_text::calls::{Marked, Sink, Source};
 use std::alloc::Global;
 
-/// Runs the score of a source through a command. What was settled is written also where the source fails.
+/// Runs the score of a source through a command. What was settled is written also where the source
+/// fails.
 pub fn run_source<R: Source + Drop, W: Sink>(
     alloc: Global,
     source: R,

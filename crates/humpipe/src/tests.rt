@@ -116,12 +116,12 @@ const ROWS: [(&[u8], &[u8], &str); 40] = [
         "humpipe: plan not supported",
     ),
     (
-        b"out: read a | extract -f 1,2\n--- a\n**a\t**b\t**c\n1\t2\t3\n*x\t*\t*x\n3\t2\t1\n*-\t*-\t*-\n",
-        b"**a\t**b\n1\t2\n",
-        "humpipe: stage 2 (extract), line 3: X3",
+        b"out: read a | extract -f 1,2\n--- a\n**a\t**b\t**c\n*x\t*\t*x\n*-\t*-\t*-\n",
+        b"**a\t**b\n",
+        "humpipe: stage 2 (extract), line 2: X3",
     ),
     (
-        b"out: read a | extract -f 1\n--- a\n**a\t**b\t**c\n1\t2\t3\n*x\t*\t*x\n3\t2\t1\n*-\t*-\t*-\n",
+        b"out: read a | extract -f 1\n--- a\n**a\t**b\n1\t2\n*x\t*x\n2\t1\n*-\t*-\n",
         b"**a\n1\n*\n1\n*-\n",
         "",
     ),
