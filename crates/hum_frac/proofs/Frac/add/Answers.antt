@@ -1,0 +1,8 @@
+use Rattle.hum_frac.proofs.Ratios.{sum_value, sum_none}
+use Rattle.hum_frac.proofs.Frac.add.Goals as goal
+
+pub returns-clause-value : goal.returns-clause-value
+returns-clause-value c = rw (← c.self.view_is, ← c.other.view_is) (sum_value _ _ c.lowest.result c.lowest.ensures.reduced)
+
+pub returns-clause-none : goal.returns-clause-none
+returns-clause-none c = rw (← c.self.view_is, ← c.other.view_is) (sum_none _ _ c.lowest.result c.self.invariant.positive c.other.invariant.positive c.lowest.ensures.refused)
