@@ -1,0 +1,66 @@
+//! Maximal runs of bytes of one class.
+
+ghost use Rattle.std.specs.Prelude.{◌≡◌, ◌+◌, ◌≤◌, length};
+ghost use Rattle.hum_kern.specs.Runs.{run, front, behind, starts_with};
+ghost use Rattle.hum_kern.specs.Classes.{is_digit, is_in};
+
+/// What a run consists of.
+#[derive(Clone, Copy, Debug, PartialEq, Eq)]
+pub(crate) enum Class {
+    /// The digits `0` to `9`.
+    Digit,
+    /// All other bytes.
+    Other,
+    /// Dots.
+    Dot,
+}
+
+fn is_digit(b: u8) -> bool
+    ensures { result ≡ is_digit b }
+{
+    48 <= b && b <= 57
+}
+
+impl Class {
+    /// Whether a byte is of the class.
+    fn has(self, b: u8) -> bool
+        ensures { result ≡ is_in self b }
+    {
+        match self {
+            Class::Digit => is_digit(b),
+            Class::Other => !is_digit(b),
+            Class::Dot => b == b'.',
+        }
+    }
+}
+
+/// How long the run at the front is.
+fn run(bytes: &[u8], class: Class) -> usize
+    ensures run { result ≡ run (is_in class) bytes.now }
+    ensures within { result ≤ length bytes.now }
+{
+    let mut n = 0;
+    while n < bytes.len() && class.has(bytes[n]) {
+        n += 1;
+    }
+    n
+}
+
+/// The run at the front, and what stands behind it.
+pub(crate) fn split_run(bytes: &[u8], class: Class) -> (&[u8], &[u8])
+    ensures front { (result.0).now ≡ front (is_in class) bytes.now }
+    ensures behind { (result.1).now ≡ behind (is_in class) bytes.now }
+    ensures whole { length (result.0).now + length (result.1).now ≡ length bytes.now }
+{
+    bytes.split_at(run(bytes, class))
+}
+
+/// Whether a percent sign stands at the front.
+pub(crate) fn starts_with_percent(bytes: &[u8]) -> bool
+    ensures { result ≡ starts_with 37 bytes.now }
+{
+    match bytes {
+        [b, ..] => *b == b'%',
+        [] => false,
+    }
+}
