@@ -62,17 +62,21 @@ fn quotients(rt: HostRuntime) {
     }
 }
 
-#[test]
-fn without_a_duration(rt: HostRuntime) {
-    let texts: [&'static [u8]; 8] = [b"", b"r", b"cc#", b".", b"8ddq", b"4Q", b"04q", b"%"];
+fn check_without(rt: &impl Abort, text: &[u8]) {
     let nothing = Length {
         value: None,
         start: 0,
         end: 0,
     };
+    assert_eq!(rt; read_duration(text), Ok(nothing), "{text:?}");
+    assert_eq!(rt; read_recip(text), Err(KernFault::K3), "{text:?}");
+}
+
+#[test]
+fn without_a_duration(rt: HostRuntime) {
+    let texts: [&'static [u8]; 8] = [b"", b"r", b"cc#", b".", b"8ddq", b"4Q", b"04q", b"%"];
     for text in texts {
-        assert_eq!(rt; read_duration(text), Ok(nothing), "{text:?}");
-        assert_eq!(rt; read_recip(text), Err(KernFault::K3), "{text:?}");
+        check_without(&rt, text);
     }
 }
 
