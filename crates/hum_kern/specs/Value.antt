@@ -4,7 +4,7 @@ use Rattle.std.specs.Prelude.{List, [], ◌∷◌, Option, None, Some, if◌then
 use Rattle.std.specs.Str.{bytes_eq}
 use Rattle.std.proofs.Common.{zero, suc}
 use lib.Chars.{codes}
-use Rattle.hum_frac.specs.Ratio.{Ratio, whole}
+use Rattle.hum_frac.specs.Ratio.{Ratio, whole, sum}
 use Rattle.hum_kern.specs.Runs.{starts_with}
 
 abbrev pub number_from : ℕ → List ℕ → ℕ
@@ -51,15 +51,18 @@ abbrev pub value_of : List ℕ → Option (List ℕ) → Option Ratio
 value_of digits None = plain_value digits
 value_of digits (Some second) = quotient_value digits second
 
--- A value with dots: each dot adds half of what was added last, so that n of them make it the value
--- times 2 - 1 / 2^n. Over the bottom doubled n times, one more dot doubles the top and adds the
--- value's own.
+abbrev pub half : Ratio → Ratio
+half value = record { top = value.top; bottom = 2 * value.bottom }
+
+-- what the last of so many dots adds: half of what was added last
+abbrev pub added : Ratio → ℕ → Ratio
+added value zero = value
+added value (suc dots) = half (added value dots)
+
+-- a value with so many dots
 abbrev pub dotted : Ratio → ℕ → Ratio
 dotted value zero = value
-dotted value (suc dots) = more (dotted value dots)
-  where
-    more : Ratio → Ratio
-    more last = record { top = 2 * last.top + value.top; bottom = 2 * last.bottom }
+dotted value (suc dots) = sum (dotted value dots) (added value (suc dots))
 
 -- what values without dots are kept as
 pub record IsBase (top bottom : ℕ) : Type 0 where
