@@ -1,0 +1,3 @@
+mod Examples
+pub mod Steps
+pub mod Answering
