@@ -102,7 +102,8 @@ impl Note {
 }
 
 impl Pitch {
-    ghost use Rattle.std.specs.Prelude.{IfOk};
+    ghost use Rattle.std.specs.Prelude.{IfOk, IfErr};
+    ghost use Rattle.hum_pitch.specs.declared.pitch.Pitch.{Pitch};
     ghost use Rattle.hum_pitch.specs.Given.{spelled, noted, Answers};
 
     /// The number of its step, counted from the c of octave 0.
@@ -146,6 +147,8 @@ impl Pitch {
         requires semitones { IsWithin (negsuc 83) semitones (pos 84) }
         ensures exact { Answers (away steps semitones (spelled self)) result }
         ensures apart { IfOk result (λ q. IsAway steps semitones (spelled self) (spelled q)) }
+        ensures none { IfErr result (λ _. (q : Pitch) →
+            ¬ IsAway steps semitones (spelled self) (spelled q)) }
     {
         self.away(steps, semitones).spelled()
     }
