@@ -1,3 +1,4 @@
 mod Examples
 pub mod Steps
 pub mod Answering
+pub mod Reading

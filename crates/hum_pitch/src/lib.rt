@@ -5,5 +5,7 @@
 #![tactic(auto)]
 
 mod pitch;
+mod spelling;
 
 pub use pitch::{Pitch, PitchFault};
+pub use spelling::write_pitch;
