@@ -93,3 +93,10 @@ as_passed P n m f g h =
     let by_second : ℤ → Type 0 = λ k. P n k in
     let by_first : ℤ → Type 0 = λ k. P k (to_z w32 (of_z w32 m)) in
     subst by_second (to_z-of_z w32 m g) (subst by_first (to_z-of_z w32 n f) h)
+
+pub less_is : (x y a b : ℤ) → IsWithin (negsuc 999) x (pos 999) → IsWithin (negsuc 999) y (pos 999) → x ≡ a → y ≡ b
+    → to_z w32 (of_z w32 (to_z w32 (of_z w32 x) -ℤ to_z w32 (of_z w32 y))) ≡ a -ℤ b
+less_is x y a b f g d e = omega (arith, ints)
+
+pub added_back : (d a b : ℤ) → d ≡ b -ℤ a → b ≡ a +ℤ d
+added_back d a b e = omega (arith, ints)

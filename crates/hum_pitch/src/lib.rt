@@ -4,8 +4,13 @@
 //! Reference Manual, representation `**kern`).
 #![tactic(auto)]
 
+mod between;
+mod intervals;
+mod naming;
 mod pitch;
 mod spelling;
 
+pub use between::interval;
+pub use intervals::Interval;
 pub use pitch::{Pitch, PitchFault};
 pub use spelling::write_pitch;

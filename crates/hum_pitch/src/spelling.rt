@@ -8,9 +8,9 @@ use std::alloc::{AllocError, Global};
 
 /// A byte, and how often it is written.
 #[derive(Clone, Copy)]
-struct Repeated {
-    byte: u8,
-    count: usize,
+pub(crate) struct Repeated {
+    pub byte: u8,
+    pub count: usize,
 }
 
 /// The letters of a pitch.
@@ -51,7 +51,7 @@ fn accidentals(pitch: Pitch) -> Repeated
 }
 
 /// One byte some times, and then another.
-fn repeat(alloc: Global, first: Repeated, second: Repeated) -> Result<Vec<u8>, AllocError>
+pub(crate) fn repeat(alloc: Global, first: Repeated, second: Repeated) -> Result<Vec<u8>, AllocError>
     requires first { first.count ≤ 8 }
     requires second { second.count ≤ 8 }
     ensures { IfOk result (λ text. text.items ≡

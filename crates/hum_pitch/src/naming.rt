@@ -1,0 +1,104 @@
+//! Intervals as text.
+ghost use Rattle.std.specs.Prelude.{◌≡◌, ◌≤◌, ◌++◌, ◌+◌, List, cond, pos, replicate, negsuc, IfOk, OnOk, unsigned_abs};
+ghost use Rattle.std.specs.Fmt.{decimal};
+ghost use Rattle.hum_pitch.specs.Pitch.{IsWithin};
+ghost use Rattle.hum_pitch.specs.Intervals.{direction, excess, upwards, natural_width, can_be_perfect, of_perfect, of_major};
+ghost use Rattle.hum_pitch.specs.Intervals.{quality, sign, quality_letters, interval_text};
+
+use crate::Interval;
+use crate::intervals::{Direction, Quality};
+use crate::pitch::natural;
+use crate::spelling::{Repeated, repeat};
+use std::alloc::{AllocError, Global};
+
+fn direction(interval: Interval) -> Direction
+    ensures { result ≡ direction interval.d interval.s }
+{
+    let leading = if interval.d == 0 { interval.s } else { interval.d };
+    if leading > 0 {
+        Direction::Up
+    } else if leading < 0 {
+        Direction::Down
+    } else {
+        Direction::Level
+    }
+}
+
+/// The semitones of the interval as it is named, upwards.
+fn upwards(interval: Interval) -> i32
+    ensures exact { result ≡ upwards interval.d interval.s }
+    ensures bounded { IsWithin (negsuc 204) result (pos 205) }
+{
+    if interval.d > 0 {
+        interval.s
+    } else if interval.d < 0 {
+        0 - interval.s
+    } else if interval.s < 0 {
+        0 - interval.s
+    } else {
+        interval.s
+    }
+}
+
+/// The semitones of the perfect or major interval of so many steps.
+fn natural_width(steps: u32) -> u32
+    requires { steps ≤ 111 }
+    ensures exact { result ≡ natural_width steps }
+    ensures bounded { result ≤ 191 }
+{
+    u32::from(natural(steps % 7)) + 12 * (steps / 7)
+}
+
+/// By how many semitones the interval is wider than the perfect or major one.
+fn excess(interval: Interval) -> i32
+    ensures exact { result ≡ excess interval.d interval.s }
+    ensures bounded { IsWithin (negsuc 395) result (pos 205) }
+{
+    upwards(interval) - natural_width(interval.d.unsigned_abs()) as i32
+}
+
+/// Whether intervals of so many steps are perfect, and not major or minor.
+fn can_be_perfect(steps: u32) -> bool
+    ensures { result ≡ can_be_perfect steps }
+{
+    let within_octave = steps % 7;
+    within_octave == 0 || within_octave == 3 || within_octave == 4
+}
+
+fn of_perfect(excess: i32) -> Quality
+    requires { IsWithin (negsuc 395) excess (pos 205) }
+    ensures { result ≡ of_perfect excess }
+{
+    if excess > 0 {
+        Quality::Augmented(excess as u32)
+    } else if excess < 0 {
+        Quality::Diminished(excess.unsigned_abs())
+    } else {
+        Quality::Perfect
+    }
+}
+
+fn of_major(excess: i32) -> Quality
+    requires { IsWithin (negsuc 395) excess (pos 205) }
+    ensures { result ≡ of_major excess }
+{
+    if excess > 0 {
+        Quality::Augmented(excess as u32)
+    } else if excess == 0 {
+        Quality::Major
+    } else if excess == -1 {
+        Quality::Minor
+    } else {
+        Quality::Diminished(excess.unsigned_abs() - 1)
+    }
+}
+
+fn quality(interval: Interval) -> Quality
+    ensures { result ≡ quality interval.d interval.s }
+{
+    if can_be_perfect(interval.d.unsigned_abs()) {
+        of_perfect(excess(interval))
+    } else {
+        of_major(excess(interval))
+    }
+}
