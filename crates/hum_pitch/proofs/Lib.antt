@@ -2,3 +2,4 @@ mod Examples
 pub mod Steps
 pub mod Answering
 pub mod Reading
+pub mod Digits

@@ -1,5 +1,5 @@
 -- Intervals between pitches, and their names.
-use Rattle.std.specs.Prelude.{◌≡◌, ◌==◌, ◌||◌, ◌+◌, ◌*◌, ◌/◌, ◌%◌, ℕ, ℤ, pos, negsuc, neg_ℤ, ◌+ℤ◌, ◌-ℤ◌, Bool, cond, List, [], ◌∷◌, ◌++◌, replicate, codes, unsigned_abs}
+use Rattle.std.specs.Prelude.{◌≡◌, ◌==◌, ◌||◌, ◌+◌, ◌*◌, ◌/◌, ◌%◌, ◌≤◌, ℕ, ℤ, pos, negsuc, neg_ℤ, ◌+ℤ◌, ◌-ℤ◌, Bool, cond, List, [], ◌∷◌, ◌++◌, replicate, codes, unsigned_abs}
 use Rattle.std.specs.Fmt.{decimal}
 use Prim.Native.Nat.{zero, suc}
 use Rattle.hum_pitch.specs.Pitch.{Spelled, IsWithin, natural, step_number, semitones}
@@ -60,6 +60,12 @@ quality_letters Major = codes "M"
 quality_letters Minor = codes "m"
 quality_letters (Augmented more) = replicate more 65
 quality_letters (Diminished less) = replicate less 100
+
+-- as between any two pitches
+abbrev pub IsModest : Quality → Type 0
+IsModest (Augmented more) = more ≤ 400
+IsModest (Diminished less) = less ≤ 400
+IsModest _ = Unit {0}
 
 -- The size counts the steps with both ends.
 abbrev pub size : ℤ → ℕ

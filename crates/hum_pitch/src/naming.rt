@@ -1,9 +1,9 @@
 //! Intervals as text.
-ghost use Rattle.std.specs.Prelude.{◌≡◌, ◌≤◌, ◌++◌, ◌+◌, List, cond, pos, replicate, negsuc, IfOk, OnOk, unsigned_abs};
+ghost use Rattle.std.specs.Prelude.{◌≡◌, ◌≤◌, ◌++◌, ◌+◌, List, [], cond, pos, replicate, negsuc, IfOk, OnOk, unsigned_abs};
 ghost use Rattle.std.specs.Fmt.{decimal};
 ghost use Rattle.hum_pitch.specs.Pitch.{IsWithin};
 ghost use Rattle.hum_pitch.specs.Intervals.{direction, excess, upwards, natural_width, can_be_perfect, of_perfect, of_major};
-ghost use Rattle.hum_pitch.specs.Intervals.{quality, sign, quality_letters, interval_text};
+ghost use Rattle.hum_pitch.specs.Intervals.{quality, sign, quality_letters, IsModest, interval_text};
 
 use crate::Interval;
 use crate::intervals::{Direction, Quality};
@@ -67,7 +67,8 @@ fn can_be_perfect(steps: u32) -> bool
 
 fn of_perfect(excess: i32) -> Quality
     requires { IsWithin (negsuc 395) excess (pos 205) }
-    ensures { result ≡ of_perfect excess }
+    ensures exact { result ≡ of_perfect excess }
+    ensures modest { IsModest result }
 {
     if excess > 0 {
         Quality::Augmented(excess as u32)
@@ -80,7 +81,8 @@ fn of_perfect(excess: i32) -> Quality
 
 fn of_major(excess: i32) -> Quality
     requires { IsWithin (negsuc 395) excess (pos 205) }
-    ensures { result ≡ of_major excess }
+    ensures exact { result ≡ of_major excess }
+    ensures modest { IsModest result }
 {
     if excess > 0 {
         Quality::Augmented(excess as u32)
@@ -94,11 +96,111 @@ fn of_major(excess: i32) -> Quality
 }
 
 fn quality(interval: Interval) -> Quality
-    ensures { result ≡ quality interval.d interval.s }
+    ensures exact { result ≡ quality interval.d interval.s }
+    ensures modest { IsModest result }
 {
     if can_be_perfect(interval.d.unsigned_abs()) {
         of_perfect(excess(interval))
     } else {
         of_major(excess(interval))
     }
+}
+
+/// The sign of a direction.
+fn sign(direction: Direction) -> Repeated
+    ensures exact { replicate result.count result.byte ≡ sign direction }
+    ensures few { result.count ≤ 1 }
+{
+    match direction {
+        Direction::Up => Repeated {
+            byte: b'+',
+            count: 1,
+        },
+        Direction::Down => Repeated {
+            byte: b'-',
+            count: 1,
+        },
+        Direction::Level => Repeated {
+            byte: b'+',
+            count: 0,
+        },
+    }
+}
+
+/// The letters of a quality.
+fn quality_letters(quality: Quality) -> Repeated
+    requires { IsModest quality }
+    ensures exact { replicate result.count result.byte ≡ quality_letters quality }
+    ensures few { result.count ≤ 400 }
+{
+    match quality {
+        Quality::Perfect => Repeated {
+            byte: b'P',
+            count: 1,
+        },
+        Quality::Major => Repeated {
+            byte: b'M',
+            count: 1,
+        },
+        Quality::Minor => Repeated {
+            byte: b'm',
+            count: 1,
+        },
+        Quality::Augmented(more) => Repeated {
+            byte: b'A',
+            count: more as usize,
+        },
+        Quality::Diminished(less) => Repeated {
+            byte: b'd',
+            count: less as usize,
+        },
+    }
+}
+
+/// What is repeated, if it is shown; else nothing.
+fn shown(is_shown: bool, repeated: Repeated) -> Repeated
+    ensures exact { replicate result.count result.byte ≡
+        cond is_shown (replicate repeated.count repeated.byte) [] }
+    ensures few { result.count ≤ repeated.count }
+{
+    Repeated {
+        count: if is_shown { repeated.count } else { 0 },
+        byte: repeated.byte,
+    }
+}
+
+/// Writes a number behind a text.
+fn push_number(text: &mut Vec<u8>, number: u32) -> Result<(), AllocError>
+    ensures { OnOk result (text.new.items ≡ text.old.items ++ decimal number) }
+{
+    if number < 10 {
+        text.push(b'0' + number as u8)?;
+        return Ok(());
+    }
+    push_number(text, number / 10)?;
+    text.push(b'0' + (number % 10) as u8)?;
+    Ok(())
+}
+
+/// The name of an interval: its direction (`+` or `-`), its quality (`P`, `M`, `m`, or `A` or `d`
+/// for each semitone by which it is augmented or diminished) and its size, as in `+M2`.
+///
+/// `signless` leaves out the direction, `sizeonly` the quality.
+///
+/// # Errors
+/// Want of memory.
+pub fn write_interval(
+    alloc: Global,
+    interval: Interval,
+    signless: bool,
+    sizeonly: bool,
+) -> Result<Vec<u8>, AllocError>
+    ensures {
+        IfOk result (λ text. text.items ≡ interval_text signless sizeonly interval.d interval.s) }
+{
+    let sign = shown(!signless, sign(direction(interval)));
+    let letters = shown(!sizeonly, quality_letters(quality(interval)));
+    let mut text = repeat(alloc, sign, letters)?;
+    push_number(&mut text, interval.d.unsigned_abs() + 1)?;
+    Ok(text)
 }
