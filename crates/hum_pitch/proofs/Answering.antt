@@ -24,9 +24,9 @@ pub none : (n m : ℤ) (p : Spelled) (r : Result Pitch PitchFault) → Answers (
 none n m p (Ok q) e = tt
 none n m p (Err TR1) e =
     λ q. λ h.
-        let P : Spelled → Type 0 = λ s. IsOutside (negsuc 6) s.alteration (pos 7) in
-        outside (negsuc 6) q.alteration (pos 7) q.in_range.2 (subst P (sym (away_only n m p (spelled q) h)) e)
+    let P : Spelled → Type 0 = λ s. IsOutside (negsuc 6) s.alteration (pos 7) in
+    outside (negsuc 6) q.alteration (pos 7) q.in_range.2 (subst P (sym (away_only n m p (spelled q) h)) e)
 none n m p (Err TR2) e =
     λ q. λ h.
-        let P : Spelled → Type 0 = λ s. IsOutside (negsuc 3) s.octave (pos 11) in
-        outside (negsuc 3) q.octave (pos 11) q.in_range.1 (subst P (sym (away_only n m p (spelled q) h)) e.1)
+    let P : Spelled → Type 0 = λ s. IsOutside (negsuc 3) s.octave (pos 11) in
+    outside (negsuc 3) q.octave (pos 11) q.in_range.1 (subst P (sym (away_only n m p (spelled q) h)) e.1)

@@ -1,5 +1,5 @@
 -- What is written is read as the same pitch.
-use Rattle.std.proofs.Common.{◌≡◌, ◌==◌, ◌+◌, ◌<◌, ◌≤◌, ℕ, zero, suc, ℤ, pos, negsuc, neg_ℤ, ◌+ℤ◌, ◌-ℤ◌, Bool, true, false, cond, List, [], ◌∷◌, ◌++◌, Option, None, Some, length, drop, refl, ap, sym, ◌∙◌, arith, lit≤, ◌<ℤ◌, eq-eqb}
+use Rattle.std.proofs.Common.{◌≡◌, ◌==◌, ◌+◌, ◌<◌, ℕ, zero, suc, ℤ, pos, negsuc, ◌+ℤ◌, ◌-ℤ◌, true, false, List, ◌++◌, Option, Some, length, drop, refl, ap, ◌∙◌, arith, ◌<ℤ◌, eq-eqb}
 use Rattle.std.specs.Prelude.{replicate, slice_index, IfOk, Result, Ok, Err}
 use Rattle.std.proofs.lemmas.List.{length-replicate}
 use Rattle.std.proofs.lemmas.Int.{ints}

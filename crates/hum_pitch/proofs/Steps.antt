@@ -1,7 +1,6 @@
 -- Steps and semitones.
-use Rattle.std.proofs.Common.{◌≡◌, ◌≤◌, ◌<◌, ◌/◌, ℕ, ℤ, pos, negsuc, ◌+ℤ◌, ◌-ℤ◌, ◌*ℤ◌, zero, suc, lit≤, arith, ap, refl, subst, FitsSigned, to_z, of_z, w8, w32, sym, ◌∙◌}
+use Rattle.std.proofs.Common.{◌≡◌, ◌≤◌, ◌<◌, ℕ, ℤ, pos, negsuc, ◌+ℤ◌, ◌-ℤ◌, ◌*ℤ◌, zero, suc, lit≤, arith, ap, refl, subst, FitsSigned, to_z, of_z, w8, w32, ◌∙◌}
 use Rattle.std.proofs.lemmas.Int.{ints, to_z-of_z}
-use Rattle.std.specs.Int.{int_div_euclid, int_rem_euclid}
 use Rattle.hum_pitch.specs.Pitch.{Spelled, natural, natural_at, semitones, step_number, away, IsAway, IsWithin}
 
 pub natural_le : (k : ℕ) → natural k ≤ 11
@@ -78,8 +77,8 @@ away_only n m p q h =
     let same_octave : q.octave ≡ (away n m p).octave = octave_of q.step q.octave _ h.step h.steps in
     let same_step : q.step ≡ (away n m p).step = step_of q.step q.octave _ h.step h.steps in
     let same_alteration : q.alteration ≡ (away n m p).alteration =
-        altered n m q.alteration (semitones q -ℤ q.alteration) p q.step q.octave h.step h.steps
-            (omega (arith, ints)) (omega (arith, ints, h.width)) in
+    altered n m q.alteration (semitones q -ℤ q.alteration) p q.step q.octave h.step h.steps
+    (omega (arith, ints)) (omega (arith, ints, h.width)) in
     same_note q (away n m p) same_step same_octave same_alteration
 
 -- A number of eight bits, widened and narrowed.

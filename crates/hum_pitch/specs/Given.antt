@@ -1,5 +1,5 @@
 -- What calls on pitches answer.
-use Rattle.std.specs.Prelude.{◌≡◌, ℕ, ℤ, pos, negsuc, Result, Ok, Err}
+use Rattle.std.specs.Prelude.{◌≡◌, pos, negsuc, Result, Ok, Err}
 use Rattle.hum_pitch.specs.Pitch.{Spelled, IsWithin, IsOutside}
 use Rattle.hum_pitch.specs.declared.pitch.Pitch.{Pitch}
 use Rattle.hum_pitch.specs.declared.pitch.Note.{Note}

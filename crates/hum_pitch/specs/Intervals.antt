@@ -1,8 +1,8 @@
 -- Intervals between pitches, and their names.
-use Rattle.std.specs.Prelude.{◌≡◌, ◌==◌, ◌||◌, ◌+◌, ◌*◌, ◌/◌, ◌%◌, ◌≤◌, ℕ, ℤ, pos, negsuc, neg_ℤ, ◌+ℤ◌, ◌-ℤ◌, Bool, cond, List, [], ◌∷◌, ◌++◌, replicate, codes, unsigned_abs}
+use Rattle.std.specs.Prelude.{◌==◌, ◌||◌, ◌+◌, ◌*◌, ◌/◌, ◌%◌, ◌≤◌, ℕ, ℤ, pos, negsuc, neg_ℤ, ◌-ℤ◌, Bool, cond, List, [], ◌++◌, replicate, codes, unsigned_abs}
 use Rattle.std.specs.Fmt.{decimal}
 use Prim.Native.Nat.{zero, suc}
-use Rattle.hum_pitch.specs.Pitch.{Spelled, IsWithin, natural, step_number, semitones}
+use Rattle.hum_pitch.specs.Pitch.{natural}
 use Rattle.hum_pitch.specs.declared.intervals.Direction.{Direction}
 use Rattle.hum_pitch.specs.declared.intervals.Direction.TheVariants.{Up, Down, Level}
 use Rattle.hum_pitch.specs.declared.intervals.Quality.{Quality}

@@ -1,5 +1,5 @@
 -- How a pitch is written in kern, and how what is written is read.
-use Rattle.std.specs.Prelude.{◌≡◌, ◌==◌, ◌+◌, ◌<◌, ℕ, ℤ, pos, negsuc, neg_ℤ, ◌+ℤ◌, ◌-ℤ◌, Bool, true, false, cond, List, [], ◌∷◌, ◌++◌, Option, None, Some, length, drop, replicate, position, slice_index, codes}
+use Rattle.std.specs.Prelude.{◌==◌, ℕ, ℤ, pos, negsuc, neg_ℤ, ◌+ℤ◌, ◌-ℤ◌, cond, List, [], ◌∷◌, ◌++◌, Option, None, Some, length, drop, replicate, position, slice_index, codes}
 use Prim.Native.Nat.{suc}
 use Rattle.hum_pitch.specs.Pitch.{Spelled}
 
@@ -49,7 +49,7 @@ read_letters letter count = read_small letter count (position (λ x. x == letter
 unfoldable pub read_accidentals : List ℕ → Option ℤ
 read_accidentals text =
     cond (run 35 text == length text) (Some (pos (length text)))
-        (cond (run 45 text == length text) (Some (neg_ℤ (pos (length text)))) None)
+    (cond (run 45 text == length text) (Some (neg_ℤ (pos (length text)))) None)
 
 abbrev pub altered_by : Option Spelled → Option ℤ → Option Spelled
 altered_by (Some note) (Some alteration) = Some (record note { alteration = alteration })

@@ -9,7 +9,7 @@ pub struct Interval {
     pub d: i32,
     /// The semitones from the first to the second, -205 to 205.
     pub s: i32,
-    ghost in_range: { IsWithin (negsuc 110) d (pos 111) × IsWithin (negsuc 204) s (pos 205) },
+    pub ghost in_range: { IsWithin (negsuc 110) d (pos 111) × IsWithin (negsuc 204) s (pos 205) },
 }
 
 /// Whether an interval leads up or down.

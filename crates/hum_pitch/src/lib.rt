@@ -12,5 +12,9 @@ mod spelling;
 
 pub use between::interval;
 pub use intervals::Interval;
+pub use naming::write_interval;
 pub use pitch::{Pitch, PitchFault};
 pub use spelling::write_pitch;
+
+#[cfg(test)]
+mod tests;

@@ -14,7 +14,11 @@ use std::alloc::{AllocError, Global};
 fn direction(interval: Interval) -> Direction
     ensures { result ≡ direction interval.d interval.s }
 {
-    let leading = if interval.d == 0 { interval.s } else { interval.d };
+    let leading = if interval.d == 0 {
+        interval.s
+    } else {
+        interval.d
+    };
     if leading > 0 {
         Direction::Up
     } else if leading < 0 {
@@ -195,8 +199,7 @@ pub fn write_interval(
     signless: bool,
     sizeonly: bool,
 ) -> Result<Vec<u8>, AllocError>
-    ensures {
-        IfOk result (λ text. text.items ≡ interval_text signless sizeonly interval.d interval.s) }
+    ensures { IfOk result (λ text. text.items ≡ interval_text signless sizeonly interval.d interval.s) }
 {
     let sign = shown(!signless, sign(direction(interval)));
     let letters = shown(!sizeonly, quality_letters(quality(interval)));

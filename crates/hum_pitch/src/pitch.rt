@@ -25,7 +25,7 @@ pub struct Pitch {
     pub octave: i8,
     /// The alteration in semitones, -7 to 7: sharps are positive, flats negative.
     pub alteration: i8,
-    ghost in_range: { IsPitch (record { step = step; octave = octave; alteration = alteration }) },
+    pub ghost in_range: { IsPitch (record { step = step; octave = octave; alteration = alteration }) },
 }
 
 /// A note by its spelling, whether it has one within the limits or not.

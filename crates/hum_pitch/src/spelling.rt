@@ -51,7 +51,11 @@ fn accidentals(pitch: Pitch) -> Repeated
 }
 
 /// One byte some times, and then another.
-pub(crate) fn repeat(alloc: Global, first: Repeated, second: Repeated) -> Result<Vec<u8>, AllocError>
+pub(crate) fn repeat(
+    alloc: Global,
+    first: Repeated,
+    second: Repeated,
+) -> Result<Vec<u8>, AllocError>
     requires first { first.count ≤ 1000 }
     requires second { second.count ≤ 1000 }
     ensures { IfOk result (λ text. text.items ≡

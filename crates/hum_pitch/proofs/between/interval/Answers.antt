@@ -8,12 +8,12 @@ use Rattle.hum_pitch.proofs.between.interval.Goals as goal
 pub returns-clause-steps : goal.returns-clause-steps
 returns-clause-steps c =
     less_is c.step_number.result c.step_number-2.result _ _ (omega (arith, ints), omega (arith, ints))
-        (omega (arith, ints), omega (arith, ints)) c.step_number.ensures.exact c.step_number-2.ensures.exact
+    (omega (arith, ints), omega (arith, ints)) c.step_number.ensures.exact c.step_number-2.ensures.exact
 
 pub returns-clause-semitones : goal.returns-clause-semitones
 returns-clause-semitones c =
     less_is c.semits.result c.semits-2.result _ _ (omega (arith, ints), omega (arith, ints))
-        (omega (arith, ints), omega (arith, ints)) c.semits.ensures.exact c.semits-2.ensures.exact
+    (omega (arith, ints), omega (arith, ints)) c.semits.ensures.exact c.semits-2.ensures.exact
 
 pub returns-clause-apart : goal.returns-clause-apart
 returns-clause-apart c = record {

@@ -1,4 +1,4 @@
-use Rattle.std.proofs.Common.{rules, arith, ◌∙◌}
+use Rattle.std.proofs.Common.{arith, ◌∙◌}
 use Rattle.hum_pitch.proofs.Digits.{one_digit, last_digit}
 use Rattle.hum_pitch.proofs.naming.+push_number.Goals as goal
 
@@ -10,4 +10,4 @@ pub returns : goal.returns
 returns t c =
     c.in_ok-push-2.ensures.items
     ∙ last_digit c.args.text.now.items c.push_number.new.text.items c.args.number (omega arith) (omega arith)
-        c.in_ok-push_number.ensures
+    c.in_ok-push_number.ensures

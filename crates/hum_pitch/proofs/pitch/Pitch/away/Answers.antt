@@ -8,7 +8,7 @@ use Rattle.hum_pitch.proofs.pitch.Pitch.away.Goals as goal
 pub overflow_sub-alteration : goal.overflow_sub-alteration
 overflow_sub-alteration c =
     difference_fits c.semits.result c.args.semitones c.natural_semits.result
-        (omega (arith, ints), omega (arith, ints)) (omega (arith, ints), omega (arith, ints)) c.natural_semits.ensures.bounded
+    (omega (arith, ints), omega (arith, ints)) (omega (arith, ints), omega (arith, ints)) c.natural_semits.ensures.bounded
 
 pub returns-clause-exact : goal.returns-clause-exact
 returns-clause-exact c =
@@ -19,10 +19,10 @@ returns-clause-exact c =
     let same : to_z w32 (of_z w32 at.0) ≡ at.0 = to_z-of_z w32 at.0 fits in
     let number : ℤ → ℤ = λ o. (pos 7 *ℤ o) +ℤ pos at.1 in
     let difference = difference_is c.semits.result c.args.semitones c.natural_semits.result
-        (omega (arith, ints), omega (arith, ints)) (omega (arith, ints), omega (arith, ints)) c.natural_semits.ensures.bounded in
+    (omega (arith, ints), omega (arith, ints)) (omega (arith, ints), omega (arith, ints)) c.natural_semits.ensures.bounded in
     let wanting : ℤ → ℤ = λ s. (s +ℤ c.args.semitones) -ℤ c.natural_semits.result in
     same_note _ _
-        (step_of at.1 at.0 _ below e)
-        (same ∙ octave_of at.1 at.0 _ below e)
-        (altered c.args.steps c.args.semitones _ c.natural_semits.result (spelled c.args.self) at.1 (to_z w32 (of_z w32 at.0))
-            below (ap number same ∙ e) c.natural_semits.ensures.exact (difference ∙ ap wanting c.semits.ensures.exact))
+    (step_of at.1 at.0 _ below e)
+    (same ∙ octave_of at.1 at.0 _ below e)
+    (altered c.args.steps c.args.semitones _ c.natural_semits.result (spelled c.args.self) at.1 (to_z w32 (of_z w32 at.0))
+    below (ap number same ∙ e) c.natural_semits.ensures.exact (difference ∙ ap wanting c.semits.ensures.exact))
