@@ -3,7 +3,7 @@ use Rattle.std.proofs.Common.{◌≡◌, ℕ, ℤ, pos, negsuc, ◌-ℤ◌, List
 use lib.Chars.{codes}
 use Rattle.std.specs.Fmt.{digits}
 use Rattle.hum_pitch.specs.Spelling.{spelling, run, read_accidentals, read_pitch}
-use Rattle.hum_pitch.specs.Intervals.{interval_text}
+use Rattle.hum_pitch.specs.Intervals.{named}
 use Rattle.hum_pitch.specs.Pitch.{Spelled, natural, semitones, step_number, away}
 
 abbrev pub note : ℕ → ℤ → ℤ → Spelled
@@ -81,160 +81,160 @@ unfolding natural
 eight_sharps = refl
 
 -- the names of intervals
-abbrev pub named : Spelled → Spelled → List ℕ
-named a b = interval_text false false (step_number b -ℤ step_number a) (semitones b -ℤ semitones a)
+abbrev pub between : Spelled → Spelled → List ℕ
+between a b = named false false (step_number b -ℤ step_number a) (semitones b -ℤ semitones a)
 
-major_second : named (note 0 (pos 4) (pos 0)) (note 1 (pos 4) (pos 0)) ≡ codes "+M2"
+major_second : between (note 0 (pos 4) (pos 0)) (note 1 (pos 4) (pos 0)) ≡ codes "+M2"
 unfolding natural digits
 major_second = refl
 
-minor_third : named (note 0 (pos 4) (pos 0)) (note 2 (pos 4) (negsuc 0)) ≡ codes "+m3"
+minor_third : between (note 0 (pos 4) (pos 0)) (note 2 (pos 4) (negsuc 0)) ≡ codes "+m3"
 unfolding natural digits
 minor_third = refl
 
-perfect_unison : named (note 2 (pos 4) (negsuc 0)) (note 2 (pos 4) (negsuc 0)) ≡ codes "P1"
+perfect_unison : between (note 2 (pos 4) (negsuc 0)) (note 2 (pos 4) (negsuc 0)) ≡ codes "P1"
 unfolding natural digits
 perfect_unison = refl
 
-diminished_fourth_down : named (note 2 (pos 4) (negsuc 0)) (note 6 (pos 3) (pos 0)) ≡ codes "-d4"
+diminished_fourth_down : between (note 2 (pos 4) (negsuc 0)) (note 6 (pos 3) (pos 0)) ≡ codes "-d4"
 unfolding natural digits
 diminished_fourth_down = refl
 
-diminished_fifth : named (note 0 (pos 4) (pos 0)) (note 4 (pos 4) (negsuc 0)) ≡ codes "+d5"
+diminished_fifth : between (note 0 (pos 4) (pos 0)) (note 4 (pos 4) (negsuc 0)) ≡ codes "+d5"
 unfolding natural digits
 diminished_fifth = refl
 
-perfect_fifth : named (note 0 (pos 4) (pos 0)) (note 4 (pos 4) (pos 0)) ≡ codes "+P5"
+perfect_fifth : between (note 0 (pos 4) (pos 0)) (note 4 (pos 4) (pos 0)) ≡ codes "+P5"
 unfolding natural digits
 perfect_fifth = refl
 
-augmented_fourth : named (note 3 (pos 4) (pos 0)) (note 6 (pos 4) (pos 0)) ≡ codes "+A4"
+augmented_fourth : between (note 3 (pos 4) (pos 0)) (note 6 (pos 4) (pos 0)) ≡ codes "+A4"
 unfolding natural digits
 augmented_fourth = refl
 
-diminished_fifth_up : named (note 6 (pos 3) (pos 0)) (note 3 (pos 4) (pos 0)) ≡ codes "+d5"
+diminished_fifth_up : between (note 6 (pos 3) (pos 0)) (note 3 (pos 4) (pos 0)) ≡ codes "+d5"
 unfolding natural digits
 diminished_fifth_up = refl
 
-minor_sixth_down : named (note 2 (pos 4) (pos 0)) (note 4 (pos 3) (pos 1)) ≡ codes "-m6"
+minor_sixth_down : between (note 2 (pos 4) (pos 0)) (note 4 (pos 3) (pos 1)) ≡ codes "-m6"
 unfolding natural digits
 minor_sixth_down = refl
 
-third_down : named (note 2 (pos 4) (pos 0)) (note 0 (pos 4) (pos 0)) ≡ codes "-M3"
+third_down : between (note 2 (pos 4) (pos 0)) (note 0 (pos 4) (pos 0)) ≡ codes "-M3"
 unfolding natural digits
 third_down = refl
 
-octave : named (note 0 (pos 4) (pos 0)) (note 0 (pos 5) (pos 0)) ≡ codes "+P8"
+octave : between (note 0 (pos 4) (pos 0)) (note 0 (pos 5) (pos 0)) ≡ codes "+P8"
 unfolding natural digits
 octave = refl
 
-octave_down : named (note 4 (pos 4) (pos 0)) (note 4 (pos 3) (pos 0)) ≡ codes "-P8"
+octave_down : between (note 4 (pos 4) (pos 0)) (note 4 (pos 3) (pos 0)) ≡ codes "-P8"
 unfolding natural digits
 octave_down = refl
 
-augmented_unison : named (note 0 (pos 4) (pos 0)) (note 0 (pos 4) (pos 1)) ≡ codes "+A1"
+augmented_unison : between (note 0 (pos 4) (pos 0)) (note 0 (pos 4) (pos 1)) ≡ codes "+A1"
 unfolding natural digits
 augmented_unison = refl
 
-augmented_unison_down : named (note 0 (pos 4) (pos 1)) (note 0 (pos 4) (pos 0)) ≡ codes "-A1"
+augmented_unison_down : between (note 0 (pos 4) (pos 1)) (note 0 (pos 4) (pos 0)) ≡ codes "-A1"
 unfolding natural digits
 augmented_unison_down = refl
 
-twice_augmented_unison_down : named (note 3 (pos 4) (pos 1)) (note 3 (pos 4) (negsuc 0)) ≡ codes "-AA1"
+twice_augmented_unison_down : between (note 3 (pos 4) (pos 1)) (note 3 (pos 4) (negsuc 0)) ≡ codes "-AA1"
 unfolding natural digits
 twice_augmented_unison_down = refl
 
-minor_second : named (note 6 (pos 3) (pos 0)) (note 0 (pos 4) (pos 0)) ≡ codes "+m2"
+minor_second : between (note 6 (pos 3) (pos 0)) (note 0 (pos 4) (pos 0)) ≡ codes "+m2"
 unfolding natural digits
 minor_second = refl
 
-minor_second_down : named (note 0 (pos 4) (pos 0)) (note 6 (pos 3) (pos 0)) ≡ codes "-m2"
+minor_second_down : between (note 0 (pos 4) (pos 0)) (note 6 (pos 3) (pos 0)) ≡ codes "-m2"
 unfolding natural digits
 minor_second_down = refl
 
-diminished_second : named (note 0 (pos 4) (pos 1)) (note 1 (pos 4) (negsuc 0)) ≡ codes "+d2"
+diminished_second : between (note 0 (pos 4) (pos 1)) (note 1 (pos 4) (negsuc 0)) ≡ codes "+d2"
 unfolding natural digits
 diminished_second = refl
 
-b_sharp_to_c_flat : named (note 6 (pos 3) (pos 1)) (note 0 (pos 5) (negsuc 0)) ≡ codes "+dd9"
+b_sharp_to_c_flat : between (note 6 (pos 3) (pos 1)) (note 0 (pos 5) (negsuc 0)) ≡ codes "+dd9"
 unfolding natural digits
 b_sharp_to_c_flat = refl
 
-b_sharp_to_next_c_flat : named (note 6 (pos 3) (pos 1)) (note 0 (pos 4) (negsuc 0)) ≡ codes "+dd2"
+b_sharp_to_next_c_flat : between (note 6 (pos 3) (pos 1)) (note 0 (pos 4) (negsuc 0)) ≡ codes "+dd2"
 unfolding natural digits
 b_sharp_to_next_c_flat = refl
 
-augmented_second : named (note 5 (pos 4) (negsuc 0)) (note 6 (pos 4) (pos 0)) ≡ codes "+A2"
+augmented_second : between (note 5 (pos 4) (negsuc 0)) (note 6 (pos 4) (pos 0)) ≡ codes "+A2"
 unfolding natural digits
 augmented_second = refl
 
-diminished_seventh : named (note 0 (pos 4) (pos 1)) (note 6 (pos 4) (negsuc 0)) ≡ codes "+d7"
+diminished_seventh : between (note 0 (pos 4) (pos 1)) (note 6 (pos 4) (negsuc 0)) ≡ codes "+d7"
 unfolding natural digits
 diminished_seventh = refl
 
-minor_seventh : named (note 4 (pos 3) (pos 0)) (note 3 (pos 4) (pos 0)) ≡ codes "+m7"
+minor_seventh : between (note 4 (pos 3) (pos 0)) (note 3 (pos 4) (pos 0)) ≡ codes "+m7"
 unfolding natural digits
 minor_seventh = refl
 
-major_seventh : named (note 0 (pos 4) (pos 0)) (note 6 (pos 4) (pos 0)) ≡ codes "+M7"
+major_seventh : between (note 0 (pos 4) (pos 0)) (note 6 (pos 4) (pos 0)) ≡ codes "+M7"
 unfolding natural digits
 major_seventh = refl
 
-augmented_sixth : named (note 5 (pos 3) (negsuc 0)) (note 3 (pos 4) (pos 1)) ≡ codes "+A6"
+augmented_sixth : between (note 5 (pos 3) (negsuc 0)) (note 3 (pos 4) (pos 1)) ≡ codes "+A6"
 unfolding natural digits
 augmented_sixth = refl
 
-diminished_third : named (note 3 (pos 4) (pos 1)) (note 5 (pos 4) (negsuc 0)) ≡ codes "+d3"
+diminished_third : between (note 3 (pos 4) (pos 1)) (note 5 (pos 4) (negsuc 0)) ≡ codes "+d3"
 unfolding natural digits
 diminished_third = refl
 
-major_ninth : named (note 0 (pos 4) (pos 0)) (note 1 (pos 5) (pos 0)) ≡ codes "+M9"
+major_ninth : between (note 0 (pos 4) (pos 0)) (note 1 (pos 5) (pos 0)) ≡ codes "+M9"
 unfolding natural digits
 major_ninth = refl
 
-minor_tenth : named (note 5 (pos 3) (pos 0)) (note 0 (pos 5) (pos 0)) ≡ codes "+m10"
+minor_tenth : between (note 5 (pos 3) (pos 0)) (note 0 (pos 5) (pos 0)) ≡ codes "+m10"
 unfolding natural digits
 minor_tenth = refl
 
-perfect_eleventh : named (note 0 (pos 4) (pos 0)) (note 3 (pos 5) (pos 0)) ≡ codes "+P11"
+perfect_eleventh : between (note 0 (pos 4) (pos 0)) (note 3 (pos 5) (pos 0)) ≡ codes "+P11"
 unfolding natural digits
 perfect_eleventh = refl
 
-perfect_twelfth : named (note 0 (pos 4) (pos 0)) (note 4 (pos 5) (pos 0)) ≡ codes "+P12"
+perfect_twelfth : between (note 0 (pos 4) (pos 0)) (note 4 (pos 5) (pos 0)) ≡ codes "+P12"
 unfolding natural digits
 perfect_twelfth = refl
 
-triply_augmented_fourth : named (note 0 (pos 4) (pos 0)) (note 3 (pos 4) (pos 3)) ≡ codes "+AAA4"
+triply_augmented_fourth : between (note 0 (pos 4) (pos 0)) (note 3 (pos 4) (pos 3)) ≡ codes "+AAA4"
 unfolding natural digits
 triply_augmented_fourth = refl
 
-perfect_fifteenth : named (note 0 (pos 3) (pos 0)) (note 0 (pos 5) (pos 0)) ≡ codes "+P15"
+perfect_fifteenth : between (note 0 (pos 3) (pos 0)) (note 0 (pos 5) (pos 0)) ≡ codes "+P15"
 unfolding natural digits
 perfect_fifteenth = refl
 
-diminished_octave : named (note 0 (pos 4) (pos 1)) (note 0 (pos 5) (pos 0)) ≡ codes "+d8"
+diminished_octave : between (note 0 (pos 4) (pos 1)) (note 0 (pos 5) (pos 0)) ≡ codes "+d8"
 unfolding natural digits
 diminished_octave = refl
 
-augmented_octave_down : named (note 0 (pos 5) (pos 1)) (note 0 (pos 4) (pos 0)) ≡ codes "-A8"
+augmented_octave_down : between (note 0 (pos 5) (pos 1)) (note 0 (pos 4) (pos 0)) ≡ codes "-A8"
 unfolding natural digits
 augmented_octave_down = refl
 
 -- from the lowest to the highest pitch
-widest : named (note 0 (negsuc 3) (negsuc 6)) (note 6 (pos 11) (pos 7)) ≡ codes "+AAAAAAAAAAAAAA112"
+widest : between (note 0 (negsuc 3) (negsuc 6)) (note 6 (pos 11) (pos 7)) ≡ codes "+AAAAAAAAAAAAAA112"
 unfolding natural digits
 widest = refl
 
 -- without the direction, without the quality, and without both
-signless_third : interval_text true false (pos 2) (pos 3) ≡ codes "m3"
+signless_third : named true false (pos 2) (pos 3) ≡ codes "m3"
 unfolding natural digits
 signless_third = refl
 
-third_by_size : interval_text false true (negsuc 1) (negsuc 2) ≡ codes "-3"
+third_by_size : named false true (negsuc 1) (negsuc 2) ≡ codes "-3"
 unfolding natural digits
 third_by_size = refl
 
-bare_fourth : interval_text true true (negsuc 2) (negsuc 3) ≡ codes "4"
+bare_fourth : named true true (negsuc 2) (negsuc 3) ≡ codes "4"
 unfolding natural digits
 bare_fourth = refl
 

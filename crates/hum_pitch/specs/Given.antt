@@ -1,6 +1,6 @@
 -- What calls on pitches answer.
 use Rattle.std.specs.Prelude.{◌≡◌, pos, negsuc, Result, Ok, Err}
-use Rattle.hum_pitch.specs.Pitch.{Spelled, IsWithin, IsOutside}
+use Rattle.hum_pitch.specs.Pitch.{Spelled, IsAlteration, IsOutside}
 use Rattle.hum_pitch.specs.declared.pitch.Pitch.{Pitch}
 use Rattle.hum_pitch.specs.declared.pitch.Note.{Note}
 use Rattle.hum_pitch.specs.declared.pitch.PitchFault.{PitchFault}
@@ -17,4 +17,5 @@ noted n = record { step = n.step; octave = n.octave; alteration = n.alteration }
 abbrev pub Answers : Spelled → Result Pitch PitchFault → Type 0
 Answers note (Ok q) = spelled q ≡ note
 Answers note (Err TR1) = IsOutside (negsuc 6) note.alteration (pos 7)
-Answers note (Err TR2) = IsWithin (negsuc 6) note.alteration (pos 7) × IsOutside (negsuc 3) note.octave (pos 11)
+Answers note (Err TR2) =
+    IsAlteration note.alteration × IsOutside (negsuc 3) note.octave (pos 11)

@@ -1,12 +1,15 @@
 -- Intervals between pitches, and their names.
-use Rattle.std.specs.Prelude.{◌==◌, ◌||◌, ◌+◌, ◌*◌, ◌/◌, ◌%◌, ◌≤◌, ℕ, ℤ, pos, negsuc, neg_ℤ, ◌-ℤ◌, Bool, cond, List, [], ◌++◌, replicate, codes, unsigned_abs}
+use Rattle.std.specs.Prelude.{◌==◌, ◌||◌, ◌+◌, ◌*◌, ◌/◌, ◌%◌, ◌≤◌, ℕ, ℤ, pos}
+use Rattle.std.specs.Prelude.{negsuc, neg_ℤ, ◌-ℤ◌, Bool, cond}
+use Rattle.std.specs.Prelude.{List, [], ◌++◌, replicate, codes, unsigned_abs}
 use Rattle.std.specs.Fmt.{decimal}
 use Prim.Native.Nat.{zero, suc}
 use Rattle.hum_pitch.specs.Pitch.{natural}
 use Rattle.hum_pitch.specs.declared.intervals.Direction.{Direction}
 use Rattle.hum_pitch.specs.declared.intervals.Direction.TheVariants.{Up, Down, Level}
 use Rattle.hum_pitch.specs.declared.intervals.Quality.{Quality}
-use Rattle.hum_pitch.specs.declared.intervals.Quality.TheVariants.{Perfect, Major, Minor, Augmented, Diminished}
+use Rattle.hum_pitch.specs.declared.intervals.Quality.TheVariants.{Perfect, Major, Minor}
+use Rattle.hum_pitch.specs.declared.intervals.Quality.TheVariants.{Augmented, Diminished}
 
 -- Up or down by the steps; where there are none, by the semitones.
 abbrev pub direction : ℤ → ℤ → Direction
@@ -30,7 +33,7 @@ natural_width steps = natural (steps % 7) + 12 * (steps / 7)
 abbrev pub excess : ℤ → ℤ → ℤ
 excess d s = upwards d s -ℤ pos (natural_width (unsigned_abs d))
 
--- Unisons, fourths and fifths, with any octaves added, can be perfect; the others are major or minor.
+-- Unisons, fourths and fifths, with any octaves added, can be perfect; others are major or minor.
 abbrev pub can_be_perfect : ℕ → Bool
 can_be_perfect steps = (steps % 7 == 0) || ((steps % 7 == 3) || (steps % 7 == 4))
 
@@ -46,7 +49,8 @@ of_major (negsuc zero) = Minor
 of_major (negsuc (suc less)) = Diminished (suc less)
 
 abbrev pub quality : ℤ → ℤ → Quality
-quality d s = cond (can_be_perfect (unsigned_abs d)) (of_perfect (excess d s)) (of_major (excess d s))
+quality d s =
+    cond (can_be_perfect (unsigned_abs d)) (of_perfect (excess d s)) (of_major (excess d s))
 
 abbrev pub sign : Direction → List ℕ
 sign Up = codes "+"
@@ -71,7 +75,7 @@ IsModest _ = Unit {0}
 abbrev pub size : ℤ → ℕ
 size d = unsigned_abs d + 1
 
-abbrev pub interval_text : Bool → Bool → ℤ → ℤ → List ℕ
-interval_text signless sizeonly d s =
+abbrev pub named : Bool → Bool → ℤ → ℤ → List ℕ
+named signless sizeonly d s =
     (cond signless [] (sign (direction d s)) ++ cond sizeonly [] (quality_letters (quality d s)))
     ++ decimal (size d)

@@ -1,5 +1,6 @@
 -- Pitches as numbers: their steps, their semitones, and the pitch that is so many of both away.
-use Rattle.std.specs.Prelude.{◌≡◌, ◌<◌, ◌⊎◌, ℕ, ℤ, pos, negsuc, ◌+ℤ◌, ◌-ℤ◌, ◌*ℤ◌, ◌≤ℤ◌, ◌<ℤ◌, List, [], ◌∷◌, slice_index, unsigned_abs}
+use Rattle.std.specs.Prelude.{◌≡◌, ◌<◌, ◌⊎◌, ℕ, ℤ, pos, negsuc, ◌+ℤ◌, ◌-ℤ◌, ◌*ℤ◌, ◌≤ℤ◌}
+use Rattle.std.specs.Prelude.{◌<ℤ◌, List, [], ◌∷◌, slice_index, unsigned_abs}
 use Rattle.std.specs.Int.{int_div_euclid, int_rem_euclid}
 
 -- A note by its spelling: one of the steps c d e f g a b, counted from 0; the octave, where that of
@@ -16,8 +17,14 @@ abbrev pub IsOutside : ℤ → ℤ → ℤ → Type 0
 IsOutside low z high = (z <ℤ low) ⊎ (high <ℤ z)
 
 -- What can be spelled: octaves from -4 to 11, and at most seven sharps or flats.
-abbrev pub IsPitch : Spelled → Type 0
-IsPitch p = (p.step < 7) × IsWithin (negsuc 3) p.octave (pos 11) × IsWithin (negsuc 6) p.alteration (pos 7)
+abbrev pub IsOctave : ℤ → Type 0
+IsOctave octave = IsWithin (negsuc 3) octave (pos 11)
+
+abbrev pub IsAlteration : ℤ → Type 0
+IsAlteration alteration = IsWithin (negsuc 6) alteration (pos 7)
+
+abbrev pub IsPitch : ℕ → ℤ → ℤ → Type 0
+IsPitch step octave alteration = (step < 7) × IsOctave octave × IsAlteration alteration
 
 -- The semitones from c up to each step above it.
 abbrev pub naturals : List ℕ

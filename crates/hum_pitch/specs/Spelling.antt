@@ -1,5 +1,7 @@
 -- How a pitch is written in kern, and how what is written is read.
-use Rattle.std.specs.Prelude.{◌==◌, ℕ, ℤ, pos, negsuc, neg_ℤ, ◌+ℤ◌, ◌-ℤ◌, cond, List, [], ◌∷◌, ◌++◌, Option, None, Some, length, drop, replicate, position, slice_index, codes}
+use Rattle.std.specs.Prelude.{◌==◌, ℕ, ℤ, pos, negsuc, neg_ℤ, ◌+ℤ◌, ◌-ℤ◌, cond, List, []}
+use Rattle.std.specs.Prelude.{◌∷◌, ◌++◌, Option, None, Some}
+use Rattle.std.specs.Prelude.{length, drop, replicate, position, slice_index, codes}
 use Prim.Native.Nat.{suc}
 use Rattle.hum_pitch.specs.Pitch.{Spelled}
 
@@ -21,8 +23,11 @@ abbrev pub accidentals : ℤ → List ℕ
 accidentals (pos up) = replicate up 35
 accidentals (negsuc down) = replicate (suc down) 45
 
+abbrev pub letters_of : Spelled → List ℕ
+letters_of p = letters p.step (p.octave -ℤ pos 4)
+
 abbrev pub spelling : Spelled → List ℕ
-spelling p = letters p.step (p.octave -ℤ pos 4) ++ accidentals p.alteration
+spelling p = letters_of p ++ accidentals p.alteration
 
 -- How often a byte stands at a text's beginning.
 unfoldable pub run : ℕ → List ℕ → ℕ
@@ -40,7 +45,7 @@ abbrev pub read_small : ℕ → ℕ → Option ℕ → Option Spelled
 read_small letter count (Some step) = Some (natural_note step (pos 3 +ℤ pos count))
 read_small letter count None = read_capitals count (position (λ x. x == letter) capitals)
 
--- A number of one letter is a natural note: k small letters stand in octave 3 + k, and k capitals in
+-- A number of one letter is a natural note: k small letters stand in octave 3 + k, k capitals in
 -- octave 4 - k.
 abbrev pub read_letters : ℕ → ℕ → Option Spelled
 read_letters letter count = read_small letter count (position (λ x. x == letter) small_letters)
@@ -56,7 +61,7 @@ altered_by (Some note) (Some alteration) = Some (record note { alteration = alte
 altered_by (Some note) None = None
 altered_by None _ = None
 
--- A text is read as a pitch by the longest run of its first byte and the accidentals that follow it.
+-- A text is read as a pitch by the longest run of its first byte and the accidentals after it.
 abbrev pub read_pitch : List ℕ → Option Spelled
 read_pitch [] = None
 read_pitch (x ∷ xs) =

@@ -1,9 +1,12 @@
 //! Intervals as text.
-ghost use Rattle.std.specs.Prelude.{◌≡◌, ◌≤◌, ◌++◌, ◌+◌, List, [], cond, pos, replicate, negsuc, IfOk, OnOk, unsigned_abs};
+ghost use Rattle.std.specs.Prelude.{◌≡◌, ◌≤◌, ◌++◌, [], cond, pos, negsuc, replicate};
+ghost use Rattle.std.specs.Prelude.{IfOk, OnOk};
 ghost use Rattle.std.specs.Fmt.{decimal};
 ghost use Rattle.hum_pitch.specs.Pitch.{IsWithin};
-ghost use Rattle.hum_pitch.specs.Intervals.{direction, excess, upwards, natural_width, can_be_perfect, of_perfect, of_major};
-ghost use Rattle.hum_pitch.specs.Intervals.{quality, sign, quality_letters, IsModest, interval_text};
+ghost use Rattle.hum_pitch.specs.Intervals.{direction, upwards, natural_width, excess};
+ghost use Rattle.hum_pitch.specs.Intervals.{can_be_perfect, of_perfect, of_major};
+ghost use Rattle.hum_pitch.specs.Intervals.{quality, sign, quality_letters, IsModest};
+ghost use Rattle.hum_pitch.specs.Intervals.{named};
 
 use crate::Interval;
 use crate::intervals::{Direction, Quality};
@@ -199,7 +202,7 @@ pub fn write_interval(
     signless: bool,
     sizeonly: bool,
 ) -> Result<Vec<u8>, AllocError>
-    ensures { IfOk result (λ text. text.items ≡ interval_text signless sizeonly interval.d interval.s) }
+    ensures { IfOk result (λ text. text.items ≡ named signless sizeonly interval.d interval.s) }
 {
     let sign = shown(!signless, sign(direction(interval)));
     let letters = shown(!sizeonly, quality_letters(quality(interval)));

@@ -1,5 +1,6 @@
 //! Pitches by their spelling, as numbers.
-ghost use Rattle.std.specs.Prelude.{◌≡◌, ◌<◌, ◌≤◌, pos, negsuc, ◌+ℤ◌, ◌-ℤ◌, ◌*ℤ◌, ◌≤ℤ◌, MatchBool};
+ghost use Rattle.std.specs.Prelude.{◌≡◌, ◌<◌, ◌≤◌, pos, negsuc, ◌+ℤ◌, ◌-ℤ◌, ◌*ℤ◌, ◌≤ℤ◌};
+ghost use Rattle.std.specs.Prelude.{MatchBool};
 ghost use Rattle.hum_pitch.specs.Pitch.{IsPitch, IsWithin, IsOutside, IsAway};
 ghost use Rattle.hum_pitch.specs.Pitch.{natural, natural_at, semitones, step_number, away};
 
@@ -25,7 +26,7 @@ pub struct Pitch {
     pub octave: i8,
     /// The alteration in semitones, -7 to 7: sharps are positive, flats negative.
     pub alteration: i8,
-    pub ghost in_range: { IsPitch (record { step = step; octave = octave; alteration = alteration }) },
+    pub ghost in_range: { IsPitch step octave alteration },
 }
 
 /// A note by its spelling, whether it has one within the limits or not.
@@ -62,7 +63,8 @@ fn natural_semits(octave: i32, step: u32) -> i32
     requires octave { IsWithin (negsuc 99) octave (pos 100) }
     ensures exact { result ≡ (pos 12 *ℤ (octave -ℤ pos 4)) +ℤ pos (natural step) }
     ensures bounded { IsWithin (negsuc 1299) result (pos 1299) }
-    ensures near { IsWithin (pos 12 *ℤ octave) (result +ℤ pos 48) ((pos 12 *ℤ octave) +ℤ pos 11) }
+    ensures above { (pos 12 *ℤ octave) ≤ℤ (result +ℤ pos 48) }
+    ensures under { (result +ℤ pos 37) ≤ℤ (pos 12 *ℤ octave) }
 {
     12 * (octave - 4) + i32::from(natural(step))
 }
@@ -138,7 +140,8 @@ impl Pitch {
         }
     }
 
-    /// The pitch that is some diatonic steps and some semitones higher; lower, where they are negative.
+    /// The pitch that is some diatonic steps and some semitones higher (lower, where they are
+    /// negative).
     ///
     /// # Errors
     /// [`PitchFault::TR1`] and [`PitchFault::TR2`], the first of them where both hold.

@@ -1,7 +1,7 @@
 //! Pitches as text.
 ghost use Rattle.std.specs.Prelude.{◌≡◌, ◌≤◌, pos, ◌-ℤ◌, ◌++◌, IfOk, replicate, Some};
 ghost use Rattle.hum_pitch.specs.Given.{spelled};
-ghost use Rattle.hum_pitch.specs.Spelling.{letters, accidentals, spelling, read_pitch};
+ghost use Rattle.hum_pitch.specs.Spelling.{letters_of, accidentals, spelling, read_pitch};
 
 use crate::Pitch;
 use std::alloc::{AllocError, Global};
@@ -15,7 +15,7 @@ pub(crate) struct Repeated {
 
 /// The letters of a pitch.
 fn letters(pitch: Pitch) -> Repeated
-    ensures exact { replicate result.count result.byte ≡ letters pitch.step (pitch.octave -ℤ pos 4) }
+    ensures exact { replicate result.count result.byte ≡ letters_of (spelled pitch) }
     ensures few { result.count ≤ 8 }
 {
     let step = usize::from(pitch.step);
