@@ -1,7 +1,8 @@
 //! Pitches: their semitones, their transposition, and the intervals between them.
 //!
 //! A pitch is spelled by a step, an octave and an alteration, as in `**kern` (Humdrum Toolkit:
-//! Reference Manual, representation `**kern`).
+//! Reference Manual, representation `**kern`). Semitones are counted as by its command semits,
+//! pitches transposed as by trans, and intervals named as by mint.
 #![tactic(auto)]
 
 mod between;

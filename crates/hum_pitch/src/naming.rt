@@ -14,6 +14,7 @@ use crate::pitch::natural;
 use crate::spelling::{Repeated, repeat};
 use std::alloc::{AllocError, Global};
 
+/// Up or down by the steps; where there are none, by the semitones.
 fn direction(interval: Interval) -> Direction
     ensures { result ≡ direction interval.d interval.s }
 {
@@ -72,6 +73,7 @@ fn can_be_perfect(steps: u32) -> bool
     within_octave == 0 || within_octave == 3 || within_octave == 4
 }
 
+/// The quality of an interval that can be perfect.
 fn of_perfect(excess: i32) -> Quality
     requires { IsWithin (negsuc 395) excess (pos 205) }
     ensures exact { result ≡ of_perfect excess }
@@ -86,6 +88,7 @@ fn of_perfect(excess: i32) -> Quality
     }
 }
 
+/// The quality of an interval that can be major or minor.
 fn of_major(excess: i32) -> Quality
     requires { IsWithin (negsuc 395) excess (pos 205) }
     ensures exact { result ≡ of_major excess }
@@ -102,6 +105,7 @@ fn of_major(excess: i32) -> Quality
     }
 }
 
+/// The quality of an interval.
 fn quality(interval: Interval) -> Quality
     ensures exact { result ≡ quality interval.d interval.s }
     ensures modest { IsModest result }

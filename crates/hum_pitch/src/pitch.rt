@@ -116,7 +116,7 @@ impl Pitch {
         7 * i32::from(self.octave) + i32::from(self.step)
     }
 
-    /// The semitones above middle c, which is 0.
+    /// The semitones above middle c, which is 0; below it they are negative.
     pub fn semits(self) -> i32
         ensures exact { result ≡ semitones (spelled self) }
         ensures in_range { IsWithin (negsuc 102) result (pos 102) }
