@@ -17,10 +17,10 @@ run_alone class (x ∷ xs) rest h =
     let more = run_alone class xs rest (record { all_in = h.all_in.1; ends = h.ends }) in
     rw h.all_in.0 (omega arith)
 
-front_is : (class : Class) (xs rest : List ℕ) → IsMaximal class xs rest → front (is_in class) (xs ++ rest) ≡ xs
+pub front_is : (class : Class) (xs rest : List ℕ) → IsMaximal class xs rest → front (is_in class) (xs ++ rest) ≡ xs
 front_is class xs rest h = ap (λ (n : ℕ). take n (xs ++ rest)) (run_alone class xs rest h) ∙ take-append_seam xs rest
 
-behind_is : (class : Class) (xs rest : List ℕ) → IsMaximal class xs rest → behind (is_in class) (xs ++ rest) ≡ rest
+pub behind_is : (class : Class) (xs rest : List ℕ) → IsMaximal class xs rest → behind (is_in class) (xs ++ rest) ≡ rest
 behind_is class xs rest h = ap (λ (n : ℕ). drop n (xs ++ rest)) (run_alone class xs rest h) ∙ drop-append_seam xs rest
 
 second_is : (o : Option (List ℕ)) (rest : List ℕ) → IsSecond o rest → second_of (quotient_text o ++ rest) ≡ o

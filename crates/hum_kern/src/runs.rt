@@ -2,7 +2,7 @@
 
 ghost use Rattle.std.specs.Prelude.{◌≡◌, ◌+◌, ◌≤◌, length};
 ghost use Rattle.hum_kern.specs.Runs.{run, front, behind, starts_with};
-ghost use Rattle.hum_kern.specs.Classes.{is_digit, is_in};
+ghost use Rattle.hum_kern.specs.Classes.{is_digit, is_letter, is_sign, is_in};
 
 /// What a run consists of.
 #[derive(Clone, Copy, Debug, PartialEq, Eq)]
@@ -13,12 +13,31 @@ pub(crate) enum Class {
     Other,
     /// Dots.
     Dot,
+    /// All bytes but the letters of pitches.
+    NoLetter,
+    /// This byte, over and over.
+    Repeat(u8),
+    /// The signs of accidentals: `#`, `-` and `n`.
+    Sign,
 }
 
 fn is_digit(b: u8) -> bool
     ensures { result ≡ is_digit b }
 {
     48 <= b && b <= 57
+}
+
+/// Whether a byte is a letter of pitches.
+pub(crate) fn is_letter(b: u8) -> bool
+    ensures { result ≡ is_letter b }
+{
+    (97 <= b && b <= 103) || (65 <= b && b <= 71)
+}
+
+fn is_sign(b: u8) -> bool
+    ensures { result ≡ is_sign b }
+{
+    b == b'#' || b == b'-' || b == b'n'
 }
 
 impl Class {
@@ -30,6 +49,9 @@ impl Class {
             Class::Digit => is_digit(b),
             Class::Other => !is_digit(b),
             Class::Dot => b == b'.',
+            Class::NoLetter => !is_letter(b),
+            Class::Repeat(letter) => b == letter,
+            Class::Sign => is_sign(b),
         }
     }
 }
