@@ -1,5 +1,6 @@
 mod Examples
 pub mod Parts
 pub mod Written
+pub mod Numbers
 pub mod SoFar
 pub mod Joined

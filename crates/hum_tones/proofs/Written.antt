@@ -19,7 +19,8 @@ use Rattle.hum_kern.specs.Value.{value_of, dotted}
 use Rattle.hum_kern.specs.Duration.{Spelling, duration, said, said_of, with_dots, no_length, is_torn, is_empty, second_length}
 use Rattle.hum_kern.specs.Parts.{AreParts, behind_first}
 use Rattle.hum_tones.specs.Subtokens.{IsPart, IsPiece, HasAdded}
-use Rattle.hum_tones.specs.Recip.{written, rest_sign, is_rest, by_value, recip_of}
+use Rattle.hum_kern.specs.Note.{is_rest}
+use Rattle.hum_tones.specs.Recip.{written, rest_sign, by_value, recip_of}
 
 place_of : (start end : ℕ) (value : Option Ratio) (dots : ℕ) (found : Length) → Ok found ≡ with_dots start end value dots → (found.start ≡ start) × (end ≤ found.end)
 place_of start end None dots found e = cc

@@ -2,12 +2,14 @@
 use Rattle.std.specs.Prelude.{ℕ, List, Option, Result}
 use Rattle.hum_stage.specs.declared.faults.Rule.{Rule}
 use Rattle.hum_tones.specs.declared.giving.Giving.{Giving}
-use Rattle.hum_tones.specs.declared.giving.Giving.TheVariants.{Durations}
+use Rattle.hum_tones.specs.declared.giving.Giving.TheVariants.{Semitones, Durations}
+use Rattle.hum_tones.specs.Semits.{semits_of}
 use Rattle.hum_tones.specs.Recip.{recip_of}
 use Rattle.hum_tones.specs.Subtokens.{retold}
 
 -- what a part gives
 abbrev pub gives : Giving → List ℕ → Result (Option (List ℕ)) Rule
+gives (Semitones ties_left_out) = semits_of ties_left_out
 gives Durations = recip_of
 
 -- what a token becomes

@@ -1,3 +1,5 @@
 pub mod Subtokens
+pub mod Faults
+pub mod Semits
 pub mod Recip
 pub mod Giving

@@ -1,19 +1,14 @@
 -- What the command recip makes of a token: the durations of its parts as they are written.
 use Rattle.std.specs.Prelude.{ℕ, ◌==◌, ◌-◌, Bool, List, [], ◌++◌, take, drop, if◌then◌else◌}
 use Rattle.std.specs.Prelude.{Option, None, Some, Result, Ok, Err}
-use Rattle.std.specs.List.{list_any}
 use lib.Chars.{codes}
 use Rattle.hum_frac.specs.Ratio.{Ratio}
 use Rattle.hum_kern.specs.declared.KernFault.{KernFault}
 use Rattle.hum_kern.specs.declared.Length.{Length}
 use Rattle.hum_kern.specs.Duration.{duration}
+use Rattle.hum_kern.specs.Note.{is_rest}
 use Rattle.hum_stage.specs.declared.faults.Rule.{Rule}
-use Rattle.hum_stage.specs.declared.faults.Rule.TheVariants.{K3}
-use Rattle.hum_tones.specs.Subtokens.{retold}
-
--- whether a part is a rest
-abbrev pub is_rest : List ℕ → Bool
-is_rest = list_any (λ b. b == 114)
+use Rattle.hum_tones.specs.Faults.{rule_of}
 
 -- r behind the duration of a rest
 abbrev pub rest_sign : List ℕ → List ℕ
@@ -30,11 +25,7 @@ by_value None found part = if is_rest part then Some (codes "r") else None
 
 abbrev pub by_length : Result Length KernFault → List ℕ → Result (Option (List ℕ)) Rule
 by_length (Ok found) part = Ok (by_value found.value found part)
-by_length (Err fault) part = Err K3
+by_length (Err fault) part = Err (rule_of fault)
 
 abbrev pub recip_of : List ℕ → Result (Option (List ℕ)) Rule
 recip_of part = by_length (duration part) part
-
--- what a token becomes
-abbrev pub recip : List ℕ → Result (List ℕ) Rule
-recip = retold recip_of

@@ -1,20 +1,38 @@
 //! Tokens in whose place stands what their parts give.
-ghost use Rattle.std.specs.Prelude.{◌≡◌, ◌++◌, [], codes, IfOk, Result, Ok, Err};
-ghost use Rattle.std.specs.List.{list_any};
+ghost use Rattle.std.specs.Prelude.{◌≡◌, ◌++◌, [], codes, IfOk, OnOk, Result, Ok, Err};
+ghost use Rattle.std.specs.Fmt.{signed_decimal};
 ghost use Rattle.hum_record.specs.declared.SpinedKind.TheVariants.{Values};
 ghost use Rattle.hum_record.specs.Spelling.{IsToken};
 ghost use Rattle.hum_tones.specs.Subtokens.{HasAdded, IsPart, IsRetold};
-ghost use Rattle.hum_tones.specs.Recip.{is_rest, rest_sign, recip_of};
+ghost use Rattle.hum_kern.specs.Note.{is_rest};
+ghost use Rattle.hum_tones.specs.Faults.{rule_of};
+ghost use Rattle.hum_tones.specs.Recip.{rest_sign, recip_of};
+ghost use Rattle.hum_tones.specs.Semits.{semits_of};
 
-use hum_kern::read_duration;
+use hum_kern::{KernFault, read_duration, read_note};
 use hum_stage::Rule;
+use itoa::Buffer;
 use std::alloc::AllocError;
 
 /// What each part of a token gives.
 #[derive(Clone, Copy, Debug, PartialEq, Eq)]
 pub enum Giving {
+    /// Its semitones above middle c, and `r` for a rest. Where `ties_left_out` is set, notes that
+    /// go on or end a tie give nothing.
+    Semitones { ties_left_out: bool },
     /// Its duration, as it is written.
     Durations,
+}
+
+/// The rule by which a part is refused.
+pub(crate) fn rule_of(fault: KernFault) -> Rule
+    ensures { result ≡ rule_of fault }
+{
+    match fault {
+        KernFault::K1 => Rule::K1,
+        KernFault::K2 => Rule::K2,
+        KernFault::K3 => Rule::K3,
+    }
 }
 
 /// Whether a part is a rest.
@@ -22,6 +40,17 @@ fn is_rest(part: &[u8]) -> bool
     ensures { result ≡ is_rest part.now }
 {
     part.contains(&b'r')
+}
+
+/// Adds a number and the space behind it.
+fn push_number(number: i32, text: &mut Vec<u8>) -> Result<(), AllocError>
+    ensures { OnOk result
+        (text.new.items ≡ text.old.items ++ (signed_decimal number ++ codes " ")) }
+{
+    let mut buffer = Buffer::new();
+    text.extend_from_slice(buffer.format(number).as_bytes())?;
+    text.push(b' ')?;
+    Ok(())
 }
 
 /// The sign of a rest, where a part is one, and the space behind what the part gives.
@@ -40,8 +69,9 @@ fn add_duration(part: &[u8], text: &mut Vec<u8>) -> Result<Option<Rule>, AllocEr
     requires { IsPart part.now }
     ensures { IfOk result (HasAdded (recip_of part.now) text.old.items text.new.items) }
 {
-    let Ok(found) = read_duration(part) else {
-        return Ok(Some(Rule::K3));
+    let found = match read_duration(part) {
+        Ok(found) => found,
+        Err(fault) => return Ok(Some(rule_of(fault))),
     };
     match found.value {
         Some(_) => {
@@ -58,6 +88,34 @@ fn add_duration(part: &[u8], text: &mut Vec<u8>) -> Result<Option<Rule>, AllocEr
     }
 }
 
+/// Adds the semitones of a part.
+fn add_semitones(
+    part: &[u8],
+    ties_left_out: bool,
+    text: &mut Vec<u8>,
+) -> Result<Option<Rule>, AllocError>
+    ensures { IfOk result
+        (HasAdded (semits_of ties_left_out part.now) text.old.items text.new.items) }
+{
+    let note = match read_note(part) {
+        Ok(note) => note,
+        Err(fault) => return Ok(Some(rule_of(fault))),
+    };
+    if note.rest {
+        text.extend_from_slice(b"r ")?;
+        return Ok(None);
+    }
+    match note.pitch {
+        None => Ok(None),
+        Some(pitch) => {
+            if !(ties_left_out && note.continued) {
+                push_number(pitch.semits(), text)?;
+            }
+            Ok(None)
+        }
+    }
+}
+
 impl Giving {
     ghost use Rattle.std.specs.Prelude.{List, ℕ};
     ghost use Rattle.hum_tones.specs.Giving.{gives, given};
@@ -68,6 +126,7 @@ impl Giving {
         ensures { IfOk result (HasAdded (gives self part.now) text.old.items text.new.items) }
     {
         match self {
+            Giving::Semitones { ties_left_out } => add_semitones(part, ties_left_out, text),
             Giving::Durations => add_duration(part, text),
         }
     }

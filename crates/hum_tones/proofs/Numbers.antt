@@ -1,0 +1,65 @@
+-- Numbers, as they are written, may stand in a token.
+use Rattle.std.proofs.Common.{◌≡◌, ◌≢◌, refl, sym, ap, ◌∙◌, ℕ, zero, suc, ◌+◌, ◌-◌, ◌≤◌, ◌<◌, ◌/◌, ◌%◌, ◌^◌, ◌==◌, Bool, true, false, List, [], ◌∷◌, ◌++◌, length, arith, Option, None, Some}
+use Rattle.std.specs.Prelude.{ℤ, pos, negsuc, nat_le, Result, Ok, Err}
+use Rattle.std.specs.List.{list_any, AllByRecursion}
+use Rattle.std.specs.Fmt.{decimal, signed_decimal}
+use Rattle.std.proofs.lemmas.Fmt.{decimal_digit, decimal_step}
+use Rattle.std.proofs.lemmas.Bool.Decides.{nat_tests, leb_tells}
+use mathlib.Core.Logic.{inl, inr}
+use Rattle.hum_record.specs.declared.SpinedKind.TheVariants.{Values}
+use Rattle.hum_record.specs.Spelling.{has_byte, kind_of_token}
+use Rattle.hum_tones.specs.Subtokens.{IsPart, IsPiece}
+
+record IsDigit (b : ℕ) : Type 0 where
+  low : 48 ≤ b
+  high : b ≤ 57
+
+push_all : (P : ℕ → Type 0) (xs : List ℕ) (x : ℕ) → AllByRecursion P xs → P x → AllByRecursion P (xs ++ x ∷ [])
+push_all P [] x all one = (one, tt)
+push_all P (y ∷ xs) x all one = (all.0, push_all P xs x all.1 one)
+
+some_push : (xs : List ℕ) (x : ℕ) → xs ++ x ∷ [] ≢ []
+some_push [] x e = cc
+some_push (y ∷ xs) x e = cc
+
+record AreDigits (text : List ℕ) : Type 0 where
+  all : AllByRecursion IsDigit text
+  some : text ≢ []
+
+digits_of : (fuel n : ℕ) → n < fuel → n < 2 ^ 64 → AreDigits (decimal n)
+digits_of zero n below fits = absurd (omega (arith, below))
+digits_of (suc fuel) n below fits = elim (leb_tells 10 n) [
+  | inl large ↦ (
+    let more = digits_of fuel (n / 10) (omega (arith, below, large)) (omega (arith, fits, large)) in
+    rw (decimal_step n large fits) (record { all = push_all IsDigit (decimal (n / 10)) (48 + n % 10) more.all (record { low = omega arith; high = omega arith }); some = some_push (decimal (n / 10)) (48 + n % 10) })
+  )
+  | inr small ↦ rw (decimal_digit n (omega (arith, small.1))) (record { all = (record { low = omega arith; high = omega (arith, small.1) }, tt); some = λ e. cc })
+]
+
+digits_lack : (c : ℕ) (text : List ℕ) → c < 48 → AllByRecursion IsDigit text → has_byte c text ≡ false
+digits_lack c [] low all = refl
+digits_lack c (x ∷ text) low all =
+    let other : (x == c) ≡ false = grind (arith, nat_tests, all.0.low, low) in
+    rw (other, digits_lack c text low all.1) refl
+
+digits_piece : (text : List ℕ) → AreDigits text → IsPiece text
+digits_piece [] h = absurd (h.some refl)
+digits_piece (x ∷ text) h =
+    let not_comment : (x == 33) ≡ false = grind (arith, nat_tests, h.all.0.low) in
+    let not_star : (x == 42) ≡ false = grind (arith, nat_tests, h.all.0.low) in
+    record {
+      part = record { one_token = digits_lack 9 (x ∷ text) (omega arith) h.all; one_line = digits_lack 13 (x ∷ text) (omega arith) h.all; no_line_end = digits_lack 10 (x ∷ text) (omega arith) h.all };
+      filled = h.some;
+      of_kind = rw (not_comment, not_star) refl;
+    }
+
+-- a number with its sign
+pub number_piece : (z : ℤ) → mag z < 2 ^ 63 → IsPiece (signed_decimal z)
+number_piece (pos n) fits = digits_piece (decimal n) (digits_of (suc n) n (omega arith) (omega (arith, fits)))
+number_piece (negsuc n) fits =
+    let h = digits_of (suc (suc n)) (suc n) (omega arith) (omega (arith, fits)) in
+    record {
+      part = record { one_token = digits_lack 9 (decimal (suc n)) (omega arith) h.all; one_line = digits_lack 13 (decimal (suc n)) (omega arith) h.all; no_line_end = digits_lack 10 (decimal (suc n)) (omega arith) h.all };
+      filled = λ e. cc;
+      of_kind = refl;
+    }
