@@ -1,4 +1,5 @@
-mod Examples
+pub mod Examples
+mod Theory
 pub mod Steps
 pub mod Answering
 pub mod Reading

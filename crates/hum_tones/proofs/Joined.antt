@@ -1,0 +1,109 @@
+-- Texts that are joined by spaces make a lawful token.
+use Rattle.std.proofs.Common.{◌≡◌, ◌≢◌, refl, sym, ap, ◌∙◌, ℕ, ◌≤◌, ◌==◌, Bool, true, false, List, [], ◌∷◌, ◌++◌, length, append_assoc, append-nil, arith}
+use Rattle.std.specs.Prelude.{nat_eq, Result, Ok, Err, Option, None, Some, if◌then◌else◌}
+use Rattle.std.specs.List.{AllByRecursion, join_with_byte, list_any, starts_with}
+use Rattle.std.proofs.lemmas.List.Folds.{list_any-append}
+use Rattle.std.proofs.lemmas.Bool.{or_parts}
+use Rattle.std.proofs.lemmas.Bool.Decides.{nat_tests}
+use lib.Chars.{codes}
+use Rattle.hum_record.specs.declared.SpinedKind.{SpinedKind}
+use Rattle.hum_record.specs.declared.SpinedKind.TheVariants.{Local, Interpretation, Values}
+use Rattle.hum_record.specs.Spelling.{has_byte, is_comment, kind_of_token, IsToken}
+use Rattle.hum_path.proofs.Cases.{by_bool}
+use Rattle.hum_stage.specs.declared.faults.Rule.{Rule}
+use Rattle.hum_tones.specs.Subtokens.{joined, IsPart, IsPiece, given_by, if_given, IsRetold}
+use Rattle.hum_tones.proofs.SoFar.{spaced, SoFar, all_given}
+
+-- without the last space
+pub spaced_joined : (text : List ℕ) (texts : List (List ℕ)) → spaced (text ∷ texts) ≡ joined (text ∷ texts) ++ 32 ∷ []
+spaced_joined text [] = refl
+spaced_joined text (next ∷ texts) =
+    rw (spaced_joined next texts) (sym (append_assoc text (32 ∷ joined (next ∷ texts)) (32 ∷ [])))
+
+spaced_lacks : (c : ℕ) (texts : List (List ℕ)) → (32 == c) ≡ false → AllByRecursion (λ text. has_byte c text ≡ false) texts → has_byte c (spaced texts) ≡ false
+spaced_lacks c [] apart all = refl
+spaced_lacks c (text ∷ texts) apart all = rw (list_any-append (λ x. x == c) text (32 ∷ spaced texts), all.0, apart, spaced_lacks c texts apart all.1) refl
+
+front_lacks : (c : ℕ) (front more : List ℕ) → has_byte c (front ++ more) ≡ false → has_byte c front ≡ false
+front_lacks c front more h = (or_parts (has_byte c front) (has_byte c more) (rw (list_any-append (λ x. x == c) front more) at h)).0
+
+joined_lacks : (c : ℕ) (text : List ℕ) (texts : List (List ℕ)) → (32 == c) ≡ false → AllByRecursion (λ text. has_byte c text ≡ false) (text ∷ texts) → has_byte c (joined (text ∷ texts)) ≡ false
+joined_lacks c text texts apart all =
+    front_lacks c (joined (text ∷ texts)) (32 ∷ []) (rw (spaced_joined text texts) at (spaced_lacks c (text ∷ texts) apart all))
+
+fronts : (xs ys : List ℕ) (a b : ℕ) → xs ++ a ∷ [] ≡ ys ++ b ∷ [] → xs ≡ ys
+fronts [] [] a b e = refl
+fronts [] (y ∷ []) a b e = cc
+fronts [] (y ∷ z ∷ ys) a b e = cc
+fronts (x ∷ []) [] a b e = cc
+fronts (x ∷ z ∷ xs) [] a b e = cc
+fronts (x ∷ xs) (y ∷ ys) a b e =
+    let first : x ≡ y = cc in
+    let rest : xs ++ a ∷ [] ≡ ys ++ b ∷ [] = cc in
+    let same = fronts xs ys a b rest in
+    rw (first, same) refl
+
+each : (P Q : List ℕ → Type 0) (texts : List (List ℕ)) → ((text : List ℕ) → P text → Q text) → AllByRecursion P texts → AllByRecursion Q texts
+each P Q [] f all = tt
+each P Q (text ∷ texts) f all = (f text all.0, each P Q texts f all.1)
+
+kind_of_front : (text more : List ℕ) → text ≢ [] → kind_of_token (text ++ more) ≡ kind_of_token text
+kind_of_front [] more some = absurd (some refl)
+kind_of_front (x ∷ xs) more some = refl
+
+kind_of_joined : (text : List ℕ) (texts : List (List ℕ)) → text ≢ [] → kind_of_token (joined (text ∷ texts)) ≡ kind_of_token text
+kind_of_joined text [] some = refl
+kind_of_joined text (next ∷ texts) some = kind_of_front text (32 ∷ joined (next ∷ texts)) some
+
+some_joined : (text : List ℕ) (texts : List (List ℕ)) → text ≢ [] → joined (text ∷ texts) ≢ []
+some_joined text [] some = some
+some_joined [] (next ∷ texts) some = absurd (some refl)
+some_joined (x ∷ xs) (next ∷ texts) some = λ e. cc
+
+-- what begins as data does is no comment
+pub no_comment : (text : List ℕ) → kind_of_token text ≡ Values → is_comment text ≡ false
+no_comment [] h = refl
+no_comment (x ∷ xs) h = by_bool (x == 33) (λ w. absurd (let local : Local ≡ Values = rw w at h in cc)) (λ w. differs w)
+  where
+    differs : (x == 33) ≡ false → is_comment (x ∷ xs) ≡ false
+    differs w = let other : (33 == x) ≡ false = grind (arith, nat_tests, w) in rw other refl
+
+pub joined_lawful : (texts : List (List ℕ)) → AllByRecursion IsPiece texts → IsToken Values (joined texts)
+joined_lawful [] all = record { filled = λ e. cc; one_token = refl; one_line = refl; no_line_end = refl; of_kind = refl; no_comment = refl }
+joined_lawful (text ∷ texts) all =
+    let kind = kind_of_joined text texts all.0.filled ∙ all.0.of_kind in
+    record {
+      filled = some_joined text texts all.0.filled;
+      one_token = joined_lacks 9 text texts refl (each IsPiece (λ t. has_byte 9 t ≡ false) (text ∷ texts) (λ t piece. piece.part.one_token) all);
+      one_line = joined_lacks 13 text texts refl (each IsPiece (λ t. has_byte 13 t ≡ false) (text ∷ texts) (λ t piece. piece.part.one_line) all);
+      no_line_end = joined_lacks 10 text texts refl (each IsPiece (λ t. has_byte 10 t ≡ false) (text ∷ texts) (λ t piece. piece.part.no_line_end) all);
+      of_kind = kind;
+      no_comment = no_comment (joined (text ∷ texts)) kind;
+    }
+
+-- Where all parts have given their texts, the token is what they make without the last space.
+pub none_given : (gives : List ℕ → Result (Option (List ℕ)) Rule) (parts : List (List ℕ)) (n : ℕ) (text : List ℕ) → SoFar gives parts n text
+    → length parts ≤ n → text ≡ [] → (after : List ℕ) → after ≡ codes "." → IsRetold (if_given (given_by gives parts)) after None
+none_given gives parts n text h past empty after is = go h.done h.pieces (all_given gives parts n text h past) (sym h.made ∙ empty)
+  where
+    go : (done : List (List ℕ)) → AllByRecursion IsPiece done → given_by gives parts ≡ Ok done → spaced done ≡ [] → IsRetold (if_given (given_by gives parts)) after None
+    go [] all given e = rw (given, is) (refl, joined_lawful [] tt)
+    go (first ∷ done) all given e = absurd (nothing first (spaced done) e)
+      where
+        nothing : (xs ys : List ℕ) → xs ++ (32 ∷ ys) ≡ [] → ⊥
+        nothing [] ys e = cc
+        nothing (x ∷ xs) ys e = cc
+
+pub some_given : (gives : List ℕ → Result (Option (List ℕ)) Rule) (parts : List (List ℕ)) (n : ℕ) (text : List ℕ) → SoFar gives parts n text
+    → length parts ≤ n → (after : List ℕ) (last : ℕ) → text ≡ after ++ last ∷ [] → IsRetold (if_given (given_by gives parts)) after None
+some_given gives parts n text h past after last cut = go h.done h.pieces (all_given gives parts n text h past) (sym h.made ∙ cut)
+  where
+    go : (done : List (List ℕ)) → AllByRecursion IsPiece done → given_by gives parts ≡ Ok done → spaced done ≡ after ++ last ∷ [] → IsRetold (if_given (given_by gives parts)) after None
+    go [] all given e = absurd (nothing after e)
+      where
+        nothing : (xs : List ℕ) → [] ≡ xs ++ last ∷ [] → ⊥
+        nothing [] e = cc
+        nothing (x ∷ xs) e = cc
+    go (first ∷ done) all given e =
+        let same = fronts (joined (first ∷ done)) after 32 last (sym (spaced_joined first done) ∙ e) in
+        rw (given, ← same) (refl, joined_lawful (first ∷ done) all)

@@ -1,0 +1,5 @@
+mod Examples
+pub mod Parts
+pub mod Written
+pub mod SoFar
+pub mod Joined

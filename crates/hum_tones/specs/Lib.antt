@@ -1,0 +1,3 @@
+pub mod Subtokens
+pub mod Recip
+pub mod Giving

@@ -1,0 +1,66 @@
+-- The parts of a token, and a token that is made of what they give.
+use Rattle.std.specs.Prelude.{◌≡◌, ◌≢◌, ℕ, ◌==◌, false, List, [], ◌∷◌, ◌++◌}
+use Rattle.std.specs.Prelude.{Option, None, Some, Result, Ok, Err}
+use Rattle.std.specs.List.{slice_split, join_with_byte}
+use lib.Chars.{codes}
+use Rattle.hum_record.specs.declared.SpinedKind.TheVariants.{Values}
+use Rattle.hum_record.specs.Spelling.{has_byte, kind_of_token, IsToken}
+use Rattle.hum_stage.specs.declared.faults.Rule.{Rule}
+
+-- a token's parts between single spaces; a part may be empty
+abbrev pub subtokens : List ℕ → List (List ℕ)
+subtokens = slice_split (λ b. b == 32)
+
+-- what some parts give, from what the first gives and what the others do
+abbrev pub with_first : Result (Option (List ℕ)) Rule → Result (List (List ℕ)) Rule
+    → Result (List (List ℕ)) Rule
+with_first (Err rule) others = Err rule
+with_first (Ok None) others = others
+with_first (Ok (Some text)) (Ok texts) = Ok (text ∷ texts)
+with_first (Ok (Some text)) (Err rule) = Err rule
+
+-- The texts that some parts give, each at most one; or the rule of the first that is refused.
+abbrev pub given_by : (List ℕ → Result (Option (List ℕ)) Rule) → List (List ℕ)
+    → Result (List (List ℕ)) Rule
+given_by gives [] = Ok []
+given_by gives (part ∷ parts) = with_first (gives part) (given_by gives parts)
+
+-- texts, joined by single spaces; a null token where there are none
+abbrev pub joined : List (List ℕ) → List ℕ
+joined [] = codes "."
+joined (text ∷ texts) = join_with_byte 32 (text ∷ texts)
+
+abbrev pub if_given : Result (List (List ℕ)) Rule → Result (List ℕ) Rule
+if_given (Ok texts) = Ok (joined texts)
+if_given (Err rule) = Err rule
+
+-- A token becomes what its parts give, joined by single spaces.
+abbrev pub retold : (List ℕ → Result (Option (List ℕ)) Rule) → List ℕ → Result (List ℕ) Rule
+retold gives token = if_given (given_by gives (subtokens token))
+
+-- a text that may stand in a token
+pub record IsPart (text : List ℕ) : Type 0 where
+  pub one_token : has_byte 9 text ≡ false
+  pub one_line : has_byte 13 text ≡ false
+  pub no_line_end : has_byte 10 text ≡ false
+
+-- one that may stand at the front of a data token
+pub record IsPiece (text : List ℕ) : Type 0 where
+  pub part : IsPart text
+  pub filled : text ≢ []
+  pub of_kind : kind_of_token text ≡ Values
+
+-- What a part gives is added, with a space behind it; or the rule is told.
+abbrev pub HasAdded : Result (Option (List ℕ)) Rule → List ℕ → List ℕ → Option Rule → Type 0
+HasAdded (Ok None) before after None = after ≡ before
+HasAdded (Ok (Some text)) before after None = (after ≡ before ++ (text ++ codes " ")) × IsPiece text
+HasAdded (Ok given) before after (Some rule) = ⊥
+HasAdded (Err refused) before after None = ⊥
+HasAdded (Err refused) before after (Some rule) = rule ≡ refused
+
+-- The text is what a data token becomes, and is a lawful one; or the rule is told.
+abbrev pub IsRetold : Result (List ℕ) Rule → List ℕ → Option Rule → Type 0
+IsRetold (Ok token) text None = (text ≡ token) × IsToken Values text
+IsRetold (Ok token) text (Some rule) = ⊥
+IsRetold (Err refused) text None = ⊥
+IsRetold (Err refused) text (Some rule) = rule ≡ refused
