@@ -1,9 +1,10 @@
 -- Where a pitch was read.
-use Rattle.std.proofs.Common.{◌≡◌, ℕ, zero, suc, ◌+◌, ◌-◌, ◌==◌, ◌<◌, ◌≤◌, Bool, true, false, ℤ, pos, negsuc, List, [], ◌∷◌, ◌++◌, Option, Some, None, Result, Ok, Err, length, take, drop, refl, sym, ap, ◌∙◌, subst, arith, rules}
-use Rattle.std.specs.Prelude.{nat_lt, ◌||◌, not, if◌then◌else◌, IfOk, IfSome, cond, neg_ℤ, option_map}
+use Rattle.std.proofs.Common.{◌≡◌, ℕ, suc, ◌+◌, ◌-◌, ◌==◌, ◌≤◌, Bool, true, false, ℤ, List, [], ◌∷◌, ◌++◌, Option, Some, None, Result, Ok, Err, length, take, drop, refl, sym, ap, ◌∙◌, subst, arith, rules}
+use Rattle.std.specs.Prelude.{◌||◌, not, if◌then◌else◌, IfOk, IfSome, option_map}
 use Rattle.std.specs.List.{list_any, list_all, AllByRecursion}
 use Rattle.std.proofs.Common.{length-append, append_assoc}
 use Rattle.std.proofs.Math.Seq.{take-append_seam, drop-append_seam}
+use Rattle.std.proofs.lemmas.Bool.{and_parts}
 use Rattle.std.proofs.lemmas.List.Folds.{list_any-append}
 use Rattle.hum_pitch.specs.Pitch.{Spelled}
 use Rattle.hum_pitch.specs.Given.{spelled}
@@ -12,11 +13,11 @@ use Rattle.hum_pitch.specs.Spelling.{run, read_letters, read_accidentals, read_p
 use Rattle.hum_kern.specs.declared.KernFault.{KernFault}
 use Rattle.hum_kern.specs.declared.KernFault.TheVariants.{K1, K2}
 use Rattle.hum_kern.specs.declared.notes.Note.{Note}
-use Rattle.hum_kern.specs.declared.runs.Class.TheVariants.{NoLetter, Repeat, Sign}
+use Rattle.hum_kern.specs.declared.runs.Class.TheVariants.{NoLetter, Repeat}
 use Rattle.hum_kern.specs.Classes.{is_in, is_letter, is_sign, is_natural_sign}
 use Rattle.hum_kern.specs.Parts.{IsMaximal, EndsBefore}
 use Rattle.hum_kern.specs.Duration.{is_empty}
-use Rattle.hum_kern.specs.Note.{Notation, Reading, is_uniform, alteration_of, pitch_of, is_doubtful, is_excessive, is_rest, marks_of, with_pitch, pitched, note_by, note, notation_of, reading, reading_in}
+use Rattle.hum_kern.specs.Note.{Notation, Reading, is_uniform, alteration_of, pitch_of, is_doubtful, is_excessive, is_rest, marks_of, with_pitch, note_by, note, notation_of, reading, reading_in}
 use Rattle.hum_kern.specs.NoteParts.{IsRepeated, AreNoteParts, between, IsRead, replaced, CanBeReplaced}
 use Rattle.hum_kern.proofs.Notations.{are_note_parts}
 use Rattle.hum_kern.proofs.Placing.{IsRound, placed, no_more, marks_beside}
@@ -104,14 +105,27 @@ run_alone b (x ∷ more) rest h = rw h.all_in.0 (ap suc (run_alone b more rest (
 run_same : (b : ℕ) (more : List ℕ) → list_all (λ (x : ℕ). x == b) more ≡ true → run b more ≡ length more
 unfolding run
 run_same b [] h = refl
-run_same b (x ∷ more) h = go (x == b) h
-  where
-    go : (t : Bool) → (t && list_all (λ (x : ℕ). x == b) more) ≡ true → cond t (suc (run b more)) 0 ≡ suc (length more)
-    go true h = ap suc (run_same b more h)
-    go false h = cc
+run_same b (x ∷ more) h = let both = and_parts (x == b) (list_all (λ (x : ℕ). x == b) more) h in rw both.0 (ap suc (run_same b more both.1))
 
 eqb_self : (x : ℕ) → (x == x) ≡ true
 eqb_self x = search rules
+
+as_long : (b : ℕ) (more : List ℕ) → list_all (λ (x : ℕ). x == b) more ≡ true → (run b (b ∷ more) == length (b ∷ more)) ≡ true
+as_long b more h =
+    let all : list_all (λ (x : ℕ). x == b) (b ∷ more) ≡ true = rw (eqb_self b) h in
+    rw (run_same b (b ∷ more) all) (eqb_self (length (b ∷ more)))
+
+no_sharps : (more : List ℕ) → (run 35 (45 ∷ more) == length (45 ∷ more)) ≡ false
+unfolding run
+no_sharps more = grind arith
+
+sharps : (more : List ℕ) → list_all (λ (x : ℕ). x == 35) more ≡ true → read_accidentals (35 ∷ more) ≡ Some (alteration_of (35 ∷ more))
+unfolding read_accidentals
+sharps more h = rw (as_long 35 more h) refl
+
+flats : (more : List ℕ) → list_all (λ (x : ℕ). x == 45) more ≡ true → read_accidentals (45 ∷ more) ≡ Some (alteration_of (45 ∷ more))
+unfolding read_accidentals
+flats more h = rw (no_sharps more, as_long 45 more h) refl
 
 -- Signs that are all the same, and no sign of a natural, are read as accidentals.
 signs_read : (signs : List ℕ) → AllByRecursion (λ (x : ℕ). is_sign x ≡ true) signs → is_uniform signs ≡ true → list_any is_natural_sign signs ≡ false → read_accidentals signs ≡ Some (alteration_of signs)
@@ -119,8 +133,101 @@ unfolding read_accidentals run
 signs_read [] all same none = refl
 signs_read (s ∷ signs) all same none = go (s == 35) refl (s == 45) refl (s == 110) refl
   where
-    go : (a : Bool) → (s == 35) ≡ a → (b : Bool) → (s == 45) ≡ b → (d : Bool) → (s == 110) ≡ d → read_accidentals (s ∷ signs) ≡ Some (alteration_of (s ∷ signs))
-    go true e b f d g = ?
-    go false e true f d g = ?
-    go false e false f true g = ?
-    go false e false f false g = ?
+    IsSame : ℕ → Type 0
+    IsSame b = list_all (λ (x : ℕ). x == b) signs ≡ true
+
+    Reads : ℕ → Type 0
+    Reads b = read_accidentals (b ∷ signs) ≡ Some (alteration_of (b ∷ signs))
+
+    go : (a : Bool) → (s == 35) ≡ a → (b : Bool) → (s == 45) ≡ b → (d : Bool) → (s == 110) ≡ d → Reads s
+    go true e b f d g = let is : s ≡ 35 = search rules in subst Reads (sym is) (sharps signs (subst IsSame is same))
+    go false e true f d g = let is : s ≡ 45 = search rules in subst Reads (sym is) (flats signs (subst IsSame is same))
+    go false e false f true g = let no = (no_more (s == 110) (list_any is_natural_sign signs) none).0 in absurd (let two : true ≡ false = sym g ∙ no in cc)
+    go false e false f false g = absurd (let here = all.0 in let no : is_sign s ≡ false = rw (e, f, g) refl in let two : true ≡ false = sym here ∙ no in cc)
+
+first_ends : (b : ℕ) (signs left : List ℕ) → EndsBefore (Repeat b) (signs ++ left) → EndsBefore (Repeat b) signs
+first_ends b [] left h = tt
+first_ends b (s ∷ signs) left h = h
+
+run_front : (b : ℕ) (more signs : List ℕ) → IsMaximal (Repeat b) more signs → run b ((b ∷ more) ++ signs) ≡ length (b ∷ more)
+unfolding run
+run_front b more signs h = rw (eqb_self b) (ap suc (run_alone b more signs h))
+
+-- A pitch without signs of naturals is read by its text alone.
+pitch_read : (b : ℕ) (more signs : List ℕ) (p : Spelled) → IsMaximal (Repeat b) more signs → read_accidentals signs ≡ Some (alteration_of signs) → pitch_of (b ∷ more) signs ≡ Some p → read_pitch ((b ∷ more) ++ signs) ≡ Some p
+pitch_read b more signs p h read there =
+    let text : List ℕ = (b ∷ more) ++ signs in
+    let here : run b text ≡ length (b ∷ more) = run_front b more signs h in
+    ap (λ (count : ℕ). altered_by (read_letters b count) (read_accidentals (drop count text))) here
+    ∙ ap (λ (rest : List ℕ). altered_by (read_letters b (length (b ∷ more))) (read_accidentals rest)) (drop-append_seam (b ∷ more) signs)
+    ∙ ap (λ (o : Option ℤ). altered_by (read_letters b (length (b ∷ more))) o) read
+    ∙ there
+
+text_read_in : (letters signs left : List ℕ) (p : Spelled) → IsRepeated letters (signs ++ left) → AllByRecursion (λ (x : ℕ). is_sign x ≡ true) signs → is_uniform signs ≡ true → pitch_of letters signs ≡ Some p → list_any is_natural_sign (letters ++ signs) ≡ false → read_pitch (letters ++ signs) ≡ Some p
+text_read_in [] signs left p h all same there none = cc
+text_read_in (b ∷ more) signs left p h all same there none =
+    let apart : (list_any is_natural_sign (b ∷ more) || list_any is_natural_sign signs) ≡ false = sym (list_any-append is_natural_sign (b ∷ more) signs) ∙ none in
+    let no = (no_more (list_any is_natural_sign (b ∷ more)) (list_any is_natural_sign signs) apart).1 in
+    pitch_read b more signs p (record { all_in = h.all_in; ends = first_ends b signs left h.ends }) (signs_read signs all same no) there
+
+uniform_of : (b : Bool) → not b ≡ false → b ≡ true
+uniform_of true e = refl
+uniform_of false e = cc
+
+read_there : (bytes : List ℕ) (found : Reading) (p : Spelled) → Ok found ≡ note bytes → found.pitch ≡ Some p → list_any is_natural_sign (between found.start found.end bytes) ≡ false → read_pitch (between found.start found.end bytes) ≡ Some p
+read_there bytes found p e there none =
+    let parts : Notation = notation_of bytes in
+    let h = found_in bytes found p e there in
+    let slice : between found.start found.end bytes ≡ parts.letters ++ parts.signs = ap (λ (r : Reading). between r.start r.end bytes) h.is ∙ between_is bytes parts h.are in
+    let same = uniform_of (is_uniform parts.signs) (no_more (list_any is_letter parts.left) (not (is_uniform parts.signs)) h.clear).1 in
+    let no : list_any is_natural_sign (parts.letters ++ parts.signs) ≡ false = ap (list_any is_natural_sign) (sym slice) ∙ none in
+    ap read_pitch slice ∙ text_read_in parts.letters parts.signs parts.left p h.are.letters h.are.signs.all_in same h.pitch no
+
+pub text_read : (bytes : List ℕ) (r : Result Note KernFault) → reading_in r ≡ note bytes → IfOk r (IsRead bytes)
+text_read bytes (Ok found) e = go found.pitch refl
+  where
+    go : (o : Option Pitch) → found.pitch ≡ o → IfSome o (λ pitch. list_any is_natural_sign (between found.start found.end bytes) ≡ false → read_pitch (between found.start found.end bytes) ≡ Some (spelled pitch))
+    go (Some p) there = read_there bytes (reading found) (spelled p) e (ap (option_map spelled) there)
+    go None there = tt
+text_read bytes (Err fault) e = tt
+
+all_letters : (b : ℕ) (more : List ℕ) → is_letter b ≡ true → AllByRecursion (λ (x : ℕ). is_in (Repeat b) x ≡ true) more → AllByRecursion (λ (x : ℕ). is_letter x ≡ true) more
+all_letters b [] h all = tt
+all_letters b (x ∷ more) h all = let e = all.0 in let is : x ≡ b = search rules in (ap is_letter is ∙ h, all_letters b more h all.1)
+
+letters_all : (letters rest : List ℕ) → IsRepeated letters rest → EndsBefore NoLetter (letters ++ rest) → AllByRecursion (λ (x : ℕ). is_letter x ≡ true) letters
+letters_all [] rest h begins = tt
+letters_all (b ∷ more) rest h begins = let letter = uniform_of (is_letter b) begins in (letter, all_letters b more letter h.all_in)
+
+-- What stands round a pitch that was read is as before, whatever pitch is written there.
+marks_round : (bytes : List ℕ) (parts : Notation) → AreNoteParts bytes parts → marks_of bytes ≡ marks_of (parts.before ++ parts.left)
+marks_round bytes parts h = ap marks_of h.text ∙ marks_beside parts.before parts.letters parts.signs parts.left (letters_all parts.letters (parts.signs ++ parts.left) h.letters h.before.ends) h.signs.all_in
+
+pub is_round : (bytes : List ℕ) (parts : Notation) (found : Reading) (p : Spelled) → IsFound bytes parts found p → IsRound parts.before parts.left
+is_round bytes parts found p h = record {
+  letterless = h.are.before.all_in;
+  no_letter = (no_more (list_any is_letter parts.left) (not (is_uniform parts.signs)) h.clear).0;
+  no_sign = h.are.signs.ends;
+  no_rest = ap (λ (m : Reading). m.rest) (sym (marks_round bytes parts h.are)) ∙ h.no_rest;
+}
+
+replaced_there : (bytes : List ℕ) (found : Reading) (p : Spelled) → Ok found ≡ note bytes → found.pitch ≡ Some p → (pitch : Pitch) → note (take found.start bytes ++ (spelling (spelled pitch) ++ drop found.end bytes)) ≡ Ok (record found { pitch = Some (spelled pitch); end = found.start + length (spelling (spelled pitch)) })
+replaced_there bytes found p e there pitch =
+    let parts : Notation = notation_of bytes in
+    let h = found_in bytes found p e there in
+    let text : take found.start bytes ++ (spelling (spelled pitch) ++ drop found.end bytes) ≡ parts.before ++ (spelling (spelled pitch) ++ parts.left) =
+        ap (λ (r : Reading). take r.start bytes ++ (spelling (spelled pitch) ++ drop r.end bytes)) h.is
+        ∙ ap (λ (xs : List ℕ). xs ++ (spelling (spelled pitch) ++ drop (length parts.before + length parts.letters + length parts.signs) bytes)) (before_is bytes parts h.are)
+        ∙ ap (λ (xs : List ℕ). parts.before ++ (spelling (spelled pitch) ++ xs)) (left_is bytes parts h.are) in
+    ap note text
+    ∙ placed parts.before parts.left (is_round bytes parts found p h) (spelled pitch) pitch.in_range
+    ∙ ap (λ (m : Reading). Ok (with_pitch m (Some (spelled pitch)) (length parts.before) (length parts.before + length (spelling (spelled pitch))))) (sym (marks_round bytes parts h.are))
+    ∙ ap (λ (r : Reading). Ok (record r { pitch = Some (spelled pitch); end = r.start + length (spelling (spelled pitch)) })) (sym h.is)
+
+pub can_be_replaced : (bytes : List ℕ) (r : Result Note KernFault) → reading_in r ≡ note bytes → IfOk r (CanBeReplaced bytes)
+can_be_replaced bytes (Ok found) e = go found.pitch refl
+  where
+    go : (o : Option Pitch) → found.pitch ≡ o → IfSome o (λ _. (pitch : Pitch) → note (replaced bytes found pitch) ≡ Ok (record (reading found) { pitch = Some (spelled pitch); end = found.start + length (spelling (spelled pitch)) }))
+    go (Some p) there = replaced_there bytes (reading found) (spelled p) e (ap (option_map spelled) there)
+    go None there = tt
+can_be_replaced bytes (Err fault) e = tt

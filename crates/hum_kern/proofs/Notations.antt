@@ -1,13 +1,12 @@
 -- Every text has parts round its pitch, in one way alone.
-use Rattle.std.proofs.Common.{◌≡◌, ℕ, ◌+◌, Bool, true, false, List, [], ◌∷◌, ◌++◌, refl, sym, ap, ◌∙◌, subst, arith, get_or}
-use Rattle.std.specs.Prelude.{length, ◌≤◌, Result, Ok, Err, IfOk, not}
-use Rattle.hum_kern.specs.declared.runs.Class.{Class}
+use Rattle.std.proofs.Common.{◌≡◌, ℕ, Bool, true, false, List, [], ◌∷◌, ◌++◌, refl, sym, ap, ◌∙◌, subst, arith, get_or}
+use Rattle.std.specs.Prelude.{length, ◌≤◌, Result, not}
 use Rattle.hum_kern.specs.declared.runs.Class.TheVariants.{NoLetter, Repeat, Sign}
 use Rattle.hum_kern.specs.declared.KernFault.{KernFault}
 use Rattle.hum_kern.specs.Runs.{front, behind}
 use Rattle.hum_kern.specs.Classes.{is_in, is_letter}
 use Rattle.hum_kern.specs.Parts.{IsMaximal, EndsBefore}
-use Rattle.hum_kern.specs.Note.{Notation, Reading, repeated, behind_repeated, notation, notation_of, note_by, note}
+use Rattle.hum_kern.specs.Note.{Notation, Reading, repeated, behind_repeated, notation_of, note_by, note}
 use Rattle.hum_kern.specs.NoteParts.{IsRepeated, AreNoteParts}
 use Rattle.hum_kern.proofs.Parts.{run_maximal, front-behind}
 use Rattle.hum_kern.proofs.Unique.{front_is, behind_is}

@@ -1,5 +1,5 @@
 -- A pitch that is written among other bytes is read there.
-use Rattle.std.proofs.Common.{◌≡◌, ℕ, zero, suc, ◌+◌, ◌==◌, ◌<◌, ◌≤◌, Bool, true, false, ℤ, pos, negsuc, ◌+ℤ◌, ◌-ℤ◌, List, [], ◌∷◌, ◌++◌, Option, Some, None, Ok, Err, length, refl, sym, ap, ◌∙◌, subst, arith, rules}
+use Rattle.std.proofs.Common.{◌≡◌, ℕ, zero, suc, ◌+◌, ◌==◌, ◌<◌, ◌≤◌, Bool, true, false, ℤ, pos, negsuc, ◌+ℤ◌, ◌-ℤ◌, List, [], ◌∷◌, ◌++◌, Option, Some, None, Ok, length, refl, sym, ap, ◌∙◌, subst, arith, rules}
 use Rattle.std.specs.Prelude.{replicate, slice_index, nat_lt, ◌||◌, not, if◌then◌else◌}
 use Rattle.std.specs.List.{list_any, list_all, AllByRecursion}
 use Rattle.std.proofs.lemmas.List.{length-replicate, append-nil}
@@ -13,7 +13,7 @@ use Rattle.hum_pitch.specs.declared.pitch.Pitch.{Pitch}
 use Rattle.hum_pitch.proofs.Steps.{same_note}
 use Rattle.hum_kern.specs.declared.runs.Class.TheVariants.{NoLetter, Repeat, Sign}
 use Rattle.hum_kern.specs.Classes.{is_in, is_letter, is_sign, is_rest_sign, is_grace_sign, is_continued_sign}
-use Rattle.hum_kern.specs.Parts.{IsMaximal, EndsBefore}
+use Rattle.hum_kern.specs.Parts.{EndsBefore}
 use Rattle.hum_kern.specs.Note.{Notation, Reading, is_uniform, alteration_of, pitch_of, is_doubtful, is_excessive, is_rest, marks_of, with_pitch, pitched, note_by, note, notation_of}
 use Rattle.hum_kern.specs.NoteParts.{IsRepeated}
 use Rattle.hum_kern.proofs.Notations.{of_parts}
@@ -92,7 +92,7 @@ differs c x f t = go (c == x) refl
     go false e = refl
     go true e = let is : c ≡ x = search rules in absurd (let no : true ≡ false = sym t ∙ ap is_letter (sym is) ∙ f in cc)
 
-no_more : (a b : Bool) → (a || b) ≡ false → (a ≡ false) × (b ≡ false)
+pub no_more : (a b : Bool) → (a || b) ≡ false → (a ≡ false) × (b ≡ false)
 no_more true b e = cc
 no_more false b e = (refl, e)
 

@@ -1,8 +1,7 @@
 -- The parts of a subtoken round its pitch as maximal runs, and what it says by them.
 use Rattle.std.specs.Prelude.{◌≡◌, ℕ, ◌+◌, ◌-◌, false, List, [], ◌∷◌, ◌++◌, length, take, drop}
-use Rattle.std.specs.Prelude.{Option, None, Some, Result, Ok, IfOk, IfSome}
+use Rattle.std.specs.Prelude.{Some, Result, Ok, IfSome}
 use Rattle.std.specs.List.{list_any}
-use Rattle.hum_pitch.specs.Pitch.{Spelled}
 use Rattle.hum_pitch.specs.Given.{spelled}
 use Rattle.hum_pitch.specs.Spelling.{spelling, read_pitch}
 use Rattle.hum_pitch.specs.declared.pitch.Pitch.{Pitch}
@@ -11,7 +10,7 @@ use Rattle.hum_kern.specs.declared.notes.Note.{Note}
 use Rattle.hum_kern.specs.declared.runs.Class.TheVariants.{NoLetter, Repeat, Sign}
 use Rattle.hum_kern.specs.Classes.{is_natural_sign}
 use Rattle.hum_kern.specs.Parts.{IsMaximal}
-use Rattle.hum_kern.specs.Note.{Notation, Reading, note_by, note, reading, reading_in}
+use Rattle.hum_kern.specs.Note.{Notation, Reading, note_by, note, reading}
 
 -- One letter, as often as it is repeated; where there is none, nothing stands behind.
 abbrev pub IsRepeated : List ℕ → List ℕ → Type 0

@@ -1,9 +1,8 @@
-use Rattle.std.proofs.Common.{◌≡◌, ap, ◌∙◌, Ok, Some, refl, [], length}
-use Rattle.hum_pitch.specs.Spelling.{spelling}
-use Rattle.hum_pitch.specs.Given.{spelled}
-use Rattle.hum_kern.specs.Note.{notation_of, reading_in, note, marks_of, with_pitch}
+use Rattle.std.proofs.Common.{◌∙◌}
+use Rattle.hum_kern.specs.Note.{notation_of, reading_in}
 use Rattle.hum_kern.proofs.Notations.{are_note_parts, note_alone}
 use Rattle.hum_kern.proofs.Placing.{written}
+use Rattle.hum_kern.proofs.Found.{within, text_read, can_be_replaced}
 use Rattle.hum_kern.proofs.notes.read_note.Goals as goal
 
 pub returns-clause-says : goal.returns-clause-says
@@ -14,3 +13,12 @@ returns-clause-alone c = note_alone c.args.bytes.now (reading_in c.read_subtoken
 
 pub returns-clause-written : goal.returns-clause-written
 returns-clause-written c = λ p. λ e. c.read_subtoken.ensures ∙ written c.args.bytes.now p e
+
+pub returns-clause-within : goal.returns-clause-within
+returns-clause-within c = within c.args.bytes.now c.read_subtoken.result c.read_subtoken.ensures
+
+pub returns-clause-text : goal.returns-clause-text
+returns-clause-text c = text_read c.args.bytes.now c.read_subtoken.result c.read_subtoken.ensures
+
+pub returns-clause-replaced : goal.returns-clause-replaced
+returns-clause-replaced c = can_be_replaced c.args.bytes.now c.read_subtoken.result c.read_subtoken.ensures
