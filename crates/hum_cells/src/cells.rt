@@ -148,6 +148,8 @@ impl<T: Retells> Cells<T> {
 }
 
 impl<T: Retells> Decides for Cells<T> {
+    type Due = VecDeque<Record>;
+
     ghost use Rattle.hum_cells.specs.Telling.{Frames};
 
     ghost follows = { λ s. Frames (T.follows s.teller) s.paths.path s.kern.items };

@@ -3,3 +3,5 @@ pub mod Faults
 pub mod Semits
 pub mod Recip
 pub mod Giving
+pub mod Commands
+pub mod Headings

@@ -16,7 +16,7 @@ use std::alloc::AllocError;
 
 /// What each part of a token gives.
 #[derive(Clone, Copy, Debug, PartialEq, Eq)]
-pub enum Giving {
+pub(crate) enum Giving {
     /// Its semitones above middle c, and `r` for a rest. Where `ties_left_out` is set, notes that
     /// go on or end a tie give nothing.
     Semitones { ties_left_out: bool },
@@ -140,7 +140,7 @@ impl Giving {
     }
 
     /// Puts what a data token becomes into the empty text, or answers the rule by which it is refused.
-    pub fn retell(self, token: &[u8], text: &mut Vec<u8>) -> Result<Option<Rule>, AllocError>
+    pub(crate) fn retell(self, token: &[u8], text: &mut Vec<u8>) -> Result<Option<Rule>, AllocError>
         requires empty { text.old.items ≡ [] }
         requires lawful { IsToken Values token.now }
         ensures { IfOk result (IsRetold (given self token.now) text.new.items) }

@@ -1,0 +1,63 @@
+//! The command recip: notes become their durations, as they are written.
+ghost use Rattle.hum_stage.specs.declared.faults.Command.TheVariants.{Recip as RecipCommand};
+
+use crate::giving::Giving;
+use hum_cells::{CellStage, Heading, Retells};
+use hum_path::Moves;
+use hum_record::Record;
+use hum_stage::{Command, Rule};
+use std::alloc::{AllocError, Global};
+
+/// The command takes no options.
+#[derive(Clone, Copy, Debug, PartialEq, Eq)]
+pub struct RecipOptions;
+
+/// What recip makes of tokens.
+#[derive(Drop)]
+pub struct RecipTokens {
+    options: RecipOptions,
+}
+
+/// The command recip, as a stage.
+pub type Recip = CellStage<RecipTokens>;
+
+impl Retells for RecipTokens {
+    type Options = RecipOptions;
+
+    ghost use Rattle.std.specs.Prelude.{◌≡◌};
+    ghost use Rattle.hum_tones.specs.Commands.{recip};
+    ghost use Rattle.hum_tones.specs.Headings.{recip_heading};
+
+    ghost command = { RecipCommand };
+
+    ghost retelling = { recip };
+
+    ghost follows = { λ s retelling past. retelling ≡ recip s.options };
+
+    ghost lawful = { λ s retelling past h. recip_heading s.options retelling h };
+
+    fn command() -> Command {
+        Command::Recip
+    }
+
+    fn begin(_alloc: Global, options: RecipOptions) -> Self {
+        RecipTokens { options }
+    }
+
+    fn heading(&self) -> Heading<'_> {
+        Heading::Renamed(b"**recip".as_slice())
+    }
+
+    fn retell(
+        &mut self,
+        _j: usize,
+        token: &[u8],
+        text: &mut Vec<u8>,
+    ) -> Result<Option<Rule>, AllocError> {
+        Giving::Durations.retell(token, text)
+    }
+
+    fn follow(&mut self, _row: &Record, _found: &Moves) -> Result<(), AllocError> {
+        Ok(())
+    }
+}

@@ -1,0 +1,69 @@
+//! The command semits: notes become their semitones.
+ghost use Rattle.hum_stage.specs.declared.faults.Command.TheVariants.{Semits as SemitsCommand};
+
+use crate::giving::Giving;
+use hum_cells::{CellStage, Heading, Retells};
+use hum_path::Moves;
+use hum_record::Record;
+use hum_stage::{Command, Rule};
+use std::alloc::{AllocError, Global};
+
+/// Which notes give their semitones.
+#[derive(Clone, Copy, Debug, PartialEq, Eq)]
+pub struct SemitsOptions {
+    /// `-t`: those that go on or end a tie give nothing
+    pub ties_left_out: bool,
+}
+
+/// What semits makes of tokens.
+#[derive(Drop)]
+pub struct SemitsTokens {
+    options: SemitsOptions,
+}
+
+/// The command semits, as a stage.
+pub type Semits = CellStage<SemitsTokens>;
+
+impl Retells for SemitsTokens {
+    type Options = SemitsOptions;
+
+    ghost use Rattle.std.specs.Prelude.{◌≡◌};
+    ghost use Rattle.hum_tones.specs.Commands.{semits};
+    ghost use Rattle.hum_tones.specs.Headings.{semits_heading};
+
+    ghost command = { SemitsCommand };
+
+    ghost retelling = { semits };
+
+    ghost follows = { λ s retelling past. retelling ≡ semits s.options };
+
+    ghost lawful = { λ s retelling past h. semits_heading s.options retelling h };
+
+    fn command() -> Command {
+        Command::Semits
+    }
+
+    fn begin(_alloc: Global, options: SemitsOptions) -> Self {
+        SemitsTokens { options }
+    }
+
+    fn heading(&self) -> Heading<'_> {
+        Heading::Renamed(b"**semits".as_slice())
+    }
+
+    fn retell(
+        &mut self,
+        _j: usize,
+        token: &[u8],
+        text: &mut Vec<u8>,
+    ) -> Result<Option<Rule>, AllocError> {
+        let giving = Giving::Semitones {
+            ties_left_out: self.options.ties_left_out,
+        };
+        giving.retell(token, text)
+    }
+
+    fn follow(&mut self, _row: &Record, _found: &Moves) -> Result<(), AllocError> {
+        Ok(())
+    }
+}
