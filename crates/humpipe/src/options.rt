@@ -3,6 +3,7 @@ use hum_ditto::DittoOptions;
 use hum_extract::{Choice, Field, FieldRange};
 use hum_pattern::{Pattern, PatternFault};
 use hum_rid::RidOptions;
+use hum_tones::{RecipOptions, SemitsOptions};
 use std::alloc::{AllocError, Global};
 use std::str;
 
@@ -18,6 +19,8 @@ pub enum CommandOptions {
     Rid(RidOptions),
     Extract(Choice),
     Ditto(DittoOptions),
+    Semits(SemitsOptions),
+    Recip(RecipOptions),
 }
 
 /// Nothing is dropped.
@@ -206,6 +209,29 @@ fn ditto_options(alloc: Global, words: &[&[u8]]) -> Result<Option<DittoOptions>,
     Ok(Some(DittoOptions { skip, parentheses }))
 }
 
+/// What semits's words say: `-x`, and `-t` or not.
+fn semits_options(words: &[&[u8]]) -> Option<SemitsOptions> {
+    let ties_left_out = match words {
+        [_] => false,
+        [first, second] if *first == b"-t".as_slice() || *second == b"-t".as_slice() => true,
+        _ => return None,
+    };
+    if words.iter().any(|word| *word == b"-x".as_slice()) {
+        Some(SemitsOptions { ties_left_out })
+    } else {
+        None
+    }
+}
+
+/// What recip's words say: there are none.
+fn recip_options(words: &[&[u8]]) -> Option<RecipOptions> {
+    if words.is_empty() {
+        Some(RecipOptions)
+    } else {
+        None
+    }
+}
+
 /// The options of a command by its word, if they are such.
 pub fn command_options(
     alloc: Global,
@@ -218,6 +244,10 @@ pub fn command_options(
         Ok(choice(alloc, words)?.map(CommandOptions::Extract))
     } else if command == b"ditto".as_slice() {
         Ok(ditto_options(alloc, words)?.map(CommandOptions::Ditto))
+    } else if command == b"semits".as_slice() {
+        Ok(semits_options(words).map(CommandOptions::Semits))
+    } else if command == b"recip".as_slice() {
+        Ok(recip_options(words).map(CommandOptions::Recip))
     } else {
         Ok(None)
     }
