@@ -1,4 +1,5 @@
 mod Examples
+pub mod Heard
 pub mod Parts
 pub mod Written
 pub mod Numbers

@@ -3,3 +3,7 @@ pub mod Faults
 pub mod Semits
 pub mod Recip
 pub mod Giving
+pub mod Trans
+pub mod Mint
+pub mod Hearing
+pub mod Memory

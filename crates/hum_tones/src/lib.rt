@@ -2,5 +2,15 @@
 #![tactic(auto)]
 
 mod giving;
+mod hearing;
+mod last_note;
+mod minting;
+mod transposing;
 
 pub use giving::Giving;
+pub use last_note::LastNote;
+pub use minting::MintOptions;
+pub use transposing::Transposition;
+
+#[cfg(test)]
+mod tests;
