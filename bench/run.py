@@ -61,29 +61,34 @@ def best_of(programs):
     return runs
 
 
-def plain_filter():
-    if not shutil.which('rustc'):
-        return None
-    binary = os.path.join(DATA, 'filter')
-    subprocess.run(['rustc', '-O', '-o', binary, os.path.join(HERE, 'filter.rs')], check=True)
-    return binary
+def plain_programs(score):
+    """The plain programs in Rust by name, each with its words for a score; none where there is no rustc."""
+    programs = {}
+    for name in ('filter', 'semits') if shutil.which('rustc') else ():
+        binary = os.path.join(DATA, name)
+        source = os.path.join(HERE, name + '.rs')
+        if not os.path.exists(binary) or os.path.getmtime(binary) < os.path.getmtime(source):
+            subprocess.run(['rustc', '-O', '-o', binary, source], check=True)
+        programs[name] = [(f'plain {name} (Rust)', [binary, score])]
+    return programs
 
 
-def tasks(score, filter_program):
+def tasks(score):
     """Each command with its words in a plan, and the programs beside it."""
-    plain = [('plain filter (Rust)', [filter_program, score])] if filter_program else []
+    plain = plain_programs(score)
     return [
-        ('rid -G', [('grep -v', ['grep', '-v', '^!!', score]), ('mawk', ['mawk', '!/^!!/', score])] + plain),
+        ('rid -G', [('grep -v', ['grep', '-v', '^!!', score]), ('mawk', ['mawk', '!/^!!/', score])] + plain.get('filter', [])),
         ('extract -f 1,3', [('cut', ['cut', '-f', '1,3', score]), ('mawk', ['mawk', EXTRACT, score])]),
         ('ditto', [('mawk', ['mawk', DITTO, score])]),
+        ('semits -x', [('mawk', ['mawk', '-f', os.path.join(HERE, 'semits.awk'), score])] + plain.get('semits', [])),
     ]
 
 
-def run(size, filter_program):
+def run(size):
     score = os.path.join(DATA, f'score{size}.krn')
     if not os.path.exists(score):
         subprocess.run([sys.executable, os.path.join(HERE, 'make_score.py'), str(size), score], check=True)
-    for command, peers in tasks(score, filter_program):
+    for command, peers in tasks(score):
         plan = os.path.join(DATA, 'plan.hpl')
         with open(plan, 'w') as out:
             out.write(f'out: read {score} | {command}\n')
@@ -98,9 +103,8 @@ def run(size, filter_program):
 def main():
     os.makedirs(DATA, exist_ok=True)
     os.chdir(TOP)
-    filter_program = plain_filter()
     for size in SIZES:
-        run(size, filter_program)
+        run(size)
 
 
 main()

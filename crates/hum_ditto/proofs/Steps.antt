@@ -1,5 +1,5 @@
 -- What the state does at a record is what the command decides.
-use Rattle.std.proofs.Common.{◌≡◌, ◌∙◌, refl, sym, ap, ℕ, ◌<◌, ◌≤◌, true, false, List, [], ◌∷◌, ◌++◌, length, arith, Option, None}
+use Rattle.std.proofs.Common.{◌≡◌, ◌∙◌, refl, sym, ap, ℕ, ◌<◌, ◌≤◌, true, false, List, [], ◌∷◌, length, arith, Option, None}
 use Rattle.std.specs.Prelude.{nat_le, Result, Ok, Err}
 use Rattle.std.specs.List.{list_any}
 use Rattle.std.proofs.lemmas.Bool.Decides.{nat_tests}
@@ -22,10 +22,6 @@ use Rattle.hum_ditto.specs.Ditto.{is_null, all_filled, if_fits}
 use Rattle.hum_ditto.specs.Memory.{last_seen, Follows}
 use Rattle.hum_ditto.proofs.Nearest.{all_remembered}
 use Rattle.hum_ditto.proofs.Tokens.{nothing_filled}
-
--- what was put into the empty list
-pub alone : (given before : List Row) (row : Row) → given ≡ before ++ row ∷ [] → before ≡ [] → given ≡ row ∷ []
-alone given before row is empty = rw empty at is
 
 -- the moves that the spines told are those after the records
 pub told : (found : List Move) (path : Path) (past : List Row) (row : Row) → found ≡ moves path row → path ≡ path_after past

@@ -18,7 +18,6 @@ use hum_record::{Record, RecordFault};
 use hum_stage::{AtOnce, Command, Decides, End, Rule, Stage, State};
 use last_seen::LastSeen;
 use std::alloc::{AllocError, Global};
-use std::collections::VecDeque;
 
 /// How null data tokens are filled.
 #[derive(Drop)]
@@ -41,6 +40,8 @@ struct Repeats {
 }
 
 impl Decides for Repeats {
+    type Due = Option<Record>;
+
     ghost use Rattle.hum_ditto.specs.Memory.{Follows};
 
     ghost follows = { λ s. Follows s.options s.paths.path s.carried.each };
@@ -49,14 +50,14 @@ impl Decides for Repeats {
         &mut self,
         next: Record,
         _room: u64,
-        out: &mut VecDeque<Record>,
+        out: &mut Option<Record>,
     ) -> Result<Option<Rule>, AllocError> {
         let Ok(found) = self.paths.step(&next) else {
             return Err(AllocError)
         };
         if !is_to_fill(&next) {
             self.carried.follow(&mut self.options.skip, &next, &found)?;
-            out.push_back(next)?;
+            *out = Some(next);
             return Ok(None);
         }
         let parentheses = self.options.parentheses;
@@ -69,7 +70,7 @@ impl Decides for Repeats {
         ) {
             Ok(made) => {
                 self.carried.follow(&mut self.options.skip, &next, &found)?;
-                out.push_back(made)?;
+                *out = Some(made);
                 Ok(None)
             }
             Err(RecordFault::L1) => Ok(Some(Rule::L1)),

@@ -132,6 +132,8 @@ impl Columns {
 }
 
 impl Decides for Columns {
+    type Due = VecDeque<Record>;
+
     ghost use Rattle.hum_extract.specs.Following.{Follows};
 
     ghost follows = { λ s. Follows (choice_of s.choice) s.paths.path s.marks };

@@ -12,7 +12,6 @@ use hum_path::steers;
 use hum_record::{Kind, Record};
 use hum_stage::{AtOnce, Command, Decides, End, Rule, Stage, State};
 use std::alloc::{AllocError, Global};
-use std::collections::VecDeque;
 
 /// Which records are dropped, by the letters of the command (several drop what any of them drops).
 #[derive(Drop)]
@@ -79,16 +78,18 @@ impl RidOptions {
 }
 
 impl Decides for RidOptions {
+    type Due = Option<Record>;
+
     ghost follows = { λ options decide past. decide ≡ rid options };
 
     fn step(
         &mut self,
         next: Record,
         _room: u64,
-        out: &mut VecDeque<Record>,
+        out: &mut Option<Record>,
     ) -> Result<Option<Rule>, AllocError> {
         if !self.drops(&next) {
-            out.push_back(next)?;
+            *out = Some(next);
         }
         Ok(None)
     }

@@ -6,23 +6,23 @@ ghost use Rattle.hum_stage.specs.Standing.{Standing};
 
 use crate::contract::Stage;
 use crate::deciding::Decides;
+use crate::due::Due;
 use crate::faults::{Command, End, Fault, Rule, State};
 use hum_record::Record;
 use std::alloc::{AllocError, Global};
-use std::collections::VecDeque;
 
 // how many records a stage may give
 const LIMIT: u64 = 4_294_967_295;
 
 /// A command that decides each record at once, as a stage.
 #[derive(Drop)]
-pub struct AtOnce<C> {
+pub struct AtOnce<C: Decides> {
     memory: C,
     stage: u8,
     command: Command,
     line: u64,
     total: u64,
-    queue: VecDeque<Record>,
+    due: C::Due,
     fault: Option<Fault>,
     ended: Option<End>,
     spent: bool,
@@ -44,7 +44,7 @@ impl<C: Decides> AtOnce<C> {
             command,
             line: 0,
             total: 0,
-            queue: VecDeque::new(alloc),
+            due: C::Due::none(alloc),
             fault: None,
             ended: None,
             spent: false,
@@ -54,7 +54,7 @@ impl<C: Decides> AtOnce<C> {
     /// Breaks a rule at the last record that was put, which then becomes nothing.
     fn refuse(&mut self, rule: Rule)
         ensures fault { self.new ≡ record self.old {
-          queue = self.new.queue;
+          due = self.new.due;
           fault = Some (record {
             stage = self.old.stage;
             command = self.old.command;
@@ -62,9 +62,9 @@ impl<C: Decides> AtOnce<C> {
             rule = rule;
           });
         } }
-        ensures nothing { self.new.queue.items ≡ [] }
+        ensures nothing { C.Due.rows self.new.due ≡ [] }
     {
-        self.queue.clear();
+        self.due.clear();
         self.fault = Some(Fault {
             stage: self.stage,
             command: self.command,
@@ -80,11 +80,11 @@ impl<C: Decides> Stage for AtOnce<C> {
       command = s.command;
       line = s.line;
       total = s.total;
-      queue = s.queue.items;
+      due = C.Due.rows s.due;
       fault = s.fault;
     }) s.ended s.spent t };
 
-    ghost left = { λ s. length s.queue.items };
+    ghost left = { λ s. length (C.Due.rows s.due) };
 
     ghost spent = { λ s. s.spent ≡ true };
 
@@ -104,13 +104,13 @@ impl<C: Decides> Stage for AtOnce<C> {
         }
         let room = LIMIT - self.total;
         self.spent = true;
-        let refused = self.memory.step(next, room, &mut self.queue)?;
+        let refused = self.memory.step(next, room, &mut self.due)?;
         self.spent = false;
         if let Some(rule) = refused {
             self.refuse(rule);
             return Ok(());
         }
-        let count = self.queue.len() as u64;
+        let count = self.due.count();
         if count > room {
             self.refuse(Rule::L2);
         } else {
@@ -127,11 +127,14 @@ impl<C: Decides> Stage for AtOnce<C> {
         if self.spent {
             return Err(AllocError);
         }
-        Ok(self.queue.pop_front())
+        self.spent = true;
+        let next = self.due.next()?;
+        self.spent = false;
+        Ok(next)
     }
 
     fn state(&self) -> State {
-        if !self.queue.is_empty() {
+        if !self.due.is_empty() {
             return State::Gives;
         }
         match self.ended {
@@ -145,6 +148,6 @@ impl<C: Decides> Stage for AtOnce<C> {
     }
 
     fn held(&self) -> usize {
-        if self.queue.is_empty() { 0 } else { 1 }
+        if self.due.is_empty() { 0 } else { 1 }
     }
 }

@@ -1,14 +1,20 @@
 -- Numbers, as they are written, may stand in a token.
-use Rattle.std.proofs.Common.{◌≡◌, ◌≢◌, refl, sym, ap, ◌∙◌, ℕ, zero, suc, ◌+◌, ◌-◌, ◌≤◌, ◌<◌, ◌/◌, ◌%◌, ◌^◌, ◌==◌, Bool, true, false, List, [], ◌∷◌, ◌++◌, length, arith, Option, None, Some}
+use Rattle.std.proofs.Common.{◌≡◌, ◌≢◌, refl, sym, ap, ◌∙◌, ℕ, zero, suc, ◌+◌, ◌-◌, ◌≤◌, ◌<◌, ◌/◌, ◌%◌, ◌^◌, ◌==◌, ◌&&◌, Bool, true, false, List, [], ◌∷◌, ◌++◌, length, arith, Option, None, Some, to_z, of_z, w32}
 use Rattle.std.specs.Prelude.{ℤ, pos, negsuc, nat_le, Result, Ok, Err}
 use Rattle.std.specs.List.{list_any, AllByRecursion}
 use Rattle.std.specs.Fmt.{decimal, signed_decimal}
+use Rattle.std.specs.Int.Signed.{mag}
+use Rattle.std.proofs.lemmas.Int.{ints}
 use Rattle.std.proofs.lemmas.Fmt.{decimal_digit, decimal_step}
 use Rattle.std.proofs.lemmas.Bool.Decides.{nat_tests, leb_tells}
 use mathlib.Core.Logic.{inl, inr}
 use Rattle.hum_record.specs.declared.SpinedKind.TheVariants.{Values}
 use Rattle.hum_record.specs.Spelling.{has_byte, kind_of_token}
-use Rattle.hum_tones.specs.Subtokens.{IsPart, IsPiece}
+use Rattle.hum_pitch.specs.Pitch.{Spelled, semitones, IsWithin}
+use Rattle.hum_kern.specs.Note.{Reading, note}
+use Rattle.hum_tones.specs.Subtokens.{IsPart, IsPiece, HasAdded}
+use Rattle.hum_tones.specs.Semits.{semits_of}
+use lib.Chars.{codes}
 
 record IsDigit (b : ℕ) : Type 0 where
   low : 48 ≤ b
@@ -29,7 +35,8 @@ record AreDigits (text : List ℕ) : Type 0 where
 digits_of : (fuel n : ℕ) → n < fuel → n < 2 ^ 64 → AreDigits (decimal n)
 digits_of zero n below fits = absurd (omega (arith, below))
 digits_of (suc fuel) n below fits = elim (leb_tells 10 n) [
-  | inl large ↦ (
+  | inl told ↦ (
+    let large = told.1 in
     let more = digits_of fuel (n / 10) (omega (arith, below, large)) (omega (arith, fits, large)) in
     rw (decimal_step n large fits) (record { all = push_all IsDigit (decimal (n / 10)) (48 + n % 10) more.all (record { low = omega arith; high = omega arith }); some = some_push (decimal (n / 10)) (48 + n % 10) })
   )
@@ -63,3 +70,17 @@ number_piece (negsuc n) fits =
       filled = λ e. cc;
       of_kind = refl;
     }
+
+-- the semitones of a part
+pub adds_semitones : (ties : Bool) (part : List ℕ) (reading : Reading) (pitch : Spelled) (before after : List ℕ) → Ok reading ≡ note part → reading.rest ≡ false → reading.pitch ≡ Some pitch
+    → (ties && reading.continued) ≡ false → mag (semitones pitch) < 2 ^ 63 → after ≡ before ++ (signed_decimal (semitones pitch) ++ codes " ") → HasAdded (semits_of ties part) before after None
+adds_semitones ties part reading pitch before after is no_rest some kept fits made =
+    rw (← is) (rw no_rest (rw some (rw kept (made, number_piece (semitones pitch) fits))))
+
+pub mag_within : (z : ℤ) → IsWithin (negsuc 102) z (pos 102) → mag z < 2 ^ 63
+mag_within (pos n) within = omega (arith, ints)
+mag_within (negsuc n) within = omega (arith, ints)
+
+-- a small number as it is handed to a function
+pub as_passed : (z a : ℤ) → IsWithin (negsuc 102) z (pos 102) → z ≡ a → to_z w32 (of_z w32 z) ≡ a
+as_passed z a within is = omega (arith, ints)

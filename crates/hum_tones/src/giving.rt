@@ -1,5 +1,5 @@
 //! Tokens in whose place stands what their parts give.
-ghost use Rattle.std.specs.Prelude.{◌≡◌, ◌++◌, [], codes, IfOk, OnOk, Result, Ok, Err};
+ghost use Rattle.std.specs.Prelude.{◌≡◌, ◌++◌, [], codes, ◌&&◌, IfOk, OnOk, Result, Ok, Err};
 ghost use Rattle.std.specs.Fmt.{signed_decimal};
 ghost use Rattle.hum_record.specs.declared.SpinedKind.TheVariants.{Values};
 ghost use Rattle.hum_record.specs.Spelling.{IsToken};
@@ -9,7 +9,7 @@ ghost use Rattle.hum_tones.specs.Faults.{rule_of};
 ghost use Rattle.hum_tones.specs.Recip.{rest_sign, recip_of};
 ghost use Rattle.hum_tones.specs.Semits.{semits_of};
 
-use hum_kern::{KernFault, read_duration, read_note};
+use hum_kern::{KernFault, Note, read_duration, read_note};
 use hum_stage::Rule;
 use itoa::Buffer;
 use std::alloc::AllocError;
@@ -88,6 +88,13 @@ fn add_duration(part: &[u8], text: &mut Vec<u8>) -> Result<Option<Rule>, AllocEr
     }
 }
 
+/// Whether a note is left out: where ties are, one that goes on or ends a tie.
+fn is_left_out(ties_left_out: bool, note: &Note) -> bool
+    ensures { result ≡ (ties_left_out && note.now.continued) }
+{
+    ties_left_out && note.continued
+}
+
 /// Adds the semitones of a part.
 fn add_semitones(
     part: &[u8],
@@ -108,9 +115,10 @@ fn add_semitones(
     match note.pitch {
         None => Ok(None),
         Some(pitch) => {
-            if !(ties_left_out && note.continued) {
-                push_number(pitch.semits(), text)?;
+            if is_left_out(ties_left_out, &note) {
+                return Ok(None);
             }
+            push_number(pitch.semits(), text)?;
             Ok(None)
         }
     }

@@ -1,6 +1,6 @@
 use Rattle.std.proofs.Common.{◌≡◌, ap}
 use Rattle.hum_record.specs.declared.RecordFault.TheVariants.{Memory}
-use Rattle.hum_ditto.proofs.Steps.{alone, told, memories_width, gives_made, gives_same, refuses_long, follows_on}
+use Rattle.hum_ditto.proofs.Steps.{told, memories_width, gives_made, gives_same, refuses_long, follows_on}
 use Rattle.hum_ditto.proofs.RepeatsDecides.step.Goals as goal
 
 pub returns-then-not-is_to_fill : goal.returns-then-not-is_to_fill
@@ -8,7 +8,7 @@ returns-then-not-is_to_fill c = λ decide past h sound.
     let row = c.args.next in
     let moved = told _ _ past row c.in-Ok.ensures.moves h.spines in
     let same = gives_same _ _ _ decide past h row c.is_to_fill.ensures.at_most (c.is_to_fill.ensures.kept c.if-not-is_to_fill.true) in (
-      rw (alone _ _ row c.in_ok-push_back.ensures.items c.requires.empty) same,
+      same,
       follows_on _ _ _ decide past h row _ _ _ (ap (λ p. p.path) c.in-Ok.ensures.after) c.follow.ensures.kept
           (c.in_ok-follow.ensures.memories past h.remembered moved),
     )
@@ -23,7 +23,7 @@ returns-in-Ok-rebuilt c = λ decide past h sound.
     let row = c.args.next in
     let moved = told _ _ past row c.in-Ok.ensures.moves h.spines in
     let made = gives_made _ _ _ decide past h row c.in-Ok-rebuilt.made (c.is_to_fill.ensures.kind c.if-not-is_to_fill.false) c.in-Ok-rebuilt.ensures.made c.in-Ok-rebuilt.ensures.fits in (
-      rw (alone _ _ c.in-Ok-rebuilt.made c.in_ok-push_back-in-Ok-rebuilt.ensures.items c.requires.empty) made,
+      made,
       follows_on _ _ _ decide past h row _ _ _ (ap (λ p. p.path) c.in-Ok.ensures.after) c.follow-in-Ok-rebuilt.ensures.kept
           (c.in_ok-follow-in-Ok-rebuilt.ensures.memories past h.remembered moved),
     )

@@ -1,0 +1,6 @@
+mod Examples
+pub mod Drafts
+pub mod Framing
+pub mod Headings
+pub mod Keeping
+pub mod Telling

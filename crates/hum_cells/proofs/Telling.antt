@@ -1,0 +1,180 @@
+-- Tokens of a data record, told one by one.
+use Rattle.std.proofs.Common.{◌≡◌, ◌≢◌, ◌∙◌, refl, sym, ap, ℕ, zero, suc, ◌+◌, ◌<◌, ◌≤◌, Bool, true, false, ◌&&◌, ◌||◌, List, [], ◌∷◌, ◌++◌}
+use Rattle.std.proofs.Common.{length-append, length, drop, get_or, arith, add-one, drop-cons, append_assoc, append-nil, map, cond}
+use Rattle.std.specs.Prelude.{Option, None, Some, Result, Ok, Err, nat_lt}
+use Rattle.std.proofs.lemmas.List.{drop_all, length-map}
+use Rattle.std.proofs.lemmas.Bool.{or_parts}
+use Rattle.std.proofs.lemmas.Bool.Decides.{nat_tests}
+use Rattle.hum_record.specs.declared.Kind.TheVariants.{Values as AnyValues, Local as AnyLocal, Global}
+use Rattle.hum_record.specs.declared.SpinedKind.TheVariants.{Local, Interpretation, Values}
+use Rattle.hum_record.specs.Row.{Row, Comment, Spined, kind_of, tokens_of, width_of, text_of}
+use Rattle.hum_record.specs.Building.{Draft, spelled}
+use Rattle.hum_path.specs.Spines.{exclusives}
+use Rattle.hum_path.specs.Score.{IsOpen, path_after}
+use Rattle.hum_path.specs.Chains.{columns, history}
+use Rattle.hum_path.proofs.Widths.{columns_width, text_width}
+use Rattle.hum_stage.specs.declared.faults.Rule.{Rule}
+use Rattle.hum_stage.specs.declared.faults.Rule.TheVariants.{L1}
+use Rattle.hum_cells.specs.Making.{Holds}
+use Rattle.hum_cells.specs.Telling.{Pushes}
+use Rattle.hum_cells.specs.Retelling.{Retelling, is_kern, kern_columns, is_told, any_told, retold, beside, all_retold, if_fit, data_record, retell}
+
+-- one token further
+pub any_more : (kerns : List Bool) (tokens : List (List ℕ)) (j : ℕ) → j < length kerns → j < length tokens
+    → any_told (drop j kerns) (drop j tokens)
+    ≡ ((get_or kerns j false && is_told (get_or tokens j [])) || any_told (drop (j + 1) kerns) (drop (j + 1) tokens))
+any_more kerns tokens j a b = rw (add-one, drop-cons kerns j false a, drop-cons tokens j [] b) refl
+
+pub none_told : (kerns : List Bool) (tokens : List (List ℕ)) (j : ℕ) → length tokens ≤ j
+    → any_told (drop j kerns) (drop j tokens) ≡ false
+none_told kerns tokens j past = rw (drop_all j tokens past) (none (drop j kerns))
+  where
+    none : (kerns : List Bool) → any_told kerns [] ≡ false
+    none [] = refl
+    none (k ∷ ks) = refl
+
+-- tokens behind others, unless one is refused
+abbrev pub behind : List (List ℕ) → Result (List (List ℕ)) Rule → Result (List (List ℕ)) Rule
+behind done (Ok tokens) = Ok (done ++ tokens)
+behind done (Err rule) = Err rule
+
+behind_one : (done : List (List ℕ)) (token : List ℕ) (rest : Result (List (List ℕ)) Rule)
+    → behind done (beside (Ok token) rest) ≡ behind (done ++ token ∷ []) rest
+behind_one done token (Ok tokens) = ap Ok (sym (append_assoc done (token ∷ []) tokens))
+behind_one done token (Err rule) = refl
+
+-- So many tokens were told, and are held.
+pub record Done (becomes : List (List ℕ) → List ℕ → Result (List ℕ) Rule) (kerns : List Bool) (columns : List (List (List ℕ)))
+    (tokens : List (List ℕ)) (j : ℕ) (draft : Draft) (long : Bool) : Type 0 where
+  pub done : List (List ℕ)
+  pub size : length done ≡ j
+  pub whole : behind done (all_retold becomes (drop j kerns) (drop j columns) (drop j tokens)) ≡ all_retold becomes kerns columns tokens
+  pub holds : Holds Values draft long done
+
+first_told : (becomes : List (List ℕ) → List ℕ → Result (List ℕ) Rule) (kerns : List Bool) (columns : List (List (List ℕ))) (tokens : List (List ℕ)) (j : ℕ)
+    → j < length kerns → j < length columns → j < length tokens
+    → all_retold becomes (drop j kerns) (drop j columns) (drop j tokens)
+    ≡ beside (retold becomes (get_or kerns j false) (get_or columns j []) (get_or tokens j [])) (all_retold becomes (drop (j + 1) kerns) (drop (j + 1) columns) (drop (j + 1) tokens))
+first_told becomes kerns columns tokens j a b c =
+    rw (add-one, drop-cons kerns j false a, drop-cons columns j [] b, drop-cons tokens j [] c) refl
+
+none_left : (becomes : List (List ℕ) → List ℕ → Result (List ℕ) Rule) (kerns : List Bool) (columns : List (List (List ℕ))) (tokens : List (List ℕ)) (j : ℕ)
+    → length tokens ≤ j → all_retold becomes (drop j kerns) (drop j columns) (drop j tokens) ≡ Ok []
+none_left becomes kerns columns tokens j past = rw (drop_all j tokens past) (none (drop j kerns) (drop j columns))
+  where
+    none : (kerns : List Bool) (columns : List (List (List ℕ))) → all_retold becomes kerns columns [] ≡ Ok []
+    none [] columns = refl
+    none (k ∷ ks) [] = refl
+    none (k ∷ ks) (c ∷ cs) = refl
+
+-- a token that isn't told anew stays
+pub stays : (becomes : List (List ℕ) → List ℕ → Result (List ℕ) Rule) (kern : Bool) (above : List (List ℕ)) (token : List ℕ)
+    → (kern && is_told token) ≡ false → retold becomes kern above token ≡ Ok token
+stays becomes kern above token isnt = rw isnt refl
+
+pub changes : (becomes : List (List ℕ) → List ℕ → Result (List ℕ) Rule) (kern : Bool) (above : List (List ℕ)) (token : List ℕ)
+    → (kern && is_told token) ≡ true → retold becomes kern above token ≡ becomes above token
+changes becomes kern above token is = rw is refl
+
+module _ (becomes : List (List ℕ) → List ℕ → Result (List ℕ) Rule) (kerns : List Bool) (columns : List (List (List ℕ))) (tokens : List (List ℕ)) (j : ℕ)
+    (draft : Draft) (long : Bool) where
+  -- one token more
+  pub done_more : (draft' : Draft) (long' : Bool) → j < length kerns → j < length columns → j < length tokens
+      → Done becomes kerns columns tokens j draft long
+      → Pushes (retold becomes (get_or kerns j false) (get_or columns j []) (get_or tokens j [])) (Holds Values draft long) (Holds Values draft' long') None
+      → Done becomes kerns columns tokens (j + 1) draft' long'
+  done_more draft' long' a b c d p =
+      let rest = all_retold becomes (drop (j + 1) kerns) (drop (j + 1) columns) (drop (j + 1) tokens) in
+      let size = d.size in
+      let more = length-append d.done (p.0 ∷ []) in
+      record {
+        done = d.done ++ p.0 ∷ [];
+        size = omega (arith, size, more);
+        whole = sym (behind_one d.done p.0 rest) ∙ (ap (λ one. behind d.done (beside one rest)) (sym p.1) ∙ (ap (behind d.done) (sym (first_told becomes kerns columns tokens j a b c)) ∙ d.whole));
+        holds = p.2 d.done d.holds;
+      }
+
+  -- a token is refused
+  pub refused_at : (rule : Rule) → j < length kerns → j < length columns → j < length tokens
+      → Done becomes kerns columns tokens j draft long
+      → retold becomes (get_or kerns j false) (get_or columns j []) (get_or tokens j []) ≡ Err rule
+      → all_retold becomes kerns columns tokens ≡ Err rule
+  refused_at rule a b c d p = sym d.whole ∙ (ap (behind d.done) (first_told becomes kerns columns tokens j a b c) ∙ rw p refl)
+
+  -- all were told
+  pub done_all : length tokens ≤ j → (d : Done becomes kerns columns tokens j draft long) → all_retold becomes kerns columns tokens ≡ Ok d.done
+  done_all past d = sym d.whole ∙ (ap (behind d.done) (none_left becomes kerns columns tokens j past) ∙ ap Ok (append-nil d.done))
+
+pub begins : (becomes : List (List ℕ) → List ℕ → Result (List ℕ) Rule) (kerns : List Bool) (columns : List (List (List ℕ))) (tokens : List (List ℕ))
+    (draft : Draft) (long : Bool) → Holds Values draft long [] → Done becomes kerns columns tokens 0 draft long
+begins becomes kerns columns tokens draft long h = record {
+  done = [];
+  size = refl;
+  whole = none (all_retold becomes kerns columns tokens);
+  holds = h;
+}
+  where
+    none : (r : Result (List (List ℕ)) Rule) → behind [] r ≡ r
+    none (Ok tokens) = refl
+    none (Err rule) = refl
+
+comment_no_data : Global ≡ AnyValues → ⊥
+comment_no_data e = cc
+
+-- each token of a data record has its column
+pub as_wide : (past : List Row) (row : Row) → IsOpen (row ∷ past) → kind_of row ≡ AnyValues
+    → (length (columns past) ≡ width_of row) × (length (kern_columns past) ≡ width_of row)
+as_wide past (Comment text) sound k = absurd (comment_no_data k)
+as_wide past (Spined Local tokens) sound k = absurd cc
+as_wide past (Spined Interpretation tokens) sound k = absurd cc
+as_wide past (Spined Values tokens) sound k =
+    let wide = text_width (path_after past) tokens sound.1 in (
+      columns_width past sound.0 ∙ sym wide,
+      length-map (exclusives (path_after past)) is_kern ∙ sym wide,
+    )
+
+pub told_data : (retelling : Retelling) (past : List Row) (row : Row) → kind_of row ≡ AnyValues
+    → retell retelling past row ≡ data_record (all_retold retelling.becomes (kern_columns past) (columns past) (tokens_of row))
+told_data retelling past (Comment text) k = absurd (comment_no_data k)
+told_data retelling past (Spined Local tokens) k = absurd cc
+told_data retelling past (Spined Interpretation tokens) k = absurd cc
+told_data retelling past (Spined Values tokens) k = refl
+
+-- a record that fits, and one that doesn't
+pub fits : (tokens : List (List ℕ)) → length (spelled tokens) ≤ 1048576 → if_fit (Spined Values tokens ∷ []) ≡ Ok (Spined Values tokens ∷ [])
+fits tokens within =
+    let test : nat_lt 1048576 (length (spelled tokens)) ≡ false = grind (arith, nat_tests, within) in rw test refl
+
+pub too_long : (tokens : List (List ℕ)) → 1048576 < length (spelled tokens) → if_fit (Spined Values tokens ∷ []) ≡ Err L1
+too_long tokens over =
+    let test : nat_lt 1048576 (length (spelled tokens)) ≡ true = grind (arith, nat_tests, over) in rw test refl
+
+-- where no token is told anew, all stay
+pub nothing_told : (becomes : List (List ℕ) → List ℕ → Result (List ℕ) Rule) (kerns : List Bool) (columns : List (List (List ℕ))) (tokens : List (List ℕ))
+    → any_told kerns tokens ≡ false → all_retold becomes kerns columns tokens ≡ Ok tokens
+nothing_told becomes [] columns tokens h = refl
+nothing_told becomes (k ∷ ks) [] tokens h = refl
+nothing_told becomes (k ∷ ks) (c ∷ cs) [] h = refl
+nothing_told becomes (k ∷ ks) (c ∷ cs) (t ∷ ts) h =
+    let both = or_parts (k && is_told t) (any_told ks ts) h in
+    rw (stays becomes k c t both.0, nothing_told becomes ks cs ts both.1) refl
+
+pub same_data : (retelling : Retelling) (past : List Row) (row : Row) → kind_of row ≡ AnyValues → length (text_of row) ≤ 1048576
+    → any_told (kern_columns past) (tokens_of row) ≡ false → retell retelling past row ≡ Ok (row ∷ [])
+same_data retelling past (Comment text) k within h = absurd (comment_no_data k)
+same_data retelling past (Spined Local tokens) k within h = absurd cc
+same_data retelling past (Spined Interpretation tokens) k within h = absurd cc
+same_data retelling past (Spined Values tokens) k within h =
+    rw (nothing_told retelling.becomes (kern_columns past) (columns past) tokens h) (fits tokens within)
+
+pub same_local : (retelling : Retelling) (past : List Row) (row : Row) → kind_of row ≡ AnyLocal → retell retelling past row ≡ Ok (row ∷ [])
+same_local retelling past (Comment text) k = refl
+same_local retelling past (Spined Local tokens) k = refl
+same_local retelling past (Spined Interpretation tokens) k = absurd cc
+same_local retelling past (Spined Values tokens) k = absurd cc
+
+pub same_comment : (retelling : Retelling) (past : List Row) (row : Row) → kind_of row ≡ Global → retell retelling past row ≡ Ok (row ∷ [])
+same_comment retelling past (Comment text) k = refl
+same_comment retelling past (Spined Local tokens) k = refl
+same_comment retelling past (Spined Interpretation tokens) k = absurd cc
+same_comment retelling past (Spined Values tokens) k = absurd cc

@@ -1,0 +1,71 @@
+use Rattle.std.proofs.Common.{◌≡◌, ◌∙◌, refl, length, arith}
+use Rattle.hum_record.specs.Row.{tokens_of, width_of}
+use Rattle.hum_cells.proofs.Telling.{done_more, refused_at, done_all, begins, as_wide, told_data, fits, too_long}
+use Rattle.hum_cells.proofs.tokens.tell_tokens.Goals as goal
+
+pub push_told-requires-clause-column : goal.push_told-requires-clause-column
+push_told-requires-clause-column g c =
+    let m = c.requires.score in
+    let wide = (as_wide m.past c.args.row.now m.score c.requires.kind).0 in
+    let width = c.width-j-end.ensures in
+    let at = c.loop-j-test.true in
+    record {
+      retelling = m.retelling;
+      past = m.past;
+      memory = (c.loop-j.invariant.told m.retelling m.past m.memory m.kern_is m.score).0;
+      column = omega (arith, wide, width, at);
+    }
+
+pub returns-in-Some : goal.returns-in-Some
+returns-in-Some g c = λ retelling past h kern sound.
+    let before = c.loop-j.invariant.told retelling past h kern sound in
+    let p = rw c.in-Some.is at (c.in_ok-refused.ensures.pushed retelling past before.0) in
+    let wide = as_wide past c.args.row.now sound c.requires.kind in
+    let columns = wide.0 in
+    let kerns : length c.args.kern.now ≡ width_of c.args.row.now = rw kern wide.1 in
+    let width = c.width-j-end.ensures in
+    let at = c.loop-j-test.true in
+    let refused = refused_at _ c.args.kern.now _ (tokens_of c.args.row.now) c.loop-j.j _ _ c.in-Some.rule (omega (arith, kerns, width, at)) (omega (arith, columns, width, at)) (omega (arith, width, at)) before.1 (rw c.token.ensures.token at p.1) in (
+      p.0,
+      told_data retelling past c.args.row.now c.requires.kind ∙ rw (← kern, refused) refl,
+    )
+
+pub loop-j-preserved : goal.loop-j-preserved
+loop-j-preserved g c = record {
+  kind = c.in_ok-refused.ensures.kind;
+  told = λ retelling past h kern sound.
+      let before = c.loop-j.invariant.told retelling past h kern sound in
+      let p = rw c.in_default.is at (c.in_ok-refused.ensures.pushed retelling past before.0) in
+      let wide = as_wide past c.args.row.now sound c.requires.kind in
+      let columns = wide.0 in
+      let kerns : length c.args.kern.now ≡ width_of c.args.row.now = rw kern wide.1 in
+      let width = c.width-j-end.ensures in
+      let at = c.loop-j-test.true in (
+        p.0,
+        done_more _ c.args.kern.now _ (tokens_of c.args.row.now) c.loop-j.j _ _ _ _ (omega (arith, kerns, width, at)) (omega (arith, columns, width, at)) (omega (arith, width, at)) before.1 (rw c.token.ensures.token at p.1),
+      );
+}
+
+pub returns-in-Some-finish : goal.returns-in-Some-finish
+returns-in-Some-finish g c = λ retelling past h kern sound.
+    let before = c.loop-j.invariant.told retelling past h kern sound in
+    let width = c.width-j-end.ensures in
+    let at = c.loop-j-test.false in
+    let d = before.1 in
+    let all = done_all _ _ _ _ _ _ _ (omega (arith, width, at)) d in
+    let made = c.in-Some-finish.ensures _ d.done d.holds in (
+      before.0,
+      told_data retelling past c.args.row.now c.requires.kind ∙ rw (← kern, all, made.0) (fits d.done made.1),
+    )
+
+pub returns-in-None : goal.returns-in-None
+returns-in-None g c = λ retelling past h kern sound.
+    let before = c.loop-j.invariant.told retelling past h kern sound in
+    let width = c.width-j-end.ensures in
+    let at = c.loop-j-test.false in
+    let d = before.1 in
+    let all = done_all _ _ _ _ _ _ _ (omega (arith, width, at)) d in
+    let made = c.in-None.ensures _ d.done d.holds in (
+      before.0,
+      told_data retelling past c.args.row.now c.requires.kind ∙ rw (← kern, all) (too_long d.done made),
+    )

@@ -1,0 +1,176 @@
+//! The frame round what is a command's own.
+ghost use Rattle.std.specs.Prelude.{◌≡◌, ◌≤◌, [], ◌∷◌, IfOk, OnOk, List, length, map};
+ghost use Rattle.hum_record.specs.declared.Kind.TheVariants.{Interpretation as AnyInterpretation};
+ghost use Rattle.hum_record.specs.Row.{Row, kind_of, text_of};
+ghost use Rattle.hum_path.specs.Spines.{exclusives};
+ghost use Rattle.hum_path.specs.Score.{IsOpen, path_after};
+ghost use Rattle.hum_cells.specs.Retelling.{Retelling, is_kern, kern_columns, retell};
+ghost use Rattle.hum_cells.specs.Telling.{MayTell, HasTold, Puts, decision};
+
+use crate::heading::{has_kern, is_kern, with_heading};
+use crate::retells::{Heading, Retells};
+use crate::told::Told;
+use crate::tokens::{any_told, tell_tokens};
+use hum_path::{Paths, steers};
+use hum_record::{Kind, Record};
+use hum_stage::{Decides, Rule};
+use std::alloc::{AllocError, Global};
+use std::collections::VecDeque;
+
+/// A command on the tokens of kern columns, as one that decides each record at once.
+#[derive(Drop)]
+pub struct Cells<T> {
+    alloc: Global,
+    teller: T,
+    paths: Paths,
+    // for each spine, whether it is under **kern
+    kern: Vec<bool>,
+    // where the text of a new token is made
+    text: Vec<u8>,
+}
+
+/// Puts what was decided of a record.
+fn put(
+    row: Record,
+    told: Told,
+    out: &mut VecDeque<Record>,
+) -> Result<Option<Rule>, AllocError>
+    requires { out.old.items ≡ [] }
+    ensures { IfOk result (Puts (decision row told) out.new.items) }
+{
+    match told {
+        Told::Same => {
+            out.push_back(row)?;
+            Ok(None)
+        }
+        Told::Other(made) => {
+            out.push_back(made)?;
+            Ok(None)
+        }
+        Told::With(behind) => {
+            out.push_back(row)?;
+            out.push_back(behind)?;
+            Ok(None)
+        }
+        Told::Refused(rule) => Ok(Some(rule)),
+    }
+}
+
+/// Marks the spines that are under `**kern`.
+fn mark_kern(paths: &Paths, kern: &mut Vec<bool>) -> Result<(), AllocError>
+    ensures { OnOk result (kern.new.items ≡ map is_kern (exclusives paths.now.path)) }
+{
+    kern.clear();
+    for j in 0..paths.width() {
+        kern.push(is_kern(paths.exclusive(j)))?;
+    }
+    Ok(())
+}
+
+/// Marks the spines after a record that are under `**kern`: anew only where it asks something of
+/// the spines.
+fn mark_after(row: &Record, paths: &Paths, kern: &mut Vec<bool>) -> Result<(), AllocError>
+    ensures { OnOk result ((past : List Row) → kern.old.items ≡ kern_columns past
+        → paths.now.path ≡ path_after (row.now ∷ past) → IsOpen (row.now ∷ past)
+        → kern.new.items ≡ kern_columns (row.now ∷ past)) }
+{
+    if !steers(row) {
+        return Ok(());
+    }
+    mark_kern(paths, kern)
+}
+
+/// What an interpretation becomes.
+fn tell_heading<T: Retells>(
+    alloc: Global,
+    teller: &T,
+    kern: &[bool],
+    row: &Record,
+) -> Result<Told, AllocError>
+    requires score { MayTell (T.follows teller.now) kern.now row.now }
+    requires kind { kind_of row.now ≡ AnyInterpretation }
+    requires at_most { length (text_of row.now) ≤ 1048576 }
+    ensures { IfOk result (HasTold (T.follows teller.now) (T.follows teller.now) kern.now row.now) }
+{
+    if !has_kern(row) {
+        return Ok(Told::Same);
+    }
+    let heading = teller.heading();
+    match with_heading(alloc, heading, row)? {
+        None => Ok(Told::Refused(Rule::L1)),
+        Some(made) => match heading {
+            Heading::Renamed(_) => Ok(Told::Other(made)),
+            Heading::Followed(_) => Ok(Told::With(made)),
+        },
+    }
+}
+
+/// What a record becomes.
+#[inline(never)]
+fn tell<T: Retells>(
+    alloc: Global,
+    teller: &mut T,
+    kern: &[bool],
+    row: &Record,
+    text: &mut Vec<u8>,
+) -> Result<Told, AllocError>
+    requires score { MayTell (T.follows teller.old) kern.now row.now }
+    ensures { IfOk result (HasTold (T.follows teller.old) (T.follows teller.new) kern.now row.now) }
+{
+    match row.kind() {
+        Kind::Values => {
+            if any_told(kern, row) {
+                tell_tokens(alloc, teller, kern, row, text)
+            } else {
+                Ok(Told::Same)
+            }
+        }
+        Kind::Interpretation => tell_heading(alloc, teller, kern, row),
+        Kind::Local => Ok(Told::Same),
+        Kind::Global => Ok(Told::Same),
+    }
+}
+
+impl<T: Retells> Cells<T> {
+    /// Nothing has passed yet, nor has the teller followed any record.
+    pub fn new(alloc: Global, teller: T) -> Cells<T>
+        ensures { (retelling : Retelling) → T.follows teller retelling []
+            → ⟦<Cells<T> as Decides>⟧.follows result (retell retelling) [] }
+    {
+        Cells {
+            alloc,
+            teller,
+            paths: Paths::new(alloc),
+            kern: Vec::new(alloc),
+            text: Vec::new(alloc),
+        }
+    }
+}
+
+impl<T: Retells> Decides for Cells<T> {
+    ghost use Rattle.hum_cells.specs.Telling.{Frames};
+
+    ghost follows = { λ s. Frames (T.follows s.teller) s.paths.path s.kern.items };
+
+    fn step(
+        &mut self,
+        next: Record,
+        _room: u64,
+        out: &mut VecDeque<Record>,
+    ) -> Result<Option<Rule>, AllocError> {
+        let Ok(found) = self.paths.step(&next) else {
+            return Err(AllocError)
+        };
+        let told = tell(
+            self.alloc,
+            &mut self.teller,
+            &self.kern,
+            &next,
+            &mut self.text,
+        )?;
+        self.teller.follow(&next, &found)?;
+        mark_after(&next, &self.paths, &mut self.kern)?;
+        let refused = put(next, told, out)?;
+        Ok(refused)
+    }
+}

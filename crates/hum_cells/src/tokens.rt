@@ -1,0 +1,103 @@
+//! Data records with tokens that are told anew.
+ghost use Rattle.std.specs.Prelude.{◌≡◌, ◌&&◌, length, IfOk, OnOk};
+ghost use Rattle.hum_record.specs.declared.Kind.TheVariants.{Values as AnyValues};
+ghost use Rattle.hum_record.specs.declared.SpinedKind.TheVariants.{Values};
+ghost use Rattle.hum_record.specs.Row.{tokens_of, width_of, kind_of};
+ghost use Rattle.hum_record.specs.Spelling.{IsToken};
+ghost use Rattle.hum_cells.specs.Retelling.{is_told, any_told};
+ghost use Rattle.hum_cells.specs.Telling.{MayRetell, HasPushed, MayTell, HasTold};
+ghost use Rattle.hum_cells.specs.Making.{Holds};
+
+use crate::making::Making;
+use crate::retells::Retells;
+use crate::told::Told;
+use hum_record::{Record, SpinedKind};
+use hum_stage::Rule;
+use std::alloc::{AllocError, Global};
+
+/// Whether a data token of a kern column is told anew: it is neither null nor a barline.
+#[inline]
+fn is_told(token: &[u8]) -> bool
+    ensures { result ≡ is_told token.now }
+{
+    token != b".".as_slice() && !token.starts_with(b"=")
+}
+
+/// The same of a token of a column that may be under `**kern`.
+#[inline]
+fn is_retold(kern: bool, token: &[u8]) -> bool
+    ensures { result ≡ (kern && is_told token.now) }
+{
+    kern && is_told(token)
+}
+
+/// Whether a record has a token in a kern column that is told anew.
+#[inline]
+pub(crate) fn any_told(kern: &[bool], row: &Record) -> bool
+    requires { length kern.now ≡ width_of row.now }
+    ensures { result ≡ any_told kern.now (tokens_of row.now) }
+{
+    for j in 0..row.width() {
+        if is_retold(kern[j], row.token(j)) {
+            return true;
+        }
+    }
+    false
+}
+
+/// Adds what the token in column `j` becomes, or answers the rule by which it is refused.
+#[inline]
+fn push_told<T: Retells>(
+    teller: &mut T,
+    j: usize,
+    kern: bool,
+    token: &[u8],
+    text: &mut Vec<u8>,
+    making: &mut Making,
+) -> Result<Option<Rule>, AllocError>
+    requires column { MayRetell (T.follows teller.old) j }
+    requires lawful { IsToken Values token.now }
+    requires kind { making.old.builder.kind ≡ Values }
+    ensures pushed { IfOk result (HasPushed (T.follows teller.old) (T.follows teller.new) j kern
+        token.now (Holds Values making.old.builder making.old.is_long)
+        (Holds Values making.new.builder making.new.is_long)) }
+    ensures kind { OnOk result (making.new.builder.kind ≡ Values) }
+{
+    if !is_retold(kern, token) {
+        making.push(token)?;
+        return Ok(None);
+    }
+    text.clear();
+    match teller.retell(j, token, text)? {
+        Some(rule) => Ok(Some(rule)),
+        None => {
+            making.push(text)?;
+            Ok(None)
+        }
+    }
+}
+
+/// What a data record becomes.
+pub(crate) fn tell_tokens<T: Retells>(
+    alloc: Global,
+    teller: &mut T,
+    kern: &[bool],
+    row: &Record,
+    text: &mut Vec<u8>,
+) -> Result<Told, AllocError>
+    requires score { MayTell (T.follows teller.old) kern.now row.now }
+    requires kind { kind_of row.now ≡ AnyValues }
+    ensures { IfOk result (HasTold (T.follows teller.old) (T.follows teller.new) kern.now row.now) }
+{
+    let mut making = Making::new(alloc, SpinedKind::Values);
+    for j in 0..row.width() {
+        let refused = push_told(teller, j, kern[j], row.token(j), text, &mut making)?;
+        if let Some(rule) = refused {
+            return Ok(Told::Refused(rule));
+        }
+    }
+    match making.finish() {
+        Some(made) => Ok(Told::Other(made)),
+        None => Ok(Told::Refused(Rule::L1)),
+    }
+}
