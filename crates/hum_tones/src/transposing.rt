@@ -8,7 +8,7 @@ ghost use Rattle.hum_tones.specs.Trans.{transposed, transposed_part, HasMoved};
 
 use crate::giving::rule_of;
 use hum_kern::read_note;
-use hum_pitch::{PitchFault, push_pitch};
+use hum_pitch::{Pitch, PitchFault, push_pitch};
 use hum_stage::Rule;
 use std::alloc::AllocError;
 
@@ -24,6 +24,16 @@ pub struct Transposition {
 }
 
 impl Transposition {
+    ghost use Rattle.hum_pitch.specs.Pitch.{away};
+    ghost use Rattle.hum_pitch.specs.Given.{spelled, Answers};
+
+    /// The pitch so far away, where it can be spelled.
+    fn there(self, pitch: Pitch) -> Result<Pitch, PitchFault>
+        ensures { Answers (away self.steps self.semitones (spelled pitch)) result }
+    {
+        pitch.transpose(self.steps, self.semitones)
+    }
+
     /// Adds what a part becomes, with a space behind it.
     fn add(self, part: &[u8], text: &mut Vec<u8>) -> Result<Option<Rule>, AllocError>
         ensures { IfOk result (HasMoved
@@ -41,13 +51,13 @@ impl Transposition {
                 return Ok(None);
             }
         };
-        match pitch.transpose(self.steps, self.semitones) {
+        match self.there(pitch) {
             Err(PitchFault::TR1) => Ok(Some(Rule::TR1)),
             Err(PitchFault::TR2) => Ok(Some(Rule::TR2)),
             Ok(there) => {
                 text.extend_from_slice(&part[..note.start])?;
                 push_pitch(text, there)?;
-                text.extend_from_slice(&part[note.end..])?;
+                text.extend_from_slice(part.split_at(note.end).1)?;
                 text.push(b' ')?;
                 Ok(None)
             }
@@ -70,7 +80,12 @@ impl Transposition {
                 return Ok(Some(rule));
             }
         }
-        let _last = text.pop();
-        Ok(None)
+        match text.pop() {
+            Some(_) => Ok(None),
+            None => {
+                text.push(b'.')?;
+                Ok(None)
+            }
+        }
     }
 }
