@@ -13,9 +13,9 @@ mod spelling;
 
 pub use between::interval;
 pub use intervals::Interval;
-pub use naming::write_interval;
+pub use naming::{push_interval, write_interval};
 pub use pitch::{Pitch, PitchFault};
-pub use spelling::write_pitch;
+pub use spelling::{push_pitch, write_pitch};
 
 #[cfg(test)]
 mod tests;

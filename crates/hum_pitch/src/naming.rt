@@ -11,7 +11,7 @@ ghost use Rattle.hum_pitch.specs.Intervals.{named};
 use crate::Interval;
 use crate::intervals::{Direction, Quality};
 use crate::pitch::natural;
-use crate::spelling::{Repeated, repeat};
+use crate::spelling::{Repeated, push_repeated};
 use std::alloc::{AllocError, Global};
 
 /// Up or down by the steps; where there are none, by the semitones.
@@ -193,10 +193,29 @@ fn push_number(text: &mut Vec<u8>, number: u32) -> Result<(), AllocError>
     Ok(())
 }
 
-/// The name of an interval: its direction (`+` or `-`), its quality (`P`, `M`, `m`, or `A` or `d`
-/// for each semitone by which it is augmented or diminished) and its size, as in `+M2`.
+/// Adds the name of an interval to a text: its direction (`+` or `-`), its quality (`P`, `M`, `m`,
+/// or `A` or `d` for each semitone by which it is augmented or diminished) and its size, as in
+/// `+M2`.
 ///
 /// `signless` leaves out the direction, `sizeonly` the quality.
+///
+/// # Errors
+/// Want of memory.
+pub fn push_interval(
+    text: &mut Vec<u8>,
+    interval: Interval,
+    signless: bool,
+    sizeonly: bool,
+) -> Result<(), AllocError>
+    ensures { OnOk result (text.new.items
+        ≡ text.old.items ++ named signless sizeonly interval.d interval.s) }
+{
+    push_repeated(text, shown(!signless, sign(direction(interval))))?;
+    push_repeated(text, shown(!sizeonly, quality_letters(quality(interval))))?;
+    push_number(text, interval.d.unsigned_abs() + 1)
+}
+
+/// The name of an interval, as [`push_interval`] adds it.
 ///
 /// # Errors
 /// Want of memory.
@@ -208,9 +227,7 @@ pub fn write_interval(
 ) -> Result<Vec<u8>, AllocError>
     ensures { IfOk result (λ text. text.items ≡ named signless sizeonly interval.d interval.s) }
 {
-    let sign = shown(!signless, sign(direction(interval)));
-    let letters = shown(!sizeonly, quality_letters(quality(interval)));
-    let mut text = repeat(alloc, sign, letters)?;
-    push_number(&mut text, interval.d.unsigned_abs() + 1)?;
+    let mut text = Vec::new(alloc);
+    push_interval(&mut text, interval, signless, sizeonly)?;
     Ok(text)
 }

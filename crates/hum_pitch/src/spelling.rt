@@ -1,5 +1,5 @@
 //! Pitches as text.
-ghost use Rattle.std.specs.Prelude.{◌≡◌, ◌≤◌, pos, ◌-ℤ◌, ◌++◌, IfOk, replicate, Some};
+ghost use Rattle.std.specs.Prelude.{◌≡◌, ◌≤◌, pos, ◌-ℤ◌, ◌++◌, IfOk, OnOk, replicate, Some};
 ghost use Rattle.hum_pitch.specs.Given.{spelled};
 ghost use Rattle.hum_pitch.specs.Spelling.{letters_of, accidentals, spelling, read_pitch};
 
@@ -50,21 +50,24 @@ fn accidentals(pitch: Pitch) -> Repeated
     }
 }
 
-/// One byte some times, and then another.
-pub(crate) fn repeat(
-    alloc: Global,
-    first: Repeated,
-    second: Repeated,
-) -> Result<Vec<u8>, AllocError>
-    requires first { first.count ≤ 1000 }
-    requires second { second.count ≤ 1000 }
-    ensures { IfOk result (λ text. text.items ≡
-        replicate first.count first.byte ++ replicate second.count second.byte) }
+/// Adds a byte some times.
+pub(crate) fn push_repeated(text: &mut Vec<u8>, repeated: Repeated) -> Result<(), AllocError>
+    requires { repeated.count ≤ 1000 }
+    ensures { OnOk result (text.new.items
+        ≡ text.old.items ++ replicate repeated.count repeated.byte) }
 {
-    let mut text = Vec::with_capacity(alloc, first.count + second.count)?;
-    text.resize(first.count, first.byte)?;
-    text.resize(first.count + second.count, second.byte)?;
-    Ok(text)
+    text.resize(text.len() + repeated.count, repeated.byte)
+}
+
+/// Adds a pitch to a text, as it is written in `**kern`, without the sign of a natural.
+///
+/// # Errors
+/// Want of memory.
+pub fn push_pitch(text: &mut Vec<u8>, pitch: Pitch) -> Result<(), AllocError>
+    ensures { OnOk result (text.new.items ≡ text.old.items ++ spelling (spelled pitch)) }
+{
+    push_repeated(text, letters(pitch))?;
+    push_repeated(text, accidentals(pitch))
 }
 
 /// A pitch as it is written in `**kern`, without the sign of a natural.
@@ -75,5 +78,7 @@ pub fn write_pitch(alloc: Global, pitch: Pitch) -> Result<Vec<u8>, AllocError>
     ensures written { IfOk result (λ text. text.items ≡ spelling (spelled pitch)) }
     ensures read { IfOk result (λ text. read_pitch text.items ≡ Some (spelled pitch)) }
 {
-    repeat(alloc, letters(pitch), accidentals(pitch))
+    let mut text = Vec::new(alloc);
+    push_pitch(&mut text, pitch)?;
+    Ok(text)
 }

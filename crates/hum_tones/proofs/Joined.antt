@@ -27,11 +27,11 @@ spaced_lacks c (text ∷ texts) apart all = rw (list_any-append (λ x. x == c) t
 front_lacks : (c : ℕ) (front more : List ℕ) → has_byte c (front ++ more) ≡ false → has_byte c front ≡ false
 front_lacks c front more h = (or_parts (has_byte c front) (has_byte c more) (rw (list_any-append (λ x. x == c) front more) at h)).0
 
-joined_lacks : (c : ℕ) (text : List ℕ) (texts : List (List ℕ)) → (32 == c) ≡ false → AllByRecursion (λ text. has_byte c text ≡ false) (text ∷ texts) → has_byte c (joined (text ∷ texts)) ≡ false
+pub joined_lacks : (c : ℕ) (text : List ℕ) (texts : List (List ℕ)) → (32 == c) ≡ false → AllByRecursion (λ text. has_byte c text ≡ false) (text ∷ texts) → has_byte c (joined (text ∷ texts)) ≡ false
 joined_lacks c text texts apart all =
     front_lacks c (joined (text ∷ texts)) (32 ∷ []) (rw (spaced_joined text texts) at (spaced_lacks c (text ∷ texts) apart all))
 
-fronts : (xs ys : List ℕ) (a b : ℕ) → xs ++ a ∷ [] ≡ ys ++ b ∷ [] → xs ≡ ys
+pub fronts : (xs ys : List ℕ) (a b : ℕ) → xs ++ a ∷ [] ≡ ys ++ b ∷ [] → xs ≡ ys
 fronts [] [] a b e = refl
 fronts [] (y ∷ []) a b e = cc
 fronts [] (y ∷ z ∷ ys) a b e = cc
@@ -47,7 +47,7 @@ each : (P Q : List ℕ → Type 0) (texts : List (List ℕ)) → ((text : List �
 each P Q [] f all = tt
 each P Q (text ∷ texts) f all = (f text all.0, each P Q texts f all.1)
 
-kind_of_front : (text more : List ℕ) → text ≢ [] → kind_of_token (text ++ more) ≡ kind_of_token text
+pub kind_of_front : (text more : List ℕ) → text ≢ [] → kind_of_token (text ++ more) ≡ kind_of_token text
 kind_of_front [] more some = absurd (some refl)
 kind_of_front (x ∷ xs) more some = refl
 
@@ -55,7 +55,7 @@ kind_of_joined : (text : List ℕ) (texts : List (List ℕ)) → text ≢ [] →
 kind_of_joined text [] some = refl
 kind_of_joined text (next ∷ texts) some = kind_of_front text (32 ∷ joined (next ∷ texts)) some
 
-some_joined : (text : List ℕ) (texts : List (List ℕ)) → text ≢ [] → joined (text ∷ texts) ≢ []
+pub some_joined : (text : List ℕ) (texts : List (List ℕ)) → text ≢ [] → joined (text ∷ texts) ≢ []
 some_joined text [] some = some
 some_joined [] (next ∷ texts) some = absurd (some refl)
 some_joined (x ∷ xs) (next ∷ texts) some = λ e. cc

@@ -1,6 +1,10 @@
 mod Examples
+pub mod Moving
+pub mod Heard
 pub mod Parts
 pub mod Written
 pub mod Numbers
 pub mod SoFar
 pub mod Joined
+pub mod Moved
+pub mod MovedLawful

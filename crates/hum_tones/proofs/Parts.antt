@@ -7,7 +7,7 @@ use Rattle.hum_record.specs.Spelling.{has_byte, IsToken}
 use Rattle.hum_path.proofs.Cases.{by_bool}
 use Rattle.hum_tones.specs.Subtokens.{subtokens, IsPart}
 
-abbrev Lack : ℕ → List (List ℕ) → Type 0
+abbrev pub Lack : ℕ → List (List ℕ) → Type 0
 Lack c = AllByRecursion (λ part. has_byte c part ≡ false)
 
 onto_lacks : (c x : ℕ) (parts : List (List ℕ)) → (x == c) ≡ false → Lack c parts → Lack c (onto_first x parts)
@@ -15,7 +15,7 @@ onto_lacks c x [] apart all = (rw apart refl, tt)
 onto_lacks c x (part ∷ parts) apart all = (rw (apart, all.0) refl, all.1)
 
 -- a byte that stands in no text stands in no part of it
-parts_lack : (c : ℕ) (text : List ℕ) → has_byte c text ≡ false → Lack c (subtokens text)
+pub parts_lack : (c : ℕ) (text : List ℕ) → has_byte c text ≡ false → Lack c (subtokens text)
 parts_lack c [] h = (refl, tt)
 parts_lack c (x ∷ xs) h =
     let both = or_parts (x == c) (has_byte c xs) h in

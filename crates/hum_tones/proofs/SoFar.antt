@@ -24,16 +24,16 @@ pub record SoFar (gives : List ℕ → Result (Option (List ℕ)) Rule) (parts :
   pub pieces : AllByRecursion IsPiece done
   pub rest : given_by gives parts ≡ onto done (given_by gives (drop n parts))
 
-onto_nothing : (r : Result (List (List ℕ)) Rule) → r ≡ onto [] r
+pub onto_nothing : (r : Result (List (List ℕ)) Rule) → r ≡ onto [] r
 onto_nothing (Ok texts) = refl
 onto_nothing (Err rule) = refl
 
-onto_one_more : (done : List (List ℕ)) (text : List ℕ) (r : Result (List (List ℕ)) Rule)
+pub onto_one_more : (done : List (List ℕ)) (text : List ℕ) (r : Result (List (List ℕ)) Rule)
     → onto done (with_first (Ok (Some text)) r) ≡ onto (done ++ text ∷ []) r
 onto_one_more done text (Ok texts) = ap (λ all. Ok all) (sym (append_assoc done (text ∷ []) texts))
 onto_one_more done text (Err rule) = refl
 
-spaced_one_more : (done : List (List ℕ)) (text : List ℕ) → spaced (done ++ text ∷ []) ≡ spaced done ++ (text ++ codes " ")
+pub spaced_one_more : (done : List (List ℕ)) (text : List ℕ) → spaced (done ++ text ∷ []) ≡ spaced done ++ (text ++ codes " ")
 spaced_one_more [] text = refl
 spaced_one_more (first ∷ done) text =
     rw (spaced_one_more done text) (sym (append_assoc first (32 ∷ spaced done) (text ++ codes " ")))

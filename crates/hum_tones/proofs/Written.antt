@@ -73,12 +73,12 @@ begins bytes parts found are e some = go (list_any is_grace_sign bytes) (is_empt
         let at = said_place parts found e in
         rw (at.0, are.text) (from_place parts.before parts.digits (behind_first parts) found.end h are.digits.all_in at.1)
 
-lacks_drop : (c n : ℕ) (text : List ℕ) → has_byte c text ≡ false → has_byte c (drop n text) ≡ false
+pub lacks_drop : (c n : ℕ) (text : List ℕ) → has_byte c text ≡ false → has_byte c (drop n text) ≡ false
 lacks_drop c zero text h = h
 lacks_drop c (suc n) [] h = refl
 lacks_drop c (suc n) (x ∷ text) h = lacks_drop c n text (or_parts (x == c) (has_byte c text) h).1
 
-lacks_take : (c n : ℕ) (text : List ℕ) → has_byte c text ≡ false → has_byte c (take n text) ≡ false
+pub lacks_take : (c n : ℕ) (text : List ℕ) → has_byte c text ≡ false → has_byte c (take n text) ≡ false
 lacks_take c zero text h = refl
 lacks_take c (suc n) [] h = refl
 lacks_take c (suc n) (x ∷ text) h = let both = or_parts (x == c) (has_byte c text) h in rw (both.0, lacks_take c n text both.1) refl

@@ -3,5 +3,9 @@ pub mod Faults
 pub mod Semits
 pub mod Recip
 pub mod Giving
+pub mod Trans
+pub mod Mint
+pub mod Hearing
+pub mod Memory
 pub mod Commands
 pub mod Headings

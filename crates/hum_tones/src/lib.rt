@@ -5,8 +5,20 @@
 #![tactic(auto)]
 
 mod giving;
+mod hearing;
+mod last_note;
+mod minting;
 mod recip;
 mod semits;
+mod trans;
+mod transposing;
 
+pub use last_note::LastNote;
+pub use minting::MintOptions;
 pub use recip::{Recip, RecipOptions, RecipTokens};
 pub use semits::{Semits, SemitsOptions, SemitsTokens};
+pub use trans::{Trans, TransTokens};
+pub use transposing::Transposition;
+
+#[cfg(test)]
+mod tests;

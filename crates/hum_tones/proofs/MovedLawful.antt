@@ -1,0 +1,257 @@
+-- A transposed token is a lawful one.
+use Rattle.std.proofs.Common.{◌≡◌, ◌≢◌, refl, sym, ap, ◌∙◌, ℕ, zero, suc, ℤ, pos, negsuc, ◌-ℤ◌, ◌+◌, ◌==◌, ◌<◌, ◌≤◌, Bool, true, false, List, [], ◌∷◌, ◌++◌, length, take, drop, arith, Option, None, Some, subst}
+use Rattle.std.specs.Prelude.{Result, Ok, Err, replicate, slice_index, if◌then◌else◌, not, ◌||◌}
+use Rattle.std.specs.List.{AllByRecursion, list_any, onto_first, join_with_byte}
+use Rattle.std.proofs.lemmas.List.Folds.{list_any-append}
+use Rattle.hum_record.specs.declared.SpinedKind.TheVariants.{Values}
+use Rattle.hum_record.specs.Spelling.{has_byte, kind_of_token, IsToken}
+use Rattle.hum_path.proofs.Cases.{by_bool}
+use Rattle.hum_pitch.specs.Pitch.{Spelled, away}
+use Rattle.hum_pitch.specs.Spelling.{small_letters, capitals, letters, letters_of, accidentals, spelling}
+use Rattle.hum_pitch.proofs.Steps.{away_is}
+use Rattle.hum_kern.specs.declared.KernFault.{KernFault}
+use Rattle.hum_kern.specs.Note.{Reading, note}
+use Rattle.hum_stage.specs.declared.faults.Rule.{Rule}
+use Rattle.hum_stage.specs.declared.faults.Rule.TheVariants.{TR1, TR2}
+use Rattle.hum_tones.specs.Subtokens.{with_first, given_by, joined, if_given, subtokens}
+use Rattle.hum_tones.specs.Trans.{is_alteration, is_octave, if_spelled, put, moved, moved_as_read, transposed_part, transposed}
+use Rattle.hum_tones.proofs.Parts.{Lack, parts_lack}
+use Rattle.hum_tones.proofs.Written.{lacks_take, lacks_drop}
+use Rattle.hum_tones.proofs.Joined.{joined_lacks, no_comment}
+
+-- the bytes of a pitch are over those that end a token or a line
+not_low : (x c : ℕ) → 13 < x → c ≤ 13 → (x == c) ≡ false
+not_low x c p q = grind arith
+
+small_over : (step : ℕ) → step < 7 → 13 < slice_index small_letters step
+small_over zero h = omega arith
+small_over (suc zero) h = omega arith
+small_over (suc (suc zero)) h = omega arith
+small_over (suc (suc (suc zero))) h = omega arith
+small_over (suc (suc (suc (suc zero)))) h = omega arith
+small_over (suc (suc (suc (suc (suc zero))))) h = omega arith
+small_over (suc (suc (suc (suc (suc (suc zero)))))) h = omega arith
+small_over (suc (suc (suc (suc (suc (suc (suc n))))))) h = absurd (omega arith)
+
+capital_over : (step : ℕ) → step < 7 → 13 < slice_index capitals step
+capital_over zero h = omega arith
+capital_over (suc zero) h = omega arith
+capital_over (suc (suc zero)) h = omega arith
+capital_over (suc (suc (suc zero))) h = omega arith
+capital_over (suc (suc (suc (suc zero)))) h = omega arith
+capital_over (suc (suc (suc (suc (suc zero))))) h = omega arith
+capital_over (suc (suc (suc (suc (suc (suc zero)))))) h = omega arith
+capital_over (suc (suc (suc (suc (suc (suc (suc n))))))) h = absurd (omega arith)
+
+repeat_lacks : (x c n : ℕ) → (x == c) ≡ false → has_byte c (replicate n x) ≡ false
+repeat_lacks x c zero h = refl
+repeat_lacks x c (suc n) h = rw (h, repeat_lacks x c n h) refl
+
+letters_lack : (c step : ℕ) (o : ℤ) → step < 7 → c ≤ 13 → has_byte c (letters step o) ≡ false
+letters_lack c step (pos k) h low = repeat_lacks (slice_index small_letters step) c (suc k) (not_low (slice_index small_letters step) c (small_over step h) low)
+letters_lack c step (negsuc k) h low = repeat_lacks (slice_index capitals step) c (suc k) (not_low (slice_index capitals step) c (capital_over step h) low)
+
+signs_lack : (c : ℕ) (a : ℤ) → c ≤ 13 → has_byte c (accidentals a) ≡ false
+signs_lack c (pos k) low = repeat_lacks 35 c k (not_low 35 c (omega arith) low)
+signs_lack c (negsuc k) low = repeat_lacks 45 c (suc k) (not_low 45 c (omega arith) low)
+
+both_lack : (c : ℕ) (xs ys : List ℕ) → has_byte c xs ≡ false → has_byte c ys ≡ false → has_byte c (xs ++ ys) ≡ false
+both_lack c xs ys p q = rw (list_any-append (λ (x : ℕ). x == c) xs ys, p, q) refl
+
+pub spelling_lacks : (c : ℕ) (p : Spelled) → p.step < 7 → c ≤ 13 → has_byte c (spelling p) ≡ false
+spelling_lacks c p h low = both_lack c (letters_of p) (accidentals p.alteration) (letters_lack c p.step (p.octave -ℤ pos 4) h low) (signs_lack c p.alteration low)
+
+-- a pitch begins as data does
+small_kind : (step : ℕ) (more : List ℕ) → step < 7 → kind_of_token (slice_index small_letters step ∷ more) ≡ Values
+small_kind zero more h = refl
+small_kind (suc zero) more h = refl
+small_kind (suc (suc zero)) more h = refl
+small_kind (suc (suc (suc zero))) more h = refl
+small_kind (suc (suc (suc (suc zero)))) more h = refl
+small_kind (suc (suc (suc (suc (suc zero))))) more h = refl
+small_kind (suc (suc (suc (suc (suc (suc zero)))))) more h = refl
+small_kind (suc (suc (suc (suc (suc (suc (suc n))))))) more h = absurd (omega arith)
+
+capital_kind : (step : ℕ) (more : List ℕ) → step < 7 → kind_of_token (slice_index capitals step ∷ more) ≡ Values
+capital_kind zero more h = refl
+capital_kind (suc zero) more h = refl
+capital_kind (suc (suc zero)) more h = refl
+capital_kind (suc (suc (suc zero))) more h = refl
+capital_kind (suc (suc (suc (suc zero)))) more h = refl
+capital_kind (suc (suc (suc (suc (suc zero))))) more h = refl
+capital_kind (suc (suc (suc (suc (suc (suc zero)))))) more h = refl
+capital_kind (suc (suc (suc (suc (suc (suc (suc n))))))) more h = absurd (omega arith)
+
+letters_kind : (step : ℕ) (o : ℤ) (ys more : List ℕ) → step < 7 → kind_of_token ((letters step o ++ ys) ++ more) ≡ Values
+letters_kind step (pos k) ys more h = small_kind step ((replicate k (slice_index small_letters step) ++ ys) ++ more) h
+letters_kind step (negsuc k) ys more h = capital_kind step ((replicate k (slice_index capitals step) ++ ys) ++ more) h
+
+letters_some : (step : ℕ) (o : ℤ) (ys more : List ℕ) → ((letters step o ++ ys) ++ more) ≢ []
+letters_some step (pos k) ys more = λ e. cc
+letters_some step (negsuc k) ys more = λ e. cc
+
+front_kind : (n : ℕ) (part rest : List ℕ) → kind_of_token part ≡ Values → kind_of_token rest ≡ Values → kind_of_token (take n part ++ rest) ≡ Values
+front_kind zero part rest p q = q
+front_kind (suc n) [] rest p q = q
+front_kind (suc n) (x ∷ part) rest p q = p
+
+front_some : (xs ys : List ℕ) → ys ≢ [] → xs ++ ys ≢ []
+front_some [] ys h = h
+front_some (x ∷ xs) ys h = λ e. cc
+
+-- what a part becomes: itself, or with another pitch in it
+pub data Becomes (part text : List ℕ) : Type 0 where
+  Stays : text ≡ part → Becomes part text
+  Moves : (start end : ℕ) (there : Spelled) → there.step < 7 → text ≡ take start part ++ (spelling there ++ drop end part) → Becomes part text
+
+put_becomes : (part : List ℕ) (found : Reading) (there : Spelled) (text : List ℕ) → there.step < 7 → put part found (if_spelled there) ≡ Ok (Some text) → Becomes part text
+put_becomes part found there text h e = go (is_alteration there.alteration) (is_octave there.octave) e
+  where
+    go : (a b : Bool) → put part found (if not a then Err TR1 else if not b then Err TR2 else Ok there) ≡ Ok (Some text) → Becomes part text
+    go false b e = cc
+    go true false e = cc
+    go true true e = Moves found.start found.end there h cc
+
+becomes : (n m : ℤ) (part text : List ℕ) → transposed_part n m part ≡ Ok (Some text) → Becomes part text
+becomes n m part text e = go (note part) e
+  where
+    there : (found : Reading) (p : Option Spelled) → moved n m part found p ≡ Ok (Some text) → Becomes part text
+    there found None e = Stays cc
+    there found (Some p) e = put_becomes part found (away n m p) text (away_is n m p).step e
+
+    go : (r : Result Reading KernFault) → moved_as_read n m part r ≡ Ok (Some text) → Becomes part text
+    go (Ok found) e = there found found.pitch e
+    go (Err fault) e = cc
+
+put_some : (part : List ℕ) (found : Reading) (there : Spelled) → put part found (if_spelled there) ≡ Ok None → ⊥
+put_some part found there e = go (is_alteration there.alteration) (is_octave there.octave) e
+  where
+    go : (a b : Bool) → put part found (if not a then Err TR1 else if not b then Err TR2 else Ok there) ≡ Ok None → ⊥
+    go false b e = cc
+    go true false e = cc
+    go true true e = cc
+
+never_none : (n m : ℤ) (part : List ℕ) → transposed_part n m part ≡ Ok None → ⊥
+never_none n m part e = go (note part) e
+  where
+    there : (found : Reading) (p : Option Spelled) → moved n m part found p ≡ Ok None → ⊥
+    there found None e = cc
+    there found (Some p) e = put_some part found (away n m p) e
+
+    go : (r : Result Reading KernFault) → moved_as_read n m part r ≡ Ok None → ⊥
+    go (Ok found) e = there found found.pitch e
+    go (Err fault) e = cc
+
+abbrev pub EachBecomes : List (List ℕ) → List (List ℕ) → Type 0
+EachBecomes [] [] = Unit {0}
+EachBecomes (part ∷ parts) (text ∷ texts) = Becomes part text × EachBecomes parts texts
+EachBecomes _ _ = ⊥
+
+each_becomes : (n m : ℤ) (parts texts : List (List ℕ)) → given_by (transposed_part n m) parts ≡ Ok texts → EachBecomes parts texts
+each_becomes n m [] [] e = tt
+each_becomes n m [] (text ∷ texts) e = cc
+each_becomes n m (part ∷ parts) texts e = go (transposed_part n m part) refl (given_by (transposed_part n m) parts) (λ others given. each_becomes n m parts others given) texts e
+  where
+    go : (r : Result (Option (List ℕ)) Rule) → transposed_part n m part ≡ r → (rest : Result (List (List ℕ)) Rule) → ((others : List (List ℕ)) → rest ≡ Ok others → EachBecomes parts others) → (texts : List (List ℕ)) → with_first r rest ≡ Ok texts → EachBecomes (part ∷ parts) texts
+    go (Err rule) is rest more texts e = cc
+    go (Ok None) is rest more texts e = absurd (never_none n m part is)
+    go (Ok (Some text)) is (Err rule) more texts e = cc
+    go (Ok (Some text)) is (Ok others) more [] e = cc
+    go (Ok (Some text)) is (Ok others) more (first ∷ texts) e =
+        let one : text ≡ first = cc in
+        let two : others ≡ texts = cc in
+        (becomes n m part first (is ∙ ap (λ (t : List ℕ). Ok (Some t)) one), more texts (ap (λ (t : List (List ℕ)). Ok t) two))
+
+text_lacks : (c : ℕ) (part text : List ℕ) → c ≤ 13 → Becomes part text → has_byte c part ≡ false → has_byte c text ≡ false
+text_lacks c part text low (Stays e) h = rw e h
+text_lacks c part text low (Moves start end there small e) h =
+    rw e (both_lack c (take start part) (spelling there ++ drop end part) (lacks_take c start part h) (both_lack c (spelling there) (drop end part) (spelling_lacks c there small low) (lacks_drop c end part h)))
+
+texts_lack : (c : ℕ) (parts texts : List (List ℕ)) → c ≤ 13 → EachBecomes parts texts → Lack c parts → Lack c texts
+texts_lack c [] [] low each all = tt
+texts_lack c [] (text ∷ texts) low each all = absurd each
+texts_lack c (part ∷ parts) [] low each all = absurd each
+texts_lack c (part ∷ parts) (text ∷ texts) low each all = (text_lacks c part text low each.0 all.0, texts_lack c parts texts low each.1 all.1)
+
+text_kind : (part text : List ℕ) → Becomes part text → kind_of_token part ≡ Values → kind_of_token text ≡ Values
+text_kind part text (Stays e) h = rw e h
+text_kind part text (Moves start end there small e) h = rw e (front_kind start part (spelling there ++ drop end part) h (letters_kind there.step (there.octave -ℤ pos 4) (accidentals there.alteration) (drop end part) small))
+
+text_some : (part text : List ℕ) → Becomes part text → part ≢ [] → text ≢ []
+text_some part text (Stays e) h = λ f. h (sym e ∙ f)
+text_some part text (Moves start end there small e) h = λ f. front_some (take start part) (spelling there ++ drop end part) (letters_some there.step (there.octave -ℤ pos 4) (accidentals there.alteration) (drop end part)) (sym e ∙ f)
+
+-- the first part of a token
+onto_some : (x : ℕ) (parts : List (List ℕ)) → onto_first x parts ≢ []
+onto_some x [] = λ e. cc
+onto_some x (part ∷ parts) = λ e. cc
+
+parts_some : (token : List ℕ) → subtokens token ≢ []
+parts_some [] = λ e. cc
+parts_some (x ∷ xs) = by_bool (x == 32) (λ w. rw w (λ e. cc)) (λ w. rw w (onto_some x (subtokens xs)))
+
+first_kind : (token : List ℕ) (part : List ℕ) (parts : List (List ℕ)) → subtokens token ≡ part ∷ parts → kind_of_token token ≡ Values → kind_of_token part ≡ Values
+first_kind [] part parts e h = let is : [] ≡ part = cc in rw (← is) refl
+first_kind (x ∷ xs) part parts e h = by_bool (x == 32) (λ w. at_space w) (λ w. within w)
+  where
+    at_space : (x == 32) ≡ true → kind_of_token part ≡ Values
+    at_space w = let f = rw w at e in let is : [] ≡ part = cc in rw (← is) refl
+
+    of : (others : List (List ℕ)) → onto_first x others ≡ part ∷ parts → kind_of_token part ≡ Values
+    of [] f = let is : x ∷ [] ≡ part = cc in rw (← is) h
+    of (other ∷ others) f = let is : x ∷ other ≡ part = cc in rw (← is) h
+
+    within : (x == 32) ≡ false → kind_of_token part ≡ Values
+    within w = of (subtokens xs) (rw w at e)
+
+alone_some : (token part : List ℕ) → subtokens token ≡ part ∷ [] → token ≢ [] → part ≢ []
+alone_some [] part e h = absurd (h refl)
+alone_some (x ∷ xs) part e h = by_bool (x == 32) (λ w. at_space w) (λ w. within w)
+  where
+    at_space : (x == 32) ≡ true → part ≢ []
+    at_space w = let f = rw w at e in let none : subtokens xs ≡ [] = cc in absurd (parts_some xs none)
+
+    of : (others : List (List ℕ)) → onto_first x others ≡ part ∷ [] → part ≢ []
+    of [] f = let is : x ∷ [] ≡ part = cc in λ g. cc
+    of (other ∷ others) f = let is : x ∷ other ≡ part = cc in λ g. cc
+
+    within : (x == 32) ≡ false → part ≢ []
+    within w = of (subtokens xs) (rw w at e)
+
+join_kind : (text : List ℕ) (texts : List (List ℕ)) → kind_of_token text ≡ Values → kind_of_token (joined (text ∷ texts)) ≡ Values
+join_kind text [] h = h
+join_kind [] (next ∷ texts) h = refl
+join_kind (x ∷ text) (next ∷ texts) h = h
+
+join_some : (text next : List ℕ) (texts : List (List ℕ)) → joined (text ∷ (next ∷ texts)) ≢ []
+join_some [] next texts = λ e. cc
+join_some (x ∷ text) next texts = λ e. cc
+
+pub moved_lawful : (n m : ℤ) (token text : List ℕ) → transposed n m token ≡ Ok text → IsToken Values token → IsToken Values text
+moved_lawful n m token text e lawful = from (given_by (transposed_part n m) (subtokens token)) refl e
+  where
+    made : (parts texts : List (List ℕ)) → subtokens token ≡ parts → EachBecomes parts texts → IsToken Values (joined texts)
+    made [] texts is each = absurd (parts_some token is)
+    made (part ∷ parts) [] is each = absurd each
+    made (part ∷ parts) (first ∷ texts) is each =
+        let kind = join_kind first texts (text_kind part first each.0 (first_kind token part parts is lawful.of_kind)) in
+        record {
+          filled = some parts texts is each;
+          one_token = joined_lacks 9 first texts refl (texts_lack 9 (part ∷ parts) (first ∷ texts) (omega arith) each (subst (Lack 9) is (parts_lack 9 token lawful.one_token)));
+          one_line = joined_lacks 13 first texts refl (texts_lack 13 (part ∷ parts) (first ∷ texts) (omega arith) each (subst (Lack 13) is (parts_lack 13 token lawful.one_line)));
+          no_line_end = joined_lacks 10 first texts refl (texts_lack 10 (part ∷ parts) (first ∷ texts) (omega arith) each (subst (Lack 10) is (parts_lack 10 token lawful.no_line_end)));
+          of_kind = kind;
+          no_comment = no_comment (joined (first ∷ texts)) kind;
+        }
+      where
+        some : (parts texts : List (List ℕ)) → subtokens token ≡ part ∷ parts → EachBecomes (part ∷ parts) (first ∷ texts) → joined (first ∷ texts) ≢ []
+        some [] [] is each = text_some part first each.0 (alone_some token part is lawful.filled)
+        some [] (next ∷ texts) is each = join_some first next texts
+        some (other ∷ parts) [] is each = absurd each.1
+        some (other ∷ parts) (next ∷ texts) is each = join_some first next texts
+
+    from : (r : Result (List (List ℕ)) Rule) → given_by (transposed_part n m) (subtokens token) ≡ r → if_given r ≡ Ok text → IsToken Values text
+    from (Err rule) is e = cc
+    from (Ok texts) is e =
+        let same : joined texts ≡ text = cc in
+        subst (IsToken Values) same (made (subtokens token) texts refl (each_becomes n m (subtokens token) texts is))

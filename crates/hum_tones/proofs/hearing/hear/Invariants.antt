@@ -1,0 +1,7 @@
+use Rattle.std.proofs.Common.{length}
+use Rattle.hum_tones.specs.Subtokens.{subtokens}
+use Rattle.hum_tones.proofs.Heard.{HeardSoFar}
+use Rattle.hum_tones.proofs.hearing.hear.Given as goal
+
+abbrev pub invariant-loop-part : goal.invariant-loop-part
+invariant-loop-part l = HeardSoFar (subtokens l.token) (length l.yielded) l.heard

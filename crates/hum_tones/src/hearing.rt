@@ -1,0 +1,85 @@
+//! The note of a token.
+ghost use Rattle.std.specs.Prelude.{◌≡◌, ◌||◌, None, option_map};
+ghost use Rattle.hum_pitch.specs.Given.{spelled};
+ghost use Rattle.hum_tones.specs.Mint.{readings, or_tone};
+ghost use Rattle.hum_tones.specs.Hearing.{tone_of, first_of, heard_in, heard_by};
+
+use crate::giving::rule_of;
+use hum_kern::{Note, read_note};
+use hum_pitch::Pitch;
+use hum_stage::Rule;
+
+/// A note of a token: its pitch, and whether its tie goes on or ends.
+#[derive(Clone, Copy)]
+pub(crate) struct Tone {
+    pub pitch: Pitch,
+    pub continued: bool,
+}
+
+/// What is heard of a token: its first note, and whether it has a rest.
+#[derive(Clone, Copy)]
+pub(crate) struct Heard {
+    pub tone: Option<Tone>,
+    pub rest: bool,
+}
+
+fn tone_of(note: Note) -> Option<Tone>
+    ensures { option_map tone_of result
+        ≡ or_tone (option_map spelled note.pitch) note.continued None }
+{
+    match note.pitch {
+        Some(pitch) => Some(Tone {
+            pitch,
+            continued: note.continued,
+        }),
+        None => None,
+    }
+}
+
+fn first_of(tone: Option<Tone>, other: Option<Tone>) -> Option<Tone>
+    ensures { option_map tone_of result
+        ≡ first_of (option_map tone_of tone) (option_map tone_of other) }
+{
+    match tone {
+        Some(tone) => Some(tone),
+        None => other,
+    }
+}
+
+fn either(one: bool, other: bool) -> bool
+    ensures { result ≡ (one || other) }
+{
+    one || other
+}
+
+impl Heard {
+    ghost use Rattle.hum_kern.specs.Note.{reading};
+    ghost use Rattle.hum_tones.specs.Hearing.{hearing, heard_with};
+
+    /// What is heard with one part more.
+    fn with(self, note: Note) -> Heard
+        ensures { hearing result ≡ heard_with (hearing self) (reading note) }
+    {
+        Heard {
+            tone: first_of(self.tone, tone_of(note)),
+            rest: either(self.rest, note.rest),
+        }
+    }
+}
+
+/// What is heard of a token, or the rule by which a part of it is refused.
+pub(crate) fn hear(token: &[u8]) -> Result<Heard, Rule>
+    ensures { heard_by result ≡ heard_in (readings token.now) }
+{
+    let mut heard = Heard {
+        tone: None,
+        rest: false,
+    };
+    for part in token.split(|b| *b == b' ') {
+        match read_note(part) {
+            Ok(note) => heard = heard.with(note),
+            Err(fault) => return Err(rule_of(fault)),
+        }
+    }
+    Ok(heard)
+}

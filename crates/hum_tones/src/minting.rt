@@ -1,0 +1,83 @@
+//! Tokens in whose place stands the interval from the note before.
+ghost use Rattle.std.specs.Prelude.{◌≡◌, ◌++◌, [], IfOk, OnOk, option_map};
+ghost use Rattle.hum_record.specs.declared.SpinedKind.TheVariants.{Values};
+ghost use Rattle.hum_record.specs.Spelling.{IsToken};
+ghost use Rattle.hum_pitch.specs.Given.{spelled};
+ghost use Rattle.hum_tones.specs.Subtokens.{IsRetold};
+ghost use Rattle.hum_tones.specs.Mint.{approached, minted};
+
+use crate::hearing::{Heard, Tone, hear};
+use crate::last_note::LastNote;
+use hum_pattern::Pattern;
+use hum_pitch::{Pitch, interval, push_interval, push_pitch};
+use hum_stage::Rule;
+use std::alloc::AllocError;
+
+/// How intervals are named, and where they begin anew.
+#[derive(Drop)]
+pub struct MintOptions {
+    /// `-a`: without the direction
+    pub signless: bool,
+    /// `-d`: without the quality
+    pub sizeonly: bool,
+    /// `-b`: behind a token that this pattern matches the note before is forgotten
+    pub breaks: Option<Pattern>,
+}
+
+impl MintOptions {
+    /// Adds the interval from the note before to a pitch, or the pitch in brackets.
+    fn add_tone(
+        &self,
+        before: Option<Pitch>,
+        pitch: Pitch,
+        text: &mut Vec<u8>,
+    ) -> Result<(), AllocError>
+        ensures { OnOk result (text.new.items ≡ text.old.items
+            ++ approached self.now.signless self.now.sizeonly
+            (option_map spelled before) (spelled pitch)) }
+    {
+        match before {
+            Some(before) => {
+                push_interval(text, interval(before, pitch), self.signless, self.sizeonly)?;
+            }
+            None => {
+                text.push(b'[')?;
+                push_pitch(text, pitch)?;
+                text.push(b']')?;
+            }
+        }
+        Ok(())
+    }
+
+    /// Puts what a data token becomes by the note before it into the empty text, or answers the
+    /// rule by which it is refused.
+    ///
+    /// # Errors
+    /// Want of memory.
+    pub fn retell(
+        &self,
+        before: &LastNote,
+        token: &[u8],
+        text: &mut Vec<u8>,
+    ) -> Result<Option<Rule>, AllocError>
+        requires empty { text.old.items ≡ [] }
+        ensures { IfOk result (IsRetold
+            (minted self.now.signless self.now.sizeonly before.now token.now) text.new.items) }
+    {
+        let heard = match hear(token) {
+            Ok(heard) => heard,
+            Err(rule) => return Ok(Some(rule)),
+        };
+        match heard.tone {
+            Some(tone) => {
+                if tone.continued {
+                    text.push(b'.')?;
+                } else {
+                    self.add_tone(before.pitch(), tone.pitch, text)?;
+                }
+            }
+            None => text.push(if heard.rest { b'r' } else { b'.' })?,
+        }
+        Ok(None)
+    }
+}
