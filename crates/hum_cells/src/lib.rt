@@ -19,3 +19,6 @@ pub use cells::Cells;
 pub use retells::{Heading, Retells};
 pub use stage::CellStage;
 
+
+#[cfg(test)]
+mod tests;
