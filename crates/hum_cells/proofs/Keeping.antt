@@ -270,9 +270,9 @@ settled (Spines names) tokens some h =
     let size = each_length names tokens k.wide in
     let count = length-map tokens sign_of in
     let is : names_after (Spines names) tokens ≡ renamed_each names tokens =
-        names_onward names tokens k.wide k.pair
-        ∙ (ap (onward (λ _. []) (beginnings false signs) signs) (swapped_none 0 signs (renamed_each names tokens) (quiet_exchanges 0 signs none))
-        ∙ quiet_onward false signs (renamed_each names tokens) none (omega (arith, size, count))) in
+    names_onward names tokens k.wide k.pair
+    ∙ (ap (onward (λ _. []) (beginnings false signs) signs) (swapped_none 0 signs (renamed_each names tokens) (quiet_exchanges 0 signs none))
+    ∙ quiet_onward false signs (renamed_each names tokens) none (omega (arith, size, count))) in
     record {
       wide = ap length is ∙ size;
       filled = rw is (each_named names tokens k.unnamed);

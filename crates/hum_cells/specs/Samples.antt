@@ -1,6 +1,7 @@
 -- Two small retellings, for worked rows and tests.
 use Rattle.std.proofs.Common.{refl}
-use Rattle.std.specs.Prelude.{◌≡◌, ℕ, Bool, false, List, [], ◌∷◌, ◌++◌, Result, Ok, Err, if◌then◌else◌}
+use Rattle.std.specs.Prelude.{◌≡◌, ℕ, Bool, false, List, [], ◌∷◌, ◌++◌}
+use Rattle.std.specs.Prelude.{Result, Ok, Err, if◌then◌else◌}
 use lib.Chars.{codes}
 use Rattle.hum_record.specs.declared.SpinedKind.TheVariants.{Interpretation, Values}
 use Rattle.hum_record.specs.Spelling.{kind_of_token, same_kind, has_byte, IsToken}
@@ -8,8 +9,8 @@ use Rattle.hum_stage.specs.declared.faults.Rule.{Rule}
 use Rattle.hum_stage.specs.declared.faults.Rule.TheVariants.{K1, K2}
 use Rattle.hum_cells.specs.Retelling.{Retelling, Renamed, Followed, IsHeading}
 
--- **kern becomes **x, and an x goes before each token; one with a question mark is refused, and else
--- one with an asterisk
+-- **kern becomes **x, and an x goes before each token; one with a question mark is refused, and
+-- else one with an asterisk
 abbrev pub marked : Retelling
 marked = record {
   heading = Renamed (codes "**x");
@@ -36,10 +37,24 @@ pursued = record {
 }
 
 new_name : IsToken Interpretation (codes "**x")
-new_name = record { filled = λ e. cc; one_token = refl; one_line = refl; no_line_end = refl; of_kind = refl; no_comment = refl }
+new_name = record {
+  filled = λ e. cc;
+  one_token = refl;
+  one_line = refl;
+  no_line_end = refl;
+  of_kind = refl;
+  no_comment = refl;
+}
 
 tandem : IsToken Interpretation (codes "*y")
-tandem = record { filled = λ e. cc; one_token = refl; one_line = refl; no_line_end = refl; of_kind = refl; no_comment = refl }
+tandem = record {
+  filled = λ e. cc;
+  one_token = refl;
+  one_line = refl;
+  no_line_end = refl;
+  of_kind = refl;
+  no_comment = refl;
+}
 
 pub marked_lawful : (retelling : Retelling) → retelling ≡ marked → IsHeading retelling.heading
 marked_lawful retelling is = rw is (new_name, refl, refl)

@@ -147,7 +147,8 @@ impl Retells for Pursues {
 
     ghost retelling = { λ options. pursued };
 
-    ghost follows = { λ s retelling past. (retelling ≡ pursued) × Remember seen false past s.carried.each };
+    ghost follows = { λ s retelling past. (retelling ≡ pursued)
+        × Remember seen false past s.carried.each };
 
     ghost lawful = { λ s retelling past h. pursued_lawful retelling h.0 };
 
@@ -255,7 +256,6 @@ fn pair(alloc: Global, left: &[u8], right: &[u8]) -> Result<Record, Fail>
     Ok(builder.finish())
 }
 
-
 // Runs a closed score through a command, as stage 2.
 fn run<T: Retells>(
     rt: &impl Abort,
@@ -270,11 +270,7 @@ fn run<T: Retells>(
     Ok(whole(alloc, stage, records, End::Closed)?)
 }
 
-fn read_score(
-    rt: &impl Abort,
-    alloc: Global,
-    lines: &[&'static [u8]],
-) -> Result<Score, Fail> {
+fn read_score(rt: &impl Abort, alloc: Global, lines: &[&'static [u8]]) -> Result<Score, Fail> {
     let mut score = Score::new(alloc);
     for text in lines {
         score = score.with(read(rt, alloc, *text)?)?;
@@ -282,11 +278,7 @@ fn read_score(
     Ok(score)
 }
 
-fn check_texts(
-    rt: &impl Abort,
-    given: &[Record],
-    want: &[&'static [u8]],
-) -> Result<(), Fail> {
+fn check_texts(rt: &impl Abort, given: &[Record], want: &[&'static [u8]]) -> Result<(), Fail> {
     assert_eq!(rt; given.len(), want.len());
     for (i, (record, text)) in given.iter().zip(want).enumerate() {
         assert_eq!(rt; record.text(), *text, "record {i}");
@@ -397,5 +389,26 @@ fn refuses_a_record_that_would_be_too_long(rt: HostRuntime) -> Result<(), Fail> 
     let (given, end) = run::<Marks>(&rt, alloc, true, last)?;
     assert_eq!(rt; end, broken(2, Rule::K1));
     assert_eq!(rt; given.len(), 1);
+    Ok(())
+}
+
+// How a command names its stage.
+type MarksStage = CellStage<Marks>;
+
+#[test]
+fn gives_each_record_at_once(rt: HostRuntime) -> Result<(), Fail> {
+    let alloc = rt.alloc();
+    let row = read(&rt, alloc, b"**kern\t**b")?;
+    let mut paths = Paths::new(alloc);
+    paths.step(&row)?;
+    let mut stage = MarksStage::new(alloc, 1, true);
+    assert_eq!(rt; stage.state(), State::Wants);
+    assert_eq!(rt; stage.held(), 0);
+    stage.put(row)?;
+    assert_eq!(rt; stage.state(), State::Gives);
+    assert_eq!(rt; stage.held(), 1);
+    assert_eq!(rt; stage.take()?.map(|record| record.width()), Some(2));
+    assert_eq!(rt; stage.state(), State::Wants);
+    assert!(rt; stage.take()?.is_none());
     Ok(())
 }
