@@ -1,11 +1,10 @@
 -- Two small retellings, for worked rows and tests.
 use Rattle.std.proofs.Common.{refl}
 use Rattle.std.specs.Prelude.{◌≡◌, ℕ, Bool, false, List, [], ◌∷◌, ◌++◌}
-use Rattle.std.specs.Prelude.{Result, Ok, Err, if◌then◌else◌}
+use Rattle.std.specs.Prelude.{Ok, Err, if◌then◌else◌}
 use lib.Chars.{codes}
 use Rattle.hum_record.specs.declared.SpinedKind.TheVariants.{Interpretation, Values}
 use Rattle.hum_record.specs.Spelling.{kind_of_token, same_kind, has_byte, IsToken}
-use Rattle.hum_stage.specs.declared.faults.Rule.{Rule}
 use Rattle.hum_stage.specs.declared.faults.Rule.TheVariants.{K1, K2}
 use Rattle.hum_cells.specs.Retelling.{Retelling, Renamed, Followed, IsHeading}
 
