@@ -8,3 +8,4 @@ pub mod SoFar
 pub mod Joined
 pub mod Moved
 pub mod MovedLawful
+pub mod MintedLawful
