@@ -1,6 +1,6 @@
 -- The frame goes on from record to record.
 use Rattle.std.proofs.Common.{◌≡◌, ◌∙◌, refl, sym, ap, ℕ, Bool, true, false, List, [], ◌∷◌, map}
-use Rattle.std.specs.Prelude.{Option, None, Some, Result, Ok, Err}
+use Rattle.std.specs.Prelude.{Option, None, Some, Result}
 use Rattle.std.specs.List.{list_all, find}
 use Rattle.std.proofs.lemmas.Bool.{and_parts, not-false, false≢true}
 use Rattle.hum_record.specs.declared.SpinedKind.TheVariants.{Local, Interpretation, Values}
@@ -15,8 +15,8 @@ use Rattle.hum_path.proofs.Obeyed.{opens}
 use Rattle.hum_stage.specs.declared.faults.Rule.{Rule}
 use Rattle.hum_stage.specs.Decided.{in_room, Steps}
 use Rattle.hum_cells.specs.declared.told.Told.{Told}
-use Rattle.hum_cells.specs.Retelling.{Retelling, is_kern, kern_columns, retell}
-use Rattle.hum_cells.specs.Telling.{Frames, HasTold, HasFollowed, Puts, decision}
+use Rattle.hum_cells.specs.Retelling.{Retelling, is_kern, kern_columns}
+use Rattle.hum_cells.specs.Telling.{Frames, HasTold, Puts, decision}
 
 quiet : (path : Path) (tokens : List (List ℕ)) → all_plain tokens ≡ true → find (breaks path tokens) in_order ≡ None
     → exclusives path ≡ names_after path tokens

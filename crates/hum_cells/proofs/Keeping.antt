@@ -1,5 +1,5 @@
 -- Scores stay scores.
-use Rattle.std.proofs.Common.{◌≡◌, ◌∙◌, refl, sym, ap, ℕ, zero, suc, ◌+◌, ◌==◌, ◌≤◌, Bool, true, false, not, ◌&&◌, ◌||◌, List, [], ◌∷◌, length, map, cond, get_or, arith}
+use Rattle.std.proofs.Common.{◌≡◌, ◌∙◌, refl, sym, ap, ℕ, suc, ◌+◌, ◌==◌, ◌≤◌, Bool, true, false, not, ◌&&◌, ◌||◌, List, [], ◌∷◌, length, map, cond, get_or, arith}
 use Rattle.std.specs.Prelude.{nat_lt, None, Some, Result, Ok, Err}
 use Rattle.std.specs.List.{list_any, list_all, find}
 use Rattle.std.specs.Str.{bytes_eq}
@@ -18,21 +18,21 @@ use Rattle.hum_path.specs.declared.moved.Move.{Move}
 use Rattle.hum_path.specs.declared.moved.Move.TheVariants.{Same, Left, Right, Join as Joined, Added}
 use Rattle.hum_path.specs.declared.PathFault.TheVariants.{P1, P2, P3, P4, P5, P6, P7, P9, P10, P11}
 use Rattle.hum_path.specs.Sign.{sign_of, is_join, is_exclusive, is_plain, is_path_indicator, all_plain}
-use Rattle.hum_path.specs.Spines.{Path, Unopened, Spines, exchanges, moves_under, renamed, names_after, after}
-use Rattle.hum_path.specs.Rules.{breaks, breaks_as_text, in_order, fault_of, has_bare, has_unnamed, has_mixed_join, mixes_join, stays_unnamed, is_unfinished}
-use Rattle.hum_path.specs.Onward.{beginnings, onward, swapped, renamed_each}
+use Rattle.hum_path.specs.Spines.{Path, Unopened, Spines, exchanges, moves_under, renamed, names_after}
+use Rattle.hum_path.specs.Rules.{breaks, breaks_as_text, in_order, has_bare, has_unnamed, has_mixed_join, mixes_join, stays_unnamed, is_unfinished}
+use Rattle.hum_path.specs.Onward.{beginnings, onward, renamed_each}
 use Rattle.hum_path.specs.Score.{IsOpen, path_after}
 use Rattle.hum_path.specs.Chains.{columns}
 use Rattle.hum_path.proofs.Cases.{by_bool}
 use Rattle.hum_path.proofs.Plain.{find_head, plain_stays}
 use Rattle.hum_path.proofs.Staying.{plain_breaks}
 use Rattle.hum_path.proofs.Onwards.{swapped_none, each_length, names_onward}
-use Rattle.hum_path.proofs.Obeyed.{Opens, opens, Obeys, obeys}
+use Rattle.hum_path.proofs.Obeyed.{opens, obeys}
 use Rattle.hum_stage.specs.declared.faults.Rule.{Rule}
 use Rattle.hum_stage.specs.declared.faults.Rule.TheVariants.{L1}
 use Rattle.hum_stage.specs.Score.{through, Follow}
 use Rattle.hum_stage.specs.Meaning.{KeepsScore}
-use Rattle.hum_stage.specs.Decided.{decisions, limit, Keeps}
+use Rattle.hum_stage.specs.Decided.{decisions, limit}
 use Rattle.hum_stage.proofs.Keeping.{at_once_keeps}
 use Rattle.hum_cells.specs.Retelling.{Heading, Renamed, Followed, Retelling, is_kern, kern_columns, is_long, if_fit, data_record, headed, with_heading, beside, retold, all_retold, retell, IsHeading}
 
@@ -270,9 +270,9 @@ settled (Spines names) tokens some h =
     let size = each_length names tokens k.wide in
     let count = length-map tokens sign_of in
     let is : names_after (Spines names) tokens ≡ renamed_each names tokens =
-        names_onward names tokens k.wide k.pair
-        ∙ (ap (onward (λ _. []) (beginnings false signs) signs) (swapped_none 0 signs (renamed_each names tokens) (quiet_exchanges 0 signs none))
-        ∙ quiet_onward false signs (renamed_each names tokens) none (omega (arith, size, count))) in
+    names_onward names tokens k.wide k.pair
+    ∙ (ap (onward (λ _. []) (beginnings false signs) signs) (swapped_none 0 signs (renamed_each names tokens) (quiet_exchanges 0 signs none))
+    ∙ quiet_onward false signs (renamed_each names tokens) none (omega (arith, size, count))) in
     record {
       wide = ap length is ∙ size;
       filled = rw is (each_named names tokens k.unnamed);

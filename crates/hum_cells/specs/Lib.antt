@@ -1,3 +1,4 @@
 pub mod Retelling
 pub mod Telling
 pub mod Making
+pub mod Samples

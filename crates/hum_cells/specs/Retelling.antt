@@ -1,5 +1,6 @@
 -- What the tokens of kern columns become.
-use Rattle.std.specs.Prelude.{◌≡◌, ℕ, Bool, true, false, not, ◌&&◌, ◌||◌, nat_eq, nat_lt, List, [], ◌∷◌, map, length}
+use Rattle.std.specs.Prelude.{◌≡◌, ℕ, nat_eq, nat_lt, Bool, true, false, not, ◌&&◌, ◌||◌}
+use Rattle.std.specs.Prelude.{List, [], ◌∷◌, map, length}
 use Rattle.std.specs.Prelude.{Result, Ok, Err, if◌then◌else◌}
 use Rattle.std.specs.List.{list_any, starts_with}
 use Rattle.std.specs.Str.{bytes_eq}
@@ -78,9 +79,9 @@ with_heading (Renamed name) tokens =
     Spined Interpretation (map (headed (Renamed name)) tokens) ∷ []
 with_heading (Followed tandem) tokens =
     if list_any is_kern tokens then
-      Spined Interpretation tokens
-      ∷ Spined Interpretation (map (headed (Followed tandem)) tokens)
-      ∷ []
+    Spined Interpretation tokens
+    ∷ Spined Interpretation (map (headed (Followed tandem)) tokens)
+    ∷ []
     else Spined Interpretation tokens ∷ []
 
 abbrev pub is_long : Row → Bool

@@ -1,5 +1,5 @@
 -- What a teller of tokens is asked for, and what it answers.
-use Rattle.std.specs.Prelude.{◌≡◌, ℕ, ◌<◌, Bool, true, List, [], ◌∷◌, ◌++◌, length}
+use Rattle.std.specs.Prelude.{◌≡◌, ℕ, ◌<◌, Bool, List, [], ◌∷◌, ◌++◌, length}
 use Rattle.std.specs.Prelude.{Option, None, Some, Result, Ok, Err}
 use Rattle.hum_record.specs.declared.SpinedKind.TheVariants.{Values}
 use Rattle.hum_record.specs.Row.{Row}
@@ -10,10 +10,12 @@ use Rattle.hum_path.specs.Score.{IsOpen, path_after}
 use Rattle.hum_path.specs.Chains.{columns, history}
 use Rattle.hum_stage.specs.declared.faults.Rule.{Rule}
 use Rattle.hum_cells.specs.declared.retells.Heading.{Heading as Shown}
-use Rattle.hum_cells.specs.declared.retells.Heading.TheVariants.{Renamed as ShownRenamed, Followed as ShownFollowed}
+use Rattle.hum_cells.specs.declared.retells.Heading.TheVariants.{Renamed as ShownRenamed}
+use Rattle.hum_cells.specs.declared.retells.Heading.TheVariants.{Followed as ShownFollowed}
 use Rattle.hum_cells.specs.declared.told.Told.{Told}
 use Rattle.hum_cells.specs.declared.told.Told.TheVariants.{Same, Other, With, Refused}
-use Rattle.hum_cells.specs.Retelling.{Heading, Renamed, Followed, Retelling, kern_columns, retold, retell}
+use Rattle.hum_cells.specs.Retelling.{Heading, Renamed, Followed, Retelling}
+use Rattle.hum_cells.specs.Retelling.{kern_columns, retold, retell}
 
 -- what a heading shows, by its text
 abbrev pub shown : Shown → Heading
@@ -40,7 +42,8 @@ HasRetold before after j token text refused =
     → after retelling past × Tells (retelling.becomes (history past j) token) text refused
 
 -- a record after records that a teller follows, and where the spines come from
-pub record MayFollow (follows : Retelling → List Row → Type 0) (row : Row) (found : List Move) : Type 0 where
+pub record MayFollow (follows : Retelling → List Row → Type 0) (row : Row) (found : List Move)
+    : Type 0 where
   pub retelling : Retelling
   pub past : List Row
   pub memory : follows retelling past
@@ -107,7 +110,8 @@ abbrev pub HasPushed : (Retelling → List Row → Type 0) → (Retelling → Li
     → List ℕ → (List (List ℕ) → Type 0) → (List (List ℕ) → Type 0) → Option Rule → Type 0
 HasPushed before after j kern token made making refused =
     (retelling : Retelling) (past : List Row) → before retelling past
-    → after retelling past × Pushes (retold retelling.becomes kern (history past j) token) made making refused
+    → after retelling past
+    × Pushes (retold retelling.becomes kern (history past j) token) made making refused
 
 -- the records that were decided, or the rule
 abbrev pub Puts : Result (List Row) Rule → List Row → Option Rule → Type 0

@@ -9,8 +9,8 @@ ghost use Rattle.hum_cells.specs.Telling.{MayTell, HasTold, Puts, decision};
 
 use crate::heading::{has_kern, is_kern, with_heading};
 use crate::retells::{Heading, Retells};
-use crate::told::Told;
 use crate::tokens::{any_told, tell_tokens};
+use crate::told::Told;
 use hum_path::{Paths, steers};
 use hum_record::{Kind, Record};
 use hum_stage::{Decides, Rule};
@@ -30,11 +30,7 @@ pub struct Cells<T> {
 }
 
 /// Puts what was decided of a record.
-fn put(
-    row: Record,
-    told: Told,
-    out: &mut VecDeque<Record>,
-) -> Result<Option<Rule>, AllocError>
+fn put(row: Record, told: Told, out: &mut VecDeque<Record>) -> Result<Option<Rule>, AllocError>
     requires { out.old.items ≡ [] }
     ensures { IfOk result (Puts (decision row told) out.new.items) }
 {

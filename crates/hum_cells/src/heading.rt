@@ -39,13 +39,7 @@ fn headed<'t>(heading: Heading<'t>, token: &'t [u8]) -> &'t [u8]
     ensures { result.now ≡ headed (shown heading.entry) token.now }
 {
     match heading {
-        Heading::Renamed(name) => {
-            if is_kern(token) {
-                name
-            } else {
-                token
-            }
-        }
+        Heading::Renamed(name) => { if is_kern(token) { name } else { token } }
         Heading::Followed(tandem) => {
             if is_kern(token) {
                 tandem
@@ -65,7 +59,8 @@ pub(crate) fn with_heading(
     requires lawful { IsHeading (shown heading) }
     requires kind { kind_of row.now ≡ AnyInterpretation }
     requires filled { tokens_of row.now ≢ [] }
-    ensures { IfOk result (IsMade Interpretation (map (headed (shown heading.entry)) (tokens_of row.now))) }
+    ensures { IfOk result (IsMade Interpretation
+        (map (headed (shown heading.entry)) (tokens_of row.now))) }
 {
     let mut making = Making::new(alloc, SpinedKind::Interpretation);
     for j in 0..row.width() {

@@ -12,10 +12,12 @@ mod heading;
 mod making;
 mod retells;
 mod stage;
-mod told;
 mod tokens;
+mod told;
 
 pub use cells::Cells;
 pub use retells::{Heading, Retells};
 pub use stage::CellStage;
 
+#[cfg(test)]
+mod tests;

@@ -6,7 +6,8 @@ ghost use Rattle.hum_record.specs.Spelling.{IsToken};
 ghost use Rattle.hum_path.specs.Step.{ComeFrom};
 ghost use Rattle.hum_stage.specs.declared.faults.Command.{Command};
 ghost use Rattle.hum_cells.specs.Retelling.{Retelling, IsHeading, is_told};
-ghost use Rattle.hum_cells.specs.Telling.{MayRetell, HasRetold, MayFollow, HasFollowed, ShowsHeading};
+ghost use Rattle.hum_cells.specs.Telling.{MayRetell, HasRetold, MayFollow, HasFollowed};
+ghost use Rattle.hum_cells.specs.Telling.{ShowsHeading};
 
 use hum_path::Moves;
 use hum_record::Record;
@@ -67,7 +68,8 @@ pub trait Retells: Drop {
     fn follow(&mut self, row: &Record, found: &Moves) -> Result<(), AllocError>
         requires score { MayFollow (follows self.old) row.now found.now }
         requires sources { ComeFrom row.now found.now }
-        ensures { OnOk result (HasFollowed (follows self.old) (follows self.new) row.now found.now) };
+        ensures { OnOk result
+            (HasFollowed (follows self.old) (follows self.new) row.now found.now) };
 
     /// The heading is lawful.
     ghost lawful: { (s : Self) (retelling : Retelling) (past : List Row)

@@ -5,11 +5,12 @@ use Rattle.std.specs.List.{list_any, AllByRecursion}
 use Rattle.std.specs.Fmt.{decimal, signed_decimal}
 use Rattle.std.specs.Int.Signed.{mag}
 use Rattle.std.proofs.lemmas.Int.{ints}
+use Rattle.std.proofs.lemmas.List.Folds.{list_any-append}
 use Rattle.std.proofs.lemmas.Fmt.{decimal_digit, decimal_step}
 use Rattle.std.proofs.lemmas.Bool.Decides.{nat_tests, leb_tells}
 use mathlib.Core.Logic.{inl, inr}
-use Rattle.hum_record.specs.declared.SpinedKind.TheVariants.{Values}
-use Rattle.hum_record.specs.Spelling.{has_byte, kind_of_token}
+use Rattle.hum_record.specs.declared.SpinedKind.TheVariants.{Interpretation, Values}
+use Rattle.hum_record.specs.Spelling.{has_byte, kind_of_token, IsToken}
 use Rattle.hum_pitch.specs.Pitch.{Spelled, semitones, IsWithin}
 use Rattle.hum_kern.specs.Note.{Reading, note}
 use Rattle.hum_tones.specs.Subtokens.{IsPart, IsPiece, HasAdded}
@@ -84,3 +85,39 @@ mag_within (negsuc n) within = omega (arith, ints)
 -- a small number as it is handed to a function
 pub as_passed : (z a : ℤ) → IsWithin (negsuc 102) z (pos 102) → z ≡ a → to_z w32 (of_z w32 z) ≡ a
 as_passed z a within is = omega (arith, ints)
+
+lacks_number : (c : ℕ) (z : ℤ) → c < 45 → mag z < 2 ^ 63 → has_byte c (signed_decimal z) ≡ false
+lacks_number c (pos n) low fits = digits_lack c (decimal n) (omega (arith, low)) (digits_of (suc n) n (omega arith) (omega (arith, fits))).all
+lacks_number c (negsuc n) low fits =
+    let other : (45 == c) ≡ false = grind (arith, nat_tests, low) in
+    rw (other, digits_lack c (decimal (suc n)) (omega (arith, low)) (digits_of (suc (suc n)) (suc n) (omega arith) (omega (arith, fits))).all) refl
+
+lacks_sign : (c : ℕ) (n m : ℤ) → has_byte c (codes "*Trd") ≡ false → has_byte c (codes "c") ≡ false → c < 45 → mag n < 2 ^ 63 → mag m < 2 ^ 63
+    → has_byte c (codes "*Trd" ++ (signed_decimal n ++ (codes "c" ++ signed_decimal m))) ≡ false
+lacks_sign c n m front middle low f g =
+    rw (list_any-append (λ x. x == c) (codes "*Trd") (signed_decimal n ++ (codes "c" ++ signed_decimal m)), front,
+    list_any-append (λ x. x == c) (signed_decimal n) (codes "c" ++ signed_decimal m), lacks_number c n low f,
+    list_any-append (λ x. x == c) (codes "c") (signed_decimal m), middle, lacks_number c m low g) refl
+
+steps_small : (z : ℤ) → IsWithin (negsuc 48) z (pos 49) → mag z < 2 ^ 63
+steps_small (pos n) within = omega (arith, ints)
+steps_small (negsuc n) within = omega (arith, ints)
+
+semitones_small : (z : ℤ) → IsWithin (negsuc 83) z (pos 84) → mag z < 2 ^ 63
+semitones_small (pos n) within = omega (arith, ints)
+semitones_small (negsuc n) within = omega (arith, ints)
+
+-- what goes behind **kern is a lawful interpretation
+pub sign_lawful : (n m : ℤ) → IsWithin (negsuc 48) n (pos 49) → IsWithin (negsuc 83) m (pos 84)
+    → IsToken Interpretation (codes "*Trd" ++ (signed_decimal n ++ (codes "c" ++ signed_decimal m)))
+sign_lawful n m f g =
+    let small = steps_small n f in
+    let few = semitones_small m g in
+    record {
+      filled = λ e. cc;
+      one_token = lacks_sign 9 n m refl refl (omega arith) small few;
+      one_line = lacks_sign 13 n m refl refl (omega arith) small few;
+      no_line_end = lacks_sign 10 n m refl refl (omega arith) small few;
+      of_kind = refl;
+      no_comment = refl;
+    }

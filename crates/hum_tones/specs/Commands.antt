@@ -1,13 +1,29 @@
 -- What the commands on notes make of kern columns.
-use Rattle.std.specs.Prelude.{ℕ}
+use Rattle.std.specs.Prelude.{◌≡◌, ℕ, List, ◌++◌}
+use Rattle.std.specs.Fmt.{signed_decimal}
 use lib.Chars.{codes}
-use Rattle.hum_stage.specs.declared.faults.Command.TheVariants.{Semits, Recip}
+use Rattle.hum_record.specs.Row.{Row}
+use Rattle.hum_stage.specs.declared.faults.Command.TheVariants.{Trans, Semits, Recip}
 use Rattle.hum_stage.specs.Meaning.{Meaning}
-use Rattle.hum_cells.specs.Retelling.{Retelling, Renamed, meaning}
+use Rattle.hum_cells.specs.Retelling.{Retelling, Renamed, Followed, IsHeading, meaning}
 use Rattle.hum_tones.specs.declared.giving.Giving.TheVariants.{Semitones, Durations}
+use Rattle.hum_tones.specs.declared.transposing.Transposition.{Transposition}
 use Rattle.hum_tones.specs.declared.semits.SemitsOptions.{SemitsOptions}
 use Rattle.hum_tones.specs.declared.recip.RecipOptions.{RecipOptions}
+use Rattle.hum_tones.specs.Trans.{transposed}
 use Rattle.hum_tones.specs.Giving.{given}
+
+-- what goes behind **kern: by how many steps and semitones its notes were moved
+abbrev pub trans_sign : Transposition → List ℕ
+trans_sign options =
+    codes "*Trd" ++ (signed_decimal options.steps ++ (codes "c" ++ signed_decimal options.semitones))
+
+-- each note is so many steps and semitones away
+abbrev pub trans : Transposition → Retelling
+trans options = record {
+  heading = Followed (trans_sign options);
+  becomes = λ above. transposed options.steps options.semitones;
+}
 
 -- **kern becomes **semits, and notes their semitones
 abbrev pub semits : SemitsOptions → Retelling
@@ -20,7 +36,17 @@ semits options = record {
 abbrev pub recip : RecipOptions → Retelling
 recip options = record { heading = Renamed (codes "**recip"); becomes = λ above. given Durations }
 
+-- what trans keeps: its options, and the text of what goes behind **kern
+pub record Transposes (options : Transposition) (sign : List ℕ) (retelling : Retelling)
+    (past : List Row) : Type 0 where
+  pub command : retelling ≡ trans options
+  pub text : sign ≡ trans_sign options
+  pub lawful : IsHeading retelling.heading
+
 -- what the stages of these numbers mean
+abbrev pub meaning_of_trans : ℕ → Transposition → Meaning
+meaning_of_trans stage options = meaning stage Trans (trans options)
+
 abbrev pub meaning_of_semits : ℕ → SemitsOptions → Meaning
 meaning_of_semits stage options = meaning stage Semits (semits options)
 

@@ -1,5 +1,5 @@
-use Rattle.std.proofs.Common.{◌≡◌, ◌∙◌, sym}
-use Rattle.hum_cells.proofs.Headings.{kern_among, sign_same, sign_long, sign_replaced, sign_added}
+use Rattle.std.proofs.Common.{◌∙◌, sym}
+use Rattle.hum_cells.proofs.Headings.{sign_same}
 use Rattle.hum_cells.proofs.cells.tell_heading.Goals as goal
 
 pub returns-then-not-has_kern : goal.returns-then-not-has_kern

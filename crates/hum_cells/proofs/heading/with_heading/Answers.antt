@@ -3,7 +3,7 @@ use Rattle.std.proofs.lemmas.List.{map_more}
 use Rattle.hum_record.specs.Row.{tokens_of}
 use Rattle.hum_cells.specs.Retelling.{headed}
 use Rattle.hum_cells.specs.Telling.{shown}
-use Rattle.hum_cells.proofs.Headings.{headed_lawful, token_of_sign, some_headed}
+use Rattle.hum_cells.proofs.Headings.{headed_lawful, token_of_sign}
 use Rattle.hum_cells.proofs.heading.with_heading.Goals as goal
 
 pub push-requires : goal.push-requires

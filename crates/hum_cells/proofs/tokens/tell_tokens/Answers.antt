@@ -1,6 +1,6 @@
 use Rattle.std.proofs.Common.{◌≡◌, ◌∙◌, refl, length, arith}
 use Rattle.hum_record.specs.Row.{tokens_of, width_of}
-use Rattle.hum_cells.proofs.Telling.{done_more, refused_at, done_all, begins, as_wide, told_data, fits, too_long}
+use Rattle.hum_cells.proofs.Telling.{done_more, refused_at, done_all, as_wide, told_data, fits, too_long}
 use Rattle.hum_cells.proofs.tokens.tell_tokens.Goals as goal
 
 pub push_told-requires-clause-column : goal.push_told-requires-clause-column
