@@ -57,8 +57,12 @@ one_more : (breaks : Option (List ℕ)) (token : List ℕ) (before : Option Spel
     → (b : Bool) → is_break breaks token ≡ b → (r : Option Spelled) → remembered_of token ≡ r
     → (if e then None else if b then None else or_before r before)
     ≡ settled breaks (if b || is_some r then Some token else find (settles breaks) (if e then [] else rest))
-one_more breaks token before rest true apart is b f r g = ?
-one_more breaks token before rest false apart is b f r g = ?
+one_more breaks token before rest true apart is true f r g = absurd (let no : true ≡ false = sym f ∙ no_break breaks token (apart refl) in cc)
+one_more breaks token before rest true apart is false f (Some p) g = absurd (let no : Some p ≡ None = sym g ∙ not_remembered token (apart refl) in cc)
+one_more breaks token before rest true apart is false f None g = refl
+one_more breaks token before rest false apart is true f r g = rw f refl
+one_more breaks token before rest false apart is false f (Some p) g = rw (f, g) refl
+one_more breaks token before rest false apart is false f None g = is
 
 pub remembers_note : (breaks : Option (List ℕ)) (above : List (List ℕ)) → remembered (note_after breaks) None above ≡ note_before breaks above
 remembers_note breaks [] = refl

@@ -9,3 +9,5 @@ pub mod Joined
 pub mod Moved
 pub mod MovedLawful
 pub mod MintedLawful
+pub mod LastNotes
+pub mod MintSteps

@@ -7,6 +7,7 @@
 mod giving;
 mod hearing;
 mod last_note;
+mod mint;
 mod minting;
 mod recip;
 mod semits;
@@ -14,6 +15,7 @@ mod trans;
 mod transposing;
 
 pub use last_note::LastNote;
+pub use mint::{Mint, MintTokens};
 pub use minting::MintOptions;
 pub use recip::{Recip, RecipOptions, RecipTokens};
 pub use semits::{Semits, SemitsOptions, SemitsTokens};

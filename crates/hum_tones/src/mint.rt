@@ -1,0 +1,73 @@
+//! The command mint: notes become the intervals from the notes before.
+ghost use Rattle.hum_stage.specs.declared.faults.Command.TheVariants.{Mint as MintCommand};
+
+use crate::last_note::LastNote;
+use crate::minting::MintOptions;
+use hum_cells::{CellStage, Heading, Retells};
+use hum_path::{Carried, Moves};
+use hum_record::Record;
+use hum_stage::{Command, Rule};
+use std::alloc::{AllocError, Global};
+
+/// What mint makes of tokens.
+pub struct MintTokens {
+    options: MintOptions,
+    carried: Carried<LastNote>,
+}
+
+// Written out, so that a caller's proof sees one call and not the drop of each field.
+impl Drop for MintTokens {
+    fn drop(self) {
+        let MintTokens {
+            options: _options,
+            carried: _carried,
+        } = self;
+    }
+}
+
+/// The command mint, as a stage.
+pub type Mint = CellStage<MintTokens>;
+
+impl Retells for MintTokens {
+    type Options = MintOptions;
+
+    ghost use Rattle.hum_tones.specs.Commands.{mint, Mints};
+
+    ghost command = { MintCommand };
+
+    ghost retelling = { mint };
+
+    ghost follows = { λ s. Mints s.options s.carried.each };
+
+    ghost use Rattle.hum_tones.specs.Headings.{mint_heading};
+
+    ghost lawful = { λ s retelling past h. mint_heading s.options retelling h.command };
+
+    fn command() -> Command {
+        Command::Mint
+    }
+
+    fn begin(alloc: Global, options: MintOptions) -> Self {
+        MintTokens {
+            options,
+            carried: Carried::new(alloc),
+        }
+    }
+
+    fn heading(&self) -> Heading<'_> {
+        Heading::Renamed(b"**mint".as_slice())
+    }
+
+    fn retell(
+        &mut self,
+        j: usize,
+        token: &[u8],
+        text: &mut Vec<u8>,
+    ) -> Result<Option<Rule>, AllocError> {
+        self.options.retell(self.carried.at(j), token, text)
+    }
+
+    fn follow(&mut self, row: &Record, found: &Moves) -> Result<(), AllocError> {
+        self.carried.follow(&mut self.options.breaks, row, found)
+    }
+}
