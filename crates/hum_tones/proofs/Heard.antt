@@ -1,14 +1,17 @@
 -- What is heard of the first parts of a token.
 use Rattle.std.proofs.Common.{◌≡◌, refl, sym, ap, ◌∙◌, ℕ, ◌+◌, ◌<◌, ◌≤◌, Bool, true, false, List, [], ◌∷◌, ◌++◌, append_assoc, append-nil, length, drop, get_or, arith, Option, None, Some}
-use Rattle.std.specs.Prelude.{Result, Ok, Err, ◌||◌}
+use Rattle.std.specs.Prelude.{Result, Ok, Err, ◌||◌, option_map}
 use Rattle.std.specs.List.{list_any}
 use Rattle.std.proofs.lemmas.List.{at_drop_more, drop_all}
 use Rattle.hum_kern.specs.declared.KernFault.{KernFault}
 use Rattle.hum_kern.specs.Note.{Reading, note}
 use Rattle.hum_stage.specs.declared.faults.Rule.{Rule}
 use Rattle.hum_tones.specs.Faults.{rule_of}
-use Rattle.hum_tones.specs.Mint.{readings_of, with_reading, Tone, or_tone, leading, Heard, heard}
-use Rattle.hum_tones.specs.Hearing.{hearing, heard_with, heard_in, first_of}
+use Rattle.hum_tones.specs.Mint.{readings, told, told_of, minted, approached, readings_of, with_reading, Tone, or_tone, leading, Heard, heard}
+use Rattle.hum_pitch.specs.Pitch.{Spelled}
+use Rattle.hum_pitch.specs.Given.{spelled}
+use Rattle.hum_tones.specs.declared.hearing.Tone.{Tone as KeptTone}
+use Rattle.hum_tones.specs.Hearing.{tone_of, hearing, heard_with, heard_in, first_of}
 use Rattle.hum_tones.specs.declared.hearing.Heard.{Heard as Kept}
 
 abbrev pub onto : List Reading → Result (List Reading) Rule → Result (List Reading) Rule
@@ -29,7 +32,7 @@ onto_one_more : (done : List Reading) (reading : Reading) (r : Result (List Read
 onto_one_more done reading (Ok readings) = ap (λ all. Ok all) (sym (append_assoc done (reading ∷ []) readings))
 onto_one_more done reading (Err rule) = refl
 
-first_of_assoc : (p : Option Rattle.hum_pitch.specs.Pitch.Spelled) (b : Bool) (o rest : Option Tone) → or_tone p b (first_of o rest) ≡ first_of (or_tone p b o) rest
+first_of_assoc : (p : Option Spelled) (b : Bool) (o rest : Option Tone) → or_tone p b (first_of o rest) ≡ first_of (or_tone p b o) rest
 first_of_assoc (Some p) b o rest = refl
 first_of_assoc None b o rest = refl
 
@@ -82,3 +85,16 @@ module _ (parts : List (List ℕ)) (n : ℕ) (kept : Kept) (h : HeardSoFar parts
   all_heard past =
       let all : readings_of parts ≡ Ok h.done = h.rest ∙ rw (drop_all n parts past, append-nil h.done) refl in
       ap (λ (x : Heard). Ok x) h.is ∙ sym (ap heard_in all)
+
+told_as_heard : (signless sizeonly : Bool) (before : Option Spelled) (rs : Result (List Reading) Rule) (h : Heard) → Ok h ≡ heard_in rs → told_of signless sizeonly before rs ≡ Ok (told signless sizeonly before h.tone h.rest)
+told_as_heard signless sizeonly before (Ok readings) h e =
+    let same : heard readings ≡ h = cc in
+    ap (λ (x : Heard). Ok (told signless sizeonly before x.tone x.rest)) same
+told_as_heard signless sizeonly before (Err rule) h e = cc
+
+-- a token with a note that begins anew
+pub told_anew : (signless sizeonly : Bool) (before : Option Spelled) (token : List ℕ) (kept : Kept) (tone : KeptTone) → Ok (hearing kept) ≡ heard_in (readings token) → kept.tone ≡ Some tone → tone.continued ≡ false → minted signless sizeonly before token ≡ Ok (approached signless sizeonly before (spelled tone.pitch))
+told_anew signless sizeonly before token kept tone e is anew =
+    told_as_heard signless sizeonly before (readings token) (hearing kept) e
+    ∙ ap (λ (t : Option KeptTone). Ok (told signless sizeonly before (option_map tone_of t) kept.rest)) is
+    ∙ rw anew refl

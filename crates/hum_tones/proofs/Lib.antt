@@ -8,3 +8,6 @@ pub mod SoFar
 pub mod Joined
 pub mod Moved
 pub mod MovedLawful
+pub mod MintedLawful
+pub mod LastNotes
+pub mod MintSteps

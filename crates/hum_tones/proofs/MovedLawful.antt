@@ -20,7 +20,7 @@ use Rattle.hum_tones.proofs.Written.{lacks_take, lacks_drop}
 use Rattle.hum_tones.proofs.Joined.{joined_lacks, no_comment}
 
 -- the bytes of a pitch are over those that end a token or a line
-not_low : (x c : ℕ) → 13 < x → c ≤ 13 → (x == c) ≡ false
+pub not_low : (x c : ℕ) → 13 < x → c ≤ 13 → (x == c) ≡ false
 not_low x c p q = grind arith
 
 small_over : (step : ℕ) → step < 7 → 13 < slice_index small_letters step
@@ -43,7 +43,7 @@ capital_over (suc (suc (suc (suc (suc zero))))) h = omega arith
 capital_over (suc (suc (suc (suc (suc (suc zero)))))) h = omega arith
 capital_over (suc (suc (suc (suc (suc (suc (suc n))))))) h = absurd (omega arith)
 
-repeat_lacks : (x c n : ℕ) → (x == c) ≡ false → has_byte c (replicate n x) ≡ false
+pub repeat_lacks : (x c n : ℕ) → (x == c) ≡ false → has_byte c (replicate n x) ≡ false
 repeat_lacks x c zero h = refl
 repeat_lacks x c (suc n) h = rw (h, repeat_lacks x c n h) refl
 
@@ -55,7 +55,7 @@ signs_lack : (c : ℕ) (a : ℤ) → c ≤ 13 → has_byte c (accidentals a) ≡
 signs_lack c (pos k) low = repeat_lacks 35 c k (not_low 35 c (omega arith) low)
 signs_lack c (negsuc k) low = repeat_lacks 45 c (suc k) (not_low 45 c (omega arith) low)
 
-both_lack : (c : ℕ) (xs ys : List ℕ) → has_byte c xs ≡ false → has_byte c ys ≡ false → has_byte c (xs ++ ys) ≡ false
+pub both_lack : (c : ℕ) (xs ys : List ℕ) → has_byte c xs ≡ false → has_byte c ys ≡ false → has_byte c (xs ++ ys) ≡ false
 both_lack c xs ys p q = rw (list_any-append (λ (x : ℕ). x == c) xs ys, p, q) refl
 
 pub spelling_lacks : (c : ℕ) (p : Spelled) → p.step < 7 → c ≤ 13 → has_byte c (spelling p) ≡ false

@@ -1,0 +1,77 @@
+-- What is remembered of a column is the note before.
+use Rattle.std.proofs.Common.{◌≡◌, ◌∙◌, refl, sym, ap, ℕ, Bool, true, false, ◌==◌, List, [], ◌∷◌, map, Option, None, Some, inl, inr, arith}
+use Rattle.std.specs.Prelude.{if◌then◌else◌, cond, ◌&&◌, ◌||◌, not, nat_eq}
+use Rattle.std.specs.List.{find, starts_with}
+use Rattle.std.specs.Str.{bytes_eq}
+use Rattle.std.proofs.lemmas.Bool.{cases_Bool, and_parts}
+use Rattle.std.proofs.lemmas.Bool.Decides.{nat_tests}
+use lib.Chars.{codes}
+use Rattle.hum_record.specs.declared.SpinedKind.TheVariants.{Local, Interpretation, Values}
+use Rattle.hum_record.specs.Spelling.{same_kind, kind_of_token}
+use Rattle.hum_path.specs.Sign.{sign_of, is_exclusive}
+use Rattle.hum_path.specs.Chains.{reach}
+use Rattle.hum_path.specs.Memories.{remembered}
+use Rattle.hum_path.specs.declared.signs.Sign.TheVariants.{Split, Join, Exchange, Add, End, Plain}
+use Rattle.hum_path.proofs.Cases.{by_bool}
+use Rattle.hum_pitch.specs.Pitch.{Spelled}
+use Rattle.hum_tones.specs.Mint.{is_filled, is_barline, is_break, is_some, settles, settled, note_before, remembered_of}
+use Rattle.hum_tones.specs.Memory.{note_after, or_before}
+
+others : (a b c d e : Bool) → is_exclusive (if a then Split else if b then Join else if c then Exchange else if d then Add else if e then End else Plain) ≡ false
+others true b c d e = refl
+others false true c d e = refl
+others false false true d e = refl
+others false false false true e = refl
+others false false false false true = refl
+others false false false false false = refl
+
+exclusive_by_text : (token : List ℕ) → is_exclusive (sign_of token) ≡ starts_with nat_eq token (codes "**")
+exclusive_by_text token = elim (cases_Bool (starts_with nat_eq token (codes "**"))) as (λ _. is_exclusive (sign_of token) ≡ starts_with nat_eq token (codes "**")) [
+  | inl is ↦ rw is refl
+  | inr isnt ↦ rw isnt (others (bytes_eq token (codes "*^")) (bytes_eq token (codes "*v")) (bytes_eq token (codes "*x")) (bytes_eq token (codes "*+")) (bytes_eq token (codes "*-")))
+]
+
+no_data : (comment star : Bool) → star ≡ true → same_kind (if comment then Local else if star then Interpretation else Values) Values ≡ false
+no_data true star h = refl
+no_data false true h = refl
+no_data false false h = cc
+
+-- an exclusive interpretation is no data
+exclusive_not_filled : (token : List ℕ) → is_exclusive (sign_of token) ≡ true → is_filled token ≡ false
+exclusive_not_filled [] h = cc
+exclusive_not_filled (b ∷ bs) h =
+    let starts : starts_with nat_eq (b ∷ bs) (codes "**") ≡ true = sym (exclusive_by_text (b ∷ bs)) ∙ h in
+    let first = (and_parts (42 == b) (starts_with nat_eq bs (codes "*")) starts).0 in
+    let star : (b == 42) ≡ true = grind (arith, nat_tests, first) in
+    rw (no_data (b == 33) (b == 42) star) refl
+
+no_break : (breaks : Option (List ℕ)) (token : List ℕ) → is_filled token ≡ false → is_break breaks token ≡ false
+no_break None token h = refl
+no_break (Some pattern) token h = rw h refl
+
+not_remembered : (token : List ℕ) → is_filled token ≡ false → remembered_of token ≡ None
+not_remembered token h = rw h refl
+
+-- one cell more, by what it is
+one_more : (breaks : Option (List ℕ)) (token : List ℕ) (before : Option Spelled) (rest : List (List ℕ)) → (e : Bool) → (e ≡ true → is_filled token ≡ false) → before ≡ settled breaks (find (settles breaks) rest)
+    → (b : Bool) → is_break breaks token ≡ b → (r : Option Spelled) → remembered_of token ≡ r
+    → (if e then None else if b then None else or_before r before)
+    ≡ settled breaks (if b || is_some r then Some token else find (settles breaks) (if e then [] else rest))
+one_more breaks token before rest true apart is true f r g = absurd (let no : true ≡ false = sym f ∙ no_break breaks token (apart refl) in cc)
+one_more breaks token before rest true apart is false f (Some p) g = absurd (let no : Some p ≡ None = sym g ∙ not_remembered token (apart refl) in cc)
+one_more breaks token before rest true apart is false f None g = refl
+one_more breaks token before rest false apart is true f r g = rw f refl
+one_more breaks token before rest false apart is false f (Some p) g = rw (f, g) refl
+one_more breaks token before rest false apart is false f None g = is
+
+pub remembers_note : (breaks : Option (List ℕ)) (above : List (List ℕ)) → remembered (note_after breaks) None above ≡ note_before breaks above
+remembers_note breaks [] = refl
+remembers_note breaks (token ∷ above) =
+    one_more breaks token (remembered (note_after breaks) None above) (reach above) (is_exclusive (sign_of token)) (exclusive_not_filled token) (remembers_note breaks above)
+    (is_break breaks token) refl (remembered_of token) refl
+
+pub all_remembered : (breaks : Option (List ℕ)) (columns : List (List (List ℕ)))
+    → map (remembered (note_after breaks) None) columns ≡ map (note_before breaks) columns
+all_remembered breaks [] = refl
+all_remembered breaks (above ∷ columns) =
+    let a = remembers_note breaks above in let b = all_remembered breaks columns in cc

@@ -1,0 +1,87 @@
+-- The name of an interval, and a pitch in brackets, may stand as a token.
+use Rattle.std.proofs.Common.{◌≡◌, ◌≢◌, refl, sym, ap, ◌∙◌, ℕ, zero, suc, ℤ, pos, negsuc, ◌-ℤ◌, ◌+ℤ◌, ◌*ℤ◌, ◌+◌, ◌==◌, ◌<◌, ◌≤◌, ◌^◌, Bool, true, false, List, [], ◌∷◌, ◌++◌, arith, Option, None, Some, append_assoc}
+use Rattle.std.specs.Prelude.{Result, Ok, Err, replicate, cond, unsigned_abs, option_map, if◌then◌else◌}
+use Rattle.std.specs.Fmt.{decimal}
+use Rattle.std.specs.Int.Signed.{mag}
+use Rattle.std.proofs.lemmas.Int.{ints}
+use lib.Chars.{codes}
+use Rattle.hum_record.specs.declared.SpinedKind.TheVariants.{Values}
+use Rattle.hum_record.specs.Spelling.{has_byte, kind_of_token, IsToken}
+use Rattle.hum_pitch.specs.Pitch.{Spelled, step_number, semitones}
+use Rattle.hum_pitch.specs.Given.{spelled}
+use Rattle.hum_pitch.specs.Spelling.{spelling}
+use Rattle.hum_pitch.specs.Intervals.{direction, sign, quality, quality_letters, size, named}
+use Rattle.hum_pitch.specs.declared.pitch.Pitch.{Pitch}
+use Rattle.hum_pitch.proofs.Names.{AreOver, name_over}
+use Rattle.hum_tones.specs.Subtokens.{IsPiece}
+use Rattle.hum_tones.specs.Mint.{approached}
+use Rattle.hum_tones.proofs.MovedLawful.{both_lack, not_low, repeat_lacks, spelling_lacks}
+use Rattle.hum_tones.proofs.Numbers.{number_piece}
+use Rattle.hum_tones.proofs.Joined.{no_comment}
+
+-- what may stand before the digits of an interval's size
+record IsFront (front : List ℕ) : Type 0 where
+  lacks : (c : ℕ) → c ≤ 13 → has_byte c front ≡ false
+  kind : (more : List ℕ) → kind_of_token more ≡ Values → kind_of_token (front ++ more) ≡ Values
+
+not_byte : (x c : ℕ) → 42 < x → c ≤ 42 → (x == c) ≡ false
+not_byte x c p q = grind arith
+
+no_front : IsFront []
+no_front = record { lacks = λ c low. refl; kind = λ more h. h }
+
+over_front : (xs : List ℕ) → AreOver 42 xs → IsFront xs
+over_front [] all = no_front
+over_front (x ∷ xs) all =
+    let high = all.0 in
+    let rest = over_front xs all.1 in
+    let not_comment : (x == 33) ≡ false = not_byte x 33 high (omega arith) in
+    let not_star : (x == 42) ≡ false = not_byte x 42 high (omega arith) in
+    record {
+      lacks = λ c low. rw (not_byte x c high (omega (arith, low)), rest.lacks c low) refl;
+      kind = λ more h. rw (not_comment, not_star) refl;
+    }
+
+front_lawful : (front text : List ℕ) → IsFront front → IsPiece text → IsToken Values (front ++ text)
+front_lawful front text f piece =
+    let kind = f.kind text piece.of_kind in
+    record {
+      filled = some front text piece.filled;
+      one_token = both_lack 9 front text (f.lacks 9 (omega arith)) piece.part.one_token;
+      one_line = both_lack 13 front text (f.lacks 13 (omega arith)) piece.part.one_line;
+      no_line_end = both_lack 10 front text (f.lacks 10 (omega arith)) piece.part.no_line_end;
+      of_kind = kind;
+      no_comment = no_comment (front ++ text) kind;
+    }
+  where
+    some : (xs ys : List ℕ) → ys ≢ [] → xs ++ ys ≢ []
+    some [] ys h = h
+    some (x ∷ xs) ys h = λ e. cc
+
+named_lawful : (signless sizeonly : Bool) (d s : ℤ) → mag (pos (size d)) < 2 ^ 63 → IsToken Values (named signless sizeonly d s)
+named_lawful signless sizeonly d s fits =
+    front_lawful (cond signless [] (sign (direction d s)) ++ cond sizeonly [] (quality_letters (quality d s))) (decimal (size d))
+    (over_front (cond signless [] (sign (direction d s)) ++ cond sizeonly [] (quality_letters (quality d s))) (name_over signless sizeonly d s))
+    (number_piece (pos (size d)) fits)
+
+brackets_lawful : (p : Spelled) → p.step < 7 → IsToken Values (codes "[" ++ (spelling p ++ codes "]"))
+brackets_lawful p small =
+    record {
+      filled = λ e. cc;
+      one_token = lacks 9 (omega arith) refl refl;
+      one_line = lacks 13 (omega arith) refl refl;
+      no_line_end = lacks 10 (omega arith) refl refl;
+      of_kind = refl;
+      no_comment = refl;
+    }
+  where
+    lacks : (c : ℕ) → c ≤ 13 → has_byte c (codes "[") ≡ false → has_byte c (codes "]") ≡ false → has_byte c (codes "[" ++ (spelling p ++ codes "]")) ≡ false
+    lacks c low left right = both_lack c (codes "[") (spelling p ++ codes "]") left (both_lack c (spelling p) (codes "]") (spelling_lacks c p small low) right)
+
+small_size : (p q : Pitch) → mag (pos (size (step_number (spelled q) -ℤ step_number (spelled p)))) < 2 ^ 63
+small_size p q = let a = p.in_range in let b = q.in_range in omega (arith, ints)
+
+pub approached_lawful : (signless sizeonly : Bool) (before : Option Pitch) (pitch : Pitch) → IsToken Values (approached signless sizeonly (option_map spelled before) (spelled pitch))
+approached_lawful signless sizeonly None pitch = brackets_lawful (spelled pitch) pitch.in_range.0
+approached_lawful signless sizeonly (Some before) pitch =
+    named_lawful signless sizeonly (step_number (spelled pitch) -ℤ step_number (spelled before)) (semitones (spelled pitch) -ℤ semitones (spelled before)) (small_size before pitch)
