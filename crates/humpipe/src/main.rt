@@ -11,6 +11,8 @@ mod outcome;
 mod plan;
 mod run;
 #[cfg(test)]
+mod note_tests;
+#[cfg(test)]
 mod tests;
 mod writing;
 

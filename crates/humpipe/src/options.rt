@@ -3,7 +3,7 @@ use hum_ditto::DittoOptions;
 use hum_extract::{Choice, Field, FieldRange};
 use hum_pattern::{Pattern, PatternFault};
 use hum_rid::RidOptions;
-use hum_tones::{RecipOptions, SemitsOptions};
+use hum_tones::{MintOptions, RecipOptions, SemitsOptions, Transposition};
 use std::alloc::{AllocError, Global};
 use std::str;
 
@@ -19,8 +19,10 @@ pub enum CommandOptions {
     Rid(RidOptions),
     Extract(Choice),
     Ditto(DittoOptions),
+    Trans(Transposition),
     Semits(SemitsOptions),
     Recip(RecipOptions),
+    Mint(MintOptions),
 }
 
 /// Nothing is dropped.
@@ -209,6 +211,87 @@ fn ditto_options(alloc: Global, words: &[&[u8]]) -> Result<Option<DittoOptions>,
     Ok(Some(DittoOptions { skip, parentheses }))
 }
 
+/// A number that is `0` or digits without a zero in front, at most `most`.
+fn number(digits: &[u8], most: i32) -> Option<i32> {
+    if let [] | [b'0', _, ..] = digits {
+        return None;
+    }
+    let mut number = 0i32;
+    for digit in digits {
+        if !digit.is_ascii_digit() {
+            return None;
+        }
+        number = number
+            .saturating_mul(10)
+            .saturating_add((*digit - b'0') as i32);
+    }
+    if number <= most { Some(number) } else { None }
+}
+
+/// A number with a sign or without, from `-most` to `most`.
+fn signed_number(text: &[u8], most: i32) -> Option<i32> {
+    match text {
+        [b'-', digits @ ..] => number(digits, most)?.checked_neg(),
+        [b'+', digits @ ..] => number(digits, most),
+        _ => number(text, most),
+    }
+}
+
+/// What trans's words say: `-d INT` and `-c INT`, in any order.
+fn transposition(words: &[&[u8]]) -> Option<Transposition> {
+    let [first, one, second, other] = words else {
+        return None;
+    };
+    let in_order = *first == b"-d".as_slice() && *second == b"-c".as_slice();
+    let turned = *first == b"-c".as_slice() && *second == b"-d".as_slice();
+    let (steps, semitones) = if in_order {
+        (*one, *other)
+    } else if turned {
+        (*other, *one)
+    } else {
+        return None;
+    };
+    let steps = signed_number(steps, 49)?;
+    let semitones = signed_number(semitones, 84)?;
+    if (-49..=49).contains(&steps) && (-84..=84).contains(&semitones) {
+        Some(Transposition { steps, semitones })
+    } else {
+        None
+    }
+}
+
+/// What mint's words say: `-a`, `-d` and `-b PATTERN`, each at most once, in any order.
+fn mint_options(alloc: Global, words: &[&[u8]]) -> Result<Option<MintOptions>, AllocError> {
+    let mut signless = false;
+    let mut sizeonly = false;
+    let mut breaks = None;
+    let mut rest = words;
+    while let [option, tail @ ..] = rest {
+        rest = tail;
+        if *option == b"-a".as_slice() && !signless {
+            signless = true;
+        } else if *option == b"-d".as_slice() && !sizeonly {
+            sizeonly = true;
+        } else if *option == b"-b".as_slice() && breaks.is_none() {
+            let [word, behind @ ..] = tail else {
+                return Ok(None);
+            };
+            let Some(found) = pattern(alloc, *word)? else {
+                return Ok(None);
+            };
+            breaks = Some(found);
+            rest = behind;
+        } else {
+            return Ok(None);
+        }
+    }
+    Ok(Some(MintOptions {
+        signless,
+        sizeonly,
+        breaks,
+    }))
+}
+
 /// What semits's words say: `-x`, and `-t` or not.
 fn semits_options(words: &[&[u8]]) -> Option<SemitsOptions> {
     let ties_left_out = match words {
@@ -244,10 +327,14 @@ pub fn command_options(
         Ok(choice(alloc, words)?.map(CommandOptions::Extract))
     } else if command == b"ditto".as_slice() {
         Ok(ditto_options(alloc, words)?.map(CommandOptions::Ditto))
+    } else if command == b"trans".as_slice() {
+        Ok(transposition(words).map(CommandOptions::Trans))
     } else if command == b"semits".as_slice() {
         Ok(semits_options(words).map(CommandOptions::Semits))
     } else if command == b"recip".as_slice() {
         Ok(recip_options(words).map(CommandOptions::Recip))
+    } else if command == b"mint".as_slice() {
+        Ok(mint_options(alloc, words)?.map(CommandOptions::Mint))
     } else {
         Ok(None)
     }

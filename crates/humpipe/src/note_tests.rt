@@ -1,0 +1,341 @@
+//! Worked scores through the commands on notes: what is put in, what is written, what is told.
+use crate::first::run_bundle;
+use hum_text::calls::Marked;
+use std::alloc::Global;
+use std::process::Abort;
+use std::test::Fail;
+
+type Row = (&'static [u8], &'static [u8], &'static str);
+
+const TRANS: [Row; 16] = [
+    (
+        b"out: read a | trans -d 1 -c 2\n--- a\n**kern\n*k[]\n4e\n4B-\n8bb\n*-\n",
+        b"**kern\n*Trd1c2\n*k[]\n4f#\n4c\n8ccc#\n*-\n",
+        "",
+    ),
+    (
+        b"out: read a | trans -c +2 -d +1\n--- a\n**kern\t**dynam\n4en\tp\n=2\t=2\n.\t.\n4c 4r\tf\n*-\t*-\n",
+        b"**kern\t**dynam\n*Trd1c2\t*\n4f#\tp\n=2\t=2\n.\t.\n4d 4r\tf\n*-\t*-\n",
+        "",
+    ),
+    (
+        b"out: read a | trans -d -0 -c -0\n--- a\n**kern\n4cn\n*-\n",
+        b"**kern\n*Trd0c0\n4c\n*-\n",
+        "",
+    ),
+    (
+        b"out: read a | trans -d 0 -c 8\n--- a\n**kern\n4c\n*-\n",
+        b"**kern\n*Trd0c8\n",
+        "humpipe: stage 2 (trans), line 2: TR1",
+    ),
+    (
+        b"out: read a | trans -d -7 -c -12\n--- a\n**kern\n4CCCCCCCC\n*-\n",
+        b"**kern\n*Trd-7c-12\n",
+        "humpipe: stage 2 (trans), line 2: TR2",
+    ),
+    (
+        b"out: read a | trans -d 1 -c 20\n--- a\n**kern\n4bbbbbbbb\n*-\n",
+        b"**kern\n*Trd1c20\n",
+        "humpipe: stage 2 (trans), line 2: TR1",
+    ),
+    (
+        b"out: read a | trans -d 1 -c 2\n--- a\n**kern\t**kern\n4c\t4cd\n*-\t*-\n",
+        b"**kern\t**kern\n*Trd1c2\t*Trd1c2\n",
+        "humpipe: stage 2 (trans), line 2: K1",
+    ),
+    (
+        b"out: read a | trans -d 1 -c 2\n--- a\n**x\n*+\n*\t**kern\n4c\t4c\n*x\t*x\n4c\t4c\n*-\t*-\n",
+        b"**x\n*+\n*\t**kern\n*\t*Trd1c2\n4c\t4d\n*x\t*x\n4d\t4c\n*-\t*-\n",
+        "",
+    ),
+    (
+        b"out: read a | trans -d 50 -c 2\n--- a\n**kern\n*-\n",
+        b"",
+        "humpipe: plan not supported",
+    ),
+    (
+        b"out: read a | trans -d 1 -c 85\n--- a\n**kern\n*-\n",
+        b"",
+        "humpipe: plan not supported",
+    ),
+    (
+        b"out: read a | trans -d 1\n--- a\n**kern\n*-\n",
+        b"",
+        "humpipe: plan not supported",
+    ),
+    (
+        b"out: read a | trans -d 01 -c 2\n--- a\n**kern\n*-\n",
+        b"",
+        "humpipe: plan not supported",
+    ),
+    (
+        b"out: read a | trans -d 1 -c 2 -c 2\n--- a\n**kern\n*-\n",
+        b"",
+        "humpipe: plan not supported",
+    ),
+    (
+        b"out: read a | trans -d -c 2 1\n--- a\n**kern\n*-\n",
+        b"",
+        "humpipe: plan not supported",
+    ),
+    (
+        b"out: read a | trans -d x -c 2\n--- a\n**kern\n*-\n",
+        b"",
+        "humpipe: plan not supported",
+    ),
+    (
+        b"out: read a | trans -d 1 -c -\n--- a\n**kern\n*-\n",
+        b"",
+        "humpipe: plan not supported",
+    ),
+];
+
+const SEMITS: [Row; 14] = [
+    (
+        b"out: read a | semits -x\n--- a\n**kern\n4c\n4dd#\n4r\n=2\n2.G--\n*-\n",
+        b"**semits\n0\n15\nr\n=2\n-7\n*-\n",
+        "",
+    ),
+    (
+        b"out: read a | semits -x\n--- a\n**kern\n4c\n8ddq\n4d\n*-\n",
+        b"**semits\n0\n14\n2\n*-\n",
+        "",
+    ),
+    (
+        b"out: read a | semits -x\n--- a\n**kern\n00c\n*-\n",
+        b"**semits\n0\n*-\n",
+        "",
+    ),
+    (
+        b"out: read a | semits -x -t\n--- a\n**kern\n[4c\n4c_\n4c]\n4d}\n4e\n*-\n",
+        b"**semits\n0\n.\n.\n2\n4\n*-\n",
+        "",
+    ),
+    (
+        b"out: read a | semits -t -x\n--- a\n**kern\t**kern\n4c 4e 4g\t(\n4r_\t4c_ 4e\n*-\t*-\n",
+        b"**semits\t**semits\n0 4 7\t.\nr\t4\n*-\t*-\n",
+        "",
+    ),
+    (
+        b"out: read a | semits -x\n--- a\n**kern\n4ccccccccc\n*-\n",
+        b"**semits\n",
+        "humpipe: stage 2 (semits), line 2: K2",
+    ),
+    (
+        b"out: read a | semits -x\n--- a\n**kern\n4cd\n*-\n",
+        b"**semits\n",
+        "humpipe: stage 2 (semits), line 2: K1",
+    ),
+    (
+        b"out: read a | semits -x\n--- a\n**kern\t**kern\n4ccccccccc\t4cd\n*-\t*-\n",
+        b"**semits\t**semits\n",
+        "humpipe: stage 2 (semits), line 2: K2",
+    ),
+    (
+        b"out: read a | semits -x\n--- a\n**kern\n4ccccccccce\n*-\n",
+        b"**semits\n",
+        "humpipe: stage 2 (semits), line 2: K1",
+    ),
+    (
+        b"out: read a | semits -x\n--- a\n**kern\t**dynam\n4c\tcd\n*-\t*\ncd\n*-\n",
+        b"**semits\t**dynam\n0\tcd\n*-\t*\ncd\n*-\n",
+        "",
+    ),
+    (
+        b"out: read a | semits\n--- a\n**kern\n*-\n",
+        b"",
+        "humpipe: plan not supported",
+    ),
+    (
+        b"out: read a | semits -t\n--- a\n**kern\n*-\n",
+        b"",
+        "humpipe: plan not supported",
+    ),
+    (
+        b"out: read a | semits -x -x\n--- a\n**kern\n*-\n",
+        b"",
+        "humpipe: plan not supported",
+    ),
+    (
+        b"out: read a | semits -x -p\n--- a\n**kern\n*-\n",
+        b"",
+        "humpipe: plan not supported",
+    ),
+];
+
+const RECIP: [Row; 15] = [
+    (
+        b"out: read a | recip\n--- a\n**kern\n4c\n8ddq\n4d\n*-\n",
+        b"**recip\n4\n.\n4\n*-\n",
+        "",
+    ),
+    (
+        b"out: read a | recip\n--- a\n**kern\n4.c\n8r\n2c 2e\n(\n*-\n",
+        b"**recip\n4.\n8r\n2 2\n.\n*-\n",
+        "",
+    ),
+    (
+        b"out: read a | recip\n--- a\n**kern\n00c\n*-\n",
+        b"**recip\n00\n*-\n",
+        "",
+    ),
+    (
+        b"out: read a | recip\n--- a\n**kern\n00c\n3%2d\n000e\n3%2.f\n*-\n",
+        b"**recip\n00\n3%2\n000\n3%2.\n*-\n",
+        "",
+    ),
+    (
+        b"out: read a | recip\n--- a\n**kern\n0000c\n*-\n",
+        b"**recip\n",
+        "humpipe: stage 2 (recip), line 2: K3",
+    ),
+    (
+        b"out: read a | recip\n--- a\n**kern\n0%2c\n*-\n",
+        b"**recip\n",
+        "humpipe: stage 2 (recip), line 2: K3",
+    ),
+    (
+        b"out: read a | recip\n--- a\n**kern\n00%2c\n*-\n",
+        b"**recip\n",
+        "humpipe: stage 2 (recip), line 2: K3",
+    ),
+    (
+        b"out: read a | recip\n--- a\n**kern\n3%c\n*-\n",
+        b"**recip\n",
+        "humpipe: stage 2 (recip), line 2: K3",
+    ),
+    (
+        b"out: read a | recip\n--- a\n**kern\n3%0c\n*-\n",
+        b"**recip\n",
+        "humpipe: stage 2 (recip), line 2: K3",
+    ),
+    (
+        b"out: read a | recip\n--- a\n**kern\n3%02c\n*-\n",
+        b"**recip\n",
+        "humpipe: stage 2 (recip), line 2: K3",
+    ),
+    (
+        b"out: read a | recip\n--- a\n**kern\n3%2%2c\n*-\n",
+        b"**recip\n",
+        "humpipe: stage 2 (recip), line 2: K3",
+    ),
+    (
+        b"out: read a | recip\n--- a\n**kern\n4097%2c\n*-\n",
+        b"**recip\n",
+        "humpipe: stage 2 (recip), line 2: K3",
+    ),
+    (
+        b"out: read a | recip\n--- a\n**kern\n3%4097c\n*-\n",
+        b"**recip\n",
+        "humpipe: stage 2 (recip), line 2: K3",
+    ),
+    (
+        b"out: read a | recip\n--- a\n**kern\n4.......c\n*-\n",
+        b"**recip\n",
+        "humpipe: stage 2 (recip), line 2: K3",
+    ),
+    (
+        b"out: read a | recip -x\n--- a\n**kern\n*-\n",
+        b"",
+        "humpipe: plan not supported",
+    ),
+];
+
+const MINT: [Row; 13] = [
+    (
+        b"out: read a | mint\n--- a\n**kern\n4c\n4g-\n4f#\n4B#\n4cc-\n4cc\n4CC\n*-\n",
+        b"**mint\n[c]\n+d5\n-d2\n-d5\n+dd9\n+A1\n-P22\n*-\n",
+        "",
+    ),
+    (
+        b"out: read a | mint\n--- a\n**kern\n4c\n4e-\n4e-\n4B\n*-\n",
+        b"**mint\n[c]\n+m3\nP1\n-d4\n*-\n",
+        "",
+    ),
+    (
+        b"out: read a | mint -a -d\n--- a\n**kern\n4c\n4e-\n4e-\n4B\n*-\n",
+        b"**mint\n[c]\n3\n1\n4\n*-\n",
+        "",
+    ),
+    (
+        b"out: read a | mint -b '}'\n--- a\n**kern\n[4c\n4c_\n4c]\n4d}\n4e\n*-\n",
+        b"**mint\n[c]\n.\n.\n+M2\n[e]\n*-\n",
+        "",
+    ),
+    (
+        b"out: read a | mint\n--- a\n**kern\n*^\n4c\t4e\n*v\t*v\n4g\n*-\n",
+        b"**mint\n*^\n[c]\t[e]\n*v\t*v\n+P5\n*-\n",
+        "",
+    ),
+    (
+        b"out: read a | mint\n--- a\n**kern\t**kern\n4c\t4g\n*x\t*x\n4a\t4d\n*-\t*-\n",
+        b"**mint\t**mint\n[c]\t[g]\n*x\t*x\n+M2\t+M2\n*-\t*-\n",
+        "",
+    ),
+    (
+        b"out: read a | mint -b '^=' -d\n--- a\n**kern\n4c\n=2\n4d\n4r\n(\n.\n4cn\n**kern\n4e\n*-\n",
+        b"**mint\n[c]\n=2\n[d]\nr\n.\n.\n-2\n**mint\n[e]\n*-\n",
+        "",
+    ),
+    (
+        b"out: read a | mint -a\n--- a\n**kern\n4c#n\n*-\n",
+        b"**mint\n",
+        "humpipe: stage 2 (mint), line 2: K1",
+    ),
+    (
+        b"out: read a | mint\n--- a\n**kern\n4c 4de\n*-\n",
+        b"**mint\n",
+        "humpipe: stage 2 (mint), line 2: K1",
+    ),
+    (
+        b"out: read a | mint -a -a\n--- a\n**kern\n*-\n",
+        b"",
+        "humpipe: plan not supported",
+    ),
+    (
+        b"out: read a | mint -b\n--- a\n**kern\n*-\n",
+        b"",
+        "humpipe: plan not supported",
+    ),
+    (
+        b"out: read a | mint -b (\n--- a\n**kern\n*-\n",
+        b"",
+        "humpipe: plan not supported",
+    ),
+    (
+        b"out: read a | mint -x\n--- a\n**kern\n*-\n",
+        b"",
+        "humpipe: plan not supported",
+    ),
+];
+
+fn check(rt: &impl Abort, alloc: Global, rows: &[Row]) -> Result<(), Fail> {
+    for (bundle, text, told) in rows {
+        let mut sink = Marked::new(Vec::new(alloc));
+        let outcome = run_bundle(alloc, *bundle, &mut sink);
+        let line = format!(in alloc; "{outcome}")?;
+        assert_eq!(rt; line.as_str(), *told, "{bundle:?}");
+        assert_eq!(rt; sink.into_inner().as_slice(), *text, "{bundle:?}");
+    }
+    Ok(())
+}
+
+#[test]
+fn transposed(rt: HostRuntime) -> Result<(), Fail> {
+    check(&rt, rt.alloc(), &TRANS)
+}
+
+#[test]
+fn in_semitones(rt: HostRuntime) -> Result<(), Fail> {
+    check(&rt, rt.alloc(), &SEMITS)
+}
+
+#[test]
+fn durations(rt: HostRuntime) -> Result<(), Fail> {
+    check(&rt, rt.alloc(), &RECIP)
+}
+
+#[test]
+fn intervals(rt: HostRuntime) -> Result<(), Fail> {
+    check(&rt, rt.alloc(), &MINT)
+}
