@@ -1,20 +1,19 @@
 -- What is remembered of a column is the note before.
-use Rattle.std.proofs.Common.{◌≡◌, ◌∙◌, refl, sym, ap, ℕ, Bool, true, false, ◌==◌, List, [], ◌∷◌, map, Option, None, Some, inl, inr, arith}
-use Rattle.std.specs.Prelude.{if◌then◌else◌, cond, ◌&&◌, ◌||◌, not, nat_eq}
+use Rattle.std.proofs.Common.{◌≡◌, ◌∙◌, refl, sym, ℕ, Bool, true, false, ◌==◌, List, [], ◌∷◌, map, Option, None, Some, inl, inr, arith}
+use Rattle.std.specs.Prelude.{if◌then◌else◌, ◌||◌, nat_eq}
 use Rattle.std.specs.List.{find, starts_with}
 use Rattle.std.specs.Str.{bytes_eq}
 use Rattle.std.proofs.lemmas.Bool.{cases_Bool, and_parts}
 use Rattle.std.proofs.lemmas.Bool.Decides.{nat_tests}
 use lib.Chars.{codes}
 use Rattle.hum_record.specs.declared.SpinedKind.TheVariants.{Local, Interpretation, Values}
-use Rattle.hum_record.specs.Spelling.{same_kind, kind_of_token}
+use Rattle.hum_record.specs.Spelling.{same_kind}
 use Rattle.hum_path.specs.Sign.{sign_of, is_exclusive}
 use Rattle.hum_path.specs.Chains.{reach}
 use Rattle.hum_path.specs.Memories.{remembered}
 use Rattle.hum_path.specs.declared.signs.Sign.TheVariants.{Split, Join, Exchange, Add, End, Plain}
-use Rattle.hum_path.proofs.Cases.{by_bool}
 use Rattle.hum_pitch.specs.Pitch.{Spelled}
-use Rattle.hum_tones.specs.Mint.{is_filled, is_barline, is_break, is_some, settles, settled, note_before, remembered_of}
+use Rattle.hum_tones.specs.Mint.{is_filled, is_break, is_some, settles, settled, note_before, remembered_of}
 use Rattle.hum_tones.specs.Memory.{note_after, or_before}
 
 others : (a b c d e : Bool) → is_exclusive (if a then Split else if b then Join else if c then Exchange else if d then Add else if e then End else Plain) ≡ false

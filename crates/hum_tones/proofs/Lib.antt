@@ -1,4 +1,5 @@
 mod Examples
+mod ToneExamples
 pub mod Moving
 pub mod Heard
 pub mod Parts

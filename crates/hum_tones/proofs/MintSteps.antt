@@ -5,7 +5,7 @@ use Rattle.std.specs.declared.alloc.AllocError.{AllocError}
 use Rattle.std.proofs.lemmas.List.{length-map}
 use Rattle.hum_record.specs.Row.{Row}
 use Rattle.hum_path.specs.Chains.{columns, history}
-use Rattle.hum_path.specs.Memories.{remembered, Remember}
+use Rattle.hum_path.specs.Memories.{remembered}
 use Rattle.hum_pitch.specs.Pitch.{Spelled}
 use Rattle.hum_cells.specs.Retelling.{Retelling}
 use Rattle.hum_cells.specs.Telling.{MayRetell, HasRetold, Tells}
@@ -14,7 +14,7 @@ use Rattle.hum_tones.specs.Subtokens.{IsRetold}
 use Rattle.hum_tones.specs.declared.minting.MintOptions.{MintOptions}
 use Rattle.hum_tones.specs.Mint.{note_before, minted}
 use Rattle.hum_tones.specs.Memory.{note_after}
-use Rattle.hum_tones.specs.Commands.{mint, Mints}
+use Rattle.hum_tones.specs.Commands.{Mints}
 use Rattle.hum_tones.proofs.LastNotes.{all_remembered}
 
 at_map : (f : List (List ℕ) → Option Spelled) (xs : List (List (List ℕ))) (j : ℕ) (e : Option Spelled) → j < length xs → slice_index_or (map f xs) j e ≡ f (slice_index_or xs j [])

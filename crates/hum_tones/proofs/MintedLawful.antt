@@ -1,6 +1,6 @@
 -- The name of an interval, and a pitch in brackets, may stand as a token.
-use Rattle.std.proofs.Common.{◌≡◌, ◌≢◌, refl, sym, ap, ◌∙◌, ℕ, zero, suc, ℤ, pos, negsuc, ◌-ℤ◌, ◌+ℤ◌, ◌*ℤ◌, ◌+◌, ◌==◌, ◌<◌, ◌≤◌, ◌^◌, Bool, true, false, List, [], ◌∷◌, ◌++◌, arith, Option, None, Some, append_assoc}
-use Rattle.std.specs.Prelude.{Result, Ok, Err, replicate, cond, unsigned_abs, option_map, if◌then◌else◌}
+use Rattle.std.proofs.Common.{◌≡◌, ◌≢◌, refl, ℕ, ℤ, pos, ◌-ℤ◌, ◌==◌, ◌<◌, ◌≤◌, ◌^◌, Bool, false, List, [], ◌∷◌, ◌++◌, arith, Option, None, Some}
+use Rattle.std.specs.Prelude.{cond, option_map}
 use Rattle.std.specs.Fmt.{decimal}
 use Rattle.std.specs.Int.Signed.{mag}
 use Rattle.std.proofs.lemmas.Int.{ints}
@@ -15,7 +15,7 @@ use Rattle.hum_pitch.specs.declared.pitch.Pitch.{Pitch}
 use Rattle.hum_pitch.proofs.Names.{AreOver, name_over}
 use Rattle.hum_tones.specs.Subtokens.{IsPiece}
 use Rattle.hum_tones.specs.Mint.{approached}
-use Rattle.hum_tones.proofs.MovedLawful.{both_lack, not_low, repeat_lacks, spelling_lacks}
+use Rattle.hum_tones.proofs.MovedLawful.{both_lack, spelling_lacks}
 use Rattle.hum_tones.proofs.Numbers.{number_piece}
 use Rattle.hum_tones.proofs.Joined.{no_comment}
 

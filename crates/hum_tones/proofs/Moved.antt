@@ -1,12 +1,10 @@
 -- A token whose first parts have been transposed.
-use Rattle.std.proofs.Common.{◌≡◌, ◌≢◌, refl, sym, ap, ◌∙◌, ℕ, ◌+◌, ◌==◌, ◌<◌, ◌≤◌, Bool, true, false, List, [], ◌∷◌, ◌++◌, append-nil, length, drop, get_or, arith, Option, None, Some}
+use Rattle.std.proofs.Common.{◌≡◌, refl, sym, ap, ◌∙◌, ℕ, ◌+◌, ◌<◌, ◌≤◌, List, [], ◌∷◌, ◌++◌, append-nil, length, drop, get_or, Option, None, Some}
 use Rattle.std.specs.Prelude.{Result, Ok, Err}
-use Rattle.std.specs.List.{onto_first}
 use Rattle.std.proofs.lemmas.List.{at_drop_more, drop_all}
 use lib.Chars.{codes}
-use Rattle.hum_path.proofs.Cases.{by_bool}
 use Rattle.hum_stage.specs.declared.faults.Rule.{Rule}
-use Rattle.hum_tones.specs.Subtokens.{with_first, given_by, joined, if_given, retold, subtokens}
+use Rattle.hum_tones.specs.Subtokens.{with_first, given_by, joined, if_given}
 use Rattle.hum_tones.specs.Trans.{HasMoved}
 use Rattle.hum_tones.proofs.SoFar.{spaced, onto, onto_nothing, onto_one_more, spaced_one_more}
 use Rattle.hum_tones.proofs.Joined.{fronts, spaced_joined}

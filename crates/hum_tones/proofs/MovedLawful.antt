@@ -1,7 +1,7 @@
 -- A transposed token is a lawful one.
-use Rattle.std.proofs.Common.{◌≡◌, ◌≢◌, refl, sym, ap, ◌∙◌, ℕ, zero, suc, ℤ, pos, negsuc, ◌-ℤ◌, ◌+◌, ◌==◌, ◌<◌, ◌≤◌, Bool, true, false, List, [], ◌∷◌, ◌++◌, length, take, drop, arith, Option, None, Some, subst}
-use Rattle.std.specs.Prelude.{Result, Ok, Err, replicate, slice_index, if◌then◌else◌, not, ◌||◌}
-use Rattle.std.specs.List.{AllByRecursion, list_any, onto_first, join_with_byte}
+use Rattle.std.proofs.Common.{◌≡◌, ◌≢◌, refl, sym, ap, ◌∙◌, ℕ, zero, suc, ℤ, pos, negsuc, ◌-ℤ◌, ◌==◌, ◌<◌, ◌≤◌, Bool, true, false, List, [], ◌∷◌, ◌++◌, take, drop, arith, Option, None, Some, subst}
+use Rattle.std.specs.Prelude.{Result, Ok, Err, replicate, slice_index, if◌then◌else◌, not}
+use Rattle.std.specs.List.{onto_first}
 use Rattle.std.proofs.lemmas.List.Folds.{list_any-append}
 use Rattle.hum_record.specs.declared.SpinedKind.TheVariants.{Values}
 use Rattle.hum_record.specs.Spelling.{has_byte, kind_of_token, IsToken}

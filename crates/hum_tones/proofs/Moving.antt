@@ -1,16 +1,14 @@
 -- What becomes of a part whose pitch is transposed.
-use Rattle.std.proofs.Common.{◌≡◌, refl, sym, ap, ◌∙◌, ℕ, ℤ, pos, negsuc, ◌≤◌, ◌<◌, Bool, true, false, List, [], ◌∷◌, ◌++◌, length, take, drop, arith, Option, None, Some, inl, inr}
-use Rattle.std.specs.Prelude.{Result, Ok, Err, option_map, nat_le, not, if◌then◌else◌}
+use Rattle.std.proofs.Common.{◌≡◌, refl, sym, ap, ◌∙◌, ℕ, ℤ, pos, negsuc, ◌≤◌, ◌<◌, true, false, List, ◌++◌, take, drop, arith, Option, None, Some, inl, inr}
+use Rattle.std.specs.Prelude.{Ok, Err, option_map, nat_le}
 use Rattle.std.proofs.lemmas.Int.{ints}
 use Rattle.std.proofs.Common.{append_assoc}
 use Rattle.hum_pitch.specs.Pitch.{Spelled, away, IsAlteration, IsOctave, IsOutside}
 use Rattle.hum_pitch.specs.Given.{spelled}
 use Rattle.hum_pitch.specs.Spelling.{spelling}
 use Rattle.hum_pitch.specs.declared.pitch.Pitch.{Pitch}
-use Rattle.hum_kern.specs.declared.KernFault.{KernFault}
 use Rattle.hum_kern.specs.declared.notes.Note.{Note}
-use Rattle.hum_kern.specs.Note.{Reading, reading, note}
-use Rattle.hum_stage.specs.declared.faults.Rule.{Rule}
+use Rattle.hum_kern.specs.Note.{reading, note}
 use Rattle.hum_stage.specs.declared.faults.Rule.TheVariants.{TR1, TR2}
 use Rattle.hum_tones.specs.Trans.{is_alteration, is_octave, if_spelled, put, moved, moved_as_read, transposed_part}
 

@@ -5,7 +5,7 @@ use Rattle.hum_cells.specs.Retelling.{Retelling, Heading, Renamed, IsHeading}
 use Rattle.hum_tones.specs.declared.semits.SemitsOptions.{SemitsOptions}
 use Rattle.hum_tones.specs.declared.recip.RecipOptions.{RecipOptions}
 use Rattle.hum_tones.specs.declared.minting.MintOptions.{MintOptions}
-use Rattle.hum_tones.specs.Commands.{semits, mint, recip}
+use Rattle.hum_tones.specs.Commands.{semits, recip, mint}
 
 pub semits_heading : (options : SemitsOptions) (retelling : Retelling) → retelling ≡ semits options → IsHeading retelling.heading
 semits_heading options retelling h =

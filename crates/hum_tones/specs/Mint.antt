@@ -1,5 +1,5 @@
 -- What the command mint makes of a token: the interval from the note before.
-use Rattle.std.specs.Prelude.{ℕ, ◌==◌, Bool, true, false, not, ◌&&◌, ◌||◌, ◌-ℤ◌, nat_eq}
+use Rattle.std.specs.Prelude.{ℕ, Bool, true, false, not, ◌&&◌, ◌||◌, ◌-ℤ◌, nat_eq}
 use Rattle.std.specs.Prelude.{List, [], ◌∷◌, ◌++◌, Option, None, Some, Result, Ok, Err}
 use Rattle.std.specs.Prelude.{if◌then◌else◌}
 use Rattle.std.specs.List.{list_any, find, starts_with}
@@ -129,6 +129,6 @@ abbrev pub note_before : Option (List ℕ) → List (List ℕ) → Option Spelle
 note_before breaks above = settled breaks (find (settles breaks) (reach above))
 
 -- What a token becomes, by the cells above it.
-abbrev pub minted_after : MintOptions → List (List ℕ) → List ℕ → Result (List ℕ) Rule
-minted_after options above token =
+abbrev pub mint : MintOptions → List (List ℕ) → List ℕ → Result (List ℕ) Rule
+mint options above token =
     minted options.signless options.sizeonly (note_before options.breaks above) token

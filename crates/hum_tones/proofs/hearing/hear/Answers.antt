@@ -1,11 +1,9 @@
-use Rattle.std.proofs.Common.{rules, ◌≡◌, ◌∙◌, ◌==◌, ◌+◌, ◌≤◌, length, ap, Ok, Err, arith, refl}
+use Rattle.std.proofs.Common.{rules, ◌==◌, length, arith, refl}
 use Rattle.std.proofs.lemmas.Iterator.Splits.{YieldsList-from_slice_split}
 use Rattle.std.proofs.lemmas.Iterator.Consumers.{YieldsList-turn, YieldsList-end}
 use Rattle.std.proofs.lemmas.List.{length_push}
-use Rattle.hum_kern.specs.Note.{Reading, reading}
-use Rattle.hum_stage.specs.declared.faults.Rule.{Rule}
+use Rattle.hum_kern.specs.Note.{reading}
 use Rattle.hum_tones.specs.Subtokens.{subtokens}
-use Rattle.hum_tones.specs.Hearing.{heard_in}
 use Rattle.hum_tones.proofs.Heard.{one_more, refused, all_heard}
 use Rattle.hum_tones.proofs.hearing.hear.Goals as goal
 
