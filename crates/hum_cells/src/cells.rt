@@ -13,9 +13,8 @@ use crate::tokens::{any_told, tell_tokens};
 use crate::told::Told;
 use hum_path::{Paths, steers};
 use hum_record::{Kind, Record, Spare};
-use hum_stage::{Decides, Rule};
+use hum_stage::{Decides, Rule, UpToTwo};
 use std::alloc::{AllocError, Global};
-use std::collections::VecDeque;
 
 /// A command on the tokens of kern columns, as one that decides each record at once.
 #[derive(Drop)]
@@ -36,27 +35,25 @@ fn put(
     row: Record,
     told: Told,
     spare: &mut Spare,
-    out: &mut VecDeque<Record>,
-) -> Result<Option<Rule>, AllocError>
-    requires { out.old.items ≡ [] }
-    ensures { IfOk result (Puts (decision row told) out.new.items) }
+    out: &mut UpToTwo,
+) -> Option<Rule>
+    ensures { Puts (decision row told) out.new result }
 {
     match told {
         Told::Same => {
-            out.push_back(row)?;
-            Ok(None)
+            out.put(row);
+            None
         }
         Told::Other(made) => {
-            out.push_back(made)?;
+            out.put(made);
             spare.keep(row);
-            Ok(None)
+            None
         }
         Told::With(behind) => {
-            out.push_back(row)?;
-            out.push_back(behind)?;
-            Ok(None)
+            out.put_both(row, behind);
+            None
         }
-        Told::Refused(rule) => Ok(Some(rule)),
+        Told::Refused(rule) => Some(rule),
     }
 }
 
@@ -155,7 +152,7 @@ impl<T: Retells> Cells<T> {
 }
 
 impl<T: Retells> Decides for Cells<T> {
-    type Due = VecDeque<Record>;
+    type Due = UpToTwo;
 
     ghost use Rattle.hum_cells.specs.Telling.{Frames};
 
@@ -165,7 +162,7 @@ impl<T: Retells> Decides for Cells<T> {
         &mut self,
         next: Record,
         _room: u64,
-        out: &mut VecDeque<Record>,
+        out: &mut UpToTwo,
     ) -> Result<Option<Rule>, AllocError> {
         let Ok(found) = self.paths.step(&next) else {
             return Err(AllocError)
@@ -180,7 +177,7 @@ impl<T: Retells> Decides for Cells<T> {
         )?;
         self.teller.follow(&next, &found)?;
         mark_after(&next, &self.paths, &mut self.kern)?;
-        let refused = put(next, told, &mut self.spare, out)?;
+        let refused = put(next, told, &mut self.spare, out);
         Ok(refused)
     }
 }
