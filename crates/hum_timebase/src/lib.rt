@@ -1,0 +1,2 @@
+//! The command timebase.
+#![tactic(auto)]
