@@ -14,7 +14,7 @@ use Rattle.hum_stage.specs.Decided.{decisions}
 use Rattle.hum_timebase.specs.Timebase.{timebase}
 
 abbrev by_text : List ℕ → Result Ratio KernFault → List Row → List Outcome
-by_text text (Ok t) rows = decisions (timebase t text) [] rows
+by_text text (Ok t) rows = decisions (timebase (record { step = t; text = text })) [] rows
 by_text text (Err fault) rows = []
 
 abbrev by : List ℕ → List Row → List Outcome

@@ -5,7 +5,7 @@ use Rattle.std.specs.List.{list_any, list_all, starts_with, slice_split}
 use Rattle.std.specs.Str.{bytes_eq}
 use lib.Chars.{codes}
 use Rattle.hum_path.specs.Sign.{sign_of, is_exclusive}
-use Rattle.hum_path.specs.Spines.{Path, Unopened, Spines, exclusives}
+use Rattle.hum_path.specs.Spines.{Path, exclusives}
 use Rattle.hum_frac.specs.Ratio.{Ratio}
 use Rattle.hum_kern.specs.Duration.{duration, value_in, is_refused}
 use Rattle.hum_timebase.specs.Pairs.{paired}
@@ -22,10 +22,14 @@ timed_in path = map is_timed (exclusives path)
 abbrev pub own_name : List ℕ → List ℕ → List ℕ
 own_name name token = if is_exclusive (sign_of token) then token else name
 
+abbrev pub own_names : List (List ℕ) → List (List ℕ) → List (List ℕ)
+own_names names [] = []
+own_names [] (token ∷ tokens) = own_name [] token ∷ own_names [] tokens
+own_names (name ∷ names) (token ∷ tokens) = own_name name token ∷ own_names names tokens
+
 -- which cells of an interpretation stand in timed columns
 abbrev pub timed_at : Path → List (List ℕ) → List Bool
-timed_at Unopened tokens = map is_timed tokens
-timed_at (Spines names) tokens = map is_timed (paired own_name names tokens)
+timed_at path tokens = map is_timed (own_names (exclusives path) tokens)
 
 abbrev pub is_null : List ℕ → Bool
 is_null token = bytes_eq token (codes ".")

@@ -20,6 +20,11 @@ use Rattle.hum_timebase.specs.Notes.{timed_in, is_null, is_barline_record, notes
 use Rattle.hum_timebase.specs.Ends.{Note, latest, next_end, living_before, living_after}
 use Rattle.hum_timebase.specs.Clock.{Clock, clock_after, time_after}
 
+-- the duration from one record to the next, and how it is written
+pub record Pace : Type 0 where
+  pub step : Ratio
+  pub text : List ℕ
+
 -- a note at some time in a column whose end is after that
 abbrev pub clash : Ratio → Option Ratio → Option Ratio → Bool
 clash time (Some lasting) (Some end) = is_before time end
@@ -94,10 +99,13 @@ data_rows step clock timed tokens =
 abbrev pub names_some : List (List ℕ) → Bool
 names_some = list_any (λ token. is_exclusive (sign_of token))
 
+-- the token under an exclusive interpretation, and under others
+abbrev pub tb_token : List ℕ → List ℕ → List ℕ
+tb_token text token = if is_exclusive (sign_of token) then codes "*tb" ++ text else codes "*"
+
 -- the record that follows one with exclusive interpretations
 abbrev pub tb_row : List ℕ → List (List ℕ) → Row
-tb_row text tokens = Spined Interpretation
-    (map (λ token. if is_exclusive (sign_of token) then codes "*tb" ++ text else codes "*") tokens)
+tb_row text tokens = Spined Interpretation (map (tb_token text) tokens)
 
 abbrev pub interpretation_rows : List ℕ → List (List ℕ) → Result (List Row) Rule
 interpretation_rows text tokens =
@@ -106,15 +114,15 @@ interpretation_rows text tokens =
     then Ok (Spined Interpretation tokens ∷ tb_row text tokens ∷ [])
     else Err L1
 
--- What a record becomes, after the records above it, the newest first: the null records stand at
--- the multiples of step, which the text writes.
-abbrev pub timebase : Ratio → List ℕ → List Row → Row → Result (List Row) Rule
-timebase step text past (Comment comment) = Ok (Comment comment ∷ [])
-timebase step text past (Spined Interpretation tokens) = interpretation_rows text tokens
-timebase step text past (Spined Values tokens) =
-    data_rows step (clock_after past) (timed_in (path_after past)) tokens
-timebase step text past (Spined kind tokens) = Ok (Spined kind tokens ∷ [])
+-- What a record becomes, after the records above it, the newest first: the records that are left
+-- and those that are put between stand at the multiples of the step.
+abbrev pub timebase : Pace → List Row → Row → Result (List Row) Rule
+timebase pace past (Comment comment) = Ok (Comment comment ∷ [])
+timebase pace past (Spined Interpretation tokens) = interpretation_rows pace.text tokens
+timebase pace past (Spined Values tokens) =
+    data_rows pace.step (clock_after past) (timed_in (path_after past)) tokens
+timebase pace past (Spined kind tokens) = Ok (Spined kind tokens ∷ [])
 
 -- what the stage of this number means
-abbrev pub meaning : ℕ → Ratio → List ℕ → Meaning
-meaning stage step text = at_once stage Timebase (timebase step text)
+abbrev pub meaning : ℕ → Pace → Meaning
+meaning stage pace = at_once stage Timebase (timebase pace)
