@@ -2,7 +2,7 @@
 ghost use Rattle.std.specs.Prelude.{◌≡◌, ◌+◌, ◌<◌, ◌^◌, ◌∷◌, [], length, true, is_some, IfOk};
 ghost use Rattle.std.specs.Option.{option_to_list};
 ghost use Rattle.hum_stage.specs.Dues.{IsNext};
-ghost use Rattle.hum_timebase.specs.Dues.{row_in, due_rows, IsDue};
+ghost use Rattle.hum_timebase.specs.Dues.{row_in, due_rows};
 
 use hum_record::Record;
 use hum_stage::Due;
@@ -23,6 +23,7 @@ pub struct Around {
 impl Model for Around {
     ghost use Rattle.std.specs.Prelude.{List};
     ghost use Rattle.hum_record.specs.Row.{Row};
+    ghost use Rattle.hum_timebase.specs.Dues.{due_rows, IsDue};
 
     ghost Value = { List Row };
 

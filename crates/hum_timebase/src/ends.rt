@@ -1,9 +1,10 @@
 //! Ends of notes, one for each column.
-ghost use Rattle.std.specs.Prelude.{◌≡◌, ℕ, true, false, not, length, map, IfOk, OnErr, OnOk};
+ghost use Rattle.std.specs.Prelude.{◌≡◌, ℕ, true, false, not, length, map, None, IfOk, OnErr, OnOk};
+ghost use Rattle.std.specs.Prelude.{slice_index_or, slice_set};
 ghost use Rattle.std.specs.List.{list_any};
 ghost use Rattle.hum_frac.specs.Ratio.{Ratio};
 ghost use Rattle.hum_timebase.specs.Ends.{later, sooner, beyond, next_end};
-ghost use Rattle.hum_timebase.specs.Kept.{ends_before, own_end, ends_after, end_by};
+ghost use Rattle.hum_timebase.specs.Kept.{end_if_timed, ends_before, own_end, ends_after, end_by};
 ghost use Rattle.hum_timebase.specs.Spans.{low_of, high_of};
 ghost use Rattle.hum_timebase.specs.Timebase.{clash, clashes, is_too_long};
 
@@ -56,14 +57,36 @@ pub(crate) fn next_end(time: Frac, ends: &[Option<Frac>]) -> Option<Frac>
     least
 }
 
+/// The end at a place, if there is one.
+fn end_at(ends: &[Option<Frac>], j: usize) -> Option<Frac>
+    ensures { result ≡ slice_index_or ends.now j None }
+{
+    if j < ends.len() { ends[j] } else { None }
+}
+
+/// Puts an end at a place, if that is there.
+fn put_end(ends: &mut [Option<Frac>], j: usize, end: Option<Frac>)
+    ensures { ends.new ≡ slice_set ends.old j end }
+{
+    if j < ends.len() {
+        ends[j] = end;
+    }
+}
+
+/// The end before a cell.
+fn end_if_timed(timed: bool, end: Option<Frac>) -> Option<Frac>
+    ensures { result ≡ end_if_timed timed end }
+{
+    if timed { end } else { None }
+}
+
 /// Columns that aren't timed have no end.
 pub(crate) fn drop_untimed(timed: &[bool], ends: &mut [Option<Frac>])
     ensures { ends.new ≡ ends_before timed.now ends.old }
 {
-    for j in 0..timed.len().min(ends.len()) {
-        if !timed[j] {
-            ends[j] = None;
-        }
+    for j in 0..timed.len() {
+        let end = end_if_timed(timed[j], end_at(ends, j));
+        put_end(ends, j, end);
     }
 }
 
@@ -169,11 +192,8 @@ pub(crate) fn sound(
     ensures refused { OnErr result (list_any (is_too_long time) notes.now ≡ true) }
 {
     for j in 0..notes.len() {
-        let before = if j < ends.len() { ends[j] } else { None };
-        let after = own_end(time, notes[j], before)?;
-        if j < ends.len() {
-            ends[j] = after;
-        }
+        let end = own_end(time, notes[j], end_at(ends, j))?;
+        put_end(ends, j, end);
     }
     Ok(())
 }

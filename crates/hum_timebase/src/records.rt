@@ -40,7 +40,7 @@ pub(crate) fn null_record(alloc: Global, row: &Record) -> Result<Record, AllocEr
     ensures { IfOk result (λ made. made ≡ null_row (tokens_of row.now)) }
 {
     let mut builder = RecordBuilder::new(alloc, SpinedKind::Values);
-    for _j in 0..row.width() {
+    for j in 0..row.width() {
         push_null(&mut builder)?;
     }
     Ok(builder.finish())
