@@ -1,5 +1,5 @@
 -- What a record becomes, by the ends that are kept.
-use Rattle.std.proofs.Common.{◌≡◌, ◌≢◌, ◌∙◌, ℕ, zero, suc, ◌+◌, ◌<◌, ◌≤◌, List, [], ◌∷◌, ◌++◌, map, length, drop, get_or, replicate, refl, sym, ap, arith, add-one, length-append, Bool, true, false, Option, None, Some, Result, Ok, Err, cond}
+use Rattle.std.proofs.Common.{◌≡◌, ◌≢◌, ◌∙◌, ℕ, zero, suc, ◌+◌, ◌<◌, ◌≤◌, List, [], ◌∷◌, ◌++◌, map, length, drop, get_or, replicate, refl, sym, ap, arith, add-one, length-append, min, Bool, true, false, Option, None, Some, Result, Ok, Err, cond}
 use Rattle.std.specs.Prelude.{◌&&◌, not, is_some, nat_le, if◌then◌else◌}
 use Rattle.std.specs.Option.{option_to_list}
 use Rattle.std.specs.List.{list_any, list_all, join_with_byte, AllByRecursion}
@@ -31,15 +31,15 @@ use Rattle.hum_timebase.proofs.Reading.{nulls_alone, sounds_some, no_notes, cont
 use Rattle.hum_timebase.proofs.Lasting.{latest-before, latest-at, kept-rested, kept-moved, kept-tick, all_sound}
 
 -- one note more whose end fits
-long_drop : (time : Ratio) (notes : List (Option Ratio)) (j : ℕ) (note other : Option Ratio) → j < length notes → note ≡ get_or notes j other
-    → is_too_long time note ≡ false → list_any (is_too_long time) (drop (suc j) notes) ≡ list_any (is_too_long time) (drop j notes)
-long_drop time [] j note other below is fits = absurd (omega arith)
-long_drop time (own ∷ notes) zero note other below is fits = let short = rw is at fits in rw short refl
-long_drop time (own ∷ notes) (suc j) note other below is fits = long_drop time notes j note other (omega arith) is fits
+long_drop : (time : Ratio) (notes : List (Option Ratio)) (j : ℕ) (own other : Option Ratio) → j < length notes → own ≡ get_or notes j other
+    → is_too_long time own ≡ false → list_any (is_too_long time) (drop (suc j) notes) ≡ list_any (is_too_long time) (drop j notes)
+long_drop time [] j own other below is fits = absurd (omega arith)
+long_drop time (first ∷ notes) zero own other below is fits = let short = rw is at fits in rw short refl
+long_drop time (first ∷ notes) (suc j) own other below is fits = long_drop time notes j own other (omega arith) is fits
 
-pub long_more : (time : Ratio) (notes : List (Option Ratio)) (j : ℕ) (note : Option Ratio) (all : Bool) → j < length notes → note ≡ get_or notes j note
-    → is_too_long time note ≡ false → list_any (is_too_long time) (drop j notes) ≡ all → list_any (is_too_long time) (drop (j + 1) notes) ≡ all
-long_more time notes j note all below is fits h = rw add-one (long_drop time notes j note note below is fits ∙ h)
+pub long_more : (time : Ratio) (notes : List (Option Ratio)) (j : ℕ) (own : Option Ratio) (all : Bool) → j < length notes → own ≡ get_or notes j own
+    → is_too_long time own ≡ false → list_any (is_too_long time) (drop j notes) ≡ all → list_any (is_too_long time) (drop (j + 1) notes) ≡ all
+long_more time notes j own all below is fits h = rw add-one (long_drop time notes j own own below is fits ∙ h)
 
 -- ---- what is put where it is due
 
@@ -213,6 +213,15 @@ module _ (pace : Pace) (path : Path) (timed : List Bool) (kept : Kept) (decide :
   goes_sounds row kept' room rows None k e made is = (decided_sounds row k e ∙ made, after_sounds row kept' k (is refl))
   goes_sounds row kept' room rows (Some rule) k e made is = ap (in_room room) (decided_sounds row k e) ∙ made
 
+  -- the same, where some fields are told to stay
+  pub sounds_on : (row : Row) (mid kept' : Kept) (pace' : Pace) (path' : Path) (timed' : List Bool) (room : ℕ) (rows : List Row) (refused : Option Rule)
+      → kind_of row ≡ AnyValues → content_of (tokens_of row) ≡ Sounds → mid ≡ rested timed kept → pace' ≡ pace → path' ≡ path → timed' ≡ timed
+      → Answers (sounding_rows pace.step mid timed (tokens_of row)) room rows refused
+      → (refused ≡ None → kept' ≡ struck (notes_of timed (tokens_of row)) mid)
+      → Steps decide past row (Follows pace' path' timed' kept') room rows refused
+  sounds_on row mid kept' pace' path' timed' room rows refused k e m p q t made is =
+      rw (p, q, t) (goes_sounds row kept' room rows refused k e (rw m at made) (rw m at is))
+
   -- ---- an interpretation
 
   pub after_moves : (row : Row) (path' : Path) (timed' : List Bool) (kept' : Kept) → kind_of row ≡ AnyInterpretation
@@ -254,3 +263,14 @@ module _ (pace : Pace) (path : Path) (timed : List Bool) (kept : Kept) (decide :
       let test : nat_le (length (text_of (tb_row pace.text tokens))) 1048576 ≡ false = grind (arith, nat_tests, over) in
       let long : interpretation_rows pace.text tokens ≡ Err L1 = rw some (ap (λ (b : Bool). if b then Ok (Spined Interpretation tokens ∷ tb_row pace.text tokens ∷ []) else Err L1) test) in
       rw (h.command, long) refl
+
+-- ---- room
+
+pub over_count : (before after single room sum count : ℕ) → sum ≡ min (before + after) 340282366920938463463374607431768211455
+    → count ≡ min (sum + single) 340282366920938463463374607431768211455 → room < count → room < before + single + after
+over_count before after single room sum count a b h = omega (arith, a, b, h)
+
+-- the kept ends after the moves of an interpretation
+pub moved_kept : (old rest lead : Kept) (flags own timed : List Bool) (found told : List Move) → rest ≡ rested flags old → flags ≡ own → own ≡ timed
+    → found ≡ told → lead ≡ led found rest → lead ≡ led told (rested timed old)
+moved_kept old rest lead flags own timed found told a b t m h = h ∙ rw (m, a, b, t) refl

@@ -1,11 +1,11 @@
 //! What each record becomes.
-ghost use Rattle.std.specs.Prelude.{◌≡◌, ◌≢◌, ◌<◌, ◌≤◌, ◌+◌, [], Ok, Err, Some, None, ℕ};
+ghost use Rattle.std.specs.Prelude.{◌≡◌, ◌+◌, [], Ok, Err, Some, None, ℕ};
 ghost use Rattle.std.specs.Prelude.{IfOk, OnOk, is_some, if◌then◌else◌};
 ghost use Rattle.std.specs.List.{list_any};
-ghost use Rattle.hum_record.specs.Row.{Spined, kind_of, tokens_of, text_of};
+ghost use Rattle.hum_record.specs.Row.{kind_of, tokens_of, text_of};
+ghost use Rattle.hum_record.specs.Spelling.{IsTextOf};
 ghost use Rattle.hum_record.specs.declared.Kind.TheVariants.{Interpretation as AnyInterpretation};
 ghost use Rattle.hum_record.specs.declared.Kind.TheVariants.{Values as AnyValues};
-ghost use Rattle.hum_record.specs.declared.SpinedKind.TheVariants.{Values};
 ghost use Rattle.hum_path.specs.Spines.{moves, after};
 ghost use Rattle.hum_path.specs.Rules.{fault_of};
 ghost use Rattle.hum_kern.specs.Duration.{recip};
@@ -54,6 +54,12 @@ fn has_note(notes: &[Option<Frac>]) -> bool
     notes.iter().any(|note| note.is_some())
 }
 
+fn single(stays: bool) -> u128
+    ensures { result ≡ (if stays then 1 else 0) }
+{
+    if stays { 1 } else { 0 }
+}
+
 fn kept_if(stays: bool, row: Record) -> Option<Record>
     ensures { result ≡ (if stays then Some row else None) }
 {
@@ -62,12 +68,14 @@ fn kept_if(stays: bool, row: Record) -> Option<Record>
 
 /// The null record that stands about a timed record, if there are such.
 fn null_about(alloc: Global, made: &Strike, row: &Record) -> Result<Option<Record>, AllocError>
-    requires tokens { tokens_of row.now ≢ [] }
+    requires lawful { IsTextOf row.now (text_of row.now) }
     requires kind { kind_of row.now ≡ AnyValues }
     ensures { IfOk result (IsAbout (made.now.before + made.now.after) (tokens_of row.now)) }
 {
-    if made.before == 0 && made.after == 0 {
-        return Ok(None);
+    if made.before == 0 {
+        if made.after == 0 {
+            return Ok(None);
+        }
     }
     Ok(Some(null_record(alloc, row)?))
 }
@@ -80,14 +88,13 @@ fn place(
     room: u64,
     out: &mut Around,
 ) -> Result<Option<Rule>, AllocError>
-    requires tokens { tokens_of row ≢ [] }
+    requires lawful { IsTextOf row (text_of row) }
     requires kind { kind_of row ≡ AnyValues }
     requires empty { out.old ≡ [] }
     ensures { IfOk result (Answers
         (Ok (around made.before made.stays made.after (tokens_of row))) room out.new) }
 {
-    let single = if made.stays { 1 } else { 0 };
-    let count = made.before.saturating_add(made.after).saturating_add(single);
+    let count = made.before.saturating_add(made.after).saturating_add(single(made.stays));
     if count > room as u128 {
         return Ok(Some(Rule::L2));
     }
@@ -114,7 +121,7 @@ impl Grid {
     /// No spines yet.
     pub(crate) fn new(alloc: Global, options: TimebaseOptions) -> Grid
         requires { recip options.text.items ≡ Ok options.step }
-        ensures { Follows (pace_of options) result.paths.path result.timed.items result.clock
+        ensures { Follows result.pace result.paths.path result.timed.items result.clock
             (timebase (pace_of options)) [] }
     {
         Grid {
@@ -165,7 +172,7 @@ impl Grid {
         room: u64,
         out: &mut Around,
     ) -> Result<Option<Rule>, AllocError>
-        requires tokens { tokens_of row ≢ [] }
+        requires lawful { IsTextOf row (text_of row) }
         requires kind { kind_of row ≡ AnyValues }
         requires empty { out.old ≡ [] }
         ensures decided { IfOk result (Answers (sounding_rows self.old.pace.step self.old.clock
@@ -197,6 +204,7 @@ impl Grid {
         room: u64,
         out: &mut Around,
     ) -> Result<Option<Rule>, AllocError>
+        requires lawful { IsTextOf row (text_of row) }
         requires kind { kind_of row ≡ AnyValues }
         requires empty { out.old ≡ [] }
         ensures { IfOk result (HasStepped
@@ -211,7 +219,10 @@ impl Grid {
                 *out = Around::alone(self.alloc, row);
                 Ok(None)
             }
-            Content::Sounds => self.sound(row, room, out),
+            Content::Sounds => {
+                let refused = self.sound(row, room, out)?;
+                Ok(refused)
+            }
         }
     }
 }
