@@ -65,6 +65,9 @@ impl Timebase {
         // It stands for what the options say, with nothing put yet.
         ensures stands { ⟦<Timebase as Stage>⟧.stands result
             (opening (meaning stage (pace_of options))) }
+
+        // Of scores it makes scores.
+        ensures keeps { KeepsScore (meaning stage (pace_of options)).outcomes }
     {
         Timebase {
             inner: AtOnce::new(alloc, stage, Command::Timebase, Grid::new(alloc, options)),

@@ -1,6 +1,6 @@
-use Rattle.hum_timebase.specs.Timebase.{timebase}
 use Rattle.hum_timebase.specs.Following.{pace_of}
+use Rattle.hum_timebase.proofs.Keeping.{timebase_keeps}
 use Rattle.hum_timebase.proofs.Timebase.new.Goals as goal
 
-pub returns : goal.returns
-returns c = record { stands = c.new-2.ensures (timebase (pace_of c.args.options)) c.new.ensures }
+pub returns-clause-keeps : goal.returns-clause-keeps
+returns-clause-keeps c = timebase_keeps (pace_of c.args.options)
