@@ -5,7 +5,7 @@ use Rattle.hum_path.specs.Spines.{Path}
 use Rattle.hum_path.specs.Score.{path_after}
 use Rattle.hum_stage.specs.declared.faults.Rule.{Rule}
 use Rattle.hum_stage.specs.Decided.{in_room}
-use Rattle.hum_timebase.specs.declared.TimebaseOptions.{TimebaseOptions}
+use Rattle.hum_timebase.specs.declared.options.TimebaseOptions.{TimebaseOptions}
 use Rattle.hum_timebase.specs.Notes.{timed_in}
 use Rattle.hum_timebase.specs.Clock.{clock_after}
 use Rattle.hum_timebase.specs.Timebase.{Pace, timebase, null_row}

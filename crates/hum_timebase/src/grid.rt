@@ -8,7 +8,6 @@ ghost use Rattle.hum_record.specs.declared.Kind.TheVariants.{Interpretation as A
 ghost use Rattle.hum_record.specs.declared.Kind.TheVariants.{Values as AnyValues};
 ghost use Rattle.hum_path.specs.Spines.{moves, after};
 ghost use Rattle.hum_path.specs.Rules.{fault_of};
-ghost use Rattle.hum_kern.specs.Duration.{recip};
 ghost use Rattle.hum_stage.specs.Decided.{MayStep, HasStepped};
 ghost use Rattle.hum_timebase.specs.Timebase.{timebase, around};
 ghost use Rattle.hum_timebase.specs.Following.{Follows, Answers, IsAbout, pace_of};
@@ -120,7 +119,6 @@ pub(crate) struct Grid {
 impl Grid {
     /// No spines yet.
     pub(crate) fn new(alloc: Global, options: TimebaseOptions) -> Grid
-        requires { recip options.text.items ≡ Ok options.step }
         ensures { Follows result.pace result.paths.path result.timed.items result.clock
             (timebase (pace_of options)) [] }
     {

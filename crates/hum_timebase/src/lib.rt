@@ -8,8 +8,6 @@
 //! them.
 #![tactic(auto)]
 
-ghost use Rattle.std.specs.Prelude.{◌≡◌, Ok};
-ghost use Rattle.hum_kern.specs.Duration.{recip};
 ghost use Rattle.hum_stage.specs.Meaning.{opening, KeepsScore};
 ghost use Rattle.hum_timebase.specs.Timebase.{meaning};
 ghost use Rattle.hum_timebase.specs.Following.{pace_of};
@@ -19,23 +17,15 @@ mod due;
 mod ends;
 mod grid;
 mod notes;
+mod options;
 mod pace;
 mod records;
 
 use grid::Grid;
-use hum_frac::Frac;
 use hum_record::Record;
 use hum_stage::{AtOnce, Command, End, Stage, State};
+pub use options::TimebaseOptions;
 use std::alloc::{AllocError, Global};
-
-/// How far apart the records stand.
-#[derive(Drop)]
-pub struct TimebaseOptions {
-    /// `-t`: the duration from one record to the next, in whole notes
-    pub step: Frac,
-    /// how that is written, as `16` or `4.`
-    pub text: Vec<u8>,
-}
 
 /// The command timebase, as a stage.
 ///
@@ -58,10 +48,8 @@ impl Drop for Timebase {
 }
 
 impl Timebase {
-    /// The stage of this number, from 1. The text is a duration and nothing else, and the step is
-    /// that duration.
+    /// The stage of this number, from 1.
     pub fn new(alloc: Global, stage: u8, options: TimebaseOptions) -> Timebase
-        requires { recip options.text.items ≡ Ok options.step }
         // It stands for what the options say, with nothing put yet.
         ensures stands { ⟦<Timebase as Stage>⟧.stands result
             (opening (meaning stage (pace_of options))) }

@@ -3,7 +3,6 @@ ghost use Rattle.std.specs.Prelude.{◌≡◌, ◌<◌, ◌++◌, Ok, IfOk};
 ghost use lib.Chars.{codes};
 ghost use Rattle.hum_record.specs.declared.SpinedKind.TheVariants.{Interpretation};
 ghost use Rattle.hum_record.specs.Spelling.{IsToken};
-ghost use Rattle.hum_kern.specs.Duration.{recip};
 
 use crate::TimebaseOptions;
 use hum_frac::Frac;
@@ -31,7 +30,6 @@ impl Model for Pace {
 impl Pace {
     /// The step of the command's options.
     pub(crate) fn new(options: TimebaseOptions) -> Pace
-        requires { recip options.text.items ≡ Ok options.step }
         ensures { result ≡ record { step = options.step; text = options.text.items } }
     {
         let TimebaseOptions { step, text } = options;

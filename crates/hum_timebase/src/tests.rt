@@ -66,7 +66,6 @@ fn read(rt: &impl Abort, alloc: Global, text: &[u8]) -> Result<Record, Fail> {
 
 // The step that a text writes.
 fn step(alloc: Global, text: &[u8]) -> Result<TimebaseOptions, Fail>
-    ensures { IfOk result (λ options. recip options.text.items ≡ Ok options.step) }
 {
     let text = text.to_vec(alloc)?;
     let step = read_recip(&text)?;
