@@ -1,6 +1,6 @@
 -- Scores stay scores.
-use Rattle.std.proofs.Common.{◌≡◌, ◌≢◌, ◌∙◌, refl, sym, ap, ℕ, zero, suc, ◌+◌, ◌≤◌, Bool, true, false, List, [], ◌∷◌, ◌++◌, length, map, replicate, cond, arith, subst, Option, None, Some}
-use Rattle.std.specs.Prelude.{◌&&◌, ◌||◌, ◌==◌, not, nat_le, is_some, Result, Ok, Err, if◌then◌else◌}
+use Rattle.std.proofs.Common.{◌≡◌, ◌≢◌, ◌∙◌, refl, sym, ap, ℕ, zero, suc, ◌+◌, ◌≤◌, Bool, true, false, List, [], ◌∷◌, ◌++◌, length, map, replicate, arith, subst, Option, None, Some}
+use Rattle.std.specs.Prelude.{◌&&◌, ◌==◌, not, nat_le, is_some, Result, Ok, Err, if◌then◌else◌}
 use Rattle.std.specs.List.{list_any, list_all, find, AllByRecursion}
 use Rattle.std.proofs.lemmas.Bool.{and_parts, or_parts}
 use Rattle.std.proofs.lemmas.Bool.Decides.{nat_tests}
@@ -12,8 +12,8 @@ use Rattle.hum_path.specs.declared.signs.Sign.{Sign}
 use Rattle.hum_path.specs.declared.signs.Sign.TheVariants.{Split, Join, Exchange, Add, End, Exclusive, Plain}
 use Rattle.hum_path.specs.Sign.{sign_of, is_plain, is_exclusive, is_path_indicator, all_plain}
 use Rattle.hum_path.specs.Spines.{Path, Unopened, Spines, width, exchanges, names_after, after}
-use Rattle.hum_path.specs.Rules.{fault_of, breaks, breaks_as_text, in_order, has_unnamed, stays_unnamed}
-use Rattle.hum_path.specs.Onward.{beginnings, onward, swapped, renamed_each}
+use Rattle.hum_path.specs.Rules.{fault_of, breaks_as_text, in_order, has_unnamed, stays_unnamed}
+use Rattle.hum_path.specs.Onward.{beginnings, onward, renamed_each}
 use Rattle.hum_path.specs.Score.{IsOpen, path_after}
 use Rattle.hum_path.proofs.Obeyed.{opens, obeys, narrow}
 use Rattle.hum_path.proofs.Onwards.{names_onward, swapped_none, each_length}
@@ -189,9 +189,9 @@ named_after (Spines names) tokens some sound =
     let quiet = quiet_steers tokens (list_any is_path_indicator signs) some o.steers in
     let size = each_length names tokens o.wide in
     let onwards : names_after (Spines names) tokens ≡ each =
-      names_onward names tokens o.wide o.pair
-      ∙ ap (onward (λ _. []) (beginnings false signs) signs) (swapped_none 0 signs each (quiet_exchanges 0 signs quiet))
-      ∙ quiet_onward (λ _. []) false signs each quiet (length-map tokens sign_of ∙ sym size) in
+    names_onward names tokens o.wide o.pair
+    ∙ ap (onward (λ _. []) (beginnings false signs) signs) (swapped_none 0 signs each (quiet_exchanges 0 signs quiet))
+    ∙ quiet_onward (λ _. []) false signs each quiet (length-map tokens sign_of ∙ sym size) in
     record { names = each; is = ap Spines onwards; wide = size; filled = named_each names tokens o.unnamed }
 
 text_sound : (names tokens : List (List ℕ)) → tokens ≢ [] → length names ≡ length tokens → list_any is_empty names ≡ false

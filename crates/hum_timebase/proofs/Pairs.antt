@@ -1,8 +1,7 @@
 -- Two lists, side by side.
 use Rattle.std.proofs.Common.{◌≡◌, ◌∙◌, ℕ, zero, suc, ◌+◌, ◌<◌, ◌≤◌, min, List, [], ◌∷◌, ◌++◌, length, take, drop, get_or, refl, sym, ap, arith, add-one}
-use Rattle.std.proofs.Common.{append_assoc, append-nil, map, ◌⊎◌, inl, inr}
 use Rattle.std.specs.Prelude.{slice_set}
-use Rattle.std.proofs.lemmas.List.{take_all, drop_all}
+use Rattle.std.proofs.lemmas.List.{drop_all}
 use Rattle.hum_timebase.specs.Pairs.{paired, over}
 
 -- nothing is left of the shorter list

@@ -1,9 +1,9 @@
 -- What is read of a record, token by token.
-use Rattle.std.proofs.Common.{◌≡◌, ◌∙◌, ℕ, zero, suc, ◌+◌, ◌<◌, List, [], ◌∷◌, ◌++◌, map, length, drop, get_or, refl, sym, ap, arith, add-one, append_assoc, Bool, true, false, Option, None, cond}
+use Rattle.std.proofs.Common.{◌≡◌, ◌∙◌, ℕ, zero, suc, ◌+◌, ◌<◌, List, [], ◌∷◌, ◌++◌, map, length, drop, get_or, refl, sym, ap, arith, add-one, append_assoc, Bool, true, false, None}
 use Rattle.std.specs.Prelude.{◌&&◌, ◌||◌, not, is_some, if◌then◌else◌}
 use Rattle.std.specs.List.{list_any, list_all}
 use Rattle.std.proofs.lemmas.Bool.{or_parts}
-use Rattle.hum_timebase.specs.Notes.{is_timed, own_name, own_names, is_null, is_barline, is_sounding, note_of, notes_of, is_barline_record}
+use Rattle.hum_timebase.specs.Notes.{is_timed, own_name, own_names, is_null, is_barline, is_sounding, note_of, notes_of}
 use Rattle.hum_timebase.specs.Reading.{content_of}
 use Rattle.hum_timebase.specs.declared.notes.Content.TheVariants.{Nulls, Barlines, Sounds}
 

@@ -1,15 +1,13 @@
 -- What a record becomes, by the ends that are kept.
-use Rattle.std.proofs.Common.{◌≡◌, ◌≢◌, ◌∙◌, ℕ, zero, suc, ◌+◌, ◌<◌, ◌≤◌, List, [], ◌∷◌, ◌++◌, map, length, drop, get_or, replicate, refl, sym, ap, arith, add-one, length-append, min, Bool, true, false, Option, None, Some, Result, Ok, Err, cond}
-use Rattle.std.specs.Prelude.{◌&&◌, not, is_some, nat_le, if◌then◌else◌}
+use Rattle.std.proofs.Common.{◌≡◌, ◌∙◌, ℕ, zero, suc, ◌+◌, ◌<◌, ◌≤◌, List, [], ◌∷◌, map, length, drop, get_or, replicate, refl, sym, ap, arith, add-one, length-append, min, Bool, true, false, Option, None, Some, Result, Ok, Err}
+use Rattle.std.specs.Prelude.{not, is_some, nat_le, if◌then◌else◌}
 use Rattle.std.specs.Option.{option_to_list}
-use Rattle.std.specs.List.{list_any, list_all, join_with_byte, AllByRecursion}
+use Rattle.std.specs.List.{list_any}
 use Rattle.std.proofs.lemmas.Bool.Decides.{nat_tests}
 use Rattle.std.proofs.lemmas.List.{length-replicate}
 use Rattle.hum_record.specs.declared.Kind.TheVariants.{Global, Local as AnyLocal, Values as AnyValues, Interpretation as AnyInterpretation}
 use Rattle.hum_record.specs.declared.SpinedKind.TheVariants.{Local, Interpretation, Values}
 use Rattle.hum_record.specs.Row.{Row, Comment, Spined, kind_of, tokens_of, text_of}
-use Rattle.hum_record.specs.Spelling.{IsToken, IsTextOf}
-use Rattle.hum_record.specs.Building.{spelled}
 use Rattle.hum_path.specs.declared.moved.Move.{Move}
 use Rattle.hum_path.specs.Spines.{Path, after, moves}
 use Rattle.hum_path.specs.Score.{path_after}
@@ -18,13 +16,13 @@ use Rattle.hum_frac.specs.Multiples.{is_multiple}
 use Rattle.hum_stage.specs.declared.faults.Rule.{Rule}
 use Rattle.hum_stage.specs.declared.faults.Rule.TheVariants.{K3, B1, B2, F1, L1}
 use Rattle.hum_stage.specs.Decided.{in_room, Steps}
-use Rattle.hum_timebase.specs.Notes.{timed_in, timed_at, notes_of, has_misread, is_null, is_barline, is_sounding, is_barline_record}
+use Rattle.hum_timebase.specs.Notes.{timed_in, timed_at, notes_of, has_misread, is_sounding}
 use Rattle.hum_timebase.specs.Ends.{latest, next_end, living_before}
 use Rattle.hum_timebase.specs.Clock.{Clock, clock_after, time_after}
-use Rattle.hum_timebase.specs.Timebase.{Pace, timebase, data_rows, timed_rows, on_grid, around, null_row, clashes, is_too_long, count_before, count_after, living_at, names_some, tb_row, interpretation_rows}
-use Rattle.hum_timebase.specs.Kept.{Kept, kept_of, rested, led, struck, ends_before, ends_at, ends_after, strike, strike_in, strike_at, rows_of, sounding_rows}
+use Rattle.hum_timebase.specs.Timebase.{Pace, data_rows, timed_rows, on_grid, around, null_row, clashes, is_too_long, count_before, count_after, living_at, names_some, tb_row, interpretation_rows}
+use Rattle.hum_timebase.specs.Kept.{Kept, kept_of, rested, led, struck, ends_before, ends_at, ends_after, strike, strike_in, rows_of, sounding_rows}
 use Rattle.hum_timebase.specs.Following.{Follows, Answers, IsAbout}
-use Rattle.hum_timebase.specs.Dues.{due_rows, row_in}
+use Rattle.hum_timebase.specs.Dues.{due_rows}
 use Rattle.hum_timebase.specs.Reading.{content_of}
 use Rattle.hum_timebase.specs.declared.notes.Content.TheVariants.{Nulls, Barlines, Sounds}
 use Rattle.hum_timebase.proofs.Reading.{nulls_alone, sounds_some, no_notes, content_sounds, content_barlines, content_nulls}
@@ -149,12 +147,15 @@ module _ (pace : Pace) (path : Path) (timed : List Bool) (kept : Kept) (decide :
   pub goes_local : (row : Row) (kept' : Kept) → kind_of row ≡ AnyLocal → kept' ≡ rested timed kept
       → (decide past row ≡ Ok (row ∷ [])) × Follows pace path timed kept' decide (row ∷ past)
   goes_local (Comment text) kept' k is = absurd cc
-  goes_local (Spined Local tokens) kept' k is = (rw h.command refl, record {
-    command = h.command;
-    spines = h.spines;
-    columns = h.columns;
-    clock = is ∙ rw (h.columns, h.clock) (sym (kept-rested (clock_after past) (timed_in (path_after past))));
-  })
+  goes_local (Spined Local tokens) kept' k is = (
+    rw h.command refl,
+    record {
+      command = h.command;
+      spines = h.spines;
+      columns = h.columns;
+      clock = is ∙ rw (h.columns, h.clock) (sym (kept-rested (clock_after past) (timed_in (path_after past))));
+    },
+  )
   goes_local (Spined Interpretation tokens) kept' k is = absurd cc
   goes_local (Spined Values tokens) kept' k is = absurd cc
 

@@ -1,25 +1,23 @@
 -- The records that are made.
-use Rattle.std.proofs.Common.{◌≡◌, ◌≢◌, ◌∙◌, ℕ, zero, suc, ◌+◌, ◌<◌, ◌≤◌, List, [], ◌∷◌, ◌++◌, map, length, drop, drop-cons, get_or, refl, sym, ap, arith, add-one, append_assoc, length-append, Bool, true, false, Option, None, Some, Result, Ok, Err, subst}
+use Rattle.std.proofs.Common.{◌≡◌, ◌≢◌, ◌∙◌, ℕ, ◌+◌, ◌<◌, ◌≤◌, List, [], ◌∷◌, ◌++◌, map, length, drop, drop-cons, get_or, refl, sym, ap, arith, add-one, append_assoc, length-append, Bool, true, false, Option, None, Some, Ok, subst}
 use Rattle.std.specs.Prelude.{◌&&◌, ◌==◌, nat_le, if◌then◌else◌}
-use Rattle.std.specs.List.{list_any, join_with_byte, AllByRecursion}
-use Rattle.std.proofs.lemmas.Bool.{and_parts, false≢true}
+use Rattle.std.specs.List.{list_any, AllByRecursion}
+use Rattle.std.proofs.lemmas.Bool.{false≢true}
 use Rattle.std.proofs.lemmas.Bool.Decides.{nat_tests}
 use Rattle.std.proofs.lemmas.List.{nil_from_length, drop_all}
 use Rattle.std.proofs.lemmas.List.Folds.{list_any-append}
 use lib.Chars.{codes}
 use Rattle.hum_record.specs.declared.Kind.TheVariants.{Global, Values as AnyValues}
 use Rattle.hum_record.specs.declared.SpinedKind.{SpinedKind}
-use Rattle.hum_record.specs.declared.SpinedKind.TheVariants.{Local, Interpretation, Values}
 use Rattle.hum_record.specs.Row.{Row, Comment, Spined, kind_of, tokens_of, text_of}
 use Rattle.hum_record.specs.Spelling.{IsToken, IsTextOf, has_byte}
 use Rattle.hum_record.specs.Building.{spelled}
 use Rattle.hum_record.proofs.Drafts.{spelled_front}
 use Rattle.hum_frac.specs.Ratio.{Ratio, reduced}
-use Rattle.hum_kern.specs.declared.KernFault.{KernFault}
 use Rattle.hum_kern.specs.declared.Length.{Length}
 use Rattle.hum_kern.specs.Classes.{is_digit, is_dot, is_grace_sign}
 use Rattle.hum_kern.specs.Value.{value_of, dotted}
-use Rattle.hum_kern.specs.Duration.{Spelling, spelling_of, is_empty, is_torn, second_length, with_dots, said, no_length, duration, recip_in, recip_of, recip}
+use Rattle.hum_kern.specs.Duration.{Spelling, spelling_of, is_empty, is_torn, second_length, with_dots, said, recip_in, recip_of, recip}
 use Rattle.hum_kern.specs.Parts.{AreParts, quotient_text, IsSecond}
 use Rattle.hum_kern.proofs.Parts.{are_parts}
 use Rattle.hum_kern.proofs.Laws.{recip_greater}
@@ -77,11 +75,11 @@ free_whole b bytes parts h whole foreign =
     let end = whole.end in
     let last = nil_from_length parts.left (omega (arith, sum, sum2, sum3, sum4, second, text, end)) in
     subst (λ xs. has_byte b xs ≡ false) (sym h.text) (
-      rw (first, last) (
-        free-append b parts.digits _ (free_run is_digit b parts.digits foreign.digit h.digits.all_in)
-        (free-append b (quotient_text parts.second) _ (free_quotient b bytes parts h foreign)
-        (free-append b parts.dots [] (free_run is_dot b parts.dots foreign.dot h.dots.all_in) refl))
-      )
+    rw (first, last) (
+    free-append b parts.digits _ (free_run is_digit b parts.digits foreign.digit h.digits.all_in)
+    (free-append b (quotient_text parts.second) _ (free_quotient b bytes parts h foreign)
+    (free-append b parts.dots [] (free_run is_dot b parts.dots foreign.dot h.dots.all_in) refl))
+    )
     )
 
 whole_found : (bytes : List ℕ) (found : Length) (step : Ratio) → recip_of bytes (Ok found) ≡ Ok step

@@ -1,9 +1,8 @@
 -- What is kept of a clock: for each spine the end of what leads to its next cell.
 use Rattle.std.specs.Prelude.{ℕ, ◌+◌, Bool, List, [], ◌∷◌, map, Option, None, Some, is_some}
 use Rattle.std.specs.Prelude.{Result, Ok, Err, not, if◌then◌else◌}
-use Rattle.std.specs.List.{list_any, list_all}
-use Rattle.hum_record.specs.declared.SpinedKind.TheVariants.{Values}
-use Rattle.hum_record.specs.Row.{Row, Spined}
+use Rattle.std.specs.List.{list_any}
+use Rattle.hum_record.specs.Row.{Row}
 use Rattle.hum_path.specs.declared.moved.Move.{Move}
 use Rattle.hum_path.specs.Chains.{goes_on}
 use Rattle.hum_frac.specs.Ratio.{Ratio, plus}
@@ -12,11 +11,10 @@ use Rattle.hum_stage.specs.declared.faults.Rule.{Rule}
 use Rattle.hum_stage.specs.declared.faults.Rule.TheVariants.{K3, B1, B2, F1}
 use Rattle.hum_timebase.specs.declared.clock.Strike.{Strike}
 use Rattle.hum_timebase.specs.Pairs.{over}
-use Rattle.hum_timebase.specs.Notes.{is_null, is_barline_record, notes_of, has_misread}
+use Rattle.hum_timebase.specs.Notes.{notes_of, has_misread}
 use Rattle.hum_timebase.specs.Ends.{latest, later, next_end}
 use Rattle.hum_timebase.specs.Clock.{Clock, time_after, time_of}
 use Rattle.hum_timebase.specs.Timebase.{clashes, is_too_long, count_before, count_after, around}
-use Rattle.hum_timebase.specs.Timebase.{timed_rows}
 
 pub record Kept : Type 0 where
   pub last : Option Ratio

@@ -1,7 +1,7 @@
 -- Timed columns, and the notes in their cells.
 use Rattle.std.specs.Prelude.{ℕ, ◌==◌, Bool, nat_eq, ◌&&◌, ◌||◌, not, List, [], ◌∷◌, map}
 use Rattle.std.specs.Prelude.{Option, None, Some, if◌then◌else◌}
-use Rattle.std.specs.List.{list_any, list_all, starts_with, slice_split}
+use Rattle.std.specs.List.{list_any, starts_with, slice_split}
 use Rattle.std.specs.Str.{bytes_eq}
 use lib.Chars.{codes}
 use Rattle.hum_path.specs.Sign.{sign_of, is_exclusive}

@@ -93,7 +93,10 @@ fn place(
     ensures { IfOk result (Answers
         (Ok (around made.before made.stays made.after (tokens_of row))) room out.new) }
 {
-    let count = made.before.saturating_add(made.after).saturating_add(single(made.stays));
+    let count = made
+        .before
+        .saturating_add(made.after)
+        .saturating_add(single(made.stays));
     if count > room as u128 {
         return Ok(Some(Rule::L2));
     }

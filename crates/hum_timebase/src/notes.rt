@@ -97,7 +97,11 @@ pub(crate) fn content_of(row: &Record) -> Content
         }
         found |= is_barline(token);
     }
-    if found { Content::Barlines } else { Content::Nulls }
+    if found {
+        Content::Barlines
+    } else {
+        Content::Nulls
+    }
 }
 
 /// Where the first space stands, or the end.

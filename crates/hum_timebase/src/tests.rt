@@ -153,14 +153,26 @@ fn stands_on_the_grid(rt: HostRuntime) -> Result<(), Fail> {
             "**kern / 8c / =2 / 8d / 4e / *-",
             "**kern / *tb16 / 8c / . / =2 / 8d / . / 4e / . / . / . / *-",
         ),
-        ("4", "**kern / 8c / =2 / 8d / 4e / *-", "**kern / *tb4 / 8c / =2 / 4e / *-"),
-        ("4", "**kern / 4c / 8ddq / 4d / *-", "**kern / *tb4 / 4c / 4d / *-"),
+        (
+            "4",
+            "**kern / 8c / =2 / 8d / 4e / *-",
+            "**kern / *tb4 / 8c / =2 / 4e / *-",
+        ),
+        (
+            "4",
+            "**kern / 4c / 8ddq / 4d / *-",
+            "**kern / *tb4 / 4c / 4d / *-",
+        ),
         (
             "4",
             "**kern / *^ / 4c & 2e / *v & *v / 4d / *-",
             "**kern / *tb4 / *^ / 4c & 2e / *v & *v / . / 4d / *-",
         ),
-        ("3%2", "**kern / 3%4c / 0d / *-", "**kern / *tb3%2 / 3%4c / . / 0d / . / . / *-"),
+        (
+            "3%2",
+            "**kern / 3%4c / 0d / *-",
+            "**kern / *tb3%2 / 3%4c / . / 0d / . / . / *-",
+        ),
         (
             "00",
             "**kern / 00c / 000d / 4e / *-",
@@ -180,7 +192,11 @@ fn stands_on_the_grid(rt: HostRuntime) -> Result<(), Fail> {
             "**kern / *tb16 / 4..c / . / . / . / . / . / . / 16d / 2e / . / . / . / . / . / . / . / *-",
         ),
         // breves and longs
-        ("1", "**kern / 0c / 00d / *-", "**kern / *tb1 / 0c / . / 00d / . / . / . / *-"),
+        (
+            "1",
+            "**kern / 0c / 00d / *-",
+            "**kern / *tb1 / 0c / . / 00d / . / . / . / *-",
+        ),
         // a spine that ends early
         (
             "4",

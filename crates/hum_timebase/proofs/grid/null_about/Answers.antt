@@ -1,7 +1,4 @@
-use Rattle.std.proofs.Common.{◌≡◌}
-use Rattle.hum_record.specs.declared.Kind.TheVariants.{Global}
 use Rattle.hum_record.proofs.Drafts.{filled_tokens}
-use Rattle.hum_record.specs.Row.{kind_of}
 use Rattle.hum_timebase.proofs.Writing.{null_fits, not_global}
 use Rattle.hum_timebase.proofs.grid.null_about.Goals as goal
 

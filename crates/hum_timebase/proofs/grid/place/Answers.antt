@@ -2,7 +2,7 @@ use Rattle.std.proofs.Common.{◌∙◌, sym, refl, ap, Ok}
 use Rattle.hum_record.specs.Row.{tokens_of}
 use Rattle.hum_stage.proofs.Moves.{over_room}
 use Rattle.hum_timebase.specs.Timebase.{around}
-use Rattle.hum_timebase.proofs.Striking.{place_rows, about_known, around_length, over_count}
+use Rattle.hum_timebase.proofs.Striking.{place_rows, around_length, over_count}
 use Rattle.hum_timebase.proofs.grid.place.Goals as goal
 
 pub returns-then-count-room : goal.returns-then-count-room

@@ -1,4 +1,4 @@
-use Rattle.std.proofs.Common.{◌∙◌, ◌≤◌, refl, arith, length, subst}
+use Rattle.std.proofs.Common.{refl, arith}
 use lib.Chars.{codes}
 use Rattle.hum_record.specs.Row.{tokens_of}
 use Rattle.hum_timebase.proofs.Writing.{one_more, front_fits, has_made}

@@ -1,4 +1,4 @@
-use Rattle.std.proofs.Common.{◌≡◌, ◌++◌, ◌≤◌, drop, map, false, length}
+use Rattle.std.proofs.Common.{◌≡◌, ◌++◌, drop, map, false}
 use lib.Chars.{codes}
 use Rattle.hum_record.specs.Row.{tokens_of}
 use Rattle.hum_record.specs.declared.SpinedKind.TheVariants.{Values}

@@ -1,4 +1,4 @@
-use Rattle.std.proofs.Common.{◌≡◌, ◌∙◌, refl, arith, length}
+use Rattle.std.proofs.Common.{◌∙◌, arith}
 use Rattle.hum_record.specs.Row.{tokens_of}
 use Rattle.hum_timebase.specs.Timebase.{tb_token}
 use Rattle.hum_timebase.proofs.Writing.{one_more, front_fits, has_made, some_named, named_token}

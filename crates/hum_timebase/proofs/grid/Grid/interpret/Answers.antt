@@ -1,7 +1,4 @@
 use Rattle.std.proofs.Common.{◌∙◌, sym}
-use Rattle.hum_record.specs.Row.{tokens_of}
-use Rattle.hum_path.specs.Spines.{moves}
-use Rattle.hum_timebase.specs.Notes.{timed_at}
 use Rattle.hum_timebase.proofs.Striking.{after_moves, names_none, names_fits, moved_kept}
 use Rattle.hum_timebase.proofs.grid.Grid.interpret.Goals as goal
 
