@@ -1,8 +1,4 @@
-<<<<<<< HEAD
-//! The command mint: notes become the intervals from the notes before them.
-=======
 //! The command mint: notes become the intervals from the notes before.
->>>>>>> b271ca084eed3f68e4e08e4deb17ad57485e98ac
 ghost use Rattle.hum_stage.specs.declared.faults.Command.TheVariants.{Mint as MintCommand};
 
 use crate::last_note::LastNote;
@@ -14,15 +10,6 @@ use hum_stage::{Command, Rule};
 use std::alloc::{AllocError, Global};
 
 /// What mint makes of tokens.
-<<<<<<< HEAD
-#[derive(Drop)]
-pub struct MintTokens {
-    options: MintOptions,
-    // the note before, for each spine
-    carried: Carried<LastNote>,
-}
-
-=======
 pub struct MintTokens {
     options: MintOptions,
     carried: Carried<LastNote>,
@@ -38,7 +25,6 @@ impl Drop for MintTokens {
     }
 }
 
->>>>>>> b271ca084eed3f68e4e08e4deb17ad57485e98ac
 /// The command mint, as a stage.
 pub type Mint = CellStage<MintTokens>;
 
@@ -46,10 +32,6 @@ impl Retells for MintTokens {
     type Options = MintOptions;
 
     ghost use Rattle.hum_tones.specs.Commands.{mint, Mints};
-<<<<<<< HEAD
-    ghost use Rattle.hum_tones.specs.Headings.{mint_heading};
-=======
->>>>>>> b271ca084eed3f68e4e08e4deb17ad57485e98ac
 
     ghost command = { MintCommand };
 
@@ -57,11 +39,8 @@ impl Retells for MintTokens {
 
     ghost follows = { λ s. Mints s.options s.carried.each };
 
-<<<<<<< HEAD
-=======
     ghost use Rattle.hum_tones.specs.Headings.{mint_heading};
 
->>>>>>> b271ca084eed3f68e4e08e4deb17ad57485e98ac
     ghost lawful = { λ s retelling past h. mint_heading s.options retelling h.command };
 
     fn command() -> Command {
