@@ -1,17 +1,16 @@
 -- Texts that are joined by spaces make a lawful token.
-use Rattle.std.proofs.Common.{◌≡◌, ◌≢◌, refl, sym, ap, ◌∙◌, ℕ, ◌≤◌, ◌==◌, Bool, true, false, List, [], ◌∷◌, ◌++◌, length, append_assoc, append-nil, arith}
-use Rattle.std.specs.Prelude.{nat_eq, Result, Ok, Err, Option, None, Some, if◌then◌else◌}
-use Rattle.std.specs.List.{AllByRecursion, join_with_byte, list_any, starts_with}
+use Rattle.std.proofs.Common.{◌≡◌, ◌≢◌, refl, sym, ◌∙◌, ℕ, ◌≤◌, ◌==◌, false, List, [], ◌∷◌, ◌++◌, length, append_assoc, arith}
+use Rattle.std.specs.Prelude.{Result, Ok, Option, None}
+use Rattle.std.specs.List.{AllByRecursion}
 use Rattle.std.proofs.lemmas.List.Folds.{list_any-append}
 use Rattle.std.proofs.lemmas.Bool.{or_parts}
 use Rattle.std.proofs.lemmas.Bool.Decides.{nat_tests}
 use lib.Chars.{codes}
-use Rattle.hum_record.specs.declared.SpinedKind.{SpinedKind}
-use Rattle.hum_record.specs.declared.SpinedKind.TheVariants.{Local, Interpretation, Values}
+use Rattle.hum_record.specs.declared.SpinedKind.TheVariants.{Local, Values}
 use Rattle.hum_record.specs.Spelling.{has_byte, is_comment, kind_of_token, IsToken}
 use Rattle.hum_path.proofs.Cases.{by_bool}
 use Rattle.hum_stage.specs.declared.faults.Rule.{Rule}
-use Rattle.hum_tones.specs.Subtokens.{joined, IsPart, IsPiece, given_by, if_given, IsRetold}
+use Rattle.hum_tones.specs.Subtokens.{joined, IsPiece, given_by, if_given, IsRetold}
 use Rattle.hum_tones.proofs.SoFar.{spaced, SoFar, all_given}
 
 -- without the last space

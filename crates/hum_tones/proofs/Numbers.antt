@@ -1,7 +1,7 @@
 -- Numbers, as they are written, may stand in a token.
-use Rattle.std.proofs.Common.{◌≡◌, ◌≢◌, refl, sym, ap, ◌∙◌, ℕ, zero, suc, ◌+◌, ◌-◌, ◌≤◌, ◌<◌, ◌/◌, ◌%◌, ◌^◌, ◌==◌, ◌&&◌, Bool, true, false, List, [], ◌∷◌, ◌++◌, length, arith, Option, None, Some, to_z, of_z, w32}
-use Rattle.std.specs.Prelude.{ℤ, pos, negsuc, nat_le, Result, Ok, Err}
-use Rattle.std.specs.List.{list_any, AllByRecursion}
+use Rattle.std.proofs.Common.{◌≡◌, ◌≢◌, refl, ℕ, zero, suc, ◌+◌, ◌≤◌, ◌<◌, ◌/◌, ◌%◌, ◌^◌, ◌==◌, ◌&&◌, Bool, false, List, [], ◌∷◌, ◌++◌, arith, None, Some, to_z, of_z, w32}
+use Rattle.std.specs.Prelude.{ℤ, pos, negsuc, Ok}
+use Rattle.std.specs.List.{AllByRecursion}
 use Rattle.std.specs.Fmt.{decimal, signed_decimal}
 use Rattle.std.specs.Int.Signed.{mag}
 use Rattle.std.proofs.lemmas.Int.{ints}
@@ -9,11 +9,11 @@ use Rattle.std.proofs.lemmas.List.Folds.{list_any-append}
 use Rattle.std.proofs.lemmas.Fmt.{decimal_digit, decimal_step}
 use Rattle.std.proofs.lemmas.Bool.Decides.{nat_tests, leb_tells}
 use mathlib.Core.Logic.{inl, inr}
-use Rattle.hum_record.specs.declared.SpinedKind.TheVariants.{Interpretation, Values}
-use Rattle.hum_record.specs.Spelling.{has_byte, kind_of_token, IsToken}
+use Rattle.hum_record.specs.declared.SpinedKind.TheVariants.{Interpretation}
+use Rattle.hum_record.specs.Spelling.{has_byte, IsToken}
 use Rattle.hum_pitch.specs.Pitch.{Spelled, semitones, IsWithin}
 use Rattle.hum_kern.specs.Note.{Reading, note}
-use Rattle.hum_tones.specs.Subtokens.{IsPart, IsPiece, HasAdded}
+use Rattle.hum_tones.specs.Subtokens.{IsPiece, HasAdded}
 use Rattle.hum_tones.specs.Semits.{semits_of}
 use lib.Chars.{codes}
 
@@ -37,10 +37,10 @@ digits_of : (fuel n : ℕ) → n < fuel → n < 2 ^ 64 → AreDigits (decimal n)
 digits_of zero n below fits = absurd (omega (arith, below))
 digits_of (suc fuel) n below fits = elim (leb_tells 10 n) [
   | inl told ↦ (
-    let large = told.1 in
-    let more = digits_of fuel (n / 10) (omega (arith, below, large)) (omega (arith, fits, large)) in
-    rw (decimal_step n large fits) (record { all = push_all IsDigit (decimal (n / 10)) (48 + n % 10) more.all (record { low = omega arith; high = omega arith }); some = some_push (decimal (n / 10)) (48 + n % 10) })
-  )
+      let large = told.1 in
+      let more = digits_of fuel (n / 10) (omega (arith, below, large)) (omega (arith, fits, large)) in
+      rw (decimal_step n large fits) (record { all = push_all IsDigit (decimal (n / 10)) (48 + n % 10) more.all (record { low = omega arith; high = omega arith }); some = some_push (decimal (n / 10)) (48 + n % 10) })
+      )
   | inr small ↦ rw (decimal_digit n (omega (arith, small.1))) (record { all = (record { low = omega arith; high = omega (arith, small.1) }, tt); some = λ e. cc })
 ]
 
@@ -95,9 +95,15 @@ lacks_number c (negsuc n) low fits =
 lacks_sign : (c : ℕ) (n m : ℤ) → has_byte c (codes "*Trd") ≡ false → has_byte c (codes "c") ≡ false → c < 45 → mag n < 2 ^ 63 → mag m < 2 ^ 63
     → has_byte c (codes "*Trd" ++ (signed_decimal n ++ (codes "c" ++ signed_decimal m))) ≡ false
 lacks_sign c n m front middle low f g =
-    rw (list_any-append (λ x. x == c) (codes "*Trd") (signed_decimal n ++ (codes "c" ++ signed_decimal m)), front,
-    list_any-append (λ x. x == c) (signed_decimal n) (codes "c" ++ signed_decimal m), lacks_number c n low f,
-    list_any-append (λ x. x == c) (codes "c") (signed_decimal m), middle, lacks_number c m low g) refl
+    rw (
+      list_any-append (λ x. x == c) (codes "*Trd") (signed_decimal n ++ (codes "c" ++ signed_decimal m)),
+      front,
+      list_any-append (λ x. x == c) (signed_decimal n) (codes "c" ++ signed_decimal m),
+      lacks_number c n low f,
+      list_any-append (λ x. x == c) (codes "c") (signed_decimal m),
+      middle,
+      lacks_number c m low g,
+    ) refl
 
 steps_small : (z : ℤ) → IsWithin (negsuc 48) z (pos 49) → mag z < 2 ^ 63
 steps_small (pos n) within = omega (arith, ints)

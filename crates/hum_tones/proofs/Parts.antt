@@ -1,5 +1,5 @@
 -- The parts of a lawful token.
-use Rattle.std.proofs.Common.{◌≡◌, refl, ℕ, ◌<◌, ◌==◌, Bool, true, false, List, [], ◌∷◌, length, get_or, arith, zero, suc}
+use Rattle.std.proofs.Common.{◌≡◌, refl, ℕ, ◌<◌, ◌==◌, false, List, [], ◌∷◌, length, get_or, arith, zero, suc}
 use Rattle.std.specs.List.{AllByRecursion, onto_first}
 use Rattle.std.proofs.lemmas.Bool.{or_parts}
 use Rattle.hum_record.specs.declared.SpinedKind.TheVariants.{Values}

@@ -1,11 +1,11 @@
 -- A token whose first parts have given their texts.
-use Rattle.std.proofs.Common.{◌≡◌, refl, sym, ap, ◌∙◌, ℕ, ◌+◌, ◌<◌, ◌≤◌, List, [], ◌∷◌, ◌++◌, append_assoc, append-nil, length, drop, get_or, arith, Option, None, Some}
+use Rattle.std.proofs.Common.{◌≡◌, refl, sym, ap, ◌∙◌, ℕ, ◌+◌, ◌<◌, ◌≤◌, List, [], ◌∷◌, ◌++◌, append_assoc, append-nil, length, drop, get_or, Option, None, Some}
 use Rattle.std.specs.Prelude.{Result, Ok, Err}
-use Rattle.std.specs.List.{AllByRecursion, join_with_byte}
+use Rattle.std.specs.List.{AllByRecursion}
 use Rattle.std.proofs.lemmas.List.{at_drop_more, drop_all}
 use lib.Chars.{codes}
 use Rattle.hum_stage.specs.declared.faults.Rule.{Rule}
-use Rattle.hum_tones.specs.Subtokens.{with_first, given_by, joined, if_given, retold, subtokens, IsPiece, HasAdded, IsRetold}
+use Rattle.hum_tones.specs.Subtokens.{with_first, given_by, IsPiece, HasAdded}
 
 -- texts, each with a space behind it
 abbrev pub spaced : List (List ℕ) → List ℕ

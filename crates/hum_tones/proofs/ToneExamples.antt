@@ -1,6 +1,6 @@
 -- Tokens that are transposed and minted, by the definitions.
-use Rattle.std.proofs.Common.{◌≡◌, ℤ, pos, negsuc, List, ℕ, [], ◌∷◌, Option, Some, None, true, false, refl}
-use Rattle.std.specs.Prelude.{Result, Ok, Err}
+use Rattle.std.proofs.Common.{◌≡◌, ℤ, pos, negsuc, ℕ, [], ◌∷◌, Some, None, true, false, refl}
+use Rattle.std.specs.Prelude.{Ok, Err}
 use Rattle.std.specs.Fmt.{digits}
 use lib.Chars.{codes}
 use Rattle.hum_pitch.specs.Pitch.{Spelled, natural}

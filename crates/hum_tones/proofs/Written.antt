@@ -1,24 +1,23 @@
 -- The duration of a part, as it is written, may stand in a token.
 use Rattle.std.proofs.Common.{◌≡◌, ◌≢◌, refl, sym, ap, ◌∙◌, ℕ, zero, suc, ◌+◌, ◌-◌, ◌≤◌, ◌<◌, ◌==◌, Bool, true, false, List, [], ◌∷◌, ◌++◌, append_assoc, length, take, drop, arith, Option, None, Some}
-use Rattle.std.specs.Prelude.{nat_le, if◌then◌else◌, Result, Ok, Err}
+use Rattle.std.specs.Prelude.{nat_le, if◌then◌else◌, Ok, Err}
 use Rattle.std.specs.List.{list_any, AllByRecursion}
 use Rattle.std.proofs.lemmas.List.{drop_at}
 use Rattle.std.proofs.lemmas.List.Folds.{list_any-append}
 use Rattle.std.proofs.lemmas.Bool.{or_parts, and_parts}
 use Rattle.std.proofs.lemmas.Bool.Decides.{nat_tests}
 use lib.Chars.{codes}
-use Rattle.hum_record.specs.declared.SpinedKind.TheVariants.{Local, Interpretation, Values}
+use Rattle.hum_record.specs.declared.SpinedKind.TheVariants.{Values}
 use Rattle.hum_record.specs.Spelling.{has_byte, kind_of_token}
 use Rattle.hum_path.proofs.Cases.{by_bool}
 use Rattle.hum_frac.specs.Ratio.{Ratio, reduced}
-use Rattle.hum_kern.specs.declared.KernFault.{KernFault}
 use Rattle.hum_kern.specs.declared.KernFault.TheVariants.{K3}
 use Rattle.hum_kern.specs.declared.Length.{Length}
 use Rattle.hum_kern.specs.Classes.{is_digit, is_grace_sign}
 use Rattle.hum_kern.specs.Value.{value_of, dotted}
 use Rattle.hum_kern.specs.Duration.{Spelling, duration, said, said_of, with_dots, no_length, is_torn, is_empty, second_length}
 use Rattle.hum_kern.specs.Parts.{AreParts, behind_first}
-use Rattle.hum_tones.specs.Subtokens.{IsPart, IsPiece, HasAdded}
+use Rattle.hum_tones.specs.Subtokens.{IsPart, HasAdded}
 use Rattle.hum_kern.specs.Note.{is_rest}
 use Rattle.hum_tones.specs.Recip.{written, rest_sign, by_value, recip_of}
 
@@ -106,15 +105,18 @@ adds_written part parts found before after are says is lawful some made = rw (�
 
     go : (value : Option Ratio) → found.value ≡ value → HasAdded (Ok (by_value value found part)) before after None
     go None e = absurd (some e)
-    go (Some value) e = (made, record {
-      part = record {
-        one_token = lacks_written 9 found part refl lawful.one_token;
-        one_line = lacks_written 13 found part refl lawful.one_line;
-        no_line_end = lacks_written 10 found part refl lawful.no_line_end;
-      };
-      filled = kind.1;
-      of_kind = kind.0;
-    })
+    go (Some value) e = (
+      made,
+      record {
+        part = record {
+          one_token = lacks_written 9 found part refl lawful.one_token;
+          one_line = lacks_written 13 found part refl lawful.one_line;
+          no_line_end = lacks_written 10 found part refl lawful.no_line_end;
+        };
+        filled = kind.1;
+        of_kind = kind.0;
+      },
+    )
 
 pub regrouped : (a w r s : List ℕ) → (a ++ w) ++ (r ++ s) ≡ a ++ ((w ++ r) ++ s)
 regrouped a w r s = append_assoc a w (r ++ s) ∙ ap (λ (x : List ℕ). a ++ x) (sym (append_assoc w r s))

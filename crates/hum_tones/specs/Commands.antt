@@ -3,20 +3,20 @@ use Rattle.std.specs.Prelude.{◌≡◌, ℕ, List, ◌++◌, Option, None}
 use Rattle.std.specs.Fmt.{signed_decimal}
 use lib.Chars.{codes}
 use Rattle.hum_record.specs.Row.{Row}
-use Rattle.hum_stage.specs.declared.faults.Command.TheVariants.{Trans, Semits, Recip, Mint}
+use Rattle.hum_path.specs.Memories.{Remember}
+use Rattle.hum_pitch.specs.Pitch.{Spelled}
+use Rattle.hum_stage.specs.declared.faults.Command.TheVariants.{Trans, Semits, Mint, Recip}
 use Rattle.hum_stage.specs.Meaning.{Meaning}
 use Rattle.hum_cells.specs.Retelling.{Retelling, Renamed, Followed, IsHeading, meaning}
 use Rattle.hum_tones.specs.declared.giving.Giving.TheVariants.{Semitones, Durations}
 use Rattle.hum_tones.specs.declared.transposing.Transposition.{Transposition}
 use Rattle.hum_tones.specs.declared.semits.SemitsOptions.{SemitsOptions}
 use Rattle.hum_tones.specs.declared.recip.RecipOptions.{RecipOptions}
-use Rattle.hum_tones.specs.Trans.{transposed}
-use Rattle.hum_tones.specs.Giving.{given}
-use Rattle.hum_path.specs.Memories.{Remember}
-use Rattle.hum_pitch.specs.Pitch.{Spelled}
 use Rattle.hum_tones.specs.declared.minting.MintOptions.{MintOptions}
-use Rattle.hum_tones.specs.Mint as notes
+use Rattle.hum_tones.specs.Trans.{transposed}
+use Rattle.hum_tones.specs.Mint.{minted_after}
 use Rattle.hum_tones.specs.Memory.{note_after}
+use Rattle.hum_tones.specs.Giving.{given}
 
 -- what goes behind **kern: by how many steps and semitones its notes were moved
 abbrev pub trans_sign : Transposition → List ℕ
@@ -37,19 +37,13 @@ semits options = record {
   becomes = λ above. given (Semitones options.ties_left_out);
 }
 
+-- **kern becomes **mint, and notes the intervals from the notes before
+abbrev pub mint : MintOptions → Retelling
+mint options = record { heading = Renamed (codes "**mint"); becomes = minted_after options }
+
 -- **kern becomes **recip, and notes their durations
 abbrev pub recip : RecipOptions → Retelling
 recip options = record { heading = Renamed (codes "**recip"); becomes = λ above. given Durations }
-
--- **kern becomes **mint, and notes the intervals from the notes before them
-abbrev pub mint : MintOptions → Retelling
-mint options = record { heading = Renamed (codes "**mint"); becomes = notes.mint options }
-
--- what mint keeps: its options, and the note before for each spine
-pub record Mints (options : MintOptions) (memories : List (Option Spelled)) (retelling : Retelling)
-    (past : List Row) : Type 0 where
-  pub command : retelling ≡ mint options
-  pub remembered : Remember (note_after options.breaks) None past memories
 
 -- what trans keeps: its options, and the text of what goes behind **kern
 pub record Transposes (options : Transposition) (sign : List ℕ) (retelling : Retelling)
@@ -57,6 +51,12 @@ pub record Transposes (options : Transposition) (sign : List ℕ) (retelling : R
   pub command : retelling ≡ trans options
   pub text : sign ≡ trans_sign options
   pub lawful : IsHeading retelling.heading
+
+-- what mint keeps: its options, and the note before of each column
+pub record Mints (options : MintOptions) (memories : List (Option Spelled)) (retelling : Retelling)
+    (past : List Row) : Type 0 where
+  pub command : retelling ≡ mint options
+  pub remembered : Remember (note_after options.breaks) None past memories
 
 -- what the stages of these numbers mean
 abbrev pub meaning_of_trans : ℕ → Transposition → Meaning

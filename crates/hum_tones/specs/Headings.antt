@@ -1,11 +1,10 @@
 -- The names of columns that the commands give.
-use Rattle.std.proofs.Common.{◌≡◌, refl, sym, ap, ℕ, List}
-use lib.Chars.{codes}
-use Rattle.hum_cells.specs.Retelling.{Retelling, Heading, Renamed, IsHeading}
+use Rattle.std.proofs.Common.{◌≡◌, refl}
+use Rattle.hum_cells.specs.Retelling.{Retelling, IsHeading}
 use Rattle.hum_tones.specs.declared.semits.SemitsOptions.{SemitsOptions}
 use Rattle.hum_tones.specs.declared.recip.RecipOptions.{RecipOptions}
 use Rattle.hum_tones.specs.declared.minting.MintOptions.{MintOptions}
-use Rattle.hum_tones.specs.Commands.{semits, recip, mint}
+use Rattle.hum_tones.specs.Commands.{semits, mint, recip}
 
 pub semits_heading : (options : SemitsOptions) (retelling : Retelling) → retelling ≡ semits options → IsHeading retelling.heading
 semits_heading options retelling h =

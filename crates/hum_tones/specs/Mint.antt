@@ -129,6 +129,6 @@ abbrev pub note_before : Option (List ℕ) → List (List ℕ) → Option Spelle
 note_before breaks above = settled breaks (find (settles breaks) (reach above))
 
 -- What a token becomes, by the cells above it.
-abbrev pub mint : MintOptions → List (List ℕ) → List ℕ → Result (List ℕ) Rule
-mint options above token =
+abbrev pub minted_after : MintOptions → List (List ℕ) → List ℕ → Result (List ℕ) Rule
+minted_after options above token =
     minted options.signless options.sizeonly (note_before options.breaks above) token

@@ -1,5 +1,5 @@
 -- What the command recip makes of a token: the durations of its parts as they are written.
-use Rattle.std.specs.Prelude.{ℕ, ◌==◌, ◌-◌, Bool, List, [], ◌++◌, take, drop, if◌then◌else◌}
+use Rattle.std.specs.Prelude.{ℕ, ◌-◌, List, [], ◌++◌, take, drop, if◌then◌else◌}
 use Rattle.std.specs.Prelude.{Option, None, Some, Result, Ok, Err}
 use lib.Chars.{codes}
 use Rattle.hum_frac.specs.Ratio.{Ratio}

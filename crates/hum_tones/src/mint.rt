@@ -1,4 +1,4 @@
-//! The command mint: notes become the intervals from the notes before them.
+//! The command mint: notes become the intervals from the notes before.
 ghost use Rattle.hum_stage.specs.declared.faults.Command.TheVariants.{Mint as MintCommand};
 
 use crate::last_note::LastNote;
@@ -10,11 +10,19 @@ use hum_stage::{Command, Rule};
 use std::alloc::{AllocError, Global};
 
 /// What mint makes of tokens.
-#[derive(Drop)]
 pub struct MintTokens {
     options: MintOptions,
-    // the note before, for each spine
     carried: Carried<LastNote>,
+}
+
+// Written out, so that a caller's proof sees one call and not the drop of each field.
+impl Drop for MintTokens {
+    fn drop(self) {
+        let MintTokens {
+            options: _options,
+            carried: _carried,
+        } = self;
+    }
 }
 
 /// The command mint, as a stage.
@@ -24,13 +32,14 @@ impl Retells for MintTokens {
     type Options = MintOptions;
 
     ghost use Rattle.hum_tones.specs.Commands.{mint, Mints};
-    ghost use Rattle.hum_tones.specs.Headings.{mint_heading};
 
     ghost command = { MintCommand };
 
     ghost retelling = { mint };
 
     ghost follows = { λ s. Mints s.options s.carried.each };
+
+    ghost use Rattle.hum_tones.specs.Headings.{mint_heading};
 
     ghost lawful = { λ s retelling past h. mint_heading s.options retelling h.command };
 

@@ -1,4 +1,4 @@
-use Rattle.std.proofs.Common.{◌≡◌, ◌∙◌, refl, sym, ap, None, Some}
+use Rattle.std.proofs.Common.{◌≡◌, ◌∙◌, sym, None, Some}
 use lib.Chars.{codes}
 use Rattle.hum_tones.specs.Recip.{written, rest_sign}
 use Rattle.hum_tones.proofs.Written.{adds_written, regrouped}
