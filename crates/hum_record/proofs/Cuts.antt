@@ -1,11 +1,11 @@
 -- The tabs of a text, and where its tokens end.
 use Rattle.std.proofs.Common.{◌≡◌, ◌≢◌, ◌∙◌, refl, sym, ap, ℕ, ◌+◌, ◌<◌, ◌≤◌, Bool, true, false, not, ◌||◌, List, [], ◌∷◌, ◌++◌}
-use Rattle.std.proofs.Common.{length, take, get_or, set, inl, inr, arith, append_assoc, length-append, length-take-le, add-one}
+use Rattle.std.proofs.Common.{length, take, get_or, inl, inr, arith, append_assoc, length-append, add-one}
 use Rattle.std.specs.Prelude.{◌==◌}
 use Rattle.std.specs.List.{list_any, onto_first}
 use Rattle.std.proofs.lemmas.Bool.Decides.{eqb_tells}
 use Rattle.std.proofs.lemmas.List.Folds.{list_any-append}
-use Rattle.std.proofs.lemmas.List.{append-nil, take-set, take_more_set}
+use Rattle.std.proofs.lemmas.List.{append-nil}
 use Rattle.std.proofs.Math.Seq.{take-suc}
 use mir.Val.{bool_byte}
 use Rattle.hum_record.specs.declared.SpinedKind.{SpinedKind}
@@ -35,42 +35,9 @@ tabs_append start (x ∷ xs) ys =
     by_test true w next = rw w (ap (λ ts. start ∷ ts) next)
     by_test false w next = rw w next
 
--- one byte more of a block, whose tabs so far are marked
-pub mark_next : (block marks : List ℕ) (start tabs i : ℕ) → i < length block → tabs < length marks → take tabs marks ≡ tabs_from start (take i block)
-    → take (tabs + bool_byte (get_or block i 0 == 9)) (set marks tabs (start + i)) ≡ tabs_from start (take (i + 1) block)
-mark_next block marks start tabs i below room so_far = by_test (get_or block i 0 == 9) refl
-  where
-    all : tabs_from start (take (i + 1) block) ≡ tabs_from start (take i block) ++ tabs_from (start + i) (get_or block i 0 ∷ [])
-    all =
-        ap (λ (n : ℕ). tabs_from start (take n block)) (add-one i)
-        ∙ ap (tabs_from start) (take-suc block i 0 below)
-        ∙ tabs_append start (take i block) (get_or block i 0 ∷ [])
-        ∙ ap (λ (n : ℕ). tabs_from start (take i block) ++ tabs_from (start + n) (get_or block i 0 ∷ [])) (length-take-le i block (omega arith))
-
-    by_test : (b : Bool) → (get_or block i 0 == 9) ≡ b → take (tabs + bool_byte b) (set marks tabs (start + i)) ≡ tabs_from start (take (i + 1) block)
-    by_test true w =
-        let one : tabs_from (start + i) (get_or block i 0 ∷ []) ≡ (start + i) ∷ [] = rw w refl in
-        take_more_set marks tabs (start + i) room ∙ ap (λ ts. ts ++ (start + i) ∷ []) so_far
-        ∙ sym (all ∙ ap (λ ts. tabs_from start (take i block) ++ ts) one)
-    by_test false w =
-        let none : tabs_from (start + i) (get_or block i 0 ∷ []) ≡ [] = rw w refl in
-        ap (λ (n : ℕ). take n (set marks tabs (start + i))) (omega arith) ∙ take-set marks tabs (start + i) ∙ so_far
-        ∙ sym (all ∙ ap (λ ts. tabs_from start (take i block) ++ ts) none ∙ append-nil _)
-
 pub at_most_one : (tabs i : ℕ) (b : Bool) → tabs ≤ i → tabs + bool_byte b ≤ i + 1
 at_most_one tabs i true h = omega (arith, h)
 at_most_one tabs i false h = omega (arith, h)
-
--- the same for a carriage return
-pub return_next : (block : List ℕ) (i : ℕ) (so_far : Bool) → i < length block → so_far ≡ has_byte 13 (take i block)
-    → (so_far || (get_or block i 0 == 13)) ≡ has_byte 13 (take (i + 1) block)
-return_next block i so_far below e =
-    ap (λ b. b || (get_or block i 0 == 13)) e
-    ∙ sym (
-    ap (λ (n : ℕ). has_byte 13 (take n block)) (add-one i) ∙ ap (has_byte 13) (take-suc block i 0 below)
-    ∙ list_any-append (λ x. x == 13) (take i block) (get_or block i 0 ∷ [])
-    ∙ ap (λ b. has_byte 13 (take i block) || b) (or_false (get_or block i 0 == 13))
-    )
 
 -- a byte more in front of the first token
 ends_onto : (start x : ℕ) (ts : List (List ℕ)) → ts ≢ [] → ends_from start (onto_first x ts) ≡ ends_from (start + 1) ts

@@ -2,6 +2,7 @@ mod Examples
 pub mod Long
 pub mod Parts
 pub mod Ends
+pub mod Places
 pub mod Cuts
 pub mod Laws
 pub mod Drafts

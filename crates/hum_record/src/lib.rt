@@ -13,6 +13,7 @@ ghost use Rattle.std.specs.Prelude.{◌≡◌};
 ghost use Rattle.hum_record.specs.Row.{as_kind};
 ghost use Rattle.hum_record.specs.declared.RecordFault.TheVariants.{Memory};
 
+mod bits;
 mod building;
 mod reading;
 mod spare;

@@ -1,5 +1,5 @@
 //! The cut of a line into tokens.
-ghost use Rattle.std.specs.Prelude.{◌≡◌, ◌<◌, ◌≤◌, ◌+◌, ◌^◌, ◌&&◌, [], take, length, IfOk};
+ghost use Rattle.std.specs.Prelude.{◌≡◌, ◌<◌, ◌≤◌, ◌+◌, ◌^◌, ◌&&◌, [], ◌++◌, length, IfOk, OnOk};
 ghost use Rattle.std.specs.Prelude.{slice_index, slice_range};
 ghost use Rattle.std.specs.List.{list_any};
 ghost use Rattle.hum_record.specs.Spelling.{has_byte, kind_of_token, kind_of_tokens, parts};
@@ -8,6 +8,7 @@ ghost use Rattle.hum_record.specs.declared.SpinedKind.TheVariants.{Local};
 ghost use Rattle.hum_record.specs.Fields.{begins_at, ends_from};
 ghost use Rattle.hum_record.specs.Cutting.{tabs_from, AreEndsOf};
 
+use crate::bits::{bits_of, holds};
 use crate::{RecordFault, SpinedKind};
 use std::alloc::AllocError;
 
@@ -26,33 +27,26 @@ pub fn token_kind(token: &[u8]) -> SpinedKind
     }
 }
 
-/// What a block of a text has: how many tabs, and whether a carriage return.
-#[derive(Drop)]
-struct Found {
-    tabs: usize,
-    has_return: bool,
-}
-
-/// Marks the place of each tab in a block of a text that begins at a place.
+/// Adds the place of each tab in a block of a text that begins at a place.
 ///
-/// It doesn't branch at a tab: where a token ends cannot be foretold.
+/// Most lines of a score are one block and have as many tabs as the line before, so that it can be
+/// foretold how often this loop turns.
 #[inline]
-fn mark_tabs(block: &[u8], start: u32, marks: &mut [u32]) -> Found
-    requires room { length block.now ≤ length marks.old }
+fn push_tabs(block: &[u8], start: u32, ends: &mut Vec<u32>) -> Result<(), AllocError>
+    requires short { length block.now ≤ 32 }
     requires few { start + length block.now < 2 ^ 32 }
-    ensures within { result.tabs ≤ length marks.new }
-    ensures room { length marks.new ≡ length marks.old }
-    ensures marks { take result.tabs marks.new ≡ tabs_from start block.now }
-    ensures returns { result.has_return ≡ has_byte 13 block.now }
+    ensures { OnOk result (ends.new.items ≡ ends.old.items ++ tabs_from start block.now) }
 {
-    let mut tabs = 0;
-    let mut has_return = false;
-    for (i, byte) in block.iter().enumerate() {
-        marks[tabs] = start + i as u32;
-        tabs += (*byte == b'\t') as usize;
-        has_return |= *byte == b'\r';
+    let mut rest = bits_of(block, b'\t');
+    let mut at = start;
+    while rest != 0 {
+        let passed = rest.trailing_zeros();
+        at += passed;
+        ends.push(at)?;
+        at += 1;
+        rest = (rest >> passed) >> 1;
     }
-    Found { tabs, has_return }
+    Ok(())
 }
 
 /// Where each token of a text ends, put into an empty list, or none where a carriage return stands
@@ -64,15 +58,13 @@ pub fn ends_of(list: Vec<u32>, text: &[u8]) -> Result<Option<Vec<u32>>, AllocErr
     ensures { IfOk result (λ ends. AreEndsOf text.now ends) }
 {
     let mut ends = list;
-    let mut marks = [0u32; BLOCK];
     let mut has_return = false;
     let mut start = 0;
     let mut rest = text;
     while !rest.is_empty() {
         let (block, tail) = rest.split_at(rest.len().min(BLOCK));
-        let found = mark_tabs(block, start as u32, &mut marks);
-        ends.extend_from_slice(&marks[..found.tabs])?;
-        has_return |= found.has_return;
+        push_tabs(block, start as u32, &mut ends)?;
+        has_return |= holds(block, b'\r');
         start += block.len();
         rest = tail;
     }

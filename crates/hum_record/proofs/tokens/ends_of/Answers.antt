@@ -10,7 +10,7 @@ loop-rest-preserved c =
     let block = c.split_at.result.0.now in
     let tail = c.split_at.result.1.now in
     let cut : rest ≡ block ++ tail = rw (c.split_at.ensures.front, c.split_at.ensures.back) (sym (take-append-drop c.min.result rest)) in
-    rw (c.in_ok-extend_from_slice.ensures.items, c.mark_tabs-found.ensures.marks, c.mark_tabs-found.ensures.returns)
+    rw (c.in_ok-push_tabs.ensures, c.holds-has_return.ensures)
     (next_block c.args.text.now rest block tail c.loop-rest.start c.loop-rest.ends.items c.loop-rest.has_return c.loop-rest.invariant cut)
 
 pub returns : goal.returns

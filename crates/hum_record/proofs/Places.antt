@@ -1,0 +1,185 @@
+-- Bits that say where a byte stands.
+use Rattle.std.proofs.Common.{◌≡◌, ◌∙◌, refl, sym, ap, ap₂, subst, ℕ, zero, suc, ◌+◌, ◌-◌, ◌*◌, ◌/◌, ◌%◌, ◌^◌, ◌<◌, ◌≤◌, Bool, true, false, not, ◌||◌, cond, List, [], ◌∷◌, ◌++◌}
+use Rattle.std.proofs.Common.{length, take, drop, map, arith, append_assoc, length-drop, take_all, add-one, drop-cons, get_or}
+use Rattle.std.proofs.lemmas.List.{append-nil, drop-drop, length-map}
+use mir.Val.{bool_byte}
+use lib.Pow.{pow_mono}
+use Rattle.std.specs.Prelude.{◌==◌}
+use Rattle.std.specs.List.{prefix_len}
+use Rattle.std.specs.Simd.Lanes.{chunk}
+use Rattle.std.specs.Int.Count.{count_trailing_zeros}
+use Rattle.std.proofs.lemmas.Bool.Decides.{nat_tests}
+use Rattle.std.proofs.lemmas.Simd.{mask_l-lt, trailing_mask_l}
+use native.Mathlib.Nat.{pow-suc, mul_comm, zero-div, div-one, div-div-eq-div-mul, mod-eq_of_lt, two-pow-succ}
+use Rattle.hum_record.specs.Spelling.{has_byte}
+use Rattle.hum_record.specs.Cutting.{bits_of, tabs_from}
+
+lowest : (b : Bool) (n : ℕ) → ((cond b 1 0 + 2 * n) / 2) ≡ n
+lowest true n = omega arith
+lowest false n = omega arith
+
+-- bits moved down are those of the bytes further on
+pub moved_down : (b : ℕ) (xs : List ℕ) (k : ℕ) → bits_of b xs / 2 ^ k ≡ bits_of b (drop k xs)
+moved_down b xs zero = div-one (bits_of b xs)
+moved_down b [] (suc k) = zero-div (2 ^ suc k)
+moved_down b (x ∷ xs) (suc k) =
+    ap (λ n. bits_of b (x ∷ xs) / n) (pow-suc 2 k ∙ mul_comm (2 ^ k) 2) ∙ sym (div-div-eq-div-mul (bits_of b (x ∷ xs)) 2 (2 ^ k))
+    ∙ ap (λ n. n / 2 ^ k) (lowest (x == b) (bits_of b xs)) ∙ moved_down b xs k
+
+-- the bits of the first bytes, and of the rest
+pub in_two : (b : ℕ) (xs : List ℕ) (k : ℕ) → k ≤ length xs → bits_of b xs ≡ bits_of b (take k xs) + bits_of b (drop k xs) * 2 ^ k
+in_two b xs zero le = omega arith
+in_two b [] (suc k) le = absurd (omega arith)
+in_two b (x ∷ xs) (suc k) le =
+    let rest = bits_of b (drop k xs) in
+    ap (λ n. cond (x == b) 1 0 + 2 * n) (in_two b xs k (omega arith)) ∙ by (cond (x == b) 1 0) (bits_of b (take k xs)) rest (2 ^ k) (2 ^ suc k) (two-pow-succ k)
+  where
+    by : (c t r p q : ℕ) → q ≡ p + p → c + 2 * (t + r * p) ≡ (c + 2 * t) + r * q
+    by c t r p q e = rw e (grind arith)
+
+pub bits_below : (b : ℕ) (xs : List ℕ) → bits_of b xs < 2 ^ length xs
+bits_below b xs = subst (λ n. bits_of b xs < 2 ^ n) (length-map xs (λ x. x == b)) (mask_l-lt (map (λ x. x == b) xs))
+
+-- the bits further on, from the last bytes
+pub from_last : (b : ℕ) (xs : List ℕ) (each last : ℕ) → each ≤ length xs → length xs ≤ 2 * each
+    → last ≡ bits_of b (chunk (length xs - each) each xs) → last / 2 ^ (2 * each - length xs) ≡ bits_of b (drop each xs)
+from_last b xs each last le covered is =
+    let n = length xs in
+    let back = drop (n - each) xs in
+    let whole : take each back ≡ back = take_all each back (omega (arith, length-drop (n - each) xs)) in
+    let place : (n - each) + (2 * each - n) ≡ each = omega arith in
+    ap (λ m. m / 2 ^ (2 * each - n)) (is ∙ ap (bits_of b) whole)
+    ∙ moved_down b back (2 * each - n)
+    ∙ ap (bits_of b) (drop-drop (2 * each - n) (n - each) xs ∙ ap (λ m. drop m xs) place)
+
+-- the bits of a text, from those of its first and its last bytes
+pub join : (b : ℕ) (xs : List ℕ) (each first last : ℕ) → each ≤ length xs → length xs ≤ 2 * each
+    → first ≡ bits_of b (chunk 0 each xs) → last ≡ bits_of b (chunk (length xs - each) each xs)
+    → first + last / 2 ^ (2 * each - length xs) * 2 ^ each ≡ bits_of b xs
+join b xs each first last le covered is_first is_last =
+    ap₂ (λ f l. f + l * 2 ^ each) is_first (from_last b xs each last le covered is_last) ∙ sym (in_two b xs each le)
+
+-- no bit is set where the byte stands nowhere
+pub any_bit : (b : ℕ) (xs : List ℕ) → not (bits_of b xs == 0) ≡ has_byte b xs
+any_bit b [] = refl
+any_bit b (x ∷ xs) = by (x == b) (bits_of b xs) (any_bit b xs)
+  where
+    by : (t : Bool) (n : ℕ) → not (n == 0) ≡ has_byte b xs → not ((cond t 1 0 + 2 * n) == 0) ≡ (t || has_byte b xs)
+    by true n e = grind (arith, nat_tests)
+    by false zero e = e
+    by false (suc n) e = grind (arith, nat_tests, e)
+
+-- one byte more in front
+pub bits_onto : (b : ℕ) (xs : List ℕ) (i : ℕ) → i < length xs → 2 * bits_of b (drop (i + 1) xs) + bool_byte (get_or xs i 0 == b) ≡ bits_of b (drop i xs)
+bits_onto b xs i below = by (get_or xs i 0 == b) refl
+  where
+    by : (t : Bool) → (get_or xs i 0 == b) ≡ t → 2 * bits_of b (drop (i + 1) xs) + bool_byte t ≡ bits_of b (drop i xs)
+    by true w =
+        let whole : bits_of b (drop i xs) ≡ 1 + 2 * bits_of b (drop (i + 1) xs) =
+        ap (bits_of b) (drop-cons xs i 0 below) ∙ ap₂ (λ t n. cond t 1 0 + 2 * bits_of b (drop n xs)) w (sym (add-one i)) in
+        omega (arith, whole)
+    by false w =
+        let whole : bits_of b (drop i xs) ≡ 0 + 2 * bits_of b (drop (i + 1) xs) =
+        ap (bits_of b) (drop-cons xs i 0 below) ∙ ap₂ (λ t n. cond t 1 0 + 2 * bits_of b (drop n xs)) w (sym (add-one i)) in
+        omega (arith, whole)
+
+abbrev before_tab : List ℕ → ℕ
+before_tab = prefix_len (λ x. not (x == 9))
+
+-- the first tab, where there is one
+pub record FirstTab (at : ℕ) (xs : List ℕ) (k : ℕ) : Type 0 where
+  pub within : k < length xs
+  pub places : tabs_from at xs ≡ (at + k) ∷ tabs_from (at + k + 1) (drop (k + 1) xs)
+
+first_tab : (at : ℕ) (xs : List ℕ) → 0 < bits_of 9 xs → FirstTab at xs (before_tab xs)
+first_tab at [] some = absurd (omega arith)
+first_tab at (x ∷ xs) some = by (x == 9) refl (first_tab (at + 1) xs)
+  where
+    by : (t : Bool) → (x == 9) ≡ t → (0 < bits_of 9 xs → FirstTab (at + 1) xs (before_tab xs)) → FirstTab at (x ∷ xs) (before_tab (x ∷ xs))
+    by true w rest_of = record {
+      within = rw w (omega arith);
+      places = rw w (ap₂ (λ a b. a ∷ tabs_from b xs) (omega arith) (omega arith));
+    }
+    by false w rest_of =
+        let more : 0 < bits_of 9 xs = (let s = rw w at some in omega (arith, s)) in
+        let rest = rest_of more in
+        let k = before_tab xs in
+        let within = rest.within in
+        let here : at + 1 + k ≡ at + (1 + k) = omega arith in
+        let behind : drop (1 + k + 1) (x ∷ xs) ≡ drop (k + 1) xs = (let n : 1 + k + 1 ≡ suc (k + 1) = omega arith in ap (λ m. drop m (x ∷ xs)) n) in
+        record {
+          within = rw w (omega (arith, within));
+          places = rw w (rest.places ∙ ap₂ (λ n ys. n ∷ tabs_from (n + 1) ys) here (sym behind));
+        }
+
+-- What is pending of a block of which the tabs are added one by one.
+pub record Pending (block : List ℕ) (start at rest : ℕ) (ends all : List ℕ) : Type 0 where
+  pub left : List ℕ
+  pub place : at + length left ≡ start + length block
+  pub bits : rest ≡ bits_of 9 left
+  pub places : ends ++ tabs_from at left ≡ all
+
+-- the next tab
+pub record NextTab (block : List ℕ) (start at rest : ℕ) (ends all : List ℕ) : Type 0 where
+  pub within : at + count_trailing_zeros 64 rest < start + length block
+  pub pending : Pending block start (at + count_trailing_zeros 64 rest + 1) (rest / 2 ^ count_trailing_zeros 64 rest / 2 ^ 1)
+      (ends ++ (at + count_trailing_zeros 64 rest) ∷ []) all
+
+pub next_tab : (block : List ℕ) (start at rest : ℕ) (ends all : List ℕ) → length block ≤ 32 → start ≤ at → 0 < rest
+    → Pending block start at rest ends all → NextTab block start at rest ends all
+next_tab block start at rest ends all short later some p =
+    let left = p.left in
+    let place = p.place in
+    let some_left : 0 < bits_of 9 left = rw p.bits at some in
+    let first = first_tab at left some_left in
+    let k : count_trailing_zeros 64 rest ≡ before_tab left = ap (count_trailing_zeros 64) p.bits ∙ trailing_mask_l (λ x. x == 9) 64 left (omega (arith, place, short, later)) some_left in
+    let within = first.within in
+    record {
+      within = omega (arith, k, within, place);
+      pending = subst (λ n. Pending block start (at + n + 1) (rest / 2 ^ n / 2 ^ 1) (ends ++ (at + n) ∷ []) all) (sym k) (record {
+        left = drop (before_tab left + 1) left;
+        place = omega (arith, within, place, length-drop (before_tab left + 1) left);
+        bits =
+            ap (λ n. n / 2 ^ before_tab left / 2 ^ 1) p.bits
+            ∙ ap (λ n. n / 2 ^ 1) (moved_down 9 left (before_tab left))
+            ∙ moved_down 9 (drop (before_tab left) left) 1
+            ∙ ap (bits_of 9) (drop-drop 1 (before_tab left) left);
+        places =
+            append_assoc ends ((at + before_tab left) ∷ []) _
+            ∙ ap (λ ts. ends ++ ts) (sym first.places)
+            ∙ p.places;
+      });
+    }
+
+pub pending_all : (block : List ℕ) (start : ℕ) (ends : List ℕ) → Pending block start start (bits_of 9 block) ends (ends ++ tabs_from start block)
+pending_all block start ends = record { left = block; place = refl; bits = refl; places = refl }
+
+-- no tab is left
+no_tabs : (at : ℕ) (xs : List ℕ) → bits_of 9 xs ≡ 0 → tabs_from at xs ≡ []
+no_tabs at [] none = refl
+no_tabs at (x ∷ xs) none = by (x == 9) refl (no_tabs (at + 1) xs)
+  where
+    by : (t : Bool) → (x == 9) ≡ t → (bits_of 9 xs ≡ 0 → tabs_from (at + 1) xs ≡ []) → tabs_from at (x ∷ xs) ≡ []
+    by true w rest_of = absurd (let s = rw w at none in omega (arith, s))
+    by false w rest_of = rw w (rest_of (let s = rw w at none in omega (arith, s)))
+
+pub none_pending : (block : List ℕ) (start at rest : ℕ) (ends all : List ℕ) → rest ≡ 0 → Pending block start at rest ends all → ends ≡ all
+none_pending block start at rest ends all none p =
+    sym (append-nil ends) ∙ ap (λ ts. ends ++ ts) (sym (no_tabs at p.left (sym p.bits ∙ none))) ∙ p.places
+
+-- the bits of a short text make a small number
+pub bits_short : (b : ℕ) (xs : List ℕ) → length xs ≤ 32 → bits_of b xs < 4294967296
+bits_short b xs short = omega (arith, bits_below b xs, pow_mono short)
+
+pub bits_within : (b : ℕ) (xs : List ℕ) (i : ℕ) → length xs ≤ 32 → bits_of b (drop i xs) < 4294967296
+bits_within b xs i short = bits_short b (drop i xs) (omega (arith, short, length-drop i xs))
+
+pub high_fits : (b : ℕ) (xs : List ℕ) (each first last : ℕ) → each ≤ 16 → each ≤ length xs → length xs ≤ 2 * each
+    → first ≡ bits_of b (chunk 0 each xs) → last ≡ bits_of b (chunk (length xs - each) each xs)
+    → (last / 2 ^ (2 * each - length xs) * 2 ^ each % 18446744073709551616 ≡ last / 2 ^ (2 * each - length xs) * 2 ^ each)
+    × (first + last / 2 ^ (2 * each - length xs) * 2 ^ each < 4294967296)
+high_fits b xs each first last few le covered is_first is_last =
+    let all = join b xs each first last le covered is_first is_last in
+    let bound = bits_short b xs (omega (arith, few, covered)) in
+    let fits : first + last / 2 ^ (2 * each - length xs) * 2 ^ each < 4294967296 = rw all bound in
+    (mod-eq_of_lt (omega (arith, fits)), fits)
