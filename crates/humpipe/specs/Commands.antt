@@ -5,15 +5,18 @@ use Rattle.hum_rid.specs.Rid.{meaning as meaning_of_rid}
 use Rattle.hum_extract.specs.Written.{meaning as meaning_of_extract}
 use Rattle.hum_ditto.specs.Ditto.{meaning as meaning_of_ditto}
 use Rattle.hum_tones.specs.Commands.{meaning_of_trans, meaning_of_semits, meaning_of_recip, meaning_of_mint}
+use Rattle.hum_timebase.specs.Timebase.{meaning as meaning_of_timebase}
+use Rattle.hum_timebase.specs.Following.{pace_of}
 use Rattle.humpipe.specs.declared.options.CommandOptions.{CommandOptions}
 use Rattle.humpipe.specs.declared.options.CommandOptions.TheVariants.{Rid, Extract, Ditto}
-use Rattle.humpipe.specs.declared.options.CommandOptions.TheVariants.{Trans, Semits, Recip, Mint}
+use Rattle.humpipe.specs.declared.options.CommandOptions.TheVariants.{Timebase, Trans, Semits, Recip, Mint}
 
 -- what the stage of this number means, by its command
 abbrev pub meaning : ℕ → CommandOptions → Meaning
 meaning stage (Rid options) = meaning_of_rid stage options
 meaning stage (Extract choice) = meaning_of_extract stage choice
 meaning stage (Ditto options) = meaning_of_ditto stage options
+meaning stage (Timebase options) = meaning_of_timebase stage (pace_of options)
 meaning stage (Trans options) = meaning_of_trans stage options
 meaning stage (Semits options) = meaning_of_semits stage options
 meaning stage (Recip options) = meaning_of_recip stage options

@@ -1,8 +1,10 @@
 //! The options of commands, as a plan spells them.
 use hum_ditto::DittoOptions;
 use hum_extract::{Choice, Field, FieldRange};
+use hum_kern::read_recip;
 use hum_pattern::{Pattern, PatternFault};
 use hum_rid::RidOptions;
+use hum_timebase::TimebaseOptions;
 use hum_tones::{MintOptions, RecipOptions, SemitsOptions, Transposition};
 use std::alloc::{AllocError, Global};
 use std::str;
@@ -19,6 +21,7 @@ pub enum CommandOptions {
     Rid(RidOptions),
     Extract(Choice),
     Ditto(DittoOptions),
+    Timebase(TimebaseOptions),
     Trans(Transposition),
     Semits(SemitsOptions),
     Recip(RecipOptions),
@@ -211,6 +214,21 @@ fn ditto_options(alloc: Global, words: &[&[u8]]) -> Result<Option<DittoOptions>,
     Ok(Some(DittoOptions { skip, parentheses }))
 }
 
+/// What timebase's words say: `-t RECIP`.
+fn timebase_options(alloc: Global, words: &[&[u8]]) -> Result<Option<TimebaseOptions>, AllocError> {
+    let [option, word] = words else {
+        return Ok(None);
+    };
+    if *option != b"-t".as_slice() {
+        return Ok(None);
+    }
+    let text = word.to_vec(alloc)?;
+    match read_recip(&text) {
+        Ok(step) => Ok(Some(TimebaseOptions { step, text })),
+        Err(_) => Ok(None),
+    }
+}
+
 /// A number that is `0` or digits without a zero in front, at most `most`.
 fn number(digits: &[u8], most: i32) -> Option<i32> {
     if let [] | [b'0', _, ..] = digits {
@@ -327,6 +345,8 @@ pub fn command_options(
         Ok(choice(alloc, words)?.map(CommandOptions::Extract))
     } else if command == b"ditto".as_slice() {
         Ok(ditto_options(alloc, words)?.map(CommandOptions::Ditto))
+    } else if command == b"timebase".as_slice() {
+        Ok(timebase_options(alloc, words)?.map(CommandOptions::Timebase))
     } else if command == b"trans".as_slice() {
         Ok(transposition(words).map(CommandOptions::Trans))
     } else if command == b"semits".as_slice() {

@@ -19,6 +19,7 @@ use hum_record::Record;
 use hum_rid::Rid;
 use hum_stage::{End, Stage, State};
 use hum_text::calls::{Sink, Source};
+use hum_timebase::Timebase;
 use hum_tones::{Mint, Recip, Semits, Trans};
 use std::alloc::Global;
 
@@ -200,6 +201,9 @@ pub fn run_command<R: Source, W: Sink>(
         CommandOptions::Rid(options) => run_stage(source, Rid::new(alloc, 2, options), sink),
         CommandOptions::Extract(choice) => run_stage(source, Extract::new(alloc, 2, choice), sink),
         CommandOptions::Ditto(options) => run_stage(source, Ditto::new(alloc, 2, options), sink),
+        CommandOptions::Timebase(options) => {
+            run_stage(source, Timebase::new(alloc, 2, options), sink)
+        }
         CommandOptions::Trans(options) => run_stage(source, Trans::new(alloc, 2, options), sink),
         CommandOptions::Semits(options) => run_stage(source, Semits::new(alloc, 2, options), sink),
         CommandOptions::Recip(options) => run_stage(source, Recip::new(alloc, 2, options), sink),
