@@ -6,12 +6,12 @@
 
 mod bundle;
 mod first;
+#[cfg(test)]
+mod note_tests;
 mod options;
 mod outcome;
 mod plan;
 mod run;
-#[cfg(test)]
-mod note_tests;
 #[cfg(test)]
 mod tests;
 mod writing;

@@ -309,6 +309,94 @@ const MINT: [Row; 13] = [
     ),
 ];
 
+const TIMEBASE: [Row; 17] = [
+    (
+        b"out: read a | timebase -t 16\n--- a\n**kern\n8c\n=2\n8d\n4e\n*-\n",
+        b"**kern\n*tb16\n8c\n.\n=2\n8d\n.\n4e\n.\n.\n.\n*-\n",
+        "",
+    ),
+    (
+        b"out: read a | timebase -t 4\n--- a\n**kern\n8c\n=2\n8d\n4e\n*-\n",
+        b"**kern\n*tb4\n8c\n=2\n4e\n*-\n",
+        "",
+    ),
+    (
+        b"out: read a | timebase -t 4\n--- a\n**kern\t**kern\n4c\t2e\n4d\t4f\n*-\t*-\n",
+        b"**kern\t**kern\n*tb4\t*tb4\n4c\t2e\n",
+        "humpipe: stage 2 (timebase), line 3: B2",
+    ),
+    (
+        b"out: read a | timebase -t 4\n--- a\n**kern\n4c\n8ddq\n4d\n*-\n",
+        b"**kern\n*tb4\n4c\n4d\n*-\n",
+        "",
+    ),
+    (
+        b"out: read a | timebase -t 4\n--- a\n**kern\n*^\n4c\t2e\n*v\t*v\n4d\n*-\n",
+        b"**kern\n*tb4\n*^\n4c\t2e\n*v\t*v\n.\n4d\n*-\n",
+        "",
+    ),
+    (
+        b"out: read a | timebase -t 4\n--- a\n**x\n1\n*-\n",
+        b"**x\n*tb4\n",
+        "humpipe: stage 2 (timebase), line 2: B1",
+    ),
+    (
+        b"out: read a | timebase -t 4\n--- a\n**kern\n4096c\n2187c\n3125c\n2401c\n1331c\n2197c\n*-\n",
+        b"**kern\n*tb4\n4096c\n",
+        "humpipe: stage 2 (timebase), line 7: F1",
+    ),
+    (
+        b"out: read a | timebase -t 3%2\n--- a\n**kern\n3%4c\n0d\n*-\n",
+        b"**kern\n*tb3%2\n3%4c\n.\n0d\n.\n.\n*-\n",
+        "",
+    ),
+    (
+        b"out: read a | timebase -t 00\n--- a\n**kern\n00c\n000d\n4e\n*-\n",
+        b"**kern\n*tb00\n00c\n000d\n.\n4e\n*-\n",
+        "",
+    ),
+    (
+        b"out: read a | timebase -t 4\n--- a\n**kern\t**dynam\n4c\tp\n.\t<\n40000d\tf\n*-\t*-\n",
+        b"**kern\t**dynam\n*tb4\t*tb4\n4c\tp\n",
+        "humpipe: stage 2 (timebase), line 4: K3",
+    ),
+    (
+        b"out: read a | timebase\n--- a\n**kern\n*-\n",
+        b"",
+        "humpipe: plan not supported",
+    ),
+    (
+        b"out: read a | timebase -t\n--- a\n**kern\n*-\n",
+        b"",
+        "humpipe: plan not supported",
+    ),
+    (
+        b"out: read a | timebase -t 3%\n--- a\n**kern\n*-\n",
+        b"",
+        "humpipe: plan not supported",
+    ),
+    (
+        b"out: read a | timebase -t 4c\n--- a\n**kern\n*-\n",
+        b"",
+        "humpipe: plan not supported",
+    ),
+    (
+        b"out: read a | timebase -t 4 -t 4\n--- a\n**kern\n*-\n",
+        b"",
+        "humpipe: plan not supported",
+    ),
+    (
+        b"out: read a | timebase -x 4\n--- a\n**kern\n*-\n",
+        b"",
+        "humpipe: plan not supported",
+    ),
+    (
+        b"out: read a | timebase -t 4q\n--- a\n**kern\n*-\n",
+        b"",
+        "humpipe: plan not supported",
+    ),
+];
+
 fn check(rt: &impl Abort, alloc: Global, rows: &[Row]) -> Result<(), Fail> {
     for (bundle, text, told) in rows {
         let mut sink = Marked::new(Vec::new(alloc));
@@ -338,4 +426,9 @@ fn durations(rt: HostRuntime) -> Result<(), Fail> {
 #[test]
 fn intervals(rt: HostRuntime) -> Result<(), Fail> {
     check(&rt, rt.alloc(), &MINT)
+}
+
+#[test]
+fn on_a_grid(rt: HostRuntime) -> Result<(), Fail> {
+    check(&rt, rt.alloc(), &TIMEBASE)
 }
