@@ -12,10 +12,9 @@ use crate::retells::{Heading, Retells};
 use crate::tokens::{any_told, tell_tokens};
 use crate::told::Told;
 use hum_path::{Paths, steers};
-use hum_record::{Kind, Record};
-use hum_stage::{Decides, Rule};
+use hum_record::{Kind, Record, Spare};
+use hum_stage::{Decides, Rule, UpToTwo};
 use std::alloc::{AllocError, Global};
-use std::collections::VecDeque;
 
 /// A command on the tokens of kern columns, as one that decides each record at once.
 #[derive(Drop)]
@@ -27,28 +26,34 @@ pub struct Cells<T> {
     kern: Vec<bool>,
     // where the text of a new token is made
     text: Vec<u8>,
+    // the record that gave way to another last
+    spare: Spare,
 }
 
-/// Puts what was decided of a record.
-fn put(row: Record, told: Told, out: &mut VecDeque<Record>) -> Result<Option<Rule>, AllocError>
-    requires { out.old.items ≡ [] }
-    ensures { IfOk result (Puts (decision row told) out.new.items) }
+/// Puts what was decided of a record. One that gives way to another is done with.
+fn put(
+    row: Record,
+    told: Told,
+    spare: &mut Spare,
+    out: &mut UpToTwo,
+) -> Option<Rule>
+    ensures { Puts (decision row told) out.new result }
 {
     match told {
         Told::Same => {
-            out.push_back(row)?;
-            Ok(None)
+            out.put(row);
+            None
         }
         Told::Other(made) => {
-            out.push_back(made)?;
-            Ok(None)
+            out.put(made);
+            spare.keep(row);
+            None
         }
         Told::With(behind) => {
-            out.push_back(row)?;
-            out.push_back(behind)?;
-            Ok(None)
+            out.put_both(row, behind);
+            None
         }
-        Told::Refused(rule) => Ok(Some(rule)),
+        Told::Refused(rule) => Some(rule),
     }
 }
 
@@ -82,6 +87,7 @@ fn tell_heading<T: Retells>(
     teller: &T,
     kern: &[bool],
     row: &Record,
+    spare: &mut Spare,
 ) -> Result<Told, AllocError>
     requires score { MayTell (T.follows teller.now) kern.now row.now }
     requires kind { kind_of row.now ≡ AnyInterpretation }
@@ -92,7 +98,7 @@ fn tell_heading<T: Retells>(
         return Ok(Told::Same);
     }
     let heading = teller.heading();
-    match with_heading(alloc, heading, row)? {
+    match with_heading(alloc, heading, row, spare)? {
         None => Ok(Told::Refused(Rule::L1)),
         Some(made) => match heading {
             Heading::Renamed(_) => Ok(Told::Other(made)),
@@ -109,6 +115,7 @@ fn tell<T: Retells>(
     kern: &[bool],
     row: &Record,
     text: &mut Vec<u8>,
+    spare: &mut Spare,
 ) -> Result<Told, AllocError>
     requires score { MayTell (T.follows teller.old) kern.now row.now }
     ensures { IfOk result (HasTold (T.follows teller.old) (T.follows teller.new) kern.now row.now) }
@@ -116,12 +123,12 @@ fn tell<T: Retells>(
     match row.kind() {
         Kind::Values => {
             if any_told(kern, row) {
-                tell_tokens(alloc, teller, kern, row, text)
+                tell_tokens(alloc, teller, kern, row, text, spare)
             } else {
                 Ok(Told::Same)
             }
         }
-        Kind::Interpretation => tell_heading(alloc, teller, kern, row),
+        Kind::Interpretation => tell_heading(alloc, teller, kern, row, spare),
         Kind::Local => Ok(Told::Same),
         Kind::Global => Ok(Told::Same),
     }
@@ -139,12 +146,13 @@ impl<T: Retells> Cells<T> {
             paths: Paths::new(alloc),
             kern: Vec::new(alloc),
             text: Vec::new(alloc),
+            spare: Spare::none(alloc),
         }
     }
 }
 
 impl<T: Retells> Decides for Cells<T> {
-    type Due = VecDeque<Record>;
+    type Due = UpToTwo;
 
     ghost use Rattle.hum_cells.specs.Telling.{Frames};
 
@@ -154,7 +162,7 @@ impl<T: Retells> Decides for Cells<T> {
         &mut self,
         next: Record,
         _room: u64,
-        out: &mut VecDeque<Record>,
+        out: &mut UpToTwo,
     ) -> Result<Option<Rule>, AllocError> {
         let Ok(found) = self.paths.step(&next) else {
             return Err(AllocError)
@@ -165,10 +173,11 @@ impl<T: Retells> Decides for Cells<T> {
             &self.kern,
             &next,
             &mut self.text,
+            &mut self.spare,
         )?;
         self.teller.follow(&next, &found)?;
         mark_after(&next, &self.paths, &mut self.kern)?;
-        let refused = put(next, told, out)?;
+        let refused = put(next, told, &mut self.spare, out);
         Ok(refused)
     }
 }

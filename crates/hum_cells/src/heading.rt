@@ -11,7 +11,7 @@ ghost use Rattle.hum_cells.specs.Making.{IsMade};
 use crate::making::Making;
 use crate::retells::Heading;
 use hum_path::Paths;
-use hum_record::{Record, SpinedKind};
+use hum_record::{Record, Spare, SpinedKind};
 use std::alloc::{AllocError, Global};
 
 /// Whether an exclusive interpretation is `**kern`.
@@ -55,6 +55,7 @@ pub(crate) fn with_heading(
     alloc: Global,
     heading: Heading<'_>,
     row: &Record,
+    spare: &mut Spare,
 ) -> Result<Option<Record>, AllocError>
     requires lawful { IsHeading (shown heading) }
     requires kind { kind_of row.now ≡ AnyInterpretation }
@@ -62,7 +63,7 @@ pub(crate) fn with_heading(
     ensures { IfOk result (IsMade Interpretation
         (map (headed (shown heading.entry)) (tokens_of row.now))) }
 {
-    let mut making = Making::new(alloc, SpinedKind::Interpretation);
+    let mut making = Making::new(alloc, SpinedKind::Interpretation, spare);
     for j in 0..row.width() {
         making.push(headed(heading, row.token(j)))?;
     }

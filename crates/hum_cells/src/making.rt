@@ -4,7 +4,7 @@ ghost use Rattle.hum_record.specs.declared.SpinedKind.{SpinedKind};
 ghost use Rattle.hum_record.specs.Spelling.{IsToken};
 ghost use Rattle.hum_cells.specs.Making.{Holds, IsMade};
 
-use hum_record::{Record, RecordBuilder, RecordFault, SpinedKind};
+use hum_record::{Record, RecordBuilder, RecordFault, Spare, SpinedKind};
 use std::alloc::{AllocError, Global};
 
 /// A record in the making. Once its text would pass 1,048,576 bytes it takes further tokens, and
@@ -17,11 +17,11 @@ pub(crate) struct Making {
 
 impl Making {
     /// No tokens yet.
-    pub(crate) fn new(alloc: Global, kind: SpinedKind) -> Making
+    pub(crate) fn new(alloc: Global, kind: SpinedKind, spare: &mut Spare) -> Making
         ensures { Holds kind result.builder result.is_long [] }
     {
         Making {
-            builder: RecordBuilder::new(alloc, kind),
+            builder: RecordBuilder::reusing(alloc, kind, spare),
             is_long: false,
         }
     }

@@ -11,7 +11,7 @@ ghost use Rattle.hum_cells.specs.Making.{Holds};
 use crate::making::Making;
 use crate::retells::Retells;
 use crate::told::Told;
-use hum_record::{Record, SpinedKind};
+use hum_record::{Record, Spare, SpinedKind};
 use hum_stage::Rule;
 use std::alloc::{AllocError, Global};
 
@@ -84,12 +84,13 @@ pub(crate) fn tell_tokens<T: Retells>(
     kern: &[bool],
     row: &Record,
     text: &mut Vec<u8>,
+    spare: &mut Spare,
 ) -> Result<Told, AllocError>
     requires score { MayTell (T.follows teller.old) kern.now row.now }
     requires kind { kind_of row.now ≡ AnyValues }
     ensures { IfOk result (HasTold (T.follows teller.old) (T.follows teller.new) kern.now row.now) }
 {
-    let mut making = Making::new(alloc, SpinedKind::Values);
+    let mut making = Making::new(alloc, SpinedKind::Values, spare);
     for j in 0..row.width() {
         let refused = push_told(teller, j, kern[j], row.token(j), text, &mut making)?;
         if let Some(rule) = refused {

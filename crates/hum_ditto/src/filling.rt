@@ -12,7 +12,7 @@ ghost use Rattle.hum_ditto.specs.Ditto.{is_null, written, filled, all_filled};
 
 use crate::last_seen::{LastSeen, is_null};
 use hum_path::Carried;
-use hum_record::{Kind, Record, RecordBuilder, RecordFault, SpinedKind};
+use hum_record::{Kind, Record, RecordBuilder, RecordFault, Spare, SpinedKind};
 use std::alloc::{AllocError, Global};
 
 /// Whether a record has a null data token.
@@ -93,6 +93,7 @@ pub(crate) fn rebuilt(
     row: &Record,
     memories: &Carried<LastSeen>,
     shown: &mut Vec<u8>,
+    spare: &mut Spare,
 ) -> Result<Record, RecordFault>
     requires kind { kind_of row.now ≡ AnyValues }
     requires width { length memories.now.each ≡ width_of row.now }
@@ -104,7 +105,7 @@ pub(crate) fn rebuilt(
     ensures refused { IfErr result (λ fault. fault ≢ Memory → 1048576 < length (spelled
         (all_filled parentheses memories.now.each (tokens_of row.now)))) }
 {
-    let mut builder = RecordBuilder::new(alloc, SpinedKind::Values);
+    let mut builder = RecordBuilder::reusing(alloc, SpinedKind::Values, spare);
     for j in 0..row.width() {
         match push_filled(
             parentheses,

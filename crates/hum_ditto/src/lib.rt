@@ -14,7 +14,7 @@ mod last_seen;
 use filling::{is_to_fill, rebuilt};
 use hum_path::{Carried, Paths};
 use hum_pattern::Pattern;
-use hum_record::{Record, RecordFault};
+use hum_record::{Record, RecordFault, Spare};
 use hum_stage::{AtOnce, Command, Decides, End, Rule, Stage, State};
 use last_seen::LastSeen;
 use std::alloc::{AllocError, Global};
@@ -37,6 +37,8 @@ struct Repeats {
     carried: Carried<LastSeen>,
     // where a token is written in parentheses
     shown: Vec<u8>,
+    // the record that gave way to another last
+    spare: Spare,
 }
 
 impl Decides for Repeats {
@@ -67,10 +69,12 @@ impl Decides for Repeats {
             &next,
             &self.carried,
             &mut self.shown,
+            &mut self.spare,
         ) {
             Ok(made) => {
                 self.carried.follow(&mut self.options.skip, &next, &found)?;
                 *out = Some(made);
+                self.spare.keep(next);
                 Ok(None)
             }
             Err(RecordFault::L1) => Ok(Some(Rule::L1)),
@@ -106,6 +110,7 @@ impl Ditto {
             paths: Paths::new(alloc),
             carried: Carried::new(alloc),
             shown: Vec::new(alloc),
+            spare: Spare::none(alloc),
         };
         Ditto {
             inner: AtOnce::new(alloc, stage, Command::Ditto, repeats),

@@ -16,7 +16,7 @@ use crate::choice::Choice;
 use crate::cutting::cut;
 use crate::marks::Marks;
 use hum_path::{Moves, PathFault, Paths, steers};
-use hum_record::{Kind, Record};
+use hum_record::{Kind, Record, Spare};
 use hum_stage::{Decides, Rule};
 use std::alloc::{AllocError, Global};
 use std::collections::VecDeque;
@@ -68,7 +68,7 @@ fn opened(
         None => Ok(Some(Rule::X2)),
         Some(found) => {
             *marks = Marks::new(found);
-            marks.keep(alloc, row, out)?;
+            marks.keep(alloc, row, &mut Spare::none(alloc), out)?;
             Ok(None)
         }
     }
@@ -81,6 +81,8 @@ pub struct Columns {
     choice: Choice,
     paths: Paths,
     marks: Marks,
+    // the record that gave way to another last
+    spare: Spare,
 }
 
 impl Columns {
@@ -97,6 +99,7 @@ impl Columns {
             choice,
             paths: Paths::new(alloc),
             marks: Marks::new(Vec::new(alloc)),
+            spare: Spare::none(alloc),
         }
     }
 
@@ -145,7 +148,7 @@ impl Decides for Columns {
         out: &mut VecDeque<Record>,
     ) -> Result<Option<Rule>, AllocError> {
         if !asks(&next) {
-            self.marks.keep(self.alloc, next, out)?;
+            self.marks.keep(self.alloc, next, &mut self.spare, out)?;
             return Ok(None);
         }
         let opens = self.paths.is_closed();

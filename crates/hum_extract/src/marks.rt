@@ -9,7 +9,7 @@ ghost use Rattle.hum_extract.specs.Following.{AsWide, IsSpined, kept, moved};
 ghost use Rattle.hum_path.specs.Spines.{source};
 
 use hum_path::{Move, Moves};
-use hum_record::{Kind, Record, RecordBuilder, SpinedKind};
+use hum_record::{Kind, Record, RecordBuilder, Spare, SpinedKind};
 use hum_spread::push_fitting;
 use std::alloc::{AllocError, Global};
 use std::collections::VecDeque;
@@ -89,13 +89,14 @@ fn rebuilt(
     kind: SpinedKind,
     marks: &[bool],
     row: &Record,
+    spare: &mut Spare,
 ) -> Result<Record, AllocError>
     requires spined { IsSpined kind row.now }
     requires as_wide { length marks.now ≡ width_of row.now }
     requires some { list_any (λ b. b) marks.now ≡ true }
     ensures { IfOk result (λ made. made ≡ Spined kind (chosen marks.now (tokens_of row.now))) }
 {
-    let mut builder = RecordBuilder::new(alloc, kind);
+    let mut builder = RecordBuilder::reusing(alloc, kind, spare);
     for (j, mark) in marks.iter().enumerate() {
         if *mark {
             push_fitting(&mut builder, row.token(j))?;
@@ -121,12 +122,13 @@ impl Marks {
         &self.each
     }
 
-    /// Gives what is left of a spined record.
+    /// Gives what is left of a spined record. One that gives way to another is done with.
     fn keep_spined(
         &self,
         alloc: Global,
         kind: SpinedKind,
         row: Record,
+        spare: &mut Spare,
         out: &mut VecDeque<Record>,
     ) -> Result<(), AllocError>
         requires spined { IsSpined kind row }
@@ -141,8 +143,9 @@ impl Marks {
         if !self.some {
             return Ok(());
         }
-        let made = rebuilt(alloc, kind, &self.each, &row)?;
+        let made = rebuilt(alloc, kind, &self.each, &row, spare)?;
         out.push_back(made)?;
+        spare.keep(row);
         Ok(())
     }
 
@@ -151,6 +154,7 @@ impl Marks {
         &self,
         alloc: Global,
         row: Record,
+        spare: &mut Spare,
         out: &mut VecDeque<Record>,
     ) -> Result<(), AllocError>
         requires { AsWide self.now row }
@@ -161,7 +165,7 @@ impl Marks {
                 out.push_back(row)?;
                 Ok(())
             }
-            Some(kind) => self.keep_spined(alloc, kind, row, out),
+            Some(kind) => self.keep_spined(alloc, kind, row, spare, out),
         }
     }
 

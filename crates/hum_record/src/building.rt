@@ -5,6 +5,7 @@ ghost use Rattle.hum_record.specs.Building.{tab_between};
 ghost use Rattle.hum_record.specs.declared.RecordFault.TheVariants.{L1, Memory};
 
 use crate::reading::Record;
+use crate::spare::Spare;
 use crate::{RecordFault, SpinedKind};
 use std::alloc::{AllocError, Global};
 use std::marker::Model;
@@ -47,10 +48,19 @@ impl RecordBuilder {
     pub fn new(alloc: Global, kind: SpinedKind) -> Self
         ensures { result ≡ record { kind = kind; tokens = []; spent = false } }
     {
+        Self::reusing(alloc, kind, &mut Spare::none(alloc))
+    }
+
+    /// The same in the buffers of a record that is done with. Nothing of that record shows.
+    #[inline]
+    pub fn reusing(alloc: Global, kind: SpinedKind, spare: &mut Spare) -> Self
+        ensures { result ≡ record { kind = kind; tokens = []; spent = false } }
+    {
+        let (text, ends) = spare.take(alloc);
         RecordBuilder {
-            text: Vec::new(alloc),
+            text,
             kind,
-            ends: Vec::new(alloc),
+            ends,
             spent: false,
         }
     }

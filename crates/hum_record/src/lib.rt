@@ -15,10 +15,12 @@ ghost use Rattle.hum_record.specs.declared.RecordFault.TheVariants.{Memory};
 
 mod building;
 mod reading;
+mod spare;
 mod tokens;
 
 pub use building::RecordBuilder;
 pub use reading::Record;
+pub use spare::Spare;
 use std::alloc::{AllocError, AllocFailed};
 use thiserror::Error;
 

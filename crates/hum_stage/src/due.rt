@@ -1,5 +1,5 @@
 //! Records that are due.
-ghost use Rattle.std.specs.Prelude.{◌≡◌, [], ◌==◌, ◌<◌, ◌^◌, List, length, IfOk};
+ghost use Rattle.std.specs.Prelude.{◌≡◌, [], ◌∷◌, ◌==◌, ◌<◌, ◌^◌, List, length, IfOk};
 ghost use Rattle.std.specs.Option.{option_to_list};
 ghost use Rattle.hum_record.specs.Row.{Row};
 ghost use Rattle.hum_stage.specs.Dues.{IsNext};
@@ -7,11 +7,13 @@ ghost use Rattle.hum_stage.specs.Dues.{IsNext};
 use hum_record::Record;
 use std::alloc::{AllocError, Global};
 use std::collections::VecDeque;
+use std::marker::Model;
 
 /// Records that are due, in their order.
 ///
 /// A list of them is one way to hold them. A command that gives at most one record for each that it
-/// takes needs none, and one that gives many alike may count them.
+/// takes needs none, nor does one that gives two at the most ([`UpToTwo`]), and one that gives many
+/// alike may count them.
 pub trait Due: Drop {
     /// The records.
     ghost rows: { Self → List Row };
@@ -82,5 +84,72 @@ impl Due for Option<Record> {
 
     fn clear(&mut self) {
         *self = None;
+    }
+}
+
+/// At most two records that are due, without a list of them.
+#[derive(Drop)]
+pub struct UpToTwo {
+    first: Option<Record>,
+    second: Option<Record>,
+}
+
+impl Model for UpToTwo {
+    ghost use Rattle.std.specs.Prelude.{List, ◌++◌};
+    ghost use Rattle.std.specs.Option.{option_to_list};
+    ghost use Rattle.hum_record.specs.Row.{Row};
+
+    ghost Value = { List Row };
+
+    ghost view = { λ due. option_to_list due.first ++ option_to_list due.second };
+}
+
+impl UpToTwo {
+    /// This record is due, in place of those that were.
+    #[inline]
+    pub fn put(&mut self, row: Record)
+        ensures { self.new ≡ row ∷ [] }
+    {
+        self.first = Some(row);
+        self.second = None;
+    }
+
+    /// This record is due and then another, in place of those that were.
+    pub fn put_both(&mut self, row: Record, behind: Record)
+        ensures { self.new ≡ row ∷ behind ∷ [] }
+    {
+        self.first = Some(row);
+        self.second = Some(behind);
+    }
+}
+
+impl Due for UpToTwo {
+    ghost rows = { λ s. s };
+
+    fn none(_alloc: Global) -> Self {
+        UpToTwo {
+            first: None,
+            second: None,
+        }
+    }
+
+    fn next(&mut self) -> Result<Option<Record>, AllocError> {
+        if self.first.is_some() {
+            return Ok(self.first.take());
+        }
+        Ok(self.second.take())
+    }
+
+    fn count(&self) -> u64 {
+        self.first.count() + self.second.count()
+    }
+
+    fn is_empty(&self) -> bool {
+        self.first.is_none() && self.second.is_none()
+    }
+
+    fn clear(&mut self) {
+        self.first = None;
+        self.second = None;
     }
 }

@@ -17,6 +17,6 @@ mod runs;
 pub use at_once::AtOnce;
 pub use contract::Stage;
 pub use deciding::Decides;
-pub use due::Due;
+pub use due::{Due, UpToTwo};
 pub use faults::{Command, End, Fault, Rule, State};
 pub use runs::{drain, whole};

@@ -1,0 +1,260 @@
+-- Scores stay scores.
+use Rattle.std.proofs.Common.{◌≡◌, ◌≢◌, ◌∙◌, refl, sym, ap, ℕ, zero, suc, ◌+◌, ◌≤◌, Bool, true, false, List, [], ◌∷◌, ◌++◌, length, map, replicate, cond, arith, subst, Option, None, Some}
+use Rattle.std.specs.Prelude.{◌&&◌, ◌||◌, ◌==◌, not, nat_le, is_some, Result, Ok, Err, if◌then◌else◌}
+use Rattle.std.specs.List.{list_any, list_all, find, AllByRecursion}
+use Rattle.std.proofs.lemmas.Bool.{and_parts, or_parts}
+use Rattle.std.proofs.lemmas.Bool.Decides.{nat_tests}
+use Rattle.std.proofs.lemmas.List.{length-map}
+use Rattle.hum_record.specs.declared.SpinedKind.TheVariants.{Local, Interpretation, Values}
+use Rattle.hum_record.specs.Row.{Row, Comment, Spined, text_of}
+use Rattle.hum_record.specs.Spelling.{is_empty}
+use Rattle.hum_path.specs.declared.signs.Sign.{Sign}
+use Rattle.hum_path.specs.declared.signs.Sign.TheVariants.{Split, Join, Exchange, Add, End, Exclusive, Plain}
+use Rattle.hum_path.specs.Sign.{sign_of, is_plain, is_exclusive, is_path_indicator, all_plain}
+use Rattle.hum_path.specs.Spines.{Path, Unopened, Spines, width, exchanges, names_after, after}
+use Rattle.hum_path.specs.Rules.{fault_of, breaks, breaks_as_text, in_order, has_unnamed, stays_unnamed}
+use Rattle.hum_path.specs.Onward.{beginnings, onward, swapped, renamed_each}
+use Rattle.hum_path.specs.Score.{IsOpen, path_after}
+use Rattle.hum_path.proofs.Obeyed.{opens, obeys, narrow}
+use Rattle.hum_path.proofs.Onwards.{names_onward, swapped_none, each_length}
+use Rattle.hum_path.proofs.Plain.{plain_stays}
+use Rattle.hum_path.proofs.Staying.{plain_breaks}
+use Rattle.hum_frac.specs.Ratio.{Ratio}
+use Rattle.hum_stage.specs.declared.faults.Rule.{Rule}
+use Rattle.hum_stage.specs.declared.faults.Rule.TheVariants.{K3, B1, B2, F1, L1}
+use Rattle.hum_stage.specs.Score.{through, Follow}
+use Rattle.hum_stage.specs.Meaning.{KeepsScore}
+use Rattle.hum_stage.specs.Decided.{decisions, limit}
+use Rattle.hum_stage.proofs.Keeping.{at_once_keeps}
+use Rattle.hum_timebase.specs.Notes.{timed_in, is_null, is_barline_record, notes_of, has_misread}
+use Rattle.hum_timebase.specs.Ends.{latest, next_end, living_before}
+use Rattle.hum_timebase.specs.Clock.{Clock, clock_after, time_after}
+use Rattle.hum_timebase.specs.Timebase.{Pace, timebase, data_rows, timed_rows, on_grid, around, null_row, clashes, is_too_long, living_at, names_some, tb_token, tb_row, interpretation_rows}
+use Rattle.hum_timebase.proofs.Writing.{some_named}
+
+-- ---- data
+
+-- data with so many tokens
+record IsAlike (n : ℕ) (row : Row) : Type 0 where
+  tokens : List (List ℕ)
+  is : row ≡ Spined Values tokens
+  size : length tokens ≡ n
+
+-- the rules ask only how many tokens there are
+same_fault : (path : Path) (old new : List (List ℕ)) → length new ≡ length old
+    → fault_of path (Spined Values new) ≡ fault_of path (Spined Values old)
+same_fault Unopened old new h = refl
+same_fault (Spines names) old new h = rw h refl
+
+alike_follow : (path : Path) (tokens : List (List ℕ)) (rows : List Row) → fault_of path (Spined Values tokens) ≡ None
+    → AllByRecursion (IsAlike (length tokens)) rows → Follow path rows × (through path rows ≡ path)
+alike_follow path tokens [] sound h = (tt, refl)
+alike_follow path tokens (row ∷ rows) sound h =
+    let rest = alike_follow path tokens rows sound h.1 in
+    rw h.0.is ((same_fault path tokens h.0.tokens h.0.size ∙ sound, rest.0), rest.1)
+
+alike-append : (n : ℕ) (xs ys : List Row) → AllByRecursion (IsAlike n) xs → AllByRecursion (IsAlike n) ys → AllByRecursion (IsAlike n) (xs ++ ys)
+alike-append n [] ys p q = q
+alike-append n (x ∷ xs) ys p q = (p.0, alike-append n xs ys p.1 q)
+
+nulls_alike : (tokens : List (List ℕ)) (count : ℕ) → AllByRecursion (IsAlike (length tokens)) (replicate count (null_row tokens))
+nulls_alike tokens zero = tt
+nulls_alike tokens (suc count) = (record { tokens = _; is = refl; size = length-map tokens _ }, nulls_alike tokens count)
+
+around_alike : (before after : ℕ) (stays : Bool) (tokens : List (List ℕ)) → AllByRecursion (IsAlike (length tokens)) (around before stays after tokens)
+around_alike before after true tokens =
+    alike-append (length tokens) (replicate before (null_row tokens)) _ (nulls_alike tokens before)
+    (record { tokens = tokens; is = refl; size = refl }, nulls_alike tokens after)
+around_alike before after false tokens =
+    alike-append (length tokens) (replicate before (null_row tokens)) _ (nulls_alike tokens before) (nulls_alike tokens after)
+
+timed_alike : (step : Ratio) (end time : Option Ratio) (notes before ends : List (Option Ratio)) (tokens : List (List ℕ)) (rows : List Row)
+    → timed_rows step end time notes before ends tokens ≡ Ok rows → AllByRecursion (IsAlike (length tokens)) rows
+timed_alike step end None notes before ends tokens rows e = cc
+timed_alike step end (Some time) notes before ends tokens rows e = go (clashes time notes before) (list_any (is_too_long time) notes) e
+  where
+    go : (a b : Bool) → ◌≡◌ {A = Result (List Row) Rule} (if a then Err B2 else if b then Err F1 else Ok (on_grid step end time (next_end time ends) tokens)) (Ok rows) → AllByRecursion (IsAlike (length tokens)) rows
+    go true b e = cc
+    go false true e = cc
+    go false false e =
+        let same : on_grid step end time (next_end time ends) tokens ≡ rows = cc in rw (← same) (around_alike _ _ _ tokens)
+
+data_alike : (step : Ratio) (clock : Clock) (timed : List Bool) (tokens : List (List ℕ)) (rows : List Row)
+    → data_rows step clock timed tokens ≡ Ok rows → AllByRecursion (IsAlike (length tokens)) rows
+data_alike step clock timed tokens rows e =
+    let notes = notes_of timed tokens in
+    let before = living_before timed clock.leading in
+    let time = time_after clock.last (map latest before) in
+    go (is_barline_record tokens) (list_all is_null tokens) (has_misread timed tokens) (not (list_any (λ flag. flag) timed)) (not (list_any is_some notes))
+    (timed_rows step clock.next time notes (map latest before) (map latest (living_at time notes before)) tokens)
+    (λ h. timed_alike step clock.next time notes (map latest before) (map latest (living_at time notes before)) tokens rows h) e
+  where
+    go : (a b c d f : Bool) (timed : Result (List Row) Rule) → (timed ≡ Ok rows → AllByRecursion (IsAlike (length tokens)) rows)
+        → (if a then Ok (Spined Values tokens ∷ []) else if b then Ok [] else if c then Err K3 else if d then Err B1 else if f then Ok [] else timed) ≡ Ok rows
+        → AllByRecursion (IsAlike (length tokens)) rows
+    go true b c d f timed more e = let same : Spined Values tokens ∷ [] ≡ rows = cc in rw (← same) (record { tokens = tokens; is = refl; size = refl }, tt)
+    go false true c d f timed more e = let same : [] ≡ rows = cc in rw (← same) tt
+    go false false true d f timed more e = cc
+    go false false false true f timed more e = cc
+    go false false false false true timed more e = let same : [] ≡ rows = cc in rw (← same) tt
+    go false false false false false timed more e = more e
+
+-- ---- the record that tells the step
+
+tb_plain : (text : List ℕ) (token : List ℕ) → is_plain (sign_of (tb_token text token)) ≡ true
+tb_plain text token = go (is_exclusive (sign_of token))
+  where
+    go : (b : Bool) → is_plain (sign_of (if b then 42 ∷ 116 ∷ 98 ∷ text else 42 ∷ [])) ≡ true
+    go true = refl
+    go false = refl
+
+tbs_plain : (text : List ℕ) (tokens : List (List ℕ)) → all_plain (map (tb_token text) tokens) ≡ true
+tbs_plain text [] = refl
+tbs_plain text (token ∷ tokens) = rw (tb_plain text token) (tbs_plain text tokens)
+
+any_signs : (tokens : List (List ℕ)) → list_any is_exclusive (map sign_of tokens) ≡ names_some tokens
+any_signs [] = refl
+any_signs (token ∷ tokens) = rw (any_signs tokens) refl
+
+-- exclusive interpretations stand beside no path indicator
+quiet_steers : (tokens : List (List ℕ)) (indicators : Bool) → names_some tokens ≡ true → (list_any is_exclusive (map sign_of tokens) && indicators) ≡ false → indicators ≡ false
+quiet_steers tokens indicators some h = rw (any_signs tokens, some) at h
+
+quiet_exchanges : (j : ℕ) (signs : List Sign) → list_any is_path_indicator signs ≡ false → exchanges j signs ≡ []
+quiet_exchanges j [] h = refl
+quiet_exchanges j (Exclusive ∷ signs) h = quiet_exchanges (j + 1) signs h
+quiet_exchanges j (Plain ∷ signs) h = quiet_exchanges (j + 1) signs h
+quiet_exchanges j (Split ∷ signs) h = cc
+quiet_exchanges j (Join ∷ signs) h = cc
+quiet_exchanges j (Exchange ∷ signs) h = cc
+quiet_exchanges j (Add ∷ signs) h = cc
+quiet_exchanges j (End ∷ signs) h = cc
+
+quiet_onward : (added : List ℕ → List ℕ) (after_join : Bool) (signs : List Sign) (xs : List (List ℕ)) → list_any is_path_indicator signs ≡ false
+    → length signs ≡ length xs → onward added (beginnings after_join signs) signs xs ≡ xs
+quiet_onward added b [] [] h e = refl
+quiet_onward added b [] (x ∷ xs) h e = absurd (omega (arith, e))
+quiet_onward added b (sign ∷ signs) [] h e = absurd (omega (arith, e))
+quiet_onward added b (Exclusive ∷ signs) (x ∷ xs) h e = ap (λ ys. x ∷ ys) (quiet_onward added false signs xs h (omega (arith, e)))
+quiet_onward added b (Plain ∷ signs) (x ∷ xs) h e = ap (λ ys. x ∷ ys) (quiet_onward added false signs xs h (omega (arith, e)))
+quiet_onward added b (Split ∷ signs) (x ∷ xs) h e = cc
+quiet_onward added b (Join ∷ signs) (x ∷ xs) h e = cc
+quiet_onward added b (Exchange ∷ signs) (x ∷ xs) h e = cc
+quiet_onward added b (Add ∷ signs) (x ∷ xs) h e = cc
+quiet_onward added b (End ∷ signs) (x ∷ xs) h e = cc
+
+filled_name : (token : List ℕ) → is_exclusive (sign_of token) ≡ true → is_empty token ≡ false
+filled_name [] h = cc
+filled_name (b ∷ bytes) h = grind (arith, nat_tests)
+
+own_filled : (name token : List ℕ) → stays_unnamed name (sign_of token) ≡ false → is_empty (if is_exclusive (sign_of token) then token else name) ≡ false
+own_filled name token h = go (is_exclusive (sign_of token)) refl h
+  where
+    and_true : (b : Bool) → (b && true) ≡ false → b ≡ false
+    and_true true e = cc
+    and_true false e = refl
+
+    go : (b : Bool) → is_exclusive (sign_of token) ≡ b → (is_empty name && not b) ≡ false → is_empty (if b then token else name) ≡ false
+    go true e h = filled_name token e
+    go false e h = and_true (is_empty name) h
+
+-- each spine has a name
+named_each : (names tokens : List (List ℕ)) → has_unnamed names (map sign_of tokens) ≡ false → list_any is_empty (renamed_each names tokens) ≡ false
+named_each [] tokens h = refl
+named_each (name ∷ names) [] h = refl
+named_each (name ∷ names) (token ∷ tokens) h =
+    let p = or_parts (stays_unnamed name (sign_of token)) (has_unnamed names (map sign_of tokens)) h in
+    rw (own_filled name token p.0) (named_each names tokens p.1)
+
+all_named : (tokens : List (List ℕ)) → list_all is_exclusive (map sign_of tokens) ≡ true → list_any is_empty tokens ≡ false
+all_named [] h = refl
+all_named (token ∷ tokens) h =
+    let p = and_parts (is_exclusive (sign_of token)) (list_all is_exclusive (map sign_of tokens)) h in
+    rw (filled_name token p.0) (all_named tokens p.1)
+
+-- After a record with exclusive interpretations there are as many spines as tokens, each with a name.
+record IsNamed (path : Path) (tokens : List (List ℕ)) : Type 0 where
+  names : List (List ℕ)
+  is : after path (Spined Interpretation tokens) ≡ Spines names
+  wide : length names ≡ length tokens
+  filled : list_any is_empty names ≡ false
+
+named_after : (path : Path) (tokens : List (List ℕ)) → names_some tokens ≡ true → fault_of path (Spined Interpretation tokens) ≡ None → IsNamed path tokens
+named_after Unopened tokens some sound =
+    let o = opens tokens sound in record { names = tokens; is = refl; wide = refl; filled = all_named tokens o.exclusive }
+named_after (Spines names) tokens some sound =
+    let o = obeys names tokens sound in
+    let signs = map sign_of tokens in
+    let each = renamed_each names tokens in
+    let quiet = quiet_steers tokens (list_any is_path_indicator signs) some o.steers in
+    let size = each_length names tokens o.wide in
+    let onwards : names_after (Spines names) tokens ≡ each =
+      names_onward names tokens o.wide o.pair
+      ∙ ap (onward (λ _. []) (beginnings false signs) signs) (swapped_none 0 signs each (quiet_exchanges 0 signs quiet))
+      ∙ quiet_onward (λ _. []) false signs each quiet (length-map tokens sign_of ∙ sym size) in
+    record { names = each; is = ap Spines onwards; wide = size; filled = named_each names tokens o.unnamed }
+
+text_sound : (names tokens : List (List ℕ)) → tokens ≢ [] → length names ≡ length tokens → list_any is_empty names ≡ false
+    → find (breaks_as_text (Spines names) tokens) in_order ≡ None
+text_sound names [] some wide filled = absurd (some refl)
+text_sound names (token ∷ tokens) some wide filled =
+    let open_spines : (length names == 0) ≡ false = grind (arith, nat_tests, wide) in
+    let same : (suc (length tokens) == length names) ≡ true = grind (arith, nat_tests, wide) in
+    rw (open_spines, same, filled) refl
+
+mapped_some : (f : List ℕ → List ℕ) (tokens : List (List ℕ)) → tokens ≢ [] → map f tokens ≢ []
+mapped_some f [] some e = some refl
+mapped_some f (token ∷ tokens) some e = cc
+
+-- the record that tells the step breaks no rule, and changes nothing
+tb_follows : (path : Path) (text : List ℕ) (tokens : List (List ℕ)) → names_some tokens ≡ true → fault_of path (Spined Interpretation tokens) ≡ None
+    → width (after path (Spined Interpretation tokens)) ≤ 4096
+    → (fault_of (after path (Spined Interpretation tokens)) (tb_row text tokens) ≡ None)
+    × (after (after path (Spined Interpretation tokens)) (tb_row text tokens) ≡ after path (Spined Interpretation tokens))
+tb_follows path text tokens some sound few =
+    let n = named_after path tokens some sound in
+    let tbs = map (tb_token text) tokens in
+    let plain = tbs_plain text tokens in
+    let size : length tbs ≡ length tokens = length-map tokens (tb_token text) in
+    let filled = mapped_some (tb_token text) tokens (some_named tokens some) in
+    let few' = subst (λ (x : Path). width x ≤ 4096) n.is few in
+    subst (λ (x : Path). (fault_of x (tb_row text tokens) ≡ None) × (after x (tb_row text tokens) ≡ x)) (sym n.is) (
+      plain_breaks (Spines n.names) tbs plain filled few' ∙ text_sound n.names tbs filled (n.wide ∙ sym size) n.filled,
+      ap Spines (plain_stays n.names tbs plain (size ∙ sym n.wide)),
+    )
+
+-- ---- all records
+
+interpretation_step : (pace : Pace) (past : List Row) (tokens : List (List ℕ)) (rows : List Row) → IsOpen (Spined Interpretation tokens ∷ past)
+    → interpretation_rows pace.text tokens ≡ Ok rows
+    → Follow (path_after past) rows × (through (path_after past) rows ≡ path_after (Spined Interpretation tokens ∷ past))
+interpretation_step pace past tokens rows sound e = go (names_some tokens) refl (nat_le (length (text_of (tb_row pace.text tokens))) 1048576) e
+  where
+    go : (a : Bool) → names_some tokens ≡ a → (b : Bool)
+        → ◌≡◌ {A = Result (List Row) Rule} (if not a then Ok (Spined Interpretation tokens ∷ []) else if b then Ok (Spined Interpretation tokens ∷ tb_row pace.text tokens ∷ []) else Err L1) (Ok rows)
+        → Follow (path_after past) rows × (through (path_after past) rows ≡ path_after (Spined Interpretation tokens ∷ past))
+    go false none b e = let one : Spined Interpretation tokens ∷ [] ≡ rows = cc in rw (← one) ((sound.1, tt), refl)
+    go true some true e =
+        let two : Spined Interpretation tokens ∷ tb_row pace.text tokens ∷ [] ≡ rows = cc in
+        let tb = tb_follows (path_after past) pace.text tokens some sound.1 (narrow (Spined Interpretation tokens ∷ past) sound) in
+        rw (← two) ((sound.1, (tb.0, tt)), tb.1)
+    go true some false e = cc
+
+next_step : (pace : Pace) (past : List Row) (row : Row) (given : Path) (rows : List Row) → IsOpen (row ∷ past)
+    → given ≡ path_after past → timebase pace past row ≡ Ok rows
+    → Follow given rows × (through given rows ≡ path_after (row ∷ past))
+next_step pace past (Comment text) given rows sound leads e =
+    let one : Comment text ∷ [] ≡ rows = cc in rw (← one, leads) ((sound.1, tt), refl)
+next_step pace past (Spined Local tokens) given rows sound leads e =
+    let one : Spined Local tokens ∷ [] ≡ rows = cc in rw (← one, leads) ((sound.1, tt), refl)
+next_step pace past (Spined Interpretation tokens) given rows sound leads e =
+    rw leads (interpretation_step pace past tokens rows sound e)
+next_step pace past (Spined Values tokens) given rows sound leads e =
+    rw leads (alike_follow (path_after past) tokens rows sound.1 (data_alike pace.step (clock_after past) (timed_in (path_after past)) tokens rows e))
+
+pub timebase_keeps : (pace : Pace) → KeepsScore (λ p. limit 4294967295 (decisions (timebase pace) [] p))
+timebase_keeps pace = at_once_keeps (timebase pace) (λ past given. given ≡ path_after past) (record {
+  opening = refl;
+  next = λ past row given rows sound leads e. next_step pace past row given rows sound leads e;
+  closing = λ past given sound end leads. rw leads end;
+})

@@ -1,0 +1,105 @@
+-- What is read of a record, token by token.
+use Rattle.std.proofs.Common.{◌≡◌, ◌∙◌, ℕ, zero, suc, ◌+◌, ◌<◌, List, [], ◌∷◌, ◌++◌, map, length, drop, get_or, refl, sym, ap, arith, add-one, append_assoc, Bool, true, false, Option, None, cond}
+use Rattle.std.specs.Prelude.{◌&&◌, ◌||◌, not, is_some, if◌then◌else◌}
+use Rattle.std.specs.List.{list_any, list_all}
+use Rattle.std.proofs.lemmas.Bool.{or_parts}
+use Rattle.hum_timebase.specs.Notes.{is_timed, own_name, own_names, is_null, is_barline, is_sounding, note_of, notes_of, is_barline_record}
+use Rattle.hum_timebase.specs.Reading.{content_of}
+use Rattle.hum_timebase.specs.declared.notes.Content.TheVariants.{Nulls, Barlines, Sounds}
+
+own-none : (tokens : List (List ℕ)) (j : ℕ) → j < length tokens
+    → own_names [] (drop j tokens) ≡ own_name [] (get_or tokens j []) ∷ own_names [] (drop (suc j) tokens)
+own-none [] j h = absurd (omega arith)
+own-none (token ∷ tokens) zero h = refl
+own-none (token ∷ tokens) (suc j) h = own-none tokens j (omega arith)
+
+own-drop : (names tokens : List (List ℕ)) (j : ℕ) → j < length tokens
+    → own_names (drop j names) (drop j tokens)
+    ≡ own_name (get_or names j []) (get_or tokens j []) ∷ own_names (drop (suc j) names) (drop (suc j) tokens)
+own-drop names [] j h = absurd (omega arith)
+own-drop [] (token ∷ tokens) zero h = refl
+own-drop [] (token ∷ tokens) (suc j) h = own-none tokens j (omega arith)
+own-drop (name ∷ names) (token ∷ tokens) zero h = refl
+own-drop (name ∷ names) (token ∷ tokens) (suc j) h = own-drop names tokens j (omega arith)
+
+pub timed_more : (names tokens : List (List ℕ)) (done all : List Bool) (j : ℕ) (b : Bool) (name token : List ℕ) → j < length tokens
+    → b ≡ is_timed name → name ≡ own_name (get_or names j []) token → token ≡ get_or tokens j []
+    → done ++ map is_timed (own_names (drop j names) (drop j tokens)) ≡ all
+    → (done ++ b ∷ []) ++ map is_timed (own_names (drop (j + 1) names) (drop (j + 1) tokens)) ≡ all
+timed_more names tokens done all j b name token below is own at h =
+    let next = own-drop names tokens j below in
+    rw (is, own, at, append_assoc, add-one) (ap (λ xs. done ++ map is_timed xs) (sym next) ∙ h)
+
+-- ---- what a data record holds
+
+none_sounding : (token : List ℕ) → is_sounding token ≡ false → is_barline token ≡ false → is_null token ≡ true
+none_sounding token s b = go (is_null token) (is_barline token) s b
+  where
+    go : (n b : Bool) → not (n || b) ≡ false → b ≡ false → n ≡ true
+    go true b s e = refl
+    go false true s e = cc
+    go false false s e = cc
+
+pub nulls_alone : (tokens : List (List ℕ)) → list_any is_sounding tokens ≡ false → list_any is_barline tokens ≡ false
+    → list_all is_null tokens ≡ true
+nulls_alone [] s b = refl
+nulls_alone (token ∷ tokens) s b =
+    let p = or_parts (is_sounding token) (list_any is_sounding tokens) s in
+    let q = or_parts (is_barline token) (list_any is_barline tokens) b in
+    rw (none_sounding token p.0 q.0) (nulls_alone tokens p.1 q.1)
+
+null_silent : (token : List ℕ) → is_sounding token ≡ true → is_null token ≡ false
+null_silent token s = go (is_null token) (is_barline token) s
+  where
+    go : (n b : Bool) → not (n || b) ≡ true → n ≡ false
+    go true b s = cc
+    go false b s = refl
+
+pub sounds_some : (tokens : List (List ℕ)) → list_any is_sounding tokens ≡ true → list_all is_null tokens ≡ false
+sounds_some [] s = cc
+sounds_some (token ∷ tokens) s = go (is_sounding token) refl s (λ more. sounds_some tokens more)
+  where
+    either : (n all : Bool) → all ≡ false → (n && all) ≡ false
+    either true all e = e
+    either false all e = refl
+
+    go : (b : Bool) → is_sounding token ≡ b → (b || list_any is_sounding tokens) ≡ true
+        → (list_any is_sounding tokens ≡ true → list_all is_null tokens ≡ false) → list_all is_null (token ∷ tokens) ≡ false
+    go true e s more = rw (null_silent token e) refl
+    go false e s more = either (is_null token) (list_all is_null tokens) (more s)
+
+silent_note : (timed : Bool) (token : List ℕ) → is_sounding token ≡ false → note_of timed token ≡ None
+silent_note true token e = rw e refl
+silent_note false token e = refl
+
+-- without a token that sounds there are no notes
+pub no_notes : (timed : List Bool) (tokens : List (List ℕ)) → list_any is_sounding tokens ≡ false → list_any is_some (notes_of timed tokens) ≡ false
+no_notes [] tokens s = refl
+no_notes (timed ∷ more) [] s = refl
+no_notes (timed ∷ more) (token ∷ tokens) s =
+    let p = or_parts (is_sounding token) (list_any is_sounding tokens) s in
+    rw (silent_note timed token p.0) (no_notes more tokens p.1)
+
+pub content_sounds : (tokens : List (List ℕ)) → content_of tokens ≡ Sounds → list_any is_sounding tokens ≡ true
+content_sounds tokens e = go (list_any is_sounding tokens) (list_any is_barline tokens) e
+  where
+    go : (s b : Bool) → (if s then Sounds else if b then Barlines else Nulls) ≡ Sounds → s ≡ true
+    go true b e = refl
+    go false true e = cc
+    go false false e = cc
+
+pub content_barlines : (tokens : List (List ℕ)) → content_of tokens ≡ Barlines → (list_any is_sounding tokens ≡ false) × (list_any is_barline tokens ≡ true)
+content_barlines tokens e = go (list_any is_sounding tokens) (list_any is_barline tokens) e
+  where
+    go : (s b : Bool) → (if s then Sounds else if b then Barlines else Nulls) ≡ Barlines → (s ≡ false) × (b ≡ true)
+    go true b e = cc
+    go false true e = (refl, refl)
+    go false false e = cc
+
+pub content_nulls : (tokens : List (List ℕ)) → content_of tokens ≡ Nulls → (list_any is_sounding tokens ≡ false) × (list_any is_barline tokens ≡ false)
+content_nulls tokens e = go (list_any is_sounding tokens) (list_any is_barline tokens) e
+  where
+    go : (s b : Bool) → (if s then Sounds else if b then Barlines else Nulls) ≡ Nulls → (s ≡ false) × (b ≡ false)
+    go true b e = cc
+    go false true e = cc
+    go false false e = (refl, refl)

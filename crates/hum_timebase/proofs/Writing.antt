@@ -1,0 +1,195 @@
+-- The records that are made.
+use Rattle.std.proofs.Common.{◌≡◌, ◌≢◌, ◌∙◌, ℕ, zero, suc, ◌+◌, ◌<◌, ◌≤◌, List, [], ◌∷◌, ◌++◌, map, length, drop, drop-cons, get_or, refl, sym, ap, arith, add-one, append_assoc, length-append, Bool, true, false, Option, None, Some, Result, Ok, Err, subst}
+use Rattle.std.specs.Prelude.{◌&&◌, ◌==◌, nat_le, if◌then◌else◌}
+use Rattle.std.specs.List.{list_any, join_with_byte, AllByRecursion}
+use Rattle.std.proofs.lemmas.Bool.{and_parts, false≢true}
+use Rattle.std.proofs.lemmas.Bool.Decides.{nat_tests}
+use Rattle.std.proofs.lemmas.List.{nil_from_length, drop_all}
+use Rattle.std.proofs.lemmas.List.Folds.{list_any-append}
+use lib.Chars.{codes}
+use Rattle.hum_record.specs.declared.Kind.TheVariants.{Global, Values as AnyValues}
+use Rattle.hum_record.specs.declared.SpinedKind.{SpinedKind}
+use Rattle.hum_record.specs.declared.SpinedKind.TheVariants.{Local, Interpretation, Values}
+use Rattle.hum_record.specs.Row.{Row, Comment, Spined, kind_of, tokens_of, text_of}
+use Rattle.hum_record.specs.Spelling.{IsToken, IsTextOf, has_byte}
+use Rattle.hum_record.specs.Building.{spelled}
+use Rattle.hum_record.proofs.Drafts.{spelled_front}
+use Rattle.hum_frac.specs.Ratio.{Ratio, reduced}
+use Rattle.hum_kern.specs.declared.KernFault.{KernFault}
+use Rattle.hum_kern.specs.declared.Length.{Length}
+use Rattle.hum_kern.specs.Classes.{is_digit, is_dot, is_grace_sign}
+use Rattle.hum_kern.specs.Value.{value_of, dotted}
+use Rattle.hum_kern.specs.Duration.{Spelling, spelling_of, is_empty, is_torn, second_length, with_dots, said, no_length, duration, recip_in, recip_of, recip}
+use Rattle.hum_kern.specs.Parts.{AreParts, quotient_text, IsSecond}
+use Rattle.hum_kern.proofs.Parts.{are_parts}
+use Rattle.hum_kern.proofs.Laws.{recip_greater}
+use Rattle.hum_timebase.specs.Timebase.{null_row, names_some, tb_token}
+use Rattle.hum_path.specs.Sign.{sign_of, is_exclusive}
+use Rattle.hum_timebase.specs.Writing.{IsPace}
+
+-- ---- what a duration is written with
+
+same_byte : (x b : ℕ) → (x == b) ≡ true → x ≡ b
+same_byte x b h = grind (arith, nat_tests, h)
+
+free_run : (p : ℕ → Bool) (b : ℕ) (run : List ℕ) → p b ≡ false → AllByRecursion (λ x. p x ≡ true) run → has_byte b run ≡ false
+free_run p b [] other all = refl
+free_run p b (x ∷ run) other all = go (x == b) refl (free_run p b run other all.1)
+  where
+    go : (same : Bool) → (x == b) ≡ same → has_byte b run ≡ false → has_byte b (x ∷ run) ≡ false
+    go true e more = absurd (false≢true (sym other ∙ rw (same_byte x b e) at all.0))
+    go false e more = rw e more
+
+free-append : (b : ℕ) (xs ys : List ℕ) → has_byte b xs ≡ false → has_byte b ys ≡ false → has_byte b (xs ++ ys) ≡ false
+free-append b xs ys p q = rw (list_any-append (λ x. x == b) xs ys, p) q
+
+-- a byte that durations aren't written with
+record IsForeign (b : ℕ) : Type 0 where
+  digit : is_digit b ≡ false
+  dot : is_dot b ≡ false
+  percent : (37 == b) ≡ false
+
+quotient_length : (second : Option (List ℕ)) → length (quotient_text second) ≡ second_length second
+quotient_length None = refl
+quotient_length (Some second) = omega arith
+
+free_quotient : (b : ℕ) (bytes : List ℕ) (parts : Spelling) → AreParts bytes parts → IsForeign b → has_byte b (quotient_text parts.second) ≡ false
+free_quotient b bytes parts h foreign = of parts.second h.second
+  where
+    of : (second : Option (List ℕ)) → IsSecond second (parts.dots ++ parts.left) → has_byte b (quotient_text second) ≡ false
+    of None s = refl
+    of (Some second) s = rw foreign.percent (free_run is_digit b second foreign.digit s.all_in)
+
+-- from the front to the end a duration
+record IsWhole (bytes : List ℕ) (parts : Spelling) : Type 0 where
+  before : length parts.before ≡ 0
+  end : length parts.before + length parts.digits + second_length parts.second + length parts.dots ≡ length bytes
+
+free_whole : (b : ℕ) (bytes : List ℕ) (parts : Spelling) → AreParts bytes parts → IsWhole bytes parts → IsForeign b → has_byte b bytes ≡ false
+free_whole b bytes parts h whole foreign =
+    let first = nil_from_length parts.before whole.before in
+    let sum = length-append parts.before (parts.digits ++ (quotient_text parts.second ++ (parts.dots ++ parts.left))) in
+    let sum2 = length-append parts.digits (quotient_text parts.second ++ (parts.dots ++ parts.left)) in
+    let sum3 = length-append (quotient_text parts.second) (parts.dots ++ parts.left) in
+    let sum4 = length-append parts.dots parts.left in
+    let second = quotient_length parts.second in
+    let text = ap length h.text in
+    let end = whole.end in
+    let last = nil_from_length parts.left (omega (arith, sum, sum2, sum3, sum4, second, text, end)) in
+    subst (λ xs. has_byte b xs ≡ false) (sym h.text) (
+      rw (first, last) (
+        free-append b parts.digits _ (free_run is_digit b parts.digits foreign.digit h.digits.all_in)
+        (free-append b (quotient_text parts.second) _ (free_quotient b bytes parts h foreign)
+        (free-append b parts.dots [] (free_run is_dot b parts.dots foreign.dot h.dots.all_in) refl))
+      )
+    )
+
+whole_found : (bytes : List ℕ) (found : Length) (step : Ratio) → recip_of bytes (Ok found) ≡ Ok step
+    → (found.value ≢ None) × (found.start ≡ 0) × (found.end ≡ length bytes)
+whole_found bytes found step h = go found.value (found.start == 0) (found.end == length bytes) refl refl h
+  where
+    go : (v : Option Ratio) (a b : Bool) → (found.start == 0) ≡ a → (found.end == length bytes) ≡ b → recip_in v (a && b) ≡ Ok step
+        → (v ≢ None) × (found.start ≡ 0) × (found.end ≡ length bytes)
+    go None a b e f h = cc
+    go (Some v) true true e f h = (λ n. cc, grind (arith, nat_tests, e), grind (arith, nat_tests, f))
+    go (Some v) true false e f h = cc
+    go (Some v) false b e f h = cc
+
+whole_dots : (bytes : List ℕ) (start end dots : ℕ) (value : Option Ratio) (step : Ratio) → recip_of bytes (with_dots start end value dots) ≡ Ok step
+    → (start ≡ 0) × (end + dots ≡ length bytes)
+whole_dots bytes start end dots None step h = cc
+whole_dots bytes start end dots (Some value) step h = go (nat_le dots 6) refl h
+  where
+    go : (b : Bool) → nat_le dots 6 ≡ b → recip_of bytes (with_dots start end (Some value) dots) ≡ Ok step → (start ≡ 0) × (end + dots ≡ length bytes)
+    go true e h = let w = whole_found bytes (record { value = Some (reduced (dotted value dots)); start = start; end = end + dots }) step (rw e at h) in (w.1, w.2)
+    go false e h = let w = rw e at h in cc
+
+whole_said : (bytes : List ℕ) (parts : Spelling) (step : Ratio) → recip_of bytes (said parts) ≡ Ok step → IsWhole bytes parts
+whole_said bytes parts step h = go (is_torn parts) refl h
+  where
+    go : (b : Bool) → is_torn parts ≡ b → recip_of bytes (said parts) ≡ Ok step → IsWhole bytes parts
+    go true e h = let w = rw e at h in cc
+    go false e h =
+        let w = whole_dots bytes (length parts.before) (length parts.before + length parts.digits + second_length parts.second) (length parts.dots) (value_of parts.digits parts.second) step (rw e at h) in
+        record { before = w.0; end = w.1 }
+
+whole_text : (bytes : List ℕ) (step : Ratio) → recip bytes ≡ Ok step → IsWhole bytes (spelling_of bytes)
+whole_text bytes step h = go (list_any is_grace_sign bytes) refl (is_empty (spelling_of bytes).digits) refl h
+  where
+    go : (a : Bool) → list_any is_grace_sign bytes ≡ a → (b : Bool) → is_empty (spelling_of bytes).digits ≡ b → recip bytes ≡ Ok step → IsWhole bytes (spelling_of bytes)
+    go true e b f h = let w = rw e at h in cc
+    go false e true f h = let w = rw (e, f) at h in cc
+    go false e false f h = whole_said bytes (spelling_of bytes) step (rw (e, f) at h)
+
+-- a text that is a duration and nothing else may stand in a token
+pub is_pace : (step : Ratio) (text : List ℕ) → recip text ≡ Ok step → IsPace step text
+is_pace step text h =
+    let whole = whole_text text step h in
+    let free : (b : ℕ) → IsForeign b → has_byte b text ≡ false = λ b foreign. free_whole b text (spelling_of text) (are_parts text) whole foreign in
+    record {
+      positive = recip_greater text step h;
+      lawful = record {
+        filled = λ e. cc;
+        one_token = free 9 (record { digit = refl; dot = refl; percent = refl });
+        one_line = free 13 (record { digit = refl; dot = refl; percent = refl });
+        no_line_end = free 10 (record { digit = refl; dot = refl; percent = refl });
+        of_kind = refl;
+        no_comment = refl;
+      };
+    }
+
+-- ---- tokens, one after another
+
+pub one_more : (f : List ℕ → List ℕ) (tokens done all : List (List ℕ)) (j : ℕ) (made : List ℕ) → j < length tokens → made ≡ f (get_or tokens j [])
+    → done ++ map f (drop j tokens) ≡ all → (done ++ made ∷ []) ++ map f (drop (j + 1) tokens) ≡ all
+one_more f tokens done all j made below is h =
+    rw (is, append_assoc, add-one) (ap (λ xs. done ++ map f xs) (sym (drop-cons tokens j [] below)) ∙ h)
+
+-- the front of what is made is no longer than all
+pub front_fits : (f : List ℕ → List ℕ) (tokens done all : List (List ℕ)) (j : ℕ) (made : List ℕ) → j < length tokens → made ≡ f (get_or tokens j [])
+    → done ++ map f (drop j tokens) ≡ all → length (spelled (done ++ made ∷ [])) ≤ length (spelled all)
+front_fits f tokens done all j made below is h =
+    subst (λ xs. length (spelled (done ++ made ∷ [])) ≤ length (spelled xs)) (one_more f tokens done all j made below is h)
+    (spelled_front (done ++ made ∷ []) (map f (drop (j + 1) tokens)))
+
+-- a record with tokens becomes one with tokens
+pub has_made : (f : List ℕ → List ℕ) (tokens done : List (List ℕ)) (j : ℕ) → tokens ≢ [] → length tokens ≤ j
+    → done ++ map f (drop j tokens) ≡ map f tokens → done ≢ []
+has_made f [] done j some past h = absurd (some refl)
+has_made f (token ∷ tokens) [] j some past h = λ _. let none = drop_all j (token ∷ tokens) past in let w = rw none at h in cc
+has_made f (token ∷ tokens) (x ∷ done) j some past h = λ e. cc
+
+pub some_named : (tokens : List (List ℕ)) → names_some tokens ≡ true → tokens ≢ []
+some_named [] h = cc
+some_named (token ∷ tokens) h = λ e. cc
+
+-- a null record is no longer than the one at its place
+dots_short : (kind : SpinedKind) (token : List ℕ) (tokens : List (List ℕ)) → AllByRecursion (IsToken kind) (token ∷ tokens)
+    → length (spelled (map (λ _. codes ".") (token ∷ tokens))) ≤ length (spelled (token ∷ tokens))
+dots_short kind [] tokens h = absurd (h.0.filled refl)
+dots_short kind (b ∷ bytes) [] h = omega arith
+dots_short kind (b ∷ bytes) (next ∷ tokens) h =
+    let ih = dots_short kind next tokens h.1 in
+    let sum = length-append (b ∷ bytes) (9 ∷ spelled (next ∷ tokens)) in
+    omega (arith, ih, sum)
+
+pub null_fits : (row : Row) → IsTextOf row (text_of row) → kind_of row ≡ AnyValues → length (text_of (null_row (tokens_of row))) ≤ 1048576
+null_fits (Comment text) h k = absurd (no k)
+  where
+    no : Global ≡ AnyValues → ⊥
+    no e = cc
+null_fits (Spined kind []) h k = absurd (h.1 refl)
+null_fits (Spined kind (token ∷ tokens)) h k =
+    let short = dots_short kind token tokens h.2 in
+    let most = h.3 in
+    omega (arith, short, most)
+
+pub named_token : (text named token seen made : List ℕ) → named ≡ codes "*tb" ++ text → seen ≡ token
+    → made ≡ (if is_exclusive (sign_of seen) then named else codes "*") → made ≡ tb_token text token
+named_token text named token seen made is at h = h ∙ rw (is, at) refl
+
+pub not_global : (row : Row) → kind_of row ≡ AnyValues → kind_of row ≡ Global → ⊥
+not_global row k e = no (sym e ∙ k)
+  where
+    no : Global ≡ AnyValues → ⊥
+    no e = cc

@@ -1,0 +1,18 @@
+use Rattle.std.proofs.Common.{◌∙◌, sym, refl, ap, Ok}
+use Rattle.hum_record.specs.Row.{tokens_of}
+use Rattle.hum_stage.proofs.Moves.{over_room}
+use Rattle.hum_timebase.specs.Timebase.{around}
+use Rattle.hum_timebase.proofs.Striking.{place_rows, about_known, around_length, over_count}
+use Rattle.hum_timebase.proofs.grid.place.Goals as goal
+
+pub returns-then-count-room : goal.returns-then-count-room
+returns-then-count-room c =
+    let made = c.args.made in
+    let a = c.saturating_add.ensures in
+    let b = c.saturating_add-count.ensures in
+    let s = c.single.ensures in
+    over_room c.args.room (around made.before made.stays made.after (tokens_of c.args.row)) _ refl
+    (rw (around_length made.before made.after made.stays (tokens_of c.args.row), ← s) (over_count made.before made.after c.single.result c.args.room c.saturating_add.result c.saturating_add-count.result a b c.if-count-room.true))
+
+pub returns : goal.returns
+returns c = ap Ok (place_rows c.args.made.before c.args.made.after c.args.made.stays c.args.row c.in_ok-null.null c.requires.kind c.in_ok-null.ensures ∙ rw (← c.kept_if.ensures) (sym c.among.ensures))

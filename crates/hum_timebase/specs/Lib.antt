@@ -1,0 +1,11 @@
+pub mod Pairs
+pub mod Notes
+pub mod Ends
+pub mod Clock
+pub mod Timebase
+pub mod Kept
+pub mod Spans
+pub mod Reading
+pub mod Dues
+pub mod Writing
+pub mod Following

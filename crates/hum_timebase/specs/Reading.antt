@@ -1,0 +1,30 @@
+-- What is read of a data record.
+use Rattle.std.specs.Prelude.{◌≡◌, ℕ, ◌==◌, Bool, true, false, not, List, [], ◌∷◌, Option, None, Some}
+use Rattle.std.specs.Prelude.{if◌then◌else◌}
+use Rattle.std.specs.List.{list_any}
+use Rattle.hum_frac.specs.Ratio.{Ratio}
+use Rattle.hum_kern.specs.declared.KernFault.{KernFault}
+use Rattle.hum_timebase.specs.declared.notes.Content.{Content}
+use Rattle.hum_timebase.specs.declared.notes.Content.TheVariants.{Nulls, Barlines, Sounds}
+use Rattle.hum_timebase.specs.Notes.{is_barline, is_sounding, subtokens, notes_of, has_misread}
+
+abbrev pub content_of : List (List ℕ) → Content
+content_of tokens =
+    if list_any is_sounding tokens then Sounds
+    else if list_any is_barline tokens then Barlines
+    else Nulls
+
+-- any byte but a space
+abbrev pub is_part : ℕ → Bool
+is_part b = not (b == 32)
+
+-- the subtokens behind one
+abbrev pub rest_parts : List ℕ → List (List ℕ)
+rest_parts [] = []
+rest_parts (space ∷ bytes) = subtokens bytes
+
+-- all durations were read, and these are the notes; or one was refused
+abbrev pub Read : List Bool → List (List ℕ) → List (Option Ratio) → Option KernFault → Type 0
+Read timed tokens notes None =
+    (has_misread timed tokens ≡ false) × (notes ≡ notes_of timed tokens)
+Read timed tokens notes (Some fault) = has_misread timed tokens ≡ true

@@ -1,0 +1,144 @@
+//! The time of each record.
+ghost use Rattle.std.specs.Prelude.{◌≡◌, ◌+◌, ◌<◌, ◌^◌, IfOk, OnOk, IfErr, Ok, Err, None, []};
+ghost use Rattle.hum_timebase.specs.Clock.{time_after};
+ghost use Rattle.hum_timebase.specs.Timebase.{multiples_from, count_before, count_after};
+
+use crate::ends::{drop_untimed, ends_by, has_clash, next_end, sound};
+use hum_frac::Frac;
+use hum_path::Moves;
+use hum_stage::Rule;
+use std::alloc::{AllocError, Global};
+use std::marker::Model;
+
+/// How many multiples of the step there are from `a`, it included, to `b`, that not included.
+fn multiples_from(a: Frac, b: Frac, step: Frac) -> u128
+    requires { 0 < step.top }
+    ensures count { result ≡ multiples_from a b step }
+    ensures below { result < 2 ^ 127 + 1 }
+{
+    let first = if a.is_before(b) && a.is_multiple(step) {
+        1
+    } else {
+        0
+    };
+    first + a.multiples_between(b, step)
+}
+
+/// How many from the least end after the last timed record to the time of this one.
+fn count_before(step: Frac, end: Option<Frac>, time: Frac) -> u128
+    requires { 0 < step.top }
+    ensures { result ≡ count_before step end time }
+{
+    match end {
+        None => 0,
+        Some(end) => multiples_from(end, time, step),
+    }
+}
+
+/// How many between the time and the least end after it.
+fn count_after(step: Frac, time: Frac, end: Option<Frac>) -> u128
+    requires { 0 < step.top }
+    ensures { result ≡ count_after step time end }
+{
+    match end {
+        None => 0,
+        Some(end) => time.multiples_between(end, step),
+    }
+}
+
+/// The time of a timed record, by that of the last one and the ends before its cells.
+fn time_after(last: Option<Frac>, ends: &[Option<Frac>]) -> Option<Frac>
+    ensures { result ≡ time_after last ends.now }
+{
+    match last {
+        None => Some(Frac::zero()),
+        Some(last) => next_end(last, ends),
+    }
+}
+
+/// What a timed record becomes: so many null records, itself if its time is on the grid, and so
+/// many null records.
+#[derive(Clone, Copy, Debug, PartialEq, Eq)]
+pub(crate) struct Strike {
+    pub(crate) before: u128,
+    pub(crate) stays: bool,
+    pub(crate) after: u128,
+}
+
+/// The time of the last timed record, the least end after it, and one end for each spine.
+#[derive(Drop)]
+pub(crate) struct Clock {
+    last: Option<Frac>,
+    next: Option<Frac>,
+    ends: Vec<Option<Frac>>,
+}
+
+impl Model for Clock {
+    ghost use Rattle.hum_timebase.specs.Kept.{Kept};
+
+    ghost Value = { Kept };
+
+    ghost view = { λ c. record { last = c.last; next = c.next; ends = c.ends.items } };
+}
+
+impl Clock {
+    ghost use Rattle.hum_timebase.specs.Kept.{rested, led, kept_at, strike};
+
+    /// Before the first record.
+    pub(crate) fn new(alloc: Global) -> Clock
+        ensures { result ≡ record { last = None; next = None; ends = [] } }
+    {
+        Clock {
+            last: None,
+            next: None,
+            ends: Vec::new(alloc),
+        }
+    }
+
+    /// Takes a record whose cells stand in these columns, but for its notes.
+    pub(crate) fn rest(&mut self, timed: &[bool])
+        ensures { self.new ≡ rested timed.now self.old }
+    {
+        drop_untimed(timed, &mut self.ends);
+    }
+
+    /// The spines move.
+    pub(crate) fn lead(&mut self, alloc: Global, found: &Moves) -> Result<(), AllocError>
+        ensures { OnOk result (self.new ≡ led found.now self.old) }
+    {
+        let next = ends_by(alloc, &self.ends, found)?;
+        self.ends = next;
+        Ok(())
+    }
+
+    /// Takes the notes of a timed record, and says what it becomes.
+    ///
+    /// # Errors
+    /// B2 where the notes before it don't end at its time, or a note's own column goes on; F1 where
+    /// a note's end doesn't fit.
+    pub(crate) fn strike(&mut self, step: Frac, notes: &[Option<Frac>]) -> Result<Strike, Rule>
+        requires { 0 < step.top }
+        ensures made { IfOk result (λ made. strike step self.old notes.now ≡ Ok made) }
+        ensures refused { IfErr result (λ rule. strike step self.old notes.now ≡ Err rule) }
+        ensures after { OnOk result (self.new
+            ≡ kept_at (time_after self.old.last self.old.ends) notes.now self.old) }
+    {
+        let Some(time) = time_after(self.last, &self.ends) else {
+            return Err(Rule::B2);
+        };
+        if has_clash(time, notes, &self.ends) {
+            return Err(Rule::B2);
+        }
+        if sound(time, notes, &mut self.ends).is_err() {
+            return Err(Rule::F1);
+        }
+        let before = count_before(step, self.next, time);
+        self.last = Some(time);
+        self.next = next_end(time, &self.ends);
+        Ok(Strike {
+            before,
+            stays: time.is_multiple(step),
+            after: count_after(step, time, self.next),
+        })
+    }
+}

@@ -1,0 +1,199 @@
+//! Ends of notes, one for each column.
+ghost use Rattle.std.specs.Prelude.{◌≡◌, ℕ, true, false, not, length, map, None, IfOk, OnErr, OnOk};
+ghost use Rattle.std.specs.Prelude.{slice_index_or, slice_set};
+ghost use Rattle.std.specs.List.{list_any};
+ghost use Rattle.hum_frac.specs.Ratio.{Ratio};
+ghost use Rattle.hum_timebase.specs.Ends.{later, sooner, beyond, next_end};
+ghost use Rattle.hum_timebase.specs.Kept.{end_if_timed, ends_before, own_end, ends_after, end_by};
+ghost use Rattle.hum_timebase.specs.Spans.{low_of, high_of};
+ghost use Rattle.hum_timebase.specs.Timebase.{clash, clashes, is_too_long};
+
+use hum_frac::{Frac, FracFault};
+use hum_path::{Move, Moves};
+use std::alloc::{AllocError, Global};
+
+/// The later of two ends, where there are any.
+fn later(a: Option<Frac>, b: Option<Frac>) -> Option<Frac>
+    ensures { result ≡ later a b }
+{
+    match (a, b) {
+        (Some(x), Some(y)) => { if x.is_before(y) { Some(y) } else { Some(x) } }
+        (Some(x), None) => Some(x),
+        (None, other) => other,
+    }
+}
+
+/// The sooner.
+fn sooner(a: Option<Frac>, b: Option<Frac>) -> Option<Frac>
+    ensures { result ≡ sooner a b }
+{
+    match (a, b) {
+        (Some(x), Some(y)) => { if y.is_before(x) { Some(y) } else { Some(x) } }
+        (Some(x), None) => Some(x),
+        (None, other) => other,
+    }
+}
+
+/// An end, if it is after a time.
+fn beyond(time: Frac, end: Option<Frac>) -> Option<Frac>
+    ensures { result ≡ beyond time end }
+{
+    match end {
+        Some(end) if time.is_before(end) => Some(end),
+        _ => None,
+    }
+}
+
+/// The least of some ends that is after a time.
+pub(crate) fn next_end(time: Frac, ends: &[Option<Frac>]) -> Option<Frac>
+    ensures { result ≡ next_end time ends.now }
+{
+    let mut least = None;
+    let mut j = ends.len();
+    while j > 0 {
+        j -= 1;
+        least = sooner(beyond(time, ends[j]), least);
+    }
+    least
+}
+
+/// The end at a place, if there is one.
+fn end_at(ends: &[Option<Frac>], j: usize) -> Option<Frac>
+    ensures { result ≡ slice_index_or ends.now j None }
+{
+    if j < ends.len() { ends[j] } else { None }
+}
+
+/// Puts an end at a place, if that is there.
+fn put_end(ends: &mut [Option<Frac>], j: usize, end: Option<Frac>)
+    ensures { ends.new ≡ slice_set ends.old j end }
+{
+    if j < ends.len() {
+        ends[j] = end;
+    }
+}
+
+/// The end before a cell.
+fn end_if_timed(timed: bool, end: Option<Frac>) -> Option<Frac>
+    ensures { result ≡ end_if_timed timed end }
+{
+    if timed { end } else { None }
+}
+
+/// Columns that aren't timed have no end.
+pub(crate) fn drop_untimed(timed: &[bool], ends: &mut [Option<Frac>])
+    ensures { ends.new ≡ ends_before timed.now ends.old }
+{
+    for j in 0..timed.len() {
+        let end = end_if_timed(timed[j], end_at(ends, j));
+        put_end(ends, j, end);
+    }
+}
+
+/// Where the cells begin whose next cell below is that of the spine that comes by a move.
+fn low(from: Move) -> usize
+    ensures { result ≡ low_of from }
+{
+    match from {
+        Move::Same(j) | Move::Left(j) | Move::Join(j, _) => j as usize,
+        Move::Right(_) | Move::Added(_) => 0,
+    }
+}
+
+/// Where they end.
+fn high(from: Move) -> usize
+    ensures { result ≡ high_of from }
+{
+    match from {
+        Move::Same(j) | Move::Left(j) | Move::Join(_, j) => j as usize + 1,
+        Move::Right(_) | Move::Added(_) => 0,
+    }
+}
+
+/// The greatest of their ends.
+fn end_by(from: Move, ends: &[Option<Frac>]) -> Option<Frac>
+    ensures { result ≡ end_by 0 from ends.now }
+{
+    let first = low(from);
+    let mut end = None;
+    let mut j = high(from).min(ends.len());
+    while j > first {
+        j -= 1;
+        end = later(ends[j], end);
+    }
+    end
+}
+
+/// The same for each move.
+pub(crate) fn ends_by(
+    alloc: Global,
+    ends: &[Option<Frac>],
+    found: &Moves,
+) -> Result<Vec<Option<Frac>>, AllocError>
+    ensures { IfOk result (λ next. next.items
+        ≡ map (λ move. end_by 0 move ends.now) found.now) }
+{
+    let mut next = Vec::new(alloc);
+    for i in 0..found.len() {
+        next.push(end_by(found.get(i), ends))?;
+    }
+    Ok(next)
+}
+
+/// Whether a note stands in a column whose end is after the time.
+fn is_clash(time: Frac, note: Option<Frac>, end: Option<Frac>) -> bool
+    ensures { result ≡ clash time note end }
+{
+    match (note, end) {
+        (Some(_), Some(end)) => time.is_before(end),
+        (Some(_), None) => false,
+        (None, _) => false,
+    }
+}
+
+/// The same of some note.
+pub(crate) fn has_clash(time: Frac, notes: &[Option<Frac>], ends: &[Option<Frac>]) -> bool
+    ensures { result ≡ clashes time notes.now ends.now }
+{
+    for j in 0..notes.len().min(ends.len()) {
+        if is_clash(time, notes[j], ends[j]) {
+            return true;
+        }
+    }
+    false
+}
+
+/// The end after a cell: that of its own note, else the one before.
+fn own_end(time: Frac, note: Option<Frac>, end: Option<Frac>) -> Result<Option<Frac>, FracFault>
+    ensures end { IfOk result (λ e. e ≡ own_end time note end) }
+    ensures fits { OnOk result (is_too_long time note ≡ false) }
+    ensures refused { OnErr result (is_too_long time note ≡ true) }
+{
+    match note {
+        None => Ok(end),
+        Some(lasting) => match time.add(lasting) {
+            Ok(sum) => Ok(Some(sum)),
+            Err(fault) => Err(fault),
+        },
+    }
+}
+
+/// The same of all cells.
+///
+/// # Errors
+/// F1 where a note's end doesn't fit.
+pub(crate) fn sound(
+    time: Frac,
+    notes: &[Option<Frac>],
+    ends: &mut [Option<Frac>],
+) -> Result<(), FracFault>
+    ensures ends { OnOk result (ends.new ≡ ends_after time notes.now ends.old) }
+    ensures fits { OnOk result (list_any (is_too_long time) notes.now ≡ false) }
+    ensures refused { OnErr result (list_any (is_too_long time) notes.now ≡ true) }
+{
+    for j in 0..notes.len() {
+        let end = own_end(time, notes[j], end_at(ends, j))?;
+        put_end(ends, j, end);
+    }
+    Ok(())
+}

@@ -1,0 +1,255 @@
+//! What each record becomes.
+ghost use Rattle.std.specs.Prelude.{◌≡◌, ◌+◌, [], Ok, Err, Some, None, ℕ};
+ghost use Rattle.std.specs.Prelude.{IfOk, OnOk, is_some, if◌then◌else◌};
+ghost use Rattle.std.specs.List.{list_any};
+ghost use Rattle.hum_record.specs.Row.{kind_of, tokens_of, text_of};
+ghost use Rattle.hum_record.specs.Spelling.{IsTextOf};
+ghost use Rattle.hum_record.specs.declared.Kind.TheVariants.{Interpretation as AnyInterpretation};
+ghost use Rattle.hum_record.specs.declared.Kind.TheVariants.{Values as AnyValues};
+ghost use Rattle.hum_path.specs.Spines.{moves, after};
+ghost use Rattle.hum_path.specs.Rules.{fault_of};
+ghost use Rattle.hum_kern.specs.Duration.{recip};
+ghost use Rattle.hum_stage.specs.Decided.{MayStep, HasStepped};
+ghost use Rattle.hum_timebase.specs.Timebase.{timebase, around};
+ghost use Rattle.hum_timebase.specs.Following.{Follows, Answers, IsAbout, pace_of};
+ghost use Rattle.hum_timebase.specs.Notes.{notes_of};
+ghost use Rattle.hum_timebase.specs.Kept.{sounding_rows, struck};
+
+use crate::TimebaseOptions;
+use crate::clock::{Clock, Strike};
+use crate::due::Around;
+use crate::notes::{Content, content_of, read_notes, timed_at, timed_in};
+use crate::pace::Pace;
+use crate::records::{names_some, null_record, tb_record};
+use hum_frac::Frac;
+use hum_path::{Moves, PathFault, Paths};
+use hum_record::{Kind, Record, RecordFault};
+use hum_stage::{Decides, Rule};
+use std::alloc::{AllocError, Global};
+
+/// Where the spines after a record that breaks no path rule come from.
+fn passed(paths: &mut Paths, row: &Record) -> Result<Moves, AllocError>
+    requires { fault_of paths.old.path row.now ≡ None }
+    ensures moves { IfOk result (λ found. found ≡ moves paths.old.path row.now) }
+    ensures after { OnOk result (paths.new.path ≡ after paths.old.path row.now) }
+{
+    match paths.step(row) {
+        Ok(found) => Ok(found),
+        Err(fault) => match fault {
+            PathFault::Memory => Err(AllocError),
+            _ => unreachable!(),
+        },
+    }
+}
+
+fn has_true(flags: &[bool]) -> bool
+    ensures { result ≡ list_any (λ flag. flag) flags.now }
+{
+    flags.iter().any(|flag| *flag)
+}
+
+fn has_note(notes: &[Option<Frac>]) -> bool
+    ensures { result ≡ list_any is_some notes.now }
+{
+    notes.iter().any(|note| note.is_some())
+}
+
+fn single(stays: bool) -> u128
+    ensures { result ≡ (if stays then 1 else 0) }
+{
+    if stays { 1 } else { 0 }
+}
+
+fn kept_if(stays: bool, row: Record) -> Option<Record>
+    ensures { result ≡ (if stays then Some row else None) }
+{
+    if stays { Some(row) } else { None }
+}
+
+/// The null record that stands about a timed record, if there are such.
+fn null_about(alloc: Global, made: &Strike, row: &Record) -> Result<Option<Record>, AllocError>
+    requires lawful { IsTextOf row.now (text_of row.now) }
+    requires kind { kind_of row.now ≡ AnyValues }
+    ensures { IfOk result (IsAbout (made.now.before + made.now.after) (tokens_of row.now)) }
+{
+    if made.before == 0 {
+        if made.after == 0 {
+            return Ok(None);
+        }
+    }
+    Ok(Some(null_record(alloc, row)?))
+}
+
+/// Puts what a timed record becomes where it is due, if there is room for it.
+fn place(
+    alloc: Global,
+    made: Strike,
+    row: Record,
+    room: u64,
+    out: &mut Around,
+) -> Result<Option<Rule>, AllocError>
+    requires lawful { IsTextOf row (text_of row) }
+    requires kind { kind_of row ≡ AnyValues }
+    requires empty { out.old ≡ [] }
+    ensures { IfOk result (Answers
+        (Ok (around made.before made.stays made.after (tokens_of row))) room out.new) }
+{
+    let count = made.before.saturating_add(made.after).saturating_add(single(made.stays));
+    if count > room as u128 {
+        return Ok(Some(Rule::L2));
+    }
+    let null = null_about(alloc, &made, &row)?;
+    let before = made.before as u64;
+    let after = made.after as u64;
+    *out = Around::among(alloc, before, kept_if(made.stays, row), after, null);
+    Ok(None)
+}
+
+/// The spines, which of them are timed, and where the notes end.
+#[derive(Drop)]
+pub(crate) struct Grid {
+    alloc: Global,
+    pace: Pace,
+    paths: Paths,
+    timed: Vec<bool>,
+    clock: Clock,
+    // the notes of the record at hand
+    notes: Vec<Option<Frac>>,
+}
+
+impl Grid {
+    /// No spines yet.
+    pub(crate) fn new(alloc: Global, options: TimebaseOptions) -> Grid
+        requires { recip options.text.items ≡ Ok options.step }
+        ensures { Follows result.pace result.paths.path result.timed.items result.clock
+            (timebase (pace_of options)) [] }
+    {
+        Grid {
+            alloc,
+            pace: Pace::new(options),
+            paths: Paths::new(alloc),
+            timed: Vec::new(alloc),
+            clock: Clock::new(alloc),
+            notes: Vec::new(alloc),
+        }
+    }
+
+    /// Takes an interpretation.
+    fn interpret(&mut self, row: Record, out: &mut Around) -> Result<Option<Rule>, AllocError>
+        requires kind { kind_of row ≡ AnyInterpretation }
+        requires score { MayStep
+            (Follows self.old.pace self.old.paths.path self.old.timed.items self.old.clock) row }
+        requires empty { out.old ≡ [] }
+        ensures { IfOk result (λ refused. (room : ℕ) → HasStepped
+            (Follows self.old.pace self.old.paths.path self.old.timed.items self.old.clock)
+            (Follows self.new.pace self.new.paths.path self.new.timed.items self.new.clock)
+            row room out.new refused) }
+    {
+        let own = timed_at(self.alloc, &self.paths, &row)?;
+        let found = passed(&mut self.paths, &row)?;
+        self.clock.rest(&own);
+        self.clock.lead(self.alloc, &found)?;
+        self.timed = timed_in(self.alloc, &self.paths)?;
+        if !names_some(&row) {
+            *out = Around::alone(self.alloc, row);
+            return Ok(None);
+        }
+        match tb_record(self.alloc, &self.pace, &row) {
+            Ok(other) => {
+                *out = Around::followed(self.alloc, row, other);
+                Ok(None)
+            }
+            Err(RecordFault::L1) => Ok(Some(Rule::L1)),
+            Err(_) => Err(AllocError),
+        }
+    }
+
+    /// Takes a data record with a token that is neither null nor a barline, whose columns that
+    /// aren't timed have no end any more.
+    fn sound(
+        &mut self,
+        row: Record,
+        room: u64,
+        out: &mut Around,
+    ) -> Result<Option<Rule>, AllocError>
+        requires lawful { IsTextOf row (text_of row) }
+        requires kind { kind_of row ≡ AnyValues }
+        requires empty { out.old ≡ [] }
+        ensures decided { IfOk result (Answers (sounding_rows self.old.pace.step self.old.clock
+            self.old.timed.items (tokens_of row)) room out.new) }
+        ensures clock { IfOk result (λ refused. refused ≡ None →
+            self.new.clock ≡ struck (notes_of self.old.timed.items (tokens_of row)) self.old.clock) }
+        ensures rest { OnOk result (self.new
+            ≡ record self.old { clock = self.new.clock; notes = self.new.notes }) }
+    {
+        if read_notes(&self.timed, &row, &mut self.notes)?.is_some() {
+            return Ok(Some(Rule::K3));
+        }
+        if !has_true(&self.timed) {
+            return Ok(Some(Rule::B1));
+        }
+        if !has_note(&self.notes) {
+            return Ok(None);
+        }
+        match self.clock.strike(self.pace.step(), &self.notes) {
+            Ok(made) => place(self.alloc, made, row, room, out),
+            Err(rule) => Ok(Some(rule)),
+        }
+    }
+
+    /// Takes a data record.
+    fn value(
+        &mut self,
+        row: Record,
+        room: u64,
+        out: &mut Around,
+    ) -> Result<Option<Rule>, AllocError>
+        requires lawful { IsTextOf row (text_of row) }
+        requires kind { kind_of row ≡ AnyValues }
+        requires empty { out.old ≡ [] }
+        ensures { IfOk result (HasStepped
+            (Follows self.old.pace self.old.paths.path self.old.timed.items self.old.clock)
+            (Follows self.new.pace self.new.paths.path self.new.timed.items self.new.clock)
+            row room out.new) }
+    {
+        self.clock.rest(&self.timed);
+        match content_of(&row) {
+            Content::Nulls => Ok(None),
+            Content::Barlines => {
+                *out = Around::alone(self.alloc, row);
+                Ok(None)
+            }
+            Content::Sounds => {
+                let refused = self.sound(row, room, out)?;
+                Ok(refused)
+            }
+        }
+    }
+}
+
+impl Decides for Grid {
+    type Due = Around;
+
+    ghost follows = { λ s. Follows s.pace s.paths.path s.timed.items s.clock };
+
+    fn step(
+        &mut self,
+        next: Record,
+        room: u64,
+        out: &mut Around,
+    ) -> Result<Option<Rule>, AllocError> {
+        match next.kind() {
+            Kind::Global => {
+                *out = Around::alone(self.alloc, next);
+                Ok(None)
+            }
+            Kind::Local => {
+                self.clock.rest(&self.timed);
+                *out = Around::alone(self.alloc, next);
+                Ok(None)
+            }
+            Kind::Interpretation => self.interpret(next, out),
+            Kind::Values => self.value(next, room, out),
+        }
+    }
+}

@@ -1,0 +1,191 @@
+//! Timed columns, and the notes in their cells.
+ghost use Rattle.std.specs.Prelude.{◌≡◌, ◌∷◌, ◌++◌, ◌≤◌, ◌<◌, [], length, true, false};
+ghost use Rattle.std.specs.Prelude.{IfOk, OnOk, OnErr, IsTrue, slice_index_or, map};
+ghost use Rattle.std.specs.List.{list_any};
+ghost use Rattle.hum_record.specs.Row.{tokens_of};
+ghost use Rattle.hum_path.specs.Spines.{exclusives};
+ghost use Rattle.hum_kern.specs.Duration.{duration, value_in, is_refused};
+ghost use Rattle.hum_kern.specs.Runs.{run};
+ghost use Rattle.hum_timebase.specs.Notes.{is_timed, timed_in, own_name, timed_at};
+ghost use Rattle.hum_timebase.specs.Notes.{is_null, is_barline, is_sounding};
+ghost use Rattle.hum_timebase.specs.Notes.{subtokens, first_duration, note_of, notes_of};
+ghost use Rattle.hum_timebase.specs.Notes.{is_misread, has_misread};
+ghost use Rattle.hum_timebase.specs.Reading.{content_of, rest_parts, is_part, Read};
+
+use hum_frac::Frac;
+use hum_kern::{KernFault, read_duration};
+use hum_path::{Paths, token_sign};
+use hum_record::Record;
+use std::alloc::{AllocError, Global};
+
+/// Whether columns under an exclusive interpretation are timed.
+fn is_timed(name: &[u8]) -> bool
+    ensures { result ≡ is_timed name.now }
+{
+    name == b"**kern".as_slice() || name == b"**recip".as_slice()
+}
+
+/// Which spines are timed.
+pub(crate) fn timed_in(alloc: Global, paths: &Paths) -> Result<Vec<bool>, AllocError>
+    ensures { IfOk result (λ timed. timed.items ≡ timed_in paths.now.path) }
+{
+    let mut timed = Vec::new(alloc);
+    for j in 0..paths.width() {
+        timed.push(is_timed(paths.exclusive(j)))?;
+    }
+    Ok(timed)
+}
+
+/// The exclusive interpretation that the token in a column stands under.
+fn own_name<'a>(paths: &'a Paths, token: &'a [u8], j: usize) -> &'a [u8]
+    ensures { result.now ≡ own_name (slice_index_or (exclusives paths.now.path) j []) token.now }
+{
+    if token_sign(token).is_exclusive() {
+        token
+    } else if j < paths.width() {
+        paths.exclusive(j)
+    } else {
+        b""
+    }
+}
+
+/// Which cells of an interpretation stand in timed columns.
+pub(crate) fn timed_at(alloc: Global, paths: &Paths, row: &Record) -> Result<Vec<bool>, AllocError>
+    ensures { IfOk result (λ timed. timed.items
+        ≡ timed_at paths.now.path (tokens_of row.now)) }
+{
+    let mut timed = Vec::new(alloc);
+    for j in 0..row.width() {
+        timed.push(is_timed(own_name(paths, row.token(j), j)))?;
+    }
+    Ok(timed)
+}
+
+fn is_barline(token: &[u8]) -> bool
+    ensures { result ≡ is_barline token.now }
+{
+    token.starts_with(b"=")
+}
+
+/// Whether a token is neither null nor a barline.
+fn is_sounding(token: &[u8]) -> bool
+    ensures { result ≡ is_sounding token.now }
+{
+    !(token == b".".as_slice() || is_barline(token))
+}
+
+/// What a data record holds.
+#[derive(Clone, Copy, Debug, PartialEq, Eq)]
+pub(crate) enum Content {
+    /// null tokens alone
+    Nulls,
+    /// barlines, and null tokens
+    Barlines,
+    /// other tokens too
+    Sounds,
+}
+
+/// What a data record holds.
+pub(crate) fn content_of(row: &Record) -> Content
+    ensures { result ≡ content_of (tokens_of row.now) }
+{
+    let mut found = false;
+    for j in 0..row.width() {
+        let token = row.token(j);
+        if is_sounding(token) {
+            return Content::Sounds;
+        }
+        found |= is_barline(token);
+    }
+    if found { Content::Barlines } else { Content::Nulls }
+}
+
+/// Where the first space stands, or the end.
+fn first_space(text: &[u8]) -> usize
+    ensures first { result ≡ run is_part text.now }
+    ensures within { result ≤ length text.now }
+{
+    let mut n = 0;
+    while n < text.len() && text[n] != b' ' {
+        n += 1;
+    }
+    n
+}
+
+/// The first subtoken, and what stands behind it.
+fn cut(text: &[u8]) -> (&[u8], &[u8])
+    ensures parts { subtokens text.now ≡ (result.0).now ∷ rest_parts (result.1).now }
+    ensures shorter { length (result.1).now ≤ length text.now }
+{
+    text.split_at(first_space(text))
+}
+
+/// The duration of a subtoken.
+fn part_duration(part: &[u8]) -> Result<Option<Frac>, KernFault>
+    ensures value { IfOk result (λ value. value ≡ value_in (duration part.now)) }
+    ensures read { OnOk result (is_refused (duration part.now) ≡ false) }
+    ensures refused { OnErr result (is_refused (duration part.now) ≡ true) }
+{
+    match read_duration(part) {
+        Ok(found) => Ok(found.value),
+        Err(fault) => Err(fault),
+    }
+}
+
+/// The first duration of a token's subtokens, all of which are read.
+///
+/// # Errors
+/// K3 where one of them is refused.
+fn first_duration(token: &[u8]) -> Result<Option<Frac>, KernFault>
+    ensures value { IfOk result (λ value. value ≡ first_duration (subtokens token.now)) }
+    ensures read { OnOk result
+        (list_any (λ part. is_refused (duration part)) (subtokens token.now) ≡ false) }
+    ensures refused { OnErr result
+        (list_any (λ part. is_refused (duration part)) (subtokens token.now) ≡ true) }
+{
+    let (part, mut left) = cut(token);
+    let mut found = part_duration(part)?;
+    while let [_, more @ ..] = left {
+        let (part, behind) = cut(more);
+        let value = part_duration(part)?;
+        if found.is_none() {
+            found = value;
+        }
+        left = behind;
+    }
+    Ok(found)
+}
+
+/// The note of a data token.
+///
+/// # Errors
+/// K3 where a duration of it is refused.
+fn note(timed: bool, token: &[u8]) -> Result<Option<Frac>, KernFault>
+    ensures value { IfOk result (λ value. value ≡ note_of timed token.now) }
+    ensures read { OnOk result (is_misread timed token.now ≡ false) }
+    ensures refused { OnErr result (is_misread timed token.now ≡ true) }
+{
+    if timed && is_sounding(token) {
+        first_duration(token)
+    } else {
+        Ok(None)
+    }
+}
+
+/// Reads the notes of a data record's tokens; or answers a fault, K3, where a duration is refused.
+pub(crate) fn read_notes(
+    timed: &[bool],
+    row: &Record,
+    notes: &mut Vec<Option<Frac>>,
+) -> Result<Option<KernFault>, AllocError>
+    ensures { IfOk result (Read timed.now (tokens_of row.now) notes.new.items) }
+{
+    notes.clear();
+    for j in 0..timed.len().min(row.width()) {
+        match note(timed[j], row.token(j)) {
+            Ok(value) => notes.push(value)?,
+            Err(fault) => return Ok(Some(fault)),
+        }
+    }
+    Ok(None)
+}
