@@ -216,9 +216,9 @@ replaced_there bytes found p e there pitch =
     let parts : Notation = notation_of bytes in
     let h = found_in bytes found p e there in
     let text : take found.start bytes ++ (spelling (spelled pitch) ++ drop found.end bytes) ≡ parts.before ++ (spelling (spelled pitch) ++ parts.left) =
-        ap (λ (r : Reading). take r.start bytes ++ (spelling (spelled pitch) ++ drop r.end bytes)) h.is
-        ∙ ap (λ (xs : List ℕ). xs ++ (spelling (spelled pitch) ++ drop (length parts.before + length parts.letters + length parts.signs) bytes)) (before_is bytes parts h.are)
-        ∙ ap (λ (xs : List ℕ). parts.before ++ (spelling (spelled pitch) ++ xs)) (left_is bytes parts h.are) in
+    ap (λ (r : Reading). take r.start bytes ++ (spelling (spelled pitch) ++ drop r.end bytes)) h.is
+    ∙ ap (λ (xs : List ℕ). xs ++ (spelling (spelled pitch) ++ drop (length parts.before + length parts.letters + length parts.signs) bytes)) (before_is bytes parts h.are)
+    ∙ ap (λ (xs : List ℕ). parts.before ++ (spelling (spelled pitch) ++ xs)) (left_is bytes parts h.are) in
     ap note text
     ∙ placed parts.before parts.left (is_round bytes parts found p h) (spelled pitch) pitch.in_range
     ∙ ap (λ (m : Reading). Ok (with_pitch m (Some (spelled pitch)) (length parts.before) (length parts.before + length (spelling (spelled pitch))))) (sym (marks_round bytes parts h.are))

@@ -236,7 +236,11 @@ fn check_marks(rt: &impl Abort, row: Marked, pitched: bool) {
         Ok(note) => note,
         Err(fault) => panic!(rt; "{text:?} is refused: {fault:?}"),
     };
-    assert_eq!(rt; (note.rest, note.grace, note.continued), (rest, grace, continued), "{text:?}");
+    assert_eq!(rt;
+        (note.rest, note.grace, note.continued),
+        (rest, grace, continued),
+        "{text:?}"
+    );
     assert_eq!(rt; note.pitch.is_some(), pitched, "{text:?}");
     assert!(rt; pitched || note.start == 0 && note.end == 0, "{text:?}");
 }

@@ -55,6 +55,6 @@ has_retold options memories j token text before may is (Ok refused) h = λ retel
     tells retelling past follows =
         let there = told_by options.signless options.sizeonly before token text refused h in
         let known : minted options.signless options.sizeonly before token ≡ retelling.becomes (history past j) token =
-            ap (λ (b : Option Spelled). minted options.signless options.sizeonly b token) (before_is options memories j before may is retelling past follows)
-            ∙ ap (λ (x : Retelling). x.becomes (history past j) token) (sym follows.command) in
+        ap (λ (b : Option Spelled). minted options.signless options.sizeonly b token) (before_is options memories j before may is retelling past follows)
+        ∙ ap (λ (x : Retelling). x.becomes (history past j) token) (sym follows.command) in
         subst (λ (x : Result (List ℕ) Rule). Tells x text refused) known there

@@ -37,10 +37,10 @@ digits_of : (fuel n : ℕ) → n < fuel → n < 2 ^ 64 → AreDigits (decimal n)
 digits_of zero n below fits = absurd (omega (arith, below))
 digits_of (suc fuel) n below fits = elim (leb_tells 10 n) [
   | inl told ↦ (
-    let large = told.1 in
-    let more = digits_of fuel (n / 10) (omega (arith, below, large)) (omega (arith, fits, large)) in
-    rw (decimal_step n large fits) (record { all = push_all IsDigit (decimal (n / 10)) (48 + n % 10) more.all (record { low = omega arith; high = omega arith }); some = some_push (decimal (n / 10)) (48 + n % 10) })
-  )
+      let large = told.1 in
+      let more = digits_of fuel (n / 10) (omega (arith, below, large)) (omega (arith, fits, large)) in
+      rw (decimal_step n large fits) (record { all = push_all IsDigit (decimal (n / 10)) (48 + n % 10) more.all (record { low = omega arith; high = omega arith }); some = some_push (decimal (n / 10)) (48 + n % 10) })
+      )
   | inr small ↦ rw (decimal_digit n (omega (arith, small.1))) (record { all = (record { low = omega arith; high = omega (arith, small.1) }, tt); some = λ e. cc })
 ]
 
@@ -95,9 +95,15 @@ lacks_number c (negsuc n) low fits =
 lacks_sign : (c : ℕ) (n m : ℤ) → has_byte c (codes "*Trd") ≡ false → has_byte c (codes "c") ≡ false → c < 45 → mag n < 2 ^ 63 → mag m < 2 ^ 63
     → has_byte c (codes "*Trd" ++ (signed_decimal n ++ (codes "c" ++ signed_decimal m))) ≡ false
 lacks_sign c n m front middle low f g =
-    rw (list_any-append (λ x. x == c) (codes "*Trd") (signed_decimal n ++ (codes "c" ++ signed_decimal m)), front,
-    list_any-append (λ x. x == c) (signed_decimal n) (codes "c" ++ signed_decimal m), lacks_number c n low f,
-    list_any-append (λ x. x == c) (codes "c") (signed_decimal m), middle, lacks_number c m low g) refl
+    rw (
+      list_any-append (λ x. x == c) (codes "*Trd") (signed_decimal n ++ (codes "c" ++ signed_decimal m)),
+      front,
+      list_any-append (λ x. x == c) (signed_decimal n) (codes "c" ++ signed_decimal m),
+      lacks_number c n low f,
+      list_any-append (λ x. x == c) (codes "c") (signed_decimal m),
+      middle,
+      lacks_number c m low g,
+    ) refl
 
 steps_small : (z : ℤ) → IsWithin (negsuc 48) z (pos 49) → mag z < 2 ^ 63
 steps_small (pos n) within = omega (arith, ints)

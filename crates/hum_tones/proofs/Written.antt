@@ -106,15 +106,18 @@ adds_written part parts found before after are says is lawful some made = rw (�
 
     go : (value : Option Ratio) → found.value ≡ value → HasAdded (Ok (by_value value found part)) before after None
     go None e = absurd (some e)
-    go (Some value) e = (made, record {
-      part = record {
-        one_token = lacks_written 9 found part refl lawful.one_token;
-        one_line = lacks_written 13 found part refl lawful.one_line;
-        no_line_end = lacks_written 10 found part refl lawful.no_line_end;
-      };
-      filled = kind.1;
-      of_kind = kind.0;
-    })
+    go (Some value) e = (
+      made,
+      record {
+        part = record {
+          one_token = lacks_written 9 found part refl lawful.one_token;
+          one_line = lacks_written 13 found part refl lawful.one_line;
+          no_line_end = lacks_written 10 found part refl lawful.no_line_end;
+        };
+        filled = kind.1;
+        of_kind = kind.0;
+      },
+    )
 
 pub regrouped : (a w r s : List ℕ) → (a ++ w) ++ (r ++ s) ≡ a ++ ((w ++ r) ++ s)
 regrouped a w r s = append_assoc a w (r ++ s) ∙ ap (λ (x : List ℕ). a ++ x) (sym (append_assoc w r s))

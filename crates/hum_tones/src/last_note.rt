@@ -52,7 +52,13 @@ fn remembered_of(token: &[u8]) -> Option<Pitch>
     }
     match hear(token) {
         Ok(heard) => match heard.tone {
-            Some(tone) => { if tone.continued { None } else { Some(tone.pitch) } }
+            Some(tone) => {
+                if tone.continued {
+                    None
+                } else {
+                    Some(tone.pitch)
+                }
+            }
             None => None,
         },
         Err(_) => None,

@@ -7,5 +7,5 @@ abbrev pub invariant-loop-b : goal.invariant-loop-b
 invariant-loop-b l = record {
   rest : l.rest ≡ list_any is_rest_sign (take l.b-index l.bytes);
   grace : l.grace ≡ list_any is_grace_sign (take l.b-index l.bytes);
-  continued : l.continued ≡ list_any is_continued_sign (take l.b-index l.bytes)
+  continued : l.continued ≡ list_any is_continued_sign (take l.b-index l.bytes);
 }
