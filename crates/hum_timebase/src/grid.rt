@@ -179,7 +179,8 @@ impl Grid {
         ensures decided { IfOk result (Answers (sounding_rows self.old.pace.step self.old.clock
             self.old.timed.items (tokens_of row)) room out.new) }
         ensures clock { IfOk result (λ refused. refused ≡ None →
-            self.new.clock ≡ struck (notes_of self.old.timed.items (tokens_of row)) self.old.clock) }
+            self.new.clock
+            ≡ struck (notes_of self.old.timed.items (tokens_of row)) self.old.clock) }
         ensures rest { OnOk result (self.new
             ≡ record self.old { clock = self.new.clock; notes = self.new.notes }) }
     {

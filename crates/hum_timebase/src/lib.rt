@@ -30,8 +30,8 @@ use std::alloc::{AllocError, Global};
 /// The command timebase, as a stage.
 ///
 /// It refuses a record by K3 where a duration in a timed column can't be read; by B1 where it has
-/// data that are neither null nor barlines and no column is timed; by B2 where it has a note, and no
-/// note that sounds before it ends, or one in the note's own column goes on; by F1 where a
+/// data that are neither null nor barlines and no column is timed; by B2 where it has a note, and
+/// no note that sounds before it ends, or one in the note's own column goes on; by F1 where a
 /// note's end is no fraction of two numbers below 2^63; and by L2 what there is no room for.
 ///
 /// It keeps one end for each spine, and counts null records without making them before they are

@@ -182,14 +182,15 @@ fn stands_on_the_grid(rt: HostRuntime) -> Result<(), Fail> {
         (
             "24",
             "**kern & **kern / 12c & 8e / 12d & . / . & 8f / 12e & . / 4f & 4g / *- & *-",
-            "**kern & **kern / *tb24 & *tb24 / 12c & 8e / . & . / 12d & . / . & 8f / 12e & . / . & . \
-             / 4f & 4g / . & . / . & . / . & . / . & . / . & . / *- & *-",
+            "**kern & **kern / *tb24 & *tb24 / 12c & 8e / . & . / 12d & . / . & 8f / 12e & . \
+             / . & . / 4f & 4g / . & . / . & . / . & . / . & . / . & . / *- & *-",
         ),
         // two dots
         (
             "16",
             "**kern / 4..c / 16d / 2e / *-",
-            "**kern / *tb16 / 4..c / . / . / . / . / . / . / 16d / 2e / . / . / . / . / . / . / . / *-",
+            "**kern / *tb16 / 4..c / . / . / . / . / . / . / 16d / 2e / . / . / . / . / . / . / . \
+             / *-",
         ),
         // breves and longs
         (
@@ -213,8 +214,8 @@ fn stands_on_the_grid(rt: HostRuntime) -> Result<(), Fail> {
         (
             "8",
             "!!x / **kern & **dynam / !a & ! / 4c & f / . & p / =1 & =1 / . & . / 4d & f / *- & *-",
-            "!!x / **kern & **dynam / *tb8 & *tb8 / !a & ! / 4c & f / . & . / =1 & =1 / 4d & f / . & . \
-             / *- & *-",
+            "!!x / **kern & **dynam / *tb8 & *tb8 / !a & ! / 4c & f / . & . / =1 & =1 / 4d & f \
+             / . & . / *- & *-",
         ),
         // a column that is timed no longer
         (
