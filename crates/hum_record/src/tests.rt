@@ -3,7 +3,7 @@ ghost use Rattle.std.specs.Prelude.{◌≡◌, ◌≤◌, ◌<◌, ℕ, false, l
 ghost use Rattle.hum_record.specs.Spelling.{has_byte, IsToken};
 ghost use Rattle.hum_record.specs.declared.SpinedKind.TheVariants.{Values};
 
-use crate::{Kind, Record, RecordBuilder, RecordFault, SpinedKind};
+use crate::{Kind, Record, RecordBuilder, RecordFault, Spare, SpinedKind};
 use std::alloc::Global;
 use std::process::Abort;
 use std::test::Fail;
@@ -64,6 +64,39 @@ fn reads_more_tokens_than_fit_inline(rt: HostRuntime) -> Result<(), Fail> {
     check_read(&rt, alloc, text, Kind::Values, &tokens)
 }
 
+// The tabs of up to 7 bytes, of 8 to 15 and of 16 to 32 are found in three ways, and those of longer
+// texts in pieces of 32 bytes.
+#[test]
+fn reads_short_and_long_texts(rt: HostRuntime) -> Result<(), Fail> {
+    let alloc = rt.alloc();
+    let seven: [&'static [u8]; 2] = [b"12345", b"7"];
+    check_read(&rt, alloc, b"12345\t7", Kind::Values, &seven)?;
+    let eight: [&'static [u8]; 2] = [b"1", b"345678"];
+    check_read(&rt, alloc, b"1\t345678", Kind::Values, &eight)?;
+    let eleven: [&'static [u8]; 4] = [b"1", b"3", b"567", b"9AB"];
+    check_read(&rt, alloc, b"1\t3\t567\t9AB", Kind::Values, &eleven)?;
+    let sixteen: [&'static [u8]; 3] = [b"1234567", b"9ABCDE", b"G"];
+    check_read(&rt, alloc, b"1234567\t9ABCDE\tG", Kind::Values, &sixteen)?;
+    let some: [&'static [u8]; 4] = [b"123456789ABCDEF", b"H", b"JKLMNO", b"Q"];
+    check_read(&rt, alloc, b"123456789ABCDEF\tH\tJKLMNO\tQ", Kind::Values, &some)?;
+    let most: [&'static [u8]; 3] = [b"1", b"3456789ABCDEFGHIJKLMNOPQRSTUV", b"W"];
+    check_read(
+        &rt,
+        alloc,
+        b"1\t3456789ABCDEFGHIJKLMNOPQRSTUV\tW",
+        Kind::Values,
+        &most,
+    )?;
+    let more: [&'static [u8]; 3] = [b"123456789ABCDEFGHIJKLMNOPQRSTUV", b"X", b"Z"];
+    check_read(
+        &rt,
+        alloc,
+        b"123456789ABCDEFGHIJKLMNOPQRSTUV\tX\tZ",
+        Kind::Values,
+        &more,
+    )
+}
+
 fn fault_of(alloc: Global, text: &[u8]) -> Result<Option<RecordFault>, Fail>
     requires at_most { length text.now ≤ 1048576 }
     requires one_line { has_byte 10 text.now ≡ false }
@@ -102,6 +135,20 @@ fn builds_a_record(rt: HostRuntime) -> Result<(), Fail> {
     assert_eq!(rt; record.text(), b"!a\t!".as_slice());
     let tokens: [&'static [u8]; 2] = [b"!a", b"!"];
     check_tokens(&rt, &record, Kind::Local, &tokens);
+    Ok(())
+}
+
+#[test]
+fn nothing_of_a_spare_shows(rt: HostRuntime) -> Result<(), Fail> {
+    let alloc = rt.alloc();
+    let mut spare = Spare::none(alloc);
+    spare.keep(Record::parse(alloc, b"4c\t4e\t4g".to_vec(alloc)?)?);
+    let mut builder = RecordBuilder::reusing(alloc, SpinedKind::Interpretation, &mut spare);
+    builder.push(b"*")?;
+    let record = builder.finish();
+    assert_eq!(rt; record.text(), b"*".as_slice());
+    let tokens: [&'static [u8]; 1] = [b"*"];
+    check_tokens(&rt, &record, Kind::Interpretation, &tokens);
     Ok(())
 }
 
