@@ -1,12 +1,13 @@
 -- Timed columns, and the notes in their cells.
 use Rattle.std.specs.Prelude.{ℕ, ◌==◌, Bool, nat_eq, ◌&&◌, ◌||◌, not, List, [], ◌∷◌, map}
 use Rattle.std.specs.Prelude.{Option, None, Some, if◌then◌else◌}
-use Rattle.std.specs.List.{list_any, starts_with, slice_split}
+use Rattle.std.specs.List.{list_any, starts_with}
 use Rattle.std.specs.Str.{bytes_eq}
 use lib.Chars.{codes}
 use Rattle.hum_path.specs.Sign.{sign_of, is_exclusive}
 use Rattle.hum_path.specs.Spines.{Path, exclusives}
 use Rattle.hum_frac.specs.Ratio.{Ratio}
+pub use Rattle.hum_kern.specs.Subtokens.{subtokens}
 use Rattle.hum_kern.specs.Duration.{duration, value_in, is_refused}
 use Rattle.hum_timebase.specs.Pairs.{paired}
 
@@ -44,10 +45,6 @@ is_sounding token = not (is_null token || is_barline token)
 -- no token is sounding, and one is a barline
 abbrev pub is_barline_record : List (List ℕ) → Bool
 is_barline_record tokens = not (list_any is_sounding tokens) && list_any is_barline tokens
-
--- the parts of a token between its spaces
-abbrev pub subtokens : List ℕ → List (List ℕ)
-subtokens = slice_split (λ b. b == 32)
 
 -- the first of two, where there is one
 abbrev pub or_else : Option Ratio → Option Ratio → Option Ratio

@@ -1,15 +1,12 @@
--- The parts of a token, and a token that is made of what they give.
-use Rattle.std.specs.Prelude.{◌≡◌, ◌≢◌, ℕ, ◌==◌, false, List, [], ◌∷◌, ◌++◌}
+-- Tokens that are made of what their parts give.
+use Rattle.std.specs.Prelude.{◌≡◌, ◌≢◌, ℕ, false, List, [], ◌∷◌, ◌++◌}
 use Rattle.std.specs.Prelude.{Option, None, Some, Result, Ok, Err}
-use Rattle.std.specs.List.{slice_split, join_with_byte}
+use Rattle.std.specs.List.{join_with_byte}
 use lib.Chars.{codes}
 use Rattle.hum_record.specs.declared.SpinedKind.TheVariants.{Values}
 use Rattle.hum_record.specs.Spelling.{has_byte, kind_of_token, IsToken}
+pub use Rattle.hum_kern.specs.Subtokens.{subtokens}
 use Rattle.hum_stage.specs.declared.faults.Rule.{Rule}
-
--- a token's parts between single spaces; a part may be empty
-abbrev pub subtokens : List ℕ → List (List ℕ)
-subtokens = slice_split (λ b. b == 32)
 
 -- what some parts give, from what the first gives and what the others do
 abbrev pub with_first : Result (Option (List ℕ)) Rule → Result (List (List ℕ)) Rule
