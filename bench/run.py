@@ -61,34 +61,37 @@ def best_of(programs):
     return runs
 
 
-def plain_programs(score):
-    """The plain programs in Rust by name, each with its words for a score; none where there is no rustc."""
-    programs = {}
-    for name in ('filter', 'semits') if shutil.which('rustc') else ():
-        binary = os.path.join(DATA, name)
-        source = os.path.join(HERE, name + '.rs')
-        if not os.path.exists(binary) or os.path.getmtime(binary) < os.path.getmtime(source):
-            subprocess.run(['rustc', '-O', '-o', binary, source], check=True)
-        programs[name] = [(f'plain {name} (Rust)', [binary, score])]
-    return programs
+def plain(name, score):
+    """The plain program in Rust of this name with its words for a score, as a list; none where there is no rustc."""
+    if not shutil.which('rustc'):
+        return []
+    binary = os.path.join(DATA, name)
+    source = os.path.join(HERE, name + '.rs')
+    if not os.path.exists(binary) or os.path.getmtime(binary) < os.path.getmtime(source):
+        subprocess.run(['rustc', '-O', '-o', binary, source], check=True)
+    return [(f'plain {name} (Rust)', [binary, score])]
 
 
-def tasks(score):
-    """Each command with its words in a plan, and the programs beside it."""
-    plain = plain_programs(score)
+def tasks(score, steady):
+    """Each command with the score that it reads and the programs beside it."""
     return [
-        ('rid -G', [('grep -v', ['grep', '-v', '^!!', score]), ('mawk', ['mawk', '!/^!!/', score])] + plain.get('filter', [])),
-        ('extract -f 1,3', [('cut', ['cut', '-f', '1,3', score]), ('mawk', ['mawk', EXTRACT, score])]),
-        ('ditto', [('mawk', ['mawk', DITTO, score])]),
-        ('semits -x', [('mawk', ['mawk', '-f', os.path.join(HERE, 'semits.awk'), score])] + plain.get('semits', [])),
+        ('rid -G', score, [('grep -v', ['grep', '-v', '^!!', score]), ('mawk', ['mawk', '!/^!!/', score])] + plain('filter', score)),
+        ('extract -f 1,3', score, [('cut', ['cut', '-f', '1,3', score]), ('mawk', ['mawk', EXTRACT, score])]),
+        ('ditto', score, [('mawk', ['mawk', DITTO, score])]),
+        ('semits -x', score, [('mawk', ['mawk', '-f', os.path.join(HERE, 'semits.awk'), score])] + plain('semits', score)),
+        ('timebase -t 16', steady, plain('timebase', steady)),
     ]
 
 
-def run(size):
-    score = os.path.join(DATA, f'score{size}.krn')
+def made_score(size, *kind):
+    score = os.path.join(DATA, '_'.join((f'score{size}', *kind)) + '.krn')
     if not os.path.exists(score):
-        subprocess.run([sys.executable, os.path.join(HERE, 'make_score.py'), str(size), score], check=True)
-    for command, peers in tasks(score):
+        subprocess.run([sys.executable, os.path.join(HERE, 'make_score.py'), str(size), score, *kind], check=True)
+    return score
+
+
+def run(size):
+    for command, score, peers in tasks(made_score(size), made_score(size, 'steady')):
         plan = os.path.join(DATA, 'plan.hpl')
         with open(plan, 'w') as out:
             out.write(f'out: read {score} | {command}\n')
