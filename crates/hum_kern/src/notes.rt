@@ -152,9 +152,9 @@ fn marks(bytes: &[u8]) -> Note
     let mut grace = false;
     let mut continued = false;
     for b in bytes {
-        rest = rest || *b == b'r';
-        grace = grace || *b == b'q' || *b == b'Q';
-        continued = continued || *b == b'_' || *b == b']';
+        rest |= *b == b'r';
+        grace |= *b == b'q' || *b == b'Q';
+        continued |= *b == b'_' || *b == b']';
     }
     Note {
         pitch: None,

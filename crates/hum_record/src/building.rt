@@ -69,6 +69,7 @@ impl RecordBuilder {
     ///
     /// The fault is [`RecordFault::L1`] where the text would pass 1,048,576 bytes. The builder is
     /// then as it was.
+    #[inline]
     pub fn push(&mut self, token: &[u8]) -> Result<(), RecordFault>
         requires { IsToken self.old.kind token.now }
         ensures pushed { OnOk result
@@ -109,6 +110,7 @@ impl RecordBuilder {
 }
 
 /// Whether a token may still be added.
+#[inline]
 fn has_room(text: &[u8], ends: &[u32], token: &[u8]) -> bool
     requires { length text.now ≤ 1048576 }
     ensures { result
@@ -122,6 +124,7 @@ fn has_room(text: &[u8], ends: &[u32], token: &[u8]) -> bool
 }
 
 /// Adds a token behind the others, and a tab before it if there are any.
+#[inline]
 fn append(text: &mut Vec<u8>, ends: &mut Vec<u32>, token: &[u8]) -> Result<(), AllocError>
     requires { length text.old.items + length token.now < 2 ^ 31 }
     ensures text { OnOk result
