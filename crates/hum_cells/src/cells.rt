@@ -31,12 +31,7 @@ pub struct Cells<T> {
 }
 
 /// Puts what was decided of a record. One that gives way to another is done with.
-fn put(
-    row: Record,
-    told: Told,
-    spare: &mut Spare,
-    out: &mut UpToTwo,
-) -> Option<Rule>
+fn put(row: Record, told: Told, spare: &mut Spare, out: &mut UpToTwo) -> Option<Rule>
     ensures { Puts (decision row told) out.new result }
 {
     match told {

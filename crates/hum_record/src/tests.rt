@@ -78,7 +78,13 @@ fn reads_short_and_long_texts(rt: HostRuntime) -> Result<(), Fail> {
     let sixteen: [&'static [u8]; 3] = [b"1234567", b"9ABCDE", b"G"];
     check_read(&rt, alloc, b"1234567\t9ABCDE\tG", Kind::Values, &sixteen)?;
     let some: [&'static [u8]; 4] = [b"123456789ABCDEF", b"H", b"JKLMNO", b"Q"];
-    check_read(&rt, alloc, b"123456789ABCDEF\tH\tJKLMNO\tQ", Kind::Values, &some)?;
+    check_read(
+        &rt,
+        alloc,
+        b"123456789ABCDEF\tH\tJKLMNO\tQ",
+        Kind::Values,
+        &some,
+    )?;
     let most: [&'static [u8]; 3] = [b"1", b"3456789ABCDEFGHIJKLMNOPQRSTUV", b"W"];
     check_read(
         &rt,

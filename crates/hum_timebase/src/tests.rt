@@ -65,8 +65,7 @@ fn read(rt: &impl Abort, alloc: Global, text: &[u8]) -> Result<Record, Fail> {
 }
 
 // The step that a text writes.
-fn step(alloc: Global, text: &[u8]) -> Result<TimebaseOptions, Fail>
-{
+fn step(alloc: Global, text: &[u8]) -> Result<TimebaseOptions, Fail> {
     let text = text.to_vec(alloc)?;
     let step = read_recip(&text)?;
     Ok(TimebaseOptions { step, text })
