@@ -61,25 +61,26 @@ def best_of(programs):
     return runs
 
 
-def plain(name, score):
-    """The plain program in Rust of this name with its words for a score, as a list; none where there is no rustc."""
+def rust(name, score):
+    """The program in Rust of this name beside this one, with its words for a score, as a list; none where there is no rustc."""
     if not shutil.which('rustc'):
         return []
     binary = os.path.join(DATA, name)
     source = os.path.join(HERE, name + '.rs')
     if not os.path.exists(binary) or os.path.getmtime(binary) < os.path.getmtime(source):
         subprocess.run(['rustc', '-O', '-o', binary, source], check=True)
-    return [(f'plain {name} (Rust)', [binary, score])]
+    return [(f'{name}.rs', [binary, score])]
 
 
 def tasks(score, steady):
     """Each command with the score that it reads and the programs beside it."""
     return [
-        ('rid -G', score, [('grep -v', ['grep', '-v', '^!!', score]), ('mawk', ['mawk', '!/^!!/', score])] + plain('filter', score)),
+        ('rid -G', score, [('grep -v', ['grep', '-v', '^!!', score]), ('mawk', ['mawk', '!/^!!/', score])] + rust('filter', score)),
         ('extract -f 1,3', score, [('cut', ['cut', '-f', '1,3', score]), ('mawk', ['mawk', EXTRACT, score])]),
         ('ditto', score, [('mawk', ['mawk', DITTO, score])]),
-        ('semits -x', score, [('mawk', ['mawk', '-f', os.path.join(HERE, 'semits.awk'), score])] + plain('semits', score)),
-        ('timebase -t 16', steady, plain('timebase', steady)),
+        ('semits -x', score, [('mawk', ['mawk', '-f', os.path.join(HERE, 'semits.awk'), score])]
+         + rust('semits', score) + rust('semits_bytes', score)),
+        ('timebase -t 16', steady, rust('timebase', steady)),
     ]
 
 

@@ -1,88 +1,52 @@
-// semits in plain Rust: the columns are those of the opening record, no spine is followed and nothing is refused.
+// semits in Rust as one would first write it: lines as strings, tokens and parts as iterators, a new line joined from them.
+// The columns are those of the opening record, no spine is followed and nothing is refused.
 use std::io::{self, BufRead, BufReader, BufWriter, Write};
 
 // The semitones of the first pitch of a subtoken.
-fn semits(part: &[u8]) -> Option<i32> {
-    let start = part.iter().position(|b| matches!(b, b'a'..=b'g' | b'A'..=b'G'))?;
-    let letter = part[start];
-    let count = part[start..].iter().take_while(|b| **b == letter).count();
-    let natural = match letter.to_ascii_lowercase() {
-        b'c' => 0,
-        b'd' => 2,
-        b'e' => 4,
-        b'f' => 5,
-        b'g' => 7,
-        b'a' => 9,
-        _ => 11,
-    };
-    let octave = if letter.is_ascii_lowercase() { count as i32 - 1 } else { -(count as i32) };
-    let mut semits = natural + 12 * octave;
-    for sign in &part[start + count..] {
-        match sign {
-            b'#' => semits += 1,
-            b'-' => semits -= 1,
-            b'n' => {}
-            _ => break,
-        }
-    }
-    Some(semits)
+fn semits(part: &str) -> Option<i32> {
+    let start = part.find(|c| matches!(c, 'a'..='g' | 'A'..='G'))?;
+    let letter = part[start..].chars().next()?;
+    let behind = part[start..].trim_start_matches(letter);
+    let count = (part.len() - start - behind.len()) as i32;
+    let natural = [0, 2, 4, 5, 7, 9, 11]["cdefgab".find(letter.to_ascii_lowercase())?];
+    let octave = if letter.is_ascii_lowercase() { count - 1 } else { -count };
+    let signs = &behind[..behind.len() - behind.trim_start_matches(['#', '-', 'n']).len()];
+    let sharps = signs.matches('#').count() as i32;
+    let flats = signs.matches('-').count() as i32;
+    Some(natural + 12 * octave + sharps - flats)
 }
 
-fn write_token(token: &[u8], output: &mut impl Write) -> io::Result<()> {
-    if token == b"." || token.starts_with(b"=") {
-        return output.write_all(token);
+fn retold(token: &str) -> String {
+    if token == "." || token.starts_with('=') {
+        return token.to_string();
     }
-    let mut is_first = true;
-    for part in token.split(|b| *b == b' ') {
-        let rest = part.contains(&b'r');
-        let number = if rest { None } else { semits(part) };
-        if !rest && number.is_none() {
-            continue;
-        }
-        if !is_first {
-            output.write_all(b" ")?;
-        }
-        is_first = false;
-        match number {
-            None => output.write_all(b"r")?,
-            Some(number) => write!(output, "{number}")?,
-        }
-    }
-    if is_first { output.write_all(b".") } else { Ok(()) }
+    let parts: Vec<String> = token
+        .split(' ')
+        .filter_map(|part| if part.contains('r') { Some("r".to_string()) } else { semits(part).map(|n| n.to_string()) })
+        .collect();
+    if parts.is_empty() { ".".to_string() } else { parts.join(" ") }
 }
 
 fn main() -> io::Result<()> {
     let path = std::env::args().nth(1).expect("a file");
-    let mut input = BufReader::with_capacity(65536, std::fs::File::open(path)?);
-    let mut output = BufWriter::with_capacity(65536, io::stdout().lock());
-    let mut line = Vec::new();
+    let input = BufReader::new(std::fs::File::open(path)?);
+    let mut output = BufWriter::new(io::stdout().lock());
     let mut kern: Vec<bool> = Vec::new();
-    loop {
-        line.clear();
-        if input.read_until(b'\n', &mut line)? == 0 {
-            return output.flush();
+    for line in input.lines() {
+        let line = line?;
+        if line.starts_with("**") {
+            kern = line.split('\t').map(|token| token == "**kern").collect();
+            writeln!(output, "{}", line.replace("**kern", "**semits"))?;
+        } else if line.starts_with('!') || line.starts_with('*') {
+            writeln!(output, "{line}")?;
+        } else {
+            let tokens: Vec<String> = line
+                .split('\t')
+                .enumerate()
+                .map(|(j, token)| if kern.get(j) == Some(&true) { retold(token) } else { token.to_string() })
+                .collect();
+            writeln!(output, "{}", tokens.join("\t"))?;
         }
-        let text = line.strip_suffix(b"\n").unwrap_or(&line);
-        if text.starts_with(b"!") {
-            output.write_all(&line)?;
-            continue;
-        }
-        let is_data = !text.starts_with(b"*");
-        for (j, token) in text.split(|b| *b == b'\t').enumerate() {
-            if j > 0 {
-                output.write_all(b"\t")?;
-            }
-            if token.starts_with(b"**") {
-                kern.push(token == b"**kern");
-            }
-            if token == b"**kern" {
-                output.write_all(b"**semits")?;
-            } else if is_data && kern.get(j) == Some(&true) {
-                write_token(token, &mut output)?;
-            } else {
-                output.write_all(token)?;
-            }
-        }
-        output.write_all(b"\n")?;
     }
+    output.flush()
 }
