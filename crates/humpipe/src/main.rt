@@ -11,9 +11,13 @@ mod note_tests;
 mod options;
 mod outcome;
 mod plan;
+#[cfg(test)]
+mod rows;
 mod run;
 #[cfg(test)]
 mod tests;
+mod values;
+mod words;
 mod writing;
 
 use crate::bundle::LARGEST_BUNDLE;

@@ -1,11 +1,6 @@
 //! Worked scores through the commands on notes: what is put in, what is written, what is told.
-use crate::first::run_bundle;
-use hum_text::calls::Marked;
-use std::alloc::Global;
-use std::process::Abort;
+use crate::rows::{Row, check};
 use std::test::Fail;
-
-type Row = (&'static [u8], &'static [u8], &'static str);
 
 const TRANS: [Row; 16] = [
     (
@@ -396,17 +391,6 @@ const TIMEBASE: [Row; 17] = [
         "humpipe: plan not supported",
     ),
 ];
-
-fn check(rt: &impl Abort, alloc: Global, rows: &[Row]) -> Result<(), Fail> {
-    for (bundle, text, told) in rows {
-        let mut sink = Marked::new(Vec::new(alloc));
-        let outcome = run_bundle(alloc, *bundle, &mut sink);
-        let line = format!(in alloc; "{outcome}")?;
-        assert_eq!(rt; line.as_str(), *told, "{bundle:?}");
-        assert_eq!(rt; sink.into_inner().as_slice(), *text, "{bundle:?}");
-    }
-    Ok(())
-}
 
 #[test]
 fn transposed(rt: HostRuntime) -> Result<(), Fail> {

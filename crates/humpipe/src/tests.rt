@@ -1,14 +1,14 @@
 //! Whole bundles, and sources and sinks that fail.
 use crate::first::{run_bundle, run_source};
 use crate::options::CommandOptions;
+use crate::rows::{Row, check};
 use hum_rid::RidOptions;
 use hum_text::calls::Marked;
 use std::alloc::Global;
 use std::io::{self, Error, ErrorKind, Read, Write};
 use std::test::Fail;
 
-// The bundle of a plan and a score, its text, and the line that the program tells.
-const ROWS: [(&[u8], &[u8], &str); 40] = [
+const ROWS: [Row; 40] = [
     (b"out: read a | rid -G\n--- a\n", b"", ""),
     (
         b"out: read a | rid -G\n--- a\n!!x\n**kern\n4c\n!!y\n*-\n",
@@ -209,14 +209,7 @@ const ROWS: [(&[u8], &[u8], &str); 40] = [
 
 #[test]
 fn bundles(rt: HostRuntime) -> Result<(), Fail> {
-    for (bundle, text, told) in ROWS {
-        let mut sink = Marked::new(Vec::new(rt.alloc()));
-        let outcome = run_bundle(rt.alloc(), bundle, &mut sink);
-        let line = format!(in rt.alloc(); "{outcome}")?;
-        assert_eq!(rt; line.as_str(), told, "{bundle:?}");
-        assert_eq!(rt; sink.into_inner().as_slice(), text, "{bundle:?}");
-    }
-    Ok(())
+    check(&rt, rt.alloc(), &ROWS)
 }
 
 // A line of 1,048,576 bytes passes, and one of a byte more is refused before anything is written.

@@ -1,0 +1,21 @@
+//! Worked rows: bundles that are run, and what comes of them.
+use crate::first::run_bundle;
+use hum_text::calls::Marked;
+use std::alloc::Global;
+use std::process::Abort;
+use std::test::Fail;
+
+/// A bundle, the text that is written, and the line that is told.
+pub type Row = (&'static [u8], &'static [u8], &'static str);
+
+/// Runs bundles, and fails where another text is written or another line is told.
+pub fn check(rt: &impl Abort, alloc: Global, rows: &[Row]) -> Result<(), Fail> {
+    for (bundle, text, told) in rows {
+        let mut sink = Marked::new(Vec::new(alloc));
+        let outcome = run_bundle(alloc, *bundle, &mut sink);
+        let line = format!(in alloc; "{outcome}")?;
+        assert_eq!(rt; line.as_str(), *told, "{bundle:?}");
+        assert_eq!(rt; sink.into_inner().as_slice(), *text, "{bundle:?}");
+    }
+    Ok(())
+}
