@@ -1,5 +1,4 @@
 mod Examples
-pub mod Drafts
 pub mod Framing
 pub mod Headings
 pub mod Keeping

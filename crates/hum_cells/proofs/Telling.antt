@@ -15,7 +15,7 @@ use Rattle.hum_path.specs.Chains.{columns}
 use Rattle.hum_path.proofs.Widths.{columns_width, text_width}
 use Rattle.hum_stage.specs.declared.faults.Rule.{Rule}
 use Rattle.hum_stage.specs.declared.faults.Rule.TheVariants.{L1}
-use Rattle.hum_cells.specs.Making.{Holds}
+use Rattle.hum_record.specs.Making.{Holds}
 use Rattle.hum_cells.specs.Telling.{Pushes}
 use Rattle.hum_cells.specs.Retelling.{Retelling, is_kern, kern_columns, is_told, any_told, retold, beside, all_retold, if_fit, data_record, retell}
 

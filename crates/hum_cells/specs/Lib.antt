@@ -1,4 +1,3 @@
 pub mod Retelling
 pub mod Telling
-pub mod Making
 pub mod Samples

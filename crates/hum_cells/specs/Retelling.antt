@@ -8,6 +8,7 @@ use lib.Chars.{codes}
 use Rattle.hum_record.specs.declared.SpinedKind.TheVariants.{Local, Interpretation, Values}
 use Rattle.hum_record.specs.Row.{Row, Comment, Spined, text_of}
 use Rattle.hum_record.specs.Spelling.{IsToken}
+use Rattle.hum_record.specs.Contents.{is_null, is_barline}
 use Rattle.hum_path.specs.Sign.{sign_of, is_exclusive, is_plain}
 use Rattle.hum_path.specs.Spines.{exclusives}
 use Rattle.hum_path.specs.Score.{path_after}
@@ -37,12 +38,6 @@ is_kern = bytes_eq (codes "**kern")
 -- after records, the newest first: for each column, whether it is under **kern
 abbrev pub kern_columns : List Row → List Bool
 kern_columns past = map is_kern (exclusives (path_after past))
-
-abbrev pub is_null : List ℕ → Bool
-is_null = bytes_eq (codes ".")
-
-abbrev pub is_barline : List ℕ → Bool
-is_barline token = starts_with nat_eq token (codes "=")
 
 -- whether a data token of a kern column is told anew
 abbrev pub is_told : List ℕ → Bool

@@ -6,12 +6,11 @@ ghost use Rattle.hum_record.specs.declared.SpinedKind.TheVariants.{Interpretatio
 ghost use Rattle.hum_record.specs.Row.{tokens_of, kind_of};
 ghost use Rattle.hum_cells.specs.Retelling.{is_kern, headed, IsHeading};
 ghost use Rattle.hum_cells.specs.Telling.{shown};
-ghost use Rattle.hum_cells.specs.Making.{IsMade};
+ghost use Rattle.hum_record.specs.Making.{IsMade};
 
-use crate::making::Making;
 use crate::retells::Heading;
 use hum_path::Paths;
-use hum_record::{Record, Spare, SpinedKind};
+use hum_record::{Making, Record, Spare, SpinedKind};
 use std::alloc::{AllocError, Global};
 
 /// Whether an exclusive interpretation is `**kern`.

@@ -9,7 +9,6 @@
 
 mod cells;
 mod heading;
-mod making;
 mod retells;
 mod stage;
 mod tokens;

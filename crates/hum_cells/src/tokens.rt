@@ -6,12 +6,11 @@ ghost use Rattle.hum_record.specs.Row.{tokens_of, width_of, kind_of};
 ghost use Rattle.hum_record.specs.Spelling.{IsToken};
 ghost use Rattle.hum_cells.specs.Retelling.{is_told, any_told};
 ghost use Rattle.hum_cells.specs.Telling.{MayRetell, HasPushed, MayTell, HasTold};
-ghost use Rattle.hum_cells.specs.Making.{Holds};
+ghost use Rattle.hum_record.specs.Making.{Holds};
 
-use crate::making::Making;
 use crate::retells::Retells;
 use crate::told::Told;
-use hum_record::{Record, Spare, SpinedKind};
+use hum_record::{Making, Record, Spare, SpinedKind, is_barline, is_null};
 use hum_stage::Rule;
 use std::alloc::{AllocError, Global};
 
@@ -20,7 +19,7 @@ use std::alloc::{AllocError, Global};
 fn is_told(token: &[u8]) -> bool
     ensures { result ≡ is_told token.now }
 {
-    token != b".".as_slice() && !token.starts_with(b"=")
+    !is_null(token) && !is_barline(token)
 }
 
 /// The same of a token of a column that may be under `**kern`.

@@ -18,7 +18,8 @@ use Rattle.hum_stage.specs.declared.faults.Rule.{Rule}
 use Rattle.hum_stage.specs.declared.faults.Rule.TheVariants.{L1}
 use Rattle.hum_stage.specs.Decided.{in_room}
 use Rattle.hum_ditto.specs.declared.DittoOptions.{DittoOptions}
-use Rattle.hum_ditto.specs.Ditto.{is_null, all_filled, if_fits}
+use Rattle.hum_record.specs.Contents.{is_null}
+use Rattle.hum_ditto.specs.Ditto.{all_filled, if_fits}
 use Rattle.hum_ditto.specs.Memory.{last_seen, Follows}
 use Rattle.hum_ditto.proofs.Nearest.{all_remembered}
 use Rattle.hum_ditto.proofs.Tokens.{nothing_filled}

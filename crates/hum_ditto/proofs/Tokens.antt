@@ -6,7 +6,8 @@ use Rattle.std.proofs.lemmas.Bool.{or_parts}
 use Rattle.std.proofs.lemmas.List.{drop_all}
 use Rattle.hum_record.specs.Building.{spelled}
 use Rattle.hum_record.proofs.Drafts.{spelled_front}
-use Rattle.hum_ditto.specs.Ditto.{is_null, filled, all_filled}
+use Rattle.hum_record.specs.Contents.{is_null}
+use Rattle.hum_ditto.specs.Ditto.{filled, all_filled}
 
 none_filled : (parentheses : Bool) (sources : List (Option (List ℕ))) → all_filled parentheses sources [] ≡ []
 none_filled parentheses [] = refl

@@ -2,11 +2,10 @@
 use Rattle.std.specs.Prelude.{ℕ, Bool, false, not, ◌&&◌, nat_le, List, [], ◌∷◌, ◌++◌, map, length}
 use Rattle.std.specs.Prelude.{Option, None, Some, Result, Ok, Err, if◌then◌else◌}
 use Rattle.std.specs.List.{find}
-use Rattle.std.specs.Str.{bytes_eq}
 use lib.Chars.{codes}
 use Rattle.hum_record.specs.declared.SpinedKind.TheVariants.{Values}
 use Rattle.hum_record.specs.Row.{Row, Comment, Spined, text_of}
-use Rattle.hum_record.specs.Spelling.{kind_of_token, same_kind}
+use Rattle.hum_record.specs.Contents.{is_data, is_null}
 use Rattle.hum_path.specs.Chains.{reach, columns}
 use Rattle.hum_pattern.specs.Meaning.{matched}
 use Rattle.hum_stage.specs.declared.faults.Rule.{Rule}
@@ -15,13 +14,6 @@ use Rattle.hum_stage.specs.declared.faults.Command.TheVariants.{Ditto}
 use Rattle.hum_stage.specs.Meaning.{Meaning}
 use Rattle.hum_stage.specs.Decided.{at_once}
 use Rattle.hum_ditto.specs.declared.DittoOptions.{DittoOptions}
-
--- whether a token is data, and not an interpretation or a comment
-abbrev pub is_data : List ℕ → Bool
-is_data token = same_kind (kind_of_token token) Values
-
-abbrev pub is_null : List ℕ → Bool
-is_null = bytes_eq (codes ".")
 
 -- whether a token has a match of the pattern whose tokens are never repeated, if there is one
 abbrev pub is_skipped : Option (List ℕ) → List ℕ → Bool

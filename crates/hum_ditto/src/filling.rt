@@ -8,11 +8,12 @@ ghost use Rattle.hum_record.specs.declared.RecordFault.TheVariants.{Memory};
 ghost use Rattle.hum_record.specs.Row.{Spined, tokens_of, width_of, kind_of, text_of};
 ghost use Rattle.hum_record.specs.Spelling.{IsToken};
 ghost use Rattle.hum_record.specs.Building.{spelled};
-ghost use Rattle.hum_ditto.specs.Ditto.{is_null, written, filled, all_filled};
+ghost use Rattle.hum_record.specs.Contents.{is_null};
+ghost use Rattle.hum_ditto.specs.Ditto.{written, filled, all_filled};
 
-use crate::last_seen::{LastSeen, is_null};
+use crate::last_seen::LastSeen;
 use hum_path::Carried;
-use hum_record::{Kind, Record, RecordBuilder, RecordFault, Spare, SpinedKind};
+use hum_record::{Kind, Record, RecordBuilder, RecordFault, Spare, SpinedKind, is_null};
 use std::alloc::{AllocError, Global};
 
 /// Whether a record has a null data token.

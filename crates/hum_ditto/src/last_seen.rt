@@ -1,32 +1,15 @@
 //! The token that a null token would repeat.
 ghost use Rattle.std.specs.Prelude.{◌≡◌, true, IfSome, option_map};
 ghost use Rattle.hum_record.specs.Spelling.{IsToken};
+ghost use Rattle.hum_record.specs.Contents.{is_data, is_null};
 ghost use Rattle.hum_record.specs.declared.SpinedKind.TheVariants.{Values};
-ghost use Rattle.hum_ditto.specs.Ditto.{is_data, is_null, is_skipped, may_repeat};
+ghost use Rattle.hum_ditto.specs.Ditto.{is_skipped, may_repeat};
 
 use hum_path::ColumnMemory;
 use hum_pattern::Pattern;
+use hum_record::{is_data, is_null};
 use std::alloc::{AllocError, Global};
 use std::marker::Model;
-
-/// Whether a token is data, and not an interpretation or a comment.
-#[inline]
-fn is_data(token: &[u8]) -> bool
-    ensures { result ≡ is_data token.now }
-{
-    match token.first() {
-        Some(byte) => *byte != b'!' && *byte != b'*',
-        None => true,
-    }
-}
-
-/// Whether a token is a null data token.
-#[inline]
-pub(crate) fn is_null(token: &[u8]) -> bool
-    ensures { result ≡ is_null token.now }
-{
-    token == b".".as_slice()
-}
 
 /// Whether a token has a match of the pattern, if there is one.
 fn is_skipped(skip: &mut Option<Pattern>, token: &[u8]) -> bool
@@ -58,6 +41,7 @@ pub struct LastSeen {
 impl Model for LastSeen {
     ghost use Rattle.std.specs.Prelude.{◌≡◌, true, ℕ, List, Option};
     ghost use Rattle.hum_record.specs.Spelling.{IsToken};
+ghost use Rattle.hum_record.specs.Contents.{is_data, is_null};
     ghost use Rattle.hum_record.specs.declared.SpinedKind.TheVariants.{Values};
     ghost use Rattle.hum_ditto.specs.Memory.{held_in};
 

@@ -6,3 +6,4 @@ pub mod Places
 pub mod Cuts
 pub mod Laws
 pub mod Drafts
+pub mod TooLong

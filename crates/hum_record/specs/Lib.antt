@@ -3,3 +3,5 @@ pub mod Spelling
 pub mod Fields
 pub mod Cutting
 pub mod Building
+pub mod Making
+pub mod Contents

@@ -6,7 +6,8 @@
 //! neither). The rules are those of the Humdrum Toolkit's reference manual, in its chapter on the
 //! syntax (<https://www.humdrum.org/guide/ch05/>).
 //!
-//! [`Record::parse`] reads a line, and [`RecordBuilder`] makes a record token by token.
+//! [`Record::parse`] reads a line, and [`RecordBuilder`] makes a record token by token; [`Making`] does
+//! so where the record may grow too long.
 #![tactic(auto)]
 
 ghost use Rattle.std.specs.Prelude.{◌≡◌};
@@ -15,11 +16,15 @@ ghost use Rattle.hum_record.specs.declared.RecordFault.TheVariants.{Memory};
 
 mod bits;
 mod building;
+mod contents;
+mod making;
 mod reading;
 mod spare;
 mod tokens;
 
 pub use building::RecordBuilder;
+pub use contents::{is_barline, is_data, is_filled, is_null};
+pub use making::Making;
 pub use reading::Record;
 pub use spare::Spare;
 use std::alloc::{AllocError, AllocFailed};

@@ -26,7 +26,8 @@ use Rattle.hum_stage.specs.Score.{through, Follow}
 use Rattle.hum_stage.specs.Meaning.{KeepsScore}
 use Rattle.hum_stage.specs.Decided.{decisions, limit}
 use Rattle.hum_stage.proofs.Keeping.{at_once_keeps}
-use Rattle.hum_timebase.specs.Notes.{timed_in, is_null, is_barline_record, notes_of, has_misread}
+use Rattle.hum_record.specs.Contents.{is_null}
+use Rattle.hum_timebase.specs.Notes.{timed_in, is_barline_record, notes_of, has_misread}
 use Rattle.hum_timebase.specs.Ends.{latest, next_end, living_before}
 use Rattle.hum_timebase.specs.Clock.{Clock, clock_after, time_after}
 use Rattle.hum_timebase.specs.Timebase.{Pace, timebase, data_rows, timed_rows, on_grid, around, null_row, clashes, is_too_long, living_at, names_some, tb_token, tb_row, interpretation_rows}

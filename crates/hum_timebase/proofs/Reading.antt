@@ -3,7 +3,8 @@ use Rattle.std.proofs.Common.{◌≡◌, ◌∙◌, ℕ, zero, suc, ◌+◌, ◌
 use Rattle.std.specs.Prelude.{◌&&◌, ◌||◌, not, is_some, if◌then◌else◌}
 use Rattle.std.specs.List.{list_any, list_all}
 use Rattle.std.proofs.lemmas.Bool.{or_parts}
-use Rattle.hum_timebase.specs.Notes.{is_timed, own_name, own_names, is_null, is_barline, is_sounding, note_of, notes_of}
+use Rattle.hum_record.specs.Contents.{is_null, is_barline}
+use Rattle.hum_timebase.specs.Notes.{is_timed, own_name, own_names, is_sounding, note_of, notes_of}
 use Rattle.hum_timebase.specs.Reading.{content_of}
 use Rattle.hum_timebase.specs.declared.notes.Content.TheVariants.{Nulls, Barlines, Sounds}
 

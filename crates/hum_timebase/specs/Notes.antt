@@ -1,9 +1,10 @@
 -- Timed columns, and the notes in their cells.
 use Rattle.std.specs.Prelude.{ℕ, ◌==◌, Bool, nat_eq, ◌&&◌, ◌||◌, not, List, [], ◌∷◌, map}
 use Rattle.std.specs.Prelude.{Option, None, Some, if◌then◌else◌}
-use Rattle.std.specs.List.{list_any, starts_with}
+use Rattle.std.specs.List.{list_any}
 use Rattle.std.specs.Str.{bytes_eq}
 use lib.Chars.{codes}
+use Rattle.hum_record.specs.Contents.{is_null, is_barline}
 use Rattle.hum_path.specs.Sign.{sign_of, is_exclusive}
 use Rattle.hum_path.specs.Spines.{Path, exclusives}
 use Rattle.hum_frac.specs.Ratio.{Ratio}
@@ -31,12 +32,6 @@ own_names (name ∷ names) (token ∷ tokens) = own_name name token ∷ own_name
 -- which cells of an interpretation stand in timed columns
 abbrev pub timed_at : Path → List (List ℕ) → List Bool
 timed_at path tokens = map is_timed (own_names (exclusives path) tokens)
-
-abbrev pub is_null : List ℕ → Bool
-is_null token = bytes_eq token (codes ".")
-
-abbrev pub is_barline : List ℕ → Bool
-is_barline token = starts_with nat_eq token (codes "=")
 
 -- neither null nor a barline
 abbrev pub is_sounding : List ℕ → Bool

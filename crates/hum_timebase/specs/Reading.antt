@@ -6,7 +6,8 @@ use Rattle.hum_frac.specs.Ratio.{Ratio}
 use Rattle.hum_kern.specs.declared.KernFault.{KernFault}
 use Rattle.hum_timebase.specs.declared.notes.Content.{Content}
 use Rattle.hum_timebase.specs.declared.notes.Content.TheVariants.{Nulls, Barlines, Sounds}
-use Rattle.hum_timebase.specs.Notes.{is_barline, is_sounding, subtokens, notes_of, has_misread}
+use Rattle.hum_record.specs.Contents.{is_barline}
+use Rattle.hum_timebase.specs.Notes.{is_sounding, subtokens, notes_of, has_misread}
 
 abbrev pub content_of : List (List ℕ) → Content
 content_of tokens =

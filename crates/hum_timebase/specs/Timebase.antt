@@ -16,7 +16,8 @@ use Rattle.hum_stage.specs.declared.faults.Command.TheVariants.{Timebase}
 use Rattle.hum_stage.specs.Meaning.{Meaning}
 use Rattle.hum_stage.specs.Decided.{at_once}
 use Rattle.hum_timebase.specs.Pairs.{paired}
-use Rattle.hum_timebase.specs.Notes.{timed_in, is_null, is_barline_record, notes_of, has_misread}
+use Rattle.hum_record.specs.Contents.{is_null}
+use Rattle.hum_timebase.specs.Notes.{timed_in, is_barline_record, notes_of, has_misread}
 use Rattle.hum_timebase.specs.Ends.{Note, latest, next_end, living_before, living_after}
 use Rattle.hum_timebase.specs.Clock.{Clock, clock_after, time_after}
 

@@ -3,11 +3,12 @@ ghost use Rattle.std.specs.Prelude.{◌≡◌, ◌∷◌, ◌++◌, ◌≤◌, �
 ghost use Rattle.std.specs.Prelude.{IfOk, OnOk, OnErr, IsTrue, slice_index_or, map};
 ghost use Rattle.std.specs.List.{list_any};
 ghost use Rattle.hum_record.specs.Row.{tokens_of};
+ghost use Rattle.hum_record.specs.Contents.{is_null, is_barline};
 ghost use Rattle.hum_path.specs.Spines.{exclusives};
 ghost use Rattle.hum_kern.specs.Duration.{duration, value_in, is_refused};
 ghost use Rattle.hum_kern.specs.Runs.{run};
 ghost use Rattle.hum_timebase.specs.Notes.{is_timed, timed_in, own_name, timed_at};
-ghost use Rattle.hum_timebase.specs.Notes.{is_null, is_barline, is_sounding};
+ghost use Rattle.hum_timebase.specs.Notes.{is_sounding};
 ghost use Rattle.hum_timebase.specs.Notes.{subtokens, first_duration, note_of, notes_of};
 ghost use Rattle.hum_timebase.specs.Notes.{is_misread, has_misread};
 ghost use Rattle.hum_timebase.specs.Reading.{content_of, rest_parts, is_part, Read};
@@ -15,7 +16,7 @@ ghost use Rattle.hum_timebase.specs.Reading.{content_of, rest_parts, is_part, Re
 use hum_frac::Frac;
 use hum_kern::{KernFault, read_duration};
 use hum_path::{Paths, token_sign};
-use hum_record::Record;
+use hum_record::{Record, is_barline, is_null};
 use std::alloc::{AllocError, Global};
 
 /// Whether columns under an exclusive interpretation are timed.
@@ -61,17 +62,11 @@ pub(crate) fn timed_at(alloc: Global, paths: &Paths, row: &Record) -> Result<Vec
     Ok(timed)
 }
 
-fn is_barline(token: &[u8]) -> bool
-    ensures { result ≡ is_barline token.now }
-{
-    token.starts_with(b"=")
-}
-
 /// Whether a token is neither null nor a barline.
 fn is_sounding(token: &[u8]) -> bool
     ensures { result ≡ is_sounding token.now }
 {
-    !(token == b".".as_slice() || is_barline(token))
+    !(is_null(token) || is_barline(token))
 }
 
 /// What a data record holds.

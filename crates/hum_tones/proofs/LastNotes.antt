@@ -13,7 +13,8 @@ use Rattle.hum_path.specs.Chains.{reach}
 use Rattle.hum_path.specs.Memories.{remembered}
 use Rattle.hum_path.specs.declared.signs.Sign.TheVariants.{Split, Join, Exchange, Add, End, Plain}
 use Rattle.hum_pitch.specs.Pitch.{Spelled}
-use Rattle.hum_tones.specs.Mint.{is_filled, is_break, is_some, settles, settled, note_before, remembered_of}
+use Rattle.hum_record.specs.Contents.{is_filled}
+use Rattle.hum_tones.specs.Mint.{is_break, is_some, settles, settled, note_before, remembered_of}
 use Rattle.hum_tones.specs.Memory.{note_after, or_before}
 
 others : (a b c d e : Bool) → is_exclusive (if a then Split else if b then Join else if c then Exchange else if d then Add else if e then End else Plain) ≡ false

@@ -2,11 +2,10 @@
 use Rattle.std.specs.Prelude.{ℕ, Bool, true, false, not, ◌&&◌, ◌||◌, ◌-ℤ◌, nat_eq}
 use Rattle.std.specs.Prelude.{List, [], ◌∷◌, ◌++◌, Option, None, Some, Result, Ok, Err}
 use Rattle.std.specs.Prelude.{if◌then◌else◌}
-use Rattle.std.specs.List.{list_any, find, starts_with}
+use Rattle.std.specs.List.{list_any, find}
 use Rattle.std.specs.Str.{bytes_eq}
 use lib.Chars.{codes}
-use Rattle.hum_record.specs.declared.SpinedKind.TheVariants.{Values}
-use Rattle.hum_record.specs.Spelling.{kind_of_token, same_kind}
+use Rattle.hum_record.specs.Contents.{is_filled, is_barline}
 use Rattle.hum_path.specs.Chains.{reach}
 use Rattle.hum_pattern.specs.Meaning.{matched}
 use Rattle.hum_pitch.specs.Pitch.{Spelled, step_number, semitones}
@@ -83,13 +82,6 @@ told_of signless sizeonly before (Err rule) = Err rule
 -- What a token becomes, by the note before it.
 abbrev pub minted : Bool → Bool → Option Spelled → List ℕ → Result (List ℕ) Rule
 minted signless sizeonly before token = told_of signless sizeonly before (readings token)
-
--- whether a token is data, and not an interpretation or a comment, and not null
-abbrev pub is_filled : List ℕ → Bool
-is_filled token = same_kind (kind_of_token token) Values && not (bytes_eq token (codes "."))
-
-abbrev pub is_barline : List ℕ → Bool
-is_barline token = starts_with nat_eq token (codes "=")
 
 -- the pitch that is remembered of a note: none where its tie goes on
 abbrev pub new_pitch : Option Tone → Option Spelled

@@ -1,6 +1,7 @@
 //! The note before.
 ghost use Rattle.std.specs.Prelude.{◌≡◌, true};
-ghost use Rattle.hum_tones.specs.Mint.{is_filled, is_barline, is_break, remembered_of};
+ghost use Rattle.hum_record.specs.Contents.{is_filled, is_barline};
+ghost use Rattle.hum_tones.specs.Mint.{is_break, remembered_of};
 ghost use Rattle.hum_tones.specs.Memory.{note_after};
 ghost use Rattle.std.specs.Prelude.{option_map};
 ghost use Rattle.hum_pitch.specs.Given.{spelled};
@@ -9,26 +10,9 @@ use crate::hearing::hear;
 use hum_path::ColumnMemory;
 use hum_pattern::Pattern;
 use hum_pitch::Pitch;
+use hum_record::{is_barline, is_filled};
 use std::alloc::{AllocError, Global};
 use std::marker::Model;
-
-/// Whether a token is data, and not an interpretation or a comment, and not null.
-#[inline]
-fn is_filled(token: &[u8]) -> bool
-    ensures { result ≡ is_filled token.now }
-{
-    match token {
-        [b'!' | b'*', ..] => false,
-        _ => token != b".".as_slice(),
-    }
-}
-
-#[inline]
-fn is_barline(token: &[u8]) -> bool
-    ensures { result ≡ is_barline token.now }
-{
-    token.starts_with(b"=")
-}
 
 /// Whether a filled token has a match of the pattern, if there is one.
 fn is_break(breaks: &mut Option<Pattern>, token: &[u8]) -> bool

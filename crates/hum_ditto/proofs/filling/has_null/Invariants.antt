@@ -1,7 +1,7 @@
 use Rattle.std.proofs.Common.{◌≡◌, drop}
 use Rattle.std.specs.List.{list_any}
 use Rattle.hum_record.specs.Row.{tokens_of}
-use Rattle.hum_ditto.specs.Ditto.{is_null}
+use Rattle.hum_record.specs.Contents.{is_null}
 use Rattle.hum_ditto.proofs.filling.has_null.Given as goal
 
 abbrev pub invariant-loop-j : goal.invariant-loop-j

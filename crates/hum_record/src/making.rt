@@ -2,22 +2,25 @@
 ghost use Rattle.std.specs.Prelude.{◌≡◌, ◌≢◌, ℕ, List, [], ◌∷◌, ◌++◌, OnOk};
 ghost use Rattle.hum_record.specs.declared.SpinedKind.{SpinedKind};
 ghost use Rattle.hum_record.specs.Spelling.{IsToken};
-ghost use Rattle.hum_cells.specs.Making.{Holds, IsMade};
+ghost use Rattle.hum_record.specs.Making.{Holds, IsMade};
 
-use hum_record::{Record, RecordBuilder, RecordFault, Spare, SpinedKind};
+use crate::building::RecordBuilder;
+use crate::reading::Record;
+use crate::spare::Spare;
+use crate::{RecordFault, SpinedKind};
 use std::alloc::{AllocError, Global};
 
 /// A record in the making. Once its text would pass 1,048,576 bytes it takes further tokens, and
 /// comes to nothing.
 #[derive(Drop)]
-pub(crate) struct Making {
+pub struct Making {
     builder: RecordBuilder,
     is_long: bool,
 }
 
 impl Making {
     /// No tokens yet.
-    pub(crate) fn new(alloc: Global, kind: SpinedKind, spare: &mut Spare) -> Making
+    pub fn new(alloc: Global, kind: SpinedKind, spare: &mut Spare) -> Making
         ensures { Holds kind result.builder result.is_long [] }
     {
         Making {
@@ -27,7 +30,7 @@ impl Making {
     }
 
     /// One token more, at the end.
-    pub(crate) fn push(&mut self, token: &[u8]) -> Result<(), AllocError>
+    pub fn push(&mut self, token: &[u8]) -> Result<(), AllocError>
         requires { IsToken self.old.builder.kind token.now }
         ensures kind { OnOk result (self.new.builder.kind ≡ self.old.builder.kind) }
         ensures pushed { OnOk result ((kind : SpinedKind) (tokens : List (List ℕ))
@@ -48,7 +51,7 @@ impl Making {
     }
 
     /// The record, unless it is too long.
-    pub(crate) fn finish(self) -> Option<Record>
+    pub fn finish(self) -> Option<Record>
         requires { (kind : SpinedKind) × (tokens : List (List ℕ))
             × Holds kind self.builder self.is_long tokens × (tokens ≢ []) }
         ensures { (kind : SpinedKind) (tokens : List (List ℕ))
