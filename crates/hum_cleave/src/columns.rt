@@ -1,5 +1,5 @@
 //! The columns of a score, record by record, and which of them are cleaved.
-ghost use Rattle.std.specs.Prelude.{◌≡◌, true, false, List, [], map, length, None, IfOk, OnOk};
+ghost use Rattle.std.specs.Prelude.{◌≡◌, ℕ, true, false, List, [], map, length, None, IfOk, OnOk};
 ghost use Rattle.std.specs.Prelude.{IfNone, slice_index_or};
 ghost use Rattle.hum_record.specs.Row.{Row, Spined, tokens_of, text_of, width_of};
 ghost use Rattle.hum_record.specs.Spelling.{IsTextOf};
@@ -8,7 +8,7 @@ ghost use Rattle.hum_path.specs.Spines.{moves, after, source};
 ghost use Rattle.hum_path.specs.Rules.{fault_of};
 ghost use Rattle.hum_path.specs.Step.{ComeFrom};
 ghost use Rattle.hum_cleave.specs.Columns.{opening_flags};
-ghost use Rattle.hum_cleave.specs.Cleave.{opened, cleave};
+ghost use Rattle.hum_cleave.specs.Cleave.{is_name, opened, cleave};
 ghost use Rattle.hum_cleave.specs.Following.{Answers, Stand, Takes, moved, is_interpretation};
 
 use crate::merging::merge;
@@ -90,6 +90,7 @@ fn open_columns(
     out: &mut VecDeque<Record>,
 ) -> Result<Option<Rule>, AllocError>
     requires kind { row ≡ Spined Interpretation (tokens_of row) }
+    requires lawful { IsTextOf row (text_of row) }
     requires empty { out.old.items ≡ [] }
     ensures decided { IfOk result (λ refused. (room : ℕ)
         → Answers (opened options.now (tokens_of row)) room out.new.items refused) }
@@ -119,7 +120,9 @@ impl Columns {
     pub fn new(alloc: Global, options: CleaveOptions) -> Columns
         ensures follows { Follows options result.paths.path result.marks.items (cleave options) [] }
         ensures options { result.options ≡ options }
+        ensures lawful { is_name options.new_name ≡ true }
     {
+        let _new_name = options.new_name();
         Columns {
             alloc,
             options,

@@ -1,10 +1,10 @@
 //! Records whose cleaved columns have become one.
-ghost use Rattle.std.specs.Prelude.{◌≡◌, ℕ, List, [], true, length, IfOk};
+ghost use Rattle.std.specs.Prelude.{◌≡◌, ℕ, List, [], true, false, length, IfOk};
 ghost use Rattle.std.specs.List.{list_any};
 ghost use Rattle.hum_record.specs.declared.SpinedKind.{SpinedKind};
 ghost use Rattle.hum_record.specs.declared.SpinedKind.TheVariants.{Local, Interpretation, Values};
-ghost use Rattle.hum_record.specs.Row.{Spined, tokens_of, width_of};
-ghost use Rattle.hum_record.specs.Spelling.{IsToken};
+ghost use Rattle.hum_record.specs.Row.{Spined, tokens_of, width_of, text_of};
+ghost use Rattle.hum_record.specs.Spelling.{IsToken, IsTextOf};
 ghost use Rattle.hum_cleave.specs.Columns.{within, together};
 ghost use Rattle.hum_cleave.specs.Tokens.{comment_of, data_of};
 ghost use Rattle.hum_cleave.specs.Cleave.{fits_in_token, is_name, one_record, told};
@@ -68,6 +68,7 @@ fn put_together(
     spare: &mut Spare,
 ) -> Result<Option<Record>, AllocError>
     requires shape { row.now ≡ Spined kind (tokens_of row.now) }
+    requires sound { IsTextOf row.now (text_of row.now) }
     requires lawful { IsToken kind one.now }
     requires as_wide { length marks.now ≡ width_of row.now }
     ensures { IfOk result (IsMade kind (together one.now marks.now (tokens_of row.now))) }
@@ -93,6 +94,7 @@ fn comment_record(
     buffers: &mut Buffers,
 ) -> Result<Option<Record>, AllocError>
     requires shape { row.now ≡ Spined Local (tokens_of row.now) }
+    requires sound { IsTextOf row.now (text_of row.now) }
     requires as_wide { length marks.now ≡ width_of row.now }
     ensures { IfOk result (IsMade Local (together
         (comment_of (within marks.now (tokens_of row.now))) marks.now (tokens_of row.now))) }
@@ -117,6 +119,7 @@ fn data_record(
     buffers: &mut Buffers,
 ) -> Result<Option<Record>, AllocError>
     requires shape { row.now ≡ Spined Values (tokens_of row.now) }
+    requires sound { IsTextOf row.now (text_of row.now) }
     requires between { fits_in_token separator.now ≡ true }
     requires as_wide { length marks.now ≡ width_of row.now }
     ensures { IfOk result (IsMade Values (together
@@ -144,6 +147,7 @@ pub fn opening_record(
     buffers: &mut Buffers,
 ) -> Result<Option<Record>, AllocError>
     requires shape { row.now ≡ Spined Interpretation (tokens_of row.now) }
+    requires sound { IsTextOf row.now (text_of row.now) }
     requires lawful { is_name new_name.now ≡ true }
     requires as_wide { length marks.now ≡ width_of row.now }
     ensures { IfOk result (IsMade Interpretation
@@ -195,6 +199,7 @@ pub fn give_text(
     requires as_wide { AsWide marks.now row }
     requires empty { out.old.items ≡ [] }
     requires kind { is_interpretation row ≡ false }
+    requires lawful { IsTextOf row (text_of row) }
     ensures { IfOk result (λ refused. (room : ℕ)
         → Answers (told separator.now marks.now row) room out.new.items refused) }
 {

@@ -1,18 +1,24 @@
 //! What the tokens of the cleaved columns become.
-ghost use Rattle.std.specs.Prelude.{◌≡◌, ◌<◌, ◌&&◌, ◌++◌, [], true, length, take, OnOk};
+ghost use Rattle.std.specs.Prelude.{◌≡◌, ◌<◌, true, length, take, OnOk};
 ghost use Rattle.std.specs.List.{list_any};
 ghost use Rattle.std.specs.Str.{bytes_eq};
-ghost use Rattle.hum_record.specs.Row.{Spined, tokens_of, width_of, token_at};
+ghost use Rattle.hum_record.specs.Row.{Spined, tokens_of, width_of, text_of};
 ghost use Rattle.hum_record.specs.Spelling.{IsToken, IsTextOf};
-ghost use Rattle.hum_record.specs.declared.SpinedKind.TheVariants.{Local, Values, Interpretation};
+ghost use Rattle.hum_record.specs.declared.SpinedKind.TheVariants.{Local, Values};
 ghost use Rattle.hum_cleave.specs.Columns.{within};
 ghost use Rattle.hum_cleave.specs.Cleave.{fits_in_token};
 ghost use Rattle.hum_cleave.specs.Tokens.{is_null_comment, comment_of, is_silent};
-ghost use Rattle.hum_cleave.specs.Tokens.{interpretation_of, is_null, is_barline, is_left_out};
+ghost use Rattle.hum_cleave.specs.Tokens.{interpretation_of, is_left_out};
 ghost use Rattle.hum_cleave.specs.Tokens.{data_of, added};
 
 use hum_record::Record;
 use std::alloc::AllocError;
+
+fn is_null_comment(token: &[u8]) -> bool
+    ensures { result ≡ is_null_comment token.now }
+{
+    b"!".as_slice() == token
+}
 
 /// The leftmost local comment that isn't null, else a null one.
 pub fn leftmost_comment<'r>(marks: &[bool], row: &'r Record) -> &'r [u8]
@@ -22,7 +28,7 @@ pub fn leftmost_comment<'r>(marks: &[bool], row: &'r Record) -> &'r [u8]
     ensures lawful { IsToken Local result.now }
 {
     for (j, mark) in marks.iter().enumerate() {
-        if *mark && row.token(j) != b"!".as_slice() {
+        if *mark && !is_null_comment(row.token(j)) {
             return row.token(j);
         }
     }
@@ -39,7 +45,7 @@ fn is_silent(token: &[u8]) -> bool
 /// The leftmost interpretation that isn't null, a split or a join, else a null one.
 pub fn leftmost_interpretation<'r>(marks: &[bool], row: &'r Record) -> &'r [u8]
     requires as_wide { length marks.now ≡ width_of row.now }
-    ensures token { result.now ≡ interpretation_of (within marks.now (tokens_of row.now)) }
+    ensures { result.now ≡ interpretation_of (within marks.now (tokens_of row.now)) }
 {
     for (j, mark) in marks.iter().enumerate() {
         if *mark && !is_silent(row.token(j)) {
@@ -47,6 +53,12 @@ pub fn leftmost_interpretation<'r>(marks: &[bool], row: &'r Record) -> &'r [u8]
         }
     }
     b"*"
+}
+
+fn are_equal(token: &[u8], other: &[u8]) -> bool
+    ensures { result ≡ bytes_eq token.now other.now }
+{
+    token == other
 }
 
 /// Whether a token of a cleaved column stands to the left of column `j`.
@@ -57,7 +69,7 @@ fn stands_before(marks: &[bool], row: &Record, j: usize, token: &[u8]) -> bool
         (within (take j marks.now) (take j (tokens_of row.now))) }
 {
     for (i, mark) in marks.split_at(j).0.iter().enumerate() {
-        if *mark && token == row.token(i) {
+        if *mark && are_equal(token, row.token(i)) {
             return true;
         }
     }
@@ -95,6 +107,7 @@ pub fn gather(
     text: &mut Vec<u8>,
 ) -> Result<(), AllocError>
     requires kind { row.now ≡ Spined Values (tokens_of row.now) }
+    requires sound { IsTextOf row.now (text_of row.now) }
     requires between { fits_in_token separator.now ≡ true }
     requires as_wide { length marks.now ≡ width_of row.now }
     ensures text { OnOk result (text.new.items
