@@ -5,4 +5,8 @@ pub mod Placewise
 pub mod Gathering
 pub mod Fitted
 pub mod Selecting
+pub mod Signs
+pub mod Joined
+pub mod MergedLeads
+pub mod Keeping
 mod Examples

@@ -21,7 +21,7 @@ comment_of = leftmost is_null_comment (codes "!")
 -- an interpretation that says nothing of the one column: null, a split or a join
 abbrev pub is_silent : List ℕ → Bool
 is_silent token =
-    bytes_eq (codes "*") token || (bytes_eq (codes "*^") token || bytes_eq (codes "*v") token)
+    bytes_eq token (codes "*") || (bytes_eq token (codes "*^") || bytes_eq token (codes "*v"))
 
 -- Where all cleaved columns end, it is an end.
 abbrev pub interpretation_of : List (List ℕ) → List ℕ

@@ -39,7 +39,7 @@ pub fn leftmost_comment<'r>(marks: &[bool], row: &'r Record) -> &'r [u8]
 fn is_silent(token: &[u8]) -> bool
     ensures { result ≡ is_silent token.now }
 {
-    b"*".as_slice() == token || b"*^".as_slice() == token || b"*v".as_slice() == token
+    token == b"*".as_slice() || token == b"*^".as_slice() || token == b"*v".as_slice()
 }
 
 /// The leftmost interpretation that isn't null, a split or a join, else a null one.
