@@ -13,7 +13,7 @@ leftmost left_out other (token ∷ tokens) =
 
 -- a null local comment
 abbrev pub is_null_comment : List ℕ → Bool
-is_null_comment = bytes_eq (codes "!")
+is_null_comment token = bytes_eq token (codes "!")
 
 abbrev pub comment_of : List (List ℕ) → List ℕ
 comment_of = leftmost is_null_comment (codes "!")
@@ -28,7 +28,7 @@ abbrev pub interpretation_of : List (List ℕ) → List ℕ
 interpretation_of = leftmost is_silent (codes "*")
 
 abbrev pub is_null : List ℕ → Bool
-is_null = bytes_eq (codes ".")
+is_null token = bytes_eq token (codes ".")
 
 abbrev pub is_barline : List ℕ → Bool
 is_barline token = starts_with nat_eq token (codes "=")

@@ -17,7 +17,7 @@ use std::alloc::AllocError;
 fn is_null_comment(token: &[u8]) -> bool
     ensures { result ≡ is_null_comment token.now }
 {
-    b"!".as_slice() == token
+    token == b"!".as_slice()
 }
 
 /// The leftmost local comment that isn't null, else a null one.
@@ -32,7 +32,7 @@ pub fn leftmost_comment<'r>(marks: &[bool], row: &'r Record) -> &'r [u8]
             return row.token(j);
         }
     }
-    b"!"
+    b"!".as_slice()
 }
 
 /// Whether an interpretation says nothing of the one column: null, a split or a join.
@@ -84,7 +84,7 @@ fn is_left_out(marks: &[bool], row: &Record, j: usize, token: &[u8]) -> bool
     ensures { result ≡ is_left_out (within (take j marks.now) (take j (tokens_of row.now)))
         token.now }
 {
-    b".".as_slice() == token || (token.starts_with(b"=") && stands_before(marks, row, j, token))
+    token == b".".as_slice() || (token.starts_with(b"=") && stands_before(marks, row, j, token))
 }
 
 /// Adds a token to a text, with the separator between.

@@ -31,8 +31,7 @@ loop-j-preserved c =
 pub finish-requires : goal.finish-requires
 finish-requires c =
     let ts = tokens_of c.args.row.now in
-    let all = put_all _ _ c.args.marks.now ts c.loop-j.j c.loop-j.is_done _ _ c.loop-j-test.false c.loop-j.invariant.put in
-    (
+    let all = put_all _ _ c.args.marks.now ts c.loop-j.j c.loop-j.is_done _ _ c.loop-j-test.false c.loop-j.invariant.put in (
       c.args.kind,
       _,
       all,
