@@ -1,5 +1,5 @@
 -- Small scores, by the definitions.
-use Rattle.std.proofs.Common.{◌≡◌, ℕ, List, [], ◌∷◌, refl, Some, Bool, true, false}
+use Rattle.std.proofs.Common.{◌≡◌, ℕ, List, [], ◌∷◌, refl, Some, true, false}
 use Rattle.std.specs.Prelude.{Ok, Err}
 use lib.Chars.{codes}
 use Rattle.hum_record.specs.declared.SpinedKind.TheVariants.{Local, Interpretation, Values}
@@ -7,7 +7,6 @@ use Rattle.hum_record.specs.Row.{Row, Spined}
 use Rattle.hum_stage.specs.declared.faults.Rule.TheVariants.{C1, C2}
 use Rattle.hum_stage.specs.Outcome.{settled, refusal}
 use Rattle.hum_stage.specs.Decided.{decisions}
-use Rattle.hum_cleave.specs.Columns.{together}
 use Rattle.hum_cleave.specs.Tokens.{comment_of, interpretation_of, data_of}
 use Rattle.hum_cleave.specs.Cleave.{Options, cleave, merged}
 

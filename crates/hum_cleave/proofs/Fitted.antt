@@ -1,5 +1,5 @@
 -- What is written of lawful tokens is lawful, and no longer than they are.
-use Rattle.std.proofs.Common.{◌≡◌, ◌≢◌, ◌∙◌, refl, sym, ap, ℕ, ◌+◌, ◌≤◌, Bool, true, false, not, ◌||◌, cond, subst}
+use Rattle.std.proofs.Common.{◌≡◌, ◌≢◌, ◌∙◌, refl, ap, ℕ, ◌+◌, ◌≤◌, Bool, true, false, not, ◌||◌, cond, subst}
 use Rattle.std.proofs.Common.{List, [], ◌∷◌, ◌++◌, length, map, arith}
 use Rattle.std.specs.Prelude.{◌==◌, nat_lt, Ok}
 use Rattle.std.proofs.lemmas.Bool.Decides.{nat_tests}
@@ -14,7 +14,7 @@ use Rattle.hum_record.specs.Building.{spelled}
 use Rattle.hum_path.specs.Sign.{sign_of, is_join}
 use Rattle.hum_path.specs.Onward.{beginnings}
 use Rattle.hum_path.proofs.Cases.{by_bool}
-use Rattle.hum_spread.specs.Spread.{Piece, piece, tokens_in}
+use Rattle.hum_spread.specs.Spread.{piece, tokens_in}
 use Rattle.hum_spread.specs.Writing.{Fit}
 use Rattle.hum_spread.proofs.Spreading.{marks}
 use Rattle.hum_spread.proofs.Weights.{weight, no_longer}

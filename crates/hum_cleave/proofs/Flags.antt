@@ -1,22 +1,19 @@
 -- What is cleaved goes on along the columns.
-use Rattle.std.proofs.Common.{◌≡◌, ◌≢◌, ◌∙◌, refl, sym, ap, ℕ, zero, suc, ◌+◌, ◌<◌, ◌≤◌, Bool, true, false, subst}
+use Rattle.std.proofs.Common.{◌≡◌, ◌∙◌, refl, sym, ap, ℕ, zero, suc, ◌+◌, ◌<◌, Bool, false, subst}
 use Rattle.std.proofs.Common.{List, [], ◌∷◌, length, map, drop, get_or, arith, add-one, drop-cons, None}
-use Rattle.std.specs.List.{list_all, find, AllByRecursion}
+use Rattle.std.specs.List.{find, AllByRecursion}
 use Rattle.std.specs.Str.{bytes_eq}
 use Rattle.std.proofs.lemmas.List.{drop_all, length-map}
-use Rattle.std.proofs.lemmas.Bool.{and_parts, not-false, false≢true}
 use Rattle.hum_record.specs.declared.SpinedKind.TheVariants.{Interpretation}
 use Rattle.hum_record.specs.Row.{Row, Comment, Spined, tokens_of}
-use Rattle.hum_path.specs.declared.PathFault.TheVariants.{P1, P2, P3, P4, P5, P6, P7, P9, P10, P11}
 use Rattle.hum_path.specs.declared.moved.Move.{Move}
 use Rattle.hum_path.specs.declared.moved.Move.TheVariants.{Same}
-use Rattle.hum_path.specs.Sign.{sign_of, is_exclusive, is_plain, all_plain}
 use Rattle.hum_path.specs.Spines.{Path, Unopened, Spines, width, source, same_upto, moves}
-use Rattle.hum_path.specs.Rules.{breaks, breaks_as_text, in_order, fault_of}
+use Rattle.hum_path.specs.Rules.{breaks_as_text, in_order, fault_of}
 use Rattle.hum_path.specs.Score.{IsOpen, path_after}
 use Rattle.hum_path.specs.Chains.{origin_of, origins}
 use Rattle.hum_path.specs.Step.{ComeFrom}
-use Rattle.hum_path.proofs.Plain.{find_head, sound_width, plain_moves, not_exclusive}
+use Rattle.hum_path.proofs.Plain.{sound_width}
 use Rattle.hum_path.proofs.Widths.{origins_width}
 use Rattle.hum_cleave.specs.Columns.{opening_flags, opening_if, opening_of, flags}
 use Rattle.hum_cleave.specs.Following.{AsWide, moved}

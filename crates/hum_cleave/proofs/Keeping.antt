@@ -1,5 +1,5 @@
 -- What is cleaved of a score is a score.
-use Rattle.std.proofs.Common.{◌≡◌, ◌≢◌, ◌∙◌, refl, sym, ap, ℕ, zero, suc, ◌+◌, ◌≤◌, ◌==◌, Bool, true, false, not, ◌&&◌, List, [], ◌∷◌, length, map}
+use Rattle.std.proofs.Common.{◌≡◌, ◌∙◌, refl, sym, ap, ℕ, suc, ◌≤◌, ◌==◌, Bool, true, false, not, ◌&&◌, List, [], ◌∷◌, length, map}
 use Rattle.std.proofs.Common.{get_or, arith, cond}
 use Rattle.std.specs.Prelude.{None, Result, Ok, Err, nat_lt}
 use Rattle.std.specs.List.{list_any, list_all, find}
@@ -21,7 +21,6 @@ use Rattle.hum_path.specs.Rules.{breaks, breaks_as_text, in_order, is_unfinished
 use Rattle.hum_path.specs.Score.{IsOpen, path_after}
 use Rattle.hum_path.specs.Chains.{origins, origin_of}
 use Rattle.hum_path.proofs.Plain.{find_head}
-use Rattle.hum_path.proofs.Cases.{by_bool}
 use Rattle.hum_path.proofs.Widths.{origins_width, text_width}
 use Rattle.hum_path.proofs.Onwards.{sources_onward}
 use Rattle.hum_path.proofs.Obeyed.{Opens, opens, Obeys, obeys, narrow}

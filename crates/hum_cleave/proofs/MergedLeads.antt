@@ -1,15 +1,15 @@
 -- An interpretation whose cleaved columns are put together leads to what the spines after it become.
-use Rattle.std.proofs.Common.{◌≡◌, ◌∙◌, refl, sym, ap, ℕ, ◌+◌, ◌≤◌, ◌==◌, Bool, true, false, not, ◌&&◌, ◌||◌, List, [], ◌∷◌, length, map, arith, cond}
+use Rattle.std.proofs.Common.{◌≡◌, ◌∙◌, refl, ap, ℕ, ◌≤◌, ◌==◌, Bool, true, false, ◌&&◌, ◌||◌, List, [], ◌∷◌, length, map, arith, cond}
 use Rattle.std.specs.Prelude.{Result, Ok, Err}
-use Rattle.std.specs.List.{list_any, list_all}
+use Rattle.std.specs.List.{list_any}
 use Rattle.std.specs.Str.{bytes_eq}
 use Rattle.std.proofs.lemmas.Bool.{or_parts, or_from}
 use Rattle.std.proofs.lemmas.List.{length-map}
 use lib.Chars.{codes}
 use Rattle.hum_path.specs.declared.signs.Sign.{Sign}
 use Rattle.hum_path.specs.declared.signs.Sign.TheVariants.{End, Plain}
-use Rattle.hum_path.specs.Sign.{sign_of, is_exchange, is_exclusive, is_path_indicator}
-use Rattle.hum_path.specs.Spines.{Spines, exchanges, names_after}
+use Rattle.hum_path.specs.Sign.{sign_of, is_exclusive, is_path_indicator}
+use Rattle.hum_path.specs.Spines.{Spines, names_after}
 use Rattle.hum_path.specs.Rules.{has_unnamed, names_and_steers, is_pair_or_none, stays_unnamed}
 use Rattle.hum_path.specs.Score.{Lead}
 use Rattle.hum_path.specs.Onward.{beginnings, onward, swapped, renamed_each}
@@ -21,7 +21,7 @@ use Rattle.hum_record.specs.Row.{Row}
 use Rattle.hum_stage.specs.declared.faults.Rule.{Rule}
 use Rattle.hum_stage.specs.declared.faults.Rule.TheVariants.{C1, C2}
 use Rattle.hum_spread.specs.Spread.{spread, filled}
-use Rattle.hum_spread.proofs.Spreading.{marks, signs_in}
+use Rattle.hum_spread.proofs.Spreading.{signs_in}
 use Rattle.hum_spread.proofs.Fitting.{Fits, come_to}
 use Rattle.hum_spread.proofs.Leading.{spread_leads}
 use Rattle.hum_cleave.specs.Columns.{within, others, together}

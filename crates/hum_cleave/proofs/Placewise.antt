@@ -1,13 +1,13 @@
 -- Columns, place by place.
 use Rattle.std.proofs.Common.{◌≡◌, ◌∙◌, refl, sym, ap, ℕ, zero, suc, ◌+◌, ◌<◌, ◌≤◌, Bool, true, false, ◌&&◌, ◌||◌, cond}
-use Rattle.std.proofs.Common.{List, [], ◌∷◌, ◌++◌, length, map, drop, take, get_or, arith, add-one, append_assoc, append-nil, subst}
+use Rattle.std.proofs.Common.{List, [], ◌∷◌, ◌++◌, length, drop, get_or, arith, add-one, append_assoc, append-nil, subst}
 use Rattle.std.proofs.lemmas.List.{drop_all}
 use Rattle.std.specs.List.{list_any}
 use Rattle.hum_record.specs.declared.SpinedKind.{SpinedKind}
 use Rattle.hum_record.specs.Building.{Draft}
 use Rattle.hum_path.specs.declared.signs.Sign.{Sign}
 use Rattle.hum_path.specs.Sign.{is_join}
-use Rattle.hum_cleave.specs.Columns.{within, others, together}
+use Rattle.hum_cleave.specs.Columns.{others, together}
 use Rattle.hum_cleave.specs.Cleave.{differ, is_torn}
 use Rattle.hum_cleave.specs.Making.{Holds}
 

@@ -1,7 +1,7 @@
 -- What is put together of what is carried on is what is carried on of what is put together.
-use Rattle.std.proofs.Common.{◌≡◌, ◌∙◌, refl, sym, ap, suc, ℕ, ◌+◌, ◌≤◌, Bool, true, false, not, ◌&&◌, ◌||◌, List, [], ◌∷◌, ◌++◌, length, map, arith, cond}
+use Rattle.std.proofs.Common.{◌≡◌, ◌∙◌, refl, ap, suc, ℕ, ◌+◌, ◌≤◌, Bool, true, false, not, ◌&&◌, List, [], ◌∷◌, ◌++◌, length, arith, cond}
 use Rattle.std.specs.List.{list_any, list_all}
-use Rattle.std.proofs.lemmas.Bool.{or_parts, or_from, and_parts, false≢true}
+use Rattle.std.proofs.lemmas.Bool.{or_parts, or_from, and_parts}
 use Rattle.hum_path.specs.declared.signs.Sign.{Sign}
 use Rattle.hum_path.specs.declared.signs.Sign.TheVariants.{Split, Join, Exchange, Add, End, Exclusive, Plain}
 use Rattle.hum_path.specs.Sign.{sign_of, is_join, is_exchange, is_exclusive}
@@ -10,7 +10,7 @@ use Rattle.hum_path.specs.Onward.{beginnings, onward_one, onward, at_next, put_n
 use Rattle.hum_path.proofs.Cases.{by_bool}
 use Rattle.hum_path.proofs.Onwards.{begins_length}
 use Rattle.hum_cleave.specs.Columns.{within, others, together}
-use Rattle.hum_cleave.specs.Cleave.{is_end, differ, is_torn}
+use Rattle.hum_cleave.specs.Cleave.{is_end, is_torn}
 
 pub others_fewer : {X : Type 0} (fs : List Bool) (xs : List X) → length (others fs xs) ≤ length xs
 others_fewer [] xs = omega arith

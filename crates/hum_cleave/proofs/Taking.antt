@@ -1,7 +1,7 @@
 -- One record more.
 use Rattle.std.proofs.Common.{◌≡◌, ◌∙◌, sym, ap, refl, ℕ, suc, Bool, true, false, ◌==◌}
 use Rattle.std.proofs.Common.{List, [], ◌∷◌, length, arith, Option, None, Some}
-use Rattle.std.specs.Prelude.{Result, IfNone, IfOk, OnOk, Ok, Err}
+use Rattle.std.specs.Prelude.{Result, IfOk, OnOk, Ok, Err}
 use Rattle.std.proofs.lemmas.Bool.{false≢true}
 use Rattle.std.proofs.lemmas.Bool.Decides.{nat_tests}
 use Rattle.hum_record.specs.declared.SpinedKind.TheVariants.{Local, Interpretation, Values}
@@ -16,7 +16,7 @@ use Rattle.hum_path.proofs.Widths.{text_width}
 use Rattle.hum_stage.specs.declared.faults.Rule.{Rule}
 use Rattle.hum_stage.specs.Decided.{in_room, Steps}
 use Rattle.hum_cleave.specs.Columns.{flags, opening_flags}
-use Rattle.hum_cleave.specs.Cleave.{Options, told, merged, opened, interpreted, cleave}
+use Rattle.hum_cleave.specs.Cleave.{Options, told, merged, opened, interpreted}
 use Rattle.hum_cleave.specs.Following.{AsWide, moved, Answers, Follows, Stand, Takes, is_interpretation}
 use Rattle.hum_cleave.proofs.Flags.{flags_width, flags_open, flags_move, flags_text}
 

@@ -1,5 +1,5 @@
 -- What is remembered of the records so far.
-use Rattle.std.specs.Prelude.{◌≡◌, ◌≢◌, ◌≤◌, ℕ, Bool, true, false, List, [], ◌∷◌, length, map}
+use Rattle.std.specs.Prelude.{◌≡◌, ℕ, Bool, true, false, List, ◌∷◌, length, map}
 use Rattle.std.specs.Prelude.{slice_index_or, Option, None, Some, IfNone, Result, Ok, Err}
 use Rattle.hum_record.specs.declared.SpinedKind.TheVariants.{Interpretation}
 use Rattle.hum_record.specs.Row.{Row, Comment, Spined}

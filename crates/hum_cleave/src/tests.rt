@@ -2,7 +2,7 @@
 ghost use Rattle.std.specs.Prelude.{◌≡◌, ◌+◌, ◌≤◌, false, length, IfOk, OnOk};
 ghost use Rattle.hum_record.specs.Spelling.{has_byte};
 ghost use Rattle.hum_path.specs.Spines.{Unopened};
-ghost use Rattle.hum_stage.specs.Score.{through, IsScore};
+ghost use Rattle.hum_stage.specs.Score.{through, IsScore, IsClosed};
 
 use crate::{Cleave, CleaveOptions, is_name, is_separator};
 use hum_path::Paths;
@@ -61,6 +61,21 @@ fn score(
     Ok(records)
 }
 
+// The same, of lines that end all spines.
+fn closed_score(
+    rt: &impl Abort,
+    alloc: Global,
+    lines: &[&'static [u8]],
+) -> Result<Vec<Record>, Fail>
+    ensures closed { IfOk result (λ records. IsClosed records.items) }
+    ensures few { IfOk result (λ records. length records.items ≤ 4294967295) }
+{
+    let mut paths = Paths::new(alloc);
+    let records = score(rt, alloc, &mut paths, lines)?;
+    assert!(rt; paths.is_closed());
+    Ok(records)
+}
+
 // Runs a score through the command that cleaves **a as **b, which gives these lines, and refuses
 // this line, if any, by this rule.
 fn check(
@@ -71,9 +86,7 @@ fn check(
     want: &[&'static [u8]],
     refused: Option<(u64, Rule)>,
 ) -> Result<(), Fail> {
-    let mut paths = Paths::new(alloc);
-    let records = score(rt, alloc, &mut paths, lines)?;
-    assert!(rt; paths.is_closed());
+    let records = closed_score(rt, alloc, lines)?;
     assert!(rt; is_separator(separator));
     let name = b"**a".to_vec(alloc)?;
     let new_name = b"**b".to_vec(alloc)?;

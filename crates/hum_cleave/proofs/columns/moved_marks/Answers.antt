@@ -1,4 +1,4 @@
-use Rattle.std.proofs.Common.{◌≡◌, ◌∙◌, false, get_or}
+use Rattle.std.proofs.Common.{◌∙◌, false, get_or}
 use Rattle.hum_path.specs.Spines.{source}
 use Rattle.hum_path.proofs.Carry.{map_more}
 use Rattle.hum_cleave.proofs.columns.moved_marks.Goals as goal

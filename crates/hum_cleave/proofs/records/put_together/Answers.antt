@@ -1,7 +1,7 @@
-use Rattle.std.proofs.Common.{◌≡◌, ◌∙◌, sym, length, false}
+use Rattle.std.proofs.Common.{◌∙◌}
 use Rattle.hum_record.specs.Row.{tokens_of}
 use Rattle.hum_cleave.proofs.Fitted.{some_tokens}
-use Rattle.hum_cleave.proofs.Placewise.{Put, put_other, put_one, put_none, put_all, together_filled}
+use Rattle.hum_cleave.proofs.Placewise.{put_other, put_one, put_none, put_all, together_filled}
 use Rattle.hum_cleave.proofs.records.put_together.Goals as goal
 use Rattle.hum_cleave.proofs.records.put_together.Goals.{then-not-mark+in_ok-push, else-not-mark+then-not-is_done+in_ok-push-2, else-not-mark+else-not-is_done}
 

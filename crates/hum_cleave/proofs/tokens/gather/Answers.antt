@@ -1,9 +1,8 @@
-use Rattle.std.proofs.Common.{◌≡◌, ◌≢◌, ◌∙◌, sym, ap, subst, [], List, ℕ, get_or, take, ◌+◌}
+use Rattle.std.proofs.Common.{◌≡◌, ◌≢◌, ◌∙◌, sym, ap, subst, [], List, ℕ, get_or, ◌+◌}
 use Rattle.hum_record.specs.declared.SpinedKind.TheVariants.{Values}
 use Rattle.hum_record.specs.Row.{tokens_of}
 use Rattle.hum_record.specs.Spelling.{IsToken}
 use Rattle.hum_cleave.specs.Columns.{within}
-use Rattle.hum_cleave.specs.Tokens.{is_left_out}
 use Rattle.hum_cleave.proofs.Gathering.{so_far, taken_from, passes, leaves_out, takes, adds, all_taken}
 use Rattle.hum_cleave.proofs.Fitted.{lawful_tokens, within_lawful, token_lawful, data_lawful, some_bytes}
 use Rattle.hum_cleave.proofs.tokens.gather.Goals as goal

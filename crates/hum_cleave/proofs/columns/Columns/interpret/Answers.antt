@@ -1,5 +1,4 @@
 use Rattle.std.proofs.Common.{◌≡◌, ◌∙◌, ap, length, List, ℕ}
-use Rattle.std.specs.Prelude.{IfOk, OnOk}
 use Rattle.hum_record.specs.Row.{Row, tokens_of}
 use Rattle.hum_cleave.specs.Columns.{opening_flags}
 use Rattle.hum_cleave.specs.Cleave.{opened}
