@@ -39,8 +39,8 @@ abbrev pub Answers : Result (List Row) Rule → ℕ → List Row → Option Rule
 Answers decided room rows None = decided ≡ Ok rows
 Answers decided room rows (Some rule) = in_room room decided ≡ Err rule
 
--- One record more of a score: what is cleaved so far, whether no spine is open, and where the spines
--- after the record come from.
+-- One record more of a score: what is cleaved so far, whether no spine is open, and where the
+-- spines after the record come from.
 pub record Stand (name : List ℕ) (marks : List Bool) (opens : Bool) (found : List Move)
     (row : Row) (past : List Row) : Type 0 where
   pub each : marks ≡ flags name past
