@@ -1,0 +1,50 @@
+// cleave in Rust as one would first write it: lines as strings, tokens as iterators, a new line joined from them.
+// The columns are those of the opening record, no spine is followed and nothing is refused.
+use std::io::{self, BufRead, BufReader, BufWriter, Write};
+
+// What stands in the one column, from the tokens of those that become one.
+fn joined(kind: Option<char>, tokens: &[&str]) -> String {
+    match kind {
+        Some('!') => tokens.iter().find(|token| **token != "!").unwrap_or(&"!").to_string(),
+        Some('*') => tokens.iter().find(|token| !["*", "*^", "*v"].contains(token)).unwrap_or(&"*").to_string(),
+        _ => {
+            let mut taken: Vec<&str> = Vec::new();
+            for token in tokens {
+                if *token != "." && !(token.starts_with('=') && taken.contains(token)) {
+                    taken.push(token);
+                }
+            }
+            if taken.is_empty() { ".".to_string() } else { taken.join(" ") }
+        }
+    }
+}
+
+fn main() -> io::Result<()> {
+    let path = std::env::args().nth(1).expect("a file");
+    let input = BufReader::new(std::fs::File::open(path)?);
+    let mut output = BufWriter::new(io::stdout().lock());
+    let mut kern: Vec<bool> = Vec::new();
+    for line in input.lines() {
+        let line = line?;
+        if line.starts_with("!!") {
+            writeln!(output, "{line}")?;
+            continue;
+        }
+        let tokens: Vec<&str> = line.split('\t').collect();
+        let opens = line.starts_with("**");
+        if opens {
+            kern = tokens.iter().map(|token| *token == "**kern").collect();
+        }
+        let cleaved: Vec<&str> = tokens.iter().zip(&kern).filter(|(_, is)| **is).map(|(token, _)| *token).collect();
+        let one = if opens { "**chord".to_string() } else { joined(line.chars().next(), &cleaved) };
+        let place = kern.iter().position(|is| *is);
+        let left: Vec<String> = tokens
+            .iter()
+            .enumerate()
+            .filter(|(j, _)| place == Some(*j) || kern.get(*j) != Some(&true))
+            .map(|(j, token)| if place == Some(j) { one.clone() } else { token.to_string() })
+            .collect();
+        writeln!(output, "{}", left.join("\t"))?;
+    }
+    output.flush()
+}

@@ -1,0 +1,257 @@
+-- What is written of lawful tokens is lawful, and no longer than they are.
+use Rattle.std.proofs.Common.{◌≡◌, ◌≢◌, ◌∙◌, refl, ap, ℕ, ◌+◌, ◌≤◌, Bool, true, false, not, ◌||◌, cond, subst}
+use Rattle.std.proofs.Common.{List, [], ◌∷◌, ◌++◌, length, map, arith}
+use Rattle.std.specs.Prelude.{◌==◌, nat_lt, Ok}
+use Rattle.std.proofs.lemmas.Bool.Decides.{nat_tests}
+use Rattle.std.specs.List.{list_any, AllByRecursion}
+use Rattle.std.proofs.lemmas.Bool.{and_parts, or_parts, or_from, eqb-true}
+use lib.Chars.{codes}
+use Rattle.hum_record.specs.declared.SpinedKind.{SpinedKind}
+use Rattle.hum_record.specs.declared.SpinedKind.TheVariants.{Local, Interpretation, Values}
+use Rattle.hum_record.specs.Row.{Row, Comment, Spined, tokens_of, text_of}
+use Rattle.hum_record.specs.Spelling.{IsToken, IsTokenOf, IsTextOf, has_byte, is_comment, kind_of_token}
+use Rattle.hum_record.specs.Building.{spelled}
+use Rattle.hum_path.specs.Sign.{sign_of, is_join}
+use Rattle.hum_path.specs.Onward.{beginnings}
+use Rattle.hum_path.proofs.Cases.{by_bool}
+use Rattle.hum_spread.specs.Spread.{piece, tokens_in}
+use Rattle.hum_spread.specs.Writing.{Fit}
+use Rattle.hum_spread.proofs.Spreading.{marks}
+use Rattle.hum_spread.proofs.Weights.{weight, no_longer}
+use Rattle.hum_spread.proofs.OneByOne.{Lawful, null_lawful}
+use Rattle.hum_cleave.specs.Columns.{within, others, together}
+use Rattle.hum_cleave.specs.Tokens.{leftmost, comment_of, is_silent, interpretation_of, is_left_out, taken, following, joined, data_of}
+use Rattle.hum_cleave.specs.Cleave.{fits_in_token, each_piece, pieces, told}
+use Rattle.hum_cleave.specs.Following.{AsWide, is_interpretation}
+use Rattle.hum_cleave.proofs.Placewise.{together_none}
+
+-- of each token
+
+pub others_map : {X Y : Type 0} (f : X → Y) (fs : List Bool) (xs : List X) → map f (others fs xs) ≡ others fs (map f xs)
+others_map f [] xs = refl
+others_map f (g ∷ fs) [] = refl
+others_map f (true ∷ fs) (x ∷ xs) = others_map f fs xs
+others_map {X} {Y} f (false ∷ fs) (x ∷ xs) = ap (λ (ys : List Y). f x ∷ ys) (others_map f fs xs)
+
+pub together_map : {X Y : Type 0} (f : X → Y) (one : X) (fs : List Bool) (xs : List X)
+    → map f (together one fs xs) ≡ together (f one) fs (map f xs)
+together_map f one [] xs = refl
+together_map f one (g ∷ fs) [] = refl
+together_map {X} {Y} f one (true ∷ fs) (x ∷ xs) = ap (λ (ys : List Y). f one ∷ ys) (others_map f fs xs)
+together_map {X} {Y} f one (false ∷ fs) (x ∷ xs) = ap (λ (ys : List Y). f x ∷ ys) (together_map f one fs xs)
+
+pub within_map : {X Y : Type 0} (f : X → Y) (fs : List Bool) (xs : List X) → map f (within fs xs) ≡ within fs (map f xs)
+within_map f [] xs = refl
+within_map f (g ∷ fs) [] = refl
+within_map {X} {Y} f (true ∷ fs) (x ∷ xs) = ap (λ (ys : List Y). f x ∷ ys) (within_map f fs xs)
+within_map f (false ∷ fs) (x ∷ xs) = within_map f fs xs
+
+each_tokens : (b : Bool) (ts : List (List ℕ)) → tokens_in (each_piece b ts) ≡ ts
+each_tokens b [] = refl
+each_tokens b (t ∷ ts) = ap (λ (us : List (List ℕ)). t ∷ us) (each_tokens (is_join (sign_of t)) ts)
+
+each_marks : (b : Bool) (ts : List (List ℕ)) → marks (each_piece b ts) ≡ beginnings b (map sign_of ts)
+each_marks b [] = refl
+each_marks b (t ∷ ts) = cc_marks (each_marks (is_join (sign_of t)) ts)
+  where
+    cc_marks : marks (each_piece (is_join (sign_of t)) ts) ≡ beginnings (is_join (sign_of t)) (map sign_of ts)
+        → marks (each_piece b (t ∷ ts)) ≡ beginnings b (map sign_of (t ∷ ts))
+    cc_marks h = rw h refl
+
+pub pieces_tokens : (fs : List Bool) (ts : List (List ℕ)) → tokens_in (pieces fs ts) ≡ together (interpretation_of (within fs ts)) fs ts
+pieces_tokens fs ts =
+    together_map (λ p. p.token) (piece false (interpretation_of (within fs ts))) fs (each_piece false ts)
+    ∙ ap (λ (us : List (List ℕ)). together (interpretation_of (within fs ts)) fs us) (each_tokens false ts)
+
+pub pieces_marks : (fs : List Bool) (ts : List (List ℕ)) → marks (pieces fs ts) ≡ together false fs (beginnings false (map sign_of ts))
+pieces_marks fs ts =
+    together_map (λ p. p.begins) (piece false (interpretation_of (within fs ts))) fs (each_piece false ts)
+    ∙ ap (λ (bs : List Bool). together false fs bs) (each_marks false ts)
+
+-- lawful tokens
+
+within_all : (P : List ℕ → Type 0) (fs : List Bool) (ts : List (List ℕ)) → AllByRecursion P ts → AllByRecursion P (within fs ts)
+within_all P [] ts h = tt
+within_all P (f ∷ fs) [] h = tt
+within_all P (true ∷ fs) (t ∷ ts) h = (h.0, within_all P fs ts h.1)
+within_all P (false ∷ fs) (t ∷ ts) h = within_all P fs ts h.1
+
+leftmost_is : (P : List ℕ → Type 0) (test : List ℕ → Bool) (other : List ℕ) (ts : List (List ℕ)) → P other → AllByRecursion P ts
+    → P (leftmost test other ts)
+leftmost_is P test other [] o h = o
+leftmost_is P test other (t ∷ ts) o h = either (test t) (leftmost_is P test other ts o h.1)
+  where
+    either : (b : Bool) → P (leftmost test other ts) → P (cond b (leftmost test other ts) t)
+    either true more = more
+    either false more = h.0
+
+pub lawful_tokens : (kind : SpinedKind) (row : Row) → row ≡ Spined kind (tokens_of row) → IsTextOf row (text_of row)
+    → AllByRecursion (IsToken kind) (tokens_of row) × (length (spelled (tokens_of row)) ≤ 1048576)
+lawful_tokens kind (Comment text) e h = cc
+lawful_tokens kind (Spined other ts) e h =
+    let k : other ≡ kind = cc in (subst (λ (x : SpinedKind). AllByRecursion (IsToken x) ts) k h.2, h.3)
+
+pub token_lawful : (kind : SpinedKind) (row : Row) (token : List ℕ) → row ≡ Spined kind (tokens_of row) → IsTokenOf row token → IsToken kind token
+token_lawful kind (Comment text) token e h = cc
+token_lawful kind (Spined other ts) token e h = let k : other ≡ kind = cc in subst (λ (x : SpinedKind). IsToken x token) k h
+
+-- data
+
+no_byte : (b : ℕ) (xs ys : List ℕ) → has_byte b xs ≡ false → has_byte b ys ≡ false → has_byte b (xs ++ ys) ≡ false
+no_byte b [] ys h k = k
+no_byte b (x ∷ xs) ys h k =
+    let both = or_parts (x == b) (has_byte b xs) h in or_from (x == b) (has_byte b (xs ++ ys)) both.0 (no_byte b xs ys both.1 k)
+
+none_following : (b : ℕ) (text : List ℕ) (ts : List (List ℕ)) → has_byte b text ≡ false
+    → AllByRecursion (λ t. has_byte b t ≡ false) ts → has_byte b (following text ts) ≡ false
+none_following b text [] h all = refl
+none_following b text (t ∷ ts) h all =
+    no_byte b text (t ++ following text ts) h (no_byte b t (following text ts) all.0 (none_following b text ts h all.1))
+
+taken_all : (P : List ℕ → Type 0) (before ts : List (List ℕ)) → AllByRecursion P ts → AllByRecursion P (taken before ts)
+taken_all P before [] h = tt
+taken_all P before (t ∷ ts) h = either (is_left_out before t) (taken_all P (before ++ t ∷ []) ts h.1)
+  where
+    either : (b : Bool) → AllByRecursion P (taken (before ++ t ∷ []) ts)
+        → AllByRecursion P (cond b (taken (before ++ t ∷ []) ts) (t ∷ taken (before ++ t ∷ []) ts))
+    either true more = more
+    either false more = (h.0, more)
+
+all_map : (P Q : List ℕ → Type 0) (ts : List (List ℕ)) → ((t : List ℕ) → P t → Q t) → AllByRecursion P ts → AllByRecursion Q ts
+all_map P Q [] f h = tt
+all_map P Q (t ∷ ts) f h = (f t h.0, all_map P Q ts f h.1)
+
+no_exclamation : (b : ℕ) (bs rest : List ℕ) → kind_of_token (b ∷ bs) ≡ Values → is_comment ((b ∷ bs) ++ rest) ≡ false
+no_exclamation b bs rest h = by_bool (is_comment ((b ∷ bs) ++ rest))
+    (λ w.
+    let at : 33 ≡ b = eqb-true 33 b (and_parts _ _ w).0 in
+    let same : (b == 33) ≡ true = rw (← at) refl in
+    absurd (never (rw same at h)))
+    (λ w. w)
+  where
+    never : Local ≡ Values → ⊥
+    never h = cc
+
+begun : (token rest : List ℕ) → IsToken Values token → has_byte 9 rest ≡ false → has_byte 13 rest ≡ false → has_byte 10 rest ≡ false
+    → IsToken Values (token ++ rest)
+begun [] rest h tab return feed = absurd (h.filled refl)
+begun (b ∷ bs) rest h tab return feed = record {
+  filled = λ e. cc;
+  one_token = no_byte 9 (b ∷ bs) rest h.one_token tab;
+  one_line = no_byte 13 (b ∷ bs) rest h.one_line return;
+  no_line_end = no_byte 10 (b ∷ bs) rest h.no_line_end feed;
+  of_kind = h.of_kind;
+  no_comment = no_exclamation b bs rest h.of_kind;
+}
+
+null_data : IsToken Values (codes ".")
+null_data = record { filled = λ e. cc; one_token = refl; one_line = refl; no_line_end = refl; of_kind = refl; no_comment = refl }
+
+pub data_lawful : (text : List ℕ) (ts : List (List ℕ)) → fits_in_token text ≡ true → AllByRecursion (IsToken Values) ts
+    → IsToken Values (data_of text ts)
+data_lawful text ts fits all = from (taken [] ts) (taken_all (IsToken Values) [] ts all)
+  where
+    from : (us : List (List ℕ)) → AllByRecursion (IsToken Values) us → IsToken Values (joined text us)
+    from [] h = null_data
+    from (u ∷ us) h =
+        let out = or_parts (has_byte 9 text) (has_byte 13 text || has_byte 10 text) (not_true _ fits) in
+        let out2 = or_parts (has_byte 13 text) (has_byte 10 text) out.1 in
+        begun u (following text us) h.0
+        (none_following 9 text us out.0 (all_map (IsToken Values) (λ t. has_byte 9 t ≡ false) us (λ t l. l.one_token) h.1))
+        (none_following 13 text us out2.0 (all_map (IsToken Values) (λ t. has_byte 13 t ≡ false) us (λ t l. l.one_line) h.1))
+        (none_following 10 text us out2.1 (all_map (IsToken Values) (λ t. has_byte 10 t ≡ false) us (λ t l. l.no_line_end) h.1))
+      where
+        not_true : (b : Bool) → not b ≡ true → b ≡ false
+        not_true true h = cc
+        not_true false h = refl
+
+-- interpretations
+
+others_lawful : (b : Bool) (fs : List Bool) (ts : List (List ℕ)) → AllByRecursion (IsToken Interpretation) ts
+    → Lawful (others fs (each_piece b ts))
+others_lawful b [] ts h = tt
+others_lawful b (f ∷ fs) [] h = tt
+others_lawful b (true ∷ fs) (t ∷ ts) h = others_lawful (is_join (sign_of t)) fs ts h.1
+others_lawful b (false ∷ fs) (t ∷ ts) h = (h.0, others_lawful (is_join (sign_of t)) fs ts h.1)
+
+together_lawful : (b : Bool) (one : List ℕ) (fs : List Bool) (ts : List (List ℕ)) → IsToken Interpretation one
+    → AllByRecursion (IsToken Interpretation) ts → Lawful (together (piece false one) fs (each_piece b ts))
+together_lawful b one [] ts o h = tt
+together_lawful b one (f ∷ fs) [] o h = tt
+together_lawful b one (true ∷ fs) (t ∷ ts) o h = (o, others_lawful (is_join (sign_of t)) fs ts h.1)
+together_lawful b one (false ∷ fs) (t ∷ ts) o h = (h.0, together_lawful (is_join (sign_of t)) one fs ts o h.1)
+
+filled_length : (token : List ℕ) → token ≢ [] → 1 ≤ length token
+filled_length [] h = absurd (h refl)
+filled_length (b ∷ bs) h = omega arith
+
+chosen_weight : (b : Bool) (one t : List ℕ) (ts : List (List ℕ)) → length one + 1 ≤ length t + 1 + weight ts
+    → length (cond b one t) + 1 ≤ length t + 1 + weight ts
+chosen_weight true one t ts h = h
+chosen_weight false one t ts h = omega arith
+
+leftmost_weight : (test : List ℕ → Bool) (other t : List ℕ) (ts : List (List ℕ)) → length other ≤ 1
+    → AllByRecursion (IsToken Interpretation) (t ∷ ts) → length (leftmost test other (t ∷ ts)) + 1 ≤ weight (t ∷ ts)
+leftmost_weight test other t [] short h =
+    let some = filled_length t h.0.filled in chosen_weight (test t) other t [] (omega (arith, some, short))
+leftmost_weight test other t (u ∷ us) short h =
+    let ih = leftmost_weight test other u us short h.1 in
+    chosen_weight (test t) (leftmost test other (u ∷ us)) t (u ∷ us) (omega (arith, ih))
+
+others_weight : (fs : List Bool) (ts : List (List ℕ)) → weight (others fs ts) + weight (within fs ts) ≤ weight ts
+others_weight [] ts = omega arith
+others_weight (f ∷ fs) [] = omega arith
+others_weight (true ∷ fs) (t ∷ ts) = let ih = others_weight fs ts in omega (arith, ih)
+others_weight (false ∷ fs) (t ∷ ts) = let ih = others_weight fs ts in omega (arith, ih)
+
+together_weight : (one : List ℕ) (fs : List Bool) (ts : List (List ℕ))
+    → (1 ≤ length (within fs ts) → length one + 1 ≤ weight (within fs ts)) → weight (together one fs ts) ≤ weight ts
+together_weight one [] ts h = omega arith
+together_weight one (f ∷ fs) [] h = omega arith
+together_weight one (true ∷ fs) (t ∷ ts) h =
+    let less = others_weight fs ts in let most = h (omega arith) in omega (arith, less, most)
+together_weight one (false ∷ fs) (t ∷ ts) h = let ih = together_weight one fs ts h in omega (arith, ih)
+
+one_weight : (ts : List (List ℕ)) → AllByRecursion (IsToken Interpretation) ts → 1 ≤ length ts → length (interpretation_of ts) + 1 ≤ weight ts
+one_weight [] h some = absurd (omega (arith, some))
+one_weight (t ∷ ts) h some = leftmost_weight is_silent (codes "*") t ts (omega arith) h
+
+pub pieces_fit : (fs : List Bool) (row : Row) → row ≡ Spined Interpretation (tokens_of row) → IsTextOf row (text_of row)
+    → Fit (pieces fs (tokens_of row))
+pieces_fit fs row e h =
+    let all = lawful_tokens Interpretation row e h in
+    let inside = within_all (IsToken Interpretation) fs (tokens_of row) all.0 in
+    let one = interpretation_of (within fs (tokens_of row)) in
+    let light = together_weight one fs (tokens_of row) (one_weight (within fs (tokens_of row)) inside) in
+    let less = no_longer (together one fs (tokens_of row)) (tokens_of row) light in
+    let most = all.1 in
+    let same = ap (λ (us : List (List ℕ)). length (spelled us)) (pieces_tokens fs (tokens_of row)) in
+    record {
+      lawful = together_lawful false one fs (tokens_of row) (leftmost_is (IsToken Interpretation) is_silent (codes "*") _ null_lawful inside) all.0;
+      at_most = omega (arith, same, less, most);
+    }
+
+-- a record in which no column is cleaved stays
+pub stays : (text : List ℕ) (fs : List Bool) (row : Row) → list_any (λ b. b) fs ≡ false → AsWide fs row → IsTextOf row (text_of row)
+    → is_interpretation row ≡ false → told text fs row ≡ Ok (row ∷ [])
+stays text fs (Comment comment) none wide h other = refl
+stays text fs (Spined Interpretation ts) none wide h other = cc
+stays text fs (Spined Local ts) none wide h other =
+    let most = h.3 in
+    let short : nat_lt 1048576 (length (spelled ts)) ≡ false = grind (arith, nat_tests, most) in
+    rw (together_none (comment_of (within fs ts)) fs ts wide none, short) refl
+stays text fs (Spined Values ts) none wide h other =
+    let most = h.3 in
+    let short : nat_lt 1048576 (length (spelled ts)) ≡ false = grind (arith, nat_tests, most) in
+    rw (together_none (data_of text (within fs ts)) fs ts wide none, short) refl
+
+pub some_tokens : (kind : SpinedKind) (row : Row) → row ≡ Spined kind (tokens_of row) → IsTextOf row (text_of row) → tokens_of row ≢ []
+some_tokens kind (Comment text) e h = cc
+some_tokens kind (Spined other ts) e h = h.1
+
+pub some_bytes : (xs : List ℕ) → (length xs == 0) ≡ false → xs ≢ []
+some_bytes [] h e = cc
+some_bytes (x ∷ xs) h e = cc
+
+pub within_lawful : (fs : List Bool) (ts : List (List ℕ)) → AllByRecursion (IsToken Values) ts → AllByRecursion (IsToken Values) (within fs ts)
+within_lawful = within_all (IsToken Values)

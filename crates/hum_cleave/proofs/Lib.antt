@@ -1,0 +1,12 @@
+pub mod Drafts
+pub mod Flags
+pub mod Taking
+pub mod Placewise
+pub mod Gathering
+pub mod Fitted
+pub mod Selecting
+pub mod Signs
+pub mod Joined
+pub mod MergedLeads
+pub mod Keeping
+mod Examples

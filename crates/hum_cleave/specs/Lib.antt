@@ -1,0 +1,5 @@
+pub mod Columns
+pub mod Tokens
+pub mod Cleave
+pub mod Making
+pub mod Following

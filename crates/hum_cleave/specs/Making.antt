@@ -1,0 +1,20 @@
+-- A record in the making that may grow too long.
+use Rattle.std.specs.Prelude.{◌≡◌, ◌<◌, ◌≤◌, ℕ, Bool, true, false, List, length, Option, None, Some}
+use Rattle.hum_record.specs.declared.SpinedKind.{SpinedKind}
+use Rattle.hum_record.specs.Row.{Row, Spined}
+use Rattle.hum_record.specs.Building.{Draft, spelled}
+
+-- The fields hold tokens of a kind, or that these are too long for a record.
+pub record Holds (kind : SpinedKind) (draft : Draft) (long : Bool) (tokens : List (List ℕ))
+    : Type 0 where
+  pub of_kind : draft.kind ≡ kind
+  pub sound : long ≡ false → draft.spent ≡ false
+  pub held : long ≡ false → draft.tokens ≡ tokens
+  pub fits : long ≡ false → length (spelled tokens) ≤ 1048576
+  pub over : long ≡ true → 1048576 < length (spelled tokens)
+
+-- the record of these tokens, or none where they are too long
+abbrev pub IsMade : SpinedKind → List (List ℕ) → Option Row → Type 0
+IsMade kind tokens None = 1048576 < length (spelled tokens)
+IsMade kind tokens (Some row) =
+    (row ≡ Spined kind tokens) × (length (spelled tokens) ≤ 1048576)

@@ -1,0 +1,224 @@
+//! Records whose cleaved columns have become one.
+ghost use Rattle.std.specs.Prelude.{◌≡◌, ℕ, List, [], true, false, length, IfOk};
+ghost use Rattle.std.specs.List.{list_any};
+ghost use Rattle.hum_record.specs.declared.SpinedKind.{SpinedKind};
+ghost use Rattle.hum_record.specs.declared.SpinedKind.TheVariants.{Local, Interpretation, Values};
+ghost use Rattle.hum_record.specs.Row.{Spined, tokens_of, width_of, text_of};
+ghost use Rattle.hum_record.specs.Spelling.{IsToken, IsTextOf};
+ghost use Rattle.hum_cleave.specs.Columns.{within, together};
+ghost use Rattle.hum_cleave.specs.Tokens.{comment_of, data_of};
+ghost use Rattle.hum_cleave.specs.Cleave.{fits_in_token, is_name, one_record, told};
+ghost use Rattle.hum_cleave.specs.Making.{IsMade};
+ghost use Rattle.hum_cleave.specs.Following.{AsWide, Answers, is_interpretation};
+
+use crate::making::Making;
+use crate::tokens::{gather, leftmost_comment};
+use hum_record::{Kind, Record, Spare, SpinedKind};
+use hum_stage::Rule;
+use std::alloc::{AllocError, Global};
+use std::collections::VecDeque;
+use std::marker::Model;
+
+/// Where a joined token is made, and the record that gave way to another last.
+///
+/// Nothing of what stands in them shows.
+#[derive(Drop)]
+pub struct Buffers {
+    text: Vec<u8>,
+    spare: Spare,
+}
+
+impl Model for Buffers {
+    ghost use Rattle.std.specs.Prelude.{⊤};
+
+    ghost Value = { ⊤ };
+
+    ghost view = { λ b. tt };
+}
+
+impl Buffers {
+    /// Nothing was made yet.
+    pub fn new(alloc: Global) -> Buffers {
+        Buffers {
+            text: Vec::new(alloc),
+            spare: Spare::none(alloc),
+        }
+    }
+}
+
+/// Whether some column is cleaved.
+pub fn has_cleaved(marks: &[bool]) -> bool
+    ensures { result ≡ list_any (λ b. b) marks.now }
+{
+    for mark in marks {
+        if *mark {
+            return true;
+        }
+    }
+    false
+}
+
+/// The record with one token in place of those in the cleaved columns, unless it is too long.
+fn put_together(
+    alloc: Global,
+    kind: SpinedKind,
+    marks: &[bool],
+    one: &[u8],
+    row: &Record,
+    spare: &mut Spare,
+) -> Result<Option<Record>, AllocError>
+    requires shape { row.now ≡ Spined kind (tokens_of row.now) }
+    requires sound { IsTextOf row.now (text_of row.now) }
+    requires lawful { IsToken kind one.now }
+    requires as_wide { length marks.now ≡ width_of row.now }
+    ensures { IfOk result (IsMade kind (together one.now marks.now (tokens_of row.now))) }
+{
+    let mut making = Making::new(alloc, kind, spare);
+    let mut is_done = false;
+    for (j, mark) in marks.iter().enumerate() {
+        if !*mark {
+            making.push(row.token(j))?;
+        } else if !is_done {
+            making.push(one)?;
+            is_done = true;
+        }
+    }
+    Ok(making.finish())
+}
+
+/// What a local comment becomes, unless it is too long.
+fn comment_record(
+    alloc: Global,
+    marks: &[bool],
+    row: &Record,
+    buffers: &mut Buffers,
+) -> Result<Option<Record>, AllocError>
+    requires shape { row.now ≡ Spined Local (tokens_of row.now) }
+    requires sound { IsTextOf row.now (text_of row.now) }
+    requires as_wide { length marks.now ≡ width_of row.now }
+    ensures { IfOk result (IsMade Local (together
+        (comment_of (within marks.now (tokens_of row.now))) marks.now (tokens_of row.now))) }
+{
+    let one = leftmost_comment(marks, row);
+    put_together(
+        alloc,
+        SpinedKind::Local,
+        marks,
+        one,
+        row,
+        &mut buffers.spare,
+    )
+}
+
+/// What data become, unless they are too long.
+fn data_record(
+    alloc: Global,
+    separator: &[u8],
+    marks: &[bool],
+    row: &Record,
+    buffers: &mut Buffers,
+) -> Result<Option<Record>, AllocError>
+    requires shape { row.now ≡ Spined Values (tokens_of row.now) }
+    requires sound { IsTextOf row.now (text_of row.now) }
+    requires between { fits_in_token separator.now ≡ true }
+    requires as_wide { length marks.now ≡ width_of row.now }
+    ensures { IfOk result (IsMade Values (together
+        (data_of separator.now (within marks.now (tokens_of row.now)))
+        marks.now (tokens_of row.now))) }
+{
+    gather(separator, marks, row, &mut buffers.text)?;
+    let one = buffers.text.as_slice();
+    put_together(
+        alloc,
+        SpinedKind::Values,
+        marks,
+        one,
+        row,
+        &mut buffers.spare,
+    )
+}
+
+/// What the opening record becomes, unless it is too long.
+pub fn opening_record(
+    alloc: Global,
+    new_name: &[u8],
+    marks: &[bool],
+    row: &Record,
+    buffers: &mut Buffers,
+) -> Result<Option<Record>, AllocError>
+    requires shape { row.now ≡ Spined Interpretation (tokens_of row.now) }
+    requires sound { IsTextOf row.now (text_of row.now) }
+    requires lawful { is_name new_name.now ≡ true }
+    requires as_wide { length marks.now ≡ width_of row.now }
+    ensures { IfOk result (IsMade Interpretation
+        (together new_name.now marks.now (tokens_of row.now))) }
+{
+    put_together(
+        alloc,
+        SpinedKind::Interpretation,
+        marks,
+        new_name,
+        row,
+        &mut buffers.spare,
+    )
+}
+
+/// Gives what was made of a record, or answers L1 where that would be too long. The record that
+/// gives way is done with.
+pub fn give(
+    row: Record,
+    made: Option<Record>,
+    buffers: &mut Buffers,
+    out: &mut VecDeque<Record>,
+) -> Result<Option<Rule>, AllocError>
+    requires empty { out.old.items ≡ [] }
+    ensures { IfOk result (λ refused. (kind : SpinedKind) (tokens : List (List ℕ)) (room : ℕ)
+        → IsMade kind tokens made
+        → Answers (one_record kind tokens) room out.new.items refused) }
+{
+    match made {
+        None => Ok(Some(Rule::L1)),
+        Some(made) => {
+            out.push_back(made)?;
+            buffers.spare.keep(row);
+            Ok(None)
+        }
+    }
+}
+
+/// Gives what a record becomes that isn't an interpretation.
+pub fn give_text(
+    alloc: Global,
+    separator: &[u8],
+    marks: &[bool],
+    row: Record,
+    buffers: &mut Buffers,
+    out: &mut VecDeque<Record>,
+) -> Result<Option<Rule>, AllocError>
+    requires between { fits_in_token separator.now ≡ true }
+    requires as_wide { AsWide marks.now row }
+    requires empty { out.old.items ≡ [] }
+    requires kind { is_interpretation row ≡ false }
+    requires lawful { IsTextOf row (text_of row) }
+    ensures { IfOk result (λ refused. (room : ℕ)
+        → Answers (told separator.now marks.now row) room out.new.items refused) }
+{
+    if !has_cleaved(marks) {
+        out.push_back(row)?;
+        return Ok(None);
+    }
+    match row.kind() {
+        Kind::Local => {
+            let made = comment_record(alloc, marks, &row, buffers)?;
+            give(row, made, buffers, out)
+        }
+        Kind::Values => {
+            let made = data_record(alloc, separator, marks, &row, buffers)?;
+            give(row, made, buffers, out)
+        }
+        _ => {
+            out.push_back(row)?;
+            Ok(None)
+        }
+    }
+}

@@ -1,0 +1,128 @@
+//! What the tokens of the cleaved columns become.
+ghost use Rattle.std.specs.Prelude.{◌≡◌, ◌<◌, true, length, take, OnOk};
+ghost use Rattle.std.specs.List.{list_any};
+ghost use Rattle.std.specs.Str.{bytes_eq};
+ghost use Rattle.hum_record.specs.Row.{Spined, tokens_of, width_of, text_of};
+ghost use Rattle.hum_record.specs.Spelling.{IsToken, IsTextOf};
+ghost use Rattle.hum_record.specs.declared.SpinedKind.TheVariants.{Local, Values};
+ghost use Rattle.hum_cleave.specs.Columns.{within};
+ghost use Rattle.hum_cleave.specs.Cleave.{fits_in_token};
+ghost use Rattle.hum_cleave.specs.Tokens.{is_null_comment, comment_of, is_silent};
+ghost use Rattle.hum_cleave.specs.Tokens.{interpretation_of, is_left_out};
+ghost use Rattle.hum_cleave.specs.Tokens.{data_of, added};
+
+use hum_record::Record;
+use std::alloc::AllocError;
+
+fn is_null_comment(token: &[u8]) -> bool
+    ensures { result ≡ is_null_comment token.now }
+{
+    token == b"!".as_slice()
+}
+
+/// The leftmost local comment that isn't null, else a null one.
+pub fn leftmost_comment<'r>(marks: &[bool], row: &'r Record) -> &'r [u8]
+    requires kind { row.now ≡ Spined Local (tokens_of row.now) }
+    requires as_wide { length marks.now ≡ width_of row.now }
+    ensures token { result.now ≡ comment_of (within marks.now (tokens_of row.now)) }
+    ensures lawful { IsToken Local result.now }
+{
+    for (j, mark) in marks.iter().enumerate() {
+        if *mark && !is_null_comment(row.token(j)) {
+            return row.token(j);
+        }
+    }
+    b"!".as_slice()
+}
+
+/// Whether an interpretation says nothing of the one column: null, a split or a join.
+fn is_silent(token: &[u8]) -> bool
+    ensures { result ≡ is_silent token.now }
+{
+    token == b"*".as_slice() || token == b"*^".as_slice() || token == b"*v".as_slice()
+}
+
+/// The leftmost interpretation that isn't null, a split or a join, else a null one.
+pub fn leftmost_interpretation<'r>(marks: &[bool], row: &'r Record) -> &'r [u8]
+    requires as_wide { length marks.now ≡ width_of row.now }
+    ensures { result.now ≡ interpretation_of (within marks.now (tokens_of row.now)) }
+{
+    for (j, mark) in marks.iter().enumerate() {
+        if *mark && !is_silent(row.token(j)) {
+            return row.token(j);
+        }
+    }
+    b"*"
+}
+
+fn are_equal(token: &[u8], other: &[u8]) -> bool
+    ensures { result ≡ bytes_eq token.now other.now }
+{
+    token == other
+}
+
+/// Whether a token of a cleaved column stands to the left of column `j`.
+fn stands_before(marks: &[bool], row: &Record, j: usize, token: &[u8]) -> bool
+    requires as_wide { length marks.now ≡ width_of row.now }
+    requires column { j < length marks.now }
+    ensures { result ≡ list_any (bytes_eq token.now)
+        (within (take j marks.now) (take j (tokens_of row.now))) }
+{
+    for (i, mark) in marks.split_at(j).0.iter().enumerate() {
+        if *mark && are_equal(token, row.token(i)) {
+            return true;
+        }
+    }
+    false
+}
+
+/// Whether the data token of column `j` is left out: it is null, or a barline that is there
+/// already.
+fn is_left_out(marks: &[bool], row: &Record, j: usize, token: &[u8]) -> bool
+    requires as_wide { length marks.now ≡ width_of row.now }
+    requires column { j < length marks.now }
+    ensures { result ≡ is_left_out (within (take j marks.now) (take j (tokens_of row.now)))
+        token.now }
+{
+    token == b".".as_slice() || (token.starts_with(b"=") && stands_before(marks, row, j, token))
+}
+
+/// Adds a token to a text, with the separator between.
+fn add(separator: &[u8], token: &[u8], text: &mut Vec<u8>) -> Result<(), AllocError>
+    ensures { OnOk result (text.new.items
+        ≡ added separator.now text.old.items token.now) }
+{
+    if !text.is_empty() {
+        text.extend_from_slice(separator)?;
+    }
+    text.extend_from_slice(token)?;
+    Ok(())
+}
+
+/// Puts the data tokens of the cleaved columns into a text.
+pub fn gather(
+    separator: &[u8],
+    marks: &[bool],
+    row: &Record,
+    text: &mut Vec<u8>,
+) -> Result<(), AllocError>
+    requires kind { row.now ≡ Spined Values (tokens_of row.now) }
+    requires sound { IsTextOf row.now (text_of row.now) }
+    requires between { fits_in_token separator.now ≡ true }
+    requires as_wide { length marks.now ≡ width_of row.now }
+    ensures text { OnOk result (text.new.items
+        ≡ data_of separator.now (within marks.now (tokens_of row.now))) }
+    ensures lawful { OnOk result (IsToken Values text.new.items) }
+{
+    text.clear();
+    for (j, mark) in marks.iter().enumerate() {
+        let token = row.token(j);
+        if *mark && !is_left_out(marks, row, j, token) {
+            add(separator, token, text)?;
+        }
+    }
+    if text.is_empty() {
+        text.push(b'.')?;
+    }
+    Ok(())
+}
