@@ -1,4 +1,3 @@
-pub mod Drafts
 pub mod Flags
 pub mod Taking
 pub mod Placewise

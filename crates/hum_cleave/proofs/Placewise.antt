@@ -9,7 +9,7 @@ use Rattle.hum_path.specs.declared.signs.Sign.{Sign}
 use Rattle.hum_path.specs.Sign.{is_join}
 use Rattle.hum_cleave.specs.Columns.{others, together}
 use Rattle.hum_cleave.specs.Cleave.{differ, is_torn}
-use Rattle.hum_cleave.specs.Making.{Holds}
+use Rattle.hum_record.specs.Making.{Holds}
 
 -- whether joins are torn, by the left neighbour
 abbrev pub torn_after : Bool → Bool → List Bool → List Sign → Bool

@@ -1,5 +1,4 @@
 pub mod Columns
 pub mod Tokens
 pub mod Cleave
-pub mod Making
 pub mod Following

@@ -1,9 +1,10 @@
 -- What the tokens of the cleaved columns become.
-use Rattle.std.specs.Prelude.{ℕ, Bool, ◌&&◌, ◌||◌, if◌then◌else◌, nat_eq}
+use Rattle.std.specs.Prelude.{ℕ, Bool, ◌&&◌, ◌||◌, if◌then◌else◌}
 use Rattle.std.specs.Prelude.{List, [], ◌∷◌, ◌++◌}
-use Rattle.std.specs.List.{list_any, starts_with}
+use Rattle.std.specs.List.{list_any}
 use Rattle.std.specs.Str.{bytes_eq}
 use lib.Chars.{codes}
+use Rattle.hum_record.specs.Contents.{is_null, is_barline}
 
 -- the leftmost token that isn't left out, else another one
 abbrev pub leftmost : (List ℕ → Bool) → List ℕ → List (List ℕ) → List ℕ
@@ -26,12 +27,6 @@ is_silent token =
 -- Where all cleaved columns end, it is an end.
 abbrev pub interpretation_of : List (List ℕ) → List ℕ
 interpretation_of = leftmost is_silent (codes "*")
-
-abbrev pub is_null : List ℕ → Bool
-is_null token = bytes_eq token (codes ".")
-
-abbrev pub is_barline : List ℕ → Bool
-is_barline token = starts_with nat_eq token (codes "=")
 
 -- A data token is left out where it is null, or a barline that is there already.
 abbrev pub is_left_out : List (List ℕ) → List ℕ → Bool

@@ -9,7 +9,6 @@ ghost use Rattle.hum_stage.specs.Meaning.{opening, KeepsScore};
 ghost use Rattle.hum_cleave.specs.Cleave.{meaning};
 
 mod columns;
-mod making;
 mod merging;
 mod options;
 mod records;

@@ -8,12 +8,11 @@ ghost use Rattle.hum_record.specs.Spelling.{IsToken, IsTextOf};
 ghost use Rattle.hum_cleave.specs.Columns.{within, together};
 ghost use Rattle.hum_cleave.specs.Tokens.{comment_of, data_of};
 ghost use Rattle.hum_cleave.specs.Cleave.{fits_in_token, is_name, one_record, told};
-ghost use Rattle.hum_cleave.specs.Making.{IsMade};
+ghost use Rattle.hum_record.specs.Making.{IsMade};
 ghost use Rattle.hum_cleave.specs.Following.{AsWide, Answers, is_interpretation};
 
-use crate::making::Making;
 use crate::tokens::{gather, leftmost_comment};
-use hum_record::{Kind, Record, Spare, SpinedKind};
+use hum_record::{Kind, Making, Record, Spare, SpinedKind};
 use hum_stage::Rule;
 use std::alloc::{AllocError, Global};
 use std::collections::VecDeque;

@@ -4,6 +4,7 @@ ghost use Rattle.std.specs.List.{list_any};
 ghost use Rattle.std.specs.Str.{bytes_eq};
 ghost use Rattle.hum_record.specs.Row.{Spined, tokens_of, width_of, text_of};
 ghost use Rattle.hum_record.specs.Spelling.{IsToken, IsTextOf};
+ghost use Rattle.hum_record.specs.Contents.{is_null, is_barline};
 ghost use Rattle.hum_record.specs.declared.SpinedKind.TheVariants.{Local, Values};
 ghost use Rattle.hum_cleave.specs.Columns.{within};
 ghost use Rattle.hum_cleave.specs.Cleave.{fits_in_token};
@@ -11,7 +12,7 @@ ghost use Rattle.hum_cleave.specs.Tokens.{is_null_comment, comment_of, is_silent
 ghost use Rattle.hum_cleave.specs.Tokens.{interpretation_of, is_left_out};
 ghost use Rattle.hum_cleave.specs.Tokens.{data_of, added};
 
-use hum_record::Record;
+use hum_record::{Record, is_barline, is_null};
 use std::alloc::AllocError;
 
 fn is_null_comment(token: &[u8]) -> bool
@@ -84,7 +85,7 @@ fn is_left_out(marks: &[bool], row: &Record, j: usize, token: &[u8]) -> bool
     ensures { result ≡ is_left_out (within (take j marks.now) (take j (tokens_of row.now)))
         token.now }
 {
-    token == b".".as_slice() || (token.starts_with(b"=") && stands_before(marks, row, j, token))
+    is_null(token) || (is_barline(token) && stands_before(marks, row, j, token))
 }
 
 /// Adds a token to a text, with the separator between.
