@@ -80,6 +80,7 @@ def tasks(score, steady):
         ('ditto', score, [('mawk', ['mawk', DITTO, score])]),
         ('semits -x', score, [('mawk', ['mawk', '-f', os.path.join(HERE, 'semits.awk'), score])]
          + rust('semits', score) + rust('semits_bytes', score)),
+        ("cleave -i '**kern' -o '**chord'", score, rust('cleave', score)),
         ('timebase -t 16', steady, rust('timebase', steady)),
     ]
 

@@ -4,12 +4,13 @@ use Rattle.hum_stage.specs.Meaning.{Meaning}
 use Rattle.hum_rid.specs.Rid.{meaning as meaning_of_rid}
 use Rattle.hum_extract.specs.Written.{meaning as meaning_of_extract}
 use Rattle.hum_ditto.specs.Ditto.{meaning as meaning_of_ditto}
+use Rattle.hum_cleave.specs.Cleave.{meaning as meaning_of_cleave}
 use Rattle.hum_tones.specs.Commands.{meaning_of_trans, meaning_of_semits, meaning_of_recip, meaning_of_mint}
 use Rattle.hum_timebase.specs.Timebase.{meaning as meaning_of_timebase}
 use Rattle.hum_timebase.specs.Following.{pace_of}
 use Rattle.humpipe.specs.declared.options.CommandOptions.{CommandOptions}
 use Rattle.humpipe.specs.declared.options.CommandOptions.TheVariants.{Rid, Extract, Ditto}
-use Rattle.humpipe.specs.declared.options.CommandOptions.TheVariants.{Timebase, Trans, Semits, Recip, Mint}
+use Rattle.humpipe.specs.declared.options.CommandOptions.TheVariants.{Timebase, Trans, Semits, Recip, Mint, Cleave}
 
 -- what the stage of this number means, by its command
 abbrev pub meaning : ℕ → CommandOptions → Meaning
@@ -21,3 +22,4 @@ meaning stage (Trans options) = meaning_of_trans stage options
 meaning stage (Semits options) = meaning_of_semits stage options
 meaning stage (Recip options) = meaning_of_recip stage options
 meaning stage (Mint options) = meaning_of_mint stage options
+meaning stage (Cleave options) = meaning_of_cleave stage options

@@ -5,6 +5,8 @@
 #![tactic(auto)]
 
 mod bundle;
+#[cfg(test)]
+mod column_tests;
 mod first;
 #[cfg(test)]
 mod note_tests;

@@ -1,6 +1,7 @@
 //! The options of commands, as a plan spells them.
 use crate::values::{fields, names, pattern, signed_number};
 use crate::words::Given;
+use hum_cleave::{CleaveOptions, is_name, is_separator};
 use hum_ditto::DittoOptions;
 use hum_extract::Choice;
 use hum_kern::read_recip;
@@ -21,6 +22,7 @@ pub enum CommandOptions {
     Semits(SemitsOptions),
     Recip(RecipOptions),
     Mint(MintOptions),
+    Cleave(CleaveOptions),
 }
 
 /// Nothing is dropped.
@@ -113,6 +115,25 @@ fn ditto_options(alloc: Global, words: &[&[u8]]) -> Result<Option<DittoOptions>,
     }))
 }
 
+/// What cleave's words say: `-i NAME`, `-o NAME`, and `-d TEXT` or not.
+fn cleave_options(alloc: Global, words: &[&[u8]]) -> Result<Option<CleaveOptions>, AllocError> {
+    let Some(given) = Given::read(words, b"iod", b"") else {
+        return Ok(None);
+    };
+    let (Some(name), Some(new_name)) = (given.value(b'i'), given.value(b'o')) else {
+        return Ok(None);
+    };
+    let separator = given.value(b'd').unwrap_or(b" ");
+    if !is_name(name) || !is_name(new_name) || !is_separator(separator) {
+        return Ok(None);
+    }
+    Ok(Some(CleaveOptions::new(
+        name.to_vec(alloc)?,
+        new_name.to_vec(alloc)?,
+        separator.to_vec(alloc)?,
+    )))
+}
+
 /// What timebase's words say: `-t RECIP`.
 fn timebase_options(alloc: Global, words: &[&[u8]]) -> Result<Option<TimebaseOptions>, AllocError> {
     let Some(given) = Given::read(words, b"t", b"") else {
@@ -198,6 +219,8 @@ pub fn command_options(
         Ok(recip_options(words).map(CommandOptions::Recip))
     } else if command == b"mint".as_slice() {
         Ok(mint_options(alloc, words)?.map(CommandOptions::Mint))
+    } else if command == b"cleave".as_slice() {
+        Ok(cleave_options(alloc, words)?.map(CommandOptions::Cleave))
     } else {
         Ok(None)
     }

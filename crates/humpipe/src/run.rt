@@ -12,6 +12,7 @@ ghost use Rattle.humpipe.specs.Run.{HasEnded, HasFailed, HasRun, HasFinished};
 
 use crate::options::CommandOptions;
 use crate::writing::write_record;
+use hum_cleave::Cleave;
 use hum_ditto::Ditto;
 use hum_extract::Extract;
 use hum_read::{ReadError, ScoreReader, Step};
@@ -208,5 +209,6 @@ pub fn run_command<R: Source, W: Sink>(
         CommandOptions::Semits(options) => run_stage(source, Semits::new(alloc, 2, options), sink),
         CommandOptions::Recip(options) => run_stage(source, Recip::new(alloc, 2, options), sink),
         CommandOptions::Mint(options) => run_stage(source, Mint::new(alloc, 2, options), sink),
+        CommandOptions::Cleave(options) => run_stage(source, Cleave::new(alloc, 2, options), sink),
     }
 }

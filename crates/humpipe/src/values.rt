@@ -1,4 +1,5 @@
 //! The values of options: numbers, lists of fields, names and patterns.
+use hum_cleave::is_name;
 use hum_extract::{Choice, Field, FieldRange};
 use hum_pattern::{Pattern, PatternFault};
 use std::alloc::{AllocError, Global};
@@ -99,12 +100,6 @@ pub fn fields(alloc: Global, list: &[u8]) -> Result<Option<Choice>, AllocError> 
         }
     }
     Ok(Some(Choice::Fields(ranges)))
-}
-
-/// Whether a text is an exclusive interpretation with a name.
-pub fn is_name(text: &[u8]) -> bool {
-    let in_token = !text.iter().any(|byte| matches!(*byte, b'\t' | b'\r'));
-    in_token && text.len() > 2 && text.starts_with(b"**")
 }
 
 /// The names of `-i`.
