@@ -1,10 +1,10 @@
 -- What the fields of a stage whose records wait stand for.
-use Rattle.std.specs.Prelude.{◌≡◌, ℕ, ◌+◌, ◌≤◌, Bool, false, List, [], ◌∷◌, ◌++◌, map, length, Option, Some, None}
+use Rattle.std.specs.Prelude.{◌≡◌, ℕ, ◌+◌, ◌≤◌, Bool, false, List, [], ◌∷◌, ◌++◌, map, length}
+use Rattle.std.specs.Prelude.{Option, Some, None}
 use Rattle.std.specs.Option.{option_to_list}
 use Rattle.hum_record.specs.Row.{Row}
 use Rattle.hum_path.specs.Score.{passed}
 use Rattle.hum_stage.specs.declared.faults.Command.{Command}
-use Rattle.hum_stage.specs.declared.faults.Rule.{Rule}
 use Rattle.hum_stage.specs.declared.faults.Fault.{Fault}
 use Rattle.hum_stage.specs.declared.faults.End.{End}
 use Rattle.hum_stage.specs.Outcome.{Outcome, Becomes, Refused, Undecided, refusal}
@@ -48,7 +48,8 @@ pub record Lagged : Type 0 where
   pub fault : Option Fault
 
 -- The records that were decided, and those that wait.
-pub record Ahead (room : ℕ) (look : Look) (follows : List Row → List Row → Type 0) (put : List Row) (first count : ℕ) (rest : List Outcome) : Type 0 where
+pub record Ahead (room : ℕ) (look : Look) (follows : List Row → List Row
+    → Type 0) (put : List Row) (first count : ℕ) (rest : List Outcome) : Type 0 where
   pub front : List Row
   pub waits : List Row
   pub split : put ≡ front ++ waits
@@ -59,7 +60,8 @@ pub record Ahead (room : ℕ) (look : Look) (follows : List Row → List Row →
   pub stops : StopsAt look (passed [] front) waits None
   pub outcomes : rest ≡ outcomes_from room look (passed [] front) waits
 
-pub record LagsAt (room : ℕ) (look : Look) (follows : List Row → List Row → Type 0) (x : Lagged) (put : List Row) (given : ℕ) : Type 0 where
+pub record LagsAt (room : ℕ) (look : Look) (follows : List Row → List Row
+    → Type 0) (x : Lagged) (put : List Row) (given : ℕ) : Type 0 where
   pub line : x.line ≡ length put
   pub gone : List (Option Row)
   pub rest : List Outcome
@@ -70,7 +72,8 @@ pub record LagsAt (room : ℕ) (look : Look) (follows : List Row → List Row �
   pub fault : x.fault ≡ fault_at x.stage x.command (refusal 1 (outcomes_from room look [] put))
   pub ahead : x.fault ≡ None → Ahead room look follows put x.first (length (gone ++ x.due)) rest
 
-pub record Lags (room : ℕ) (follows : Look → List Row → List Row → Type 0) (x : Lagged) (ended : Option End) (spent : Bool) (t : Moment) : Type 0 where
+pub record Lags (room : ℕ) (follows : Look → List Row → List Row
+    → Type 0) (x : Lagged) (ended : Option End) (spent : Bool) (t : Moment) : Type 0 where
   pub look : Look
   pub steady : IsSteady look
   pub meaning : t.meaning ≡ looking room x.stage x.command look
