@@ -158,15 +158,14 @@ impl<C: LooksAhead> Stage for Lagging<C> {
     }
 
     fn held(&self) -> usize {
+        let due = self.due.len();
         if self.ended.is_some() {
-            return self.due.len();
+            return due;
         }
         if self.fault.is_some() {
-            return self.due.len();
+            return due;
         }
         let _line = self.line;
-        self.due
-            .len()
-            .saturating_add(self.memory.lasting(&self.waiting))
+        due.saturating_add(self.memory.lasting(&self.waiting))
     }
 }
