@@ -1,0 +1,4 @@
+mod Examples
+pub mod Growth
+pub mod Growing
+pub mod Steady
