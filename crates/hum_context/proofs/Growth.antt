@@ -152,7 +152,7 @@ abbrev HasBytes : List (List ℕ) → Type 0
 HasBytes [] = Unit {0}
 HasBytes (t ∷ ts) = is_data t ≡ true
 
-first_part : (a b : Bool) → (a && b) ≡ true → a ≡ true
+pub first_part : (a b : Bool) → (a && b) ≡ true → a ≡ true
 first_part true b h = refl
 first_part false b h = cc
 

@@ -2,3 +2,5 @@ mod Examples
 pub mod Growth
 pub mod Growing
 pub mod Steady
+pub mod Places
+pub mod Tokens

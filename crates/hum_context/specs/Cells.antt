@@ -25,6 +25,11 @@ is_open Kept = false
 is_open (Settled token) = false
 is_open (Waiting column text missing) = true
 
+abbrev pub is_kept : Cell → Bool
+is_kept Kept = true
+is_kept (Settled token) = false
+is_kept (Waiting column text missing) = false
+
 -- the place of a spine after a record
 abbrev pub place_after : Path → SpinedKind → List (List ℕ) → ℕ → Option ℕ
 place_after path Interpretation tokens c = position (goes_on c) (moves_at path tokens)

@@ -1,3 +1,5 @@
 pub mod Context
 pub mod Options
 pub mod Cells
+pub mod Heard
+pub mod Memory

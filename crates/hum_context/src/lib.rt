@@ -1,6 +1,10 @@
 //! The command context: data tokens with those that come next in their columns.
 #![tactic(auto)]
 
+mod cell;
+mod hearing;
 mod options;
+mod text;
+mod walking;
 
 pub use options::{ContextOptions, Span};
