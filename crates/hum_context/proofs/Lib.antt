@@ -4,3 +4,4 @@ pub mod Growing
 pub mod Steady
 pub mod Places
 pub mod Tokens
+pub mod Walks

@@ -1,6 +1,7 @@
 //! The command context: data tokens with those that come next in their columns.
 #![tactic(auto)]
 
+mod adding;
 mod cell;
 mod hearing;
 mod options;

@@ -1,5 +1,6 @@
 //! The cells that are open, at one record more.
-ghost use Rattle.std.specs.Prelude.{◌≡◌, ◌<◌, [], OnOk, slice_index_or, slice_set};
+ghost use Rattle.std.specs.Prelude.{◌≡◌, ◌<◌, [], ◌∷◌, ◌++◌, OnOk, slice_index_or, slice_set};
+ghost use Rattle.std.specs.Prelude.{if◌then◌else◌};
 ghost use Rattle.std.specs.VecDeque.{deque_len};
 ghost use Rattle.hum_path.specs.Spines.{Path};
 ghost use Rattle.hum_context.specs.Context.{Choice};
@@ -20,8 +21,20 @@ fn take(alloc: Global, cells: &mut VecDeque<Cell>, at: usize) -> Cell
     requires { at < deque_len cells.old }
     ensures taken { result ≡ slice_index_or cells.old.items at result }
     ensures left { cells.new.items ≡ slice_set cells.old.items at Kept }
+    ensures len { deque_len cells.new ≡ deque_len cells.old }
 {
     mem::replace(&mut cells[at], Cell::kept(alloc))
+}
+
+/// Keeps the place of a cell, if that is open.
+fn keep(still: &mut Vec<u64>, id: u64, is_open: bool) -> Result<(), AllocError>
+    ensures { OnOk result
+        (still.new.items ≡ still.old.items ++ (if is_open then id ∷ [] else [])) }
+{
+    if is_open {
+        still.push(id)?;
+    }
+    Ok(())
 }
 
 /// Shows the open cells one record more, and says which are still open. So many cells are gone
@@ -47,9 +60,7 @@ pub(crate) fn walk(
         let at = (*id - gone) as usize;
         let cell = take(alloc, cells, at);
         let cell = cell.next(alloc, row, counting, heard, found)?;
-        if cell.is_open() {
-            still.push(*id)?;
-        }
+        keep(still, *id, cell.is_open())?;
         cells[at] = cell;
     }
     Ok(())
