@@ -14,8 +14,12 @@ use Rattle.hum_path.specs.Chains.{goes_on}
 use Rattle.hum_context.specs.declared.hearing.Heard.{Heard}
 use Rattle.hum_context.specs.declared.hearing.Heard.TheVariants.{Passed, Taken}
 use Rattle.hum_context.specs.Context.{Choice, Extent, First, Between, is_data, is_collectable, is_last, begins}
-use Rattle.hum_context.specs.Cells.{Cell, Kept, Settled, Waiting, column_below, take_token, next_cell, is_enough, first_cell, missing_after, add_token}
-use Rattle.hum_context.specs.Heard.{counts, ends, heard_of, cell_in, place_of, collected}
+use Rattle.hum_context.specs.Cells.{Cell, Kept, Settled, Waiting, column_below, take_token, next_cell, is_enough, first_cell, missing_after, add_token, open_from, values_of}
+use Rattle.hum_context.specs.Memory.{Walked, HasSeen}
+use Rattle.std.specs.List.{list_any}
+use Rattle.std.proofs.Common.{arith, append-nil}
+use Rattle.std.proofs.lemmas.Bool.Decides.{nat_tests}
+use Rattle.hum_context.specs.Heard.{counts, ends, heard_of, cell_in, place_of, collected, is_taken}
 use Rattle.hum_context.proofs.Growth.{value_goes_on, first_part}
 
 -- a token in a column, or none beyond the last
@@ -140,3 +144,97 @@ passed_first o path row j h = rw (passed_none o (token_at row j) h) refl
 
 pub heard_here : (o : Choice) (row : Row) (heard : List Heard) (c : ℕ) → heard ≡ map (heard_of o) (tokens_of row) → get_or heard c Passed ≡ heard_of o (token_at row c)
 heard_here o row heard c e = rw e (heard_all o (tokens_of row) c)
+
+none_taken : (hs : List Heard) (c : ℕ) → list_any is_taken hs ≡ false → get_or hs c Passed ≡ Passed
+none_taken [] c e = refl
+none_taken (Passed ∷ hs) zero e = refl
+none_taken (Passed ∷ hs) (suc c) e = none_taken hs c e
+none_taken (Taken b l ∷ hs) c e = cc
+
+-- a record that nothing is collected of
+pub quiet_data : (o : Choice) (path : Path) (row : Row) (heard : List Heard) (words : List ℕ) → kind_of row ≡ AnyValues → IsTextOf row words → heard ≡ map (heard_of o) (tokens_of row) → list_any is_taken heard ≡ false
+    → (cell : Cell) → next_cell o path row cell ≡ cell
+quiet_data o path row heard words k lawful is none Kept = refl
+quiet_data o path row heard words k lawful is none (Settled token) = refl
+quiet_data o path row heard words k lawful is none (Waiting None text missing) = refl
+quiet_data o path row heard words k lawful is none (Waiting (Some c) text missing) =
+    sym (passed_next o path row c text missing words k lawful (sym (heard_here o row heard c is) ∙ none_taken heard c none))
+
+bang_no_data : (t : List ℕ) → kind_of_token t ≡ Local → is_data t ≡ false
+bang_no_data [] e = refl
+bang_no_data (b ∷ bs) e = by (nat_eq b 33) (nat_eq b 42) e
+  where
+    by : (x y : Bool) → cond x Local (cond y Interpretation Values) ≡ Local → not (x || y) ≡ false
+    by true y k = refl
+    by false true k = cc
+    by false false k = cc
+
+bang_no_last : (t : List ℕ) → kind_of_token t ≡ Local → is_last t ≡ false
+bang_no_last [] e = refl
+bang_no_last (b ∷ bs) e = let k : nat_eq b 33 ≡ true = by (nat_eq b 33) (nat_eq b 42) e in let m : nat_eq b 42 ≡ false = grind (arith, nat_tests, k) in let l : nat_eq 42 b ≡ false = grind (arith, nat_tests, m) in rw (m, l) refl
+  where
+    by : (x y : Bool) → cond x Local (cond y Interpretation Values) ≡ Local → x ≡ true
+    by true y k = refl
+    by false true k = cc
+    by false false k = cc
+
+-- comments change nothing
+pub quiet_comment : (o : Choice) (path : Path) (row : Row) → kind_of row ≡ Global → (cell : Cell) → next_cell o path row cell ≡ cell
+quiet_comment o path row k Kept = refl
+quiet_comment o path row k (Settled token) = refl
+quiet_comment o path row k (Waiting None text missing) = refl
+quiet_comment o path (Comment words) k (Waiting (Some c) text missing) = refl
+quiet_comment o path (Spined Local tokens) k (Waiting (Some c) text missing) = cc
+quiet_comment o path (Spined Interpretation tokens) k (Waiting (Some c) text missing) = cc
+quiet_comment o path (Spined Values tokens) k (Waiting (Some c) text missing) = cc
+
+quiet_token : (o : Choice) (t text : List ℕ) (missing c : ℕ) → LawfulAt Local t → take_token o (cond (is_last t) None (Some c)) t text missing ≡ Waiting (Some c) text missing
+quiet_token o t text missing c (inl e) = rw e refl
+quiet_token o t text missing c (inr h) = rw (no_data o t (bang_no_data t h.of_kind), bang_no_last t h.of_kind) refl
+
+pub quiet_local : (o : Choice) (path : Path) (row : Row) (words : List ℕ) → kind_of row ≡ AnyLocal → IsTextOf row words → (cell : Cell) → next_cell o path row cell ≡ cell
+quiet_local o path row words k lawful Kept = refl
+quiet_local o path row words k lawful (Settled token) = refl
+quiet_local o path row words k lawful (Waiting None text missing) = refl
+quiet_local o path (Comment text') words k lawful (Waiting (Some c) text missing) = cc
+quiet_local o path (Spined Values tokens) words k lawful (Waiting (Some c) text missing) = cc
+quiet_local o path (Spined Interpretation tokens) words k lawful (Waiting (Some c) text missing) = cc
+quiet_local o path (Spined Local tokens) words k lawful (Waiting (Some c) text missing) = quiet_token o (get_or tokens c []) text missing c (all_at Local tokens c lawful.2)
+
+pub all_quiet : (step : Cell → Cell) (cells : List Cell) → ((cell : Cell) → step cell ≡ cell) → map step cells ≡ cells
+all_quiet step [] h = refl
+all_quiet step (c ∷ cs) h = ap (λ (d : Cell). d ∷ map step cs) (h c) ∙ ap (λ (ds : List Cell). c ∷ ds) (all_quiet step cs h)
+
+pub walked_quiet : (step : Cell → Cell) (gone : ℕ) (cells : List Cell) (unsettled : List ℕ) → ((cell : Cell) → step cell ≡ cell) → unsettled ≡ open_from gone cells → Walked step gone cells cells unsettled
+walked_quiet step gone cells unsettled h e = let same = all_quiet step cells h in record { seen = sym same; kept = e ∙ ap (open_from gone) (sym same) }
+
+pub data_values : (row : Row) → kind_of row ≡ AnyValues → values_of row ≡ tokens_of row
+data_values (Comment text) k = cc
+data_values (Spined Local tokens) k = cc
+data_values (Spined Interpretation tokens) k = cc
+data_values (Spined Values tokens) k = refl
+
+pub sign_values : (row : Row) → kind_of row ≡ AnyInterpretation → values_of row ≡ []
+sign_values (Comment text) k = cc
+sign_values (Spined Local tokens) k = cc
+sign_values (Spined Values tokens) k = cc
+sign_values (Spined Interpretation tokens) k = refl
+
+pub local_values : (row : Row) → kind_of row ≡ AnyLocal → values_of row ≡ []
+local_values (Comment text) k = cc
+local_values (Spined Local tokens) k = refl
+local_values (Spined Values tokens) k = cc
+local_values (Spined Interpretation tokens) k = cc
+
+pub comment_values : (row : Row) → kind_of row ≡ Global → values_of row ≡ []
+comment_values (Comment text) k = refl
+comment_values (Spined Local tokens) k = cc
+comment_values (Spined Values tokens) k = cc
+comment_values (Spined Interpretation tokens) k = cc
+
+-- a record without cells of its own
+pub seen_none : (o : Choice) (path : Path) (row : Row) (gone : ℕ) (before now : List Cell) (unsettled : List ℕ) → values_of row ≡ [] → Walked (next_cell o path row) gone before now unsettled → HasSeen o path row gone before now unsettled
+seen_none o path row gone before now unsettled none w = record {
+  seen = w.seen ∙ rw none (sym (append-nil (map (next_cell o path row) before)));
+  places = w.kept ∙ ap (open_from gone) (sym w.seen);
+}

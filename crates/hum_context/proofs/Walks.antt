@@ -5,7 +5,7 @@ use Rattle.std.proofs.Math.Seq.{drop-cons}
 use Rattle.hum_record.specs.Row.{Row}
 use Rattle.hum_path.specs.Spines.{Path}
 use Rattle.hum_context.specs.Context.{Choice}
-use Rattle.hum_context.specs.Cells.{Cell, Kept, Settled, Waiting, is_open, next_cell, open_from}
+use Rattle.hum_context.specs.Cells.{Cell, Kept, Settled, Waiting, is_open, next_cell, open_from, first_cell, first_cells}
 use Rattle.hum_context.specs.Memory.{Walking, Walked}
 
 abbrev pub AllShut : List Cell → Type 0
@@ -117,6 +117,13 @@ going_on gone id at ids left now old new c h e a o n =
       places = k.left ∙ ap (λ (m : ℕ). open_from m k.behind) (omega (arith, here, sum, last));
     }
 
+pub one_open : (d : Cell) (id m : ℕ) → id ≡ m → cond (is_open d) (id ∷ []) [] ≡ open_from m (d ∷ [])
+one_open d id m e = by (is_open d)
+  where
+    by : (b : Bool) → cond b (id ∷ []) [] ≡ cond b (m ∷ []) []
+    by true = ap (λ (x : ℕ). x ∷ []) e
+    by false = refl
+
 -- The cell at the next place sees the record.
 pub walking_on : (step : Cell → Cell) (gone id at : ℕ) (ids left still still' : List ℕ) (before now old new : List Cell) (c d : Cell)
     → Leaves step → Walking step gone before now left still → left ≡ id ∷ ids → at ≡ id - gone → c ≡ get_or now at c → old ≡ set now at Kept → d ≡ step c → new ≡ set old at d
@@ -149,13 +156,6 @@ walking_on step gone id at ids left still still' before now old new c d leaves h
           ∙ (ap (λ (xs : List ℕ). open_from gone (f ++ k.shut) ++ xs) (one_open d id (gone + length (f ++ k.shut)) (omega (arith, here, sum, wide)))
           ∙ (sym (open_append gone (f ++ k.shut) (d ∷ [])) ∙ ap (open_from gone) (sym new_front))));
     }
-  where
-    one_open : (d : Cell) (id m : ℕ) → id ≡ m → cond (is_open d) (id ∷ []) [] ≡ open_from m (d ∷ [])
-    one_open d id m e = by (is_open d)
-      where
-        by : (b : Bool) → cond b (id ∷ []) [] ≡ cond b (m ∷ []) []
-        by true = ap (λ (x : ℕ). x ∷ []) e
-        by false = refl
 
 pub walking_done : (step : Cell → Cell) (gone : ℕ) (left still : List ℕ) (before now : List Cell) → Leaves step → Walking step gone before now left still → left ≡ [] → Walked step gone before now still
 walking_done step gone left still before now leaves h e =
@@ -175,3 +175,18 @@ going_none gone left before e = record { front = []; rest = before; all = refl; 
 
 pub drop_next : (xs : List ℕ) (k : ℕ) → k < length xs → drop k xs ≡ get_or xs k 0 ∷ drop (k + 1) xs
 drop_next xs k h = rw add-one (drop-cons xs k 0 h)
+
+-- one cell more behind the others
+pub open_push : (gone id : ℕ) (old new : List ℕ) (cells : List Cell) (c : Cell) → old ≡ open_from gone cells → id ≡ gone + length cells → new ≡ old ++ cond (is_open c) (id ∷ []) [] → new ≡ open_from gone (cells ++ c ∷ [])
+open_push gone id old new cells c h at e =
+    e ∙ (ap (λ (xs : List ℕ). xs ++ cond (is_open c) (id ∷ []) []) h ∙ (ap (λ (xs : List ℕ). open_from gone cells ++ xs) (one_open c id (gone + length cells) at) ∙ sym (open_append gone cells (c ∷ []))))
+
+pub drop_token : (xs : List (List ℕ)) (k : ℕ) → k < length xs → drop k xs ≡ get_or xs k [] ∷ drop (k + 1) xs
+drop_token xs k h = rw add-one (drop-cons xs k [] h)
+
+pub first_more : (o : Choice) (path : Path) (row : Row) (j : ℕ) (tokens : List (List ℕ)) (cells all : List Cell) (c : Cell) → j < length tokens → c ≡ first_cell o path row j (get_or tokens j [])
+    → cells ++ first_cells o path row j (drop j tokens) ≡ all → (cells ++ c ∷ []) ++ first_cells o path row (j + 1) (drop (j + 1) tokens) ≡ all
+first_more o path row j tokens cells all c h e k =
+    append_assoc cells (c ∷ []) (first_cells o path row (j + 1) (drop (j + 1) tokens))
+    ∙ (ap (λ (d : Cell). cells ++ d ∷ first_cells o path row (j + 1) (drop (j + 1) tokens)) e
+    ∙ (ap (λ (ts : List (List ℕ)). cells ++ first_cells o path row j ts) (sym (drop_token tokens j h)) ∙ k))

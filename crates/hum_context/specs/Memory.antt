@@ -5,7 +5,8 @@ use Rattle.hum_path.specs.Spines.{Path}
 use Rattle.hum_path.specs.Score.{path_after, passed}
 use Rattle.hum_stage.specs.Look.{Look}
 use Rattle.hum_context.specs.Context.{Choice, context, taken}
-use Rattle.hum_context.specs.Cells.{Cell, all_cells, open_from}
+use Rattle.hum_context.specs.Cells.{Cell, all_cells, open_from, next_cell}
+use Rattle.hum_context.specs.Cells.{first_cells, values_of}
 
 -- The state follows the command over the spines; of each record that waits it has the record and
 -- its cells, and of the cells the places of those that are open. So many cells are gone.
@@ -35,3 +36,10 @@ pub record Walked (step : Cell → Cell) (gone : ℕ) (before now : List Cell) (
     : Type 0 where
   pub seen : now ≡ map step before
   pub kept : still ≡ open_from gone (map step before)
+
+-- They all have seen one record more, and its own cells stand behind them.
+pub record HasSeen (o : Choice) (path : Path) (row : Row) (gone : ℕ) (before now : List Cell)
+    (unsettled : List ℕ) : Type 0 where
+  pub seen : now
+      ≡ map (next_cell o path row) before ++ first_cells o path row 0 (values_of row)
+  pub places : unsettled ≡ open_from gone now

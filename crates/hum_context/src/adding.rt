@@ -10,6 +10,7 @@ ghost use Rattle.hum_context.specs.Heard.{heard_of};
 use crate::cell::Cell;
 use crate::hearing::Heard;
 use crate::options::ContextOptions;
+use crate::walking::keep;
 use hum_record::Record;
 use std::alloc::{AllocError, Global};
 use std::collections::VecDeque;
@@ -37,9 +38,7 @@ pub(crate) fn add(
     let wanted = options.span.wanted();
     for j in 0..row.width() {
         let cell = Cell::first(alloc, row, j, counting, wanted, heard[j])?;
-        if cell.is_open() {
-            unsettled.push(gone + cells.len() as u64)?;
-        }
+        keep(unsettled, gone + cells.len() as u64, cell.is_open())?;
         cells.push_back(cell)?;
     }
     Ok(())

@@ -4,6 +4,7 @@
 mod adding;
 mod cell;
 mod hearing;
+mod memory;
 mod options;
 mod text;
 mod walking;

@@ -27,7 +27,7 @@ fn take(alloc: Global, cells: &mut VecDeque<Cell>, at: usize) -> Cell
 }
 
 /// Keeps the place of a cell, if that is open.
-fn keep(still: &mut Vec<u64>, id: u64, is_open: bool) -> Result<(), AllocError>
+pub(crate) fn keep(still: &mut Vec<u64>, id: u64, is_open: bool) -> Result<(), AllocError>
     ensures { OnOk result
         (still.new.items ≡ still.old.items ++ (if is_open then id ∷ [] else [])) }
 {
