@@ -31,6 +31,13 @@ HasWaited before after next =
     (look : Look) (past rows : List Row) → before look past rows → IsOpen (next ∷ passed past rows)
     → after look past (rows ++ next ∷ [])
 
+-- a memory that follows something
+pub record MaySettle (follows : Follows) : Type 0 where
+  pub look : Look
+  pub past : List Row
+  pub rows : List Row
+  pub memory : follows look past rows
+
 -- The first of those that wait is undecided, or it is given and gone, or it is refused.
 abbrev pub Settles : Look → List Row → Row → List Row → (List Row → List Row → Type 0) → Verdict
     → Type 0

@@ -3,7 +3,8 @@ ghost use Rattle.std.specs.Prelude.{◌≡◌, ◌<◌, List, IfOk, OnOk, length
 ghost use Rattle.std.specs.VecDeque.{deque_len};
 ghost use Rattle.hum_record.specs.Row.{Row};
 ghost use Rattle.hum_stage.specs.Look.{Look};
-ghost use Rattle.hum_stage.specs.Settles.{MayWait, HasWaited, HasSettled, Lasts, left_by};
+ghost use Rattle.hum_stage.specs.Settles.{MayWait, HasWaited, MaySettle};
+ghost use Rattle.hum_stage.specs.Settles.{HasSettled, Lasts, left_by};
 
 use crate::faults::Rule;
 use hum_record::Record;
@@ -41,7 +42,8 @@ pub trait LooksAhead {
     /// Lets the first record that waits go, if it is decided. What is kept of it is then gone from
     /// the queue.
     fn settle(&mut self, held: &mut VecDeque<Self::Held>) -> Result<Verdict, AllocError>
-        requires { 0 < deque_len held.old }
+        requires filled { 0 < deque_len held.old }
+        requires memory { MaySettle (follows self.old held.old.items) }
         ensures fewer { IfOk result (λ v. deque_len held.old ≡ left_by v (deque_len held.new)) }
         ensures settles { IfOk result (HasSettled
             (follows self.old held.old.items) (follows self.new held.new.items)) };

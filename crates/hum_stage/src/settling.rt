@@ -1,6 +1,6 @@
 //! Letting records go that waited.
 ghost use Rattle.std.specs.Prelude.{◌≡◌, IfOk};
-ghost use Rattle.hum_stage.specs.Settles.{HasSettledAll};
+ghost use Rattle.hum_stage.specs.Settles.{MaySettle, HasSettledAll};
 ghost use Rattle.hum_stage.specs.Lagging.{trimmed};
 
 use crate::faults::Rule;
@@ -16,6 +16,7 @@ pub fn settle_all<C: LooksAhead>(
     waiting: &mut VecDeque<C::Held>,
     due: &mut VecDeque<Option<Record>>,
 ) -> Result<Option<Rule>, AllocError>
+    requires { MaySettle (C.follows memory.old waiting.old.items) }
     ensures { IfOk result (HasSettledAll (C.follows memory.old waiting.old.items)
         (C.follows memory.new waiting.new.items) due.old.items due.new.items) }
 {

@@ -24,3 +24,8 @@ loop-memory-preserved g c look past rows h =
     (filled _ _ _ _ c.loop-memory.waiting.ok.0 each c.is_empty.ensures c.loop-memory-test.true)
     (λ past row rows k. rw c.in-Ok-Gives.field-0-is at (c.in-Ok-Gives.ensures.settles look past
     row rows k)) c.in_ok-push_back-in-Ok-Gives.ensures.items
+
+pub settle-requires-clause-memory : goal.settle-requires-clause-memory
+settle-requires-clause-memory g c =
+    let inv = c.loop-memory.invariant c.requires.look c.requires.past c.requires.rows c.requires.memory in
+    record { look = c.requires.look; past = _; rows = inv.rest; memory = inv.memory }

@@ -57,3 +57,14 @@ pub put-requires : goal.put-requires
 put-requires g c =
     may_wait 65536 _ _ _ _ c.args.next c.if-self.false
     (no_fault _ (sym c.is_some.ensures ∙ c.if-is_some.false)) c.requires
+
+pub settle_all-requires : goal.settle_all-requires
+settle_all-requires g c =
+    let m = may_wait 65536 _ _ _ _ c.args.next c.if-self.false
+    (no_fault _ (sym c.is_some.ensures ∙ c.if-is_some.false)) c.requires in
+    record {
+      look = m.look;
+      past = m.past;
+      rows = _;
+      memory = c.in_ok-put.ensures m.look m.past m.rows m.memory m.score;
+    }
