@@ -5,3 +5,4 @@ pub mod Steady
 pub mod Places
 pub mod Tokens
 pub mod Walks
+pub mod Shows

@@ -3,3 +3,4 @@ pub mod Options
 pub mod Cells
 pub mod Heard
 pub mod Memory
+pub mod Shown

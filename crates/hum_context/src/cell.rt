@@ -1,6 +1,6 @@
 //! What is remembered of a cell whose new token may wait.
 ghost use lib.Chars.{codes};
-ghost use Rattle.std.specs.Prelude.{◌≡◌, ◌<◌, [], map, Some, None, IfOk, IfSome, IfNone};
+ghost use Rattle.std.specs.Prelude.{◌≡◌, ◌<◌, [], map, Some, IfOk};
 ghost use Rattle.std.specs.Prelude.{slice_index_or};
 ghost use Rattle.std.specs.List.{position};
 ghost use Rattle.hum_record.specs.declared.Kind.TheVariants.{Interpretation as AnyInterpretation, Values as AnyValues};
@@ -10,7 +10,8 @@ ghost use Rattle.hum_record.specs.declared.SpinedKind.TheVariants.{Values};
 ghost use Rattle.hum_path.specs.Spines.{Path, moves};
 ghost use Rattle.hum_path.specs.Chains.{goes_on};
 ghost use Rattle.hum_context.specs.Context.{Choice, is_last};
-ghost use Rattle.hum_context.specs.Cells.{Kept, Settled, Waiting, is_open, is_kept, missing_after, next_cell, first_cell, token_of};
+ghost use Rattle.hum_context.specs.Cells.{Kept, Settled, Waiting, is_open, is_kept, missing_after, next_cell, first_cell};
+ghost use Rattle.hum_context.specs.Shown.{shown};
 ghost use Rattle.hum_context.specs.Heard.{Hears, collected, place_of, heard_of, counts};
 ghost use Rattle.hum_context.specs.declared.hearing.Heard.TheVariants.{Passed};
 
@@ -308,18 +309,16 @@ impl Cell {
         matches!(self.place, Place::Stays)
     }
 
-    /// The new token of the cell with this token, if it is settled.
-    pub(crate) fn token<'a>(&'a self, token: &'a [u8]) -> Option<&'a [u8]>
+    /// The new token of the cell with this token, which stays while it isn't settled.
+    pub(crate) fn shown<'a>(&'a self, token: &'a [u8]) -> &'a [u8]
         requires { IsToken Values token.now }
-        ensures settled { IfSome result (λ t. token_of token.now self.now ≡ Some t.now) }
-        ensures open { IfNone result (token_of token.now self.now ≡ None) }
-        ensures lawful { IfSome result (λ t. IsToken Values t.now) }
+        ensures shown { result.now ≡ shown token.now self.now }
+        ensures lawful { IsToken Values result.now }
     {
         match self.place {
-            Place::Stays => Some(token),
-            Place::Null => Some(b"."),
-            Place::Done => Some(self.text.bytes()),
-            Place::Nowhere | Place::At(_) => None,
+            Place::Stays | Place::Nowhere | Place::At(_) => token,
+            Place::Null => b".",
+            Place::Done => self.text.bytes(),
         }
     }
 }

@@ -2,6 +2,7 @@
 #![tactic(auto)]
 
 mod adding;
+mod becoming;
 mod cell;
 mod hearing;
 mod memory;
