@@ -3,12 +3,13 @@ use Rattle.std.proofs.Common.{◌≡◌, ◌∙◌, ◌≢◌, refl, sym, ap, �
 use Rattle.std.proofs.Common.{arith, add-one, drop-cons, append_assoc, length-append, Option, None, Some}
 use Rattle.std.specs.Prelude.{nat_le, slice_get}
 use Rattle.std.proofs.lemmas.Bool.Decides.{nat_tests}
-use Rattle.std.proofs.lemmas.List.{drop_all}
+use Rattle.std.proofs.lemmas.List.{drop_all, take-append-drop, length-take-le}
+use Rattle.std.proofs.Common.{take}
 use Rattle.hum_record.specs.Building.{spelled}
 use Rattle.hum_record.proofs.Drafts.{spelled_front}
 use Rattle.hum_context.specs.Context.{all_some, push_front}
 use Rattle.hum_context.specs.Cells.{Cell, Kept, Settled, Waiting, is_open, is_kept, token_of, tokens_of_cells, open_from}
-use Rattle.hum_context.specs.Shown.{shown, all_shown, all_stay, none_before}
+use Rattle.hum_context.specs.Shown.{shown, all_shown, all_stay, none_before, IsNew}
 use Rattle.hum_context.proofs.Walks.{AllShut, next_open, shut_none, none_shut, open_append}
 
 none_shown : (cells : List Cell) → all_shown [] cells ≡ []
@@ -149,3 +150,16 @@ stays_shown (t ∷ ts) [] e = refl
 stays_shown (t ∷ ts) (Kept ∷ cs) e = ap (λ (us : List (List ℕ)). t ∷ us) (stays_shown ts cs e)
 stays_shown (t ∷ ts) (Settled new ∷ cs) e = cc
 stays_shown (t ∷ ts) (Waiting column text missing ∷ cs) e = cc
+
+-- the same of the first of some cells
+pub settled_all : (gone : ℕ) (tokens : List (List ℕ)) (cells : List Cell) (unsettled : List ℕ) → length tokens ≤ length cells → unsettled ≡ open_from gone cells → none_before (gone + length tokens) unsettled ≡ true
+    → IsNew tokens cells (all_shown tokens cells)
+settled_all gone tokens cells unsettled wide e s =
+    let cut = take-append-drop (length tokens) cells in
+    record { is = rw cut at (settled_shows gone tokens (take (length tokens) cells) (drop (length tokens) cells) (sym (length-take-le (length tokens) cells wide)) (rw (cut, ← e) s)) }
+
+pub unsettled_all : (gone : ℕ) (tokens : List (List ℕ)) (cells : List Cell) (unsettled : List ℕ) → length tokens ≤ length cells → unsettled ≡ open_from gone cells → none_before (gone + length tokens) unsettled ≡ false
+    → all_some (tokens_of_cells tokens cells) ≡ None
+unsettled_all gone tokens cells unsettled wide e s =
+    let cut = take-append-drop (length tokens) cells in
+    rw cut at (unsettled_shows gone tokens (take (length tokens) cells) (drop (length tokens) cells) (sym (length-take-le (length tokens) cells wide)) (rw (cut, ← e) s))

@@ -1,5 +1,6 @@
 //! What the first record that waits becomes.
-ghost use Rattle.std.specs.Prelude.{◌≡◌, ◌≢◌, ◌≤◌, ◌<◌, ◌+◌, [], List, length, OnOk, IfOk, IfErr};
+ghost use Rattle.std.specs.Prelude.{◌≡◌, ◌≢◌, ◌≤◌, ◌<◌, ◌+◌, [], List, length, drop};
+ghost use Rattle.std.specs.Prelude.{OnOk, IfOk, IfErr};
 ghost use Rattle.hum_record.specs.declared.Kind.TheVariants.{Values as AnyValues};
 ghost use Rattle.hum_record.specs.declared.SpinedKind.TheVariants.{Values};
 ghost use Rattle.hum_record.specs.declared.RecordFault.TheVariants.{Memory};
@@ -78,5 +79,42 @@ fn is_settled(unsettled: &[u64], gone: u64, width: usize) -> bool
     match unsettled.first() {
         None => true,
         Some(id) => width as u64 <= *id - gone,
+    }
+}
+
+/// What the data record becomes that waits in front, by the cells of those that wait.
+pub(crate) fn becomes(
+    alloc: Global,
+    row: &Record,
+    cells: &VecDeque<Cell>,
+    gone: u64,
+    unsettled: &[u64],
+    spare: &mut Spare,
+) -> Result<Becoming, AllocError>
+    requires kind { kind_of row.now ≡ AnyValues }
+    requires width { width_of row.now ≤ length cells.now.items }
+    requires tokens { tokens_of row.now ≢ [] }
+    requires places { unsettled.now ≡ open_from gone cells.now.items }
+    ensures { IfOk result (Shows (tokens_of row.now) cells.now.items) }
+{
+    if !is_settled(unsettled, gone, row.width()) {
+        return Ok(Becoming::Undecided);
+    }
+    if all_stay(row, cells) {
+        return Ok(Becoming::Stays);
+    }
+    match rebuilt(alloc, row, cells, spare) {
+        Ok(made) => Ok(Becoming::Becomes(made)),
+        Err(RecordFault::L1) => Ok(Becoming::TooLong),
+        Err(_) => Err(AllocError),
+    }
+}
+
+/// Drops so many cells at the front.
+pub(crate) fn drop_front(cells: &mut VecDeque<Cell>, count: usize)
+    ensures { cells.new.items ≡ drop count cells.old.items }
+{
+    for _ in 0..count {
+        cells.pop_front();
     }
 }
