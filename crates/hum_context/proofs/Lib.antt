@@ -6,3 +6,4 @@ pub mod Places
 pub mod Tokens
 pub mod Walks
 pub mod Shows
+pub mod Following

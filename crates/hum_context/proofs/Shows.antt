@@ -163,3 +163,10 @@ pub unsettled_all : (gone : ℕ) (tokens : List (List ℕ)) (cells : List Cell) 
 unsettled_all gone tokens cells unsettled wide e s =
     let cut = take-append-drop (length tokens) cells in
     rw cut at (unsettled_shows gone tokens (take (length tokens) cells) (drop (length tokens) cells) (sym (length-take-le (length tokens) cells wide)) (rw (cut, ← e) s))
+
+pub some_shut : (tokens : List (List ℕ)) (mine others : List Cell) (new : List (List ℕ)) → length tokens ≡ length mine → all_some (tokens_of_cells tokens (mine ++ others)) ≡ Some new → AllShut mine
+some_shut tokens mine others new h e = by (shut_or_none tokens mine others h)
+  where
+    by : Settles tokens mine others → AllShut mine
+    by (inl shut) = shut
+    by (inr none) = let k : ◌≡◌ {A = Option (List (List ℕ))} None (Some new) = sym none ∙ e in cc

@@ -17,7 +17,8 @@ use Rattle.hum_context.specs.Context.{Choice, Extent, First, Between, is_data, i
 use Rattle.hum_context.specs.Cells.{Cell, Kept, Settled, Waiting, column_below, take_token, next_cell, is_enough, first_cell, missing_after, add_token, open_from, values_of}
 use Rattle.hum_context.specs.Memory.{Walked, HasSeen}
 use Rattle.std.specs.List.{list_any}
-use Rattle.std.proofs.Common.{arith, append-nil}
+use Rattle.std.proofs.Common.{arith, append-nil, length, length-append, ◌≤◌, ◌++◌}
+use Rattle.std.specs.List.{join_with_byte}
 use Rattle.std.proofs.lemmas.Bool.Decides.{nat_tests}
 use Rattle.hum_context.specs.Heard.{counts, ends, heard_of, cell_in, place_of, collected, is_taken}
 use Rattle.hum_context.proofs.Growth.{value_goes_on, first_part}
@@ -238,3 +239,21 @@ seen_none o path row gone before now unsettled none w = record {
   seen = w.seen ∙ rw none (sym (append-nil (map (next_cell o path row) before)));
   places = w.kept ∙ ap (open_from gone) (sym w.seen);
 }
+
+-- a text of tokens has a byte for each
+long_enough : (kind : SpinedKind) (tokens : List (List ℕ)) → AllByRecursion (IsToken kind) tokens → length tokens ≤ length (join_with_byte 9 tokens)
+long_enough kind [] h = omega arith
+long_enough kind ([] ∷ ts) h = absurd (h.0.filled refl)
+long_enough kind ((b ∷ bs) ∷ []) h = omega arith
+long_enough kind ((b ∷ bs) ∷ t ∷ ts) h =
+    let ih = long_enough kind (t ∷ ts) h.1 in
+    let sum = length-append (b ∷ bs) (9 ∷ join_with_byte 9 (t ∷ ts)) in
+    omega (arith, ih, sum)
+
+pub row_width : (row : Row) (words : List ℕ) → IsTextOf row words → length (tokens_of row) ≤ 1048576
+row_width (Comment text) words h = omega arith
+row_width (Spined kind tokens) words h =
+    let k = long_enough kind tokens h.2 in
+    let e = ap length h.0 in
+    let most = h.3 in
+    omega (arith, k, e, most)

@@ -1,25 +1,27 @@
 //! What context remembers of the records that wait.
-ghost use Rattle.std.specs.Prelude.{◌≡◌, ◌+◌, ◌≤◌, ◌^◌, ◌++◌, map, length, OnOk, true, false};
+ghost use Rattle.std.specs.Prelude.{◌≡◌, ◌≢◌, ◌+◌, ◌≤◌, ◌^◌, [], true, false, length, drop, OnOk, IfOk};
 ghost use Rattle.hum_record.specs.declared.Kind.TheVariants.{Interpretation as AnyInterpretation};
 ghost use Rattle.hum_record.specs.declared.Kind.TheVariants.{Values as AnyValues};
 ghost use Rattle.hum_record.specs.Row.{kind_of, text_of, tokens_of, width_of};
 ghost use Rattle.hum_record.specs.Spelling.{IsTextOf};
 ghost use Rattle.hum_path.specs.Spines.{Path, moves};
 ghost use Rattle.hum_context.specs.Options.{choice_of};
-ghost use Rattle.hum_context.specs.Cells.{open_from, next_cell, first_cells};
+ghost use Rattle.hum_context.specs.Cells.{open_from, next_cell};
+ghost use Rattle.hum_context.specs.Shown.{Shows};
 ghost use Rattle.hum_context.specs.Memory.{Walked, HasSeen};
 ghost use Rattle.hum_context.specs.Context.{Choice};
 ghost use Rattle.hum_context.specs.Heard.{Hears, is_taken};
 ghost use Rattle.std.specs.List.{list_any};
 
 use crate::adding::add;
+use crate::becoming::{Becoming, becomes, drop_front};
 use crate::cell::Cell;
 use crate::hearing::Heard;
 use crate::options::ContextOptions;
 use crate::walking::walk;
 use hum_path::{Moves, Paths};
 use hum_record::{Kind, Record, Spare};
-use hum_stage::{LooksAhead, Verdict};
+use hum_stage::{LooksAhead, Rule, Verdict};
 use std::alloc::{AllocError, Global};
 use std::collections::VecDeque;
 use std::mem;
@@ -107,7 +109,7 @@ impl Windows {
         requires kind { kind_of row.now ≡ AnyValues }
         requires lawful { IsTextOf row.now (text_of row.now) }
         requires places { self.old.unsettled.items ≡ open_from self.old.gone self.old.cells.items }
-        requires few { self.old.gone + length self.old.cells.items + width_of row.now ≤ 2 ^ 62 }
+        requires few { self.old.gone + length self.old.cells.items ≤ 2 ^ 61 }
         requires moves { (path : Path) × (found.now ≡ moves path row.now) }
         ensures options { options.new ≡ options.old }
         ensures gone { self.new.gone ≡ self.old.gone }
@@ -163,7 +165,7 @@ impl Windows {
         found: &Moves,
     ) -> Result<(), AllocError>
         requires places { self.old.unsettled.items ≡ open_from self.old.gone self.old.cells.items }
-        requires few { self.old.gone + length self.old.cells.items + width_of row.now ≤ 2 ^ 62 }
+        requires few { self.old.gone + length self.old.cells.items ≤ 2 ^ 61 }
         requires moves { (path : Path) × (found.now ≡ moves path row.now) }
         ensures options { options.new ≡ options.old }
         ensures gone { self.new.gone ≡ self.old.gone }
@@ -182,6 +184,139 @@ impl Windows {
             }
             Kind::Global => Ok(()),
             Kind::Local => Ok(()),
+        }
+    }
+}
+
+impl Windows {
+    /// Drops so many cells at the front, none of which is open.
+    fn drop_front(&mut self, count: usize)
+        requires few { self.old.gone + count ≤ 2 ^ 62 }
+        ensures cells { self.new.cells.items ≡ drop count self.old.cells.items }
+        ensures gone { self.new.gone ≡ self.old.gone + count }
+        ensures unsettled { self.new.unsettled.items ≡ self.old.unsettled.items }
+    {
+        drop_front(&mut self.cells, count);
+        self.gone += count as u64;
+    }
+}
+
+/// The options, the spines, the records that wait and what is remembered of them.
+#[derive(Drop)]
+pub(crate) struct Collecting {
+    alloc: Global,
+    options: ContextOptions,
+    paths: Paths,
+    windows: Windows,
+    // how many records there were
+    line: u64,
+    // what is heard of a record
+    heard: Vec<Heard>,
+    // the record that gave way to another last
+    spare: Spare,
+}
+
+/// Whether a record is data.
+fn is_data(row: &Record) -> bool
+    ensures sound { result ≡ true → kind_of row.now ≡ AnyValues }
+    ensures other { result ≡ false → kind_of row.now ≢ AnyValues }
+    ensures at_most { length (text_of row.now) ≤ 1048576 }
+    ensures tokens { result ≡ true → tokens_of row.now ≢ [] }
+{
+    row.kind() == Kind::Values
+}
+
+impl LooksAhead for Collecting {
+    type Held = Record;
+
+    ghost use Rattle.hum_context.specs.Memory.{Follows};
+
+    ghost follows = { λ s held. Follows (choice_of s.options) s.paths.path s.windows.cells.items
+      s.windows.gone s.windows.unsettled.items s.line held };
+
+    ghost use Rattle.hum_context.specs.Memory.{follows_each};
+
+    ghost each = { λ s held look past rows h. follows_each _ _ _ _ _ _ held look past rows h };
+
+    fn put(&mut self, next: Record, held: &mut VecDeque<Record>) -> Result<(), AllocError> {
+        let Ok(found) = self.paths.step(&next) else {
+            return Err(AllocError);
+        };
+        self.windows.put(
+            self.alloc,
+            &mut self.options,
+            &mut self.heard,
+            &next,
+            &found,
+        )?;
+        self.line += 1;
+        held.push_back(next)?;
+        Ok(())
+    }
+
+    fn settle(&mut self, held: &mut VecDeque<Record>) -> Result<Verdict, AllocError> {
+        let Some(row) = held.front() else {
+            unreachable!()
+        };
+        if !is_data(row) {
+            return Ok(Verdict::Gives(held.pop_front()));
+        }
+        let width = row.width();
+        match self.becomes(row)? {
+            Becoming::Undecided => Ok(Verdict::Waits),
+            Becoming::TooLong => Ok(Verdict::Refuses(Rule::L1)),
+            Becoming::Stays => {
+                self.windows.drop_front(width);
+                Ok(Verdict::Gives(held.pop_front()))
+            }
+            Becoming::Becomes(made) => {
+                self.windows.drop_front(width);
+                self.keep(held.pop_front());
+                Ok(Verdict::Gives(Some(made)))
+            }
+        }
+    }
+
+    fn lasting(&self, held: &VecDeque<Record>) -> usize {
+        let mut at = 0;
+        let mut count = 0;
+        for row in held {
+            if row.kind() == Kind::Values {
+                at += row.width();
+            }
+            count += 1;
+        }
+        count
+    }
+}
+
+impl Collecting {
+    /// What the data record becomes that waits in front.
+    fn becomes(&mut self, row: &Record) -> Result<Becoming, AllocError>
+        requires kind { kind_of row.now ≡ AnyValues }
+        requires width { width_of row.now ≤ length self.old.windows.cells.items }
+        requires tokens { tokens_of row.now ≢ [] }
+        requires places { self.old.windows.unsettled.items
+            ≡ open_from self.old.windows.gone self.old.windows.cells.items }
+        ensures shows { IfOk result (Shows (tokens_of row.now) self.old.windows.cells.items) }
+        ensures kept { self.new ≡ record self.old { spare = self.new.spare } }
+    {
+        becomes(
+            self.alloc,
+            row,
+            &self.windows.cells,
+            self.windows.gone,
+            &self.windows.unsettled,
+            &mut self.spare,
+        )
+    }
+
+    /// Keeps the buffers of a record that gave way to another.
+    fn keep(&mut self, row: Option<Record>)
+        ensures { self.new ≡ record self.old { spare = self.new.spare } }
+    {
+        if let Some(row) = row {
+            self.spare.keep(row);
         }
     }
 }

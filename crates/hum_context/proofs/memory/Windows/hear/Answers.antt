@@ -7,7 +7,7 @@ use Rattle.hum_context.specs.declared.options.ContextOptions.{ContextOptions}
 use Rattle.hum_context.specs.Cells.{Cell, next_cell, first_cells, open_from}
 use Rattle.hum_context.specs.Heard.{Hears, counts}
 use Rattle.hum_context.specs.Memory.{Walked}
-use Rattle.hum_context.proofs.Tokens.{data_values}
+use Rattle.hum_context.proofs.Tokens.{data_values, row_width}
 use Rattle.hum_context.proofs.memory.Windows.hear.Goals as goal
 
 pub add-requires-clause-places : goal.add-requires-clause-places
@@ -22,7 +22,8 @@ add-requires-clause-few c =
     let wide = length-map c.args.self.now.cells.items (next_cell (choice_of c.args.options.now) c.requires.moves.0 c.args.row.now) in
     let few = c.requires.few in
     let gone = c.show_if.ensures.gone in
-    omega (arith, same, wide, few, gone)
+    let width = row_width c.args.row.now _ c.requires.lawful in
+    omega (arith, same, wide, few, gone, width)
 
 pub returns-clause-seen : goal.returns-clause-seen
 returns-clause-seen c path e =
