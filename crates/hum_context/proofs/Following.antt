@@ -68,7 +68,7 @@ pub few_lines : (o : Choice) (path : Path) (cells : List Cell) (gone : ℕ) (uns
     → Follows o path cells gone unsettled line held look past rows → length (passed past rows) < 4294967295 → line < 4294967295
 few_lines o path cells gone unsettled line held look past rows h few = let l = h.lines in omega (arith, l, few)
 
-cells_length : (o : Choice) (path : Path) (row : Row) (rows : List Row) (j : ℕ) (tokens : List (List ℕ)) → length (cells_at o path row rows j tokens) ≡ length tokens
+pub cells_length : (o : Choice) (path : Path) (row : Row) (rows : List Row) (j : ℕ) (tokens : List (List ℕ)) → length (cells_at o path row rows j tokens) ≡ length tokens
 cells_length o path row rows j [] = refl
 cells_length o path row rows j (t ∷ ts) = ap suc (cells_length o path row rows (j + 1) ts)
 
@@ -92,7 +92,7 @@ first_decides o past tokens rows cells e =
     ap (λ (cs : List Cell). data_of (all_some (tokens_of_cells tokens cs))) e
     ∙ (ap (λ (ts : List (Option (List ℕ))). data_of (all_some ts)) (tokens_front tokens mine (all_cells o (Spined Values tokens ∷ past) rows) wide) ∙ decides o past tokens rows)
 
-drop_mine : (mine others : List Cell) → drop (length mine) (mine ++ others) ≡ others
+pub drop_mine : (mine others : List Cell) → drop (length mine) (mine ++ others) ≡ others
 drop_mine [] others = refl
 drop_mine (c ∷ cs) others = drop_mine cs others
 

@@ -7,3 +7,4 @@ pub mod Tokens
 pub mod Walks
 pub mod Shows
 pub mod Following
+pub mod Refused

@@ -96,7 +96,7 @@ shut_or_none (t ∷ ts) (Settled new' ∷ cs) others h = on new' (shut_or_none t
 shut_or_none (t ∷ ts) (Waiting column text missing ∷ cs) others h = inr refl
 
 -- where the first of the open cells isn't among these, they give new tokens
-shut_shows : (tokens : List (List ℕ)) (mine others : List Cell) → length tokens ≡ length mine → AllShut mine → all_some (tokens_of_cells tokens (mine ++ others)) ≡ Some (all_shown tokens (mine ++ others))
+pub shut_shows : (tokens : List (List ℕ)) (mine others : List Cell) → length tokens ≡ length mine → AllShut mine → all_some (tokens_of_cells tokens (mine ++ others)) ≡ Some (all_shown tokens (mine ++ others))
 shut_shows [] [] others h k = rw (none_shown others) (none others)
   where
     none : (others : List Cell) → all_some (tokens_of_cells [] others) ≡ Some []
@@ -170,3 +170,10 @@ some_shut tokens mine others new h e = by (shut_or_none tokens mine others h)
     by : Settles tokens mine others → AllShut mine
     by (inl shut) = shut
     by (inr none) = let k : ◌≡◌ {A = Option (List (List ℕ))} None (Some new) = sym none ∙ e in cc
+
+pub open_none : (tokens : List (List ℕ)) (mine others : List Cell) → length tokens ≡ length mine → (AllShut mine → ⊥) → all_some (tokens_of_cells tokens (mine ++ others)) ≡ None
+open_none tokens mine others h k = by (shut_or_none tokens mine others h)
+  where
+    by : Settles tokens mine others → all_some (tokens_of_cells tokens (mine ++ others)) ≡ None
+    by (inl shut) = absurd (k shut)
+    by (inr none) = none

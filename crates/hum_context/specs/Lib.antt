@@ -4,3 +4,4 @@ pub mod Cells
 pub mod Heard
 pub mod Memory
 pub mod Shown
+pub mod Refusals

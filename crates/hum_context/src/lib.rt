@@ -5,6 +5,7 @@ mod adding;
 mod becoming;
 mod cell;
 mod hearing;
+mod lasting;
 mod memory;
 mod options;
 mod text;

@@ -17,6 +17,7 @@ use crate::adding::add;
 use crate::becoming::{Becoming, becomes, drop_front};
 use crate::cell::Cell;
 use crate::hearing::Heard;
+use crate::lasting::lasting;
 use crate::options::ContextOptions;
 use crate::walking::walk;
 use hum_path::{Moves, Paths};
@@ -278,15 +279,7 @@ impl LooksAhead for Collecting {
     }
 
     fn lasting(&self, held: &VecDeque<Record>) -> usize {
-        let mut at = 0;
-        let mut count = 0;
-        for row in held {
-            if row.kind() == Kind::Values {
-                at += row.width();
-            }
-            count += 1;
-        }
-        count
+        lasting(held, &self.windows.cells)
     }
 }
 
