@@ -284,6 +284,33 @@ impl LooksAhead for Collecting {
 }
 
 impl Collecting {
+    ghost use Rattle.hum_path.specs.Spines.{Unopened};
+
+    /// There were no records yet.
+    pub(crate) fn new(alloc: Global, options: ContextOptions) -> Collecting
+        ensures options { result.options ≡ options }
+        ensures path { result.paths.path ≡ Unopened }
+        ensures cells { result.windows.cells.items ≡ [] }
+        ensures unsettled { result.windows.unsettled.items ≡ [] }
+        ensures gone { result.windows.gone ≡ 0 }
+        ensures line { result.line ≡ 0 }
+    {
+        Collecting {
+            alloc,
+            options,
+            paths: Paths::new(alloc),
+            windows: Windows {
+                cells: VecDeque::new(alloc),
+                gone: 0,
+                unsettled: Vec::new(alloc),
+                still: Vec::new(alloc),
+            },
+            line: 0,
+            heard: Vec::new(alloc),
+            spare: Spare::none(alloc),
+        }
+    }
+
     /// What the data record becomes that waits in front.
     fn becomes(&mut self, row: &Record) -> Result<Becoming, AllocError>
         requires kind { kind_of row.now ≡ AnyValues }
