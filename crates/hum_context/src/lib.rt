@@ -86,5 +86,5 @@ impl Stage for Context {
     }
 }
 
-
-
+#[cfg(test)]
+mod tests;
