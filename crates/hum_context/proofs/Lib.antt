@@ -8,3 +8,4 @@ pub mod Walks
 pub mod Shows
 pub mod Following
 pub mod Refused
+pub mod Long
