@@ -1,4 +1,5 @@
 mod Examples
+pub mod Ending
 pub mod Growth
 pub mod Growing
 pub mod Steady
