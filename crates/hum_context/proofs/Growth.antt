@@ -37,7 +37,7 @@ future_step path Local tokens rows c = refl
 future_step path Interpretation tokens rows c = refl
 future_step path Values tokens rows c = refl
 
-chain_step : (path : Path) (kind : SpinedKind) (tokens : List (List ℕ)) (rows : List Row) (c : ℕ)
+pub chain_step : (path : Path) (kind : SpinedKind) (tokens : List (List ℕ)) (rows : List Row) (c : ℕ)
     → chain path (Spined kind tokens ∷ rows) c ≡ get_or tokens c [] ∷ cond (is_last (get_or tokens c [])) [] (to_last (below_at (future (after path (Spined kind tokens)) rows) (place_after path kind tokens c)))
 chain_step path kind tokens rows c = ap to_last (future_step path kind tokens rows c)
 

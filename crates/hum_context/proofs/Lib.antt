@@ -1,5 +1,6 @@
 mod Examples
 pub mod Ending
+pub mod Keeping
 pub mod Growth
 pub mod Growing
 pub mod Steady

@@ -44,6 +44,9 @@ impl Context {
 
         // It stands for what the options say, with nothing put yet.
         ensures stands { ⟦<Context as Stage>⟧.stands result (opening (meaning stage options)) }
+
+        // Of scores it makes scores.
+        ensures keeps { KeepsScore (meaning stage options).outcomes }
     {
         let memory = Collecting::new(alloc, options);
         Context {
