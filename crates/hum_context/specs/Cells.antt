@@ -98,7 +98,8 @@ next_cell o path row (Settled token) = Settled token
 next_cell o path row (Waiting None text missing) = Waiting None text missing
 next_cell o path (Comment comment) (Waiting (Some c) text missing) = Waiting (Some c) text missing
 next_cell o path (Spined kind tokens) (Waiting (Some c) text missing) =
-    take_token o (column_below path (Spined kind tokens) c) (slice_index_or tokens c []) text missing
+    take_token o (column_below path (Spined kind tokens) c) (slice_index_or tokens c []) text
+        missing
 
 -- The cell of a new record.
 abbrev pub first_cell : Choice → Path → Row → ℕ → List ℕ → Cell

@@ -1,11 +1,13 @@
 -- What the first record that waits becomes, by what is remembered of its cells.
-use Rattle.std.specs.Prelude.{◌≡◌, ◌<◌, ◌≤◌, ℕ, ◌+◌, Bool, true, ◌&&◌, nat_le, List, [], ◌∷◌, length}
+use Rattle.std.specs.Prelude.{◌≡◌, ◌<◌, ◌≤◌, ℕ, ◌+◌, Bool, true, ◌&&◌, nat_le, List, [], ◌∷◌}
+use Rattle.std.specs.Prelude.{length}
 use Rattle.std.specs.Prelude.{Some, None}
 use Rattle.hum_record.specs.declared.SpinedKind.TheVariants.{Values}
 use Rattle.hum_record.specs.Row.{Spined}
 use Rattle.hum_record.specs.Building.{spelled}
 use Rattle.hum_context.specs.declared.becoming.Becoming.{Becoming}
-use Rattle.hum_context.specs.declared.becoming.Becoming.TheVariants.{Undecided, Stays, Becomes, TooLong}
+use Rattle.hum_context.specs.declared.becoming.Becoming.TheVariants.{Undecided, Stays, Becomes}
+use Rattle.hum_context.specs.declared.becoming.Becoming.TheVariants.{TooLong}
 use Rattle.hum_context.specs.Context.{all_some}
 use Rattle.hum_context.specs.Cells.{Cell, Kept, Settled, Waiting, is_kept, tokens_of_cells}
 
