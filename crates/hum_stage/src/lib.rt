@@ -4,6 +4,8 @@
 //! - [`Stage`] is the contract.
 //! - [`Decides`] is a command that decides each record at once, and [`AtOnce`] the stage round it;
 //!   [`Due`] is what holds the records that it is to give.
+//! - [`LooksAhead`] is a command that decides a record by some of those behind it, and [`Lagging`] the
+//!   stage round it.
 //! - [`whole`] runs a list through a stage.
 #![tactic(auto)]
 
@@ -12,11 +14,16 @@ mod contract;
 mod deciding;
 mod due;
 mod faults;
+mod lagging;
+mod looks_ahead;
 mod runs;
+mod settling;
 
 pub use at_once::AtOnce;
 pub use contract::Stage;
 pub use deciding::Decides;
 pub use due::{Due, UpToTwo};
 pub use faults::{Command, End, Fault, Rule, State};
+pub use lagging::Lagging;
+pub use looks_ahead::{LooksAhead, Verdict};
 pub use runs::{drain, whole};

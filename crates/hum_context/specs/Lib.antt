@@ -1,0 +1,7 @@
+pub mod Context
+pub mod Options
+pub mod Cells
+pub mod Heard
+pub mod Memory
+pub mod Shown
+pub mod Refusals

@@ -1,0 +1,129 @@
+//! What is heard of the tokens of a data record.
+ghost use Rattle.std.specs.Prelude.{◌≡◌, ◌++◌, map, false, OnOk, IfOk, slice_index_or};
+ghost use Rattle.std.specs.List.{list_any};
+ghost use Rattle.hum_record.specs.Row.{tokens_of};
+ghost use Rattle.hum_context.specs.Context.{is_data, is_null, is_collectable, begins};
+ghost use Rattle.hum_context.specs.Options.{choice_of, extent_of, omits_of};
+ghost use Rattle.hum_context.specs.Heard.{heard_of, is_taken, counts, ends};
+ghost use Rattle.hum_context.specs.Cells.{missing_after};
+ghost use Rattle.hum_context.specs.declared.hearing.Heard.TheVariants.{Passed};
+
+use crate::options::{ContextOptions, Span};
+use hum_pattern::Pattern;
+use hum_record::Record;
+use std::alloc::AllocError;
+
+/// What is heard of a token.
+#[derive(Clone, Copy, Debug, PartialEq, Eq)]
+pub(crate) enum Heard {
+    /// It isn't collected.
+    Passed,
+    /// It is collected. Others may be from it on, and it may be the last of them.
+    Taken { begins: bool, ends: bool },
+}
+
+/// Whether a token is data, by its first byte.
+fn is_data(token: &[u8]) -> bool
+    ensures { result ≡ is_data token.now }
+{
+    match token {
+        [] => false,
+        [byte, ..] => !(*byte == b'!' || *byte == b'*'),
+    }
+}
+
+/// Whether a token is left out by the pattern, if there is one.
+fn is_omitted(omit: &mut Option<Pattern>, token: &[u8]) -> bool
+    ensures found { result ≡ omits_of omit.old token.now }
+    ensures kept { omit.new ≡ omit.old }
+{
+    match omit {
+        None => false,
+        Some(pattern) => pattern.matches(token),
+    }
+}
+
+impl Span {
+    /// Whether others are collected from a token on.
+    fn begins(&mut self, token: &[u8]) -> bool
+        ensures found { result ≡ begins (extent_of self.old) token.now }
+        ensures kept { self.new ≡ self.old }
+    {
+        match self {
+            Span::Number(_) => true,
+            Span::Phrase(begin, _) => begin.matches(token),
+        }
+    }
+
+    /// Whether a token is the last of those that are collected from another on.
+    fn ends(&mut self, token: &[u8]) -> bool
+        ensures found { result ≡ ends (extent_of self.old) token.now }
+        ensures kept { self.new ≡ self.old }
+    {
+        match self {
+            Span::Number(_) => false,
+            Span::Phrase(_, end) => end.matches(token),
+        }
+    }
+
+    /// Whether a number of tokens is collected.
+    pub(crate) fn counts(&self) -> bool
+        ensures { result ≡ counts (extent_of self.now) }
+    {
+        match self {
+            Span::Number(_) => true,
+            Span::Phrase(_, _) => false,
+        }
+    }
+
+    /// How many tokens are wanted, where that is known.
+    pub(crate) fn wanted(&self) -> u16
+        ensures { result ≡ missing_after (extent_of self.now) 0 }
+    {
+        match self {
+            Span::Number(n) => *n,
+            Span::Phrase(_, _) => 0,
+        }
+    }
+}
+
+impl ContextOptions {
+    /// What is heard of a token. Patterns are never tried on null tokens.
+    fn hear(&mut self, token: &[u8]) -> Heard
+        ensures heard { result ≡ heard_of (choice_of self.old) token.now }
+        ensures kept { self.new ≡ self.old }
+    {
+        if !is_data(token) || token == b".".as_slice() {
+            return Heard::Passed;
+        }
+        if is_omitted(&mut self.omit, token) {
+            return Heard::Passed;
+        }
+        let begins = self.span.begins(token);
+        let ends = self.span.ends(token);
+        Heard::Taken { begins, ends }
+    }
+
+    /// What is heard of each token of a record, and whether one is collected.
+    pub(crate) fn hear_all(
+        &mut self,
+        row: &Record,
+        heard: &mut Vec<Heard>,
+    ) -> Result<bool, AllocError>
+        ensures heard { OnOk result
+            (heard.new.items ≡ map (heard_of (choice_of self.old)) (tokens_of row.now)) }
+        ensures any { IfOk result (λ any. any ≡ list_any is_taken heard.new.items) }
+        ensures kept { self.new ≡ self.old }
+    {
+        heard.clear();
+        let mut any = false;
+        for j in 0..row.width() {
+            let token = self.hear(row.token(j));
+            if token != Heard::Passed {
+                any = true;
+            }
+            heard.push(token)?;
+        }
+        Ok(any)
+    }
+}

@@ -1,0 +1,77 @@
+-- Commands that look ahead keep scores, step by step.
+use Rattle.std.proofs.Common.{◌≡◌, ◌∙◌, refl, sym, ap, ℕ, ◌+◌, ◌≤◌, Bool, true, false, List, [], ◌∷◌, ◌++◌, take, length, cond, inl, inr, ◌⊎◌, arith}
+use Rattle.std.specs.Prelude.{nat_le, Option, Some, None, Result, Ok, Err}
+use Rattle.std.proofs.lemmas.Bool.Decides.{nat_tests}
+use Rattle.std.proofs.lemmas.List.{take_all}
+use Rattle.hum_record.specs.Row.{Row}
+use Rattle.hum_path.specs.Spines.{Path, Unopened}
+use Rattle.hum_path.specs.Rules.{is_unfinished}
+use Rattle.hum_path.specs.Score.{IsOpen, path_after, passed}
+use Rattle.hum_stage.specs.declared.faults.Rule.{Rule}
+use Rattle.hum_stage.specs.declared.faults.Rule.TheVariants.{H1}
+use Rattle.hum_stage.specs.Score.{through, Follow}
+use Rattle.hum_stage.specs.Outcome.{Outcome, Becomes, Refused, Undecided, settled, refusal}
+use Rattle.hum_stage.specs.Meaning.{KeepsScore}
+use Rattle.hum_stage.specs.Look.{Look, outcome_of, outcome_at, outcomes_from}
+use Rattle.hum_stage.proofs.Scores.{Follow-append, through-append}
+
+-- How a command that looks ahead keeps scores: after records, those given lead to spines in some
+-- relation to them; and at the end of a closed score nothing is undecided.
+pub record LookKeeps (look : Look) (Leads : List Row → Path → Type 0) : Type 0 where
+  pub opening : Leads [] Unopened
+  pub next : (past : List Row) (row : Row) (behind : List Row) (given : Path) (rows : List Row)
+      → IsOpen (row ∷ past) → Leads past given → look past row behind ≡ Some (Ok rows)
+      → Follow given rows × Leads (row ∷ past) (through given rows)
+  pub closing : (past : List Row) (given : Path) → IsOpen past
+      → is_unfinished (path_after past) ≡ false → Leads past given → is_unfinished given ≡ false
+  pub decided : (past : List Row) (row : Row) (rows : List Row) → IsOpen (row ∷ past)
+      → Follow (path_after (row ∷ past)) rows
+      → is_unfinished (through (path_after (row ∷ past)) rows) ≡ false → look past row rows ≡ None → ⊥
+
+score_from : (room : ℕ) (look : Look) (Leads : List Row → Path → Type 0) (past rows : List Row) (given : Path)
+    → LookKeeps look Leads → IsOpen past → Leads past given → Follow (path_after past) rows → Follow given (settled (outcomes_from room look past rows))
+score_from room look Leads past [] given k sound leads follow = tt
+score_from room look Leads past (row ∷ rows) given k sound leads follow =
+    one_of (look past row (take room rows)) refl (λ next leads. score_from room look Leads (row ∷ past) rows next k (sound, follow.0) leads follow.1)
+  where
+    undecided : (b : Bool) → Follow given (settled (cond b (Refused H1) Undecided ∷ outcomes_from room look (row ∷ past) rows))
+    undecided true = tt
+    undecided false = tt
+    one_of : (d : Option (Result (List Row) Rule)) → look past row (take room rows) ≡ d
+        → ((next : Path) → Leads (row ∷ past) next → Follow next (settled (outcomes_from room look (row ∷ past) rows)))
+        → Follow given (settled (outcome_of room (length rows) d ∷ outcomes_from room look (row ∷ past) rows))
+    one_of (Some (Ok out)) e more =
+        let n = k.next past row (take room rows) given out (sound, follow.0) leads e in
+        Follow-append given out (settled (outcomes_from room look (row ∷ past) rows)) n.0 (more (through given out) n.1)
+    one_of (Some (Err rule)) e more = tt
+    one_of None e more = undecided (nat_le room (length rows))
+
+closed_from : (room : ℕ) (look : Look) (Leads : List Row → Path → Type 0) (past rows : List Row) (line : ℕ) (given : Path)
+    → LookKeeps look Leads → IsOpen past → Leads past given → Follow (path_after past) rows
+    → refusal line (outcomes_from room look past rows) ≡ None → is_unfinished (through (path_after past) rows) ≡ false → is_unfinished (through given (settled (outcomes_from room look past rows))) ≡ false
+closed_from room look Leads past [] line given k sound leads follow none end = k.closing past given sound end leads
+closed_from room look Leads past (row ∷ rows) line given k sound leads follow none end =
+    one_of (look past row (take room rows)) refl (λ next leads none. closed_from room look Leads (row ∷ past) rows (line + 1) next k (sound, follow.0) leads follow.1 none end) none
+  where
+    undecided : (b : Bool) → nat_le room (length rows) ≡ b → look past row (take room rows) ≡ None
+        → refusal line (cond b (Refused H1) Undecided ∷ outcomes_from room look (row ∷ past) rows) ≡ None
+        → is_unfinished (through given (settled (cond b (Refused H1) Undecided ∷ outcomes_from room look (row ∷ past) rows))) ≡ false
+    undecided true w e none = cc
+    undecided false w e none =
+        let all : take room rows ≡ rows = take_all room rows (grind (arith, nat_tests, w)) in
+        absurd (k.decided past row rows (sound, follow.0) follow.1 end (ap (look past row) (sym all) ∙ e))
+    one_of : (d : Option (Result (List Row) Rule)) → look past row (take room rows) ≡ d
+        → ((next : Path) → Leads (row ∷ past) next → refusal (line + 1) (outcomes_from room look (row ∷ past) rows) ≡ None → is_unfinished (through next (settled (outcomes_from room look (row ∷ past) rows))) ≡ false)
+        → refusal line (outcome_of room (length rows) d ∷ outcomes_from room look (row ∷ past) rows) ≡ None
+        → is_unfinished (through given (settled (outcome_of room (length rows) d ∷ outcomes_from room look (row ∷ past) rows))) ≡ false
+    one_of (Some (Ok out)) e more none =
+        let n = k.next past row (take room rows) given out (sound, follow.0) leads e in
+        rw (through-append given out (settled (outcomes_from room look (row ∷ past) rows))) (more (through given out) n.1 none)
+    one_of (Some (Err rule)) e more none = cc
+    one_of None e more none = undecided (nat_le room (length rows)) refl e none
+
+pub looking_keeps : (room : ℕ) (look : Look) (Leads : List Row → Path → Type 0) → LookKeeps look Leads → KeepsScore (outcomes_from room look [])
+looking_keeps room look Leads k = record {
+  score = λ p s. score_from room look Leads [] p Unopened k tt k.opening s;
+  closed = λ p s none. (score_from room look Leads [] p Unopened k tt k.opening s.0, closed_from room look Leads [] p 1 Unopened k tt k.opening s.0 none s.1);
+}

@@ -1,0 +1,82 @@
+-- What the fields of a stage whose records wait stand for.
+use Rattle.std.specs.Prelude.{◌≡◌, ℕ, ◌+◌, ◌≤◌, Bool, false, List, [], ◌∷◌, ◌++◌, map, length}
+use Rattle.std.specs.Prelude.{Option, Some, None}
+use Rattle.std.specs.Option.{option_to_list}
+use Rattle.hum_record.specs.Row.{Row}
+use Rattle.hum_path.specs.Score.{passed}
+use Rattle.hum_stage.specs.declared.faults.Command.{Command}
+use Rattle.hum_stage.specs.declared.faults.Fault.{Fault}
+use Rattle.hum_stage.specs.declared.faults.End.{End}
+use Rattle.hum_stage.specs.Outcome.{Outcome, Becomes, Refused, Undecided, refusal}
+use Rattle.hum_stage.specs.Meaning.{Moment, fault_at}
+use Rattle.hum_stage.specs.Look.{Look, outcomes_from, looking, IsSteady}
+use Rattle.hum_stage.specs.Settles.{StopsAt}
+
+-- a record that is given, or dropped
+abbrev pub becomes : Option Row → Outcome
+becomes o = Becomes (option_to_list o)
+
+abbrev pub flat : List (Option Row) → List Row
+flat [] = []
+flat (o ∷ outs) = option_to_list o ++ flat outs
+
+-- without what is dropped at the front
+abbrev pub trimmed : List (Option Row) → List (Option Row)
+trimmed [] = []
+trimmed (None ∷ outs) = trimmed outs
+trimmed (Some row ∷ outs) = Some row ∷ outs
+
+abbrev pub IsTrimmed : List (Option Row) → Type 0
+IsTrimmed [] = Unit {0}
+IsTrimmed (None ∷ outs) = ⊥
+IsTrimmed (Some row ∷ outs) = Unit {0}
+
+-- none is left, or the first is undecided or refused
+abbrev pub Stops : List Outcome → Type 0
+Stops [] = Unit {0}
+Stops (Becomes rows ∷ os) = ⊥
+Stops (Refused rule ∷ os) = Unit {0}
+Stops (Undecided ∷ os) = Unit {0}
+
+pub record Lagged : Type 0 where
+  pub stage : ℕ
+  pub command : Command
+  pub line : ℕ
+  -- the line of the first record that isn't decided
+  pub first : ℕ
+  pub due : List (Option Row)
+  pub fault : Option Fault
+
+-- The records that were decided, and those that wait.
+pub record Ahead (room : ℕ) (look : Look) (follows : List Row → List Row
+    → Type 0) (put : List Row) (first count : ℕ) (rest : List Outcome) : Type 0 where
+  pub front : List Row
+  pub waits : List Row
+  pub split : put ≡ front ++ waits
+  pub counted : length front ≡ count
+  pub at_line : first ≡ count + 1
+  pub memory : follows (passed [] front) waits
+  pub few : length waits ≤ room
+  pub stops : StopsAt look (passed [] front) waits None
+  pub outcomes : rest ≡ outcomes_from room look (passed [] front) waits
+
+pub record LagsAt (room : ℕ) (look : Look) (follows : List Row → List Row
+    → Type 0) (x : Lagged) (put : List Row) (given : ℕ) : Type 0 where
+  pub line : x.line ≡ length put
+  pub gone : List (Option Row)
+  pub rest : List Outcome
+  pub outcomes : outcomes_from room look [] put ≡ map becomes (gone ++ x.due) ++ rest
+  pub counted : given ≡ length (flat gone)
+  pub tidy : IsTrimmed x.due
+  pub stopped : Stops rest
+  pub fault : x.fault ≡ fault_at x.stage x.command (refusal 1 (outcomes_from room look [] put))
+  pub ahead : x.fault ≡ None → Ahead room look follows put x.first (length (gone ++ x.due)) rest
+
+pub record Lags (room : ℕ) (follows : Look → List Row → List Row
+    → Type 0) (x : Lagged) (ended : Option End) (spent : Bool) (t : Moment) : Type 0 where
+  pub look : Look
+  pub steady : IsSteady look
+  pub meaning : t.meaning ≡ looking room x.stage x.command look
+  pub alive : spent ≡ false
+  pub ending : ended ≡ t.ended
+  pub at : LagsAt room look (follows look) x t.put t.given

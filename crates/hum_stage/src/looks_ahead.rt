@@ -1,0 +1,58 @@
+//! A command that decides a record by some of those behind it.
+ghost use Rattle.std.specs.Prelude.{◌≡◌, ◌<◌, List, IfOk, OnOk, length};
+ghost use Rattle.std.specs.VecDeque.{deque_len};
+ghost use Rattle.hum_record.specs.Row.{Row};
+ghost use Rattle.hum_stage.specs.Look.{Look};
+ghost use Rattle.hum_stage.specs.Settles.{MayWait, HasWaited, MaySettle};
+ghost use Rattle.hum_stage.specs.Settles.{HasSettled, Lasts, left_by};
+
+use crate::faults::Rule;
+use hum_record::Record;
+use std::alloc::AllocError;
+use std::collections::VecDeque;
+
+/// What becomes of the first record that waits.
+pub enum Verdict {
+    /// It is undecided.
+    Waits,
+    /// It is decided: it becomes this record, or none.
+    Gives(Option<Record>),
+    /// It is refused by this rule.
+    Refuses(Rule),
+}
+
+/// What a command remembers of the records so far and of those that wait to be decided.
+///
+/// The stage round it, [`Lagging`](crate::Lagging), keeps the queue of those that wait and lends it to each
+/// call. A record that is decided before those in front of it goes on waiting until they are.
+pub trait LooksAhead {
+    /// What is kept of a record that waits.
+    type Held: Drop;
+
+    /// With what is kept of those that wait it stands for a command, the records before them, the
+    /// newest first, and for them, in their order.
+    ghost follows: { Self → List Self.Held → Look → List Row → List Row → Type 0 };
+
+    /// Takes one record more, behind those that wait, of which there are 65,536 at most.
+    fn put(&mut self, next: Record, held: &mut VecDeque<Self::Held>) -> Result<(), AllocError>
+        requires { MayWait 65536 (follows self.old held.old.items) next }
+        ensures { OnOk result (HasWaited
+            (follows self.old held.old.items) (follows self.new held.new.items) next) };
+
+    /// Lets the first record that waits go, if it is decided. What is kept of it is then gone from
+    /// the queue.
+    fn settle(&mut self, held: &mut VecDeque<Self::Held>) -> Result<Verdict, AllocError>
+        requires filled { 0 < deque_len held.old }
+        requires memory { MaySettle (follows self.old held.old.items) }
+        ensures fewer { IfOk result (λ v. deque_len held.old ≡ left_by v (deque_len held.new)) }
+        ensures settles { IfOk result (HasSettled
+            (follows self.old held.old.items) (follows self.new held.new.items)) };
+
+    /// How many of those that wait stand before the first that is known to be refused.
+    fn lasting(&self, held: &VecDeque<Self::Held>) -> usize
+        ensures { Lasts (follows self.now held.now.items) result };
+
+    /// Something is kept of each record that waits.
+    ghost each: { (s : Self) (held : List Self.Held) (look : Look) (past rows : List Row)
+        → follows s held look past rows → length held ≡ length rows };
+}
