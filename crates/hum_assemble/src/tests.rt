@@ -1,0 +1,1 @@
+//! Small scores side by side.
