@@ -1,3 +1,4 @@
+mod Examples
 pub mod Fitting
 pub mod Bytes
 pub mod Taking
