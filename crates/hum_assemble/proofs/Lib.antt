@@ -11,3 +11,4 @@ pub mod Standings
 pub mod Calls
 pub mod Padding
 pub mod Shifting
+pub mod Served

@@ -8,3 +8,4 @@ pub mod Spread
 pub mod Head
 pub mod Taking
 pub mod Standing
+pub mod Serving
