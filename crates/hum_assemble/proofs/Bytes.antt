@@ -99,13 +99,13 @@ bytes_room free going p [] = refl
 bytes_room free going p (s ∷ ss) =
     let e = bytes_room (still_free free going p s) going p ss in
     let r = room_append (part_given (takes free going p s) p s)
-      (tokens_given (still_free free going p s) going p ss) in
+    (tokens_given (still_free free going p s) going p ss) in
     omega (arith, e, r)
 
 made_long : (going : Bool) (p : Place) (ss : List Source) (k : Option SpinedKind) (o : Bool)
     → (k ≡ None → ⊥) → o ≡ nat_lt 1048577 (room (tokens_given true going p ss))
     → o ≡ nat_lt 1048576
-      (length (text_of (row_of_kind k (comment_given going p ss) (tokens_given true going p ss))))
+    (length (text_of (row_of_kind k (comment_given going p ss) (tokens_given true going p ss))))
 made_long going p ss None o n e = absurd (n refl)
 made_long going p ss (Some kind) o n e = e ∙ long_join (tokens_given true going p ss)
 
@@ -118,7 +118,7 @@ pub too_long : (going : Bool) (p : Place) (ss : List Source) (o : Bool) (kind : 
     → o ≡ nat_lt 1048576 (length (text_of (made going p ss)))
 too_long going p ss o kind n e =
     made_long going p ss (kind_at p) o (some_not_none (kind_at p) kind n)
-      (e ∙ ap (nat_lt 1048577) (bytes_room true going p ss))
+    (e ∙ ap (nat_lt 1048577) (bytes_room true going p ss))
 
 comment_long : (going : Bool) (p : Place) (ss : List Source) (k : Option SpinedKind) → k ≡ None
     → length (comment_given going p ss)

@@ -209,12 +209,12 @@ broken_room p q spines bytes given h =
     (elim (nat_lt 4096 spines) as (λ a. unless_broken q (cond a (Some A1) (cond (nat_lt 1048576 bytes) (Some L1) (cond (nat_le 4294967295 given) (Some L2) None))) ≡ Gives p → given < 4294967295) [
       | true ↦ λ e. cc
       | false ↦ λ e. (elim (nat_lt 1048576 bytes) as (λ a. unless_broken q (cond a (Some L1) (cond (nat_le 4294967295 given) (Some L2) None)) ≡ Gives p → given < 4294967295) [
-          | true ↦ λ f. cc
-          | false ↦ λ f. (elim (nat_le 4294967295 given) as (λ a. nat_le 4294967295 given ≡ a → unless_broken q (cond a (Some L2) None) ≡ Gives p → given < 4294967295) [
-              | true ↦ λ g i. cc
-              | false ↦ λ g i. grind (arith, nat_tests)
-            ]) refl f
-        ]) e
+        | true ↦ λ f. cc
+        | false ↦ λ f. (elim (nat_le 4294967295 given) as (λ a. nat_le 4294967295 given ≡ a → unless_broken q (cond a (Some L2) None) ≡ Gives p → given < 4294967295) [
+          | true ↦ λ g i. cc
+          | false ↦ λ g i. grind (arith, nat_tests)
+        ]) refl f
+      ]) e
     ]) h
 
 at_room : (going : Bool) (q p : Place) (ss : List Source) (given : ℕ) → ahead_at going q ss given ≡ Gives p → given < 4294967295
@@ -299,7 +299,7 @@ pub has_grown : (stage : ℕ) (kept : Merge) (spent : Bool) (j : ℕ) (change : 
     → HasGrown (λ t. Standing stage kept spent t) j change
 has_grown stage kept spent j change = λ t h w.
     output_grows j change t.inputs (open_input j t.inputs
-      (rw (same_ends stage kept spent t h) at (open_wanted stage kept spent t h j w)))
+    (rw (same_ends stage kept spent t h) at (open_wanted stage kept spent t h j w)))
 
 -- What is kept after a record is given.
 pub told_taken : (ss news more : List Source) (given n : ℕ) (p : Place) (told : next.Next)

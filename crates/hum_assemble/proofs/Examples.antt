@@ -76,10 +76,10 @@ torn_is_done = refl
 
 -- while the first hasn't ended, it wants of that
 torn_wants : wants_of (record {
-      stage = 3;
-      inputs = record torn_a { ended = None } ∷ torn_b ∷ [];
-      given = 2;
-    }) ≡ Some 0
+  stage = 3;
+  inputs = record torn_a { ended = None } ∷ torn_b ∷ [];
+  given = 2;
+}) ≡ Some 0
 torn_wants = refl
 
 -- units of a group, round by round

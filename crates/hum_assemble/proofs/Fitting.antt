@@ -34,11 +34,11 @@ spined_of (Spined kind tokens) = Some kind
 interpretation_kind : (signs : List Sign)
     → kind_at (interpretation_place signs) ≡ Some Interpretation
 interpretation_kind signs = elim (list_all is_end signs) as (λ a.
-      kind_at (cond a Closing (cond (list_all is_plain signs) Tandem Change)) ≡ Some Interpretation) [
-  | true ↦ refl
-  | false ↦ elim (list_all is_plain signs) as (λ b.
-      kind_at (cond b Tandem Change) ≡ Some Interpretation) [ true ↦ refl | false ↦ refl ]
-]
+    kind_at (cond a Closing (cond (list_all is_plain signs) Tandem Change)) ≡ Some Interpretation) [
+      | true ↦ refl
+      | false ↦ elim (list_all is_plain signs) as (λ b.
+          kind_at (cond b Tandem Change) ≡ Some Interpretation) [ true ↦ refl | false ↦ refl ]
+    ]
 
 unit_kind : (row : Row) → kind_at (unit_place row) ≡ spined_of row
 unit_kind (Comment text) = refl
@@ -77,8 +77,8 @@ kind_fits (Spines []) (Spined Local tokens) h = cc
 kind_fits (Spines []) (Spined Values tokens) h = cc
 kind_fits (Spines (n ∷ ns)) row h =
     (elim (is_inside (Spines (n ∷ ns))) as (λ b.
-        (b ≡ true → kind_at (inside_place row) ≡ spined_of row)
-        → kind_at (cond b (inside_place row) (unit_place row)) ≡ spined_of row) [
+    (b ≡ true → kind_at (inside_place row) ≡ spined_of row)
+    → kind_at (cond b (inside_place row) (unit_place row)) ≡ spined_of row) [
       | true ↦ λ e. e refl
       | false ↦ λ e. unit_kind row
     ]) (inside_kind (n ∷ ns) row h)
@@ -86,9 +86,9 @@ kind_fits (Spines (n ∷ ns)) row h =
 kind_by : ℕ → Option SpinedKind
 kind_by n =
     cond (n == 1) (Some Interpretation) (cond (n == 3) (Some Interpretation)
-      (cond (n == 5) (Some Local) (cond (n == 6) (Some Interpretation)
-        (cond (n == 7) (Some Interpretation) (cond (n == 8) (Some Values)
-          (cond (n == 9) (Some Interpretation) None))))))
+    (cond (n == 5) (Some Local) (cond (n == 6) (Some Interpretation)
+    (cond (n == 7) (Some Interpretation) (cond (n == 8) (Some Values)
+    (cond (n == 9) (Some Interpretation) None))))))
 
 kind_rank : (p : Place) → kind_at p ≡ kind_by (rank p)
 unfolding kind_by

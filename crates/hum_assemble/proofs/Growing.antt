@@ -53,16 +53,16 @@ at_same going p j change ss given i k =
       | true ↦ λ e. refl
       | false ↦ λ e. ap (unless_broken p) (e refl)
     ]) (λ o.
-      let m = (all_moves true going p j change ss o i k).moved_are in
-      let w : spines (all_moved true going p (changed_at j change ss)) ≡ spines (all_moved true going p ss) = ap spines m ∙ spines_same j change (all_moved true going p ss) in
-      let t = ap (λ (r : Row). length (text_of r)) (made_same going p j change ss o i k) in
-      ap (λ (n : ℕ). rule_broken n (length (text_of (made going p (changed_at j change ss)))) given) w ∙ ap (λ (n : ℕ). rule_broken (spines (all_moved true going p ss)) n given) t)
+    let m = (all_moves true going p j change ss o i k).moved_are in
+    let w : spines (all_moved true going p (changed_at j change ss)) ≡ spines (all_moved true going p ss) = ap spines m ∙ spines_same j change (all_moved true going p ss) in
+    let t = ap (λ (r : Row). length (text_of r)) (made_same going p j change ss o i k) in
+    ap (λ (n : ℕ). rule_broken n (length (text_of (made going p (changed_at j change ss)))) given) w ∙ ap (λ (n : ℕ). rule_broken (spines (all_moved true going p ss)) n given) t)
 
 known_ahead : (going : Bool) (j : ℕ) (change : Change) (ss : List Source) (given : ℕ) → IsOpenAt j ss → AllKnown going ss → ahead_of going (changed_at j change ss) given ≡ ahead_of going ss given
 known_ahead going j change ss given i k =
     let k' = known_same going j change ss i k in
     rw (known_not_lost going (changed_at j change ss) k', known_not_lost going ss k, missing_none going 0 (changed_at j change ss) k', missing_none going 0 ss k, earliest_same going j change ss i k)
-      (at_same going (earliest going ss) j change ss given i k)
+    (at_same going (earliest going ss) j change ss given i k)
 
 -- what a merge that doesn't wait knows
 pub data Ahead (going : Bool) (ss : List Source) (given : ℕ) : Type 0 where
@@ -74,9 +74,9 @@ seen going ss given h =
     (elim (list_any (is_lost going) ss) as (λ b. list_any (is_lost going) ss ≡ b → is_waiting (cond b NothingMore (unless_missing (first_from (is_missing going) 0 ss) (ahead_at going (earliest going ss) ss given))) ≡ false → Ahead going ss given) [
       | true ↦ λ e w. Lost e
       | false ↦ λ e w. (elim (first_from (is_missing going) 0 ss) as (λ o. first_from (is_missing going) 0 ss ≡ o → is_waiting (unless_missing o (ahead_at going (earliest going ss) ss given)) ≡ false → Ahead going ss given) [
-          | None ↦ λ f v. Known (none_missing going 0 ss f)
-          | Some k ↦ λ f v. cc
-        ]) refl w
+        | None ↦ λ f v. Known (none_missing going 0 ss f)
+        | Some k ↦ λ f v. cc
+      ]) refl w
     ]) refl h
 
 lost_ahead : (going : Bool) (ss : List Source) (given : ℕ) → list_any (is_lost going) ss ≡ true → ahead_of going ss given ≡ NothingMore

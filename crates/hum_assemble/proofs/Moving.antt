@@ -53,7 +53,7 @@ moved_taken going p (Ends e) path due x xs b t = rw t refl
 
 same_tokens : (p : Place) (change : Change) (path : Path) (due : Bool) (x : Row) (xs : List Row) (b : Bool)
     → (if b then tokens_of_first (changed change (record { path = path; due = due; coming = x ∷ xs; ended = None })).coming else nulls p (changed change (record { path = path; due = due; coming = x ∷ xs; ended = None })))
-      ≡ (if b then tokens_of_first (x ∷ xs) else nulls p (record { path = path; due = due; coming = x ∷ xs; ended = None }))
+    ≡ (if b then tokens_of_first (x ∷ xs) else nulls p (record { path = path; due = due; coming = x ∷ xs; ended = None }))
 same_tokens p (More row) path due x xs true = refl
 same_tokens p (More row) path due x xs false = refl
 same_tokens p (Ends e) path due x xs true = refl

@@ -27,10 +27,11 @@ pub given_kept : (j : ℕ) (change : Change) (m : Merge) (p : Place) → IsOpenA
 given_kept j change m p i h =
     let g = is_given (any_due m.sources) m.sources m.given p h in
     let d = due_same j change m.sources in
-    let a = all_moves true (any_due m.sources) p j change m.sources g.some i g.known in
-    (ap (λ (b : Bool). record { sources = all_moved true b p (changed_at j change m.sources); given = m.given + 1 }) d
-      ∙ ap (λ (x : List Source). record { sources = x; given = m.given + 1 }) a.moved_are,
-     ap (λ (b : Bool). made b p (changed_at j change m.sources)) d ∙ made_same (any_due m.sources) p j change m.sources g.some i g.known)
+    let a = all_moves true (any_due m.sources) p j change m.sources g.some i g.known in (
+      ap (λ (b : Bool). record { sources = all_moved true b p (changed_at j change m.sources); given = m.given + 1 }) d
+          ∙ ap (λ (x : List Source). record { sources = x; given = m.given + 1 }) a.moved_are,
+      ap (λ (b : Bool). made b p (changed_at j change m.sources)) d ∙ made_same (any_due m.sources) p j change m.sources g.some i g.known,
+    )
 
 pub gives_kept : (j : ℕ) (change : Change) (m : Merge) (p : Place) → IsOpenAt j m.sources → ahead m ≡ Gives p → ahead (changed_in j change m) ≡ Gives p
 gives_kept j change m p i h = ahead_kept j change m i (ap is_waiting h) ∙ h

@@ -55,9 +55,12 @@ followed_put n j (q ∷ ps) [] p p' row f e sound moved = absurd f
 followed_put n zero (q ∷ ps) (x ∷ xs) p p' row f e sound moved =
     let at = ap (λ (t : Tracked). t.path) e ∙ f.1 in
     let few = f.2 in
-    let l = length-append x.put (row ∷ []) in
-    (one_more x.put row p.path f.0 at sound, moved ∙ spines_after x.put row p.path at,
-      omega (arith, few, l), more_followed n ps xs f.3)
+    let l = length-append x.put (row ∷ []) in (
+      one_more x.put row p.path f.0 at sound,
+      moved ∙ spines_after x.put row p.path at,
+      omega (arith, few, l),
+      more_followed n ps xs f.3,
+    )
 followed_put n (suc j) (q ∷ ps) (x ∷ xs) p p' row f e sound moved =
     let few = f.2 in
     (f.0, f.1, omega (arith, few), followed_put n j ps xs p p' row f.3 e sound moved)

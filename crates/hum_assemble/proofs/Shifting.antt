@@ -98,5 +98,5 @@ moves_between n signs m =
     ap (λ (pair : List ℕ). heirs_from pair 0 false (plains n ++ (signs ++ plains m))) a
     ∙ (moves_left n (further n (exchanges 0 signs)) 0 (signs ++ plains m)
     ∙ ap (λ (xs : List Move). stays 0 n ++ xs) (moves_right (further n (exchanges 0 signs)) (0 + n) false signs m
-      ∙ (ap (λ (xs : List Move). xs ++ stays (0 + n + length signs) m) (moves_shift n (exchanges 0 signs) 0 false signs)
-      ∙ ap (λ (k : ℕ). map (shift n) (heirs_from (exchanges 0 signs) 0 false signs) ++ stays (k + length signs) m) z)))
+    ∙ (ap (λ (xs : List Move). xs ++ stays (0 + n + length signs) m) (moves_shift n (exchanges 0 signs) 0 false signs)
+    ∙ ap (λ (k : ℕ). map (shift n) (heirs_from (exchanges 0 signs) 0 false signs) ++ stays (k + length signs) m) z)))

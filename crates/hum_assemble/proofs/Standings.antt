@@ -256,15 +256,16 @@ pub take_gives : (stage : ℕ) (kept : Merge) (t : Moment) (p : Place) → Stand
 take_gives stage kept t p h g =
     let e = giving_at stage kept false t h p g in
     let n = sym (ap ahead e) ∙ g in
-    let w = (at t.given (opening t.inputs) h.at h.reached).going p n in
-    (w.0 ∙ ap (λ (m : Merge). Some (given_row p m)) (sym e),
-     record {
-       stage_is = h.stage_is;
-       alive = refl;
-       at = given_on p h.at;
-       reached = rw (add-one t.given) (reaches_more t.given (opening t.inputs) h.at p h.reached n);
-       keeps = inl (ap (given_on p) e);
-     })
+    let w = (at t.given (opening t.inputs) h.at h.reached).going p n in (
+      w.0 ∙ ap (λ (m : Merge). Some (given_row p m)) (sym e),
+      record {
+        stage_is = h.stage_is;
+        alive = refl;
+        at = given_on p h.at;
+        reached = rw (add-one t.given) (reaches_more t.given (opening t.inputs) h.at p h.reached n);
+        keeps = inl (ap (given_on p) e);
+      },
+    )
 
 pub take_none : (stage : ℕ) (kept : Merge) (spent : Bool) (t : Moment) → Standing stage kept spent t → is_giving (ahead kept) ≡ false → slice_get (all_of t) t.given ≡ None
 take_none stage kept spent t h r =

@@ -103,7 +103,7 @@ is_some_taken : (row : Row) (free going : Bool) (p : Place) (ss : List Source)
 is_some_taken row free going p [] = (row, refl)
 is_some_taken row free going p (s ∷ ss) =
     elim (cond (takes free going p s) (first_of s.coming) None) as (λ o. (last : Row)
-        × (row_taken (later (Some row) o) (still_free free going p s) going p ss ≡ Some last)) [
+    × (row_taken (later (Some row) o) (still_free free going p s) going p ss ≡ Some last)) [
       | None ↦ is_some_taken row (still_free free going p s) going p ss
       | Some other ↦ is_some_taken other (still_free free going p s) going p ss
     ]
@@ -118,8 +118,8 @@ some_at : (going : Bool) (p : Place) (ss : List Source) → is_over p ≡ false 
 some_at going p [] o l h = cc
 some_at going p (s ∷ ss) o l h =
     (elim (is_at going p s) as (λ b. is_at going p s ≡ b → (b || list_any (is_at going p) ss) ≡ true
-        → (last : Row) × (row_taken (later None (cond b (first_of s.coming) None))
-          (is_shared p || not b) going p ss ≡ Some last)) [
+    → (last : Row) × (row_taken (later None (cond b (first_of s.coming) None))
+    (is_shared p || not b) going p ss ≡ Some last)) [
       | true ↦ λ e w.
           let t = has_there going p s o l.0 e in
           rw t.first (is_some_taken t.row (is_shared p || false) going p ss)
@@ -138,14 +138,14 @@ taken_comment : (going : Bool) (p : Place) (ss : List Source) (row : Row) → is
 taken_comment going p [] row o k l a h = cc
 taken_comment going p (s ∷ ss) row o k l a h =
     (elim (is_at going p s) as (λ b. is_at going p s ≡ b
-        → Some row ≡ row_taken (later None (cond b (first_of s.coming) None)) (is_shared p || not b) going p ss
-        → row ≡ Comment (cond b (text_of_first s.coming) (comment_given going p ss))) [
+    → Some row ≡ row_taken (later None (cond b (first_of s.coming) None)) (is_shared p || not b) going p ss
+    → row ≡ Comment (cond b (text_of_first s.coming) (comment_given going p ss))) [
       | true ↦ λ e w.
           let t = has_there going p s o l.0 e in
           let f : Some row ≡ Some t.row =
-            w ∙ (ap (λ (x : Option Row). row_taken (later None x) (is_shared p || false) going p ss) t.first
-            ∙ (ap (λ (f : Bool). row_taken (Some t.row) (f || false) going p ss) a
-            ∙ none_taken (Some t.row) going p ss)) in
+          w ∙ (ap (λ (x : Option Row). row_taken (later None x) (is_shared p || false) going p ss) t.first
+          ∙ (ap (λ (f : Bool). row_taken (Some t.row) (f || false) going p ss) a
+          ∙ none_taken (Some t.row) going p ss)) in
           let same : row ≡ t.row = cc in
           same ∙ (comment_of t.row (sym t.kind ∙ k) ∙ ap Comment (sym t.text))
       | false ↦ λ e w. taken_comment going p ss row o k l.1 a
@@ -184,16 +184,18 @@ no_parts : (o : Option Row) (free going : Bool) (p : Place) (ss : List Source)
 no_parts o free going p [] h = (refl, refl)
 no_parts o free going p (s ∷ ss) h =
     (elim (takes free going p s) as (λ b.
-        cond (b || not (width s.path == 0)) 1 0 + parts_given (free && (is_shared p || not b)) going p ss ≡ 0
-        → (part_given b p s ++ tokens_given (free && (is_shared p || not b)) going p ss ≡ [])
-        × (row_taken (later o (cond b (first_of s.coming) None)) (free && (is_shared p || not b)) going p ss ≡ o)) [
+    cond (b || not (width s.path == 0)) 1 0 + parts_given (free && (is_shared p || not b)) going p ss ≡ 0
+    → (part_given b p s ++ tokens_given (free && (is_shared p || not b)) going p ss ≡ [])
+    × (row_taken (later o (cond b (first_of s.coming) None)) (free && (is_shared p || not b)) going p ss ≡ o)) [
       | true ↦ λ e. let z = part_zero true (parts_given (free && (is_shared p || false)) going p ss) e in
           let f = z.0 in cc
       | false ↦ λ e.
           let z = part_zero (not (width s.path == 0)) (parts_given (free && (is_shared p || true)) going p ss) e in
-          let ih = no_parts o (free && (is_shared p || true)) going p ss z.1 in
-          (ap (λ (xs : List (List ℕ)). xs ++ tokens_given (free && (is_shared p || true)) going p ss)
-            (no_nulls p (width s.path) (null_at (kind_at p)) z.0) ∙ ih.0, ih.1)
+          let ih = no_parts o (free && (is_shared p || true)) going p ss z.1 in (
+            ap (λ (xs : List (List ℕ)). xs ++ tokens_given (free && (is_shared p || true)) going p ss)
+                (no_nulls p (width s.path) (null_at (kind_at p)) z.0) ∙ ih.0,
+            ih.1,
+          )
     ]) h
 
 -- the one record, and its tokens
@@ -216,15 +218,15 @@ only_taken : (going : Bool) (p : Place) (ss : List Source) (row : Row) → is_ov
 only_taken going p [] row o l few h = cc
 only_taken going p (s ∷ ss) row o l few h =
     (elim (is_at going p s) as (λ b. is_at going p s ≡ b
-        → nat_le (cond (b || not (width s.path == 0)) 1 0 + parts_given (is_shared p || not b) going p ss) 1 ≡ true
-        → Some row ≡ row_taken (later None (cond b (first_of s.coming) None)) (is_shared p || not b) going p ss
-        → Only p (part_given b p s ++ tokens_given (is_shared p || not b) going p ss) row) [
+    → nat_le (cond (b || not (width s.path == 0)) 1 0 + parts_given (is_shared p || not b) going p ss) 1 ≡ true
+    → Some row ≡ row_taken (later None (cond b (first_of s.coming) None)) (is_shared p || not b) going p ss
+    → Only p (part_given b p s ++ tokens_given (is_shared p || not b) going p ss) row) [
       | true ↦ λ e f w.
           let t = has_there going p s o l.0 e in
           let n = no_parts (Some t.row) (is_shared p || false) going p ss (le_one _ f) in
           let g : Some row ≡ Some t.row =
-            w ∙ (ap (λ (x : Option Row). row_taken (later None x) (is_shared p || false) going p ss) t.first
-            ∙ n.1) in
+          w ∙ (ap (λ (x : Option Row). row_taken (later None x) (is_shared p || false) going p ss) t.first
+          ∙ n.1) in
           let same : row ≡ t.row = cc in
           record {
             tokens_are = no_more (tokens_of_first s.coming) _ n.0 ∙ (t.tokens ∙ ap tokens_of (sym same));
@@ -232,13 +234,13 @@ only_taken going p (s ∷ ss) row o l few h =
           }
       | false ↦ λ e f w.
           (elim (width s.path == 0) as (λ z. width s.path == 0 ≡ z
-              → nat_le (cond (not z) 1 0 + parts_given (is_shared p || true) going p ss) 1 ≡ true
-              → Only p (nulls p s ++ tokens_given (is_shared p || true) going p ss) row) [
+          → nat_le (cond (not z) 1 0 + parts_given (is_shared p || true) going p ss) 1 ≡ true
+          → Only p (nulls p s ++ tokens_given (is_shared p || true) going p ss) row) [
             | true ↦ λ zero few.
                 let u = or_not_false (is_shared p) in
                 let ih = only_taken going p ss row o l.1
-                  (ap (λ (b : Bool). nat_le (parts_given b going p ss) 1) (sym u) ∙ le_none _ few)
-                  (w ∙ ap (λ (b : Bool). row_taken None b going p ss) u) in
+                (ap (λ (b : Bool). nat_le (parts_given b going p ss) 1) (sym u) ∙ le_none _ few)
+                (w ∙ ap (λ (b : Bool). row_taken None b going p ss) u) in
                 rw (same_rank (width s.path) 0 zero, u) ih
             | false ↦ λ wide few.
                 let n = no_parts None (is_shared p || true) going p ss (le_one _ few) in
@@ -267,13 +269,13 @@ pub taken_made : (going : Bool) (p : Place) (ss : List Source) (row : Row) → I
     → row ≡ made going p ss
 taken_made going p ss row g l (inl k) t =
     made_by p (kind_at p) (comment_given going p ss) (tokens_given true going p ss) row refl
-      (λ e. taken_comment going p ss row g.some k l (comment_alone p k) t)
-      (λ kind e. absurd (let n : None ≡ Some kind = sym k ∙ e in cc))
+    (λ e. taken_comment going p ss row g.some k l (comment_alone p k) t)
+    (λ kind e. absurd (let n : None ≡ Some kind = sym k ∙ e in cc))
 taken_made going p ss row g l (inr few) t =
     let one = only_taken going p ss row g.some l few t in
     made_by p (kind_at p) (comment_given going p ss) (tokens_given true going p ss) row refl
-      (λ k. taken_comment going p ss row g.some k l (comment_alone p k) t)
-      (λ kind e. spined_is row kind (sym e ∙ one.kind) ∙ ap (Spined kind) (sym one.tokens_are))
+    (λ k. taken_comment going p ss row g.some k l (comment_alone p k) t)
+    (λ kind e. spined_is row kind (sym e ∙ one.kind) ∙ ap (Spined kind) (sym one.tokens_are))
 
 -- A record of tokens has some.
 append_left : (xs ys : List (List ℕ)) → xs ++ ys ≡ [] → xs ≡ []
@@ -295,15 +297,15 @@ filled_at : (going : Bool) (p : Place) (ss : List Source) (kind : SpinedKind) �
 filled_at going p [] kind o k l h e = cc
 filled_at going p (s ∷ ss) kind o k l h e =
     (elim (is_at going p s) as (λ b. is_at going p s ≡ b → (b || list_any (is_at going p) ss) ≡ true
-        → part_given b p s ++ tokens_given (is_shared p || not b) going p ss ≡ [] → ⊥) [
+    → part_given b p s ++ tokens_given (is_shared p || not b) going p ss ≡ [] → ⊥) [
       | true ↦ λ at w z.
           let t = has_there going p s o l.0 at in
           has_tokens t.row kind (sym k ∙ t.kind) t.lawful
-            (sym t.tokens ∙ append_left (tokens_of_first s.coming) _ z)
+          (sym t.tokens ∙ append_left (tokens_of_first s.coming) _ z)
       | false ↦ λ at w z.
           let u = or_not_false (is_shared p) in
           filled_at going p ss kind o k l.1 w
-            (ap (λ (b : Bool). tokens_given b going p ss) (sym u) ∙ append_right (nulls p s) _ z)
+          (ap (λ (b : Bool). tokens_given b going p ss) (sym u) ∙ append_right (nulls p s) _ z)
     ]) refl h e
 
 pub filled : (going : Bool) (p : Place) (ss : List Source) (kind : SpinedKind)

@@ -100,7 +100,7 @@ abbrev pub ahead_at : Bool → Place → List Source → ℕ → next.Next
 ahead_at going p ss given =
     if is_over p then Over
     else unless_broken p (rule_broken
-      (spines (all_moved true going p ss)) (length (text_of (made going p ss))) given)
+    (spines (all_moved true going p ss)) (length (text_of (made going p ss))) given)
 
 abbrev pub unless_missing : Option ℕ → next.Next → next.Next
 unless_missing (Some j) known = Wants j
@@ -113,7 +113,7 @@ abbrev pub ahead_of : Bool → List Source → ℕ → next.Next
 ahead_of going ss given =
     if list_any (is_lost going) ss then Over
     else unless_missing (first_from (is_missing going) 0 ss)
-      (ahead_at going (earliest going ss) ss given)
+    (ahead_at going (earliest going ss) ss given)
 
 abbrev pub ahead : Merge → next.Next
 ahead m = ahead_of (any_due m.sources) m.sources m.given

@@ -21,7 +21,7 @@ abbrev pub row_taken : Option Row → Bool → Bool → Place → List Source �
 row_taken o free going p [] = o
 row_taken o free going p (s ∷ ss) =
     row_taken (later o (if takes free going p s then first_of s.coming else None))
-      (still_free free going p s) going p ss
+    (still_free free going p s) going p ss
 
 -- how many bytes the tokens of the record have, with a tab for each
 abbrev pub bytes_given : Bool → Bool → Place → List Source → ℕ

@@ -56,13 +56,7 @@ fn lower(a: End, b: End) -> End
     match (a, b) {
         (End::Closed, b) => b,
         (a, End::Closed) => a,
-        (End::Broken(f), End::Broken(g)) => {
-            if g.stage < f.stage {
-                b
-            } else {
-                a
-            }
-        }
+        (End::Broken(f), End::Broken(g)) => { if g.stage < f.stage { b } else { a } }
     }
 }
 

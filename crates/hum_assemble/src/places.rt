@@ -94,11 +94,9 @@ impl Place {
         ensures { result ≡ kind_at self }
     {
         match self {
-            Place::Begins
-            | Place::Opening
-            | Place::Tandem
-            | Place::Change
-            | Place::Closing => Some(SpinedKind::Interpretation),
+            Place::Begins | Place::Opening | Place::Tandem | Place::Change | Place::Closing => Some(
+                SpinedKind::Interpretation,
+            ),
             Place::Local => Some(SpinedKind::Local),
             Place::Note => Some(SpinedKind::Values),
             Place::Aside | Place::Front | Place::Remark | Place::Tail | Place::Over => None,

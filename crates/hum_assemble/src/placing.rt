@@ -120,13 +120,7 @@ fn heirs_count(after_join: bool, sign: Sign) -> usize
 {
     match sign {
         Sign::Split | Sign::Add => 2,
-        Sign::Join => {
-            if after_join {
-                0
-            } else {
-                1
-            }
-        }
+        Sign::Join => { if after_join { 0 } else { 1 } }
         Sign::End => 0,
         Sign::Exchange | Sign::Exclusive | Sign::Plain => 1,
     }
@@ -155,13 +149,7 @@ pub fn width_after(opened: bool, paths: &Paths, row: &Record) -> usize
 {
     let width = paths.width();
     match row.kind() {
-        Kind::Interpretation => {
-            if opened {
-                spread(row)
-            } else {
-                row.width()
-            }
-        }
+        Kind::Interpretation => { if opened { spread(row) } else { row.width() } }
         _ => width,
     }
 }

@@ -102,7 +102,13 @@ fn are_more_spines(sources: &[SourceHead], free: bool, going: bool, p: Place, le
             if width > left {
                 true
             } else {
-                are_more_spines(rest, still_free(source, free, going, p), going, p, left - width)
+                are_more_spines(
+                    rest,
+                    still_free(source, free, going, p),
+                    going,
+                    p,
+                    left - width,
+                )
             }
         }
     }
@@ -134,7 +140,13 @@ fn are_more_bytes(sources: &[SourceHead], free: bool, going: bool, p: Place, lef
             if bytes > left {
                 true
             } else {
-                are_more_bytes(rest, still_free(source, free, going, p), going, p, left - bytes)
+                are_more_bytes(
+                    rest,
+                    still_free(source, free, going, p),
+                    going,
+                    p,
+                    left - bytes,
+                )
             }
         }
     }

@@ -227,8 +227,8 @@ fn fifteen_sources(rt: HostRuntime) -> Result<(), Fail> {
         &rt,
         alloc,
         &[
-            source, source, source, source, source, source, source, source, source, source,
-            source, source, source, source, last,
+            source, source, source, source, source, source, source, source, source, source, source,
+            source, source, source, last,
         ],
         &[
             b"**x\t**x\t**x\t**x\t**x\t**x\t**x\t**x\t**x\t**x\t**x\t**x\t**x\t**x\t**y",
@@ -251,7 +251,16 @@ fn splits_of_two_sources_stand_apart(rt: HostRuntime) -> Result<(), Fail> {
             closed(&[b"**x", b"*^", b"1\t2", b"*v\t*v", b"*-"]),
             closed(&[b"**y", b"*^", b"7\t8", b"*v\t*v", b"9", b"*-"]),
         ],
-        &[b"**x\t**y", b"*^\t*", b"*\t*\t*^", b"1\t2\t7\t8", b"*v\t*v\t*\t*", b"*\t*v\t*v", b".\t9", b"*-\t*-"],
+        &[
+            b"**x\t**y",
+            b"*^\t*",
+            b"*\t*\t*^",
+            b"1\t2\t7\t8",
+            b"*v\t*v\t*\t*",
+            b"*\t*v\t*v",
+            b".\t9",
+            b"*-\t*-",
+        ],
         End::Closed,
     )?;
     check(
@@ -261,7 +270,17 @@ fn splits_of_two_sources_stand_apart(rt: HostRuntime) -> Result<(), Fail> {
             closed(&[b"**x", b"1", b"*^", b"2\t3", b"*v\t*v", b"*-"]),
             closed(&[b"**y", b"*^", b"7\t8", b"*v\t*v", b"9", b"10", b"*-"]),
         ],
-        &[b"**x\t**y", b"*\t*^", b"1\t7\t8", b"*^\t*\t*", b"*\t*\t*v\t*v", b"2\t3\t9", b"*v\t*v\t*", b".\t10", b"*-\t*-"],
+        &[
+            b"**x\t**y",
+            b"*\t*^",
+            b"1\t7\t8",
+            b"*^\t*\t*",
+            b"*\t*\t*v\t*v",
+            b"2\t3\t9",
+            b"*v\t*v\t*",
+            b".\t10",
+            b"*-\t*-",
+        ],
         End::Closed,
     )?;
     Ok(())
@@ -293,10 +312,7 @@ fn a_broken_source_ends_what_is_given(rt: HostRuntime) -> Result<(), Fail> {
     check(
         &rt,
         alloc,
-        &[
-            broken(2, 3, &[b"**x", b"1"]),
-            broken(1, 2, &[b"**y"]),
-        ],
+        &[broken(2, 3, &[b"**x", b"1"]), broken(1, 2, &[b"**y"])],
         &[b"**x\t**y"],
         cut(1, 2),
     )?;
@@ -323,7 +339,18 @@ fn an_added_spine_keeps_its_unit_together(rt: HostRuntime) -> Result<(), Fail> {
             closed(&[b"**x", b"1", b"*+", b"!!in", b"*\t**x", b"2\t3", b"*-\t*-"]),
             closed(&[b"**y", b"!!y", b"7", b"!!z", b"*clef", b"8", b"*-"]),
         ],
-        &[b"**x\t**y", b"!!y", b"1\t7", b"!!z", b"*+\t*", b"!!in", b"*\t**x\t*", b"*\t*\t*clef", b"2\t3\t8", b"*-\t*-\t*-"],
+        &[
+            b"**x\t**y",
+            b"!!y",
+            b"1\t7",
+            b"!!z",
+            b"*+\t*",
+            b"!!in",
+            b"*\t**x\t*",
+            b"*\t*\t*clef",
+            b"2\t3\t8",
+            b"*-\t*-\t*-",
+        ],
         End::Closed,
     )?;
     Ok(())
@@ -340,7 +367,15 @@ fn each_kind_is_filled_by_its_null_token(rt: HostRuntime) -> Result<(), Fail> {
             closed(&[b"**y", b"7", b"*-"]),
             closed(&[b"**z", b"*J", b"!c", b"*-"]),
         ],
-        &[b"**x\t**x\t**y\t**z", b"!a\t!b\t!\t!", b"*\t*\t*\t*J", b"!\t!\t!\t!c", b"*I\t*\t*\t*", b"1\t2\t7\t.", b"*-\t*-\t*-\t*-"],
+        &[
+            b"**x\t**x\t**y\t**z",
+            b"!a\t!b\t!\t!",
+            b"*\t*\t*\t*J",
+            b"!\t!\t!\t!c",
+            b"*I\t*\t*\t*",
+            b"1\t2\t7\t.",
+            b"*-\t*-\t*-\t*-",
+        ],
         End::Closed,
     )?;
     Ok(())
@@ -356,35 +391,31 @@ fn fronts_and_tails_go_in_turn(rt: HostRuntime) -> Result<(), Fail> {
             closed(&[b"!!a", b"**x", b"1", b"*-", b"!!b", b"!!c"]),
             closed(&[b"!!d", b"!!e", b"**y", b"*-", b"!!f"]),
         ],
-        &[b"!!a", b"!!d", b"!!e", b"**x\t**y", b"1\t.", b"*-\t*-", b"!!b", b"!!f", b"!!c"],
+        &[
+            b"!!a",
+            b"!!d",
+            b"!!e",
+            b"**x\t**y",
+            b"1\t.",
+            b"*-\t*-",
+            b"!!b",
+            b"!!f",
+            b"!!c",
+        ],
         End::Closed,
     )?;
     check(
         &rt,
         alloc,
-        &[
-            closed(&[b"!!a"]),
-            closed(&[b"!!b", b"**y", b"*-"]),
-        ],
+        &[closed(&[b"!!a"]), closed(&[b"!!b", b"**y", b"*-"])],
         &[b"!!a", b"!!b", b"**y", b"*-"],
         End::Closed,
     )?;
+    check(&rt, alloc, &[closed(&[]), closed(&[])], &[], End::Closed)?;
     check(
         &rt,
         alloc,
-        &[
-            closed(&[]),
-            closed(&[]),
-        ],
-        &[],
-        End::Closed,
-    )?;
-    check(
-        &rt,
-        alloc,
-        &[
-            closed(&[b"**x\t**y", b"1\t2", b"*-\t*", b"3", b"*-"]),
-        ],
+        &[closed(&[b"**x\t**y", b"1\t2", b"*-\t*", b"3", b"*-"])],
         &[b"**x\t**y", b"1\t2", b"*-\t*", b"3", b"*-"],
         End::Closed,
     )?;

@@ -8,5 +8,5 @@ abbrev pub invariant-loop-j : goal.invariant-loop-j
 invariant-loop-j l = record {
   at : l.count + spread l.after_join (map sign_of (drop l.j (tokens_of l.row)))
       ≡ spread false (map sign_of (tokens_of l.row));
-  far : l.count ≤ 2 * l.j
+  far : l.count ≤ 2 * l.j;
 }

@@ -5,8 +5,8 @@ use Rattle.hum_assemble.proofs.placing.width_after.Goals as goal
 pub spread-requires : goal.spread-requires
 spread-requires c =
     let e = wide_as_before c.args.paths.now.path c.args.row.now
-      (sym c.requires.opened ∙ c.if-opened.true)
-      (sym c.kind.ensures.kind ∙ c.in-Interpretation.is) c.requires.sound in
+    (sym c.requires.opened ∙ c.if-opened.true)
+    (sym c.kind.ensures.kind ∙ c.in-Interpretation.is) c.requires.sound in
     let w = c.width-width.ensures.width in
     let m = c.width-width.ensures.at_most in
     omega (arith, e, w, m)
@@ -14,5 +14,5 @@ spread-requires c =
 pub returns-then-opened : goal.returns-then-opened
 returns-then-opened c =
     c.spread.ensures ∙ spread_width c.args.paths.now.path c.args.row.now
-      (sym c.requires.opened ∙ c.if-opened.true)
-      (sym c.kind.ensures.kind ∙ c.in-Interpretation.is)
+    (sym c.requires.opened ∙ c.if-opened.true)
+    (sym c.kind.ensures.kind ∙ c.in-Interpretation.is)

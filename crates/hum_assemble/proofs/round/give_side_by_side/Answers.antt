@@ -8,6 +8,6 @@ pub finish-row-requires-clause-filled : goal.finish-row-requires-clause-filled
 finish-row-requires-clause-filled c = λ e.
     let a = ap (λ (d : Draft). d.tokens) c.in-Ok.ensures in
     let b = ap (λ (d : Draft). d.tokens
-      ++ tokens_given true c.args.going c.args.p c.args.sources.now) c.reusing-builder.ensures in
+    ++ tokens_given true c.args.going c.args.p c.args.sources.now) c.reusing-builder.ensures in
     filled c.args.going c.args.p c.args.sources.now c.args.kind c.requires.kind c.requires.giving
-      c.requires.lawful (sym (a ∙ b) ∙ e)
+    c.requires.lawful (sym (a ∙ b) ∙ e)

@@ -10,5 +10,5 @@ invariant-loop-source l = record {
       ++ all_moved l.free l.going l.p (drop l.source-index l.sources)
       ≡ all_moved true l.going l.p l.initial.sources;
   taken : row_taken l.given l.free l.going l.p (drop l.source-index l.sources)
-      ≡ row_taken None true l.going l.p l.initial.sources
+      ≡ row_taken None true l.going l.p l.initial.sources;
 }

@@ -11,7 +11,7 @@ invariant-loop-rest l = record {
   same : l.builder.kind ≡ l.initial.builder.kind;
   spent : l.builder.spent ≡ l.initial.builder.spent;
   tokens : l.builder.tokens ++ tokens_given l.free l.going l.p l.rest
-      ≡ l.initial.builder.tokens ++ tokens_given true l.going l.p l.sources
+      ≡ l.initial.builder.tokens ++ tokens_given true l.going l.p l.sources;
 }
 
 abbrev pub decreases-loop-rest : goal.decreases-loop-rest

@@ -6,11 +6,11 @@ pub index_mut-requires : goal.index_mut-requires
 index_mut-requires c =
     let r = rw (← c.self.view_is) at c.requires in
     let m = not_spent_end c.self.inside.stage
-      (record { sources = c.self.inside.sources.items; given = c.self.inside.given })
-      c.self.inside.spent c.args.source c.args.end c.if-self.false r in
+    (record { sources = c.self.inside.sources.items; given = c.self.inside.given })
+    c.self.inside.spent c.args.source c.args.end c.if-self.false r in
     let w = end_within c.self.inside.stage
-      (record { sources = c.self.inside.sources.items; given = c.self.inside.given })
-      c.self.inside.spent c.args.source c.args.end m in
+    (record { sources = c.self.inside.sources.items; given = c.self.inside.given })
+    c.self.inside.spent c.args.source c.args.end m in
     let l = c.self.inside.sources.ok.0 in
     omega (arith, w, l)
 

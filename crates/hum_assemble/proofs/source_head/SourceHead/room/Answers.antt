@@ -12,10 +12,10 @@ returns-then-not-taken c =
       coming = coming c.self.inside.head;
       ended = c.self.inside.ended;
     }) _ _ c.if-not-taken.true c.width.ensures.width
-      (c.null_at.ensures ∙ ap null_at c.kind.ensures))
+    (c.null_at.ensures ∙ ap null_at c.kind.ensures))
 
 pub returns-in_default : goal.returns-in_default
 returns-in_default c =
     rw (← c.self.view_is, c.if-not-taken.false, c.in-Some.is, c.text.ensures.text)
-      (room_text _ (λ e. c.in_default.not-Global (c.kind-in-Some.ensures.kind ∙ e))
-        c.kind-in-Some.ensures.lawful)
+    (room_text _ (λ e. c.in_default.not-Global (c.kind-in-Some.ensures.kind ∙ e))
+    c.kind-in-Some.ensures.lawful)

@@ -12,7 +12,7 @@ end-requires g c =
     let w = c.in-Some.ensures s.at s.stands in
     let l = c.self.inside.paths.ok.0 in
     inr (may_end _ _ c.self.inside.puts c.in-Some.source _ c.args.end s w
-      (omega (arith, l)) c.index.ensures (c.may_end.ensures c.if-not-may_end.false))
+    (omega (arith, l)) c.index.ensures (c.may_end.ensures c.if-not-may_end.false))
 
 pub invariant_of-result : goal.invariant_of-result
 invariant_of-result g c =

@@ -11,7 +11,7 @@ put-requires g c =
     let w = c.in-Some.ensures s.at s.stands in
     let l = c.self.inside.paths.ok.0 in
     inr (may_put _ _ c.self.inside.puts c.in-Some.source _ c.in_ok-next.next s w
-      (omega (arith, l)) c.index_mut.ensures.value c.in_ok-step.ensures.sound (omega arith))
+    (omega (arith, l)) c.index_mut.ensures.value c.in_ok-step.ensures.sound (omega arith))
 
 pub invariant_of-result : goal.invariant_of-result
 invariant_of-result g c =
@@ -21,6 +21,6 @@ invariant_of-result g c =
       at = after c.in-Some.source (More c.in_ok-next.next) s.at;
       stands = c.in_ok-put.ensures.ok s.at s.stands (sym w);
       followed = followed_put c.self.inside.puts c.in-Some.source _ s.at.inputs _ _
-        c.in_ok-next.next s.followed c.index_mut.ensures.value c.in_ok-step.ensures.sound
-        (ap (λ (t : Tracked). t.path) c.in_ok-step.ensures.after);
+          c.in_ok-next.next s.followed c.index_mut.ensures.value c.in_ok-step.ensures.sound
+          (ap (λ (t : Tracked). t.path) c.in_ok-step.ensures.after);
     }
