@@ -1,29 +1,27 @@
 -- How many bytes a record has, and how many spines stand behind one.
-use Rattle.std.proofs.Common.{◌≡◌, ◌≢◌, ◌∙◌, refl, sym, ap, ℕ, zero, suc, ◌+◌, ◌-◌, ◌*◌, ◌≤◌, ◌<◌}
-use Rattle.std.proofs.Common.{Bool, true, false, cond, List, [], ◌∷◌, ◌++◌, length, length-append}
+use Rattle.std.proofs.Common.{◌≡◌, ◌∙◌, refl, sym, ap, ℕ, zero, suc, ◌+◌, ◌-◌, ◌*◌, ◌≤◌, ◌<◌}
+use Rattle.std.proofs.Common.{Bool, true, false, List, [], ◌∷◌, ◌++◌, length, length-append}
 use Rattle.std.proofs.Common.{arith, map, replicate}
-use Rattle.std.specs.Prelude.{nat_lt, nat_le, ◌==◌, not, Option, None, Some}
+use Rattle.std.specs.Prelude.{nat_lt, Option, None, Some}
 use Rattle.std.specs.List.{join_with_byte}
 use Rattle.std.proofs.lemmas.Bool.Decides.{nat_tests}
 use Rattle.std.proofs.lemmas.List.{length-map}
 use Rattle.hum_record.specs.declared.SpinedKind.{SpinedKind}
-use Rattle.hum_record.specs.declared.SpinedKind.TheVariants.{Interpretation}
 use Rattle.hum_record.specs.declared.Kind.TheVariants.{Global}
 use Rattle.hum_record.specs.Row.{Row, Comment, Spined, kind_of, tokens_of, text_of}
 use Rattle.hum_record.specs.Spelling.{IsTextOf}
 use Rattle.hum_path.specs.declared.signs.Sign.{Sign}
 use Rattle.hum_path.specs.declared.signs.Sign.TheVariants.{Split, Join, Exchange, Add, End}
 use Rattle.hum_path.specs.declared.signs.Sign.TheVariants.{Exclusive, Plain}
-use Rattle.hum_path.specs.declared.moved.Move.{Move}
 use Rattle.hum_path.specs.Sign.{sign_of, is_join}
-use Rattle.hum_path.specs.Spines.{Path, Unopened, Spines, width, after, heirs, heirs_from, exchanges}
+use Rattle.hum_path.specs.Spines.{Spines, width, heirs, heirs_from, exchanges}
 use Rattle.hum_path.specs.Spines.{renamed, moves_under, names_after}
 use Rattle.hum_assemble.specs.Spread.{spread, heirs_count, room}
 use Rattle.hum_assemble.specs.declared.places.Place.{Place}
 use Rattle.hum_assemble.specs.Source.{Source}
 use Rattle.hum_assemble.specs.Places.{null_at, kind_at}
 use Rattle.hum_assemble.specs.Round.{takes, still_free}
-use Rattle.hum_assemble.specs.Merge.{nulls, part_given, comment_given, tokens_given, made, row_of_kind}
+use Rattle.hum_assemble.specs.Merge.{part_given, comment_given, tokens_given, made, row_of_kind}
 use Rattle.hum_assemble.specs.Taking.{bytes_given}
 
 pub room_append : (xs ys : List (List ℕ)) → room (xs ++ ys) ≡ room xs + room ys

@@ -8,9 +8,9 @@ use Rattle.hum_stage.specs.declared.faults.Command.TheVariants.{Read}
 use Rattle.hum_stage.specs.declared.faults.Rule.TheVariants.{P8}
 use Rattle.hum_stage.specs.declared.faults.Fault.{Fault}
 use Rattle.hum_stage.specs.declared.faults.End.TheVariants.{Closed, Broken}
-use Rattle.hum_stage.specs.declared.faults.State.TheVariants.{Wants, Gives, Done}
+use Rattle.hum_stage.specs.declared.faults.State.TheVariants.{Done}
 use Rattle.hum_assemble.specs.Change.{Input}
-use Rattle.hum_assemble.specs.Meaning.{output, Moment, state_of, wants_of, held_at}
+use Rattle.hum_assemble.specs.Meaning.{output, state_of, wants_of, held_at}
 
 abbrev i : List (List ℕ) → Row
 i = Spined Interpretation

@@ -1,6 +1,6 @@
 -- A record's kind is that of its place.
-use Rattle.std.proofs.Common.{◌≡◌, ◌≢◌, ◌∙◌, refl, sym, ap, ℕ, zero, suc, ◌+◌, Bool, true, false}
-use Rattle.std.proofs.Common.{cond, List, [], ◌∷◌, length, arith, map}
+use Rattle.std.proofs.Common.{◌≡◌, ◌∙◌, refl, sym, ap, ℕ, true, false}
+use Rattle.std.proofs.Common.{cond, List, [], ◌∷◌, length, map}
 use Rattle.std.specs.Prelude.{◌==◌, Option, None, Some}
 use Rattle.std.specs.List.{list_any, list_all, find, AllByRecursion}
 use Rattle.hum_record.specs.declared.SpinedKind.{SpinedKind}
@@ -119,7 +119,8 @@ tokens_lawful (Comment text) kind e t = cc
 tokens_lawful (Spined k tokens) kind e t = let same : kind ≡ k = cc in rw same t.2
 
 -- How many spines stand behind an interpretation that finds spines open.
-pub wide_as_before : (path : Path) (row : Row) → is_opened path ≡ true → kind_of row ≡ AnyInterpretation
+pub wide_as_before : (path : Path) (row : Row) → is_opened path ≡ true
+    → kind_of row ≡ AnyInterpretation
     → fault_of path row ≡ None → length (tokens_of row) ≡ width path
 wide_as_before Unopened row o k h = cc
 wide_as_before (Spines names) (Comment text) o k h = cc
@@ -127,7 +128,8 @@ wide_as_before (Spines names) (Spined Local tokens) o k h = cc
 wide_as_before (Spines names) (Spined Values tokens) o k h = cc
 wide_as_before (Spines names) (Spined Interpretation tokens) o k h = sound_width names tokens h
 
-pub spread_width : (path : Path) (row : Row) → is_opened path ≡ true → kind_of row ≡ AnyInterpretation
+pub spread_width : (path : Path) (row : Row) → is_opened path ≡ true
+    → kind_of row ≡ AnyInterpretation
     → spread false (map sign_of (tokens_of row)) ≡ width (after path row)
 spread_width Unopened row o k = cc
 spread_width (Spines names) (Comment text) o k = cc

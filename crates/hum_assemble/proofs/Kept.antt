@@ -1,20 +1,13 @@
 -- What one source more of which something is known changes: nothing that was decided.
-use Rattle.std.proofs.Common.{◌≡◌, ◌∙◌, refl, sym, ap, ℕ, zero, suc, ◌+◌, ◌≤◌, ◌<◌, Bool, true}
-use Rattle.std.proofs.Common.{false, not, ◌&&◌, ◌||◌, cond, List, [], ◌∷◌, ◌++◌, length, arith}
-use Rattle.std.specs.Prelude.{Option, None, Some, is_none, is_some, ◌==◌, if◌then◌else◌}
-use Rattle.std.specs.List.{list_any}
+use Rattle.std.proofs.Common.{◌≡◌, refl, ap, Bool, true}
+use Rattle.std.proofs.Common.{false, List, [], ◌∷◌}
+use Rattle.std.specs.Prelude.{Option, None}
 use Rattle.hum_record.specs.Row.{Row}
 use Rattle.hum_path.specs.Spines.{Path}
 use Rattle.hum_stage.specs.declared.faults.End as end
-use Rattle.hum_assemble.specs.declared.places.Place.{Place}
-use Rattle.hum_assemble.specs.declared.places.Place.TheVariants.{Over}
-use Rattle.hum_assemble.specs.Source.{Source, place}
-use Rattle.hum_assemble.specs.Change.{Change, More, Ends, changed, changed_at, IsOpenAt}
-use Rattle.hum_assemble.specs.Merge.{Merge, moved, all_moved, nulls, tokens_of_first, text_of_first}
-use Rattle.hum_assemble.specs.Merge.{tokens_given, comment_given, spines}
-use Rattle.hum_assemble.specs.Places.{rank, is_over, is_shared}
-use Rattle.hum_assemble.specs.Round.{shown, is_asked, is_missing, is_lost, place_at, takes}
-use Rattle.hum_assemble.specs.Round.{still_free, earliest, any_due}
+use Rattle.hum_assemble.specs.Source.{Source}
+use Rattle.hum_assemble.specs.Change.{Change, More, Ends, changed}
+use Rattle.hum_assemble.specs.Round.{is_missing, place_at}
 
 -- One source.
 pub record Kept (going : Bool) (change : Change) (s : Source) : Type 0 where
@@ -31,7 +24,8 @@ kept_fields true (Ends e) path false [] h = record { place = refl; known = refl 
 kept_fields going change path true [] h = cc
 kept_fields false change path false [] h = cc
 
-pub kept : (going : Bool) (change : Change) (s : Source) → s.ended ≡ None → is_missing going s ≡ false → Kept going change s
+pub kept : (going : Bool) (change : Change) (s : Source) → s.ended ≡ None
+    → is_missing going s ≡ false → Kept going change s
 kept going change s e h =
     let same : s ≡ record { path = s.path; due = s.due; coming = s.coming; ended = None } = ap (λ (x : Option end.End). record { path = s.path; due = s.due; coming = s.coming; ended = x }) e in
     rw same (kept_fields going change s.path s.due s.coming (rw same at h))

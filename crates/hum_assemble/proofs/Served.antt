@@ -1,18 +1,17 @@
 -- Sources that are served by what is wanted.
 use Rattle.std.proofs.Common.{◌≡◌, ◌∙◌, refl, sym, ap, ℕ, zero, suc, ◌+◌, ◌≤◌, ◌<◌, List, [], ◌∷◌}
-use Rattle.std.proofs.Common.{◌++◌, length, length-append, arith, get_or, set, replicate}
-use Rattle.std.specs.Prelude.{Option, None, Some, Bool, true, false, not}
+use Rattle.std.proofs.Common.{length, length-append, arith, get_or, set, replicate}
+use Rattle.std.specs.Prelude.{None, Some, Bool, true, false, not}
 use Rattle.hum_record.specs.Row.{Row}
-use Rattle.hum_path.specs.Spines.{Path, Unopened, Spines, Tracked}
+use Rattle.hum_path.specs.Spines.{Path, Unopened, Tracked}
 use Rattle.hum_path.specs.Spines.{after as path_of}
 use Rattle.hum_path.specs.Rules.{fault_of, is_unfinished, is_closed}
-use Rattle.hum_stage.specs.Score.{through, IsScore, IsClosed}
+use Rattle.hum_stage.specs.Score.{through, IsScore}
 use Rattle.hum_stage.specs.declared.faults.End as end
 use Rattle.hum_stage.specs.declared.faults.End.TheVariants.{Closed}
 use Rattle.hum_stage.proofs.OneMore.{one_more, spines_after}
-use Rattle.hum_assemble.specs.Change.{Input, Change, More, Ends, had, had_at}
-use Rattle.hum_assemble.specs.Meaning.{Moment, MayPut, MayEnd, wants_of, put_of, after}
-use Rattle.hum_assemble.specs.Meaning.{empty_moment}
+use Rattle.hum_assemble.specs.Change.{Input, More, Ends, had_at}
+use Rattle.hum_assemble.specs.Meaning.{MayPut, MayEnd, wants_of, put_of}
 use Rattle.hum_assemble.specs.Standing.{Assembler, Stands}
 use Rattle.hum_assemble.specs.Serving.{AreFollowed, IsServed}
 

@@ -1,6 +1,6 @@
 -- Which records a record is given of.
-use Rattle.std.proofs.Common.{◌≡◌, ◌≢◌, ◌∙◌, refl, sym, ap, ℕ, zero, suc, ◌+◌, ◌≤◌, ◌<◌, ◌⊎◌, inl, inr}
-use Rattle.std.proofs.Common.{Bool, true, false, not, ◌&&◌, ◌||◌, cond, List, [], ◌∷◌, ◌++◌, length}
+use Rattle.std.proofs.Common.{◌≡◌, ◌≢◌, ◌∙◌, refl, sym, ap, ℕ, zero, suc, ◌+◌, inl, inr}
+use Rattle.std.proofs.Common.{Bool, true, false, not, ◌&&◌, ◌||◌, cond, List, [], ◌∷◌, ◌++◌}
 use Rattle.std.proofs.Common.{append-nil, arith, replicate}
 use Rattle.std.specs.Prelude.{nat_le, ◌==◌, Option, None, Some}
 use Rattle.std.specs.List.{list_any, AllByRecursion}
@@ -8,7 +8,6 @@ use Rattle.std.proofs.lemmas.Bool.Decides.{nat_tests}
 use Rattle.hum_record.specs.declared.SpinedKind.{SpinedKind}
 use Rattle.hum_record.specs.Row.{Row, Comment, Spined, text_of, tokens_of}
 use Rattle.hum_record.specs.Spelling.{IsTextOf, IsToken}
-use Rattle.hum_path.specs.Rules.{fault_of}
 use Rattle.hum_path.specs.Spines.{Path, width}
 use Rattle.hum_stage.specs.declared.faults.End as end
 use Rattle.hum_stage.specs.declared.faults.End.TheVariants.{Closed, Broken}
@@ -18,12 +17,12 @@ use Rattle.hum_assemble.specs.declared.places.Place.TheVariants.{Remark, Local a
 use Rattle.hum_assemble.specs.declared.places.Place.TheVariants.{Tandem, Change, Note, Closing}
 use Rattle.hum_assemble.specs.declared.places.Place.TheVariants.{Tail, Over}
 use Rattle.hum_assemble.specs.Source.{Source, place}
-use Rattle.hum_assemble.specs.Head.{first_of, IsLawful, AreLawful, AllLawful}
+use Rattle.hum_assemble.specs.Head.{first_of, AreLawful, AllLawful}
 use Rattle.hum_assemble.specs.Places.{rank, kind_at, null_at, is_shared, is_over}
 use Rattle.hum_assemble.specs.Round.{place_at, takes, still_free}
 use Rattle.hum_assemble.specs.Merge.{comment_given, text_of_first, tokens_of_first, tokens_given}
 use Rattle.hum_assemble.specs.Merge.{part_given, nulls, made, row_of_kind, moved, all_moved, advanced}
-use Rattle.hum_assemble.specs.Taking.{later, row_taken, parts_given, has_part, is_at, IsGiving}
+use Rattle.hum_assemble.specs.Taking.{later, row_taken, parts_given, is_at, IsGiving}
 use Rattle.hum_assemble.specs.Taking.{IsAlone}
 use Rattle.hum_assemble.proofs.Fitting.{spined_of, kind_there, tokens_lawful}
 

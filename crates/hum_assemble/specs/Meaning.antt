@@ -116,7 +116,8 @@ state_of t =
     if nat_lt t.given (length (all_of t)) then Gives
     else resting_state (own_fault t.stage t.inputs) (inputs_end (ends t.inputs))
 
--- The source whose record is needed; once nothing more can be given, the leftmost that hasn't ended.
+-- The source whose record is needed; once nothing more can be given, the leftmost that hasn't
+-- ended.
 abbrev pub wanted : next.Next → List (Option end.End) → Option ℕ
 wanted (WantsOf j) ended = Some j
 wanted (GivesAt p) ended = first_from is_none 0 ended
@@ -188,4 +189,8 @@ HasTaken before after_it taken =
 -- Of so many sources nothing was put yet.
 abbrev pub empty_moment : ℕ → ℕ → Moment
 empty_moment stage sources =
-    record { stage = stage; inputs = replicate sources (record { put = []; ended = None }); given = 0 }
+    record {
+      stage = stage;
+      inputs = replicate sources (record { put = []; ended = None });
+      given = 0;
+    }

@@ -1,11 +1,11 @@
 -- Who takes part in a round, and what each of them has there.
-use Rattle.std.specs.Prelude.{ℕ, ◌+◌, ◌==◌, Bool, true, false, not, ◌&&◌, ◌||◌, if◌then◌else◌}
+use Rattle.std.specs.Prelude.{ℕ, ◌+◌, ◌==◌, Bool, false, not, ◌&&◌, ◌||◌, if◌then◌else◌}
 use Rattle.std.specs.Prelude.{List, [], ◌∷◌, Option, None, Some, is_some, is_none}
 use Rattle.std.specs.List.{list_any}
 use Rattle.hum_record.specs.Row.{Row}
 use Rattle.hum_path.specs.Spines.{Path}
 use Rattle.hum_stage.specs.declared.faults.End as end
-use Rattle.hum_stage.specs.declared.faults.End.TheVariants.{Closed, Broken}
+use Rattle.hum_stage.specs.declared.faults.End.TheVariants.{Closed}
 use Rattle.hum_assemble.specs.declared.places.Place.{Place}
 use Rattle.hum_assemble.specs.declared.places.Place.TheVariants.{Over}
 use Rattle.hum_assemble.specs.Source.{Source, place}

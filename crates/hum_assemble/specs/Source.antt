@@ -1,7 +1,6 @@
 -- A source, and where its next record stands in it.
-use Rattle.std.specs.Prelude.{ℕ, Bool, true, false, List, [], ◌∷◌, map, Option, if◌then◌else◌}
+use Rattle.std.specs.Prelude.{Bool, true, false, List, [], ◌∷◌, map, Option, if◌then◌else◌}
 use Rattle.std.specs.List.{list_any, list_all}
-use Rattle.hum_record.specs.declared.SpinedKind.{SpinedKind}
 use Rattle.hum_record.specs.declared.SpinedKind.TheVariants.{Local, Interpretation, Values}
 use Rattle.hum_record.specs.Row.{Row, Comment, Spined}
 use Rattle.hum_record.specs.Spelling.{is_empty}

@@ -244,8 +244,9 @@ impl Assemble {
         Ok(Some(row))
     }
 
-    /// What it is ready for: it gives while it has records that are settled, then wants until every
-    /// source has ended, and is done then, with the lowest-numbered fault of a source, else its own.
+    /// What it is ready for: it gives while it has records that are settled, then wants until
+    /// every source has ended. It is done then, with the lowest-numbered fault of a source, else
+    /// its own.
     pub fn state(&self) -> State
         ensures { (t : Moment) → Stands self.now t → result ≡ state_of t }
     {

@@ -1,4 +1,4 @@
-use Rattle.std.proofs.Common.{◌≡◌, ◌≤◌, ◌+◌, ◌*◌, drop, map, length, false}
+use Rattle.std.proofs.Common.{◌≡◌, ◌≤◌, ◌+◌, ◌*◌, drop, map, false}
 use Rattle.hum_record.specs.Row.{tokens_of}
 use Rattle.hum_path.specs.Sign.{sign_of}
 use Rattle.hum_assemble.specs.Spread.{spread}

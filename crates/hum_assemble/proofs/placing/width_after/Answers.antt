@@ -1,4 +1,4 @@
-use Rattle.std.proofs.Common.{◌≡◌, ◌∙◌, sym, arith}
+use Rattle.std.proofs.Common.{◌∙◌, sym, arith}
 use Rattle.hum_assemble.proofs.Fitting.{wide_as_before, spread_width}
 use Rattle.hum_assemble.proofs.placing.width_after.Goals as goal
 

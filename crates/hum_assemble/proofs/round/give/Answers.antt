@@ -1,4 +1,4 @@
-use Rattle.std.proofs.Common.{◌≡◌, true}
+use Rattle.std.proofs.Common.{true}
 use Rattle.hum_assemble.proofs.Steps.{giving}
 use Rattle.hum_assemble.proofs.Taking.{all_lawful}
 use Rattle.hum_assemble.proofs.round.give.Goals as goal

@@ -1,4 +1,4 @@
-use Rattle.std.proofs.Common.{◌≡◌, ◌∙◌, sym}
+use Rattle.std.proofs.Common.{◌∙◌, sym}
 use Rattle.hum_assemble.proofs.Taking.{taken_some, taken_made}
 use Rattle.hum_assemble.proofs.round.give_alone.Goals as goal
 

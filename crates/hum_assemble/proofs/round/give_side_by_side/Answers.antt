@@ -1,4 +1,4 @@
-use Rattle.std.proofs.Common.{◌≡◌, ◌++◌, ◌∙◌, sym, ap, true}
+use Rattle.std.proofs.Common.{◌++◌, ◌∙◌, sym, ap, true}
 use Rattle.hum_record.specs.Building.{Draft}
 use Rattle.hum_assemble.specs.Merge.{tokens_given}
 use Rattle.hum_assemble.proofs.Taking.{filled}

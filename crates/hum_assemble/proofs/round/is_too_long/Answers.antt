@@ -1,4 +1,4 @@
-use Rattle.std.proofs.Common.{◌≡◌, ◌∙◌, sym, ap}
+use Rattle.std.proofs.Common.{◌∙◌, sym}
 use Rattle.hum_assemble.proofs.Bytes.{too_long}
 use Rattle.hum_assemble.proofs.round.is_too_long.Goals as goal
 

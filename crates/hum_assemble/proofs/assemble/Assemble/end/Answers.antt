@@ -1,4 +1,4 @@
-use Rattle.std.proofs.Common.{◌≡◌, ◌∙◌, sym, ap, arith}
+use Rattle.std.proofs.Common.{arith}
 use Rattle.hum_assemble.proofs.Calls.{end_within, end_here, not_spent_end, has_grown}
 use Rattle.hum_assemble.proofs.assemble.Assemble.end.Goals as goal
 

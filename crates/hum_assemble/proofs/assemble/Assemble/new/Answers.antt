@@ -1,4 +1,4 @@
-use Rattle.std.proofs.Common.{◌≡◌, ◌∙◌, refl, arith, ap, List}
+use Rattle.std.proofs.Common.{◌≡◌, ◌∙◌, arith, ap, List}
 use Rattle.hum_assemble.specs.Source.{Source}
 use Rattle.hum_assemble.specs.Merge.{ahead}
 use Rattle.hum_assemble.proofs.Calls.{new_stands, lawful_new}

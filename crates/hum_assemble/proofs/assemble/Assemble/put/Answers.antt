@@ -1,4 +1,4 @@
-use Rattle.std.proofs.Common.{◌≡◌, ◌∙◌, sym, ap, arith}
+use Rattle.std.proofs.Common.{◌∙◌, sym, arith}
 use Rattle.hum_assemble.proofs.Calls.{within_ahead, empty_ahead, sound_put, not_spent, alive}
 use Rattle.hum_assemble.proofs.Calls.{with_spent, put_here, put_other, has_grown}
 use Rattle.hum_assemble.proofs.assemble.Assemble.put.Goals as goal

@@ -1,4 +1,4 @@
-use Rattle.std.proofs.Common.{◌≡◌, ◌∙◌, sym, ap, ◌+◌, List, length, arith}
+use Rattle.std.proofs.Common.{◌∙◌, sym, ap, ◌+◌, List, arith}
 use Rattle.hum_assemble.specs.Source.{Source}
 use Rattle.hum_assemble.specs.Merge.{ahead, given_row, given_on}
 use Rattle.hum_assemble.proofs.Calls.{take_here, take_nothing, alive, told_taken}

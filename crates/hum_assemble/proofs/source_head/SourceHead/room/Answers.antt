@@ -1,4 +1,4 @@
-use Rattle.std.proofs.Common.{◌≡◌, ◌∙◌, sym, ap}
+use Rattle.std.proofs.Common.{◌∙◌, ap}
 use Rattle.hum_assemble.specs.Places.{null_at}
 use Rattle.hum_assemble.specs.Head.{coming}
 use Rattle.hum_assemble.proofs.Bytes.{room_nulls, room_text}

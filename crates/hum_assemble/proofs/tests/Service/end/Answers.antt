@@ -1,6 +1,4 @@
-use Rattle.std.proofs.Common.{◌≡◌, ◌∙◌, sym, ap, inr, arith}
-use Rattle.hum_path.specs.Spines.{Path, Tracked}
-use Rattle.hum_path.specs.Rules.{is_closed}
+use Rattle.std.proofs.Common.{sym, inr, arith}
 use Rattle.hum_assemble.specs.Change.{Ends}
 use Rattle.hum_assemble.specs.Meaning.{after}
 use Rattle.hum_assemble.proofs.Served.{may_end, followed_end}

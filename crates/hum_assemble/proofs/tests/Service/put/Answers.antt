@@ -1,4 +1,4 @@
-use Rattle.std.proofs.Common.{◌≡◌, ◌∙◌, sym, ap, inr, arith}
+use Rattle.std.proofs.Common.{sym, ap, inr, arith}
 use Rattle.hum_path.specs.Spines.{Tracked}
 use Rattle.hum_assemble.specs.Change.{More}
 use Rattle.hum_assemble.specs.Meaning.{after}
