@@ -12,3 +12,4 @@ pub mod Calls
 pub mod Padding
 pub mod Shifting
 pub mod Served
+pub mod Beside
