@@ -13,3 +13,6 @@ pub mod Padding
 pub mod Shifting
 pub mod Served
 pub mod Beside
+pub mod Sounding
+pub mod Sides
+pub mod Rounds
