@@ -16,3 +16,4 @@ pub mod Beside
 pub mod Sounding
 pub mod Sides
 pub mod Rounds
+pub mod Quiet
