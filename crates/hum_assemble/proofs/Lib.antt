@@ -17,3 +17,4 @@ pub mod Sounding
 pub mod Sides
 pub mod Rounds
 pub mod Quiet
+pub mod Alone
