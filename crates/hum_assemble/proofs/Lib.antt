@@ -18,3 +18,4 @@ pub mod Sides
 pub mod Rounds
 pub mod Quiet
 pub mod Alone
+pub mod Turning
