@@ -19,3 +19,4 @@ pub mod Rounds
 pub mod Quiet
 pub mod Alone
 pub mod Turning
+pub mod Fine

@@ -112,7 +112,7 @@ opening_path (Spines (n ∷ ns)) row h =
     ]) h
 
 -- Quiet places.
-comment_stays : (path : Path) (row : Row) → None ≡ spined_of row → after path row ≡ path
+pub comment_stays : (path : Path) (row : Row) → None ≡ spined_of row → after path row ≡ path
 comment_stays path (Comment text) e = refl
 comment_stays path (Spined kind tokens) e = cc
 
