@@ -20,3 +20,4 @@ pub mod Quiet
 pub mod Alone
 pub mod Turning
 pub mod Fine
+pub mod Scores

@@ -150,11 +150,11 @@ takes_one m p h =
     total_less (any_due m.sources) p m.sources g.some (rw g.place (earliest_at (any_due m.sources) m.sources (rw g.place at g.some)))
 
 -- All records that can be given.
-gives_going : (n : ℕ) (m : Merge) (p : Place) → ahead m ≡ Gives p
+pub gives_going : (n : ℕ) (m : Merge) (p : Place) → ahead m ≡ Gives p
     → gives (suc n) m ≡ given_row p m ∷ gives n (given_on p m)
 gives_going n m p h = ap (λ (a : next.Next). elim a as (λ b. List Row) [ Gives q ↦ given_row q m ∷ gives n (given_on q m) | Refused rule ↦ [] | Wants j ↦ [] | NothingMore ↦ [] ]) h
 
-gives_resting : (n : ℕ) (m : Merge) → is_giving (ahead m) ≡ false → gives n m ≡ []
+pub gives_resting : (n : ℕ) (m : Merge) → is_giving (ahead m) ≡ false → gives n m ≡ []
 gives_resting zero m h = refl
 gives_resting (suc n) m h = (elim (ahead m) as (λ a. is_giving a ≡ false → (elim a as (λ b. List Row) [ Gives p ↦ given_row p m ∷ gives n (given_on p m) | Refused rule ↦ [] | Wants j ↦ [] | NothingMore ↦ [] ]) ≡ []) [ Gives p ↦ λ e. cc | Refused rule ↦ λ e. refl | Wants j ↦ λ e. refl | NothingMore ↦ λ e. refl ]) h
 
@@ -162,7 +162,7 @@ pub on_going : (n : ℕ) (m : Merge) (p : Place) → ahead m ≡ Gives p
     → goes_on (suc n) m ≡ goes_on n (given_on p m)
 on_going n m p h = ap (λ (a : next.Next). elim a as (λ b. Merge) [ Gives q ↦ goes_on n (given_on q m) | Refused rule ↦ m | Wants j ↦ m | NothingMore ↦ m ]) h
 
-on_resting : (n : ℕ) (m : Merge) → is_giving (ahead m) ≡ false → goes_on n m ≡ m
+pub on_resting : (n : ℕ) (m : Merge) → is_giving (ahead m) ≡ false → goes_on n m ≡ m
 on_resting zero m h = refl
 on_resting (suc n) m h = (elim (ahead m) as (λ a. is_giving a ≡ false → (elim a as (λ b. Merge) [ Gives p ↦ goes_on n (given_on p m) | Refused rule ↦ m | Wants j ↦ m | NothingMore ↦ m ]) ≡ m) [ Gives p ↦ λ e. cc | Refused rule ↦ λ e. refl | Wants j ↦ λ e. refl | NothingMore ↦ λ e. refl ]) h
 

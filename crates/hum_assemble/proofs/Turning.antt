@@ -163,7 +163,7 @@ beyond (Spines (n ∷ ns)) row h =
       | false ↦ λ e. let f = unit_early row in absurd (omega (arith, e, f))
     ]) h
 
-finished : (path : Path) → is_unfinished path ≡ false → exclusives path ≡ []
+pub finished : (path : Path) → is_unfinished path ≡ false → exclusives path ≡ []
 finished Unopened h = refl
 finished (Spines []) h = refl
 finished (Spines (n ∷ ns)) h =

@@ -2,6 +2,7 @@
 use Rattle.std.specs.Prelude.{◌≡◌, ℕ, zero, suc, ◌+◌, ◌<◌, nat_lt, Bool, true, false}
 use Rattle.std.specs.Prelude.{List, [], ◌∷◌, ◌++◌, map, length, replicate, if◌then◌else◌}
 use Rattle.std.specs.Prelude.{Option, None, Some, is_none, MatchOption, slice_get}
+use Rattle.std.specs.List.{AllByRecursion}
 use Rattle.hum_record.specs.Row.{Row}
 use Rattle.hum_stage.specs.declared.faults.Rule.{Rule}
 use Rattle.hum_stage.specs.declared.faults.Fault.{Fault}
@@ -194,3 +195,13 @@ empty_moment stage sources =
       inputs = replicate sources (record { put = []; ended = None });
       given = 0;
     }
+
+-- A score was put into each source, a closed one where it ended so.
+abbrev pub AreScores : List Input → Type 0
+AreScores = AllByRecursion (λ x. IsScore x.put × (x.ended ≡ Some Closed → IsClosed x.put))
+
+-- Of scores it makes scores: of closed ones a closed one, unless it refuses.
+pub record KeepsScores (stage : ℕ) : Type 0 where
+  pub score : (xs : List Input) → AreScores xs → IsScore (output xs)
+  pub closed : (xs : List Input) → AreScores xs → inputs_end (ends xs) ≡ Some Closed
+    → own_fault stage xs ≡ None → IsClosed (output xs)
