@@ -121,7 +121,8 @@ settled_moved free going p [] o i e = tt
 settled_moved free going p (s ∷ ss) o i e =
     (settled_one free going p s o i.0 e.0, settled_moved (still_free free going p s) going p ss o i.1 e.1)
 
-quiet_path : (free going : Bool) (p : Place) (s : Source) → is_over p ≡ false → IsQuiet p → IsSound s
+quiet_path : (free going : Bool) (p : Place) (s : Source) → is_over p ≡ false → IsQuiet p
+    → IsSound s
     → IsSettled s → (moved (takes free going p s) going p s).path ≡ s.path
 quiet_path free going p s o q i e =
     (elim (takes free going p s) as (λ b. takes free going p s ≡ b → (moved b going p s).path ≡ s.path) [
@@ -212,13 +213,15 @@ few_names going p ss h =
     let e = names_spines (all_moved true going p ss) in let f = h.few in omega (arith, e, f)
 
 -- local comments and data
-text_after : (path : Path) (kind : SpinedKind) (tokens : List (List ℕ)) → (kind ≡ Interpretation → ⊥)
+text_after : (path : Path) (kind : SpinedKind) (tokens : List (List ℕ))
+    → (kind ≡ Interpretation → ⊥)
     → after path (Spined kind tokens) ≡ path
 text_after path Local tokens n = refl
 text_after path Values tokens n = refl
 text_after path Interpretation tokens n = absurd (n refl)
 
-text_fault : (path : Path) (kind : SpinedKind) (tokens : List (List ℕ)) → (kind ≡ Interpretation → ⊥)
+text_fault : (path : Path) (kind : SpinedKind) (tokens : List (List ℕ))
+    → (kind ≡ Interpretation → ⊥)
     → find (breaks_as_text path tokens) in_order ≡ None → fault_of path (Spined kind tokens) ≡ None
 text_fault path Local tokens n h = h
 text_fault path Values tokens n h = h
@@ -250,7 +253,8 @@ quiet_goes path going p kind ss k n late f h =
           }))
     ]
 
-tandem_goes : (path : Path) (going : Bool) (ss : List Source) → IsFine path ss → Here going Tandem ss
+tandem_goes : (path : Path) (going : Bool) (ss : List Source) → IsFine path ss
+    → Here going Tandem ss
     → SpinedGoes path going Tandem Interpretation ss
 tandem_goes path going ss f h =
     elim f.side [

@@ -50,7 +50,8 @@ unit_tandem (Spined Interpretation tokens) h =
         ]) e
     ]) h
 
-unit_closing : (row : Row) → 9 ≡ rank (unit_place row) → list_all is_end (map sign_of (tokens_of row)) ≡ true
+unit_closing : (row : Row) → 9 ≡ rank (unit_place row)
+    → list_all is_end (map sign_of (tokens_of row)) ≡ true
 unit_closing (Comment text) h = absurd (omega (arith, h))
 unit_closing (Spined Local tokens) h = absurd (omega (arith, h))
 unit_closing (Spined Values tokens) h = absurd (omega (arith, h))
@@ -227,7 +228,8 @@ no_long Over k h e = absurd (let f = rw e at h in cc)
 late : (k : ℕ) → (k == 3 || k == 9) ≡ true → 1 < k
 late k h = grind (arith, nat_tests)
 
-not_going_fields : (p : Place) (path : Path) (due : Bool) (coming : List Row) (ended : Option end.End)
+not_going_fields : (p : Place) (path : Path) (due : Bool) (coming : List Row)
+    (ended : Option end.End)
     → is_over p ≡ false → (rank p == 3 || rank p == 9) ≡ true
     → IsSound (record { path = path; due = due; coming = coming; ended = ended })
     → is_at true p (record { path = path; due = due; coming = coming; ended = ended }) ≡ true → ⊥

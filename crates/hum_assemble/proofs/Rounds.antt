@@ -160,7 +160,8 @@ all_wide free going p (s ∷ ss) kind o k i e =
 abbrev pub IsQuiet : Place → Type 0
 IsQuiet p = (s : Source) (t : Takes p s) → IsSettled s → after s.path t.row ≡ s.path
 
-moved_path : (free going : Bool) (p : Place) (s : Source) → is_over p ≡ false → IsQuiet p → IsSound s
+moved_path : (free going : Bool) (p : Place) (s : Source) → is_over p ≡ false → IsQuiet p
+    → IsSound s
     → IsSettled s → (moved (takes free going p s) going p s).path ≡ s.path
 moved_path free going p s o q i e =
     (elim (takes free going p s) as (λ b. takes free going p s ≡ b → (moved b going p s).path ≡ s.path) [

@@ -65,7 +65,8 @@ use Rattle.hum_assemble.proofs.Turning.{AllUnopened, finished}
 use Rattle.hum_assemble.proofs.Fine.{IsFine, Side, Here, Goes, goes}
 
 -- What is given is given within the limits.
-broken_few : (p q : Place) (n bytes given : ℕ) → unless_broken q (rule_broken n bytes given) ≡ Gives p
+broken_few : (p q : Place) (n bytes given : ℕ)
+    → unless_broken q (rule_broken n bytes given) ≡ Gives p
     → n ≤ 4096
 broken_few p q n bytes given h =
     (elim (nat_lt 4096 n) as (λ a. nat_lt 4096 n ≡ a → unless_broken q (cond a (Some A1) (cond (nat_lt 1048576 bytes) (Some L1) (cond (nat_le 4294967295 given) (Some L2) None))) ≡ Gives p → n ≤ 4096) [
@@ -73,7 +74,8 @@ broken_few p q n bytes given h =
       | false ↦ λ e w. grind (arith, nat_tests)
     ]) refl h
 
-at_few : (going : Bool) (q p : Place) (ss : List Source) (given : ℕ) → ahead_at going q ss given ≡ Gives p
+at_few : (going : Bool) (q p : Place) (ss : List Source) (given : ℕ)
+    → ahead_at going q ss given ≡ Gives p
     → spines (all_moved true going q ss) ≤ 4096
 at_few going q p ss given h =
     (elim (is_over q) as (λ b. cond b NothingMore (unless_broken q (rule_broken (spines (all_moved true going q ss)) (length (text_of (made going q ss))) given)) ≡ Gives p → spines (all_moved true going q ss) ≤ 4096) [
@@ -122,7 +124,8 @@ keeps (suc n) path m f =
         rw (gives_going n m p e, on_going n m p e) ((g.0, k.0), k.1)
 
 -- At the beginning.
-begin_sound : (x : Input) → IsScore x.put × (x.ended ≡ Some Closed → IsClosed x.put) → IsSound (begun x)
+begin_sound : (x : Input) → IsScore x.put × (x.ended ≡ Some Closed → IsClosed x.put)
+    → IsSound (begun x)
 begin_sound x h = record {
   follow = h.0;
   within = λ i. cc;
@@ -187,7 +190,8 @@ lower_closed (Broken f) (Broken g) h =
       | false ↦ λ e. cc
     ]) h
 
-both_closed : (a b : Option end.End) → with_end a b ≡ Some Closed → (a ≡ Some Closed) × (b ≡ Some Closed)
+both_closed : (a b : Option end.End) → with_end a b ≡ Some Closed
+    → (a ≡ Some Closed) × (b ≡ Some Closed)
 both_closed None b h = cc
 both_closed (Some a) None h = cc
 both_closed (Some a) (Some b) h =
@@ -216,7 +220,8 @@ never_due path ended i e =
       | inr w ↦ let v = w in cc
     ]
 
-not_lost_fields : (going : Bool) (path : Path) (due : Bool) (coming : List Row) (ended : Option end.End)
+not_lost_fields : (going : Bool) (path : Path) (due : Bool) (coming : List Row)
+    (ended : Option end.End)
     → IsSound (record { path = path; due = due; coming = coming; ended = ended }) → ended ≡ Some Closed
     → is_lost going (record { path = path; due = due; coming = coming; ended = ended }) ≡ false
 not_lost_fields going path due (row ∷ rows) ended i e = and_false (is_asked going (record { path = path; due = due; coming = row ∷ rows; ended = ended })) false (is_some ended) refl
@@ -236,7 +241,8 @@ broken_over : (q : Place) (o : Option Rule) → unless_broken q o ≡ NothingMor
 broken_over q None h = cc
 broken_over q (Some rule) h = cc
 
-at_over : (going : Bool) (q : Place) (ss : List Source) (given : ℕ) → ahead_at going q ss given ≡ NothingMore
+at_over : (going : Bool) (q : Place) (ss : List Source) (given : ℕ)
+    → ahead_at going q ss given ≡ NothingMore
     → is_over q ≡ true
 at_over going q ss given h =
     (elim (is_over q) as (λ b. cond b NothingMore (unless_broken q (rule_broken (spines (all_moved true going q ss)) (length (text_of (made going q ss))) given)) ≡ NothingMore → b ≡ true) [
@@ -244,7 +250,8 @@ at_over going q ss given h =
       | false ↦ λ w. absurd (broken_over q (rule_broken (spines (all_moved true going q ss)) (length (text_of (made going q ss))) given) w)
     ]) h
 
-missing_over : (o : Option ℕ) (known : next.Next) → unless_missing o known ≡ NothingMore → known ≡ NothingMore
+missing_over : (o : Option ℕ) (known : next.Next) → unless_missing o known ≡ NothingMore
+    → known ≡ NothingMore
 missing_over None known h = h
 missing_over (Some j) known h = cc
 
@@ -342,7 +349,8 @@ side_closed : (path : Path) (ss : List Source) → Side path ss → names_of ss 
 side_closed path ss (inl before) n = ap is_unfinished before.0
 side_closed path ss (inr behind) n = ap is_unfinished (behind.0 ∙ ap Spines n)
 
-own_none : (stage line : ℕ) (rule : Rule) → fault_at stage Assemble (refusal line (Refused rule)) ≡ None → ⊥
+own_none : (stage line : ℕ) (rule : Rule)
+    → fault_at stage Assemble (refusal line (Refused rule)) ≡ None → ⊥
 own_none stage line rule h = cc
 
 closed_at : (stage : ℕ) (m : Merge) (a : next.Next) → ahead m ≡ a → AllSound m.sources

@@ -106,7 +106,8 @@ all_ends [] h = record {
     mixed_none (x ∷ names) = refl
 all_ends (End ∷ signs) h = more (all_ends signs h)
   where
-    mixed_end : (names : List (List ℕ)) → ((names : List (List ℕ)) → has_mixed_join names signs ≡ false)
+    mixed_end : (names : List (List ℕ))
+        → ((names : List (List ℕ)) → has_mixed_join names signs ≡ false)
         → has_mixed_join names (End ∷ signs) ≡ false
     mixed_end [] ih = refl
     mixed_end (x ∷ []) ih = ih []

@@ -106,7 +106,8 @@ opened_by Unopened (Spined Interpretation tokens) u k h =
     record { exclusive = o.exclusive; bare = o.bare; names = refl; is = refl }
 opened_by (Spines names) row u k h = cc
 
-pub all_open : (ss : List Source) → AllUnopened ss → AllSound ss → AllShow false Opening ss → Opens ss
+pub all_open : (ss : List Source) → AllUnopened ss → AllSound ss → AllShow false Opening ss
+    → Opens ss
 all_open [] u i k = record { exclusive = refl; bare = refl; names = refl; settled = tt }
 all_open (s ∷ ss) u i k =
     let ih = all_open ss u.1 i.1 k.1 in
@@ -208,7 +209,8 @@ pub record Closes (ss : List Source) : Type 0 where
   pub bare : has_bare (tokens_given true false Closing ss) ≡ false
   pub none : names_of (all_moved true false Closing ss) ≡ []
 
-pub all_close : (ss : List Source) → AllSound ss → AllSettled ss → AllShow false Closing ss → Closes ss
+pub all_close : (ss : List Source) → AllSound ss → AllSettled ss → AllShow false Closing ss
+    → Closes ss
 all_close [] i e k = record { ends = refl; bare = refl; none = refl }
 all_close (s ∷ ss) i e k =
     let ih = all_close ss i.1 e.1 k.1 in

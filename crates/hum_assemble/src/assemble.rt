@@ -8,7 +8,7 @@ ghost use Rattle.hum_assemble.specs.Round.{first_from};
 ghost use Rattle.hum_assemble.specs.Merge.{ahead};
 ghost use Rattle.hum_assemble.specs.Meaning.{Moment, MayPut, MayEnd, HasChanged, HasTaken};
 ghost use Rattle.hum_assemble.specs.Meaning.{state_of, wants_of, held_at, lower, inputs_end};
-ghost use Rattle.hum_assemble.specs.Meaning.{HasGrown, held_by, total, empty_moment};
+ghost use Rattle.hum_assemble.specs.Meaning.{HasGrown, held_by, total, empty_moment, KeepsScores};
 ghost use Rattle.hum_assemble.specs.Standing.{Stands, state_by, wants_by};
 
 use crate::places::Next;
@@ -167,7 +167,10 @@ impl Assemble {
     /// Want of memory.
     pub fn new(alloc: Global, stage: u8, sources: usize) -> Result<Assemble, AllocError>
         requires { sources ≤ 15 }
-        ensures { IfOk result (λ a. Stands a (empty_moment stage sources)) }
+        ensures stands { IfOk result (λ a. Stands a (empty_moment stage sources)) }
+
+        // Of scores it makes scores.
+        ensures keeps { KeepsScores stage }
     {
         let mut heads = Vec::new(alloc);
         for _ in 0..sources {

@@ -1,6 +1,7 @@
 use Rattle.std.proofs.Common.{◌≡◌, ◌∙◌, arith, ap, List}
 use Rattle.hum_assemble.specs.Source.{Source}
 use Rattle.hum_assemble.specs.Merge.{ahead}
+use Rattle.hum_assemble.proofs.Scores.{keeps_scores}
 use Rattle.hum_assemble.proofs.Calls.{new_stands, lawful_new}
 use Rattle.hum_assemble.proofs.assemble.Assemble.new.Goals as goal
 
@@ -17,4 +18,10 @@ invariant_of-result c = record {
 pub returns : goal.returns
 returns c =
     let e : c.loop.counter ≡ c.args.sources = omega arith in
-    new_stands c.args.stage c.args.sources c.loop.heads.items (rw e at c.loop.invariant)
+    record {
+      stands = new_stands c.args.stage c.args.sources c.loop.heads.items (rw e at c.loop.invariant);
+      keeps = keeps_scores c.args.stage;
+    }
+
+pub returns-in_err-push-clause-keeps : goal.returns-in_err-push-clause-keeps
+returns-in_err-push-clause-keeps c = keeps_scores c.args.stage
