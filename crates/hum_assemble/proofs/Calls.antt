@@ -2,6 +2,7 @@
 use Rattle.std.proofs.Common.{◌≡◌, ◌∙◌, refl, sym, ap, ℕ, zero, suc, ◌+◌, ◌<◌, ◌⊎◌}
 use Rattle.std.proofs.Common.{inl, inr, Bool, true, false, cond, List, [], ◌∷◌, ◌++◌, length}
 use Rattle.std.proofs.Common.{arith, map, get_or, set, take, replicate}
+use Rattle.std.specs.Prelude.{IfSome, Option}
 use Rattle.std.specs.Prelude.{None, Some, nat_lt, nat_le}
 use Rattle.std.specs.Prelude.{slice_get}
 use Rattle.std.proofs.lemmas.Bool.Decides.{nat_tests}
@@ -351,3 +352,11 @@ told_taken ss news more given n p told e l t k = record {
   at_most = let r = has_room ss given p e in omega (arith, r);
   alive = λ f. record { next = t; lawful = rw (take_front n news more k) l };
 }
+
+-- Who is wanted hasn't ended.
+pub wanted_open : (stage : ℕ) (kept : Merge) (spent : Bool) (t : Moment) (o : Option ℕ)
+    → Standing stage kept spent t → o ≡ wants_of t → IfSome o (λ j. IsOpenInput j t.inputs)
+wanted_open stage kept spent t None h w = tt
+wanted_open stage kept spent t (Some j) h w =
+    open_input j t.inputs
+      (rw (same_ends stage kept spent t h) at (open_wanted stage kept spent t h j (sym w)))

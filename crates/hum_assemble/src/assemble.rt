@@ -1,9 +1,9 @@
 //! Several scores side by side, record by record.
 ghost use Rattle.std.specs.Prelude.{◌≡◌, ◌≤◌, ◌<◌, ◌+◌, ◌⊎◌, ℕ, true, false, [], length, map};
-ghost use Rattle.std.specs.Prelude.{is_none, None, Some, IfOk, OnOk, OnErr, IsErr};
+ghost use Rattle.std.specs.Prelude.{is_none, None, Some, IfSome, IfOk, OnOk, OnErr, IsErr};
 ghost use Rattle.hum_stage.specs.declared.faults.Command.TheVariants.{Assemble as AssembleCommand};
 ghost use Rattle.hum_stage.specs.Meaning.{fault_at, resting_state};
-ghost use Rattle.hum_assemble.specs.Change.{More, Ends};
+ghost use Rattle.hum_assemble.specs.Change.{More, Ends, IsOpenInput};
 ghost use Rattle.hum_assemble.specs.Round.{first_from};
 ghost use Rattle.hum_assemble.specs.Merge.{ahead};
 ghost use Rattle.hum_assemble.specs.Meaning.{Moment, MayPut, MayEnd, HasChanged, HasTaken};
@@ -259,7 +259,11 @@ impl Assemble {
     /// The source, counted from 0, whose record or end it wants: the leftmost whose record is
     /// needed; once nothing more can be given, the leftmost that hasn't ended.
     pub fn wants(&self) -> Option<usize>
-        ensures { (t : Moment) → Stands self.now t → result ≡ wants_of t }
+        ensures wanted { (t : Moment) → Stands self.now t → result ≡ wants_of t }
+
+        // That source hasn't ended.
+        ensures awaits { (t : Moment) → Stands self.now t
+            → IfSome result (λ j. IsOpenInput j t.inputs) }
     {
         wants_by(&self.sources, self.next)
     }

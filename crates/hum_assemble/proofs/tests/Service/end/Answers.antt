@@ -7,7 +7,7 @@ use Rattle.hum_assemble.proofs.tests.Service.end.Goals as goal
 pub end-requires : goal.end-requires
 end-requires g c =
     let s = c.self.invariant in
-    let w = c.in-Some.ensures s.at s.stands in
+    let w = c.in-Some.ensures.wanted s.at s.stands in
     let l = c.self.inside.paths.ok.0 in
     inr (may_end _ _ c.self.inside.puts c.in-Some.source _ c.args.end s w
     (omega (arith, l)) c.index.ensures (c.may_end.ensures c.if-not-may_end.false))
@@ -15,7 +15,7 @@ end-requires g c =
 pub invariant_of-result : goal.invariant_of-result
 invariant_of-result g c =
     let s = c.self.invariant in
-    let w = c.in-Some.ensures s.at s.stands in
+    let w = c.in-Some.ensures.wanted s.at s.stands in
     record {
       at = after c.in-Some.source (Ends c.args.end) s.at;
       stands = c.end.ensures.ended s.at s.stands (sym w);
