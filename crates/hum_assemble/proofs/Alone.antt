@@ -1,45 +1,29 @@
 -- Records that change spines: one source alone, the opening record, the closing one.
-use Rattle.std.proofs.Common.{◌≡◌, ◌≢◌, ◌∙◌, refl, sym, ap, ℕ, zero, suc, ◌+◌, ◌≤◌, ◌<◌, ◌⊎◌, inl, inr}
-use Rattle.std.proofs.Common.{Bool, true, false, not, ◌&&◌, ◌||◌, cond, List, [], ◌∷◌, ◌++◌, length}
-use Rattle.std.proofs.Common.{arith, map, length-append, replicate}
-use Rattle.std.specs.Prelude.{◌==◌, Option, None, Some}
-use Rattle.std.specs.List.{list_any, list_all, find, AllByRecursion}
-use Rattle.std.proofs.lemmas.Bool.Decides.{nat_tests}
+use Rattle.std.proofs.Common.{◌≡◌, ◌∙◌, refl, sym, ap, ℕ, zero, suc, ◌+◌, ◌≤◌, ◌⊎◌, inl, inr}
+use Rattle.std.proofs.Common.{Bool, true, false, ◌||◌, List, [], ◌∷◌, ◌++◌, length}
+use Rattle.std.proofs.Common.{arith, length-append, replicate}
+use Rattle.std.specs.Prelude.{Option, None, Some}
+use Rattle.std.specs.List.{list_any}
 use lib.Chars.{codes}
 use Rattle.hum_record.specs.declared.SpinedKind.{SpinedKind}
 use Rattle.hum_record.specs.declared.SpinedKind.TheVariants.{Local, Interpretation, Values}
 use Rattle.hum_record.specs.Row.{Row, Comment, Spined, tokens_of}
-use Rattle.hum_path.specs.declared.signs.Sign.{Sign}
-use Rattle.hum_path.specs.declared.PathFault.TheVariants.{P1, P2, P3, P4, P5, P6, P7, P9, P10, P11}
-use Rattle.hum_path.specs.Sign.{sign_of, is_plain, is_exclusive, all_plain}
-use Rattle.hum_path.specs.Rules.{fault_of, breaks, breaks_as_text, in_order, has_bare, is_unfinished}
+use Rattle.hum_path.specs.Rules.{fault_of}
 use Rattle.hum_path.specs.Spines.{Path, Unopened, Spines, exclusives, width, after}
-use Rattle.hum_path.proofs.Plain.{find_head, sound_width, plain_stays}
-use Rattle.hum_path.proofs.Obeyed.{opens, obeys}
-use Rattle.hum_stage.specs.declared.faults.End as end
-use Rattle.hum_stage.specs.declared.faults.End.TheVariants.{Closed, Broken}
 use Rattle.hum_assemble.specs.declared.places.Place.{Place}
-use Rattle.hum_assemble.specs.declared.places.Place.TheVariants.{Aside, Begins, Front, Opening}
-use Rattle.hum_assemble.specs.declared.places.Place.TheVariants.{Remark, Local as LocalPlace}
-use Rattle.hum_assemble.specs.declared.places.Place.TheVariants.{Tandem, Change, Note, Closing}
-use Rattle.hum_assemble.specs.declared.places.Place.TheVariants.{Tail, Over}
-use Rattle.hum_assemble.specs.Source.{Source, place, is_inside, is_end, unit_place, inside_place}
+use Rattle.hum_assemble.specs.Source.{Source, is_inside}
 use Rattle.hum_assemble.specs.Head.{is_opened}
-use Rattle.hum_assemble.specs.Places.{rank, step, kind_at, null_at, is_shared, is_over}
-use Rattle.hum_assemble.specs.Round.{place_at, takes, still_free, is_missing}
-use Rattle.hum_assemble.specs.Merge.{moved, all_moved, part_given, nulls, tokens_given}
+use Rattle.hum_assemble.specs.Places.{rank, kind_at, null_at, is_shared, is_over}
+use Rattle.hum_assemble.specs.Merge.{all_moved, tokens_given}
 use Rattle.hum_assemble.specs.Merge.{tokens_of_first}
 use Rattle.hum_assemble.specs.Taking.{is_at}
 use Rattle.hum_assemble.proofs.Fitting.{spined_of}
-use Rattle.hum_assemble.proofs.Sides.{IsSound, Shows, Takes, taker, taken_path, is_long, is_long_first}
-use Rattle.hum_assemble.proofs.Sides.{inside_first, early_inside}
-use Rattle.hum_assemble.proofs.Rounds.{AllSound, AllShow, NoneInside, IsSettled, AllSettled, IsQuiet}
-use Rattle.hum_assemble.proofs.Rounds.{names_of, opened_taker, taken_by, all_wide}
+use Rattle.hum_assemble.proofs.Sides.{IsSound, taker, taken_path}
+use Rattle.hum_assemble.proofs.Sides.{early_inside}
+use Rattle.hum_assemble.proofs.Rounds.{AllSound, NoneInside, AllSettled}
+use Rattle.hum_assemble.proofs.Rounds.{names_of, opened_taker}
 use Rattle.hum_record.specs.Spelling.{is_empty}
-use Rattle.hum_path.specs.Rules.{has_unnamed}
-use Rattle.hum_assemble.proofs.Taking.{empty_over}
 use Rattle.hum_assemble.proofs.Beside.{Leads, own_leads, left_of, right_of, stars}
-use Rattle.hum_assemble.proofs.Quiet.{closing_ends, opening_path}
 
 -- The spines of each source.
 abbrev pub paths_of : List Source → List Path
@@ -101,15 +85,15 @@ pub begins_out : (going : Bool) (p : Place) (ss : List Source) → is_over p ≡
 begins_out going p [] o r i n h = tt
 begins_out going p (s ∷ ss) o r i n h =
     (elim (is_at going p s) as (λ b. is_at going p s ≡ b → (b || list_any (is_at going p) ss) ≡ true
-        → OthersOut going p (s ∷ ss)) [
+    → OthersOut going p (s ∷ ss)) [
       | true ↦ λ e w. elim n [
-          | inl one ↦ absurd (let v = sym (begins_inside going p s o r i.0 e) ∙ one.0 in cc)
-          | inr none ↦ inl (e, none)
-        ]
+        | inl one ↦ absurd (let v = sym (begins_inside going p s o r i.0 e) ∙ one.0 in cc)
+        | inr none ↦ inl (e, none)
+      ]
       | false ↦ λ e w. elim n [
-          | inl one ↦ inr (e, one.0, begins_out going p ss o r i.1 one.1 w)
-          | inr none ↦ absurd (none_begins going p ss o r i.1 none w)
-        ]
+        | inl one ↦ inr (e, one.0, begins_out going p ss o r i.1 one.1 w)
+        | inr none ↦ absurd (none_begins going p ss o r i.1 none w)
+      ]
     ]) refl h
 
 -- One source alone.
@@ -183,15 +167,21 @@ alone_leads going p [] o k sh i e out h = absurd (let v = h in cc)
 alone_leads going p (s ∷ ss) o k sh i e (inl at) h =
     let t = taker going p s o i.0 at.0 in
     let own = row_leads s.path t.row (opened_taker p s e.0 t) (sym k ∙ t.kind) t.sound in
-    rw (at.0, sh, none_given going p ss k, none_names going p ss, taken_path going p s t,
-        ap tokens_of_first t.is)
-      (right_of (names_of ss) (exclusives s.path) (tokens_of t.row) (exclusives (after s.path t.row))
-        (named_of ss at.1) own)
+    rw (
+      at.0,
+      sh,
+      none_given going p ss k,
+      none_names going p ss,
+      taken_path going p s t,
+      ap tokens_of_first t.is,
+    )
+    (right_of (names_of ss) (exclusives s.path) (tokens_of t.row) (exclusives (after s.path t.row))
+    (named_of ss at.1) own)
 alone_leads going p (s ∷ ss) o k sh i e (inr off) h =
     let ih = alone_leads going p ss o k sh i.1 e.1 off.2 (rw off.0 at h) in
     rw (off.0, sh, null_stars p (width s.path) k)
-      (left_of (exclusives s.path) (names_of ss) (tokens_given true going p ss)
-        (names_of (all_moved true going p ss)) off.1 ih)
+    (left_of (exclusives s.path) (names_of ss) (tokens_given true going p ss)
+    (names_of (all_moved true going p ss)) off.1 ih)
 
 pub alone_one : (going : Bool) (p : Place) (ss : List Source) → is_shared p ≡ false
     → OthersOut going p ss → OneIn (paths_of (all_moved true going p ss))

@@ -1,27 +1,24 @@
 -- An interpretation of one source between null tokens of the others.
-use Rattle.std.proofs.Common.{◌≡◌, ◌∙◌, refl, sym, ap, ℕ, zero, suc, ◌+◌, ◌≤◌, ◌<◌, Bool, true, false}
+use Rattle.std.proofs.Common.{◌≡◌, ◌∙◌, refl, sym, ap, ℕ, zero, suc, ◌+◌, Bool, true, false}
 use Rattle.std.proofs.Common.{not, ◌&&◌, ◌||◌, cond, List, [], ◌∷◌, ◌++◌, length, append_assoc, arith}
 use Rattle.std.proofs.Common.{map, replicate}
-use Rattle.std.specs.Prelude.{◌==◌, nat_lt, None}
+use Rattle.std.specs.Prelude.{◌==◌, None}
 use Rattle.std.specs.List.{list_any, find}
 use Rattle.std.specs.Str.{bytes_eq}
-use Rattle.std.proofs.lemmas.Bool.Decides.{nat_tests}
-use Rattle.std.proofs.lemmas.List.{length-map, map-append}
+use Rattle.std.proofs.lemmas.List.{length-map}
 use lib.Chars.{codes}
-use Rattle.hum_record.specs.declared.SpinedKind.TheVariants.{Interpretation}
-use Rattle.hum_record.specs.Row.{Row, Spined}
 use Rattle.hum_record.specs.Spelling.{is_empty}
 use Rattle.hum_path.specs.declared.signs.Sign.{Sign}
 use Rattle.hum_path.specs.declared.signs.Sign.TheVariants.{Plain}
 use Rattle.hum_path.specs.Sign.{sign_of, is_join, is_exchange, is_exclusive, is_path_indicator}
-use Rattle.hum_path.specs.Rules.{breaks, in_order, fault_of, has_unnamed, stays_unnamed, has_bare}
+use Rattle.hum_path.specs.Rules.{breaks, in_order, has_unnamed, stays_unnamed, has_bare}
 use Rattle.hum_path.specs.Rules.{names_and_steers, has_lone_join, is_pair_or_none, has_mixed_join}
 use Rattle.hum_path.specs.Rules.{mixes_join}
 use Rattle.hum_path.specs.Spines.{Spines, exchanges, names_after}
 use Rattle.hum_path.specs.Onward.{beginnings, onward, onward_one, at_next, put_next, swapped}
 use Rattle.hum_path.specs.Onward.{renamed_each}
 use Rattle.hum_path.proofs.Cases.{by_bool}
-use Rattle.hum_path.proofs.Obeyed.{Obeys, obeys}
+use Rattle.hum_path.proofs.Obeyed.{obeys}
 use Rattle.hum_path.proofs.Onwards.{names_onward, swapped_none, swapped_length}
 use Rattle.hum_path.proofs.Onwards.{each_length}
 use Rattle.hum_assemble.proofs.Padding.{plains, lone_left, lone_right, exchanges_left, exchanges_right}
@@ -109,7 +106,7 @@ swapped_left (x ∷ others) xs signs =
 
 onward_left : (f : List ℕ → List ℕ) (others xs : List (List ℕ)) (signs : List Sign)
     → onward f (beginnings false (plains (length others) ++ signs))
-      (plains (length others) ++ signs) (others ++ xs)
+    (plains (length others) ++ signs) (others ++ xs)
     ≡ others ++ onward f (beginnings false signs) signs xs
 onward_left f [] xs signs = refl
 onward_left f (x ∷ others) xs signs =
@@ -123,7 +120,7 @@ pair_left : (n : ℕ) (signs : List Sign)
     → is_pair_or_none (exchanges 0 (plains n ++ signs)) ≡ is_pair_or_none (exchanges 0 signs)
 pair_left n signs =
     let e : exchanges 0 (plains n ++ signs) ≡ further n (exchanges 0 signs) =
-      exchanges_left n 0 signs ∙ exchanges_shift n 0 signs in
+    exchanges_left n 0 signs ∙ exchanges_shift n 0 signs in
     pair_by_length _ _ (ap length e ∙ length-map (exchanges 0 signs) (λ j. j + n))
 
 wide_left : (others names tokens : List (List ℕ)) → length names ≡ length tokens
@@ -139,9 +136,9 @@ left_of others names tokens result named o =
     let signs = map sign_of tokens in
     let g = signs_left n tokens in
     let wide : length (others ++ names) ≡ length (stars n ++ tokens) =
-      wide_left others names tokens o.wide in
+    wide_left others names tokens o.wide in
     let pair : is_pair_or_none (exchanges 0 (map sign_of (stars n ++ tokens))) ≡ true =
-      ap (λ (ss : List Sign). is_pair_or_none (exchanges 0 ss)) g ∙ (pair_left n signs ∙ o.pair) in
+    ap (λ (ss : List Sign). is_pair_or_none (exchanges 0 ss)) g ∙ (pair_left n signs ∙ o.pair) in
     record {
       wide = wide;
       unnamed = ap (has_unnamed (others ++ names)) g ∙ (unnamed_left others names signs named ∙ o.unnamed);
@@ -151,15 +148,15 @@ left_of others names tokens result named o =
       pair = pair;
       mixed = ap (has_mixed_join (others ++ names)) g ∙ (mixed_left others names signs ∙ o.mixed);
       leads =
-        names_onward (others ++ names) (stars n ++ tokens) wide pair
-        ∙ (ap (λ (ss : List Sign). onward (λ _. []) (beginnings false ss) ss
-            (swapped ss (renamed_each (others ++ names) (stars n ++ tokens)))) g
-        ∙ (ap (λ (xs : List (List ℕ)). onward (λ _. []) (beginnings false (plains n ++ signs))
-            (plains n ++ signs) (swapped (plains n ++ signs) xs)) (each_left others names tokens)
-        ∙ (ap (λ (xs : List (List ℕ)). onward (λ _. []) (beginnings false (plains n ++ signs))
-            (plains n ++ signs) xs) (swapped_left others (renamed_each names tokens) signs)
-        ∙ (onward_left (λ _. []) others (swapped signs (renamed_each names tokens)) signs
-        ∙ ap (λ (xs : List (List ℕ)). others ++ xs)
+          names_onward (others ++ names) (stars n ++ tokens) wide pair
+          ∙ (ap (λ (ss : List Sign). onward (λ _. []) (beginnings false ss) ss
+          (swapped ss (renamed_each (others ++ names) (stars n ++ tokens)))) g
+          ∙ (ap (λ (xs : List (List ℕ)). onward (λ _. []) (beginnings false (plains n ++ signs))
+          (plains n ++ signs) (swapped (plains n ++ signs) xs)) (each_left others names tokens)
+          ∙ (ap (λ (xs : List (List ℕ)). onward (λ _. []) (beginnings false (plains n ++ signs))
+          (plains n ++ signs) xs) (swapped_left others (renamed_each names tokens) signs)
+          ∙ (onward_left (λ _. []) others (swapped signs (renamed_each names tokens)) signs
+          ∙ ap (λ (xs : List (List ℕ)). others ++ xs)
           (sym (names_onward names tokens o.wide o.pair) ∙ o.leads)))));
     }
 
@@ -211,7 +208,7 @@ each_right others [] (t ∷ tokens) e = absurd (omega (arith, e))
 each_right others (n ∷ names) [] e = absurd (omega (arith, e))
 each_right others (n ∷ names) (t ∷ tokens) e =
     ap (λ (xs : List (List ℕ)). cond (is_exclusive (sign_of t)) t n ∷ xs)
-      (each_right others names tokens (omega (arith, e)))
+    (each_right others names tokens (omega (arith, e)))
 
 next_plain : (other : List ℕ) (m : ℕ) (xs : List (List ℕ)) → at_next other (plains m) xs ≡ other
 next_plain other zero xs = refl
@@ -262,16 +259,16 @@ onward_plain f b (x ∷ others) = ap (λ (xs : List (List ℕ)). x ∷ xs) (onwa
 onward_right : (f : List ℕ → List ℕ) (b : Bool) (others xs : List (List ℕ)) (signs : List Sign)
     → length signs ≡ length xs
     → onward f (beginnings b (signs ++ plains (length others))) (signs ++ plains (length others))
-      (xs ++ others)
+    (xs ++ others)
     ≡ onward f (beginnings b signs) signs xs ++ others
 onward_right f b others [] [] e = onward_plain f b others
 onward_right f b others [] (s ∷ signs) e = absurd (omega (arith, e))
 onward_right f b others (x ∷ xs) [] e = absurd (omega (arith, e))
 onward_right f b others (x ∷ xs) (s ∷ signs) e =
     ap (λ (ys : List (List ℕ)). onward_one f (is_join s && not b) s x ++ ys)
-      (onward_right f (is_join s) others xs signs (omega (arith, e)))
+    (onward_right f (is_join s) others xs signs (omega (arith, e)))
     ∙ sym (append_assoc (onward_one f (is_join s && not b) s x)
-      (onward f (beginnings (is_join s) signs) signs xs) others)
+    (onward f (beginnings (is_join s) signs) signs xs) others)
 
 and_none : (a b : Bool) → (a && (false && b)) ≡ false
 and_none true b = refl
@@ -298,7 +295,7 @@ mixed_right others (n ∷ []) (s ∷ r ∷ signs) e = absurd (omega (arith, e))
 mixed_right others (n ∷ k ∷ names) (s ∷ []) e = absurd (omega (arith, e))
 mixed_right others (n ∷ k ∷ names) (s ∷ r ∷ signs) e =
     ap (λ (b : Bool). mixes_join (n ∷ k ∷ names) (s ∷ r ∷ signs) || b)
-      (mixed_right others (k ∷ names) (r ∷ signs) (omega (arith, e)))
+    (mixed_right others (k ∷ names) (r ∷ signs) (omega (arith, e)))
 
 wide_right : (others names tokens : List (List ℕ)) → length names ≡ length tokens
     → length (names ++ others) ≡ length (tokens ++ stars (length others))
@@ -317,32 +314,32 @@ right_of others names tokens result named o =
     let g = signs_right m tokens in
     let size : length names ≡ length signs = o.wide ∙ sym (length-map tokens sign_of) in
     let wide : length (names ++ others) ≡ length (tokens ++ stars m) =
-      wide_right others names tokens o.wide in
+    wide_right others names tokens o.wide in
     let pair : is_pair_or_none (exchanges 0 (map sign_of (tokens ++ stars m))) ≡ true =
-      ap (λ (ss : List Sign). is_pair_or_none (exchanges 0 ss)) g
-      ∙ (ap is_pair_or_none (exchanges_right 0 signs m) ∙ o.pair) in
+    ap (λ (ss : List Sign). is_pair_or_none (exchanges 0 ss)) g
+    ∙ (ap is_pair_or_none (exchanges_right 0 signs m) ∙ o.pair) in
     let each : length signs ≡ length (renamed_each names tokens) =
-      length-map tokens sign_of ∙ sym (each_length names tokens o.wide) in
+    length-map tokens sign_of ∙ sym (each_length names tokens o.wide) in
     let swap : length signs ≡ length (swapped signs (renamed_each names tokens)) =
-      each ∙ sym (swapped_length signs (renamed_each names tokens)) in
+    each ∙ sym (swapped_length signs (renamed_each names tokens)) in
     record {
       wide = wide;
       unnamed = ap (has_unnamed (names ++ others)) g
-        ∙ unnamed_right others names signs size named o.unnamed;
+          ∙ unnamed_right others names signs size named o.unnamed;
       bare = bare_right m tokens ∙ o.bare;
       steers = ap names_and_steers g ∙ rw (any_right is_exclusive m signs refl, any_right is_path_indicator m signs refl) o.steers;
       lone = ap (has_lone_join false) g ∙ (lone_right false signs m ∙ o.lone);
       pair = pair;
       mixed = ap (has_mixed_join (names ++ others)) g ∙ (mixed_right others names signs size ∙ o.mixed);
       leads =
-        names_onward (names ++ others) (tokens ++ stars m) wide pair
-        ∙ (ap (λ (ss : List Sign). onward (λ _. []) (beginnings false ss) ss
-            (swapped ss (renamed_each (names ++ others) (tokens ++ stars m)))) g
-        ∙ (ap (λ (xs : List (List ℕ)). onward (λ _. []) (beginnings false (signs ++ plains m))
-            (signs ++ plains m) (swapped (signs ++ plains m) xs)) (each_right others names tokens o.wide)
-        ∙ (ap (λ (xs : List (List ℕ)). onward (λ _. []) (beginnings false (signs ++ plains m))
-            (signs ++ plains m) xs) (swapped_right others (renamed_each names tokens) m signs each)
-        ∙ (onward_right (λ _. []) false others (swapped signs (renamed_each names tokens)) signs swap
-        ∙ ap (λ (xs : List (List ℕ)). xs ++ others)
+          names_onward (names ++ others) (tokens ++ stars m) wide pair
+          ∙ (ap (λ (ss : List Sign). onward (λ _. []) (beginnings false ss) ss
+          (swapped ss (renamed_each (names ++ others) (tokens ++ stars m)))) g
+          ∙ (ap (λ (xs : List (List ℕ)). onward (λ _. []) (beginnings false (signs ++ plains m))
+          (signs ++ plains m) (swapped (signs ++ plains m) xs)) (each_right others names tokens o.wide)
+          ∙ (ap (λ (xs : List (List ℕ)). onward (λ _. []) (beginnings false (signs ++ plains m))
+          (signs ++ plains m) xs) (swapped_right others (renamed_each names tokens) m signs each)
+          ∙ (onward_right (λ _. []) false others (swapped signs (renamed_each names tokens)) signs swap
+          ∙ ap (λ (xs : List (List ℕ)). xs ++ others)
           (sym (names_onward names tokens o.wide o.pair) ∙ o.leads)))));
     }

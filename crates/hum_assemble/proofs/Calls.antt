@@ -359,4 +359,4 @@ pub wanted_open : (stage : ℕ) (kept : Merge) (spent : Bool) (t : Moment) (o : 
 wanted_open stage kept spent t None h w = tt
 wanted_open stage kept spent t (Some j) h w =
     open_input j t.inputs
-      (rw (same_ends stage kept spent t h) at (open_wanted stage kept spent t h j (sym w)))
+    (rw (same_ends stage kept spent t h) at (open_wanted stage kept spent t h j (sym w)))

@@ -1,65 +1,41 @@
 -- What is given is a score, as far as it goes.
-use Rattle.std.proofs.Common.{◌≡◌, ◌≢◌, ◌∙◌, refl, sym, ap, ℕ, zero, suc, ◌+◌, ◌≤◌, ◌<◌, ◌⊎◌, inl, inr}
-use Rattle.std.proofs.Common.{Bool, true, false, not, ◌&&◌, ◌||◌, cond, List, [], ◌∷◌, ◌++◌, length}
-use Rattle.std.proofs.Common.{arith, map, length-append, replicate}
-use Rattle.std.specs.Prelude.{◌==◌, Option, None, Some}
-use Rattle.std.specs.List.{list_any, list_all, find, AllByRecursion}
-use Rattle.std.proofs.lemmas.Bool.Decides.{nat_tests}
-use lib.Chars.{codes}
+use Rattle.std.proofs.Common.{◌≡◌, ◌∙◌, refl, sym, ap, ℕ, ◌≤◌, ◌<◌, ◌⊎◌, inl, inr}
+use Rattle.std.proofs.Common.{Bool, true, false, ◌||◌, List, [], ◌∷◌, length}
+use Rattle.std.proofs.Common.{arith}
+use Rattle.std.specs.Prelude.{None, Some}
+use Rattle.std.specs.List.{list_any, find}
 use Rattle.hum_record.specs.declared.SpinedKind.{SpinedKind}
 use Rattle.hum_record.specs.declared.SpinedKind.TheVariants.{Local, Interpretation, Values}
-use Rattle.hum_record.specs.Row.{Row, Comment, Spined, tokens_of}
-use Rattle.hum_path.specs.declared.signs.Sign.{Sign}
-use Rattle.hum_path.specs.declared.PathFault.TheVariants.{P1, P2, P3, P4, P5, P6, P7, P9, P10, P11}
-use Rattle.hum_path.specs.Sign.{sign_of, is_plain, is_exclusive, all_plain}
-use Rattle.hum_path.specs.Rules.{fault_of, breaks, breaks_as_text, in_order, has_bare, is_unfinished}
-use Rattle.hum_path.specs.Spines.{Path, Unopened, Spines, exclusives, width, after}
-use Rattle.hum_path.proofs.Plain.{find_head, sound_width, plain_stays}
-use Rattle.hum_path.proofs.Obeyed.{opens, obeys}
-use Rattle.hum_stage.specs.declared.faults.End as end
-use Rattle.hum_stage.specs.declared.faults.End.TheVariants.{Closed, Broken}
+use Rattle.hum_record.specs.Row.{Row, Comment, Spined}
+use Rattle.hum_path.specs.Rules.{fault_of, breaks_as_text, in_order}
+use Rattle.hum_path.specs.Spines.{Path, Unopened, Spines, after}
+use Rattle.hum_path.proofs.Plain.{plain_stays}
 use Rattle.hum_assemble.specs.declared.places.Place.{Place}
 use Rattle.hum_assemble.specs.declared.places.Place.TheVariants.{Aside, Begins, Front, Opening}
 use Rattle.hum_assemble.specs.declared.places.Place.TheVariants.{Remark, Local as LocalPlace}
 use Rattle.hum_assemble.specs.declared.places.Place.TheVariants.{Tandem, Change, Note, Closing}
 use Rattle.hum_assemble.specs.declared.places.Place.TheVariants.{Tail, Over}
-use Rattle.hum_assemble.specs.Source.{Source, place, is_inside, is_end, unit_place, inside_place}
+use Rattle.hum_assemble.specs.Source.{Source, place}
 use Rattle.hum_assemble.specs.Head.{is_opened}
-use Rattle.hum_assemble.specs.Places.{rank, step, kind_at, null_at, is_shared, is_over}
-use Rattle.hum_assemble.specs.Round.{place_at, takes, still_free, is_missing}
-use Rattle.hum_assemble.specs.Merge.{moved, all_moved, part_given, nulls, tokens_given}
-use Rattle.hum_assemble.specs.Merge.{tokens_of_first}
+use Rattle.hum_assemble.specs.Places.{rank, kind_at, is_shared, is_over}
+use Rattle.hum_assemble.specs.Round.{takes, still_free}
+use Rattle.hum_assemble.specs.Merge.{moved, all_moved, tokens_given}
 use Rattle.hum_assemble.specs.Taking.{is_at}
-use Rattle.hum_assemble.proofs.Fitting.{spined_of}
-use Rattle.hum_assemble.proofs.Sides.{IsSound, Shows, Takes, taker, taken_path, is_long, is_long_first}
-use Rattle.hum_assemble.proofs.Sides.{inside_first, early_inside}
-use Rattle.hum_assemble.proofs.Rounds.{AllSound, AllShow, NoneInside, IsSettled, AllSettled, IsQuiet}
+use Rattle.hum_assemble.proofs.Sides.{IsSound, taker, taken_path}
+use Rattle.hum_assemble.proofs.Rounds.{AllSound, AllShow, IsSettled, AllSettled, IsQuiet}
 use Rattle.hum_assemble.proofs.Rounds.{names_of, opened_taker, taken_by, all_wide}
-use Rattle.std.specs.Prelude.{nat_lt, nat_le}
-use Rattle.hum_record.specs.Row.{text_of}
 use Rattle.hum_record.specs.Spelling.{is_empty}
 use Rattle.hum_path.specs.Spines.{names_after}
-use Rattle.hum_stage.specs.Score.{Follow, IsScore, IsClosed, through}
-use Rattle.hum_stage.specs.declared.faults.Rule.TheVariants.{A1, L1, L2}
-use Rattle.hum_assemble.specs.declared.places.Next as next
-use Rattle.hum_assemble.specs.declared.places.Next.TheVariants.{Gives, Refused, Wants}
-use Rattle.hum_assemble.specs.declared.places.Next.TheVariants.{Over as NothingMore}
-use Rattle.hum_assemble.specs.Round.{any_due, earliest}
-use Rattle.hum_assemble.specs.Merge.{Merge, ahead, given_row, given_on, made, spines, rule_broken}
-use Rattle.hum_assemble.specs.Merge.{unless_broken, ahead_at}
-use Rattle.hum_assemble.specs.Taking.{IsGiving}
-use Rattle.hum_assemble.specs.Meaning.{gives, goes_on}
-use Rattle.hum_assemble.proofs.Moving.{AllKnown}
-use Rattle.hum_assemble.proofs.Steps.{IsGiven, is_given, giving, lost_given, is_giving}
-use Rattle.hum_assemble.proofs.Rounds.{all_show, none_inside, all_sound, names_spines}
+use Rattle.hum_assemble.specs.Round.{any_due}
+use Rattle.hum_assemble.specs.Merge.{made, spines}
+use Rattle.hum_assemble.proofs.Rounds.{none_inside, all_sound, names_spines}
 use Rattle.hum_assemble.proofs.Quiet.{comment_stays, quiet_text, quiet_tandem, some_names}
 use Rattle.hum_assemble.proofs.Quiet.{tandem_tokens, not_going, opening_path}
-use Rattle.hum_assemble.proofs.Beside.{Leads}
 use Rattle.hum_assemble.proofs.Sounding.{leads_sound, opening_sound, text_sound, plain_sound, ends_lead}
 use Rattle.hum_assemble.proofs.Alone.{paths_of, NoneIn, OneIn, none_one, none_in, others_out}
 use Rattle.hum_assemble.proofs.Alone.{OthersOut}
 use Rattle.hum_assemble.proofs.Alone.{begins_out, alone_leads, alone_one, names_in, names_are, named_in}
-use Rattle.hum_assemble.proofs.Turning.{AllUnopened, Opens, all_open, Closes, all_close, named_none}
+use Rattle.hum_assemble.proofs.Turning.{AllUnopened, all_open, all_close, named_none}
 use Rattle.hum_assemble.proofs.Turning.{exclusive_named}
 
 -- How the spines of what is given stand to those of the sources: none as long as no source has
@@ -93,9 +69,10 @@ still_paths free going p (s ∷ ss) o k i =
 still_unopened : (free going : Bool) (p : Place) (ss : List Source) → is_over p ≡ false
     → kind_at p ≡ None → AllSound ss → AllUnopened ss → AllUnopened (all_moved free going p ss)
 still_unopened free going p [] o k i u = tt
-still_unopened free going p (s ∷ ss) o k i u =
-    (still_path free going p s o k i.0 ∙ u.0,
-      still_unopened (still_free free going p s) going p ss o k i.1 u.1)
+still_unopened free going p (s ∷ ss) o k i u = (
+  still_path free going p s o k i.0 ∙ u.0,
+  still_unopened (still_free free going p s) going p ss o k i.1 u.1,
+)
 
 -- Sources that have spines go on having them.
 opened_after : (path : Path) (row : Row) → is_opened path ≡ true → is_opened (after path row) ≡ true
@@ -152,12 +129,12 @@ unopened_at : (going : Bool) (p : Place) (ss : List Source) → is_over p ≡ fa
 unopened_at going p [] o i u h = cc
 unopened_at going p (s ∷ ss) o i u h =
     (elim (is_at going p s) as (λ b. is_at going p s ≡ b → (b || list_any (is_at going p) ss) ≡ true
-        → (2 ≤ rank p) × (rank p ≤ 3)) [
+    → (2 ≤ rank p) × (rank p ≤ 3)) [
       | true ↦ λ at w.
           let t = taker going p s o i.0 at in
           let r = unopened_rank t.row in
           let q : rank p ≡ rank (place Unopened t.row) =
-            t.at ∙ ap (λ (path : Path). rank (place path t.row)) u.0 in
+          t.at ∙ ap (λ (path : Path). rank (place path t.row)) u.0 in
           (omega (arith, q, r.0), omega (arith, q, r.1))
       | false ↦ λ at w. unopened_at going p ss o i.1 u.1 w
     ]) refl h
@@ -202,8 +179,10 @@ comment_fine path going p ss k f h =
       one = rw paths f.one;
       side = elim f.side [
         | inl before ↦ inl (before.0, still_unopened true going p ss h.some k f.sound before.1)
-        | inr behind ↦ inr (behind.0 ∙ ap Spines (same_names _ _ (sym paths)),
-            settled_moved true going p ss h.some f.sound behind.1)
+        | inr behind ↦ inr (
+          behind.0 ∙ ap Spines (same_names _ _ (sym paths)),
+          settled_moved true going p ss h.some f.sound behind.1,
+        )
       ];
     }
 
@@ -243,14 +222,18 @@ quiet_goes path going p kind ss k n late f h =
           let wide = all_wide true going p ss kind h.some k f.sound behind.1 in
           let paths = quiet_paths true going p ss h.some (quiet_text p kind k n) f.sound behind.1 in
           let sound = text_fault path kind (tokens_given true going p ss) n
-            (rw behind.0 (text_sound (names_of ss) (tokens_given true going p ss) wide (named_of ss out)
-              (some_names going p ss kind h.some k f.sound behind.1 h.at))) in
-          (sound, rw (text_after path kind (tokens_given true going p ss) n) (record {
-            sound = sound_on path going p ss f h;
-            one = rw paths f.one;
-            side = inr (behind.0 ∙ ap Spines (same_names _ _ (sym paths)),
-              settled_moved true going p ss h.some f.sound behind.1);
-          }))
+          (rw behind.0 (text_sound (names_of ss) (tokens_given true going p ss) wide (named_of ss out)
+          (some_names going p ss kind h.some k f.sound behind.1 h.at))) in (
+            sound,
+            rw (text_after path kind (tokens_given true going p ss) n) (record {
+              sound = sound_on path going p ss f h;
+              one = rw paths f.one;
+              side = inr (
+                behind.0 ∙ ap Spines (same_names _ _ (sym paths)),
+                settled_moved true going p ss h.some f.sound behind.1,
+              );
+            }),
+          )
     ]
 
 tandem_goes : (path : Path) (going : Bool) (ss : List Source) → IsFine path ss
@@ -266,17 +249,20 @@ tandem_goes path going ss f h =
           let paths = quiet_paths true going Tandem ss h.some quiet_tandem f.sound behind.1 in
           let names = same_names _ _ paths in
           let few : length (names_of ss) ≤ 4096 =
-            let n = few_names going Tandem ss h in let e = ap length names in omega (arith, n, e) in
+          let n = few_names going Tandem ss h in let e = ap length names in omega (arith, n, e) in
           let plain = tandem_tokens true going ss f.sound in
-          let stays = plain_stays (names_of ss) tokens plain (sym wide) in
-          (rw behind.0 (plain_sound (names_of ss) tokens wide (named_of ss out)
-            (some_names going Tandem ss Interpretation h.some refl f.sound behind.1 h.at) few plain),
-          record {
-            sound = sound_on path going Tandem ss f h;
-            one = rw paths f.one;
-            side = inr (ap Spines (ap (λ (x : Path). names_after x tokens) behind.0 ∙ (stays ∙ sym names)),
-              settled_moved true going Tandem ss h.some f.sound behind.1);
-          })
+          let stays = plain_stays (names_of ss) tokens plain (sym wide) in (
+            rw behind.0 (plain_sound (names_of ss) tokens wide (named_of ss out)
+                (some_names going Tandem ss Interpretation h.some refl f.sound behind.1 h.at) few plain),
+            record {
+              sound = sound_on path going Tandem ss f h;
+              one = rw paths f.one;
+              side = inr (
+                ap Spines (ap (λ (x : Path). names_after x tokens) behind.0 ∙ (stays ∙ sym names)),
+                settled_moved true going Tandem ss h.some f.sound behind.1,
+              );
+            },
+          )
     ]
 
 alone_goes : (path : Path) (going : Bool) (p : Place) (ss : List Source)
@@ -288,15 +274,18 @@ alone_goes path going p ss k sh n out f h =
       | inl before ↦ absurd (n (unopened_at going p ss h.some f.sound before.1 h.at))
       | inr behind ↦
           let tokens = tokens_given true going p ss in
-          let o = alone_leads going p ss h.some k sh f.sound behind.1 out h.at in
-          (rw behind.0 (leads_sound (names_of ss) tokens (names_of (all_moved true going p ss)) o
-            (few_names going p ss h) (some_names going p ss Interpretation h.some k f.sound behind.1 h.at)),
-          record {
-            sound = sound_on path going p ss f h;
-            one = alone_one going p ss sh out;
-            side = inr (ap Spines (ap (λ (x : Path). names_after x tokens) behind.0 ∙ o.leads),
-              settled_moved true going p ss h.some f.sound behind.1);
-          })
+          let o = alone_leads going p ss h.some k sh f.sound behind.1 out h.at in (
+            rw behind.0 (leads_sound (names_of ss) tokens (names_of (all_moved true going p ss)) o
+                (few_names going p ss h) (some_names going p ss Interpretation h.some k f.sound behind.1 h.at)),
+            record {
+              sound = sound_on path going p ss f h;
+              one = alone_one going p ss sh out;
+              side = inr (
+                ap Spines (ap (λ (x : Path). names_after x tokens) behind.0 ∙ o.leads),
+                settled_moved true going p ss h.some f.sound behind.1,
+              );
+            },
+          )
     ]
 
 opening_goes : (path : Path) (going : Bool) (ss : List Source) → going ≡ false → IsFine path ss
@@ -308,14 +297,15 @@ opening_goes path false ss e f h =
           let tokens = tokens_given true false Opening ss in
           let o = all_open ss before.1 f.sound h.show in
           let few : length tokens ≤ 4096 =
-            let n = few_names false Opening ss h in let e = ap length o.names in omega (arith, n, e) in
-          (rw before.0 (opening_sound tokens o.exclusive o.bare few),
-          record {
-            sound = sound_on path false Opening ss f h;
-            one = none_one _ (named_none _ (ap (list_any is_empty) (sym (names_are (all_moved true false Opening ss)) ∙ o.names)
-              ∙ exclusive_named tokens o.exclusive));
-            side = inr (ap Spines (ap (λ (x : Path). names_after x tokens) before.0 ∙ sym o.names), o.settled);
-          })
+          let n = few_names false Opening ss h in let e = ap length o.names in omega (arith, n, e) in (
+            rw before.0 (opening_sound tokens o.exclusive o.bare few),
+            record {
+              sound = sound_on path false Opening ss f h;
+              one = none_one _ (named_none _ (ap (list_any is_empty) (sym (names_are (all_moved true false Opening ss)) ∙ o.names)
+                  ∙ exclusive_named tokens o.exclusive));
+              side = inr (ap Spines (ap (λ (x : Path). names_after x tokens) before.0 ∙ sym o.names), o.settled);
+            },
+          )
       | inr behind ↦ absurd (no_opening false ss f.sound behind.1 h.at)
     ]
 
@@ -330,15 +320,18 @@ closing_goes path false ss e f h =
           let out = none_in ss (none_inside false Closing ss f.sound h.show (omega arith)) in
           let wide = all_wide true false Closing ss Interpretation h.some refl f.sound behind.1 in
           let c = all_close ss f.sound behind.1 h.show in
-          let o = ends_lead (names_of ss) tokens wide (named_of ss out) c.bare c.ends in
-          (rw behind.0 (leads_sound (names_of ss) tokens [] o (omega arith)
-            (some_names false Closing ss Interpretation h.some refl f.sound behind.1 h.at)),
-          record {
-            sound = sound_on path false Closing ss f h;
-            one = none_one _ (named_none _ (ap (list_any is_empty) (sym (names_are (all_moved true false Closing ss)) ∙ c.none)));
-            side = inr (ap Spines (ap (λ (x : Path). names_after x tokens) behind.0 ∙ (o.leads ∙ sym c.none)),
-              settled_moved true false Closing ss h.some f.sound behind.1);
-          })
+          let o = ends_lead (names_of ss) tokens wide (named_of ss out) c.bare c.ends in (
+            rw behind.0 (leads_sound (names_of ss) tokens [] o (omega arith)
+                (some_names false Closing ss Interpretation h.some refl f.sound behind.1 h.at)),
+            record {
+              sound = sound_on path false Closing ss f h;
+              one = none_one _ (named_none _ (ap (list_any is_empty) (sym (names_are (all_moved true false Closing ss)) ∙ c.none)));
+              side = inr (
+                ap Spines (ap (λ (x : Path). names_after x tokens) behind.0 ∙ (o.leads ∙ sym c.none)),
+                settled_moved true false Closing ss h.some f.sound behind.1,
+              );
+            },
+          )
     ]
 
 not_text : Local ≡ Interpretation → ⊥
@@ -358,10 +351,10 @@ goes path going Note ss f h = quiet_goes path going Note Values ss refl not_data
 goes path going Tandem ss f h = tandem_goes path going ss f h
 goes path going Change ss f h =
     alone_goes path going Change ss refl refl (λ r. let q = r.1 in omega (arith, q))
-      (others_out going Change ss (none_in ss (none_inside going Change ss f.sound h.show (omega arith)))) f h
+    (others_out going Change ss (none_in ss (none_inside going Change ss f.sound h.show (omega arith)))) f h
 goes path going Begins ss f h =
     alone_goes path going Begins ss refl refl (λ r. let q = r.0 in omega (arith, q))
-      (begins_out going Begins ss refl (omega arith) f.sound f.one h.at) f h
+    (begins_out going Begins ss refl (omega arith) f.sound f.one h.at) f h
 goes path going Opening ss f h =
     opening_goes path going ss (not_going going Opening ss refl refl f.sound h.at) f h
 goes path going Closing ss f h =

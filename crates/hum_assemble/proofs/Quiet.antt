@@ -1,23 +1,20 @@
 -- Records of several sources, by their places.
-use Rattle.std.proofs.Common.{◌≡◌, ◌≢◌, ◌∙◌, refl, sym, ap, ℕ, zero, suc, ◌+◌, ◌≤◌, ◌<◌, ◌⊎◌, inl, inr}
-use Rattle.std.proofs.Common.{Bool, true, false, not, ◌&&◌, ◌||◌, cond, List, [], ◌∷◌, ◌++◌, length}
+use Rattle.std.proofs.Common.{◌≡◌, ◌∙◌, refl, sym, ap, ℕ, zero, suc, ◌+◌, ◌<◌, inl, inr}
+use Rattle.std.proofs.Common.{Bool, true, false, ◌&&◌, ◌||◌, cond, List, [], ◌∷◌, ◌++◌, length}
 use Rattle.std.proofs.Common.{arith, map, length-append, replicate}
 use Rattle.std.specs.Prelude.{◌==◌, Option, None, Some}
-use Rattle.std.specs.List.{list_any, list_all, find, AllByRecursion}
+use Rattle.std.specs.List.{list_any, list_all}
 use Rattle.std.proofs.lemmas.Bool.Decides.{nat_tests}
 use lib.Chars.{codes}
 use Rattle.hum_record.specs.declared.SpinedKind.{SpinedKind}
 use Rattle.hum_record.specs.declared.SpinedKind.TheVariants.{Local, Interpretation, Values}
 use Rattle.hum_record.specs.Row.{Row, Comment, Spined, tokens_of}
-use Rattle.hum_path.specs.declared.signs.Sign.{Sign}
 use Rattle.hum_path.specs.declared.PathFault.TheVariants.{P1, P2, P3, P4, P5, P6, P7, P9, P10, P11}
-use Rattle.hum_path.specs.Sign.{sign_of, is_plain, is_exclusive, all_plain}
-use Rattle.hum_path.specs.Rules.{fault_of, breaks, breaks_as_text, in_order, has_bare, is_unfinished}
+use Rattle.hum_path.specs.Sign.{sign_of, is_plain, all_plain}
+use Rattle.hum_path.specs.Rules.{fault_of, breaks, breaks_as_text}
 use Rattle.hum_path.specs.Spines.{Path, Unopened, Spines, exclusives, width, after}
 use Rattle.hum_path.proofs.Plain.{find_head, sound_width, plain_stays}
-use Rattle.hum_path.proofs.Obeyed.{opens, obeys}
 use Rattle.hum_stage.specs.declared.faults.End as end
-use Rattle.hum_stage.specs.declared.faults.End.TheVariants.{Closed, Broken}
 use Rattle.hum_assemble.specs.declared.places.Place.{Place}
 use Rattle.hum_assemble.specs.declared.places.Place.TheVariants.{Aside, Begins, Front, Opening}
 use Rattle.hum_assemble.specs.declared.places.Place.TheVariants.{Remark, Local as LocalPlace}
@@ -25,16 +22,16 @@ use Rattle.hum_assemble.specs.declared.places.Place.TheVariants.{Tandem, Change,
 use Rattle.hum_assemble.specs.declared.places.Place.TheVariants.{Tail, Over}
 use Rattle.hum_assemble.specs.Source.{Source, place, is_inside, is_end, unit_place, inside_place}
 use Rattle.hum_assemble.specs.Head.{is_opened}
-use Rattle.hum_assemble.specs.Places.{rank, step, kind_at, null_at, is_shared, is_over}
-use Rattle.hum_assemble.specs.Round.{place_at, takes, still_free, is_missing}
-use Rattle.hum_assemble.specs.Merge.{moved, all_moved, part_given, nulls, tokens_given}
+use Rattle.hum_assemble.specs.Places.{rank, kind_at, is_over}
+use Rattle.hum_assemble.specs.Round.{takes, still_free}
+use Rattle.hum_assemble.specs.Merge.{part_given, tokens_given}
 use Rattle.hum_assemble.specs.Merge.{tokens_of_first}
 use Rattle.hum_assemble.specs.Taking.{is_at}
 use Rattle.hum_assemble.proofs.Fitting.{spined_of}
-use Rattle.hum_assemble.proofs.Sides.{IsSound, Shows, Takes, taker, taken_path, is_long, is_long_first}
-use Rattle.hum_assemble.proofs.Sides.{inside_first, early_inside}
-use Rattle.hum_assemble.proofs.Rounds.{AllSound, AllShow, NoneInside, IsSettled, AllSettled, IsQuiet}
-use Rattle.hum_assemble.proofs.Rounds.{names_of, opened_taker, taken_by, all_wide}
+use Rattle.hum_assemble.proofs.Sides.{IsSound, taker, is_long, is_long_first}
+use Rattle.hum_assemble.proofs.Sides.{inside_first}
+use Rattle.hum_assemble.proofs.Rounds.{AllSound, AllSettled, IsQuiet}
+use Rattle.hum_assemble.proofs.Rounds.{names_of, opened_taker, taken_by}
 
 -- Which records stand at a place.
 unit_tandem : (row : Row) → 6 ≡ rank (unit_place row) → all_plain (tokens_of row) ≡ true
@@ -45,9 +42,9 @@ unit_tandem (Spined Interpretation tokens) h =
     (elim (list_all is_end (map sign_of tokens)) as (λ a. 6 ≡ rank (cond a Closing (cond (all_plain tokens) Tandem Change)) → all_plain tokens ≡ true) [
       | true ↦ λ e. absurd (omega (arith, e))
       | false ↦ λ e. (elim (all_plain tokens) as (λ b. 6 ≡ rank (cond b Tandem Change) → b ≡ true) [
-          | true ↦ λ f. refl
-          | false ↦ λ f. absurd (omega (arith, f))
-        ]) e
+        | true ↦ λ f. refl
+        | false ↦ λ f. absurd (omega (arith, f))
+      ]) e
     ]) h
 
 unit_closing : (row : Row) → 9 ≡ rank (unit_place row)
@@ -59,9 +56,9 @@ unit_closing (Spined Interpretation tokens) h =
     (elim (list_all is_end (map sign_of tokens)) as (λ a. 9 ≡ rank (cond a Closing (cond (all_plain tokens) Tandem Change)) → a ≡ true) [
       | true ↦ λ e. refl
       | false ↦ λ e. (elim (all_plain tokens) as (λ b. 9 ≡ rank (cond b Tandem Change) → false ≡ true) [
-          | true ↦ λ f. absurd (omega (arith, f))
-          | false ↦ λ f. absurd (omega (arith, f))
-        ]) e
+        | true ↦ λ f. absurd (omega (arith, f))
+        | false ↦ λ f. absurd (omega (arith, f))
+      ]) e
     ]) h
 
 inside_late : (row : Row) (k : ℕ) → 1 < k → k ≡ rank (inside_place row) → ⊥
@@ -98,9 +95,9 @@ unit_late (Spined Interpretation tokens) h =
     (elim (list_all is_end (map sign_of tokens)) as (λ a. rank (cond a Closing (cond (all_plain tokens) Tandem Change)) ≡ 3 → ⊥) [
       | true ↦ λ e. omega (arith, e)
       | false ↦ λ e. (elim (all_plain tokens) as (λ b. rank (cond b Tandem Change) ≡ 3 → ⊥) [
-          | true ↦ λ f. omega (arith, f)
-          | false ↦ λ f. omega (arith, f)
-        ]) e
+        | true ↦ λ f. omega (arith, f)
+        | false ↦ λ f. omega (arith, f)
+      ]) e
     ]) h
 
 pub opening_path : (path : Path) (row : Row) → 3 ≡ rank (place path row) → path ≡ Unopened
@@ -169,11 +166,11 @@ some_names going p [] kind o k i e h = cc
 some_names going p (s ∷ ss) kind o k i e h =
     let l = length-append (exclusives s.path) (names_of ss) in
     (elim (is_at going p s) as (λ b. is_at going p s ≡ b → (b || list_any (is_at going p) ss) ≡ true
-        → (length (names_of (s ∷ ss)) == 0) ≡ false) [
+    → (length (names_of (s ∷ ss)) == 0) ≡ false) [
       | true ↦ λ at w.
           let t = taker going p s o i.0 at in
           some_left (width s.path) (length (names_of ss)) _
-            (row_filled s.path t.row kind (opened_taker p s e.0 t) (sym k ∙ t.kind) t.sound) l
+          (row_filled s.path t.row kind (opened_taker p s e.0 t) (sym k ∙ t.kind) t.sound) l
       | false ↦ λ at w.
           some_right (width s.path) (length (names_of ss)) _ (some_names going p ss kind o k i.1 e.1 w) l
     ]) refl h
@@ -197,13 +194,13 @@ pub tandem_tokens : (free going : Bool) (ss : List Source) → AllSound ss
 tandem_tokens free going [] i = refl
 tandem_tokens free going (s ∷ ss) i =
     plain_append (part_given (takes free going Tandem s) Tandem s)
-      (tokens_given (still_free free going Tandem s) going Tandem ss) part
-      (tandem_tokens (still_free free going Tandem s) going ss i.1)
+    (tokens_given (still_free free going Tandem s) going Tandem ss) part
+    (tandem_tokens (still_free free going Tandem s) going ss i.1)
   where
     part : all_plain (part_given (takes free going Tandem s) Tandem s) ≡ true
     part =
         (elim (takes free going Tandem s) as (λ b. takes free going Tandem s ≡ b
-            → all_plain (part_given b Tandem s) ≡ true) [
+        → all_plain (part_given b Tandem s) ≡ true) [
           | true ↦ λ h.
               let t = taken_by free going Tandem s refl i.0 h in
               ap (λ (rows : List Row). all_plain (tokens_of_first rows)) t.is ∙ tandem_plain s.path t.row t.at
@@ -244,7 +241,7 @@ not_going_fields p path true coming ended o k i h =
       | inl w ↦ let e = inside_first path t.row w in omega (arith, e, l, at)
       | inr w ↦
           let v : is_long (place path t.row) ≡ true =
-            sym (ap (λ (rows : List Row). is_long_first path rows) t.is) ∙ w in
+          sym (ap (λ (rows : List Row). is_long_first path rows) t.is) ∙ w in
           let n = no_long (place path t.row) (rank p) k at in
           let z = sym n ∙ v in cc
     ]

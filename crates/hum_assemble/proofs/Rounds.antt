@@ -1,9 +1,9 @@
 -- All sources, where a record is given.
-use Rattle.std.proofs.Common.{◌≡◌, ◌∙◌, refl, sym, ap, ℕ, zero, suc, ◌+◌, ◌≤◌, ◌<◌, ◌⊎◌, inl, inr, Bool}
-use Rattle.std.proofs.Common.{true, false, not, ◌&&◌, ◌||◌, cond, List, [], ◌∷◌, ◌++◌, length, arith, map}
+use Rattle.std.proofs.Common.{◌≡◌, ◌∙◌, refl, sym, ap, ℕ, zero, suc, ◌≤◌, ◌<◌, ◌⊎◌, inl, inr, Bool}
+use Rattle.std.proofs.Common.{true, false, ◌&&◌, ◌||◌, cond, List, [], ◌∷◌, ◌++◌, length, arith}
 use Rattle.std.proofs.Common.{length-append, replicate}
-use Rattle.std.specs.Prelude.{◌==◌, nat_le, Option, None, Some}
-use Rattle.std.specs.List.{list_any, list_all, find, AllByRecursion}
+use Rattle.std.specs.Prelude.{nat_le, None, Some}
+use Rattle.std.specs.List.{list_any, AllByRecursion}
 use Rattle.std.proofs.lemmas.Bool.Decides.{nat_tests}
 use Rattle.hum_record.specs.declared.SpinedKind.{SpinedKind}
 use Rattle.hum_record.specs.declared.SpinedKind.TheVariants.{Local, Interpretation, Values}
@@ -13,14 +13,13 @@ use Rattle.hum_path.specs.Rules.{fault_of}
 use Rattle.hum_path.specs.Spines.{Path, Unopened, Spines, exclusives, width, after}
 use Rattle.hum_path.proofs.Plain.{sound_width}
 use Rattle.hum_path.proofs.Widths.{text_width}
-use Rattle.hum_stage.specs.declared.faults.End as end
 use Rattle.hum_stage.specs.declared.faults.End.TheVariants.{Closed}
 use Rattle.hum_assemble.specs.declared.places.Place.{Place}
-use Rattle.hum_assemble.specs.Source.{Source, place, is_inside}
+use Rattle.hum_assemble.specs.Source.{Source, is_inside}
 use Rattle.hum_assemble.specs.Head.{is_opened}
 use Rattle.hum_assemble.specs.Places.{rank, kind_at, null_at, is_shared, is_over, earlier}
-use Rattle.hum_assemble.specs.Round.{place_at, is_missing, takes, still_free, earliest, any_due}
-use Rattle.hum_assemble.specs.Merge.{moved, all_moved, part_given, nulls, tokens_given}
+use Rattle.hum_assemble.specs.Round.{place_at, takes, still_free, earliest, any_due}
+use Rattle.hum_assemble.specs.Merge.{moved, all_moved, part_given, tokens_given}
 use Rattle.hum_assemble.specs.Merge.{tokens_of_first, spines}
 use Rattle.hum_assemble.specs.Taking.{is_at}
 use Rattle.hum_assemble.proofs.Fitting.{spined_of}
@@ -40,7 +39,7 @@ NoneInside = AllByRecursion (λ s. is_inside s.path ≡ false)
 earlier_le : (n : ℕ) (p q : Place) → n ≤ rank (earlier p q) → (n ≤ rank p) × (n ≤ rank q)
 earlier_le n p q h =
     (elim (nat_le (rank p) (rank q)) as (λ b. nat_le (rank p) (rank q) ≡ b
-        → n ≤ rank (cond b p q) → (n ≤ rank p) × (n ≤ rank q)) [
+    → n ≤ rank (cond b p q) → (n ≤ rank p) × (n ≤ rank q)) [
       | true ↦ λ e w. let l : rank p ≤ rank q = grind (arith, nat_tests) in (w, omega (arith, l, w))
       | false ↦ λ e w. let l : rank q ≤ rank p = grind (arith, nat_tests) in (omega (arith, l, w), w)
     ]) refl h
@@ -71,10 +70,11 @@ pub all_sound : (free going : Bool) (p : Place) (ss : List Source) → is_over p
     → (going ≡ false → any_due ss ≡ false) → (is_shared p ≡ true → free ≡ true)
     → AllSound (all_moved free going p ss)
 all_sound free going p [] o i idle all = tt
-all_sound free going p (s ∷ ss) o i idle all =
-    (moved_sound free going p s o i.0 (λ g. (or_false s.due (any_due ss) (idle g)).0) all,
-      all_sound (still_free free going p s) going p ss o i.1
-        (λ g. (or_false s.due (any_due ss) (idle g)).1) (shared_free free going p s all))
+all_sound free going p (s ∷ ss) o i idle all = (
+  moved_sound free going p s o i.0 (λ g. (or_false s.due (any_due ss) (idle g)).0) all,
+  all_sound (still_free free going p s) going p ss o i.1
+      (λ g. (or_false s.due (any_due ss) (idle g)).1) (shared_free free going p s all),
+)
 
 -- The spines side by side.
 abbrev pub names_of : List Source → List (List ℕ)
@@ -136,7 +136,7 @@ part_wide : (free going : Bool) (p : Place) (s : Source) (kind : SpinedKind) →
     → length (exclusives s.path) ≡ length (part_given (takes free going p s) p s)
 part_wide free going p s kind o k i e =
     (elim (takes free going p s) as (λ b. takes free going p s ≡ b
-        → length (exclusives s.path) ≡ length (part_given b p s)) [
+    → length (exclusives s.path) ≡ length (part_given b p s)) [
       | true ↦ λ h.
           let t = taken_by free going p s o i h in
           row_wide s.path t.row kind (opened_taker p s e t) (sym k ∙ t.kind) t.sound
@@ -153,7 +153,7 @@ all_wide free going p (s ∷ ss) kind o k i e =
     let b = all_wide (still_free free going p s) going p ss kind o k i.1 e.1 in
     let l = length-append (exclusives s.path) (names_of ss) in
     let m = length-append (part_given (takes free going p s) p s)
-      (tokens_given (still_free free going p s) going p ss) in
+    (tokens_given (still_free free going p s) going p ss) in
     omega (arith, a, b, l, m)
 
 -- Where no record that is given changes spines, none change.
@@ -173,5 +173,7 @@ pub quiet_names : (free going : Bool) (p : Place) (ss : List Source) → is_over
     → AllSound ss → AllSettled ss → names_of (all_moved free going p ss) ≡ names_of ss
 quiet_names free going p [] o q i e = refl
 quiet_names free going p (s ∷ ss) o q i e =
-    rw (moved_path free going p s o q i.0 e.0,
-      quiet_names (still_free free going p s) going p ss o q i.1 e.1) refl
+    rw (
+      moved_path free going p s o q i.0 e.0,
+      quiet_names (still_free free going p s) going p ss o q i.1 e.1,
+    ) refl

@@ -1,41 +1,27 @@
 -- Scores side by side are a score, and closed ones a closed one.
-use Rattle.std.proofs.Common.{◌≡◌, ◌≢◌, ◌∙◌, refl, sym, ap, ℕ, zero, suc, ◌+◌, ◌≤◌, ◌<◌, ◌⊎◌, inl, inr}
-use Rattle.std.proofs.Common.{Bool, true, false, not, ◌&&◌, ◌||◌, cond, List, [], ◌∷◌, ◌++◌, length}
-use Rattle.std.proofs.Common.{arith, map, length-append, replicate}
+use Rattle.std.proofs.Common.{◌≡◌, ◌∙◌, refl, sym, ap, ℕ, zero, suc, ◌+◌, ◌≤◌, inl, inr}
+use Rattle.std.proofs.Common.{Bool, true, false, ◌&&◌, cond, List, [], ◌∷◌, length}
+use Rattle.std.proofs.Common.{arith, map}
 use Rattle.std.specs.Prelude.{◌==◌, Option, None, Some}
-use Rattle.std.specs.List.{list_any, list_all, find, AllByRecursion}
+use Rattle.std.specs.List.{list_any, list_all, AllByRecursion}
 use Rattle.std.proofs.lemmas.Bool.Decides.{nat_tests}
-use lib.Chars.{codes}
-use Rattle.hum_record.specs.declared.SpinedKind.{SpinedKind}
 use Rattle.hum_record.specs.declared.SpinedKind.TheVariants.{Local, Interpretation, Values}
-use Rattle.hum_record.specs.Row.{Row, Comment, Spined, tokens_of}
-use Rattle.hum_path.specs.declared.signs.Sign.{Sign}
-use Rattle.hum_path.specs.declared.PathFault.TheVariants.{P1, P2, P3, P4, P5, P6, P7, P9, P10, P11}
-use Rattle.hum_path.specs.Sign.{sign_of, is_plain, is_exclusive, all_plain}
-use Rattle.hum_path.specs.Rules.{fault_of, breaks, breaks_as_text, in_order, has_bare, is_unfinished}
-use Rattle.hum_path.specs.Spines.{Path, Unopened, Spines, exclusives, width, after}
-use Rattle.hum_path.proofs.Plain.{find_head, sound_width, plain_stays}
-use Rattle.hum_path.proofs.Obeyed.{opens, obeys}
+use Rattle.hum_record.specs.Row.{Row, Comment, Spined}
+use Rattle.hum_path.specs.Sign.{sign_of, all_plain}
+use Rattle.hum_path.specs.Rules.{is_unfinished}
+use Rattle.hum_path.specs.Spines.{Path, Unopened, Spines, exclusives, after}
 use Rattle.hum_stage.specs.declared.faults.End as end
 use Rattle.hum_stage.specs.declared.faults.End.TheVariants.{Closed, Broken}
 use Rattle.hum_assemble.specs.declared.places.Place.{Place}
-use Rattle.hum_assemble.specs.declared.places.Place.TheVariants.{Aside, Begins, Front, Opening}
-use Rattle.hum_assemble.specs.declared.places.Place.TheVariants.{Remark, Local as LocalPlace}
-use Rattle.hum_assemble.specs.declared.places.Place.TheVariants.{Tandem, Change, Note, Closing}
-use Rattle.hum_assemble.specs.declared.places.Place.TheVariants.{Tail, Over}
+use Rattle.hum_assemble.specs.declared.places.Place.TheVariants.{Tandem, Change, Closing}
 use Rattle.hum_assemble.specs.Source.{Source, place, is_inside, is_end, unit_place, inside_place}
-use Rattle.hum_assemble.specs.Head.{is_opened}
-use Rattle.hum_assemble.specs.Places.{rank, step, kind_at, null_at, is_shared, is_over}
-use Rattle.hum_assemble.specs.Round.{place_at, takes, still_free, is_missing}
-use Rattle.hum_assemble.specs.Merge.{moved, all_moved, part_given, nulls, tokens_given}
-use Rattle.hum_assemble.specs.Merge.{tokens_of_first}
-use Rattle.hum_assemble.specs.Taking.{is_at}
-use Rattle.hum_assemble.proofs.Fitting.{spined_of}
-use Rattle.hum_assemble.proofs.Sides.{IsSound, Shows, Takes, taker, taken_path, is_long, is_long_first}
-use Rattle.hum_assemble.proofs.Sides.{inside_first, early_inside}
-use Rattle.hum_assemble.proofs.Rounds.{AllSound, AllShow, NoneInside, IsSettled, AllSettled, IsQuiet}
-use Rattle.hum_assemble.proofs.Rounds.{names_of, opened_taker, taken_by, all_wide}
-use Rattle.std.specs.Prelude.{nat_lt, nat_le, is_some, is_none}
+use Rattle.hum_assemble.specs.Places.{rank, is_over}
+use Rattle.hum_assemble.specs.Round.{place_at, is_missing}
+use Rattle.hum_assemble.specs.Merge.{all_moved}
+use Rattle.hum_assemble.proofs.Sides.{IsSound}
+use Rattle.hum_assemble.proofs.Rounds.{AllSound}
+use Rattle.hum_assemble.proofs.Rounds.{names_of}
+use Rattle.std.specs.Prelude.{nat_lt, nat_le, is_some}
 use Rattle.hum_record.specs.Row.{text_of}
 use Rattle.hum_record.specs.Spelling.{is_empty}
 use Rattle.hum_stage.specs.Score.{Follow, IsScore, IsClosed, through}
@@ -48,21 +34,20 @@ use Rattle.hum_assemble.specs.declared.places.Next.TheVariants.{Gives, Refused, 
 use Rattle.hum_assemble.specs.declared.places.Next.TheVariants.{Over as NothingMore}
 use Rattle.hum_assemble.specs.Change.{Input}
 use Rattle.hum_assemble.specs.Places.{earlier}
-use Rattle.hum_assemble.specs.Round.{any_due, earliest, is_asked, is_lost, shown, first_from}
+use Rattle.hum_assemble.specs.Round.{any_due, earliest, is_asked, is_lost, first_from}
 use Rattle.hum_assemble.specs.Merge.{Merge, ahead, given_row, given_on, made, spines, rule_broken}
 use Rattle.hum_assemble.specs.Merge.{unless_broken, ahead_at, ahead_of, unless_missing}
-use Rattle.hum_assemble.specs.Taking.{IsGiving}
 use Rattle.hum_assemble.specs.Meaning.{gives, goes_on, total, begun, opening, output, rest, refusal}
-use Rattle.hum_assemble.specs.Meaning.{own_fault, inputs_end, with_end, lower, ends, AreScores}
+use Rattle.hum_assemble.specs.Meaning.{inputs_end, with_end, lower, ends, AreScores}
 use Rattle.hum_assemble.specs.Meaning.{KeepsScores}
-use Rattle.hum_assemble.proofs.Steps.{IsGiven, is_given, giving, lost_given, is_giving, Doing, Going}
+use Rattle.hum_assemble.proofs.Steps.{is_given, giving, lost_given, is_giving, Doing, Going}
 use Rattle.hum_assemble.proofs.Steps.{Resting, doing, gives_going, gives_resting, on_going, on_resting}
 use Rattle.hum_assemble.proofs.Steps.{all_ended, takes_one}
 use Rattle.hum_assemble.proofs.Standings.{no_end, open_in, waiting_open, waits_at, begun_ends}
 use Rattle.hum_assemble.proofs.Rounds.{all_show}
 use Rattle.hum_assemble.proofs.Alone.{paths_of, OneIn}
 use Rattle.hum_assemble.proofs.Turning.{AllUnopened, finished}
-use Rattle.hum_assemble.proofs.Fine.{IsFine, Side, Here, Goes, goes}
+use Rattle.hum_assemble.proofs.Fine.{IsFine, Side, Here, goes}
 
 -- What is given is given within the limits.
 broken_few : (p q : Place) (n bytes given : ℕ)
@@ -96,7 +81,7 @@ here m p h =
       some = w.some;
       at = w.at;
       few = rw g.place (at_few (any_due m.sources) (earliest (any_due m.sources) m.sources) p m.sources m.given
-        (lost_given (any_due m.sources) m.sources m.given p _ h).1);
+          (lost_given (any_due m.sources) m.sources m.given p _ h).1);
     }
 
 -- One record after another.
@@ -115,7 +100,7 @@ keeps (suc n) path m f =
   where
     keeps_doing : (n : ℕ) (path : Path) (m : Merge) → IsFine path m.sources → Doing m
         → ((q : Place) → IsFine (after path (given_row q m)) (given_on q m).sources
-          → Keeps n (after path (given_row q m)) (given_on q m))
+        → Keeps n (after path (given_row q m)) (given_on q m))
         → Keeps (suc n) path m
     keeps_doing n path m f (Resting r) ih = keeps_rest (suc n) path m f r
     keeps_doing n path m f (Going p e) ih =
@@ -266,7 +251,7 @@ same_rank n m h = grind (arith, nat_tests)
 earlier_le : (n : ℕ) (p q : Place) → n ≤ rank (earlier p q) → (n ≤ rank p) × (n ≤ rank q)
 earlier_le n p q h =
     (elim (nat_le (rank p) (rank q)) as (λ b. nat_le (rank p) (rank q) ≡ b
-        → n ≤ rank (cond b p q) → (n ≤ rank p) × (n ≤ rank q)) [
+    → n ≤ rank (cond b p q) → (n ≤ rank p) × (n ≤ rank q)) [
       | true ↦ λ e w. let l : rank p ≤ rank q = grind (arith, nat_tests) in (w, omega (arith, l, w))
       | false ↦ λ e w. let l : rank q ≤ rank p = grind (arith, nat_tests) in (omega (arith, l, w), w)
     ]) refl h
@@ -359,10 +344,10 @@ closed_at : (stage : ℕ) (m : Merge) (a : next.Next) → ahead m ≡ a → AllS
 closed_at stage m (Gives p) e i c r f = let v = sym (ap is_giving e) ∙ r in cc
 closed_at stage m (Refused rule) e i c r f =
     absurd (own_none stage (m.given + 1) rule
-      (ap (λ (x : next.Next). fault_at stage Assemble (refusal (m.given + 1) x)) (sym e) ∙ f))
+    (ap (λ (x : next.Next). fault_at stage Assemble (refusal (m.given + 1) x)) (sym e) ∙ f))
 closed_at stage m (Wants j) e i c r f =
     let n = no_end j (map (λ s. s.ended) m.sources)
-      (open_in j m.sources (waiting_open j m.sources (waits_at m j e))) in
+    (open_in j m.sources (waiting_open j m.sources (waits_at m j e))) in
     let v = sym n ∙ c in cc
 closed_at stage m NothingMore e i c r f = over_names m i (all_closed m.sources c) e
 
@@ -373,9 +358,9 @@ pub keeps_scores : (stage : ℕ) → KeepsScores stage
 keeps_scores stage = record {
   score = λ xs h. (all_keep xs h).0;
   closed = λ xs h c f.
-    let k = all_keep xs h in
-    let n = closed_at stage (rest (opening xs)) (ahead (rest (opening xs))) refl k.1.sound
+      let k = all_keep xs h in
+      let n = closed_at stage (rest (opening xs)) (ahead (rest (opening xs))) refl k.1.sound
       (ap inputs_end (rest_ends xs) ∙ c)
       (rest_stops (total (opening xs).sources) (opening xs) (omega arith)) f in
-    (k.0, side_closed (through Unopened (output xs)) (rest (opening xs)).sources k.1.side n);
+      (k.0, side_closed (through Unopened (output xs)) (rest (opening xs)).sources k.1.side n);
 }

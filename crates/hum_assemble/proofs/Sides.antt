@@ -1,29 +1,25 @@
 -- One source of several, where a record is given.
-use Rattle.std.proofs.Common.{◌≡◌, ◌∙◌, refl, sym, ap, ℕ, zero, suc, ◌+◌, ◌≤◌, ◌<◌, ◌⊎◌, inl, inr, Bool}
-use Rattle.std.proofs.Common.{true, false, not, ◌&&◌, ◌||◌, cond, List, [], ◌∷◌, ◌++◌, length, arith, map}
-use Rattle.std.specs.Prelude.{◌==◌, nat_le, Option, None, Some, is_none}
-use Rattle.std.specs.List.{list_any, list_all, AllByRecursion}
+use Rattle.std.proofs.Common.{◌≡◌, ◌∙◌, refl, sym, ap, ℕ, ◌≤◌, ◌<◌, ◌⊎◌, inl, inr, Bool}
+use Rattle.std.proofs.Common.{true, false, ◌&&◌, ◌||◌, cond, List, [], ◌∷◌, arith, map}
+use Rattle.std.specs.Prelude.{◌==◌, Option, None, Some}
+use Rattle.std.specs.List.{list_all}
 use Rattle.std.proofs.lemmas.Bool.Decides.{nat_tests}
-use Rattle.hum_record.specs.declared.SpinedKind.{SpinedKind}
 use Rattle.hum_record.specs.declared.SpinedKind.TheVariants.{Local, Interpretation, Values}
-use Rattle.hum_record.specs.Row.{Row, Comment, Spined, tokens_of, text_of}
-use Rattle.hum_record.specs.Spelling.{is_empty}
-use Rattle.hum_path.specs.declared.signs.Sign.{Sign}
+use Rattle.hum_record.specs.Row.{Row, Comment, Spined}
 use Rattle.hum_path.specs.Sign.{sign_of, is_plain}
 use Rattle.hum_path.specs.Rules.{fault_of, is_unfinished}
-use Rattle.hum_path.specs.Spines.{Path, Unopened, Spines, exclusives, after}
+use Rattle.hum_path.specs.Spines.{Path, Unopened, Spines, after}
 use Rattle.hum_stage.specs.Score.{through, Follow}
 use Rattle.hum_stage.specs.declared.faults.End as end
-use Rattle.hum_stage.specs.declared.faults.End.TheVariants.{Closed, Broken}
+use Rattle.hum_stage.specs.declared.faults.End.TheVariants.{Closed}
 use Rattle.hum_assemble.specs.declared.places.Place.{Place}
 use Rattle.hum_assemble.specs.declared.places.Place.TheVariants.{Aside, Begins, Front, Opening}
 use Rattle.hum_assemble.specs.declared.places.Place.TheVariants.{Remark, Local as LocalPlace}
 use Rattle.hum_assemble.specs.declared.places.Place.TheVariants.{Tandem, Change, Note, Closing}
 use Rattle.hum_assemble.specs.declared.places.Place.TheVariants.{Tail, Over}
 use Rattle.hum_assemble.specs.Source.{Source, place, is_inside, is_end, unit_place, inside_place}
-use Rattle.hum_assemble.specs.Source.{interpretation_place}
 use Rattle.hum_assemble.specs.Places.{rank, step, kind_at, is_shared, is_over}
-use Rattle.hum_assemble.specs.Round.{place_at, is_missing, takes, in_round, earliest}
+use Rattle.hum_assemble.specs.Round.{place_at, is_missing, takes, in_round}
 use Rattle.hum_assemble.specs.Merge.{moved, advanced}
 use Rattle.hum_assemble.specs.Taking.{is_at}
 use Rattle.hum_assemble.proofs.Fitting.{spined_of, kind_there}
@@ -213,7 +209,7 @@ wait_fields free going p path [] ended o all n d =
     let f = over_step p (sym e ∙ d) in cc
 wait_fields free going p path (row ∷ rows) ended o all n d =
     elim (same_step p (place path row) o d (λ sh.
-      ap (λ (b : Bool). b && (rank p == rank (place path row))) (sym (all sh)) ∙ n)) [
+    ap (λ (b : Bool). b && (rank p == rank (place path row))) (sym (all sh)) ∙ n)) [
       | inl long ↦ inr long
       | inr early ↦ inl (early_inside path row early)
     ]
@@ -236,7 +232,7 @@ left_sound free true p s o i idle all n = i
 left_sound free false p s o i idle all n =
     let d : s.due ≡ false = idle refl in
     let same : s ≡ record { path = s.path; due = false; coming = s.coming; ended = s.ended } =
-      ap (λ (b : Bool). record { path = s.path; due = b; coming = s.coming; ended = s.ended }) d in
+    ap (λ (b : Bool). record { path = s.path; due = b; coming = s.coming; ended = s.ended }) d in
     record {
       follow = i.follow;
       within = λ w. absurd (let v = sym (i.within w) ∙ d in cc);

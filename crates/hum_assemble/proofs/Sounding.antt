@@ -1,6 +1,6 @@
 -- Records that break no path rule.
-use Rattle.std.proofs.Common.{◌≡◌, ◌≢◌, ◌∙◌, refl, sym, ap, ℕ, zero, suc, ◌+◌, ◌≤◌, ◌<◌, Bool, true, false}
-use Rattle.std.proofs.Common.{not, ◌&&◌, ◌||◌, cond, List, [], ◌∷◌, ◌++◌, length, arith, map}
+use Rattle.std.proofs.Common.{◌≡◌, ◌≢◌, ◌∙◌, refl, sym, ap, ℕ, ◌+◌, ◌≤◌, Bool, true, false}
+use Rattle.std.proofs.Common.{not, ◌||◌, List, [], ◌∷◌, length, arith, map}
 use Rattle.std.specs.Prelude.{◌==◌, nat_lt, None}
 use Rattle.std.specs.List.{list_any, list_all, find}
 use Rattle.std.proofs.lemmas.Bool.Decides.{nat_tests}
@@ -9,13 +9,12 @@ use Rattle.hum_record.specs.Spelling.{is_empty}
 use Rattle.hum_path.specs.declared.signs.Sign.{Sign}
 use Rattle.hum_path.specs.declared.signs.Sign.TheVariants.{Split, Join, Exchange, Add, End}
 use Rattle.hum_path.specs.declared.signs.Sign.TheVariants.{Exclusive, Plain}
-use Rattle.hum_path.specs.Sign.{sign_of, is_join, is_exclusive, is_path_indicator, all_plain}
+use Rattle.hum_path.specs.Sign.{sign_of, is_exclusive, all_plain}
 use Rattle.hum_path.specs.Rules.{breaks, breaks_as_text, in_order, has_unnamed, has_bare}
-use Rattle.hum_path.specs.Rules.{names_and_steers, has_lone_join, is_pair_or_none, has_mixed_join}
-use Rattle.hum_path.specs.Spines.{Unopened, Spines, exchanges, names_after, moves_under, renamed}
+use Rattle.hum_path.specs.Rules.{has_lone_join, is_pair_or_none, has_mixed_join}
+use Rattle.hum_path.specs.Spines.{Unopened, Spines, exchanges, moves_under, renamed}
 use Rattle.hum_path.specs.Onward.{beginnings, onward}
 use Rattle.hum_path.proofs.Onwards.{names_onward}
-use Rattle.hum_path.proofs.Plain.{plain_stays}
 use Rattle.hum_path.proofs.Staying.{plain_breaks}
 use Rattle.hum_assemble.specs.Source.{is_end}
 use Rattle.hum_assemble.proofs.Beside.{Leads}
@@ -33,9 +32,9 @@ pub leads_sound : (names tokens result : List (List ℕ)) → Leads names tokens
 leads_sound names tokens result o few some =
     let wide = same_count (length names) (length tokens) o.wide in
     let size : length (moves_under (map sign_of tokens)) ≡ length result =
-      sym (length-map (moves_under (map sign_of tokens)) (renamed names tokens)) ∙ ap length o.leads in
+    sym (length-map (moves_under (map sign_of tokens)) (renamed names tokens)) ∙ ap length o.leads in
     let fits : nat_lt 4096 (length (moves_under (map sign_of tokens))) ≡ false =
-      ap (nat_lt 4096) size ∙ few_fit (length result) few in
+    ap (nat_lt 4096) size ∙ few_fit (length result) few in
     rw (some, wide, o.unnamed, o.bare, o.steers, o.lone, o.pair, o.mixed, fits) refl
 
 -- an opening record
@@ -90,7 +89,7 @@ pub record Ends (signs : List Sign) : Type 0 where
   pub places : (j : ℕ) → exchanges j signs ≡ []
   pub mixed : (names : List (List ℕ)) → has_mixed_join names signs ≡ false
   pub none : (f : List ℕ → List ℕ) (b : Bool) (xs : List (List ℕ))
-    → onward f (beginnings b signs) signs xs ≡ []
+      → onward f (beginnings b signs) signs xs ≡ []
 
 pub all_ends : (signs : List Sign) → list_all is_end signs ≡ true → Ends signs
 all_ends [] h = record {
@@ -145,7 +144,7 @@ pub ends_lead : (names tokens : List (List ℕ)) → length names ≡ length tok
 ends_lead names tokens wide named bare h =
     let e = all_ends (map sign_of tokens) h in
     let pair : is_pair_or_none (exchanges 0 (map sign_of tokens)) ≡ true =
-      ap is_pair_or_none (e.places 0) in
+    ap is_pair_or_none (e.places 0) in
     record {
       wide = wide;
       unnamed = ends_unnamed names (map sign_of tokens) h named;

@@ -1,49 +1,39 @@
 -- The opening record and the closing one.
-use Rattle.std.proofs.Common.{◌≡◌, ◌≢◌, ◌∙◌, refl, sym, ap, ℕ, zero, suc, ◌+◌, ◌≤◌, ◌<◌, ◌⊎◌, inl, inr}
-use Rattle.std.proofs.Common.{Bool, true, false, not, ◌&&◌, ◌||◌, cond, List, [], ◌∷◌, ◌++◌, length}
-use Rattle.std.proofs.Common.{arith, map, length-append, replicate}
+use Rattle.std.proofs.Common.{◌≡◌, ◌∙◌, refl, ap, ℕ, suc, ◌≤◌, ◌<◌, inl, inr}
+use Rattle.std.proofs.Common.{Bool, true, false, ◌&&◌, ◌||◌, cond, List, [], ◌∷◌, ◌++◌, length}
+use Rattle.std.proofs.Common.{arith, map}
 use Rattle.std.specs.Prelude.{◌==◌, Option, None, Some}
-use Rattle.std.specs.List.{list_any, list_all, find, AllByRecursion}
+use Rattle.std.specs.List.{list_any, list_all, AllByRecursion}
 use Rattle.std.proofs.lemmas.Bool.Decides.{nat_tests}
 use Rattle.std.specs.Str.{bytes_eq}
 use lib.Chars.{codes}
-use Rattle.hum_record.specs.declared.SpinedKind.{SpinedKind}
 use Rattle.hum_record.specs.declared.SpinedKind.TheVariants.{Local, Interpretation, Values}
 use Rattle.hum_record.specs.Row.{Row, Comment, Spined, tokens_of}
 use Rattle.hum_path.specs.declared.signs.Sign.{Sign}
-use Rattle.hum_path.specs.declared.PathFault.TheVariants.{P1, P2, P3, P4, P5, P6, P7, P9, P10, P11}
-use Rattle.hum_path.specs.Sign.{sign_of, is_plain, is_exclusive, all_plain}
-use Rattle.hum_path.specs.Rules.{fault_of, breaks, breaks_as_text, in_order, has_bare, is_unfinished}
-use Rattle.hum_path.specs.Spines.{Path, Unopened, Spines, exclusives, width, after}
-use Rattle.hum_path.proofs.Plain.{find_head, sound_width, plain_stays}
+use Rattle.hum_path.specs.Sign.{sign_of, is_exclusive, all_plain}
+use Rattle.hum_path.specs.Rules.{fault_of, has_bare, is_unfinished}
+use Rattle.hum_path.specs.Spines.{Path, Unopened, Spines, exclusives, after}
 use Rattle.hum_path.proofs.Obeyed.{opens, obeys}
 use Rattle.hum_stage.specs.declared.faults.End as end
 use Rattle.hum_stage.specs.declared.faults.End.TheVariants.{Closed, Broken}
-use Rattle.hum_assemble.specs.declared.places.Place.{Place}
-use Rattle.hum_assemble.specs.declared.places.Place.TheVariants.{Aside, Begins, Front, Opening}
-use Rattle.hum_assemble.specs.declared.places.Place.TheVariants.{Remark, Local as LocalPlace}
-use Rattle.hum_assemble.specs.declared.places.Place.TheVariants.{Tandem, Change, Note, Closing}
-use Rattle.hum_assemble.specs.declared.places.Place.TheVariants.{Tail, Over}
+use Rattle.hum_assemble.specs.declared.places.Place.TheVariants.{Opening}
+use Rattle.hum_assemble.specs.declared.places.Place.TheVariants.{Tandem, Change, Closing}
 use Rattle.hum_assemble.specs.Source.{Source, place, is_inside, is_end, unit_place, inside_place}
 use Rattle.hum_assemble.specs.Head.{is_opened}
-use Rattle.hum_assemble.specs.Places.{rank, step, kind_at, null_at, is_shared, is_over}
-use Rattle.hum_assemble.specs.Round.{place_at, takes, still_free, is_missing}
-use Rattle.hum_assemble.specs.Merge.{moved, all_moved, part_given, nulls, tokens_given}
+use Rattle.hum_assemble.specs.Places.{rank}
+use Rattle.hum_assemble.specs.Round.{place_at, is_missing}
+use Rattle.hum_assemble.specs.Merge.{all_moved, tokens_given}
 use Rattle.hum_assemble.specs.Merge.{tokens_of_first}
 use Rattle.hum_assemble.specs.Taking.{is_at}
 use Rattle.hum_assemble.proofs.Fitting.{spined_of}
-use Rattle.hum_assemble.proofs.Sides.{IsSound, Shows, Takes, taker, taken_path, is_long, is_long_first}
-use Rattle.hum_assemble.proofs.Sides.{inside_first, early_inside}
-use Rattle.hum_assemble.proofs.Rounds.{AllSound, AllShow, NoneInside, IsSettled, AllSettled, IsQuiet}
-use Rattle.hum_assemble.proofs.Rounds.{names_of, opened_taker, taken_by, all_wide}
+use Rattle.hum_assemble.proofs.Sides.{IsSound, taker, taken_path}
+use Rattle.hum_assemble.proofs.Rounds.{AllSound, AllShow, AllSettled}
+use Rattle.hum_assemble.proofs.Rounds.{names_of, opened_taker}
 use Rattle.hum_record.specs.Spelling.{is_empty}
-use Rattle.hum_path.specs.Rules.{is_pair_or_none}
-use Rattle.hum_path.specs.Spines.{exchanges, names_after}
 use Rattle.hum_path.proofs.Onwards.{names_onward}
-use Rattle.hum_stage.specs.Score.{through}
 use Rattle.hum_assemble.proofs.Quiet.{closing_ends}
 use Rattle.hum_assemble.proofs.Sounding.{all_ends}
-use Rattle.hum_assemble.proofs.Alone.{paths_of, NoneIn, names_in, names_are}
+use Rattle.hum_assemble.proofs.Alone.{NoneIn, names_in}
 
 -- two lists side by side
 list_all_append : (test : Sign → Bool) (xs ys : List (List ℕ))
@@ -52,7 +42,7 @@ list_all_append : (test : Sign → Bool) (xs ys : List (List ℕ))
 list_all_append test [] ys h k = k
 list_all_append test (x ∷ xs) ys h k =
     (elim (test (sign_of x)) as (λ b. (b && list_all test (map sign_of xs)) ≡ true
-        → (b && list_all test (map sign_of (xs ++ ys))) ≡ true) [
+    → (b && list_all test (map sign_of (xs ++ ys))) ≡ true) [
       | true ↦ λ e. list_all_append test xs ys e k
       | false ↦ λ e. cc
     ]) h
@@ -125,7 +115,7 @@ all_open (s ∷ ss) u i k =
           }
       | false ↦ λ at.
           let same : s ≡ record { path = Unopened; due = s.due; coming = s.coming; ended = s.ended } =
-            ap (λ (p : Path). record { path = p; due = s.due; coming = s.coming; ended = s.ended }) u.0 in
+          ap (λ (p : Path). record { path = p; due = s.due; coming = s.coming; ended = s.ended }) u.0 in
           let known = k.0.known in
           let later = k.0.later in
           let none = idle s.due s.coming s.ended (rw same at known) (rw same at later) (rw same at at) in
@@ -261,7 +251,7 @@ pub exclusive_named : (tokens : List (List ℕ)) → list_all is_exclusive (map 
 exclusive_named [] h = refl
 exclusive_named (t ∷ tokens) h =
     (elim (is_exclusive (sign_of t)) as (λ b. is_exclusive (sign_of t) ≡ b → (b && list_all is_exclusive (map sign_of tokens)) ≡ true
-        → list_any is_empty (t ∷ tokens) ≡ false) [
+    → list_any is_empty (t ∷ tokens) ≡ false) [
       | true ↦ λ e w. rw (exclusive_filled t e) (exclusive_named tokens w)
       | false ↦ λ e w. cc
     ]) refl h

@@ -204,4 +204,4 @@ AreScores = AllByRecursion (λ x. IsScore x.put × (x.ended ≡ Some Closed → 
 pub record KeepsScores (stage : ℕ) : Type 0 where
   pub score : (xs : List Input) → AreScores xs → IsScore (output xs)
   pub closed : (xs : List Input) → AreScores xs → inputs_end (ends xs) ≡ Some Closed
-    → own_fault stage xs ≡ None → IsClosed (output xs)
+      → own_fault stage xs ≡ None → IsClosed (output xs)
