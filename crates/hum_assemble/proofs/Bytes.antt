@@ -1,0 +1,129 @@
+-- How many bytes a record has, and how many spines stand behind one.
+use Rattle.std.proofs.Common.{◌≡◌, ◌∙◌, refl, sym, ap, ℕ, zero, suc, ◌+◌, ◌-◌, ◌*◌, ◌≤◌, ◌<◌}
+use Rattle.std.proofs.Common.{Bool, true, false, List, [], ◌∷◌, ◌++◌, length, length-append}
+use Rattle.std.proofs.Common.{arith, map, replicate}
+use Rattle.std.specs.Prelude.{nat_lt, Option, None, Some}
+use Rattle.std.specs.List.{join_with_byte}
+use Rattle.std.proofs.lemmas.Bool.Decides.{nat_tests}
+use Rattle.std.proofs.lemmas.List.{length-map}
+use Rattle.hum_record.specs.declared.SpinedKind.{SpinedKind}
+use Rattle.hum_record.specs.declared.Kind.TheVariants.{Global}
+use Rattle.hum_record.specs.Row.{Row, Comment, Spined, kind_of, tokens_of, text_of}
+use Rattle.hum_record.specs.Spelling.{IsTextOf}
+use Rattle.hum_path.specs.declared.signs.Sign.{Sign}
+use Rattle.hum_path.specs.declared.signs.Sign.TheVariants.{Split, Join, Exchange, Add, End}
+use Rattle.hum_path.specs.declared.signs.Sign.TheVariants.{Exclusive, Plain}
+use Rattle.hum_path.specs.Sign.{sign_of, is_join}
+use Rattle.hum_path.specs.Spines.{Spines, width, heirs, heirs_from, exchanges}
+use Rattle.hum_path.specs.Spines.{renamed, moves_under, names_after}
+use Rattle.hum_assemble.specs.Spread.{spread, heirs_count, room}
+use Rattle.hum_assemble.specs.declared.places.Place.{Place}
+use Rattle.hum_assemble.specs.Source.{Source}
+use Rattle.hum_assemble.specs.Places.{null_at, kind_at}
+use Rattle.hum_assemble.specs.Round.{takes, still_free}
+use Rattle.hum_assemble.specs.Merge.{part_given, comment_given, tokens_given, made, row_of_kind}
+use Rattle.hum_assemble.specs.Taking.{bytes_given}
+
+pub room_append : (xs ys : List (List ℕ)) → room (xs ++ ys) ≡ room xs + room ys
+room_append [] ys = omega arith
+room_append (x ∷ xs) ys = let e = room_append xs ys in omega (arith, e)
+
+pub room_replicate : (n : ℕ) (token : List ℕ) → room (replicate n token) ≡ n * (length token + 1)
+room_replicate zero token = omega arith
+room_replicate (suc n) token = let e = room_replicate n token in grind (arith, e)
+
+pub room_join : (token : List ℕ) (tokens : List (List ℕ))
+    → length (join_with_byte 9 (token ∷ tokens)) + 1 ≡ room (token ∷ tokens)
+room_join token [] = omega arith
+room_join token (x ∷ xs) =
+    let e = room_join x xs in
+    let l = length-append token (9 ∷ join_with_byte 9 (x ∷ xs)) in
+    omega (arith, e, l)
+
+pub long_join : (tokens : List (List ℕ))
+    → nat_lt 1048577 (room tokens) ≡ nat_lt 1048576 (length (join_with_byte 9 tokens))
+long_join [] = refl
+long_join (x ∷ xs) = rw (← room_join x xs) (grind (arith, nat_tests))
+
+pub room_text : (row : Row) → (kind_of row ≡ Global → ⊥) → IsTextOf row (text_of row)
+    → length (text_of row) + 1 ≡ room (tokens_of row)
+room_text (Comment text) n h = absurd (n refl)
+room_text (Spined kind []) n h = absurd (h.1 refl)
+room_text (Spined kind (x ∷ xs)) n h = room_join x xs
+
+pub lt_more : (left w n : ℕ) → left < w → true ≡ nat_lt left (w + n)
+lt_more left w n h = grind (arith, nat_tests)
+
+pub lt_less : (left w n : ℕ) → w ≤ left → nat_lt (left - w) n ≡ nat_lt left (w + n)
+lt_less left w n h = grind (arith, nat_tests)
+
+heirs_length : (pair : List ℕ) (j : ℕ) (b : Bool) (sign : Sign) (signs : List Sign)
+    → length (heirs pair j b sign signs) ≡ heirs_count b sign
+heirs_length pair j b Split signs = refl
+heirs_length pair j true Join signs = refl
+heirs_length pair j false Join signs = refl
+heirs_length pair j b Exchange signs = refl
+heirs_length pair j b Add signs = refl
+heirs_length pair j b End signs = refl
+heirs_length pair j b Exclusive signs = refl
+heirs_length pair j b Plain signs = refl
+
+pub spread_length : (pair : List ℕ) (j : ℕ) (b : Bool) (signs : List Sign)
+    → length (heirs_from pair j b signs) ≡ spread b signs
+spread_length pair j b [] = refl
+spread_length pair j b (sign ∷ signs) =
+    let e = spread_length pair (j + 1) (is_join sign) signs in
+    let h = heirs_length pair j b sign signs in
+    let l = length-append (heirs pair j b sign signs) (heirs_from pair (j + 1) (is_join sign) signs) in
+    omega (arith, e, h, l)
+
+-- as many spines come of those that were opened as their signs say
+pub width_spread : (names tokens : List (List ℕ))
+    → spread false (map sign_of tokens) ≡ length (names_after (Spines names) tokens)
+width_spread names tokens =
+    let s = spread_length (exchanges 0 (map sign_of tokens)) 0 false (map sign_of tokens) in
+    let l = length-map (moves_under (map sign_of tokens)) (renamed names tokens) in
+    sym (l ∙ s)
+
+pub room_nulls : (taken : Bool) (p : Place) (s : Source) (w : ℕ) (null : List ℕ) → taken ≡ false
+    → w ≡ width s.path → null ≡ null_at (kind_at p)
+    → w * (length null + 1) ≡ room (part_given taken p s)
+room_nulls taken p s w null t e f =
+    rw (t, e, f) (sym (room_replicate (width s.path) (null_at (kind_at p))))
+
+pub bytes_room : (free going : Bool) (p : Place) (ss : List Source)
+    → bytes_given free going p ss ≡ room (tokens_given free going p ss)
+bytes_room free going p [] = refl
+bytes_room free going p (s ∷ ss) =
+    let e = bytes_room (still_free free going p s) going p ss in
+    let r = room_append (part_given (takes free going p s) p s)
+    (tokens_given (still_free free going p s) going p ss) in
+    omega (arith, e, r)
+
+made_long : (going : Bool) (p : Place) (ss : List Source) (k : Option SpinedKind) (o : Bool)
+    → (k ≡ None → ⊥) → o ≡ nat_lt 1048577 (room (tokens_given true going p ss))
+    → o ≡ nat_lt 1048576
+    (length (text_of (row_of_kind k (comment_given going p ss) (tokens_given true going p ss))))
+made_long going p ss None o n e = absurd (n refl)
+made_long going p ss (Some kind) o n e = e ∙ long_join (tokens_given true going p ss)
+
+some_not_none : (k : Option SpinedKind) (kind : SpinedKind) → Some kind ≡ k → k ≡ None → ⊥
+some_not_none None kind e n = cc
+some_not_none (Some other) kind e n = cc
+
+pub too_long : (going : Bool) (p : Place) (ss : List Source) (o : Bool) (kind : SpinedKind)
+    → Some kind ≡ kind_at p → o ≡ nat_lt 1048577 (bytes_given true going p ss)
+    → o ≡ nat_lt 1048576 (length (text_of (made going p ss)))
+too_long going p ss o kind n e =
+    made_long going p ss (kind_at p) o (some_not_none (kind_at p) kind n)
+    (e ∙ ap (nat_lt 1048577) (bytes_room true going p ss))
+
+comment_long : (going : Bool) (p : Place) (ss : List Source) (k : Option SpinedKind) → k ≡ None
+    → length (comment_given going p ss)
+    ≡ length (text_of (row_of_kind k (comment_given going p ss) (tokens_given true going p ss)))
+comment_long going p ss None e = refl
+comment_long going p ss (Some kind) e = cc
+
+pub comment_text : (going : Bool) (p : Place) (ss : List Source) → kind_at p ≡ None
+    → length (comment_given going p ss) ≡ length (text_of (made going p ss))
+comment_text going p ss e = comment_long going p ss (kind_at p) e

@@ -1,0 +1,138 @@
+-- A record's kind is that of its place.
+use Rattle.std.proofs.Common.{◌≡◌, ◌∙◌, refl, sym, ap, ℕ, true, false}
+use Rattle.std.proofs.Common.{cond, List, [], ◌∷◌, length, map}
+use Rattle.std.specs.Prelude.{◌==◌, Option, None, Some}
+use Rattle.std.specs.List.{list_any, list_all, find, AllByRecursion}
+use Rattle.hum_record.specs.declared.SpinedKind.{SpinedKind}
+use Rattle.hum_record.specs.declared.SpinedKind.TheVariants.{Local, Interpretation, Values}
+use Rattle.hum_record.specs.declared.Kind.TheVariants.{Interpretation as AnyInterpretation}
+use Rattle.hum_record.specs.Row.{Row, Comment, Spined, kind_of, tokens_of, text_of}
+use Rattle.hum_record.specs.Spelling.{IsTextOf, IsToken, is_empty}
+use Rattle.hum_path.specs.declared.signs.Sign.{Sign}
+use Rattle.hum_path.specs.declared.PathFault.TheVariants.{P1, P2, P3, P4, P5, P6, P7, P9, P10, P11}
+use Rattle.hum_path.specs.Sign.{sign_of, is_plain}
+use Rattle.hum_path.specs.Rules.{fault_of, breaks_as_text, in_order}
+use Rattle.hum_path.specs.Spines.{Path, Unopened, Spines, width, after}
+use Rattle.hum_path.proofs.Plain.{find_head, sound_width}
+use Rattle.hum_assemble.specs.declared.places.Place.{Place}
+use Rattle.hum_assemble.specs.declared.places.Place.TheVariants.{Aside, Begins, Front, Opening}
+use Rattle.hum_assemble.specs.declared.places.Place.TheVariants.{Remark, Local as LocalPlace}
+use Rattle.hum_assemble.specs.declared.places.Place.TheVariants.{Tandem, Change, Note, Closing}
+use Rattle.hum_assemble.specs.declared.places.Place.TheVariants.{Tail, Over}
+use Rattle.hum_assemble.specs.Source.{place, is_inside, is_end, unit_place, inside_place}
+use Rattle.hum_assemble.specs.Source.{interpretation_place}
+use Rattle.hum_assemble.specs.Places.{rank, kind_at}
+use Rattle.hum_assemble.specs.Head.{is_opened}
+use Rattle.hum_assemble.specs.Spread.{spread}
+use Rattle.hum_assemble.proofs.Bytes.{width_spread}
+
+-- the kind of a record; a global comment has none
+abbrev pub spined_of : Row → Option SpinedKind
+spined_of (Comment text) = None
+spined_of (Spined kind tokens) = Some kind
+
+interpretation_kind : (signs : List Sign)
+    → kind_at (interpretation_place signs) ≡ Some Interpretation
+interpretation_kind signs = elim (list_all is_end signs) as (λ a.
+    kind_at (cond a Closing (cond (list_all is_plain signs) Tandem Change)) ≡ Some Interpretation) [
+      | true ↦ refl
+      | false ↦ elim (list_all is_plain signs) as (λ b.
+          kind_at (cond b Tandem Change) ≡ Some Interpretation) [ true ↦ refl | false ↦ refl ]
+    ]
+
+unit_kind : (row : Row) → kind_at (unit_place row) ≡ spined_of row
+unit_kind (Comment text) = refl
+unit_kind (Spined Local tokens) = refl
+unit_kind (Spined Values tokens) = refl
+unit_kind (Spined Interpretation tokens) = interpretation_kind (map sign_of tokens)
+
+-- only an interpretation begins added spines
+no_text_inside : (names tokens : List (List ℕ))
+    → find (breaks_as_text (Spines names) tokens) in_order ≡ None
+    → list_any is_empty names ≡ false
+no_text_inside names tokens h =
+    let rules = breaks_as_text (Spines names) tokens in
+    let a = find_head rules P7 (P1 ∷ P2 ∷ P6 ∷ P10 ∷ P11 ∷ P3 ∷ P4 ∷ P5 ∷ P9 ∷ []) h in
+    let b = find_head rules P1 (P2 ∷ P6 ∷ P10 ∷ P11 ∷ P3 ∷ P4 ∷ P5 ∷ P9 ∷ []) a.1 in
+    let c = find_head rules P2 (P6 ∷ P10 ∷ P11 ∷ P3 ∷ P4 ∷ P5 ∷ P9 ∷ []) b.1 in
+    let d = find_head rules P6 (P10 ∷ P11 ∷ P3 ∷ P4 ∷ P5 ∷ P9 ∷ []) c.1 in
+    d.0
+
+inside_kind : (names : List (List ℕ)) (row : Row) → fault_of (Spines names) row ≡ None
+    → is_inside (Spines names) ≡ true → kind_at (inside_place row) ≡ spined_of row
+inside_kind names (Comment text) h i = refl
+inside_kind names (Spined Interpretation tokens) h i = refl
+inside_kind names (Spined Local tokens) h i = let n = no_text_inside names tokens h in cc
+inside_kind names (Spined Values tokens) h i = let n = no_text_inside names tokens h in cc
+
+pub kind_fits : (path : Path) (row : Row) → fault_of path row ≡ None
+    → kind_at (place path row) ≡ spined_of row
+kind_fits Unopened (Comment text) h = refl
+kind_fits Unopened (Spined Interpretation tokens) h = refl
+kind_fits Unopened (Spined Local tokens) h = cc
+kind_fits Unopened (Spined Values tokens) h = cc
+kind_fits (Spines []) (Comment text) h = refl
+kind_fits (Spines []) (Spined Interpretation tokens) h = cc
+kind_fits (Spines []) (Spined Local tokens) h = cc
+kind_fits (Spines []) (Spined Values tokens) h = cc
+kind_fits (Spines (n ∷ ns)) row h =
+    (elim (is_inside (Spines (n ∷ ns))) as (λ b.
+    (b ≡ true → kind_at (inside_place row) ≡ spined_of row)
+    → kind_at (cond b (inside_place row) (unit_place row)) ≡ spined_of row) [
+      | true ↦ λ e. e refl
+      | false ↦ λ e. unit_kind row
+    ]) (inside_kind (n ∷ ns) row h)
+
+kind_by : ℕ → Option SpinedKind
+kind_by n =
+    cond (n == 1) (Some Interpretation) (cond (n == 3) (Some Interpretation)
+    (cond (n == 5) (Some Local) (cond (n == 6) (Some Interpretation)
+    (cond (n == 7) (Some Interpretation) (cond (n == 8) (Some Values)
+    (cond (n == 9) (Some Interpretation) None))))))
+
+kind_rank : (p : Place) → kind_at p ≡ kind_by (rank p)
+unfolding kind_by
+kind_rank Aside = refl
+kind_rank Begins = refl
+kind_rank Front = refl
+kind_rank Opening = refl
+kind_rank Remark = refl
+kind_rank LocalPlace = refl
+kind_rank Tandem = refl
+kind_rank Change = refl
+kind_rank Note = refl
+kind_rank Closing = refl
+kind_rank Tail = refl
+kind_rank Over = refl
+
+pub same_kind : (p q : Place) → rank p ≡ rank q → kind_at p ≡ kind_at q
+same_kind p q e = kind_rank p ∙ (ap kind_by e ∙ sym (kind_rank q))
+
+-- the kind of a record at a place is the place's
+pub kind_there : (path : Path) (row : Row) (p : Place) → rank p ≡ rank (place path row)
+    → fault_of path row ≡ None → kind_at p ≡ spined_of row
+kind_there path row p r h = same_kind p (place path row) r ∙ kind_fits path row h
+
+pub tokens_lawful : (row : Row) (kind : SpinedKind) → Some kind ≡ spined_of row
+    → IsTextOf row (text_of row) → AllByRecursion (IsToken kind) (tokens_of row)
+tokens_lawful (Comment text) kind e t = cc
+tokens_lawful (Spined k tokens) kind e t = let same : kind ≡ k = cc in rw same t.2
+
+-- How many spines stand behind an interpretation that finds spines open.
+pub wide_as_before : (path : Path) (row : Row) → is_opened path ≡ true
+    → kind_of row ≡ AnyInterpretation
+    → fault_of path row ≡ None → length (tokens_of row) ≡ width path
+wide_as_before Unopened row o k h = cc
+wide_as_before (Spines names) (Comment text) o k h = cc
+wide_as_before (Spines names) (Spined Local tokens) o k h = cc
+wide_as_before (Spines names) (Spined Values tokens) o k h = cc
+wide_as_before (Spines names) (Spined Interpretation tokens) o k h = sound_width names tokens h
+
+pub spread_width : (path : Path) (row : Row) → is_opened path ≡ true
+    → kind_of row ≡ AnyInterpretation
+    → spread false (map sign_of (tokens_of row)) ≡ width (after path row)
+spread_width Unopened row o k = cc
+spread_width (Spines names) (Comment text) o k = cc
+spread_width (Spines names) (Spined Local tokens) o k = cc
+spread_width (Spines names) (Spined Values tokens) o k = cc
+spread_width (Spines names) (Spined Interpretation tokens) o k = width_spread names tokens

@@ -1,0 +1,179 @@
+-- All sources, where a record is given.
+use Rattle.std.proofs.Common.{◌≡◌, ◌∙◌, refl, sym, ap, ℕ, zero, suc, ◌≤◌, ◌<◌, ◌⊎◌, inl, inr, Bool}
+use Rattle.std.proofs.Common.{true, false, ◌&&◌, ◌||◌, cond, List, [], ◌∷◌, ◌++◌, length, arith}
+use Rattle.std.proofs.Common.{length-append, replicate}
+use Rattle.std.specs.Prelude.{nat_le, None, Some}
+use Rattle.std.specs.List.{list_any, AllByRecursion}
+use Rattle.std.proofs.lemmas.Bool.Decides.{nat_tests}
+use Rattle.hum_record.specs.declared.SpinedKind.{SpinedKind}
+use Rattle.hum_record.specs.declared.SpinedKind.TheVariants.{Local, Interpretation, Values}
+use Rattle.hum_record.specs.Row.{Row, Comment, Spined, tokens_of}
+use Rattle.hum_record.specs.Spelling.{is_empty}
+use Rattle.hum_path.specs.Rules.{fault_of}
+use Rattle.hum_path.specs.Spines.{Path, Unopened, Spines, exclusives, width, after}
+use Rattle.hum_path.proofs.Plain.{sound_width}
+use Rattle.hum_path.proofs.Widths.{text_width}
+use Rattle.hum_stage.specs.declared.faults.End.TheVariants.{Closed}
+use Rattle.hum_assemble.specs.declared.places.Place.{Place}
+use Rattle.hum_assemble.specs.Source.{Source, is_inside}
+use Rattle.hum_assemble.specs.Head.{is_opened}
+use Rattle.hum_assemble.specs.Places.{rank, kind_at, null_at, is_shared, is_over, earlier}
+use Rattle.hum_assemble.specs.Round.{place_at, takes, still_free, earliest, any_due}
+use Rattle.hum_assemble.specs.Merge.{moved, all_moved, part_given, tokens_given}
+use Rattle.hum_assemble.specs.Merge.{tokens_of_first, spines}
+use Rattle.hum_assemble.specs.Taking.{is_at}
+use Rattle.hum_assemble.proofs.Fitting.{spined_of}
+use Rattle.hum_assemble.proofs.Moving.{AllKnown}
+use Rattle.hum_assemble.proofs.Sides.{IsSound, Shows, Takes, taker, taken_path, moved_sound, not_inside}
+
+abbrev pub AllSound : List Source → Type 0
+AllSound = AllByRecursion IsSound
+
+abbrev pub AllShow : Bool → Place → List Source → Type 0
+AllShow going p = AllByRecursion (Shows going p)
+
+abbrev pub NoneInside : List Source → Type 0
+NoneInside = AllByRecursion (λ s. is_inside s.path ≡ false)
+
+-- the earliest place is before all
+earlier_le : (n : ℕ) (p q : Place) → n ≤ rank (earlier p q) → (n ≤ rank p) × (n ≤ rank q)
+earlier_le n p q h =
+    (elim (nat_le (rank p) (rank q)) as (λ b. nat_le (rank p) (rank q) ≡ b
+    → n ≤ rank (cond b p q) → (n ≤ rank p) × (n ≤ rank q)) [
+      | true ↦ λ e w. let l : rank p ≤ rank q = grind (arith, nat_tests) in (w, omega (arith, l, w))
+      | false ↦ λ e w. let l : rank q ≤ rank p = grind (arith, nat_tests) in (omega (arith, l, w), w)
+    ]) refl h
+
+pub all_show : (going : Bool) (p : Place) (ss : List Source) → AllKnown going ss
+    → rank p ≤ rank (earliest going ss) → AllShow going p ss
+all_show going p [] k l = tt
+all_show going p (s ∷ ss) k l =
+    let both = earlier_le (rank p) (place_at going s) (earliest going ss) l in
+    (record { known = k.0; later = both.0 }, all_show going p ss k.1 both.1)
+
+pub none_inside : (going : Bool) (p : Place) (ss : List Source) → AllSound ss → AllShow going p ss
+    → 1 < rank p → NoneInside ss
+none_inside going p [] o k l = tt
+none_inside going p (s ∷ ss) o k l =
+    (not_inside going p s o.0 k.0 l, none_inside going p ss o.1 k.1 l)
+
+-- Sources go on as sources of scores.
+or_false : (a b : Bool) → (a || b) ≡ false → (a ≡ false) × (b ≡ false)
+or_false true b h = cc
+or_false false b h = (refl, h)
+
+shared_free : (free going : Bool) (p : Place) (s : Source) → (is_shared p ≡ true → free ≡ true)
+    → is_shared p ≡ true → still_free free going p s ≡ true
+shared_free free going p s all sh = rw (all sh, sh) refl
+
+pub all_sound : (free going : Bool) (p : Place) (ss : List Source) → is_over p ≡ false → AllSound ss
+    → (going ≡ false → any_due ss ≡ false) → (is_shared p ≡ true → free ≡ true)
+    → AllSound (all_moved free going p ss)
+all_sound free going p [] o i idle all = tt
+all_sound free going p (s ∷ ss) o i idle all = (
+  moved_sound free going p s o i.0 (λ g. (or_false s.due (any_due ss) (idle g)).0) all,
+  all_sound (still_free free going p s) going p ss o i.1
+      (λ g. (or_false s.due (any_due ss) (idle g)).1) (shared_free free going p s all),
+)
+
+-- The spines side by side.
+abbrev pub names_of : List Source → List (List ℕ)
+names_of [] = []
+names_of (s ∷ ss) = exclusives s.path ++ names_of ss
+
+pub names_spines : (ss : List Source) → length (names_of ss) ≡ spines ss
+names_spines [] = refl
+names_spines (s ∷ ss) =
+    let e = names_spines ss in
+    let l = length-append (exclusives s.path) (names_of ss) in
+    omega (arith, e, l)
+
+any_append : (xs ys : List (List ℕ)) → list_any is_empty xs ≡ false → list_any is_empty ys ≡ false
+    → list_any is_empty (xs ++ ys) ≡ false
+any_append [] ys h k = k
+any_append (x ∷ xs) ys h k =
+    let b = or_false (is_empty x) (list_any is_empty xs) h in rw b.0 (any_append xs ys b.1 k)
+
+pub all_named : (ss : List Source) → NoneInside ss → list_any is_empty (names_of ss) ≡ false
+all_named [] n = refl
+all_named (s ∷ ss) n = any_append (exclusives s.path) (names_of ss) n.0 (all_named ss n.1)
+
+-- A source has spines, or has ended without any.
+abbrev pub IsSettled : Source → Type 0
+IsSettled s = (is_opened s.path ≡ true) ⊎ ((s.coming ≡ []) × (s.ended ≡ Some Closed))
+
+abbrev pub AllSettled : List Source → Type 0
+AllSettled = AllByRecursion IsSettled
+
+-- who takes has spines
+pub opened_taker : (p : Place) (s : Source) → IsSettled s → Takes p s → is_opened s.path ≡ true
+opened_taker p s (inl o) t = o
+opened_taker p s (inr e) t = absurd (let v = sym (e.0) ∙ t.is in cc)
+
+row_wide : (path : Path) (row : Row) (kind : SpinedKind) → is_opened path ≡ true
+    → Some kind ≡ spined_of row → fault_of path row ≡ None
+    → length (exclusives path) ≡ length (tokens_of row)
+row_wide Unopened row kind o k h = cc
+row_wide (Spines names) (Comment text) kind o k h = cc
+row_wide (Spines names) (Spined Interpretation tokens) kind o k h = sym (sound_width names tokens h)
+row_wide (Spines names) (Spined Local tokens) kind o k h = sym (text_width (Spines names) tokens h)
+row_wide (Spines names) (Spined Values tokens) kind o k h = sym (text_width (Spines names) tokens h)
+
+replicate_length : (n : ℕ) (token : List ℕ) → length (replicate n token) ≡ n
+replicate_length zero token = refl
+replicate_length (suc n) token = ap suc (replicate_length n token)
+
+and_right : (a b : Bool) → (a && b) ≡ true → b ≡ true
+and_right true b h = h
+and_right false b h = cc
+
+pub taken_by : (free going : Bool) (p : Place) (s : Source) → is_over p ≡ false → IsSound s
+    → takes free going p s ≡ true → Takes p s
+taken_by free going p s o i h = taker going p s o i (and_right free (is_at going p s) h)
+
+part_wide : (free going : Bool) (p : Place) (s : Source) (kind : SpinedKind) → is_over p ≡ false
+    → kind_at p ≡ Some kind → IsSound s → IsSettled s
+    → length (exclusives s.path) ≡ length (part_given (takes free going p s) p s)
+part_wide free going p s kind o k i e =
+    (elim (takes free going p s) as (λ b. takes free going p s ≡ b
+    → length (exclusives s.path) ≡ length (part_given b p s)) [
+      | true ↦ λ h.
+          let t = taken_by free going p s o i h in
+          row_wide s.path t.row kind (opened_taker p s e t) (sym k ∙ t.kind) t.sound
+          ∙ ap (λ (rows : List Row). length (tokens_of_first rows)) (sym t.is)
+      | false ↦ λ h. sym (replicate_length (width s.path) (null_at (kind_at p)))
+    ]) refl
+
+pub all_wide : (free going : Bool) (p : Place) (ss : List Source) (kind : SpinedKind)
+    → is_over p ≡ false → kind_at p ≡ Some kind → AllSound ss → AllSettled ss
+    → length (names_of ss) ≡ length (tokens_given free going p ss)
+all_wide free going p [] kind o k i e = refl
+all_wide free going p (s ∷ ss) kind o k i e =
+    let a = part_wide free going p s kind o k i.0 e.0 in
+    let b = all_wide (still_free free going p s) going p ss kind o k i.1 e.1 in
+    let l = length-append (exclusives s.path) (names_of ss) in
+    let m = length-append (part_given (takes free going p s) p s)
+    (tokens_given (still_free free going p s) going p ss) in
+    omega (arith, a, b, l, m)
+
+-- Where no record that is given changes spines, none change.
+abbrev pub IsQuiet : Place → Type 0
+IsQuiet p = (s : Source) (t : Takes p s) → IsSettled s → after s.path t.row ≡ s.path
+
+moved_path : (free going : Bool) (p : Place) (s : Source) → is_over p ≡ false → IsQuiet p
+    → IsSound s
+    → IsSettled s → (moved (takes free going p s) going p s).path ≡ s.path
+moved_path free going p s o q i e =
+    (elim (takes free going p s) as (λ b. takes free going p s ≡ b → (moved b going p s).path ≡ s.path) [
+      | true ↦ λ h. let t = taken_by free going p s o i h in taken_path going p s t ∙ q s t e
+      | false ↦ λ h. refl
+    ]) refl
+
+pub quiet_names : (free going : Bool) (p : Place) (ss : List Source) → is_over p ≡ false → IsQuiet p
+    → AllSound ss → AllSettled ss → names_of (all_moved free going p ss) ≡ names_of ss
+quiet_names free going p [] o q i e = refl
+quiet_names free going p (s ∷ ss) o q i e =
+    rw (
+      moved_path free going p s o q i.0 e.0,
+      quiet_names (still_free free going p s) going p ss o q i.1 e.1,
+    ) refl

@@ -1,0 +1,257 @@
+-- The opening record and the closing one.
+use Rattle.std.proofs.Common.{◌≡◌, ◌∙◌, refl, ap, ℕ, suc, ◌≤◌, ◌<◌, inl, inr}
+use Rattle.std.proofs.Common.{Bool, true, false, ◌&&◌, ◌||◌, cond, List, [], ◌∷◌, ◌++◌, length}
+use Rattle.std.proofs.Common.{arith, map}
+use Rattle.std.specs.Prelude.{◌==◌, Option, None, Some}
+use Rattle.std.specs.List.{list_any, list_all, AllByRecursion}
+use Rattle.std.proofs.lemmas.Bool.Decides.{nat_tests}
+use Rattle.std.specs.Str.{bytes_eq}
+use lib.Chars.{codes}
+use Rattle.hum_record.specs.declared.SpinedKind.TheVariants.{Local, Interpretation, Values}
+use Rattle.hum_record.specs.Row.{Row, Comment, Spined, tokens_of}
+use Rattle.hum_path.specs.declared.signs.Sign.{Sign}
+use Rattle.hum_path.specs.Sign.{sign_of, is_exclusive, all_plain}
+use Rattle.hum_path.specs.Rules.{fault_of, has_bare, is_unfinished}
+use Rattle.hum_path.specs.Spines.{Path, Unopened, Spines, exclusives, after}
+use Rattle.hum_path.proofs.Obeyed.{opens, obeys}
+use Rattle.hum_stage.specs.declared.faults.End as end
+use Rattle.hum_stage.specs.declared.faults.End.TheVariants.{Closed, Broken}
+use Rattle.hum_assemble.specs.declared.places.Place.TheVariants.{Opening}
+use Rattle.hum_assemble.specs.declared.places.Place.TheVariants.{Tandem, Change, Closing}
+use Rattle.hum_assemble.specs.Source.{Source, place, is_inside, is_end, unit_place, inside_place}
+use Rattle.hum_assemble.specs.Head.{is_opened}
+use Rattle.hum_assemble.specs.Places.{rank}
+use Rattle.hum_assemble.specs.Round.{place_at, is_missing}
+use Rattle.hum_assemble.specs.Merge.{all_moved, tokens_given}
+use Rattle.hum_assemble.specs.Merge.{tokens_of_first}
+use Rattle.hum_assemble.specs.Taking.{is_at}
+use Rattle.hum_assemble.proofs.Fitting.{spined_of}
+use Rattle.hum_assemble.proofs.Sides.{IsSound, taker, taken_path}
+use Rattle.hum_assemble.proofs.Rounds.{AllSound, AllShow, AllSettled}
+use Rattle.hum_assemble.proofs.Rounds.{names_of, opened_taker}
+use Rattle.hum_record.specs.Spelling.{is_empty}
+use Rattle.hum_path.proofs.Onwards.{names_onward}
+use Rattle.hum_assemble.proofs.Quiet.{closing_ends}
+use Rattle.hum_assemble.proofs.Sounding.{all_ends}
+use Rattle.hum_assemble.proofs.Alone.{NoneIn, names_in}
+
+-- two lists side by side
+list_all_append : (test : Sign → Bool) (xs ys : List (List ℕ))
+    → list_all test (map sign_of xs) ≡ true → list_all test (map sign_of ys) ≡ true
+    → list_all test (map sign_of (xs ++ ys)) ≡ true
+list_all_append test [] ys h k = k
+list_all_append test (x ∷ xs) ys h k =
+    (elim (test (sign_of x)) as (λ b. (b && list_all test (map sign_of xs)) ≡ true
+    → (b && list_all test (map sign_of (xs ++ ys))) ≡ true) [
+      | true ↦ λ e. list_all_append test xs ys e k
+      | false ↦ λ e. cc
+    ]) h
+
+bare_append : (xs ys : List (List ℕ)) → has_bare xs ≡ false → has_bare ys ≡ false
+    → has_bare (xs ++ ys) ≡ false
+bare_append [] ys h k = k
+bare_append (x ∷ xs) ys h k =
+    (elim (bytes_eq (codes "**") x) as (λ b. (b || has_bare xs) ≡ false → (b || has_bare (xs ++ ys)) ≡ false) [
+      | true ↦ λ e. cc
+      | false ↦ λ e. bare_append xs ys e k
+    ]) h
+
+-- Where an opening record is given, each source has one there or ends without any.
+idle : (due : Bool) (coming : List Row) (ended : Option end.End)
+    → is_missing false (record { path = Unopened; due = due; coming = coming; ended = ended }) ≡ false
+    → 3 ≤ rank (place_at false (record { path = Unopened; due = due; coming = coming; ended = ended }))
+    → is_at false Opening (record { path = Unopened; due = due; coming = coming; ended = ended }) ≡ false
+    → (coming ≡ []) × (ended ≡ Some Closed)
+idle true (Comment text ∷ rows) ended k l n = absurd (omega (arith, l))
+idle false (Comment text ∷ rows) ended k l n = absurd (omega (arith, l))
+idle true (Spined kind tokens ∷ rows) ended k l n = cc
+idle false (Spined kind tokens ∷ rows) ended k l n = cc
+idle true [] ended k l n = cc
+idle false [] None k l n = cc
+idle false [] (Some Closed) k l n = (refl, refl)
+idle false [] (Some (Broken f)) k l n = cc
+
+pub record Opens (ss : List Source) : Type 0 where
+  pub exclusive : list_all is_exclusive (map sign_of (tokens_given true false Opening ss)) ≡ true
+  pub bare : has_bare (tokens_given true false Opening ss) ≡ false
+  pub names : names_of (all_moved true false Opening ss) ≡ tokens_given true false Opening ss
+  pub settled : AllSettled (all_moved true false Opening ss)
+
+abbrev pub AllUnopened : List Source → Type 0
+AllUnopened = AllByRecursion (λ s. s.path ≡ Unopened)
+
+record Opened (path : Path) (row : Row) : Type 0 where
+  exclusive : list_all is_exclusive (map sign_of (tokens_of row)) ≡ true
+  bare : has_bare (tokens_of row) ≡ false
+  names : exclusives (after path row) ≡ tokens_of row
+  is : is_opened (after path row) ≡ true
+
+opened_by : (path : Path) (row : Row) → path ≡ Unopened → Some Interpretation ≡ spined_of row
+    → fault_of path row ≡ None → Opened path row
+opened_by Unopened (Comment text) u k h = cc
+opened_by Unopened (Spined Local tokens) u k h = cc
+opened_by Unopened (Spined Values tokens) u k h = cc
+opened_by Unopened (Spined Interpretation tokens) u k h =
+    let o = opens tokens h in
+    record { exclusive = o.exclusive; bare = o.bare; names = refl; is = refl }
+opened_by (Spines names) row u k h = cc
+
+pub all_open : (ss : List Source) → AllUnopened ss → AllSound ss → AllShow false Opening ss
+    → Opens ss
+all_open [] u i k = record { exclusive = refl; bare = refl; names = refl; settled = tt }
+all_open (s ∷ ss) u i k =
+    let ih = all_open ss u.1 i.1 k.1 in
+    (elim (is_at false Opening s) as (λ b. is_at false Opening s ≡ b → Opens (s ∷ ss)) [
+      | true ↦ λ at.
+          let t = taker false Opening s refl i.0 at in
+          let o = opened_by s.path t.row u.0 t.kind t.sound in
+          let f = ap tokens_of_first t.is in
+          let m = taken_path false Opening s t in
+          record {
+            exclusive = rw (at, f) (list_all_append is_exclusive (tokens_of t.row) (tokens_given true false Opening ss) o.exclusive ih.exclusive);
+            bare = rw (at, f) (bare_append (tokens_of t.row) (tokens_given true false Opening ss) o.bare ih.bare);
+            names = rw (at, f, m, o.names, ih.names) refl;
+            settled = rw at (inl (ap is_opened m ∙ o.is), ih.settled);
+          }
+      | false ↦ λ at.
+          let same : s ≡ record { path = Unopened; due = s.due; coming = s.coming; ended = s.ended } =
+          ap (λ (p : Path). record { path = p; due = s.due; coming = s.coming; ended = s.ended }) u.0 in
+          let known = k.0.known in
+          let later = k.0.later in
+          let none = idle s.due s.coming s.ended (rw same at known) (rw same at later) (rw same at at) in
+          record {
+            exclusive = rw (at, u.0) ih.exclusive;
+            bare = rw (at, u.0) ih.bare;
+            names = rw (at, u.0) ih.names;
+            settled = rw at (inr none, ih.settled);
+          }
+    ]) refl
+
+-- Where a closing record is given, each source has one there or no spine.
+unit_early : (row : Row) → rank (unit_place row) ≤ 9
+unit_early (Comment text) = omega arith
+unit_early (Spined Local tokens) = omega arith
+unit_early (Spined Values tokens) = omega arith
+unit_early (Spined Interpretation tokens) =
+    elim (list_all is_end (map sign_of tokens)) as (λ a. rank (cond a Closing (cond (all_plain tokens) Tandem Change)) ≤ 9) [
+      | true ↦ omega arith
+      | false ↦ elim (all_plain tokens) as (λ b. rank (cond b Tandem Change) ≤ 9) [ true ↦ omega arith | false ↦ omega arith ]
+    ]
+
+inside_soon : (row : Row) → rank (inside_place row) ≤ 1
+inside_soon (Comment text) = omega arith
+inside_soon (Spined kind tokens) = omega arith
+
+not_nine : (n : ℕ) → (9 == n) ≡ false → 9 ≤ n → 9 < n
+not_nine n h l = grind (arith, nat_tests)
+
+beyond : (path : Path) (row : Row) → 9 < rank (place path row) → exclusives path ≡ []
+beyond Unopened row h = refl
+beyond (Spines []) row h = refl
+beyond (Spines (n ∷ ns)) row h =
+    (elim (is_inside (Spines (n ∷ ns))) as (λ b. 9 < rank (cond b (inside_place row) (unit_place row)) → n ∷ ns ≡ []) [
+      | true ↦ λ e. let f = inside_soon row in absurd (omega (arith, e, f))
+      | false ↦ λ e. let f = unit_early row in absurd (omega (arith, e, f))
+    ]) h
+
+pub finished : (path : Path) → is_unfinished path ≡ false → exclusives path ≡ []
+finished Unopened h = refl
+finished (Spines []) h = refl
+finished (Spines (n ∷ ns)) h =
+    let z : suc (length ns) ≡ 0 = grind (arith, nat_tests, h) in absurd (omega (arith, z))
+
+done : (path : Path) (due : Bool) (coming : List Row) (ended : Option end.End)
+    → IsSound (record { path = path; due = due; coming = coming; ended = ended })
+    → is_missing false (record { path = path; due = due; coming = coming; ended = ended }) ≡ false
+    → 9 ≤ rank (place_at false (record { path = path; due = due; coming = coming; ended = ended }))
+    → is_at false Closing (record { path = path; due = due; coming = coming; ended = ended }) ≡ false
+    → exclusives path ≡ []
+done path true (row ∷ rows) ended i k l n = beyond path row (not_nine _ n l)
+done path false (row ∷ rows) ended i k l n = beyond path row (not_nine _ n l)
+done path true [] ended i k l n = cc
+done path false [] None i k l n = cc
+done path false [] (Some Closed) i k l n = finished path (i.closes refl)
+done path false [] (Some (Broken f)) i k l n = cc
+
+record Closed_by (path : Path) (row : Row) : Type 0 where
+  ends : list_all is_end (map sign_of (tokens_of row)) ≡ true
+  bare : has_bare (tokens_of row) ≡ false
+  none : exclusives (after path row) ≡ []
+
+closed_by : (path : Path) (row : Row) → is_opened path ≡ true → Some Interpretation ≡ spined_of row
+    → fault_of path row ≡ None → list_all is_end (map sign_of (tokens_of row)) ≡ true
+    → Closed_by path row
+closed_by Unopened row o k h e = cc
+closed_by (Spines names) (Comment text) o k h e = cc
+closed_by (Spines names) (Spined Local tokens) o k h e = cc
+closed_by (Spines names) (Spined Values tokens) o k h e = cc
+closed_by (Spines names) (Spined Interpretation tokens) o k h e =
+    let b = obeys names tokens h in
+    let a = all_ends (map sign_of tokens) e in
+    record {
+      ends = e;
+      bare = b.bare;
+      none = names_onward names tokens b.wide b.pair ∙ a.none (λ _. []) false _;
+    }
+
+pub record Closes (ss : List Source) : Type 0 where
+  pub ends : list_all is_end (map sign_of (tokens_given true false Closing ss)) ≡ true
+  pub bare : has_bare (tokens_given true false Closing ss) ≡ false
+  pub none : names_of (all_moved true false Closing ss) ≡ []
+
+pub all_close : (ss : List Source) → AllSound ss → AllSettled ss → AllShow false Closing ss
+    → Closes ss
+all_close [] i e k = record { ends = refl; bare = refl; none = refl }
+all_close (s ∷ ss) i e k =
+    let ih = all_close ss i.1 e.1 k.1 in
+    (elim (is_at false Closing s) as (λ b. is_at false Closing s ≡ b → Closes (s ∷ ss)) [
+      | true ↦ λ at.
+          let t = taker false Closing s refl i.0 at in
+          let o = closed_by s.path t.row (opened_taker Closing s e.0 t) t.kind t.sound (closing_ends s.path t.row t.at) in
+          let f = ap tokens_of_first t.is in
+          let m = taken_path false Closing s t in
+          record {
+            ends = rw (at, f) (list_all_append is_end (tokens_of t.row) (tokens_given true false Closing ss) o.ends ih.ends);
+            bare = rw (at, f) (bare_append (tokens_of t.row) (tokens_given true false Closing ss) o.bare ih.bare);
+            none = rw (at, m, o.none, ih.none) refl;
+          }
+      | false ↦ λ at.
+          let d = done s.path s.due s.coming s.ended i.0 k.0.known k.0.later at in
+          record {
+            ends = rw (at, d) ih.ends;
+            bare = rw (at, d) ih.bare;
+            none = rw (at, d, ih.none) refl;
+          }
+    ]) refl
+
+-- Names that aren't empty.
+or_parts : (a b : Bool) → (a || b) ≡ false → (a ≡ false) × (b ≡ false)
+or_parts true b h = cc
+or_parts false b h = (refl, h)
+
+any_parts : (xs ys : List (List ℕ)) → list_any is_empty (xs ++ ys) ≡ false
+    → (list_any is_empty xs ≡ false) × (list_any is_empty ys ≡ false)
+any_parts [] ys h = (refl, h)
+any_parts (x ∷ xs) ys h =
+    let b = or_parts (is_empty x) (list_any is_empty (xs ++ ys)) h in
+    let r = any_parts xs ys b.1 in
+    (rw b.0 r.0, r.1)
+
+pub named_none : (paths : List Path) → list_any is_empty (names_in paths) ≡ false → NoneIn paths
+named_none [] h = tt
+named_none (path ∷ paths) h =
+    let b = any_parts (exclusives path) (names_in paths) h in (b.0, named_none paths b.1)
+
+exclusive_filled : (token : List ℕ) → is_exclusive (sign_of token) ≡ true → is_empty token ≡ false
+exclusive_filled [] h = cc
+exclusive_filled (b ∷ bs) h = grind (arith, nat_tests)
+
+pub exclusive_named : (tokens : List (List ℕ)) → list_all is_exclusive (map sign_of tokens) ≡ true
+    → list_any is_empty tokens ≡ false
+exclusive_named [] h = refl
+exclusive_named (t ∷ tokens) h =
+    (elim (is_exclusive (sign_of t)) as (λ b. is_exclusive (sign_of t) ≡ b → (b && list_all is_exclusive (map sign_of tokens)) ≡ true
+    → list_any is_empty (t ∷ tokens) ≡ false) [
+      | true ↦ λ e w. rw (exclusive_filled t e) (exclusive_named tokens w)
+      | false ↦ λ e w. cc
+    ]) refl h

@@ -1,0 +1,27 @@
+use Rattle.std.proofs.Common.{◌≡◌, ◌∙◌, arith, ap, List}
+use Rattle.hum_assemble.specs.Source.{Source}
+use Rattle.hum_assemble.specs.Merge.{ahead}
+use Rattle.hum_assemble.proofs.Scores.{keeps_scores}
+use Rattle.hum_assemble.proofs.Calls.{new_stands, lawful_new}
+use Rattle.hum_assemble.proofs.assemble.Assemble.new.Goals as goal
+
+pub invariant_of-result : goal.invariant_of-result
+invariant_of-result c = record {
+  at_most = omega arith;
+  alive = λ e. record {
+    next = c.ahead-next.ensures ∙ ap (λ (ss : List Source).
+        ahead (record { sources = ss; given = 0 })) c.deref.ensures.value;
+    lawful = rw c.loop.invariant (lawful_new c.loop.counter);
+  };
+}
+
+pub returns : goal.returns
+returns c =
+    let e : c.loop.counter ≡ c.args.sources = omega arith in
+    record {
+      stands = new_stands c.args.stage c.args.sources c.loop.heads.items (rw e at c.loop.invariant);
+      keeps = keeps_scores c.args.stage;
+    }
+
+pub returns-in_err-push-clause-keeps : goal.returns-in_err-push-clause-keeps
+returns-in_err-push-clause-keeps c = keeps_scores c.args.stage

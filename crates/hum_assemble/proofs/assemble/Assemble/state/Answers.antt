@@ -1,0 +1,12 @@
+use Rattle.std.proofs.Common.{◌∙◌, ap, List}
+use Rattle.hum_assemble.specs.Source.{Source}
+use Rattle.hum_assemble.specs.Standing.{state_by}
+use Rattle.hum_assemble.proofs.Calls.{told_state}
+use Rattle.hum_assemble.proofs.assemble.Assemble.state.Goals as goal
+
+pub returns : goal.returns
+returns c = λ t h.
+    let h' = rw (← c.self.view_is) at h in
+    c.state_by.ensures ∙ (ap (λ (ss : List Source). state_by c.self.inside.stage
+    (record { sources = ss; given = c.self.inside.given }) c.self.inside.next) c.deref.ensures.value
+    ∙ told_state _ _ _ _ _ t c.self.invariant h')

@@ -1,0 +1,43 @@
+use Rattle.std.proofs.Common.{◌∙◌, sym, ap, ◌+◌, List, arith}
+use Rattle.hum_assemble.specs.Source.{Source}
+use Rattle.hum_assemble.specs.Merge.{ahead, given_row, given_on}
+use Rattle.hum_assemble.proofs.Calls.{take_here, take_nothing, alive, told_taken}
+use Rattle.hum_assemble.proofs.assemble.Assemble.take.Goals as goal
+
+pub returns-in_default : goal.returns-in_default
+returns-in_default c =
+    let a = c.self.invariant.alive c.if-self.false in
+    record {
+      ok = λ t h.
+          let h' = rw (← c.self.view_is) at h in
+          (take_nothing _ _ _ t h' (λ p e. c.in_default.not-Gives p (a.next ∙ e)), h);
+      err = tt;
+      stays_spent = λ e. let f = rw (← c.self.view_is) at e in let g = c.if-self.false in cc;
+    }
+
+pub invariant_of-self-2 : goal.invariant_of-self-2
+invariant_of-self-2 c =
+    let a = c.self.invariant.alive c.if-self.false in
+    let l = c.deref_mut.ensures.len in
+    let n = c.give.auto.sources in
+    told_taken c.self.inside.sources.items c.give.new.sources _ c.self.inside.given _
+    c.in-Gives.place _ (sym a.next ∙ c.in-Gives.is) c.in_ok-row.ensures.lawful
+    (c.ahead-self-inside.ensures ∙ ap (λ (ss : List Source).
+    ahead (record { sources = ss; given = c.self.inside.given + 1 })) c.deref.ensures.value)
+    (omega (arith, l, n))
+
+pub returns-clause-ok : goal.returns-clause-ok
+returns-clause-ok c = λ t h.
+    let a = c.self.invariant.alive c.if-self.false in
+    let h' = rw (← c.self.view_is) at h in
+    let v = c.deref_mut.ensures.value in
+    let e = c.in_ok-row.ensures in
+    let l = c.deref_mut.ensures.len in
+    let n = c.give.auto.sources in
+    take_here c.self.inside.stage c.self.inside.sources.items c.give.new.sources c.self.inside.given _ t
+    c.in-Gives.place _ _ (alive _ _ _ _ c.if-self.false h') (sym a.next ∙ c.in-Gives.is)
+    (e.row c.self.inside.given ∙ ap (λ (ss : List Source).
+    given_row c.in-Gives.place (record { sources = ss; given = c.self.inside.given })) v)
+    (e.sources c.self.inside.given ∙ ap (λ (ss : List Source).
+    given_on c.in-Gives.place (record { sources = ss; given = c.self.inside.given })) v)
+    (omega (arith, l, n))

@@ -1,0 +1,14 @@
+use Rattle.std.proofs.Common.{true}
+use Rattle.hum_assemble.proofs.Steps.{giving}
+use Rattle.hum_assemble.proofs.Taking.{all_lawful}
+use Rattle.hum_assemble.proofs.round.give.Goals as goal
+
+pub give_at-requires-clause-giving : goal.give_at-requires-clause-giving
+give_at-requires-clause-giving c =
+    rw c.any_due-going.ensures
+    (giving c.args.sources.now c.requires.ahead.0 c.args.p c.requires.ahead.1)
+
+pub returns-clause-lawful : goal.returns-clause-lawful
+returns-clause-lawful c =
+    rw c.in_ok-row.ensures.sources
+    (all_lawful true c.any_due-going.result c.args.p c.args.sources.now c.requires.lawful)

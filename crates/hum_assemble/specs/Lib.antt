@@ -1,0 +1,11 @@
+pub mod Source
+pub mod Places
+pub mod Round
+pub mod Change
+pub mod Merge
+pub mod Meaning
+pub mod Spread
+pub mod Head
+pub mod Taking
+pub mod Standing
+pub mod Serving

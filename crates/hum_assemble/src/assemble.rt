@@ -1,0 +1,278 @@
+//! Several scores side by side, record by record.
+ghost use Rattle.std.specs.Prelude.{◌≡◌, ◌≤◌, ◌<◌, ◌+◌, ◌⊎◌, ℕ, true, false, [], length, map};
+ghost use Rattle.std.specs.Prelude.{is_none, None, Some, IfSome, IfOk, OnOk, OnErr, IsErr};
+ghost use Rattle.hum_stage.specs.declared.faults.Command.TheVariants.{Assemble as AssembleCommand};
+ghost use Rattle.hum_stage.specs.Meaning.{fault_at, resting_state};
+ghost use Rattle.hum_assemble.specs.Change.{More, Ends, IsOpenInput};
+ghost use Rattle.hum_assemble.specs.Round.{first_from};
+ghost use Rattle.hum_assemble.specs.Merge.{ahead};
+ghost use Rattle.hum_assemble.specs.Meaning.{Moment, MayPut, MayEnd, HasChanged, HasTaken};
+ghost use Rattle.hum_assemble.specs.Meaning.{state_of, wants_of, held_at, lower, inputs_end};
+ghost use Rattle.hum_assemble.specs.Meaning.{HasGrown, held_by, total, empty_moment, KeepsScores};
+ghost use Rattle.hum_assemble.specs.Standing.{Stands, state_by, wants_by};
+
+use crate::places::Next;
+use crate::round::{ahead, give};
+use crate::source_head::SourceHead;
+use hum_record::{Record, Spare};
+use hum_stage::{Command, End, Fault, Rule, State};
+use std::alloc::{AllocError, Global};
+use std::marker::Model;
+
+/// Several scores side by side, of each of which one record is kept at most.
+///
+/// It is served as a stage is, but that it names the source whose record it wants
+/// ([`Assemble::wants`]). It wants until every source has ended, also after a fault of its own.
+#[derive(Drop)]
+pub struct Assemble {
+    alloc: Global,
+    stage: u8,
+    sources: Vec<SourceHead>,
+    given: u64,
+    next: Next,
+    // the record that was done with last
+    spare: Spare,
+    spent: bool,
+}
+
+impl Model for Assemble {
+    ghost use Rattle.hum_assemble.specs.Standing.{Assembler, IsTold};
+
+    ghost Value = { Assembler };
+
+    ghost view = { λ a. record {
+      stage = a.stage;
+      merge = record { sources = a.sources.items; given = a.given };
+      spent = a.spent;
+    } };
+
+    ghost invariant = { λ a. IsTold a.sources.items a.given a.next a.spent };
+}
+
+/// The lower-numbered fault.
+fn lower(a: End, b: End) -> End
+    ensures { result ≡ lower a b }
+{
+    match (a, b) {
+        (End::Closed, b) => b,
+        (a, End::Closed) => a,
+        (End::Broken(f), End::Broken(g)) => { if g.stage < f.stage { b } else { a } }
+    }
+}
+
+/// The lowest-numbered fault of the sources, if all have ended.
+fn inputs_end(sources: &[SourceHead]) -> Option<End>
+    ensures { result ≡ inputs_end (map (λ s. s.ended) sources.now) }
+{
+    let [source, rest @ ..] = sources else {
+        return Some(End::Closed);
+    };
+    let end = source.ended()?;
+    let others = inputs_end(rest)?;
+    Some(lower(end, others))
+}
+
+/// The leftmost source that hasn't ended.
+fn first_open(sources: &[SourceHead]) -> Option<usize>
+    ensures { result ≡ first_from is_none 0 (map (λ s. s.ended) sources.now) }
+{
+    let mut j = 0usize;
+    let mut rest = sources;
+    while let [source, right @ ..] = rest {
+        if source.ended().is_none() {
+            return Some(j);
+        }
+        j += 1;
+        rest = right;
+    }
+    None
+}
+
+/// How many records wait.
+fn count(sources: &[SourceHead]) -> usize
+    ensures total { result ≡ total sources.now }
+    ensures at_most { result ≤ length sources.now }
+{
+    match sources {
+        [] => 0,
+        [source, rest @ ..] => source.held() + count(rest),
+    }
+}
+
+/// The own fault, if no source is broken, once all have ended.
+fn refused(end: Option<End>, stage: u8, given: u64, rule: Rule) -> State
+    requires { given ≤ 4294967295 }
+    ensures { result
+        ≡ resting_state (fault_at stage AssembleCommand (Some (given + 1, rule))) end }
+{
+    match end {
+        None => State::Wants,
+        Some(End::Broken(fault)) => State::Done(End::Broken(fault)),
+        Some(End::Closed) => State::Done(End::Broken(Fault {
+            stage,
+            command: Command::Assemble,
+            line: given + 1,
+            rule,
+        })),
+    }
+}
+
+/// What an assembler is ready for, by what can be done next.
+fn state_by(sources: &[SourceHead], stage: u8, given: u64, next: Next) -> State
+    requires { given ≤ 4294967295 }
+    ensures { result
+        ≡ state_by stage (record { sources = sources.now; given = given }) next }
+{
+    match next {
+        Next::Gives(_) => State::Gives,
+        Next::Wants(_) => State::Wants,
+        Next::Over => match inputs_end(sources) {
+            None => State::Wants,
+            Some(end) => State::Done(end),
+        },
+        Next::Refused(rule) => refused(inputs_end(sources), stage, given, rule),
+    }
+}
+
+/// The source whose record or end it wants.
+fn wants_by(sources: &[SourceHead], next: Next) -> Option<usize>
+    ensures { (given : ℕ)
+        → result ≡ wants_by (record { sources = sources.now; given = given }) next }
+{
+    match next {
+        Next::Gives(_) => None,
+        Next::Wants(j) => Some(j),
+        Next::Over => first_open(sources),
+        Next::Refused(_) => first_open(sources),
+    }
+}
+
+/// How many records wait inside, as long as more can be given.
+fn held_by(sources: &[SourceHead], next: Next) -> usize
+    ensures held { result ≡ held_by sources.now next }
+    ensures at_most { result ≤ length sources.now }
+{
+    match next {
+        Next::Gives(_) => count(sources),
+        Next::Wants(_) => count(sources),
+        Next::Over => 0,
+        Next::Refused(_) => 0,
+    }
+}
+
+impl Assemble {
+    /// The stage of this number, from 1, over so many sources, of which nothing was put yet.
+    ///
+    /// # Errors
+    /// Want of memory.
+    pub fn new(alloc: Global, stage: u8, sources: usize) -> Result<Assemble, AllocError>
+        requires { sources ≤ 15 }
+        ensures stands { IfOk result (λ a. Stands a (empty_moment stage sources)) }
+
+        // Of scores it makes scores.
+        ensures keeps { KeepsScores stage }
+    {
+        let mut heads = Vec::new(alloc);
+        for _ in 0..sources {
+            heads.push(SourceHead::new(alloc))?;
+        }
+        let next = ahead(&heads, 0);
+        Ok(Assemble {
+            alloc,
+            stage,
+            sources: heads,
+            given: 0,
+            next,
+            spare: Spare::none(alloc),
+            spent: false,
+        })
+    }
+
+    /// Puts the next record of the source that is wanted; those of that source are then a score.
+    ///
+    /// # Errors
+    /// Want of memory, which each later call that takes memory answers again.
+    pub fn put(&mut self, source: usize, next: Record) -> Result<(), AllocError>
+        requires { self.old.spent ≡ true ⊎ MayPut (Stands self.old) source next }
+        ensures ok { OnOk result
+            (HasChanged (Stands self.old) (Stands self.new) source (More next)) }
+        ensures grows { HasGrown (Stands self.old) source (More next) }
+        ensures err { OnErr result (self.new.spent ≡ true) }
+        ensures stays_spent { self.old.spent ≡ true → IsErr result }
+    {
+        if self.spent {
+            return Err(AllocError);
+        }
+        if let Next::Wants(j) = self.next {
+            self.sources[j].put(next);
+            self.next = ahead(&self.sources, self.given);
+        }
+        Ok(())
+    }
+
+    /// Says how the source that is wanted ends: closed only after a closed score.
+    pub fn end(&mut self, source: usize, end: End)
+        requires { self.old.spent ≡ true ⊎ MayEnd (Stands self.old) source end }
+        ensures ended { HasChanged (Stands self.old) (Stands self.new) source (Ends end) }
+        ensures grows { HasGrown (Stands self.old) source (Ends end) }
+        ensures stays_spent { self.old.spent ≡ true → self.new.spent ≡ true }
+    {
+        if self.spent {
+            return;
+        }
+        self.sources[source].end(end);
+        self.next = ahead(&self.sources, self.given);
+    }
+
+    /// The next record that is settled, if there is one.
+    ///
+    /// # Errors
+    /// Want of memory, which each later call that takes memory answers again.
+    pub fn take(&mut self) -> Result<Option<Record>, AllocError>
+        ensures ok { IfOk result (HasTaken (Stands self.old) (Stands self.new)) }
+        ensures err { OnErr result (self.new.spent ≡ true) }
+        ensures stays_spent { self.old.spent ≡ true → IsErr result }
+    {
+        if self.spent {
+            return Err(AllocError);
+        }
+        let Next::Gives(place) = self.next else {
+            return Ok(None);
+        };
+        self.spent = true;
+        let row = give(self.alloc, &mut self.sources, place, &mut self.spare)?;
+        self.given += 1;
+        self.next = ahead(&self.sources, self.given);
+        self.spent = false;
+        Ok(Some(row))
+    }
+
+    /// What it is ready for: it gives while it has records that are settled, then wants until
+    /// every source has ended. It is done then, with the lowest-numbered fault of a source, else
+    /// its own.
+    pub fn state(&self) -> State
+        ensures { (t : Moment) → Stands self.now t → result ≡ state_of t }
+    {
+        state_by(&self.sources, self.stage, self.given, self.next)
+    }
+
+    /// The source, counted from 0, whose record or end it wants: the leftmost whose record is
+    /// needed; once nothing more can be given, the leftmost that hasn't ended.
+    pub fn wants(&self) -> Option<usize>
+        ensures wanted { (t : Moment) → Stands self.now t → result ≡ wants_of t }
+
+        // That source hasn't ended.
+        ensures awaits { (t : Moment) → Stands self.now t
+            → IfSome result (λ j. IsOpenInput j t.inputs) }
+    {
+        wants_by(&self.sources, self.next)
+    }
+
+    /// How many records wait inside: at most one of each source.
+    pub fn held(&self) -> usize
+        ensures held { (t : Moment) → Stands self.now t → result ≡ held_at t }
+        ensures at_most { result ≤ length self.now.merge.sources }
+    {
+        held_by(&self.sources, self.next)
+    }
+}

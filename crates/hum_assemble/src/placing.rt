@@ -1,0 +1,155 @@
+//! Where a record stands in its score, and how many spines stand behind it.
+ghost use Rattle.std.specs.Prelude.{◌≡◌, ◌≤◌, None, false, length, map};
+ghost use Rattle.std.specs.List.{list_all};
+ghost use Rattle.hum_record.specs.Row.{tokens_of, kind_of};
+ghost use Rattle.hum_record.specs.declared.Kind.TheVariants.{Interpretation};
+ghost use Rattle.hum_path.specs.Sign.{sign_of};
+ghost use Rattle.hum_path.specs.Spines.{Path, width, after};
+ghost use Rattle.hum_path.specs.Rules.{fault_of};
+ghost use Rattle.hum_assemble.specs.Source.{is_end, is_inside, place, interpretation_place};
+ghost use Rattle.hum_assemble.specs.Source.{by_comment, unit_place};
+ghost use Rattle.hum_assemble.specs.Head.{is_opened};
+ghost use Rattle.hum_assemble.specs.Spread.{spread, heirs_count};
+
+use crate::places::Place;
+use hum_path::{Paths, Sign, steers, token_sign};
+use hum_record::{Kind, Record};
+
+/// Whether each token ends its spine.
+fn all_end(row: &Record) -> bool
+    ensures { result ≡ list_all is_end (map sign_of (tokens_of row.now)) }
+{
+    for j in 0..row.width() {
+        if token_sign(row.token(j)) != Sign::End {
+            return false;
+        }
+    }
+    true
+}
+
+/// Whether an added spine waits for its exclusive interpretation.
+fn is_inside(paths: &Paths) -> bool
+    ensures { result ≡ is_inside paths.now.path }
+{
+    for j in 0..paths.width() {
+        if paths.exclusive(j).is_empty() {
+            return true;
+        }
+    }
+    false
+}
+
+/// The same after a record, by what it was before: only an interpretation changes it.
+pub fn is_inside_after(before: bool, paths: &Paths, row: &Record) -> bool
+    ensures { (path : Path) → before ≡ is_inside path → paths.now.path ≡ after path row.now
+        → result ≡ is_inside paths.now.path }
+{
+    match row.kind() {
+        Kind::Interpretation => is_inside(paths),
+        _ => before,
+    }
+}
+
+/// Whether spines were opened, after a record.
+pub fn is_opened_after(before: bool, row: &Record) -> bool
+    ensures { (path : Path) → before ≡ is_opened path → result ≡ is_opened (after path row.now) }
+{
+    match row.kind() {
+        Kind::Interpretation => true,
+        _ => before,
+    }
+}
+
+/// Where an interpretation stands among the units of its group.
+fn interpretation_place(row: &Record) -> Place
+    requires { kind_of row.now ≡ Interpretation }
+    ensures { result ≡ interpretation_place (map sign_of (tokens_of row.now)) }
+{
+    if all_end(row) {
+        Place::Closing
+    } else if steers(row) {
+        Place::Change
+    } else {
+        Place::Tandem
+    }
+}
+
+/// Where a record that is a unit, or begins one, stands in its round.
+fn unit_place(row: &Record) -> Place
+    ensures { result ≡ unit_place row.now }
+{
+    match row.kind() {
+        Kind::Global => Place::Remark,
+        Kind::Local => Place::Local,
+        Kind::Values => Place::Note,
+        Kind::Interpretation => interpretation_place(row),
+    }
+}
+
+/// One place for a global comment, another for any other record.
+fn by_comment(row: &Record, comment: Place, other: Place) -> Place
+    ensures { result ≡ by_comment row.now comment other }
+{
+    match row.kind() {
+        Kind::Global => comment,
+        _ => other,
+    }
+}
+
+/// Where a record stands in its source.
+pub fn place(opened: bool, inside: bool, paths: &Paths, row: &Record) -> Place
+    requires opened { opened ≡ is_opened paths.now.path }
+    requires inside { inside ≡ is_inside paths.now.path }
+    ensures { result ≡ place paths.now.path row.now }
+{
+    if !opened {
+        by_comment(row, Place::Front, Place::Opening)
+    } else if paths.is_closed() {
+        Place::Tail
+    } else if inside {
+        by_comment(row, Place::Aside, Place::Begins)
+    } else {
+        unit_place(row)
+    }
+}
+
+/// How many spines come of one under a sign.
+fn heirs_count(after_join: bool, sign: Sign) -> usize
+    ensures count { result ≡ heirs_count after_join sign }
+    ensures at_most { result ≤ 2 }
+{
+    match sign {
+        Sign::Split | Sign::Add => 2,
+        Sign::Join => { if after_join { 0 } else { 1 } }
+        Sign::End => 0,
+        Sign::Exchange | Sign::Exclusive | Sign::Plain => 1,
+    }
+}
+
+/// How many spines come of those under a record's tokens.
+fn spread(row: &Record) -> usize
+    requires { length (tokens_of row.now) ≤ 4096 }
+    ensures { result ≡ spread false (map sign_of (tokens_of row.now)) }
+{
+    let mut count = 0usize;
+    let mut after_join = false;
+    for j in 0..row.width() {
+        let sign = token_sign(row.token(j));
+        count += heirs_count(after_join, sign);
+        after_join = sign.is_join();
+    }
+    count
+}
+
+/// How many spines stand after a record that breaks no path rule.
+pub fn width_after(opened: bool, paths: &Paths, row: &Record) -> usize
+    requires opened { opened ≡ is_opened paths.now.path }
+    requires sound { fault_of paths.now.path row.now ≡ None }
+    ensures { result ≡ width (after paths.now.path row.now) }
+{
+    let width = paths.width();
+    match row.kind() {
+        Kind::Interpretation => { if opened { spread(row) } else { row.width() } }
+        _ => width,
+    }
+}

@@ -1,0 +1,347 @@
+//! What several sources give side by side.
+ghost use Rattle.std.specs.Prelude.{◌≡◌, ◌≢◌, ◌++◌, ℕ, ◌+◌, nat_lt, nat_le, true};
+ghost use Rattle.std.specs.Prelude.{None, Some, IfOk, OnOk, length};
+ghost use Rattle.std.specs.List.{list_any};
+ghost use Rattle.hum_record.specs.Row.{text_of};
+ghost use Rattle.hum_assemble.specs.Head.{AllLawful};
+ghost use Rattle.hum_assemble.specs.Places.{kind_at};
+ghost use Rattle.hum_assemble.specs.Round.{first_from, any_due, is_lost, is_missing, earliest};
+ghost use Rattle.hum_assemble.specs.Round.{takes, still_free};
+ghost use Rattle.hum_assemble.specs.Merge.{spines, all_moved, made, comment_given, tokens_given};
+ghost use Rattle.hum_assemble.specs.Merge.{ahead, ahead_of, ahead_at, given_row, given_on};
+ghost use Rattle.hum_assemble.specs.Taking.{row_taken, bytes_given, parts_given};
+ghost use Rattle.hum_assemble.specs.Taking.{IsGiving, IsAlone};
+
+use crate::places::{Next, Place};
+use crate::source_head::SourceHead;
+use hum_record::{Record, RecordBuilder, RecordFault, Spare, SpinedKind};
+use hum_stage::Rule;
+use std::alloc::{AllocError, Global};
+
+/// The most spines that may stand side by side.
+const MOST_SPINES: usize = 4096;
+
+/// The most bytes that a record may have.
+const MOST_BYTES: usize = 1_048_576;
+
+/// How many records a stage may give.
+const MOST_RECORDS: u64 = 4_294_967_295;
+
+/// Whether a round goes on.
+fn any_due(sources: &[SourceHead]) -> bool
+    ensures { result ≡ any_due sources.now }
+{
+    sources.iter().any(|source| source.is_due())
+}
+
+/// Whether what is asked of a source isn't known yet.
+fn is_missing(source: &SourceHead, going: bool) -> bool
+    ensures { result ≡ is_missing going source.now }
+{
+    (source.is_due() || !going) && source.shown().is_none()
+}
+
+/// Whether what is asked of a source can't be known any more.
+fn is_lost(source: &SourceHead, going: bool) -> bool
+    ensures { result ≡ is_lost going source.now }
+{
+    (source.is_due() || !going) && (source.shown().is_none() && source.ended().is_some())
+}
+
+fn any_lost(sources: &[SourceHead], going: bool) -> bool
+    ensures { result ≡ list_any (is_lost going) sources.now }
+{
+    sources.iter().any(|source| is_lost(source, going))
+}
+
+/// The leftmost source of which a record, or the end, is needed.
+fn first_missing(sources: &[SourceHead], going: bool) -> Option<usize>
+    ensures { result ≡ first_from (is_missing going) 0 sources.now }
+{
+    let mut j = 0usize;
+    let mut rest = sources;
+    while let [source, right @ ..] = rest {
+        if is_missing(source, going) {
+            return Some(j);
+        }
+        j += 1;
+        rest = right;
+    }
+    None
+}
+
+/// The earliest place of those that are asked.
+fn earliest(sources: &[SourceHead], going: bool) -> Place
+    ensures { result ≡ earliest going sources.now }
+{
+    match sources {
+        [] => Place::Over,
+        [source, rest @ ..] => source.place_at(going).earlier(earliest(rest, going)),
+    }
+}
+
+/// Whether a source further right may still give a record.
+fn still_free(source: &SourceHead, free: bool, going: bool, p: Place) -> bool
+    ensures { result ≡ still_free free going p source.now }
+{
+    free && (p.is_shared() || !source.takes(free, going, p))
+}
+
+/// Whether more spines than are left stand behind the records at this place.
+fn are_more_spines(sources: &[SourceHead], free: bool, going: bool, p: Place, left: usize) -> bool
+    ensures { result ≡ nat_lt left (spines (all_moved free going p sources.now)) }
+{
+    match sources {
+        [] => false,
+        [source, rest @ ..] => {
+            let width = if source.takes(free, going, p) {
+                source.width_ahead()
+            } else {
+                source.width()
+            };
+            if width > left {
+                true
+            } else {
+                are_more_spines(
+                    rest,
+                    still_free(source, free, going, p),
+                    going,
+                    p,
+                    left - width,
+                )
+            }
+        }
+    }
+}
+
+/// How long the text of the global comment at this place is.
+fn comment_len(sources: &[SourceHead], going: bool, p: Place) -> usize
+    ensures { result ≡ length (comment_given going p sources.now) }
+{
+    let mut rest = sources;
+    while let [source, right @ ..] = rest {
+        if source.takes(true, going, p) {
+            return source.text_len();
+        }
+        rest = right;
+    }
+    0
+}
+
+/// Whether the tokens of the record at this place, with a tab for each, have more bytes than are
+/// left.
+fn are_more_bytes(sources: &[SourceHead], free: bool, going: bool, p: Place, left: usize) -> bool
+    ensures { result ≡ nat_lt left (bytes_given free going p sources.now) }
+{
+    match sources {
+        [] => false,
+        [source, rest @ ..] => {
+            let bytes = source.room(source.takes(free, going, p), p);
+            if bytes > left {
+                true
+            } else {
+                are_more_bytes(
+                    rest,
+                    still_free(source, free, going, p),
+                    going,
+                    p,
+                    left - bytes,
+                )
+            }
+        }
+    }
+}
+
+/// Whether the record at this place is too long.
+fn is_too_long(sources: &[SourceHead], going: bool, p: Place) -> bool
+    ensures { result ≡ nat_lt 1048576 (length (text_of (made going p sources.now))) }
+{
+    match p.kind() {
+        None => comment_len(sources, going, p) > MOST_BYTES,
+        Some(_) => are_more_bytes(sources, true, going, p, MOST_BYTES + 1),
+    }
+}
+
+/// Whether the records at this place may be given.
+fn ahead_at(sources: &[SourceHead], given: u64, going: bool, p: Place) -> Next
+    ensures { result ≡ ahead_at going p sources.now given }
+{
+    if p.is_over() {
+        Next::Over
+    } else if are_more_spines(sources, true, going, p, MOST_SPINES) {
+        Next::Refused(Rule::A1)
+    } else if is_too_long(sources, going, p) {
+        Next::Refused(Rule::L1)
+    } else if given >= MOST_RECORDS {
+        Next::Refused(Rule::L2)
+    } else {
+        Next::Gives(p)
+    }
+}
+
+fn ahead_of(sources: &[SourceHead], given: u64, going: bool) -> Next
+    ensures { result ≡ ahead_of going sources.now given }
+{
+    if any_lost(sources, going) {
+        return Next::Over;
+    }
+    match first_missing(sources, going) {
+        Some(j) => Next::Wants(j),
+        None => ahead_at(sources, given, going, earliest(sources, going)),
+    }
+}
+
+/// What can be done next, after so many records were given.
+pub fn ahead(sources: &[SourceHead], given: u64) -> Next
+    ensures { result ≡ ahead (record { sources = sources.now; given = given }) }
+{
+    ahead_of(sources, given, any_due(sources))
+}
+
+/// Whether at most so many sources have a part in the record at this place.
+fn are_few_parts(sources: &[SourceHead], free: bool, going: bool, p: Place, left: usize) -> bool
+    ensures { result ≡ nat_le (parts_given free going p sources.now) left }
+{
+    match sources {
+        [] => true,
+        [source, rest @ ..] => {
+            let free_on = still_free(source, free, going, p);
+            if !source.takes(free, going, p) && source.width() == 0 {
+                are_few_parts(rest, free_on, going, p, left)
+            } else if left == 0 {
+                false
+            } else {
+                are_few_parts(rest, free_on, going, p, left - 1)
+            }
+        }
+    }
+}
+
+/// Adds the tokens of the record at this place.
+fn push_parts(
+    sources: &[SourceHead],
+    going: bool,
+    p: Place,
+    builder: &mut RecordBuilder,
+) -> Result<(), RecordFault>
+    requires lawful { AllLawful sources.now }
+    requires kind { kind_at p ≡ Some builder.old.kind }
+    ensures { OnOk result (builder.new ≡ record builder.old {
+      tokens = builder.old.tokens ++ tokens_given true going p sources.now;
+    }) }
+{
+    let mut free = true;
+    let mut rest = sources;
+    while let [source, right @ ..] = rest {
+        source.push_part(free, going, p, builder)?;
+        free = still_free(source, free, going, p);
+        rest = right;
+    }
+    Ok(())
+}
+
+/// Lets the sources go on by the records at this place, and answers the one that was given last.
+/// The others are done with.
+fn go_on(sources: &mut [SourceHead], going: bool, p: Place) -> Result<Option<Record>, AllocError>
+    ensures moved { OnOk result (sources.new ≡ all_moved true going p sources.old) }
+    ensures row { IfOk result (λ o. o ≡ row_taken None true going p sources.old) }
+{
+    let mut free = true;
+    let mut given = None;
+    for source in sources.iter_mut() {
+        let taken = source.takes(free, going, p);
+        free = still_free(source, free, going, p);
+        if let Some(row) = source.go_on(taken, going, p)? {
+            given = Some(row);
+        }
+    }
+    Ok(given)
+}
+
+/// Gives the one record that stands at this place.
+fn give_alone(sources: &mut [SourceHead], going: bool, p: Place) -> Result<Record, AllocError>
+    requires giving { IsGiving going p sources.old }
+    requires lawful { AllLawful sources.old }
+    requires alone { IsAlone going p sources.old }
+    ensures row { IfOk result (λ row. row ≡ made going p sources.old) }
+    ensures sources { OnOk result (sources.new ≡ all_moved true going p sources.old) }
+{
+    let Some(row) = go_on(sources, going, p)? else {
+        unreachable!()
+    };
+    Ok(row)
+}
+
+/// Gives one record of the records at this place, in the buffers of one that is done with.
+fn give_side_by_side(
+    alloc: Global,
+    kind: SpinedKind,
+    sources: &mut [SourceHead],
+    going: bool,
+    p: Place,
+    spare: &mut Spare,
+) -> Result<Record, AllocError>
+    requires kind { kind_at p ≡ Some kind }
+    requires giving { IsGiving going p sources.old }
+    requires lawful { AllLawful sources.old }
+    ensures row { IfOk result (λ row. row ≡ made going p sources.old) }
+    ensures sources { OnOk result (sources.new ≡ all_moved true going p sources.old) }
+{
+    let mut builder = RecordBuilder::reusing(alloc, kind, spare);
+    match push_parts(sources, going, p, &mut builder) {
+        Ok(()) => {}
+        Err(_) => return Err(AllocError),
+    }
+    let row = builder.finish();
+    if let Some(last) = go_on(sources, going, p)? {
+        spare.keep(last);
+    }
+    Ok(row)
+}
+
+/// Gives the record at this place. One that needs no null tokens is moved.
+fn give_at(
+    alloc: Global,
+    sources: &mut [SourceHead],
+    going: bool,
+    p: Place,
+    spare: &mut Spare,
+) -> Result<Record, AllocError>
+    requires giving { IsGiving going p sources.old }
+    requires lawful { AllLawful sources.old }
+    ensures row { IfOk result (λ row. row ≡ made going p sources.old) }
+    ensures sources { OnOk result (sources.new ≡ all_moved true going p sources.old) }
+{
+    match p.kind() {
+        None => give_alone(sources, going, p),
+        Some(kind) => {
+            if are_few_parts(sources, true, going, p, 1) {
+                give_alone(sources, going, p)
+            } else {
+                give_side_by_side(alloc, kind, sources, going, p, spare)
+            }
+        }
+    }
+}
+
+/// Gives the record at this place, which is the one that can be given next.
+pub fn give(
+    alloc: Global,
+    sources: &mut [SourceHead],
+    p: Place,
+    spare: &mut Spare,
+) -> Result<Record, AllocError>
+    requires ahead { (given : ℕ)
+        × (ahead (record { sources = sources.old; given = given }) ≡ Next.Gives p) }
+    requires lawful { AllLawful sources.old }
+    ensures row { IfOk result (λ row. (given : ℕ)
+        → row ≡ given_row p (record { sources = sources.old; given = given })) }
+    ensures sources { OnOk result ((given : ℕ)
+        → record { sources = sources.new; given = given + 1 }
+        ≡ given_on p (record { sources = sources.old; given = given })) }
+    ensures lawful { OnOk result (AllLawful sources.new) }
+{
+    let going = any_due(sources);
+    let row = give_at(alloc, sources, going, p, spare)?;
+    Ok(row)
+}

@@ -1,0 +1,299 @@
+//! One source: its spines, and its next record.
+ghost use Rattle.std.specs.Prelude.{◌≡◌, ◌++◌, ◌∷◌, ◌≤◌, [], false, None, Some};
+ghost use Rattle.std.specs.Prelude.{IfOk, OnOk, length, replicate, if◌then◌else◌};
+ghost use Rattle.std.specs.List.{AllByRecursion};
+ghost use Rattle.hum_record.specs.Spelling.{IsToken};
+ghost use Rattle.hum_record.specs.Row.{tokens_of};
+ghost use Rattle.hum_path.specs.Spines.{width};
+ghost use Rattle.hum_path.specs.Rules.{fault_of};
+ghost use Rattle.hum_assemble.specs.Head.{first_of, AreLawful};
+ghost use Rattle.hum_assemble.specs.Source.{untouched};
+ghost use Rattle.hum_assemble.specs.Spread.{room};
+ghost use Rattle.hum_assemble.specs.Places.{kind_at};
+ghost use Rattle.hum_assemble.specs.Round.{shown, place_at, takes};
+ghost use Rattle.hum_assemble.specs.Merge.{moved, advanced, text_of_first, part_given};
+
+use crate::places::{Place, null_at};
+use crate::placing::{is_inside_after, is_opened_after, place, width_after};
+use hum_path::{PathFault, Paths};
+use hum_record::{Kind, Record, RecordBuilder, RecordFault};
+use hum_stage::End;
+use std::alloc::{AllocError, Global};
+use std::marker::Model;
+
+/// A source's next record, where it stands, and how many spines stand behind it.
+#[derive(Drop)]
+pub struct Head {
+    row: Record,
+    place: Place,
+    width: usize,
+}
+
+/// One source: the spines before its next record, whether it takes part in the round that goes on,
+/// that record, and how the source ends, once that is known.
+#[derive(Drop)]
+pub struct SourceHead {
+    alloc: Global,
+    paths: Paths,
+    // whether spines were opened, and whether an added one waits for its exclusive interpretation
+    opened: bool,
+    inside: bool,
+    due: bool,
+    head: Option<Head>,
+    ended: Option<End>,
+}
+
+impl Model for SourceHead {
+    ghost use Rattle.hum_assemble.specs.Source.{Source};
+
+    ghost Value = { Source };
+
+    ghost use Rattle.hum_assemble.specs.Head.{coming, IsKept};
+
+    ghost view = { λ s. record {
+      path = s.paths.path;
+      due = s.due;
+      coming = coming s.head;
+      ended = s.ended;
+    } };
+
+    ghost invariant = { λ s. IsKept s.paths.path s.opened s.inside s.head };
+}
+
+/// Adds a token so many times.
+fn push_nulls(builder: &mut RecordBuilder, null: &[u8], count: usize) -> Result<(), RecordFault>
+    requires { IsToken builder.old.kind null.now }
+    ensures { OnOk result (builder.new ≡ record builder.old {
+      tokens = builder.old.tokens ++ replicate count null.now;
+    }) }
+{
+    for _ in 0..count {
+        builder.push(null)?;
+    }
+    Ok(())
+}
+
+/// Adds the tokens of a record.
+fn push_tokens(builder: &mut RecordBuilder, row: &Record) -> Result<(), RecordFault>
+    requires { AllByRecursion (IsToken builder.old.kind) (tokens_of row.now) }
+    ensures { OnOk result (builder.new ≡ record builder.old {
+      tokens = builder.old.tokens ++ tokens_of row.now;
+    }) }
+{
+    for j in 0..row.width() {
+        builder.push(row.token(j))?;
+    }
+    Ok(())
+}
+
+impl SourceHead {
+    /// Nothing was put, and no end came.
+    pub fn new(alloc: Global) -> SourceHead
+        ensures { result ≡ untouched None [] }
+    {
+        SourceHead {
+            alloc,
+            paths: Paths::new(alloc),
+            opened: false,
+            inside: false,
+            due: false,
+            head: None,
+            ended: None,
+        }
+    }
+
+    /// Puts the next record.
+    pub fn put(&mut self, row: Record)
+        requires empty { self.old.coming ≡ [] }
+        requires sound { fault_of self.old.path row ≡ None }
+        ensures put { self.new ≡ record self.old { coming = row ∷ [] } }
+        ensures lawful { AreLawful self.old.path (row ∷ []) }
+    {
+        let _kind = row.kind();
+        let place = place(self.opened, self.inside, &self.paths, &row);
+        let width = width_after(self.opened, &self.paths, &row);
+        self.head = Some(Head { row, place, width });
+    }
+
+    /// Says how the source ends.
+    pub fn end(&mut self, end: End)
+        ensures { self.new ≡ record self.old { ended = Some end } }
+    {
+        self.ended = Some(end);
+    }
+
+    /// Whether it takes part in the round that goes on.
+    pub fn is_due(&self) -> bool
+        ensures { result ≡ self.now.due }
+    {
+        self.due
+    }
+
+    /// How it ends, once that is known.
+    pub fn ended(&self) -> Option<End>
+        ensures { result ≡ self.now.ended }
+    {
+        self.ended
+    }
+
+    /// How many records wait.
+    pub fn held(&self) -> usize
+        ensures length { result ≡ length self.now.coming }
+        ensures at_most { result ≤ 1 }
+    {
+        match &self.head {
+            None => 0,
+            Some(_) => 1,
+        }
+    }
+
+    /// How many spines stand.
+    pub fn width(&self) -> usize
+        ensures width { result ≡ width self.now.path }
+        ensures at_most { result ≤ 4096 }
+    {
+        self.paths.width()
+    }
+
+    /// How many spines stand behind the next record.
+    pub fn width_ahead(&self) -> usize
+        ensures { result ≡ width
+            (advanced self.now.path self.now.due self.now.coming self.now.ended).path }
+    {
+        match &self.head {
+            None => self.paths.width(),
+            Some(head) => head.width,
+        }
+    }
+
+    /// Where the next record stands, if that is known.
+    pub fn shown(&self) -> Option<Place>
+        ensures { result ≡ shown self.now }
+    {
+        match &self.head {
+            Some(head) => Some(head.place),
+            None => {
+                if self.due {
+                    return None;
+                }
+                match self.ended {
+                    Some(End::Closed) => Some(Place::Over),
+                    _ => None,
+                }
+            }
+        }
+    }
+
+    /// The same of a source that is asked; who isn't has nothing at any place.
+    pub fn place_at(&self, going: bool) -> Place
+        ensures { result ≡ place_at going self.now }
+    {
+        if !(self.due || !going) {
+            return Place::Over;
+        }
+        match self.shown() {
+            None => Place::Over,
+            Some(place) => place,
+        }
+    }
+
+    /// Whether it gives a record at this place.
+    pub fn takes(&self, free: bool, going: bool, p: Place) -> bool
+        ensures { result ≡ takes free going p self.now }
+    {
+        free && self.place_at(going).rank() == p.rank()
+    }
+
+    /// How long the next record's text is.
+    pub fn text_len(&self) -> usize
+        ensures { result ≡ length (text_of_first self.now.coming) }
+    {
+        match &self.head {
+            None => 0,
+            Some(head) => head.row.text().len(),
+        }
+    }
+
+    /// How many bytes the source's part of a record has, with a tab for each token.
+    pub fn room(&self, taken: bool, p: Place) -> usize
+        ensures { result ≡ room (part_given taken p self.now) }
+    {
+        if !taken {
+            return self.paths.width() * (null_at(p.kind()).len() + 1);
+        }
+        match &self.head {
+            None => 0,
+            Some(head) => match head.row.kind() {
+                Kind::Global => 0,
+                _ => head.row.text().len() + 1,
+            },
+        }
+    }
+
+    /// Adds the source's part to a record.
+    pub fn push_part(
+        &self,
+        free: bool,
+        going: bool,
+        p: Place,
+        builder: &mut RecordBuilder,
+    ) -> Result<(), RecordFault>
+        requires lawful { AreLawful self.now.path self.now.coming }
+        requires kind { kind_at p ≡ Some builder.old.kind }
+        ensures { OnOk result (builder.new ≡ record builder.old {
+          tokens = builder.old.tokens
+              ++ part_given (takes free going p self.now) p self.now;
+        }) }
+    {
+        if !self.takes(free, going, p) {
+            return push_nulls(builder, null_at(p.kind()), self.paths.width());
+        }
+        match &self.head {
+            None => Ok(()),
+            Some(head) => push_tokens(builder, &head.row),
+        }
+    }
+
+    /// Goes on by one record that is given; where it isn't this one's, it may be due in the round
+    /// that begins.
+    pub fn go_on(
+        &mut self,
+        taken: bool,
+        going: bool,
+        p: Place,
+    ) -> Result<Option<Record>, AllocError>
+        ensures moved { OnOk result (self.new ≡ moved taken going p self.old) }
+        ensures row { IfOk result
+            (λ o. o ≡ (if taken then first_of self.old.coming else None)) }
+    {
+        if !taken {
+            if !going {
+                self.due = self.place_at(going).step() == p.step();
+            }
+            return Ok(None);
+        }
+        let Some(head) = self.head.take() else {
+            return Ok(None);
+        };
+        let Head {
+            row,
+            place: _,
+            width: _,
+        } = head;
+        match self.paths.step(&row) {
+            Ok(_) => {}
+            Err(PathFault::Memory) => {
+                // where the spines stand isn't known any more
+                self.paths = Paths::new(self.alloc);
+                self.opened = false;
+                self.inside = false;
+                return Err(AllocError);
+            }
+            Err(_) => unreachable!(),
+        }
+        self.opened = is_opened_after(self.opened, &row);
+        self.inside = is_inside_after(self.inside, &self.paths, &row);
+        self.due = self.inside;
+        Ok(Some(row))
+    }
+}
