@@ -59,11 +59,14 @@ abbrev pub value_of : ℕ → List ℕ → ℕ
 value_of n [] = n
 value_of n (digit ∷ digits) = value_of (10 * n + (digit - 48)) digits
 
+-- none that is greater
+abbrev pub at_most : ℕ → Option ℕ
+at_most n = if nat_le n 4294967295 then Some n else None
+
 -- The number that digits bear, unless it is too great.
 abbrev pub number_of : List ℕ → Option ℕ
 number_of [] = None
-number_of (digit ∷ digits) =
-    let n = value_of 0 (digit ∷ digits) in if nat_le n 4294967295 then Some n else None
+number_of (digit ∷ digits) = at_most (value_of 0 (digit ∷ digits))
 
 -- the number directly after the first match
 abbrev pub number_after : (List ℕ → Option ℕ) → List ℕ → Option ℕ
