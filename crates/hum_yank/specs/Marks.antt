@@ -28,7 +28,7 @@ mark_of (Labels name) row = labelled name (label_of row)
 abbrev pub inside : Passages → Bool → Passages
 inside p ends = record {
   number = p.number;
-  ended = p.ended || ends;
+  ended = ends || p.ended;
   counted = p.counted;
   greatest = max_of (or_zero p.number) p.greatest;
 }

@@ -1,6 +1,7 @@
 -- What the state stands for.
 use Rattle.std.specs.Prelude.{◌≡◌, ℕ, Bool, true, false, not, List, [], ◌∷◌, if◌then◌else◌}
 use Rattle.std.specs.Prelude.{Option, Some, None, Result, Ok}
+use Rattle.std.proofs.Common.{refl, ap, suc, length}
 use Rattle.std.specs.Option.{option_to_list}
 use Rattle.std.specs.List.{list_any}
 use Rattle.hum_record.specs.declared.SpinedKind.TheVariants.{Local, Interpretation, Values}
@@ -73,10 +74,18 @@ AllTell o past [] (h ∷ held) = ⊥
 AllTell o past (row ∷ rows) [] = ⊥
 AllTell o past (row ∷ rows) (h ∷ held) = Tells o past row h × AllTell o (row ∷ past) rows held
 
-pub record Follows (options : YankOptions) (path : Path) (passages : Passages) (last : ℕ)
+-- something is kept of each
+pub tell_each : (o : Choice) (past rows : List Row) (held : List Held)
+    → AllTell o past rows held → length held ≡ length rows
+tell_each o past [] [] all = refl
+tell_each o past [] (k ∷ held) all = absurd all
+tell_each o past (q ∷ rows) [] all = absurd all
+tell_each o past (q ∷ rows) (k ∷ held) all = ap suc (tell_each o (q ∷ past) rows held all.1)
+
+pub record Follows (options : YankOptions) (path : Path) (marks : Passages) (greatest : ℕ)
     (held : List Held) (look : Look) (past rows : List Row) : Type 0 where
   pub command : look ≡ yank (choice_of options)
   pub spines : path ≡ path_after (passed past rows)
-  pub passages : passages ≡ passages_of (form_of options.markers) (passed past rows)
-  pub last : last ≡ last_at (form_of options.markers) (passed past rows)
+  pub at_hand : marks ≡ passages_of (form_of options.markers) (passed past rows)
+  pub last : greatest ≡ last_at (form_of options.markers) (passed past rows)
   pub tell : AllTell (choice_of options) past rows held

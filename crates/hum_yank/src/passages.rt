@@ -62,7 +62,7 @@ impl Passages {
     {
         Passages {
             number: self.number,
-            ended: self.ended || ends,
+            ended: ends || self.ended,
             counted: self.counted,
             greatest: greater(or_zero(self.number), self.greatest),
         }
