@@ -1,5 +1,5 @@
 -- What is kept of records tells what is decided of them.
-use Rattle.std.proofs.Common.{◌≡◌, ◌∙◌, refl, sym, ap, ℕ, suc, Bool, true, false, not, List, [], ◌∷◌, ◌++◌, length, cond, Option, None, Some}
+use Rattle.std.proofs.Common.{◌≡◌, ◌∙◌, refl, sym, ap, ℕ, suc, ◌+◌, arith, Bool, true, false, not, List, [], ◌∷◌, ◌++◌, length, cond, Option, None, Some}
 use Rattle.std.specs.Prelude.{Result, Ok}
 use Rattle.std.specs.List.{list_any}
 use Rattle.hum_record.specs.declared.SpinedKind.TheVariants.{Local, Interpretation, Values}
@@ -7,7 +7,7 @@ use Rattle.hum_record.specs.Row.{Row, Comment, Spined}
 use Rattle.hum_path.specs.Rules.{is_unfinished, is_closed}
 use Rattle.hum_path.specs.Score.{path_after, passed}
 use Rattle.hum_stage.specs.declared.faults.Rule.{Rule}
-use Rattle.hum_stage.specs.Settles.{lasting}
+use Rattle.hum_stage.specs.Settles.{lasting, or_stop}
 use Rattle.hum_yank.specs.declared.held.Held.{Held}
 use Rattle.hum_yank.specs.declared.held.Held.TheVariants.{Stays, Goes, Waits}
 use Rattle.hum_yank.specs.Passages.{Form, last_of, passage_of}
@@ -57,3 +57,31 @@ last_next form (Spined kind tokens) past = by_test (is_closed (path_after (Spine
     by_test : (b : Bool) → cond b (last_of form (Spined kind tokens ∷ past)) (last_of form (Spined kind tokens ∷ past)) ≡ last_of form (Spined kind tokens ∷ past)
     by_test true = refl
     by_test false = refl
+
+-- none of those that wait is refused
+one_lasts : (held : Held) (d : Option Bool) (rest : ℕ) → or_stop (answer held d) rest ≡ rest + 1
+one_lasts held None rest = refl
+one_lasts held (Some stays) rest = refl
+
+pub all_last : (o : Choice) (past rows : List Row) (held : List Held) → AllTell o past rows held → length held ≡ lasting (yank o) past rows
+all_last o past [] [] all = refl
+all_last o past [] (k ∷ held) all = absurd all
+all_last o past (q ∷ rows) [] all = absurd all
+all_last o past (q ∷ rows) (k ∷ held) all =
+    let more = all_last o (q ∷ past) rows held all.1 in
+    let seen = passed (q ∷ past) rows in
+    let one = one_lasts k (decided_of o.ranges (is_closed (path_after seen)) (last_at o.form seen) k) (lasting (yank o) (q ∷ past) rows) in
+    let next : suc (length held) ≡ length held + 1 = omega arith in
+    rw (all.0 rows) (next ∙ ap (λ n. n + 1) more ∙ sym one)
+
+-- once the last spine has ended, nothing is undecided
+pub all_decided : (o : Choice) (past : List Row) (row : Row) (rows : List Row) → is_closed (path_after (passed (row ∷ past) rows)) ≡ true → yank o past row rows ≡ None → ⊥
+all_decided o past row rows closed undecided =
+    let held = held_of o.ranges (is_unfinished (path_after past)) row (passage_of o.form past row) in
+    let seen = passed (row ∷ past) rows in
+    by_held held (last_of o.form (to_spined seen)) (rw closed at (sym (tells o past row rows) ∙ undecided))
+  where
+    by_held : (held : Held) (last : ℕ) → answer held (decided_of o.ranges true last held) ≡ None → ⊥
+    by_held (Stays r) last e = cc
+    by_held Goes last e = cc
+    by_held (Waits r x) last e = cc
