@@ -63,6 +63,7 @@ mark_is (Labels name) row = by_label (label_of row) refl
     by_name : (label : List ℕ) (b : Bool) → label_of row ≡ Some label → is_named name (Some label) ≡ b → MarkIs (Labels name) row (cond b Counted (Bears None))
     by_name label true e w = (rw e refl, rw e w, λ past. let named : is_named name (label_of row) ≡ true = rw e w in rw named refl)
     by_name label false e w = (rw e refl, rw e w, λ past. let named : is_named name (label_of row) ≡ false = rw e w in rw named refl)
+
     by_label : (found : Option (List ℕ)) → label_of row ≡ found → MarkIs (Labels name) row (labelled name found)
     by_label None e = (rw e refl, rw e refl)
     by_label (Some label) e = by_name label (is_named name (Some label)) e refl

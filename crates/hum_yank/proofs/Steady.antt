@@ -95,17 +95,17 @@ all_none p q (x ∷ xs) h e = on (p x) (q x) (h x) e (all_none p q xs h)
 pub chosen_stays : (ranges : List YankRange) (closed : Bool) (least more x : ℕ) (d : Bool) → least ≤ more → is_chosen ranges false least x ≡ Some d → is_chosen ranges closed more x ≡ Some d
 chosen_stays ranges closed least more x d h e = elim (cases_Bool (list_any (chooses_now least x) ranges)) as (λ _. is_chosen ranges closed more x ≡ Some d) [
   | inl w ↦
-    let is : true ≡ d = let k : Some true ≡ Some d = rw w at e in cc in
-    let now = any_stays (chooses_now least x) (chooses_now more x) ranges (λ range. now_stays least more x range h) w in
-    let late = any_stays (chooses_now more x) (chooses_late more x) ranges (now_late more x) now in
-    yes closed now late ∙ ap (λ (b : Bool). Some b) is
+      let is : true ≡ d = let k : Some true ≡ Some d = rw w at e in cc in
+      let now = any_stays (chooses_now least x) (chooses_now more x) ranges (λ range. now_stays least more x range h) w in
+      let late = any_stays (chooses_now more x) (chooses_late more x) ranges (now_late more x) now in
+      yes closed now late ∙ ap (λ (b : Bool). Some b) is
   | inr w ↦ elim (cases_Bool (list_all (drops_now least x) ranges)) as (λ _. is_chosen ranges closed more x ≡ Some d) [
     | inl v ↦
-      let is : false ≡ d = let k : Some false ≡ Some d = rw (w, v) at e in cc in
-      let drops = all_stays (drops_now least x) (drops_now more x) ranges (λ range. drop_stays least more x range h) v in
-      let now = all_none (drops_now more x) (chooses_now more x) ranges (dropped_now more x) drops in
-      let late = all_none (drops_now more x) (chooses_late more x) ranges (dropped_late more x) drops in
-      never closed now late drops ∙ ap (λ (b : Bool). Some b) is
+        let is : false ≡ d = let k : Some false ≡ Some d = rw (w, v) at e in cc in
+        let drops = all_stays (drops_now least x) (drops_now more x) ranges (λ range. drop_stays least more x range h) v in
+        let now = all_none (drops_now more x) (chooses_now more x) ranges (dropped_now more x) drops in
+        let late = all_none (drops_now more x) (chooses_late more x) ranges (dropped_late more x) drops in
+        never closed now late drops ∙ ap (λ (b : Bool). Some b) is
     | inr v ↦ let k : None ≡ Some d = rw (w, v) at e in cc
   ]
 ]
@@ -113,6 +113,7 @@ chosen_stays ranges closed least more x d h e = elim (cases_Bool (list_any (choo
     yes : (closed : Bool) → list_any (chooses_now more x) ranges ≡ true → list_any (chooses_late more x) ranges ≡ true → is_chosen ranges closed more x ≡ Some true
     yes true now late = rw late refl
     yes false now late = rw now refl
+
     never : (closed : Bool) → list_any (chooses_now more x) ranges ≡ false → list_any (chooses_late more x) ranges ≡ false → list_all (drops_now more x) ranges ≡ true → is_chosen ranges closed more x ≡ Some false
     never true now late drops = rw late refl
     never false now late drops = rw (now, drops) refl
@@ -160,9 +161,9 @@ seen_stays o seen (Comment text) x d opened score e = elim (cases_Bool (is_close
 seen_stays o seen (Spined kind tokens) x d opened score e = elim (cases_Bool (is_closed (path_after seen))) as (λ _. is_chosen o.ranges (is_closed (path_after (Spined kind tokens ∷ seen))) (last_at o.form (Spined kind tokens ∷ seen)) x ≡ Some d) [
   | inl w ↦ absurd (closed_then (path_after seen) kind tokens opened w score.1)
   | inr w ↦
-    let old = rw w at e in
-    let grown = last_grows o.form (Spined kind tokens) seen in
-    whole (is_closed (path_after (Spined kind tokens ∷ seen))) (chosen_stays o.ranges (is_closed (path_after (Spined kind tokens ∷ seen))) (last_of o.form seen) (last_of o.form (Spined kind tokens ∷ seen)) x d grown old)
+      let old = rw w at e in
+      let grown = last_grows o.form (Spined kind tokens) seen in
+      whole (is_closed (path_after (Spined kind tokens ∷ seen))) (chosen_stays o.ranges (is_closed (path_after (Spined kind tokens ∷ seen))) (last_of o.form seen) (last_of o.form (Spined kind tokens ∷ seen)) x d grown old)
 ]
   where
     whole : (closed : Bool) → is_chosen o.ranges closed (last_of o.form (Spined kind tokens ∷ seen)) x ≡ Some d → is_chosen o.ranges closed (cond closed (last_of o.form (Spined kind tokens ∷ seen)) (last_of o.form (Spined kind tokens ∷ seen))) x ≡ Some d
@@ -205,6 +206,7 @@ yank_steady o = record { stays = stay; one = one }
     stay past (Spined Interpretation tokens) rows next d score e = e
     stay past (Spined Local tokens) rows next d score e = numbered_stays o past (Spined Local tokens) rows next _ d score e
     stay past (Spined Values tokens) rows next d score e = numbered_stays o past (Spined Values tokens) rows next _ d score e
+
     one : (past : List Row) (row : Row) (rows new : List Row) → yank o past row rows ≡ Some (Ok new) → length new ≤ 1
     one past (Comment text) rows new e = one_numbered o past (Comment text) rows _ new e
     one past (Spined Interpretation tokens) rows new e = one_kept (Spined Interpretation tokens) (Some true) new e

@@ -85,3 +85,6 @@ impl Stage for Yank {
         self.inner.held()
     }
 }
+
+#[cfg(test)]
+mod tests;

@@ -165,7 +165,11 @@ fn mark_of_label(name: &[u8], label: &[u8]) -> Mark
     ensures { result ≡ labelled name.now (Some label.now) }
 {
     match label {
-        [b'*', b'>', rest @ ..] => if rest == name { Mark::Counted } else { Mark::Bears(None) },
+        [b'*', b'>', rest @ ..] => if rest == name {
+            Mark::Counted
+        } else {
+            Mark::Bears(None)
+        },
         _ => Mark::Bears(None),
     }
 }

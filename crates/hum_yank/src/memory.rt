@@ -25,13 +25,7 @@ pub(crate) struct Memory {
 }
 
 /// The last number after a record, given whether no spine was open before it.
-fn last_after(
-    passages: &Passages,
-    markers: &Markers,
-    row: &Record,
-    closed: bool,
-    last: u32,
-) -> u32
+fn last_after(passages: &Passages, markers: &Markers, row: &Record, closed: bool, last: u32) -> u32
     ensures { result ≡ (if adds closed row.now then last_in (form_of markers.now) passages.now
         else last) }
 {
