@@ -1,0 +1,31 @@
+-- The command, by its options.
+use Rattle.std.specs.Prelude.{ℕ, Bool, false, List, Option, Some, None}
+use Rattle.hum_pattern.specs.Meaning.{matched, first_end}
+use Rattle.hum_stage.specs.declared.faults.Command.TheVariants.{Yank}
+use Rattle.hum_stage.specs.Meaning.{Meaning}
+use Rattle.hum_stage.specs.Look.{looking}
+use Rattle.hum_yank.specs.declared.options.Markers.{Markers}
+use Rattle.hum_yank.specs.declared.options.Markers.TheVariants.{Lines as ByLine, Numbers as ByNumber}
+use Rattle.hum_yank.specs.declared.options.Markers.TheVariants.{Occurrences as ByOccurrence}
+use Rattle.hum_yank.specs.declared.options.Markers.TheVariants.{Labels as ByLabel}
+use Rattle.hum_yank.specs.declared.options.YankOptions.{YankOptions}
+use Rattle.hum_yank.specs.Passages.{Form, Lines, Numbers, Occurrences, Labels}
+use Rattle.hum_yank.specs.Yank.{Choice, yank}
+
+-- tokens that match the pattern, if there is one
+abbrev pub matched_by : Option (List ℕ) → List ℕ → Bool
+matched_by None token = false
+matched_by (Some pattern) token = matched pattern token
+
+abbrev pub form_of : Markers → Form
+form_of ByLine = Lines
+form_of (ByNumber pattern) = Numbers (first_end pattern)
+form_of (ByOccurrence begins ends) = Occurrences (matched begins) (matched_by ends)
+form_of (ByLabel name) = Labels name.items
+
+abbrev pub choice_of : YankOptions → Choice
+choice_of options = record { form = form_of options.markers; ranges = options.ranges.items }
+
+-- what the stage of this number means
+abbrev pub meaning : ℕ → YankOptions → Meaning
+meaning stage options = looking 65536 stage Yank (yank (choice_of options))

@@ -1,0 +1,105 @@
+//! What yank remembers of the records so far and of those that wait.
+ghost use Rattle.std.specs.Prelude.{◌≡◌, ◌∷◌, if◌then◌else◌, OnOk, IfOk, List};
+ghost use Rattle.std.specs.VecDeque.{deque_len};
+ghost use Rattle.hum_yank.specs.Options.{form_of};
+ghost use Rattle.hum_yank.specs.Memory.{adds};
+ghost use Rattle.hum_yank.specs.Marks.{last_in};
+
+use crate::held::{Held, adds};
+use crate::options::{Markers, YankOptions};
+use crate::passages::Passages;
+use hum_path::Paths;
+use hum_record::Record;
+use hum_stage::{LooksAhead, Verdict};
+use std::alloc::{AllocError, Global};
+use std::collections::VecDeque;
+
+/// The spines, the passage at hand and the last number.
+#[derive(Drop)]
+pub(crate) struct Memory {
+    options: YankOptions,
+    paths: Paths,
+    passages: Passages,
+    // the last number so far: comments after the end of the last spine add nothing to it
+    last: u32,
+}
+
+/// The last number after a record, given whether no spine was open before it.
+fn last_after(passages: &Passages, markers: &Markers, row: &Record, closed: bool, last: u32) -> u32
+    ensures { result ≡ (if adds closed row.now then last_in (form_of markers.now) passages.now
+        else last) }
+{
+    if adds(closed, row) {
+        passages.last(markers)
+    } else {
+        last
+    }
+}
+
+impl Memory {
+    ghost use Rattle.std.specs.Prelude.{[]};
+    ghost use Rattle.hum_yank.specs.Yank.{yank};
+    ghost use Rattle.hum_yank.specs.Options.{choice_of};
+    ghost use Rattle.hum_yank.specs.Memory.{Follows};
+
+    /// Before all records.
+    pub(crate) fn new(alloc: Global, options: YankOptions) -> Memory
+        ensures { Follows result.options result.paths.path result.passages result.last []
+            (yank (choice_of options)) [] [] }
+    {
+        let passages = Passages::new(&options.markers);
+        Memory {
+            options,
+            paths: Paths::new(alloc),
+            passages,
+            last: 0,
+        }
+    }
+}
+
+impl LooksAhead for Memory {
+    type Held = Held;
+
+    ghost use Rattle.hum_yank.specs.Options.{choice_of};
+    ghost use Rattle.hum_yank.specs.Memory.{Follows, tell_each};
+
+    ghost follows = { λ s held. Follows s.options s.paths.path s.passages s.last held };
+
+    ghost each = { λ s held look past rows h. tell_each (choice_of s.options) past rows held h.tell };
+
+    fn put(&mut self, next: Record, held: &mut VecDeque<Held>) -> Result<(), AllocError> {
+        let closed = self.paths.is_closed();
+        let Ok(_) = self.paths.step(&next) else {
+            return Err(AllocError)
+        };
+        let number = self.passages.step(&mut self.options.markers, &next);
+        self.last = last_after(
+            &self.passages,
+            &self.options.markers,
+            &next,
+            closed,
+            self.last,
+        );
+        let kept = Held::of(&self.options.ranges, !closed, next, number);
+        held.push_back(kept)?;
+        Ok(())
+    }
+
+    fn settle(&mut self, held: &mut VecDeque<Held>) -> Result<Verdict, AllocError> {
+        let closed = self.paths.is_closed();
+        let Some(first) = held.front() else {
+            return Ok(Verdict::Waits)
+        };
+        let Some(stays) = first.decided(&self.options.ranges, closed, self.last) else {
+            return Ok(Verdict::Waits)
+        };
+        match held.pop_front() {
+            None => Ok(Verdict::Waits),
+            Some(first) => Ok(Verdict::Gives(first.given(stays))),
+        }
+    }
+
+    fn lasting(&self, held: &VecDeque<Held>) -> usize {
+        held.len()
+    }
+}

@@ -1,0 +1,122 @@
+//! The passage at hand.
+ghost use Rattle.std.specs.Prelude.{◌≡◌, ◌<◌, []};
+ghost use Rattle.hum_yank.specs.Passages.{or_zero, max_of, is_last};
+ghost use Rattle.hum_yank.specs.Options.{form_of};
+ghost use Rattle.hum_yank.specs.Marks.{mark_of, passages_of, inside, begun};
+ghost use Rattle.hum_yank.specs.Marks.{next_passages, number_in, last_in};
+
+use crate::marking::Mark;
+use crate::options::Markers;
+use hum_record::Record;
+
+/// What is remembered of passages.
+#[derive(Clone, Copy, Debug, PartialEq, Eq)]
+pub(crate) struct Passages {
+    // the number of the nearest marker's passage
+    number: Option<u32>,
+    // whether that has ended
+    ended: bool,
+    // how many are numbered by occurrence
+    counted: u32,
+    // the greatest number
+    greatest: u32,
+}
+
+fn or_zero(number: Option<u32>) -> u32
+    ensures { result ≡ or_zero number }
+{
+    match number {
+        None => 0,
+        Some(number) => number,
+    }
+}
+
+fn greater(a: u32, b: u32) -> u32
+    ensures { result ≡ max_of a b }
+{
+    if a <= b { b } else { a }
+}
+
+impl Passages {
+    /// Before all records.
+    pub(crate) fn new(markers: &Markers) -> Passages
+        ensures { result ≡ passages_of (form_of markers.now) [] }
+    {
+        let number = match markers {
+            Markers::Lines => Some(0),
+            Markers::Numbers(_) => Some(0),
+            Markers::Occurrences(_, _) => None,
+            Markers::Labels(_) => None,
+        };
+        Passages {
+            number,
+            ended: false,
+            counted: 0,
+            greatest: 0,
+        }
+    }
+
+    /// After a record in the passage at hand.
+    fn inside(self, ends: bool) -> Passages
+        ensures { result ≡ inside self ends }
+    {
+        Passages {
+            number: self.number,
+            ended: ends || self.ended,
+            counted: self.counted,
+            greatest: greater(or_zero(self.number), self.greatest),
+        }
+    }
+
+    /// After a record that begins a passage.
+    fn begun(self, number: Option<u32>, counted: u32, ends: bool) -> Passages
+        ensures { result ≡ begun self number counted ends }
+    {
+        Passages {
+            number,
+            ended: ends,
+            counted,
+            greatest: greater(or_zero(number), self.greatest),
+        }
+    }
+
+    /// Takes one record more, and answers the number of the passage in which it lies, if it lies in
+    /// one with a number.
+    pub(crate) fn step(&mut self, markers: &mut Markers, row: &Record) -> Option<u32>
+        requires few { self.old.counted < 4294967295 }
+        ensures number { result ≡ number_in self.old (mark_of (form_of markers.old) row.now) }
+        ensures after { self.new ≡ next_passages self.old (mark_of (form_of markers.old) row.now)
+            (is_last (form_of markers.old) row.now) }
+        ensures kept { markers.new ≡ markers.old }
+    {
+        let before = *self;
+        let ends = markers.ends(row);
+        match markers.mark(row) {
+            Mark::Inside => {
+                *self = before.inside(ends);
+                if before.ended { None } else { before.number }
+            }
+            Mark::Counted => {
+                let counted = before.counted + 1;
+                *self = before.begun(Some(counted), counted, ends);
+                Some(counted)
+            }
+            Mark::Bears(number) => {
+                *self = before.begun(number, before.counted, ends);
+                number
+            }
+        }
+    }
+
+    /// The last number so far.
+    pub(crate) fn last(&self, markers: &Markers) -> u32
+        ensures { result ≡ last_in (form_of markers.now) self.now }
+    {
+        match markers {
+            Markers::Numbers(_) => self.greatest,
+            Markers::Lines => self.counted,
+            Markers::Occurrences(_, _) => self.counted,
+            Markers::Labels(_) => self.counted,
+        }
+    }
+}
