@@ -19,6 +19,8 @@ mod run;
 #[cfg(test)]
 mod tests;
 mod values;
+#[cfg(test)]
+mod waiting_tests;
 mod words;
 mod writing;
 

@@ -1,7 +1,8 @@
 //! The options of commands, as a plan spells them.
-use crate::values::{fields, names, pattern, signed_number};
+use crate::values::{count, fields, is_label, names, pattern, ranges, signed_number};
 use crate::words::Given;
 use hum_cleave::{CleaveOptions, is_name, is_separator};
+use hum_context::{ContextOptions, Span};
 use hum_ditto::DittoOptions;
 use hum_extract::Choice;
 use hum_kern::read_recip;
@@ -9,6 +10,7 @@ use hum_pattern::Pattern;
 use hum_rid::RidOptions;
 use hum_timebase::TimebaseOptions;
 use hum_tones::{MintOptions, RecipOptions, SemitsOptions, Transposition};
+use hum_yank::{Markers, YankOptions};
 use std::alloc::{AllocError, Global};
 
 /// A command with its options.
@@ -23,6 +25,8 @@ pub enum CommandOptions {
     Recip(RecipOptions),
     Mint(MintOptions),
     Cleave(CleaveOptions),
+    Context(ContextOptions),
+    Yank(YankOptions),
 }
 
 /// Nothing is dropped.
@@ -134,6 +138,67 @@ fn cleave_options(alloc: Global, words: &[&[u8]]) -> Result<Option<CleaveOptions
     )))
 }
 
+/// What context's words say: `-n N`, or `-b PATTERN` and `-e PATTERN`; and `-o PATTERN` or not.
+fn context_options(alloc: Global, words: &[&[u8]]) -> Result<Option<ContextOptions>, AllocError> {
+    let Some(given) = Given::read(words, b"nbeo", b"") else {
+        return Ok(None);
+    };
+    let Some(omit) = optional_pattern(alloc, given.value(b'o'))? else {
+        return Ok(None);
+    };
+    let span = match (given.value(b'n'), given.value(b'b'), given.value(b'e')) {
+        (Some(number), None, None) => count(number).map(Span::Number),
+        (None, Some(begin), Some(end)) => match (pattern(alloc, begin)?, pattern(alloc, end)?) {
+            (Some(begin), Some(end)) => Some(Span::Phrase(begin, end)),
+            _ => None,
+        },
+        _ => None,
+    };
+    Ok(span.map(|span| ContextOptions { span, omit }))
+}
+
+/// How yank's words mark passages: `-l`, `-n PATTERN`, `-o PATTERN` with `-e PATTERN` or not, or
+/// `-s LABEL`.
+fn markers(alloc: Global, given: Given<'_>) -> Result<Option<Markers>, AllocError> {
+    let ends = given.value(b'e');
+    let forms = (
+        given.has(b'l'),
+        given.value(b'n'),
+        given.value(b'o'),
+        given.value(b's'),
+    );
+    match (forms, ends) {
+        ((true, None, None, None), None) => Ok(Some(Markers::Lines)),
+        ((false, Some(number), None, None), None) => {
+            Ok(pattern(alloc, number)?.map(Markers::Numbers))
+        }
+        ((false, None, Some(begin), None), _) => match pattern(alloc, begin)? {
+            None => Ok(None),
+            Some(begin) => Ok(optional_pattern(alloc, ends)?.map(|end| Markers::Occurrences(
+                begin, end,
+            ))),
+        },
+        ((false, None, None, Some(label)), None) if is_label(label) => {
+            Ok(Some(Markers::Labels(label.to_vec(alloc)?)))
+        }
+        _ => Ok(None),
+    }
+}
+
+/// What yank's words say: how passages are marked, and `-r RANGES`.
+fn yank_options(alloc: Global, words: &[&[u8]]) -> Result<Option<YankOptions>, AllocError> {
+    let Some(given) = Given::read(words, b"noesr", b"l") else {
+        return Ok(None);
+    };
+    let Some(list) = given.value(b'r') else {
+        return Ok(None);
+    };
+    match (markers(alloc, given)?, ranges(alloc, list)?) {
+        (Some(markers), Some(ranges)) => Ok(Some(YankOptions { markers, ranges })),
+        _ => Ok(None),
+    }
+}
+
 /// What timebase's words say: `-t RECIP`.
 fn timebase_options(alloc: Global, words: &[&[u8]]) -> Result<Option<TimebaseOptions>, AllocError> {
     let Some(given) = Given::read(words, b"t", b"") else {
@@ -221,6 +286,10 @@ pub fn command_options(
         Ok(mint_options(alloc, words)?.map(CommandOptions::Mint))
     } else if command == b"cleave".as_slice() {
         Ok(cleave_options(alloc, words)?.map(CommandOptions::Cleave))
+    } else if command == b"context".as_slice() {
+        Ok(context_options(alloc, words)?.map(CommandOptions::Context))
+    } else if command == b"yank".as_slice() {
+        Ok(yank_options(alloc, words)?.map(CommandOptions::Yank))
     } else {
         Ok(None)
     }

@@ -13,6 +13,7 @@ ghost use Rattle.humpipe.specs.Run.{HasEnded, HasFailed, HasRun, HasFinished};
 use crate::options::CommandOptions;
 use crate::writing::write_record;
 use hum_cleave::Cleave;
+use hum_context::Context;
 use hum_ditto::Ditto;
 use hum_extract::Extract;
 use hum_read::{ReadError, ScoreReader, Step};
@@ -22,6 +23,7 @@ use hum_stage::{End, Stage, State};
 use hum_text::calls::{Sink, Source};
 use hum_timebase::Timebase;
 use hum_tones::{Mint, Recip, Semits, Trans};
+use hum_yank::Yank;
 use std::alloc::Global;
 
 /// Why a run stopped before its end.
@@ -210,5 +212,9 @@ pub fn run_command<R: Source, W: Sink>(
         CommandOptions::Recip(options) => run_stage(source, Recip::new(alloc, 2, options), sink),
         CommandOptions::Mint(options) => run_stage(source, Mint::new(alloc, 2, options), sink),
         CommandOptions::Cleave(options) => run_stage(source, Cleave::new(alloc, 2, options), sink),
+        CommandOptions::Context(options) => {
+            run_stage(source, Context::new(alloc, 2, options), sink)
+        }
+        CommandOptions::Yank(options) => run_stage(source, Yank::new(alloc, 2, options), sink),
     }
 }

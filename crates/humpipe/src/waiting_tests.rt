@@ -1,0 +1,242 @@
+//! Scores through the commands whose records wait for later ones: what is put in, what is written,
+//! what is told.
+use crate::rows::{Row, check};
+use std::test::Fail;
+
+const CONTEXT: [Row; 12] = [
+    (
+        b"out: read a | context -n 2 -o '^='\n--- a\n**x\na\n=1\n.\nb\nc\n*-\n",
+        b"**x\na b\n=1\n.\nb c\n.\n*-\n",
+        "",
+    ),
+    (
+        b"out: read a | context -n 2\n--- a\n**x\na\n*^\nb\tc\n*v\t*v\nd\n*-\n",
+        b"**x\na b\n*^\nb d\tc d\n*v\t*v\n.\n*-\n",
+        "",
+    ),
+    (
+        b"out: read a | context -b '\\(' -e '\\)'\n--- a\n**x\n(a\nb\nc)\nd\n*-\n",
+        b"**x\n(a b c)\n.\n.\n.\n*-\n",
+        "",
+    ),
+    (
+        b"out: read a | context -n 3\n--- a\n**x\na\nb\n",
+        b"**x\n",
+        "humpipe: stage 1 (read), line 4: P8",
+    ),
+    // a phrase and the voices that it splits into
+    (
+        b"out: read a | context -e ';' -b '\\(' -o '^='\n--- a\n**kern\t**x\n(4c\tq\n=1\t=1\n*^\t*\n4d\t4e\tq\n*v\t*v\t*\n4f;\t.\n4g\t.\n*-\t*-\n",
+        b"**kern\t**x\n(4c 4d 4f;\t.\n=1\t=1\n*^\t*\n.\t.\t.\n*v\t*v\t*\n.\t.\n.\t.\n*-\t*-\n",
+        "",
+    ),
+    // what is undecided when the input breaks off isn't written
+    (
+        b"out: read a | context -n 2\n--- a\n**x\t**y\n1\ta\n2\t.\n3\t.\n*-\t*x\n",
+        b"**x\t**y\n",
+        "humpipe: stage 1 (read), line 5: P4",
+    ),
+    // a spine ends, or begins another interpretation
+    (
+        b"out: read a | context -n 2\n--- a\n**x\t**y\n1\ta\n*\t**z\n2\tb\n*-\t*\nc\n*-\n",
+        b"**x\t**y\n1 2\t.\n*\t**z\n.\tb c\n*-\t*\n.\n*-\n",
+        "",
+    ),
+    // what isn't understood
+    (
+        b"out: read a | context -n 0\n--- a\n**x\n*-\n",
+        b"",
+        "humpipe: plan not supported",
+    ),
+    (
+        b"out: read a | context -n 4097\n--- a\n**x\n*-\n",
+        b"",
+        "humpipe: plan not supported",
+    ),
+    (
+        b"out: read a | context -n 2 -b a\n--- a\n**x\n*-\n",
+        b"",
+        "humpipe: plan not supported",
+    ),
+    (
+        b"out: read a | context -b a\n--- a\n**x\n*-\n",
+        b"",
+        "humpipe: plan not supported",
+    ),
+    (
+        b"out: read a | context\n--- a\n**x\n*-\n",
+        b"",
+        "humpipe: plan not supported",
+    ),
+];
+
+const YANK: [Row; 31] = [
+    (
+        b"out: read a | yank -n '^=' -r 1\n--- a\n**kern\n!!up\n4c\n=1\n4d\n*k[]\n=2\n4e\n==\n*-\n",
+        b"**kern\n=1\n4d\n*k[]\n*-\n",
+        "",
+    ),
+    (
+        b"out: read a | yank -n '^=' -r 0\n--- a\n**kern\n!!up\n4c\n=1\n4d\n*k[]\n=2\n4e\n==\n*-\n",
+        b"**kern\n!!up\n4c\n*k[]\n*-\n",
+        "",
+    ),
+    (
+        b"out: read a | yank -n '^=' -r 2-$\n--- a\n**kern\n!!up\n4c\n=1\n4d\n*k[]\n=2\n4e\n==\n*-\n",
+        b"**kern\n*k[]\n=2\n4e\n*-\n",
+        "",
+    ),
+    (
+        b"out: read a | yank -o '^=' -r 3\n--- a\n**kern\n!!up\n4c\n=1\n4d\n*k[]\n=2\n4e\n==\n*-\n",
+        b"**kern\n*k[]\n==\n*-\n",
+        "",
+    ),
+    (
+        b"out: read a | yank -l -r 3-5\n--- a\n**kern\n!!up\n4c\n=1\n4d\n*k[]\n=2\n4e\n==\n*-\n",
+        b"**kern\n4c\n=1\n4d\n*k[]\n*-\n",
+        "",
+    ),
+    (
+        b"out: read a | yank -s A -r 2\n--- a\n**kern\n*>A\n4c\n*>B\n4d\n*>A\n4e\n*-\n",
+        b"**kern\n*>A\n*>B\n*>A\n4e\n*-\n",
+        "",
+    ),
+    (
+        b"out: read a | yank -o a -e b -r 1\n--- a\n**x\na1\nb\nc\na2\nd\n*-\n",
+        b"**x\na1\nb\n*-\n",
+        "",
+    ),
+    (
+        b"out: read a | yank -o a -e b -r 1-$\n--- a\n**x\na1\nb\nc\na2\nd\n*-\n",
+        b"**x\na1\nb\na2\nd\n*-\n",
+        "",
+    ),
+    (
+        b"out: read a | yank -n '^=' -r $\n--- a\n**kern\n!!up\n4c\n=1\n4d\n*k[]\n=2\n4e\n==\n*-\n",
+        b"**kern\n*k[]\n=2\n4e\n*-\n",
+        "",
+    ),
+    (
+        b"out: read a | yank -n '^=' -r $-2-$-1\n--- a\n**kern\n!!up\n4c\n=1\n4d\n*k[]\n=2\n4e\n==\n*-\n",
+        b"**kern\n!!up\n4c\n=1\n4d\n*k[]\n*-\n",
+        "",
+    ),
+    (
+        b"out: read a | yank -n '^=' -r 1-$-1\n--- a\n**kern\n!!up\n4c\n=1\n4d\n*k[]\n=2\n4e\n==\n*-\n",
+        b"**kern\n=1\n4d\n*k[]\n*-\n",
+        "",
+    ),
+    (
+        b"out: read a | yank -o '^=' -r $-1-$\n--- a\n**kern\n!!up\n4c\n=1\n4d\n*k[]\n=2\n4e\n==\n*-\n",
+        b"**kern\n*k[]\n=2\n4e\n==\n*-\n",
+        "",
+    ),
+    (
+        b"out: read a | yank -l -r $-1\n--- a\n**kern\n!!up\n4c\n=1\n4d\n*k[]\n=2\n4e\n==\n*-\n",
+        b"**kern\n*k[]\n==\n*-\n",
+        "",
+    ),
+    (
+        b"out: read a | yank -n '^=' -r $\n--- a\n!!f\n**x\na\n*-\n!!t\n",
+        b"**x\na\n*-\n",
+        "",
+    ),
+    (
+        b"out: read a | yank -l -r $-1\n--- a\n!!f\n**x\na\n*-\n!!t\n",
+        b"**x\na\n*-\n",
+        "",
+    ),
+    (
+        b"out: read a | yank -l -r $-3\n--- a\n!!f\n**x\na\n*-\n!!t\n",
+        b"**x\n*-\n",
+        "",
+    ),
+    (
+        b"out: read a | yank -n '^=' -r 0\n--- a\n!!f\n**x\na\n*-\n!!t\n",
+        b"!!f\n**x\na\n*-\n!!t\n",
+        "",
+    ),
+    (
+        b"out: read a | yank -o '^a' -r $\n--- a\n**x\na\nb\n",
+        b"**x\n",
+        "humpipe: stage 1 (read), line 4: P8",
+    ),
+    (
+        b"out: read a | yank -l -r $-1-$-2\n--- a\n**x\n*-\n",
+        b"",
+        "humpipe: plan not supported",
+    ),
+    (
+        b"out: read a | yank -l -r $-0\n--- a\n**x\n*-\n",
+        b"",
+        "humpipe: plan not supported",
+    ),
+    // the last two bars, with the comments in them
+    (
+        b"out: read a | yank -o '^=' -r $-1-$\n--- a\n!!t\n**kern\n4c\n=1\n4d\n!!x\n=2\n!y\n4e\n=3\n4f\n*-\n!!z\n",
+        b"**kern\n=2\n!y\n4e\n=3\n4f\n*-\n",
+        "",
+    ),
+    // two passages of one number, and a number with zeros in front
+    (
+        b"out: read a | yank -n '^=' -r 12\n--- a\n**kern\n=012\n4c\n=13\n4d\n=12a\n4e\n*-\n",
+        b"**kern\n=012\n4c\n=12a\n4e\n*-\n",
+        "",
+    ),
+    // what isn't understood
+    (
+        b"out: read a | yank -l -r 3-2\n--- a\n**x\n*-\n",
+        b"",
+        "humpipe: plan not supported",
+    ),
+    (
+        b"out: read a | yank -l\n--- a\n**x\n*-\n",
+        b"",
+        "humpipe: plan not supported",
+    ),
+    (
+        b"out: read a | yank -l -o a -r 1\n--- a\n**x\n*-\n",
+        b"",
+        "humpipe: plan not supported",
+    ),
+    (
+        b"out: read a | yank -n a -e b -r 1\n--- a\n**x\n*-\n",
+        b"",
+        "humpipe: plan not supported",
+    ),
+    (
+        b"out: read a | yank -s 'A[' -r 1\n--- a\n**x\n*-\n",
+        b"",
+        "humpipe: plan not supported",
+    ),
+    (
+        b"out: read a | yank -l -r 4294967296\n--- a\n**x\n*-\n",
+        b"",
+        "humpipe: plan not supported",
+    ),
+    (
+        b"out: read a | yank -l -r $-$\n--- a\n**x\n*-\n",
+        b"",
+        "humpipe: plan not supported",
+    ),
+    (
+        b"out: read a | yank -l -r 1-$-0\n--- a\n**x\n*-\n",
+        b"",
+        "humpipe: plan not supported",
+    ),
+    (
+        b"out: read a | yank -l -r $-01\n--- a\n**x\n*-\n",
+        b"",
+        "humpipe: plan not supported",
+    ),
+];
+
+#[test]
+fn contexts(rt: HostRuntime) -> Result<(), Fail> {
+    check(&rt, rt.alloc(), &CONTEXT)
+}
+
+#[test]
+fn passages(rt: HostRuntime) -> Result<(), Fail> {
+    check(&rt, rt.alloc(), &YANK)
+}
