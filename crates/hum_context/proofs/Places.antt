@@ -27,4 +27,3 @@ position_here p xs i x h e same = position_from-zero p xs
 pub position_nowhere : {X : Type 0} (p : X → Bool) (xs : List X) (i : ℕ) → length xs ≤ i
     → position_from p i (drop i xs) ≡ position_from p 0 xs → position p xs ≡ None
 position_nowhere p xs i h same = position_from-zero p xs ∙ (sym same ∙ rw (drop_all i xs h) refl)
-

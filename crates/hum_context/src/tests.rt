@@ -121,12 +121,7 @@ fn run(
     let Score { paths, records } = score;
     assert!(rt; paths.is_closed());
     assert!(rt; records.len() < 100_000);
-    Ok(whole(
-        alloc,
-        Context::new(alloc, 2, options),
-        records,
-        End::Closed,
-    )?)
+    Ok(whole(alloc, Context::new(alloc, 2, options), records, End::Closed)?)
 }
 
 fn check_whole(
@@ -162,10 +157,25 @@ fn gives_a_token_and_those_behind_it(rt: HostRuntime) -> Result<(), Fail> {
         &[b"**x", b"a b", b"=1", b".", b"b c", b".", b"*-"],
     )?;
     // a number of one leaves the tokens, and comments and tandem interpretations stay
-    let put: [&'static [u8]; 7] = [b"!!f", b"**x\t**y", b"a\t.", b"!l\t!", b"*c\t*", b"b\t1", b"*-\t*-"];
+    let put: [&'static [u8]; 7] = [
+        b"!!f",
+        b"**x\t**y",
+        b"a\t.",
+        b"!l\t!",
+        b"*c\t*",
+        b"b\t1",
+        b"*-\t*-",
+    ];
     check_whole(&rt, alloc, so_many(alloc, 1, None)?, &put, &put)?;
-    let want: [&'static [u8]; 7] =
-        [b"!!f", b"**x\t**y", b"a b\t.", b"!l\t!", b"*c\t*", b".\t.", b"*-\t*-"];
+    let want: [&'static [u8]; 7] = [
+        b"!!f",
+        b"**x\t**y",
+        b"a b\t.",
+        b"!l\t!",
+        b"*c\t*",
+        b".\t.",
+        b"*-\t*-",
+    ];
     check_whole(&rt, alloc, so_many(alloc, 2, None)?, &put, &want)
 }
 
@@ -184,8 +194,24 @@ fn collects_phrases(rt: HostRuntime) -> Result<(), Fail> {
         &rt,
         alloc,
         from_to(alloc, "\\(", "\\)")?,
-        &[b"**x\t**x", b"(a\tc", b"(b\t(d)", b".\t.", b"e)\tf", b"g\t(h", b"*-\t*-"],
-        &[b"**x\t**x", b"(a (b e)\t.", b"(b e)\t(d)", b".\t.", b".\t.", b".\t.", b"*-\t*-"],
+        &[
+            b"**x\t**x",
+            b"(a\tc",
+            b"(b\t(d)",
+            b".\t.",
+            b"e)\tf",
+            b"g\t(h",
+            b"*-\t*-",
+        ],
+        &[
+            b"**x\t**x",
+            b"(a (b e)\t.",
+            b"(b e)\t(d)",
+            b".\t.",
+            b".\t.",
+            b".\t.",
+            b"*-\t*-",
+        ],
     )
 }
 
@@ -213,8 +239,26 @@ fn follows_the_spines(rt: HostRuntime) -> Result<(), Fail> {
         &rt,
         alloc,
         so_many(alloc, 2, None)?,
-        &[b"**x\t**y", b"a\tb", b"*-\t*", b"c", b"*+", b"*\t**z", b"d\te", b"*-\t*-"],
-        &[b"**x\t**y", b".\tb c", b"*-\t*", b"c d", b"*+", b"*\t**z", b".\t.", b"*-\t*-"],
+        &[
+            b"**x\t**y",
+            b"a\tb",
+            b"*-\t*",
+            b"c",
+            b"*+",
+            b"*\t**z",
+            b"d\te",
+            b"*-\t*-",
+        ],
+        &[
+            b"**x\t**y",
+            b".\tb c",
+            b"*-\t*",
+            b"c d",
+            b"*+",
+            b"*\t**z",
+            b".\t.",
+            b"*-\t*-",
+        ],
     )?;
     // a new exclusive interpretation
     check_whole(
@@ -222,7 +266,14 @@ fn follows_the_spines(rt: HostRuntime) -> Result<(), Fail> {
         alloc,
         so_many(alloc, 2, None)?,
         &[b"**x\t**y", b"a\tb", b"**z\t*", b"c\td", b"e\tf", b"*-\t*-"],
-        &[b"**x\t**y", b".\tb d", b"**z\t*", b"c e\td f", b".\t.", b"*-\t*-"],
+        &[
+            b"**x\t**y",
+            b".\tb d",
+            b"**z\t*",
+            b"c e\td f",
+            b".\t.",
+            b"*-\t*-",
+        ],
     )
 }
 

@@ -6,5 +6,5 @@ use Rattle.hum_context.proofs.memory.Windows.show_if.Goals as goal
 pub returns-clause-shown : goal.returns-clause-shown
 returns-clause-shown c o path h =
     walked_quiet (next_cell o path c.args.row.now) _ _ _ (quiet_data o path c.args.row.now
-        c.args.heard.now _ c.requires.kind c.requires.lawful h.heard_is (sym c.requires.any
-        ∙ c.if-any.false)) c.requires.places
+    c.args.heard.now _ c.requires.kind c.requires.lawful h.heard_is (sym c.requires.any
+    ∙ c.if-any.false)) c.requires.places
