@@ -1,18 +1,16 @@
 -- In a closed score every spine comes to an end.
 use Rattle.std.proofs.Common.{◌≡◌, ◌∙◌, refl, sym, ap, ℕ, zero, suc, ◌+◌, ◌≤◌, ◌<◌, Bool, true}
-use Rattle.std.proofs.Common.{false, not, ◌&&◌, ◌||◌, List, [], ◌∷◌, ◌++◌, map, length, Option}
-use Rattle.std.proofs.Common.{Some, None, inl, inr, ◌⊎◌, arith, cond, get_or}
+use Rattle.std.proofs.Common.{false, ◌||◌, List, [], ◌∷◌, ◌++◌, map, length}
+use Rattle.std.proofs.Common.{None, inl, inr, ◌⊎◌, arith, cond, get_or}
 use Rattle.std.specs.Prelude.{nat_le, ◌==◌}
-use Rattle.std.specs.List.{list_any, position, find}
+use Rattle.std.specs.List.{list_any, find}
 use Rattle.std.proofs.lemmas.Bool.Decides.{nat_tests}
 use Rattle.std.proofs.lemmas.List.Folds.{list_any-append}
 use Rattle.hum_path.specs.declared.signs.Sign.{Sign}
 use Rattle.hum_path.specs.declared.signs.Sign.TheVariants.{Split, Join, Exchange, Add, End}
 use Rattle.hum_path.specs.declared.signs.Sign.TheVariants.{Exclusive, Plain}
-use Rattle.hum_path.specs.declared.moved.Move.{Move}
-use Rattle.hum_path.specs.declared.moved.Move.TheVariants.{Same, Left, Right, Join as Joined, Added}
 use Rattle.hum_path.specs.Sign.{sign_of, is_join, is_exchange}
-use Rattle.hum_path.specs.Spines.{Path, Unopened, Spines, joins_at_front, exchanges, partner, heirs}
+use Rattle.hum_path.specs.Spines.{Spines, joins_at_front, exchanges, partner, heirs}
 use Rattle.hum_path.specs.Spines.{heirs_from, moves_under}
 use Rattle.hum_path.specs.Rules.{breaks, in_order, is_pair_or_none}
 use Rattle.hum_path.proofs.Obeyed.{obeys}

@@ -9,7 +9,7 @@ use Rattle.hum_record.specs.Row.{Row, Comment, Spined}
 use Rattle.hum_stage.specs.declared.faults.Rule.{Rule}
 use Rattle.hum_stage.specs.declared.faults.Rule.TheVariants.{H1}
 use Rattle.hum_stage.specs.Outcome.{settled, refusal, held_of}
-use Rattle.hum_stage.specs.Look.{Look, outcomes_from}
+use Rattle.hum_stage.specs.Look.{outcomes_from}
 use Rattle.hum_context.specs.Context.{First, Between, Choice, context}
 
 abbrev none : List ℕ → Bool

@@ -1,15 +1,14 @@
 -- What is remembered goes on.
-use Rattle.std.proofs.Common.{◌≡◌, ◌∙◌, refl, sym, ap, ℕ, suc, ◌+◌, ◌*◌, ◌≤◌, ◌<◌, Bool, true}
+use Rattle.std.proofs.Common.{◌≡◌, ◌∙◌, refl, sym, ap, ℕ, suc, ◌+◌, ◌≤◌, ◌<◌, true}
 use Rattle.std.proofs.Common.{false, List, [], ◌∷◌, ◌++◌, map, length, drop, get_or, length-append}
-use Rattle.std.proofs.Common.{arith, Option, Some, None, inl, inr, ◌⊎◌, cond}
+use Rattle.std.proofs.Common.{arith, Option, Some, None}
 use Rattle.std.specs.Prelude.{Result, Ok, Err, nat_le}
 use Rattle.std.proofs.lemmas.Bool.Decides.{nat_tests}
 use Rattle.std.proofs.lemmas.List.{length-map}
-use Rattle.hum_record.specs.declared.Kind.TheVariants.{Global, Values as AnyValues}
+use Rattle.hum_record.specs.declared.Kind.TheVariants.{Values as AnyValues}
 use Rattle.hum_record.specs.declared.SpinedKind.TheVariants.{Local, Interpretation, Values}
 use Rattle.hum_record.specs.Row.{Row, Comment, Spined, kind_of, tokens_of, text_of}
 use Rattle.hum_record.specs.Spelling.{IsTextOf}
-use Rattle.hum_record.specs.Building.{spelled}
 use Rattle.hum_path.specs.Spines.{Path, Unopened, after}
 use Rattle.hum_context.specs.declared.options.Span.{Span}
 use Rattle.hum_context.specs.declared.options.Span.TheVariants.{Number, Phrase}
@@ -24,7 +23,7 @@ use Rattle.hum_context.specs.Context.{Choice, taken, context, all_some, data_of,
 use Rattle.hum_context.specs.Cells.{Cell, next_cell, token_of, tokens_of_cells, values_of, cells_at}
 use Rattle.hum_context.specs.Cells.{all_cells, first_cells, open_from}
 use Rattle.hum_context.specs.Memory.{Follows, HasSeen}
-use Rattle.hum_context.specs.Shown.{all_shown, IsNew}
+use Rattle.hum_context.specs.Shown.{IsNew}
 use Rattle.hum_context.proofs.Growing.{all_cells_push, cells_first}
 use Rattle.hum_context.proofs.Steady.{decides}
 use Rattle.hum_context.proofs.Tokens.{row_width, data_values}

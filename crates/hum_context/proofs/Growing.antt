@@ -1,13 +1,12 @@
 -- One record more, behind those that wait.
 use Rattle.std.proofs.Common.{◌≡◌, ◌∙◌, refl, sym, ap, ℕ, ◌+◌, List, [], ◌∷◌, ◌++◌, map, Option}
-use Rattle.std.proofs.Common.{Some, None, Result, Ok, Err, append_assoc, append-nil}
+use Rattle.std.proofs.Common.{None, append_assoc, append-nil}
 use Rattle.std.proofs.lemmas.List.{map-append}
-use Rattle.hum_record.specs.declared.SpinedKind.TheVariants.{Local, Interpretation, Values}
-use Rattle.hum_record.specs.Row.{Row, Comment, Spined}
-use Rattle.hum_path.specs.Spines.{Path, after}
+use Rattle.hum_record.specs.Row.{Row}
+use Rattle.hum_path.specs.Spines.{Path}
 use Rattle.hum_path.specs.Score.{path_after, passed}
 use Rattle.hum_context.specs.Context.{Choice, taken, chain, new_token, new_tokens}
-use Rattle.hum_context.specs.Cells.{Cell, cell_at, next_cell, first_cell, token_of, tokens_of_cells}
+use Rattle.hum_context.specs.Cells.{Cell, cell_at, next_cell, first_cell, tokens_of_cells}
 use Rattle.hum_context.specs.Cells.{path_through, values_of, cells_at, all_cells, first_cells}
 use Rattle.hum_context.proofs.Growth.{cell_push, cell_first, cell_gives}
 

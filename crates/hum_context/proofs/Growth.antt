@@ -1,11 +1,11 @@
 -- One record more, below a cell.
-use Rattle.std.proofs.Common.{◌≡◌, ◌∙◌, refl, sym, ap, ℕ, suc, ◌+◌, ◌-◌, ◌≤◌, ◌<◌, Bool, true}
+use Rattle.std.proofs.Common.{◌≡◌, ◌∙◌, refl, sym, ap, ℕ, ◌+◌, ◌-◌, ◌≤◌, Bool, true}
 use Rattle.std.proofs.Common.{false, not, ◌&&◌, ◌||◌, List, [], ◌∷◌, ◌++◌, length, take, filter}
 use Rattle.std.proofs.Common.{append-nil, append_assoc, length-append, Option, Some, None, inl, inr}
-use Rattle.std.proofs.Common.{◌⊎◌, arith, cond, slice_get, add-one, nat_eq, get_or}
+use Rattle.std.proofs.Common.{arith, cond, nat_eq, get_or}
 use Rattle.std.specs.Prelude.{nat_le}
 use Rattle.std.specs.Option.{option_and_then, option_map}
-use Rattle.std.specs.List.{list_any, join_with_byte, position}
+use Rattle.std.specs.List.{list_any, join_with_byte}
 use Rattle.std.proofs.lemmas.Bool.{cases_Bool}
 use Rattle.std.proofs.lemmas.Bool.Decides.{nat_tests}
 use Rattle.std.proofs.lemmas.List.{take-append-le, take_all}
@@ -15,9 +15,8 @@ use lib.Chars.{codes}
 use Rattle.hum_record.specs.declared.SpinedKind.{SpinedKind}
 use Rattle.hum_record.specs.declared.SpinedKind.TheVariants.{Local, Interpretation, Values}
 use Rattle.hum_record.specs.Row.{Row, Comment, Spined}
-use Rattle.hum_path.specs.Sign.{sign_of}
-use Rattle.hum_path.specs.Spines.{Path, moves_at, after}
-use Rattle.hum_path.specs.Chains.{goes_on, below_at, future}
+use Rattle.hum_path.specs.Spines.{Path, after}
+use Rattle.hum_path.specs.Chains.{below_at, future}
 use Rattle.hum_context.specs.Context.{Choice, Extent, First, Between, is_data, is_collectable}
 use Rattle.hum_context.specs.Context.{is_last, begins, taken, through, to_last, chain}
 use Rattle.hum_context.specs.Context.{token_or_null, new_token}

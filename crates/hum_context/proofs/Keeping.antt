@@ -1,35 +1,32 @@
 -- Scores stay scores.
-use Rattle.std.proofs.Common.{◌≡◌, ◌∙◌, refl, sym, ap, ℕ, zero, suc, ◌+◌, ◌≤◌, ◌<◌, Bool, true}
-use Rattle.std.proofs.Common.{false, not, ◌&&◌, ◌||◌, List, [], ◌∷◌, ◌++◌, map, length, filter}
-use Rattle.std.proofs.Common.{Option, Some, None, inl, inr, ◌⊎◌, arith, cond, get_or}
-use Rattle.std.specs.Prelude.{nat_le, nat_lt, ◌==◌, Result, Ok, Err}
+use Rattle.std.proofs.Common.{◌≡◌, ◌∙◌, refl, sym, ap, ℕ, suc, ◌+◌, ◌≤◌, ◌<◌, Bool, true}
+use Rattle.std.proofs.Common.{false, not, ◌||◌, List, [], ◌∷◌, map, length, filter}
+use Rattle.std.proofs.Common.{Option, Some, None, arith, cond, get_or}
+use Rattle.std.specs.Prelude.{nat_lt, ◌==◌, Ok}
 use Rattle.std.specs.List.{list_any, position, position_or_len, find, join_with_byte}
 use Rattle.std.proofs.lemmas.Bool.Decides.{nat_tests}
 use Rattle.std.proofs.lemmas.List.{length-map}
 use lib.Chars.{codes}
-use Rattle.hum_record.specs.declared.SpinedKind.{SpinedKind}
 use Rattle.hum_record.specs.declared.SpinedKind.TheVariants.{Local, Interpretation, Values}
-use Rattle.hum_record.specs.Row.{Row, Comment, Spined, text_of}
+use Rattle.hum_record.specs.Row.{Row, Comment, Spined}
 use Rattle.hum_path.specs.declared.moved.Move.{Move}
 use Rattle.hum_path.specs.declared.PathFault.TheVariants.{P1, P2, P3, P4, P5, P6, P7, P9, P10, P11}
 use Rattle.hum_path.specs.Sign.{sign_of}
-use Rattle.hum_path.specs.Spines.{Path, Unopened, Spines, after, moves_under, names_after, renamed}
+use Rattle.hum_path.specs.Spines.{Path, Unopened, Spines, moves_under, names_after, renamed}
 use Rattle.hum_path.specs.Rules.{fault_of, breaks_as_text, in_order, is_unfinished}
 use Rattle.hum_path.specs.Score.{IsOpen, path_after}
 use Rattle.hum_path.specs.Chains.{goes_on, future, below_at}
 use Rattle.hum_path.proofs.Plain.{find_head}
-use Rattle.hum_stage.specs.declared.faults.Rule.{Rule}
 use Rattle.hum_stage.specs.Score.{through, Follow}
 use Rattle.hum_stage.specs.Meaning.{KeepsScore}
 use Rattle.hum_stage.specs.Look.{outcomes_from}
-use Rattle.hum_stage.proofs.LookKeeping.{LookKeeps, looking_keeps}
+use Rattle.hum_stage.proofs.LookKeeping.{looking_keeps}
 use Rattle.hum_context.specs.Context.{Choice, is_collectable, is_last, begins, taken, token_or_null}
 use Rattle.hum_context.specs.Context.{new_token, new_tokens, to_last, chain, all_some, push_front}
 use Rattle.hum_context.specs.Context.{data_of, context}
-use Rattle.hum_context.specs.Cells.{place_after}
 use Rattle.hum_context.proofs.Growth.{chain_step}
 use Rattle.hum_context.proofs.Steady.{data_one, one_row}
-use Rattle.hum_context.proofs.Ending.{goes_below, or_left, or_right}
+use Rattle.hum_context.proofs.Ending.{goes_below}
 
 first_below : {X : Type 0} (p : X → Bool) (xs : List X) → list_any p xs ≡ true
     → position_or_len p xs < length xs

@@ -1,16 +1,14 @@
 -- Records that are too long, one by one.
-use Rattle.std.proofs.Common.{◌≡◌, ◌∙◌, refl, sym, ap, ℕ, zero, suc, ◌+◌, ◌-◌, ◌<◌, ◌≤◌, Bool, true}
-use Rattle.std.proofs.Common.{false, not, ◌&&◌, List, [], ◌∷◌, ◌++◌, length, drop, get_or, inl, inr}
-use Rattle.std.proofs.Common.{◌⊎◌, cond}
+use Rattle.std.proofs.Common.{◌≡◌, ◌∙◌, refl, sym, ap, ℕ, zero, suc, ◌+◌, ◌<◌, ◌≤◌, Bool, true}
+use Rattle.std.proofs.Common.{false, not, ◌&&◌, List, [], ◌∷◌, ◌++◌, length, drop, get_or}
+use Rattle.std.proofs.Common.{cond}
 use Rattle.std.proofs.Common.{arith, add-one, drop-cons, length-append, Option, None, Some}
 use Rattle.std.specs.Prelude.{nat_le, nat_lt}
 use Rattle.std.specs.List.{join_with_byte}
 use Rattle.std.proofs.lemmas.Bool.Decides.{nat_tests}
-use Rattle.std.proofs.lemmas.List.{drop_all}
-use Rattle.hum_record.specs.declared.Kind.TheVariants.{Values as AnyValues}
-use Rattle.hum_record.specs.Row.{Row, kind_of, tokens_of}
-use Rattle.hum_context.specs.Cells.{Cell, Kept, Settled, Waiting, is_open, values_of}
-use Rattle.hum_context.specs.Shown.{shown, all_shown}
+use Rattle.hum_record.specs.Row.{Row}
+use Rattle.hum_context.specs.Cells.{Cell, Kept, is_open, values_of}
+use Rattle.hum_context.specs.Shown.{all_shown}
 use Rattle.hum_context.specs.Refusals.{all_shut, bytes_of, is_long, is_refused, lasts}
 use Rattle.std.specs.Prelude.{Result, Ok, Err}
 use Rattle.hum_record.specs.declared.SpinedKind.TheVariants.{Local, Interpretation, Values}

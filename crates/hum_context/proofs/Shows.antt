@@ -11,7 +11,7 @@ use Rattle.std.proofs.Common.{take}
 use Rattle.hum_record.specs.Building.{spelled}
 use Rattle.hum_record.proofs.Drafts.{spelled_front}
 use Rattle.hum_context.specs.Context.{all_some, push_front}
-use Rattle.hum_context.specs.Cells.{Cell, Kept, Settled, Waiting, is_open, is_kept, token_of}
+use Rattle.hum_context.specs.Cells.{Cell, Kept, Settled, Waiting, is_open, is_kept}
 use Rattle.hum_context.specs.Cells.{tokens_of_cells, open_from}
 use Rattle.hum_context.specs.Shown.{shown, all_shown, all_stay, none_before, IsNew}
 use Rattle.hum_context.proofs.Walks.{AllShut, next_open, shut_none, none_shut, open_append}

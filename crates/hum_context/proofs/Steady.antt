@@ -1,5 +1,5 @@
 -- What context decides stays.
-use Rattle.std.proofs.Common.{◌≡◌, ◌∙◌, refl, sym, ap, ℕ, ◌+◌, ◌≤◌, ◌<◌, Bool, true, false, List}
+use Rattle.std.proofs.Common.{◌≡◌, ◌∙◌, refl, sym, ap, ℕ, ◌≤◌, Bool, true, false, List}
 use Rattle.std.proofs.Common.{[], ◌∷◌, ◌++◌, map, length, arith, cond, Option, Some, None}
 use Rattle.std.specs.Prelude.{nat_le, Result, Ok, Err}
 use Rattle.hum_record.specs.declared.SpinedKind.TheVariants.{Local, Interpretation, Values}
@@ -11,7 +11,7 @@ use Rattle.hum_stage.specs.declared.faults.Rule.TheVariants.{L1}
 use Rattle.hum_stage.specs.Look.{IsSteady}
 use Rattle.hum_context.specs.Context.{Choice, context, all_some, push_front, data_of, if_fits}
 use Rattle.hum_context.specs.Context.{new_tokens}
-use Rattle.hum_context.specs.Cells.{Cell, Kept, Settled, Waiting, next_cell, token_of}
+use Rattle.hum_context.specs.Cells.{Cell, Kept, Settled, Waiting, next_cell}
 use Rattle.hum_context.specs.Cells.{tokens_of_cells, cells_at}
 use Rattle.hum_context.proofs.Growing.{cells_grow, cells_give}
 

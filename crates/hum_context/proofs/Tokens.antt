@@ -1,8 +1,8 @@
 -- What a record's tokens do to a cell that waits.
-use Rattle.std.proofs.Common.{◌≡◌, ◌∙◌, refl, sym, ap, ℕ, zero, suc, Bool, true, false, not, ◌&&◌}
+use Rattle.std.proofs.Common.{◌≡◌, ◌∙◌, refl, sym, ap, ℕ, zero, suc, Bool, true, false, not}
 use Rattle.std.proofs.Common.{◌||◌, List, [], ◌∷◌, map, Option, Some, None, inl, inr, ◌⊎◌, cond}
 use Rattle.std.proofs.Common.{get_or, nat_eq}
-use Rattle.std.specs.Prelude.{nat_le, slice_index_or, ◌-◌}
+use Rattle.std.specs.Prelude.{nat_le}
 use Rattle.std.specs.List.{position, AllByRecursion}
 use lib.Chars.{codes}
 use Rattle.hum_record.specs.declared.Kind.TheVariants.{Global, Local as AnyLocal}
@@ -20,11 +20,11 @@ use Rattle.hum_context.specs.declared.hearing.Heard.TheVariants.{Passed, Taken}
 use Rattle.hum_context.specs.Context.{Choice, Extent, First, Between, is_data, is_collectable}
 use Rattle.hum_context.specs.Context.{is_last, begins}
 use Rattle.hum_context.specs.Cells.{Cell, Kept, Settled, Waiting, column_below, take_token}
-use Rattle.hum_context.specs.Cells.{next_cell, is_enough, first_cell, missing_after, add_token}
+use Rattle.hum_context.specs.Cells.{next_cell, is_enough, first_cell, missing_after}
 use Rattle.hum_context.specs.Cells.{open_from, values_of}
 use Rattle.hum_context.specs.Memory.{Walked, HasSeen}
 use Rattle.std.specs.List.{list_any}
-use Rattle.std.proofs.Common.{arith, append-nil, length, length-append, ◌≤◌, ◌++◌}
+use Rattle.std.proofs.Common.{arith, append-nil, length, length-append, ◌≤◌}
 use Rattle.std.specs.List.{join_with_byte}
 use Rattle.std.proofs.lemmas.Bool.Decides.{nat_tests}
 use Rattle.hum_context.specs.Heard.{counts, ends, heard_of, cell_in, place_of, collected, is_taken}

@@ -1,9 +1,9 @@
 -- Going through the open ones among some cells.
-use Rattle.std.proofs.Common.{◌≡◌, ◌∙◌, refl, sym, ap, ℕ, zero, suc, ◌+◌, ◌-◌, ◌<◌, ◌≤◌, Bool, true}
+use Rattle.std.proofs.Common.{◌≡◌, ◌∙◌, refl, sym, ap, ℕ, suc, ◌+◌, ◌-◌, ◌<◌, ◌≤◌, Bool, true}
 use Rattle.std.proofs.Common.{false, List, [], ◌∷◌, ◌++◌, map, length, drop, append_assoc}
-use Rattle.std.proofs.Common.{append-nil, length-append, Option, Some, None, cond, get_or, set}
+use Rattle.std.proofs.Common.{append-nil, length-append, cond, get_or, set}
 use Rattle.std.proofs.Common.{arith, add-one}
-use Rattle.std.proofs.lemmas.List.{map-append, length-map, set_at, drop_all}
+use Rattle.std.proofs.lemmas.List.{map-append, length-map, set_at}
 use Rattle.std.proofs.Math.Seq.{drop-cons}
 use Rattle.hum_record.specs.Row.{Row}
 use Rattle.hum_path.specs.Spines.{Path}

@@ -1,4 +1,3 @@
-use Rattle.std.proofs.Common.{◌≡◌, ◌∙◌, sym, ap, refl, arith}
 use Rattle.hum_context.specs.Context.{context}
 use Rattle.hum_context.specs.Options.{choice_of}
 use Rattle.hum_context.proofs.Following.{begins}

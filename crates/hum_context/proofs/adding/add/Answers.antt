@@ -1,4 +1,4 @@
-use Rattle.std.proofs.Common.{◌≡◌, ◌∙◌, sym, ap, arith, length, length-append, ◌∷◌, [], ◌+◌}
+use Rattle.std.proofs.Common.{arith, length-append, ◌∷◌, [], ◌+◌}
 use Rattle.hum_record.specs.Row.{tokens_of}
 use Rattle.hum_context.specs.Options.{choice_of}
 use Rattle.hum_context.proofs.Tokens.{heard_here}

@@ -1,7 +1,6 @@
-use Rattle.std.proofs.Common.{◌≡◌, ◌∙◌, sym, ap, ◌+◌}
+use Rattle.std.proofs.Common.{◌≡◌, ◌∙◌, sym}
 use Rattle.hum_record.specs.declared.RecordFault.TheVariants.{Memory}
 use Rattle.hum_record.specs.Row.{tokens_of}
-use Rattle.hum_context.specs.Shown.{none_before}
 use Rattle.hum_context.proofs.Shows.{settled_all, unsettled_all, stays_shown}
 use Rattle.hum_context.proofs.becoming.becomes.Goals as goal
 

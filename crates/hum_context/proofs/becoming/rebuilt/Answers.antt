@@ -1,6 +1,6 @@
 use Rattle.std.proofs.Common.{arith}
 use Rattle.hum_record.specs.Row.{tokens_of}
-use Rattle.hum_context.proofs.Shows.{stays_long, has_tokens}
+use Rattle.hum_context.proofs.Shows.{stays_long}
 use Rattle.hum_context.proofs.becoming.rebuilt.Goals as goal
 
 pub returns-in-Err-clause-refused : goal.returns-in-Err-clause-refused

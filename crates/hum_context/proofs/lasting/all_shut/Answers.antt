@@ -1,4 +1,4 @@
-use Rattle.std.proofs.Common.{◌≡◌, ◌∙◌, sym, arith}
+use Rattle.std.proofs.Common.{◌∙◌, sym, arith}
 use Rattle.hum_record.specs.Row.{tokens_of}
 use Rattle.hum_context.proofs.Refused.{shut_on}
 use Rattle.hum_context.proofs.lasting.all_shut.Goals as goal

@@ -1,4 +1,4 @@
-use Rattle.std.proofs.Common.{◌≡◌, ◌∙◌, sym, ap, refl, length, arith}
+use Rattle.std.proofs.Common.{refl, arith}
 use Rattle.std.proofs.lemmas.List.{drop_all}
 use Rattle.hum_context.specs.Cells.{next_cell}
 use Rattle.hum_context.proofs.Walks.{next_leaves, going_at, going_on, walking_on, walking_done}

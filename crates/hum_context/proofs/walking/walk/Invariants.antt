@@ -1,4 +1,4 @@
-use Rattle.std.proofs.Common.{◌≡◌, drop}
+use Rattle.std.proofs.Common.{drop}
 use Rattle.hum_path.specs.Spines.{Path}
 use Rattle.hum_context.specs.Context.{Choice}
 use Rattle.hum_context.specs.Cells.{next_cell}

@@ -1,4 +1,4 @@
-use Rattle.std.proofs.Common.{◌≡◌, ◌∙◌, sym, ap, Bool}
+use Rattle.std.proofs.Common.{◌∙◌, sym, ap, Bool}
 use Rattle.hum_context.specs.declared.hearing.Heard.TheVariants.{Taken}
 use Rattle.hum_context.proofs.Tokens.{collected_first}
 use Rattle.hum_context.proofs.cell.Cell.first.Goals as goal

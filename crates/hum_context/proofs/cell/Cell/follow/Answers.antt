@@ -1,4 +1,4 @@
-use Rattle.std.proofs.Common.{◌≡◌, ◌∙◌, sym, ap}
+use Rattle.std.proofs.Common.{◌∙◌, sym}
 use Rattle.hum_context.proofs.Tokens.{followed}
 use Rattle.hum_context.proofs.cell.Cell.follow.Goals as goal
 

@@ -1,4 +1,4 @@
-use Rattle.std.proofs.Common.{◌≡◌, ◌∙◌, sym, ap}
+use Rattle.std.proofs.Common.{◌∙◌, sym}
 use Rattle.hum_context.proofs.Tokens.{collected_next, heard_here}
 use Rattle.hum_context.proofs.cell.Cell.hear.Goals as goal
 

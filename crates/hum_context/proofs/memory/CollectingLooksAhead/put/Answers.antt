@@ -1,4 +1,4 @@
-use Rattle.std.proofs.Common.{◌≡◌, ◌∙◌, sym, ap, refl}
+use Rattle.std.proofs.Common.{ap, refl}
 use Rattle.hum_record.specs.Spelling.{IsTextOf}
 use Rattle.hum_path.specs.Spines.{Tracked}
 use Rattle.hum_context.specs.Options.{choice_of}

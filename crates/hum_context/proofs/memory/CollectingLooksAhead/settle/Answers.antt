@@ -1,10 +1,9 @@
-use Rattle.std.proofs.Common.{◌≡◌, ◌∙◌, sym, ap, refl, arith, length, ◌∷◌, []}
+use Rattle.std.proofs.Common.{◌≡◌, ◌∙◌, sym, ap, arith, ◌∷◌, []}
 use Rattle.hum_record.specs.declared.SpinedKind.TheVariants.{Values}
 use Rattle.hum_record.specs.Row.{Row, Spined, tokens_of}
 use Rattle.hum_context.specs.Shown.{all_shown}
 use Rattle.std.specs.Option.{option_to_list}
-use Rattle.hum_context.specs.Options.{choice_of}
-use Rattle.hum_context.proofs.Following.{Front, settles_none, settles_new, settles_same, goes_on}
+use Rattle.hum_context.proofs.Following.{settles_none, settles_new, settles_same, goes_on}
 use Rattle.hum_context.proofs.Following.{front_within, long_is, fits_is}
 use Rattle.hum_context.proofs.memory.CollectingLooksAhead.settle.Goals as goal
 

@@ -1,4 +1,4 @@
-use Rattle.std.proofs.Common.{◌≡◌, ◌∙◌, sym, ap}
+use Rattle.std.proofs.Common.{◌∙◌, ap}
 use Rattle.hum_context.specs.Options.{choice_of, extent_of}
 use Rattle.hum_context.specs.declared.options.ContextOptions.{ContextOptions}
 use Rattle.hum_context.specs.Heard.{counts}

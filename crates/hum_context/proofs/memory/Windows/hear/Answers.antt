@@ -1,12 +1,9 @@
-use Rattle.std.proofs.Common.{◌≡◌, ◌∙◌, sym, ap, arith, refl, length, ◌++◌, List, ℕ}
+use Rattle.std.proofs.Common.{◌∙◌, sym, ap, arith, refl, length, ℕ}
 use Rattle.std.proofs.lemmas.List.{length-map}
-use Rattle.hum_record.specs.Row.{tokens_of}
-use Rattle.hum_path.specs.Spines.{Path, moves}
 use Rattle.hum_context.specs.Options.{choice_of, extent_of}
 use Rattle.hum_context.specs.declared.options.ContextOptions.{ContextOptions}
-use Rattle.hum_context.specs.Cells.{Cell, next_cell, first_cells, open_from}
-use Rattle.hum_context.specs.Heard.{Hears, counts}
-use Rattle.hum_context.specs.Memory.{Walked}
+use Rattle.hum_context.specs.Cells.{next_cell, open_from}
+use Rattle.hum_context.specs.Heard.{counts}
 use Rattle.hum_context.proofs.Tokens.{data_values, row_width}
 use Rattle.hum_context.proofs.memory.Windows.hear.Goals as goal
 

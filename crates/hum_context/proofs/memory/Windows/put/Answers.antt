@@ -1,4 +1,4 @@
-use Rattle.std.proofs.Common.{◌≡◌, ◌∙◌, sym, ap}
+use Rattle.std.proofs.Common.{◌∙◌, sym}
 use Rattle.hum_context.specs.Options.{choice_of}
 use Rattle.hum_context.specs.Cells.{next_cell}
 use Rattle.hum_context.proofs.Tokens.{local_values, comment_values, seen_none, walked_quiet}

@@ -1,4 +1,4 @@
-use Rattle.std.proofs.Common.{◌≡◌, ◌∙◌, sym}
+use Rattle.std.proofs.Common.{◌∙◌, sym}
 use Rattle.hum_context.specs.Cells.{next_cell}
 use Rattle.hum_context.proofs.Tokens.{quiet_data, walked_quiet}
 use Rattle.hum_context.proofs.memory.Windows.show_if.Goals as goal
