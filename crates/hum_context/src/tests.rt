@@ -1,8 +1,9 @@
 //! Small scores through the command, by hand.
-ghost use Rattle.std.specs.Prelude.{◌≡◌, ◌≤◌, ◌<◌, length, IfOk};
+ghost use Rattle.std.specs.Prelude.{◌≡◌, ◌+◌, ◌≤◌, ◌<◌, length, IfOk, OnOk};
 ghost use Rattle.hum_record.specs.declared.SpinedKind.TheVariants.{Values};
 ghost use Rattle.hum_record.specs.Spelling.{IsToken, has_byte};
 ghost use Rattle.hum_context.specs.Options.{IsAllowed};
+ghost use Rattle.hum_context.specs.Fed.{Fed};
 
 use crate::{Context, ContextOptions, Span};
 use hum_path::Paths;
@@ -332,5 +333,63 @@ fn refuses_a_record_that_would_be_too_long(rt: HostRuntime) -> Result<(), Fail> 
     assert_eq!(rt; end, End::Broken(fault));
     assert_eq!(rt; given.len(), 2);
     assert_eq!(rt; given[1].width(), 2);
+    Ok(())
+}
+
+// Puts a record into a stage that wants one, after so many others.
+fn put(
+    rt: &impl Abort,
+    paths: &mut Paths,
+    stage: &mut Context,
+    count: u32,
+    row: Record,
+) -> Result<(), Fail>
+    requires fed { Fed (⟦<Context as Stage>⟧.stands stage.old) paths.old.path count }
+    requires few { count ≤ 100 }
+    ensures { OnOk result (Fed (⟦<Context as Stage>⟧.stands stage.new) paths.new.path (count + 1)) }
+{
+    let State::Wants = stage.state() else {
+        panic!(rt; "the stage doesn't want a record")
+    };
+    paths.step(&row)?;
+    stage.put(row)?;
+    Ok(())
+}
+
+// Takes a record from a stage that gives one.
+fn take(rt: &impl Abort, stage: &mut Context, path: &Paths, count: u32) -> Result<Record, Fail>
+    requires { Fed (⟦<Context as Stage>⟧.stands stage.old) path.now.path count }
+    ensures { OnOk result (Fed (⟦<Context as Stage>⟧.stands stage.new) path.now.path count) }
+{
+    match stage.take()? {
+        None => panic!(rt; "nothing is given"),
+        Some(row) => Ok(row),
+    }
+}
+
+#[test]
+fn gives_a_context_once_it_is_decided(rt: HostRuntime) -> Result<(), Fail> {
+    let alloc = rt.alloc();
+    let mut paths = Paths::new(alloc);
+    let mut stage = Context::new(alloc, 1, so_many(alloc, 2, Some("^="))?);
+    let row = read(&rt, alloc, b"**x")?;
+    put(&rt, &mut paths, &mut stage, 0, row)?;
+    assert_eq!(rt; take(&rt, &mut stage, &paths, 1)?.width(), 1);
+    let row = read(&rt, alloc, b"a")?;
+    put(&rt, &mut paths, &mut stage, 1, row)?;
+    assert_eq!(rt; stage.state(), State::Wants);
+    assert_eq!(rt; stage.held(), 1);
+    let row = read(&rt, alloc, b"=1")?;
+    put(&rt, &mut paths, &mut stage, 2, row)?;
+    let row = read(&rt, alloc, b".")?;
+    put(&rt, &mut paths, &mut stage, 3, row)?;
+    assert_eq!(rt; stage.held(), 3);
+    let row = read(&rt, alloc, b"b")?;
+    put(&rt, &mut paths, &mut stage, 4, row)?;
+    assert_eq!(rt; stage.state(), State::Gives);
+    assert_eq!(rt; stage.held(), 4);
+    let given = take(&rt, &mut stage, &paths, 5)?;
+    assert_eq!(rt; given.text(), b"a b".as_slice());
+    assert_eq!(rt; stage.held(), 3);
     Ok(())
 }
