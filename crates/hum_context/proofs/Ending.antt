@@ -1,18 +1,16 @@
 -- In a closed score every spine comes to an end.
 use Rattle.std.proofs.Common.{◌≡◌, ◌∙◌, refl, sym, ap, ℕ, zero, suc, ◌+◌, ◌≤◌, ◌<◌, Bool, true}
-use Rattle.std.proofs.Common.{false, not, ◌&&◌, ◌||◌, List, [], ◌∷◌, ◌++◌, map, length, Option}
-use Rattle.std.proofs.Common.{Some, None, inl, inr, ◌⊎◌, arith, cond, get_or}
+use Rattle.std.proofs.Common.{false, ◌||◌, List, [], ◌∷◌, ◌++◌, map, length}
+use Rattle.std.proofs.Common.{None, inl, inr, ◌⊎◌, arith, cond, get_or}
 use Rattle.std.specs.Prelude.{nat_le, ◌==◌}
-use Rattle.std.specs.List.{list_any, position, find}
+use Rattle.std.specs.List.{list_any, find}
 use Rattle.std.proofs.lemmas.Bool.Decides.{nat_tests}
 use Rattle.std.proofs.lemmas.List.Folds.{list_any-append}
 use Rattle.hum_path.specs.declared.signs.Sign.{Sign}
 use Rattle.hum_path.specs.declared.signs.Sign.TheVariants.{Split, Join, Exchange, Add, End}
 use Rattle.hum_path.specs.declared.signs.Sign.TheVariants.{Exclusive, Plain}
-use Rattle.hum_path.specs.declared.moved.Move.{Move}
-use Rattle.hum_path.specs.declared.moved.Move.TheVariants.{Same, Left, Right, Join as Joined, Added}
 use Rattle.hum_path.specs.Sign.{sign_of, is_join, is_exchange}
-use Rattle.hum_path.specs.Spines.{Path, Unopened, Spines, joins_at_front, exchanges, partner, heirs}
+use Rattle.hum_path.specs.Spines.{Spines, joins_at_front, exchanges, partner, heirs}
 use Rattle.hum_path.specs.Spines.{heirs_from, moves_under}
 use Rattle.hum_path.specs.Rules.{breaks, in_order, is_pair_or_none}
 use Rattle.hum_path.proofs.Obeyed.{obeys}
@@ -72,8 +70,8 @@ plain_goes pair j after (s ∷ ss) zero h st = first_goes pair j after s ss (j +
     ∙ stays_here pair j after s ss st)
 plain_goes pair j after (s ∷ ss) (suc k) h st =
     later_goes pair j after s ss (j + suc k)
-        (ap (λ (c : ℕ). list_any (goes_on c) (heirs_from pair (j + 1) (is_join s) ss)) (omega arith)
-        ∙ plain_goes pair (j + 1) (is_join s) ss k (omega (arith, h)) st)
+    (ap (λ (c : ℕ). list_any (goes_on c) (heirs_from pair (j + 1) (is_join s) ss)) (omega arith)
+    ∙ plain_goes pair (j + 1) (is_join s) ss k (omega (arith, h)) st)
 
 -- a joined spine goes on by its run's first
 join_here : (pair : List ℕ) (j : ℕ) (ss : List Sign) (c : ℕ) → j ≤ c → c ≤ j + joins_at_front ss
@@ -102,6 +100,7 @@ join_goes pair j after (s ∷ ss) (suc k) h e = on s after (join_goes pair (j + 
     shift s after g = later_goes pair j after s ss (j + suc k)
         (ap (λ (c : ℕ). list_any (goes_on c) (heirs_from pair (j + 1) (is_join s) ss)) (omega arith)
         ∙ g)
+
     on : (s : Sign) (after : Bool) → JoinGoes pair (j + 1) (is_join s) ss k
         → JoinGoes pair j after (s ∷ ss) (suc k)
     on s after (inl g) = inl (shift s after g)
@@ -133,12 +132,12 @@ exchange_goes pair j after [] k h e = absurd (omega (arith, h))
 exchange_goes pair j after (s ∷ ss) zero h e =
     let same : j + 0 ≡ j = omega arith in
     rw e (ap (λ (m : ℕ). list_any (goes_on (partner pair m))
-        (heirs_from pair j after (Exchange ∷ ss))) same ∙ first_goes pair j after Exchange ss
-        (partner pair j) (rw (same_here (partner pair j)) refl))
+    (heirs_from pair j after (Exchange ∷ ss))) same ∙ first_goes pair j after Exchange ss
+    (partner pair j) (rw (same_here (partner pair j)) refl))
 exchange_goes pair j after (s ∷ ss) (suc k) h e =
     let same : j + suc k ≡ j + 1 + k = omega arith in
     rw same (later_goes pair j after s ss (partner pair (j + 1 + k))
-        (exchange_goes pair (j + 1) (is_join s) ss k (omega (arith, h)) e))
+    (exchange_goes pair (j + 1) (is_join s) ss k (omega (arith, h)) e))
 
 -- the places of exchanged spines
 exchange_split : (j : ℕ) (signs : List Sign) (k : ℕ) → k < length signs
@@ -152,12 +151,17 @@ exchange_split j (s ∷ ss) (suc k) h e =
   where
     same : j + 1 + k ≡ j + suc k
     same = omega arith
+
     by : (b : Bool)
         → (front : List ℕ) × (back : List ℕ) × (exchanges (j + 1) ss ≡ front ++ (j + 1 + k) ∷ back)
         → (front : List ℕ) × (back : List ℕ) × (cond b (j ∷ exchanges (j + 1) ss)
-            (exchanges (j + 1) ss) ≡ front ++ (j + suc k) ∷ back)
-    by true ih = (j ∷ ih.0, ih.1, ap (λ (xs : List ℕ). j ∷ xs) (ih.2
-        ∙ ap (λ (n : ℕ). ih.0 ++ n ∷ ih.1) same))
+        (exchanges (j + 1) ss) ≡ front ++ (j + suc k) ∷ back)
+    by true ih = (
+      j ∷ ih.0,
+      ih.1,
+      ap (λ (xs : List ℕ). j ∷ xs) (ih.2
+          ∙ ap (λ (n : ℕ). ih.0 ++ n ∷ ih.1) same),
+    )
     by false ih = (ih.0, ih.1, ih.2 ∙ ap (λ (n : ℕ). ih.0 ++ n ∷ ih.1) same)
 
 pub record ExchangeAt (j p : ℕ) (signs : List Sign) : Type 0 where
@@ -184,14 +188,24 @@ exchange_is j (s ∷ ss) p front back e = by (is_exchange s) refl front e
   where
     later : ExchangeAt (j + 1) p ss → ExchangeAt j p (s ∷ ss)
     later h = let at = h.is in let within = h.within in
-        record { k = suc h.k; is = omega (arith, at); within = omega (arith, within); sign =
-        h.sign }
+        record {
+          k = suc h.k;
+          is = omega (arith, at);
+          within = omega (arith, within);
+          sign =
+              h.sign;
+        }
+
     by : (b : Bool) → is_exchange s ≡ b → (front : List ℕ)
         → cond b (j ∷ exchanges (j + 1) ss) (exchanges (j + 1) ss) ≡ front ++ p ∷ back
         → ((front : List ℕ) → exchanges (j + 1) ss ≡ front ++ p ∷ back → ExchangeAt (j + 1) p ss)
-            → ExchangeAt j p (s ∷ ss)
+        → ExchangeAt j p (s ∷ ss)
     by true w [] k more = let here : j ≡ p = cc in
-        record { k = 0; is = omega (arith, here); within = omega arith; sign = is_exchange_sign s w
+        record {
+          k = 0;
+          is = omega (arith, here);
+          within = omega arith;
+          sign = is_exchange_sign s w;
         }
     by true w (a ∷ front) k more =
         later (more front (let t : exchanges (j + 1) ss ≡ front ++ p ∷ back = cc in t))
@@ -206,7 +220,7 @@ other_goes signs c p h e =
     let at = h.is in
     let same : 0 + h.k ≡ p = omega (arith, at) in
     ap (λ (n : ℕ). list_any (goes_on n) (heirs_from (exchanges 0 signs) 0 false signs)) (sym e
-        ∙ ap (partner (exchanges 0 signs)) (sym same))
+    ∙ ap (partner (exchanges 0 signs)) (sym same))
     ∙ exchange_goes (exchanges 0 signs) 0 false signs h.k h.within h.sign
 
 partner_second : (a b : ℕ) → partner (a ∷ b ∷ []) b ≡ a
@@ -240,7 +254,7 @@ exchanged_goes signs c h e pair =
         (rw w at pair) in omega (arith, two))
     by (a ∷ b ∷ front) back w =
         absurd (let two = two_places (a ∷ b ∷ (front ++ c ∷ back)) (omega arith) (rw w at pair) in
-            let sum = length-append front (c ∷ back) in omega (arith, two, sum))
+        let sum = length-append front (c ∷ back) in omega (arith, two, sum))
 
 sign_at : (tokens : List (List ℕ)) (c : ℕ)
     → get_or (map sign_of tokens) c Plain ≡ sign_of (get_or tokens c [])
@@ -257,14 +271,18 @@ goes_below names tokens c h below last = by (get_or (map sign_of tokens) c Plain
   where
     signs : List Sign
     signs = map sign_of tokens
+
     wide : c < length signs
     wide = let o = obeys names tokens h in let w = o.wide in let m = length-map tokens sign_of in
         omega (arith, w, m, below)
+
     not_last : is_last_sign (get_or signs c Plain) ≡ false
     not_last = ap is_last_sign (sign_at tokens c) ∙ last
+
     plain : Stays (get_or signs c Plain) → Goes (exchanges 0 signs) 0 false signs c
     plain s = ap (λ (n : ℕ). list_any (goes_on n) (heirs_from (exchanges 0 signs) 0 false signs))
         (omega arith) ∙ plain_goes (exchanges 0 signs) 0 false signs c wide s
+
     by : (s : Sign) → get_or signs c Plain ≡ s → Goes (exchanges 0 signs) 0 false signs c
     by Split e = plain (rw e tt)
     by Add e = plain (rw e tt)

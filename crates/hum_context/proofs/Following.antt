@@ -1,15 +1,14 @@
 -- What is remembered goes on.
-use Rattle.std.proofs.Common.{◌≡◌, ◌∙◌, refl, sym, ap, ℕ, suc, ◌+◌, ◌*◌, ◌≤◌, ◌<◌, Bool, true}
+use Rattle.std.proofs.Common.{◌≡◌, ◌∙◌, refl, sym, ap, ℕ, suc, ◌+◌, ◌≤◌, ◌<◌, true}
 use Rattle.std.proofs.Common.{false, List, [], ◌∷◌, ◌++◌, map, length, drop, get_or, length-append}
-use Rattle.std.proofs.Common.{arith, Option, Some, None, inl, inr, ◌⊎◌, cond}
+use Rattle.std.proofs.Common.{arith, Option, Some, None}
 use Rattle.std.specs.Prelude.{Result, Ok, Err, nat_le}
 use Rattle.std.proofs.lemmas.Bool.Decides.{nat_tests}
 use Rattle.std.proofs.lemmas.List.{length-map}
-use Rattle.hum_record.specs.declared.Kind.TheVariants.{Global, Values as AnyValues}
+use Rattle.hum_record.specs.declared.Kind.TheVariants.{Values as AnyValues}
 use Rattle.hum_record.specs.declared.SpinedKind.TheVariants.{Local, Interpretation, Values}
 use Rattle.hum_record.specs.Row.{Row, Comment, Spined, kind_of, tokens_of, text_of}
 use Rattle.hum_record.specs.Spelling.{IsTextOf}
-use Rattle.hum_record.specs.Building.{spelled}
 use Rattle.hum_path.specs.Spines.{Path, Unopened, after}
 use Rattle.hum_context.specs.declared.options.Span.{Span}
 use Rattle.hum_context.specs.declared.options.Span.TheVariants.{Number, Phrase}
@@ -24,7 +23,7 @@ use Rattle.hum_context.specs.Context.{Choice, taken, context, all_some, data_of,
 use Rattle.hum_context.specs.Cells.{Cell, next_cell, token_of, tokens_of_cells, values_of, cells_at}
 use Rattle.hum_context.specs.Cells.{all_cells, first_cells, open_from}
 use Rattle.hum_context.specs.Memory.{Follows, HasSeen}
-use Rattle.hum_context.specs.Shown.{all_shown, IsNew}
+use Rattle.hum_context.specs.Shown.{IsNew}
 use Rattle.hum_context.proofs.Growing.{all_cells_push, cells_first}
 use Rattle.hum_context.proofs.Steady.{decides}
 use Rattle.hum_context.proofs.Tokens.{row_width, data_values}
@@ -46,16 +45,16 @@ pub follows_put : (o : Choice) (path path' : Path) (cells cells' : List Cell) (g
     (unsettled unsettled' : List ℕ) (line line' : ℕ) (held held' : List Row) (look : Look)
     (past rows : List Row) (next : Row) (words : List ℕ)
     → Follows o path cells gone unsettled line held look past rows → IsTextOf next words
-        → line < 4294967295 → path' ≡ after path next
-        → HasSeen o path next gone cells cells' unsettled'
+    → line < 4294967295 → path' ≡ after path next
+    → HasSeen o path next gone cells cells' unsettled'
     → held' ≡ held ++ next ∷ [] → line' ≡ line + 1
-        → Follows o path' cells' gone unsettled' line' held' look past (rows ++ next ∷ [])
+    → Follows o path' cells' gone unsettled' line' held' look past (rows ++ next ∷ [])
 follows_put o path path' cells cells' gone unsettled unsettled' line line' held held' look past rows
     next words h lawful few p seen k l =
     let more = passed-push past rows next in
     let size = ap length seen.seen in
     let sum = length-append (map (next_cell o path next) cells)
-        (first_cells o path next 0 (values_of next)) in
+    (first_cells o path next 0 (values_of next)) in
     let same = length-map cells (next_cell o path next) in
     let wide = first_length o path next 0 (values_of next) in
     let some = values_few next in
@@ -69,13 +68,13 @@ follows_put o path path' cells cells' gone unsettled unsettled' line line' held 
       remembered =
           seen.seen
           ∙ (ap (λ (cs : List Cell). map (next_cell o path next) cs ++ first_cells o path next 0
-              (values_of next)) h.remembered
+          (values_of next)) h.remembered
           ∙ (ap (λ (q : Path). map (next_cell o q next) (all_cells o past rows) ++ first_cells o q
-              next 0 (values_of next)) h.spines
+          next 0 (values_of next)) h.spines
           ∙ (ap (λ (cs : List Cell). map (next_cell o (path_after (passed past rows)) next)
-              (all_cells o past rows) ++ cs)
-              (sym (cells_first o (path_after (passed past rows)) next 0 (values_of next)
-              h.some_wanted))
+          (all_cells o past rows) ++ cs)
+          (sym (cells_first o (path_after (passed past rows)) next 0 (values_of next)
+          h.some_wanted))
           ∙ sym (all_cells_push o past rows next))));
       places = seen.places;
       lines = l ∙ (ap (λ (n : ℕ). n + 1) h.lines ∙ sym (ap length more ∙ omega arith));
@@ -87,7 +86,7 @@ follows_put o path path' cells cells' gone unsettled unsettled' line line' held 
 pub few_lines : (o : Choice) (path : Path) (cells : List Cell) (gone : ℕ) (unsettled : List ℕ)
     (line : ℕ) (held : List Row) (look : Look) (past rows : List Row)
     → Follows o path cells gone unsettled line held look past rows
-        → length (passed past rows) < 4294967295 → line < 4294967295
+    → length (passed past rows) < 4294967295 → line < 4294967295
 few_lines o path cells gone unsettled line held look past rows h few = let l = h.lines in
     omega (arith, l, few)
 
@@ -118,8 +117,8 @@ first_decides o past tokens rows cells e =
     let wide = cells_length o (path_after past) (Spined Values tokens) rows 0 tokens in
     ap (λ (cs : List Cell). data_of (all_some (tokens_of_cells tokens cs))) e
     ∙ (ap (λ (ts : List (Option (List ℕ))). data_of (all_some ts))
-        (tokens_front tokens mine (all_cells o (Spined Values tokens ∷ past) rows) wide)
-        ∙ decides o past tokens rows)
+    (tokens_front tokens mine (all_cells o (Spined Values tokens ∷ past) rows) wide)
+    ∙ decides o past tokens rows)
 
 pub drop_mine : (mine others : List Cell) → drop (length mine) (mine ++ others) ≡ others
 drop_mine [] others = refl
@@ -130,8 +129,8 @@ pub follows_on : (o : Choice) (path : Path) (cells cells' : List Cell) (gone gon
     (unsettled unsettled' : List ℕ) (line : ℕ) (held held' : List Row) (look : Look)
     (past : List Row) (tokens new : List (List ℕ)) (rows : List Row)
     → Follows o path cells gone unsettled line held look past (Spined Values tokens ∷ rows)
-        → IsNew tokens cells new → cells' ≡ drop (length tokens) cells
-        → gone' ≡ gone + length tokens → unsettled' ≡ unsettled → held' ≡ drop 1 held
+    → IsNew tokens cells new → cells' ≡ drop (length tokens) cells
+    → gone' ≡ gone + length tokens → unsettled' ≡ unsettled → held' ≡ drop 1 held
     → Follows o path cells' gone' unsettled' line held' look (Spined Values tokens ∷ past) rows
 follows_on o path cells cells' gone gone' unsettled unsettled' line held held' look past tokens new
     rows h is d g u k =
@@ -139,10 +138,10 @@ follows_on o path cells cells' gone gone' unsettled unsettled' line held held' l
     let others = all_cells o (Spined Values tokens ∷ past) rows in
     let wide = cells_length o (path_after past) (Spined Values tokens) rows 0 tokens in
     let left : cells' ≡ others = d ∙ (ap (drop (length tokens)) h.remembered
-        ∙ (ap (λ (n : ℕ). drop n (mine ++ others)) (sym wide) ∙ drop_mine mine others)) in
+    ∙ (ap (λ (n : ℕ). drop n (mine ++ others)) (sym wide) ∙ drop_mine mine others)) in
     let shut = some_shut tokens mine others new (sym wide)
-        (ap (λ (cs : List Cell). all_some (tokens_of_cells tokens cs)) (sym h.remembered) ∙ is.is)
-        in
+    (ap (λ (cs : List Cell). all_some (tokens_of_cells tokens cs)) (sym h.remembered) ∙ is.is)
+    in
     let counted = h.counted in
     let size = ap length h.remembered in
     let sum = length-append mine others in
@@ -159,9 +158,9 @@ follows_on o path cells cells' gone gone' unsettled unsettled' line held held' l
           ∙ (ap (open_from gone) h.remembered
           ∙ (open_append gone mine others
           ∙ (ap (λ (ids : List ℕ). ids ++ open_from (gone + length mine) others)
-              (shut_none gone mine shut)
+          (shut_none gone mine shut)
           ∙ (ap (λ (n : ℕ). open_from n others) (omega (arith, g, wide))
-              ∙ ap (open_from gone') (sym left))))));
+          ∙ ap (open_from gone') (sym left))))));
       lines = h.lines;
       few = h.few;
       counted = omega (arith, counted, size, sum, size', g, wide);
@@ -179,7 +178,7 @@ pub follows_kept : (o : Choice) (path : Path) (cells : List Cell) (gone : ℕ) (
     (line : ℕ) (held held' : List Row) (look : Look) (past : List Row) (row : Row) (rows : List Row)
     → (kind_of row ≡ AnyValues → ⊥)
     → Follows o path cells gone unsettled line held look past (row ∷ rows) → held' ≡ drop 1 held
-        → Follows o path cells gone unsettled line held' look (row ∷ past) rows
+    → Follows o path cells gone unsettled line held' look (row ∷ past) rows
 follows_kept o path cells gone unsettled line held held' look past row rows k h e = record {
   command = h.command;
   some_wanted = h.some_wanted;
@@ -240,8 +239,8 @@ follows_next : (o : Choice) (path : Path) (cells cells' : List Cell) (gone gone'
     (unsettled unsettled' : List ℕ) (line : ℕ) (held held' : List Row) (look : Look)
     (past : List Row) (row : Row) (new : List (List ℕ)) (rows : List Row) → kind_of row ≡ AnyValues
     → Follows o path cells gone unsettled line held look past (row ∷ rows)
-        → IsNew (tokens_of row) cells new → cells' ≡ drop (length (tokens_of row)) cells
-        → gone' ≡ gone + length (tokens_of row) → unsettled' ≡ unsettled → held' ≡ drop 1 held
+    → IsNew (tokens_of row) cells new → cells' ≡ drop (length (tokens_of row)) cells
+    → gone' ≡ gone + length (tokens_of row) → unsettled' ≡ unsettled → held' ≡ drop 1 held
     → Follows o path cells' gone' unsettled' line held' look (row ∷ past) rows
 follows_next o path cells cells' gone gone' unsettled unsettled' line held held' look past
     (Comment text) new rows k h n d g u e = cc
@@ -263,7 +262,7 @@ pub settles_none : (o : Choice) (path : Path) (cells : List Cell) (gone : ℕ) (
     (line : ℕ) (held : List Row) (first : Row) (look : Look) (past : List Row) (row : Row)
     (rows : List Row)
     → Follows o path cells gone unsettled line held look past (row ∷ rows) → Front held first
-        → all_some (tokens_of_cells (tokens_of first) cells) ≡ None → look past row rows ≡ None
+    → all_some (tokens_of_cells (tokens_of first) cells) ≡ None → look past row rows ≡ None
 settles_none o path cells gone unsettled line held first look past row rows h f n =
     let same = same_first held rows first row f.at h.waits in
     rw h.command (decide_none o past row rows cells (rw same at f.kind) h.remembered (rw same at n))
@@ -272,58 +271,58 @@ pub settles_new : (o : Choice) (path : Path) (cells : List Cell) (gone : ℕ) (u
     (line : ℕ) (held : List Row) (first : Row) (look : Look) (past : List Row) (row : Row)
     (rows : List Row) (new : List (List ℕ)) (d : Result (List Row) Rule)
     → Follows o path cells gone unsettled line held look past (row ∷ rows) → Front held first
-        → IsNew (tokens_of first) cells new → if_fits (Spined Values new) ≡ d
-        → look past row rows ≡ Some d
+    → IsNew (tokens_of first) cells new → if_fits (Spined Values new) ≡ d
+    → look past row rows ≡ Some d
 settles_new o path cells gone unsettled line held first look past row rows new d h f n e =
     let same = same_first held rows first row f.at h.waits in
     rw h.command (decide_new o past row rows cells new (rw same at f.kind) h.remembered
-        (rw same at n) ∙ ap (λ (x : Result (List Row) Rule). Some x) e)
+    (rw same at n) ∙ ap (λ (x : Result (List Row) Rule). Some x) e)
 
 -- Where it stays, it becomes itself.
 pub settles_same : (o : Choice) (path : Path) (cells : List Cell) (gone : ℕ) (unsettled : List ℕ)
     (line : ℕ) (held : List Row) (first : Row) (look : Look) (past : List Row) (row : Row)
     (rows : List Row)
     → Follows o path cells gone unsettled line held look past (row ∷ rows) → Front held first
-        → IsNew (tokens_of first) cells (tokens_of first)
-        → look past row rows ≡ Some (Ok (first ∷ []))
+    → IsNew (tokens_of first) cells (tokens_of first)
+    → look past row rows ≡ Some (Ok (first ∷ []))
 settles_same o path cells gone unsettled line held first look past row rows h f n =
     settles_new o path cells gone unsettled line held first look past row rows (tokens_of first)
-        (Ok (first ∷ [])) h f n (ap if_fits (sym (data_row first f.kind)) ∙ fits_is first f.short)
+    (Ok (first ∷ [])) h f n (ap if_fits (sym (data_row first f.kind)) ∙ fits_is first f.short)
 
 pub goes_on : (o : Choice) (path : Path) (cells cells' : List Cell) (gone gone' : ℕ)
     (unsettled unsettled' : List ℕ) (line : ℕ) (held held' : List Row) (first : Row) (look : Look)
     (past : List Row) (row : Row) (rows : List Row) (new : List (List ℕ)) (width : ℕ)
     → Follows o path cells gone unsettled line held look past (row ∷ rows) → Front held first
-        → IsNew (tokens_of first) cells new → width ≡ length (tokens_of first)
-        → cells' ≡ drop width cells → gone' ≡ gone + width → unsettled' ≡ unsettled
-        → held' ≡ drop 1 held
+    → IsNew (tokens_of first) cells new → width ≡ length (tokens_of first)
+    → cells' ≡ drop width cells → gone' ≡ gone + width → unsettled' ≡ unsettled
+    → held' ≡ drop 1 held
     → Follows o path cells' gone' unsettled' line held' look (row ∷ past) rows
 goes_on o path cells cells' gone gone' unsettled unsettled' line held held' first look past row rows
     new width h f n w d g u e =
     let same = same_first held rows first row f.at h.waits in
     let size = w ∙ ap (λ (r : Row). length (tokens_of r)) same in
     follows_next o path cells cells' gone gone' unsettled unsettled' line held held' look past row
-        new rows (rw same at f.kind) h (rw same at n) (d ∙ ap (λ (m : ℕ). drop m cells) size) (g
-        ∙ ap (λ (m : ℕ). gone + m) size) u e
+    new rows (rw same at f.kind) h (rw same at n) (d ∙ ap (λ (m : ℕ). drop m cells) size) (g
+    ∙ ap (λ (m : ℕ). gone + m) size) u e
 
 -- its cells are there, and there are few
 pub front_within : (o : Choice) (path : Path) (cells : List Cell) (gone : ℕ) (unsettled : List ℕ)
     (line : ℕ) (held : List Row) (first : Row) (look : Look) (past rows : List Row)
     → Follows o path cells gone unsettled line held look past rows → Front held first
-        → 0 < length held
-        → (length (tokens_of first) ≤ length cells) × (gone + length (tokens_of first) ≤
-        4503599627370496)
+    → 0 < length held
+    → (length (tokens_of first) ≤ length cells) × (gone + length (tokens_of first) ≤
+    4503599627370496)
 front_within o path cells gone unsettled line held first look past [] h f some =
     absurd (let none = ap length h.waits in omega (arith, none, some))
 front_within o path cells gone unsettled line held first look past (row ∷ rows) h f some =
     let same = same_first held rows first row f.at h.waits in
     let size = ap length h.remembered in
     let sum = length-append (cells_at o (path_after past) row rows 0 (values_of row))
-        (all_cells o (row ∷ past) rows) in
+    (all_cells o (row ∷ past) rows) in
     let wide = cells_length o (path_after past) row rows 0 (values_of row) in
     let mine : length (values_of row) ≡ length (tokens_of first) =
-        ap length (data_values row (rw same at f.kind)) ∙ ap (λ (r : Row). length (tokens_of r))
-        (sym same) in
+    ap length (data_values row (rw same at f.kind)) ∙ ap (λ (r : Row). length (tokens_of r))
+    (sym same) in
     let counted = h.counted in
     let few = h.few in
     (omega (arith, size, sum, wide, mine), omega (arith, size, sum, wide, mine, counted, few))
@@ -338,8 +337,17 @@ pub begins : (options : ContextOptions) (path : Path) (cells : List Cell) (gone 
     List ℕ) (line : ℕ) → IsAllowed options.span → path ≡ Unopened → cells ≡ [] → unsettled ≡ []
     → gone ≡ 0 → line ≡ 0
     → Follows (choice_of options) path cells gone unsettled line [] (context (choice_of options)) []
-        []
+    []
 begins options path cells gone unsettled line h p none shut zero first =
-    rw (none, shut, zero, first) (record { command = refl; some_wanted = wanted options.span h;
-        spines = p; waits = refl; remembered = refl; places = refl; lines = refl; few =
-        omega arith; counted = omega arith })
+    rw (none, shut, zero, first) (record {
+      command = refl;
+      some_wanted = wanted options.span h;
+      spines = p;
+      waits = refl;
+      remembered = refl;
+      places = refl;
+      lines = refl;
+      few =
+          omega arith;
+      counted = omega arith;
+    })

@@ -1,11 +1,11 @@
 -- One record more, below a cell.
-use Rattle.std.proofs.Common.{◌≡◌, ◌∙◌, refl, sym, ap, ℕ, suc, ◌+◌, ◌-◌, ◌≤◌, ◌<◌, Bool, true}
+use Rattle.std.proofs.Common.{◌≡◌, ◌∙◌, refl, sym, ap, ℕ, ◌+◌, ◌-◌, ◌≤◌, Bool, true}
 use Rattle.std.proofs.Common.{false, not, ◌&&◌, ◌||◌, List, [], ◌∷◌, ◌++◌, length, take, filter}
 use Rattle.std.proofs.Common.{append-nil, append_assoc, length-append, Option, Some, None, inl, inr}
-use Rattle.std.proofs.Common.{◌⊎◌, arith, cond, slice_get, add-one, nat_eq, get_or}
+use Rattle.std.proofs.Common.{arith, cond, nat_eq, get_or}
 use Rattle.std.specs.Prelude.{nat_le}
 use Rattle.std.specs.Option.{option_and_then, option_map}
-use Rattle.std.specs.List.{list_any, join_with_byte, position}
+use Rattle.std.specs.List.{list_any, join_with_byte}
 use Rattle.std.proofs.lemmas.Bool.{cases_Bool}
 use Rattle.std.proofs.lemmas.Bool.Decides.{nat_tests}
 use Rattle.std.proofs.lemmas.List.{take-append-le, take_all}
@@ -15,9 +15,8 @@ use lib.Chars.{codes}
 use Rattle.hum_record.specs.declared.SpinedKind.{SpinedKind}
 use Rattle.hum_record.specs.declared.SpinedKind.TheVariants.{Local, Interpretation, Values}
 use Rattle.hum_record.specs.Row.{Row, Comment, Spined}
-use Rattle.hum_path.specs.Sign.{sign_of}
-use Rattle.hum_path.specs.Spines.{Path, moves_at, after}
-use Rattle.hum_path.specs.Chains.{goes_on, below_at, future}
+use Rattle.hum_path.specs.Spines.{Path, after}
+use Rattle.hum_path.specs.Chains.{below_at, future}
 use Rattle.hum_context.specs.Context.{Choice, Extent, First, Between, is_data, is_collectable}
 use Rattle.hum_context.specs.Context.{is_last, begins, taken, through, to_last, chain}
 use Rattle.hum_context.specs.Context.{token_or_null, new_token}
@@ -29,10 +28,10 @@ use Rattle.hum_context.specs.Cells.{token_of, path_through, under}
 -- the chain grows by the token below
 below_push : (path : Path) (rows : List Row) (row : Row) (last : Bool) (below : Option ℕ)
     → ((c : ℕ) → chain path (rows ++ row ∷ []) c ≡ chain path rows c ++ under row
-        (column_after path rows c))
+    (column_after path rows c))
     → cond last [] (to_last (below_at (future path (rows ++ row ∷ [])) below)) ≡ cond last []
-        (to_last (below_at (future path rows) below)) ++ under row
-        (option_and_then (column_after path rows) (cond last None below))
+    (to_last (below_at (future path rows) below)) ++ under row
+    (option_and_then (column_after path rows) (cond last None below))
 below_push path rows row true below h = refl
 below_push path rows row false None h = refl
 below_push path rows row false (Some c) h = h c
@@ -45,7 +44,7 @@ below_none false (Some c) = refl
 
 future_step : (path : Path) (kind : SpinedKind) (tokens : List (List ℕ)) (rows : List Row) (c : ℕ)
     → future path (Spined kind tokens ∷ rows) c ≡ get_or tokens c [] ∷ below_at
-        (future (after path (Spined kind tokens)) rows) (place_after path kind tokens c)
+    (future (after path (Spined kind tokens)) rows) (place_after path kind tokens c)
 future_step path Local tokens rows c = refl
 future_step path Interpretation tokens rows c = refl
 future_step path Values tokens rows c = refl
@@ -53,9 +52,9 @@ future_step path Values tokens rows c = refl
 pub chain_step : (path : Path) (kind : SpinedKind) (tokens : List (List ℕ)) (rows : List Row)
     (c : ℕ)
     → chain path (Spined kind tokens ∷ rows) c ≡ get_or tokens c [] ∷ cond
-        (is_last (get_or tokens c [])) []
-        (to_last (below_at (future (after path (Spined kind tokens)) rows)
-        (place_after path kind tokens c)))
+    (is_last (get_or tokens c [])) []
+    (to_last (below_at (future (after path (Spined kind tokens)) rows)
+    (place_after path kind tokens c)))
 chain_step path kind tokens rows c = ap to_last (future_step path kind tokens rows c)
 
 pub chain_push : (path : Path) (rows : List Row) (row : Row) (c : ℕ)
@@ -63,15 +62,15 @@ pub chain_push : (path : Path) (rows : List Row) (row : Row) (c : ℕ)
 chain_push path [] (Comment text) c = refl
 chain_push path [] (Spined kind tokens) c =
     chain_step path kind tokens [] c ∙ ap (λ (ts : List (List ℕ)). get_or tokens c [] ∷ ts)
-        (below_none (is_last (get_or tokens c [])) (place_after path kind tokens c))
+    (below_none (is_last (get_or tokens c [])) (place_after path kind tokens c))
 chain_push path (Comment text ∷ rows) row c = chain_push path rows row c
 chain_push path (Spined kind tokens ∷ rows) row c =
     chain_step path kind tokens (rows ++ row ∷ []) c
     ∙ (ap (λ (ts : List (List ℕ)). get_or tokens c [] ∷ ts)
-        (below_push (after path (Spined kind tokens)) rows row (is_last (get_or tokens c []))
-        (place_after path kind tokens c) (chain_push (after path (Spined kind tokens)) rows row))
+    (below_push (after path (Spined kind tokens)) rows row (is_last (get_or tokens c []))
+    (place_after path kind tokens c) (chain_push (after path (Spined kind tokens)) rows row))
     ∙ sym (ap (λ (ts : List (List ℕ)). ts ++ under row
-        (column_after path (Spined kind tokens ∷ rows) c)) (chain_step path kind tokens rows c)))
+    (column_after path (Spined kind tokens ∷ rows) c)) (chain_step path kind tokens rows c)))
 
 some_stays : {X : Type 0} (o : Option X) → option_and_then (λ x. Some x) o ≡ o
 some_stays None = refl
@@ -79,10 +78,10 @@ some_stays (Some x) = refl
 
 column_on : (path : Path) (rows : List Row) (row : Row) (below : Option ℕ)
     → ((c : ℕ)
-        → column_after path (rows ++ row ∷ []) c ≡ option_and_then
-        (column_below (path_through path rows) row) (column_after path rows c))
+    → column_after path (rows ++ row ∷ []) c ≡ option_and_then
+    (column_below (path_through path rows) row) (column_after path rows c))
     → option_and_then (column_after path (rows ++ row ∷ [])) below ≡ option_and_then
-        (column_below (path_through path rows) row) (option_and_then (column_after path rows) below)
+    (column_below (path_through path rows) row) (option_and_then (column_after path rows) below)
 column_on path rows row None h = refl
 column_on path rows row (Some c) h = h c
 
@@ -97,7 +96,7 @@ column_push path (next ∷ rows) row c = column_on (after path next) rows row
 ended_below : (path : Path) (rows : List Row) (last : Bool) (below : Option ℕ)
     → ((c : ℕ) → list_any is_last (chain path rows c) ≡ true → column_after path rows c ≡ None)
     → (last || list_any is_last (cond last [] (to_last (below_at (future path rows) below)))) ≡ true
-        → option_and_then (column_after path rows) (cond last None below) ≡ None
+    → option_and_then (column_after path rows) (cond last None below) ≡ None
 ended_below path rows true below h e = refl
 ended_below path rows false None h e = refl
 ended_below path rows false (Some c) h e = h c e
@@ -108,8 +107,8 @@ ended_none path [] c e = cc
 ended_none path (Comment text ∷ rows) c e = ended_none path rows c e
 ended_none path (Spined kind tokens ∷ rows) c e =
     ended_below (after path (Spined kind tokens)) rows (is_last (get_or tokens c []))
-        (place_after path kind tokens c) (ended_none (after path (Spined kind tokens)) rows)
-        (sym (ap (list_any is_last) (chain_step path kind tokens rows c)) ∙ e)
+    (place_after path kind tokens c) (ended_none (after path (Spined kind tokens)) rows)
+    (sym (ap (list_any is_last) (chain_step path kind tokens rows c)) ∙ e)
 
 -- Enough tokens stay enough.
 with_more : {X : Type 0} (x : X) (o : Option (List X)) (ys : List X)
@@ -124,10 +123,10 @@ through_stays ends (x ∷ xs) zs ys e =
     (elim (ends x) as (λ b. cond b (Some (x ∷ [])) (option_map (λ more. x ∷ more) (through ends xs))
     ≡ Some ys → cond b (Some (x ∷ [])) (option_map (λ more. x ∷ more) (through ends (xs ++ zs))) ≡
     Some ys) [
-  | true ↦ λ k. k
-  | false ↦ λ k. let w = with_more x (through ends xs) ys k in
-      rw (through_stays ends xs zs w.0 w.1) (ap (λ (us : List (List ℕ)). Some us) (sym w.2))
-]) e
+      | true ↦ λ k. k
+      | false ↦ λ k. let w = with_more x (through ends xs) ys k in
+          rw (through_stays ends xs zs w.0 w.1) (ap (λ (us : List (List ℕ)). Some us) (sym w.2))
+    ]) e
 
 first_stays : (n : ℕ) (xs zs ys : List (List ℕ)) (b : Bool) → nat_le n (length xs) ≡ b
     → cond b (Some (take n xs)) None ≡ Some ys → taken (First n) (xs ++ zs) ≡ Some ys
@@ -156,9 +155,9 @@ through_next ends (x ∷ xs) t e =
     (elim (ends x) as (λ b. cond b (Some (x ∷ [])) (option_map (λ more. x ∷ more) (through ends xs))
     ≡ None → cond b (Some (x ∷ [])) (option_map (λ more. x ∷ more) (through ends (xs ++ t ∷ []))) ≡
     cond (ends t) (Some ((x ∷ xs) ++ t ∷ [])) None) [
-  | true ↦ λ k. cc
-  | false ↦ λ k. rw (through_next ends xs t (more_none x (through ends xs) k)) (put_in (ends t))
-]) e
+      | true ↦ λ k. cc
+      | false ↦ λ k. rw (through_next ends xs t (more_none x (through ends xs) k)) (put_in (ends t))
+    ]) e
   where
     put_in : (b : Bool) → option_map (λ more. x ∷ more) (cond b (Some (xs ++ t ∷ [])) None) ≡ cond b
         (Some ((x ∷ xs) ++ t ∷ [])) None
@@ -172,8 +171,8 @@ first_next n xs t true w e = cc
 first_next n xs t false w e =
     let s : length (xs ++ t ∷ []) ≡ length xs + 1 = length-append xs (t ∷ []) in
     rw s (elim (cases_Bool (nat_le n (length xs + 1))) as (λ _. cond (nat_le n (length xs + 1))
-        (Some (take n (xs ++ t ∷ []))) None ≡ cond (nat_le n (length xs + 1)) (Some (xs ++ t ∷ []))
-        None) [
+    (Some (take n (xs ++ t ∷ []))) None ≡ cond (nat_le n (length xs + 1)) (Some (xs ++ t ∷ []))
+    None) [
       | inl k ↦ let all : length (xs ++ t ∷ []) ≤ n = grind (arith, nat_tests, s) in
           rw (k, take_all n (xs ++ t ∷ []) all) refl
       | inr k ↦ rw k refl
@@ -215,9 +214,9 @@ collected_bytes : (o : Choice) (ts : List (List ℕ)) → HasBytes (filter (is_c
 collected_bytes o [] = tt
 collected_bytes o (t ∷ ts) = elim (cases_Bool (is_collectable o t)) as
     (λ _. HasBytes (filter (is_collectable o) (t ∷ ts))) [
-  | inl w ↦ rw w (first_part (is_data t) _ w)
-  | inr w ↦ rw w (collected_bytes o ts)
-]
+      | inl w ↦ rw w (first_part (is_data t) _ w)
+      | inr w ↦ rw w (collected_bytes o ts)
+    ]
 
 join_push : (ts : List (List ℕ)) (t : List ℕ) → HasBytes ts
     → join_with_byte 32 (ts ++ t ∷ []) ≡ add_token (join_with_byte 32 ts) t
@@ -271,16 +270,22 @@ token_step : (o : Choice) (below : Option ℕ) (t : List ℕ) (got : List (List 
     → is_collectable o t ≡ b → taken o.extent got ≡ None → HasBytes got
     → waiting_on o below (got ++ collected b t) (is_last t)
     ≡ cond b (cond (is_enough o.extent (missing_after o.extent (length got)) t)
-        (Settled (add_token (join_with_byte 32 got) t))
-        (Waiting below (add_token (join_with_byte 32 got) t) (missing_after o.extent (length got) -
-        1))) (cond (is_last t) (Settled (codes ".")) (Waiting below (join_with_byte 32 got)
-        (missing_after o.extent (length got))))
+    (Settled (add_token (join_with_byte 32 got) t))
+    (Waiting below (add_token (join_with_byte 32 got) t) (missing_after o.extent (length got) -
+    1))) (cond (is_last t) (Settled (codes ".")) (Waiting below (join_with_byte 32 got)
+    (missing_after o.extent (length got))))
 token_step o below t got true w none bytes =
     let value : is_data t ≡ true = first_part (is_data t) _ w in
     let long : length (got ++ t ∷ []) ≡ length got + 1 = length-append got (t ∷ []) in
-    rw (value_goes_on t value, taken_next o.extent got t none, enough_same o.extent (length got) t,
-        long, missing_next o.extent (length got), ← join_push got t bytes)
-        (by_enough (is_enough o.extent (missing_after o.extent (length got)) t))
+    rw (
+      value_goes_on t value,
+      taken_next o.extent got t none,
+      enough_same o.extent (length got) t,
+      long,
+      missing_next o.extent (length got),
+      ← join_push got t bytes,
+    )
+    (by_enough (is_enough o.extent (missing_after o.extent (length got)) t))
   where
     by_enough : (e : Bool) → settled_or_waiting below (join_with_byte 32 (got ++ t ∷ []))
         (missing_after o.extent (length got) - 1) false (cond e (Some (got ++ t ∷ [])) None) ≡ cond
@@ -303,20 +308,27 @@ token_push : (o : Choice) (below : Option ℕ) (c : ℕ) (t : List ℕ) (tokens 
     (found : Option (List (List ℕ))) → taken o.extent (filter (is_collectable o) tokens) ≡ found
     → list_any is_last tokens ≡ false
     → cell_on o below (tokens ++ t ∷ []) ≡
-        (elim (settled_or_waiting (Some c) (join_with_byte 32 (filter (is_collectable o) tokens))
-        (missing_after o.extent (length (filter (is_collectable o) tokens))) false found) as
-        (λ _. Cell) [ Kept ↦ Kept | Settled ts ↦ Settled ts | Waiting column text missing ↦
-        take_token o below t text missing ])
+    (elim (settled_or_waiting (Some c) (join_with_byte 32 (filter (is_collectable o) tokens))
+    (missing_after o.extent (length (filter (is_collectable o) tokens))) false found) as
+    (λ _. Cell) [
+      | Kept ↦ Kept
+      | Settled ts ↦ Settled ts
+      | Waiting column text missing ↦
+          take_token o below t text missing
+    ])
 token_push o below c t tokens (Some ts) e open_end =
     let more = filter-append (is_collectable o) tokens (t ∷ []) in
-    rw (more, taken_stays o.extent (filter (is_collectable o) tokens)
-        (filter (is_collectable o) (t ∷ [])) ts e) refl
+    rw (
+      more,
+      taken_stays o.extent (filter (is_collectable o) tokens)
+          (filter (is_collectable o) (t ∷ [])) ts e,
+    ) refl
 token_push o below c t tokens None e open_end =
     let more = filter-append (is_collectable o) tokens (t ∷ []) in
     let last : list_any is_last (tokens ++ t ∷ []) ≡ is_last t =
-        rw (list_any-append is_last tokens (t ∷ []), open_end) (or_no (is_last t)) in
+    rw (list_any-append is_last tokens (t ∷ []), open_end) (or_no (is_last t)) in
     rw (more, last) (token_step o below t (filter (is_collectable o) tokens) (is_collectable o t)
-        refl e (collected_bytes o tokens))
+    refl e (collected_bytes o tokens))
   where
     or_no : (b : Bool) → (b || false) ≡ b
     or_no true = refl
@@ -326,7 +338,7 @@ token_push o below c t tokens None e open_end =
 pub cell_on_push : (o : Choice) (path : Path) (row : Row) (column : Option ℕ) (tokens :
     List (List ℕ)) → (list_any is_last tokens ≡ true → column ≡ None)
     → cell_on o (option_and_then (column_below path row) column) (tokens ++ under row column) ≡
-        next_cell o path row (cell_on o column tokens)
+    next_cell o path row (cell_on o column tokens)
 cell_on_push o path row None tokens h = rw (append-nil tokens)
     (stays_put o path row (join_with_byte 32 (filter (is_collectable o) tokens))
     (missing_after o.extent (length (filter (is_collectable o) tokens))) (list_any is_last tokens)
@@ -338,20 +350,25 @@ cell_on_push o path (Comment text) (Some c) tokens h = rw (append-nil tokens)
 cell_on_push o path (Spined kind ts) (Some c) tokens h =
     let going : list_any is_last tokens ≡ false = open_end (list_any is_last tokens) h in
     token_push o (column_below path (Spined kind ts) c) c (get_or ts c []) tokens
-        (taken o.extent (filter (is_collectable o) tokens)) refl going
-        ∙ rw going (same (taken o.extent (filter (is_collectable o) tokens)))
+    (taken o.extent (filter (is_collectable o) tokens)) refl going
+    ∙ rw going (same (taken o.extent (filter (is_collectable o) tokens)))
   where
     open_end : (b : Bool) → (b ≡ true → ◌≡◌ {A = Option ℕ} (Some c) None) → b ≡ false
     open_end true k = let e = k refl in cc
     open_end false k = refl
+
     same : (found : Option (List (List ℕ)))
         → (elim (settled_or_waiting (Some c) (join_with_byte 32 (filter (is_collectable o) tokens))
         (missing_after o.extent (length (filter (is_collectable o) tokens))) false found) as
-        (λ _. Cell) [ Kept ↦ Kept | Settled new ↦ Settled new | Waiting column text missing ↦
-        take_token o (column_below path (Spined kind ts) c) (get_or ts c []) text missing ])
+        (λ _. Cell) [
+          | Kept ↦ Kept
+          | Settled new ↦ Settled new
+          | Waiting column text missing ↦
+              take_token o (column_below path (Spined kind ts) c) (get_or ts c []) text missing
+        ])
         ≡ next_cell o path (Spined kind ts)
-            (settled_or_waiting (Some c) (join_with_byte 32 (filter (is_collectable o) tokens))
-            (missing_after o.extent (length (filter (is_collectable o) tokens))) false found)
+        (settled_or_waiting (Some c) (join_with_byte 32 (filter (is_collectable o) tokens))
+        (missing_after o.extent (length (filter (is_collectable o) tokens))) false found)
     same (Some new) = refl
     same None = refl
 
@@ -363,7 +380,7 @@ same_on o c d xs ys e f = ap (λ (z : Option ℕ). cell_on o z xs) e
 by_start : (o : Choice) (path : Path) (row : Row) (new old : Cell) (a b : Bool)
     → new ≡ next_cell o path row old
     → cond a (cond b new (Settled (codes "."))) Kept ≡ next_cell o path row
-        (cond a (cond b old (Settled (codes "."))) Kept)
+    (cond a (cond b old (Settled (codes "."))) Kept)
 by_start o path row new old true true e = e
 by_start o path row new old true false e = refl
 by_start o path row new old false b e = refl
@@ -372,17 +389,17 @@ by_start o path row new old false b e = refl
 pub cell_push : (o : Choice) (path : Path) (row : Row) (rows : List Row) (next : Row) (j : ℕ)
     (token : List ℕ)
     → cell_at o path row (rows ++ next ∷ []) j token ≡ next_cell o (path_through path (row ∷ rows))
-        next (cell_at o path row rows j token)
+    next (cell_at o path row rows j token)
 cell_push o path row rows next j token =
     let grown = chain_push path (row ∷ rows) next j in
     let moved = column_push path (row ∷ rows) next j in
     let step = cell_on_push o (path_through path (row ∷ rows)) next (column_after path (row ∷ rows)
-        j) (chain path (row ∷ rows) j) (ended_none path (row ∷ rows) j) in
+    j) (chain path (row ∷ rows) j) (ended_none path (row ∷ rows) j) in
     by_start o (path_through path (row ∷ rows)) next
-        (cell_on o (column_after path ((row ∷ rows) ++ next ∷ []) j)
-        (chain path ((row ∷ rows) ++ next ∷ []) j)) (cell_on o (column_after path (row ∷ rows) j)
-        (chain path (row ∷ rows) j)) (is_collectable o token) (begins o.extent token)
-        (same_on o _ _ _ _ moved grown ∙ step)
+    (cell_on o (column_after path ((row ∷ rows) ++ next ∷ []) j)
+    (chain path ((row ∷ rows) ++ next ∷ []) j)) (cell_on o (column_after path (row ∷ rows) j)
+    (chain path (row ∷ rows) j)) (is_collectable o token) (begins o.extent token)
+    (same_on o _ _ _ _ moved grown ∙ step)
 
 -- The cell of a new record.
 pub cell_first : (o : Choice) (path : Path) (row : Row) (j : ℕ) (token : List ℕ)
@@ -392,12 +409,12 @@ cell_first o path row j token h =
     let moved = column_push path [] row j in
     let step = cell_on_push o path row (Some j) [] (λ e. cc) in
     let none : cell_on o (Some j) [] ≡ Waiting (Some j) [] (missing_after o.extent 0) =
-        ap (λ (found : Option (List (List ℕ))). settled_or_waiting (Some j) []
-        (missing_after o.extent 0) false found) h in
+    ap (λ (found : Option (List (List ℕ))). settled_or_waiting (Some j) []
+    (missing_after o.extent 0) false found) h in
     let all = same_on o _ _ _ _ moved grown
-        ∙ (step ∙ ap (λ (cell : Cell). next_cell o path row cell) none) in
+    ∙ (step ∙ ap (λ (cell : Cell). next_cell o path row cell) none) in
     ap (λ (cell : Cell). cond (is_collectable o token) (cond (begins o.extent token) cell
-        (Settled (codes "."))) Kept) all
+    (Settled (codes "."))) Kept) all
 
 -- It gives the new token, once that is settled.
 pub cell_gives : (o : Choice) (path : Path) (row : Row) (rows : List Row) (j : ℕ) (token : List ℕ)
@@ -417,11 +434,12 @@ cell_gives o path row rows j token = by_cases (is_collectable o token) (begins o
     waits column text missing ended (Some ts) = refl
     waits column text missing true None = refl
     waits column text missing false None = refl
+
     by_cases : (a b : Bool) (column : Option ℕ) (text : List ℕ) (missing : ℕ) (ended : Bool)
         (found : Option (List (List ℕ)))
         → token_of token (cond a (cond b (settled_or_waiting column text missing ended found)
-            (Settled (codes "."))) Kept) ≡ cond a (cond b (token_or_null ended found)
-            (Some (codes "."))) (Some token)
+        (Settled (codes "."))) Kept) ≡ cond a (cond b (token_or_null ended found)
+        (Some (codes "."))) (Some token)
     by_cases true true column text missing ended found = waits column text missing ended found
     by_cases true false column text missing ended found = refl
     by_cases false b column text missing ended found = refl

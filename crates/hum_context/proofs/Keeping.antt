@@ -1,35 +1,32 @@
 -- Scores stay scores.
-use Rattle.std.proofs.Common.{◌≡◌, ◌∙◌, refl, sym, ap, ℕ, zero, suc, ◌+◌, ◌≤◌, ◌<◌, Bool, true}
-use Rattle.std.proofs.Common.{false, not, ◌&&◌, ◌||◌, List, [], ◌∷◌, ◌++◌, map, length, filter}
-use Rattle.std.proofs.Common.{Option, Some, None, inl, inr, ◌⊎◌, arith, cond, get_or}
-use Rattle.std.specs.Prelude.{nat_le, nat_lt, ◌==◌, Result, Ok, Err}
+use Rattle.std.proofs.Common.{◌≡◌, ◌∙◌, refl, sym, ap, ℕ, suc, ◌+◌, ◌≤◌, ◌<◌, Bool, true}
+use Rattle.std.proofs.Common.{false, not, ◌||◌, List, [], ◌∷◌, map, length, filter}
+use Rattle.std.proofs.Common.{Option, Some, None, arith, cond, get_or}
+use Rattle.std.specs.Prelude.{nat_lt, ◌==◌, Ok}
 use Rattle.std.specs.List.{list_any, position, position_or_len, find, join_with_byte}
 use Rattle.std.proofs.lemmas.Bool.Decides.{nat_tests}
 use Rattle.std.proofs.lemmas.List.{length-map}
 use lib.Chars.{codes}
-use Rattle.hum_record.specs.declared.SpinedKind.{SpinedKind}
 use Rattle.hum_record.specs.declared.SpinedKind.TheVariants.{Local, Interpretation, Values}
-use Rattle.hum_record.specs.Row.{Row, Comment, Spined, text_of}
+use Rattle.hum_record.specs.Row.{Row, Comment, Spined}
 use Rattle.hum_path.specs.declared.moved.Move.{Move}
 use Rattle.hum_path.specs.declared.PathFault.TheVariants.{P1, P2, P3, P4, P5, P6, P7, P9, P10, P11}
 use Rattle.hum_path.specs.Sign.{sign_of}
-use Rattle.hum_path.specs.Spines.{Path, Unopened, Spines, after, moves_under, names_after, renamed}
+use Rattle.hum_path.specs.Spines.{Path, Unopened, Spines, moves_under, names_after, renamed}
 use Rattle.hum_path.specs.Rules.{fault_of, breaks_as_text, in_order, is_unfinished}
 use Rattle.hum_path.specs.Score.{IsOpen, path_after}
 use Rattle.hum_path.specs.Chains.{goes_on, future, below_at}
 use Rattle.hum_path.proofs.Plain.{find_head}
-use Rattle.hum_stage.specs.declared.faults.Rule.{Rule}
 use Rattle.hum_stage.specs.Score.{through, Follow}
 use Rattle.hum_stage.specs.Meaning.{KeepsScore}
 use Rattle.hum_stage.specs.Look.{outcomes_from}
-use Rattle.hum_stage.proofs.LookKeeping.{LookKeeps, looking_keeps}
+use Rattle.hum_stage.proofs.LookKeeping.{looking_keeps}
 use Rattle.hum_context.specs.Context.{Choice, is_collectable, is_last, begins, taken, token_or_null}
 use Rattle.hum_context.specs.Context.{new_token, new_tokens, to_last, chain, all_some, push_front}
 use Rattle.hum_context.specs.Context.{data_of, context}
-use Rattle.hum_context.specs.Cells.{place_after}
 use Rattle.hum_context.proofs.Growth.{chain_step}
 use Rattle.hum_context.proofs.Steady.{data_one, one_row}
-use Rattle.hum_context.proofs.Ending.{goes_below, or_left, or_right}
+use Rattle.hum_context.proofs.Ending.{goes_below}
 
 first_below : {X : Type 0} (p : X → Bool) (xs : List X) → list_any p xs ≡ true
     → position_or_len p xs < length xs
@@ -60,7 +57,7 @@ ends names [] c h follow end = absurd (let none : length names ≡ 0 = closed_no
 ends names (Comment text ∷ rows) c h follow end = ends names rows c h follow.1 end
 ends names (Spined Local tokens ∷ rows) c h follow end =
     ap (list_any is_last) (chain_step (Spines names) Local tokens rows c)
-        ∙ by (is_last (get_or tokens c [])) (ends names rows c h follow.1 end)
+    ∙ by (is_last (get_or tokens c [])) (ends names rows c h follow.1 end)
   where
     by : (b : Bool) → list_any is_last (chain (Spines names) rows c) ≡ true
         → (b || list_any is_last (cond b [] (chain (Spines names) rows c))) ≡ true
@@ -68,7 +65,7 @@ ends names (Spined Local tokens ∷ rows) c h follow end =
     by false e = e
 ends names (Spined Values tokens ∷ rows) c h follow end =
     ap (list_any is_last) (chain_step (Spines names) Values tokens rows c)
-        ∙ by (is_last (get_or tokens c [])) (ends names rows c h follow.1 end)
+    ∙ by (is_last (get_or tokens c [])) (ends names rows c h follow.1 end)
   where
     by : (b : Bool) → list_any is_last (chain (Spines names) rows c) ≡ true
         → (b || list_any is_last (cond b [] (chain (Spines names) rows c))) ≡ true
@@ -77,24 +74,26 @@ ends names (Spined Values tokens ∷ rows) c h follow end =
 ends names (Spined Interpretation tokens ∷ rows) c h follow end =
     ap (list_any is_last) (chain_step (Spines names) Interpretation tokens rows c)
     ∙ by (is_last (get_or tokens c [])) refl (λ d below. ends (names_after (Spines names) tokens)
-        rows d below follow.1 end)
+    rows d below follow.1 end)
   where
     moves : List Move
     moves = moves_under (map sign_of tokens)
+
     wide : length (names_after (Spines names) tokens) ≡ length moves
     wide = length-map moves (renamed names tokens)
+
     by : (b : Bool) → is_last (get_or tokens c []) ≡ b
         → ((d : ℕ) → d < length (names_after (Spines names) tokens)
         → list_any is_last (chain (Spines (names_after (Spines names) tokens)) rows d) ≡ true)
         → (b || list_any is_last
-            (cond b [] (to_last (below_at (future (Spines (names_after (Spines names) tokens)) rows)
-            (position (goes_on c) moves))))) ≡ true
+        (cond b [] (to_last (below_at (future (Spines (names_after (Spines names) tokens)) rows)
+        (position (goes_on c) moves))))) ≡ true
     by true w more = refl
     by false w more =
         let goes = goes_below names tokens c follow.0 h w in
         let below = first_below (goes_on c) moves goes in
         rw (place_some (goes_on c) moves goes) (more (position_or_len (goes_on c) moves)
-            (omega (arith, below, wide)))
+        (omega (arith, below, wide)))
 
 -- so its new token is there
 token_there : (o : Choice) (token : List ℕ) (chain : List (List ℕ)) → list_any is_last chain ≡ true
@@ -106,6 +105,7 @@ token_there o token chain e = by (is_collectable o token) (begins o.extent token
         → (new : List ℕ) × (token_or_null (list_any is_last chain) found ≡ Some new)
     ended (Some tokens) = (join_with_byte 32 tokens, refl)
     ended None = rw e (codes ".", refl)
+
     by : (a b : Bool) (found : Option (List (List ℕ)))
         → (new : List ℕ) × (cond a (cond b (token_or_null (list_any is_last chain) found)
         (Some (codes "."))) (Some token) ≡ Some new)
@@ -118,7 +118,7 @@ tokens_there : (o : Choice) (names : List (List ℕ)) (row : Row) (rows : List R
     → list_any is_last (chain (Spines names) (row ∷ rows) c) ≡ true)
     → j + length tokens ≤ length names
     → (new : List (List ℕ)) × (all_some (new_tokens o (Spines names) row rows j tokens) ≡ Some new)
-        × (length new ≡ length tokens)
+    × (length new ≡ length tokens)
 tokens_there o names row rows j [] h wide = ([], refl, refl)
 tokens_there o names row rows j (t ∷ ts) h wide =
     let first = token_there o t (chain (Spines names) (row ∷ rows) j) (h j (omega (arith, wide))) in
@@ -135,17 +135,17 @@ wide_text : (path : Path) (tokens : List (List ℕ))
     → find (breaks_as_text path tokens) in_order ≡ None → Wide path tokens
 wide_text Unopened tokens h =
     let a = find_head (breaks_as_text Unopened tokens) P7 (P1 ∷ P2 ∷ P6 ∷ P10 ∷ P11 ∷ P3 ∷ P4 ∷ P5 ∷
-        P9 ∷ []) h in
+    P9 ∷ []) h in
     let b = find_head (breaks_as_text Unopened tokens) P1 (P2 ∷ P6 ∷ P10 ∷ P11 ∷ P3 ∷ P4 ∷ P5 ∷ P9 ∷
-        []) a.1 in
+    []) a.1 in
     let k = b.0 in cc
 wide_text (Spines names) tokens h =
     let a = find_head (breaks_as_text (Spines names) tokens) P7 (P1 ∷ P2 ∷ P6 ∷ P10 ∷ P11 ∷ P3 ∷ P4
-        ∷ P5 ∷ P9 ∷ []) h in
+    ∷ P5 ∷ P9 ∷ []) h in
     let b = find_head (breaks_as_text (Spines names) tokens) P1 (P2 ∷ P6 ∷ P10 ∷ P11 ∷ P3 ∷ P4 ∷ P5
-        ∷ P9 ∷ []) a.1 in
+    ∷ P9 ∷ []) a.1 in
     let c = find_head (breaks_as_text (Spines names) tokens) P2 (P6 ∷ P10 ∷ P11 ∷ P3 ∷ P4 ∷ P5 ∷ P9
-        ∷ []) b.1 in
+    ∷ []) b.1 in
     record { names = names; is = refl; wide = grind (arith, nat_tests, c.0) }
 
 -- the rules ask only how many tokens there are
@@ -160,13 +160,13 @@ new_length : (o : Choice) (path : Path) (row : Row) (rows : List Row) (j : ℕ) 
 new_length o path row rows j [] new e = let k : [] ≡ new = cc in rw (← k) refl
 new_length o path row rows j (t ∷ ts) new e =
     by (new_token o t (chain path (row ∷ rows) j))
-        (all_some (new_tokens o path row rows (j + 1) ts)) refl e (λ ys w. new_length o path row
-        rows (j + 1) ts ys w)
+    (all_some (new_tokens o path row rows (j + 1) ts)) refl e (λ ys w. new_length o path row
+    rows (j + 1) ts ys w)
   where
     by : (x : Option (List ℕ)) (xs : Option (List (List ℕ)))
         → all_some (new_tokens o path row rows (j + 1) ts) ≡ xs → push_front x xs ≡ Some new
         → ((ys : List (List ℕ)) → all_some (new_tokens o path row rows (j + 1) ts) ≡ Some ys
-            → length ys ≡ length ts) → length new ≡ suc (length ts)
+        → length ys ≡ length ts) → length new ≡ suc (length ts)
     by None xs w k more = cc
     by (Some x) None w k more = cc
     by (Some x) (Some ys) w k more = let same : x ∷ ys ≡ new = cc in
@@ -186,11 +186,11 @@ decided o past (Spined Values tokens) rows sound follow end e =
     by : (names : List (List ℕ)) → path_after past ≡ Spines names → length tokens ≡ length names → ⊥
     by names is wide =
         let all : (c : ℕ) → c < length names
-            → list_any is_last (chain (Spines names) (Spined Values tokens ∷ rows) c) ≡ true =
-            λ c h. ends names (Spined Values tokens ∷ rows) c h (rw is at sound.1, rw is at follow)
-                (rw is at end) in
+        → list_any is_last (chain (Spines names) (Spined Values tokens ∷ rows) c) ≡ true =
+        λ c h. ends names (Spined Values tokens ∷ rows) c h (rw is at sound.1, rw is at follow)
+        (rw is at end) in
         let there = tokens_there o names (Spined Values tokens) rows 0 tokens all
-            (omega (arith, wide)) in
+        (omega (arith, wide)) in
         let k : data_of (Some there.0) ≡ None = sym (ap data_of there.1) ∙ rw is at e in
         cc
 
@@ -206,16 +206,16 @@ next_step o past (Spined Interpretation tokens) behind given rows sound leads e 
     rw (← one_row (Spined Interpretation tokens) rows e, leads) ((sound.1, tt), refl)
 next_step o past (Spined Values tokens) behind given rows sound leads e =
     let one = data_one (all_some (new_tokens o (path_after past) (Spined Values tokens) behind 0
-        tokens)) rows e in
+    tokens)) rows e in
     let wide = new_length o (path_after past) (Spined Values tokens) behind 0 tokens one.0 one.1 in
     rw (← one.2, leads) ((same_fault (path_after past) tokens one.0 wide ∙ sound.1, tt), refl)
 
 pub context_keeps : (room : ℕ) (o : Choice) → KeepsScore (outcomes_from room (context o) [])
 context_keeps room o = looking_keeps room (context o) (λ past given. given ≡ path_after past)
     (record {
-  opening = refl;
-  next = λ past row behind given rows sound leads e. next_step o past row behind given rows sound
-      leads e;
-  closing = λ past given sound end leads. rw leads end;
-  decided = λ past row rows sound follow end e. decided o past row rows sound follow end e;
-})
+      opening = refl;
+      next = λ past row behind given rows sound leads e. next_step o past row behind given rows sound
+          leads e;
+      closing = λ past given sound end leads. rw leads end;
+      decided = λ past row rows sound follow end e. decided o past row rows sound follow end e;
+    })

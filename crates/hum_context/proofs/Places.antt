@@ -1,7 +1,6 @@
 -- A scan for the first that passes.
-use Rattle.std.proofs.Common.{◌≡◌, ◌∙◌, refl, sym, ap, ℕ, zero, suc, ◌+◌, ◌≤◌, Bool, true, false}
-use Rattle.std.proofs.Common.{List, [], ◌∷◌, length, drop, Option, Some, None, slice_get, add-one}
-use Rattle.std.proofs.Common.{cond, get_or}
+use Rattle.std.proofs.Common.{◌≡◌, ◌∙◌, refl, sym, ℕ, zero, suc, ◌+◌, ◌≤◌, Bool, true, false}
+use Rattle.std.proofs.Common.{List, [], ◌∷◌, length, drop, Some, None, slice_get, add-one}
 use Rattle.std.specs.List.{position_from, position}
 use Rattle.std.proofs.lemmas.List.{drop_all}
 use Rattle.std.proofs.lemmas.Iterator.Adapters.{position_from-zero}
@@ -27,4 +26,3 @@ position_here p xs i x h e same = position_from-zero p xs
 pub position_nowhere : {X : Type 0} (p : X → Bool) (xs : List X) (i : ℕ) → length xs ≤ i
     → position_from p i (drop i xs) ≡ position_from p 0 xs → position p xs ≡ None
 position_nowhere p xs i h same = position_from-zero p xs ∙ (sym same ∙ rw (drop_all i xs h) refl)
-

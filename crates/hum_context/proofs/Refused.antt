@@ -1,16 +1,14 @@
 -- Records that are too long, one by one.
-use Rattle.std.proofs.Common.{◌≡◌, ◌∙◌, refl, sym, ap, ℕ, zero, suc, ◌+◌, ◌-◌, ◌<◌, ◌≤◌, Bool, true}
-use Rattle.std.proofs.Common.{false, not, ◌&&◌, List, [], ◌∷◌, ◌++◌, length, drop, get_or, inl, inr}
-use Rattle.std.proofs.Common.{◌⊎◌, cond}
+use Rattle.std.proofs.Common.{◌≡◌, ◌∙◌, refl, sym, ap, ℕ, zero, suc, ◌+◌, ◌<◌, ◌≤◌, Bool, true}
+use Rattle.std.proofs.Common.{false, not, ◌&&◌, List, [], ◌∷◌, ◌++◌, length, drop, get_or}
+use Rattle.std.proofs.Common.{cond}
 use Rattle.std.proofs.Common.{arith, add-one, drop-cons, length-append, Option, None, Some}
 use Rattle.std.specs.Prelude.{nat_le, nat_lt}
 use Rattle.std.specs.List.{join_with_byte}
 use Rattle.std.proofs.lemmas.Bool.Decides.{nat_tests}
-use Rattle.std.proofs.lemmas.List.{drop_all}
-use Rattle.hum_record.specs.declared.Kind.TheVariants.{Values as AnyValues}
-use Rattle.hum_record.specs.Row.{Row, kind_of, tokens_of}
-use Rattle.hum_context.specs.Cells.{Cell, Kept, Settled, Waiting, is_open, values_of}
-use Rattle.hum_context.specs.Shown.{shown, all_shown}
+use Rattle.hum_record.specs.Row.{Row}
+use Rattle.hum_context.specs.Cells.{Cell, Kept, is_open, values_of}
+use Rattle.hum_context.specs.Shown.{all_shown}
 use Rattle.hum_context.specs.Refusals.{all_shut, bytes_of, is_long, is_refused, lasts}
 use Rattle.std.specs.Prelude.{Result, Ok, Err}
 use Rattle.hum_record.specs.declared.SpinedKind.TheVariants.{Local, Interpretation, Values}
@@ -34,12 +32,17 @@ at_any (y ∷ ys) (suc j) x below h = at_any ys j x (omega arith) h
 pub shut_on : (tokens : List (List ℕ)) (cells : List Cell) (at j : ℕ) (x : Cell) → j < length tokens
     → at + length tokens ≤ length cells → x ≡ get_or cells (at + j) x
     → all_shut (drop j tokens) (drop (at + j) cells) ≡
-        (not (is_open x) && all_shut (drop (j + 1) tokens) (drop (at + (j + 1)) cells))
+    (not (is_open x) && all_shut (drop (j + 1) tokens) (drop (at + (j + 1)) cells))
 shut_on tokens cells at j x below wide here =
     let next : at + (j + 1) ≡ suc (at + j) = omega arith in
-    rw (next, ← at_any cells (at + j) x (omega (arith, below, wide)) here, drop-cons tokens j []
-        below, drop-cons cells (at + j) Kept (omega (arith, below, wide)), add-one) refl
-
+    rw (
+      next,
+      ← at_any cells (at + j) x (omega (arith, below, wide)) here,
+      drop-cons tokens j []
+          below,
+      drop-cons cells (at + j) Kept (omega (arith, below, wide)),
+      add-one,
+    ) refl
 
 shut_cells : (tokens : List (List ℕ)) (mine others : List Cell) → length tokens ≡ length mine
     → all_shut tokens (mine ++ others) ≡ true → AllShut mine
@@ -85,33 +88,34 @@ stop_or false row n = refl
 stop_data : (o : Choice) (past : List Row) (tokens : List (List ℕ)) (rows : List Row) (n : ℕ)
     (cells : List Cell) → cells ≡ all_cells o past (Spined Values tokens ∷ rows)
     → or_stop (context o past (Spined Values tokens) rows) n ≡ cond (is_refused tokens cells) 0
-        (n + 1)
+    (n + 1)
 stop_data o past tokens rows n cells e = by (all_shut tokens cells) refl
   where
     wide : length tokens ≡ length (head_cells o past tokens rows)
     wide = sym (cells_length o (path_after past) (Spined Values tokens) rows 0 tokens)
+
     by : (b : Bool) → all_shut tokens cells ≡ b
         → or_stop (context o past (Spined Values tokens) rows) n ≡ cond (b && is_long tokens cells)
         0 (n + 1)
     by true w =
         let shut = shut_cells tokens (head_cells o past tokens rows)
-            (all_cells o (Spined Values tokens ∷ past) rows) wide (rw e at w) in
+        (all_cells o (Spined Values tokens ∷ past) rows) wide (rw e at w) in
         let new : all_some (tokens_of_cells tokens cells) ≡ Some (all_shown tokens cells) =
-            rw e (shut_shows tokens (head_cells o past tokens rows)
-            (all_cells o (Spined Values tokens ∷ past) rows) wide shut) in
+        rw e (shut_shows tokens (head_cells o past tokens rows)
+        (all_cells o (Spined Values tokens ∷ past) rows) wide shut) in
         let is = sym (first_decides o past tokens rows cells e) ∙ ap data_of new in
         ap (λ (d : Option (Result (List Row) Rule)). or_stop d n) is
-            ∙ (stop_or (nat_le (length (join_with_byte 9 (all_shown tokens cells))) 1048576)
-            (Spined Values (all_shown tokens cells)) n ∙ ap (λ (b : Bool). cond b 0 (n + 1))
-            (sym (long_fits (all_shown tokens cells))))
+        ∙ (stop_or (nat_le (length (join_with_byte 9 (all_shown tokens cells))) 1048576)
+        (Spined Values (all_shown tokens cells)) n ∙ ap (λ (b : Bool). cond b 0 (n + 1))
+        (sym (long_fits (all_shown tokens cells))))
     by false w =
         let none : all_some (tokens_of_cells tokens cells) ≡ None =
-            rw e (open_none tokens (head_cells o past tokens rows)
-            (all_cells o (Spined Values tokens ∷ past) rows) wide (λ shut. let k : false ≡ true =
-            sym (rw e at w) ∙ cells_shut tokens (head_cells o past tokens rows)
-            (all_cells o (Spined Values tokens ∷ past) rows) wide shut in cc)) in
+        rw e (open_none tokens (head_cells o past tokens rows)
+        (all_cells o (Spined Values tokens ∷ past) rows) wide (λ shut. let k : false ≡ true =
+        sym (rw e at w) ∙ cells_shut tokens (head_cells o past tokens rows)
+        (all_cells o (Spined Values tokens ∷ past) rows) wide shut in cc)) in
         ap (λ (d : Option (Result (List Row) Rule)). or_stop d n)
-            (sym (first_decides o past tokens rows cells e) ∙ ap data_of none)
+        (sym (first_decides o past tokens rows cells e) ∙ ap data_of none)
 
 no_tokens : (row : Row) (n : ℕ) (cells : List Cell) → values_of row ≡ []
     → cond (is_refused (values_of row) cells) 0 (n + 1) ≡ n + 1
@@ -141,8 +145,8 @@ lasts_is o past (row ∷ rows) cells e =
     let size = ap length e in
     let sum = length-append mine others in
     let there : nat_le (length (values_of row)) (length cells) ≡ true =
-        grind (arith, nat_tests, size, sum, wide) in
+    grind (arith, nat_tests, size, sum, wide) in
     let left : drop (length (values_of row)) cells ≡ others = ap (drop (length (values_of row))) e
-        ∙ (ap (λ (n : ℕ). drop n (mine ++ others)) (sym wide) ∙ drop_mine mine others) in
+    ∙ (ap (λ (n : ℕ). drop n (mine ++ others)) (sym wide) ∙ drop_mine mine others) in
     rw (there, left, lasts_is o (row ∷ past) rows others refl)
-        (sym (stop_row o past row rows (lasting (context o) (row ∷ past) rows) cells e))
+    (sym (stop_row o past row rows (lasting (context o) (row ∷ past) rows) cells e))

@@ -11,7 +11,7 @@ use Rattle.std.proofs.Common.{take}
 use Rattle.hum_record.specs.Building.{spelled}
 use Rattle.hum_record.proofs.Drafts.{spelled_front}
 use Rattle.hum_context.specs.Context.{all_some, push_front}
-use Rattle.hum_context.specs.Cells.{Cell, Kept, Settled, Waiting, is_open, is_kept, token_of}
+use Rattle.hum_context.specs.Cells.{Cell, Kept, Settled, Waiting, is_open, is_kept}
 use Rattle.hum_context.specs.Cells.{tokens_of_cells, open_from}
 use Rattle.hum_context.specs.Shown.{shown, all_shown, all_stay, none_before, IsNew}
 use Rattle.hum_context.proofs.Walks.{AllShut, next_open, shut_none, none_shut, open_append}
@@ -42,11 +42,16 @@ shown_length (t ∷ ts) (c ∷ cs) = ap suc (shown_length ts cs)
 show_more : (tokens : List (List ℕ)) (cells : List Cell) (made : List (List ℕ)) (j : ℕ)
     → j < length tokens → length tokens ≤ length cells
     → (made ++ shown (get_or tokens j []) (get_or cells j Kept) ∷ []) ++ all_shown
-        (drop (j + 1) tokens) (drop (j + 1) cells) ≡ made ++ all_shown (drop j tokens)
-        (drop j cells)
+    (drop (j + 1) tokens) (drop (j + 1) cells) ≡ made ++ all_shown (drop j tokens)
+    (drop j cells)
 show_more tokens cells made j below wide =
-    rw (append_assoc, drop-cons tokens j [] below, drop-cons cells j Kept
-        (omega (arith, below, wide)), add-one) refl
+    rw (
+      append_assoc,
+      drop-cons tokens j [] below,
+      drop-cons cells j Kept
+          (omega (arith, below, wide)),
+      add-one,
+    ) refl
 
 at_any : (xs : List Cell) (j : ℕ) (x : Cell) → j < length xs → x ≡ get_or xs j x
     → get_or xs j Kept ≡ x
@@ -57,8 +62,8 @@ at_any (y ∷ ys) (suc j) x below h = at_any ys j x (omega arith) h
 pub shown_on : (tokens : List (List ℕ)) (cells : List Cell) (made all : List (List ℕ)) (j : ℕ)
     (x : Cell) → j < length tokens → length tokens ≤ length cells → x ≡ get_or cells j x
     → made ++ all_shown (drop j tokens) (drop j cells) ≡ all
-        → (made ++ shown (get_or tokens j []) x ∷ []) ++ all_shown (drop (j + 1) tokens)
-        (drop (j + 1) cells) ≡ all
+    → (made ++ shown (get_or tokens j []) x ∷ []) ++ all_shown (drop (j + 1) tokens)
+    (drop (j + 1) cells) ≡ all
 shown_on tokens cells made all j x below wide at is =
     rw (at_any cells j x (omega (arith, below, wide)) at) at (show_more tokens cells made j below
     wide) ∙ is
@@ -67,12 +72,12 @@ shown_on tokens cells made all j x below wide at is =
 pub stays_long : (tokens : List (List ℕ)) (cells : List Cell) (made all : List (List ℕ)) (j : ℕ)
     (x : Cell) → j < length tokens → length tokens ≤ length cells → x ≡ get_or cells j x
     → made ++ all_shown (drop j tokens) (drop j cells) ≡ all
-        → 1048576 < length (spelled (made ++ shown (get_or tokens j []) x ∷ []))
-        → 1048576 < length (spelled all)
+    → 1048576 < length (spelled (made ++ shown (get_or tokens j []) x ∷ []))
+    → 1048576 < length (spelled all)
 stays_long tokens cells made all j x below wide at is over =
     let more = shown_on tokens cells made all j x below wide at is in
     let front = spelled_front (made ++ shown (get_or tokens j []) x ∷ [])
-        (all_shown (drop (j + 1) tokens) (drop (j + 1) cells)) in
+    (all_shown (drop (j + 1) tokens) (drop (j + 1) cells)) in
     let longer = rw more at front in
     omega (arith, over, longer)
 
@@ -80,10 +85,15 @@ stays_long tokens cells made all j x below wide at is over =
 pub stay_on : (tokens : List (List ℕ)) (cells : List Cell) (j : ℕ) (x : Cell) → j < length tokens
     → length tokens ≤ length cells → x ≡ get_or cells j x
     → all_stay (drop j tokens) (drop j cells) ≡ (is_kept x && all_stay (drop (j + 1) tokens)
-        (drop (j + 1) cells))
+    (drop (j + 1) cells))
 stay_on tokens cells j x below wide at =
-    rw (← at_any cells j x (omega (arith, below, wide)) at, drop-cons tokens j [] below, drop-cons
-        cells j Kept (omega (arith, below, wide)), add-one) refl
+    rw (
+      ← at_any cells j x (omega (arith, below, wide)) at,
+      drop-cons tokens j [] below,
+      drop-cons
+          cells j Kept (omega (arith, below, wide)),
+      add-one,
+    ) refl
 
 -- the first place of an open cell, and so many cells from the first on
 pub first_behind : (gone width id : ℕ) (unsettled : List ℕ) (cells : List Cell)
@@ -165,10 +175,10 @@ front_shut gone mine others e = none_shut gone mine (sym (by (open_from gone min
     by (id ∷ ids) w =
         let within = open_within gone id ids mine (sym w) in
         let first : none_before (gone + length mine) ((id ∷ ids) ++ open_from (gone + length mine)
-            others) ≡ true =
-            rw (open_append gone mine others, w) at e in
+        others) ≡ true =
+        rw (open_append gone mine others, w) at e in
         absurd (let beyond : gone + length mine ≤ id = grind (arith, nat_tests, first) in
-            omega (arith, within, beyond))
+        omega (arith, within, beyond))
 
 pub settled_shows : (gone : ℕ) (tokens : List (List ℕ)) (mine others : List Cell)
     → length tokens ≡ length mine
@@ -187,9 +197,9 @@ unsettled_shows gone tokens mine others h e = by (shut_or_none tokens mine other
     by (inr none) = none
     by (inl shut) =
         let all : open_from gone (mine ++ others) ≡ open_from (gone + length mine) others =
-            open_append gone mine others
-            ∙ ap (λ (ids : List ℕ). ids ++ open_from (gone + length mine) others)
-            (shut_none gone mine shut) in
+        open_append gone mine others
+        ∙ ap (λ (ids : List ℕ). ids ++ open_from (gone + length mine) others)
+        (shut_none gone mine shut) in
         let beyond = open_beyond (gone + length mine) (gone + length mine) others (omega arith) in
         let is : false ≡ true = sym (rw (all, h) at e) ∙ beyond in
         cc
@@ -210,9 +220,11 @@ pub settled_all : (gone : ℕ) (tokens : List (List ℕ)) (cells : List Cell) (u
     → IsNew tokens cells (all_shown tokens cells)
 settled_all gone tokens cells unsettled wide e s =
     let cut = take-append-drop (length tokens) cells in
-    record { is = rw cut at (settled_shows gone tokens (take (length tokens) cells)
-        (drop (length tokens) cells) (sym (length-take-le (length tokens) cells wide))
-        (rw (cut, ← e) s)) }
+    record {
+      is = rw cut at (settled_shows gone tokens (take (length tokens) cells)
+          (drop (length tokens) cells) (sym (length-take-le (length tokens) cells wide))
+          (rw (cut, ← e) s));
+    }
 
 pub unsettled_all : (gone : ℕ) (tokens : List (List ℕ)) (cells : List Cell) (unsettled : List ℕ)
     → length tokens ≤ length cells → unsettled ≡ open_from gone cells
@@ -221,7 +233,7 @@ pub unsettled_all : (gone : ℕ) (tokens : List (List ℕ)) (cells : List Cell) 
 unsettled_all gone tokens cells unsettled wide e s =
     let cut = take-append-drop (length tokens) cells in
     rw cut at (unsettled_shows gone tokens (take (length tokens) cells) (drop (length tokens) cells)
-        (sym (length-take-le (length tokens) cells wide)) (rw (cut, ← e) s))
+    (sym (length-take-le (length tokens) cells wide)) (rw (cut, ← e) s))
 
 pub some_shut : (tokens : List (List ℕ)) (mine others : List Cell) (new : List (List ℕ))
     → length tokens ≡ length mine → all_some (tokens_of_cells tokens (mine ++ others)) ≡ Some new

@@ -1,8 +1,8 @@
 -- What a record's tokens do to a cell that waits.
-use Rattle.std.proofs.Common.{◌≡◌, ◌∙◌, refl, sym, ap, ℕ, zero, suc, Bool, true, false, not, ◌&&◌}
+use Rattle.std.proofs.Common.{◌≡◌, ◌∙◌, refl, sym, ap, ℕ, zero, suc, Bool, true, false, not}
 use Rattle.std.proofs.Common.{◌||◌, List, [], ◌∷◌, map, Option, Some, None, inl, inr, ◌⊎◌, cond}
 use Rattle.std.proofs.Common.{get_or, nat_eq}
-use Rattle.std.specs.Prelude.{nat_le, slice_index_or, ◌-◌}
+use Rattle.std.specs.Prelude.{nat_le}
 use Rattle.std.specs.List.{position, AllByRecursion}
 use lib.Chars.{codes}
 use Rattle.hum_record.specs.declared.Kind.TheVariants.{Global, Local as AnyLocal}
@@ -20,11 +20,11 @@ use Rattle.hum_context.specs.declared.hearing.Heard.TheVariants.{Passed, Taken}
 use Rattle.hum_context.specs.Context.{Choice, Extent, First, Between, is_data, is_collectable}
 use Rattle.hum_context.specs.Context.{is_last, begins}
 use Rattle.hum_context.specs.Cells.{Cell, Kept, Settled, Waiting, column_below, take_token}
-use Rattle.hum_context.specs.Cells.{next_cell, is_enough, first_cell, missing_after, add_token}
+use Rattle.hum_context.specs.Cells.{next_cell, is_enough, first_cell, missing_after}
 use Rattle.hum_context.specs.Cells.{open_from, values_of}
 use Rattle.hum_context.specs.Memory.{Walked, HasSeen}
 use Rattle.std.specs.List.{list_any}
-use Rattle.std.proofs.Common.{arith, append-nil, length, length-append, ◌≤◌, ◌++◌}
+use Rattle.std.proofs.Common.{arith, append-nil, length, length-append, ◌≤◌}
 use Rattle.std.specs.List.{join_with_byte}
 use Rattle.std.proofs.lemmas.Bool.Decides.{nat_tests}
 use Rattle.hum_context.specs.Heard.{counts, ends, heard_of, cell_in, place_of, collected, is_taken}
@@ -98,18 +98,18 @@ pub followed : (o : Choice) (path : Path) (row : Row) (found : List Move) (c : �
     (missing : ℕ) (words : List ℕ) → kind_of row ≡ AnyInterpretation → IsTextOf row words
     → found ≡ moves path row
     → cond (is_last (get_or (tokens_of row) c [])) (Settled (codes "."))
-        (cell_in (place_of (position (goes_on c) found)) text missing) ≡ next_cell o path row
-        (Waiting (Some c) text missing)
+    (cell_in (place_of (position (goes_on c) found)) text missing) ≡ next_cell o path row
+    (Waiting (Some c) text missing)
 followed o path (Comment comment) found c text missing words k lawful e = cc
 followed o path (Spined Local tokens) found c text missing words k lawful e = cc
 followed o path (Spined Values tokens) found c text missing words k lawful e = cc
 followed o path (Spined Interpretation tokens) found c text missing words k lawful e =
     let t = get_or tokens c [] in
     let none : is_collectable o t ≡ false =
-        no_data o t (no_star_data t (all_at Interpretation tokens c lawful.2)) in
+    no_data o t (no_star_data t (all_at Interpretation tokens c lawful.2)) in
     rw e (by (is_last t) (position (goes_on c) (moves path (Spined Interpretation tokens)))
-        ∙ sym (not_collected o (column_below path (Spined Interpretation tokens) c) t text missing
-        none))
+    ∙ sym (not_collected o (column_below path (Spined Interpretation tokens) c) t text missing
+    none))
   where
     by : (b : Bool) (place : Option ℕ)
         → cond b (Settled (codes ".")) (cell_in (place_of place) text missing) ≡ cond b
@@ -141,7 +141,7 @@ pub collected_next : (o : Choice) (path : Path) (row : Row) (counting b e : Bool
     (text : List ℕ) (missing : ℕ) → kind_of row ≡ AnyValues → counting ≡ counts o.extent
     → heard_of o (token_at row c) ≡ Taken b e
     → collected counting c text missing e (token_at row c) ≡ next_cell o path row
-        (Waiting (Some c) text missing)
+    (Waiting (Some c) text missing)
 collected_next o path (Comment comment) counting b e c text missing k n h = cc
 collected_next o path (Spined Local tokens) counting b e c text missing k n h = cc
 collected_next o path (Spined Interpretation tokens) counting b e c text missing k n h = cc
@@ -149,7 +149,7 @@ collected_next o path (Spined Values tokens) counting b e c text missing k n h =
     let t = get_or tokens c [] in
     let is = taken_is o t b e h in
     rw (is.0, value_goes_on t (collectable_data o t is.0), n, ← enough_is o.extent missing t, is.2)
-        refl
+    refl
 
 -- where it isn't
 pub passed_next : (o : Choice) (path : Path) (row : Row) (c : ℕ) (text : List ℕ) (missing : ℕ)
@@ -171,7 +171,7 @@ pub collected_first : (o : Choice) (path : Path) (row : Row) (counting e : Bool)
 collected_first o path row counting e wanted j k n w h =
     let is = taken_is o (token_at row j) true e h in
     rw (is.0, is.1) (rw w (collected_next o path row counting true e j [] (missing_after o.extent 0)
-        k n h))
+    k n h))
 
 pub taken_first : (o : Choice) (path : Path) (row : Row) (e : Bool) (j : ℕ)
     → heard_of o (token_at row j) ≡ Taken false e
@@ -203,7 +203,7 @@ quiet_data o path row heard words k lawful is none (Settled token) = refl
 quiet_data o path row heard words k lawful is none (Waiting None text missing) = refl
 quiet_data o path row heard words k lawful is none (Waiting (Some c) text missing) =
     sym (passed_next o path row c text missing words k lawful (sym (heard_here o row heard c is)
-        ∙ none_taken heard c none))
+    ∙ none_taken heard c none))
 
 bang_no_data : (t : List ℕ) → kind_of_token t ≡ Local → is_data t ≡ false
 bang_no_data [] e = refl
@@ -239,8 +239,11 @@ quiet_comment o path (Spined Values tokens) k (Waiting (Some c) text missing) = 
 quiet_token : (o : Choice) (t text : List ℕ) (missing c : ℕ) → LawfulAt Local t
     → take_token o (cond (is_last t) None (Some c)) t text missing ≡ Waiting (Some c) text missing
 quiet_token o t text missing c (inl e) = rw e refl
-quiet_token o t text missing c (inr h) = rw (no_data o t (bang_no_data t h.of_kind), bang_no_last t
-    h.of_kind) refl
+quiet_token o t text missing c (inr h) = rw (
+  no_data o t (bang_no_data t h.of_kind),
+  bang_no_last t
+      h.of_kind,
+) refl
 
 pub quiet_local : (o : Choice) (path : Path) (row : Row) (words : List ℕ) → kind_of row ≡ AnyLocal
     → IsTextOf row words → (cell : Cell) → next_cell o path row cell ≡ cell

@@ -1,9 +1,9 @@
 -- Going through the open ones among some cells.
-use Rattle.std.proofs.Common.{◌≡◌, ◌∙◌, refl, sym, ap, ℕ, zero, suc, ◌+◌, ◌-◌, ◌<◌, ◌≤◌, Bool, true}
+use Rattle.std.proofs.Common.{◌≡◌, ◌∙◌, refl, sym, ap, ℕ, suc, ◌+◌, ◌-◌, ◌<◌, ◌≤◌, Bool, true}
 use Rattle.std.proofs.Common.{false, List, [], ◌∷◌, ◌++◌, map, length, drop, append_assoc}
-use Rattle.std.proofs.Common.{append-nil, length-append, Option, Some, None, cond, get_or, set}
+use Rattle.std.proofs.Common.{append-nil, length-append, cond, get_or, set}
 use Rattle.std.proofs.Common.{arith, add-one}
-use Rattle.std.proofs.lemmas.List.{map-append, length-map, set_at, drop_all}
+use Rattle.std.proofs.lemmas.List.{map-append, length-map, set_at}
 use Rattle.std.proofs.Math.Seq.{drop-cons}
 use Rattle.hum_record.specs.Row.{Row}
 use Rattle.hum_path.specs.Spines.{Path}
@@ -43,15 +43,33 @@ next_open n id ids (c ∷ cs) e = by (λ k. next_open (n + 1) id ids cs k) (is_o
         → Next n id ids (c ∷ cs)
     by more true w k =
         let here : id ≡ n = same_head id n ids _ k in
-        record { shut = []; cell = c; behind = cs; split = refl; at = omega (arith, here); left =
-            same_tail id n ids _ k ∙ ap (λ (m : ℕ). open_from (m + 1) cs) (sym here); all_shut =
-            tt; is_first = w }
+        record {
+          shut = [];
+          cell = c;
+          behind = cs;
+          split = refl;
+          at = omega (arith, here);
+          left =
+              same_tail id n ids _ k ∙ ap (λ (m : ℕ). open_from (m + 1) cs) (sym here);
+          all_shut =
+              tt;
+          is_first = w;
+        }
     by more false w k =
         let ih = more k in
         let there = ih.at in
-        record { shut = c ∷ ih.shut; cell = ih.cell; behind = ih.behind; split =
-            ap (λ (xs : List Cell). c ∷ xs) ih.split; at = omega (arith, there); left =
-            ih.left; all_shut = (w, ih.all_shut); is_first = ih.is_first }
+        record {
+          shut = c ∷ ih.shut;
+          cell = ih.cell;
+          behind = ih.behind;
+          split =
+              ap (λ (xs : List Cell). c ∷ xs) ih.split;
+          at = omega (arith, there);
+          left =
+              ih.left;
+          all_shut = (w, ih.all_shut);
+          is_first = ih.is_first;
+        }
 
 pub shut_none : (n : ℕ) (cs : List Cell) → AllShut cs → open_from n cs ≡ []
 shut_none n [] h = refl
@@ -76,7 +94,7 @@ open_append n (c ∷ cs) ys = by (open_append (n + 1) cs ys
     by : open_from (n + 1) (cs ++ ys) ≡ open_from (n + 1) cs ++ open_from (n + suc (length cs)) ys
         → (b : Bool)
         → cond b (n ∷ open_from (n + 1) (cs ++ ys)) (open_from (n + 1) (cs ++ ys)) ≡ cond b
-            (n ∷ open_from (n + 1) cs) (open_from (n + 1) cs) ++ open_from (n + suc (length cs)) ys
+        (n ∷ open_from (n + 1) cs) (open_from (n + 1) cs) ++ open_from (n + suc (length cs)) ys
     by on true = ap (λ (ks : List ℕ). n ∷ ks) on
     by on false = on
 
@@ -128,12 +146,12 @@ going_on gone id at ids left now old new c h e a o n =
     let sum = length-append h.front k.shut in
     let long : length (h.front ++ k.shut) ≡ at = omega (arith, here, sum, a) in
     let was : now ≡ (h.front ++ k.shut) ++ k.cell ∷ k.behind = h.all
-        ∙ (ap (λ (xs : List Cell). h.front ++ xs) k.split
-        ∙ sym (append_assoc h.front k.shut (k.cell ∷ k.behind))) in
+    ∙ (ap (λ (xs : List Cell). h.front ++ xs) k.split
+    ∙ sym (append_assoc h.front k.shut (k.cell ∷ k.behind))) in
     let one = o ∙ (ap (λ (xs : List Cell). set xs at Kept) was ∙ set_at (h.front ++ k.shut) k.cell
-        k.behind Kept at long) in
+    k.behind Kept at long) in
     let two = n ∙ (ap (λ (xs : List Cell). set xs at c) one ∙ set_at (h.front ++ k.shut) Kept
-        k.behind c at long) in
+    k.behind c at long) in
     let last = length-append (h.front ++ k.shut) (c ∷ []) in
     record {
       front = (h.front ++ k.shut) ++ c ∷ [];
@@ -153,7 +171,7 @@ one_open d id m e = by (is_open d)
 pub walking_on : (step : Cell → Cell) (gone id at : ℕ) (ids left still still' : List ℕ)
     (before now old new : List Cell) (c d : Cell)
     → Leaves step → Walking step gone before now left still → left ≡ id ∷ ids → at ≡ id - gone
-        → c ≡ get_or now at c → old ≡ set now at Kept → d ≡ step c → new ≡ set old at d
+    → c ≡ get_or now at c → old ≡ set now at Kept → d ≡ step c → new ≡ set old at d
     → still' ≡ still ++ cond (is_open d) (id ∷ []) [] → Walking step gone before new ids still'
 walking_on step gone id at ids left still still' before now old new c d leaves h e a is o s n kept =
     let k = next_open (gone + length h.front) id ids h.rest (sym e ∙ h.places) in
@@ -163,20 +181,20 @@ walking_on step gone id at ids left still still' before now old new c d leaves h
     let sum = length-append f k.shut in
     let long : length (f ++ k.shut) ≡ at = omega (arith, here, sum, a, wide) in
     let was : now ≡ (f ++ k.shut) ++ k.cell ∷ k.behind = h.seen
-        ∙ (ap (λ (xs : List Cell). f ++ xs) k.split
-        ∙ sym (append_assoc f k.shut (k.cell ∷ k.behind))) in
+    ∙ (ap (λ (xs : List Cell). f ++ xs) k.split
+    ∙ sym (append_assoc f k.shut (k.cell ∷ k.behind))) in
     let found : c ≡ k.cell = is ∙ (ap (λ (xs : List Cell). get_or xs at c) was
-        ∙ (ap (λ (m : ℕ). get_or ((f ++ k.shut) ++ k.cell ∷ k.behind) m c) (sym long)
-        ∙ there (f ++ k.shut) k.behind k.cell c)) in
+    ∙ (ap (λ (m : ℕ). get_or ((f ++ k.shut) ++ k.cell ∷ k.behind) m c) (sym long)
+    ∙ there (f ++ k.shut) k.behind k.cell c)) in
     let one = o ∙ (ap (λ (xs : List Cell). set xs at Kept) was ∙ set_at (f ++ k.shut) k.cell
-        k.behind Kept at long) in
+    k.behind Kept at long) in
     let two = n ∙ (ap (λ (xs : List Cell). set xs at d) one ∙ set_at (f ++ k.shut) Kept k.behind d
-        at long) in
+    at long) in
     let new_front : map step ((h.front ++ k.shut) ++ k.cell ∷ []) ≡ (f ++ k.shut) ++ d ∷ [] =
-        map-append step (h.front ++ k.shut) (k.cell ∷ [])
-            ∙ (ap (λ (xs : List Cell). xs ++ step k.cell ∷ []) (map-append step h.front k.shut
-            ∙ ap (λ (xs : List Cell). f ++ xs) (left_shut step k.shut leaves k.all_shut))
-        ∙ ap (λ (y : Cell). (f ++ k.shut) ++ y ∷ []) (ap step (sym found) ∙ sym s)) in
+    map-append step (h.front ++ k.shut) (k.cell ∷ [])
+    ∙ (ap (λ (xs : List Cell). xs ++ step k.cell ∷ []) (map-append step h.front k.shut
+    ∙ ap (λ (xs : List Cell). f ++ xs) (left_shut step k.shut leaves k.all_shut))
+    ∙ ap (λ (y : Cell). (f ++ k.shut) ++ y ∷ []) (ap step (sym found) ∙ sym s)) in
     let before_sum = length-append h.front k.shut in
     let last = length-append (h.front ++ k.shut) (k.cell ∷ []) in
     record {
@@ -192,12 +210,12 @@ walking_on step gone id at ids left still still' before now old new c d leaves h
       kept =
           kept
           ∙ (ap (λ (xs : List ℕ). xs ++ cond (is_open d) (id ∷ []) []) (h.kept
-              ∙ (sym (append-nil (open_from gone f))
-              ∙ (ap (λ (xs : List ℕ). open_from gone f ++ xs)
-              (sym (shut_none (gone + length f) k.shut k.all_shut))
-              ∙ sym (open_append gone f k.shut))))
+          ∙ (sym (append-nil (open_from gone f))
+          ∙ (ap (λ (xs : List ℕ). open_from gone f ++ xs)
+          (sym (shut_none (gone + length f) k.shut k.all_shut))
+          ∙ sym (open_append gone f k.shut))))
           ∙ (ap (λ (xs : List ℕ). open_from gone (f ++ k.shut) ++ xs)
-              (one_open d id (gone + length (f ++ k.shut)) (omega (arith, here, sum, wide)))
+          (one_open d id (gone + length (f ++ k.shut)) (omega (arith, here, sum, wide)))
           ∙ (sym (open_append gone (f ++ k.shut) (d ∷ [])) ∙ ap (open_from gone) (sym new_front))));
     }
 
@@ -208,7 +226,7 @@ walking_done step gone left still before now leaves h e =
     let shut = none_shut (gone + length h.front) h.rest (sym e ∙ h.places) in
     let same = left_shut step h.rest leaves shut in
     let all : map step before ≡ map step h.front ++ h.rest = ap (map step) h.all
-        ∙ (map-append step h.front h.rest ∙ ap (λ (xs : List Cell). map step h.front ++ xs) same) in
+    ∙ (map-append step h.front h.rest ∙ ap (λ (xs : List Cell). map step h.front ++ xs) same) in
     record {
       seen = h.seen ∙ sym all;
       kept = h.kept ∙ (sym (append-nil (open_from gone (map step h.front)))
@@ -219,13 +237,25 @@ walking_done step gone left still before now leaves h e =
 
 pub walking_none : (step : Cell → Cell) (gone : ℕ) (left still : List ℕ) (before : List Cell)
     → left ≡ open_from gone before → still ≡ [] → Walking step gone before before left still
-walking_none step gone left still before e none = record { front = []; rest = before; all =
-    refl; seen = refl; places = e ∙ ap (λ (m : ℕ). open_from m before) (omega arith); kept = none }
+walking_none step gone left still before e none = record {
+  front = [];
+  rest = before;
+  all =
+      refl;
+  seen = refl;
+  places = e ∙ ap (λ (m : ℕ). open_from m before) (omega arith);
+  kept = none;
+}
 
 pub going_none : (gone : ℕ) (left : List ℕ) (before : List Cell) → left ≡ open_from gone before
     → Going gone before left
-going_none gone left before e = record { front = []; rest = before; all = refl; places = e
-    ∙ ap (λ (m : ℕ). open_from m before) (omega arith) }
+going_none gone left before e = record {
+  front = [];
+  rest = before;
+  all = refl;
+  places = e
+      ∙ ap (λ (m : ℕ). open_from m before) (omega arith);
+}
 
 pub drop_next : (xs : List ℕ) (k : ℕ) → k < length xs → drop k xs ≡ get_or xs k 0 ∷ drop (k + 1) xs
 drop_next xs k h = rw add-one (drop-cons xs k 0 h)
@@ -236,8 +266,8 @@ pub open_push : (gone id : ℕ) (old new : List ℕ) (cells : List Cell) (c : Ce
     → new ≡ old ++ cond (is_open c) (id ∷ []) [] → new ≡ open_from gone (cells ++ c ∷ [])
 open_push gone id old new cells c h at e =
     e ∙ (ap (λ (xs : List ℕ). xs ++ cond (is_open c) (id ∷ []) []) h
-        ∙ (ap (λ (xs : List ℕ). open_from gone cells ++ xs) (one_open c id (gone + length cells) at)
-        ∙ sym (open_append gone cells (c ∷ []))))
+    ∙ (ap (λ (xs : List ℕ). open_from gone cells ++ xs) (one_open c id (gone + length cells) at)
+    ∙ sym (open_append gone cells (c ∷ []))))
 
 pub drop_token : (xs : List (List ℕ)) (k : ℕ) → k < length xs
     → drop k xs ≡ get_or xs k [] ∷ drop (k + 1) xs
@@ -247,9 +277,9 @@ pub first_more : (o : Choice) (path : Path) (row : Row) (j : ℕ) (tokens : List
     (cells all : List Cell) (c : Cell) → j < length tokens
     → c ≡ first_cell o path row j (get_or tokens j [])
     → cells ++ first_cells o path row j (drop j tokens) ≡ all
-        → (cells ++ c ∷ []) ++ first_cells o path row (j + 1) (drop (j + 1) tokens) ≡ all
+    → (cells ++ c ∷ []) ++ first_cells o path row (j + 1) (drop (j + 1) tokens) ≡ all
 first_more o path row j tokens cells all c h e k =
     append_assoc cells (c ∷ []) (first_cells o path row (j + 1) (drop (j + 1) tokens))
     ∙ (ap (λ (d : Cell). cells ++ d ∷ first_cells o path row (j + 1) (drop (j + 1) tokens)) e
     ∙ (ap (λ (ts : List (List ℕ)). cells ++ first_cells o path row j ts)
-        (sym (drop_token tokens j h)) ∙ k))
+    (sym (drop_token tokens j h)) ∙ k))

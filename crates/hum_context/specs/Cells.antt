@@ -61,15 +61,15 @@ abbrev pub cell_on : Choice → Option ℕ → List (List ℕ) → Cell
 cell_on o column tokens =
     let got = filter (is_collectable o) tokens in
     settled_or_waiting column (join_with_byte 32 got) (missing_after o.extent (length got))
-      (list_any is_last tokens) (taken o.extent got)
+    (list_any is_last tokens) (taken o.extent got)
 
 -- What is remembered of the cell at place j of a record, by the records behind it.
 abbrev pub cell_at : Choice → Path → Row → List Row → ℕ → List ℕ → Cell
 cell_at o path row rows j token =
     if is_collectable o token
     then (if begins o.extent token
-      then cell_on o (column_after path (row ∷ rows) j) (chain path (row ∷ rows) j)
-      else Settled (codes "."))
+    then cell_on o (column_after path (row ∷ rows) j) (chain path (row ∷ rows) j)
+    else Settled (codes "."))
     else Kept
 
 -- whether a token is the last that is wanted, where so many are missing
@@ -87,7 +87,7 @@ abbrev pub take_token : Choice → Option ℕ → List ℕ → List ℕ → ℕ 
 take_token o below token text missing =
     if is_collectable o token
     then (if is_enough o.extent missing token then Settled (add_token text token)
-      else Waiting below (add_token text token) (missing - 1))
+    else Waiting below (add_token text token) (missing - 1))
     else if is_last token then Settled (codes ".")
     else Waiting below text missing
 
@@ -99,15 +99,15 @@ next_cell o path row (Waiting None text missing) = Waiting None text missing
 next_cell o path (Comment comment) (Waiting (Some c) text missing) = Waiting (Some c) text missing
 next_cell o path (Spined kind tokens) (Waiting (Some c) text missing) =
     take_token o (column_below path (Spined kind tokens) c) (slice_index_or tokens c []) text
-        missing
+    missing
 
 -- The cell of a new record.
 abbrev pub first_cell : Choice → Path → Row → ℕ → List ℕ → Cell
 first_cell o path row j token =
     if is_collectable o token
     then (if begins o.extent token
-      then next_cell o path row (Waiting (Some j) [] (missing_after o.extent 0))
-      else Settled (codes "."))
+    then next_cell o path row (Waiting (Some j) [] (missing_after o.extent 0))
+    else Settled (codes "."))
     else Kept
 
 -- the new token of a cell with this token, once that is settled

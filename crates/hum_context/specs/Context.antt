@@ -87,9 +87,9 @@ abbrev pub new_token : Choice → List ℕ → List (List ℕ) → Option (List 
 new_token choice token chain =
     if is_collectable choice token
     then (if begins choice.extent token
-      then token_or_null (list_any is_last chain)
-        (taken choice.extent (filter (is_collectable choice) chain))
-      else Some (codes "."))
+    then token_or_null (list_any is_last chain)
+    (taken choice.extent (filter (is_collectable choice) chain))
+    else Some (codes "."))
     else Some token
 
 -- The new tokens of a record's columns from j on, which have these tokens, by the rows behind it.
@@ -121,6 +121,6 @@ data_of new = option_map (λ tokens. if_fits (Spined Values tokens)) new
 abbrev pub context : Choice → List Row → Row → List Row → Option (Result (List Row) Rule)
 context choice past (Spined Values tokens) rows =
     data_of (all_some
-      (new_tokens choice (path_after past) (Spined Values tokens) rows 0 tokens))
+    (new_tokens choice (path_after past) (Spined Values tokens) rows 0 tokens))
 context choice past (Comment text) rows = Some (Ok (Comment text ∷ []))
 context choice past (Spined kind tokens) rows = Some (Ok (Spined kind tokens ∷ []))

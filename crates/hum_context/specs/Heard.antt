@@ -1,9 +1,8 @@
 -- What is heard of the tokens of a data record, and what the fields of a cell stand for.
-use Rattle.std.specs.Prelude.{◌≡◌, ◌≢◌, ℕ, ◌-◌, Bool, true, false, nat_le, List, [], map}
+use Rattle.std.specs.Prelude.{◌≡◌, ℕ, ◌-◌, Bool, true, false, nat_le, List, map}
 use Rattle.std.specs.Prelude.{if◌then◌else◌, Option, Some, None}
 use lib.Chars.{codes}
-use Rattle.hum_record.specs.declared.SpinedKind.TheVariants.{Values}
-use Rattle.hum_record.specs.Row.{Row, kind_of, tokens_of}
+use Rattle.hum_record.specs.Row.{Row, tokens_of}
 use Rattle.hum_path.specs.declared.moved.Move.{Move}
 use Rattle.hum_path.specs.Spines.{Path, moves}
 use Rattle.hum_context.specs.declared.hearing.Heard.{Heard}

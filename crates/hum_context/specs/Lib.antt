@@ -4,4 +4,5 @@ pub mod Cells
 pub mod Heard
 pub mod Memory
 pub mod Shown
+pub mod Fed
 pub mod Refusals

@@ -26,5 +26,5 @@ lasts [] cells = 0
 lasts (row ∷ rows) cells =
     if nat_le (length (values_of row)) (length cells)
     then (if is_refused (values_of row) cells then 0
-      else lasts rows (drop (length (values_of row)) cells) + 1)
+    else lasts rows (drop (length (values_of row)) cells) + 1)
     else 0

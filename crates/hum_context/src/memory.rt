@@ -54,7 +54,7 @@ impl Windows {
         ensures shown { OnOk result ((o : Choice) (path : Path)
             → Hears o path row.now counting heard.now found.now
             → Walked (next_cell o path row.now) self.old.gone self.old.cells.items
-              self.new.cells.items self.new.unsettled.items) }
+            self.new.cells.items self.new.unsettled.items) }
     {
         self.still.clear();
         walk(
@@ -90,7 +90,7 @@ impl Windows {
         ensures shown { OnOk result ((o : Choice) (path : Path)
             → Hears o path row.now counting heard.now found.now
             → Walked (next_cell o path row.now) self.old.gone self.old.cells.items
-              self.new.cells.items self.new.unsettled.items) }
+            self.new.cells.items self.new.unsettled.items) }
     {
         if any {
             return self.show(alloc, row, counting, heard, found);
@@ -116,7 +116,7 @@ impl Windows {
         ensures gone { self.new.gone ≡ self.old.gone }
         ensures seen { OnOk result ((path : Path) → found.now ≡ moves path row.now
             → HasSeen (choice_of options.old) path row.now self.old.gone self.old.cells.items
-              self.new.cells.items self.new.unsettled.items) }
+            self.new.cells.items self.new.unsettled.items) }
     {
         let any = options.hear_all(row, heard)?;
         let counting = options.span.counts();
@@ -148,7 +148,7 @@ impl Windows {
         ensures gone { self.new.gone ≡ self.old.gone }
         ensures seen { OnOk result ((path : Path) → found.now ≡ moves path row.now
             → HasSeen (choice_of options.old) path row.now self.old.gone self.old.cells.items
-              self.new.cells.items self.new.unsettled.items) }
+            self.new.cells.items self.new.unsettled.items) }
     {
         options.hear_all(row, heard)?;
         let counting = options.span.counts();
@@ -172,7 +172,7 @@ impl Windows {
         ensures gone { self.new.gone ≡ self.old.gone }
         ensures seen { OnOk result ((path : Path) → found.now ≡ moves path row.now
             → HasSeen (choice_of options.old) path row.now self.old.gone self.old.cells.items
-              self.new.cells.items self.new.unsettled.items) }
+            self.new.cells.items self.new.unsettled.items) }
     {
         match row.kind() {
             Kind::Values => {
@@ -233,7 +233,7 @@ impl LooksAhead for Collecting {
     ghost use Rattle.hum_context.specs.Memory.{Follows};
 
     ghost follows = { λ s held. Follows (choice_of s.options) s.paths.path s.windows.cells.items
-      s.windows.gone s.windows.unsettled.items s.line held };
+        s.windows.gone s.windows.unsettled.items s.line held };
 
     ghost use Rattle.hum_context.specs.Memory.{follows_each};
 

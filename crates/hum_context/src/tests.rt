@@ -1,8 +1,9 @@
 //! Small scores through the command, by hand.
-ghost use Rattle.std.specs.Prelude.{◌≡◌, ◌≤◌, ◌<◌, length, IfOk};
+ghost use Rattle.std.specs.Prelude.{◌≡◌, ◌+◌, ◌≤◌, ◌<◌, length, IfOk, OnOk};
 ghost use Rattle.hum_record.specs.declared.SpinedKind.TheVariants.{Values};
 ghost use Rattle.hum_record.specs.Spelling.{IsToken, has_byte};
 ghost use Rattle.hum_context.specs.Options.{IsAllowed};
+ghost use Rattle.hum_context.specs.Fed.{Fed};
 
 use crate::{Context, ContextOptions, Span};
 use hum_path::Paths;
@@ -121,12 +122,7 @@ fn run(
     let Score { paths, records } = score;
     assert!(rt; paths.is_closed());
     assert!(rt; records.len() < 100_000);
-    Ok(whole(
-        alloc,
-        Context::new(alloc, 2, options),
-        records,
-        End::Closed,
-    )?)
+    Ok(whole(alloc, Context::new(alloc, 2, options), records, End::Closed)?)
 }
 
 fn check_whole(
@@ -162,10 +158,25 @@ fn gives_a_token_and_those_behind_it(rt: HostRuntime) -> Result<(), Fail> {
         &[b"**x", b"a b", b"=1", b".", b"b c", b".", b"*-"],
     )?;
     // a number of one leaves the tokens, and comments and tandem interpretations stay
-    let put: [&'static [u8]; 7] = [b"!!f", b"**x\t**y", b"a\t.", b"!l\t!", b"*c\t*", b"b\t1", b"*-\t*-"];
+    let put: [&'static [u8]; 7] = [
+        b"!!f",
+        b"**x\t**y",
+        b"a\t.",
+        b"!l\t!",
+        b"*c\t*",
+        b"b\t1",
+        b"*-\t*-",
+    ];
     check_whole(&rt, alloc, so_many(alloc, 1, None)?, &put, &put)?;
-    let want: [&'static [u8]; 7] =
-        [b"!!f", b"**x\t**y", b"a b\t.", b"!l\t!", b"*c\t*", b".\t.", b"*-\t*-"];
+    let want: [&'static [u8]; 7] = [
+        b"!!f",
+        b"**x\t**y",
+        b"a b\t.",
+        b"!l\t!",
+        b"*c\t*",
+        b".\t.",
+        b"*-\t*-",
+    ];
     check_whole(&rt, alloc, so_many(alloc, 2, None)?, &put, &want)
 }
 
@@ -184,8 +195,24 @@ fn collects_phrases(rt: HostRuntime) -> Result<(), Fail> {
         &rt,
         alloc,
         from_to(alloc, "\\(", "\\)")?,
-        &[b"**x\t**x", b"(a\tc", b"(b\t(d)", b".\t.", b"e)\tf", b"g\t(h", b"*-\t*-"],
-        &[b"**x\t**x", b"(a (b e)\t.", b"(b e)\t(d)", b".\t.", b".\t.", b".\t.", b"*-\t*-"],
+        &[
+            b"**x\t**x",
+            b"(a\tc",
+            b"(b\t(d)",
+            b".\t.",
+            b"e)\tf",
+            b"g\t(h",
+            b"*-\t*-",
+        ],
+        &[
+            b"**x\t**x",
+            b"(a (b e)\t.",
+            b"(b e)\t(d)",
+            b".\t.",
+            b".\t.",
+            b".\t.",
+            b"*-\t*-",
+        ],
     )
 }
 
@@ -213,8 +240,26 @@ fn follows_the_spines(rt: HostRuntime) -> Result<(), Fail> {
         &rt,
         alloc,
         so_many(alloc, 2, None)?,
-        &[b"**x\t**y", b"a\tb", b"*-\t*", b"c", b"*+", b"*\t**z", b"d\te", b"*-\t*-"],
-        &[b"**x\t**y", b".\tb c", b"*-\t*", b"c d", b"*+", b"*\t**z", b".\t.", b"*-\t*-"],
+        &[
+            b"**x\t**y",
+            b"a\tb",
+            b"*-\t*",
+            b"c",
+            b"*+",
+            b"*\t**z",
+            b"d\te",
+            b"*-\t*-",
+        ],
+        &[
+            b"**x\t**y",
+            b".\tb c",
+            b"*-\t*",
+            b"c d",
+            b"*+",
+            b"*\t**z",
+            b".\t.",
+            b"*-\t*-",
+        ],
     )?;
     // a new exclusive interpretation
     check_whole(
@@ -222,7 +267,14 @@ fn follows_the_spines(rt: HostRuntime) -> Result<(), Fail> {
         alloc,
         so_many(alloc, 2, None)?,
         &[b"**x\t**y", b"a\tb", b"**z\t*", b"c\td", b"e\tf", b"*-\t*-"],
-        &[b"**x\t**y", b".\tb d", b"**z\t*", b"c e\td f", b".\t.", b"*-\t*-"],
+        &[
+            b"**x\t**y",
+            b".\tb d",
+            b"**z\t*",
+            b"c e\td f",
+            b".\t.",
+            b"*-\t*-",
+        ],
     )
 }
 
@@ -281,5 +333,63 @@ fn refuses_a_record_that_would_be_too_long(rt: HostRuntime) -> Result<(), Fail> 
     assert_eq!(rt; end, End::Broken(fault));
     assert_eq!(rt; given.len(), 2);
     assert_eq!(rt; given[1].width(), 2);
+    Ok(())
+}
+
+// Puts a record into a stage that wants one, after so many others.
+fn put(
+    rt: &impl Abort,
+    paths: &mut Paths,
+    stage: &mut Context,
+    count: u32,
+    row: Record,
+) -> Result<(), Fail>
+    requires fed { Fed (⟦<Context as Stage>⟧.stands stage.old) paths.old.path count }
+    requires few { count ≤ 100 }
+    ensures { OnOk result (Fed (⟦<Context as Stage>⟧.stands stage.new) paths.new.path (count + 1)) }
+{
+    let State::Wants = stage.state() else {
+        panic!(rt; "the stage doesn't want a record")
+    };
+    paths.step(&row)?;
+    stage.put(row)?;
+    Ok(())
+}
+
+// Takes a record from a stage that gives one.
+fn take(rt: &impl Abort, stage: &mut Context, path: &Paths, count: u32) -> Result<Record, Fail>
+    requires { Fed (⟦<Context as Stage>⟧.stands stage.old) path.now.path count }
+    ensures { OnOk result (Fed (⟦<Context as Stage>⟧.stands stage.new) path.now.path count) }
+{
+    match stage.take()? {
+        None => panic!(rt; "nothing is given"),
+        Some(row) => Ok(row),
+    }
+}
+
+#[test]
+fn gives_a_context_once_it_is_decided(rt: HostRuntime) -> Result<(), Fail> {
+    let alloc = rt.alloc();
+    let mut paths = Paths::new(alloc);
+    let mut stage = Context::new(alloc, 1, so_many(alloc, 2, Some("^="))?);
+    let row = read(&rt, alloc, b"**x")?;
+    put(&rt, &mut paths, &mut stage, 0, row)?;
+    assert_eq!(rt; take(&rt, &mut stage, &paths, 1)?.width(), 1);
+    let row = read(&rt, alloc, b"a")?;
+    put(&rt, &mut paths, &mut stage, 1, row)?;
+    assert_eq!(rt; stage.state(), State::Wants);
+    assert_eq!(rt; stage.held(), 1);
+    let row = read(&rt, alloc, b"=1")?;
+    put(&rt, &mut paths, &mut stage, 2, row)?;
+    let row = read(&rt, alloc, b".")?;
+    put(&rt, &mut paths, &mut stage, 3, row)?;
+    assert_eq!(rt; stage.held(), 3);
+    let row = read(&rt, alloc, b"b")?;
+    put(&rt, &mut paths, &mut stage, 4, row)?;
+    assert_eq!(rt; stage.state(), State::Gives);
+    assert_eq!(rt; stage.held(), 4);
+    let given = take(&rt, &mut stage, &paths, 5)?;
+    assert_eq!(rt; given.text(), b"a b".as_slice());
+    assert_eq!(rt; stage.held(), 3);
     Ok(())
 }

@@ -1,4 +1,3 @@
-use Rattle.std.proofs.Common.{◌≡◌, ◌∙◌, sym, ap, refl, arith}
 use Rattle.hum_context.specs.Context.{context}
 use Rattle.hum_context.specs.Options.{choice_of}
 use Rattle.hum_context.proofs.Following.{begins}
@@ -12,8 +11,8 @@ returns c =
     record {
       stands =
           c.new.ensures (context (choice_of c.args.options))
-              (context_steady (choice_of c.args.options))
-            (rw m.options (begins c.args.options _ _ _ _ _ c.requires m.path m.cells m.unsettled
-                m.gone m.line));
+          (context_steady (choice_of c.args.options))
+          (rw m.options (begins c.args.options _ _ _ _ _ c.requires m.path m.cells m.unsettled
+          m.gone m.line));
       keeps = context_keeps 65536 (choice_of c.args.options);
     }

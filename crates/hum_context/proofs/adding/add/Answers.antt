@@ -1,4 +1,4 @@
-use Rattle.std.proofs.Common.{◌≡◌, ◌∙◌, sym, ap, arith, length, length-append, ◌∷◌, [], ◌+◌}
+use Rattle.std.proofs.Common.{arith, length-append, ◌∷◌, [], ◌+◌}
 use Rattle.hum_record.specs.Row.{tokens_of}
 use Rattle.hum_context.specs.Options.{choice_of}
 use Rattle.hum_context.proofs.Tokens.{heard_here}
@@ -17,10 +17,10 @@ loop-j-preserved c =
     rw pushed (record {
       cells = λ path.
           first_more o path c.args.row.now c.loop-j.j (tokens_of c.args.row.now) _ _
-              c.in_ok-cell.cell (omega (arith, width, there))
-            (c.in_ok-cell.ensures o path c.counts-counting.ensures c.wanted-wanted.ensures
-                (heard_here o c.args.row.now c.args.heard.now c.loop-j.j c.requires.heard))
-            (c.loop-j.invariant.cells path);
+          c.in_ok-cell.cell (omega (arith, width, there))
+          (c.in_ok-cell.ensures o path c.counts-counting.ensures c.wanted-wanted.ensures
+          (heard_here o c.args.row.now c.args.heard.now c.loop-j.j c.requires.heard))
+          (c.loop-j.invariant.cells path);
       places = open_push c.args.gone (c.args.gone + c.len.result) _ _ c.loop-j.cells.items
           c.in_ok-cell.cell c.loop-j.invariant.places (let len = c.len.ensures in
           omega (arith, len, size)) (rw c.is_open.ensures at c.in_ok-keep.ensures);

@@ -1,5 +1,5 @@
 use Rattle.std.proofs.Common.{◌≡◌, ◌+◌, ◌++◌, drop, length}
-use Rattle.hum_record.specs.Row.{tokens_of, width_of}
+use Rattle.hum_record.specs.Row.{tokens_of}
 use Rattle.hum_path.specs.Spines.{Path}
 use Rattle.hum_context.specs.Options.{choice_of}
 use Rattle.hum_context.specs.Cells.{first_cells, open_from}

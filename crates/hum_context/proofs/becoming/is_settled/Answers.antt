@@ -1,4 +1,4 @@
-use Rattle.std.proofs.Common.{arith, sym}
+use Rattle.std.proofs.Common.{sym}
 use Rattle.hum_context.proofs.Shows.{first_behind}
 use Rattle.hum_context.proofs.becoming.is_settled.Goals as goal
 

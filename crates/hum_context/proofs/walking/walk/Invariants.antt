@@ -1,4 +1,4 @@
-use Rattle.std.proofs.Common.{◌≡◌, drop}
+use Rattle.std.proofs.Common.{drop}
 use Rattle.hum_path.specs.Spines.{Path}
 use Rattle.hum_context.specs.Context.{Choice}
 use Rattle.hum_context.specs.Cells.{next_cell}
@@ -12,5 +12,5 @@ invariant-loop-id l = record {
   going : Going l.gone l.cells.items (drop l.id-index l.unsettled);
   walking : (o : Choice) (path : Path) → Hears o path l.row l.counting l.heard l.found
       → Walking (next_cell o path l.row) l.gone l.fn.cells.items l.cells.items
-        (drop l.id-index l.unsettled) l.still.items;
+      (drop l.id-index l.unsettled) l.still.items;
 }

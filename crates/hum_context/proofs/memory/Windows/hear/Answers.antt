@@ -1,32 +1,37 @@
-use Rattle.std.proofs.Common.{◌≡◌, ◌∙◌, sym, ap, arith, refl, length, ◌++◌, List, ℕ}
+use Rattle.std.proofs.Common.{◌∙◌, sym, ap, arith, refl, length, ℕ}
 use Rattle.std.proofs.lemmas.List.{length-map}
-use Rattle.hum_record.specs.Row.{tokens_of}
-use Rattle.hum_path.specs.Spines.{Path, moves}
 use Rattle.hum_context.specs.Options.{choice_of, extent_of}
 use Rattle.hum_context.specs.declared.options.ContextOptions.{ContextOptions}
-use Rattle.hum_context.specs.Cells.{Cell, next_cell, first_cells, open_from}
-use Rattle.hum_context.specs.Heard.{Hears, counts}
-use Rattle.hum_context.specs.Memory.{Walked}
+use Rattle.hum_context.specs.Cells.{next_cell, open_from}
+use Rattle.hum_context.specs.Heard.{counts}
 use Rattle.hum_context.proofs.Tokens.{data_values, row_width}
 use Rattle.hum_context.proofs.memory.Windows.hear.Goals as goal
 
 pub add-requires-clause-places : goal.add-requires-clause-places
 add-requires-clause-places c =
     let w = c.in_ok-show_if.ensures.shown (choice_of c.args.options.now) c.requires.moves.0
-        (record { counts_is = c.counts-counting.ensures
-        ∙ ap (λ (x : ContextOptions). counts (extent_of x.span)) c.in_ok-any.ensures.kept; heard_is
-        = c.deref.ensures.value ∙ c.in_ok-any.ensures.heard; found_is = c.requires.moves.1 }) in
+    (record {
+      counts_is = c.counts-counting.ensures
+          ∙ ap (λ (x : ContextOptions). counts (extent_of x.span)) c.in_ok-any.ensures.kept;
+      heard_is
+          = c.deref.ensures.value ∙ c.in_ok-any.ensures.heard;
+      found_is = c.requires.moves.1;
+    }) in
     rw c.show_if.ensures.gone (w.kept ∙ ap (open_from c.args.self.now.gone) (sym w.seen))
 
 pub add-requires-clause-few : goal.add-requires-clause-few
 add-requires-clause-few c =
     let w = c.in_ok-show_if.ensures.shown (choice_of c.args.options.now) c.requires.moves.0
-        (record { counts_is = c.counts-counting.ensures
-        ∙ ap (λ (x : ContextOptions). counts (extent_of x.span)) c.in_ok-any.ensures.kept; heard_is
-        = c.deref.ensures.value ∙ c.in_ok-any.ensures.heard; found_is = c.requires.moves.1 }) in
+    (record {
+      counts_is = c.counts-counting.ensures
+          ∙ ap (λ (x : ContextOptions). counts (extent_of x.span)) c.in_ok-any.ensures.kept;
+      heard_is
+          = c.deref.ensures.value ∙ c.in_ok-any.ensures.heard;
+      found_is = c.requires.moves.1;
+    }) in
     let same = ap length w.seen in
     let wide = length-map c.args.self.now.cells.items (next_cell (choice_of c.args.options.now)
-        c.requires.moves.0 c.args.row.now) in
+    c.requires.moves.0 c.args.row.now) in
     let few = c.requires.few in
     let gone = c.show_if.ensures.gone in
     let width = row_width c.args.row.now _ c.requires.lawful in
@@ -35,9 +40,13 @@ add-requires-clause-few c =
 pub returns-clause-seen : goal.returns-clause-seen
 returns-clause-seen c path e =
     let o = choice_of c.args.options.now in
-    let w = c.in_ok-show_if.ensures.shown o path (record { counts_is = c.counts-counting.ensures
-        ∙ ap (λ (x : ContextOptions). counts (extent_of x.span)) c.in_ok-any.ensures.kept; heard_is
-        = c.deref.ensures.value ∙ c.in_ok-any.ensures.heard; found_is = e }) in
+    let w = c.in_ok-show_if.ensures.shown o path (record {
+      counts_is = c.counts-counting.ensures
+          ∙ ap (λ (x : ContextOptions). counts (extent_of x.span)) c.in_ok-any.ensures.kept;
+      heard_is
+          = c.deref.ensures.value ∙ c.in_ok-any.ensures.heard;
+      found_is = e;
+    }) in
     record {
       seen = c.in_ok-add.ensures.cells path
           ∙ rw (c.in_ok-any.ensures.kept, w.seen, data_values c.args.row.now c.requires.kind) refl;
