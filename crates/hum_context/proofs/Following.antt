@@ -13,7 +13,7 @@ use Rattle.hum_path.specs.Spines.{Path, Unopened, after}
 use Rattle.hum_context.specs.declared.options.Span.{Span}
 use Rattle.hum_context.specs.declared.options.Span.TheVariants.{Number, Phrase}
 use Rattle.hum_context.specs.declared.options.ContextOptions.{ContextOptions}
-use Rattle.hum_context.specs.Options.{IsAllowed, extent_of, choice_of}
+use Rattle.hum_context.specs.Options.{extent_of, choice_of}
 use Rattle.hum_path.specs.Score.{path_after, passed}
 use Rattle.hum_stage.specs.declared.faults.Rule.{Rule}
 use Rattle.hum_stage.specs.declared.faults.Rule.TheVariants.{L1}
@@ -327,21 +327,21 @@ front_within o path cells gone unsettled line held first look past (row ∷ rows
     let few = h.few in
     (omega (arith, size, sum, wide, mine), omega (arith, size, sum, wide, mine, counted, few))
 
--- an allowed number wants a token at least
-wanted : (span : Span) → IsAllowed span → taken (extent_of span) [] ≡ None
-wanted (Number n) h = let some = h.0 in let k : nat_le n 0 ≡ false = grind (arith, nat_tests, some)
+-- a token at least is wanted
+wanted : (span : Span) → taken (extent_of span) [] ≡ None
+wanted (Number n) = let some = n.within.0 in let k : nat_le n.number 0 ≡ false = grind (arith, nat_tests, some)
     in rw k refl
-wanted (Phrase begin end) h = refl
+wanted (Phrase begin end) = refl
 
 pub begins : (options : ContextOptions) (path : Path) (cells : List Cell) (gone : ℕ) (unsettled :
-    List ℕ) (line : ℕ) → IsAllowed options.span → path ≡ Unopened → cells ≡ [] → unsettled ≡ []
+    List ℕ) (line : ℕ) → path ≡ Unopened → cells ≡ [] → unsettled ≡ []
     → gone ≡ 0 → line ≡ 0
     → Follows (choice_of options) path cells gone unsettled line [] (context (choice_of options)) []
     []
-begins options path cells gone unsettled line h p none shut zero first =
+begins options path cells gone unsettled line p none shut zero first =
     rw (none, shut, zero, first) (record {
       command = refl;
-      some_wanted = wanted options.span h;
+      some_wanted = wanted options.span;
       spines = p;
       waits = refl;
       remembered = refl;

@@ -1,5 +1,5 @@
 -- The command, by its options.
-use Rattle.std.specs.Prelude.{◌≤◌, ℕ, Bool, false, List, Option, Some, None}
+use Rattle.std.specs.Prelude.{ℕ, Bool, false, List, Option, Some, None}
 use Rattle.hum_pattern.specs.Meaning.{matched}
 use Rattle.hum_stage.specs.declared.faults.Command.TheVariants.{Context}
 use Rattle.hum_stage.specs.Meaning.{Meaning}
@@ -10,7 +10,7 @@ use Rattle.hum_context.specs.declared.options.ContextOptions.{ContextOptions}
 use Rattle.hum_context.specs.Context.{Choice, Extent, First, Between, context}
 
 abbrev pub extent_of : Span → Extent
-extent_of (Number n) = First n
+extent_of (Number count) = First count.number
 extent_of (Phrase begin end) = Between (matched begin) (matched end)
 
 -- tokens that match the pattern, if there is one
@@ -20,11 +20,6 @@ omits_of (Some pattern) token = matched pattern token
 
 abbrev pub choice_of : ContextOptions → Choice
 choice_of options = record { extent = extent_of options.span; omits = omits_of options.omit }
-
--- a number is from 1 to 4,096
-abbrev pub IsAllowed : Span → Type 0
-IsAllowed (Number n) = (1 ≤ n) × (n ≤ 4096)
-IsAllowed (Phrase begin end) = Unit {0}
 
 -- what the stage of this number means
 abbrev pub meaning : ℕ → ContextOptions → Meaning

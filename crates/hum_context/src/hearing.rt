@@ -81,7 +81,7 @@ impl Span {
         ensures { result ≡ missing_after (extent_of self.now) 0 }
     {
         match self {
-            Span::Number(n) => *n,
+            Span::Number(count) => count.number,
             Span::Phrase(_, _) => 0,
         }
     }

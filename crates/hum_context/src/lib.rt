@@ -7,7 +7,7 @@
 #![tactic(auto)]
 
 ghost use Rattle.hum_stage.specs.Meaning.{opening, KeepsScore};
-ghost use Rattle.hum_context.specs.Options.{IsAllowed, meaning};
+ghost use Rattle.hum_context.specs.Options.{meaning};
 
 mod adding;
 mod becoming;
@@ -22,7 +22,7 @@ mod walking;
 use hum_record::Record;
 use hum_stage::{Command, End, Lagging, Stage, State};
 use memory::Collecting;
-pub use options::{ContextOptions, Span};
+pub use options::{ContextOptions, Span, TokenCount};
 use std::alloc::{AllocError, Global};
 
 /// The command context, as a stage.
@@ -40,8 +40,6 @@ impl Drop for Context {
 impl Context {
     /// The stage of this number, from 1.
     pub fn new(alloc: Global, stage: u8, options: ContextOptions) -> Context
-        requires { IsAllowed options.span }
-
         // It stands for what the options say, with nothing put yet.
         ensures stands { ⟦<Context as Stage>⟧.stands result (opening (meaning stage options)) }
 

@@ -1,11 +1,21 @@
 //! Which tokens are collected.
+ghost use Rattle.std.specs.Prelude.{◌≤◌};
+
 use hum_pattern::Pattern;
+
+/// A number of tokens, from 1 to 4,096.
+#[derive(Clone, Copy, Debug, PartialEq, Eq)]
+pub struct TokenCount {
+    /// The number.
+    pub number: u16,
+    pub ghost within: { (1 ≤ number) × (number ≤ 4096) },
+}
 
 /// How many tokens are collected.
 #[derive(Drop)]
 pub enum Span {
-    /// `-n`: so many, from 1 to 4,096
-    Number(u16),
+    /// `-n`: so many
+    Number(TokenCount),
     /// `-b` and `-e`: from one that the first pattern matches through the next that the second does
     Phrase(Pattern, Pattern),
 }

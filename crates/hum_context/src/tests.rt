@@ -2,10 +2,9 @@
 ghost use Rattle.std.specs.Prelude.{◌≡◌, ◌+◌, ◌≤◌, ◌<◌, length, IfOk, OnOk};
 ghost use Rattle.hum_record.specs.declared.SpinedKind.TheVariants.{Values};
 ghost use Rattle.hum_record.specs.Spelling.{IsToken, has_byte};
-ghost use Rattle.hum_context.specs.Options.{IsAllowed};
 ghost use Rattle.hum_context.specs.Fed.{Fed};
 
-use crate::{Context, ContextOptions, Span};
+use crate::{Context, ContextOptions, Span, TokenCount};
 use hum_path::Paths;
 use hum_pattern::Pattern;
 use hum_record::{Record, RecordBuilder, SpinedKind};
@@ -88,22 +87,19 @@ fn pair(alloc: Global, left: &[u8], right: &[u8]) -> Result<Record, Fail>
 // So many tokens, without those that match a pattern.
 fn so_many(alloc: Global, number: u16, omit: Option<&str>) -> Result<ContextOptions, Fail>
     requires { (1 ≤ number) × (number ≤ 4096) }
-    ensures { IfOk result (λ options. IsAllowed options.span) }
 {
     let omit = match omit {
         None => None,
         Some(text) => Some(Pattern::new(alloc, text)?),
     };
     Ok(ContextOptions {
-        span: Span::Number(number),
+        span: Span::Number(TokenCount { number }),
         omit,
     })
 }
 
 // From a token that matches one pattern through the next that matches the other.
-fn from_to(alloc: Global, begin: &str, end: &str) -> Result<ContextOptions, Fail>
-    ensures { IfOk result (λ options. IsAllowed options.span) }
-{
+fn from_to(alloc: Global, begin: &str, end: &str) -> Result<ContextOptions, Fail> {
     Ok(ContextOptions {
         span: Span::Phrase(Pattern::new(alloc, begin)?, Pattern::new(alloc, end)?),
         omit: None,
@@ -116,9 +112,7 @@ fn run(
     alloc: Global,
     options: ContextOptions,
     score: Score,
-) -> Result<(Vec<Record>, End), Fail>
-    requires { IsAllowed options.span }
-{
+) -> Result<(Vec<Record>, End), Fail> {
     let Score { paths, records } = score;
     assert!(rt; paths.is_closed());
     assert!(rt; records.len() < 100_000);
@@ -131,9 +125,7 @@ fn check_whole(
     options: ContextOptions,
     put: &[&'static [u8]],
     want: &[&'static [u8]],
-) -> Result<(), Fail>
-    requires { IsAllowed options.span }
-{
+) -> Result<(), Fail> {
     let mut score = Score::new(alloc);
     for text in put {
         score = score.with(read(rt, alloc, *text)?)?;

@@ -165,6 +165,7 @@ impl<C: LooksAhead> Stage for Lagging<C> {
         if self.fault.is_some() {
             return due;
         }
+        // Each that waits has a line of its own, so that the sum isn't cut short.
         let _line = self.line;
         due.saturating_add(self.memory.lasting(&self.waiting))
     }

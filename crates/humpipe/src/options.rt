@@ -2,7 +2,7 @@
 use crate::values::{count, fields, is_label, names, pattern, ranges, signed_number};
 use crate::words::Given;
 use hum_cleave::{CleaveOptions, is_name, is_separator};
-use hum_context::{ContextOptions, Span};
+use hum_context::{ContextOptions, Span, TokenCount};
 use hum_ditto::DittoOptions;
 use hum_extract::Choice;
 use hum_kern::read_recip;
@@ -147,7 +147,9 @@ fn context_options(alloc: Global, words: &[&[u8]]) -> Result<Option<ContextOptio
         return Ok(None);
     };
     let span = match (given.value(b'n'), given.value(b'b'), given.value(b'e')) {
-        (Some(number), None, None) => count(number).map(Span::Number),
+        (Some(number), None, None) => {
+            count(number).map(|number| Span::Number(TokenCount { number }))
+        }
         (None, Some(begin), Some(end)) => match (pattern(alloc, begin)?, pattern(alloc, end)?) {
             (Some(begin), Some(end)) => Some(Span::Phrase(begin, end)),
             _ => None,

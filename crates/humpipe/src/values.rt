@@ -1,4 +1,6 @@
 //! The values of options: numbers, lists of fields, names and patterns.
+ghost use Rattle.std.specs.Prelude.{◌≤◌, IfSome};
+
 use hum_cleave::is_name;
 use hum_extract::{Choice, Field, FieldRange};
 use hum_pattern::{Pattern, PatternFault};
@@ -16,7 +18,9 @@ const LAST_PASSAGE: u64 = 4_294_967_295;
 const LARGEST_COUNT: u64 = 4096;
 
 /// A number that is `0` or digits without a zero in front, at most `most`.
-fn number(digits: &[u8], most: u64) -> Option<u64> {
+fn number(digits: &[u8], most: u64) -> Option<u64>
+    ensures { IfSome result (λ number. number ≤ most) }
+{
     if let [] | [b'0', _, ..] = digits {
         return None;
     }
@@ -33,7 +37,9 @@ fn number(digits: &[u8], most: u64) -> Option<u64> {
 }
 
 /// A number from 1 to 4,096: of a field, or of tokens.
-pub fn count(text: &[u8]) -> Option<u16> {
+pub fn count(text: &[u8]) -> Option<u16>
+    ensures { IfSome result (λ count. (1 ≤ count) × (count ≤ 4096)) }
+{
     match number(text, LARGEST_COUNT)? {
         0 => None,
         count => Some(count as u16),

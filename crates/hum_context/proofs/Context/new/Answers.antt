@@ -12,7 +12,7 @@ returns c =
       stands =
           c.new.ensures (context (choice_of c.args.options))
           (context_steady (choice_of c.args.options))
-          (rw m.options (begins c.args.options _ _ _ _ _ c.requires m.path m.cells m.unsettled
+          (rw m.options (begins c.args.options _ _ _ _ _ m.path m.cells m.unsettled
           m.gone m.line));
       keeps = context_keeps 65536 (choice_of c.args.options);
     }
