@@ -11,3 +11,4 @@ pub mod Shows
 pub mod Following
 pub mod Refused
 pub mod Long
+pub mod Feeding

@@ -353,10 +353,10 @@ fn take(rt: &impl Abort, stage: &mut Context, path: &Paths, count: u32) -> Resul
     requires { Fed (⟦<Context as Stage>⟧.stands stage.old) path.now.path count }
     ensures { OnOk result (Fed (⟦<Context as Stage>⟧.stands stage.new) path.now.path count) }
 {
-    match stage.take()? {
-        None => panic!(rt; "nothing is given"),
-        Some(row) => Ok(row),
-    }
+    let Some(row) = stage.take()? else {
+        panic!(rt; "nothing is given")
+    };
+    Ok(row)
 }
 
 #[test]
