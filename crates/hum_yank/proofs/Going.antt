@@ -1,5 +1,5 @@
 -- The state goes on with one record more.
-use Rattle.std.proofs.Common.{◌≡◌, ◌∙◌, refl, sym, ap, ℕ, ◌≤◌, ◌<◌, Bool, true, false, not, List, [], ◌∷◌, ◌++◌, length, cond, arith}
+use Rattle.std.proofs.Common.{◌≡◌, ◌∙◌, refl, sym, ap, ℕ, ◌<◌, Bool, true, false, not, List, [], ◌∷◌, ◌++◌, length, cond, arith}
 use Rattle.hum_record.specs.Row.{Row}
 use Rattle.hum_path.specs.Spines.{Path, after}
 use Rattle.hum_path.specs.Rules.{is_unfinished, is_closed}
@@ -10,7 +10,6 @@ use Rattle.hum_yank.specs.declared.options.YankOptions.{YankOptions}
 use Rattle.hum_yank.specs.declared.passages.Passages.{Passages}
 use Rattle.hum_yank.specs.declared.held.Held.{Held}
 use Rattle.hum_yank.specs.Passages.{is_last, last_of}
-use Rattle.hum_yank.specs.Yank.{last_at}
 use Rattle.hum_yank.specs.Options.{form_of, choice_of}
 use Rattle.hum_yank.specs.Marks.{mark_of, passages_of, next_passages, number_in, last_in}
 use Rattle.hum_yank.specs.Memory.{adds, held_of, Tells, Follows}

@@ -6,10 +6,9 @@ use Rattle.hum_record.specs.declared.SpinedKind.TheVariants.{Local, Interpretati
 use Rattle.hum_record.specs.Row.{Row, Comment, Spined}
 use Rattle.hum_yank.specs.declared.marking.Mark.{Mark}
 use Rattle.hum_yank.specs.declared.marking.Mark.TheVariants.{Inside, Counted, Bears}
-use Rattle.hum_yank.specs.declared.passages.Passages.{Passages}
 use Rattle.hum_yank.specs.Passages.{Form, Lines, Numbers, Occurrences, Labels, passes, has_value, first_value, has_match, label_of}
-use Rattle.hum_yank.specs.Passages.{number_after, is_marker, is_named, is_counted, counted, is_last, stretch, has_ended, from_marker}
-use Rattle.hum_yank.specs.Passages.{number_at, number_above, passage_of, last_of}
+use Rattle.hum_yank.specs.Passages.{is_marker, is_named, is_counted, counted, is_last}
+use Rattle.hum_yank.specs.Passages.{number_at, passage_of, last_of}
 use Rattle.hum_yank.specs.Marks.{marked, labelled, mark_of, passages_of, next_passages, number_in, last_in}
 
 find_any : {X : Type 0} (p : X → Bool) (xs : List X) → list_any p xs ≡ is_some (find p xs)

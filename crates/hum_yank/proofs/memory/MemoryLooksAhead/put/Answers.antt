@@ -1,4 +1,4 @@
-use Rattle.std.proofs.Common.{◌≡◌, ap}
+use Rattle.std.proofs.Common.{ap}
 use Rattle.hum_yank.proofs.Going.{few, goes_on}
 use Rattle.hum_yank.proofs.memory.MemoryLooksAhead.put.Goals as goal
 
