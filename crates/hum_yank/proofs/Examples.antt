@@ -253,7 +253,8 @@ leftmost_number :
     codes "e" ∷ []) ∷ Spined Interpretation (codes "*-" ∷ codes "*-" ∷ []) ∷ [])
     ≡ (
       (Spined Interpretation (codes "**x" ∷ codes "**x" ∷ []) ∷ Spined Values (codes "." ∷
-          codes "=3" ∷ []) ∷ Spined Values (codes "=4" ∷ codes "=5" ∷ []) ∷ Spined Values (codes "d" ∷
+          codes "=3" ∷ []) ∷ Spined Values (codes "=4" ∷ codes "=5" ∷ []) ∷ Spined Values
+          (codes "d" ∷
           codes "e" ∷ []) ∷ Spined Interpretation (codes "*-" ∷ codes "*-" ∷ []) ∷ []),
       None,
     )
