@@ -1,5 +1,6 @@
 -- Digits and their values.
-use Rattle.std.proofs.Common.{◌≡◌, refl, ℕ, suc, ◌+◌, ◌*◌, ◌-◌, ◌≤◌, ◌<◌, Bool, true, false, not, ◌&&◌, length, List, [], ◌∷◌, arith, Option, None, Some}
+use Rattle.std.proofs.Common.{◌≡◌, refl, ℕ, suc, ◌+◌, ◌*◌, ◌-◌, ◌≤◌, ◌<◌, Bool, true, false, not}
+use Rattle.std.proofs.Common.{◌&&◌, length, List, [], ◌∷◌, arith, None}
 use Rattle.std.proofs.lemmas.Bool.Decides.{nat_tests}
 use Rattle.std.specs.Prelude.{nat_le, slice_index_or}
 use Rattle.std.specs.List.{list_any, take_while, prefix_len}
@@ -13,15 +14,18 @@ use Rattle.hum_yank.specs.Passages.{value_of, number_of, at_most, has_value, pas
 -- more digits make it no less
 pub value_grows : (n : ℕ) (digits : List ℕ) → n ≤ value_of n digits
 value_grows n [] = omega arith
-value_grows n (digit ∷ digits) = let more = value_grows (10 * n + (digit - 48)) digits in omega (arith, more)
+value_grows n (digit ∷ digits) = let more = value_grows (10 * n + (digit - 48)) digits in omega
+    (arith, more)
 
-pub too_great : (n total : ℕ) (digits : List ℕ) → 4294967295 < n → value_of n digits ≡ total → None ≡ at_most total
+pub too_great : (n total : ℕ) (digits : List ℕ) → 4294967295 < n → value_of n digits ≡ total → None
+    ≡ at_most total
 too_great n total digits over is =
     let grows = value_grows n digits in
     let test : nat_le total 4294967295 ≡ false = grind (arith, nat_tests, over, is, grows) in
     rw test refl
 
-pub number_is : (digits : List ℕ) → (digits ≡ [] → ⊥) → number_of digits ≡ at_most (value_of 0 digits)
+pub number_is : (digits : List ℕ) → (digits ≡ [] → ⊥) → number_of digits ≡ at_most
+    (value_of 0 digits)
 number_is [] h = absurd (h refl)
 number_is (digit ∷ digits) h = refl
 
@@ -39,12 +43,16 @@ none_has (Spined Local tokens) = refl
 none_has (Spined Interpretation tokens) = refl
 none_has (Spined Values tokens) = none_any tokens
 
-taken : (b : ℕ) (bs : List ℕ) → is_digit b ≡ true → take_while is_digit (b ∷ bs) ≡ b ∷ take_while is_digit bs
-taken b bs d = let next : 1 + prefix_len is_digit bs ≡ suc (prefix_len is_digit bs) = omega arith in rw (d, next) refl
+taken : (b : ℕ) (bs : List ℕ) → is_digit b ≡ true → take_while is_digit (b ∷ bs) ≡ b ∷ take_while
+    is_digit bs
+taken b bs d = let next : 1 + prefix_len is_digit bs ≡ suc (prefix_len is_digit bs) = omega arith in
+    rw (d, next) refl
 
 -- one digit makes it too great, and more don't help
-pub goes_over : (n total : ℕ) (rest : List ℕ) → 1 ≤ length rest → is_digit (slice_index_or rest 0 0) ≡ true
-    → 4294967295 < n * 10 + (slice_index_or rest 0 0 - 48) → value_of n (take_while is_digit rest) ≡ total → None ≡ at_most total
+pub goes_over : (n total : ℕ) (rest : List ℕ) → 1 ≤ length rest → is_digit (slice_index_or rest 0 0)
+    ≡ true
+    → 4294967295 < n * 10 + (slice_index_or rest 0 0 - 48) → value_of n (take_while is_digit rest)
+    ≡ total → None ≡ at_most total
 goes_over n total [] filled digit over is = absurd (omega (arith, filled))
 goes_over n total (b ∷ bs) filled digit over is =
     let more : 4294967295 < 10 * n + (b - 48) = omega (arith, over) in

@@ -4,7 +4,7 @@ use Rattle.std.proofs.Common.{◌≡◌, ℕ, Bool, false, nat_eq, List, [], ◌
 use Rattle.std.specs.List.{starts_with, list_any}
 use Rattle.std.specs.Prelude.{◌==◌, if◌then◌else◌}
 use lib.Chars.{codes}
-use Rattle.hum_record.specs.declared.SpinedKind.TheVariants.{Interpretation, Values, Local}
+use Rattle.hum_record.specs.declared.SpinedKind.TheVariants.{Interpretation, Values}
 use Rattle.hum_record.specs.Row.{Row, Comment, Spined}
 use Rattle.hum_stage.specs.declared.faults.Rule.{Rule}
 use Rattle.hum_stage.specs.declared.faults.Rule.TheVariants.{H1}
@@ -13,7 +13,7 @@ use Rattle.hum_stage.specs.Look.{outcomes_from}
 use Rattle.hum_yank.specs.declared.options.YankRange.{YankRange}
 use Rattle.hum_yank.specs.declared.options.YankRange.TheVariants.{Through, Onward, ToEnd, FromEnd}
 use Rattle.hum_yank.specs.Passages.{Form, Lines, Numbers, Occurrences, Labels}
-use Rattle.hum_yank.specs.Yank.{Choice, yank}
+use Rattle.hum_yank.specs.Yank.{yank}
 
 abbrev none : List ℕ → Bool
 none t = false
@@ -253,7 +253,8 @@ leftmost_number :
     codes "e" ∷ []) ∷ Spined Interpretation (codes "*-" ∷ codes "*-" ∷ []) ∷ [])
     ≡ (
       (Spined Interpretation (codes "**x" ∷ codes "**x" ∷ []) ∷ Spined Values (codes "." ∷
-          codes "=3" ∷ []) ∷ Spined Values (codes "=4" ∷ codes "=5" ∷ []) ∷ Spined Values (codes "d" ∷
+          codes "=3" ∷ []) ∷ Spined Values (codes "=4" ∷ codes "=5" ∷ []) ∷ Spined Values
+          (codes "d" ∷
           codes "e" ∷ []) ∷ Spined Interpretation (codes "*-" ∷ codes "*-" ∷ []) ∷ []),
       None,
     )

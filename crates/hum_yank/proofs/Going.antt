@@ -1,5 +1,6 @@
 -- The state goes on with one record more.
-use Rattle.std.proofs.Common.{◌≡◌, ◌∙◌, refl, sym, ap, ℕ, ◌≤◌, ◌<◌, Bool, true, false, not, List, [], ◌∷◌, ◌++◌, length, cond, arith}
+use Rattle.std.proofs.Common.{◌≡◌, ◌∙◌, refl, sym, ap, ℕ, ◌<◌, Bool, true, false, not, List, []}
+use Rattle.std.proofs.Common.{◌∷◌, ◌++◌, length, cond, arith}
 use Rattle.hum_record.specs.Row.{Row}
 use Rattle.hum_path.specs.Spines.{Path, after}
 use Rattle.hum_path.specs.Rules.{is_unfinished, is_closed}
@@ -10,7 +11,6 @@ use Rattle.hum_yank.specs.declared.options.YankOptions.{YankOptions}
 use Rattle.hum_yank.specs.declared.passages.Passages.{Passages}
 use Rattle.hum_yank.specs.declared.held.Held.{Held}
 use Rattle.hum_yank.specs.Passages.{is_last, last_of}
-use Rattle.hum_yank.specs.Yank.{last_at}
 use Rattle.hum_yank.specs.Options.{form_of, choice_of}
 use Rattle.hum_yank.specs.Marks.{mark_of, passages_of, next_passages, number_in, last_in}
 use Rattle.hum_yank.specs.Memory.{adds, held_of, Tells, Follows}
@@ -22,29 +22,39 @@ not_not true = refl
 not_not false = refl
 
 -- no more are counted than there are
-pub few : (options : YankOptions) (path : Path) (marks : Passages) (last : ℕ) (held : List Held) (look : Look) (past rows : List Row) (n : ℕ)
-    → Follows options path marks last held look past rows → length (passed past rows) < n → marks.counted < n
+pub few : (options : YankOptions) (path : Path) (marks : Passages) (last : ℕ) (held : List Held)
+    (look : Look) (past rows : List Row) (n : ℕ)
+    → Follows options path marks last held look past rows → length (passed past rows) < n
+    → marks.counted < n
 few options path marks last held look past rows n h below =
     let form = form_of options.markers in
     let is = ap (λ m. m.counted) h.at_hand in
     let within = counted_few form (passed past rows) in
     omega (arith, is, within, below)
 
-pub goes_on : (options : YankOptions) (path path' : Path) (marks marks' : Passages) (last last' : ℕ) (held held' : List Held) (kept : Held) (look : Look) (past rows : List Row) (row : Row)
+pub goes_on : (options : YankOptions) (path path' : Path) (marks marks' : Passages) (last last' : ℕ)
+    (held held' : List Held) (kept : Held) (look : Look) (past rows : List Row) (row : Row)
     → Follows options path marks last held look past rows → path' ≡ after path row
-    → marks' ≡ next_passages marks (mark_of (form_of options.markers) row) (is_last (form_of options.markers) row)
+    → marks' ≡ next_passages marks (mark_of (form_of options.markers) row)
+    (is_last (form_of options.markers) row)
     → last' ≡ cond (adds (is_closed path) row) (last_in (form_of options.markers) marks') last
-    → kept ≡ held_of options.ranges.items (not (is_closed path)) row (number_in marks (mark_of (form_of options.markers) row))
+    → kept ≡ held_of options.ranges.items (not (is_closed path)) row
+    (number_in marks (mark_of (form_of options.markers) row))
     → held' ≡ held ++ kept ∷ []
     → Follows options path' marks' last' held' look past (rows ++ row ∷ [])
-goes_on options path path' marks marks' last last' held held' kept look past rows row h spines at_hand ends keeps more =
+goes_on options path path' marks marks' last last' held held' kept look past rows row h spines
+    at_hand ends keeps more =
     let form = form_of options.markers in
     let o = choice_of options in
     let seen = passed past rows in
     let push : passed past (rows ++ row ∷ []) ≡ row ∷ seen = passed-push past rows row in
-    let now : marks' ≡ passages_of form (row ∷ seen) = at_hand ∙ ap (λ m. next_passages m (mark_of form row) (is_last form row)) h.at_hand ∙ next_is form row seen in
-    let newest : last_in form marks' ≡ last_of form (row ∷ seen) = ap (last_in form) now ∙ last_is form (row ∷ seen) in
-    let within : not (is_closed path) ≡ is_unfinished (path_after seen) = not_not (is_unfinished path) ∙ ap is_unfinished h.spines in
+    let now : marks' ≡ passages_of form (row ∷ seen) = at_hand ∙ ap
+    (λ m. next_passages m (mark_of form row) (is_last form row)) h.at_hand ∙ next_is form row
+    seen in
+    let newest : last_in form marks' ≡ last_of form (row ∷ seen) = ap (last_in form) now ∙ last_is
+    form (row ∷ seen) in
+    let within : not (is_closed path) ≡ is_unfinished (path_after seen) = not_not
+    (is_unfinished path) ∙ ap is_unfinished h.spines in
     let number = ap (λ m. number_in m (mark_of form row)) h.at_hand ∙ number_is form row seen in
     let one : Tells o seen row kept = rw (keeps, within, number) (tells o seen row) in
     record {

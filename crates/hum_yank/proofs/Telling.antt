@@ -1,18 +1,19 @@
 -- What is kept of records tells what is decided of them.
-use Rattle.std.proofs.Common.{◌≡◌, ◌∙◌, refl, sym, ap, ℕ, suc, ◌+◌, arith, Bool, true, false, not, List, [], ◌∷◌, ◌++◌, length, cond, Option, None, Some}
-use Rattle.std.specs.Prelude.{Result, Ok}
+use Rattle.std.proofs.Common.{◌≡◌, ◌∙◌, refl, sym, ap, ℕ, suc, ◌+◌, arith, Bool, true, false, not}
+use Rattle.std.proofs.Common.{List, [], ◌∷◌, ◌++◌, length, cond, Option, None, Some}
 use Rattle.std.specs.List.{list_any}
 use Rattle.hum_record.specs.declared.SpinedKind.TheVariants.{Local, Interpretation, Values}
 use Rattle.hum_record.specs.Row.{Row, Comment, Spined}
 use Rattle.hum_path.specs.Rules.{is_unfinished, is_closed}
 use Rattle.hum_path.specs.Score.{path_after, passed}
-use Rattle.hum_stage.specs.declared.faults.Rule.{Rule}
 use Rattle.hum_stage.specs.Settles.{lasting, or_stop}
 use Rattle.hum_yank.specs.declared.held.Held.{Held}
 use Rattle.hum_yank.specs.declared.held.Held.TheVariants.{Stays, Goes, Waits}
 use Rattle.hum_yank.specs.Passages.{Form, last_of, passage_of}
-use Rattle.hum_yank.specs.Yank.{Choice, yank, yank_numbered, kept, chooses_early, chosen_by, last_at, to_spined}
-use Rattle.hum_yank.specs.Memory.{numbered_held, held_of, adds, decided_of, answer, told, Tells, AllTell}
+use Rattle.hum_yank.specs.Yank.{Choice, yank, yank_numbered, kept, chooses_early, chosen_by}
+use Rattle.hum_yank.specs.Yank.{last_at, to_spined}
+use Rattle.hum_yank.specs.Memory.{numbered_held, held_of, adds, decided_of, answer, told, Tells}
+use Rattle.hum_yank.specs.Memory.{AllTell}
 
 kept_answers : (row : Row) (x : ℕ) (d : Option Bool) → kept row d ≡ answer (Waits row x) d
 kept_answers row x None = refl
@@ -20,41 +21,57 @@ kept_answers row x (Some true) = refl
 kept_answers row x (Some false) = refl
 
 numbered_tells : (o : Choice) (past : List Row) (row : Row) (rows : List Row) (number : Option ℕ)
-    → yank_numbered o past row rows number ≡ told o (passed (row ∷ past) rows) (numbered_held o.ranges (is_unfinished (path_after past)) row number)
+    → yank_numbered o past row rows number ≡ told o (passed (row ∷ past) rows)
+    (numbered_held o.ranges (is_unfinished (path_after past)) row number)
 numbered_tells o past row rows None = refl
-numbered_tells o past row rows (Some x) = by_tests (list_any (chooses_early x) o.ranges) (is_unfinished (path_after past))
+numbered_tells o past row rows (Some x) = by_tests (list_any (chooses_early x) o.ranges)
+    (is_unfinished (path_after past))
   where
-    by_tests : (early within : Bool) → kept row (cond early (Some true) (cond within (chosen_by o (passed (row ∷ past) rows) x) (Some false)))
-        ≡ told o (passed (row ∷ past) rows) (cond early (Stays row) (cond within (Waits row x) Goes))
+    by_tests : (early within : Bool) → kept row
+        (cond early (Some true) (cond within (chosen_by o (passed (row ∷ past) rows) x)
+        (Some false)))
+        ≡ told o (passed (row ∷ past) rows) (cond early (Stays row)
+        (cond within (Waits row x) Goes))
     by_tests true within = refl
     by_tests false true = kept_answers row x (chosen_by o (passed (row ∷ past) rows) x)
     by_tests false false = refl
 
 -- what is kept of a record that comes
-pub tells : (o : Choice) (past : List Row) (row : Row) → Tells o past row (held_of o.ranges (is_unfinished (path_after past)) row (passage_of o.form past row))
-tells o past (Comment text) rows = numbered_tells o past (Comment text) rows (passage_of o.form past (Comment text))
-tells o past (Spined Local tokens) rows = numbered_tells o past (Spined Local tokens) rows (passage_of o.form past (Spined Local tokens))
+pub tells : (o : Choice) (past : List Row) (row : Row) → Tells o past row
+    (held_of o.ranges (is_unfinished (path_after past)) row (passage_of o.form past row))
+tells o past (Comment text) rows = numbered_tells o past (Comment text) rows
+    (passage_of o.form past (Comment text))
+tells o past (Spined Local tokens) rows = numbered_tells o past (Spined Local tokens) rows
+    (passage_of o.form past (Spined Local tokens))
 tells o past (Spined Interpretation tokens) rows = refl
-tells o past (Spined Values tokens) rows = numbered_tells o past (Spined Values tokens) rows (passage_of o.form past (Spined Values tokens))
+tells o past (Spined Values tokens) rows = numbered_tells o past (Spined Values tokens) rows
+    (passage_of o.form past (Spined Values tokens))
 
 -- one more
-pub tell_more : (o : Choice) (past rows : List Row) (held : List Held) (row : Row) (h : Held) → AllTell o past rows held → Tells o (passed past rows) row h
+pub tell_more : (o : Choice) (past rows : List Row) (held : List Held) (row : Row) (h : Held)
+    → AllTell o past rows held → Tells o (passed past rows) row h
     → AllTell o past (rows ++ row ∷ []) (held ++ h ∷ [])
 tell_more o past [] [] row h all one = (one, tt)
 tell_more o past [] (k ∷ held) row h all one = absurd all
 tell_more o past (q ∷ rows) [] row h all one = absurd all
-tell_more o past (q ∷ rows) (k ∷ held) row h all one = (all.0, tell_more o (q ∷ past) rows held row h all.1 one)
+tell_more o past (q ∷ rows) (k ∷ held) row h all one =
+    (all.0, tell_more o (q ∷ past) rows held row h all.1 one)
 
 -- the last number after one record more
-pub last_next : (form : Form) (row : Row) (past : List Row) → last_at form (row ∷ past) ≡ cond (adds (is_closed (path_after past)) row) (last_of form (row ∷ past)) (last_at form past)
+pub last_next : (form : Form) (row : Row) (past : List Row) → last_at form (row ∷ past) ≡ cond
+    (adds (is_closed (path_after past)) row) (last_of form (row ∷ past)) (last_at form past)
 last_next form (Comment text) past = by_test (is_closed (path_after past)) refl
   where
-    by_test : (b : Bool) → is_closed (path_after past) ≡ b → cond b (last_of form (to_spined past)) (last_of form (Comment text ∷ past)) ≡ cond (not b) (last_of form (Comment text ∷ past)) (last_at form past)
+    by_test : (b : Bool) → is_closed (path_after past) ≡ b → cond b (last_of form (to_spined past))
+        (last_of form (Comment text ∷ past)) ≡ cond (not b) (last_of form (Comment text ∷ past))
+        (last_at form past)
     by_test true e = rw e refl
     by_test false e = refl
-last_next form (Spined kind tokens) past = by_test (is_closed (path_after (Spined kind tokens ∷ past)))
+last_next form (Spined kind tokens) past = by_test
+    (is_closed (path_after (Spined kind tokens ∷ past)))
   where
-    by_test : (b : Bool) → cond b (last_of form (Spined kind tokens ∷ past)) (last_of form (Spined kind tokens ∷ past)) ≡ last_of form (Spined kind tokens ∷ past)
+    by_test : (b : Bool) → cond b (last_of form (Spined kind tokens ∷ past))
+        (last_of form (Spined kind tokens ∷ past)) ≡ last_of form (Spined kind tokens ∷ past)
     by_test true = refl
     by_test false = refl
 
@@ -63,23 +80,28 @@ one_lasts : (held : Held) (d : Option Bool) (rest : ℕ) → or_stop (answer hel
 one_lasts held None rest = refl
 one_lasts held (Some stays) rest = refl
 
-pub all_last : (o : Choice) (past rows : List Row) (held : List Held) → AllTell o past rows held → length held ≡ lasting (yank o) past rows
+pub all_last : (o : Choice) (past rows : List Row) (held : List Held) → AllTell o past rows held
+    → length held ≡ lasting (yank o) past rows
 all_last o past [] [] all = refl
 all_last o past [] (k ∷ held) all = absurd all
 all_last o past (q ∷ rows) [] all = absurd all
 all_last o past (q ∷ rows) (k ∷ held) all =
     let more = all_last o (q ∷ past) rows held all.1 in
     let seen = passed (q ∷ past) rows in
-    let one = one_lasts k (decided_of o.ranges (is_closed (path_after seen)) (last_at o.form seen) k) (lasting (yank o) (q ∷ past) rows) in
+    let one = one_lasts k (decided_of o.ranges (is_closed (path_after seen)) (last_at o.form seen)
+    k) (lasting (yank o) (q ∷ past) rows) in
     let next : suc (length held) ≡ length held + 1 = omega arith in
     rw (all.0 rows) (next ∙ ap (λ n. n + 1) more ∙ sym one)
 
 -- once the last spine has ended, nothing is undecided
-pub all_decided : (o : Choice) (past : List Row) (row : Row) (rows : List Row) → is_closed (path_after (passed (row ∷ past) rows)) ≡ true → yank o past row rows ≡ None → ⊥
+pub all_decided : (o : Choice) (past : List Row) (row : Row) (rows : List Row) → is_closed
+    (path_after (passed (row ∷ past) rows)) ≡ true → yank o past row rows ≡ None → ⊥
 all_decided o past row rows closed undecided =
-    let held = held_of o.ranges (is_unfinished (path_after past)) row (passage_of o.form past row) in
+    let held = held_of o.ranges (is_unfinished (path_after past)) row
+    (passage_of o.form past row) in
     let seen = passed (row ∷ past) rows in
-    by_held held (last_of o.form (to_spined seen)) (rw closed at (sym (tells o past row rows) ∙ undecided))
+    by_held held (last_of o.form (to_spined seen))
+    (rw closed at (sym (tells o past row rows) ∙ undecided))
   where
     by_held : (held : Held) (last : ℕ) → answer held (decided_of o.ranges true last held) ≡ None → ⊥
     by_held (Stays r) last e = cc

@@ -1,5 +1,5 @@
 -- What a record begins, and what is remembered of passages.
-use Rattle.std.specs.Prelude.{◌≡◌, ℕ, ◌+◌, Bool, ◌||◌, List, if◌then◌else◌, Option, Some, None}
+use Rattle.std.specs.Prelude.{ℕ, ◌+◌, Bool, ◌||◌, List, if◌then◌else◌, Option, Some, None}
 use Rattle.hum_record.specs.Row.{Row}
 use Rattle.hum_yank.specs.declared.marking.Mark.{Mark}
 use Rattle.hum_yank.specs.declared.marking.Mark.TheVariants.{Inside, Counted, Bears}

@@ -5,7 +5,8 @@ use Rattle.hum_stage.specs.declared.faults.Command.TheVariants.{Yank}
 use Rattle.hum_stage.specs.Meaning.{Meaning}
 use Rattle.hum_stage.specs.Look.{looking}
 use Rattle.hum_yank.specs.declared.options.Markers.{Markers}
-use Rattle.hum_yank.specs.declared.options.Markers.TheVariants.{Lines as ByLine, Numbers as ByNumber}
+use Rattle.hum_yank.specs.declared.options.Markers.TheVariants.{Lines as ByLine}
+use Rattle.hum_yank.specs.declared.options.Markers.TheVariants.{Numbers as ByNumber}
 use Rattle.hum_yank.specs.declared.options.Markers.TheVariants.{Occurrences as ByOccurrence}
 use Rattle.hum_yank.specs.declared.options.Markers.TheVariants.{Labels as ByLabel}
 use Rattle.hum_yank.specs.declared.options.YankOptions.{YankOptions}

@@ -1,9 +1,9 @@
 //! The command yank: the passages that are chosen, by line, number, occurrence or section.
 //!
 //! A passage is a stretch of records from a marker to before the next (Humdrum Toolkit: Reference
-//! Manual, `yank`). Its data records and comments stay where it is chosen; interpretations always do.
-//! Passages can also be chosen by their distance from the last one (`$`), and then records wait
-//! until that is known.
+//! Manual, `yank`). Its data records and comments stay where it is chosen; interpretations always
+//! do. Passages can also be chosen by their distance from the last one (`$`), and then records
+//! wait until that is known.
 #![tactic(auto)]
 
 ghost use Rattle.std.specs.Prelude.{◌≡◌};

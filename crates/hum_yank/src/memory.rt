@@ -65,7 +65,8 @@ impl LooksAhead for Memory {
 
     ghost follows = { λ s held. Follows s.options s.paths.path s.passages s.last held };
 
-    ghost each = { λ s held look past rows h. tell_each (choice_of s.options) past rows held h.tell };
+    ghost each = { λ s held look past rows h.
+        tell_each (choice_of s.options) past rows held h.tell };
 
     fn put(&mut self, next: Record, held: &mut VecDeque<Held>) -> Result<(), AllocError> {
         let closed = self.paths.is_closed();

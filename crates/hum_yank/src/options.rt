@@ -1,16 +1,17 @@
 //! Which passages are chosen.
 use hum_pattern::Pattern;
 
-/// Where passages begin, and how they are numbered. A passage is a stretch of records, from a marker
-/// to before the next or to the end.
+/// Where passages begin, and how they are numbered. A passage is a stretch of records, from a
+/// marker to before the next or to the end.
 pub enum Markers {
     /// `-l`: each record is a passage; its number is its line
     Lines,
     /// `-n`: data records with a token that this pattern matches; the number is the digits directly
     /// after the first match
     Numbers(Pattern),
-    /// `-o`: data records with a token that the first pattern matches, numbered from 1 by occurrence.
-    /// `-e`: a passage ends with its first data record that has a token matching the second pattern.
+    /// `-o`: data records with a token that the first pattern matches, numbered from 1 by
+    /// occurrence. `-e`: a passage ends with its first data record that has a token matching the
+    /// second pattern.
     Occurrences(Pattern, Option<Pattern>),
     /// `-s`: section labels, as `*>A`; the sections of this name are numbered from 1 by occurrence
     Labels(Vec<u8>),

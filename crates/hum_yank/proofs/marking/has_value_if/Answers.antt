@@ -1,5 +1,4 @@
 use Rattle.std.proofs.Common.{sym}
-use Rattle.hum_yank.specs.Options.{matched_by}
 use Rattle.hum_yank.proofs.Digits.{none_has}
 use Rattle.hum_yank.proofs.marking.has_value_if.Goals as goal
 

@@ -4,7 +4,8 @@ use Rattle.hum_yank.specs.Yank.{drops_now}
 use Rattle.hum_yank.proofs.ranges.all_drop.Given as goal
 
 abbrev pub invariant-loop-rest : goal.invariant-loop-rest
-invariant-loop-rest l = list_all (drops_now l.least l.number) l.rest ≡ list_all (drops_now l.least l.number) l.ranges
+invariant-loop-rest l = list_all (drops_now l.least l.number) l.rest ≡ list_all
+    (drops_now l.least l.number) l.ranges
 
 abbrev pub decreases-loop-rest : goal.decreases-loop-rest
 decreases-loop-rest l = length l.rest

@@ -4,7 +4,8 @@ use Rattle.hum_yank.specs.Yank.{chooses_late}
 use Rattle.hum_yank.proofs.ranges.any_late.Given as goal
 
 abbrev pub invariant-loop-rest : goal.invariant-loop-rest
-invariant-loop-rest l = list_any (chooses_late l.last l.number) l.rest ≡ list_any (chooses_late l.last l.number) l.ranges
+invariant-loop-rest l = list_any (chooses_late l.last l.number) l.rest ≡ list_any
+    (chooses_late l.last l.number) l.ranges
 
 abbrev pub decreases-loop-rest : goal.decreases-loop-rest
 decreases-loop-rest l = length l.rest

@@ -6,4 +6,5 @@ use Rattle.hum_yank.proofs.memory.MemoryLooksAhead.lasting.Goals as goal
 pub returns : goal.returns
 returns c = λ look past rows h.
     let count : c.len.result ≡ length c.args.held.now.items = search rules in
-    rw h.command (count ∙ all_last (choice_of c.args.self.now.options) past rows c.args.held.now.items h.tell)
+    rw h.command (count ∙ all_last (choice_of c.args.self.now.options) past rows
+    c.args.held.now.items h.tell)

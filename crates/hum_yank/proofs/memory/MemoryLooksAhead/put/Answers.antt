@@ -1,4 +1,4 @@
-use Rattle.std.proofs.Common.{◌≡◌, ap}
+use Rattle.std.proofs.Common.{ap}
 use Rattle.hum_yank.proofs.Going.{few, goes_on}
 use Rattle.hum_yank.proofs.memory.MemoryLooksAhead.put.Goals as goal
 
@@ -9,7 +9,10 @@ step-number-requires c = record {
 
 pub returns : goal.returns
 returns c = λ look past rows h score.
-    let ends = rw (c.is_closed-closed.ensures, c.step-number.ensures.kept) at c.last_after-self.ensures in
-    let keeps = rw (c.deref.ensures.value, c.is_closed-closed.ensures, c.step-number.ensures.number) at c.of-kept.ensures in
+    let ends = rw (c.is_closed-closed.ensures, c.step-number.ensures.kept) at
+    c.last_after-self.ensures in
+    let keeps = rw (c.deref.ensures.value, c.is_closed-closed.ensures, c.step-number.ensures.number)
+    at c.of-kept.ensures in
     rw c.step-number.ensures.kept (goes_on _ _ _ _ _ _ _ _ _ _ look past rows c.args.next h
-    (ap (λ p. p.path) c.in-Ok.ensures.after) c.step-number.ensures.after ends keeps c.in_ok-push_back.ensures.items)
+    (ap (λ p. p.path) c.in-Ok.ensures.after) c.step-number.ensures.after ends keeps
+    c.in_ok-push_back.ensures.items)
