@@ -4,7 +4,7 @@ use Rattle.std.proofs.Common.{◌&&◌, length, List, [], ◌∷◌, arith, None
 use Rattle.std.proofs.lemmas.Bool.Decides.{nat_tests}
 use Rattle.std.specs.Prelude.{nat_le, slice_index_or}
 use Rattle.std.specs.List.{list_any, take_while, prefix_len}
-use Rattle.std.specs.Str.{bytes_eq}
+use Rattle.hum_record.specs.Contents.{is_null}
 use lib.Chars.{codes}
 use Rattle.hum_record.specs.declared.SpinedKind.TheVariants.{Local, Interpretation, Values}
 use Rattle.hum_record.specs.Row.{Row, Comment, Spined}
@@ -31,7 +31,7 @@ number_is (digit ∷ digits) h = refl
 
 none_any : (tokens : List (List ℕ)) → list_any (passes (λ t. false)) tokens ≡ false
 none_any [] = refl
-none_any (t ∷ ts) = or_from _ _ (neither (bytes_eq t (codes "."))) (none_any ts)
+none_any (t ∷ ts) = or_from _ _ (neither (is_null t)) (none_any ts)
   where
     neither : (b : Bool) → (not b && false) ≡ false
     neither true = refl

@@ -10,6 +10,7 @@ use Rattle.std.specs.Str.{bytes_eq}
 use lib.Chars.{codes}
 use Rattle.hum_record.specs.declared.SpinedKind.TheVariants.{Local, Interpretation, Values}
 use Rattle.hum_record.specs.Row.{Row, Comment, Spined}
+use Rattle.hum_record.specs.Contents.{is_null}
 
 -- How passages are marked: by each line; by a test that also tells where its match in a token ends;
 -- by a test that begins them and one that ends them; by labels of sections.
@@ -21,7 +22,7 @@ pub data Form : Type 0 where
 
 -- a data token that isn't null, and passes
 abbrev pub passes : (List ℕ → Bool) → List ℕ → Bool
-passes test token = not (bytes_eq token (codes ".")) && test token
+passes test token = not (is_null token) && test token
 
 -- whether a data record has such a token
 abbrev pub has_value : (List ℕ → Bool) → Row → Bool

@@ -4,6 +4,7 @@ ghost use Rattle.std.specs.List.{list_any, find, take_while};
 ghost use Rattle.std.specs.Str.{bytes_eq};
 ghost use lib.Chars.{codes};
 ghost use Rattle.hum_record.specs.Row.{tokens_of};
+ghost use Rattle.hum_record.specs.Contents.{is_null};
 ghost use Rattle.hum_pattern.specs.Meaning.{matched, first_end};
 ghost use Rattle.hum_yank.specs.Passages.{passes, has_value, first_value, is_label, label_of};
 ghost use Rattle.hum_yank.specs.Passages.{has_match, number_of, value_of, at_most, is_digit};
@@ -13,7 +14,7 @@ ghost use Rattle.hum_yank.specs.Marks.{mark_of, marked, labelled};
 
 use crate::options::Markers;
 use hum_pattern::Pattern;
-use hum_record::{Kind, Record};
+use hum_record::{Kind, Record, is_null};
 
 /// What a record begins.
 #[derive(Clone, Copy, Debug, PartialEq, Eq)]
@@ -24,12 +25,6 @@ pub(crate) enum Mark {
     Counted,
     /// A passage that bears this number, or none.
     Bears(Option<u32>),
-}
-
-fn is_null(token: &[u8]) -> bool
-    ensures { result ≡ bytes_eq token.now (codes ".") }
-{
-    token == b".".as_slice()
 }
 
 /// Whether a token has a match of a pattern. Patterns are never tried on null tokens.
