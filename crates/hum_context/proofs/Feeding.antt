@@ -1,6 +1,6 @@
 -- A stage that is fed record by record.
-use Rattle.std.proofs.Common.{◌≡◌, ◌∙◌, refl, sym, ap, ℕ, ◌+◌, ◌<◌, ◌≤◌, List, [], ◌∷◌, ◌++◌, length, length-append, arith, inl, inr, ◌⊎◌}
-use Rattle.std.specs.Prelude.{None, Some, Option, MatchOption}
+use Rattle.std.proofs.Common.{◌≡◌, ◌∙◌, refl, sym, ℕ, ◌+◌, ◌≤◌, [], ◌∷◌, length-append, arith}
+use Rattle.std.specs.Prelude.{None, Some}
 use Rattle.hum_record.specs.Row.{Row}
 use Rattle.hum_path.specs.Spines.{Path, Unopened, after}
 use Rattle.hum_path.specs.Rules.{fault_of}
