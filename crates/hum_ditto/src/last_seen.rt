@@ -41,7 +41,7 @@ pub struct LastSeen {
 impl Model for LastSeen {
     ghost use Rattle.std.specs.Prelude.{◌≡◌, true, ℕ, List, Option};
     ghost use Rattle.hum_record.specs.Spelling.{IsToken};
-ghost use Rattle.hum_record.specs.Contents.{is_data, is_null};
+    ghost use Rattle.hum_record.specs.Contents.{is_data, is_null};
     ghost use Rattle.hum_record.specs.declared.SpinedKind.TheVariants.{Values};
     ghost use Rattle.hum_ditto.specs.Memory.{held_in};
 

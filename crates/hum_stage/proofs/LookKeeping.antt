@@ -37,6 +37,7 @@ score_from room look Leads past (row ∷ rows) given k sound leads follow =
     undecided : (b : Bool) → Follow given (settled (cond b (Refused H1) Undecided ∷ outcomes_from room look (row ∷ past) rows))
     undecided true = tt
     undecided false = tt
+
     one_of : (d : Option (Result (List Row) Rule)) → look past row (take room rows) ≡ d
         → ((next : Path) → Leads (row ∷ past) next → Follow next (settled (outcomes_from room look (row ∷ past) rows)))
         → Follow given (settled (outcome_of room (length rows) d ∷ outcomes_from room look (row ∷ past) rows))
@@ -60,6 +61,7 @@ closed_from room look Leads past (row ∷ rows) line given k sound leads follow 
     undecided false w e none =
         let all : take room rows ≡ rows = take_all room rows (grind (arith, nat_tests, w)) in
         absurd (k.decided past row rows (sound, follow.0) follow.1 end (ap (look past row) (sym all) ∙ e))
+
     one_of : (d : Option (Result (List Row) Rule)) → look past row (take room rows) ≡ d
         → ((next : Path) → Leads (row ∷ past) next → refusal (line + 1) (outcomes_from room look (row ∷ past) rows) ≡ None → is_unfinished (through next (settled (outcomes_from room look (row ∷ past) rows))) ≡ false)
         → refusal line (outcome_of room (length rows) d ∷ outcomes_from room look (row ∷ past) rows) ≡ None
