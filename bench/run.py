@@ -81,6 +81,8 @@ def tasks(score, steady):
         ('semits -x', score, [('mawk', ['mawk', '-f', os.path.join(HERE, 'semits.awk'), score])]
          + rust('semits', score) + rust('semits_bytes', score)),
         ("cleave -i '**kern' -o '**chord'", score, rust('cleave', score)),
+        ("context -n 3 -o '^='", score, rust('context', score)),
+        ("yank -n '^=' -r 100-$", score, [('mawk', ['mawk', '-f', os.path.join(HERE, 'yank.awk'), score])]),
         ('timebase -t 16', steady, rust('timebase', steady)),
     ]
 

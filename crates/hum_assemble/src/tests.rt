@@ -496,21 +496,21 @@ fn more_than_4096_spines_are_refused(rt: HostRuntime) -> Result<(), Fail> {
     Ok(())
 }
 
-// Two long sources: one record of each is held at most.
+// Two sources of a million data records: one record of each is held at most.
 #[test]
 fn holds_one_record_of_each_source(rt: HostRuntime) -> Result<(), Fail> {
     let alloc = rt.alloc();
     let mut service = Service::new(&rt, alloc, 2)?;
     let mut puts = [0usize; 2];
     let mut given = 0usize;
-    for _ in 0..1_000_000 {
+    for _ in 0..4_000_000 {
         assert!(&rt; service.inner.held() <= 2);
         match service.inner.state() {
             State::Gives => {
                 let (next, taken) = service.take()?;
                 service = next;
                 assert!(&rt; taken.is_some());
-                assert!(&rt; given < 1_000_000);
+                assert!(&rt; given < 4_000_000);
                 given += 1;
             }
             State::Wants => {
@@ -519,17 +519,17 @@ fn holds_one_record_of_each_source(rt: HostRuntime) -> Result<(), Fail> {
                 };
                 assert!(&rt; j < 2);
                 let put = puts[j];
-                assert!(&rt; put < 1_000_000);
+                assert!(&rt; put < 4_000_000);
                 puts[j] = put + 1;
                 service = match put {
                     0 => service.put(&rt, b"**x")?,
-                    1..=100_000 => service.put(&rt, b"4c")?,
-                    100_001 => service.put(&rt, b"*-")?,
+                    1..=1_000_000 => service.put(&rt, b"4c")?,
+                    1_000_001 => service.put(&rt, b"*-")?,
                     _ => service.end(&rt, End::Closed)?,
                 };
             }
             State::Done(end) => {
-                assert_eq!(&rt; (given, end), (100_002, End::Closed));
+                assert_eq!(&rt; (given, end), (1_000_002, End::Closed));
                 return Ok(());
             }
         }
