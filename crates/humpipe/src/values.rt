@@ -138,7 +138,7 @@ enum Bound {
     Last,
 }
 
-fn bound(text: &[u8]) -> Option<Bound> {
+fn read_bound(text: &[u8]) -> Option<Bound> {
     if text == b"$".as_slice() {
         return Some(Bound::Last);
     }
@@ -151,7 +151,7 @@ fn passages(item: &[u8]) -> Option<YankRange> {
     let mut bounds = [None; 4];
     let mut len = 0usize;
     for part in item.split(|byte| *byte == b'-') {
-        *bounds.get_mut(len)? = Some(bound(part)?);
+        *bounds.get_mut(len)? = Some(read_bound(part)?);
         len += 1;
     }
     match bounds {
