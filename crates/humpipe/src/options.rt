@@ -138,7 +138,22 @@ fn cleave_options(alloc: Global, words: &[&[u8]]) -> Result<Option<CleaveOptions
     )))
 }
 
-/// What context's words say: `-n N`, or `-b PATTERN` and `-e PATTERN`; and `-o PATTERN` or not.
+/// How many tokens are collected: `-n N`, or `-b PATTERN` and `-e PATTERN`.
+fn span(alloc: Global, given: Given<'_>) -> Result<Option<Span>, AllocError> {
+    match (given.value(b'n'), given.value(b'b'), given.value(b'e')) {
+        (Some(number), None, None) => match count(number) {
+            None => Ok(None),
+            Some(number) => Ok(Some(Span::Number(TokenCount { number }))),
+        },
+        (None, Some(begin), Some(end)) => match (pattern(alloc, begin)?, pattern(alloc, end)?) {
+            (Some(begin), Some(end)) => Ok(Some(Span::Phrase(begin, end))),
+            _ => Ok(None),
+        },
+        _ => Ok(None),
+    }
+}
+
+/// What context's words say: how many tokens are collected, and `-o PATTERN` or not.
 fn context_options(alloc: Global, words: &[&[u8]]) -> Result<Option<ContextOptions>, AllocError> {
     let Some(given) = Given::read(words, b"nbeo", b"") else {
         return Ok(None);
@@ -146,17 +161,10 @@ fn context_options(alloc: Global, words: &[&[u8]]) -> Result<Option<ContextOptio
     let Some(omit) = optional_pattern(alloc, given.value(b'o'))? else {
         return Ok(None);
     };
-    let span = match (given.value(b'n'), given.value(b'b'), given.value(b'e')) {
-        (Some(number), None, None) => {
-            count(number).map(|number| Span::Number(TokenCount { number }))
-        }
-        (None, Some(begin), Some(end)) => match (pattern(alloc, begin)?, pattern(alloc, end)?) {
-            (Some(begin), Some(end)) => Some(Span::Phrase(begin, end)),
-            _ => None,
-        },
-        _ => None,
-    };
-    Ok(span.map(|span| ContextOptions { span, omit }))
+    match span(alloc, given)? {
+        None => Ok(None),
+        Some(span) => Ok(Some(ContextOptions { span, omit })),
+    }
 }
 
 /// How yank's words mark passages: `-l`, `-n PATTERN`, `-o PATTERN` with `-e PATTERN` or not, or

@@ -47,11 +47,11 @@ pub fn count(text: &[u8]) -> Option<u16>
 }
 
 /// A number with a sign or without, from `-most` to `most`.
-pub fn signed_number(text: &[u8], most: u64) -> Option<i32> {
+pub fn signed_number(text: &[u8], most: u8) -> Option<i32> {
     match text {
-        [b'-', digits @ ..] => (number(digits, most)? as i32).checked_neg(),
-        [b'+', digits @ ..] => Some(number(digits, most)? as i32),
-        _ => Some(number(text, most)? as i32),
+        [b'-', digits @ ..] => (number(digits, most as u64)? as i32).checked_neg(),
+        [b'+', digits @ ..] => Some(number(digits, most as u64)? as i32),
+        _ => Some(number(text, most as u64)? as i32),
     }
 }
 
