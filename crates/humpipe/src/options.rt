@@ -139,7 +139,7 @@ fn cleave_options(alloc: Global, words: &[&[u8]]) -> Result<Option<CleaveOptions
 }
 
 /// How many tokens are collected: `-n N`, or `-b PATTERN` and `-e PATTERN`.
-fn span(alloc: Global, given: Given<'_>) -> Result<Option<Span>, AllocError> {
+fn read_span(alloc: Global, given: Given<'_>) -> Result<Option<Span>, AllocError> {
     match (given.value(b'n'), given.value(b'b'), given.value(b'e')) {
         (Some(number), None, None) => match count(number) {
             None => Ok(None),
@@ -161,7 +161,7 @@ fn context_options(alloc: Global, words: &[&[u8]]) -> Result<Option<ContextOptio
     let Some(omit) = optional_pattern(alloc, given.value(b'o'))? else {
         return Ok(None);
     };
-    match span(alloc, given)? {
+    match read_span(alloc, given)? {
         None => Ok(None),
         Some(span) => Ok(Some(ContextOptions { span, omit })),
     }
