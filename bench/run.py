@@ -107,11 +107,29 @@ def run(size):
             print(f'  {name:22} {seconds:6.2f} s  {peak:6.1f} MiB{ratio}')
 
 
+def assembled():
+    """The assembler has no plan yet: the test that merges two sources of a million records, beside `paste` of two such files. The
+    test also makes the records that it puts."""
+    room = os.path.join('crates', 'hum_assemble')
+    binary = os.path.join(room, 'out', 'hum_assemble_tests')
+    if not os.path.exists(binary):
+        subprocess.run(['rt', 'test'], cwd=room, check=True, stdout=subprocess.DEVNULL, stderr=subprocess.DEVNULL)
+    records = 1_000_002
+    score = os.path.join(DATA, 'million.krn')
+    with open(score, 'w') as out:
+        out.write('**x\n' + '4c\n' * (records - 2) + '*-\n')
+    programs = [('hum_assemble', [binary, 'tests::holds_one_record_of_each_source']), ('paste', ['paste', score, score])]
+    print('two sources of a million records, side by side')
+    for (name, _words), (seconds, peak) in zip(programs, best_of(programs)):
+        print(f'  {name:22} {seconds:6.2f} s  {peak:6.1f} MiB  {records / max(seconds, 0.001) / 1e6:.1f} million records a second')
+
+
 def main():
     os.makedirs(DATA, exist_ok=True)
     os.chdir(TOP)
     for size in SIZES:
         run(size)
+    assembled()
 
 
 main()
