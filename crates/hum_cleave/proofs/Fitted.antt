@@ -1,5 +1,5 @@
 -- What is written of lawful tokens is lawful, and no longer than they are.
-use Rattle.std.proofs.Common.{◌≡◌, ◌≢◌, ◌∙◌, refl, ap, ℕ, ◌+◌, ◌≤◌, Bool, true, false, not, ◌||◌, cond, subst}
+use Rattle.std.proofs.Common.{◌≡◌, ◌≢◌, ◌∙◌, refl, ap, ℕ, suc, ◌+◌, ◌≤◌, Bool, true, false, not, ◌||◌, cond, subst}
 use Rattle.std.proofs.Common.{List, [], ◌∷◌, ◌++◌, length, map, arith}
 use Rattle.std.specs.Prelude.{◌==◌, nat_lt, Ok}
 use Rattle.std.proofs.lemmas.Bool.Decides.{nat_tests}
@@ -248,6 +248,13 @@ stays text fs (Spined Values ts) none wide h other =
 pub some_tokens : (kind : SpinedKind) (row : Row) → row ≡ Spined kind (tokens_of row) → IsTextOf row (text_of row) → tokens_of row ≢ []
 some_tokens kind (Comment text) e h = cc
 some_tokens kind (Spined other ts) e h = h.1
+
+pub no_bytes : (xs : List ℕ) → (length xs == 0) ≡ true → xs ≡ []
+no_bytes [] h = refl
+no_bytes (x ∷ xs) h = absurd (nothing (length xs) h)
+  where
+    nothing : (n : ℕ) → (suc n == 0) ≡ true → ⊥
+    nothing n h = grind (arith, nat_tests)
 
 pub some_bytes : (xs : List ℕ) → (length xs == 0) ≡ false → xs ≢ []
 some_bytes [] h e = cc

@@ -3,6 +3,7 @@ use Rattle.std.proofs.Common.{◌≡◌, ◌∙◌, refl, sym, ap, ℕ, zero, su
 use Rattle.std.proofs.Common.{List, [], ◌∷◌, ◌++◌, length, map, drop, take, get_or, arith, add-one, append_assoc, append-nil}
 use Rattle.std.specs.List.{list_any, list_all}
 use Rattle.std.proofs.lemmas.List.{drop_all}
+use lib.Chars.{codes}
 use Rattle.hum_cleave.specs.Columns.{within}
 use Rattle.hum_cleave.specs.Tokens.{leftmost, is_left_out, taken, following, joined, data_of, added}
 
@@ -129,6 +130,12 @@ all_taken text [] fs ts j h some e = absurd (some refl)
 all_taken text (b ∷ bs) fs ts j h some e =
     sym (append-nil (b ∷ bs)) ∙ rw (within_nothing fs ts j h) at e
 
+-- all columns were passed, and nothing was taken
+pub none_taken : (text so : List ℕ) (fs : List Bool) (ts : List (List ℕ)) (j : ℕ) → length fs ≤ j → so ≡ []
+    → so_far text so (taken_from fs ts j) ≡ data_of text (within fs ts) → codes "." ≡ data_of text (within fs ts)
+none_taken text [] fs ts j h none e = rw (within_nothing fs ts j h) at e
+none_taken text (b ∷ bs) fs ts j h none e = cc
+
 pub front_length : (j : ℕ) (fs : List Bool) (ts : List (List ℕ)) → length fs ≡ length ts → length (take j fs) ≡ length (take j ts)
 front_length zero fs ts e = refl
 front_length (suc j) [] [] e = refl
@@ -140,3 +147,12 @@ pub front_short : (j : ℕ) (fs : List Bool) → length (take j fs) ≤ j
 front_short zero fs = omega arith
 front_short (suc j) [] = omega arith
 front_short (suc j) (f ∷ fs) = let ih = front_short j fs in omega (arith, ih)
+
+-- what stands to the left of the next place
+pub front_passes : (fs : List Bool) (ts : List (List ℕ)) (j : ℕ) → j < length fs → length fs ≡ length ts → get_or fs j false ≡ false
+    → within (take (j + 1) fs) (take (j + 1) ts) ≡ within (take j fs) (take j ts)
+front_passes fs ts j h e off = rw add-one (rw (within_take fs ts j [] h e, off) (append-nil (within (take j fs) (take j ts))))
+
+pub front_takes : (fs : List Bool) (ts : List (List ℕ)) (j : ℕ) → j < length fs → length fs ≡ length ts → get_or fs j false ≡ true
+    → within (take (j + 1) fs) (take (j + 1) ts) ≡ within (take j fs) (take j ts) ++ get_or ts j [] ∷ []
+front_takes fs ts j h e on = rw add-one (rw (within_take fs ts j [] h e, on) refl)

@@ -2,6 +2,7 @@ pub mod Flags
 pub mod Taking
 pub mod Placewise
 pub mod Gathering
+pub mod Known
 pub mod Fitted
 pub mod Selecting
 pub mod Signs

@@ -1,4 +1,5 @@
 pub mod Columns
 pub mod Tokens
+pub mod Barlines
 pub mod Cleave
 pub mod Following

@@ -8,6 +8,7 @@
 ghost use Rattle.hum_stage.specs.Meaning.{opening, KeepsScore};
 ghost use Rattle.hum_cleave.specs.Cleave.{meaning};
 
+mod barlines;
 mod columns;
 mod merging;
 mod options;

@@ -125,7 +125,7 @@ fn data_record(
         (data_of separator.now (within marks.now (tokens_of row.now)))
         marks.now (tokens_of row.now))) }
 {
-    gather(separator, marks, row, &mut buffers.text)?;
+    gather(alloc, separator, marks, row, &mut buffers.text)?;
     let one = buffers.text.as_slice();
     put_together(
         alloc,

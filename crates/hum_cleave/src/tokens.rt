@@ -1,19 +1,16 @@
 //! What the tokens of the cleaved columns become.
-ghost use Rattle.std.specs.Prelude.{◌≡◌, ◌<◌, true, length, take, OnOk};
-ghost use Rattle.std.specs.List.{list_any};
-ghost use Rattle.std.specs.Str.{bytes_eq};
+ghost use Rattle.std.specs.Prelude.{◌≡◌, true, length, OnOk};
 ghost use Rattle.hum_record.specs.Row.{Spined, tokens_of, width_of, text_of};
 ghost use Rattle.hum_record.specs.Spelling.{IsToken, IsTextOf};
-ghost use Rattle.hum_record.specs.Contents.{is_null, is_barline};
 ghost use Rattle.hum_record.specs.declared.SpinedKind.TheVariants.{Local, Values};
 ghost use Rattle.hum_cleave.specs.Columns.{within};
 ghost use Rattle.hum_cleave.specs.Cleave.{fits_in_token};
 ghost use Rattle.hum_cleave.specs.Tokens.{is_null_comment, comment_of, is_silent};
-ghost use Rattle.hum_cleave.specs.Tokens.{interpretation_of, is_left_out};
-ghost use Rattle.hum_cleave.specs.Tokens.{data_of, added};
+ghost use Rattle.hum_cleave.specs.Tokens.{interpretation_of, data_of, added};
 
-use hum_record::{Record, is_barline, is_null};
-use std::alloc::AllocError;
+use crate::barlines::Barlines;
+use hum_record::Record;
+use std::alloc::{AllocError, Global};
 
 fn is_null_comment(token: &[u8]) -> bool
     ensures { result ≡ is_null_comment token.now }
@@ -56,38 +53,6 @@ pub fn leftmost_interpretation<'r>(marks: &[bool], row: &'r Record) -> &'r [u8]
     b"*"
 }
 
-fn are_equal(token: &[u8], other: &[u8]) -> bool
-    ensures { result ≡ bytes_eq token.now other.now }
-{
-    token == other
-}
-
-/// Whether a token of a cleaved column stands to the left of column `j`.
-fn stands_before(marks: &[bool], row: &Record, j: usize, token: &[u8]) -> bool
-    requires as_wide { length marks.now ≡ width_of row.now }
-    requires column { j < length marks.now }
-    ensures { result ≡ list_any (bytes_eq token.now)
-        (within (take j marks.now) (take j (tokens_of row.now))) }
-{
-    for (i, mark) in marks.split_at(j).0.iter().enumerate() {
-        if *mark && are_equal(token, row.token(i)) {
-            return true;
-        }
-    }
-    false
-}
-
-/// Whether the data token of column `j` is left out: it is null, or a barline that is there
-/// already.
-fn is_left_out(marks: &[bool], row: &Record, j: usize, token: &[u8]) -> bool
-    requires as_wide { length marks.now ≡ width_of row.now }
-    requires column { j < length marks.now }
-    ensures { result ≡ is_left_out (within (take j marks.now) (take j (tokens_of row.now)))
-        token.now }
-{
-    is_null(token) || (is_barline(token) && stands_before(marks, row, j, token))
-}
-
 /// Adds a token to a text, with the separator between.
 fn add(separator: &[u8], token: &[u8], text: &mut Vec<u8>) -> Result<(), AllocError>
     ensures { OnOk result (text.new.items
@@ -102,6 +67,7 @@ fn add(separator: &[u8], token: &[u8], text: &mut Vec<u8>) -> Result<(), AllocEr
 
 /// Puts the data tokens of the cleaved columns into a text.
 pub fn gather(
+    alloc: Global,
     separator: &[u8],
     marks: &[bool],
     row: &Record,
@@ -116,9 +82,13 @@ pub fn gather(
     ensures lawful { OnOk result (IsToken Values text.new.items) }
 {
     text.clear();
+    let mut barlines = Barlines::none(alloc);
     for (j, mark) in marks.iter().enumerate() {
+        if !*mark {
+            continue;
+        }
         let token = row.token(j);
-        if *mark && !is_left_out(marks, row, j, token) {
+        if !barlines.leaves_out(token)? {
             add(separator, token, text)?;
         }
     }

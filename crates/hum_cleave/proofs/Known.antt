@@ -1,0 +1,47 @@
+-- Barlines that are known.
+use Rattle.std.proofs.Common.{◌≡◌, ◌∙◌, refl, sym, ap, ℕ, Bool, true, false, cond, ◌||◌, ◌&&◌, not, List, [], ◌∷◌, ◌++◌, map}
+use denote.Bor.{Bor}
+use Rattle.std.specs.List.{list_any}
+use Rattle.std.specs.Str.{bytes_eq}
+use Rattle.std.proofs.Math.Bool.{or_comm}
+use Rattle.std.proofs.lemmas.Bool.Decides.{Decides-like}
+use Rattle.std.proofs.lemmas.List.Folds.{list_any-append}
+use Rattle.std.proofs.lemmas.Slice.Eq.{bytes_eq-Decides}
+use Rattle.std.specs.Bool.{one_answer}
+use Rattle.hum_record.specs.Contents.{is_null, is_barline}
+use Rattle.hum_cleave.specs.Tokens.{is_left_out}
+use Rattle.hum_cleave.specs.Barlines.{Knows, Tells}
+
+bytes_eq_sym : (a b : List ℕ) → bytes_eq a b ≡ bytes_eq b a
+bytes_eq_sym a b = one_answer (bytes_eq a b) (bytes_eq b a) (bytes_eq-Decides a b)
+    (Decides-like (bytes_eq b a) (λ (e : b ≡ a). sym e) (λ (e : a ≡ b). sym e) (bytes_eq-Decides b a))
+
+any_seen : (token : List ℕ) (keys : List (Bor (List ℕ)))
+    → list_any (λ k. bytes_eq token k.now) keys ≡ list_any (bytes_eq token) (map (λ k. k.now) keys)
+any_seen token [] = refl
+any_seen token (k ∷ keys) = ap (λ b. bytes_eq token k.now || b) (any_seen token keys)
+
+one_more : (same kept before : Bool) → kept ≡ before → cond same true kept ≡ (before || (same || false))
+one_more true kept before h = or_comm true before
+one_more false kept before h = h ∙ or_comm false before
+
+-- keys that one more is put among
+abbrev pub Puts : List (Bor (List ℕ)) → List (Bor (List ℕ)) → Bor (List ℕ) → Type 0
+Puts old new token =
+    (k : Bor (List ℕ)) → list_any (λ q. bytes_eq k.now q.now) new
+    ≡ cond (bytes_eq token.now k.now) true (list_any (λ q. bytes_eq k.now q.now) old)
+
+pub tells_barline : (old new : List (Bor (List ℕ))) (token : Bor (List ℕ)) (is_new : Bool)
+    → Puts old new token → is_new ≡ not (list_any (λ q. bytes_eq token.now q.now) old)
+    → is_null token.now ≡ false → is_barline token.now ≡ true
+    → Tells (map (λ k. k.now) old) (map (λ k. k.now) new) token.now (not is_new)
+tells_barline old new token is_new puts is filled bar before knows =
+    (answer (list_any (λ q. bytes_eq token.now q.now) old) (any_seen token.now old ∙ knows token.now bar) is, λ t at.
+    let k : Bor (List ℕ) = record { ref_ptr = token.ref_ptr; now = t } in
+    sym (any_seen t new) ∙ puts k ∙ rw (bytes_eq_sym token.now t) (one_more (bytes_eq t token.now) (list_any (λ q. bytes_eq t q.now) old) (list_any (bytes_eq t) before) (any_seen t old ∙ knows t at))
+    ∙ sym (list_any-append (bytes_eq t) before (token.now ∷ [])))
+  where
+    answer : (known : Bool) → known ≡ list_any (bytes_eq token.now) before → is_new ≡ not known
+        → not is_new ≡ is_left_out before token.now
+    answer true h e = rw (filled, bar, e) h
+    answer false h e = rw (filled, bar, e) h

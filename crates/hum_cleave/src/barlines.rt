@@ -1,0 +1,48 @@
+//! The barlines that stand to the left in the cleaved columns of a record.
+ghost use Rattle.std.specs.Prelude.{◌≡◌, [], IfOk};
+ghost use Rattle.hum_cleave.specs.Barlines.{Tells};
+
+use hum_record::{is_barline, is_null};
+use std::alloc::{AllocError, Global};
+use std::collections::HashSet;
+use std::marker::Model;
+
+/// The barlines among the tokens that were asked of so far.
+#[derive(Drop)]
+pub struct Barlines<'r> {
+    tokens: HashSet<&'r [u8]>,
+}
+
+impl<'r> Model for Barlines<'r> {
+    ghost use Rattle.std.specs.Prelude.{ℕ, List, map};
+
+    ghost Value = { List (List ℕ) };
+
+    ghost view = { λ b. map (λ token. token.now) b.tokens.keys };
+}
+
+impl<'r> Barlines<'r> {
+    /// None yet.
+    pub fn none(alloc: Global) -> Barlines<'r>
+        ensures { result ≡ [] }
+    {
+        Barlines {
+            tokens: HashSet::new(alloc),
+        }
+    }
+
+    /// Whether a data token is left out, behind those that were asked of before: it is null, or a
+    /// barline that stands among them.
+    pub fn leaves_out(&mut self, token: &'r [u8]) -> Result<bool, AllocError>
+        ensures { IfOk result (Tells self.old self.new token.now) }
+    {
+        if is_null(token) {
+            return Ok(true);
+        }
+        if !is_barline(token) {
+            return Ok(false);
+        }
+        let is_new = self.tokens.insert(token)?;
+        Ok(!is_new)
+    }
+}
