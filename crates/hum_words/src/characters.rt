@@ -4,12 +4,25 @@ ghost use Rattle.std.specs.List.{prefix_len};
 ghost use Rattle.hum_words.specs.Characters.{is_blank, is_bare, begins_apart, begins_blank};
 ghost use Rattle.hum_words.specs.Characters.{trimmed};
 
+fn is_blank(byte: u8) -> bool
+    ensures { result ≡ is_blank byte }
+{
+    matches!(byte, b' ' | b'\t')
+}
+
+/// Whether a word without quotes may have the byte.
+fn is_bare(byte: u8) -> bool
+    ensures { result ≡ is_bare byte }
+{
+    !matches!(byte, b' ' | b'\t' | b'|' | b'\'')
+}
+
 /// How many bytes stand before the first that isn't blank.
 fn blank_len(line: &[u8]) -> usize
     ensures { result ≡ prefix_len is_blank line.now }
 {
     for (index, byte) in line.iter().enumerate() {
-        if !matches!(*byte, b' ' | b'\t') {
+        if !is_blank(*byte) {
             return index;
         }
     }
@@ -21,7 +34,7 @@ pub(crate) fn bare_len(line: &[u8]) -> usize
     ensures { result ≡ prefix_len is_bare line.now }
 {
     for (index, byte) in line.iter().enumerate() {
-        if matches!(*byte, b' ' | b'\t' | b'|' | b'\'') {
+        if !is_bare(*byte) {
             return index;
         }
     }

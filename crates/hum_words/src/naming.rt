@@ -1,6 +1,7 @@
 //! Names of branches.
 ghost use Rattle.std.specs.Prelude.{◌≡◌, ◌≢◌, ℕ, true, List, [], ◌∷◌, ◌++◌, IfSome, IfNone};
 ghost use Rattle.std.specs.Prelude.{option_map};
+ghost use Rattle.std.specs.List.{list_all};
 ghost use Rattle.hum_words.specs.Names.{is_name_byte, is_name, name_in};
 
 fn is_name_byte(byte: u8) -> bool
@@ -9,13 +10,18 @@ fn is_name_byte(byte: u8) -> bool
     matches!(byte, b'a'..=b'z' | b'0'..=b'9' | b'_')
 }
 
+/// Whether each byte is a letter, a digit or `_`.
+fn are_name_bytes(bytes: &[u8]) -> bool
+    ensures { result ≡ list_all is_name_byte bytes.now }
+{
+    bytes.iter().all(|byte| is_name_byte(*byte))
+}
+
 fn is_name(name: &[u8]) -> bool
     ensures { result ≡ is_name name.now }
 {
     match name {
-        [b'a'..=b'z', rest @ ..] => {
-            rest.len() <= 31 && rest.iter().all(|byte| is_name_byte(*byte))
-        }
+        [b'a'..=b'z', rest @ ..] => rest.len() <= 31 && are_name_bytes(rest),
         _ => false,
     }
 }
@@ -29,10 +35,8 @@ pub fn name_of(word: &str) -> Option<&str>
         ((name : List ℕ) → is_name name ≡ true → word.now ≢ name ++ 58 ∷ []) }
     ensures exact { option_map (λ name. name.now) result ≡ name_in word.now }
 {
-    let name = word.strip_suffix(':')?;
-    if is_name(name.as_bytes()) {
-        Some(name)
-    } else {
-        None
+    match word.strip_suffix(':') {
+        Some(name) if is_name(name.as_bytes()) => Some(name),
+        _ => None,
     }
 }

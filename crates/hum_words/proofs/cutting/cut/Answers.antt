@@ -1,0 +1,19 @@
+use Rattle.std.proofs.Common.{◌≡◌, ◌++◌, ◌∷◌, [], ap, sym, ◌∙◌, refl, rules, arith}
+use Rattle.std.proofs.lemmas.Result.{err_from_is_err_and}
+use Rattle.hum_words.proofs.Cuts.{push}
+use Rattle.hum_words.proofs.cutting.cut.Goals as goal
+
+pub returns-in_err-piece : goal.returns-in_err-piece
+returns-in_err-piece c =
+    let goes = c.loop-rest.invariant.goes in
+    let p = err_from_is_err_and c.from_residual.result c.from_residual.ensures.1 in
+    rw (p.1, p.2, c.in_err-piece.ensures.number)
+        (_, _, goes.0, goes.1, refl, rw (← goes.2) c.in_err-piece.ensures.wrong)
+
+pub loop-rest-preserved : goal.loop-rest-preserved
+loop-rest-preserved c = record {
+    text = c.skip_blanks-rest-in-loop-rest.utf8;
+    first = c.skip_blanks-rest-in-loop-rest.ensures.first;
+    count = ?;
+    goes = ?;
+}
