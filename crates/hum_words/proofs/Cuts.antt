@@ -213,11 +213,11 @@ unfolding cut
 nothing_left m rest e = sym (cut_trimmed m rest) ∙ ap (cut Between m) e
 
 -- what a line is written by is what it is cut into
-written : (items : List Item) (line : List ℕ) → IsWritten items line → cut_line line ≡ Ok items
+pub written : (items : List Item) (line : List ℕ) → IsWritten items line → cut_line line ≡ Ok items
 written items line h =
     goes 0 items h.0 h.1 line h.2 ∙ ap (followed_by items) (nothing_left h.0 h.1 h.3) ∙ ap Ok (append-nil items)
 
-wrong_at : (k : ℕ) (line : List ℕ) → IsWrongAt k line → cut_line line ≡ Err k
+pub wrong_at : (k : ℕ) (line : List ℕ) → IsWrongAt k line → cut_line line ≡ Err k
 wrong_at k line h =
     goes 0 h.0 h.1 h.2 line h.3
     ∙ ap (followed_by h.0) (sym (cut_trimmed h.1 h.2) ∙ wrong h.1 (trimmed h.2) h.5) ∙ ap Err (sym h.4)

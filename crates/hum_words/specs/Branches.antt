@@ -1,10 +1,16 @@
 -- The lines of a plan, and which of them are branches.
-use Rattle.std.specs.Prelude.{ℕ, ◌+◌, ◌-◌, Bool, true, ◌==◌, if◌then◌else◌, List, [], ◌∷◌, map}
+use Rattle.std.specs.Prelude.{◌≡◌, ◌≢◌, ℕ, ◌+◌, ◌-◌, Bool, true, not, ◌==◌, if◌then◌else◌}
+use Rattle.std.specs.Prelude.{List, [], ◌∷◌, ◌++◌}
+use Rattle.std.specs.List.{list_all}
 use Rattle.std.specs.Prelude.{length, take, slice_index}
 use Rattle.hum_words.specs.Characters.{trimmed}
 
 abbrev pub is_lf : ℕ → Bool
 is_lf b = b == 10
+
+-- no LF
+abbrev pub IsOneLine : List ℕ → Type 0
+IsOneLine line = list_all (λ b. not (is_lf b)) line ≡ true
 
 -- a byte in front of the first line of what follows it
 abbrev pub onto_line : ℕ → List (List ℕ) → List (List ℕ)
@@ -15,6 +21,18 @@ onto_line b (line ∷ lines) = (b ∷ line) ∷ lines
 unfoldable pub lines_of : List ℕ → List (List ℕ)
 lines_of [] = []
 lines_of (b ∷ bs) = if is_lf b then [] ∷ lines_of bs else onto_line b (lines_of bs)
+
+-- A line at the front of a text has no LF, and behind it come LF and the rest, or nothing, if it
+-- isn't empty.
+pub data IsFirstLine (line rest text : List ℕ) : Type 0 where
+  Ended : IsOneLine line → text ≡ line ++ 10 ∷ rest → IsFirstLine line rest text
+  Last : IsOneLine line → line ≢ [] → text ≡ line → rest ≡ [] → IsFirstLine line rest text
+
+-- the lines of a text, one after another
+abbrev pub AreLines : List (List ℕ) → List ℕ → Type 0
+AreLines [] text = text ≡ []
+AreLines (line ∷ lines) text =
+    (rest : List ℕ) × IsFirstLine line rest text × AreLines lines rest
 
 -- a line without one CR at its end
 abbrev pub without_cr : List ℕ → List ℕ

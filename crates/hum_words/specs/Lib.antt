@@ -6,3 +6,4 @@ pub mod Pieces
 pub mod Writing
 pub mod Cutting
 pub mod Names
+pub mod Laws

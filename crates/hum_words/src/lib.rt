@@ -10,6 +10,7 @@
 mod branches;
 mod characters;
 mod cutting;
+pub mod laws;
 mod naming;
 mod text;
 
