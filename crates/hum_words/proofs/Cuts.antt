@@ -4,7 +4,6 @@ use Rattle.std.proofs.Common.{refl, sym, ap, ◌∙◌, arith, append_assoc}
 use Rattle.std.proofs.lemmas.Bool.{and_parts}
 use Rattle.std.proofs.lemmas.List.{append-nil}
 use Rattle.std.specs.Prelude.{if◌then◌else◌}
-use Rattle.std.specs.List.{list_all}
 use Rattle.std.specs.declared.vec.Vec.{Vec}
 use Rattle.std.specs.declared.alloc.Global.{Global}
 use Rattle.hum_words.specs.Characters.{is_blank, is_bar, is_quote, is_bare, is_quotable, begins_apart, trimmed}
@@ -181,7 +180,7 @@ wrong n line (Within (x ∷ xs) rest some bare e) =
     rw e (word_begins n x (xs ++ 39 ∷ rest) parts.0 ∙ inside_quote xs (x ∷ []) rest (n + 1) parts.1)
 wrong n line (Joined word rest quotable joined e) =
     rw e (quote_begins n (word ++ 39 ∷ rest) ∙ quoted_word word [] rest (n + 1) quotable
-        ∙ closed_joined word rest (n + 1) joined)
+    ∙ closed_joined word rest (n + 1) joined)
 
 -- Piece by piece
 

@@ -1,14 +1,13 @@
 -- Each line is written by some pieces, or has a word that is wrong.
-use Rattle.std.proofs.Common.{◌≡◌, ◌≢◌, ℕ, ◌+◌, ◌<◌, ◌≤◌, Bool, true, false, zero, suc, ◌⊎◌, inl, inr, ◌↔◌}
-use Rattle.std.proofs.Common.{List, [], ◌∷◌, ◌++◌, length, take, drop, cond, Ok, Err, refl, sym, ap, ◌∙◌, arith, append_assoc}
+use Rattle.std.proofs.Common.{◌≡◌, ◌≢◌, ℕ, ◌+◌, ◌<◌, ◌≤◌, Bool, true, false, zero, suc, ◌⊎◌, inl, inr}
+use Rattle.std.proofs.Common.{List, [], ◌∷◌, ◌++◌, length, take, Ok, Err, refl, sym, ap, ◌∙◌, arith, append_assoc}
 use Rattle.std.proofs.lemmas.Bool.{cases_Bool, eqb-true}
-use Rattle.std.proofs.lemmas.Bool.Decides.{nat_tests}
 use Rattle.std.proofs.lemmas.List.{take-append-drop, length-drop, append-nil}
 use Rattle.std.proofs.lemmas.List.Sums.{prefix_len-le-length}
 use Rattle.std.specs.List.{prefix_len}
 use Rattle.hum_words.specs.Characters.{is_blank, is_bar, is_quote, is_bare, is_quotable, begins_apart, begins_blank, trimmed}
 use Rattle.hum_words.specs.Pieces.{Item, Word, Bar, number_of}
-use Rattle.hum_words.specs.Writing.{IsSpelled, Plain, Delimited, BeginsWithWord, Begins, BeginsWith, GoesOn, IsWritten}
+use Rattle.hum_words.specs.Writing.{Delimited, Begins, BeginsWith, GoesOn, IsWritten}
 use Rattle.hum_words.specs.Writing.{IsWrong, Unclosed, Joined, IsWrongAt}
 use Rattle.hum_words.specs.Cutting.{Cut, cut_line}
 use Rattle.hum_words.specs.Laws.{IsCutAsWritten, IsRefusedAsWrong}
@@ -66,10 +65,16 @@ met_quote n xs = go (closes xs)
 
     apart_or_not : (rest : List ℕ) → behind_front is_quotable xs ≡ 39 ∷ rest
         → (begins_apart rest ≡ true) ⊎ (begins_apart rest ≡ false) → IsMet n (39 ∷ xs)
-    apart_or_not rest e (inl apart) = inl (Word (n + 1) word, rest,
-        (refl, Begins (39 ∷ (word ++ 39 ∷ [])) (Delimited (all_pass is_quotable xs) refl) apart
-            (ap (λ ys. 39 ∷ ys) (sym whole ∙ ap (λ ys. word ++ ys) e ∙ sym (append_assoc word (39 ∷ []) rest)))),
-        less rest e)
+    apart_or_not rest e (inl apart) = inl (
+      Word (n + 1) word,
+      rest,
+      (
+        refl,
+        Begins (39 ∷ (word ++ 39 ∷ [])) (Delimited (all_pass is_quotable xs) refl) apart
+            (ap (λ ys. 39 ∷ ys) (sym whole ∙ ap (λ ys. word ++ ys) e ∙ sym (append_assoc word (39 ∷ []) rest))),
+      ),
+      less rest e,
+    )
     apart_or_not rest e (inr joined) =
         inr (Joined word rest (all_pass is_quotable xs) joined (ap (λ ys. 39 ∷ ys) (sym whole ∙ ap (λ ys. word ++ ys) e)))
 
@@ -83,9 +88,12 @@ met_plain : (n : ℕ) (xs : List ℕ) → 0 < prefix_len is_bare xs → IsMet n 
 met_plain n xs l = go (cases_Bool (begins_apart (behind_front is_bare xs)))
   where
     go : (begins_apart (behind_front is_bare xs) ≡ true) ⊎ (begins_apart (behind_front is_bare xs) ≡ false) → IsMet n xs
-    go (inl apart) = inl (Word (n + 1) (take (prefix_len is_bare xs) xs), behind_front is_bare xs,
-        (refl, plain_begins xs l apart),
-        omega (arith, length-drop (prefix_len is_bare xs) xs, prefix_len-le-length is_bare xs))
+    go (inl apart) = inl (
+      Word (n + 1) (take (prefix_len is_bare xs) xs),
+      behind_front is_bare xs,
+      (refl, plain_begins xs l apart),
+      omega (arith, length-drop (prefix_len is_bare xs) xs, prefix_len-le-length is_bare xs),
+    )
     go (inr joined) = inr (plain_breaks xs l joined)
 
 met : (n : ℕ) (xs : List ℕ) → begins_blank xs ≡ false → xs ≢ [] → IsMet n xs

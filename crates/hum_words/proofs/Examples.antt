@@ -1,9 +1,9 @@
 -- Plans worked by hand, by the definitions.
-use Rattle.std.proofs.Common.{◌≡◌, ℕ, List, [], ◌∷◌, Ok, Err, None, Some, true, false, refl}
+use Rattle.std.proofs.Common.{◌≡◌, [], ◌∷◌, Ok, Err, None, Some, refl}
 use lib.Chars.{codes}
 use Rattle.hum_words.specs.Characters.{trimmed}
 use Rattle.hum_words.specs.Branches.{lines_of, branches_from, branches_of}
-use Rattle.hum_words.specs.Pieces.{Item, Word, Bar}
+use Rattle.hum_words.specs.Pieces.{Word, Bar}
 use Rattle.hum_words.specs.Cutting.{cut, cut_line}
 use Rattle.hum_words.specs.Names.{name_in}
 
@@ -19,7 +19,7 @@ blanks_alone = refl
 
 a_branch : cut_line (codes "out: read a | mint")
     ≡ Ok (Word 1 (codes "out:") ∷ Word 2 (codes "read") ∷ Word 3 (codes "a") ∷ Bar 3
-        ∷ Word 4 (codes "mint") ∷ [])
+    ∷ Word 4 (codes "mint") ∷ [])
 unfolding cut
 a_branch = refl
 

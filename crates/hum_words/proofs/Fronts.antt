@@ -1,10 +1,10 @@
 -- Fronts of a line: its blanks, the bytes of a word, and where they end.
-use Rattle.std.proofs.Common.{◌≡◌, ◌≢◌, ℕ, ◌+◌, ◌<◌, ◌≤◌, Bool, true, false, ◌||◌, cond, zero, suc}
-use Rattle.std.proofs.Common.{List, [], ◌∷◌, length, take, drop, get_or, refl, sym, ap, arith, add-one}
+use Rattle.std.proofs.Common.{◌≡◌, ◌≢◌, ℕ, ◌+◌, ◌<◌, Bool, true, false, ◌||◌, cond, zero, suc}
+use Rattle.std.proofs.Common.{List, [], ◌∷◌, length, take, drop, refl, ap, arith, add-one}
 use Rattle.std.proofs.lemmas.Bool.Decides.{nat_tests}
 use Rattle.std.proofs.lemmas.List.Sums.{prefix_len-le-length, prefix_len_passes, prefix_len_stops}
-use Rattle.std.proofs.lemmas.Str.{IsCharBoundary-start, IsCharBoundary-end}
-use Rattle.std.proofs.lemmas.Str.{IsCharBoundary-before_ascii, IsCharBoundary-after_ascii}
+use Rattle.std.proofs.lemmas.Str.{IsCharBoundary-start}
+use Rattle.std.proofs.lemmas.Str.{IsCharBoundary-after_ascii}
 use Rattle.std.specs.Prelude.{if◌then◌else◌}
 use Rattle.std.specs.List.{prefix_len, list_all}
 use Rattle.std.specs.Str.{IsUtf8, IsCharBoundary}
@@ -99,7 +99,6 @@ stops_at_quote (x ∷ xs) h = go (stops_at_quote xs) (is_bare x) refl h
         → (rest : List ℕ) × (drop (cond v (1 + prefix_len is_bare xs) 0) (x ∷ xs) ≡ 39 ∷ rest)
     go before true e h = rw next (before (rw next at h))
     go before false e h = (xs, ap (λ b. b ∷ xs) (quote_is x e h))
-
 
 bare_is : (b : ℕ) → is_blank b ≡ false → b ≢ 124 → b ≢ 39 → is_bare b ≡ true
 bare_is b h bar quote = grind (arith, nat_tests)

@@ -1,12 +1,11 @@
 -- Words that can be written in a line.
-use Rattle.std.proofs.Common.{◌≡◌, ℕ, ◌+◌, Bool, true, false, not, ◌||◌, List, [], ◌∷◌, ◌++◌, refl, sym, ap, append_assoc, arith}
+use Rattle.std.proofs.Common.{◌≡◌, ℕ, ◌+◌, true, List, [], ◌∷◌, ◌++◌, refl, sym, ap, append_assoc, arith}
 use Rattle.std.proofs.lemmas.Bool.{and_parts}
 use Rattle.std.proofs.lemmas.List.Elements.{All-nil, All-cons, All-head, All-tail}
 use Rattle.std.specs.Prelude.{All}
-use Rattle.std.specs.List.{list_all}
-use Rattle.hum_words.specs.Characters.{is_blank, is_bar, is_quote, is_bare, is_quotable, begins_apart, trimmed}
-use Rattle.hum_words.specs.Pieces.{Word, words_from}
-use Rattle.hum_words.specs.Writing.{IsBare, IsQuotable, IsSpelled, Plain, Delimited, BeginsWithWord, Begins, GoesOn}
+use Rattle.hum_words.specs.Characters.{is_bare, is_quotable, begins_apart, trimmed}
+use Rattle.hum_words.specs.Pieces.{words_from}
+use Rattle.hum_words.specs.Writing.{IsBare, IsQuotable, Plain, Delimited, BeginsWithWord, Begins, GoesOn}
 use Rattle.hum_words.specs.Laws.{CanBeWritten}
 
 -- each word between quotes, with a blank before them
@@ -26,11 +25,20 @@ line_is : (n : ℕ) (words : List (List ℕ)) → All IsQuotable words → LineI
 unfolding trimmed
 line_is n [] all = (n, [], (refl, refl), refl)
 line_is n (word ∷ words) all =
-    let more = line_is (n + 1) words (All-tail IsQuotable word words all) in
-    (more.0, more.1, (line_of words,
-        (refl, Begins (39 ∷ (word ++ 39 ∷ [])) (Delimited (All-head IsQuotable word words all) refl) (apart words)
-            (ap (λ xs. 39 ∷ xs) (sym (append_assoc word (39 ∷ []) (line_of words))))),
-        more.2), more.3)
+    let more = line_is (n + 1) words (All-tail IsQuotable word words all) in (
+      more.0,
+      more.1,
+      (
+        line_of words,
+        (
+          refl,
+          Begins (39 ∷ (word ++ 39 ∷ [])) (Delimited (All-head IsQuotable word words all) refl) (apart words)
+              (ap (λ xs. 39 ∷ xs) (sym (append_assoc word (39 ∷ []) (line_of words)))),
+        ),
+        more.2,
+      ),
+      more.3,
+    )
 
 bare_is_quotable : (b : ℕ) → is_bare b ≡ true → is_quotable b ≡ true
 bare_is_quotable b h = grind arith

@@ -1,7 +1,7 @@
 -- Which bytes are the text of a plan.
 use Rattle.std.specs.Prelude.{◌≡◌, ℕ, ◌+◌, ◌<◌, ◌≤◌, List, length, take, count_by}
-use Rattle.std.specs.Prelude.{Bool, true, not, nat_lt, if◌then◌else◌, Option, None, Some}
-use Rattle.std.specs.Str.{IsUtf8, is_utf8, IsValidUpTo}
+use Rattle.std.specs.Prelude.{nat_lt, if◌then◌else◌, Option, None, Some}
+use Rattle.std.specs.Str.{is_utf8, IsValidUpTo}
 use Rattle.std.specs.Str.Lossy.{utf8_valid_len}
 use Rattle.hum_words.specs.Branches.{is_lf}
 use Rattle.hum_words.specs.declared.text.TextFault.{TextFault}

@@ -21,7 +21,7 @@ pub data IsSpelled (word text : List ℕ) : Type 0 where
 -- A line begins with a word, and a blank, a bar or the end comes behind it: the rest.
 pub data BeginsWithWord (word rest line : List ℕ) : Type 0 where
   Begins : (text : List ℕ) → IsSpelled word text → begins_apart rest ≡ true → line ≡ text ++ rest
-    → BeginsWithWord word rest line
+      → BeginsWithWord word rest line
 
 -- a line begins with a piece, behind n words, and goes on with the rest
 abbrev pub BeginsWith : ℕ → Item → List ℕ → List ℕ → Type 0
@@ -45,7 +45,7 @@ pub data IsWrong (line : List ℕ) : Type 0 where
   Unclosed : (text : List ℕ) → IsQuotable text → line ≡ 39 ∷ text → IsWrong line
   Within : (word rest : List ℕ) → word ≢ [] → IsBare word → line ≡ word ++ 39 ∷ rest → IsWrong line
   Joined : (word rest : List ℕ) → IsQuotable word → begins_apart rest ≡ false
-    → line ≡ 39 ∷ (word ++ 39 ∷ rest) → IsWrong line
+      → line ≡ 39 ∷ (word ++ 39 ∷ rest) → IsWrong line
 
 -- word k of a line, behind some pieces, is wrong with its quotes
 abbrev pub IsWrongAt : ℕ → List ℕ → Type 0

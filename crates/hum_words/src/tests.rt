@@ -47,7 +47,10 @@ fn words_and_bars(rt: HostRuntime) -> Result<(), Fail> {
         ("||", "0|0|"),
         ("\ta\t b ", "1<a>2<b>"),
         ("#x", "1<#x>"),
-        ("caf\u{e9} \u{1d11e}|\u{e9}", "1<caf\u{e9}>2<\u{1d11e}>2|3<\u{e9}>"),
+        (
+            "caf\u{e9} \u{1d11e}|\u{e9}",
+            "1<caf\u{e9}>2<\u{1d11e}>2|3<\u{e9}>",
+        ),
         ("a\rb\r", "1<a\rb\r>"),
         ("a\u{a0}b", "1<a\u{a0}b>"),
     ] {
@@ -82,7 +85,13 @@ fn quotes(rt: HostRuntime) -> Result<(), Fail> {
     Ok(())
 }
 
-fn check_lines(rt: &impl Abort, alloc: Global, plan: &str, count: u32, want: &str) -> Result<(), Fail> {
+fn check_lines(
+    rt: &impl Abort,
+    alloc: Global,
+    plan: &str,
+    count: u32,
+    want: &str,
+) -> Result<(), Fail> {
     if plan.len() > 65_536 {
         return Ok(());
     }
@@ -133,7 +142,10 @@ fn texts(rt: HostRuntime) -> Result<(), Fail> {
     let long = vec![in rt.alloc(); b'a'; 65_536]?;
     assert!(rt; plan_text(long.as_slice()).is_ok());
     let longer = vec![in rt.alloc(); b'\xff'; 65_537]?;
-    assert_eq!(rt; plan_text(longer.as_slice()).err(), Some(TextFault::TooLong));
+    assert_eq!(rt;
+        plan_text(longer.as_slice()).err(),
+        Some(TextFault::TooLong)
+    );
     Ok(())
 }
 
@@ -143,7 +155,10 @@ fn names(rt: HostRuntime) {
         ("out:", Some("out")),
         ("a:", Some("a")),
         ("voice_2:", Some("voice_2")),
-        ("abcdefghijklmnopqrstuvwxyz_12345:", Some("abcdefghijklmnopqrstuvwxyz_12345")),
+        (
+            "abcdefghijklmnopqrstuvwxyz_12345:",
+            Some("abcdefghijklmnopqrstuvwxyz_12345"),
+        ),
         ("abcdefghijklmnopqrstuvwxyz_123456:", None),
         ("out", None),
         ("", None),

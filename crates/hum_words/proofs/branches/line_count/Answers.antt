@@ -1,5 +1,4 @@
-use Rattle.std.proofs.Common.{◌≡◌, ◌+◌, length, rules, ap, arith}
-use Rattle.hum_words.specs.Branches.{lines_of}
+use Rattle.std.proofs.Common.{◌≡◌, length, rules, ap, arith}
 use Rattle.hum_words.proofs.Divided.{no_lines}
 use Rattle.hum_words.proofs.branches.line_count.Goals as goal
 

@@ -1,5 +1,3 @@
-use Rattle.std.proofs.Common.{◌≡◌, drop, sym, ap, ◌∙◌}
-use Rattle.hum_words.specs.Characters.{trimmed}
 use Rattle.hum_words.proofs.Fronts.{cut_behind_blanks, drop_blanks, trimmed_first}
 use Rattle.hum_words.proofs.characters.skip_blanks.Goals as goal
 
@@ -13,4 +11,4 @@ returns-clause-value c =
 pub returns-clause-first : goal.returns-clause-first
 returns-clause-first c =
     rw (c.split_at.ensures.back, c.blank_len.ensures, c.as_bytes.ensures.value, drop_blanks c.args.line.now)
-        (trimmed_first c.args.line.now)
+    (trimmed_first c.args.line.now)

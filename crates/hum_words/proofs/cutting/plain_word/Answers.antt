@@ -1,4 +1,4 @@
-use Rattle.std.proofs.Common.{◌≡◌, true, false, rules, sym, ap, ◌∙◌}
+use Rattle.std.proofs.Common.{◌≡◌, true, false, rules}
 use Rattle.hum_words.specs.Characters.{begins_apart}
 use Rattle.hum_words.proofs.Fronts.{cut_behind_word}
 use Rattle.hum_words.proofs.Spelled.{plain_begins, plain_breaks}
@@ -12,7 +12,7 @@ returns-then-is_apart-clause-found c =
     let apart : begins_apart c.split_at.result.1.now ≡ true = search rules in
     let here = rw (c.split_at.ensures.back, c.bare_len.ensures, c.as_bytes.ensures.value) at apart in
     rw (c.split_at.ensures.front, c.split_at.ensures.back, c.bare_len.ensures, c.as_bytes.ensures.value)
-        (plain_begins c.args.line.now c.requires here)
+    (plain_begins c.args.line.now c.requires here)
 
 pub returns-else-is_apart-clause-wrong : goal.returns-else-is_apart-clause-wrong
 returns-else-is_apart-clause-wrong c =

@@ -1,4 +1,4 @@
-use Rattle.std.proofs.Common.{◌≡◌, ◌∷◌, ◌∙◌, sym, ap, length, rules, arith}
+use Rattle.std.proofs.Common.{◌≡◌, ◌∙◌, sym, ap, length, rules, arith}
 use Rattle.hum_words.proofs.Divided.{passed, met, no_branches}
 use Rattle.hum_words.proofs.branches.LinesIterator.next.Goals as goal
 
@@ -6,19 +6,19 @@ pub returns-then-not-is_skipped-clause-steps : goal.returns-then-not-is_skipped-
 returns-then-not-is_skipped-clause-steps c =
     sym c.loop-line.invariant
     ∙ met c.loop-line.self.number c.loop-line.self.rest.now _ c.strip_cr-text.result.now c.first_line.result.1.now
-        c.first_line.ensures.first c.strip_cr-text.ensures.value (search rules)
+    c.first_line.ensures.first c.strip_cr-text.ensures.value (search rules)
 
 pub returns-then-not-is_skipped-clause-goes : goal.returns-then-not-is_skipped-clause-goes
 returns-then-not-is_skipped-clause-goes c =
     let left = sym c.loop-line.invariant
-        ∙ met c.loop-line.self.number c.loop-line.self.rest.now _ c.strip_cr-text.result.now c.first_line.result.1.now
-            c.first_line.ensures.first c.strip_cr-text.ensures.value (search rules) in
+    ∙ met c.loop-line.self.number c.loop-line.self.rest.now _ c.strip_cr-text.result.now c.first_line.result.1.now
+    c.first_line.ensures.first c.strip_cr-text.ensures.value (search rules) in
     record { on = λ f. (tt, tt, omega (arith, ap length left)); keeps = tt; rests = λ f. tt }
 
 pub loop-line-preserved : goal.loop-line-preserved
 loop-line-preserved c =
     sym (passed c.loop-line.self.number c.loop-line.self.rest.now _ c.strip_cr-text.result.now c.first_line.result.1.now
-        c.first_line.ensures.first c.strip_cr-text.ensures.value (search rules))
+    c.first_line.ensures.first c.strip_cr-text.ensures.value (search rules))
     ∙ c.loop-line.invariant
 
 pub returns-clause-steps : goal.returns-clause-steps
