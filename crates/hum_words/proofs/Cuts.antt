@@ -35,7 +35,8 @@ record Tests (b : ℕ) : Type 0 where
 tests : (b : ℕ) → is_bare b ≡ true → Tests b
 tests b h = go (is_blank b) (is_bar b) (is_quote b) refl refl refl h
   where
-    go : (u v w : Bool) → is_blank b ≡ u → is_bar b ≡ v → is_quote b ≡ w → not (u || v || w) ≡ true → Tests b
+    go : (u v w : Bool) → is_blank b ≡ u → is_bar b ≡ v → is_quote b ≡ w → not (u || v || w) ≡ true
+        → Tests b
     go false false false e f g h = record { blank = e; bar = f; quote = g }
     go false false true e f g h = absurd cc
     go false true w e f g h = absurd cc
@@ -75,7 +76,8 @@ quote_inside : (word rest : List ℕ) (n : ℕ) → cut (Inside word) n (39 ∷ 
 unfolding cut
 quote_inside word rest n = refl
 
-inside_quote : (xs word rest : List ℕ) (n : ℕ) → IsBare xs → cut (Inside word) n (xs ++ 39 ∷ rest) ≡ Err n
+inside_quote : (xs word rest : List ℕ) (n : ℕ) → IsBare xs
+    → cut (Inside word) n (xs ++ 39 ∷ rest) ≡ Err n
 inside_quote [] word rest n h = quote_inside word rest n
 inside_quote (x ∷ xs) word rest n h =
     let parts = and_parts _ _ h in
@@ -88,7 +90,8 @@ quoted_more : (word : List ℕ) (b : ℕ) (bs : List ℕ) (n : ℕ) → is_quota
 unfolding cut
 quoted_more word b bs n h = rw (no_quote b h) refl
 
-quote_closes : (word rest : List ℕ) (n : ℕ) → cut (Quoted word) n (39 ∷ rest) ≡ cut (Closed word) n rest
+quote_closes : (word rest : List ℕ) (n : ℕ)
+    → cut (Quoted word) n (39 ∷ rest) ≡ cut (Closed word) n rest
 unfolding cut
 quote_closes word rest n = refl
 
@@ -122,19 +125,22 @@ closed_ends word (b ∷ bs) n h = go (is_blank b) (is_bar b) refl refl h
     go false true e f h = rw (e, f) refl
     go false false e f h = absurd cc
 
-closed_joined : (word rest : List ℕ) (n : ℕ) → begins_apart rest ≡ false → cut (Closed word) n rest ≡ Err n
+closed_joined : (word rest : List ℕ) (n : ℕ) → begins_apart rest ≡ false
+    → cut (Closed word) n rest ≡ Err n
 unfolding cut
 closed_joined word [] n h = absurd cc
 closed_joined word (b ∷ bs) n h = go (is_blank b) (is_bar b) refl refl h
   where
-    go : (u v : Bool) → is_blank b ≡ u → is_bar b ≡ v → (u || v) ≡ false → cut (Closed word) n (b ∷ bs) ≡ Err n
+    go : (u v : Bool) → is_blank b ≡ u → is_bar b ≡ v → (u || v) ≡ false
+        → cut (Closed word) n (b ∷ bs) ≡ Err n
     go true v e f h = absurd cc
     go false true e f h = absurd cc
     go false false e f h = rw (e, f) refl
 
 -- At the front of a line
 
-bar_begins : (n : ℕ) (rest : List ℕ) → cut Between n (124 ∷ rest) ≡ onto (Bar n) (cut Between n rest)
+bar_begins : (n : ℕ) (rest : List ℕ)
+    → cut Between n (124 ∷ rest) ≡ onto (Bar n) (cut Between n rest)
 unfolding cut
 bar_begins n rest = refl
 
@@ -142,7 +148,8 @@ quote_begins : (n : ℕ) (rest : List ℕ) → cut Between n (39 ∷ rest) ≡ c
 unfolding cut
 quote_begins n rest = refl
 
-word_begins : (n b : ℕ) (bs : List ℕ) → is_bare b ≡ true → cut Between n (b ∷ bs) ≡ cut (Inside (b ∷ [])) (n + 1) bs
+word_begins : (n b : ℕ) (bs : List ℕ) → is_bare b ≡ true
+    → cut Between n (b ∷ bs) ≡ cut (Inside (b ∷ [])) (n + 1) bs
 unfolding cut
 word_begins n b bs h = let t = tests b h in rw (t.blank, t.bar, t.quote) refl
 
@@ -154,7 +161,8 @@ begins_plain n (x ∷ xs) rest some h apart =
     word_begins n x (xs ++ rest) parts.0 ∙ inside_word xs (x ∷ []) rest (n + 1) parts.1 apart
 
 begins_quoted : (n : ℕ) (word rest : List ℕ) → IsQuotable word → begins_apart rest ≡ true
-    → cut Between n ((39 ∷ (word ++ 39 ∷ [])) ++ rest) ≡ onto (Word (n + 1) word) (cut Between (n + 1) rest)
+    → cut Between n ((39 ∷ (word ++ 39 ∷ [])) ++ rest)
+    ≡ onto (Word (n + 1) word) (cut Between (n + 1) rest)
 begins_quoted n word rest h apart =
     quote_begins n ((word ++ 39 ∷ []) ++ rest)
     ∙ ap (cut (Quoted []) (n + 1)) (append_assoc word (39 ∷ []) rest)
@@ -173,7 +181,8 @@ begins n (Bar k) rest line h = rw (h.0, h.1) (bar_begins n rest)
 begins n (Word k word) rest line h = rw h.0 (begins_word n word rest line h.1)
 
 wrong : (n : ℕ) (line : List ℕ) → IsWrong line → cut Between n line ≡ Err (n + 1)
-wrong n line (Unclosed text quotable e) = rw e (quote_begins n text ∙ quoted_open text [] (n + 1) quotable)
+wrong n line (Unclosed text quotable e) =
+    rw e (quote_begins n text ∙ quoted_open text [] (n + 1) quotable)
 wrong n line (Within [] rest some bare e) = absurd (some refl)
 wrong n line (Within (x ∷ xs) rest some bare e) =
     let parts = and_parts _ _ bare in
@@ -188,7 +197,8 @@ followed_by_none : (r : Cut) → followed_by [] r ≡ r
 followed_by_none (Ok items) = refl
 followed_by_none (Err k) = refl
 
-onto_followed : (item : Item) (items : List Item) (r : Cut) → onto item (followed_by items r) ≡ followed_by (item ∷ items) r
+onto_followed : (item : Item) (items : List Item) (r : Cut)
+    → onto item (followed_by items r) ≡ followed_by (item ∷ items) r
 onto_followed item items (Ok more) = refl
 onto_followed item items (Err k) = refl
 
@@ -197,7 +207,8 @@ goes : (n : ℕ) (items : List Item) (m : ℕ) (rest line : List ℕ) → GoesOn
 goes n [] m rest line h = rw (h.0, h.1) (sym (followed_by_none (cut Between n line)))
 goes n (item ∷ items) m rest line h =
     sym (cut_trimmed n line) ∙ begins n item h.0 (trimmed line) h.1
-    ∙ ap (onto item) (goes (number_of item) items m rest h.0 h.2) ∙ onto_followed item items (cut Between m rest)
+    ∙ ap (onto item) (goes (number_of item) items m rest h.0 h.2)
+    ∙ onto_followed item items (cut Between m rest)
 
 -- one piece more
 pub push : (n : ℕ) (items : List Item) (m : ℕ) (behind line : List ℕ) (item : Item) (rest : List ℕ)
@@ -214,19 +225,23 @@ nothing_left m rest e = sym (cut_trimmed m rest) ∙ ap (cut Between m) e
 -- what a line is written by is what it is cut into
 pub written : (items : List Item) (line : List ℕ) → IsWritten items line → cut_line line ≡ Ok items
 written items line h =
-    goes 0 items h.0 h.1 line h.2 ∙ ap (followed_by items) (nothing_left h.0 h.1 h.3) ∙ ap Ok (append-nil items)
+    goes 0 items h.0 h.1 line h.2 ∙ ap (followed_by items) (nothing_left h.0 h.1 h.3)
+    ∙ ap Ok (append-nil items)
 
 pub wrong_at : (k : ℕ) (line : List ℕ) → IsWrongAt k line → cut_line line ≡ Err k
 wrong_at k line h =
     goes 0 h.0 h.1 h.2 line h.3
-    ∙ ap (followed_by h.0) (sym (cut_trimmed h.1 h.2) ∙ wrong h.1 (trimmed h.2) h.5) ∙ ap Err (sym h.4)
+    ∙ ap (followed_by h.0) (sym (cut_trimmed h.1 h.2) ∙ wrong h.1 (trimmed h.2) h.5)
+    ∙ ap Err (sym h.4)
 
-pub exact : (r : Result (Vec Piece Global) LineFault) (line : List ℕ) → Tells r line → Gives r (cut_line line)
+pub exact : (r : Result (Vec Piece Global) LineFault) (line : List ℕ) → Tells r line
+    → Gives r (cut_line line)
 exact (Ok pieces) line h = written (items_of pieces.items) line h
 exact (Err (Quote k)) line h = wrong_at k line h
 exact (Err Memory) line h = tt
 
-pub only : (r : Result (Vec Piece Global) LineFault) (line : List ℕ) → Tells r line → (items : List Item)
+pub only : (r : Result (Vec Piece Global) LineFault) (line : List ℕ) → Tells r line
+    → (items : List Item)
     → IsWritten items line → GivesItems r items
 only (Ok pieces) line h items w =
     let here = written (items_of pieces.items) line h in

@@ -13,7 +13,8 @@ other_byte : (c b : ℕ) → b ≢ c → not (b == c) ≡ true
 other_byte c b h = grind (arith, nat_tests)
 
 -- a byte that stands nowhere
-pub none_is : (c : ℕ) (xs : List ℕ) → ((i : ℕ) → i < length xs → get_or xs i 0 ≢ c) → list_all (λ b. not (b == c)) xs ≡ true
+pub none_is : (c : ℕ) (xs : List ℕ) → ((i : ℕ) → i < length xs → get_or xs i 0 ≢ c)
+    → list_all (λ b. not (b == c)) xs ≡ true
 none_is c [] h = refl
 none_is c (x ∷ xs) h =
     let here : not (x == c) ≡ true = other_byte c x (h 0 (omega arith)) in
@@ -23,7 +24,8 @@ no_lf : (b : ℕ) → not (is_lf b) ≡ true → is_lf b ≡ false
 no_lf b h = grind arith
 
 -- a line that LF ends
-pub first_ended : (line rest : List ℕ) → list_all (λ b. not (is_lf b)) line ≡ true → lines_of (line ++ 10 ∷ rest) ≡ line ∷ lines_of rest
+pub first_ended : (line rest : List ℕ) → list_all (λ b. not (is_lf b)) line ≡ true
+    → lines_of (line ++ 10 ∷ rest) ≡ line ∷ lines_of rest
 unfolding lines_of
 first_ended [] rest h = refl
 first_ended (b ∷ line) rest h =
@@ -31,7 +33,8 @@ first_ended (b ∷ line) rest h =
     rw (no_lf b parts.0, first_ended line rest parts.1) refl
 
 -- the last line
-pub last_line : (line : List ℕ) → line ≢ [] → list_all (λ b. not (is_lf b)) line ≡ true → lines_of line ≡ line ∷ []
+pub last_line : (line : List ℕ) → line ≢ [] → list_all (λ b. not (is_lf b)) line ≡ true
+    → lines_of line ≡ line ∷ []
 unfolding lines_of
 last_line [] some h = absurd (some refl)
 last_line (b ∷ []) some h = let parts = and_parts _ _ h in rw (no_lf b parts.0) refl
@@ -46,14 +49,18 @@ no_lines [] e = refl
 no_lines (x ∷ xs) e = absurd (omega (arith, e))
 
 -- a line that is skipped
-pub passed : (n : ℕ) (rest line text after : List ℕ) → lines_of rest ≡ line ∷ lines_of after → text ≡ without_cr line
-    → is_skipped text ≡ true → branches_from n (lines_of rest) ≡ branches_from (n + 1) (lines_of after)
+pub passed : (n : ℕ) (rest line text after : List ℕ) → lines_of rest ≡ line ∷ lines_of after
+    → text ≡ without_cr line
+    → is_skipped text ≡ true
+    → branches_from n (lines_of rest) ≡ branches_from (n + 1) (lines_of after)
 unfolding branches_from
 passed n rest line text after e same skipped = rw (e, ← same, skipped) refl
 
 -- a line that is a branch
-pub met : (n : ℕ) (rest line text after : List ℕ) → lines_of rest ≡ line ∷ lines_of after → text ≡ without_cr line
-    → is_skipped text ≡ false → branches_from n (lines_of rest) ≡ (n + 1, text) ∷ branches_from (n + 1) (lines_of after)
+pub met : (n : ℕ) (rest line text after : List ℕ) → lines_of rest ≡ line ∷ lines_of after
+    → text ≡ without_cr line
+    → is_skipped text ≡ false
+    → branches_from n (lines_of rest) ≡ (n + 1, text) ∷ branches_from (n + 1) (lines_of after)
 unfolding branches_from
 met n rest line text after e same skipped = rw (e, ← same, skipped) refl
 
@@ -62,7 +69,8 @@ unfolding branches_from
 no_branches n rest e = rw (no_lines rest e) refl
 
 -- the first line by what follows it
-pub first_of : (line rest text : List ℕ) → IsFirstLine line rest text → lines_of text ≡ line ∷ lines_of rest
+pub first_of : (line rest text : List ℕ) → IsFirstLine line rest text
+    → lines_of text ≡ line ∷ lines_of rest
 unfolding lines_of
 first_of line rest text (Ended one e) = rw e (first_ended line rest one)
 first_of line rest text (Last one some e none) = rw (e, none) (last_line line some one)
@@ -77,9 +85,11 @@ unfolding lines_of
 lines_are [] = refl
 lines_are (b ∷ bs) = go (is_lf b) refl (lines_of bs) (lines_are bs)
   where
-    longer : (line rest : List ℕ) → is_lf b ≡ false → IsFirstLine line rest bs → IsFirstLine (b ∷ line) rest (b ∷ bs)
+    longer : (line rest : List ℕ) → is_lf b ≡ false → IsFirstLine line rest bs
+        → IsFirstLine (b ∷ line) rest (b ∷ bs)
     longer line rest e (Ended one s) = Ended (rw (e, one) refl) (ap (λ xs. b ∷ xs) s)
-    longer line rest e (Last one some s none) = Last (rw (e, one) refl) (λ z. cc) (ap (λ xs. b ∷ xs) s) none
+    longer line rest e (Last one some s none) =
+        Last (rw (e, one) refl) (λ z. cc) (ap (λ xs. b ∷ xs) s) none
 
     go : (v : Bool) → is_lf b ≡ v → (lines : List (List ℕ)) → AreLines lines bs
         → AreLines (if v then [] ∷ lines else onto_line b lines) (b ∷ bs)

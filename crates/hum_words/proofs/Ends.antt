@@ -20,7 +20,8 @@ last_is xs b =
     rw len (get_or-append_seam xs b [] 0)
 
 -- a text with this last byte is a front and the byte
-pub ends_in : (xs : List ℕ) (b : ℕ) → 0 < b → get_or xs (length xs - 1) 0 ≡ b → (front : List ℕ) × (xs ≡ front ++ b ∷ [])
+pub ends_in : (xs : List ℕ) (b : ℕ) → 0 < b → get_or xs (length xs - 1) 0 ≡ b
+    → (front : List ℕ) × (xs ≡ front ++ b ∷ [])
 ends_in [] b some e = absurd (omega (arith, e))
 ends_in (x ∷ []) b some e = ([], ap (λ y. y ∷ []) e)
 ends_in (x ∷ y ∷ xs) b some e =
@@ -37,7 +38,8 @@ no_cr line none = go (slice_index line (length line - 1) == 13) refl
         → line ≡ (if v then take (length line - 1) line else line)
     go false e = refl
     go true e =
-        let last : (front : List ℕ) × (line ≡ front ++ 13 ∷ []) = ends_in line 13 (omega arith) (eqb-true _ _ e) in
+        let last : (front : List ℕ) × (line ≡ front ++ 13 ∷ [])
+        = ends_in line 13 (omega arith) (eqb-true _ _ e) in
         absurd (none last.0 last.1)
 
 -- no name is in a word that no colon ends
@@ -48,9 +50,11 @@ no_colon word none = go (slice_index word (length word - 1) == 58) refl
         → (if v && is_name (front_of word) then Some (front_of word) else None) ≡ None
     go false e = refl
     go true e =
-        let last : (front : List ℕ) × (word ≡ front ++ 58 ∷ []) = ends_in word 58 (omega arith) (eqb-true _ _ e) in
+        let last : (front : List ℕ) × (word ≡ front ++ 58 ∷ [])
+        = ends_in word 58 (omega arith) (eqb-true _ _ e) in
         absurd (none last.0 last.1)
 
 -- the name in a word that a colon ends is the front, if that is a name
-pub with_colon : (word front : List ℕ) → word ≡ front ++ 58 ∷ [] → name_in word ≡ (if is_name front then Some front else None)
+pub with_colon : (word front : List ℕ) → word ≡ front ++ 58 ∷ []
+    → name_in word ≡ (if is_name front then Some front else None)
 with_colon word front e = rw (e, last_is front 58, front_is front 58) refl

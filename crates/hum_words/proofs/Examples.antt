@@ -23,11 +23,13 @@ a_branch : cut_line (codes "out: read a | mint")
 unfolding cut
 a_branch = refl
 
-two_bars : cut_line (codes "a || b") ≡ Ok (Word 1 (codes "a") ∷ Bar 1 ∷ Bar 1 ∷ Word 2 (codes "b") ∷ [])
+two_bars : cut_line (codes "a || b")
+    ≡ Ok (Word 1 (codes "a") ∷ Bar 1 ∷ Bar 1 ∷ Word 2 (codes "b") ∷ [])
 unfolding cut
 two_bars = refl
 
-bars_without_blanks : cut_line (codes "a|b|") ≡ Ok (Word 1 (codes "a") ∷ Bar 1 ∷ Word 2 (codes "b") ∷ Bar 2 ∷ [])
+bars_without_blanks : cut_line (codes "a|b|")
+    ≡ Ok (Word 1 (codes "a") ∷ Bar 1 ∷ Word 2 (codes "b") ∷ Bar 2 ∷ [])
 unfolding cut
 bars_without_blanks = refl
 
@@ -58,11 +60,13 @@ blanks_and_bars_in_quotes : cut_line (codes "x 'a b|c'| ''")
 unfolding cut
 blanks_and_bars_in_quotes = refl
 
-a_bar_behind_quotes : cut_line (codes "'a'|'b'\t") ≡ Ok (Word 1 (codes "a") ∷ Bar 1 ∷ Word 2 (codes "b") ∷ [])
+a_bar_behind_quotes : cut_line (codes "'a'|'b'\t")
+    ≡ Ok (Word 1 (codes "a") ∷ Bar 1 ∷ Word 2 (codes "b") ∷ [])
 unfolding cut
 a_bar_behind_quotes = refl
 
-quotes_only_delimit : cut_line (codes "'out:' '-f'") ≡ Ok (Word 1 (codes "out:") ∷ Word 2 (codes "-f") ∷ [])
+quotes_only_delimit : cut_line (codes "'out:' '-f'")
+    ≡ Ok (Word 1 (codes "out:") ∷ Word 2 (codes "-f") ∷ [])
 unfolding cut
 quotes_only_delimit = refl
 
@@ -112,7 +116,8 @@ a_last_line_without_lf : lines_of (codes "a\n\nb") ≡ codes "a" ∷ [] ∷ code
 unfolding lines_of
 a_last_line_without_lf = refl
 
-skipped_lines_are_counted : branches_of (codes "#x\n\n \t#y\n a#\n\tb") ≡ (4, codes " a#") ∷ (5, codes "\tb") ∷ []
+skipped_lines_are_counted : branches_of (codes "#x\n\n \t#y\n a#\n\tb")
+    ≡ (4, codes " a#") ∷ (5, codes "\tb") ∷ []
 unfolding lines_of branches_from trimmed
 skipped_lines_are_counted = refl
 
@@ -125,7 +130,8 @@ one_cr_is_dropped = refl
 a_name : name_in (codes "voice_2:") ≡ Some (codes "voice_2")
 a_name = refl
 
-a_name_of_32 : name_in (codes "abcdefghijklmnopqrstuvwxyz_12345:") ≡ Some (codes "abcdefghijklmnopqrstuvwxyz_12345")
+a_name_of_32 : name_in (codes "abcdefghijklmnopqrstuvwxyz_12345:")
+    ≡ Some (codes "abcdefghijklmnopqrstuvwxyz_12345")
 a_name_of_32 = refl
 
 a_name_of_33 : name_in (codes "abcdefghijklmnopqrstuvwxyz_123456:") ≡ None

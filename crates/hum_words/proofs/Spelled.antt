@@ -11,17 +11,21 @@ use Rattle.hum_words.proofs.Fronts.{behind_front, all_pass, stops_at_quote}
 
 -- Behind an opening quote
 
-pub quoted_begins : (line word rest : List ℕ) → line ≡ word ++ 39 ∷ rest → ((i : ℕ) → i < length word → get_or word i 0 ≢ 39)
+pub quoted_begins : (line word rest : List ℕ) → line ≡ word ++ 39 ∷ rest
+    → ((i : ℕ) → i < length word → get_or word i 0 ≢ 39)
     → begins_apart rest ≡ true → BeginsWithWord word rest (39 ∷ line)
 quoted_begins line word rest e none apart =
     Begins (39 ∷ (word ++ 39 ∷ [])) (Delimited (none_is 39 word none) refl) apart
     (ap (λ xs. 39 ∷ xs) (e ∙ sym (append_assoc word (39 ∷ []) rest)))
 
-pub quoted_joins : (line word rest : List ℕ) → line ≡ word ++ 39 ∷ rest → ((i : ℕ) → i < length word → get_or word i 0 ≢ 39)
+pub quoted_joins : (line word rest : List ℕ) → line ≡ word ++ 39 ∷ rest
+    → ((i : ℕ) → i < length word → get_or word i 0 ≢ 39)
     → begins_apart rest ≡ false → IsWrong (39 ∷ line)
-quoted_joins line word rest e none apart = Joined word rest (none_is 39 word none) apart (ap (λ xs. 39 ∷ xs) e)
+quoted_joins line word rest e none apart =
+    Joined word rest (none_is 39 word none) apart (ap (λ xs. 39 ∷ xs) e)
 
-pub never_closed : (line : List ℕ) → ((i : ℕ) → i < length line → get_or line i 0 ≢ 39) → IsWrong (39 ∷ line)
+pub never_closed : (line : List ℕ) → ((i : ℕ) → i < length line → get_or line i 0 ≢ 39)
+    → IsWrong (39 ∷ line)
 never_closed line none = Unclosed line (none_is 39 line none) refl
 
 -- Without quotes
@@ -30,16 +34,21 @@ some_taken : (k : ℕ) (xs : List ℕ) → 0 < k → length (take k xs) ≡ k �
 some_taken k xs l len e = absurd (omega (arith, len, ap length e))
 
 not_empty : (xs : List ℕ) → 0 < prefix_len is_bare xs → take (prefix_len is_bare xs) xs ≢ []
-not_empty xs l = some_taken (prefix_len is_bare xs) xs l (length-take-le _ xs (prefix_len-le-length is_bare xs))
+not_empty xs l =
+    some_taken (prefix_len is_bare xs) xs l
+    (length-take-le _ xs (prefix_len-le-length is_bare xs))
 
-pub plain_begins : (xs : List ℕ) → 0 < prefix_len is_bare xs → begins_apart (behind_front is_bare xs) ≡ true
+pub plain_begins : (xs : List ℕ) → 0 < prefix_len is_bare xs
+    → begins_apart (behind_front is_bare xs) ≡ true
     → BeginsWithWord (take (prefix_len is_bare xs) xs) (behind_front is_bare xs) xs
 plain_begins xs l apart =
-    Begins (take (prefix_len is_bare xs) xs) (Plain (not_empty xs l) (all_pass is_bare xs) refl) apart
-    (sym (take-append-drop (prefix_len is_bare xs) xs))
+    Begins (take (prefix_len is_bare xs) xs) (Plain (not_empty xs l) (all_pass is_bare xs) refl)
+    apart (sym (take-append-drop (prefix_len is_bare xs) xs))
 
-pub plain_breaks : (xs : List ℕ) → 0 < prefix_len is_bare xs → begins_apart (behind_front is_bare xs) ≡ false → IsWrong xs
+pub plain_breaks : (xs : List ℕ) → 0 < prefix_len is_bare xs
+    → begins_apart (behind_front is_bare xs) ≡ false → IsWrong xs
 plain_breaks xs l apart =
     let stop : (rest : List ℕ) × (behind_front is_bare xs ≡ 39 ∷ rest) = stops_at_quote xs apart in
     Within (take (prefix_len is_bare xs) xs) stop.0 (not_empty xs l) (all_pass is_bare xs)
-    (sym (take-append-drop (prefix_len is_bare xs) xs) ∙ ap (λ ys. take (prefix_len is_bare xs) xs ++ ys) stop.1)
+    (sym (take-append-drop (prefix_len is_bare xs) xs)
+    ∙ ap (λ ys. take (prefix_len is_bare xs) xs ++ ys) stop.1)

@@ -23,7 +23,8 @@ pub a_text : (bytes : List ℕ) → length bytes ≤ longest → IsUtf8 bytes �
 unfolding fault_of
 a_text bytes h u = rw (within _ h, is_utf8-from_IsUtf8 bytes u) refl
 
-pub no_utf8 : (bytes : List ℕ) (n line : ℕ) → length bytes ≤ longest → ¬ (IsUtf8 bytes) → n ≡ utf8_valid_len bytes
+pub no_utf8 : (bytes : List ℕ) (n line : ℕ) → length bytes ≤ longest → ¬ (IsUtf8 bytes)
+    → n ≡ utf8_valid_len bytes
     → line ≡ line_behind (take n bytes) → fault_of bytes ≡ Some (NotUtf8 line)
 unfolding fault_of
 no_utf8 bytes n line h u e l = rw (within _ h, l, e) (go (is_utf8 bytes) refl)

@@ -17,9 +17,10 @@ apart : (words : List (List ℕ)) → begins_apart (line_of words) ≡ true
 apart [] = refl
 apart (word ∷ words) = refl
 
--- a blank is skipped
+-- a line is written by words alone, behind n words
 abbrev LineIs : ℕ → List (List ℕ) → List ℕ → Type 0
-LineIs n words line = (m : ℕ) × (rest : List ℕ) × GoesOn n (words_from n words) m rest line × (trimmed rest ≡ [])
+LineIs n words line = (m : ℕ) × (rest : List ℕ)
+    × GoesOn n (words_from n words) m rest line × (trimmed rest ≡ [])
 
 line_is : (n : ℕ) (words : List (List ℕ)) → All IsQuotable words → LineIs n words (line_of words)
 unfolding trimmed
@@ -32,7 +33,8 @@ line_is n (word ∷ words) all =
         line_of words,
         (
           refl,
-          Begins (39 ∷ (word ++ 39 ∷ [])) (Delimited (All-head IsQuotable word words all) refl) (apart words)
+          Begins (39 ∷ (word ++ 39 ∷ [])) (Delimited (All-head IsQuotable word words all) refl)
+              (apart words)
               (ap (λ xs. 39 ∷ xs) (sym (append_assoc word (39 ∷ []) (line_of words)))),
         ),
         more.2,
@@ -53,11 +55,13 @@ quotable : (word rest line : List ℕ) → BeginsWithWord word rest line → IsQ
 quotable word rest line (Begins text (Plain some bare same) apart e) = bare_are_quotable word bare
 quotable word rest line (Begins text (Delimited all same) apart e) = all
 
-all_quotable : (n : ℕ) (words : List (List ℕ)) (m : ℕ) (rest line : List ℕ) → GoesOn n (words_from n words) m rest line
+all_quotable : (n : ℕ) (words : List (List ℕ)) (m : ℕ) (rest line : List ℕ)
+    → GoesOn n (words_from n words) m rest line
     → All IsQuotable words
 all_quotable n [] m rest line h = All-nil IsQuotable
 all_quotable n (word ∷ words) m rest line h =
-    All-cons IsQuotable word words (quotable word h.0 (trimmed line) h.1.1) (all_quotable (n + 1) words m rest h.0 h.2)
+    All-cons IsQuotable word words (quotable word h.0 (trimmed line) h.1.1)
+    (all_quotable (n + 1) words m rest h.0 h.2)
 
 pub can_be_written : (words : List (List ℕ)) → CanBeWritten words
 can_be_written words =

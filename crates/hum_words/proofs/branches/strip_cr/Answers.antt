@@ -5,5 +5,6 @@ use Rattle.hum_words.proofs.branches.strip_cr.Goals as goal
 
 pub returns-in-None-clause-value : goal.returns-in-None-clause-value
 returns-in-None-clause-value c =
-    let none = rw c.in-None.is at (strip_suffix_char 13 c.args.line.now c.strip_suffix.result c.strip_suffix.ensures.cases (omega arith)) in
+    let none = rw c.in-None.is at (strip_suffix_char 13 c.args.line.now c.strip_suffix.result
+    c.strip_suffix.ensures.cases (omega arith)) in
     no_cr c.args.line.now none

@@ -5,7 +5,8 @@ use Rattle.hum_words.proofs.characters.bare_len.Goals as goal
 
 pub returns-then-not-is_bare : goal.returns-then-not-is_bare
 returns-then-not-is_bare c =
-    sym (prefix_len_is is_bare c.args.line.now c.loop-index.index 0 (omega arith) c.loop-index.invariant (λ l. search rules))
+    sym (prefix_len_is is_bare c.args.line.now c.loop-index.index 0 (omega arith)
+    c.loop-index.invariant (λ l. search rules))
 
 pub returns : goal.returns
 returns c =

@@ -15,16 +15,19 @@ returns-in_err-piece c =
 pub loop-rest-preserved : goal.loop-rest-preserved
 loop-rest-preserved c =
     let goes = c.loop-rest.invariant.goes in
-    let more : c.push.new.self.items ≡ c.loop-rest.pieces.items ++ c.in_ok-piece.piece ∷ [] = c.in_ok-push.ensures.items in
+    let more : c.push.new.self.items ≡ c.loop-rest.pieces.items ++ c.in_ok-piece.piece ∷ []
+    = c.in_ok-push.ensures.items in
+    let item = item_of c.in_ok-piece.piece in
+    let found = rw goes.2 at c.in_ok-piece.ensures.found in
+    let ends = c.in_ok-piece.ensures.shorter in
     record {
       text = c.skip_blanks-rest-in-loop-rest.utf8;
       first = c.skip_blanks-rest-in-loop-rest.ensures.first;
-      count = omega (arith, c.in_ok-piece.ensures.shorter.0, c.in_ok-piece.ensures.shorter.1, c.number-words.ensures);
+      count = omega (arith, ends.0, ends.1, c.number-words.ensures);
       goes = (
         c.in_ok-piece.behind.now,
-        rw (more, c.number-words.ensures, map-append item_of c.loop-rest.pieces.items (c.in_ok-piece.piece ∷ []))
-            (push 0 _ _ goes.0 c.args.line.now (item_of c.in_ok-piece.piece) c.in_ok-piece.behind.now goes.1
-            (rw goes.2 at c.in_ok-piece.ensures.found)),
+        rw (more, c.number-words.ensures, map-append item_of c.loop-rest.pieces.items _)
+            (push 0 _ _ goes.0 c.args.line.now item c.in_ok-piece.behind.now goes.1 found),
         c.skip_blanks-rest-in-loop-rest.ensures.value,
       );
     }

@@ -11,7 +11,8 @@ invariant-loop-rest l = record {
   text : shadow (Utf8 l.rest);
   first : begins_blank l.rest ≡ false;
   count : l.words + length l.rest ≤ length l.line;
-  goes : (behind : List ℕ) × GoesOn 0 (items_of l.pieces.items) l.words behind l.line × (l.rest ≡ trimmed behind);
+  goes : (behind : List ℕ) × GoesOn 0 (items_of l.pieces.items) l.words behind l.line
+      × (l.rest ≡ trimmed behind);
 }
 
 abbrev pub decreases-loop-rest : goal.decreases-loop-rest

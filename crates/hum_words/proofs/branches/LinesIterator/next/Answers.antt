@@ -4,20 +4,26 @@ use Rattle.hum_words.proofs.branches.LinesIterator.next.Goals as goal
 
 pub returns-then-not-is_skipped-clause-steps : goal.returns-then-not-is_skipped-clause-steps
 returns-then-not-is_skipped-clause-steps c =
+    let before = c.loop-line.self in
+    let after = c.first_line.result.1.now in
     sym c.loop-line.invariant
-    ∙ met c.loop-line.self.number c.loop-line.self.rest.now _ c.strip_cr-text.result.now c.first_line.result.1.now
+    ∙ met before.number before.rest.now _ c.strip_cr-text.result.now after
     c.first_line.ensures.first c.strip_cr-text.ensures.value (search rules)
 
 pub returns-then-not-is_skipped-clause-goes : goal.returns-then-not-is_skipped-clause-goes
 returns-then-not-is_skipped-clause-goes c =
-    let left = sym c.loop-line.invariant
-    ∙ met c.loop-line.self.number c.loop-line.self.rest.now _ c.strip_cr-text.result.now c.first_line.result.1.now
+    let before = c.loop-line.self in
+    let after = c.first_line.result.1.now in
+    let here = met before.number before.rest.now _ c.strip_cr-text.result.now after
     c.first_line.ensures.first c.strip_cr-text.ensures.value (search rules) in
+    let left = sym c.loop-line.invariant ∙ here in
     record { on = λ f. (tt, tt, omega (arith, ap length left)); keeps = tt; rests = λ f. tt }
 
 pub loop-line-preserved : goal.loop-line-preserved
 loop-line-preserved c =
-    sym (passed c.loop-line.self.number c.loop-line.self.rest.now _ c.strip_cr-text.result.now c.first_line.result.1.now
+    let before = c.loop-line.self in
+    let after = c.first_line.result.1.now in
+    sym (passed before.number before.rest.now _ c.strip_cr-text.result.now after
     c.first_line.ensures.first c.strip_cr-text.ensures.value (search rules))
     ∙ c.loop-line.invariant
 
