@@ -19,6 +19,12 @@ last_is xs b =
     let len : length (xs ++ b ∷ []) - 1 ≡ length xs = omega (arith, length-append xs (b ∷ [])) in
     rw len (get_or-append_seam xs b [] 0)
 
+abbrev EndsIn : List ℕ → ℕ → Type 0
+EndsIn xs b = (front : List ℕ) × (xs ≡ front ++ b ∷ [])
+
+longer : (x : ℕ) (xs : List ℕ) (b : ℕ) → EndsIn xs b → EndsIn (x ∷ xs) b
+longer x xs b h = (x ∷ h.0, ap (λ ys. x ∷ ys) h.1)
+
 -- a text with this last byte is a front and the byte
 pub ends_in : (xs : List ℕ) (b : ℕ) → 0 < b → get_or xs (length xs - 1) 0 ≡ b
     → (front : List ℕ) × (xs ≡ front ++ b ∷ [])
@@ -26,9 +32,7 @@ ends_in [] b some e = absurd (omega (arith, e))
 ends_in (x ∷ []) b some e = ([], ap (λ y. y ∷ []) e)
 ends_in (x ∷ y ∷ xs) b some e =
     let next : length (x ∷ y ∷ xs) - 1 ≡ suc (length (y ∷ xs) - 1) = omega arith in
-    let here : get_or (y ∷ xs) (length (y ∷ xs) - 1) 0 ≡ b = rw next at e in
-    let more : (front : List ℕ) × (y ∷ xs ≡ front ++ b ∷ []) = ends_in (y ∷ xs) b some here in
-    (x ∷ more.0, ap (λ zs. x ∷ zs) more.1)
+    longer x (y ∷ xs) b (ends_in (y ∷ xs) b some (rw next at e))
 
 -- no byte is dropped where no CR is the last
 pub no_cr : (line : List ℕ) → ((front : List ℕ) → line ≢ front ++ 13 ∷ []) → line ≡ without_cr line

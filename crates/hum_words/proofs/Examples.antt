@@ -1,11 +1,16 @@
 -- Plans worked by hand, by the definitions.
 use Rattle.std.proofs.Common.{◌≡◌, [], ◌∷◌, Ok, Err, None, Some, refl}
 use lib.Chars.{codes}
+use lib.Utf8.{encode}
 use Rattle.hum_words.specs.Characters.{trimmed}
 use Rattle.hum_words.specs.Branches.{lines_of, branches_from, branches_of}
 use Rattle.hum_words.specs.Pieces.{Word, Bar}
 use Rattle.hum_words.specs.Cutting.{cut, cut_line}
 use Rattle.hum_words.specs.Names.{name_in}
+use Rattle.hum_words.specs.Text.{fault_of}
+use Rattle.hum_words.specs.declared.text.TextFault.TheVariants.{NotUtf8}
+use Rattle.std.specs.Str.{is_utf8, chars}
+use Rattle.std.specs.Str.Lossy.{utf8_valid_len}
 
 -- Words and bars
 
@@ -48,6 +53,15 @@ blanks_round_words = refl
 a_cr_is_a_byte : cut_line (codes "a\rb") ≡ Ok (Word 1 (codes "a\rb") ∷ [])
 unfolding cut
 a_cr_is_a_byte = refl
+
+a_name_alone : cut_line (codes "out:") ≡ Ok (Word 1 (codes "out:") ∷ [])
+unfolding cut
+a_name_alone = refl
+
+a_bar_behind_the_name : cut_line (codes "out: | read a")
+    ≡ Ok (Word 1 (codes "out:") ∷ Bar 1 ∷ Word 2 (codes "read") ∷ Word 3 (codes "a") ∷ [])
+unfolding cut
+a_bar_behind_the_name = refl
 
 -- Quotes
 
@@ -101,6 +115,24 @@ bars_are_not_counted = refl
 the_first_wrong_word : cut_line (codes "'a' 'b c' d' 'e") ≡ Err 3
 unfolding cut
 the_first_wrong_word = refl
+
+-- Texts
+
+a_text : fault_of (codes "a\nb") ≡ None
+unfolding fault_of is_utf8 chars encode
+a_text = refl
+
+an_accent : fault_of (195 ∷ 169 ∷ []) ≡ None
+unfolding fault_of is_utf8 chars encode
+an_accent = refl
+
+a_bad_byte : fault_of (97 ∷ 10 ∷ 10 ∷ 98 ∷ 255 ∷ 10 ∷ []) ≡ Some (NotUtf8 3)
+unfolding fault_of is_utf8 chars utf8_valid_len encode
+a_bad_byte = refl
+
+a_byte_that_is_missing : fault_of (97 ∷ 10 ∷ 195 ∷ []) ≡ Some (NotUtf8 2)
+unfolding fault_of is_utf8 chars utf8_valid_len encode
+a_byte_that_is_missing = refl
 
 -- Lines
 

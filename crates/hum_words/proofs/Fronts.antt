@@ -74,8 +74,10 @@ cut_behind p ascii xs u = go (prefix_len p xs) refl
 -- a text may be cut in front of ASCII, and at its end
 pub cut_before : (p : ℕ → Bool) → ((b : ℕ) → p b ≡ false → b < 128) → (xs : List ℕ)
     → IsCharBoundary xs (prefix_len p xs)
-cut_before p ascii xs =
-    (prefix_len-le-length p xs, λ l h. absurd (omega (arith, ascii _ (prefix_len_stops p xs 0 l), h)))
+cut_before p ascii xs = (
+  prefix_len-le-length p xs,
+  λ l h. absurd (omega (arith, ascii _ (prefix_len_stops p xs 0 l), h)),
+)
 
 blank_is_ascii : (b : ℕ) → is_blank b ≡ true → b < 128
 blank_is_ascii b h = grind (arith, nat_tests)

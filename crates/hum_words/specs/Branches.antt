@@ -1,8 +1,7 @@
 -- The lines of a plan, and which of them are branches.
 use Rattle.std.specs.Prelude.{◌≡◌, ◌≢◌, ℕ, ◌+◌, ◌-◌, Bool, true, not, ◌==◌, if◌then◌else◌}
-use Rattle.std.specs.Prelude.{List, [], ◌∷◌, ◌++◌}
+use Rattle.std.specs.Prelude.{List, [], ◌∷◌, ◌++◌, length, take, slice_index}
 use Rattle.std.specs.List.{list_all}
-use Rattle.std.specs.Prelude.{length, take, slice_index}
 use Rattle.hum_words.specs.Characters.{trimmed}
 
 abbrev pub is_lf : ℕ → Bool
