@@ -1,0 +1,23 @@
+//! The lines and words of a plan.
+//!
+//! A plan is at most 65,536 bytes of UTF-8. Its lines end at LF, and one CR at a line's end is
+//! dropped. Lines of blanks alone, and lines with `#` behind their blanks, are skipped; blanks are
+//! space and tab. Every other line is a branch, and is cut into words and bars. A word is a run of
+//! bytes other than blanks, `|` and `'`, or all between two `'`; a blank, a bar or the end of the
+//! line follows a closing quote.
+#![tactic(auto)]
+
+mod branches;
+mod characters;
+mod cutting;
+pub mod laws;
+mod naming;
+mod text;
+
+pub use branches::{Line, Lines, line_count};
+pub use cutting::{LineFault, Piece, pieces};
+pub use naming::name_of;
+pub use text::{TextFault, plan_text};
+
+#[cfg(test)]
+mod tests;
