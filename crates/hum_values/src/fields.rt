@@ -26,6 +26,15 @@ fn small_count(text: &[u8]) -> Option<u16>
     }
 }
 
+fn read_count(text: &[u8]) -> Option<TokenCount>
+    ensures { option_map (λ count. count.number) result ≡ count_of text.now }
+{
+    match small_count(text) {
+        Some(number) => Some(TokenCount { number }),
+        None => None,
+    }
+}
+
 /// The number of tokens, from 1 to 4,096, that a text is, if it is one.
 pub fn count(text: &[u8]) -> Option<TokenCount>
     ensures read { option_map (λ count. count.number) result ≡ count_of text.now }
@@ -34,10 +43,7 @@ pub fn count(text: &[u8]) -> Option<TokenCount>
     ensures alone { (n : ℕ) → IsCount text.now n
         → option_map (λ count. count.number) result ≡ Some n }
 {
-    match small_count(text) {
-        Some(number) => Some(TokenCount { number }),
-        None => None,
-    }
+    read_count(text)
 }
 
 /// The fields from a number through what stands behind the dash.
@@ -99,10 +105,13 @@ fn read_ranges(alloc: Global, text: &[u8]) -> Result<Option<Vec<FieldRange>>, Al
     let mut list = text;
     loop {
         let (item, rest) = cut(list, b',');
-        match field_range(item) {
-            Some(range) if ranges.len() < MOST_ITEMS => ranges.push(range)?,
-            _ => return Ok(None),
+        let Some(range) = field_range(item) else {
+            return Ok(None);
+        };
+        if ranges.len() >= MOST_ITEMS {
+            return Ok(None);
         }
+        ranges.push(range)?;
         match rest {
             [] => return Ok(Some(ranges)),
             [_, behind @ ..] => list = behind,

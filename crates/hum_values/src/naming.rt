@@ -19,7 +19,10 @@ fn read_names(alloc: Global, text: &[u8]) -> Result<Option<Vec<Vec<u8>>>, AllocE
     let mut list = text;
     loop {
         let (item, rest) = cut(list, b',');
-        if names.len() >= MOST_ITEMS || !is_name(item) {
+        if !is_name(item) {
+            return Ok(None);
+        }
+        if names.len() >= MOST_ITEMS {
             return Ok(None);
         }
         names.push(item.to_vec(alloc)?)?;

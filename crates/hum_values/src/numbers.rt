@@ -1,6 +1,6 @@
 //! Numbers.
 ghost use Rattle.std.specs.Prelude.{◌≡◌, ◌≤◌, ◌<◌, ◌^◌, ℕ, ℤ, Some, IfSome};
-ghost use Rattle.hum_values.specs.Numbers.{IsNumber, IsPositive, IsSigned};
+ghost use Rattle.hum_values.specs.Numbers.{IsNumber, IsSigned};
 ghost use Rattle.hum_values.specs.Numbers.{digits_of, number_of, positive_of, signed_of};
 
 /// The number that digits write, if it is at most `most`.
@@ -48,9 +48,7 @@ pub fn number(text: &[u8], most: u64) -> Option<u64>
 
 /// The number from 1 to `most` that a text is, if it is one.
 pub(crate) fn positive(text: &[u8], most: u64) -> Option<u64>
-    ensures read { result ≡ positive_of most text.now }
-    ensures is { IfSome result (IsPositive most text.now) }
-    ensures alone { (n : ℕ) → IsPositive most text.now n → result ≡ Some n }
+    ensures { result ≡ positive_of most text.now }
 {
     match read_number(text, most) {
         Some(n) => { if n > 0 { Some(n) } else { None } }

@@ -107,10 +107,13 @@ fn read_ranges(alloc: Global, text: &[u8]) -> Result<Option<Vec<YankRange>>, All
     let mut list = text;
     loop {
         let (item, rest) = cut(list, b',');
-        match passage_range(item) {
-            Some(range) if ranges.len() < MOST_ITEMS => ranges.push(range)?,
-            _ => return Ok(None),
+        let Some(range) = passage_range(item) else {
+            return Ok(None);
+        };
+        if ranges.len() >= MOST_ITEMS {
+            return Ok(None);
         }
+        ranges.push(range)?;
         match rest {
             [] => return Ok(Some(ranges)),
             [_, behind @ ..] => list = behind,
