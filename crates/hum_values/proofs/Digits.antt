@@ -1,10 +1,11 @@
 -- Numbers and their digits.
 use Rattle.std.proofs.Common.{◌≡◌, ◌≢◌, ◌<◌, ◌≤◌, ◌+◌, ◌-◌, ◌*◌, ◌^◌, ◌==◌, ◌&&◌, ◌||◌, not, refl, ap, sym, ◌∙◌, ℕ, zero, suc, Bool, true, false}
-use Rattle.std.proofs.Common.{List, [], ◌∷◌, length, take, drop, drop-cons, get_or, arith, rules, None, Some, Option}
+use Rattle.std.proofs.Common.{List, [], ◌∷◌, ◌++◌, length, take, drop, drop-cons, get_or, arith, rules, None, Some, Option}
 use Rattle.std.specs.Prelude.{if◌then◌else◌, nat_le, decimal}
-use Rattle.std.specs.Str.{all_ascii_digits}
+use Rattle.std.specs.Str.{all_ascii_digits, bytes_eq}
+use lib.Chars.{codes}
 use Rattle.std.specs.Char.{is_ascii_digit}
-use Rattle.std.proofs.lemmas.Bool.{and_parts, and_right, leb-true, le-leb, lt-leb, or_from}
+use Rattle.std.proofs.lemmas.Bool.{and_parts, and_right, leb-true, le-leb, lt-leb, or_from, or_parts}
 use Rattle.std.proofs.lemmas.Bool.Decides.{nat_tests}
 use Rattle.std.proofs.lemmas.Fmt.{decimal_digit, decimal_nonempty, first_decimal, digits_decimal, digits_value-decimal, decimal-digits_value}
 use Rattle.std.proofs.lemmas.Str.Parse.{IsNumeralModel, numerals_by_fold}
@@ -117,3 +118,18 @@ pub positive_alone : (most : ℕ) (text : List ℕ) (n : ℕ) → most < 2 ^ 64 
 positive_alone most text n small h =
     let other : (n == 0) ≡ false = grind (arith, nat_tests, h.above) in
     rw (number_alone most text n small h.number, other) refl
+
+-- some digits aren't the sign of the last
+pub digits_no_dollar : (text : List ℕ) → all_ascii_digits text ≡ true → bytes_eq text (codes "$") ≡ false
+digits_no_dollar [] all = refl
+digits_no_dollar (b ∷ text) all =
+    let tests = and_parts (is_ascii_digit b) (all_ascii_digits text) all in
+    let digit : 48 ≤ b = grind (arith, nat_tests, tests.0) in
+    let other : (b == 36) ≡ false = grind (arith, nat_tests, digit) in
+    rw other refl
+
+pub joined_lack : (byte : ℕ) (xs ys : List ℕ) → has_byte byte xs ≡ false → has_byte byte ys ≡ false → has_byte byte (xs ++ ys) ≡ false
+joined_lack byte [] ys none none_behind = none_behind
+joined_lack byte (x ∷ xs) ys none none_behind =
+    let each = or_parts (x == byte) (has_byte byte xs) none in
+    or_from (x == byte) (has_byte byte (xs ++ ys)) each.0 (joined_lack byte xs ys each.1 none_behind)

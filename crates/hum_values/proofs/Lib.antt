@@ -1,6 +1,9 @@
 pub mod Choices
 pub mod Cuts
 pub mod Digits
-pub mod Listing
-pub mod Signs
 mod Examples
+pub mod FieldItems
+pub mod Listing
+pub mod NameItems
+pub mod PassageItems
+pub mod Signs

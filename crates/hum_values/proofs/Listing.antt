@@ -51,7 +51,8 @@ behind_comma text = take (length text - 1) (drop 1 text)
 
 behind_is : (comma : ℕ) (next : List ℕ) → behind_comma (comma ∷ next) ≡ next
 behind_is comma next =
-    let all : suc (length next) - 1 ≡ length next = omega arith in rw all (take_all next)
+    let all : suc (length next) - 1 ≡ length next = omega arith in
+    rw all (take_all (length next) next (omega arith))
 
 pub shorter : (list left : List ℕ) → left ≡ rest 44 list → 1 ≤ length left → length (behind_comma left) < length list
 shorter list [] is some = absurd (omega (arith, some))
