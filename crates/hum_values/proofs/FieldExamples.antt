@@ -1,16 +1,18 @@
 -- Lists of fields, worked by the definitions.
-use Rattle.std.proofs.Common.{◌≡◌, ℕ, List, [], ◌∷◌, ◌++◌, Option, None, Some, refl}
+use Rattle.std.proofs.Common.{◌≡◌, ℕ, List, [], ◌∷◌, ◌++◌, Option, None, Some, refl, replicate, lit<, lit≤}
+use Rattle.std.specs.Fmt.{digits}
 use lib.Chars.{codes}
 use Rattle.hum_extract.specs.declared.choice.FieldRange.{FieldRange}
-use Rattle.hum_values.specs.Fields.{through, onward, last_field, fields_of}
-use Rattle.hum_values.specs.Items.{items_of}
+use Rattle.hum_values.specs.Fields.{through, onward, last_field, fields_of, IsCount, AreFields, span, to_last}
+use Rattle.hum_values.specs.Fields.{one as one_number}
+use Rattle.hum_values.specs.Items.{items_of, AreListed, one, more}
 
 abbrev fields : List ℕ → Option (List FieldRange)
 fields = items_of fields_of
 
 -- Items are `a`, `$`, `a-b` and `a-$`.
-one : fields (codes "1") ≡ Some (through 1 1 ∷ [])
-one = refl
+one_field : fields (codes "1") ≡ Some (through 1 1 ∷ [])
+one_field = refl
 
 last_one : fields (codes "$") ≡ Some (last_field ∷ [])
 last_one = refl
@@ -102,3 +104,28 @@ two_dollars = refl
 
 blank_behind_comma : fields (codes "1, 2") ≡ None
 blank_behind_comma = refl
+
+-- 64 items are a list, 65 aren't.
+sixty_four : fields (codes "1,1,1,1,1,1,1,1,1,1,1,1,1,1,1,1,1,1,1,1,1,1,1,1,1,1,1,1,1,1,1,1,1,1,1,1,1,1,1,1,1,1,1,1,1,1,1,1,1,1,1,1,1,1,1,1,1,1,1,1,1,1,1,1") ≡ Some (replicate 64 (through 1 1))
+sixty_four = refl
+
+sixty_five : fields (codes "1,1,1,1,1,1,1,1,1,1,1,1,1,1,1,1,1,1,1,1,1,1,1,1,1,1,1,1,1,1,1,1,1,1,1,1,1,1,1,1,1,1,1,1,1,1,1,1,1,1,1,1,1,1,1,1,1,1,1,1,1,1,1,1,1") ≡ None
+sixty_five = refl
+
+-- What a text spells, by the rules.
+two_is_a_count : IsCount (codes "2") 2
+unfolding digits
+two_is_a_count = record { number = record { digits = refl; within = lit≤ tt }; above = lit< tt }
+
+twelve_is_a_count : IsCount (codes "12") 12
+unfolding digits
+twelve_is_a_count = record { number = record { digits = refl; within = lit≤ tt }; above = lit< tt }
+
+two_to_twelve : AreFields (codes "2-12") (through 2 12)
+two_to_twelve = span two_is_a_count twelve_is_a_count (lit≤ tt)
+
+two_to_the_last : AreFields (codes "2-$") (onward 2)
+two_to_the_last = to_last two_is_a_count
+
+two_and_more : AreListed AreFields (codes "2,2-12") (through 2 2 ∷ through 2 12 ∷ [])
+two_and_more = record { items = more (one_number two_is_a_count) (one two_to_twelve); most = lit≤ tt }

@@ -42,6 +42,7 @@ behind_are a b m range h e = by_bool (bytes_eq b (codes "$")) to_the_last (λ w.
         let P : List ℕ → Type 0 = λ t. AreFields (a ++ (codes "-" ++ t)) range in
         let Q : FieldRange → Type 0 = λ r. AreFields (a ++ codes "-$") r in
         subst P (sym (is_dollar b w)) (subst Q same (to_last h))
+
     between : (o : Option ℕ) → count_of b ≡ o → in_order m o ≡ Some range → AreFields (a ++ (codes "-" ++ b)) range
     between None was none = cc
     between (Some n) was found =
@@ -61,6 +62,7 @@ by_dash_are a [] begins range e = by_bool (bytes_eq a (codes "$")) the_last one_
         let P : List ℕ → Type 0 = λ t. AreFields (t ++ []) range in
         let Q : FieldRange → Type 0 = λ r. AreFields (codes "$") r in
         subst P (sym (is_dollar a w)) (subst Q same last)
+
     one_field : bytes_eq a (codes "$") ≡ false → AreFields (a ++ []) range
     one_field w =
         let found = mapped (λ (m : ℕ). through m m) (count_of a) range (rw w at e) in

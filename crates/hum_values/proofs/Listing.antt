@@ -68,8 +68,8 @@ pub listing_goes_on : {A : Type 0} {value_of : List ℕ → Option A} {text list
 listing_goes_on h value item [] first is read few some = absurd (omega (arith, some))
 listing_goes_on {A} {value_of} {text} {list} {done} h value item (comma ∷ next) first is read few some =
     let cut : parts 44 list ≡ item ∷ parts 44 next =
-        parts_cut 44 list ∙ ap (λ (xs : List ℕ). xs ∷ parts_behind 44 (rest 44 list)) (sym first)
-        ∙ ap (λ (xs : List ℕ). item ∷ parts_behind 44 xs) (sym is) in
+    parts_cut 44 list ∙ ap (λ (xs : List ℕ). xs ∷ parts_behind 44 (rest 44 list)) (sym first)
+    ∙ ap (λ (xs : List ℕ). item ∷ parts_behind 44 xs) (sym is) in
     rw (behind_is comma next) (record {
       few = omega (arith, few, length-append done (value ∷ []));
       values = h.values ∙ ap (λ (texts : List (List ℕ)). behind done (all_of value_of texts)) cut
@@ -85,12 +85,12 @@ pub listing_ends : {A : Type 0} {value_of : List ℕ → Option A} {text list : 
 listing_ends h value item (comma ∷ next) first is read few none = absurd (omega (arith, none))
 listing_ends {A} {value_of} {text} {list} {done} h value item [] first is read few none =
     let cut : parts 44 list ≡ item ∷ [] =
-        parts_cut 44 list ∙ ap (λ (xs : List ℕ). xs ∷ parts_behind 44 (rest 44 list)) (sym first)
-        ∙ ap (λ (xs : List ℕ). item ∷ parts_behind 44 xs) (sym is) in
+    parts_cut 44 list ∙ ap (λ (xs : List ℕ). xs ∷ parts_behind 44 (rest 44 list)) (sym first)
+    ∙ ap (λ (xs : List ℕ). item ∷ parts_behind 44 xs) (sym is) in
     let within : length (parts 44 text) ≤ 64 = omega (arith, h.count, few, ap length cut) in
     let all : all_of value_of (parts 44 text) ≡ Some (done ++ value ∷ []) =
-        h.values ∙ ap (λ (texts : List (List ℕ)). behind done (all_of value_of texts)) cut
-        ∙ ap (λ (o : Option _). behind done (option_and_then (with_first (Some [])) o)) (sym read) in
+    h.values ∙ ap (λ (texts : List (List ℕ)). behind done (all_of value_of texts)) cut
+    ∙ ap (λ (o : Option _). behind done (option_and_then (with_first (Some [])) o)) (sym read) in
     rw (le-leb (length (parts 44 text)) 64 within, all) refl
 
 either_none : {A : Type 0} (b : Bool) (o : Option A) → o ≡ None → None ≡ (if b then o else None)
@@ -105,7 +105,7 @@ listing_refused {A} {value_of} {text} {list} {done} h item first none =
     let is : value_of (front 44 list) ≡ None = ap value_of (sym first) ∙ sym none in
     either_none (nat_le (length (parts 44 text)) 64) (all_of value_of (parts 44 text))
     (h.values ∙ ap (λ (texts : List (List ℕ)). behind done (all_of value_of texts)) (parts_cut 44 list)
-        ∙ ap (λ (o : Option _). behind done (option_and_then (with_first (all_of value_of (parts_behind 44 (rest 44 list)))) o)) is)
+    ∙ ap (λ (o : Option _). behind done (option_and_then (with_first (all_of value_of (parts_behind 44 (rest 44 list)))) o)) is)
 
 -- there are 64 items before it
 pub listing_full : {A : Type 0} {value_of : List ℕ → Option A} {text list : List ℕ} {done : List A}

@@ -130,7 +130,7 @@ from_last_are (b ∷ text) range e =
     let P : ℕ → Type 0 = λ d. ArePassages (36 ∷ d ∷ text) range in
     let Q : List ℕ → Type 0 = λ t. ArePassages (codes "$-" ++ t) range in
     subst P (sym (eqb-true b 45 dash.0)) (subst Q (whole 45 text)
-        (distant (front 45 text) (rest 45 text) (rest_begins 45 text) range (positive_of greatest (front 45 text)) refl dash.1))
+    (distant (front 45 text) (rest 45 text) (rest_begins 45 text) range (positive_of greatest (front 45 text)) refl dash.1))
 
 by_number_are : (item : List ℕ) (range : YankRange) → by_number item ≡ Some range → ArePassages item range
 by_number_are item range e =

@@ -1,7 +1,7 @@
 -- Numbers with a sign.
-use Rattle.std.proofs.Common.{◌≡◌, ◌<◌, ◌≤◌, ◌^◌, ◌==◌, refl, ap, subst, sym, ◌∙◌, ℕ, Bool, true, false}
+use Rattle.std.proofs.Common.{◌≡◌, ◌<◌, ◌≤◌, ◌^◌, ◌==◌, refl, ap, subst, sym, ◌∙◌, ℕ, zero, suc, Bool, true, false}
 use Rattle.std.proofs.Common.{List, [], ◌∷◌, arith, None, Some, Option}
-use Rattle.std.specs.Prelude.{ℤ, pos, neg_ℤ}
+use Rattle.std.specs.Prelude.{ℤ, pos, neg_ℤ, nat_abs}
 use Rattle.std.specs.Option.{option_map}
 use Rattle.std.specs.Str.{all_ascii_digits}
 use Rattle.std.specs.Char.{is_ascii_digit}
@@ -22,12 +22,14 @@ signed_is most (sign ∷ text) z small e = by_bool (sign == 43) with_plus (λ ot
         let P : ℕ → Type 0 = λ b. IsSigned most (b ∷ text) z in
         let Q : ℤ → Type 0 = λ y. IsSigned most (43 ∷ text) y in
         subst P (sym (eqb-true sign 43 w)) (subst Q found.2 (plus (number_is most text found.0 small found.1)))
+
     with_minus : (sign == 43) ≡ false → (sign == 45) ≡ true → IsSigned most (sign ∷ text) z
     with_minus other w =
         let found = mapped negated (number_of most text) z (rw (other, w) at e) in
         let P : ℕ → Type 0 = λ b. IsSigned most (b ∷ text) z in
         let Q : ℤ → Type 0 = λ y. IsSigned most (45 ∷ text) y in
         subst P (sym (eqb-true sign 45 w)) (subst Q found.2 (minus (number_is most text found.0 small found.1)))
+
     without : (sign == 43) ≡ false → (sign == 45) ≡ false → IsSigned most (sign ∷ text) z
     without other none =
         let found = mapped pos (number_of most (sign ∷ text)) z (rw (other, none) at e) in
@@ -49,3 +51,13 @@ signed_alone most _ _ small (plain {text} {n} h) =
     plain_alone most text n (number_digits most text n small h) (number_alone most text n small h)
 signed_alone most _ _ small (plus {text} {n} h) = ap (option_map pos) (number_alone most text n small h)
 signed_alone most _ _ small (minus {text} {n} h) = ap (option_map negated) (number_alone most text n small h)
+
+-- its absolute value is at most so great
+pub signed_within : (most : ℕ) (text : List ℕ) (z : ℤ) → IsSigned most text z → nat_abs z ≤ most
+signed_within most _ _ (plain h) = h.within
+signed_within most _ _ (plus h) = h.within
+signed_within most _ _ (minus {text} {n} h) = by_number n h.within
+  where
+    by_number : (n : ℕ) → n ≤ most → nat_abs (neg_ℤ (pos n)) ≤ most
+    by_number zero within = within
+    by_number (suc n) within = within

@@ -33,7 +33,7 @@ pub data AreFields : List ℕ → FieldRange → Type 0 where
   one : {a : List ℕ} {m : ℕ} → IsCount a m → AreFields a (through m m)
   last : AreFields (codes "$") last_field
   span : {a b : List ℕ} {m n : ℕ} → IsCount a m → IsCount b n → m ≤ n
-    → AreFields (a ++ (codes "-" ++ b)) (through m n)
+      → AreFields (a ++ (codes "-" ++ b)) (through m n)
   to_last : {a : List ℕ} {m : ℕ} → IsCount a m → AreFields (a ++ codes "-$") (onward m)
 
 -- from m through n, if that isn't before it

@@ -9,10 +9,11 @@ use Rattle.hum_values.specs.Cutting.{parts}
 pub data AreItems {A : Type 0} (IsItem : List ℕ → A → Type 0) : List ℕ → List A → Type 0 where
   one : {item : List ℕ} {value : A} → IsItem item value → AreItems IsItem item (value ∷ [])
   more : {item text : List ℕ} {value : A} {values : List A} → IsItem item value
-    → AreItems IsItem text values → AreItems IsItem (item ++ (codes "," ++ text)) (value ∷ values)
+      → AreItems IsItem text values → AreItems IsItem (item ++ (codes "," ++ text)) (value ∷ values)
 
 -- 1 to 64 of them
-pub record AreListed {A : Type 0} (IsItem : List ℕ → A → Type 0) (text : List ℕ) (values : List A) : Type 0 where
+pub record AreListed {A : Type 0} (IsItem : List ℕ → A → Type 0) (text : List ℕ) (values : List A)
+    : Type 0 where
   pub items : AreItems IsItem text values
   pub most : length values ≤ 64
 
@@ -22,7 +23,8 @@ with_first values value = option_map (λ more. value ∷ more) values
 -- what each text is, if each is some value
 abbrev pub all_of : {A : Type 0} → (List ℕ → Option A) → List (List ℕ) → Option (List A)
 all_of value_of [] = Some []
-all_of value_of (text ∷ texts) = option_and_then (with_first (all_of value_of texts)) (value_of text)
+all_of value_of (text ∷ texts) =
+    option_and_then (with_first (all_of value_of texts)) (value_of text)
 
 -- what the items of a text are, if it has at most 64 and each is some value
 abbrev pub items_of : {A : Type 0} → (List ℕ → Option A) → List ℕ → Option (List A)

@@ -20,7 +20,7 @@ pub data IsSigned (most : ℕ) : List ℕ → ℤ → Type 0 where
   plain : {text : List ℕ} {n : ℕ} → IsNumber most text n → IsSigned most text (pos n)
   plus : {text : List ℕ} {n : ℕ} → IsNumber most text n → IsSigned most (43 ∷ text) (pos n)
   minus : {text : List ℕ} {n : ℕ} → IsNumber most text n
-    → IsSigned most (45 ∷ text) (neg_ℤ (pos n))
+      → IsSigned most (45 ∷ text) (neg_ℤ (pos n))
 
 -- the number that digits write behind those of n
 abbrev pub value_of : ℕ → List ℕ → ℕ

@@ -23,16 +23,16 @@ IsDistance = IsPositive greatest
 pub data ArePassages : List ℕ → YankRange → Type 0 where
   one : {a : List ℕ} {x : ℕ} → IsPassage a x → ArePassages a (Through x x)
   span : {a b : List ℕ} {x y : ℕ} → IsPassage a x → IsPassage b y → x ≤ y
-    → ArePassages (a ++ (codes "-" ++ b)) (Through x y)
+      → ArePassages (a ++ (codes "-" ++ b)) (Through x y)
   onward : {a : List ℕ} {x : ℕ} → IsPassage a x → ArePassages (a ++ codes "-$") (Onward x)
   to_end : {a n : List ℕ} {x y : ℕ} → IsPassage a x → IsDistance n y
-    → ArePassages (a ++ (codes "-$-" ++ n)) (ToEnd x y)
+      → ArePassages (a ++ (codes "-$-" ++ n)) (ToEnd x y)
   last : ArePassages (codes "$") (FromEnd 0 0)
   before_last : {m : List ℕ} {x : ℕ} → IsDistance m x → ArePassages (codes "$-" ++ m) (FromEnd x x)
   last_few : {m : List ℕ} {x : ℕ} → IsDistance m x
-    → ArePassages (codes "$-" ++ (m ++ codes "-$")) (FromEnd x 0)
+      → ArePassages (codes "$-" ++ (m ++ codes "-$")) (FromEnd x 0)
   few_to_end : {m n : List ℕ} {x y : ℕ} → IsDistance m x → IsDistance n y → y ≤ x
-    → ArePassages (codes "$-" ++ (m ++ (codes "-$-" ++ n))) (FromEnd x y)
+      → ArePassages (codes "$-" ++ (m ++ (codes "-$-" ++ n))) (FromEnd x y)
 
 -- how far before the last number a text is, by what stands behind its `$`
 abbrev pub behind_dollar : List ℕ → Option ℕ

@@ -39,7 +39,7 @@ fn read_count(text: &[u8]) -> Option<TokenCount>
 pub fn count(text: &[u8]) -> Option<TokenCount>
     ensures read { option_map (λ count. count.number) result ≡ count_of text.now }
     ensures is { IfSome result (λ count. IsCount text.now count.number) }
-    // A text is one number alone.
+    // A text that is such a number is read as it, so it is no other.
     ensures alone { (n : ℕ) → IsCount text.now n
         → option_map (λ count. count.number) result ≡ Some n }
 {
@@ -72,10 +72,7 @@ fn one_field(text: &[u8]) -> Option<FieldRange>
     let field = if text == b"$".as_slice() {
         Field::Last
     } else {
-        match small_count(text) {
-            Some(number) => Field::Number(number),
-            None => return None,
-        }
+        Field::Number(small_count(text)?)
     };
     Some(FieldRange {
         first: field,
@@ -90,10 +87,7 @@ fn field_range(item: &[u8]) -> Option<FieldRange>
     let (before, rest) = cut(item, b'-');
     match rest {
         [] => one_field(before),
-        [_, behind @ ..] => match small_count(before) {
-            Some(first) => from_number(behind, first),
-            None => None,
-        },
+        [_, behind @ ..] => from_number(behind, small_count(before)?),
     }
 }
 
@@ -126,7 +120,7 @@ pub fn field_ranges(alloc: Global, text: &[u8]) -> Result<Option<Vec<FieldRange>
         option_map (λ ranges. ranges.items) found ≡ items_of fields_of text.now) }
     ensures are { IfOk result (λ found. IfSome found (λ ranges.
         AreListed AreFields text.now ranges.items)) }
-    // A text is one list alone.
+    // A text that is such a list is read as it, so it is no other.
     ensures alone { IfOk result (λ found. (ranges : List FieldRange)
         → AreListed AreFields text.now ranges
         → option_map (λ ranges. ranges.items) found ≡ Some ranges) }

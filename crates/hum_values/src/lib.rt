@@ -1,7 +1,7 @@
 //! The values of options: numbers, lists of fields and passages, names, labels and durations.
 //!
-//! An option of a command has its value as one word of a plan. Each kind of value is a small grammar
-//! over the bytes of that word, in `specs/`, and a text has one reading by it or none. The values are
+//! An option of a command has its value as one word of a plan. Each kind of value is a small
+//! grammar over the bytes of that word, and a text has one reading by it or none. The values are
 //! those that the commands take, so what their options ask of a value holds of each that is read.
 //! The kinds are those of the Humdrum Toolkit's reference manual (`extract -f`, `yank -r`,
 //! `context -n`, `trans -d`, `timebase -t`).
@@ -23,7 +23,6 @@ pub use steps::step;
 
 /// How many items a list may have.
 const MOST_ITEMS: usize = 64;
-
 
 #[cfg(test)]
 mod tests;

@@ -40,7 +40,7 @@ pub fn names(alloc: Global, text: &[u8]) -> Result<Option<Vec<Vec<u8>>>, AllocEr
         option_map (λ names. texts names.items) found ≡ items_of name_of text.now) }
     ensures are { IfOk result (λ found. IfSome found (λ names.
         AreListed IsListedName text.now (texts names.items))) }
-    // A text is one list alone.
+    // A text that is such a list is read as it, so it is no other.
     ensures alone { IfOk result (λ found. (names : List (List ℕ))
         → AreListed IsListedName text.now names
         → option_map (λ names. texts names.items) found ≡ Some names) }

@@ -1,5 +1,6 @@
 //! Numbers.
-ghost use Rattle.std.specs.Prelude.{◌≡◌, ◌≤◌, ◌<◌, ◌^◌, ℕ, ℤ, Some, IfSome};
+ghost use Rattle.std.specs.Prelude.{◌≡◌, ◌≤◌, ◌<◌, ◌^◌, ℕ, ℤ, pos, nat_abs, ◌≤ℤ◌, Some, IfSome};
+ghost use Rattle.std.specs.Option.{option_map};
 ghost use Rattle.hum_values.specs.Numbers.{IsNumber, IsSigned};
 ghost use Rattle.hum_values.specs.Numbers.{digits_of, number_of, positive_of, signed_of};
 
@@ -40,7 +41,7 @@ fn read_number(text: &[u8], most: u64) -> Option<u64>
 pub fn number(text: &[u8], most: u64) -> Option<u64>
     ensures read { result ≡ number_of most text.now }
     ensures is { IfSome result (IsNumber most text.now) }
-    // A text is one number alone.
+    // A text that is such a number is read as it, so it is no other.
     ensures alone { (n : ℕ) → IsNumber most text.now n → result ≡ Some n }
 {
     read_number(text, most)
@@ -51,7 +52,17 @@ pub(crate) fn positive(text: &[u8], most: u64) -> Option<u64>
     ensures { result ≡ positive_of most text.now }
 {
     match read_number(text, most) {
-        Some(n) => { if n > 0 { Some(n) } else { None } }
+        Some(n) if n > 0 => Some(n),
+        _ => None,
+    }
+}
+
+fn small_number(text: &[u8], most: u8) -> Option<i32>
+    ensures read { result ≡ option_map pos (number_of most text.now) }
+    ensures natural { IfSome result (λ n. pos 0 ≤ℤ n) }
+{
+    match read_number(text, most as u64) {
+        Some(n) => Some(n as i32),
         None => None,
     }
 }
@@ -60,19 +71,12 @@ fn read_signed(text: &[u8], most: u8) -> Option<i32>
     ensures { result ≡ signed_of most text.now }
 {
     match text {
-        [] => None,
-        [b'+', digits @ ..] => match read_number(digits, most as u64) {
-            Some(n) => Some(n as i32),
+        [b'+', digits @ ..] => small_number(digits, most),
+        [b'-', digits @ ..] => match small_number(digits, most) {
+            Some(n) => Some(-n),
             None => None,
         },
-        [b'-', digits @ ..] => match read_number(digits, most as u64) {
-            Some(n) => Some(-(n as i32)),
-            None => None,
-        },
-        _ => match read_number(text, most as u64) {
-            Some(n) => Some(n as i32),
-            None => None,
-        },
+        _ => small_number(text, most),
     }
 }
 
@@ -81,7 +85,8 @@ fn read_signed(text: &[u8], most: u8) -> Option<i32>
 pub fn signed_number(text: &[u8], most: u8) -> Option<i32>
     ensures read { result ≡ signed_of most text.now }
     ensures is { IfSome result (IsSigned most text.now) }
-    // A text is one number alone.
+    ensures within { IfSome result (λ n. nat_abs n ≤ most) }
+    // A text that is such a number is read as it, so it is no other.
     ensures alone { (n : ℤ) → IsSigned most text.now n → result ≡ Some n }
 {
     read_signed(text, most)

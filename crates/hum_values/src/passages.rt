@@ -130,7 +130,7 @@ pub fn passage_ranges(alloc: Global, text: &[u8]) -> Result<Option<Vec<YankRange
         option_map (λ ranges. ranges.items) found ≡ items_of passages_of text.now) }
     ensures are { IfOk result (λ found. IfSome found (λ ranges.
         AreListed ArePassages text.now ranges.items)) }
-    // A text is one list alone.
+    // A text that is such a list is read as it, so it is no other.
     ensures alone { IfOk result (λ found. (ranges : List YankRange)
         → AreListed ArePassages text.now ranges
         → option_map (λ ranges. ranges.items) found ≡ Some ranges) }

@@ -1,6 +1,8 @@
 //! Values by hand, of each kind and of none.
-use crate::{count, field_ranges, is_label, is_name, is_separator, names, number};
-use crate::{passage_ranges, signed_number, step};
+use crate::{
+    count, field_ranges, is_label, is_name, is_separator, names, number, passage_ranges,
+    signed_number, step,
+};
 use hum_extract::{Field, FieldRange};
 use hum_frac::Frac;
 use hum_yank::YankRange;
@@ -96,15 +98,21 @@ fn lists_of_fields(rt: HostRuntime) -> Result<(), Fail> {
     assert!(rt; has_fields(rt.alloc(), b"1", &[fields(1, 1)])?);
     assert!(rt; has_fields(rt.alloc(), b"$", &[last])?);
     assert!(rt; has_fields(rt.alloc(), b"2-$", &[onward])?);
-    assert!(rt; has_fields(rt.alloc(), b"4-4096,2-$,3,$", &[fields(4, 4096), onward, fields(3, 3), last])?);
+    assert!(rt;
+        has_fields(
+            rt.alloc(),
+            b"4-4096,2-$,3,$",
+            &[fields(4, 4096), onward, fields(3, 3), last]
+        )?
+    );
     Ok(())
 }
 
 #[test]
 fn no_lists_of_fields(rt: HostRuntime) -> Result<(), Fail> {
     let texts: [&'static [u8]; 14] = [
-        b"", b",", b"0", b"01", b"4097", b"2-1", b"$-1", b"$-$", b"1-$-1", b"1-2-3", b"1,,2", b"1,",
-        b"-", b"a",
+        b"", b",", b"0", b"01", b"4097", b"2-1", b"$-1", b"$-$", b"1-$-1", b"1-2-3", b"1,,2",
+        b"1,", b"-", b"a",
     ];
     for text in texts {
         assert!(rt; field_ranges(rt.alloc(), text)?.is_none(), "{text:?}");
@@ -131,7 +139,10 @@ fn at_most_64_items(rt: HostRuntime) -> Result<(), Fail> {
         let numbers = repeated(alloc, b"7", times)?;
         assert_eq!(rt; field_ranges(alloc, &numbers)?.is_some(), few);
         assert_eq!(rt; passage_ranges(alloc, &numbers)?.is_some(), few);
-        assert_eq!(rt; names(alloc, &repeated(alloc, b"**a", times)?)?.is_some(), few);
+        assert_eq!(rt;
+            names(alloc, &repeated(alloc, b"**a", times)?)?.is_some(),
+            few
+        );
     }
     Ok(())
 }
@@ -147,9 +158,21 @@ fn has_passages(alloc: Global, text: &[u8], want: &[YankRange]) -> Result<bool, 
 fn lists_of_passages(rt: HostRuntime) -> Result<(), Fail> {
     let rows: [(&'static [u8], YankRange); 8] = [
         (b"0", YankRange::Through { first: 0, last: 0 }),
-        (b"3-4294967295", YankRange::Through { first: 3, last: 4_294_967_295 }),
+        (
+            b"3-4294967295",
+            YankRange::Through {
+                first: 3,
+                last: 4_294_967_295,
+            },
+        ),
         (b"2-$", YankRange::Onward { first: 2 }),
-        (b"0-$-3", YankRange::ToEnd { first: 0, before: 3 }),
+        (
+            b"0-$-3",
+            YankRange::ToEnd {
+                first: 0,
+                before: 3,
+            },
+        ),
         (b"$", YankRange::FromEnd { from: 0, to: 0 }),
         (b"$-7", YankRange::FromEnd { from: 7, to: 7 }),
         (b"$-2-$", YankRange::FromEnd { from: 2, to: 0 }),
@@ -167,8 +190,24 @@ fn lists_of_passages(rt: HostRuntime) -> Result<(), Fail> {
 #[test]
 fn no_lists_of_passages(rt: HostRuntime) -> Result<(), Fail> {
     let texts: [&'static [u8]; 18] = [
-        b"", b"1,", b"5-3", b"4294967296", b"012", b"$-0", b"$-01", b"1-$-0", b"$-1-$-2", b"$-$",
-        b"$-$-1", b"$-1-2", b"$-0-$", b"1--$", b"$-3-$-3-", b"$-", b"1-2-3", b"$a",
+        b"",
+        b"1,",
+        b"5-3",
+        b"4294967296",
+        b"012",
+        b"$-0",
+        b"$-01",
+        b"1-$-0",
+        b"$-1-$-2",
+        b"$-$",
+        b"$-$-1",
+        b"$-1-2",
+        b"$-0-$",
+        b"1--$",
+        b"$-3-$-3-",
+        b"$-",
+        b"1-2-3",
+        b"$a",
     ];
     for text in texts {
         assert!(rt; passage_ranges(rt.alloc(), text)?.is_none(), "{text:?}");
@@ -180,15 +219,22 @@ fn has_names(alloc: Global, text: &[u8], want: &[&[u8]]) -> Result<bool, Fail> {
     let Some(found) = names(alloc, text)? else {
         return Ok(false);
     };
-    Ok(found.len() == want.len() && found.iter().zip(want).all(|(name, want)| name.as_slice() == *want))
+    Ok(
+        found.len() == want.len()
+            && found
+                .iter()
+                .zip(want)
+                .all(|(name, want)| name.as_slice() == *want),
+    )
 }
 
 #[test]
 fn lists_of_names(rt: HostRuntime) -> Result<(), Fail> {
     assert!(rt; has_names(rt.alloc(), b"**kern", &[b"**kern"])?);
     assert!(rt; has_names(rt.alloc(), b"**a,**b c,***", &[b"**a", b"**b c", b"***"])?);
-    let texts: [&'static [u8]; 8] =
-        [b"", b"**", b"*a", b"kern", b"**a,b", b"**a,", b"**a\tb", b"**a\r"];
+    let texts: [&'static [u8]; 8] = [
+        b"", b"**", b"*a", b"kern", b"**a,b", b"**a,", b"**a\tb", b"**a\r",
+    ];
     for text in texts {
         assert!(rt; names(rt.alloc(), text)?.is_none(), "{text:?}");
     }
