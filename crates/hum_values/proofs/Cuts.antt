@@ -2,7 +2,7 @@
 use Rattle.std.proofs.Common.{◌≡◌, ◌≢◌, ◌≤◌, ◌+◌, ◌==◌, refl, ap, sym, ◌∙◌, ℕ, zero, suc, Bool, true, false}
 use Rattle.std.proofs.Common.{List, [], ◌∷◌, ◌++◌, length, take, drop, arith}
 use Rattle.std.specs.List.{AllByRecursion, slice_split, onto_first}
-use Rattle.std.proofs.lemmas.Bool.{or_parts, eqb-true}
+use Rattle.std.proofs.lemmas.Bool.{or_parts, eqb-true, eq-eqb, ne_eqb}
 use Rattle.hum_record.specs.Spelling.{has_byte}
 use Rattle.hum_path.proofs.Cases.{by_bool}
 use Rattle.hum_values.specs.Cutting.{front, rest, parts, parts_behind}
@@ -98,3 +98,12 @@ parts_before byte [] more lacks same = rw same refl
 parts_before byte (b ∷ bytes) more lacks same =
     let each = or_parts (b == byte) (has_byte byte bytes) lacks in
     rw (each.0, parts_before byte bytes more each.1 same) refl
+
+-- how long the front is, by the first byte
+pub front_hit : (byte b : ℕ) (bytes : List ℕ) → b ≡ byte → length (front byte (b ∷ bytes)) ≡ 0
+front_hit byte b bytes is = let test : (b == byte) ≡ true = eq-eqb b byte is in rw test refl
+
+pub front_miss : (byte b : ℕ) (bytes : List ℕ) → (b ≡ byte → ⊥)
+    → length (front byte (b ∷ bytes)) ≡ length (front byte bytes) + 1
+front_miss byte b bytes other =
+    let test : (b == byte) ≡ false = ne_eqb b byte other in rw test (omega arith)

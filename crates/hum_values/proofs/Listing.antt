@@ -1,118 +1,134 @@
 -- Items between commas.
-use Rattle.std.proofs.Common.{◌≡◌, ◌≢◌, ◌<◌, ◌≤◌, ◌+◌, ◌-◌, take, drop, refl, ap, sym, ◌∙◌, subst, ℕ, suc, Bool, true, false}
+use Rattle.std.proofs.Common.{◌≡◌, ◌≢◌, ◌<◌, ◌≤◌, ◌+◌, ◌-◌, ◌==◌, drop, drop-cons, get_or, add-one, refl, ap, sym, ◌∙◌, subst, ℕ, suc, Bool, true, false}
 use Rattle.std.proofs.Common.{List, [], ◌∷◌, ◌++◌, length, arith, None, Some, Option, append_assoc, length-append}
 use Rattle.std.specs.Prelude.{if◌then◌else◌, nat_le}
 use Rattle.std.specs.Option.{option_map, option_and_then}
 use Rattle.std.specs.List.{AllByRecursion, join_with_byte}
 use Rattle.std.proofs.lemmas.Bool.{leb-true, le-leb, lt-leb}
-use Rattle.std.proofs.lemmas.List.{take_all}
+use Rattle.std.proofs.lemmas.List.{append-nil, drop_all}
+use Rattle.std.specs.Fn.{CalledAt}
+use Rattle.std.specs.Iterator.{Yields}
+use Rattle.std.specs.declared.slice.Split.{Split}
+use Rattle.std.specs.Slice.Iter.{split_steps, split_rest, split_done, split_callee}
+use denote.Param.Members.{Mut}
+use denote.Ref.{Bor}
+use Rattle.std.proofs.lemmas.Iterator.Splits.{YieldsList-from_slice_split}
+use Rattle.std.proofs.lemmas.Iterator.Consumers.{YieldsList-turn, YieldsList-end}
 use Rattle.std.proofs.lemmas.List.Splits.{join_with_byte-slice_split}
 use Rattle.hum_record.specs.Spelling.{has_byte}
-use Rattle.hum_values.specs.Cutting.{front, rest, parts, parts_behind}
+use Rattle.hum_values.specs.Cutting.{parts}
 use Rattle.hum_values.specs.Items.{AreItems, one, more, AreListed, with_first, all_of, items_of}
 use Rattle.hum_values.proofs.Choices.{chosen, mapped}
-use Rattle.hum_values.proofs.Cuts.{parts_cut, parts_lack, parts_alone, parts_before, length-rest-le}
+use Rattle.hum_values.proofs.Cuts.{parts_cut, parts_lack, parts_alone, parts_before}
 
 -- the values of what is still to come, behind those that are done
 abbrev pub behind : {A : Type 0} → List A → Option (List A) → Option (List A)
 behind done values = option_map (λ more. done ++ more) values
 
--- Of a text that is a list, some values are done, and this list is still to come.
-pub record IsListing {A : Type 0} (value_of : List ℕ → Option A) (text list : List ℕ) (done : List A) : Type 0 where
+-- The first n of some texts are read as these values, at most 64.
+pub record IsListing {A : Type 0} (value_of : List ℕ → Option A) (texts : List (List ℕ)) (n : ℕ) (done : List A)
+    : Type 0 where
   pub few : length done ≤ 64
-  pub values : all_of value_of (parts 44 text) ≡ behind done (all_of value_of (parts 44 list))
-  pub count : length (parts 44 text) ≡ length done + length (parts 44 list)
+  pub count : length done ≡ n
+  pub values : all_of value_of texts ≡ behind done (all_of value_of (drop n texts))
+
+-- The next text is this item.
+pub record IsNext (texts : List (List ℕ)) (n : ℕ) (item : List ℕ) : Type 0 where
+  pub within : n < length texts
+  pub is : item ≡ get_or texts n item
 
 behind_none : {A : Type 0} (o : Option (List A)) → o ≡ behind [] o
 behind_none None = refl
 behind_none (Some values) = refl
 
-pub listing_begins : {A : Type 0} (value_of : List ℕ → Option A) (text : List ℕ) → IsListing value_of text text []
-listing_begins value_of text = record {
-  few = omega arith;
-  values = behind_none (all_of value_of (parts 44 text));
-  count = omega arith;
-}
-
 behind_one : {A : Type 0} (done : List A) (value : A) (o : Option (List A))
     → behind done (with_first o value) ≡ behind (done ++ value ∷ []) o
 behind_one done value None = refl
-behind_one done value (Some values) = ap (λ (xs : List _). Some xs) (sym (append_assoc done (value ∷ []) values))
+behind_one done value (Some values) =
+    ap (λ (xs : List _). Some xs) (sym (append_assoc done (value ∷ []) values))
 
-first_done : {A : Type 0} (value_of : List ℕ → Option A) (done : List A) (text : List ℕ) (texts : List (List ℕ)) (value : A)
-    → value_of text ≡ Some value → behind done (all_of value_of (text ∷ texts)) ≡ behind (done ++ value ∷ []) (all_of value_of texts)
-first_done value_of done text texts value is =
-    ap (λ (o : Option _). behind done (option_and_then (with_first (all_of value_of texts)) o)) is
-    ∙ behind_one done value (all_of value_of texts)
+next_is : {texts : List (List ℕ)} {n : ℕ} {item : List ℕ} → IsNext texts n item
+    → drop n texts ≡ item ∷ drop (suc n) texts
+next_is {texts} {n} {item} next =
+    drop-cons texts n item next.within ∙ ap (λ (t : List ℕ). t ∷ drop (suc n) texts) (sym next.is)
 
--- what stands behind the first byte
-abbrev pub behind_comma : List ℕ → List ℕ
-behind_comma text = take (length text - 1) (drop 1 text)
+-- what is done and what is to come, the next item first
+next_values : {A : Type 0} {value_of : List ℕ → Option A} {texts : List (List ℕ)} {n : ℕ} {done : List A}
+    {item : List ℕ} → IsListing value_of texts n done → IsNext texts n item → (o : Option A) → value_of item ≡ o
+    → all_of value_of texts ≡ behind done (option_and_then (with_first (all_of value_of (drop (suc n) texts))) o)
+next_values {A} {value_of} {texts} {n} {done} h next o is =
+    h.values ∙ ap (λ (ts : List (List ℕ)). behind done (all_of value_of ts)) (next_is next)
+    ∙ ap (λ (x : Option A). behind done (option_and_then (with_first (all_of value_of (drop (suc n) texts))) x)) is
 
-behind_is : (comma : ℕ) (next : List ℕ) → behind_comma (comma ∷ next) ≡ next
-behind_is comma next =
-    let all : suc (length next) - 1 ≡ length next = omega arith in
-    rw all (take_all (length next) next (omega arith))
+-- what a loop over the parts between commas takes next
+pub next_item : {F : Type 0} {g : Mut F (Bor ℕ × Unit {0}) Bool} (s t u : Split ℕ F) (text : List ℕ)
+    (items : List (Bor (List ℕ))) → Yields (split_steps g) s items t → split_rest s ≡ text → split_done s ≡ false
+    → ((x : ℕ) (b : Bool) (q : F) → CalledAt g (split_callee s) x b q → (q ≡ split_callee s) × (b ≡ (x == 44)))
+    → (r : Option (Bor (List ℕ))) (item : Bor (List ℕ)) → r ≡ Some item → split_steps g t r u
+    → IsNext (parts 44 text) (length items) item.now
+next_item {F} {g} s t u text items yielded rest fresh commas r item is taken =
+    let turn = YieldsList-turn (YieldsList-from_slice_split g (λ b. b == 44) text rest fresh refl commas)
+        items t yielded r u item is taken in
+    record { within = turn.0; is = turn.1 }
 
-pub shorter : (list left : List ℕ) → left ≡ rest 44 list → 1 ≤ length left → length (behind_comma left) < length list
-shorter list [] is some = absurd (omega (arith, some))
-shorter list (comma ∷ next) is some =
-    let within = length-rest-le 44 list in
-    rw (behind_is comma next) (omega (arith, within, ap length is))
+-- where it takes none, it has taken all
+pub no_item : {F : Type 0} {g : Mut F (Bor ℕ × Unit {0}) Bool} (s t u : Split ℕ F) (text : List ℕ)
+    (items : List (Bor (List ℕ))) → Yields (split_steps g) s items t → split_rest s ≡ text → split_done s ≡ false
+    → ((x : ℕ) (b : Bool) (q : F) → CalledAt g (split_callee s) x b q → (q ≡ split_callee s) × (b ≡ (x == 44)))
+    → (r : Option (Bor (List ℕ))) → r ≡ None → split_steps g t r u → length items ≡ length (parts 44 text)
+no_item {F} {g} s t u text items yielded rest fresh commas r is taken =
+    let last = YieldsList-end (YieldsList-from_slice_split g (λ b. b == 44) text rest fresh refl commas)
+        items t yielded r u is taken in
+    last.1
 
--- the next item is done, and others are to come
-pub listing_goes_on : {A : Type 0} {value_of : List ℕ → Option A} {text list : List ℕ} {done : List A}
-    → IsListing value_of text list done → (value : A) (item left : List ℕ) → item ≡ front 44 list → left ≡ rest 44 list
-    → Some value ≡ value_of item → length done < 64 → 1 ≤ length left
-    → IsListing value_of text (behind_comma left) (done ++ value ∷ [])
-listing_goes_on h value item [] first is read few some = absurd (omega (arith, some))
-listing_goes_on {A} {value_of} {text} {list} {done} h value item (comma ∷ next) first is read few some =
-    let cut : parts 44 list ≡ item ∷ parts 44 next =
-    parts_cut 44 list ∙ ap (λ (xs : List ℕ). xs ∷ parts_behind 44 (rest 44 list)) (sym first)
-    ∙ ap (λ (xs : List ℕ). item ∷ parts_behind 44 xs) (sym is) in
-    rw (behind_is comma next) (record {
+-- nothing is read yet
+pub listing_begins : {A : Type 0} (value_of : List ℕ → Option A) (texts : List (List ℕ)) → IsListing value_of texts 0 []
+listing_begins value_of texts = record {
+  few = omega arith;
+  count = refl;
+  values = behind_none (all_of value_of texts);
+}
+
+-- one more is read
+pub listing_goes_on : {A : Type 0} {value_of : List ℕ → Option A} {texts : List (List ℕ)} {n : ℕ} {done : List A}
+    {item : List ℕ} → IsListing value_of texts n done → IsNext texts n item → (value : A) → Some value ≡ value_of item
+    → length done < 64 → IsListing value_of texts (n + 1) (done ++ value ∷ [])
+listing_goes_on {A} {value_of} {texts} {n} {done} h next value read few =
+    rw add-one (record {
       few = omega (arith, few, length-append done (value ∷ []));
-      values = h.values ∙ ap (λ (texts : List (List ℕ)). behind done (all_of value_of texts)) cut
-          ∙ first_done value_of done item (parts 44 next) value (sym read);
-      count = omega (arith, h.count, ap length cut, length-append done (value ∷ []));
+      count = omega (arith, h.count, length-append done (value ∷ []));
+      values = next_values h next (Some value) (sym read) ∙ behind_one done value (all_of value_of (drop (suc n) texts));
     })
-
--- the next item is done, and it is the last
-pub listing_ends : {A : Type 0} {value_of : List ℕ → Option A} {text list : List ℕ} {done : List A}
-    → IsListing value_of text list done → (value : A) (item left : List ℕ) → item ≡ front 44 list → left ≡ rest 44 list
-    → Some value ≡ value_of item → length done < 64 → length left < 1
-    → Some (done ++ value ∷ []) ≡ items_of value_of text
-listing_ends h value item (comma ∷ next) first is read few none = absurd (omega (arith, none))
-listing_ends {A} {value_of} {text} {list} {done} h value item [] first is read few none =
-    let cut : parts 44 list ≡ item ∷ [] =
-    parts_cut 44 list ∙ ap (λ (xs : List ℕ). xs ∷ parts_behind 44 (rest 44 list)) (sym first)
-    ∙ ap (λ (xs : List ℕ). item ∷ parts_behind 44 xs) (sym is) in
-    let within : length (parts 44 text) ≤ 64 = omega (arith, h.count, few, ap length cut) in
-    let all : all_of value_of (parts 44 text) ≡ Some (done ++ value ∷ []) =
-    h.values ∙ ap (λ (texts : List (List ℕ)). behind done (all_of value_of texts)) cut
-    ∙ ap (λ (o : Option _). behind done (option_and_then (with_first (Some [])) o)) (sym read) in
-    rw (le-leb (length (parts 44 text)) 64 within, all) refl
 
 either_none : {A : Type 0} (b : Bool) (o : Option A) → o ≡ None → None ≡ (if b then o else None)
 either_none true o is = sym is
 either_none false o is = refl
 
--- the next item is none
-pub listing_refused : {A : Type 0} {value_of : List ℕ → Option A} {text list : List ℕ} {done : List A}
-    → IsListing value_of text list done → (item : List ℕ) → item ≡ front 44 list → None ≡ value_of item
-    → None ≡ items_of value_of text
-listing_refused {A} {value_of} {text} {list} {done} h item first none =
-    let is : value_of (front 44 list) ≡ None = ap value_of (sym first) ∙ sym none in
-    either_none (nat_le (length (parts 44 text)) 64) (all_of value_of (parts 44 text))
-    (h.values ∙ ap (λ (texts : List (List ℕ)). behind done (all_of value_of texts)) (parts_cut 44 list)
-    ∙ ap (λ (o : Option _). behind done (option_and_then (with_first (all_of value_of (parts_behind 44 (rest 44 list)))) o)) is)
+-- an item that isn't read
+pub listing_refused : {A : Type 0} {value_of : List ℕ → Option A} (text : List ℕ) {n : ℕ} {done : List A}
+    {item : List ℕ} → IsListing value_of (parts 44 text) n done → IsNext (parts 44 text) n item
+    → None ≡ value_of item → None ≡ items_of value_of text
+listing_refused {A} {value_of} text h next none =
+    either_none (nat_le (length (parts 44 text)) 64) (all_of value_of (parts 44 text)) (next_values h next None (sym none))
 
--- there are 64 items before it
-pub listing_full : {A : Type 0} {value_of : List ℕ → Option A} {text list : List ℕ} {done : List A}
-    → IsListing value_of text list done → 64 ≤ length done → None ≡ items_of value_of text
-listing_full {A} {value_of} {text} {list} {done} h full =
-    let over : 64 < length (parts 44 text) = omega (arith, h.count, full, ap length (parts_cut 44 list)) in
+-- an item behind 64 others
+pub listing_full : {A : Type 0} {value_of : List ℕ → Option A} (text : List ℕ) {n : ℕ} {done : List A} {item : List ℕ}
+    → IsListing value_of (parts 44 text) n done → IsNext (parts 44 text) n item → 64 ≤ length done
+    → None ≡ items_of value_of text
+listing_full {A} {value_of} text h next full =
+    let over : 64 < length (parts 44 text) = omega (arith, h.count, full, next.within) in
     rw (lt-leb (length (parts 44 text)) 64 over) refl
+
+-- all are read
+pub listing_ends : {A : Type 0} {value_of : List ℕ → Option A} (text : List ℕ) {n : ℕ} {done : List A}
+    → IsListing value_of (parts 44 text) n done → n ≡ length (parts 44 text) → Some done ≡ items_of value_of text
+listing_ends {A} {value_of} text {n} {done} h last =
+    let within : length (parts 44 text) ≤ 64 = omega (arith, h.count, h.few, last) in
+    let none : drop n (parts 44 text) ≡ [] = drop_all n (parts 44 text) (omega (arith, last)) in
+    let all : all_of value_of (parts 44 text) ≡ Some done =
+        h.values ∙ ap (λ (ts : List (List ℕ)). behind done (all_of value_of ts)) none
+        ∙ ap (λ (xs : List A). Some xs) (append-nil done) in
+    rw (le-leb (length (parts 44 text)) 64 within, all) refl
 
 -- what the first of some answers is, and the others
 record IsFirst {A : Type 0} (o : Option A) (others : Option (List A)) (values : List A) : Type 0 where

@@ -5,11 +5,7 @@ ghost use Rattle.hum_values.specs.Cutting.{front, rest};
 fn front_len(text: &[u8], byte: u8) -> usize
     ensures { result ≡ length (front byte text.now) }
 {
-    let mut len = 0;
-    while len < text.len() && text[len] != byte {
-        len += 1;
-    }
-    len
+    text.iter().position(|b| *b == byte).unwrap_or(text.len())
 }
 
 /// What stands before the first such byte, and from it on.

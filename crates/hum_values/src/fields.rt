@@ -96,9 +96,7 @@ fn read_ranges(alloc: Global, text: &[u8]) -> Result<Option<Vec<FieldRange>>, Al
         option_map (λ ranges. ranges.items) found ≡ items_of fields_of text.now) }
 {
     let mut ranges = Vec::new(alloc);
-    let mut list = text;
-    loop {
-        let (item, rest) = cut(list, b',');
+    for item in text.split(|byte| *byte == b',') {
         let Some(range) = field_range(item) else {
             return Ok(None);
         };
@@ -106,11 +104,8 @@ fn read_ranges(alloc: Global, text: &[u8]) -> Result<Option<Vec<FieldRange>>, Al
             return Ok(None);
         }
         ranges.push(range)?;
-        match rest {
-            [] => return Ok(Some(ranges)),
-            [_, behind @ ..] => list = behind,
-        }
     }
+    Ok(Some(ranges))
 }
 
 /// The fields that a list names, if it is one: 1 to 64 items between commas, each `a`, `$` for the

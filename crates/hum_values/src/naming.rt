@@ -7,7 +7,6 @@ ghost use Rattle.hum_values.specs.Items.{AreListed, items_of};
 ghost use Rattle.hum_values.specs.Names.{IsListedName, name_of, IsLabel, is_label};
 
 use crate::MOST_ITEMS;
-use crate::cutting::cut;
 use hum_cleave::{is_name, is_separator};
 use std::alloc::{AllocError, Global};
 
@@ -16,9 +15,7 @@ fn read_names(alloc: Global, text: &[u8]) -> Result<Option<Vec<Vec<u8>>>, AllocE
         option_map (λ names. texts names.items) found ≡ items_of name_of text.now) }
 {
     let mut names = Vec::new(alloc);
-    let mut list = text;
-    loop {
-        let (item, rest) = cut(list, b',');
+    for item in text.split(|byte| *byte == b',') {
         if !is_name(item) {
             return Ok(None);
         }
@@ -26,11 +23,8 @@ fn read_names(alloc: Global, text: &[u8]) -> Result<Option<Vec<Vec<u8>>>, AllocE
             return Ok(None);
         }
         names.push(item.to_vec(alloc)?)?;
-        match rest {
-            [] => return Ok(Some(names)),
-            [_, behind @ ..] => list = behind,
-        }
     }
+    Ok(Some(names))
 }
 
 /// The names of exclusive interpretations that a list has, if it is one: 1 to 64 between commas,
