@@ -1,11 +1,11 @@
 -- What stands before a byte and from it on.
-use Rattle.std.proofs.Common.{◌≡◌, ◌≢◌, ◌≤◌, ◌+◌, ◌==◌, refl, ap, sym, ◌∙◌, ℕ, zero, suc, Bool, true, false}
+use Rattle.std.proofs.Common.{◌≡◌, ◌≤◌, ◌+◌, ◌==◌, refl, ap, ℕ, true, false}
 use Rattle.std.proofs.Common.{List, [], ◌∷◌, ◌++◌, length, take, drop, arith}
-use Rattle.std.specs.List.{AllByRecursion, slice_split, onto_first}
+use Rattle.std.specs.List.{AllByRecursion, onto_first}
 use Rattle.std.proofs.lemmas.Bool.{or_parts, eqb-true, eq-eqb, ne_eqb}
 use Rattle.hum_record.specs.Spelling.{has_byte}
 use Rattle.hum_path.proofs.Cases.{by_bool}
-use Rattle.hum_values.specs.Cutting.{front, rest, parts, parts_behind}
+use Rattle.hum_values.specs.Cutting.{front, rest, parts}
 
 pub front_taken : (byte : ℕ) (text : List ℕ) → take (length (front byte text)) text ≡ front byte text
 front_taken byte [] = refl
@@ -21,11 +21,6 @@ length-front-le byte [] = omega arith
 length-front-le byte (b ∷ bytes) = by_bool (b == byte) (λ w. rw w (omega arith))
     (λ w. rw w (let more = length-front-le byte bytes in omega (arith, more)))
 
-pub length-rest-le : (byte : ℕ) (text : List ℕ) → length (rest byte text) ≤ length text
-length-rest-le byte [] = omega arith
-length-rest-le byte (b ∷ bytes) = by_bool (b == byte) (λ w. rw w (omega arith))
-    (λ w. rw w (let more = length-rest-le byte bytes in omega (arith, more)))
-
 -- a text is its two parts
 pub whole : (byte : ℕ) (text : List ℕ) → front byte text ++ rest byte text ≡ text
 whole byte [] = refl
@@ -39,12 +34,6 @@ rest_begins byte [] b bytes e = cc
 rest_begins byte (x ∷ xs) b bytes e = by_bool (x == byte)
     (λ w. let is : x ≡ byte = eqb-true x byte w in let same : x ∷ xs ≡ b ∷ bytes = rw w at e in cc)
     (λ w. rest_begins byte xs b bytes (rw w at e))
-
--- the first part, and those behind it
-pub parts_cut : (byte : ℕ) (text : List ℕ) → parts byte text ≡ front byte text ∷ parts_behind byte (rest byte text)
-parts_cut byte [] = refl
-parts_cut byte (b ∷ bytes) = by_bool (b == byte) (λ w. rw w refl)
-    (λ w. rw w (ap (onto_first b) (parts_cut byte bytes)))
 
 -- no part holds the byte
 lacking : (byte : ℕ) (x : ℕ) (xss : List (List ℕ)) → (x == byte) ≡ false

@@ -1,6 +1,6 @@
 -- Numbers and their digits.
-use Rattle.std.proofs.Common.{◌≡◌, ◌≢◌, ◌<◌, ◌≤◌, ◌+◌, ◌-◌, ◌*◌, ◌^◌, ◌==◌, ◌&&◌, ◌||◌, not, refl, ap, sym, ◌∙◌, ℕ, zero, suc, Bool, true, false}
-use Rattle.std.proofs.Common.{List, [], ◌∷◌, ◌++◌, length, take, drop, drop-cons, get_or, arith, rules, None, Some, Option}
+use Rattle.std.proofs.Common.{◌≡◌, ◌<◌, ◌≤◌, ◌+◌, ◌-◌, ◌*◌, ◌^◌, ◌==◌, ◌&&◌, refl, ap, sym, ◌∙◌, ℕ, zero, suc, Bool, true, false}
+use Rattle.std.proofs.Common.{List, [], ◌∷◌, ◌++◌, length, drop, drop-cons, get_or, arith, rules, None, Some, Option}
 use Rattle.std.specs.Prelude.{if◌then◌else◌, nat_le, decimal}
 use Rattle.std.specs.Str.{all_ascii_digits, bytes_eq}
 use lib.Chars.{codes}
@@ -10,7 +10,7 @@ use Rattle.std.proofs.lemmas.Bool.Decides.{nat_tests}
 use Rattle.std.proofs.lemmas.Fmt.{decimal_digit, decimal_nonempty, first_decimal, digits_decimal, digits_value-decimal, decimal-digits_value}
 use Rattle.std.proofs.lemmas.Str.Parse.{IsNumeralModel, numerals_by_fold}
 use Rattle.hum_record.specs.Spelling.{has_byte}
-use Rattle.hum_values.specs.Numbers.{IsNumber, IsPositive, value_of, is_empty, is_plain, digits_of, number_of, positive_of, above_zero}
+use Rattle.hum_values.specs.Numbers.{IsNumber, IsPositive, value_of, is_plain, digits_of, number_of, positive_of, above_zero}
 use Rattle.hum_values.proofs.Choices.{chosen}
 
 -- more digits make it no less

@@ -1,5 +1,5 @@
 -- Lists of fields, worked by the definitions.
-use Rattle.std.proofs.Common.{◌≡◌, ℕ, List, [], ◌∷◌, ◌++◌, Option, None, Some, refl, replicate, lit<, lit≤}
+use Rattle.std.proofs.Common.{◌≡◌, ℕ, List, [], ◌∷◌, Option, None, Some, refl, replicate, lit<, lit≤}
 use Rattle.std.specs.Fmt.{digits}
 use lib.Chars.{codes}
 use Rattle.hum_extract.specs.declared.choice.FieldRange.{FieldRange}

@@ -1,5 +1,5 @@
 -- Items between commas.
-use Rattle.std.proofs.Common.{◌≡◌, ◌≢◌, ◌<◌, ◌≤◌, ◌+◌, ◌-◌, ◌==◌, drop, drop-cons, get_or, add-one, refl, ap, sym, ◌∙◌, subst, ℕ, suc, Bool, true, false}
+use Rattle.std.proofs.Common.{◌≡◌, ◌<◌, ◌≤◌, ◌+◌, ◌==◌, drop, drop-cons, get_or, add-one, refl, ap, sym, ◌∙◌, subst, ℕ, suc, Bool, true, false}
 use Rattle.std.proofs.Common.{List, [], ◌∷◌, ◌++◌, length, arith, None, Some, Option, append_assoc, length-append}
 use Rattle.std.specs.Prelude.{if◌then◌else◌, nat_le}
 use Rattle.std.specs.Option.{option_map, option_and_then}
@@ -14,12 +14,12 @@ use denote.Param.Members.{Mut}
 use denote.Ref.{Bor}
 use Rattle.std.proofs.lemmas.Iterator.Splits.{YieldsList-from_slice_split}
 use Rattle.std.proofs.lemmas.Iterator.Consumers.{YieldsList-turn, YieldsList-end}
-use Rattle.std.proofs.lemmas.List.Splits.{join_with_byte-slice_split}
+use Rattle.std.proofs.lemmas.List.Splits.{join_with_byte-slice_split, length-slice_split}
 use Rattle.hum_record.specs.Spelling.{has_byte}
 use Rattle.hum_values.specs.Cutting.{parts}
 use Rattle.hum_values.specs.Items.{AreItems, one, more, AreListed, with_first, all_of, items_of}
-use Rattle.hum_values.proofs.Choices.{chosen, mapped}
-use Rattle.hum_values.proofs.Cuts.{parts_cut, parts_lack, parts_alone, parts_before}
+use Rattle.hum_values.proofs.Choices.{chosen}
+use Rattle.hum_values.proofs.Cuts.{parts_lack, parts_alone, parts_before}
 
 -- the values of what is still to come, behind those that are done
 abbrev pub behind : {A : Type 0} → List A → Option (List A) → Option (List A)
@@ -36,10 +36,6 @@ pub record IsListing {A : Type 0} (value_of : List ℕ → Option A) (texts : Li
 pub record IsNext (texts : List (List ℕ)) (n : ℕ) (item : List ℕ) : Type 0 where
   pub within : n < length texts
   pub is : item ≡ get_or texts n item
-
-behind_none : {A : Type 0} (o : Option (List A)) → o ≡ behind [] o
-behind_none None = refl
-behind_none (Some values) = refl
 
 behind_one : {A : Type 0} (done : List A) (value : A) (o : Option (List A))
     → behind done (with_first o value) ≡ behind (done ++ value ∷ []) o
@@ -68,7 +64,7 @@ pub next_item : {F : Type 0} {g : Mut F (Bor ℕ × Unit {0}) Bool} (s t u : Spl
     → IsNext (parts 44 text) (length items) item.now
 next_item {F} {g} s t u text items yielded rest fresh commas r item is taken =
     let turn = YieldsList-turn (YieldsList-from_slice_split g (λ b. b == 44) text rest fresh refl commas)
-        items t yielded r u item is taken in
+    items t yielded r u item is taken in
     record { within = turn.0; is = turn.1 }
 
 -- where it takes none, it has taken all
@@ -78,16 +74,8 @@ pub no_item : {F : Type 0} {g : Mut F (Bor ℕ × Unit {0}) Bool} (s t u : Split
     → (r : Option (Bor (List ℕ))) → r ≡ None → split_steps g t r u → length items ≡ length (parts 44 text)
 no_item {F} {g} s t u text items yielded rest fresh commas r is taken =
     let last = YieldsList-end (YieldsList-from_slice_split g (λ b. b == 44) text rest fresh refl commas)
-        items t yielded r u is taken in
+    items t yielded r u is taken in
     last.1
-
--- nothing is read yet
-pub listing_begins : {A : Type 0} (value_of : List ℕ → Option A) (texts : List (List ℕ)) → IsListing value_of texts 0 []
-listing_begins value_of texts = record {
-  few = omega arith;
-  count = refl;
-  values = behind_none (all_of value_of texts);
-}
 
 -- one more is read
 pub listing_goes_on : {A : Type 0} {value_of : List ℕ → Option A} {texts : List (List ℕ)} {n : ℕ} {done : List A}
@@ -126,8 +114,8 @@ listing_ends {A} {value_of} text {n} {done} h last =
     let within : length (parts 44 text) ≤ 64 = omega (arith, h.count, h.few, last) in
     let none : drop n (parts 44 text) ≡ [] = drop_all n (parts 44 text) (omega (arith, last)) in
     let all : all_of value_of (parts 44 text) ≡ Some done =
-        h.values ∙ ap (λ (ts : List (List ℕ)). behind done (all_of value_of ts)) none
-        ∙ ap (λ (xs : List A). Some xs) (append-nil done) in
+    h.values ∙ ap (λ (ts : List (List ℕ)). behind done (all_of value_of ts)) none
+    ∙ ap (λ (xs : List A). Some xs) (append-nil done) in
     rw (le-leb (length (parts 44 text)) 64 within, all) refl
 
 -- what the first of some answers is, and the others
@@ -172,7 +160,7 @@ module _ {A : Type 0} (value_of : List ℕ → Option A) (IsItem : List ℕ → 
   pub items_are : (text : List ℕ) (values : List A) → items_of value_of text ≡ Some values → AreListed IsItem text values
   items_are text values e =
       let test = chosen (nat_le (length (parts 44 text)) 64) (all_of value_of (parts 44 text)) values e in
-      let some : 0 < length (parts 44 text) = omega (arith, ap length (parts_cut 44 text)) in
+      let some : 0 < length (parts 44 text) = omega (arith, length-slice_split (λ b. b == 44) text) in
       let all = all_are (parts 44 text) values (parts_lack 44 text) some test.1 in
       let P : List ℕ → Type 0 = λ t. AreItems IsItem t values in
       record {

@@ -1,5 +1,5 @@
 -- Names, as an item of a list gives them.
-use Rattle.std.proofs.Common.{◌≡◌, refl, ap, sym, ◌∙◌, ℕ, Bool, true, false, None, Some, Option, List, [], ◌∷◌, ◌++◌, map}
+use Rattle.std.proofs.Common.{◌≡◌, refl, ap, ℕ, true, false, None, Some, List, [], ◌∷◌, ◌++◌}
 use Rattle.std.proofs.Common.{Vec, Global, length, suc}
 use Rattle.hum_path.specs.Spines.{texts}
 use Rattle.hum_record.specs.Spelling.{has_byte}

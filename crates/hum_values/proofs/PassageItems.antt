@@ -1,6 +1,6 @@
 -- Passages, as an item of a list names them.
-use Rattle.std.proofs.Common.{◌≡◌, ◌<◌, ◌≤◌, ◌^◌, ◌==◌, refl, ap, subst, sym, ◌∙◌, ℕ, Bool, true, false}
-use Rattle.std.proofs.Common.{List, [], ◌∷◌, ◌++◌, length, None, Some, Option, lit<, arith}
+use Rattle.std.proofs.Common.{◌≡◌, ◌<◌, ◌≤◌, ◌==◌, refl, ap, subst, sym, ◌∙◌, ℕ, true, false}
+use Rattle.std.proofs.Common.{List, [], ◌∷◌, ◌++◌, None, Some, Option, lit<, arith}
 use Rattle.std.specs.Prelude.{nat_le}
 use Rattle.std.specs.Str.{all_ascii_digits}
 use Rattle.std.specs.Char.{is_ascii_digit}

@@ -1,6 +1,6 @@
 -- Numbers with a sign.
-use Rattle.std.proofs.Common.{◌≡◌, ◌<◌, ◌≤◌, ◌^◌, ◌==◌, refl, ap, subst, sym, ◌∙◌, ℕ, zero, suc, Bool, true, false}
-use Rattle.std.proofs.Common.{List, [], ◌∷◌, arith, None, Some, Option}
+use Rattle.std.proofs.Common.{◌≡◌, ◌<◌, ◌≤◌, ◌^◌, ◌==◌, ap, subst, sym, ℕ, zero, suc, true, false}
+use Rattle.std.proofs.Common.{List, [], ◌∷◌, arith, Some}
 use Rattle.std.specs.Prelude.{ℤ, pos, neg_ℤ, nat_abs}
 use Rattle.std.specs.Option.{option_map}
 use Rattle.std.specs.Str.{all_ascii_digits}
@@ -8,7 +8,7 @@ use Rattle.std.specs.Char.{is_ascii_digit}
 use Rattle.std.proofs.lemmas.Bool.{and_parts, eqb-true}
 use Rattle.std.proofs.lemmas.Bool.Decides.{nat_tests}
 use Rattle.hum_path.proofs.Cases.{by_bool}
-use Rattle.hum_values.specs.Numbers.{IsNumber, IsSigned, plain, plus, minus, negated, number_of, signed_of}
+use Rattle.hum_values.specs.Numbers.{IsSigned, plain, plus, minus, negated, number_of, signed_of}
 use Rattle.hum_values.proofs.Choices.{mapped}
 use Rattle.hum_values.proofs.Digits.{number_is, number_alone, number_digits}
 

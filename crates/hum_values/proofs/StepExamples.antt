@@ -1,5 +1,5 @@
 -- Steps of a timebase, worked by the definitions.
-use Rattle.std.proofs.Common.{◌≡◌, ℕ, [], Option, None, Some, refl}
+use Rattle.std.proofs.Common.{◌≡◌, ℕ, [], None, Some, refl}
 use lib.Chars.{codes}
 use Rattle.hum_frac.specs.Gcd.{gcd, gcd_in}
 use Rattle.hum_frac.specs.Ratio.{Ratio}

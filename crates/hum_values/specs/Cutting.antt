@@ -15,8 +15,3 @@ rest byte (b ∷ bytes) = if b == byte then b ∷ bytes else rest byte bytes
 -- the parts of a text between such bytes
 abbrev pub parts : ℕ → List ℕ → List (List ℕ)
 parts byte = slice_split (λ b. b == byte)
-
--- the parts behind the first, by what stands from the first such byte on
-abbrev pub parts_behind : ℕ → List ℕ → List (List ℕ)
-parts_behind byte [] = []
-parts_behind byte (b ∷ bytes) = parts byte bytes

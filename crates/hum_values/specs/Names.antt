@@ -1,5 +1,5 @@
 -- Names, labels and what goes between data.
-use Rattle.std.specs.Prelude.{◌≡◌, ◌≢◌, ℕ, Bool, true, false, not, ◌&&◌, ◌||◌, List, []}
+use Rattle.std.specs.Prelude.{◌≡◌, ◌≢◌, ℕ, Bool, true, false, not, ◌&&◌, List, []}
 use Rattle.std.specs.Prelude.{Option, None, Some, if◌then◌else◌}
 use Rattle.hum_record.specs.Spelling.{has_byte}
 use Rattle.hum_cleave.specs.Cleave.{is_name, fits_in_token}

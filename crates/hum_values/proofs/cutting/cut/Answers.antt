@@ -1,4 +1,4 @@
-use Rattle.std.proofs.Common.{◌≡◌, ◌≤◌, ℕ, ap, ◌∙◌, take, drop, length}
+use Rattle.std.proofs.Common.{ℕ, ap, ◌∙◌, take, drop}
 use Rattle.hum_values.proofs.Cuts.{front_taken, rest_left, length-front-le}
 use Rattle.hum_values.proofs.cutting.cut.Goals as goal
 

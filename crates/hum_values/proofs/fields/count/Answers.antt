@@ -1,4 +1,4 @@
-use Rattle.std.proofs.Common.{◌≡◌, ◌∙◌}
+use Rattle.std.proofs.Common.{◌∙◌}
 use Rattle.hum_values.specs.Fields.{IsCount, count_of}
 use Rattle.hum_values.proofs.Choices.{IfSome_mapped}
 use Rattle.hum_values.proofs.FieldItems.{count_is, count_alone}

@@ -1,4 +1,4 @@
-use Rattle.std.proofs.Common.{◌≡◌, ◌<◌, arith, length}
+use Rattle.std.proofs.Common.{arith}
 use Rattle.hum_values.proofs.Digits.{goes_over}
 use Rattle.hum_values.proofs.numbers.digits_value.Goals as goal
 

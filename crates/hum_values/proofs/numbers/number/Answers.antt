@@ -1,4 +1,4 @@
-use Rattle.std.proofs.Common.{◌≡◌, ◌∙◌, arith, ap}
+use Rattle.std.proofs.Common.{◌∙◌, arith}
 use Rattle.hum_values.proofs.Choices.{IfSome_from}
 use Rattle.hum_values.proofs.Digits.{number_is, number_alone}
 use Rattle.hum_values.proofs.numbers.number.Goals as goal

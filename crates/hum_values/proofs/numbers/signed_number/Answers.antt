@@ -1,4 +1,4 @@
-use Rattle.std.proofs.Common.{◌≡◌, ◌∙◌, arith, ap}
+use Rattle.std.proofs.Common.{◌∙◌, arith}
 use Rattle.hum_values.proofs.Choices.{IfSome_from}
 use Rattle.hum_values.proofs.Signs.{signed_is, signed_alone, signed_within}
 use Rattle.hum_values.proofs.numbers.signed_number.Goals as goal
