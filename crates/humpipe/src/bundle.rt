@@ -1,7 +1,6 @@
 //! Bundles: a plan's lines, then for each score a line `--- NAME` and the score's bytes.
 ghost use Rattle.std.specs.Prelude.{◌≤◌, length};
 
-use crate::plan::without_cr;
 use memchr::memchr;
 
 /// How large a bundle may be, in bytes.
@@ -28,6 +27,14 @@ fn cut_line(bytes: &[u8]) -> (&[u8], &[u8])
     match memchr(b'\n', bytes) {
         Some(k) => (&bytes[..k], &bytes[k + 1..]),
         None => (bytes, &[]),
+    }
+}
+
+/// A line without one CR at its end.
+fn without_cr(line: &[u8]) -> &[u8] {
+    match line {
+        [front @ .., b'\r'] => front,
+        _ => line,
     }
 }
 

@@ -18,7 +18,6 @@ mod rows;
 mod run;
 #[cfg(test)]
 mod tests;
-mod values;
 #[cfg(test)]
 mod waiting_tests;
 mod words;

@@ -1,15 +1,17 @@
 //! The options of commands, as a plan spells them.
-use crate::values::{count, fields, is_label, names, pattern, ranges, signed_number};
 use crate::words::Given;
-use hum_cleave::{CleaveOptions, is_name, is_separator};
-use hum_context::{ContextOptions, Span, TokenCount};
+use hum_cleave::CleaveOptions;
+use hum_context::{ContextOptions, Span};
 use hum_ditto::DittoOptions;
 use hum_extract::Choice;
-use hum_kern::read_recip;
-use hum_pattern::Pattern;
+use hum_pattern::{Pattern, PatternFault};
 use hum_rid::RidOptions;
 use hum_timebase::TimebaseOptions;
 use hum_tones::{MintOptions, RecipOptions, SemitsOptions, Transposition};
+use hum_values::{
+    count, field_ranges, is_label, is_name, is_separator, names, passage_ranges, signed_number,
+    step,
+};
 use hum_yank::{Markers, YankOptions};
 use std::alloc::{AllocError, Global};
 
@@ -45,8 +47,8 @@ pub fn no_letters() -> RidOptions {
 }
 
 /// Takes a word of rid's letters, and says whether it is one.
-fn take_letters(options: &mut RidOptions, word: &[u8]) -> bool {
-    let [b'-', letters @ ..] = word else {
+fn take_letters(options: &mut RidOptions, word: &str) -> bool {
+    let [b'-', letters @ ..] = word.as_bytes() else {
         return false;
     };
     for letter in letters {
@@ -67,7 +69,7 @@ fn take_letters(options: &mut RidOptions, word: &[u8]) -> bool {
 }
 
 /// The options of rid's words: at least one, and each of letters.
-fn rid_options(words: &[&[u8]]) -> Option<RidOptions> {
+fn rid_options(words: &[&str]) -> Option<RidOptions> {
     let mut options = no_letters();
     for word in words {
         if !take_letters(&mut options, *word) {
@@ -82,14 +84,23 @@ fn rid_options(words: &[&[u8]]) -> Option<RidOptions> {
 }
 
 /// What extract's words choose: `-f LIST` or `-i NAMES`.
-fn choice(alloc: Global, words: &[&[u8]]) -> Result<Option<Choice>, AllocError> {
+fn choice(alloc: Global, words: &[&str]) -> Result<Option<Choice>, AllocError> {
     let Some(given) = Given::read(words, b"fi", b"") else {
         return Ok(None);
     };
     match (given.value(b'f'), given.value(b'i')) {
-        (Some(list), None) => fields(alloc, list),
-        (None, Some(list)) => names(alloc, list),
+        (Some(list), None) => Ok(field_ranges(alloc, list)?.map(Choice::Fields)),
+        (None, Some(list)) => Ok(names(alloc, list)?.map(Choice::Names)),
         _ => Ok(None),
+    }
+}
+
+/// The pattern of a word, if it is one.
+fn pattern(alloc: Global, word: &str) -> Result<Option<Pattern>, AllocError> {
+    match Pattern::new(alloc, word) {
+        Ok(pattern) => Ok(Some(pattern)),
+        Err(PatternFault::Memory) => Err(AllocError),
+        Err(_) => Ok(None),
     }
 }
 
@@ -97,7 +108,7 @@ fn choice(alloc: Global, words: &[&[u8]]) -> Result<Option<Choice>, AllocError> 
 /// no pattern.
 fn optional_pattern(
     alloc: Global,
-    value: Option<&[u8]>,
+    value: Option<&str>,
 ) -> Result<Option<Option<Pattern>>, AllocError> {
     match value {
         None => Ok(Some(None)),
@@ -106,11 +117,11 @@ fn optional_pattern(
 }
 
 /// What ditto's words say: `-s PATTERN` and `-p`.
-fn ditto_options(alloc: Global, words: &[&[u8]]) -> Result<Option<DittoOptions>, AllocError> {
+fn ditto_options(alloc: Global, words: &[&str]) -> Result<Option<DittoOptions>, AllocError> {
     let Some(given) = Given::read(words, b"s", b"p") else {
         return Ok(None);
     };
-    let Some(skip) = optional_pattern(alloc, given.value(b's'))? else {
+    let Some(skip) = optional_pattern(alloc, given.text(b's'))? else {
         return Ok(None);
     };
     Ok(Some(DittoOptions {
@@ -120,7 +131,7 @@ fn ditto_options(alloc: Global, words: &[&[u8]]) -> Result<Option<DittoOptions>,
 }
 
 /// What cleave's words say: `-i NAME`, `-o NAME`, and `-d TEXT` or not.
-fn cleave_options(alloc: Global, words: &[&[u8]]) -> Result<Option<CleaveOptions>, AllocError> {
+fn cleave_options(alloc: Global, words: &[&str]) -> Result<Option<CleaveOptions>, AllocError> {
     let Some(given) = Given::read(words, b"iod", b"") else {
         return Ok(None);
     };
@@ -140,11 +151,8 @@ fn cleave_options(alloc: Global, words: &[&[u8]]) -> Result<Option<CleaveOptions
 
 /// How many tokens are collected: `-n N`, or `-b PATTERN` and `-e PATTERN`.
 fn read_span(alloc: Global, given: Given<'_>) -> Result<Option<Span>, AllocError> {
-    match (given.value(b'n'), given.value(b'b'), given.value(b'e')) {
-        (Some(number), None, None) => match count(number) {
-            None => Ok(None),
-            Some(number) => Ok(Some(Span::Number(TokenCount { number }))),
-        },
+    match (given.value(b'n'), given.text(b'b'), given.text(b'e')) {
+        (Some(number), None, None) => Ok(count(number).map(Span::Number)),
         (None, Some(begin), Some(end)) => match (pattern(alloc, begin)?, pattern(alloc, end)?) {
             (Some(begin), Some(end)) => Ok(Some(Span::Phrase(begin, end))),
             _ => Ok(None),
@@ -154,11 +162,11 @@ fn read_span(alloc: Global, given: Given<'_>) -> Result<Option<Span>, AllocError
 }
 
 /// What context's words say: how many tokens are collected, and `-o PATTERN` or not.
-fn context_options(alloc: Global, words: &[&[u8]]) -> Result<Option<ContextOptions>, AllocError> {
+fn context_options(alloc: Global, words: &[&str]) -> Result<Option<ContextOptions>, AllocError> {
     let Some(given) = Given::read(words, b"nbeo", b"") else {
         return Ok(None);
     };
-    let Some(omit) = optional_pattern(alloc, given.value(b'o'))? else {
+    let Some(omit) = optional_pattern(alloc, given.text(b'o'))? else {
         return Ok(None);
     };
     match read_span(alloc, given)? {
@@ -170,11 +178,11 @@ fn context_options(alloc: Global, words: &[&[u8]]) -> Result<Option<ContextOptio
 /// How yank's words mark passages: `-l`, `-n PATTERN`, `-o PATTERN` with `-e PATTERN` or not, or
 /// `-s LABEL`.
 fn markers(alloc: Global, given: Given<'_>) -> Result<Option<Markers>, AllocError> {
-    let ends = given.value(b'e');
+    let ends = given.text(b'e');
     let forms = (
         given.has(b'l'),
-        given.value(b'n'),
-        given.value(b'o'),
+        given.text(b'n'),
+        given.text(b'o'),
         given.value(b's'),
     );
     match (forms, ends) {
@@ -196,36 +204,32 @@ fn markers(alloc: Global, given: Given<'_>) -> Result<Option<Markers>, AllocErro
 }
 
 /// What yank's words say: how passages are marked, and `-r RANGES`.
-fn yank_options(alloc: Global, words: &[&[u8]]) -> Result<Option<YankOptions>, AllocError> {
+fn yank_options(alloc: Global, words: &[&str]) -> Result<Option<YankOptions>, AllocError> {
     let Some(given) = Given::read(words, b"noesr", b"l") else {
         return Ok(None);
     };
     let Some(list) = given.value(b'r') else {
         return Ok(None);
     };
-    match (markers(alloc, given)?, ranges(alloc, list)?) {
+    match (markers(alloc, given)?, passage_ranges(alloc, list)?) {
         (Some(markers), Some(ranges)) => Ok(Some(YankOptions { markers, ranges })),
         _ => Ok(None),
     }
 }
 
 /// What timebase's words say: `-t RECIP`.
-fn timebase_options(alloc: Global, words: &[&[u8]]) -> Result<Option<TimebaseOptions>, AllocError> {
+fn timebase_options(alloc: Global, words: &[&str]) -> Result<Option<TimebaseOptions>, AllocError> {
     let Some(given) = Given::read(words, b"t", b"") else {
         return Ok(None);
     };
-    let Some(word) = given.value(b't') else {
-        return Ok(None);
-    };
-    let text = word.to_vec(alloc)?;
-    match read_recip(&text) {
-        Ok(step) => Ok(Some(TimebaseOptions { step, text })),
-        Err(_) => Ok(None),
+    match given.value(b't') {
+        Some(word) => step(alloc, word),
+        None => Ok(None),
     }
 }
 
 /// What trans's words say: `-d INT` and `-c INT`.
-fn transposition(words: &[&[u8]]) -> Option<Transposition> {
+fn transposition(words: &[&str]) -> Option<Transposition> {
     let given = Given::read(words, b"dc", b"")?;
     let steps = signed_number(given.value(b'd')?, 49)?;
     let semitones = signed_number(given.value(b'c')?, 84)?;
@@ -237,11 +241,11 @@ fn transposition(words: &[&[u8]]) -> Option<Transposition> {
 }
 
 /// What mint's words say: `-a`, `-d` and `-b PATTERN`.
-fn mint_options(alloc: Global, words: &[&[u8]]) -> Result<Option<MintOptions>, AllocError> {
+fn mint_options(alloc: Global, words: &[&str]) -> Result<Option<MintOptions>, AllocError> {
     let Some(given) = Given::read(words, b"b", b"ad") else {
         return Ok(None);
     };
-    let Some(breaks) = optional_pattern(alloc, given.value(b'b'))? else {
+    let Some(breaks) = optional_pattern(alloc, given.text(b'b'))? else {
         return Ok(None);
     };
     Ok(Some(MintOptions {
@@ -252,7 +256,7 @@ fn mint_options(alloc: Global, words: &[&[u8]]) -> Result<Option<MintOptions>, A
 }
 
 /// What semits's words say: `-x`, and `-t` or not.
-fn semits_options(words: &[&[u8]]) -> Option<SemitsOptions> {
+fn semits_options(words: &[&str]) -> Option<SemitsOptions> {
     let given = Given::read(words, b"", b"xt")?;
     if given.has(b'x') {
         Some(SemitsOptions {
@@ -264,7 +268,7 @@ fn semits_options(words: &[&[u8]]) -> Option<SemitsOptions> {
 }
 
 /// What recip's words say: there are none.
-fn recip_options(words: &[&[u8]]) -> Option<RecipOptions> {
+fn recip_options(words: &[&str]) -> Option<RecipOptions> {
     if words.is_empty() {
         Some(RecipOptions)
     } else {
@@ -275,30 +279,30 @@ fn recip_options(words: &[&[u8]]) -> Option<RecipOptions> {
 /// The options of a command by its word, if they are such.
 pub fn command_options(
     alloc: Global,
-    command: &[u8],
-    words: &[&[u8]],
+    command: &str,
+    words: &[&str],
 ) -> Result<Option<CommandOptions>, AllocError> {
-    if command == b"rid".as_slice() {
+    if command == "rid" {
         Ok(rid_options(words).map(CommandOptions::Rid))
-    } else if command == b"extract".as_slice() {
+    } else if command == "extract" {
         Ok(choice(alloc, words)?.map(CommandOptions::Extract))
-    } else if command == b"ditto".as_slice() {
+    } else if command == "ditto" {
         Ok(ditto_options(alloc, words)?.map(CommandOptions::Ditto))
-    } else if command == b"timebase".as_slice() {
+    } else if command == "timebase" {
         Ok(timebase_options(alloc, words)?.map(CommandOptions::Timebase))
-    } else if command == b"trans".as_slice() {
+    } else if command == "trans" {
         Ok(transposition(words).map(CommandOptions::Trans))
-    } else if command == b"semits".as_slice() {
+    } else if command == "semits" {
         Ok(semits_options(words).map(CommandOptions::Semits))
-    } else if command == b"recip".as_slice() {
+    } else if command == "recip" {
         Ok(recip_options(words).map(CommandOptions::Recip))
-    } else if command == b"mint".as_slice() {
+    } else if command == "mint" {
         Ok(mint_options(alloc, words)?.map(CommandOptions::Mint))
-    } else if command == b"cleave".as_slice() {
+    } else if command == "cleave" {
         Ok(cleave_options(alloc, words)?.map(CommandOptions::Cleave))
-    } else if command == b"context".as_slice() {
+    } else if command == "context" {
         Ok(context_options(alloc, words)?.map(CommandOptions::Context))
-    } else if command == b"yank".as_slice() {
+    } else if command == "yank" {
         Ok(yank_options(alloc, words)?.map(CommandOptions::Yank))
     } else {
         Ok(None)
