@@ -1,0 +1,9 @@
+pub mod Fronts
+pub mod Good
+pub mod States
+pub mod Keeping
+pub mod Against
+pub mod Progress
+pub mod Counting
+pub mod Every
+pub mod Faults
