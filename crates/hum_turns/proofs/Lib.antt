@@ -7,3 +7,5 @@ pub mod Progress
 pub mod Counting
 pub mod Every
 pub mod Faults
+pub mod Writing
+pub mod Picking
