@@ -9,3 +9,5 @@ pub mod Every
 pub mod Faults
 pub mod Writing
 pub mod Picking
+pub mod Ending
+pub mod Places

@@ -43,7 +43,7 @@ first_is (true ∷ bs) k h = refl
 first_is (false ∷ bs) zero h = absurd (false≢true h)
 first_is (false ∷ bs) (suc k) h = first_is bs k h
 
-chosen_is : (bs : List Bool) (p k : ℕ) → get_or bs k false ≡ true
+pub chosen_is : (bs : List Bool) (p k : ℕ) → get_or bs k false ≡ true
     → get_or bs (chosen bs p) false ≡ true
 chosen_is bs p k h =
     ⊎_elim

@@ -8,3 +8,4 @@ pub mod Holds
 pub mod Text
 pub mod Failures
 pub mod Orders
+pub mod Ends

@@ -1,5 +1,5 @@
 -- Orders: who has the next turn, by a rule that sees which actors are ready and may remember.
-use Rattle.std.specs.Prelude.{◌≡◌, ℕ, zero, suc, ◌+◌, ◌<◌, ◌≤◌, Bool, true, false}
+use Rattle.std.specs.Prelude.{◌≡◌, ℕ, zero, suc, ◌+◌, ◌≤◌, ◌<◌, Bool, true, false, ◌||◌}
 use Rattle.std.specs.Prelude.{List, [], ◌∷◌, ◌++◌, map, get_or, Option, None, if◌then◌else◌}
 use Rattle.hum_turns.specs.declared.result.RunResult.{RunResult}
 use Rattle.hum_turns.specs.Plan.{Plan, IsPlan}
@@ -24,6 +24,14 @@ abbrev pub first_true : List Bool → ℕ
 first_true [] = 0
 first_true (true ∷ bs) = 0
 first_true (false ∷ bs) = suc (first_true bs)
+
+abbrev pub some_true : List Bool → Bool
+some_true [] = false
+some_true (b ∷ bs) = b || some_true bs
+
+abbrev pub last_true : List Bool → ℕ
+last_true [] = 0
+last_true (b ∷ bs) = if some_true bs then suc (last_true bs) else 0
 
 -- A pick that isn't ready counts as the leftmost actor that is.
 abbrev pub chosen : List Bool → ℕ → ℕ

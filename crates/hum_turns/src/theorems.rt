@@ -3,6 +3,7 @@ ghost use Rattle.hum_turns.specs.Meaning.{WhoseFault};
 ghost use Rattle.hum_turns.specs.Holds.{EveryOrder};
 ghost use Rattle.hum_turns.specs.Failures.{EveryTurn};
 ghost use Rattle.hum_turns.specs.Orders.{EveryPick};
+ghost use Rattle.hum_turns.specs.Ends.{EveryEnd, EveryOrderEnds};
 
 /// Every order.
 pub fn every_order<R>()
@@ -25,5 +26,17 @@ pub fn every_turn<R>()
 /// Orders.
 pub fn every_pick<R, O>()
     ensures { EveryPick R O }
+{
+}
+
+/// Ends.
+pub fn every_end<R>()
+    ensures { EveryEnd R }
+{
+}
+
+/// Orders end.
+pub fn every_order_ends<R, O>()
+    ensures { EveryOrderEnds R O }
 {
 }
