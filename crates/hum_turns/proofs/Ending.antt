@@ -100,17 +100,17 @@ module _ {R O : Type 0} (order : Order O) (plan : Plan R) (size : ℕ) (bytes : 
         (λ goes.
           let leads = every_pick order plan size bytes ok some ks first now o p start d in
           let k = choice order plan size p now in
+          let left : bound plan < length (ks ++ k ∷ []) + fuel =
+              omega (arith, length-append ks (k ∷ [])) in
           let next = leads.goes_on (still_open plan now none goes) in
-          let is = (and_parts _ _ next.1).1 in
-          let turn = (leads.holds.holds none).1.goes k next.0 is in
-          let then' : Now R = record { links = turn.next; part = []; failure = None } in
-          let one : Turn plan size bytes k now then' = record {
+          let turn = (leads.holds.holds none).1.goes k next.0 (and_parts _ _ next.1).1 in
+          let after : Now R = record { links = turn.next; part = []; failure = None } in
+          let one : Turn plan size bytes k now after = record {
                 is_ready = next.1;
                 turns = inl (record { step = turn.step; part = refl; failure = refl });
               } in
-          let n = length-append ks (k ∷ []) in
-          ends_from fuel (ks ++ k ∷ []) then' (order.next p (ready_list plan size now))
-            (driven_more order plan size bytes ks k o p first now then' d refl one) refl (omega arith))
+          ends_from fuel (ks ++ k ∷ []) after (order.next p (ready_list plan size now))
+            (driven_more order plan size bytes ks k o p first now after d refl one) refl left)
         (cases_Bool (is_over plan now.links))
 
 pub every_order_ends : {R O : Type 0} → EveryOrderEnds R O

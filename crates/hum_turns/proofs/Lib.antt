@@ -11,3 +11,4 @@ pub mod Writing
 pub mod Picking
 pub mod Ending
 pub mod Places
+mod Examples

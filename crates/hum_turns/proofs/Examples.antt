@@ -1,0 +1,256 @@
+-- A worked plan: a source of three numbers, each read by one byte, and a stage that gives each number
+-- twice, over links of one record.
+use Rattle.std.proofs.Common.{◌≡◌, ◌≢◌, ℕ, zero, suc, ◌+◌, ◌*◌, ◌<◌, ◌≤◌, Bool, true, false}
+use Rattle.std.proofs.Common.{if◌then◌else◌, nat_lt, nat_eq, List, [], ◌∷◌, ◌++◌, map, length, take, drop}
+use Rattle.std.proofs.Common.{Option, Some, None, slice_get, refl, sym, ap, ◌∙◌, subst, arith, append_assoc}
+use Rattle.std.proofs.Common.{lt-ltb, ltb-true}
+use Rattle.std.proofs.lemmas.Bool.{false≢true, true≢false}
+use Rattle.hum_stage.specs.declared.faults.Command.TheVariants.{Rid, Extract}
+use Rattle.hum_stage.specs.declared.faults.Rule.TheVariants.{X1, L2}
+use Rattle.hum_stage.specs.declared.faults.Fault.{Fault}
+use Rattle.hum_stage.specs.declared.faults.End.{End}
+use Rattle.hum_stage.specs.declared.faults.End.TheVariants.{Closed, Broken}
+use Rattle.hum_turns.specs.Flow.{Flow, so_far, Begins, IsOver, Later, AllLater, AllOver, AllFine, Onward}
+use Rattle.hum_turns.specs.Plan.{Want, Bytes, Source, Nothing, Stage, lower, inputs_end, or_own, end_of}
+use Rattle.hum_turns.specs.Plan.{whole, GoesOn, IsOpenAt, IsAtRest, IsLawful, KeepsFine, Plan, last, IsPlan}
+use Rattle.hum_turns.specs.Meaning.{meanings, meaning, plan_meaning, own_of, first_fault, IsRead, IsNumbered}
+use Rattle.hum_turns.specs.Links.{Link, given, linked, view, has_room, has_some, Moment, fresh, IsOpening}
+use Rattle.hum_turns.specs.Links.{Same, inputs, settled, is_over, Agrees}
+use Rattle.hum_turns.specs.Turns.{State, Gives, Reads, Takes, Ends, by_want, stage_state, state, can}
+use Rattle.hum_turns.specs.Turns.{is_source, ready, Becomes, pushed, popped, marked, HasGiven, Does}
+use Rattle.hum_turns.specs.Turns.{HasRead, ReadsAndDoes, Turns, Step, Run}
+use Rattle.hum_turns.specs.Counts.{turns_of, bytes_read, put, most_of_source, most_of_stage, most_of_sink}
+use Rattle.hum_turns.specs.Counts.{most, total, most_in_all, all_done, bound}
+use Rattle.hum_turns.specs.declared.result.RunResult.{RunResult}
+use Rattle.hum_turns.specs.declared.result.RunResult.TheVariants as ends
+use Rattle.hum_turns.specs.Text.{line_of, text, next_text}
+use Rattle.hum_turns.specs.Failures.{Now, result_of, IsFailure, ended_by, result, written, is_ready, MayFail}
+use Rattle.hum_turns.specs.Failures.{Moves, Fails, Turn, SameNow, Walk, IsFirst, IsWhole, HoldsNow, EveryTurn}
+use Rattle.hum_turns.specs.Orders.{first_true, last_true, chosen, ready_list}
+use Rattle.hum_turns.proofs.Fronts.{begins_trans}
+
+-- The stages.
+
+abbrev one_to_three : List ℕ
+one_to_three = 1 ∷ 2 ∷ 3 ∷ []
+
+abbrev unread : ℕ → Want
+unread read = if nat_lt read 4 then Bytes else Nothing
+
+-- three bytes and their end
+abbrev numbers : Stage ℕ
+numbers = record {
+  sources = [];
+  bytes = 4;
+  output = λ read inputs. take read one_to_three;
+  wants = λ read inputs. unread read;
+  own = λ read inputs. Closed;
+}
+
+abbrev twice : List ℕ → List ℕ
+twice [] = []
+twice (x ∷ xs) = x ∷ x ∷ twice xs
+
+abbrev items_of : List (Flow ℕ) → List ℕ
+items_of [] = []
+items_of (a ∷ rest) = a.items
+
+abbrev until : Option End → Want
+until None = Source 0
+until (Some e) = Nothing
+
+-- what comes from its one input, until that is over
+abbrev wants_one : List (Flow ℕ) → Want
+wants_one [] = Nothing
+wants_one (a ∷ []) = until a.end
+wants_one (a ∷ b ∷ rest) = Source 0
+
+abbrev doubled : ℕ → Stage ℕ
+doubled source = record {
+  sources = source ∷ [];
+  bytes = 0;
+  output = λ read inputs. twice (items_of inputs);
+  wants = λ read inputs. wants_one inputs;
+  own = λ read inputs. Closed;
+}
+
+abbrev stages : ℕ → Stage ℕ
+stages zero = numbers
+stages (suc k) = doubled k
+
+abbrev worked : Plan ℕ
+worked = record { count = 2; stage = stages; fine = λ flow. true }
+
+-- What it means.
+
+source_means : meaning worked 0 ≡ record { items = one_to_three; end = Some Closed }
+source_means = refl
+
+plan_means : plan_meaning worked
+    ≡ record { items = 1 ∷ 1 ∷ 2 ∷ 2 ∷ 3 ∷ 3 ∷ []; end = Some Closed }
+plan_means = refl
+
+-- Its turns, one after another: the links of stages 0 and 1, and who is ready. Actor 2 is the sink.
+
+abbrev with_links : Link ℕ → Link ℕ → Moment ℕ
+with_links a b zero = a
+with_links a b (suc zero) = b
+with_links a b (suc (suc k)) = fresh
+
+abbrev moment : Link ℕ → Link ℕ → Now ℕ
+moment a b = record { links = with_links a b; part = []; failure = None }
+
+abbrev who : Link ℕ → Link ℕ → List Bool
+who a b = ready_list worked 1 (moment a b)
+
+abbrev link : ℕ → List ℕ → List ℕ → Link ℕ
+link read taken waiting = record fresh { read = read; taken = taken; waiting = waiting }
+
+-- at first the source alone
+at_first : who fresh fresh ≡ true ∷ false ∷ false ∷ []
+at_first = refl
+
+-- its link is full, so stage 1 alone
+after_read : who (link 1 [] (1 ∷ [])) fresh ≡ false ∷ true ∷ false ∷ []
+after_read = refl
+
+-- stage 1 has taken, so it gives, and the source has room
+after_take : who (link 1 (1 ∷ []) []) fresh ≡ true ∷ true ∷ false ∷ []
+after_take = refl
+
+-- stage 1 has given and its link is full, so the sink takes
+after_give : who (link 1 (1 ∷ []) []) (link 0 [] (1 ∷ [])) ≡ true ∷ false ∷ true ∷ []
+after_give = refl
+
+-- the source has set its end, which stage 1 has heard: it sets its own
+abbrev source_over : Link ℕ
+source_over = record {
+  read = 4;
+  taken = one_to_three;
+  waiting = [];
+  mark = Some Closed;
+  heard = Some Closed;
+}
+
+abbrev all_given : List ℕ → List ℕ → Option End → Link ℕ
+all_given taken waiting mark =
+    record { read = 0; taken = taken; waiting = waiting; mark = mark; heard = None }
+
+at_the_mark : who source_over (all_given (1 ∷ 1 ∷ 2 ∷ 2 ∷ 3 ∷ []) (3 ∷ []) None)
+    ≡ false ∷ true ∷ true ∷ []
+at_the_mark = refl
+
+-- what each is about to do there
+ends_next : state worked (with_links source_over (all_given (1 ∷ 1 ∷ 2 ∷ 2 ∷ 3 ∷ []) (3 ∷ []) None)) 1
+    ≡ Ends
+ends_next = refl
+
+takes_next : state worked (with_links fresh fresh) 2 ≡ Takes 1
+takes_next = refl
+
+-- a run that has ended has no ready actor
+when_over : ready_list worked 1 (moment source_over (record source_over { taken = [] }))
+    ≡ false ∷ false ∷ false ∷ []
+when_over = refl
+
+-- A turn: stage 1 takes 1 from the source's link.
+
+a_turn : Step worked 1 1 (with_links (link 1 [] (1 ∷ [])) fresh)
+    (with_links (link 1 (1 ∷ []) []) fresh)
+a_turn = record {
+  within = omega arith;
+  is_ready = refl;
+  turns = record { here = refl; elsewhere = same };
+}
+  where
+    same : (i : ℕ) → i ≢ 0
+        → with_links (link 1 (1 ∷ []) []) fresh i ≡ with_links (link 1 [] (1 ∷ [])) fresh i
+    same zero other = absurd (other refl)
+    same (suc zero) other = refl
+    same (suc (suc i)) other = refl
+
+-- How many turns: 3 bytes, 3 records and 2; 3 records put, 6 given, one input and 1; 6 written and 1.
+
+source_most : most worked (all_done worked) 0 ≡ 8
+source_most = refl
+
+stage_most : most worked (all_done worked) 1 ≡ 11
+stage_most = refl
+
+sink_most : most worked (all_done worked) 2 ≡ 7
+sink_most = refl
+
+plan_most : bound worked ≡ 26
+plan_most = refl
+
+-- of a moment, by what has moved so far
+so_far_most : most_in_all worked (with_links (link 2 (1 ∷ []) (2 ∷ [])) (link 0 [] (1 ∷ []))) ≡ 11
+so_far_most = refl
+
+-- The orders.
+
+leftmost : first_true (false ∷ true ∷ true ∷ []) ≡ 1
+leftmost = refl
+
+rightmost : last_true (true ∷ true ∷ false ∷ []) ≡ 1
+rightmost = refl
+
+not_ready : chosen (false ∷ true ∷ true ∷ []) 0 ≡ 1
+not_ready = refl
+
+out_of_range : chosen (false ∷ true ∷ true ∷ []) 7 ≡ 1
+out_of_range = refl
+
+-- Whose fault it is: of three stages the source refuses late and stage 2, which is numbered 3, at once.
+
+abbrev fault : ℕ → ℕ → Fault
+fault number line = record { stage = number; command = Rid; line = line; rule = L2 }
+
+abbrev refuses : Stage ℕ → Fault → Stage ℕ
+refuses stage by = record stage { own = λ read inputs. Broken by }
+
+abbrev refusing : ℕ → Stage ℕ
+refusing zero = refuses numbers (fault 1 900)
+refusing (suc zero) = doubled 0
+refusing (suc (suc k)) = refuses (doubled 1) (fault 3 1)
+
+abbrev faulty : Plan ℕ
+faulty = record { count = 3; stage = refusing; fine = λ flow. true }
+
+lowest_told : (plan_meaning faulty).end ≡ Some (Broken (fault 1 900))
+lowest_told = refl
+
+first_met : first_fault faulty 3 ≡ Broken (fault 1 900)
+first_met = refl
+
+-- of two inputs too, whichever stands first
+lowest_input : lower (Broken (fault 4 1)) (Broken (fault 2 9)) ≡ Broken (fault 2 9)
+lowest_input = refl
+
+-- The text.
+
+written_text : text (λ (x : ℕ). x ∷ []) (65 ∷ 66 ∷ []) ≡ 65 ∷ 10 ∷ 66 ∷ 10 ∷ []
+written_text = refl
+
+-- What is asked of stages and plans can be met.
+
+take_begins : {X : Type 0} (r s : ℕ) (xs : List X) → r ≤ s → Begins (take r xs) (take s xs)
+take_begins zero s xs h = (take s xs, refl)
+take_begins (suc r) zero xs h = absurd (omega arith)
+take_begins (suc r) (suc s) [] h = ([], refl)
+take_begins (suc r) (suc s) (x ∷ xs) h =
+    let k = take_begins r s xs (omega arith) in (k.0, ap (λ l. x ∷ l) k.1)
+
+twice_append : (a b : List ℕ) → twice (a ++ b) ≡ twice a ++ twice b
+twice_append [] b = refl
+twice_append (x ∷ a) b = ap (λ l. x ∷ x ∷ l) (twice_append a b)
+
+twice_begins : (a b : List ℕ) → Begins a b → Begins (twice a) (twice b)
+twice_begins a b h = (twice h.0, sym (twice_append a h.0) ∙ ap twice h.1)
+
+none_over : (n : ℕ) → unread n ≡ Bytes → n < 4
+none_over n h = ltb-true n 4 (by_test (nat_lt n 4) h)
+  where
+    by_test : (b : Bool) → (if b then Bytes else Nothing) ≡ Bytes → b ≡ true
+    by_test true h = refl
+    by_test false h = cc
