@@ -13,8 +13,9 @@ use Rattle.std.proofs.lemmas.List.{length-map}
 use Rattle.std.specs.List.{AllByRecursion}
 use Rattle.hum_stage.specs.declared.faults.End.{End}
 use Rattle.hum_stage.specs.declared.faults.End.TheVariants.{Closed, Broken}
-use Rattle.hum_turns.specs.Flow.{Flow, so_far, Begins, IsOver, Later, AllLater, AllOver, AllFine, Onward}
+use Rattle.hum_turns.specs.Flow.{Flow, so_far, Begins, IsOver, Later, AllLater, AllOver, AllFine}
 use Rattle.hum_turns.specs.Plan.{Want, Bytes, Source, Nothing, Stage, lower, inputs_end, or_own, end_of}
+use Rattle.hum_turns.specs.Plan.{AreInputs, Onward}
 use Rattle.hum_turns.specs.Plan.{whole, GoesOn, IsOpenAt, IsAtRest, IsLawful, KeepsFine, Plan, last, IsPlan}
 use Rattle.hum_turns.specs.Meaning.{meanings, meaning, plan_meaning, own_of, first_fault, IsRead, IsNumbered}
 use Rattle.hum_turns.specs.Links.{Link, given, linked, view, has_room, has_some, Moment, fresh, IsOpening}
@@ -61,7 +62,7 @@ all_taken l s h n w =
 
 module _ {R : Type 0} {fine : Flow R → Bool} {st : Stage R} (law : IsLawful fine st) where
   -- when the end was heard, all was taken
-  over_whole : (size : ℕ) (l : Link R) (a fs : List (Flow R)) → Onward fine a fs
+  over_whole : (size : ℕ) (l : Link R) (a fs : List (Flow R)) → Onward fine st a fs
       → GoodAt st size l a → (e : End) → l.heard ≡ Some e → whole st fs ≡ view l
   unfolding flow_of
   over_whole size l a fs on g e m =
@@ -76,7 +77,7 @@ module _ {R : Type 0} {fine : Flow R → Bool} {st : Stage R} (law : IsLawful fi
       ap (whole st) same
       ∙ (ap (λ xs. flow_of xs (Some (end_of st st.bytes a))) items ∙ ap (λ o. flow_of l.taken o) ended)
 
-  pub against : (size : ℕ) (l : Link R) (a fs : List (Flow R)) → Onward fine a fs
+  pub against : (size : ℕ) (l : Link R) (a fs : List (Flow R)) → Onward fine st a fs
       → GoodAt st size l a → Begins (given l) (whole st fs).items × Later (view l) (whole st fs)
   against size l a fs on g =
       let front = begins_trans (given l) (st.output l.read a) (st.output st.bytes fs) g.sent
@@ -103,20 +104,23 @@ module _ {R : Type 0} (plan : Plan R) (ok : IsPlan plan) where
       let is = meaning_is plan k ok less in
       ((_, ap (λ (f : Flow R). f.end) is),
         λ more. ap plan.fine is
-          ∙ (ok.keeps k more).done (finals plan k) (length-map ss (meaning plan)) fines over)
+          ∙ (ok.keeps k more).done (finals plan k)
+              (record { count = length-map ss (meaning plan); each = fines }) over)
 
-  fine_finals : (k : ℕ) → k < plan.count → AllFine plan.fine (finals plan k)
-  fine_finals k less =
-      fine_map (meaning plan) (λ s. s < k) plan.fine
-        (λ s b. (meanings_over plan.count s (omega arith) (omega arith)).1 (omega arith))
-        (plan.stage k).sources (ok.below k less)
+  fine_finals : (k : ℕ) → k < plan.count → AreInputs plan.fine (plan.stage k) (finals plan k)
+  fine_finals k less = record {
+    count = length-map (plan.stage k).sources (meaning plan);
+    each = fine_map (meaning plan) (λ s. s < k) plan.fine
+      (λ s b. (meanings_over plan.count s (omega arith) (omega arith)).1 (omega arith))
+      (plan.stage k).sources (ok.below k less);
+  }
 
   -- by induction over the stages, in order
   fronts : (size : ℕ) (m : Moment R) → Inv plan size m → (n k : ℕ) → k < n → k < plan.count
       → Begins (given (m k)) (meaning plan k).items × Later (view (m k)) (meaning plan k)
   fronts size m inv zero k h less = absurd (omega arith)
   fronts size m inv (suc n) k h less =
-      let on : Onward plan.fine (inputs plan m k) (finals plan k) = record {
+      let on : Onward plan.fine (plan.stage k) (inputs plan m k) (finals plan k) = record {
             before = fine_inputs plan size ok m k inv less;
             after = fine_finals k less;
             later = later_map (λ s. view (m s)) (λ s. s < k) (meaning plan)

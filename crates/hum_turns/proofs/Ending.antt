@@ -13,8 +13,9 @@ use Rattle.std.proofs.lemmas.List.{length-map}
 use Rattle.std.specs.List.{AllByRecursion}
 use Rattle.hum_stage.specs.declared.faults.End.{End}
 use Rattle.hum_stage.specs.declared.faults.End.TheVariants.{Closed, Broken}
-use Rattle.hum_turns.specs.Flow.{Flow, so_far, Begins, IsOver, Later, AllLater, AllOver, AllFine, Onward}
+use Rattle.hum_turns.specs.Flow.{Flow, so_far, Begins, IsOver, Later, AllLater, AllOver, AllFine}
 use Rattle.hum_turns.specs.Plan.{Want, Bytes, Source, Nothing, Stage, lower, inputs_end, or_own, end_of}
+use Rattle.hum_turns.specs.Plan.{AreInputs, Onward}
 use Rattle.hum_turns.specs.Plan.{whole, GoesOn, IsOpenAt, IsAtRest, IsLawful, KeepsFine, Plan, last, IsPlan}
 use Rattle.hum_turns.specs.Meaning.{meanings, meaning, plan_meaning, own_of, first_fault, IsRead, IsNumbered}
 use Rattle.hum_turns.specs.Links.{Link, given, linked, view, has_room, has_some, Moment, fresh, IsOpening}

@@ -3,15 +3,18 @@
 use Rattle.std.proofs.Common.{◌≡◌, ◌≢◌, ℕ, zero, suc, ◌+◌, ◌*◌, ◌<◌, ◌≤◌, Bool, true, false}
 use Rattle.std.proofs.Common.{if◌then◌else◌, nat_lt, nat_eq, List, [], ◌∷◌, ◌++◌, map, length, take, drop}
 use Rattle.std.proofs.Common.{Option, Some, None, slice_get, refl, sym, ap, ◌∙◌, subst, arith, append_assoc}
-use Rattle.std.proofs.Common.{lt-ltb, ltb-true}
+use Rattle.std.proofs.Common.{lt-ltb, ltb-true, ltb-false}
+use Rattle.std.proofs.lemmas.List.{take_all}
+use Rattle.std.specs.List.{AllByRecursion}
 use Rattle.std.proofs.lemmas.Bool.{false≢true, true≢false}
 use Rattle.hum_stage.specs.declared.faults.Command.TheVariants.{Rid, Extract}
 use Rattle.hum_stage.specs.declared.faults.Rule.TheVariants.{X1, L2}
 use Rattle.hum_stage.specs.declared.faults.Fault.{Fault}
 use Rattle.hum_stage.specs.declared.faults.End.{End}
 use Rattle.hum_stage.specs.declared.faults.End.TheVariants.{Closed, Broken}
-use Rattle.hum_turns.specs.Flow.{Flow, so_far, Begins, IsOver, Later, AllLater, AllOver, AllFine, Onward}
+use Rattle.hum_turns.specs.Flow.{Flow, so_far, Begins, IsOver, Later, AllLater, AllOver, AllFine}
 use Rattle.hum_turns.specs.Plan.{Want, Bytes, Source, Nothing, Stage, lower, inputs_end, or_own, end_of}
+use Rattle.hum_turns.specs.Plan.{AreInputs, Onward}
 use Rattle.hum_turns.specs.Plan.{whole, GoesOn, IsOpenAt, IsAtRest, IsLawful, KeepsFine, Plan, last, IsPlan}
 use Rattle.hum_turns.specs.Meaning.{meanings, meaning, plan_meaning, own_of, first_fault, IsRead, IsNumbered}
 use Rattle.hum_turns.specs.Links.{Link, given, linked, view, has_room, has_some, Moment, fresh, IsOpening}
@@ -254,3 +257,106 @@ none_over n h = ltb-true n 4 (by_test (nat_lt n 4) h)
     by_test : (b : Bool) → (if b then Bytes else Nothing) ≡ Bytes → b ≡ true
     by_test true h = refl
     by_test false h = cc
+
+not_from_bytes : (n j : ℕ) → unread n ≡ Source j → ⊥
+not_from_bytes n j h = by_test (nat_lt n 4) h
+  where
+    by_test : (b : Bool) → (if b then Bytes else Nothing) ≡ Source j → ⊥
+    by_test true h = cc
+    by_test false h = cc
+
+all_read : (n : ℕ) → unread n ≡ Nothing → 4 ≤ n
+all_read n h = ltb-false n 4 (by_test (nat_lt n 4) h)
+  where
+    by_test : (b : Bool) → (if b then Bytes else Nothing) ≡ Nothing → b ≡ false
+    by_test true h = cc
+    by_test false h = refl
+
+abbrev anything : Flow ℕ → Bool
+anything flow = true
+
+numbers_lawful : IsLawful anything numbers
+numbers_lawful = record {
+  apart = λ some. refl;
+  grows = λ r s a b on. take_begins r s one_to_three on.more;
+  reads = λ r a h. none_over r h;
+  asks = λ r a j n h. absurd (not_from_bytes r j h);
+  rests = λ r a are h.
+      let n = all_read r h in
+      record {
+        over = no_inputs a are.count;
+        output = take_all r one_to_three (omega arith) ∙ sym (take_all 4 one_to_three (omega arith));
+        own = refl;
+      };
+}
+  where
+    no_inputs : (a : List (Flow ℕ)) → length a ≡ 0 → AllOver a
+    no_inputs [] n = tt
+    no_inputs (x ∷ a) n = absurd (omega arith)
+
+not_bytes : (a : List (Flow ℕ)) → wants_one a ≡ Bytes → ⊥
+not_bytes [] h = cc
+not_bytes (a ∷ []) h = by_end a.end h
+  where
+    by_end : (e : Option End) → until e ≡ Bytes → ⊥
+    by_end None h = cc
+    by_end (Some e) h = cc
+not_bytes (a ∷ b ∷ rest) h = cc
+
+is_open : (a : List (Flow ℕ)) (j : ℕ) → length a ≡ 1 → wants_one a ≡ Source j → IsOpenAt a j
+is_open [] j n h = absurd (omega arith)
+is_open (a ∷ []) j n h =
+    let e = by_end a.end refl h in
+    subst (IsOpenAt (a ∷ [])) e.0 (record { input = a; is_there = refl; is_open = e.1 })
+  where
+    by_end : (e : Option End) → a.end ≡ e → until e ≡ Source j → (0 ≡ j) × (a.end ≡ None)
+    by_end None is h = (cc, is)
+    by_end (Some e) is h = absurd (none_asked e h)
+      where
+        none_asked : (e : End) → Nothing ≡ Source j → ⊥
+        none_asked e h = cc
+is_open (a ∷ b ∷ rest) j n h = absurd (omega arith)
+
+is_over_then : (a : List (Flow ℕ)) → length a ≡ 1 → wants_one a ≡ Nothing → AllOver a
+is_over_then [] n h = absurd (omega arith)
+is_over_then (a ∷ []) n h = (by_end a.end refl h, tt)
+  where
+    by_end : (e : Option End) → a.end ≡ e → until e ≡ Nothing → IsOver a
+    by_end None is h = absurd (asked h)
+      where
+        asked : Source 0 ≡ Nothing → ⊥
+        asked h = cc
+    by_end (Some e) is h = (e, is)
+is_over_then (a ∷ b ∷ rest) n h = absurd (omega arith)
+
+items_begin : (a b : List (Flow ℕ)) → AllLater a b → Begins (items_of a) (items_of b)
+items_begin [] [] h = ([], refl)
+items_begin (x ∷ a) (y ∷ b) h = h.0.items
+items_begin [] (y ∷ b) h = absurd h
+items_begin (x ∷ a) [] h = absurd h
+
+doubled_lawful : (source : ℕ) → IsLawful anything (doubled source)
+doubled_lawful source = record {
+  apart = λ some. absurd (omega arith);
+  grows = λ r s a b on. twice_begins (items_of a) (items_of b) (items_begin a b on.inputs.later);
+  reads = λ r a h. absurd (not_bytes a h);
+  asks = λ r a j n h. is_open a j n h;
+  rests = λ r a are h.
+      record { over = is_over_then a are.count h; output = refl; own = refl };
+}
+
+-- the worked plan is one of those that the theorems speak of
+is_plan : IsPlan worked
+is_plan = record {
+  some = omega arith;
+  below = below;
+  lawful = λ k less. lawful k;
+  keeps = λ k less. record { front = λ r a xs n are h. refl; done = λ a are h. refl };
+}
+  where
+    below : (k : ℕ) → k < 2 → AllByRecursion (λ s. s < k) (stages k).sources
+    below zero less = tt
+    below (suc k) less = (omega arith, tt)
+    lawful : (k : ℕ) → IsLawful anything (stages k)
+    lawful zero = numbers_lawful
+    lawful (suc k) = doubled_lawful k

@@ -13,8 +13,9 @@ use Rattle.std.proofs.lemmas.List.{length-map}
 use Rattle.std.specs.List.{AllByRecursion}
 use Rattle.hum_stage.specs.declared.faults.End.{End}
 use Rattle.hum_stage.specs.declared.faults.End.TheVariants.{Closed, Broken}
-use Rattle.hum_turns.specs.Flow.{Flow, so_far, Begins, IsOver, Later, AllLater, AllOver, AllFine, Onward}
+use Rattle.hum_turns.specs.Flow.{Flow, so_far, Begins, IsOver, Later, AllLater, AllOver, AllFine}
 use Rattle.hum_turns.specs.Plan.{Want, Bytes, Source, Nothing, Stage, lower, inputs_end, or_own, end_of}
+use Rattle.hum_turns.specs.Plan.{AreInputs, Onward}
 use Rattle.hum_turns.specs.Plan.{whole, GoesOn, IsOpenAt, IsAtRest, IsLawful, KeepsFine, Plan, last, IsPlan}
 use Rattle.hum_turns.specs.Meaning.{meanings, meaning, plan_meaning, own_of, first_fault, IsRead, IsNumbered}
 use Rattle.hum_turns.specs.Links.{Link, given, linked, view, has_room, has_some, Moment, fresh, IsOpening}
@@ -75,20 +76,20 @@ pub later_taken : {R : Type 0} (l : Link R) → has_some l ≡ true
 later_taken l some = later_popped l l.waiting (and_parts _ _ some).0
 
 module _ {R : Type 0} {fine : Flow R → Bool} {st : Stage R} (law : IsLawful fine st) where
-  pub at_end : (l : Link R) (a : List (Flow R)) → AllFine fine a → stage_state st l a ≡ Ends
+  pub at_end : (l : Link R) (a : List (Flow R)) → AreInputs fine st a → stage_state st l a ≡ Ends
       → AtEnd st l a
   at_end l a fa h =
       let c = ends_cases st.sources (nat_lt (length (given l)) (length (st.output l.read a)))
             (st.wants l.read a) h in
       record { all = ltb-false _ _ c.0; rest = law.rests l.read a fa c.1 }
 
-  pub grown : (r s : ℕ) (a b : List (Flow R)) → r ≤ s → s ≤ st.bytes → Onward fine a b
+  pub grown : (r s : ℕ) (a b : List (Flow R)) → r ≤ s → s ≤ st.bytes → Onward fine st a b
       → Begins (st.output r a) (st.output s b)
   grown r s a b more within on =
       law.grows r s a b (record { more = more; within = within; inputs = on })
 
   -- its inputs go on
-  pub kept_good : (size : ℕ) (l : Link R) (a b : List (Flow R)) → Onward fine a b
+  pub kept_good : (size : ℕ) (l : Link R) (a b : List (Flow R)) → Onward fine st a b
       → GoodAt st size l a → GoodAt st size l b
   kept_good size l a b on g =
       record {
@@ -103,7 +104,7 @@ module _ {R : Type 0} {fine : Flow R → Bool} {st : Stage R} (law : IsLawful fi
       }
 
   -- no end is set where something is left to give
-  not_marked : (size : ℕ) (l : Link R) (a : List (Flow R)) (x : R) → AllFine fine a
+  not_marked : (size : ℕ) (l : Link R) (a : List (Flow R)) (x : R) → AreInputs fine st a
       → GoodAt st size l a → slice_get (st.output l.read a) (length (given l)) ≡ Some x
       → (e : End) → l.mark ≡ Some e → ⊥
   not_marked size l a x fa g n e m =
@@ -112,7 +113,7 @@ module _ {R : Type 0} {fine : Flow R → Bool} {st : Stage R} (law : IsLawful fi
       omega arith
 
   -- it gives
-  pub gives_good : (size : ℕ) (l : Link R) (a b : List (Flow R)) (x : R) → Onward fine a b
+  pub gives_good : (size : ℕ) (l : Link R) (a b : List (Flow R)) (x : R) → Onward fine st a b
       → GoodAt st size l a → slice_get (st.output l.read a) (length (given l)) ≡ Some x
       → has_room size l ≡ true → GoodAt st size (pushed l x) b
   gives_good size l a b x on g n room =
@@ -128,7 +129,7 @@ module _ {R : Type 0} {fine : Flow R → Bool} {st : Stage R} (law : IsLawful fi
 
   -- what is taken was given before
   takes_at : (size : ℕ) (l : Link R) (a b : List (Flow R)) (ws : List R) → l.waiting ≡ ws
-      → Onward fine a b → GoodAt st size l a → is_none l.heard ≡ true
+      → Onward fine st a b → GoodAt st size l a → is_none l.heard ≡ true
       → GoodAt st size (popped l ws) b
   takes_at size l a b [] w on g new =
       let k = kept_good size l a b on g in
@@ -156,12 +157,12 @@ module _ {R : Type 0} {fine : Flow R → Bool} {st : Stage R} (law : IsLawful fi
       }
 
   -- its reader takes
-  pub takes_good : (size : ℕ) (l : Link R) (a b : List (Flow R)) → Onward fine a b
+  pub takes_good : (size : ℕ) (l : Link R) (a b : List (Flow R)) → Onward fine st a b
       → GoodAt st size l a → has_some l ≡ true → GoodAt st size (popped l l.waiting) b
   takes_good size l a b on g some = takes_at size l a b l.waiting refl on g (and_parts _ _ some).0
 
   -- it sets its end
-  pub ends_good : (size : ℕ) (l : Link R) (a b : List (Flow R)) → Onward fine a b
+  pub ends_good : (size : ℕ) (l : Link R) (a b : List (Flow R)) → Onward fine st a b
       → GoodAt st size l a → is_none l.mark ≡ true → stage_state st l a ≡ Ends
       → GoodAt st size (record l { mark = Some (end_of st l.read a) }) b
   ends_good size l a b on g unset s =
@@ -176,7 +177,7 @@ module _ {R : Type 0} {fine : Flow R → Bool} {st : Stage R} (law : IsLawful fi
       }
 
   -- it reads
-  pub reads_good : (size : ℕ) (l : Link R) (a b : List (Flow R)) (n : ℕ) → Onward fine a b
+  pub reads_good : (size : ℕ) (l : Link R) (a b : List (Flow R)) (n : ℕ) → Onward fine st a b
       → GoodAt st size l a → is_none l.mark ≡ true → l.read < n → n ≤ st.bytes
       → GoodAt st size (record l { read = n }) b
   reads_good size l a b n on g unset less within =
@@ -192,10 +193,10 @@ module _ {R : Type 0} {fine : Flow R → Bool} {st : Stage R} (law : IsLawful fi
   module _ (keep : KeepsFine fine st) where
     -- once the end is set and all is taken
     marked_fine : (size : ℕ) (l : Link R) (a : List (Flow R)) (f : End) → l.waiting ≡ []
-        → l.mark ≡ Some f → length a ≡ length st.sources → AllFine fine a → GoodAt st size l a
+        → l.mark ≡ Some f → AreInputs fine st a → GoodAt st size l a
         → l.heard ≡ Some f → fine (view l) ≡ true
     unfolding flow_of
-    marked_fine size l a f w m n fa g e =
+    marked_fine size l a f w m fa g e =
         let mark = g.marked f m in
         let end = at_end l a fa mark.0 in
         let taken : l.taken ≡ st.output l.read a =
@@ -206,28 +207,28 @@ module _ {R : Type 0} {fine : Flow R → Bool} {st : Stage R} (law : IsLawful fi
             e ∙ ap Some (mark.1 ∙ ap (or_own (inputs_end a)) end.rest.own) in
         ap (λ o. fine (flow_of l.taken o)) ended
         ∙ ap (λ xs. fine (flow_of xs (Some (end_of st st.bytes a)))) items
-        ∙ keep.done a n fa end.rest.over
+        ∙ keep.done a fa end.rest.over
 
     fine_at : (size : ℕ) (l : Link R) (a : List (Flow R)) (o : Option End) → l.heard ≡ o
-        → length a ≡ length st.sources → AllFine fine a → GoodAt st size l a
+        → AreInputs fine st a → GoodAt st size l a
         → fine (view l) ≡ true
     unfolding flow_of
-    fine_at size l a None e n fa g =
+    fine_at size l a None e fa g =
         ap (λ o. fine (flow_of l.taken o)) e
         ∙ keep.front l.read a l.taken g.within fa
             (begins_trans _ _ _ (begins_append l.taken l.waiting) g.sent)
-    fine_at size l a (Some f) e n fa g =
+    fine_at size l a (Some f) e fa g =
         let k = g.heard f e in
-        marked_fine size l a f k.0 k.1 n fa g e
+        marked_fine size l a f k.0 k.1 fa g e
 
-    pub fine_view : (size : ℕ) (l : Link R) (a : List (Flow R)) → length a ≡ length st.sources
-        → AllFine fine a → GoodAt st size l a → fine (view l) ≡ true
-    fine_view size l a n fa g = fine_at size l a l.heard refl n fa g
+    pub fine_view : (size : ℕ) (l : Link R) (a : List (Flow R)) → AreInputs fine st a
+        → GoodAt st size l a → fine (view l) ≡ true
+    fine_view size l a fa g = fine_at size l a l.heard refl fa g
 
     -- and what it takes next
     pub fine_popped : (size : ℕ) (l : Link R) (a : List (Flow R)) → is_none l.heard ≡ true
-        → length a ≡ length st.sources → AllFine fine a → GoodAt st size l a
+        → AreInputs fine st a → GoodAt st size l a
         → fine (view (popped l l.waiting)) ≡ true
-    fine_popped size l a new n fa g =
-        let on : Onward fine a a = record { before = fa; after = fa; later = all_same a } in
-        fine_view size (popped l l.waiting) a n fa (takes_at size l a a l.waiting refl on g new)
+    fine_popped size l a new fa g =
+        let on : Onward fine st a a = record { before = fa; after = fa; later = all_same a } in
+        fine_view size (popped l l.waiting) a fa (takes_at size l a a l.waiting refl on g new)

@@ -13,8 +13,9 @@ use Rattle.std.proofs.lemmas.List.{length-map}
 use Rattle.std.specs.List.{AllByRecursion}
 use Rattle.hum_stage.specs.declared.faults.End.{End}
 use Rattle.hum_stage.specs.declared.faults.End.TheVariants.{Closed, Broken}
-use Rattle.hum_turns.specs.Flow.{Flow, so_far, Begins, IsOver, Later, AllLater, AllOver, AllFine, Onward}
+use Rattle.hum_turns.specs.Flow.{Flow, so_far, Begins, IsOver, Later, AllLater, AllOver, AllFine}
 use Rattle.hum_turns.specs.Plan.{Want, Bytes, Source, Nothing, Stage, lower, inputs_end, or_own, end_of}
+use Rattle.hum_turns.specs.Plan.{AreInputs, Onward}
 use Rattle.hum_turns.specs.Plan.{whole, GoesOn, IsOpenAt, IsAtRest, IsLawful, KeepsFine, Plan, last, IsPlan}
 use Rattle.hum_turns.specs.Meaning.{meanings, meaning, plan_meaning, own_of, first_fault, IsRead, IsNumbered}
 use Rattle.hum_turns.specs.Links.{Link, given, linked, view, has_room, has_some, Moment, fresh, IsOpening}
@@ -64,25 +65,34 @@ module _ {R : Type 0} (plan : Plan R) (size : ℕ) (ok : IsPlan plan) where
   fine_below m inv (suc n) s h less =
       let ss = (plan.stage s).sources in
       fine_view (ok.lawful s (omega arith)) (ok.keeps s less) size (m s) (inputs plan m s)
-        (length-map ss (λ t. view (m t)))
-        (fine_map (λ t. view (m t)) (λ t. t < s) plan.fine
-          (λ t b. fine_below m inv n t (omega arith) (omega arith)) ss (ok.below s (omega arith)))
+        (record {
+          count = length-map ss (λ t. view (m t));
+          each = fine_map (λ t. view (m t)) (λ t. t < s) plan.fine
+            (λ t b. fine_below m inv n t (omega arith) (omega arith)) ss (ok.below s (omega arith));
+        })
         (inv s (omega arith))
 
   pub fine_each : (m : Moment R) (s : ℕ) → Inv plan size m → s + 1 < plan.count
       → plan.fine (view (m s)) ≡ true
   fine_each m s inv less = fine_below m inv (suc s) s (omega arith) less
 
+  pub are_inputs : (m : Moment R)
+      → ((s : ℕ) → s + 1 < plan.count → plan.fine (view (m s)) ≡ true)
+      → (k : ℕ) → k < plan.count → AreInputs plan.fine (plan.stage k) (inputs plan m k)
+  are_inputs m each k less = record {
+    count = length-map (plan.stage k).sources (λ t. view (m t));
+    each = fine_map (λ t. view (m t)) (λ t. t < k) plan.fine (λ t b. each t (omega arith))
+      (plan.stage k).sources (ok.below k less);
+  }
+
   pub fine_inputs : (m : Moment R) (k : ℕ) → Inv plan size m → k < plan.count
-      → AllFine plan.fine (inputs plan m k)
-  fine_inputs m k inv less =
-      fine_map (λ t. view (m t)) (λ t. t < k) plan.fine (λ t b. fine_each m t inv (omega arith))
-        (plan.stage k).sources (ok.below k less)
+      → AreInputs plan.fine (plan.stage k) (inputs plan m k)
+  fine_inputs m k inv less = are_inputs m (λ s more. fine_each m s inv more) k less
 
   -- a turn changes one link, and only lets it go on
   one_link : (k : ℕ) (l : Link R) (old new : Moment R) → Inv plan size old → Becomes k l old new
       → Later (view (old k)) (view l) → (k + 1 < plan.count → plan.fine (view l) ≡ true)
-      → (k < plan.count → (b : List (Flow R)) → Onward plan.fine (inputs plan old k) b
+      → (k < plan.count → (b : List (Flow R)) → Onward plan.fine (plan.stage k) (inputs plan old k) b
         → GoodAt (plan.stage k) size l b)
       → Inv plan size new
   one_link k l old new inv d h fine good i less =
@@ -94,13 +104,10 @@ module _ {R : Type 0} (plan : Plan R) (size : ℕ) (ok : IsPlan plan) where
                   ∙ fine (subst (λ j. j + 1 < plan.count) here lesss)))
               (λ there. ap (λ v. plan.fine (view v)) (d.elsewhere s there) ∙ fine_each old s inv lesss)
               (cases_eq s k) in
-      let fines : (j : ℕ) → j < plan.count → AllFine plan.fine (inputs plan new j) = λ j lessj.
-            fine_map (λ t. view (new t)) (λ t. t < j) plan.fine (λ t b. each t (omega arith))
-              (plan.stage j).sources (ok.below j lessj) in
-      let on : (j : ℕ) → j < plan.count → Onward plan.fine (inputs plan old j) (inputs plan new j)
+      let on : (j : ℕ) → j < plan.count → Onward plan.fine (plan.stage j) (inputs plan old j) (inputs plan new j)
             = λ j lessj. record {
               before = fine_inputs old j inv lessj;
-              after = fines j lessj;
+              after = are_inputs new each j lessj;
               later = later_each (λ s. view (old s)) (λ s. view (new s)) later (plan.stage j).sources;
             } in
       ⊎_elim
@@ -132,7 +139,6 @@ module _ {R : Type 0} (plan : Plan R) (size : ℕ) (ok : IsPlan plan) where
       one_link s _ old new inv d (later_taken (old s) may)
         (λ less. fine_popped (ok.lawful s (omega arith)) (ok.keeps s less) size (old s)
           (inputs plan old s) (and_parts _ _ may).0
-          (length-map (plan.stage s).sources (λ t. view (old t)))
           (fine_inputs old s inv (omega arith)) (inv s (omega arith)))
         (λ less b on. takes_good (ok.lawful s less) size (old s) (inputs plan old s) b on
           (inv s less) may)

@@ -11,4 +11,5 @@ pub mod Writing
 pub mod Picking
 pub mod Ending
 pub mod Places
+pub mod Near
 mod Examples

@@ -13,8 +13,9 @@ use Rattle.std.proofs.lemmas.List.{length-map}
 use Rattle.std.specs.List.{AllByRecursion}
 use Rattle.hum_stage.specs.declared.faults.End.{End}
 use Rattle.hum_stage.specs.declared.faults.End.TheVariants.{Closed, Broken}
-use Rattle.hum_turns.specs.Flow.{Flow, so_far, Begins, IsOver, Later, AllLater, AllOver, AllFine, Onward}
+use Rattle.hum_turns.specs.Flow.{Flow, so_far, Begins, IsOver, Later, AllLater, AllOver, AllFine}
 use Rattle.hum_turns.specs.Plan.{Want, Bytes, Source, Nothing, Stage, lower, inputs_end, or_own, end_of}
+use Rattle.hum_turns.specs.Plan.{AreInputs, Onward}
 use Rattle.hum_turns.specs.Plan.{whole, GoesOn, IsOpenAt, IsAtRest, IsLawful, KeepsFine, Plan, last, IsPlan}
 use Rattle.hum_turns.specs.Meaning.{meanings, meaning, plan_meaning, own_of, first_fault, IsRead, IsNumbered}
 use Rattle.hum_turns.specs.Links.{Link, given, linked, view, has_room, has_some, Moment, fresh, IsOpening}
@@ -79,6 +80,10 @@ can_allowed size m k Ends h = h
 pub last_less : (n : ℕ) → 0 < n → pred n < n
 last_less zero h = absurd (omega arith)
 last_less (suc n) h = omega arith
+
+pub last_next : (n : ℕ) → 0 < n → pred n + 1 ≡ n
+last_next zero h = absurd (omega arith)
+last_next (suc n) h = omega arith
 
 -- Of any plan.
 module _ {R : Type 0} (plan : Plan R) where

@@ -39,9 +39,3 @@ AllOver (a ∷ xs) = IsOver a × AllOver xs
 abbrev pub AllFine : {R : Type 0} → (Flow R → Bool) → List (Flow R) → Type 0
 AllFine fine [] = Unit {0}
 AllFine fine (a ∷ xs) = (fine a ≡ true) × AllFine fine xs
-
--- Inputs that are fine, and fine ones that they go on to.
-pub record Onward {R : Type 0} (fine : Flow R → Bool) (a b : List (Flow R)) : Type 0 where
-  pub before : AllFine fine a
-  pub after : AllFine fine b
-  pub later : AllLater a b

@@ -9,3 +9,4 @@ pub mod Text
 pub mod Failures
 pub mod Orders
 pub mod Ends
+pub mod Near

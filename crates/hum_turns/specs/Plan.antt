@@ -5,7 +5,7 @@ use Rattle.std.specs.List.{AllByRecursion}
 use Rattle.std.specs.Option.{unwrap_or}
 use Rattle.hum_stage.specs.declared.faults.End.{End}
 use Rattle.hum_stage.specs.declared.faults.End.TheVariants.{Closed, Broken}
-use Rattle.hum_turns.specs.Flow.{Flow, so_far, Begins, AllOver, AllFine, Onward}
+use Rattle.hum_turns.specs.Flow.{Flow, so_far, Begins, AllLater, AllOver, AllFine}
 
 -- What a stage needs next, once it has given all that is settled.
 pub data Want : Type 0 where
@@ -50,12 +50,25 @@ whole stage inputs = record {
   end = Some (end_of stage stage.bytes inputs);
 }
 
+-- The inputs of a stage: a flow for each source, each of which may lie on a link.
+pub record AreInputs {R : Type 0} (fine : Flow R → Bool) (stage : Stage R) (inputs : List (Flow R))
+    : Type 0 where
+  pub count : length inputs ≡ length stage.sources
+  pub each : AllFine fine inputs
+
+-- Inputs that go on.
+pub record Onward {R : Type 0} (fine : Flow R → Bool) (stage : Stage R) (a b : List (Flow R))
+    : Type 0 where
+  pub before : AreInputs fine stage a
+  pub after : AreInputs fine stage b
+  pub later : AllLater a b
+
 -- Inputs that go on, and no fewer bytes read.
 pub record GoesOn {R : Type 0} (fine : Flow R → Bool) (stage : Stage R)
     (r : ℕ) (a : List (Flow R)) (s : ℕ) (b : List (Flow R)) : Type 0 where
   pub more : r ≤ s
   pub within : s ≤ stage.bytes
-  pub inputs : Onward fine a b
+  pub inputs : Onward fine stage a b
 
 -- The input at this place isn't over.
 pub record IsOpenAt {R : Type 0} (inputs : List (Flow R)) (place : ℕ) : Type 0 where
@@ -69,7 +82,7 @@ pub record IsAtRest {R : Type 0} (stage : Stage R) (r : ℕ) (inputs : List (Flo
   pub output : stage.output r inputs ≡ stage.output stage.bytes inputs
   pub own : stage.own r inputs ≡ stage.own stage.bytes inputs
 
--- What is asked of each stage, where its inputs are fine.
+-- What is asked of each stage.
 pub record IsLawful {R : Type 0} (fine : Flow R → Bool) (stage : Stage R) : Type 0 where
   -- a stage that reads bytes has no sources
   pub apart : 0 < stage.bytes → stage.sources ≡ []
@@ -82,15 +95,14 @@ pub record IsLawful {R : Type 0} (fine : Flow R → Bool) (stage : Stage R) : Ty
   pub asks : (r : ℕ) (a : List (Flow R)) (j : ℕ) → length a ≡ length stage.sources
       → stage.wants r a ≡ Source j → IsOpenAt a j
   -- nothing is wanted only where nothing is left to come
-  pub rests : (r : ℕ) (a : List (Flow R)) → AllFine fine a → stage.wants r a ≡ Nothing
+  pub rests : (r : ℕ) (a : List (Flow R)) → AreInputs fine stage a → stage.wants r a ≡ Nothing
       → IsAtRest stage r a
 
--- What is asked of each stage but the last: of fine inputs it makes what is fine again, so far
--- and as a whole.
+-- What is asked of each stage but the last: what it makes may lie on a link, so far and as a whole.
 pub record KeepsFine {R : Type 0} (fine : Flow R → Bool) (stage : Stage R) : Type 0 where
-  pub front : (r : ℕ) (a : List (Flow R)) (xs : List R) → r ≤ stage.bytes → AllFine fine a
-      → Begins xs (stage.output r a) → fine (so_far xs) ≡ true
-  pub done : (a : List (Flow R)) → length a ≡ length stage.sources → AllFine fine a → AllOver a
+  pub front : (r : ℕ) (a : List (Flow R)) (xs : List R) → r ≤ stage.bytes
+      → AreInputs fine stage a → Begins xs (stage.output r a) → fine (so_far xs) ≡ true
+  pub done : (a : List (Flow R)) → AreInputs fine stage a → AllOver a
       → fine (whole stage a) ≡ true
 
 -- So many stages, counted from 0, the last of which gives the plan's list; `fine` says which

@@ -3,10 +3,13 @@
 
 mod order;
 mod result;
+#[cfg(test)]
+mod tests;
 mod theorems;
 
 pub use order::{Leftmost, Order, Rightmost, choose};
 pub use result::RunResult;
 pub use theorems::{
-    every_end, every_order, every_order_ends, every_pick, every_turn, whose_fault,
+    every_end, every_order, every_order_ends, every_pick, every_turn,
+    every_turn_is_near, whose_fault,
 };

@@ -3,6 +3,7 @@ ghost use Rattle.hum_turns.specs.Meaning.{WhoseFault};
 ghost use Rattle.hum_turns.specs.Holds.{EveryOrder};
 ghost use Rattle.hum_turns.specs.Failures.{EveryTurn};
 ghost use Rattle.hum_turns.specs.Orders.{EveryPick};
+ghost use Rattle.hum_turns.specs.Near.{EveryTurnIsNear};
 ghost use Rattle.hum_turns.specs.Ends.{EveryEnd, EveryOrderEnds};
 
 /// Every order.
@@ -38,5 +39,11 @@ pub fn every_end<R>()
 /// Orders end.
 pub fn every_order_ends<R, O>()
     ensures { EveryOrderEnds R O }
+{
+}
+
+/// Near.
+pub fn every_turn_is_near<R>()
+    ensures { EveryTurnIsNear R }
 {
 }
