@@ -1,28 +1,23 @@
 -- What is given is a front of the meaning, and at the end all of it.
-use Rattle.std.proofs.Common.{◌≡◌, ◌≢◌, ℕ, zero, suc, pred, ◌+◌, ◌-◌, ◌*◌, ◌<◌, ◌≤◌, ◌⊎◌, inl, inr, min}
-use Rattle.std.proofs.Common.{Bool, true, false, cond, ◌&&◌, ◌||◌, if◌then◌else◌, nat_lt, nat_eq}
-use Rattle.std.proofs.Common.{List, [], ◌∷◌, ◌++◌, map, length, get_or, slice_get, slice_index}
-use Rattle.std.proofs.Common.{Option, Some, None, is_some, is_none, unwrap_or}
+use Rattle.std.proofs.Common.{◌≡◌, ℕ, zero, suc, ◌+◌, ◌<◌, ◌≤◌}
+use Rattle.std.proofs.Common.{Bool, true, if◌then◌else◌, nat_lt}
+use Rattle.std.proofs.Common.{List, [], ◌++◌, map, length}
+use Rattle.std.proofs.Common.{Option, Some}
 use Rattle.std.proofs.Common.{refl, sym, ap, ◌∙◌, subst, ⊎_elim, arith}
-use Rattle.std.proofs.Common.{append_assoc, append-nil, length-append}
-use Rattle.std.proofs.Common.{ltb-true, ltb-false, le-ltb, lt-ltb, eq-eqb, ne_eqb}
-use Rattle.std.proofs.lemmas.Bool.{true≢false, false≢true, cases_eq, cases_lt, cases_Bool}
-use Rattle.std.proofs.lemmas.Bool.{and_parts, and_from, and_left, or_left, cond-true, cond-false}
-use Rattle.std.proofs.lemmas.Option.{none-some, same_Some, slice_get_within, slice_get-get_or, slice_get_cases}
+use Rattle.std.proofs.Common.{append-nil}
+use Rattle.std.proofs.Common.{eq-eqb, ne_eqb}
+use Rattle.std.proofs.lemmas.Bool.{cases_eq}
+use Rattle.std.proofs.lemmas.Bool.{cond-true, cond-false}
 use Rattle.std.proofs.lemmas.List.{length-map}
-use Rattle.std.specs.List.{AllByRecursion}
 use Rattle.hum_stage.specs.declared.faults.End.{End}
-use Rattle.hum_stage.specs.declared.faults.End.TheVariants.{Closed, Broken}
-use Rattle.hum_turns.specs.Flow.{Flow, so_far, Begins, IsOver, Later, AllLater, AllOver, AllFine}
-use Rattle.hum_turns.specs.Plan.{Want, Bytes, Source, Nothing, Stage, lower, inputs_end, or_own, end_of}
+use Rattle.hum_turns.specs.Flow.{Flow, Begins, IsOver, Later}
+use Rattle.hum_turns.specs.Plan.{Want, Stage, inputs_end, or_own, end_of}
 use Rattle.hum_turns.specs.Plan.{AreInputs, Onward}
-use Rattle.hum_turns.specs.Plan.{whole, GoesOn, IsOpenAt, IsAtRest, IsLawful, KeepsFine, Plan, last, IsPlan}
-use Rattle.hum_turns.specs.Meaning.{meanings, meaning, plan_meaning, own_of, first_fault, IsRead, IsNumbered}
-use Rattle.hum_turns.specs.Links.{Link, given, linked, view, has_room, has_some, Moment, fresh, IsOpening}
-use Rattle.hum_turns.specs.Links.{Same, inputs, settled, is_over, Agrees}
-use Rattle.hum_turns.specs.Turns.{State, Gives, Reads, Takes, Ends, by_want, stage_state, state, can}
-use Rattle.hum_turns.specs.Turns.{is_source, ready, Becomes, pushed, popped, marked, HasGiven, Does}
-use Rattle.hum_turns.specs.Turns.{HasRead, ReadsAndDoes, Turns, Step, Run}
+use Rattle.hum_turns.specs.Plan.{whole, IsLawful, Plan, last, IsPlan}
+use Rattle.hum_turns.specs.Meaning.{meanings, meaning, plan_meaning}
+use Rattle.hum_turns.specs.Links.{Link, given, view, Moment}
+use Rattle.hum_turns.specs.Links.{inputs, is_over, Agrees}
+use Rattle.hum_turns.specs.Turns.{State, Gives, by_want, stage_state}
 use Rattle.hum_turns.proofs.Fronts.{begins_trans, begins_append, begins_all, same_over}
 use Rattle.hum_turns.proofs.Fronts.{map_same, later_map, fine_map, over_map, is_set}
 use Rattle.hum_turns.proofs.Good.{GoodAt, at_end, grown}
@@ -35,9 +30,9 @@ meanings_at : {R : Type 0} (plan : Plan R) (n i : ℕ) → i < n → meanings pl
 meanings_at plan zero i h = absurd (omega arith)
 meanings_at plan (suc n) i h =
     ⊎_elim
-      (λ same. subst (λ j. meanings plan (suc j) i ≡ meaning plan i) same refl)
-      (λ other. cond-false _ _ _ (ne_eqb i n other) ∙ meanings_at plan n i (omega arith))
-      (cases_eq i n)
+    (λ same. subst (λ j. meanings plan (suc j) i ≡ meaning plan i) same refl)
+    (λ other. cond-false _ _ _ (ne_eqb i n other) ∙ meanings_at plan n i (omega arith))
+    (cases_eq i n)
 
 -- the meanings of a stage's sources
 abbrev pub finals : {R : Type 0} → Plan R → ℕ → List (Flow R)
@@ -48,7 +43,7 @@ pub meaning_is : {R : Type 0} (plan : Plan R) (k : ℕ) → IsPlan plan → k < 
 meaning_is plan k ok less =
     cond-true _ _ _ (eq-eqb k k refl)
     ∙ ap (whole (plan.stage k)) (map_same (meanings plan k) (meaning plan) (λ s. s < k)
-        (λ s h. meanings_at plan k s h) (plan.stage k).sources (ok.below k less))
+    (λ s h. meanings_at plan k s h) (plan.stage k).sources (ok.below k less))
 
 -- A link against the meaning.
 
@@ -72,7 +67,7 @@ module _ {R : Type 0} {fine : Flow R → Bool} {st : Stage R} (law : IsLawful fi
       let same = same_over a fs on.later end.rest.over in
       let items = sym end.rest.output ∙ all_taken l (st.output l.read a) g.sent end.all k.0 in
       let own : end_of st l.read a ≡ end_of st st.bytes a =
-          ap (or_own (inputs_end a)) end.rest.own in
+      ap (or_own (inputs_end a)) end.rest.own in
       let ended : Some (end_of st st.bytes a) ≡ l.heard = ap Some (sym own ∙ sym mark.1) ∙ sym m in
       ap (whole st) same
       ∙ (ap (λ xs. flow_of xs (Some (end_of st st.bytes a))) items ∙ ap (λ o. flow_of l.taken o) ended)
@@ -81,12 +76,14 @@ module _ {R : Type 0} {fine : Flow R → Bool} {st : Stage R} (law : IsLawful fi
       → GoodAt st size l a → Begins (given l) (whole st fs).items × Later (view l) (whole st fs)
   against size l a fs on g =
       let front = begins_trans (given l) (st.output l.read a) (st.output st.bytes fs) g.sent
-            (grown law l.read st.bytes a fs g.within (omega arith) on) in
-      (front, record {
-        items = begins_trans l.taken (given l) (st.output st.bytes fs)
-          (begins_append l.taken l.waiting) front;
-        over = over_whole size l a fs on g;
-      })
+      (grown law l.read st.bytes a fs g.within (omega arith) on) in (
+        front,
+        record {
+          items = begins_trans l.taken (given l) (st.output st.bytes fs)
+              (begins_append l.taken l.waiting) front;
+          over = over_whole size l a fs on g;
+        },
+      )
 
 module _ {R : Type 0} (plan : Plan R) (ok : IsPlan plan) where
   -- A meaning is over, and fine where a stage reads it.
@@ -96,23 +93,24 @@ module _ {R : Type 0} (plan : Plan R) (ok : IsPlan plan) where
   meanings_over (suc n) k h less =
       let ss = (plan.stage k).sources in
       let below : (s : ℕ) → s < k
-              → IsOver (meaning plan s) × (s + 1 < plan.count → plan.fine (meaning plan s) ≡ true)
-          = λ s b. meanings_over n s (omega arith) (omega arith) in
+      → IsOver (meaning plan s) × (s + 1 < plan.count → plan.fine (meaning plan s) ≡ true)
+      = λ s b. meanings_over n s (omega arith) (omega arith) in
       let over = over_map (meaning plan) (λ s. s < k) (λ s b. (below s b).0) ss (ok.below k less) in
       let fines = fine_map (meaning plan) (λ s. s < k) plan.fine
-            (λ s b. (below s b).1 (omega arith)) ss (ok.below k less) in
-      let is = meaning_is plan k ok less in
-      ((_, ap (λ (f : Flow R). f.end) is),
+      (λ s b. (below s b).1 (omega arith)) ss (ok.below k less) in
+      let is = meaning_is plan k ok less in (
+        (_, ap (λ (f : Flow R). f.end) is),
         λ more. ap plan.fine is
-          ∙ (ok.keeps k more).done (finals plan k)
-              (record { count = length-map ss (meaning plan); each = fines }) over)
+            ∙ (ok.keeps k more).done (finals plan k)
+            (record { count = length-map ss (meaning plan); each = fines }) over,
+      )
 
   fine_finals : (k : ℕ) → k < plan.count → AreInputs plan.fine (plan.stage k) (finals plan k)
   fine_finals k less = record {
     count = length-map (plan.stage k).sources (meaning plan);
     each = fine_map (meaning plan) (λ s. s < k) plan.fine
-      (λ s b. (meanings_over plan.count s (omega arith) (omega arith)).1 (omega arith))
-      (plan.stage k).sources (ok.below k less);
+        (λ s b. (meanings_over plan.count s (omega arith) (omega arith)).1 (omega arith))
+        (plan.stage k).sources (ok.below k less);
   }
 
   -- by induction over the stages, in order
@@ -121,15 +119,15 @@ module _ {R : Type 0} (plan : Plan R) (ok : IsPlan plan) where
   fronts size m inv zero k h less = absurd (omega arith)
   fronts size m inv (suc n) k h less =
       let on : Onward plan.fine (plan.stage k) (inputs plan m k) (finals plan k) = record {
-            before = fine_inputs plan size ok m k inv less;
-            after = fine_finals k less;
-            later = later_map (λ s. view (m s)) (λ s. s < k) (meaning plan)
-              (λ s lower. (fronts size m inv n s (omega arith) (omega arith)).1)
-              (plan.stage k).sources (ok.below k less);
-          } in
+        before = fine_inputs plan size ok m k inv less;
+        after = fine_finals k less;
+        later = later_map (λ s. view (m s)) (λ s. s < k) (meaning plan)
+            (λ s lower. (fronts size m inv n s (omega arith) (omega arith)).1)
+            (plan.stage k).sources (ok.below k less);
+      } in
       subst (λ f. Begins (given (m k)) f.items × Later (view (m k)) f)
-        (sym (meaning_is plan k ok less))
-        (against (ok.lawful k less) size (m k) (inputs plan m k) (finals plan k) on (inv k less))
+      (sym (meaning_is plan k ok less))
+      (against (ok.lawful k less) size (m k) (inputs plan m k) (finals plan k) on (inv k less))
 
   pub front : (size : ℕ) (m : Moment R) (k : ℕ) → Inv plan size m → k < plan.count
       → Begins (given (m k)) (meaning plan k).items × Later (view (m k)) (meaning plan k)
@@ -161,19 +159,19 @@ agrees_good {R} plan other size m agree inv k lesso =
     let ins : inputs other m k ≡ a = ap (map (λ s. view (m s))) (agree.sources k less) in
     let out = agree.output k a less in
     let states : stage_state ot l a ≡ stage_state st l a =
-        ap (λ o. by_parts (length (given l)) o (ot.wants l.read a) ot.sources) out
-        ∙ ap (λ w. by_parts (length (given l)) (st.output l.read a) w ot.sources)
-            (agree.wants k a less)
-        ∙ ap (by_parts (length (given l)) (st.output l.read a) (st.wants l.read a))
-            (agree.sources k less) in
+    ap (λ o. by_parts (length (given l)) o (ot.wants l.read a) ot.sources) out
+    ∙ ap (λ w. by_parts (length (given l)) (st.output l.read a) w ot.sources)
+    (agree.wants k a less)
+    ∙ ap (by_parts (length (given l)) (st.output l.read a) (st.wants l.read a))
+    (agree.sources k less) in
     let own = ap (or_own (inputs_end a)) (sym (agree.own k a less)) in
     let good : GoodAt ot size l a = record {
-          sent = subst (Begins (given l)) (sym out) g.sent;
-          marked = λ e h. (states ∙ (g.marked e h).0, (g.marked e h).1 ∙ own);
-          heard = g.heard;
-          room = g.room;
-          within = agree.read k less;
-        } in
+      sent = subst (Begins (given l)) (sym out) g.sent;
+      marked = λ e h. (states ∙ (g.marked e h).0, (g.marked e h).1 ∙ own);
+      heard = g.heard;
+      room = g.room;
+      within = agree.read k less;
+    } in
     subst (GoodAt ot size l) (sym ins) good
 
 pub agrees_self : {R : Type 0} (plan : Plan R) (size : ℕ) (m : Moment R) → Inv plan size m

@@ -1,34 +1,27 @@
 -- How much each turn moves, and so how many turns there can be.
-use Rattle.std.proofs.Common.{◌≡◌, ◌≢◌, ℕ, zero, suc, pred, ◌+◌, ◌-◌, ◌*◌, ◌<◌, ◌≤◌, ◌⊎◌, inl, inr, min}
-use Rattle.std.proofs.Common.{Bool, true, false, cond, ◌&&◌, ◌||◌, if◌then◌else◌, nat_lt, nat_eq}
-use Rattle.std.proofs.Common.{List, [], ◌∷◌, ◌++◌, map, length, get_or, slice_get, slice_index}
-use Rattle.std.proofs.Common.{Option, Some, None, is_some, is_none, unwrap_or}
+use Rattle.std.proofs.Common.{◌≡◌, ℕ, zero, suc, pred, ◌+◌, ◌<◌, ◌≤◌, min}
+use Rattle.std.proofs.Common.{true, false, ◌||◌, if◌then◌else◌, nat_lt}
+use Rattle.std.proofs.Common.{List, [], ◌∷◌, ◌++◌, length, slice_get}
+use Rattle.std.proofs.Common.{Option, Some, None, is_some, is_none}
 use Rattle.std.proofs.Common.{refl, sym, ap, ◌∙◌, subst, ⊎_elim, arith}
-use Rattle.std.proofs.Common.{append_assoc, append-nil, length-append}
-use Rattle.std.proofs.Common.{ltb-true, ltb-false, le-ltb, lt-ltb, eq-eqb, ne_eqb}
+use Rattle.std.proofs.Common.{length-append}
+use Rattle.std.proofs.Common.{le-ltb, lt-ltb, eq-eqb, ne_eqb}
 use Rattle.std.proofs.lemmas.Bool.{true≢false, false≢true, cases_eq, cases_lt, cases_Bool}
-use Rattle.std.proofs.lemmas.Bool.{and_parts, and_from, and_left, or_left, cond-true, cond-false}
-use Rattle.std.proofs.lemmas.Option.{none-some, same_Some, slice_get_within, slice_get-get_or, slice_get_cases}
-use Rattle.std.proofs.lemmas.List.{length-map}
+use Rattle.std.proofs.lemmas.Bool.{and_parts, and_from, and_left, cond-true, cond-false}
+use Rattle.std.proofs.lemmas.Option.{none-some, same_Some}
 use Rattle.std.specs.List.{AllByRecursion}
-use Rattle.hum_stage.specs.declared.faults.End.{End}
-use Rattle.hum_stage.specs.declared.faults.End.TheVariants.{Closed, Broken}
-use Rattle.hum_turns.specs.Flow.{Flow, so_far, Begins, IsOver, Later, AllLater, AllOver, AllFine}
-use Rattle.hum_turns.specs.Plan.{Want, Bytes, Source, Nothing, Stage, lower, inputs_end, or_own, end_of}
-use Rattle.hum_turns.specs.Plan.{AreInputs, Onward}
-use Rattle.hum_turns.specs.Plan.{whole, GoesOn, IsOpenAt, IsAtRest, IsLawful, KeepsFine, Plan, last, IsPlan}
-use Rattle.hum_turns.specs.Meaning.{meanings, meaning, plan_meaning, own_of, first_fault, IsRead, IsNumbered}
-use Rattle.hum_turns.specs.Links.{Link, given, linked, view, has_room, has_some, Moment, fresh, IsOpening}
-use Rattle.hum_turns.specs.Links.{Same, inputs, settled, is_over, Agrees}
-use Rattle.hum_turns.specs.Turns.{State, Gives, Reads, Takes, Ends, by_want, stage_state, state, can}
-use Rattle.hum_turns.specs.Turns.{is_source, ready, Becomes, pushed, popped, marked, HasGiven, Does}
-use Rattle.hum_turns.specs.Turns.{HasRead, ReadsAndDoes, Turns, Step, Run}
+use Rattle.hum_turns.specs.Plan.{Plan, last, IsPlan}
+use Rattle.hum_turns.specs.Meaning.{meaning}
+use Rattle.hum_turns.specs.Links.{Link, given, has_some, Moment, IsOpening}
+use Rattle.hum_turns.specs.Links.{Same}
+use Rattle.hum_turns.specs.Turns.{State, Gives, Reads, Takes, Ends, state}
+use Rattle.hum_turns.specs.Turns.{is_source, ready, Becomes, popped, marked, Does}
+use Rattle.hum_turns.specs.Turns.{Turns, Step, Run}
 use Rattle.hum_turns.specs.Counts.{turns_of, bytes_read, put, most_of_source, most_of_stage, most_of_sink}
 use Rattle.hum_turns.specs.Counts.{most, total, most_in_all, all_done, bound}
 use Rattle.std.proofs.Math.Nat.{min-le_left, min-le_right, le-min}
 use Rattle.hum_turns.proofs.Fronts.{begins_shorter}
-use Rattle.hum_turns.proofs.Good.{GoodAt}
-use Rattle.hum_turns.proofs.States.{Wanted, Taker, Allowed, last_less, taker, gives_less, ends_less}
+use Rattle.hum_turns.proofs.States.{Taker, Allowed, last_less, taker, gives_less, ends_less}
 use Rattle.hum_turns.proofs.States.{source_less, ready_allows, reads_source, read_allowed}
 use Rattle.hum_turns.proofs.Keeping.{Inv}
 use Rattle.hum_turns.proofs.Against.{front}
@@ -82,9 +75,9 @@ grown_each : {R : Type 0} (k : ℕ) (l : Link R) (old new : Moment R) → Become
     → Grown (old k) l → (s : ℕ) → Grown (old s) (new s)
 grown_each k l old new d g s =
     ⊎_elim
-      (λ i. subst (λ j. Grown (old j) (new j)) (sym i) (subst (Grown (old k)) (sym d.here) g))
-      (λ o. subst (Grown (old s)) (sym (d.elsewhere s o)) (unmoved (old s)))
-      (cases_eq s k)
+    (λ i. subst (λ j. Grown (old j) (new j)) (sym i) (subst (Grown (old k)) (sym d.here) g))
+    (λ o. subst (Grown (old s)) (sym (d.elsewhere s o)) (unmoved (old s)))
+    (cases_eq s k)
 
 module _ {R : Type 0} (old new : Moment R) (g : (s : ℕ) → Grown (old s) (new s)) where
   had_grows : (ss : List ℕ) → had_of old ss ≤ had_of new ss
@@ -100,7 +93,7 @@ module _ {R : Type 0} (old new : Moment R) (g : (s : ℕ) → Grown (old s) (new
   had_more (t ∷ ss) zero s at h =
       let e = same_Some t s at in
       let m : had (old t) + 1 ≤ had (new t) =
-          subst (λ j. had (old j) + 1 ≤ had (new j)) (sym e) h in
+      subst (λ j. had (old j) + 1 ≤ had (new j)) (sym e) h in
       let b = had_grows ss in
       omega arith
   had_more (t ∷ ss) (suc p) s at h =
@@ -144,18 +137,18 @@ module _ {R : Type 0} (plan : Plan R) where
       → spent plan old k ≤ spent plan new k
   spent_grows old new g k =
       ⊎_elim
-        (λ less.
-          let a = spent_stage old k less in
-          let b = spent_stage new k less in
-          let c = (g k).did in
-          let d = had_grows old new g (plan.stage k).sources in
-          omega arith)
-        (λ sink.
-          let a = spent_sink old k sink in
-          let b = spent_sink new k sink in
-          let c = (g (last plan)).had in
-          omega arith)
-        (cases_lt k plan.count)
+      (λ less.
+      let a = spent_stage old k less in
+      let b = spent_stage new k less in
+      let c = (g k).did in
+      let d = had_grows old new g (plan.stage k).sources in
+      omega arith)
+      (λ sink.
+      let a = spent_sink old k sink in
+      let b = spent_sink new k sink in
+      let c = (g (last plan)).had in
+      omega arith)
+      (cases_lt k plan.count)
 
   -- a stage that changes its own link
   own_link : (k : ℕ) (l : Link R) (old new : Moment R) → Becomes k l old new → k < plan.count
@@ -166,7 +159,7 @@ module _ {R : Type 0} (plan : Plan R) where
       let b = spent_stage new k less in
       let c = had_grows old new g (plan.stage k).sources in
       let m : did (old k) + 1 ≤ did (new k) =
-          subst (λ j. did (old k) + 1 ≤ did j) (sym e.here) d in
+      subst (λ j. did (old k) + 1 ≤ did j) (sym e.here) d in
       record { own = omega arith; others = spent_grows old new g }
 
   -- an actor that takes from another's
@@ -176,25 +169,25 @@ module _ {R : Type 0} (plan : Plan R) where
       let p = popped_had (old s) (old s).waiting refl some in
       let p1 = p.1 in
       let g = grown_each s (popped (old s) (old s).waiting) old new e
-            (record { did = p.0; had = omega arith }) in
+      (record { did = p.0; had = omega arith }) in
       let m : had (old s) + 1 ≤ had (new s) =
-          subst (λ j. had (old s) + 1 ≤ had j) (sym e.here) p.1 in
+      subst (λ j. had (old s) + 1 ≤ had j) (sym e.here) p.1 in
       record {
         own = ⊎_elim
-          (λ w.
+            (λ w.
             let ss = (plan.stage k).sources in
             let a = spent_stage old k w.0 in
             let b = spent_stage new k w.0 in
             let c = had_more old new g ss w.1.place s w.1.is_there m in
             let d = (g k).did in
             omega arith)
-          (λ w.
+            (λ w.
             let a = spent_sink old k w.0 in
             let b = spent_sink new k w.0 in
             let c : had (old (last plan)) + 1 ≤ had (new (last plan)) =
-                subst (λ j. had (old j) + 1 ≤ had (new j)) w.1 m in
+            subst (λ j. had (old j) + 1 ≤ had (new j)) w.1 m in
             omega arith)
-          by;
+            by;
         others = spent_grows old new g;
       }
 
@@ -217,7 +210,7 @@ module _ {R : Type 0} (plan : Plan R) (ok : IsPlan plan) (size : ℕ) where
       own_link plan k _ old new d.becomes (gives_less plan old k st) (omega arith) (omega arith)
   does_adds k Reads old new st may d =
       let g : (s : ℕ) → Grown (old s) (new s) =
-            λ s. subst (Grown (old s)) (sym (d s)) (unmoved (old s)) in
+      λ s. subst (Grown (old s)) (sym (d s)) (unmoved (old s)) in
       let e = spent_grows plan old new g k in
       record { own = omega arith; others = spent_grows plan old new g }
   does_adds k (Takes s) old new st may d =
@@ -241,9 +234,9 @@ module _ {R : Type 0} (plan : Plan R) (ok : IsPlan plan) (size : ℕ) where
       let between = t.between in
       let n = t.reads.more in
       let first = own_link plan k _ old between t.reads.becomes (source_less plan k src).0
-            (omega arith) (omega arith) in
+      (omega arith) (omega arith) in
       let then' = does_adds k (state plan between k) between new refl
-            (read_allowed plan ok size old between k src h t.reads) t.does in
+      (read_allowed plan ok size old between k src h t.reads) t.does in
       let a = first.own in
       let b = then'.own in
       record {
@@ -268,15 +261,15 @@ module _ {R : Type 0} (plan : Plan R) (ok : IsPlan plan) (size : ℕ) where
       let rest = each_spends k js run.0 new run.2 in
       let o = a.others k in
       ⊎_elim
-        (λ same.
-          let n = cond-true _ (1 + turns_of k js) (turns_of k js) (eq-eqb j k same) in
-          let own : spent plan old k + 1 ≤ spent plan run.0 k =
-              subst (λ i. spent plan old i + 1 ≤ spent plan run.0 i) same a.own in
-          omega arith)
-        (λ other.
-          let n = cond-false _ (1 + turns_of k js) (turns_of k js) (ne_eqb j k other) in
-          omega arith)
-        (cases_eq j k)
+      (λ same.
+      let n = cond-true _ (1 + turns_of k js) (turns_of k js) (eq-eqb j k same) in
+      let own : spent plan old k + 1 ≤ spent plan run.0 k =
+      subst (λ i. spent plan old i + 1 ≤ spent plan run.0 i) same a.own in
+      omega arith)
+      (λ other.
+      let n = cond-false _ (1 + turns_of k js) (turns_of k js) (ne_eqb j k other) in
+      omega arith)
+      (cases_eq j k)
 
 -- Sums.
 
@@ -292,15 +285,15 @@ total_grows : (f g : ℕ → ℕ) (k d n : ℕ) → ((i : ℕ) → f i ≤ g i) 
 total_grows f g k d zero all more h = absurd (omega arith)
 total_grows f g k d (suc n) all more h =
     ⊎_elim
-      (λ same.
-        let r = total_le f g n (λ i less. all i) in
-        let m : f n + d ≤ g n = subst (λ j. f j + d ≤ g j) same more in
-        omega arith)
-      (λ differs.
-        let r = total_grows f g k d n all more (omega arith) in
-        let e = all n in
-        omega arith)
-      (cases_eq k n)
+    (λ same.
+    let r = total_le f g n (λ i less. all i) in
+    let m : f n + d ≤ g n = subst (λ j. f j + d ≤ g j) same more in
+    omega arith)
+    (λ differs.
+    let r = total_grows f g k d n all more (omega arith) in
+    let e = all n in
+    omega arith)
+    (cases_eq k n)
 
 total_none : (f : ℕ → ℕ) (n : ℕ) → ((i : ℕ) → f i ≡ 0) → total f n ≡ 0
 total_none f zero h = refl
@@ -312,13 +305,13 @@ all_spend : {R : Type 0} (plan : Plan R) (ok : IsPlan plan) (size : ℕ) (ks : L
     → total (spent plan old) (plan.count + 1) + length ks ≤ total (spent plan new) (plan.count + 1)
 all_spend plan ok size [] old new run =
     let e = total_le (spent plan old) (spent plan new) (plan.count + 1)
-          (λ i less. same_spent plan ok size old new run i) in
+    (λ i less. same_spent plan ok size old new run i) in
     omega arith
 all_spend plan ok size (k ∷ ks) old new run =
     let within = run.1.within in
     let a = step_adds plan ok size k old run.0 run.1 in
     let step = total_grows (spent plan old) (spent plan run.0) k 1 (plan.count + 1) a.others a.own
-          (omega arith) in
+    (omega arith) in
     let rest = all_spend plan ok size ks run.0 new run.2 in
     omega arith
 
@@ -335,16 +328,16 @@ none_spent : {R : Type 0} (plan : Plan R) (m : Moment R) → IsOpening m → (k 
 unfolding did had one_if
 none_spent plan m start k =
     ⊎_elim
-      (λ less.
-        let a = spent_stage plan m k less in
-        let b : did (m k) ≡ 0 = ap did (start k) in
-        let c = had_none m start (plan.stage k).sources in
-        omega arith)
-      (λ sink.
-        let a = spent_sink plan m k sink in
-        let b : had (m (last plan)) ≡ 0 = ap had (start (last plan)) in
-        omega arith)
-      (cases_lt k plan.count)
+    (λ less.
+    let a = spent_stage plan m k less in
+    let b : did (m k) ≡ 0 = ap did (start k) in
+    let c = had_none m start (plan.stage k).sources in
+    omega arith)
+    (λ sink.
+    let a = spent_sink plan m k sink in
+    let b : had (m (last plan)) ≡ 0 = ap had (start (last plan)) in
+    omega arith)
+    (cases_lt k plan.count)
 
 -- What was spent, as it is counted for others.
 
@@ -378,10 +371,10 @@ not_source : {R : Type 0} (plan : Plan R) (k : ℕ) → is_source plan k ≡ fal
     → (plan.stage k).bytes ≡ 0
 not_source plan k h less =
     ⊎_elim
-      (λ some. absurd (true≢false
-        (sym (and_from _ _ (lt-ltb k plan.count less) (lt-ltb 0 (plan.stage k).bytes some)) ∙ h)))
-      (λ none. omega arith)
-      (cases_lt 0 (plan.stage k).bytes)
+    (λ some. absurd (true≢false
+    (sym (and_from _ _ (lt-ltb k plan.count less) (lt-ltb 0 (plan.stage k).bytes some)) ∙ h)))
+    (λ none. omega arith)
+    (cases_lt 0 (plan.stage k).bytes)
 
 module _ {R : Type 0} (plan : Plan R) (ok : IsPlan plan) (size : ℕ) (m : Moment R)
     (inv : Inv plan size m) where
@@ -389,32 +382,32 @@ module _ {R : Type 0} (plan : Plan R) (ok : IsPlan plan) (size : ℕ) (m : Momen
   unfolding did had had_of
   spent_most k =
       ⊎_elim
-        (λ src.
-          let less = source_less plan k src in
-          let st = plan.stage k in
-          let a = spent_stage plan m k less.0 in
-          let none : had_of m st.sources ≡ 0 =
-              ap (had_of m) ((ok.lawful k less.0).apart less.1) in
-          let b = most_source plan m k src in
-          let c = read_less (m k).read st.bytes (inv k less.0).within in
-          let d = at_most_one (m k).mark in
-          omega arith)
-        (λ other. ⊎_elim
-          (λ less.
-            let a = spent_stage plan m k less in
-            let b = most_stage plan m k other less in
-            let c = had_put m (plan.stage k).sources in
-            let d = not_source plan k other less in
-            let e = (inv k less).within in
-            let f = at_most_one (m k).mark in
-            omega arith)
-          (λ sink.
-            let a = spent_sink plan m k sink in
-            let b = most_sink plan m k sink in
-            let c = at_most_one (m (last plan)).heard in
-            omega arith)
-          (cases_lt k plan.count))
-        (cases_Bool (is_source plan k))
+      (λ src.
+      let less = source_less plan k src in
+      let st = plan.stage k in
+      let a = spent_stage plan m k less.0 in
+      let none : had_of m st.sources ≡ 0 =
+      ap (had_of m) ((ok.lawful k less.0).apart less.1) in
+      let b = most_source plan m k src in
+      let c = read_less (m k).read st.bytes (inv k less.0).within in
+      let d = at_most_one (m k).mark in
+      omega arith)
+      (λ other. ⊎_elim
+      (λ less.
+      let a = spent_stage plan m k less in
+      let b = most_stage plan m k other less in
+      let c = had_put m (plan.stage k).sources in
+      let d = not_source plan k other less in
+      let e = (inv k less).within in
+      let f = at_most_one (m k).mark in
+      omega arith)
+      (λ sink.
+      let a = spent_sink plan m k sink in
+      let b = most_sink plan m k sink in
+      let c = at_most_one (m (last plan)).heard in
+      omega arith)
+      (cases_lt k plan.count))
+      (cases_Bool (is_source plan k))
 
   -- What was moved so far is no more than in the whole run.
 
@@ -445,29 +438,29 @@ module _ {R : Type 0} (plan : Plan R) (ok : IsPlan plan) (size : ℕ) (m : Momen
   most_less : (k : ℕ) → k < plan.count + 1 → most plan m k ≤ most plan (all_done plan) k
   most_less k within =
       ⊎_elim
-        (λ src.
-          let less = (source_less plan k src).0 in
-          let a = most_source plan m k src in
-          let b = most_source plan (all_done plan) k src in
-          let c = given_less k less in
-          let d = length-append (meaning plan k).items [] in
-          let e = read_less_whole k less in
-          omega arith)
-        (λ other. ⊎_elim
-          (λ less.
-            let a = most_stage plan m k other less in
-            let b = most_stage plan (all_done plan) k other less in
-            let c = given_less k less in
-            let d = length-append (meaning plan k).items [] in
-            let e = put_less k (omega arith) (plan.stage k).sources (ok.below k less) in
-            omega arith)
-          (λ sink.
-            let a = most_sink plan m k sink in
-            let b = most_sink plan (all_done plan) k sink in
-            let c = taken_less (last plan) (last_less plan.count ok.some) in
-            omega arith)
-          (cases_lt k plan.count))
-        (cases_Bool (is_source plan k))
+      (λ src.
+      let less = (source_less plan k src).0 in
+      let a = most_source plan m k src in
+      let b = most_source plan (all_done plan) k src in
+      let c = given_less k less in
+      let d = length-append (meaning plan k).items [] in
+      let e = read_less_whole k less in
+      omega arith)
+      (λ other. ⊎_elim
+      (λ less.
+      let a = most_stage plan m k other less in
+      let b = most_stage plan (all_done plan) k other less in
+      let c = given_less k less in
+      let d = length-append (meaning plan k).items [] in
+      let e = put_less k (omega arith) (plan.stage k).sources (ok.below k less) in
+      omega arith)
+      (λ sink.
+      let a = most_sink plan m k sink in
+      let b = most_sink plan (all_done plan) k sink in
+      let c = taken_less (last plan) (last_less plan.count ok.some) in
+      omega arith)
+      (cases_lt k plan.count))
+      (cases_Bool (is_source plan k))
 
   pub bounded : most_in_all plan m ≤ bound plan
   bounded = total_le (most plan m) (most plan (all_done plan)) (plan.count + 1) most_less

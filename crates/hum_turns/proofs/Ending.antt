@@ -1,35 +1,21 @@
 -- How runs end.
-use Rattle.std.proofs.Common.{◌≡◌, ◌≢◌, ℕ, zero, suc, pred, ◌+◌, ◌-◌, ◌*◌, ◌<◌, ◌≤◌, ◌⊎◌, inl, inr, min}
-use Rattle.std.proofs.Common.{Bool, true, false, cond, ◌&&◌, ◌||◌, if◌then◌else◌, nat_lt, nat_eq}
-use Rattle.std.proofs.Common.{List, [], ◌∷◌, ◌++◌, map, length, get_or, slice_get, slice_index}
-use Rattle.std.proofs.Common.{Option, Some, None, is_some, is_none, unwrap_or}
+use Rattle.std.proofs.Common.{◌≡◌, ℕ, zero, suc, ◌+◌, ◌<◌, ◌⊎◌, inl, inr}
+use Rattle.std.proofs.Common.{false}
+use Rattle.std.proofs.Common.{List, [], ◌∷◌, ◌++◌, length}
+use Rattle.std.proofs.Common.{Option, Some, None, is_some}
 use Rattle.std.proofs.Common.{refl, sym, ap, ◌∙◌, subst, ⊎_elim, arith}
-use Rattle.std.proofs.Common.{append_assoc, append-nil, length-append}
-use Rattle.std.proofs.Common.{ltb-true, ltb-false, le-ltb, lt-ltb, eq-eqb, ne_eqb}
-use Rattle.std.proofs.lemmas.Bool.{true≢false, false≢true, cases_eq, cases_lt, cases_Bool}
-use Rattle.std.proofs.lemmas.Bool.{and_parts, and_from, and_left, or_left, cond-true, cond-false}
-use Rattle.std.proofs.lemmas.Option.{none-some, same_Some, slice_get_within, slice_get-get_or, slice_get_cases}
-use Rattle.std.proofs.lemmas.List.{length-map}
-use Rattle.std.specs.List.{AllByRecursion}
+use Rattle.std.proofs.Common.{length-append}
+use Rattle.std.proofs.lemmas.Bool.{true≢false, cases_Bool}
+use Rattle.std.proofs.lemmas.Bool.{and_parts}
+use Rattle.std.proofs.lemmas.Option.{none-some, same_Some}
 use Rattle.hum_stage.specs.declared.faults.End.{End}
-use Rattle.hum_stage.specs.declared.faults.End.TheVariants.{Closed, Broken}
-use Rattle.hum_turns.specs.Flow.{Flow, so_far, Begins, IsOver, Later, AllLater, AllOver, AllFine}
-use Rattle.hum_turns.specs.Plan.{Want, Bytes, Source, Nothing, Stage, lower, inputs_end, or_own, end_of}
-use Rattle.hum_turns.specs.Plan.{AreInputs, Onward}
-use Rattle.hum_turns.specs.Plan.{whole, GoesOn, IsOpenAt, IsAtRest, IsLawful, KeepsFine, Plan, last, IsPlan}
-use Rattle.hum_turns.specs.Meaning.{meanings, meaning, plan_meaning, own_of, first_fault, IsRead, IsNumbered}
-use Rattle.hum_turns.specs.Links.{Link, given, linked, view, has_room, has_some, Moment, fresh, IsOpening}
-use Rattle.hum_turns.specs.Links.{Same, inputs, settled, is_over, Agrees}
-use Rattle.hum_turns.specs.Turns.{State, Gives, Reads, Takes, Ends, by_want, stage_state, state, can}
-use Rattle.hum_turns.specs.Turns.{is_source, ready, Becomes, pushed, popped, marked, HasGiven, Does}
-use Rattle.hum_turns.specs.Turns.{HasRead, ReadsAndDoes, Turns, Step, Run}
+use Rattle.hum_turns.specs.Plan.{Plan, last, IsPlan}
+use Rattle.hum_turns.specs.Meaning.{first_fault, IsNumbered}
+use Rattle.hum_turns.specs.Links.{is_over}
 use Rattle.hum_turns.specs.declared.result.RunResult.{RunResult}
-use Rattle.hum_turns.specs.declared.result.RunResult.TheVariants as ends
-use Rattle.hum_turns.specs.Text.{line_of, text, next_text}
-use Rattle.hum_turns.specs.Failures.{Now, result_of, IsFailure, ended_by, result, written, is_ready, MayFail}
-use Rattle.hum_turns.specs.Failures.{Moves, Fails, Turn, SameNow, Walk, IsFirst, IsWhole, HoldsNow, EveryTurn}
+use Rattle.hum_turns.specs.Failures.{Now, result_of, IsFailure, ended_by, result}
+use Rattle.hum_turns.specs.Failures.{Turn, IsFirst, HoldsNow}
 use Rattle.hum_turns.specs.Counts.{bound}
-use Rattle.hum_turns.specs.Holds.{Holds}
 use Rattle.hum_turns.specs.Orders.{Order, ready_list, choice, Driven}
 use Rattle.hum_turns.specs.Ends.{EndsAsMeant, EveryEnd, LeadsToEnd, EveryOrderEnds}
 use Rattle.hum_turns.proofs.Faults.{whose_fault}
@@ -47,7 +33,7 @@ module _ {R : Type 0} (plan : Plan R) (size : ℕ) (bytes : R → List ℕ) (ok 
       let w = holds.whole e none heard in
       record {
         result = ap result_of
-          (same_Some e (first_fault plan plan.count) (sym w.end ∙ whose_fault plan ok num));
+            (same_Some e (first_fault plan plan.count) (sym w.end ∙ whose_fault plan ok num));
         written = w.written;
       }
 
@@ -63,8 +49,8 @@ module _ {R : Type 0} (plan : Plan R) (size : ℕ) (bytes : R → List ℕ) (ok 
 pub every_end : {R : Type 0} → EveryEnd R
 every_end plan size bytes ok num some turns first now start walk by is =
     ends_by plan size bytes ok num turns now
-      (every_turn plan size bytes ok some turns first now start walk)
-      now.failure (now.links (last plan)).heard refl refl by is
+    (every_turn plan size bytes ok some turns first now start walk)
+    now.failure (now.links (last plan)).heard refl refl by is
 
 -- Every order goes on to the end, since its turns are bounded.
 
@@ -90,31 +76,31 @@ module _ {R O : Type 0} (order : Order O) (plan : Plan R) (size : ℕ) (bytes : 
       absurd (omega arith)
   ends_from (suc fuel) ks now p d none more =
       ⊎_elim
-        (λ over. record {
-          turns = ks;
-          now = now;
-          after = p;
-          driven = d;
-          failure = none;
-          over = over;
-        })
-        (λ goes.
-          let leads = every_pick order plan size bytes ok some ks first now o p start d in
-          let k = choice order plan size p now in
-          let left : bound plan < length (ks ++ k ∷ []) + fuel =
-              omega (arith, length-append ks (k ∷ [])) in
-          let next = leads.goes_on (still_open plan now none goes) in
-          let turn = (leads.holds.holds none).1.goes k next.0 (and_parts _ _ next.1).1 in
-          let after : Now R = record { links = turn.next; part = []; failure = None } in
-          let one : Turn plan size bytes k now after = record {
-                is_ready = next.1;
-                turns = inl (record { step = turn.step; part = refl; failure = refl });
-              } in
-          ends_from fuel (ks ++ k ∷ []) after (order.next p (ready_list plan size now))
-            (driven_more order plan size bytes ks k o p first now after d refl one) refl left)
-        (cases_Bool (is_over plan now.links))
+      (λ over. record {
+        turns = ks;
+        now = now;
+        after = p;
+        driven = d;
+        failure = none;
+        over = over;
+      })
+      (λ goes.
+      let leads = every_pick order plan size bytes ok some ks first now o p start d in
+      let k = choice order plan size p now in
+      let left : bound plan < length (ks ++ k ∷ []) + fuel =
+      omega (arith, length-append ks (k ∷ [])) in
+      let next = leads.goes_on (still_open plan now none goes) in
+      let turn = (leads.holds.holds none).1.goes k next.0 (and_parts _ _ next.1).1 in
+      let after : Now R = record { links = turn.next; part = []; failure = None } in
+      let one : Turn plan size bytes k now after = record {
+        is_ready = next.1;
+        turns = inl (record { step = turn.step; part = refl; failure = refl });
+      } in
+      ends_from fuel (ks ++ k ∷ []) after (order.next p (ready_list plan size now))
+      (driven_more order plan size bytes ks k o p first now after d refl one) refl left)
+      (cases_Bool (is_over plan now.links))
 
 pub every_order_ends : {R O : Type 0} → EveryOrderEnds R O
 every_order_ends order plan size bytes ok some first o start =
     ends_from order plan size bytes ok some first o start (bound plan + 1) [] first o
-      (still first, refl) start.failure (omega arith)
+    (still first, refl) start.failure (omega arith)

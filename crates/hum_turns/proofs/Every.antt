@@ -1,31 +1,12 @@
 -- What holds at each moment that a run reaches.
-use Rattle.std.proofs.Common.{◌≡◌, ◌≢◌, ℕ, zero, suc, pred, ◌+◌, ◌-◌, ◌*◌, ◌<◌, ◌≤◌, ◌⊎◌, inl, inr, min}
-use Rattle.std.proofs.Common.{Bool, true, false, cond, ◌&&◌, ◌||◌, if◌then◌else◌, nat_lt, nat_eq}
-use Rattle.std.proofs.Common.{List, [], ◌∷◌, ◌++◌, map, length, get_or, slice_get, slice_index}
-use Rattle.std.proofs.Common.{Option, Some, None, is_some, is_none, unwrap_or}
-use Rattle.std.proofs.Common.{refl, sym, ap, ◌∙◌, subst, ⊎_elim, arith}
-use Rattle.std.proofs.Common.{append_assoc, append-nil, length-append}
-use Rattle.std.proofs.Common.{ltb-true, ltb-false, le-ltb, lt-ltb, eq-eqb, ne_eqb}
-use Rattle.std.proofs.lemmas.Bool.{true≢false, false≢true, cases_eq, cases_lt, cases_Bool}
-use Rattle.std.proofs.lemmas.Bool.{and_parts, and_from, and_left, or_left, cond-true, cond-false}
-use Rattle.std.proofs.lemmas.Option.{none-some, same_Some, slice_get_within, slice_get-get_or, slice_get_cases}
-use Rattle.std.proofs.lemmas.List.{length-map}
-use Rattle.std.specs.List.{AllByRecursion}
-use Rattle.hum_stage.specs.declared.faults.End.{End}
-use Rattle.hum_stage.specs.declared.faults.End.TheVariants.{Closed, Broken}
-use Rattle.hum_turns.specs.Flow.{Flow, so_far, Begins, IsOver, Later, AllLater, AllOver, AllFine}
-use Rattle.hum_turns.specs.Plan.{Want, Bytes, Source, Nothing, Stage, lower, inputs_end, or_own, end_of}
-use Rattle.hum_turns.specs.Plan.{AreInputs, Onward}
-use Rattle.hum_turns.specs.Plan.{whole, GoesOn, IsOpenAt, IsAtRest, IsLawful, KeepsFine, Plan, last, IsPlan}
-use Rattle.hum_turns.specs.Meaning.{meanings, meaning, plan_meaning, own_of, first_fault, IsRead, IsNumbered}
-use Rattle.hum_turns.specs.Links.{Link, given, linked, view, has_room, has_some, Moment, fresh, IsOpening}
-use Rattle.hum_turns.specs.Links.{Same, inputs, settled, is_over, Agrees}
-use Rattle.hum_turns.specs.Turns.{State, Gives, Reads, Takes, Ends, by_want, stage_state, state, can}
-use Rattle.hum_turns.specs.Turns.{is_source, ready, Becomes, pushed, popped, marked, HasGiven, Does}
-use Rattle.hum_turns.specs.Turns.{HasRead, ReadsAndDoes, Turns, Step, Run}
-use Rattle.hum_turns.specs.Counts.{turns_of, bytes_read, put, most_of_source, most_of_stage, most_of_sink}
-use Rattle.hum_turns.specs.Counts.{most, total, most_in_all, all_done, bound}
-use Rattle.hum_turns.specs.Holds.{SomeReady, HasTurn, Holds, EveryOrder}
+use Rattle.std.proofs.Common.{◌≡◌, ℕ, ◌+◌, ◌-◌, ◌≤◌}
+use Rattle.std.proofs.Common.{List, length}
+use Rattle.std.proofs.Common.{sym, ap, ◌∙◌, subst, arith}
+use Rattle.std.proofs.Common.{length-append}
+use Rattle.hum_turns.specs.Plan.{Plan, IsPlan}
+use Rattle.hum_turns.specs.Links.{Link, linked, Moment, IsOpening}
+use Rattle.hum_turns.specs.Turns.{Run}
+use Rattle.hum_turns.specs.Holds.{EveryOrder}
 use Rattle.hum_turns.proofs.Keeping.{Inv, opening_good, run_keeps}
 use Rattle.hum_turns.proofs.Against.{front, at_the_end, agrees_good, agrees_self}
 use Rattle.hum_turns.proofs.Progress.{progress, goes}

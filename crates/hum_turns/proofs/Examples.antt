@@ -1,36 +1,27 @@
 -- A worked plan: a source of three numbers, each read by one byte, and a stage that gives each number
 -- twice, over links of one record.
-use Rattle.std.proofs.Common.{◌≡◌, ◌≢◌, ℕ, zero, suc, ◌+◌, ◌*◌, ◌<◌, ◌≤◌, Bool, true, false}
-use Rattle.std.proofs.Common.{if◌then◌else◌, nat_lt, nat_eq, List, [], ◌∷◌, ◌++◌, map, length, take, drop}
-use Rattle.std.proofs.Common.{Option, Some, None, slice_get, refl, sym, ap, ◌∙◌, subst, arith, append_assoc}
-use Rattle.std.proofs.Common.{lt-ltb, ltb-true, ltb-false}
+use Rattle.std.proofs.Common.{◌≡◌, ◌≢◌, ℕ, zero, suc, ◌<◌, ◌≤◌, Bool, true, false}
+use Rattle.std.proofs.Common.{if◌then◌else◌, nat_lt, List, [], ◌∷◌, ◌++◌, length, take}
+use Rattle.std.proofs.Common.{Option, Some, None, refl, sym, ap, ◌∙◌, subst, arith}
+use Rattle.std.proofs.Common.{ltb-true, ltb-false}
 use Rattle.std.proofs.lemmas.List.{take_all}
 use Rattle.std.specs.List.{AllByRecursion}
-use Rattle.std.proofs.lemmas.Bool.{false≢true, true≢false}
-use Rattle.hum_stage.specs.declared.faults.Command.TheVariants.{Rid, Extract}
-use Rattle.hum_stage.specs.declared.faults.Rule.TheVariants.{X1, L2}
+use Rattle.hum_stage.specs.declared.faults.Command.TheVariants.{Rid}
+use Rattle.hum_stage.specs.declared.faults.Rule.TheVariants.{L2}
 use Rattle.hum_stage.specs.declared.faults.Fault.{Fault}
 use Rattle.hum_stage.specs.declared.faults.End.{End}
 use Rattle.hum_stage.specs.declared.faults.End.TheVariants.{Closed, Broken}
-use Rattle.hum_turns.specs.Flow.{Flow, so_far, Begins, IsOver, Later, AllLater, AllOver, AllFine}
-use Rattle.hum_turns.specs.Plan.{Want, Bytes, Source, Nothing, Stage, lower, inputs_end, or_own, end_of}
-use Rattle.hum_turns.specs.Plan.{AreInputs, Onward}
-use Rattle.hum_turns.specs.Plan.{whole, GoesOn, IsOpenAt, IsAtRest, IsLawful, KeepsFine, Plan, last, IsPlan}
-use Rattle.hum_turns.specs.Meaning.{meanings, meaning, plan_meaning, own_of, first_fault, IsRead, IsNumbered}
-use Rattle.hum_turns.specs.Links.{Link, given, linked, view, has_room, has_some, Moment, fresh, IsOpening}
-use Rattle.hum_turns.specs.Links.{Same, inputs, settled, is_over, Agrees}
-use Rattle.hum_turns.specs.Turns.{State, Gives, Reads, Takes, Ends, by_want, stage_state, state, can}
-use Rattle.hum_turns.specs.Turns.{is_source, ready, Becomes, pushed, popped, marked, HasGiven, Does}
-use Rattle.hum_turns.specs.Turns.{HasRead, ReadsAndDoes, Turns, Step, Run}
-use Rattle.hum_turns.specs.Counts.{turns_of, bytes_read, put, most_of_source, most_of_stage, most_of_sink}
-use Rattle.hum_turns.specs.Counts.{most, total, most_in_all, all_done, bound}
-use Rattle.hum_turns.specs.declared.result.RunResult.{RunResult}
-use Rattle.hum_turns.specs.declared.result.RunResult.TheVariants as ends
-use Rattle.hum_turns.specs.Text.{line_of, text, next_text}
-use Rattle.hum_turns.specs.Failures.{Now, result_of, IsFailure, ended_by, result, written, is_ready, MayFail}
-use Rattle.hum_turns.specs.Failures.{Moves, Fails, Turn, SameNow, Walk, IsFirst, IsWhole, HoldsNow, EveryTurn}
+use Rattle.hum_turns.specs.Flow.{Flow, Begins, IsOver, AllLater, AllOver}
+use Rattle.hum_turns.specs.Plan.{Want, Bytes, Source, Nothing, Stage, lower}
+use Rattle.hum_turns.specs.Plan.{IsOpenAt, IsLawful, Plan, IsPlan}
+use Rattle.hum_turns.specs.Meaning.{meaning, plan_meaning, first_fault}
+use Rattle.hum_turns.specs.Links.{Link, Moment, fresh}
+use Rattle.hum_turns.specs.Turns.{Takes, Ends, state}
+use Rattle.hum_turns.specs.Turns.{Step}
+use Rattle.hum_turns.specs.Counts.{most, most_in_all, all_done, bound}
+use Rattle.hum_turns.specs.Text.{text}
+use Rattle.hum_turns.specs.Failures.{Now}
 use Rattle.hum_turns.specs.Orders.{first_true, last_true, chosen, ready_list}
-use Rattle.hum_turns.proofs.Fronts.{begins_trans}
 
 -- The stages.
 
@@ -357,6 +348,7 @@ is_plan = record {
     below : (k : ℕ) → k < 2 → AllByRecursion (λ s. s < k) (stages k).sources
     below zero less = tt
     below (suc k) less = (omega arith, tt)
+
     lawful : (k : ℕ) → IsLawful anything (stages k)
     lawful zero = numbers_lawful
     lawful (suc k) = doubled_lawful k

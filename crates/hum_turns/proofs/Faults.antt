@@ -1,28 +1,20 @@
 -- Whose fault is told.
-use Rattle.std.proofs.Common.{◌≡◌, ◌≢◌, ℕ, zero, suc, pred, ◌+◌, ◌-◌, ◌*◌, ◌<◌, ◌≤◌, ◌⊎◌, inl, inr, min}
-use Rattle.std.proofs.Common.{Bool, true, false, cond, ◌&&◌, ◌||◌, if◌then◌else◌, nat_lt, nat_eq}
-use Rattle.std.proofs.Common.{List, [], ◌∷◌, ◌++◌, map, length, get_or, slice_get, slice_index}
-use Rattle.std.proofs.Common.{Option, Some, None, is_some, is_none, unwrap_or}
+use Rattle.std.proofs.Common.{◌≡◌, ℕ, zero, suc, pred, ◌+◌, ◌<◌, ◌≤◌, ◌⊎◌, inl, inr}
+use Rattle.std.proofs.Common.{Bool, true, false, nat_lt}
+use Rattle.std.proofs.Common.{List, [], ◌∷◌, map, slice_get}
+use Rattle.std.proofs.Common.{Some, unwrap_or}
 use Rattle.std.proofs.Common.{refl, sym, ap, ◌∙◌, subst, ⊎_elim, arith}
-use Rattle.std.proofs.Common.{append_assoc, append-nil, length-append}
-use Rattle.std.proofs.Common.{ltb-true, ltb-false, le-ltb, lt-ltb, eq-eqb, ne_eqb}
-use Rattle.std.proofs.lemmas.Bool.{true≢false, false≢true, cases_eq, cases_lt, cases_Bool}
-use Rattle.std.proofs.lemmas.Bool.{and_parts, and_from, and_left, or_left, cond-true, cond-false}
-use Rattle.std.proofs.lemmas.Option.{none-some, same_Some, slice_get_within, slice_get-get_or, slice_get_cases}
-use Rattle.std.proofs.lemmas.List.{length-map}
+use Rattle.std.proofs.Common.{le-ltb, lt-ltb}
+use Rattle.std.proofs.lemmas.Bool.{true≢false, cases_eq, cases_lt, cases_Bool}
+use Rattle.std.proofs.lemmas.Bool.{cond-true, cond-false}
+use Rattle.std.proofs.lemmas.Option.{none-some, same_Some}
 use Rattle.std.specs.List.{AllByRecursion}
 use Rattle.hum_stage.specs.declared.faults.End.{End}
 use Rattle.hum_stage.specs.declared.faults.End.TheVariants.{Closed, Broken}
-use Rattle.hum_turns.specs.Flow.{Flow, so_far, Begins, IsOver, Later, AllLater, AllOver, AllFine}
-use Rattle.hum_turns.specs.Plan.{Want, Bytes, Source, Nothing, Stage, lower, inputs_end, or_own, end_of}
-use Rattle.hum_turns.specs.Plan.{AreInputs, Onward}
-use Rattle.hum_turns.specs.Plan.{whole, GoesOn, IsOpenAt, IsAtRest, IsLawful, KeepsFine, Plan, last, IsPlan}
-use Rattle.hum_turns.specs.Meaning.{meanings, meaning, plan_meaning, own_of, first_fault, IsRead, IsNumbered}
-use Rattle.hum_turns.specs.Links.{Link, given, linked, view, has_room, has_some, Moment, fresh, IsOpening}
-use Rattle.hum_turns.specs.Links.{Same, inputs, settled, is_over, Agrees}
-use Rattle.hum_turns.specs.Turns.{State, Gives, Reads, Takes, Ends, by_want, stage_state, state, can}
-use Rattle.hum_turns.specs.Turns.{is_source, ready, Becomes, pushed, popped, marked, HasGiven, Does}
-use Rattle.hum_turns.specs.Turns.{HasRead, ReadsAndDoes, Turns, Step, Run}
+use Rattle.hum_turns.specs.Flow.{Flow}
+use Rattle.hum_turns.specs.Plan.{lower, inputs_end, or_own}
+use Rattle.hum_turns.specs.Plan.{Plan, last, IsPlan}
+use Rattle.hum_turns.specs.Meaning.{meaning, own_of, first_fault, IsNumbered}
 use Rattle.hum_stage.specs.declared.faults.Fault.{Fault}
 use Rattle.hum_turns.specs.Meaning.{WhoseFault}
 use Rattle.hum_turns.proofs.States.{last_less}
@@ -48,16 +40,16 @@ lower_least f Closed b h k = k
 lower_least f (Broken g) Closed h k = h
 lower_least f (Broken g) (Broken l) h k =
     ⊎_elim
-      (λ y. subst (AtLeast f) (sym (cond-true _ _ _ y)) k)
-      (λ n. subst (AtLeast f) (sym (cond-false _ _ _ n)) h)
-      (cases_Bool (nat_lt l.stage g.stage))
+    (λ y. subst (AtLeast f) (sym (cond-true _ _ _ y)) k)
+    (λ n. subst (AtLeast f) (sym (cond-false _ _ _ n)) h)
+    (cases_Bool (nat_lt l.stage g.stage))
 
 at_most : (f g : Fault) → (f.stage < g.stage) ⊎ (f ≡ g) → f.stage ≤ g.stage
 at_most f g h =
     ⊎_elim
-      (λ less. omega arith)
-      (λ same. let e : f.stage ≡ g.stage = ap (λ (x : Fault). x.stage) same in omega arith)
-      h
+    (λ less. omega arith)
+    (λ same. let e : f.stage ≡ g.stage = ap (λ (x : Fault). x.stage) same in omega arith)
+    h
 
 -- where one of them is this fault, it is the lower
 lower_left : (f : Fault) (b : End) → AtLeast f b → lower (Broken f) b ≡ Broken f
@@ -68,11 +60,11 @@ lower_right : (f : Fault) (a : End) → AtLeast f a → lower a (Broken f) ≡ B
 lower_right f Closed h = refl
 lower_right f (Broken g) h =
     ⊎_elim
-      (λ less. cond-true _ _ _ (lt-ltb f.stage g.stage less))
-      (λ same.
-        let e : f.stage ≡ g.stage = ap (λ (x : Fault). x.stage) same in
-        cond-false _ _ _ (le-ltb f.stage g.stage (omega arith)) ∙ ap Broken (sym same))
-      h
+    (λ less. cond-true _ _ _ (lt-ltb f.stage g.stage less))
+    (λ same.
+    let e : f.stage ≡ g.stage = ap (λ (x : Fault). x.stage) same in
+    cond-false _ _ _ (le-ltb f.stage g.stage (omega arith)) ∙ ap Broken (sym same))
+    h
 
 or_least : (q : Fault) (a b : End) → AtLeast q a → AtLeast q b → AtLeast q (or_own a b)
 or_least q Closed b h k = k
@@ -112,7 +104,7 @@ module _ {R : Type 0} (f : ℕ → Flow R) (P : ℕ → Type 0) where
     inputs_hit [] place k p at e = absurd (none-some k at)
     inputs_hit (s ∷ ss) zero k p at e =
         ap (λ x. lower x (inputs_end (map f ss)))
-          (subst (λ j. end_at (f j) ≡ Broken q) (sym (same_Some s k at)) e)
+        (subst (λ j. end_at (f j) ≡ Broken q) (sym (same_Some s k at)) e)
         ∙ lower_left q _ (inputs_least ss p.1)
     inputs_hit (s ∷ ss) (suc place) k p at e =
         ap (lower (end_at (f s))) (inputs_hit ss place k p.1 at e) ∙ lower_right q _ (h s p.0)
@@ -125,12 +117,12 @@ own_least q k Closed w lo at num = tt
 own_least q k (Broken g) w lo at num =
     let n = num g refl in
     ⊎_elim
-      (λ below. absurd (fault_not g (lo below)))
-      (λ above. ⊎_elim
-        (λ same. inr (sym (fault_of (at same))))
-        (λ other. inl (omega arith))
-        (cases_eq q.stage (k + 1)))
-      w
+    (λ below. absurd (fault_not g (lo below)))
+    (λ above. ⊎_elim
+    (λ same. inr (sym (fault_of (at same))))
+    (λ other. inl (omega arith))
+    (cases_eq q.stage (k + 1)))
+    w
   where
     fault_of : {x y : Fault} → Broken x ≡ Broken y → x ≡ y
     fault_of e = cc
@@ -154,9 +146,9 @@ module _ {R : Type 0} (plan : Plan R) where
   first_closed (suc n) k h less =
       let p = or_closed (first_fault plan n) (own_of plan n) h in
       ⊎_elim
-        (λ same. subst (λ j. own_of plan j ≡ Closed) (sym same) p.1)
-        (λ other. first_closed n k p.0 (omega arith))
-        (cases_eq k n)
+      (λ same. subst (λ j. own_of plan j ≡ Closed) (sym same) p.1)
+      (λ other. first_closed n k p.0 (omega arith))
+      (cases_eq k n)
 
   first_step : (n : ℕ) (q : Fault) (a : End) → first_fault plan n ≡ a
       → or_own a (own_of plan n) ≡ Broken q
@@ -187,9 +179,9 @@ module _ {R : Type 0} (plan : Plan R) (ok : IsPlan plan) where
       let lessc : k < plan.count = omega arith in
       meaning_end k lessc
       ∙ ap (λ e. or_own e (own_of plan k))
-          (inputs_closed (meaning plan) (λ s. s < k)
-            (λ s t. ends_closed b own within n s (omega arith) (omega arith))
-            (plan.stage k).sources (ok.below k lessc))
+      (inputs_closed (meaning plan) (λ s. s < k)
+      (λ s t. ends_closed b own within n s (omega arith) (omega arith))
+      (plan.stage k).sources (ok.below k lessc))
       ∙ own k less
 
   -- no stage refuses by a lower-numbered fault than this one
@@ -198,11 +190,11 @@ module _ {R : Type 0} (plan : Plan R) (ok : IsPlan plan) where
     ends_least zero k h less = absurd (omega arith)
     ends_least (suc n) k h less =
         subst (AtLeast q) (sym (meaning_end k less))
-          (or_least q _ _
-            (inputs_least (meaning plan) (λ s. s < k) q
-              (λ s b. ends_least n s (omega arith) (omega arith))
-              (plan.stage k).sources (ok.below k less))
-            (own k less))
+        (or_least q _ _
+        (inputs_least (meaning plan) (λ s. s < k) q
+        (λ s b. ends_least n s (omega arith) (omega arith))
+        (plan.stage k).sources (ok.below k less))
+        (own k less))
 
     -- it is passed on to the last stage
     passes_up : IsNumbered plan → (n k : ℕ) → plan.count ≤ k + n → k < plan.count
@@ -210,44 +202,44 @@ module _ {R : Type 0} (plan : Plan R) (ok : IsPlan plan) where
     passes_up num zero k h less e = absurd (omega arith)
     passes_up num (suc n) k h less e =
         ⊎_elim
-          (λ more.
-            let r = num.read k more in
-            let up = r.later in
-            let within = r.within in
-            let hit = inputs_hit (meaning plan) (λ s. s < r.reader) q
-                  (λ s b. ends_least r.reader s b (omega arith))
-                  (plan.stage r.reader).sources r.place k (ok.below r.reader within) r.is_there e in
-            passes_up num n r.reader (omega arith) within
-              (meaning_end r.reader within
-                ∙ or_hit _ (own_of plan r.reader) (Broken q) hit (fault_not q)))
-          (λ top.
-            subst (λ j. end_at (meaning plan j) ≡ Broken q) (last_is plan.count k less top) e)
-          (cases_lt (k + 1) plan.count)
+        (λ more.
+        let r = num.read k more in
+        let up = r.later in
+        let within = r.within in
+        let hit = inputs_hit (meaning plan) (λ s. s < r.reader) q
+        (λ s b. ends_least r.reader s b (omega arith))
+        (plan.stage r.reader).sources r.place k (ok.below r.reader within) r.is_there e in
+        passes_up num n r.reader (omega arith) within
+        (meaning_end r.reader within
+        ∙ or_hit _ (own_of plan r.reader) (Broken q) hit (fault_not q)))
+        (λ top.
+        subst (λ j. end_at (meaning plan j) ≡ Broken q) (last_is plan.count k less top) e)
+        (cases_lt (k + 1) plan.count)
 
   told_at : IsNumbered plan → (e : End) → first_fault plan plan.count ≡ e
       → end_at (meaning plan (last plan)) ≡ e
   told_at num Closed h =
       let less = last_less plan.count ok.some in
       ends_closed plan.count (λ k below. first_closed plan plan.count k h below) (omega arith)
-        plan.count (last plan) less less
+      plan.count (last plan) less less
   told_at num (Broken q) h =
       let f = first_broken plan plan.count q h in
       let less = f.less in
       let i = f.k in
       let is : q.stage ≡ i + 1 = num.number i q less f.here in
       let own : (k : ℕ) → k < plan.count → AtLeast q (own_of plan k) = λ k below.
-            own_least q k (own_of plan k) (cases_lt (k + 1) q.stage)
-              (λ b. f.before k (omega arith))
-              (λ e.
-                let s : k ≡ i = omega arith in
-                subst (λ j. own_of plan j ≡ Broken q) (sym s) f.here)
-              (λ g e. num.number k g below e) in
+      own_least q k (own_of plan k) (cases_lt (k + 1) q.stage)
+      (λ b. f.before k (omega arith))
+      (λ e.
+      let s : k ≡ i = omega arith in
+      subst (λ j. own_of plan j ≡ Broken q) (sym s) f.here)
+      (λ g e. num.number k g below e) in
       let inner : inputs_end (finals plan i) ≡ Closed =
-            inputs_closed (meaning plan) (λ s. s < i)
-              (λ s t. ends_closed i f.before (omega arith) i s t t)
-              (plan.stage i).sources (ok.below i less) in
+      inputs_closed (meaning plan) (λ s. s < i)
+      (λ s t. ends_closed i f.before (omega arith) i s t t)
+      (plan.stage i).sources (ok.below i less) in
       passes_up q own num plan.count i (omega arith) less
-        (meaning_end i less ∙ ap (λ x. or_own x (own_of plan i)) inner ∙ f.here)
+      (meaning_end i less ∙ ap (λ x. or_own x (own_of plan i)) inner ∙ f.here)
 
 -- the fault that is told is the first one met by evaluating the stages in order
 pub whose_fault : {R : Type 0} → WhoseFault R
@@ -255,4 +247,4 @@ whose_fault {R} plan ok num =
     let less = last_less plan.count ok.some in
     ap (λ (f : Flow R). f.end) (meaning_is plan (last plan) ok less)
     ∙ ap Some (sym (meaning_end plan ok (last plan) less)
-        ∙ told_at plan ok num (first_fault plan plan.count) refl)
+    ∙ told_at plan ok num (first_fault plan plan.count) refl)

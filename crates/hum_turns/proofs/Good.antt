@@ -1,30 +1,24 @@
 -- One link: what holds of it, and what keeps that.
-use Rattle.std.proofs.Common.{◌≡◌, ◌≢◌, ℕ, zero, suc, pred, ◌+◌, ◌-◌, ◌*◌, ◌<◌, ◌≤◌, ◌⊎◌, inl, inr, min}
-use Rattle.std.proofs.Common.{Bool, true, false, cond, ◌&&◌, ◌||◌, if◌then◌else◌, nat_lt, nat_eq}
-use Rattle.std.proofs.Common.{List, [], ◌∷◌, ◌++◌, map, length, get_or, slice_get, slice_index}
-use Rattle.std.proofs.Common.{Option, Some, None, is_some, is_none, unwrap_or}
-use Rattle.std.proofs.Common.{refl, sym, ap, ◌∙◌, subst, ⊎_elim, arith}
+use Rattle.std.proofs.Common.{◌≡◌, ℕ, ◌<◌, ◌≤◌}
+use Rattle.std.proofs.Common.{Bool, true, false, if◌then◌else◌, nat_lt}
+use Rattle.std.proofs.Common.{List, [], ◌∷◌, ◌++◌, length, slice_get}
+use Rattle.std.proofs.Common.{Option, Some, None, is_none}
+use Rattle.std.proofs.Common.{refl, sym, ap, ◌∙◌, subst, arith}
 use Rattle.std.proofs.Common.{append_assoc, append-nil, length-append}
-use Rattle.std.proofs.Common.{ltb-true, ltb-false, le-ltb, lt-ltb, eq-eqb, ne_eqb}
-use Rattle.std.proofs.lemmas.Bool.{true≢false, false≢true, cases_eq, cases_lt, cases_Bool}
-use Rattle.std.proofs.lemmas.Bool.{and_parts, and_from, and_left, or_left, cond-true, cond-false}
-use Rattle.std.proofs.lemmas.Option.{none-some, same_Some, slice_get_within, slice_get-get_or, slice_get_cases}
-use Rattle.std.proofs.lemmas.List.{length-map}
-use Rattle.std.specs.List.{AllByRecursion}
+use Rattle.std.proofs.Common.{ltb-true, ltb-false}
+use Rattle.std.proofs.lemmas.Bool.{false≢true}
+use Rattle.std.proofs.lemmas.Bool.{and_parts}
+use Rattle.std.proofs.lemmas.Option.{same_Some, slice_get_within}
 use Rattle.hum_stage.specs.declared.faults.End.{End}
-use Rattle.hum_stage.specs.declared.faults.End.TheVariants.{Closed, Broken}
-use Rattle.hum_turns.specs.Flow.{Flow, so_far, Begins, IsOver, Later, AllLater, AllOver, AllFine}
-use Rattle.hum_turns.specs.Plan.{Want, Bytes, Source, Nothing, Stage, lower, inputs_end, or_own, end_of}
+use Rattle.hum_turns.specs.Flow.{Flow, Begins, Later}
+use Rattle.hum_turns.specs.Plan.{Want, Bytes, Source, Nothing, Stage, inputs_end, or_own, end_of}
 use Rattle.hum_turns.specs.Plan.{AreInputs, Onward}
-use Rattle.hum_turns.specs.Plan.{whole, GoesOn, IsOpenAt, IsAtRest, IsLawful, KeepsFine, Plan, last, IsPlan}
-use Rattle.hum_turns.specs.Meaning.{meanings, meaning, plan_meaning, own_of, first_fault, IsRead, IsNumbered}
-use Rattle.hum_turns.specs.Links.{Link, given, linked, view, has_room, has_some, Moment, fresh, IsOpening}
-use Rattle.hum_turns.specs.Links.{Same, inputs, settled, is_over, Agrees}
-use Rattle.hum_turns.specs.Turns.{State, Gives, Reads, Takes, Ends, by_want, stage_state, state, can}
-use Rattle.hum_turns.specs.Turns.{is_source, ready, Becomes, pushed, popped, marked, HasGiven, Does}
-use Rattle.hum_turns.specs.Turns.{HasRead, ReadsAndDoes, Turns, Step, Run}
+use Rattle.hum_turns.specs.Plan.{IsAtRest, IsLawful, KeepsFine}
+use Rattle.hum_turns.specs.Links.{Link, given, view, has_room, has_some}
+use Rattle.hum_turns.specs.Turns.{State, Gives, Reads, Takes, Ends, by_want, stage_state}
+use Rattle.hum_turns.specs.Turns.{pushed, popped}
 use Rattle.hum_turns.proofs.Fronts.{begins_refl, begins_trans, begins_append, begins_next, begins_all}
-use Rattle.hum_turns.proofs.Fronts.{later_refl, all_same, same_over, has_none}
+use Rattle.hum_turns.proofs.Fronts.{all_same, same_over, has_none}
 
 -- How the link of a stage stands to what the stage has had: what was given is a front of what is
 -- settled, the end is set only where nothing is left to give, and heard only where none waits.
@@ -80,7 +74,7 @@ module _ {R : Type 0} {fine : Flow R → Bool} {st : Stage R} (law : IsLawful fi
       → AtEnd st l a
   at_end l a fa h =
       let c = ends_cases st.sources (nat_lt (length (given l)) (length (st.output l.read a)))
-            (st.wants l.read a) h in
+      (st.wants l.read a) h in
       record { all = ltb-false _ _ c.0; rest = law.rests l.read a fa c.1 }
 
   pub grown : (r s : ℕ) (a b : List (Flow R)) → r ≤ s → s ≤ st.bytes → Onward fine st a b
@@ -119,7 +113,7 @@ module _ {R : Type 0} {fine : Flow R → Bool} {st : Stage R} (law : IsLawful fi
   gives_good size l a b x on g n room =
       record {
         sent = subst (λ s. Begins s (st.output l.read b)) (append_assoc l.taken l.waiting (x ∷ []))
-          (begins_trans _ _ _ (begins_next (given l) (st.output l.read a) x g.sent n)
+            (begins_trans _ _ _ (begins_next (given l) (st.output l.read a) x g.sent n)
             (grown l.read l.read a b (omega arith) g.within on));
         marked = λ e m. absurd (not_marked size l a x on.before g n e m);
         heard = λ e m. absurd (not_marked size l a x on.before g n e (g.heard e m).1);
@@ -143,16 +137,16 @@ module _ {R : Type 0} {fine : Flow R → Bool} {st : Stage R} (law : IsLawful fi
   takes_at size l a b (x ∷ rest) w on g new =
       let k = kept_good size l a b on g in
       let same : given l ≡ (l.taken ++ x ∷ []) ++ rest =
-          ap (λ v. l.taken ++ v) w ∙ sym (append_assoc l.taken (x ∷ []) rest) in
+      ap (λ v. l.taken ++ v) w ∙ sym (append_assoc l.taken (x ∷ []) rest) in
       record {
         sent = subst (λ s. Begins s (st.output l.read b)) same k.sent;
         marked = λ e m.
             (ap (by_length st l.read b) (sym same) ∙ (k.marked e m).0, (k.marked e m).1);
         heard = λ e m. absurd (has_none l.heard e new m);
         room =
-          let n : length l.waiting ≡ length (x ∷ rest) = ap length w in
-          let r = k.room in
-          omega arith;
+            let n : length l.waiting ≡ length (x ∷ rest) = ap length w in
+            let r = k.room in
+            omega arith;
         within = k.within;
       }
 
@@ -169,8 +163,10 @@ module _ {R : Type 0} {fine : Flow R → Bool} {st : Stage R} (law : IsLawful fi
       let same = same_over a b on.later (at_end l a on.before s).rest.over in
       record {
         sent = subst (λ c. Begins (given l) (st.output l.read c)) (sym same) g.sent;
-        marked = λ e m. (ap (stage_state st l) same ∙ s,
-          sym (same_Some _ e m) ∙ ap (end_of st l.read) (sym same));
+        marked = λ e m. (
+          ap (stage_state st l) same ∙ s,
+          sym (same_Some _ e m) ∙ ap (end_of st l.read) (sym same),
+        );
         heard = λ e m. absurd (has_none l.mark e unset (g.heard e m).1);
         room = g.room;
         within = g.within;
@@ -200,11 +196,11 @@ module _ {R : Type 0} {fine : Flow R → Bool} {st : Stage R} (law : IsLawful fi
         let mark = g.marked f m in
         let end = at_end l a fa mark.0 in
         let taken : l.taken ≡ st.output l.read a =
-            sym (append-nil l.taken) ∙ ap (λ ws. l.taken ++ ws) (sym w)
-            ∙ begins_all (given l) (st.output l.read a) g.sent end.all in
+        sym (append-nil l.taken) ∙ ap (λ ws. l.taken ++ ws) (sym w)
+        ∙ begins_all (given l) (st.output l.read a) g.sent end.all in
         let items : l.taken ≡ st.output st.bytes a = taken ∙ end.rest.output in
         let ended : l.heard ≡ Some (end_of st st.bytes a) =
-            e ∙ ap Some (mark.1 ∙ ap (or_own (inputs_end a)) end.rest.own) in
+        e ∙ ap Some (mark.1 ∙ ap (or_own (inputs_end a)) end.rest.own) in
         ap (λ o. fine (flow_of l.taken o)) ended
         ∙ ap (λ xs. fine (flow_of xs (Some (end_of st st.bytes a)))) items
         ∙ keep.done a fa end.rest.over
@@ -216,7 +212,7 @@ module _ {R : Type 0} {fine : Flow R → Bool} {st : Stage R} (law : IsLawful fi
     fine_at size l a None e fa g =
         ap (λ o. fine (flow_of l.taken o)) e
         ∙ keep.front l.read a l.taken g.within fa
-            (begins_trans _ _ _ (begins_append l.taken l.waiting) g.sent)
+        (begins_trans _ _ _ (begins_append l.taken l.waiting) g.sent)
     fine_at size l a (Some f) e fa g =
         let k = g.heard f e in
         marked_fine size l a f k.0 k.1 fa g e

@@ -1,29 +1,22 @@
 -- What holds of all links at once, and that each turn keeps it.
-use Rattle.std.proofs.Common.{◌≡◌, ◌≢◌, ℕ, zero, suc, pred, ◌+◌, ◌-◌, ◌*◌, ◌<◌, ◌≤◌, ◌⊎◌, inl, inr, min}
-use Rattle.std.proofs.Common.{Bool, true, false, cond, ◌&&◌, ◌||◌, if◌then◌else◌, nat_lt, nat_eq}
-use Rattle.std.proofs.Common.{List, [], ◌∷◌, ◌++◌, map, length, get_or, slice_get, slice_index}
-use Rattle.std.proofs.Common.{Option, Some, None, is_some, is_none, unwrap_or}
+use Rattle.std.proofs.Common.{◌≡◌, ℕ, zero, suc, ◌+◌, ◌<◌}
+use Rattle.std.proofs.Common.{true}
+use Rattle.std.proofs.Common.{List, [], ◌∷◌}
+use Rattle.std.proofs.Common.{is_none}
 use Rattle.std.proofs.Common.{refl, sym, ap, ◌∙◌, subst, ⊎_elim, arith}
-use Rattle.std.proofs.Common.{append_assoc, append-nil, length-append}
-use Rattle.std.proofs.Common.{ltb-true, ltb-false, le-ltb, lt-ltb, eq-eqb, ne_eqb}
-use Rattle.std.proofs.lemmas.Bool.{true≢false, false≢true, cases_eq, cases_lt, cases_Bool}
-use Rattle.std.proofs.lemmas.Bool.{and_parts, and_from, and_left, or_left, cond-true, cond-false}
-use Rattle.std.proofs.lemmas.Option.{none-some, same_Some, slice_get_within, slice_get-get_or, slice_get_cases}
+use Rattle.std.proofs.lemmas.Bool.{cases_eq}
+use Rattle.std.proofs.lemmas.Bool.{and_parts}
+use Rattle.std.proofs.lemmas.Option.{none-some}
 use Rattle.std.proofs.lemmas.List.{length-map}
-use Rattle.std.specs.List.{AllByRecursion}
-use Rattle.hum_stage.specs.declared.faults.End.{End}
-use Rattle.hum_stage.specs.declared.faults.End.TheVariants.{Closed, Broken}
-use Rattle.hum_turns.specs.Flow.{Flow, so_far, Begins, IsOver, Later, AllLater, AllOver, AllFine}
-use Rattle.hum_turns.specs.Plan.{Want, Bytes, Source, Nothing, Stage, lower, inputs_end, or_own, end_of}
+use Rattle.hum_turns.specs.Flow.{Flow, Later}
 use Rattle.hum_turns.specs.Plan.{AreInputs, Onward}
-use Rattle.hum_turns.specs.Plan.{whole, GoesOn, IsOpenAt, IsAtRest, IsLawful, KeepsFine, Plan, last, IsPlan}
-use Rattle.hum_turns.specs.Meaning.{meanings, meaning, plan_meaning, own_of, first_fault, IsRead, IsNumbered}
-use Rattle.hum_turns.specs.Links.{Link, given, linked, view, has_room, has_some, Moment, fresh, IsOpening}
-use Rattle.hum_turns.specs.Links.{Same, inputs, settled, is_over, Agrees}
-use Rattle.hum_turns.specs.Turns.{State, Gives, Reads, Takes, Ends, by_want, stage_state, state, can}
-use Rattle.hum_turns.specs.Turns.{is_source, ready, Becomes, pushed, popped, marked, HasGiven, Does}
-use Rattle.hum_turns.specs.Turns.{HasRead, ReadsAndDoes, Turns, Step, Run}
-use Rattle.hum_turns.proofs.Fronts.{begins_refl, later_refl, later_each, fine_map}
+use Rattle.hum_turns.specs.Plan.{Plan, IsPlan}
+use Rattle.hum_turns.specs.Links.{Link, view, Moment, IsOpening}
+use Rattle.hum_turns.specs.Links.{Same, inputs}
+use Rattle.hum_turns.specs.Turns.{State, Gives, Reads, Takes, Ends, stage_state, state}
+use Rattle.hum_turns.specs.Turns.{ready, Becomes, Does}
+use Rattle.hum_turns.specs.Turns.{HasRead, Turns, Step, Run}
+use Rattle.hum_turns.proofs.Fronts.{later_refl, later_each, fine_map}
 use Rattle.hum_turns.proofs.Good.{GoodAt, kept_good, gives_good, takes_good, ends_good, reads_good}
 use Rattle.hum_turns.proofs.Good.{later_taken, fine_view, fine_popped}
 use Rattle.hum_turns.proofs.States.{Allowed, state_is, source_ready, ready_allows, reads_source, read_allowed}
@@ -38,24 +31,24 @@ views_later : {R : Type 0} (k : ℕ) (l : Link R) (old new : Moment R) → Becom
     → Later (view (old k)) (view l) → (s : ℕ) → Later (view (old s)) (view (new s))
 views_later k l old new d h s =
     ⊎_elim
-      (λ i. subst (λ j. Later (view (old j)) (view (new j))) (sym i)
-        (subst (λ v. Later (view (old k)) (view v)) (sym d.here) h))
-      (λ i. subst (λ v. Later (view (old s)) (view v)) (sym (d.elsewhere s i))
-        (later_refl (view (old s))))
-      (cases_eq s k)
+    (λ i. subst (λ j. Later (view (old j)) (view (new j))) (sym i)
+    (subst (λ v. Later (view (old k)) (view v)) (sym d.here) h))
+    (λ i. subst (λ v. Later (view (old s)) (view v)) (sym (d.elsewhere s i))
+    (later_refl (view (old s))))
+    (cases_eq s k)
 
 -- nothing has moved
 pub opening_good : {R : Type 0} (plan : Plan R) (size : ℕ) (m : Moment R) → IsOpening m
     → Inv plan size m
 opening_good plan size m start k less =
     subst (λ l. GoodAt (plan.stage k) size l (inputs plan m k)) (sym (start k))
-      (record {
-        sent = (_, refl);
-        marked = λ e h. absurd (none-some e h);
-        heard = λ e h. absurd (none-some e h);
-        room = omega arith;
-        within = omega arith;
-      })
+    (record {
+      sent = (_, refl);
+      marked = λ e h. absurd (none-some e h);
+      heard = λ e h. absurd (none-some e h);
+      room = omega arith;
+      within = omega arith;
+    })
 
 module _ {R : Type 0} (plan : Plan R) (size : ℕ) (ok : IsPlan plan) where
   -- what the readers have had is fine, by induction over the stages
@@ -65,12 +58,12 @@ module _ {R : Type 0} (plan : Plan R) (size : ℕ) (ok : IsPlan plan) where
   fine_below m inv (suc n) s h less =
       let ss = (plan.stage s).sources in
       fine_view (ok.lawful s (omega arith)) (ok.keeps s less) size (m s) (inputs plan m s)
-        (record {
-          count = length-map ss (λ t. view (m t));
-          each = fine_map (λ t. view (m t)) (λ t. t < s) plan.fine
+      (record {
+        count = length-map ss (λ t. view (m t));
+        each = fine_map (λ t. view (m t)) (λ t. t < s) plan.fine
             (λ t b. fine_below m inv n t (omega arith) (omega arith)) ss (ok.below s (omega arith));
-        })
-        (inv s (omega arith))
+      })
+      (inv s (omega arith))
 
   pub fine_each : (m : Moment R) (s : ℕ) → Inv plan size m → s + 1 < plan.count
       → plan.fine (view (m s)) ≡ true
@@ -82,7 +75,7 @@ module _ {R : Type 0} (plan : Plan R) (size : ℕ) (ok : IsPlan plan) where
   are_inputs m each k less = record {
     count = length-map (plan.stage k).sources (λ t. view (m t));
     each = fine_map (λ t. view (m t)) (λ t. t < k) plan.fine (λ t b. each t (omega arith))
-      (plan.stage k).sources (ok.below k less);
+        (plan.stage k).sources (ok.below k less);
   }
 
   pub fine_inputs : (m : Moment R) (k : ℕ) → Inv plan size m → k < plan.count
@@ -93,35 +86,35 @@ module _ {R : Type 0} (plan : Plan R) (size : ℕ) (ok : IsPlan plan) where
   one_link : (k : ℕ) (l : Link R) (old new : Moment R) → Inv plan size old → Becomes k l old new
       → Later (view (old k)) (view l) → (k + 1 < plan.count → plan.fine (view l) ≡ true)
       → (k < plan.count → (b : List (Flow R)) → Onward plan.fine (plan.stage k) (inputs plan old k) b
-        → GoodAt (plan.stage k) size l b)
+      → GoodAt (plan.stage k) size l b)
       → Inv plan size new
   one_link k l old new inv d h fine good i less =
       let later = views_later k l old new d h in
       let each : (s : ℕ) → s + 1 < plan.count → plan.fine (view (new s)) ≡ true = λ s lesss.
-            ⊎_elim
-              (λ here. subst (λ j. plan.fine (view (new j)) ≡ true) (sym here)
-                (ap (λ v. plan.fine (view v)) d.here
-                  ∙ fine (subst (λ j. j + 1 < plan.count) here lesss)))
-              (λ there. ap (λ v. plan.fine (view v)) (d.elsewhere s there) ∙ fine_each old s inv lesss)
-              (cases_eq s k) in
-      let on : (j : ℕ) → j < plan.count → Onward plan.fine (plan.stage j) (inputs plan old j) (inputs plan new j)
-            = λ j lessj. record {
-              before = fine_inputs old j inv lessj;
-              after = are_inputs new each j lessj;
-              later = later_each (λ s. view (old s)) (λ s. view (new s)) later (plan.stage j).sources;
-            } in
       ⊎_elim
-        (λ same.
-          let lessk : k < plan.count = subst (λ j. j < plan.count) same less in
-          let at : GoodAt (plan.stage k) size (new k) (inputs plan new k) =
-                subst (λ v. GoodAt (plan.stage k) size v (inputs plan new k)) (sym d.here)
-                  (good lessk (inputs plan new k) (on k lessk)) in
-          subst (λ j. GoodAt (plan.stage j) size (new j) (inputs plan new j)) (sym same) at)
-        (λ other.
-          subst (λ v. GoodAt (plan.stage i) size v (inputs plan new i)) (sym (d.elsewhere i other))
-            (kept_good (ok.lawful i less) size (old i) (inputs plan old i) (inputs plan new i)
-              (on i less) (inv i less)))
-        (cases_eq i k)
+      (λ here. subst (λ j. plan.fine (view (new j)) ≡ true) (sym here)
+      (ap (λ v. plan.fine (view v)) d.here
+      ∙ fine (subst (λ j. j + 1 < plan.count) here lesss)))
+      (λ there. ap (λ v. plan.fine (view v)) (d.elsewhere s there) ∙ fine_each old s inv lesss)
+      (cases_eq s k) in
+      let on : (j : ℕ) → j < plan.count → Onward plan.fine (plan.stage j) (inputs plan old j) (inputs plan new j)
+      = λ j lessj. record {
+        before = fine_inputs old j inv lessj;
+        after = are_inputs new each j lessj;
+        later = later_each (λ s. view (old s)) (λ s. view (new s)) later (plan.stage j).sources;
+      } in
+      ⊎_elim
+      (λ same.
+      let lessk : k < plan.count = subst (λ j. j < plan.count) same less in
+      let at : GoodAt (plan.stage k) size (new k) (inputs plan new k) =
+      subst (λ v. GoodAt (plan.stage k) size v (inputs plan new k)) (sym d.here)
+      (good lessk (inputs plan new k) (on k lessk)) in
+      subst (λ j. GoodAt (plan.stage j) size (new j) (inputs plan new j)) (sym same) at)
+      (λ other.
+      subst (λ v. GoodAt (plan.stage i) size v (inputs plan new i)) (sym (d.elsewhere i other))
+      (kept_good (ok.lawful i less) size (old i) (inputs plan old i) (inputs plan new i)
+      (on i less) (inv i less)))
+      (cases_eq i k)
 
   -- what an actor does in its state
   does_keeps : (k : ℕ) (s : State) (old new : Moment R) → Inv plan size old
@@ -129,51 +122,51 @@ module _ {R : Type 0} (plan : Plan R) (size : ℕ) (ok : IsPlan plan) where
       → Allowed size old k s → Does plan k s old new → Inv plan size new
   does_keeps k Gives old new inv st may d =
       one_link k _ old new inv d.becomes (later_refl (view (old k))) (λ less. fine_each old k inv less)
-        (λ less b on. gives_good (ok.lawful k less) size (old k) (inputs plan old k) b d.next on
-          (inv k less) d.is_next may)
+      (λ less b on. gives_good (ok.lawful k less) size (old k) (inputs plan old k) b d.next on
+      (inv k less) d.is_next may)
   does_keeps k Reads old new inv st may d =
       one_link k (old k) old new inv (record { here = d k; elsewhere = λ i _. d i })
-        (later_refl (view (old k))) (λ less. fine_each old k inv less)
-        (λ less b on. kept_good (ok.lawful k less) size (old k) (inputs plan old k) b on (inv k less))
+      (later_refl (view (old k))) (λ less. fine_each old k inv less)
+      (λ less b on. kept_good (ok.lawful k less) size (old k) (inputs plan old k) b on (inv k less))
   does_keeps k (Takes s) old new inv st may d =
       one_link s _ old new inv d (later_taken (old s) may)
-        (λ less. fine_popped (ok.lawful s (omega arith)) (ok.keeps s less) size (old s)
-          (inputs plan old s) (and_parts _ _ may).0
-          (fine_inputs old s inv (omega arith)) (inv s (omega arith)))
-        (λ less b on. takes_good (ok.lawful s less) size (old s) (inputs plan old s) b on
-          (inv s less) may)
+      (λ less. fine_popped (ok.lawful s (omega arith)) (ok.keeps s less) size (old s)
+      (inputs plan old s) (and_parts _ _ may).0
+      (fine_inputs old s inv (omega arith)) (inv s (omega arith)))
+      (λ less b on. takes_good (ok.lawful s less) size (old s) (inputs plan old s) b on
+      (inv s less) may)
   does_keeps k Ends old new inv st may d =
       one_link k _ old new inv d (later_refl (view (old k))) (λ less. fine_each old k inv less)
-        (λ less b on. ends_good (ok.lawful k less) size (old k) (inputs plan old k) b on
-          (inv k less) may (st less))
+      (λ less b on. ends_good (ok.lawful k less) size (old k) (inputs plan old k) b on
+      (inv k less) may (st less))
 
   reads_keeps : (k : ℕ) (old new : Moment R) → Inv plan size old → is_none (old k).mark ≡ true
       → HasRead plan k old new → Inv plan size new
   reads_keeps k old new inv unset d =
       one_link k _ old new inv d.becomes (later_refl (view (old k)))
-        (λ less. fine_each old k inv less)
-        (λ less b on. reads_good (ok.lawful k less) size (old k) (inputs plan old k) b d.upto on
-          (inv k less) unset d.more d.within)
+      (λ less. fine_each old k inv less)
+      (λ less b on. reads_good (ok.lawful k less) size (old k) (inputs plan old k) b d.upto on
+      (inv k less) unset d.more d.within)
 
   -- a turn
   turns_keep : (k : ℕ) (s : State) (old new : Moment R) → Inv plan size old → state plan old k ≡ s
       → ready plan size old k ≡ true → Turns plan k s old new → Inv plan size new
   turns_keep k Gives old new inv e h t =
       does_keeps k Gives old new inv (λ less. sym (state_is plan old k less) ∙ e)
-        (ready_allows plan ok size old k Gives h e) t
+      (ready_allows plan ok size old k Gives h e) t
   turns_keep k (Takes s) old new inv e h t =
       does_keeps k (Takes s) old new inv (λ less. sym (state_is plan old k less) ∙ e)
-        (ready_allows plan ok size old k (Takes s) h e) t
+      (ready_allows plan ok size old k (Takes s) h e) t
   turns_keep k Ends old new inv e h t =
       does_keeps k Ends old new inv (λ less. sym (state_is plan old k less) ∙ e)
-        (ready_allows plan ok size old k Ends h e) t
+      (ready_allows plan ok size old k Ends h e) t
   turns_keep k Reads old new inv e h t =
       let src = reads_source plan ok old k e in
       let r = source_ready plan size old k src h in
       let kept = reads_keeps k old t.between inv r.0 t.reads in
       does_keeps k (state plan t.between k) t.between new kept
-        (λ less. sym (state_is plan t.between k less))
-        (read_allowed plan ok size old t.between k src h t.reads) t.does
+      (λ less. sym (state_is plan t.between k less))
+      (read_allowed plan ok size old t.between k src h t.reads) t.does
 
   pub step_keeps : (k : ℕ) (old new : Moment R) → Inv plan size old → Step plan size k old new
       → Inv plan size new

@@ -1,32 +1,23 @@
 -- What is near a turn, and what code that makes a turn has to show.
-use Rattle.std.proofs.Common.{◌≡◌, ◌≢◌, ℕ, zero, suc, pred, ◌+◌, ◌-◌, ◌*◌, ◌<◌, ◌≤◌, ◌⊎◌, inl, inr, min}
-use Rattle.std.proofs.Common.{Bool, true, false, cond, ◌&&◌, ◌||◌, if◌then◌else◌, nat_lt, nat_eq}
-use Rattle.std.proofs.Common.{List, [], ◌∷◌, ◌++◌, map, length, get_or, slice_get, slice_index}
-use Rattle.std.proofs.Common.{Option, Some, None, is_some, is_none, unwrap_or}
+use Rattle.std.proofs.Common.{◌≡◌, ℕ, zero, suc, ◌<◌, ◌≤◌, inl, inr}
+use Rattle.std.proofs.Common.{true, ◌&&◌}
+use Rattle.std.proofs.Common.{List, [], ◌∷◌, ◌++◌, map, slice_get, slice_index}
+use Rattle.std.proofs.Common.{Some, is_none}
 use Rattle.std.proofs.Common.{refl, sym, ap, ◌∙◌, subst, ⊎_elim, arith}
-use Rattle.std.proofs.Common.{append_assoc, append-nil, length-append}
-use Rattle.std.proofs.Common.{ltb-true, ltb-false, le-ltb, lt-ltb, eq-eqb, ne_eqb}
-use Rattle.std.proofs.lemmas.Bool.{true≢false, false≢true, cases_eq, cases_lt, cases_Bool}
-use Rattle.std.proofs.lemmas.Bool.{and_parts, and_from, and_left, or_left, cond-true, cond-false}
-use Rattle.std.proofs.lemmas.Option.{none-some, same_Some, slice_get_within, slice_get-get_or, slice_get_cases}
-use Rattle.std.proofs.lemmas.List.{length-map}
-use Rattle.std.specs.List.{AllByRecursion}
-use Rattle.hum_stage.specs.declared.faults.End.{End}
-use Rattle.hum_stage.specs.declared.faults.End.TheVariants.{Closed, Broken}
-use Rattle.hum_turns.specs.Flow.{Flow, so_far, Begins, IsOver, Later, AllLater, AllOver, AllFine}
-use Rattle.hum_turns.specs.Plan.{Want, Bytes, Source, Nothing, Stage, lower, inputs_end, or_own, end_of}
-use Rattle.hum_turns.specs.Plan.{AreInputs, Onward}
-use Rattle.hum_turns.specs.Plan.{whole, GoesOn, IsOpenAt, IsAtRest, IsLawful, KeepsFine, Plan, last, IsPlan}
-use Rattle.hum_turns.specs.Meaning.{meanings, meaning, plan_meaning, own_of, first_fault, IsRead, IsNumbered}
-use Rattle.hum_turns.specs.Links.{Link, given, linked, view, has_room, has_some, Moment, fresh, IsOpening}
-use Rattle.hum_turns.specs.Links.{Same, inputs, settled, is_over, Agrees}
-use Rattle.hum_turns.specs.Turns.{State, Gives, Reads, Takes, Ends, by_want, stage_state, state, can}
-use Rattle.hum_turns.specs.Turns.{is_source, ready, Becomes, pushed, popped, marked, HasGiven, Does}
-use Rattle.hum_turns.specs.Turns.{HasRead, ReadsAndDoes, Turns, Step, Run}
-use Rattle.hum_turns.specs.Near.{IsOneOf, LooksAt, AreApart, LeavesAlone, EveryTurnIsNear}
-use Rattle.hum_turns.proofs.States.{Wanted, Allowed, state_is, sink_state, gives_less, reads_less, ends_less}
+use Rattle.std.proofs.Common.{le-ltb, lt-ltb}
+use Rattle.std.proofs.lemmas.Bool.{cases_eq, cases_lt, cases_Bool}
+use Rattle.std.proofs.lemmas.Bool.{and_from, and_left, cond-true, cond-false}
+use Rattle.std.proofs.lemmas.Option.{none-some, same_Some}
+use Rattle.hum_turns.specs.Plan.{Plan, last, IsPlan}
+use Rattle.hum_turns.specs.Links.{Link, view, has_room, has_some, Moment}
+use Rattle.hum_turns.specs.Links.{inputs}
+use Rattle.hum_turns.specs.Turns.{State, Gives, Reads, Takes, Ends, stage_state, state, can}
+use Rattle.hum_turns.specs.Turns.{is_source, ready, Becomes, Does}
+use Rattle.hum_turns.specs.Turns.{HasRead, Turns, Step, Run}
+use Rattle.hum_turns.specs.Near.{IsOneOf, LooksAt, EveryTurnIsNear}
+use Rattle.hum_turns.proofs.States.{state_is, sink_state, gives_less, reads_less, ends_less}
 use Rattle.std.proofs.Math.Path.{fun_ext}
-use Rattle.hum_turns.proofs.States.{wanted, last_next, taker, source_less, reads_source, ready_allows, read_allowed}
+use Rattle.hum_turns.proofs.States.{wanted, last_next, taker, source_less}
 
 -- What an actor doesn't look at it leaves alone.
 
@@ -43,9 +34,9 @@ module _ {R : Type 0} (plan : Plan R) (ok : IsPlan plan) where
   does_near k Reads old new e d i far = d i
   does_near k (Takes s) old new e d i far =
       d.elsewhere i (λ same. ⊎_elim
-        (λ w. far (inl (w.0, inr (w.1.place, w.1.is_there ∙ ap Some (sym same)))))
-        (λ w. far (inr (w.0, same ∙ w.1)))
-        (taker plan ok old k s e))
+      (λ w. far (inl (w.0, inr (w.1.place, w.1.is_there ∙ ap Some (sym same)))))
+      (λ w. far (inr (w.0, same ∙ w.1)))
+      (taker plan ok old k s e))
   does_near k Ends old new e d i far = own_near k _ old new (ends_less plan old k e) d i far
 
   turns_near : (k : ℕ) (s : State) (old new : Moment R) → state plan old k ≡ s
@@ -78,17 +69,17 @@ module _ {R : Type 0} (plan : Plan R) (ok : IsPlan plan) (size j : ℕ) (old new
   state_same : state plan new j ≡ state plan old j
   state_same =
       ⊎_elim
-        (λ less.
-          let st = plan.stage j in
-          let own = same j (inl (less, inl refl)) in
-          let ins : inputs plan new j ≡ inputs plan old j =
-              inputs_same old new st.sources (λ s p. same s (inl (less, inr p))) in
-          state_is plan new j less
-          ∙ ap (λ l. stage_state st l (inputs plan new j)) own
-          ∙ ap (stage_state st (old j)) ins
-          ∙ sym (state_is plan old j less))
-        (λ past. sink_state plan new j past ∙ sym (sink_state plan old j past))
-        (cases_lt j plan.count)
+      (λ less.
+      let st = plan.stage j in
+      let own = same j (inl (less, inl refl)) in
+      let ins : inputs plan new j ≡ inputs plan old j =
+      inputs_same old new st.sources (λ s p. same s (inl (less, inr p))) in
+      state_is plan new j less
+      ∙ ap (λ l. stage_state st l (inputs plan new j)) own
+      ∙ ap (stage_state st (old j)) ins
+      ∙ sym (state_is plan old j less))
+      (λ past. sink_state plan new j past ∙ sym (sink_state plan old j past))
+      (cases_lt j plan.count)
 
   -- and whether it can
   can_same : (s : State) → state plan old j ≡ s → can size new j s ≡ can size old j s
@@ -98,26 +89,26 @@ module _ {R : Type 0} (plan : Plan R) (ok : IsPlan plan) (size j : ℕ) (old new
       ap (has_room size) (same j (inl (reads_less plan old j e, inl refl)))
   can_same (Takes s) e =
       ap has_some (same s (⊎_elim
-        (λ w. inl (w.0, inr (w.1.place, w.1.is_there)))
-        (λ w. inr (w.0, w.1))
-        (taker plan ok old j s e)))
+      (λ w. inl (w.0, inr (w.1.place, w.1.is_there)))
+      (λ w. inr (w.0, w.1))
+      (taker plan ok old j s e)))
   can_same Ends e =
       ap (λ (l : Link R). is_none l.mark) (same j (inl (ends_less plan old j e, inl refl)))
 
   pub ready_same : ready plan size new j ≡ ready plan size old j
   ready_same =
       ⊎_elim
-        (λ src.
-          let own = same j (inl ((source_less plan j src).0, inl refl)) in
-          cond-true _ _ _ src
-          ∙ ap (λ (l : Link R). is_none l.mark && has_room size l) own
-          ∙ sym (cond-true _ _ _ src))
-        (λ other.
-          cond-false _ _ _ other
-          ∙ ap (can size new j) state_same
-          ∙ can_same (state plan old j) refl
-          ∙ sym (cond-false _ _ _ other))
-        (cases_Bool (is_source plan j))
+      (λ src.
+      let own = same j (inl ((source_less plan j src).0, inl refl)) in
+      cond-true _ _ _ src
+      ∙ ap (λ (l : Link R). is_none l.mark && has_room size l) own
+      ∙ sym (cond-true _ _ _ src))
+      (λ other.
+      cond-false _ _ _ other
+      ∙ ap (can size new j) state_same
+      ∙ can_same (state plan old j) refl
+      ∙ sym (cond-false _ _ _ other))
+      (cases_Bool (is_source plan j))
 
 pub every_turn_is_near : {R : Type 0} → EveryTurnIsNear R
 every_turn_is_near plan size k old new ok step =
@@ -166,7 +157,7 @@ module _ {R : Type 0} (plan : Plan R) (size k : ℕ) where
     within = within;
     is_ready = h;
     turns = subst (λ t. Turns plan k t old new) (sym e)
-      (record { between = between; reads = r; does = d });
+        (record { between = between; reads = r; does = d });
   }
 
 -- a run with a turn more
@@ -185,10 +176,10 @@ module _ {R : Type 0} (plan : Plan R) (ok : IsPlan plan) (size k : ℕ) (less : 
       → (new (last plan)).taken ≡ (old (last plan)).taken
   keeps_taken l old new d e =
       ⊎_elim
-        (λ same. subst (λ j. (new j).taken ≡ (old j).taken) (sym same)
-          (ap (λ (l : Link R). l.taken) d.here ∙ e))
-        (λ other. ap (λ (l : Link R). l.taken) (d.elsewhere (last plan) other))
-        (cases_eq (last plan) k)
+      (λ same. subst (λ j. (new j).taken ≡ (old j).taken) (sym same)
+      (ap (λ (l : Link R). l.taken) d.here ∙ e))
+      (λ other. ap (λ (l : Link R). l.taken) (d.elsewhere (last plan) other))
+      (cases_eq (last plan) k)
 
   does_taken : (s : State) (old new : Moment R) → state plan old k ≡ s → Does plan k s old new
       → (new (last plan)).taken ≡ (old (last plan)).taken

@@ -1,39 +1,23 @@
 -- Turns by the picks of an order.
-use Rattle.std.proofs.Common.{◌≡◌, ◌≢◌, ℕ, zero, suc, pred, ◌+◌, ◌-◌, ◌*◌, ◌<◌, ◌≤◌, ◌⊎◌, inl, inr, min}
-use Rattle.std.proofs.Common.{Bool, true, false, cond, ◌&&◌, ◌||◌, if◌then◌else◌, nat_lt, nat_eq}
-use Rattle.std.proofs.Common.{List, [], ◌∷◌, ◌++◌, map, length, get_or, slice_get, slice_index}
-use Rattle.std.proofs.Common.{Option, Some, None, is_some, is_none, unwrap_or}
+use Rattle.std.proofs.Common.{◌≡◌, ℕ, zero, suc, ◌+◌, ◌-◌, ◌<◌, ◌≤◌}
+use Rattle.std.proofs.Common.{Bool, true, false}
+use Rattle.std.proofs.Common.{List, [], ◌∷◌, ◌++◌, map, length, get_or}
+use Rattle.std.proofs.Common.{Option, Some, None, is_some, is_none}
 use Rattle.std.proofs.Common.{refl, sym, ap, ◌∙◌, subst, ⊎_elim, arith}
-use Rattle.std.proofs.Common.{append_assoc, append-nil, length-append}
-use Rattle.std.proofs.Common.{ltb-true, ltb-false, le-ltb, lt-ltb, eq-eqb, ne_eqb}
-use Rattle.std.proofs.lemmas.Bool.{true≢false, false≢true, cases_eq, cases_lt, cases_Bool}
-use Rattle.std.proofs.lemmas.Bool.{and_parts, and_from, and_left, or_left, cond-true, cond-false}
-use Rattle.std.proofs.lemmas.Option.{none-some, same_Some, slice_get_within, slice_get-get_or, slice_get_cases}
+use Rattle.std.proofs.Common.{length-append}
+use Rattle.std.proofs.lemmas.Bool.{false≢true, cases_lt, cases_Bool}
+use Rattle.std.proofs.lemmas.Bool.{and_from, cond-true, cond-false}
+use Rattle.std.proofs.lemmas.Option.{none-some}
 use Rattle.std.proofs.lemmas.List.{length-map}
-use Rattle.std.specs.List.{AllByRecursion}
 use Rattle.hum_stage.specs.declared.faults.End.{End}
-use Rattle.hum_stage.specs.declared.faults.End.TheVariants.{Closed, Broken}
-use Rattle.hum_turns.specs.Flow.{Flow, so_far, Begins, IsOver, Later, AllLater, AllOver, AllFine}
-use Rattle.hum_turns.specs.Plan.{Want, Bytes, Source, Nothing, Stage, lower, inputs_end, or_own, end_of}
-use Rattle.hum_turns.specs.Plan.{AreInputs, Onward}
-use Rattle.hum_turns.specs.Plan.{whole, GoesOn, IsOpenAt, IsAtRest, IsLawful, KeepsFine, Plan, last, IsPlan}
-use Rattle.hum_turns.specs.Meaning.{meanings, meaning, plan_meaning, own_of, first_fault, IsRead, IsNumbered}
-use Rattle.hum_turns.specs.Links.{Link, given, linked, view, has_room, has_some, Moment, fresh, IsOpening}
-use Rattle.hum_turns.specs.Links.{Same, inputs, settled, is_over, Agrees}
-use Rattle.hum_turns.specs.Turns.{State, Gives, Reads, Takes, Ends, by_want, stage_state, state, can}
-use Rattle.hum_turns.specs.Turns.{is_source, ready, Becomes, pushed, popped, marked, HasGiven, Does}
-use Rattle.hum_turns.specs.Turns.{HasRead, ReadsAndDoes, Turns, Step, Run}
+use Rattle.hum_turns.specs.Plan.{Plan, last}
 use Rattle.hum_turns.specs.declared.result.RunResult.{RunResult}
-use Rattle.hum_turns.specs.declared.result.RunResult.TheVariants as ends
-use Rattle.hum_turns.specs.Text.{line_of, text, next_text}
-use Rattle.hum_turns.specs.Failures.{Now, result_of, IsFailure, ended_by, result, written, is_ready, MayFail}
-use Rattle.hum_turns.specs.Failures.{Moves, Fails, Turn, SameNow, Walk, IsFirst, IsWhole, HoldsNow, EveryTurn}
+use Rattle.hum_turns.specs.Failures.{Now, result_of, ended_by, result, is_ready}
+use Rattle.hum_turns.specs.Failures.{Turn, Walk, HoldsNow}
 use Rattle.std.proofs.lemmas.List.{map-append, get_or_append_left, get_or-append_right}
-use Rattle.hum_turns.specs.Holds.{SomeReady}
-use Rattle.hum_turns.specs.Orders.{Order, upto, ready_list, first_true, chosen, choice, Driven, Leads}
+use Rattle.hum_turns.specs.Orders.{Order, upto, ready_list, first_true, chosen, choice, Driven}
 use Rattle.hum_turns.specs.Orders.{EveryPick}
-use Rattle.hum_turns.proofs.Fronts.{is_unset}
-use Rattle.hum_turns.proofs.Writing.{every_turn, walk_more, same_now, still}
+use Rattle.hum_turns.proofs.Writing.{every_turn, same_now, still}
 
 -- A true entry is found.
 
@@ -48,9 +32,9 @@ pub chosen_is : (bs : List Bool) (p k : ℕ) → get_or bs k false ≡ true
     → get_or bs (chosen bs p) false ≡ true
 chosen_is bs p k h =
     ⊎_elim
-      (λ is. ap (λ i. get_or bs i false) (cond-true _ p (first_true bs) is) ∙ is)
-      (λ isnt. ap (λ i. get_or bs i false) (cond-false _ p (first_true bs) isnt) ∙ first_is bs k h)
-      (cases_Bool (get_or bs p false))
+    (λ is. ap (λ i. get_or bs i false) (cond-true _ p (first_true bs) is) ∙ is)
+    (λ isnt. ap (λ i. get_or bs i false) (cond-false _ p (first_true bs) isnt) ∙ first_is bs k h)
+    (cases_Bool (get_or bs p false))
 
 length_upto : (n : ℕ) → length (upto n) ≡ n
 length_upto zero = refl
@@ -72,23 +56,23 @@ module _ (f : ℕ → Bool) where
       let l = length_map n in
       ap (λ bs. get_or bs k false) (map-append f (upto n) (n ∷ []))
       ∙ ⊎_elim
-          (λ less.
-            get_or_append_left (map f (upto n)) (f n ∷ []) false k (omega arith) ∙ entry n k less)
-          (λ past.
-            let e : k ≡ n = omega arith in
-            let z : k - n ≡ 0 = omega arith in
-            get_or-append_right (map f (upto n)) (f n ∷ []) n k false l past
-            ∙ ap (λ i. get_or (f n ∷ []) i false) z ∙ ap f (sym e))
-          (cases_lt k n)
+      (λ less.
+      get_or_append_left (map f (upto n)) (f n ∷ []) false k (omega arith) ∙ entry n k less)
+      (λ past.
+      let e : k ≡ n = omega arith in
+      let z : k - n ≡ 0 = omega arith in
+      get_or-append_right (map f (upto n)) (f n ∷ []) n k false l past
+      ∙ ap (λ i. get_or (f n ∷ []) i false) z ∙ ap f (sym e))
+      (cases_lt k n)
 
   pub entry_is : (n k : ℕ) → get_or (map f (upto n)) k false ≡ true → (k < n) × (f k ≡ true)
   entry_is n k h =
       let l = length_map n in
       ⊎_elim
-        (λ less. (less, sym (entry n k less) ∙ h))
-        (λ past. absurd (false≢true
-          (sym (past_none (map f (upto n)) k (omega arith)) ∙ h)))
-        (cases_lt k n)
+      (λ less. (less, sym (entry n k less) ∙ h))
+      (λ past. absurd (false≢true
+      (sym (past_none (map f (upto n)) k (omega arith)) ∙ h)))
+      (cases_lt k n)
 
 -- Where an actor is ready, the choice is one that is.
 
@@ -101,7 +85,7 @@ module _ {R : Type 0} (plan : Plan R) (size : ℕ) (now : Now R) where
       let n = plan.count + 1 in
       let at : get_or (map f (upto n)) k false ≡ true = entry f n k (omega arith) ∙ h in
       let i = entry_is f n (chosen (map f (upto n)) pick)
-            (chosen_is (map f (upto n)) pick k at) in
+      (chosen_is (map f (upto n)) pick k at) in
       let less = i.0 in
       (omega arith, i.1)
 
@@ -119,7 +103,7 @@ module _ {R : Type 0} (plan : Plan R) (size : ℕ) (now : Now R) where
       let n = going_on now.failure (now.links (last plan)).heard none in
       let some = (holds.holds n.0).1.progress (ap is_some n.1) in
       chosen_ready pick some.actor some.within
-        (and_from _ _ (ap is_none none) some.is_ready)
+      (and_from _ _ (ap is_none none) some.is_ready)
 
 module _ {R O : Type 0} (order : Order O) (plan : Plan R) (size : ℕ) (bytes : R → List ℕ) where
   -- what an order drives is one of all lists of turns
@@ -134,17 +118,21 @@ module _ {R O : Type 0} (order : Order O) (plan : Plan R) (size : ℕ) (bytes : 
       → Driven order plan size bytes o old ks between p → k ≡ choice order plan size p between
       → Turn plan size bytes k between new
       → Driven order plan size bytes o old (ks ++ k ∷ []) new
-          (order.next p (ready_list plan size between))
+      (order.next p (ready_list plan size between))
   driven_more [] k o p old between new d e turn =
       let q = order.next p (ready_list plan size between) in
       let one : Driven order plan size bytes p between (k ∷ []) new q =
-            (new, e, turn, (still new, refl)) in
+      (new, e, turn, (still new, refl)) in
       subst (λ (s : O). Driven order plan size bytes s old (k ∷ []) new q) d.1
-        (subst (λ (x : Now R). Driven order plan size bytes p x (k ∷ []) new q)
-          (same_now old between d.0) one)
-  driven_more (j ∷ ks) k o p old between new d e turn =
-      (d.0, d.1, d.2, driven_more ks k (order.next o (ready_list plan size old)) p d.0 between new
-        d.3 e turn)
+      (subst (λ (x : Now R). Driven order plan size bytes p x (k ∷ []) new q)
+      (same_now old between d.0) one)
+  driven_more (j ∷ ks) k o p old between new d e turn = (
+    d.0,
+    d.1,
+    d.2,
+    driven_more ks k (order.next o (ready_list plan size old)) p d.0 between new
+        d.3 e turn,
+  )
 
 pub every_pick : {R O : Type 0} → EveryPick R O
 every_pick order plan size bytes ok some turns first now o p start d =

@@ -1,28 +1,20 @@
 -- Until the run is over some actor is ready, and a ready actor has a turn.
-use Rattle.std.proofs.Common.{◌≡◌, ◌≢◌, ℕ, zero, suc, pred, ◌+◌, ◌-◌, ◌*◌, ◌<◌, ◌≤◌, ◌⊎◌, inl, inr, min}
-use Rattle.std.proofs.Common.{Bool, true, false, cond, ◌&&◌, ◌||◌, if◌then◌else◌, nat_lt, nat_eq}
-use Rattle.std.proofs.Common.{List, [], ◌∷◌, ◌++◌, map, length, get_or, slice_get, slice_index}
-use Rattle.std.proofs.Common.{Option, Some, None, is_some, is_none, unwrap_or}
-use Rattle.std.proofs.Common.{refl, sym, ap, ◌∙◌, subst, ⊎_elim, arith}
-use Rattle.std.proofs.Common.{append_assoc, append-nil, length-append}
-use Rattle.std.proofs.Common.{ltb-true, ltb-false, le-ltb, lt-ltb, eq-eqb, ne_eqb}
-use Rattle.std.proofs.lemmas.Bool.{true≢false, false≢true, cases_eq, cases_lt, cases_Bool}
-use Rattle.std.proofs.lemmas.Bool.{and_parts, and_from, and_left, or_left, cond-true, cond-false}
-use Rattle.std.proofs.lemmas.Option.{none-some, same_Some, slice_get_within, slice_get-get_or, slice_get_cases}
-use Rattle.std.proofs.lemmas.List.{length-map}
-use Rattle.std.specs.List.{AllByRecursion}
+use Rattle.std.proofs.Common.{◌≡◌, ℕ, zero, suc, ◌+◌, ◌<◌, ◌≤◌}
+use Rattle.std.proofs.Common.{true, false, ◌&&◌, ◌||◌, if◌then◌else◌, nat_lt, nat_eq}
+use Rattle.std.proofs.Common.{List, [], ◌∷◌, length, slice_get}
+use Rattle.std.proofs.Common.{Option, Some, None, is_some, is_none}
+use Rattle.std.proofs.Common.{refl, sym, ap, ◌∙◌, ⊎_elim, arith}
+use Rattle.std.proofs.Common.{le-ltb, lt-ltb, eq-eqb, ne_eqb}
+use Rattle.std.proofs.lemmas.Bool.{true≢false, cases_Bool}
+use Rattle.std.proofs.lemmas.Bool.{and_left, or_left, cond-true, cond-false}
+use Rattle.std.proofs.lemmas.Option.{slice_get_cases}
 use Rattle.hum_stage.specs.declared.faults.End.{End}
-use Rattle.hum_stage.specs.declared.faults.End.TheVariants.{Closed, Broken}
-use Rattle.hum_turns.specs.Flow.{Flow, so_far, Begins, IsOver, Later, AllLater, AllOver, AllFine}
-use Rattle.hum_turns.specs.Plan.{Want, Bytes, Source, Nothing, Stage, lower, inputs_end, or_own, end_of}
-use Rattle.hum_turns.specs.Plan.{AreInputs, Onward}
-use Rattle.hum_turns.specs.Plan.{whole, GoesOn, IsOpenAt, IsAtRest, IsLawful, KeepsFine, Plan, last, IsPlan}
-use Rattle.hum_turns.specs.Meaning.{meanings, meaning, plan_meaning, own_of, first_fault, IsRead, IsNumbered}
-use Rattle.hum_turns.specs.Links.{Link, given, linked, view, has_room, has_some, Moment, fresh, IsOpening}
-use Rattle.hum_turns.specs.Links.{Same, inputs, settled, is_over, Agrees}
-use Rattle.hum_turns.specs.Turns.{State, Gives, Reads, Takes, Ends, by_want, stage_state, state, can}
-use Rattle.hum_turns.specs.Turns.{is_source, ready, Becomes, pushed, popped, marked, HasGiven, Does}
-use Rattle.hum_turns.specs.Turns.{HasRead, ReadsAndDoes, Turns, Step, Run}
+use Rattle.hum_turns.specs.Plan.{Plan, last, IsPlan}
+use Rattle.hum_turns.specs.Links.{Link, given, has_room, has_some, Moment}
+use Rattle.hum_turns.specs.Links.{settled, is_over}
+use Rattle.hum_turns.specs.Turns.{State, Gives, Reads, Takes, Ends, state}
+use Rattle.hum_turns.specs.Turns.{is_source, ready, Becomes, pushed, popped, marked, Does}
+use Rattle.hum_turns.specs.Turns.{HasRead, Turns}
 use Rattle.hum_turns.specs.Holds.{SomeReady, HasTurn}
 use Rattle.hum_turns.proofs.Fronts.{is_unset}
 use Rattle.hum_turns.proofs.States.{last_less, sink_state, gives_more, reads_less, reads_bytes, wanted}
@@ -43,7 +35,7 @@ is_empty : {R : Type 0} (l : Link R) → l.heard ≡ None → has_some l ≡ fal
     → (l.waiting ≡ []) × (l.mark ≡ None)
 is_empty l new h =
     nothing_waits l.waiting l.mark
-      (sym (ap (λ o. is_none o && (nat_lt 0 (length l.waiting) || is_some l.mark)) new) ∙ h)
+    (sym (ap (λ o. is_none o && (nat_lt 0 (length l.waiting) || is_some l.mark)) new) ∙ h)
 
 empty_room : {R : Type 0} (size : ℕ) (l : Link R) → 0 < size → l.waiting ≡ []
     → has_room size l ≡ true
@@ -61,29 +53,29 @@ module _ {R : Type 0} (plan : Plan R) (ok : IsPlan plan) (size : ℕ) (some : 0 
       → (s : State) → state plan m k ≡ s → SomeReady plan size m
   by_state k less w u other below Gives e =
       it_is k (omega arith)
-        (ready_other plan size m k Gives other e (empty_room size (m k) some w))
+      (ready_other plan size m k Gives other e (empty_room size (m k) some w))
   by_state k less w u other below Reads e =
       it_is k (omega arith)
-        (ready_other plan size m k Reads other e (empty_room size (m k) some w))
+      (ready_other plan size m k Reads other e (empty_room size (m k) some w))
   by_state k less w u other below Ends e =
       it_is k (omega arith) (ready_other plan size m k Ends other e (ap is_none u))
   by_state k less w u other below (Takes s) e =
       let f = wanted plan ok m k s less e in
       ⊎_elim
-        (λ has. it_is k (omega arith) (ready_other plan size m k (Takes s) other e has))
-        (λ lacks. let n = is_empty (m s) f.unheard lacks in below s f.below n.0 n.1)
-        (cases_Bool (has_some (m s)))
+      (λ has. it_is k (omega arith) (ready_other plan size m k (Takes s) other e has))
+      (λ lacks. let n = is_empty (m s) f.unheard lacks in below s f.below n.0 n.1)
+      (cases_Bool (has_some (m s)))
 
   never_stuck : (n k : ℕ) → k < n → k < plan.count → (m k).waiting ≡ [] → (m k).mark ≡ None
       → SomeReady plan size m
   never_stuck zero k less lessc w u = absurd (omega arith)
   never_stuck (suc n) k less lessc w u =
       ⊎_elim
-        (λ src. it_is k (omega arith)
-          (ready_source plan size m k src (ap is_none u) (empty_room size (m k) some w)))
-        (λ other. by_state k lessc w u other
-          (λ j lessj. never_stuck n j (omega arith) (omega arith)) (state plan m k) refl)
-        (cases_Bool (is_source plan k))
+      (λ src. it_is k (omega arith)
+      (ready_source plan size m k src (ap is_none u) (empty_room size (m k) some w)))
+      (λ other. by_state k lessc w u other
+      (λ j lessj. never_stuck n j (omega arith) (omega arith)) (state plan m k) refl)
+      (cases_Bool (is_source plan k))
 
   pub progress : is_over plan m ≡ false → SomeReady plan size m
   progress h =
@@ -92,13 +84,13 @@ module _ {R : Type 0} (plan : Plan R) (ok : IsPlan plan) (size : ℕ) (some : 0 
       let count = plan.count in
       let sink = and_left _ _ (le-ltb count count (omega arith)) in
       ⊎_elim
-        (λ has. it_is count (omega arith)
-          (ready_other plan size m count (Takes (last plan)) sink
-            (sink_state plan m count (omega arith)) has))
-        (λ lacks.
-          let n = is_empty (m (last plan)) new lacks in
-          never_stuck count (last plan) (omega arith) (omega arith) n.0 n.1)
-        (cases_Bool (has_some (m (last plan))))
+      (λ has. it_is count (omega arith)
+      (ready_other plan size m count (Takes (last plan)) sink
+      (sink_state plan m count (omega arith)) has))
+      (λ lacks.
+      let n = is_empty (m (last plan)) new lacks in
+      never_stuck count (last plan) (omega arith) (omega arith) n.0 n.1)
+      (cases_Bool (has_some (m (last plan))))
 
 -- A ready actor has a turn.
 
@@ -117,7 +109,7 @@ next_given : {R : Type 0} (plan : Plan R) (m : Moment R) (k : ℕ) → state pla
 next_given plan m k e =
     let n = gives_more plan m k e in
     ⊎_elim (λ f. (f.0, f.2)) (λ past. let p = past.0 in absurd (omega arith))
-      (slice_get_cases (settled plan m k) (length (given (m k)))).1
+    (slice_get_cases (settled plan m k) (length (given (m k)))).1
 
 does_exist : {R : Type 0} (plan : Plan R) (k : ℕ) (s : State) (m : Moment R) → state plan m k ≡ s
     → (new : Moment R) × Does plan k s m new
@@ -142,11 +134,11 @@ turns_exist plan k Reads m ok e =
     let d = does_exist plan k (state plan between k) between refl in
     let r = reads_bytes plan ok m k (reads_less plan m k e) e in
     let reads : HasRead plan k m between = record {
-          upto = n;
-          more = omega arith;
-          within = omega arith;
-          becomes = put_becomes m k l;
-        } in
+      upto = n;
+      more = omega arith;
+      within = omega arith;
+      becomes = put_becomes m k l;
+    } in
     (d.0, record { between = between; reads = reads; does = d.1 })
 
 pub goes : {R : Type 0} (plan : Plan R) (size : ℕ) (m : Moment R) (k : ℕ) → IsPlan plan
@@ -154,5 +146,3 @@ pub goes : {R : Type 0} (plan : Plan R) (size : ℕ) (m : Moment R) (k : ℕ) �
 goes plan size m k ok within h =
     let t = turns_exist plan k (state plan m k) m ok refl in
     record { next = t.0; step = record { within = within; is_ready = h; turns = t.1 } }
-
-

@@ -1,28 +1,22 @@
 -- What an actor's state says of it, and what it needs to be ready.
-use Rattle.std.proofs.Common.{◌≡◌, ◌≢◌, ℕ, zero, suc, pred, ◌+◌, ◌-◌, ◌*◌, ◌<◌, ◌≤◌, ◌⊎◌, inl, inr, min}
-use Rattle.std.proofs.Common.{Bool, true, false, cond, ◌&&◌, ◌||◌, if◌then◌else◌, nat_lt, nat_eq}
-use Rattle.std.proofs.Common.{List, [], ◌∷◌, ◌++◌, map, length, get_or, slice_get, slice_index}
-use Rattle.std.proofs.Common.{Option, Some, None, is_some, is_none, unwrap_or}
+use Rattle.std.proofs.Common.{◌≡◌, ℕ, zero, suc, pred, ◌+◌, ◌<◌, ◌≤◌, ◌⊎◌, inl, inr}
+use Rattle.std.proofs.Common.{Bool, true, false, if◌then◌else◌, nat_lt}
+use Rattle.std.proofs.Common.{List, length, slice_get, slice_index}
+use Rattle.std.proofs.Common.{Some, None, is_none}
 use Rattle.std.proofs.Common.{refl, sym, ap, ◌∙◌, subst, ⊎_elim, arith}
-use Rattle.std.proofs.Common.{append_assoc, append-nil, length-append}
-use Rattle.std.proofs.Common.{ltb-true, ltb-false, le-ltb, lt-ltb, eq-eqb, ne_eqb}
-use Rattle.std.proofs.lemmas.Bool.{true≢false, false≢true, cases_eq, cases_lt, cases_Bool}
-use Rattle.std.proofs.lemmas.Bool.{and_parts, and_from, and_left, or_left, cond-true, cond-false}
-use Rattle.std.proofs.lemmas.Option.{none-some, same_Some, slice_get_within, slice_get-get_or, slice_get_cases}
+use Rattle.std.proofs.Common.{ltb-true, le-ltb, lt-ltb}
+use Rattle.std.proofs.lemmas.Bool.{cases_lt, cases_Bool}
+use Rattle.std.proofs.lemmas.Bool.{and_parts, and_from, cond-true, cond-false}
+use Rattle.std.proofs.lemmas.Option.{none-some, slice_get_within, slice_get-get_or}
 use Rattle.std.proofs.lemmas.List.{length-map}
-use Rattle.std.specs.List.{AllByRecursion}
-use Rattle.hum_stage.specs.declared.faults.End.{End}
-use Rattle.hum_stage.specs.declared.faults.End.TheVariants.{Closed, Broken}
-use Rattle.hum_turns.specs.Flow.{Flow, so_far, Begins, IsOver, Later, AllLater, AllOver, AllFine}
-use Rattle.hum_turns.specs.Plan.{Want, Bytes, Source, Nothing, Stage, lower, inputs_end, or_own, end_of}
-use Rattle.hum_turns.specs.Plan.{AreInputs, Onward}
-use Rattle.hum_turns.specs.Plan.{whole, GoesOn, IsOpenAt, IsAtRest, IsLawful, KeepsFine, Plan, last, IsPlan}
-use Rattle.hum_turns.specs.Meaning.{meanings, meaning, plan_meaning, own_of, first_fault, IsRead, IsNumbered}
-use Rattle.hum_turns.specs.Links.{Link, given, linked, view, has_room, has_some, Moment, fresh, IsOpening}
-use Rattle.hum_turns.specs.Links.{Same, inputs, settled, is_over, Agrees}
+use Rattle.hum_turns.specs.Flow.{Flow}
+use Rattle.hum_turns.specs.Plan.{Want, Bytes, Source, Nothing}
+use Rattle.hum_turns.specs.Plan.{Plan, last, IsPlan}
+use Rattle.hum_turns.specs.Links.{Link, given, view, has_room, has_some, Moment}
+use Rattle.hum_turns.specs.Links.{inputs, settled}
 use Rattle.hum_turns.specs.Turns.{State, Gives, Reads, Takes, Ends, by_want, stage_state, state, can}
-use Rattle.hum_turns.specs.Turns.{is_source, ready, Becomes, pushed, popped, marked, HasGiven, Does}
-use Rattle.hum_turns.specs.Turns.{HasRead, ReadsAndDoes, Turns, Step, Run}
+use Rattle.hum_turns.specs.Turns.{is_source, ready}
+use Rattle.hum_turns.specs.Turns.{HasRead}
 use Rattle.hum_turns.proofs.Fronts.{source_at}
 
 -- The causes of each state.
@@ -99,7 +93,7 @@ module _ {R : Type 0} (plan : Plan R) where
       → (Takes (last plan) ≡ s → ⊥) → k < plan.count
   not_sink m k s e other =
       ⊎_elim (λ less. less) (λ past. absurd (other (sym (sink_state m k past) ∙ e)))
-        (cases_lt k plan.count)
+      (cases_lt k plan.count)
 
   pub gives_less : (m : Moment R) (k : ℕ) → state plan m k ≡ Gives → k < plan.count
   gives_less m k h = not_sink m k Gives h (λ e. cc)
@@ -117,7 +111,7 @@ module _ {R : Type 0} (plan : Plan R) where
       let st = plan.stage k in
       let more = nat_lt (length (given (m k))) (length (settled plan m k)) in
       ltb-true _ _ (gives_cases st.sources more (st.wants (m k).read (inputs plan m k))
-        (sym (state_is m k (gives_less m k h)) ∙ h))
+      (sym (state_is m k (gives_less m k h)) ∙ h))
 
   -- Sources.
 
@@ -150,13 +144,13 @@ module _ {R : Type 0} (plan : Plan R) (ok : IsPlan plan) where
       let st = plan.stage k in
       let a = inputs plan m k in
       let c = takes_cases st.sources s
-            (nat_lt (length (given (m k))) (length (st.output (m k).read a)))
-            (st.wants (m k).read a) (sym (state_is plan m k less) ∙ h) in
+      (nat_lt (length (given (m k))) (length (st.output (m k).read a)))
+      (st.wants (m k).read a) (sym (state_is plan m k less) ∙ h) in
       let n : length a ≡ length st.sources = length-map st.sources (λ i. view (m i)) in
       let x = (ok.lawful k less).asks (m k).read a c.0 n c.1 in
       let w = slice_get_within a c.0 x.input x.is_there in
       let f = source_at (λ i. view (m i)) (λ i. i < k) st.sources c.0 x.input (ok.below k less)
-            x.is_there in
+      x.is_there in
       record {
         place = c.0;
         is_there = slice_get-get_or st.sources c.0 0 (omega arith) ∙ ap Some c.2;
@@ -167,9 +161,9 @@ module _ {R : Type 0} (plan : Plan R) (ok : IsPlan plan) where
   pub taker : (m : Moment R) (k s : ℕ) → state plan m k ≡ Takes s → Taker plan m k s
   taker m k s e =
       ⊎_elim
-        (λ less. inl (less, wanted m k s less e))
-        (λ sink. inr (sink, takes_same (sym e ∙ sink_state plan m k sink)))
-        (cases_lt k plan.count)
+      (λ less. inl (less, wanted m k s less e))
+      (λ sink. inr (sink, takes_same (sym e ∙ sink_state plan m k sink)))
+      (cases_lt k plan.count)
 
   pub reads_bytes : (m : Moment R) (k : ℕ) → k < plan.count → state plan m k ≡ Reads
       → (m k).read < (plan.stage k).bytes
@@ -177,8 +171,8 @@ module _ {R : Type 0} (plan : Plan R) (ok : IsPlan plan) where
       let st = plan.stage k in
       let a = inputs plan m k in
       (ok.lawful k less).reads (m k).read a (reads_cases st.sources
-        (nat_lt (length (given (m k))) (length (st.output (m k).read a)))
-        (st.wants (m k).read a) (sym (state_is plan m k less) ∙ h))
+      (nat_lt (length (given (m k))) (length (st.output (m k).read a)))
+      (st.wants (m k).read a) (sym (state_is plan m k less) ∙ h))
 
   -- who reads is a source, and a source takes from no link
   pub reads_source : (m : Moment R) (k : ℕ) → state plan m k ≡ Reads → is_source plan k ≡ true
@@ -206,11 +200,11 @@ module _ {R : Type 0} (plan : Plan R) (ok : IsPlan plan) where
       → state plan m k ≡ s → Allowed size m k s
   ready_allows size m k s h e =
       ⊎_elim
-        (λ src.
-          let r = source_ready plan size m k src h in
-          source_allowed size m k s src e r.0 r.1)
-        (λ other. can_allowed size m k s (ap (can size m k) (sym e) ∙ sym (cond-false _ _ _ other) ∙ h))
-        (cases_Bool (is_source plan k))
+      (λ src.
+      let r = source_ready plan size m k src h in
+      source_allowed size m k s src e r.0 r.1)
+      (λ other. can_allowed size m k s (ap (can size m k) (sym e) ∙ sym (cond-false _ _ _ other) ∙ h))
+      (cases_Bool (is_source plan k))
 
   -- also once it has read
   pub read_allowed : (size : ℕ) (old between : Moment R) (k : ℕ) → is_source plan k ≡ true
@@ -219,5 +213,5 @@ module _ {R : Type 0} (plan : Plan R) (ok : IsPlan plan) where
   read_allowed size old between k src h d =
       let r = source_ready plan size old k src h in
       source_allowed size between k (state plan between k) src refl
-        (ap (λ (l : Link R). is_none l.mark) d.becomes.here ∙ r.0)
-        (ap (λ (l : Link R). has_room size l) d.becomes.here ∙ r.1)
+      (ap (λ (l : Link R). is_none l.mark) d.becomes.here ∙ r.0)
+      (ap (λ (l : Link R). has_room size l) d.becomes.here ∙ r.1)

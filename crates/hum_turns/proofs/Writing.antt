@@ -1,35 +1,26 @@
 -- What is written is a front of the plan's text, also where a failure ends the run.
-use Rattle.std.proofs.Common.{◌≡◌, ◌≢◌, ℕ, zero, suc, pred, ◌+◌, ◌-◌, ◌*◌, ◌<◌, ◌≤◌, ◌⊎◌, inl, inr, min}
-use Rattle.std.proofs.Common.{Bool, true, false, cond, ◌&&◌, ◌||◌, if◌then◌else◌, nat_lt, nat_eq}
-use Rattle.std.proofs.Common.{List, [], ◌∷◌, ◌++◌, map, length, get_or, slice_get, slice_index}
-use Rattle.std.proofs.Common.{Option, Some, None, is_some, is_none, unwrap_or}
+use Rattle.std.proofs.Common.{◌≡◌, ℕ, pred, ◌+◌, ◌<◌, ◌⊎◌, inl, inr}
+use Rattle.std.proofs.Common.{true}
+use Rattle.std.proofs.Common.{List, [], ◌∷◌, ◌++◌, length}
+use Rattle.std.proofs.Common.{Option, Some, None, is_some, is_none}
 use Rattle.std.proofs.Common.{refl, sym, ap, ◌∙◌, subst, ⊎_elim, arith}
-use Rattle.std.proofs.Common.{append_assoc, append-nil, length-append}
-use Rattle.std.proofs.Common.{ltb-true, ltb-false, le-ltb, lt-ltb, eq-eqb, ne_eqb}
-use Rattle.std.proofs.lemmas.Bool.{true≢false, false≢true, cases_eq, cases_lt, cases_Bool}
-use Rattle.std.proofs.lemmas.Bool.{and_parts, and_from, and_left, or_left, cond-true, cond-false}
-use Rattle.std.proofs.lemmas.Option.{none-some, same_Some, slice_get_within, slice_get-get_or, slice_get_cases}
-use Rattle.std.proofs.lemmas.List.{length-map}
-use Rattle.std.specs.List.{AllByRecursion}
+use Rattle.std.proofs.Common.{append_assoc, append-nil}
+use Rattle.std.proofs.lemmas.Bool.{false≢true}
+use Rattle.std.proofs.lemmas.Bool.{and_parts}
+use Rattle.std.proofs.lemmas.Option.{none-some, same_Some}
 use Rattle.hum_stage.specs.declared.faults.End.{End}
-use Rattle.hum_stage.specs.declared.faults.End.TheVariants.{Closed, Broken}
-use Rattle.hum_turns.specs.Flow.{Flow, so_far, Begins, IsOver, Later, AllLater, AllOver, AllFine}
-use Rattle.hum_turns.specs.Plan.{Want, Bytes, Source, Nothing, Stage, lower, inputs_end, or_own, end_of}
-use Rattle.hum_turns.specs.Plan.{AreInputs, Onward}
-use Rattle.hum_turns.specs.Plan.{whole, GoesOn, IsOpenAt, IsAtRest, IsLawful, KeepsFine, Plan, last, IsPlan}
-use Rattle.hum_turns.specs.Meaning.{meanings, meaning, plan_meaning, own_of, first_fault, IsRead, IsNumbered}
-use Rattle.hum_turns.specs.Links.{Link, given, linked, view, has_room, has_some, Moment, fresh, IsOpening}
-use Rattle.hum_turns.specs.Links.{Same, inputs, settled, is_over, Agrees}
-use Rattle.hum_turns.specs.Turns.{State, Gives, Reads, Takes, Ends, by_want, stage_state, state, can}
-use Rattle.hum_turns.specs.Turns.{is_source, ready, Becomes, pushed, popped, marked, HasGiven, Does}
-use Rattle.hum_turns.specs.Turns.{HasRead, ReadsAndDoes, Turns, Step, Run}
+use Rattle.hum_turns.specs.Flow.{Flow, Begins}
+use Rattle.hum_turns.specs.Plan.{Plan, last, IsPlan}
+use Rattle.hum_turns.specs.Meaning.{plan_meaning}
+use Rattle.hum_turns.specs.Links.{given, view, Moment}
+use Rattle.hum_turns.specs.Links.{Same, Agrees}
+use Rattle.hum_turns.specs.Turns.{Run}
 use Rattle.hum_turns.specs.declared.result.RunResult.{RunResult}
 use Rattle.hum_turns.specs.declared.result.RunResult.TheVariants as ends
 use Rattle.hum_turns.specs.Text.{line_of, text, next_text}
-use Rattle.hum_turns.specs.Failures.{Now, result_of, IsFailure, ended_by, result, written, is_ready, MayFail}
-use Rattle.hum_turns.specs.Failures.{Moves, Fails, Turn, SameNow, Walk, IsFirst, IsWhole, HoldsNow, EveryTurn}
+use Rattle.hum_turns.specs.Failures.{Now, IsFailure, ended_by, written, MayFail}
+use Rattle.hum_turns.specs.Failures.{Turn, SameNow, Walk, IsFirst, IsWhole, HoldsNow, EveryTurn}
 use Rattle.std.proofs.Math.Path.{fun_ext}
-use Rattle.hum_turns.specs.Holds.{Holds}
 use Rattle.hum_turns.proofs.Fronts.{begins_refl, begins_trans, begins_append, begins_after, begins_nil}
 use Rattle.hum_turns.proofs.States.{last_less}
 use Rattle.hum_turns.proofs.Keeping.{Inv, same_keeps}
@@ -86,9 +77,10 @@ record Going {R : Type 0} (plan : Plan R) (size : ℕ) (old : Moment R) (ks : Li
   failure : new.failure ≡ None
 
 record Stopped {R : Type 0} (plan : Plan R) (size : ℕ) (bytes : R → List ℕ) (old : Moment R)
-    (new : Now R) : Type 0 where
+    (ks : List ℕ) (new : Now R) : Type 0 where
   before : Moment R
   turns : List ℕ
+  one_more : length ks ≡ length turns + 1
   run : Run plan size old turns before
   same : Same before new.links
   actor : ℕ
@@ -111,50 +103,54 @@ still now = record { links = λ k. refl; part = refl; failure = refl }
 module _ {R : Type 0} (plan : Plan R) (size : ℕ) (bytes : R → List ℕ) where
   -- after a failure no actor is ready
   walk_failed : (ks : List ℕ) (old new : Now R) (by : RunResult) → old.failure ≡ Some by
-      → Walk plan size bytes old ks new → SameNow old new
-  walk_failed [] old new by f w = w
+      → Walk plan size bytes old ks new → (ks ≡ []) × SameNow old new
+  walk_failed [] old new by f w = (refl, w)
   walk_failed (k ∷ ks) old new by f w =
       absurd (failed_result old.failure by (old.links (last plan)).heard f
-        (and_parts _ _ w.1.is_ready).0)
+      (and_parts _ _ w.1.is_ready).0)
 
   walk_ends : (ks : List ℕ) (old new : Now R) → old.part ≡ [] → old.failure ≡ None
       → Walk plan size bytes old ks new
-      → Going plan size old.links ks new ⊎ Stopped plan size bytes old.links new
+      → Going plan size old.links ks new ⊎ Stopped plan size bytes old.links ks new
   walk_ends [] old new p f w =
       inl (record { run = w.links; part = w.part ∙ p; failure = w.failure ∙ f })
   walk_ends (k ∷ ks) old new p f w =
       let between = w.0 in
       ⊎_elim
-        (λ moves. ⊎_elim
-          (λ g. inl (record {
-            run = (between.links, moves.step, g.run);
-            part = g.part;
-            failure = g.failure;
-          }))
-          (λ s. inr (record {
-            before = s.before;
-            turns = k ∷ s.turns;
-            run = (between.links, moves.step, s.run);
-            same = s.same;
-            actor = s.actor;
-            by = s.by;
-            failure = s.failure;
-            may = s.may;
-          }))
-          (walk_ends ks between new moves.part moves.failure w.2))
-        (λ fails.
-          let s = walk_failed ks between new fails.by fails.failure w.2 in
-          inr (record {
-            before = old.links;
-            turns = [];
-            run = λ i. refl;
-            same = λ i. s.links i ∙ fails.links i;
-            actor = k;
-            by = fails.by;
-            failure = s.failure ∙ fails.failure;
-            may = subst (MayFail plan k bytes old.links fails.by) (sym s.part) fails.may;
-          }))
-        w.1.turns
+      (λ moves. ⊎_elim
+      (λ g. inl (record {
+        run = (between.links, moves.step, g.run);
+        part = g.part;
+        failure = g.failure;
+      }))
+      (λ s. inr (record {
+        before = s.before;
+        turns = k ∷ s.turns;
+        one_more = let n = s.one_more in omega arith;
+        run = (between.links, moves.step, s.run);
+        same = s.same;
+        actor = s.actor;
+        by = s.by;
+        failure = s.failure;
+        may = s.may;
+      }))
+      (walk_ends ks between new moves.part moves.failure w.2))
+      (λ fails.
+      let f = walk_failed ks between new fails.by fails.failure w.2 in
+      let s = f.1 in
+      let none : length ks ≡ 0 = ap length f.0 in
+      inr (record {
+        before = old.links;
+        turns = [];
+        one_more = omega arith;
+        run = λ i. refl;
+        same = λ i. s.links i ∙ fails.links i;
+        actor = k;
+        by = fails.by;
+        failure = s.failure ∙ fails.failure;
+        may = subst (MayFail plan k bytes old.links fails.by) (sym s.part) fails.may;
+      }))
+      w.1.turns
 
   -- without a failure turns are a run
   pub walk_going : (ks : List ℕ) (first now : Now R) → IsFirst first → now.failure ≡ None
@@ -162,7 +158,7 @@ module _ {R : Type 0} (plan : Plan R) (size : ℕ) (bytes : R → List ℕ) wher
       → Run plan size first.links ks now.links × (now.part ≡ [])
   walk_going ks first now start none walk =
       ⊎_elim (λ g. (g.run, g.part)) (λ s. absurd (none-some s.by (sym none ∙ s.failure)))
-        (walk_ends ks first now start.part start.failure walk)
+      (walk_ends ks first now start.part start.failure walk)
 
   -- one turn more
   pub walk_more : (ks : List ℕ) (k : ℕ) (old between new : Now R)
@@ -183,12 +179,12 @@ module _ {R : Type 0} (plan : Plan R) (size : ℕ) (bytes : R → List ℕ) wher
       let l = m (last plan) in
       let e : last other ≡ last plan = ap (λ n. pred n) agree.count in
       let f = front other oko size m (last other) (agrees_good plan other size m agree inv)
-            (last_less other.count oko.some) in
+      (last_less other.count oko.some) in
       let g : Begins (given l) (plan_meaning other).items =
-            subst (λ s. Begins (given (m s)) (plan_meaning other).items) e f.0 in
+      subst (λ s. Begins (given (m s)) (plan_meaning other).items) e f.0 in
       begins_trans _ _ _ (begins_after (text bytes l.taken) now.part (text bytes l.waiting) part)
-        (subst (λ t. Begins t (text bytes (plan_meaning other).items))
-          (text_append bytes l.taken l.waiting) (text_begins bytes _ _ g))
+      (subst (λ t. Begins t (text bytes (plan_meaning other).items))
+      (text_append bytes l.taken l.waiting) (text_begins bytes _ _ g))
 
   is_whole : (now : Now R) (e : End) → now.part ≡ [] → (now.links (last plan)).heard ≡ Some e
       → view (now.links (last plan)) ≡ plan_meaning plan → IsWhole plan bytes now e
@@ -196,7 +192,7 @@ module _ {R : Type 0} (plan : Plan R) (size : ℕ) (bytes : R → List ℕ) wher
       let taken = text bytes (now.links (last plan)).taken in
       record {
         written = ap (λ p. taken ++ p) part ∙ append-nil taken
-          ∙ ap (λ (v : Flow R). text bytes v.items) w;
+            ∙ ap (λ (v : Flow R). text bytes v.items) w;
         end = sym (ap (λ (v : Flow R). v.end) w) ∙ heard;
       }
 
@@ -206,7 +202,9 @@ module _ {R : Type 0} (plan : Plan R) (size : ℕ) (bytes : R → List ℕ) wher
     holds_going g =
         let inv = reached plan size turns first.links now.links ok start.links g.run in
         let h = every_order plan size ok some turns first.links now.links start.links g.run in
+        let most = h.bounded in
         record {
+          bounded = omega arith;
           front = λ other oko agree. front_of other now oko inv agree (begins_nil now.part _ g.part);
           agrees = agrees_self plan size now.links inv;
           holds = λ f. (g.part, h);
@@ -214,24 +212,28 @@ module _ {R : Type 0} (plan : Plan R) (size : ℕ) (bytes : R → List ℕ) wher
           whole = λ e f heard. is_whole now e g.part heard (h.whole (ap is_some heard));
         }
 
-    holds_stopped : Stopped plan size bytes first.links now → HoldsNow plan size bytes turns now
+    holds_stopped : Stopped plan size bytes first.links turns now → HoldsNow plan size bytes turns now
     holds_stopped s =
         let inv = same_keeps plan size ok s.before now.links s.same
-              (reached plan size s.turns first.links s.before ok start.links s.run) in
+        (reached plan size s.turns first.links s.before ok start.links s.run) in
         let part = part_begins plan s.actor bytes s.before s.by now.part s.may in
+        let h = every_order plan size ok some s.turns first.links s.before start.links s.run in
+        let n = s.one_more in
+        let most = h.bounded in
         record {
+          bounded = omega arith;
           front = λ other oko agree. front_of other now oko inv agree
-            (subst (λ l. Begins now.part (text bytes l.waiting)) (sym (s.same (last plan))) part);
+              (subst (λ l. Begins now.part (text bytes l.waiting)) (sym (s.same (last plan))) part);
           agrees = agrees_self plan size now.links inv;
           holds = λ f. absurd (none-some s.by (sym f ∙ s.failure));
           fails = λ by e. subst IsFailure (same_Some s.by by (sym s.failure ∙ e))
-            (is_failure plan s.actor bytes s.before s.by now.part s.may);
+              (is_failure plan s.actor bytes s.before s.by now.part s.may);
           whole = λ e f heard. absurd (none-some s.by (sym f ∙ s.failure));
         }
 
 pub every_turn : {R : Type 0} → EveryTurn R
 every_turn plan size bytes ok some turns first now start walk =
     ⊎_elim
-      (holds_going plan size bytes ok some turns first now start)
-      (holds_stopped plan size bytes ok some turns first now start)
-      (walk_ends plan size bytes turns first now start.part start.failure walk)
+    (holds_going plan size bytes ok some turns first now start)
+    (holds_stopped plan size bytes ok some turns first now start)
+    (walk_ends plan size bytes turns first now start.part start.failure walk)

@@ -1,15 +1,16 @@
 -- Runs that a failed read, a failed write or want of memory may end.
 use Rattle.std.specs.Prelude.{◌≡◌, ◌⊎◌, ℕ, ◌+◌, ◌<◌, ◌≤◌, Bool, true, ◌&&◌}
-use Rattle.std.specs.Prelude.{List, [], ◌∷◌, ◌++◌, Option, Some, None, is_none}
+use Rattle.std.specs.Prelude.{List, [], ◌∷◌, ◌++◌, length, Option, Some, None, is_none}
 use Rattle.hum_stage.specs.declared.faults.End.{End}
 use Rattle.hum_stage.specs.declared.faults.End.TheVariants.{Closed, Broken}
 use Rattle.hum_turns.specs.declared.result.RunResult.{RunResult}
 use Rattle.hum_turns.specs.declared.result.RunResult.TheVariants as ends
-use Rattle.hum_turns.specs.Flow.{Flow, Begins}
+use Rattle.hum_turns.specs.Flow.{Begins}
 use Rattle.hum_turns.specs.Plan.{Plan, IsPlan, last}
 use Rattle.hum_turns.specs.Meaning.{plan_meaning}
-use Rattle.hum_turns.specs.Links.{Link, Moment, Same, IsOpening, Agrees}
+use Rattle.hum_turns.specs.Links.{Moment, Same, IsOpening, Agrees}
 use Rattle.hum_turns.specs.Turns.{is_source, ready, Step}
+use Rattle.hum_turns.specs.Counts.{bound}
 use Rattle.hum_turns.specs.Holds.{Holds}
 use Rattle.hum_turns.specs.Text.{text, next_text}
 
@@ -118,6 +119,8 @@ pub record HoldsNow {R : Type 0} (plan : Plan R) (size : ℕ) (bytes : R → Lis
   pub agrees : Agrees plan plan now.links
   -- without a failure, all that holds of a run
   pub holds : now.failure ≡ None → (now.part ≡ []) × Holds plan size turns now.links
+  -- with the turn that failed, where one did
+  pub bounded : length turns ≤ bound plan + 1
   -- no failure is a stage's fault, or the end of a whole run
   pub fails : (by : RunResult) → now.failure ≡ Some by → IsFailure by
   pub whole : (e : End) → now.failure ≡ None → (now.links (last plan)).heard ≡ Some e

@@ -1,9 +1,9 @@
 -- What holds at each moment that a run reaches, in whatever order its actors had their turns.
-use Rattle.std.specs.Prelude.{◌≡◌, ℕ, ◌<◌, ◌≤◌, Bool, true, false, List, length}
-use Rattle.hum_turns.specs.Flow.{Flow, Begins}
+use Rattle.std.specs.Prelude.{◌≡◌, ℕ, ◌<◌, ◌≤◌, true, false, List, length}
+use Rattle.hum_turns.specs.Flow.{Begins}
 use Rattle.hum_turns.specs.Plan.{Plan, IsPlan, last}
 use Rattle.hum_turns.specs.Meaning.{meaning, plan_meaning}
-use Rattle.hum_turns.specs.Links.{Link, Moment, given, linked, view, IsOpening, is_over, Agrees}
+use Rattle.hum_turns.specs.Links.{Moment, given, linked, view, IsOpening, is_over, Agrees}
 use Rattle.hum_turns.specs.Turns.{ready, Step, Run}
 use Rattle.hum_turns.specs.Counts.{turns_of, most, most_in_all, bound}
 

@@ -1,9 +1,9 @@
 -- Links, and what has come of a plan at a moment.
 use Rattle.std.specs.Prelude.{◌≡◌, ℕ, ◌-◌, ◌<◌, ◌≤◌, Bool, ◌&&◌, ◌||◌, nat_lt}
-use Rattle.std.specs.Prelude.{List, [], ◌∷◌, ◌++◌, map, length, Option, None, is_some, is_none}
+use Rattle.std.specs.Prelude.{List, [], ◌++◌, map, length, Option, None, is_some, is_none}
 use Rattle.hum_stage.specs.declared.faults.End.{End}
 use Rattle.hum_turns.specs.Flow.{Flow}
-use Rattle.hum_turns.specs.Plan.{Stage, Plan, last}
+use Rattle.hum_turns.specs.Plan.{Plan, last}
 
 -- What has come of a stage, over the link that it gives to: how many bytes it has read, the
 -- records taken from the link, those that wait on it, the end that the stage has set, and the end

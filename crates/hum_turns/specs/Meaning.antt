@@ -1,11 +1,11 @@
 -- What a plan means, with no word of turns: each stage over the whole meanings of its sources.
 use Rattle.std.specs.Prelude.{◌≡◌, ℕ, zero, suc, ◌+◌, ◌<◌, if◌then◌else◌, nat_eq}
-use Rattle.std.specs.Prelude.{List, [], map, Option, Some, slice_get}
+use Rattle.std.specs.Prelude.{[], map, Some, slice_get}
 use Rattle.hum_stage.specs.declared.faults.End.{End}
 use Rattle.hum_stage.specs.declared.faults.End.TheVariants.{Closed, Broken}
 use Rattle.hum_stage.specs.declared.faults.Fault.{Fault}
 use Rattle.hum_turns.specs.Flow.{Flow, so_far}
-use Rattle.hum_turns.specs.Plan.{Stage, Plan, IsPlan, last, or_own, whole}
+use Rattle.hum_turns.specs.Plan.{Plan, IsPlan, last, or_own, whole}
 
 -- The meanings of the stages below n.
 abbrev pub meanings : {R : Type 0} → Plan R → ℕ → ℕ → Flow R

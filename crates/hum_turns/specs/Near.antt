@@ -1,7 +1,7 @@
 -- Which links an actor looks at, and that a turn leaves all others as they are.
-use Rattle.std.specs.Prelude.{◌≡◌, ◌⊎◌, ℕ, ◌<◌, ◌≤◌, List, Option, Some, slice_get}
-use Rattle.hum_turns.specs.Plan.{Stage, Plan, IsPlan, last}
-use Rattle.hum_turns.specs.Links.{Link, Moment}
+use Rattle.std.specs.Prelude.{◌≡◌, ◌⊎◌, ℕ, ◌<◌, ◌≤◌, List, Some, slice_get}
+use Rattle.hum_turns.specs.Plan.{Plan, IsPlan, last}
+use Rattle.hum_turns.specs.Links.{Moment}
 use Rattle.hum_turns.specs.Turns.{ready, Step}
 
 abbrev pub IsOneOf : List ℕ → ℕ → Type 0
@@ -18,11 +18,11 @@ abbrev pub AreApart : {R : Type 0} → Plan R → ℕ → ℕ → Type 0
 AreApart plan k j = (i : ℕ) → LooksAt plan k i → LooksAt plan j i → ⊥
 
 pub record LeavesAlone {R : Type 0} (plan : Plan R) (size k : ℕ) (old new : Moment R) : Type 0
-    where
-  -- a turn changes no link but those that its actor looks at
-  pub links : (i : ℕ) → (LooksAt plan k i → ⊥) → new i ≡ old i
-  -- so who looks at none of these is as ready as before
-  pub ready : (j : ℕ) → AreApart plan k j → ready plan size new j ≡ ready plan size old j
+  where
+    -- a turn changes no link but those that its actor looks at
+    pub links : (i : ℕ) → (LooksAt plan k i → ⊥) → new i ≡ old i
+    -- so who looks at none of these is as ready as before
+    pub ready : (j : ℕ) → AreApart plan k j → ready plan size new j ≡ ready plan size old j
 
 -- Every turn of every actor.
 abbrev pub EveryTurnIsNear : Type 0 → Type 0

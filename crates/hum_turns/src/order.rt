@@ -4,8 +4,8 @@ ghost use Rattle.hum_turns.specs.Orders.{first_true, last_true, some_true, chose
 
 /// A rule for whose turn is next, which may remember what it has seen.
 ///
-/// What it picks and what it is afterwards are functions of what it was before and of which actors
-/// are ready. A pick that isn't ready counts as the leftmost actor that is ([`choose`]).
+/// What it picks and what it is afterwards are functions of what it was before and of which
+/// actors are ready. A pick that isn't ready counts as the leftmost actor that is ([`choose`]).
 pub trait Order {
     /// The place that it picks.
     ghost picks: { Self → List Bool → ℕ };
@@ -20,8 +20,8 @@ pub trait Order {
         ensures after { self.new ≡ after self.old ready.now };
 }
 
-/// What a pick counts as: itself, or the leftmost actor that is ready. Where none is, it is the number
-/// of actors.
+/// What a pick counts as: itself, or the leftmost actor that is ready. Where none is, it is the
+/// number of actors.
 pub fn choose(ready: &[bool], pick: usize) -> usize
     ensures chosen { result ≡ chosen ready.now pick }
     ensures is_ready { some_true ready.now ≡ true → get_or ready.now result false ≡ true }

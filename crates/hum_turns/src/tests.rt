@@ -11,7 +11,10 @@ fn a_run_ends_by_what_the_sink_has_heard(rt: HostRuntime) {
         rule: Rule::K1,
     };
     assert_eq!(rt; RunResult::from_end(End::Closed), RunResult::Finished);
-    assert_eq!(rt; RunResult::from_end(End::Broken(fault)), RunResult::Fault(fault));
+    assert_eq!(rt;
+        RunResult::from_end(End::Broken(fault)),
+        RunResult::Fault(fault)
+    );
 }
 
 #[test]

@@ -1,4 +1,4 @@
-use Rattle.std.proofs.Common.{◌≡◌, sym, ◌∙◌, arith}
+use Rattle.std.proofs.Common.{sym, ◌∙◌, arith}
 use Rattle.hum_turns.proofs.Places.{last_at, last_below}
 use Rattle.hum_turns.proofs.order.RightmostOrder.pick.Goals as goal
 
@@ -6,7 +6,7 @@ pub returns-then-ready-end-clause-picks : goal.returns-then-ready-end-clause-pic
 returns-then-ready-end-clause-picks c =
     let loop = c.loop-end in
     sym (loop.invariant.rest
-      ∙ last_at c.args.ready.now loop.end (omega arith) loop.invariant.within c.if-ready-end.true)
+    ∙ last_at c.args.ready.now loop.end (omega arith) loop.invariant.within c.if-ready-end.true)
 
 pub loop-end-preserved : goal.loop-end-preserved
 loop-end-preserved c =
@@ -15,5 +15,5 @@ loop-end-preserved c =
     record {
       within = omega arith;
       rest = loop.invariant.rest
-        ∙ last_below c.args.ready.now loop.end (omega arith) within c.if-ready-end.false;
+          ∙ last_below c.args.ready.now loop.end (omega arith) within c.if-ready-end.false;
     }
