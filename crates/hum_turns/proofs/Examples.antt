@@ -1,6 +1,6 @@
 -- A worked plan: a source of three numbers, each read by one byte, and a stage that gives each number
 -- twice, over links of one record.
-use Rattle.std.proofs.Common.{◌≡◌, ◌≢◌, ℕ, zero, suc, ◌<◌, ◌≤◌, Bool, true, false}
+use Rattle.std.proofs.Common.{◌≡◌, ◌≢◌, ℕ, zero, suc, ◌+◌, ◌<◌, ◌≤◌, Bool, true, false}
 use Rattle.std.proofs.Common.{if◌then◌else◌, nat_lt, List, [], ◌∷◌, ◌++◌, length, take}
 use Rattle.std.proofs.Common.{Option, Some, None, refl, sym, ap, ◌∙◌, subst, arith}
 use Rattle.std.proofs.Common.{ltb-true, ltb-false}
@@ -14,12 +14,15 @@ use Rattle.hum_stage.specs.declared.faults.End.TheVariants.{Closed, Broken}
 use Rattle.hum_turns.specs.Flow.{Flow, Begins, IsOver, AllLater, AllOver}
 use Rattle.hum_turns.specs.Plan.{Want, Bytes, Source, Nothing, Stage, lower}
 use Rattle.hum_turns.specs.Plan.{IsOpenAt, IsLawful, Plan, IsPlan}
+use Rattle.hum_turns.specs.Meaning.{own_of, IsRead, IsNumbered}
 use Rattle.hum_turns.specs.Meaning.{meaning, plan_meaning, first_fault}
 use Rattle.hum_turns.specs.Links.{Link, Moment, fresh}
 use Rattle.hum_turns.specs.Turns.{Takes, Ends, state}
 use Rattle.hum_turns.specs.Turns.{Step}
 use Rattle.hum_turns.specs.Counts.{most, most_in_all, all_done, bound}
 use Rattle.hum_turns.specs.Text.{text}
+use Rattle.hum_turns.specs.declared.result.RunResult.TheVariants as ends
+use Rattle.hum_turns.specs.Failures.{result, written}
 use Rattle.hum_turns.specs.Failures.{Now}
 use Rattle.hum_turns.specs.Orders.{first_true, last_true, chosen, ready_list}
 
@@ -211,6 +214,13 @@ refusing (suc (suc k)) = refuses (doubled 1) (fault 3 1)
 abbrev faulty : Plan ℕ
 faulty = record { count = 3; stage = refusing; fine = λ flow. true }
 
+same_stage : (number line : ℕ) (f : Fault) → Broken (fault number line) ≡ Broken f
+    → f.stage ≡ number
+same_stage number line f h = sym (ap (λ (x : Fault). x.stage) (same_fault h))
+  where
+    same_fault : {x y : Fault} → Broken x ≡ Broken y → x ≡ y
+    same_fault h = cc
+
 lowest_told : (plan_meaning faulty).end ≡ Some (Broken (fault 1 900))
 lowest_told = refl
 
@@ -225,6 +235,59 @@ lowest_input = refl
 
 written_text : text (λ (x : ℕ). x ∷ []) (65 ∷ 66 ∷ []) ≡ 65 ∷ 10 ∷ 66 ∷ 10 ∷ []
 written_text = refl
+
+-- How a run ends: by the mark that the sink has heard, or by a failure, with what was written then.
+
+abbrev bytes : ℕ → List ℕ
+bytes x = x ∷ []
+
+heard_end : result worked (moment source_over (record source_over { taken = 1 ∷ [] }))
+    ≡ Some ends.Finished
+heard_end = refl
+
+abbrev failed : Now ℕ
+failed = record (moment fresh (link 0 (65 ∷ 66 ∷ []) (67 ∷ []))) {
+  part = 67 ∷ [];
+  failure = Some ends.Write;
+}
+
+failed_end : result worked failed ≡ Some ends.Write
+failed_end = refl
+
+failed_text : written worked bytes failed ≡ 65 ∷ 10 ∷ 66 ∷ 10 ∷ 67 ∷ []
+failed_text = refl
+
+none_ready : ready_list worked 1 failed ≡ false ∷ false ∷ false ∷ []
+none_ready = refl
+
+-- the plan whose stages refuse is numbered as the theorem asks
+is_numbered : IsNumbered faulty
+is_numbered = record { number = number; read = read }
+  where
+    number : (k : ℕ) (f : Fault) → k < 3 → own_of faulty k ≡ Broken f → f.stage ≡ k + 1
+    number zero f less h = same_stage 1 900 f h
+    number (suc zero) f less h = absurd (closed f h)
+      where
+        closed : (f : Fault) → Closed ≡ Broken f → ⊥
+        closed f h = cc
+    number (suc (suc zero)) f less h = same_stage 3 1 f h
+    number (suc (suc (suc k))) f less h = absurd (omega arith)
+    read : (k : ℕ) → k + 1 < 3 → IsRead faulty k
+    read zero less = record {
+      reader = 1;
+      place = 0;
+      later = omega arith;
+      within = omega arith;
+      is_there = refl;
+    }
+    read (suc zero) less = record {
+      reader = 2;
+      place = 0;
+      later = omega arith;
+      within = omega arith;
+      is_there = refl;
+    }
+    read (suc (suc k)) less = absurd (omega arith)
 
 -- What is asked of stages and plans can be met.
 

@@ -97,7 +97,8 @@ module _ {R : Type 0} (plan : Plan R) (size : ℕ) (ok : IsPlan plan) where
       ∙ fine (subst (λ j. j + 1 < plan.count) here lesss)))
       (λ there. ap (λ v. plan.fine (view v)) (d.elsewhere s there) ∙ fine_each old s inv lesss)
       (cases_eq s k) in
-      let on : (j : ℕ) → j < plan.count → Onward plan.fine (plan.stage j) (inputs plan old j) (inputs plan new j)
+      let on : (j : ℕ) → j < plan.count
+      → Onward plan.fine (plan.stage j) (inputs plan old j) (inputs plan new j)
       = λ j lessj. record {
         before = fine_inputs old j inv lessj;
         after = are_inputs new each j lessj;

@@ -17,12 +17,12 @@ LooksAt plan k i =
 abbrev pub AreApart : {R : Type 0} → Plan R → ℕ → ℕ → Type 0
 AreApart plan k j = (i : ℕ) → LooksAt plan k i → LooksAt plan j i → ⊥
 
-pub record LeavesAlone {R : Type 0} (plan : Plan R) (size k : ℕ) (old new : Moment R) : Type 0
-  where
-    -- a turn changes no link but those that its actor looks at
-    pub links : (i : ℕ) → (LooksAt plan k i → ⊥) → new i ≡ old i
-    -- so who looks at none of these is as ready as before
-    pub ready : (j : ℕ) → AreApart plan k j → ready plan size new j ≡ ready plan size old j
+-- A turn changes no link but those that its actor looks at, so who looks at none of these is as
+-- ready as before.
+pub record LeavesAlone {R : Type 0} (plan : Plan R) (size k : ℕ) (old new : Moment R)
+    : Type 0 where
+  pub links : (i : ℕ) → (LooksAt plan k i → ⊥) → new i ≡ old i
+  pub ready : (j : ℕ) → AreApart plan k j → ready plan size new j ≡ ready plan size old j
 
 -- Every turn of every actor.
 abbrev pub EveryTurnIsNear : Type 0 → Type 0
