@@ -1,25 +1,18 @@
 -- What is given is a front of the meaning, and at the end all of it.
-use Rattle.std.proofs.Common.{◌≡◌, ℕ, zero, suc, ◌+◌, ◌<◌, ◌≤◌}
-use Rattle.std.proofs.Common.{Bool, true, if◌then◌else◌, nat_lt}
-use Rattle.std.proofs.Common.{List, [], ◌++◌, map, length}
-use Rattle.std.proofs.Common.{Option, Some}
-use Rattle.std.proofs.Common.{refl, sym, ap, ◌∙◌, subst, ⊎_elim, arith}
-use Rattle.std.proofs.Common.{append-nil}
-use Rattle.std.proofs.Common.{eq-eqb, ne_eqb}
-use Rattle.std.proofs.lemmas.Bool.{cases_eq}
-use Rattle.std.proofs.lemmas.Bool.{cond-true, cond-false}
+use Rattle.std.proofs.Common.{◌≡◌, ℕ, zero, suc, ◌+◌, ◌<◌, ◌≤◌, Bool, true, if◌then◌else◌, nat_lt}
+use Rattle.std.proofs.Common.{List, [], ◌++◌, map, length, Option, Some, refl, sym, ap, ◌∙◌, subst}
+use Rattle.std.proofs.Common.{⊎_elim, arith, append-nil, eq-eqb, ne_eqb}
+use Rattle.std.proofs.lemmas.Bool.{cases_eq, cond-true, cond-false}
 use Rattle.std.proofs.lemmas.List.{length-map}
 use Rattle.hum_stage.specs.declared.faults.End.{End}
 use Rattle.hum_turns.specs.Flow.{Flow, Begins, IsOver, Later}
-use Rattle.hum_turns.specs.Plan.{Want, Stage, inputs_end, or_own, end_of}
-use Rattle.hum_turns.specs.Plan.{AreInputs, Onward}
-use Rattle.hum_turns.specs.Plan.{whole, IsLawful, Plan, last, IsPlan}
+use Rattle.hum_turns.specs.Plan.{Want, Stage, inputs_end, or_own, end_of, AreInputs, Onward, whole}
+use Rattle.hum_turns.specs.Plan.{IsLawful, Plan, last, IsPlan}
 use Rattle.hum_turns.specs.Meaning.{meanings, meaning, plan_meaning}
-use Rattle.hum_turns.specs.Links.{Link, given, view, Moment}
-use Rattle.hum_turns.specs.Links.{inputs, is_over, Agrees}
+use Rattle.hum_turns.specs.Links.{Link, given, view, Moment, inputs, is_over, Agrees}
 use Rattle.hum_turns.specs.Turns.{State, Gives, by_want, stage_state}
-use Rattle.hum_turns.proofs.Fronts.{begins_trans, begins_append, begins_all, same_over}
-use Rattle.hum_turns.proofs.Fronts.{map_same, later_map, fine_map, over_map, is_set}
+use Rattle.hum_turns.proofs.Fronts.{begins_trans, begins_append, begins_all, same_over, map_same}
+use Rattle.hum_turns.proofs.Fronts.{later_map, fine_map, over_map, is_set}
 use Rattle.hum_turns.proofs.Good.{GoodAt, at_end, grown}
 use Rattle.hum_turns.proofs.States.{last_less}
 use Rattle.hum_turns.proofs.Keeping.{Inv, fine_inputs}

@@ -1,24 +1,19 @@
 -- How much each turn moves, and so how many turns there can be.
-use Rattle.std.proofs.Common.{◌≡◌, ℕ, zero, suc, pred, ◌+◌, ◌<◌, ◌≤◌, min}
-use Rattle.std.proofs.Common.{true, false, ◌||◌, if◌then◌else◌, nat_lt}
-use Rattle.std.proofs.Common.{List, [], ◌∷◌, ◌++◌, length, slice_get}
-use Rattle.std.proofs.Common.{Option, Some, None, is_some, is_none}
-use Rattle.std.proofs.Common.{refl, sym, ap, ◌∙◌, subst, ⊎_elim, arith}
-use Rattle.std.proofs.Common.{length-append}
-use Rattle.std.proofs.Common.{le-ltb, lt-ltb, eq-eqb, ne_eqb}
+use Rattle.std.proofs.Common.{◌≡◌, ℕ, zero, suc, pred, ◌+◌, ◌<◌, ◌≤◌, min, true, false, ◌||◌}
+use Rattle.std.proofs.Common.{if◌then◌else◌, nat_lt, List, [], ◌∷◌, ◌++◌, length, slice_get, Option}
+use Rattle.std.proofs.Common.{Some, None, is_some, is_none, refl, sym, ap, ◌∙◌, subst, ⊎_elim}
+use Rattle.std.proofs.Common.{arith, length-append, le-ltb, lt-ltb, eq-eqb, ne_eqb}
 use Rattle.std.proofs.lemmas.Bool.{true≢false, false≢true, cases_eq, cases_lt, cases_Bool}
 use Rattle.std.proofs.lemmas.Bool.{and_parts, and_from, and_left, cond-true, cond-false}
 use Rattle.std.proofs.lemmas.Option.{none-some, same_Some}
 use Rattle.std.specs.List.{AllByRecursion}
 use Rattle.hum_turns.specs.Plan.{Plan, last, IsPlan}
 use Rattle.hum_turns.specs.Meaning.{meaning}
-use Rattle.hum_turns.specs.Links.{Link, given, has_some, Moment, IsOpening}
-use Rattle.hum_turns.specs.Links.{Same}
-use Rattle.hum_turns.specs.Turns.{State, Gives, Reads, Takes, Ends, state}
-use Rattle.hum_turns.specs.Turns.{is_source, ready, Becomes, popped, marked, Does}
-use Rattle.hum_turns.specs.Turns.{Turns, Step, Run}
-use Rattle.hum_turns.specs.Counts.{turns_of, bytes_read, put, most_of_source, most_of_stage, most_of_sink}
-use Rattle.hum_turns.specs.Counts.{most, total, most_in_all, all_done, bound}
+use Rattle.hum_turns.specs.Links.{Link, given, has_some, Moment, IsOpening, Same}
+use Rattle.hum_turns.specs.Turns.{State, Gives, Reads, Takes, Ends, state, is_source, ready}
+use Rattle.hum_turns.specs.Turns.{Becomes, popped, marked, Does, Turns, Step, Run}
+use Rattle.hum_turns.specs.Counts.{turns_of, bytes_read, put, most_of_source, most_of_stage}
+use Rattle.hum_turns.specs.Counts.{most_of_sink, most, total, most_in_all, all_done, bound}
 use Rattle.std.proofs.Math.Nat.{min-le_left, min-le_right, le-min}
 use Rattle.hum_turns.proofs.Fronts.{begins_shorter}
 use Rattle.hum_turns.proofs.States.{Taker, Allowed, last_less, taker, gives_less, ends_less}

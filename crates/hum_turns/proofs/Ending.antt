@@ -1,20 +1,16 @@
 -- How runs end.
-use Rattle.std.proofs.Common.{◌≡◌, ℕ, zero, suc, ◌+◌, ◌<◌, ◌⊎◌, inl, inr}
-use Rattle.std.proofs.Common.{false}
-use Rattle.std.proofs.Common.{List, [], ◌∷◌, ◌++◌, length}
-use Rattle.std.proofs.Common.{Option, Some, None, is_some}
-use Rattle.std.proofs.Common.{refl, sym, ap, ◌∙◌, subst, ⊎_elim, arith}
-use Rattle.std.proofs.Common.{length-append}
-use Rattle.std.proofs.lemmas.Bool.{true≢false, cases_Bool}
-use Rattle.std.proofs.lemmas.Bool.{and_parts}
+use Rattle.std.proofs.Common.{◌≡◌, ℕ, zero, suc, ◌+◌, ◌<◌, ◌⊎◌, inl, inr, false, List, [], ◌∷◌}
+use Rattle.std.proofs.Common.{◌++◌, length, Option, Some, None, is_some, refl, sym, ap, ◌∙◌, subst}
+use Rattle.std.proofs.Common.{⊎_elim, arith, length-append}
+use Rattle.std.proofs.lemmas.Bool.{true≢false, cases_Bool, and_parts}
 use Rattle.std.proofs.lemmas.Option.{none-some, same_Some}
 use Rattle.hum_stage.specs.declared.faults.End.{End}
 use Rattle.hum_turns.specs.Plan.{Plan, last, IsPlan}
 use Rattle.hum_turns.specs.Meaning.{first_fault, IsNumbered}
 use Rattle.hum_turns.specs.Links.{is_over}
 use Rattle.hum_turns.specs.declared.result.RunResult.{RunResult}
-use Rattle.hum_turns.specs.Failures.{Now, result_of, IsFailure, ended_by, result}
-use Rattle.hum_turns.specs.Failures.{Turn, IsFirst, HoldsNow}
+use Rattle.hum_turns.specs.Failures.{Now, result_of, IsFailure, ended_by, result, Turn, IsFirst}
+use Rattle.hum_turns.specs.Failures.{HoldsNow}
 use Rattle.hum_turns.specs.Counts.{bound}
 use Rattle.hum_turns.specs.Orders.{Order, ready_list, choice, Driven}
 use Rattle.hum_turns.specs.Ends.{EndsAsMeant, EveryEnd, LeadsToEnd, EveryOrderEnds}

@@ -1,7 +1,5 @@
 -- What holds at each moment that a run reaches.
-use Rattle.std.proofs.Common.{◌≡◌, ℕ, ◌+◌, ◌-◌, ◌≤◌}
-use Rattle.std.proofs.Common.{List, length}
-use Rattle.std.proofs.Common.{sym, ap, ◌∙◌, subst, arith}
+use Rattle.std.proofs.Common.{◌≡◌, ℕ, ◌+◌, ◌-◌, ◌≤◌, List, length, sym, ap, ◌∙◌, subst, arith}
 use Rattle.std.proofs.Common.{length-append}
 use Rattle.hum_turns.specs.Plan.{Plan, IsPlan}
 use Rattle.hum_turns.specs.Links.{Link, linked, Moment, IsOpening}

@@ -1,9 +1,8 @@
 -- A worked plan: a source of three numbers, each read by one byte, and a stage that gives each number
 -- twice, over links of one record.
 use Rattle.std.proofs.Common.{◌≡◌, ◌≢◌, ℕ, zero, suc, ◌+◌, ◌<◌, ◌≤◌, Bool, true, false}
-use Rattle.std.proofs.Common.{if◌then◌else◌, nat_lt, List, [], ◌∷◌, ◌++◌, length, take}
-use Rattle.std.proofs.Common.{Option, Some, None, refl, sym, ap, ◌∙◌, subst, arith}
-use Rattle.std.proofs.Common.{ltb-true, ltb-false}
+use Rattle.std.proofs.Common.{if◌then◌else◌, nat_lt, List, [], ◌∷◌, ◌++◌, length, take, Option}
+use Rattle.std.proofs.Common.{Some, None, refl, sym, ap, ◌∙◌, subst, arith, ltb-true, ltb-false}
 use Rattle.std.proofs.lemmas.List.{take_all}
 use Rattle.std.specs.List.{AllByRecursion}
 use Rattle.hum_stage.specs.declared.faults.Command.TheVariants.{Rid}
@@ -12,18 +11,15 @@ use Rattle.hum_stage.specs.declared.faults.Fault.{Fault}
 use Rattle.hum_stage.specs.declared.faults.End.{End}
 use Rattle.hum_stage.specs.declared.faults.End.TheVariants.{Closed, Broken}
 use Rattle.hum_turns.specs.Flow.{Flow, Begins, IsOver, AllLater, AllOver}
-use Rattle.hum_turns.specs.Plan.{Want, Bytes, Source, Nothing, Stage, lower}
-use Rattle.hum_turns.specs.Plan.{IsOpenAt, IsLawful, Plan, IsPlan}
-use Rattle.hum_turns.specs.Meaning.{own_of, IsRead, IsNumbered}
-use Rattle.hum_turns.specs.Meaning.{meaning, plan_meaning, first_fault}
+use Rattle.hum_turns.specs.Plan.{Want, Bytes, Source, Nothing, Stage, lower, IsOpenAt, IsLawful}
+use Rattle.hum_turns.specs.Plan.{Plan, IsPlan}
+use Rattle.hum_turns.specs.Meaning.{own_of, IsRead, IsNumbered, meaning, plan_meaning, first_fault}
 use Rattle.hum_turns.specs.Links.{Link, Moment, fresh}
-use Rattle.hum_turns.specs.Turns.{Takes, Ends, state}
-use Rattle.hum_turns.specs.Turns.{Step}
+use Rattle.hum_turns.specs.Turns.{Takes, Ends, state, Step}
 use Rattle.hum_turns.specs.Counts.{most, most_in_all, all_done, bound}
 use Rattle.hum_turns.specs.Text.{text}
 use Rattle.hum_turns.specs.declared.result.RunResult.TheVariants as ends
-use Rattle.hum_turns.specs.Failures.{result, written}
-use Rattle.hum_turns.specs.Failures.{Now}
+use Rattle.hum_turns.specs.Failures.{result, written, Now}
 use Rattle.hum_turns.specs.Orders.{first_true, last_true, chosen, ready_list}
 
 -- The stages.
@@ -272,6 +268,7 @@ is_numbered = record { number = number; read = read }
         closed f h = cc
     number (suc (suc zero)) f less h = same_stage 3 1 f h
     number (suc (suc (suc k))) f less h = absurd (omega arith)
+
     read : (k : ℕ) → k + 1 < 3 → IsRead faulty k
     read zero less = record {
       reader = 1;

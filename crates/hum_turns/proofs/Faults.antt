@@ -1,22 +1,17 @@
 -- Whose fault is told.
-use Rattle.std.proofs.Common.{◌≡◌, ℕ, zero, suc, pred, ◌+◌, ◌<◌, ◌≤◌, ◌⊎◌, inl, inr}
-use Rattle.std.proofs.Common.{Bool, true, false, nat_lt}
-use Rattle.std.proofs.Common.{List, [], ◌∷◌, map, slice_get}
-use Rattle.std.proofs.Common.{Some, unwrap_or}
-use Rattle.std.proofs.Common.{refl, sym, ap, ◌∙◌, subst, ⊎_elim, arith}
-use Rattle.std.proofs.Common.{le-ltb, lt-ltb}
-use Rattle.std.proofs.lemmas.Bool.{true≢false, cases_eq, cases_lt, cases_Bool}
-use Rattle.std.proofs.lemmas.Bool.{cond-true, cond-false}
+use Rattle.std.proofs.Common.{◌≡◌, ℕ, zero, suc, pred, ◌+◌, ◌<◌, ◌≤◌, ◌⊎◌, inl, inr, Bool, true}
+use Rattle.std.proofs.Common.{false, nat_lt, List, [], ◌∷◌, map, slice_get, Some, unwrap_or, refl}
+use Rattle.std.proofs.Common.{sym, ap, ◌∙◌, subst, ⊎_elim, arith, le-ltb, lt-ltb}
+use Rattle.std.proofs.lemmas.Bool.{true≢false, cases_eq, cases_lt, cases_Bool, cond-true}
+use Rattle.std.proofs.lemmas.Bool.{cond-false}
 use Rattle.std.proofs.lemmas.Option.{none-some, same_Some}
 use Rattle.std.specs.List.{AllByRecursion}
 use Rattle.hum_stage.specs.declared.faults.End.{End}
 use Rattle.hum_stage.specs.declared.faults.End.TheVariants.{Closed, Broken}
 use Rattle.hum_turns.specs.Flow.{Flow}
-use Rattle.hum_turns.specs.Plan.{lower, inputs_end, or_own}
-use Rattle.hum_turns.specs.Plan.{Plan, last, IsPlan}
-use Rattle.hum_turns.specs.Meaning.{meaning, own_of, first_fault, IsNumbered}
+use Rattle.hum_turns.specs.Plan.{lower, inputs_end, or_own, Plan, last, IsPlan}
+use Rattle.hum_turns.specs.Meaning.{meaning, own_of, first_fault, IsNumbered, WhoseFault}
 use Rattle.hum_stage.specs.declared.faults.Fault.{Fault}
-use Rattle.hum_turns.specs.Meaning.{WhoseFault}
 use Rattle.hum_turns.proofs.States.{last_less}
 use Rattle.hum_turns.proofs.Against.{finals, meaning_is}
 

@@ -1,24 +1,19 @@
 -- One link: what holds of it, and what keeps that.
-use Rattle.std.proofs.Common.{◌≡◌, ℕ, ◌<◌, ◌≤◌}
-use Rattle.std.proofs.Common.{Bool, true, false, if◌then◌else◌, nat_lt}
-use Rattle.std.proofs.Common.{List, [], ◌∷◌, ◌++◌, length, slice_get}
-use Rattle.std.proofs.Common.{Option, Some, None, is_none}
-use Rattle.std.proofs.Common.{refl, sym, ap, ◌∙◌, subst, arith}
-use Rattle.std.proofs.Common.{append_assoc, append-nil, length-append}
+use Rattle.std.proofs.Common.{◌≡◌, ℕ, ◌<◌, ◌≤◌, Bool, true, false, if◌then◌else◌, nat_lt, List, []}
+use Rattle.std.proofs.Common.{◌∷◌, ◌++◌, length, slice_get, Option, Some, None, is_none, refl, sym}
+use Rattle.std.proofs.Common.{ap, ◌∙◌, subst, arith, append_assoc, append-nil, length-append}
 use Rattle.std.proofs.Common.{ltb-true, ltb-false}
-use Rattle.std.proofs.lemmas.Bool.{false≢true}
-use Rattle.std.proofs.lemmas.Bool.{and_parts}
+use Rattle.std.proofs.lemmas.Bool.{false≢true, and_parts}
 use Rattle.std.proofs.lemmas.Option.{same_Some, slice_get_within}
 use Rattle.hum_stage.specs.declared.faults.End.{End}
 use Rattle.hum_turns.specs.Flow.{Flow, Begins, Later}
 use Rattle.hum_turns.specs.Plan.{Want, Bytes, Source, Nothing, Stage, inputs_end, or_own, end_of}
-use Rattle.hum_turns.specs.Plan.{AreInputs, Onward}
-use Rattle.hum_turns.specs.Plan.{IsAtRest, IsLawful, KeepsFine}
+use Rattle.hum_turns.specs.Plan.{AreInputs, Onward, IsAtRest, IsLawful, KeepsFine}
 use Rattle.hum_turns.specs.Links.{Link, given, view, has_room, has_some}
-use Rattle.hum_turns.specs.Turns.{State, Gives, Reads, Takes, Ends, by_want, stage_state}
-use Rattle.hum_turns.specs.Turns.{pushed, popped}
-use Rattle.hum_turns.proofs.Fronts.{begins_refl, begins_trans, begins_append, begins_next, begins_all}
-use Rattle.hum_turns.proofs.Fronts.{all_same, same_over, has_none}
+use Rattle.hum_turns.specs.Turns.{State, Gives, Reads, Takes, Ends, by_want, stage_state, pushed}
+use Rattle.hum_turns.specs.Turns.{popped}
+use Rattle.hum_turns.proofs.Fronts.{begins_refl, begins_trans, begins_append, begins_next}
+use Rattle.hum_turns.proofs.Fronts.{begins_all, all_same, same_over, has_none}
 
 -- How the link of a stage stands to what the stage has had: what was given is a front of what is
 -- settled, the end is set only where nothing is left to give, and heard only where none waits.

@@ -1,25 +1,19 @@
 -- What holds of all links at once, and that each turn keeps it.
-use Rattle.std.proofs.Common.{◌≡◌, ℕ, zero, suc, ◌+◌, ◌<◌}
-use Rattle.std.proofs.Common.{true}
-use Rattle.std.proofs.Common.{List, [], ◌∷◌}
-use Rattle.std.proofs.Common.{is_none}
-use Rattle.std.proofs.Common.{refl, sym, ap, ◌∙◌, subst, ⊎_elim, arith}
-use Rattle.std.proofs.lemmas.Bool.{cases_eq}
-use Rattle.std.proofs.lemmas.Bool.{and_parts}
+use Rattle.std.proofs.Common.{◌≡◌, ℕ, zero, suc, ◌+◌, ◌<◌, true, List, [], ◌∷◌, is_none, refl, sym}
+use Rattle.std.proofs.Common.{ap, ◌∙◌, subst, ⊎_elim, arith}
+use Rattle.std.proofs.lemmas.Bool.{cases_eq, and_parts}
 use Rattle.std.proofs.lemmas.Option.{none-some}
 use Rattle.std.proofs.lemmas.List.{length-map}
 use Rattle.hum_turns.specs.Flow.{Flow, Later}
-use Rattle.hum_turns.specs.Plan.{AreInputs, Onward}
-use Rattle.hum_turns.specs.Plan.{Plan, IsPlan}
-use Rattle.hum_turns.specs.Links.{Link, view, Moment, IsOpening}
-use Rattle.hum_turns.specs.Links.{Same, inputs}
-use Rattle.hum_turns.specs.Turns.{State, Gives, Reads, Takes, Ends, stage_state, state}
-use Rattle.hum_turns.specs.Turns.{ready, Becomes, Does}
-use Rattle.hum_turns.specs.Turns.{HasRead, Turns, Step, Run}
+use Rattle.hum_turns.specs.Plan.{AreInputs, Onward, Plan, IsPlan}
+use Rattle.hum_turns.specs.Links.{Link, view, Moment, IsOpening, Same, inputs}
+use Rattle.hum_turns.specs.Turns.{State, Gives, Reads, Takes, Ends, stage_state, state, ready}
+use Rattle.hum_turns.specs.Turns.{Becomes, Does, HasRead, Turns, Step, Run}
 use Rattle.hum_turns.proofs.Fronts.{later_refl, later_each, fine_map}
 use Rattle.hum_turns.proofs.Good.{GoodAt, kept_good, gives_good, takes_good, ends_good, reads_good}
 use Rattle.hum_turns.proofs.Good.{later_taken, fine_view, fine_popped}
-use Rattle.hum_turns.proofs.States.{Allowed, state_is, source_ready, ready_allows, reads_source, read_allowed}
+use Rattle.hum_turns.proofs.States.{Allowed, state_is, source_ready, ready_allows, reads_source}
+use Rattle.hum_turns.proofs.States.{read_allowed}
 
 -- Each stage's link is good for what the stage has had of its sources.
 abbrev pub Inv : {R : Type 0} → Plan R → ℕ → Moment R → Type 0

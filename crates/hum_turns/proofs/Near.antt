@@ -1,23 +1,18 @@
 -- What is near a turn, and what code that makes a turn has to show.
-use Rattle.std.proofs.Common.{◌≡◌, ℕ, zero, suc, ◌<◌, ◌≤◌, inl, inr}
-use Rattle.std.proofs.Common.{true, ◌&&◌}
-use Rattle.std.proofs.Common.{List, [], ◌∷◌, ◌++◌, map, slice_get, slice_index}
-use Rattle.std.proofs.Common.{Some, is_none}
-use Rattle.std.proofs.Common.{refl, sym, ap, ◌∙◌, subst, ⊎_elim, arith}
-use Rattle.std.proofs.Common.{le-ltb, lt-ltb}
-use Rattle.std.proofs.lemmas.Bool.{cases_eq, cases_lt, cases_Bool}
-use Rattle.std.proofs.lemmas.Bool.{and_from, and_left, cond-true, cond-false}
+use Rattle.std.proofs.Common.{◌≡◌, ℕ, zero, suc, ◌<◌, ◌≤◌, inl, inr, true, ◌&&◌, List, [], ◌∷◌}
+use Rattle.std.proofs.Common.{◌++◌, map, slice_get, slice_index, Some, is_none, refl, sym, ap, ◌∙◌}
+use Rattle.std.proofs.Common.{subst, ⊎_elim, arith, le-ltb, lt-ltb}
+use Rattle.std.proofs.lemmas.Bool.{cases_eq, cases_lt, cases_Bool, and_from, and_left, cond-true}
+use Rattle.std.proofs.lemmas.Bool.{cond-false}
 use Rattle.std.proofs.lemmas.Option.{none-some, same_Some}
 use Rattle.hum_turns.specs.Plan.{Plan, last, IsPlan}
-use Rattle.hum_turns.specs.Links.{Link, view, has_room, has_some, Moment}
-use Rattle.hum_turns.specs.Links.{inputs}
+use Rattle.hum_turns.specs.Links.{Link, view, has_room, has_some, Moment, inputs}
 use Rattle.hum_turns.specs.Turns.{State, Gives, Reads, Takes, Ends, stage_state, state, can}
-use Rattle.hum_turns.specs.Turns.{is_source, ready, Becomes, Does}
-use Rattle.hum_turns.specs.Turns.{HasRead, Turns, Step, Run}
+use Rattle.hum_turns.specs.Turns.{is_source, ready, Becomes, Does, HasRead, Turns, Step, Run}
 use Rattle.hum_turns.specs.Near.{IsOneOf, LooksAt, EveryTurnIsNear}
-use Rattle.hum_turns.proofs.States.{state_is, sink_state, gives_less, reads_less, ends_less}
+use Rattle.hum_turns.proofs.States.{state_is, sink_state, gives_less, reads_less, ends_less, wanted}
+use Rattle.hum_turns.proofs.States.{last_next, taker, source_less}
 use Rattle.std.proofs.Math.Path.{fun_ext}
-use Rattle.hum_turns.proofs.States.{wanted, last_next, taker, source_less}
 
 -- What an actor doesn't look at it leaves alone.
 

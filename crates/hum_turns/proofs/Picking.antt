@@ -1,20 +1,16 @@
 -- Turns by the picks of an order.
-use Rattle.std.proofs.Common.{◌≡◌, ℕ, zero, suc, ◌+◌, ◌-◌, ◌<◌, ◌≤◌}
-use Rattle.std.proofs.Common.{Bool, true, false}
-use Rattle.std.proofs.Common.{List, [], ◌∷◌, ◌++◌, map, length, get_or}
-use Rattle.std.proofs.Common.{Option, Some, None, is_some, is_none}
-use Rattle.std.proofs.Common.{refl, sym, ap, ◌∙◌, subst, ⊎_elim, arith}
-use Rattle.std.proofs.Common.{length-append}
-use Rattle.std.proofs.lemmas.Bool.{false≢true, cases_lt, cases_Bool}
-use Rattle.std.proofs.lemmas.Bool.{and_from, cond-true, cond-false}
+use Rattle.std.proofs.Common.{◌≡◌, ℕ, zero, suc, ◌+◌, ◌-◌, ◌<◌, ◌≤◌, Bool, true, false, List, []}
+use Rattle.std.proofs.Common.{◌∷◌, ◌++◌, map, length, get_or, Option, Some, None, is_some, is_none}
+use Rattle.std.proofs.Common.{refl, sym, ap, ◌∙◌, subst, ⊎_elim, arith, length-append}
+use Rattle.std.proofs.lemmas.Bool.{false≢true, cases_lt, cases_Bool, and_from, cond-true}
+use Rattle.std.proofs.lemmas.Bool.{cond-false}
 use Rattle.std.proofs.lemmas.Option.{none-some}
-use Rattle.std.proofs.lemmas.List.{length-map}
+use Rattle.std.proofs.lemmas.List.{length-map, map-append, get_or_append_left, get_or-append_right}
 use Rattle.hum_stage.specs.declared.faults.End.{End}
 use Rattle.hum_turns.specs.Plan.{Plan, last}
 use Rattle.hum_turns.specs.declared.result.RunResult.{RunResult}
-use Rattle.hum_turns.specs.Failures.{Now, result_of, ended_by, result, is_ready}
-use Rattle.hum_turns.specs.Failures.{Turn, Walk, HoldsNow}
-use Rattle.std.proofs.lemmas.List.{map-append, get_or_append_left, get_or-append_right}
+use Rattle.hum_turns.specs.Failures.{Now, result_of, ended_by, result, is_ready, Turn, Walk}
+use Rattle.hum_turns.specs.Failures.{HoldsNow}
 use Rattle.hum_turns.specs.Orders.{Order, upto, ready_list, first_true, chosen, choice, Driven}
 use Rattle.hum_turns.specs.Orders.{EveryPick}
 use Rattle.hum_turns.proofs.Writing.{every_turn, same_now, still}

@@ -1,24 +1,19 @@
 -- Until the run is over some actor is ready, and a ready actor has a turn.
-use Rattle.std.proofs.Common.{◌≡◌, ℕ, zero, suc, ◌+◌, ◌<◌, ◌≤◌}
-use Rattle.std.proofs.Common.{true, false, ◌&&◌, ◌||◌, if◌then◌else◌, nat_lt, nat_eq}
-use Rattle.std.proofs.Common.{List, [], ◌∷◌, length, slice_get}
-use Rattle.std.proofs.Common.{Option, Some, None, is_some, is_none}
-use Rattle.std.proofs.Common.{refl, sym, ap, ◌∙◌, ⊎_elim, arith}
-use Rattle.std.proofs.Common.{le-ltb, lt-ltb, eq-eqb, ne_eqb}
-use Rattle.std.proofs.lemmas.Bool.{true≢false, cases_Bool}
-use Rattle.std.proofs.lemmas.Bool.{and_left, or_left, cond-true, cond-false}
+use Rattle.std.proofs.Common.{◌≡◌, ℕ, zero, suc, ◌+◌, ◌<◌, ◌≤◌, true, false, ◌&&◌, ◌||◌}
+use Rattle.std.proofs.Common.{if◌then◌else◌, nat_lt, nat_eq, List, [], ◌∷◌, length, slice_get}
+use Rattle.std.proofs.Common.{Option, Some, None, is_some, is_none, refl, sym, ap, ◌∙◌, ⊎_elim}
+use Rattle.std.proofs.Common.{arith, le-ltb, lt-ltb, eq-eqb, ne_eqb}
+use Rattle.std.proofs.lemmas.Bool.{true≢false, cases_Bool, and_left, or_left, cond-true, cond-false}
 use Rattle.std.proofs.lemmas.Option.{slice_get_cases}
 use Rattle.hum_stage.specs.declared.faults.End.{End}
 use Rattle.hum_turns.specs.Plan.{Plan, last, IsPlan}
-use Rattle.hum_turns.specs.Links.{Link, given, has_room, has_some, Moment}
-use Rattle.hum_turns.specs.Links.{settled, is_over}
-use Rattle.hum_turns.specs.Turns.{State, Gives, Reads, Takes, Ends, state}
-use Rattle.hum_turns.specs.Turns.{is_source, ready, Becomes, pushed, popped, marked, Does}
-use Rattle.hum_turns.specs.Turns.{HasRead, Turns}
+use Rattle.hum_turns.specs.Links.{Link, given, has_room, has_some, Moment, settled, is_over}
+use Rattle.hum_turns.specs.Turns.{State, Gives, Reads, Takes, Ends, state, is_source, ready}
+use Rattle.hum_turns.specs.Turns.{Becomes, pushed, popped, marked, Does, HasRead, Turns}
 use Rattle.hum_turns.specs.Holds.{SomeReady, HasTurn}
 use Rattle.hum_turns.proofs.Fronts.{is_unset}
-use Rattle.hum_turns.proofs.States.{last_less, sink_state, gives_more, reads_less, reads_bytes, wanted}
-use Rattle.hum_turns.proofs.States.{ready_source, ready_other}
+use Rattle.hum_turns.proofs.States.{last_less, sink_state, gives_more, reads_less, reads_bytes}
+use Rattle.hum_turns.proofs.States.{wanted, ready_source, ready_other}
 
 -- Progress: who wants from an empty link waits for a lower stage, and so on down to a source.
 

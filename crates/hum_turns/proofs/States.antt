@@ -1,22 +1,16 @@
 -- What an actor's state says of it, and what it needs to be ready.
-use Rattle.std.proofs.Common.{◌≡◌, ℕ, zero, suc, pred, ◌+◌, ◌<◌, ◌≤◌, ◌⊎◌, inl, inr}
-use Rattle.std.proofs.Common.{Bool, true, false, if◌then◌else◌, nat_lt}
-use Rattle.std.proofs.Common.{List, length, slice_get, slice_index}
-use Rattle.std.proofs.Common.{Some, None, is_none}
-use Rattle.std.proofs.Common.{refl, sym, ap, ◌∙◌, subst, ⊎_elim, arith}
+use Rattle.std.proofs.Common.{◌≡◌, ℕ, zero, suc, pred, ◌+◌, ◌<◌, ◌≤◌, ◌⊎◌, inl, inr, Bool, true}
+use Rattle.std.proofs.Common.{false, if◌then◌else◌, nat_lt, List, length, slice_get, slice_index}
+use Rattle.std.proofs.Common.{Some, None, is_none, refl, sym, ap, ◌∙◌, subst, ⊎_elim, arith}
 use Rattle.std.proofs.Common.{ltb-true, le-ltb, lt-ltb}
-use Rattle.std.proofs.lemmas.Bool.{cases_lt, cases_Bool}
-use Rattle.std.proofs.lemmas.Bool.{and_parts, and_from, cond-true, cond-false}
+use Rattle.std.proofs.lemmas.Bool.{cases_lt, cases_Bool, and_parts, and_from, cond-true, cond-false}
 use Rattle.std.proofs.lemmas.Option.{none-some, slice_get_within, slice_get-get_or}
 use Rattle.std.proofs.lemmas.List.{length-map}
 use Rattle.hum_turns.specs.Flow.{Flow}
-use Rattle.hum_turns.specs.Plan.{Want, Bytes, Source, Nothing}
-use Rattle.hum_turns.specs.Plan.{Plan, last, IsPlan}
-use Rattle.hum_turns.specs.Links.{Link, given, view, has_room, has_some, Moment}
-use Rattle.hum_turns.specs.Links.{inputs, settled}
-use Rattle.hum_turns.specs.Turns.{State, Gives, Reads, Takes, Ends, by_want, stage_state, state, can}
-use Rattle.hum_turns.specs.Turns.{is_source, ready}
-use Rattle.hum_turns.specs.Turns.{HasRead}
+use Rattle.hum_turns.specs.Plan.{Want, Bytes, Source, Nothing, Plan, last, IsPlan}
+use Rattle.hum_turns.specs.Links.{Link, given, view, has_room, has_some, Moment, inputs, settled}
+use Rattle.hum_turns.specs.Turns.{State, Gives, Reads, Takes, Ends, by_want, stage_state, state}
+use Rattle.hum_turns.specs.Turns.{can, is_source, ready, HasRead}
 use Rattle.hum_turns.proofs.Fronts.{source_at}
 
 -- The causes of each state.

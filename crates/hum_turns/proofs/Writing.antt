@@ -1,27 +1,23 @@
 -- What is written is a front of the plan's text, also where a failure ends the run.
-use Rattle.std.proofs.Common.{◌≡◌, ℕ, pred, ◌+◌, ◌<◌, ◌⊎◌, inl, inr}
-use Rattle.std.proofs.Common.{true}
-use Rattle.std.proofs.Common.{List, [], ◌∷◌, ◌++◌, length}
-use Rattle.std.proofs.Common.{Option, Some, None, is_some, is_none}
-use Rattle.std.proofs.Common.{refl, sym, ap, ◌∙◌, subst, ⊎_elim, arith}
-use Rattle.std.proofs.Common.{append_assoc, append-nil}
-use Rattle.std.proofs.lemmas.Bool.{false≢true}
-use Rattle.std.proofs.lemmas.Bool.{and_parts}
+use Rattle.std.proofs.Common.{◌≡◌, ℕ, pred, ◌+◌, ◌<◌, ◌⊎◌, inl, inr, true, List, [], ◌∷◌, ◌++◌}
+use Rattle.std.proofs.Common.{length, Option, Some, None, is_some, is_none, refl, sym, ap, ◌∙◌}
+use Rattle.std.proofs.Common.{subst, ⊎_elim, arith, append_assoc, append-nil}
+use Rattle.std.proofs.lemmas.Bool.{false≢true, and_parts}
 use Rattle.std.proofs.lemmas.Option.{none-some, same_Some}
 use Rattle.hum_stage.specs.declared.faults.End.{End}
 use Rattle.hum_turns.specs.Flow.{Flow, Begins}
 use Rattle.hum_turns.specs.Plan.{Plan, last, IsPlan}
 use Rattle.hum_turns.specs.Meaning.{plan_meaning}
-use Rattle.hum_turns.specs.Links.{given, view, Moment}
-use Rattle.hum_turns.specs.Links.{Same, Agrees}
+use Rattle.hum_turns.specs.Links.{given, view, Moment, Same, Agrees}
 use Rattle.hum_turns.specs.Turns.{Run}
 use Rattle.hum_turns.specs.declared.result.RunResult.{RunResult}
 use Rattle.hum_turns.specs.declared.result.RunResult.TheVariants as ends
 use Rattle.hum_turns.specs.Text.{line_of, text, next_text}
-use Rattle.hum_turns.specs.Failures.{Now, IsFailure, ended_by, written, MayFail}
-use Rattle.hum_turns.specs.Failures.{Turn, SameNow, Walk, IsFirst, IsWhole, HoldsNow, EveryTurn}
+use Rattle.hum_turns.specs.Failures.{Now, IsFailure, ended_by, written, MayFail, Turn, SameNow}
+use Rattle.hum_turns.specs.Failures.{Walk, IsFirst, IsWhole, HoldsNow, EveryTurn}
 use Rattle.std.proofs.Math.Path.{fun_ext}
-use Rattle.hum_turns.proofs.Fronts.{begins_refl, begins_trans, begins_append, begins_after, begins_nil}
+use Rattle.hum_turns.proofs.Fronts.{begins_refl, begins_trans, begins_append, begins_after}
+use Rattle.hum_turns.proofs.Fronts.{begins_nil}
 use Rattle.hum_turns.proofs.States.{last_less}
 use Rattle.hum_turns.proofs.Keeping.{Inv, same_keeps}
 use Rattle.hum_turns.proofs.Against.{front, agrees_good, agrees_self}

@@ -1,6 +1,6 @@
 -- How many turns an actor can have had at a moment, and in a whole run.
-use Rattle.std.specs.Prelude.{ℕ, zero, suc, pred, ◌+◌, min, if◌then◌else◌, nat_eq, nat_lt}
-use Rattle.std.specs.Prelude.{List, [], ◌∷◌, length}
+use Rattle.std.specs.Prelude.{ℕ, zero, suc, pred, ◌+◌, min, if◌then◌else◌, nat_eq, nat_lt, List, []}
+use Rattle.std.specs.Prelude.{◌∷◌, length}
 use Rattle.hum_turns.specs.Plan.{Stage, Plan, last}
 use Rattle.hum_turns.specs.Meaning.{meaning}
 use Rattle.hum_turns.specs.Links.{Link, Moment, given}

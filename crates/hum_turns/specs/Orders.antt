@@ -1,9 +1,8 @@
 -- Orders: who has the next turn, by a rule that sees which actors are ready and may remember.
-use Rattle.std.specs.Prelude.{◌≡◌, ℕ, zero, suc, ◌+◌, ◌≤◌, ◌<◌, Bool, true, false, ◌||◌}
-use Rattle.std.specs.Prelude.{List, [], ◌∷◌, ◌++◌, map, get_or, None, if◌then◌else◌}
+use Rattle.std.specs.Prelude.{◌≡◌, ℕ, zero, suc, ◌+◌, ◌≤◌, ◌<◌, Bool, true, false, ◌||◌, List, []}
+use Rattle.std.specs.Prelude.{◌∷◌, ◌++◌, map, get_or, None, if◌then◌else◌}
 use Rattle.hum_turns.specs.Plan.{Plan, IsPlan}
-use Rattle.hum_turns.specs.Failures.{Now, result, is_ready, SameNow, Turn, IsFirst}
-use Rattle.hum_turns.specs.Failures.{HoldsNow}
+use Rattle.hum_turns.specs.Failures.{Now, result, is_ready, SameNow, Turn, IsFirst, HoldsNow}
 
 -- What an order of this type picks from the actors that are ready, and what it is after that pick.
 pub record Order (O : Type 0) : Type 0 where
