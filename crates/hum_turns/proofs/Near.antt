@@ -1,0 +1,200 @@
+-- What is near a turn, and what code that makes a turn has to show.
+use Rattle.std.proofs.Common.{◌≡◌, ℕ, zero, suc, ◌<◌, ◌≤◌, inl, inr, true, ◌&&◌, List, [], ◌∷◌}
+use Rattle.std.proofs.Common.{◌++◌, map, slice_get, slice_index, Some, is_none, refl, sym, ap, ◌∙◌}
+use Rattle.std.proofs.Common.{subst, ⊎_elim, arith, le-ltb, lt-ltb}
+use Rattle.std.proofs.lemmas.Bool.{cases_eq, cases_lt, cases_Bool, and_from, and_left, cond-true}
+use Rattle.std.proofs.lemmas.Bool.{cond-false}
+use Rattle.std.proofs.lemmas.Option.{none-some, same_Some}
+use Rattle.hum_turns.specs.Plan.{Plan, last, IsPlan}
+use Rattle.hum_turns.specs.Links.{Link, view, has_room, has_some, Moment, inputs}
+use Rattle.hum_turns.specs.Turns.{State, Gives, Reads, Takes, Ends, stage_state, state, can}
+use Rattle.hum_turns.specs.Turns.{is_source, ready, Becomes, Does, HasRead, Turns, Step, Run}
+use Rattle.hum_turns.specs.Near.{IsOneOf, LooksAt, EveryTurnIsNear}
+use Rattle.hum_turns.proofs.States.{state_is, sink_state, gives_less, reads_less, ends_less, wanted}
+use Rattle.hum_turns.proofs.States.{last_next, taker, source_less}
+use Rattle.std.proofs.Math.Path.{fun_ext}
+
+-- What an actor doesn't look at it leaves alone.
+
+module _ {R : Type 0} (plan : Plan R) (ok : IsPlan plan) where
+  -- a stage changes its own link
+  own_near : (k : ℕ) (l : Link R) (old new : Moment R) → k < plan.count → Becomes k l old new
+      → (i : ℕ) → (LooksAt plan k i → ⊥) → new i ≡ old i
+  own_near k l old new less d i far = d.elsewhere i (λ same. far (inl (less, inl same)))
+
+  does_near : (k : ℕ) (s : State) (old new : Moment R) → state plan old k ≡ s → Does plan k s old new
+      → (i : ℕ) → (LooksAt plan k i → ⊥) → new i ≡ old i
+  does_near k Gives old new e d i far =
+      own_near k _ old new (gives_less plan old k e) d.becomes i far
+  does_near k Reads old new e d i far = d i
+  does_near k (Takes s) old new e d i far =
+      d.elsewhere i (λ same. ⊎_elim
+      (λ w. far (inl (w.0, inr (w.1.place, w.1.is_there ∙ ap Some (sym same)))))
+      (λ w. far (inr (w.0, same ∙ w.1)))
+      (taker plan ok old k s e))
+  does_near k Ends old new e d i far = own_near k _ old new (ends_less plan old k e) d i far
+
+  turns_near : (k : ℕ) (s : State) (old new : Moment R) → state plan old k ≡ s
+      → Turns plan k s old new → (i : ℕ) → (LooksAt plan k i → ⊥) → new i ≡ old i
+  turns_near k Gives old new e t i far = does_near k Gives old new e t i far
+  turns_near k (Takes s) old new e t i far = does_near k (Takes s) old new e t i far
+  turns_near k Ends old new e t i far = does_near k Ends old new e t i far
+  turns_near k Reads old new e t i far =
+      does_near k (state plan t.between k) t.between new refl t.does i far
+      ∙ own_near k _ old t.between (reads_less plan old k e) t.reads.becomes i far
+
+-- Readiness, by the links that an actor looks at.
+
+inputs_same : {R : Type 0} (old new : Moment R) (ss : List ℕ)
+    → ((s : ℕ) → IsOneOf ss s → new s ≡ old s)
+    → map (λ s. view (new s)) ss ≡ map (λ s. view (old s)) ss
+inputs_same old new [] h = refl
+inputs_same old new (s ∷ ss) h =
+    ap (λ (l : Link _). view l ∷ map (λ s. view (new s)) ss) (h s (0, refl))
+    ∙ ap (λ l. view (old s) ∷ l) (inputs_same old new ss (λ t p. h t (suc p.0, p.1)))
+
+index_is : (ss : List ℕ) (j : ℕ) (s : ℕ) → slice_get ss j ≡ Some s → slice_index ss j ≡ s
+index_is [] j s h = absurd (none-some s h)
+index_is (t ∷ ss) zero s h = same_Some t s h
+index_is (t ∷ ss) (suc j) s h = index_is ss j s h
+
+module _ {R : Type 0} (plan : Plan R) (ok : IsPlan plan) (size j : ℕ) (old new : Moment R)
+    (same : (i : ℕ) → LooksAt plan j i → new i ≡ old i) where
+  -- what the actor is about to do
+  state_same : state plan new j ≡ state plan old j
+  state_same =
+      ⊎_elim
+      (λ less.
+      let st = plan.stage j in
+      let own = same j (inl (less, inl refl)) in
+      let ins : inputs plan new j ≡ inputs plan old j =
+      inputs_same old new st.sources (λ s p. same s (inl (less, inr p))) in
+      state_is plan new j less
+      ∙ ap (λ l. stage_state st l (inputs plan new j)) own
+      ∙ ap (stage_state st (old j)) ins
+      ∙ sym (state_is plan old j less))
+      (λ past. sink_state plan new j past ∙ sym (sink_state plan old j past))
+      (cases_lt j plan.count)
+
+  -- and whether it can
+  can_same : (s : State) → state plan old j ≡ s → can size new j s ≡ can size old j s
+  can_same Gives e =
+      ap (has_room size) (same j (inl (gives_less plan old j e, inl refl)))
+  can_same Reads e =
+      ap (has_room size) (same j (inl (reads_less plan old j e, inl refl)))
+  can_same (Takes s) e =
+      ap has_some (same s (⊎_elim
+      (λ w. inl (w.0, inr (w.1.place, w.1.is_there)))
+      (λ w. inr (w.0, w.1))
+      (taker plan ok old j s e)))
+  can_same Ends e =
+      ap (λ (l : Link R). is_none l.mark) (same j (inl (ends_less plan old j e, inl refl)))
+
+  pub ready_same : ready plan size new j ≡ ready plan size old j
+  ready_same =
+      ⊎_elim
+      (λ src.
+      let own = same j (inl ((source_less plan j src).0, inl refl)) in
+      cond-true _ _ _ src
+      ∙ ap (λ (l : Link R). is_none l.mark && has_room size l) own
+      ∙ sym (cond-true _ _ _ src))
+      (λ other.
+      cond-false _ _ _ other
+      ∙ ap (can size new j) state_same
+      ∙ can_same (state plan old j) refl
+      ∙ sym (cond-false _ _ _ other))
+      (cases_Bool (is_source plan j))
+
+pub every_turn_is_near : {R : Type 0} → EveryTurnIsNear R
+every_turn_is_near plan size k old new ok step =
+    let links = turns_near plan ok k (state plan old k) old new refl step.turns in
+    record {
+      links = links;
+      ready = λ j apart.
+          ready_same plan ok size j old new (λ i at. links i (λ near. apart i near at));
+    }
+
+-- For code that makes turns.
+
+module _ {R : Type 0} (plan : Plan R) (size k : ℕ) where
+  -- who is ready, by its kind
+  pub ready_sink : (m : Moment R) → plan.count ≤ k
+      → ready plan size m k ≡ has_some (m (last plan))
+  ready_sink m h =
+      cond-false _ _ _ (and_left _ _ (le-ltb k plan.count h))
+      ∙ ap (can size m k) (sink_state plan m k h)
+
+  pub ready_reader : (m : Moment R) → k < plan.count → 0 < (plan.stage k).bytes
+      → ready plan size m k ≡ (is_none (m k).mark && has_room size (m k))
+  ready_reader m less some =
+      cond-true _ _ _ (and_from _ _ (lt-ltb k plan.count less) (lt-ltb 0 (plan.stage k).bytes some))
+
+  -- a turn, by what the actor's state is
+  one_turn : (s : State) (old new : Moment R) → (s ≡ Reads → ⊥) → Does plan k s old new
+      → Turns plan k s old new
+  one_turn Gives old new other d = d
+  one_turn Reads old new other d = absurd (other refl)
+  one_turn (Takes s) old new other d = d
+  one_turn Ends old new other d = d
+
+  pub step_does : (s : State) (old new : Moment R) → k ≤ plan.count → ready plan size old k ≡ true
+      → state plan old k ≡ s → (s ≡ Reads → ⊥) → Does plan k s old new → Step plan size k old new
+  step_does s old new within h e other d = record {
+    within = within;
+    is_ready = h;
+    turns = subst (λ t. Turns plan k t old new) (sym e) (one_turn s old new other d);
+  }
+
+  pub step_reads : (old between new : Moment R) → k ≤ plan.count → ready plan size old k ≡ true
+      → state plan old k ≡ Reads → HasRead plan k old between
+      → Does plan k (state plan between k) between new → Step plan size k old new
+  step_reads old between new within h e r d = record {
+    within = within;
+    is_ready = h;
+    turns = subst (λ t. Turns plan k t old new) (sym e)
+        (record { between = between; reads = r; does = d });
+  }
+
+-- a run with a turn more
+pub run_more : {R : Type 0} (plan : Plan R) (size : ℕ) (ks : List ℕ) (k : ℕ)
+    (old between new : Moment R) → Run plan size old ks between → Step plan size k between new
+    → Run plan size old (ks ++ k ∷ []) new
+run_more plan size [] k old between new run step =
+    (new, subst (λ o. Step plan size k o new) (fun_ext run) step, λ i. refl)
+run_more plan size (j ∷ ks) k old between new run step =
+    (run.0, run.1, run_more plan size ks k run.0 between new run.2 step)
+
+-- A turn of a stage takes nothing from the last link, so nothing is written.
+module _ {R : Type 0} (plan : Plan R) (ok : IsPlan plan) (size k : ℕ) (less : k < plan.count) where
+  -- a link that keeps what was taken from it
+  keeps_taken : (l : Link R) (old new : Moment R) → Becomes k l old new → l.taken ≡ (old k).taken
+      → (new (last plan)).taken ≡ (old (last plan)).taken
+  keeps_taken l old new d e =
+      ⊎_elim
+      (λ same. subst (λ j. (new j).taken ≡ (old j).taken) (sym same)
+      (ap (λ (l : Link R). l.taken) d.here ∙ e))
+      (λ other. ap (λ (l : Link R). l.taken) (d.elsewhere (last plan) other))
+      (cases_eq (last plan) k)
+
+  does_taken : (s : State) (old new : Moment R) → state plan old k ≡ s → Does plan k s old new
+      → (new (last plan)).taken ≡ (old (last plan)).taken
+  does_taken Gives old new e d = keeps_taken _ old new d.becomes refl
+  does_taken Reads old new e d = ap (λ (l : Link R). l.taken) (d (last plan))
+  does_taken (Takes s) old new e d =
+      let lower = (wanted plan ok old k s less e).below in
+      let top = last_next plan.count ok.some in
+      ap (λ (l : Link R). l.taken) (d.elsewhere (last plan) (λ same. absurd (omega arith)))
+  does_taken Ends old new e d = keeps_taken _ old new d refl
+
+  turns_taken : (s : State) (old new : Moment R) → state plan old k ≡ s → Turns plan k s old new
+      → (new (last plan)).taken ≡ (old (last plan)).taken
+  turns_taken Gives old new e t = does_taken Gives old new e t
+  turns_taken (Takes s) old new e t = does_taken (Takes s) old new e t
+  turns_taken Ends old new e t = does_taken Ends old new e t
+  turns_taken Reads old new e t =
+      does_taken (state plan t.between k) t.between new refl t.does
+      ∙ keeps_taken _ old t.between t.reads.becomes refl
+
+  pub step_taken : (old new : Moment R) → Step plan size k old new
+      → (new (last plan)).taken ≡ (old (last plan)).taken
+  step_taken old new step = turns_taken (state plan old k) old new refl step.turns

@@ -1,0 +1,12 @@
+pub mod Flow
+pub mod Plan
+pub mod Meaning
+pub mod Links
+pub mod Turns
+pub mod Counts
+pub mod Holds
+pub mod Text
+pub mod Failures
+pub mod Orders
+pub mod Ends
+pub mod Near
