@@ -1,5 +1,5 @@
 -- Barlines that are known.
-use Rattle.std.proofs.Common.{◌≡◌, ◌∙◌, refl, sym, ap, ℕ, Bool, true, false, cond, ◌||◌, ◌&&◌, not, List, [], ◌∷◌, ◌++◌, map}
+use Rattle.std.proofs.Common.{◌≡◌, ◌∙◌, refl, sym, ap, ℕ, Bool, true, false, cond, ◌||◌, not, List, [], ◌∷◌, map}
 use denote.Bor.{Bor}
 use Rattle.std.specs.List.{list_any}
 use Rattle.std.specs.Str.{bytes_eq}
@@ -10,7 +10,7 @@ use Rattle.std.proofs.lemmas.Slice.Eq.{bytes_eq-Decides}
 use Rattle.std.specs.Bool.{one_answer}
 use Rattle.hum_record.specs.Contents.{is_null, is_barline}
 use Rattle.hum_cleave.specs.Tokens.{is_left_out}
-use Rattle.hum_cleave.specs.Barlines.{Knows, Tells}
+use Rattle.hum_cleave.specs.Barlines.{Tells}
 
 bytes_eq_sym : (a b : List ℕ) → bytes_eq a b ≡ bytes_eq b a
 bytes_eq_sym a b = one_answer (bytes_eq a b) (bytes_eq b a) (bytes_eq-Decides a b)
@@ -35,11 +35,13 @@ pub tells_barline : (old new : List (Bor (List ℕ))) (token : Bor (List ℕ)) (
     → Puts old new token → is_new ≡ not (list_any (λ q. bytes_eq token.now q.now) old)
     → is_null token.now ≡ false → is_barline token.now ≡ true
     → Tells (map (λ k. k.now) old) (map (λ k. k.now) new) token.now (not is_new)
-tells_barline old new token is_new puts is filled bar before knows =
-    (answer (list_any (λ q. bytes_eq token.now q.now) old) (any_seen token.now old ∙ knows token.now bar) is, λ t at.
-    let k : Bor (List ℕ) = record { ref_ptr = token.ref_ptr; now = t } in
-    sym (any_seen t new) ∙ puts k ∙ rw (bytes_eq_sym token.now t) (one_more (bytes_eq t token.now) (list_any (λ q. bytes_eq t q.now) old) (list_any (bytes_eq t) before) (any_seen t old ∙ knows t at))
-    ∙ sym (list_any-append (bytes_eq t) before (token.now ∷ [])))
+tells_barline old new token is_new puts is filled bar before knows = (
+  answer (list_any (λ q. bytes_eq token.now q.now) old) (any_seen token.now old ∙ knows token.now bar) is,
+  λ t at.
+      let k : Bor (List ℕ) = record { ref_ptr = token.ref_ptr; now = t } in
+      sym (any_seen t new) ∙ puts k ∙ rw (bytes_eq_sym token.now t) (one_more (bytes_eq t token.now) (list_any (λ q. bytes_eq t q.now) old) (list_any (bytes_eq t) before) (any_seen t old ∙ knows t at))
+      ∙ sym (list_any-append (bytes_eq t) before (token.now ∷ [])),
+)
   where
     answer : (known : Bool) → known ≡ list_any (bytes_eq token.now) before → is_new ≡ not known
         → not is_new ≡ is_left_out before token.now

@@ -1,4 +1,4 @@
-use Rattle.std.proofs.Common.{◌≡◌, ◌≢◌, ◌∙◌, sym, ap, subst, [], List, ℕ, get_or, ◌+◌, ◌∷◌, ◌++◌, take}
+use Rattle.std.proofs.Common.{◌≡◌, ◌≢◌, ◌∙◌, sym, ap, subst, [], get_or, ◌+◌, ◌∷◌, ◌++◌, take}
 use Rattle.hum_record.specs.declared.SpinedKind.TheVariants.{Values}
 use Rattle.hum_record.specs.Row.{tokens_of}
 use Rattle.hum_record.specs.Spelling.{IsToken}
@@ -27,10 +27,12 @@ loop-j-preserved c =
     let out = told.0 ∙ ap (is_left_out before) token in
     let knows = subst (λ known. Knows c.leaves_out.new.self known) (ap (λ t. before ++ t ∷ []) token ∙ sym (front_takes fs ts j at wide on)) told.1 in
     (elim c.if-not-branch.branch [
-      | then-not-branch+in_ok-add w ↦
-          (rw (w.text-is, w.in_ok-add.ensures, token)
-          (adds c.args.separator.now c.loop-j.text.items (get_or ts j []) (taken_from fs ts (j + 1)) some
-          ∙ ap so (takes fs ts j at wide on (sym out ∙ w.if-not-branch.true)) ∙ c.loop-j.invariant.0), knows)
+      | then-not-branch+in_ok-add w ↦ (
+        rw (w.text-is, w.in_ok-add.ensures, token)
+            (adds c.args.separator.now c.loop-j.text.items (get_or ts j []) (taken_from fs ts (j + 1)) some
+            ∙ ap so (takes fs ts j at wide on (sym out ∙ w.if-not-branch.true)) ∙ c.loop-j.invariant.0),
+        knows,
+      )
       | else-not-branch w ↦
           (rw w.text-is (ap so (leaves_out fs ts j at wide on (sym out ∙ w.if-not-branch.false)) ∙ c.loop-j.invariant.0), knows)
     ])
@@ -42,9 +44,10 @@ loop-j-preserved-then-not-mark c =
     let j = c.loop-j.j in
     let at = c.loop-j-test.true in
     let wide = c.requires.as_wide in
-    let off = c.if-not-mark.true in
-    (ap (so_far c.args.separator.now c.loop-j.text.items) (passes fs ts j at wide off) ∙ c.loop-j.invariant.0,
-    rw (front_passes fs ts j at wide off) c.loop-j.invariant.1)
+    let off = c.if-not-mark.true in (
+      ap (so_far c.args.separator.now c.loop-j.text.items) (passes fs ts j at wide off) ∙ c.loop-j.invariant.0,
+      rw (front_passes fs ts j at wide off) c.loop-j.invariant.1,
+    )
 
 pub returns : goal.returns
 returns c =
