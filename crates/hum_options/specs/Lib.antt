@@ -1,0 +1,6 @@
+pub mod Options
+pub mod Values
+pub mod Meant
+pub mod Letters
+pub mod Answers
+pub mod Seen

@@ -1,0 +1,61 @@
+-- What contracts see of options and words.
+use Rattle.std.specs.Prelude.{ℕ, Bool, List, [], ◌∷◌, map, Option, Result, Ok, Err}
+use Rattle.std.specs.Option.{option_map}
+use Rattle.hum_path.specs.Spines.{texts}
+use Rattle.hum_words.specs.Pieces.{Item, items_of} 
+use Rattle.hum_words.specs.Pieces as item
+use Rattle.hum_words.specs.declared.cutting.Piece.{Piece}
+use Rattle.hum_extract.specs.Written.{choice_of}
+use Rattle.hum_timebase.specs.Following.{pace_of}
+use Rattle.hum_context.specs.declared.options.Span.{Span as WrittenSpan}
+use Rattle.hum_context.specs.declared.options.Span.TheVariants as span
+use Rattle.hum_yank.specs.declared.options.Markers.{Markers as WrittenMarkers}
+use Rattle.hum_yank.specs.declared.options.Markers.TheVariants as markers
+use Rattle.hum_options.specs.declared.tools.Tool.{Tool}
+use Rattle.hum_options.specs.declared.together.CommandOptions.{CommandOptions}
+use Rattle.hum_options.specs.declared.together.CommandOptions.TheVariants as command
+use Rattle.hum_options.specs.declared.faults.OptionError.{OptionError}
+use Rattle.hum_options.specs.declared.faults.OptionError.TheVariants as failed
+use Rattle.hum_options.specs.Meant.{Options, Span, Number, Phrase, Markers, Lines, Numbers}
+use Rattle.hum_options.specs.Meant.{Occurrences, Labels, Rid, Extract, Ditto, Timebase, Context}
+use Rattle.hum_options.specs.Meant.{Trans, Semits, Mint, Recip, Yank, Cleave}
+use Rattle.hum_options.specs.Answers.{Word, IsAnswer}
+
+abbrev pub span_of : WrittenSpan → Span
+span_of (span.Number count) = Number count.number
+span_of (span.Phrase begin end) = Phrase begin end
+
+abbrev pub markers_of : WrittenMarkers → Markers
+markers_of markers.Lines = Lines
+markers_of (markers.Numbers pattern) = Numbers pattern
+markers_of (markers.Occurrences begins ends) = Occurrences begins ends
+markers_of (markers.Labels text) = Labels text.items
+
+-- options, wherever their lists lie
+abbrev pub options_of : CommandOptions → Options
+options_of (command.Rid options) = Rid options
+options_of (command.Extract choice) = Extract (choice_of choice)
+options_of (command.Ditto options) = Ditto options
+options_of (command.Timebase options) = Timebase (pace_of options)
+options_of (command.Context options) = Context (span_of options.span) options.omit
+options_of (command.Trans options) = Trans options.steps options.semitones
+options_of (command.Semits options) = Semits options
+options_of (command.Mint options) = Mint options
+options_of (command.Recip options) = Recip
+options_of (command.Yank options) = Yank (markers_of options.markers) options.ranges.items
+options_of (command.Cleave options) = Cleave options
+
+-- the words up to the next bar, with their numbers
+abbrev pub words_before_bar : List Item → List Word
+words_before_bar [] = []
+words_before_bar (item.Word n word ∷ items) = (n, word) ∷ words_before_bar items
+words_before_bar (item.Bar n ∷ items) = []
+
+abbrev pub words_of : List Piece → List Word
+words_of pieces = words_before_bar (items_of pieces)
+
+-- what was answered is an answer to the words, unless memory ran out
+abbrev pub Tells : Tool → ℕ → Bool → List Word → Result CommandOptions OptionError → Type 0
+Tells tool n is_last words (Ok options) = IsAnswer tool n is_last words (Ok (options_of options))
+Tells tool n is_last words (Err (failed.Fault found)) = IsAnswer tool n is_last words (Err found)
+Tells tool n is_last words (Err failed.Memory) = Unit {0}
