@@ -6,6 +6,7 @@ use Rattle.std.specs.Prelude.{pos, negsuc}
 use Rattle.std.specs.List.{slice_split}
 use lib.Chars.{codes}
 use Rattle.hum_pattern.specs.Meaning.{IsExpression, IsNone}
+use Rattle.hum_frac.specs.Gcd.{gcd, gcd_in}
 use Rattle.hum_extract.specs.Choice as choice
 use Rattle.hum_yank.specs.declared.options.YankRange.TheVariants.{Through, Onward, FromEnd}
 use Rattle.hum_options.specs.declared.tools.Tool.{Tool}
@@ -114,7 +115,7 @@ ditto_no_value = refl
 -- timebase: `-t`
 sixteenths : Gives tool.Timebase (codes "-t 16")
     (is.Timebase (record { step = record { top = 1; bottom = 16 }; text = codes "16" }))
-unfolding Answers
+unfolding Answers gcd gcd_in
 sixteenths = refl
 
 timebase_other : Breaks tool.Timebase (codes "-r 16") 3 N8

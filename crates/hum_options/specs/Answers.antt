@@ -30,10 +30,13 @@ Answer = Result Options OptionFault
 abbrev pub fault : ℕ → OptionRule → Answer
 fault number rule = Err (record { word = number; rule = rule })
 
--- whether an option was given that is the same or excludes it
+-- whether an option that was given is the same or excludes it
+abbrev pub bars : Tool → CommandOption → Given → Bool
+bars tool option given =
+    given.letter == option.letter || excludes tool given.letter option.letter
+
 abbrev pub is_barred : Tool → List Given → CommandOption → Bool
-is_barred tool given option =
-    list_any (λ g. g.letter == option.letter || excludes tool g.letter option.letter) given
+is_barred tool given option = list_any (bars tool option) given
 
 abbrev pub unless_barred : Tool → List Given → Option CommandOption → Option CommandOption
 unless_barred tool given None = None

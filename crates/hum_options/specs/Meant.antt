@@ -55,6 +55,11 @@ abbrev pub value_at : ℕ → List Given → Option Value
 value_at b [] = None
 value_at b (given ∷ more) = if given.letter == b then Some given.value else value_at b more
 
+-- the options that were given but the first of a letter
+abbrev pub without : ℕ → List Given → List Given
+without b [] = []
+without b (given ∷ more) = if given.letter == b then more else given ∷ without b more
+
 -- a value, if it is of that kind
 abbrev pub as_fields : Value → Option (List FieldRange)
 as_fields (Fields ranges) = Some ranges

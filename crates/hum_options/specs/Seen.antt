@@ -1,5 +1,5 @@
 -- What contracts see of options and words.
-use Rattle.std.specs.Prelude.{ℕ, Bool, List, [], ◌∷◌, map, Option, Result, Ok, Err}
+use Rattle.std.specs.Prelude.{◌≡◌, ℕ, Bool, List, [], ◌∷◌, map, Option, None, Some, Result, Ok, Err}
 use Rattle.std.specs.Option.{option_map}
 use Rattle.hum_path.specs.Spines.{texts}
 use Rattle.hum_words.specs.Pieces.{Item, items_of} 
@@ -12,14 +12,51 @@ use Rattle.hum_context.specs.declared.options.Span.TheVariants as span
 use Rattle.hum_yank.specs.declared.options.Markers.{Markers as WrittenMarkers}
 use Rattle.hum_yank.specs.declared.options.Markers.TheVariants as markers
 use Rattle.hum_options.specs.declared.tools.Tool.{Tool}
+use Rattle.hum_options.specs.declared.options.Kind.{Kind}
+use Rattle.hum_options.specs.declared.values.Value.{Value as WrittenValue}
+use Rattle.hum_options.specs.declared.values.Value.TheVariants as value
+use Rattle.hum_options.specs.declared.grammar.ValueError.{ValueError}
+use Rattle.hum_options.specs.declared.grammar.ValueError.TheVariants.{Grammar, Pattern as Refused}
+use Rattle.hum_options.specs.declared.grammar.ValueError.TheVariants.{Memory as NoMemory}
+use Rattle.hum_options.specs.declared.given.GivenOption.{GivenOption}
 use Rattle.hum_options.specs.declared.together.CommandOptions.{CommandOptions}
 use Rattle.hum_options.specs.declared.together.CommandOptions.TheVariants as command
 use Rattle.hum_options.specs.declared.faults.OptionError.{OptionError}
 use Rattle.hum_options.specs.declared.faults.OptionError.TheVariants as failed
+use Rattle.hum_options.specs.Values.{Value, Nothing, Fields, Names, Name, Text, Ranges, Label}
+use Rattle.hum_options.specs.Values.{Pattern, Count, Steps, Semitones, Duration}
+use Rattle.hum_options.specs.Values.{value_of, IsSound, IsRefused}
+use Rattle.hum_options.specs.Meant.{Given}
 use Rattle.hum_options.specs.Meant.{Options, Span, Number, Phrase, Markers, Lines, Numbers}
 use Rattle.hum_options.specs.Meant.{Occurrences, Labels, Rid, Extract, Ditto, Timebase, Context}
 use Rattle.hum_options.specs.Meant.{Trans, Semits, Mint, Recip, Yank, Cleave}
 use Rattle.hum_options.specs.Answers.{Word, IsAnswer}
+
+-- a value, wherever its list or its text lies
+abbrev pub seen : WrittenValue → Value
+seen value.Nothing = Nothing
+seen (value.Fields ranges) = Fields ranges.items
+seen (value.Names names) = Names (texts names.items)
+seen (value.Name name) = Name name.text.items
+seen (value.Text separator) = Text separator.text.items
+seen (value.Ranges ranges) = Ranges ranges.items
+seen (value.Label text) = Label text.items
+seen (value.Pattern pattern) = Pattern pattern
+seen (value.Count count) = Count count.number
+seen (value.Steps steps) = Steps steps.number
+seen (value.Semitones semitones) = Semitones semitones.number
+seen (value.Duration options) = Duration (pace_of options)
+
+-- what was read is the value of the kind that the text is, unless memory ran out
+abbrev pub GivesValue : Kind → List ℕ → Result WrittenValue ValueError → Type 0
+GivesValue kind text (Ok value) = (value_of kind text ≡ Some (seen value)) × IsSound (seen value)
+GivesValue kind text (Err Grammar) = value_of kind text ≡ None
+GivesValue kind text (Err (Refused refusal)) =
+    (value_of kind text ≡ Some (Pattern text)) × IsRefused refusal text
+GivesValue kind text (Err NoMemory) = Unit {0}
+
+abbrev pub given_of : GivenOption → Given
+given_of given = record { letter = given.letter; value = seen given.value }
 
 abbrev pub span_of : WrittenSpan → Span
 span_of (span.Number count) = Number count.number

@@ -8,14 +8,15 @@
 #![tactic(auto)]
 
 mod faults;
-//mod given;
+mod given;
+mod grammar;
 //mod letters;
 mod options;
 //mod reading;
 mod together;
 mod tools;
-//mod values;
-//mod words;
+mod values;
+mod words;
 
 pub use faults::{OptionError, OptionFault, OptionRule, Refusal};
 //pub use reading::read_options;

@@ -1,0 +1,116 @@
+//! The options that were given, each with its value.
+ghost use Rattle.std.specs.Prelude.{◌≡◌, ◌==◌, ◌++◌, [], ◌∷◌, is_some, position, OnOk};
+ghost use Rattle.std.specs.List.{list_any};
+ghost use Rattle.std.specs.Option.{option_map, option_and_then};
+ghost use Rattle.hum_path.specs.Spines.{texts};
+ghost use Rattle.hum_options.specs.Answers.{bars, is_barred};
+ghost use Rattle.hum_options.specs.Meant.{value_at, without};
+ghost use Rattle.hum_options.specs.Meant.{as_fields, as_names, as_name, as_text, as_ranges};
+ghost use Rattle.hum_options.specs.Meant.{as_label, as_pattern, as_count, as_steps};
+ghost use Rattle.hum_options.specs.Meant.{as_semitones, as_duration};
+ghost use Rattle.hum_options.specs.Seen.{seen, given_of};
+ghost use Rattle.hum_timebase.specs.Following.{pace_of};
+
+use crate::options::{CommandOption, excludes};
+use crate::tools::Tool;
+use crate::values::{Name, Semitones, Separator, Steps, Value};
+use hum_context::TokenCount;
+use hum_extract::FieldRange;
+use hum_pattern::Pattern;
+use hum_timebase::TimebaseOptions;
+use hum_yank::YankRange;
+use std::alloc::{AllocError, Global};
+use std::marker::Model;
+
+/// An option that was given.
+#[derive(Drop)]
+pub(crate) struct GivenOption {
+    letter: u8,
+    value: Value,
+}
+
+impl GivenOption {
+    /// Whether it is the option or excludes it.
+    fn bars(&self, tool: Tool, option: CommandOption) -> bool
+        ensures { result ≡ bars tool option (given_of self.now) }
+    {
+        self.letter == option.letter || excludes(tool, self.letter, option.letter)
+    }
+}
+
+fn bar(entries: &[GivenOption], tool: Tool, option: CommandOption) -> bool
+    ensures { result ≡ list_any (λ g. bars tool option (given_of g)) entries.now }
+{
+    entries.iter().any(|given| given.bars(tool, option))
+}
+
+/// Where the first option of a letter stands.
+fn place_of(entries: &[GivenOption], letter: u8) -> Option<usize>
+    ensures { result ≡ position (λ g. g.letter == letter) entries.now }
+{
+    entries.iter().position(|given| given.letter == letter)
+}
+
+/// The options that were given, in order.
+#[derive(Drop)]
+pub(crate) struct GivenOptions {
+    entries: Vec<GivenOption>,
+}
+
+impl Model for GivenOptions {
+    ghost use Rattle.std.specs.Prelude.{List, map};
+    ghost use Rattle.hum_options.specs.Meant.{Given};
+    ghost use Rattle.hum_options.specs.Seen.{given_of};
+
+    ghost Value = { List Given };
+
+    ghost view = { λ g. map given_of g.entries.items };
+}
+
+impl GivenOptions {
+    /// None so far.
+    pub(crate) fn new(alloc: Global) -> GivenOptions
+        ensures { result ≡ [] }
+    {
+        GivenOptions {
+            entries: Vec::new(alloc),
+        }
+    }
+
+    /// One more.
+    pub(crate) fn push(&mut self, letter: u8, value: Value) -> Result<(), AllocError>
+        ensures { OnOk result (self.new
+            ≡ self.old ++ record { letter = letter; value = seen value } ∷ []) }
+    {
+        self.entries.push(GivenOption { letter, value })?;
+        Ok(())
+    }
+
+    /// Whether an option was given that is the same or excludes it.
+    pub(crate) fn is_barred(&self, tool: Tool, option: CommandOption) -> bool
+        ensures { result ≡ is_barred tool self.now option }
+    {
+        bar(&self.entries, tool, option)
+    }
+
+    /// Whether the option of a letter was given.
+    pub(crate) fn has(&self, letter: u8) -> bool
+        ensures { result ≡ is_some (value_at letter self.now) }
+    {
+        place_of(&self.entries, letter).is_some()
+    }
+
+    /// Takes out the value of the option of a letter, if it was given.
+    fn take(&mut self, letter: u8) -> Option<Value>
+        ensures value { option_map seen result ≡ value_at letter self.old }
+        ensures rest { self.new ≡ without letter self.old }
+    {
+        match place_of(&self.entries, letter) {
+            Some(place) => {
+                let GivenOption { letter: _, value } = self.entries.remove(place);
+                Some(value)
+            }
+            None => None,
+        }
+    }
+}

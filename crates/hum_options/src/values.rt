@@ -1,0 +1,74 @@
+//! What options are given.
+ghost use Rattle.std.specs.Prelude.{◌≡◌, ◌≤◌, nat_abs, true};
+ghost use Rattle.hum_cleave.specs.Cleave.{is_name, fits_in_token};
+
+use hum_context::TokenCount;
+use hum_extract::FieldRange;
+use hum_pattern::Pattern;
+use hum_timebase::TimebaseOptions;
+use hum_yank::YankRange;
+
+/// The name of an exclusive interpretation.
+#[derive(Drop)]
+pub(crate) struct Name {
+    pub(crate) text: Vec<u8>,
+    ghost lawful: { is_name text.items ≡ true },
+}
+
+/// A text that can stand in a token.
+#[derive(Drop)]
+pub(crate) struct Separator {
+    pub(crate) text: Vec<u8>,
+    ghost lawful: { fits_in_token text.items ≡ true },
+}
+
+/// Diatonic steps, up or down.
+#[derive(Clone, Copy)]
+pub(crate) struct Steps {
+    pub(crate) number: i32,
+    ghost within: { nat_abs number ≤ 49 },
+}
+
+/// Semitones, up or down.
+#[derive(Clone, Copy)]
+pub(crate) struct Semitones {
+    pub(crate) number: i32,
+    ghost within: { nat_abs number ≤ 84 },
+}
+
+/// What an option was given.
+pub(crate) enum Value {
+    /// nothing: it stands alone
+    Nothing,
+    Fields(Vec<FieldRange>),
+    Names(Vec<Vec<u8>>),
+    Name(Name),
+    Text(Separator),
+    Ranges(Vec<YankRange>),
+    Label(Vec<u8>),
+    Pattern(Pattern),
+    Count(TokenCount),
+    Steps(Steps),
+    Semitones(Semitones),
+    Duration(TimebaseOptions),
+}
+
+// Written out, so that a caller's proof sees one call.
+impl Drop for Value {
+    fn drop(self) {
+        match self {
+            Value::Nothing => {}
+            Value::Fields(_ranges) => {}
+            Value::Names(_names) => {}
+            Value::Name(_name) => {}
+            Value::Text(_text) => {}
+            Value::Ranges(_ranges) => {}
+            Value::Label(_label) => {}
+            Value::Pattern(_pattern) => {}
+            Value::Count(_count) => {}
+            Value::Steps(_steps) => {}
+            Value::Semitones(_semitones) => {}
+            Value::Duration(_options) => {}
+        }
+    }
+}
