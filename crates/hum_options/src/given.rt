@@ -113,4 +113,136 @@ impl GivenOptions {
             None => None,
         }
     }
+
+    /// Takes out the value of the option of a letter, if it was given and is of this kind.
+    pub(crate) fn fields(&mut self, letter: u8) -> Option<Vec<FieldRange>>
+        ensures value { option_map (λ ranges. ranges.items) result
+            ≡ option_and_then as_fields (value_at letter self.old) }
+        ensures rest { self.new ≡ without letter self.old }
+    {
+        match self.take(letter) {
+            Some(value) => value.fields(),
+            None => None,
+        }
+    }
+
+    /// Takes out the value of the option of a letter, if it was given and is of this kind.
+    pub(crate) fn names(&mut self, letter: u8) -> Option<Vec<Vec<u8>>>
+        ensures value { option_map (λ names. texts names.items) result
+            ≡ option_and_then as_names (value_at letter self.old) }
+        ensures rest { self.new ≡ without letter self.old }
+    {
+        match self.take(letter) {
+            Some(value) => value.names(),
+            None => None,
+        }
+    }
+
+    /// Takes out the value of the option of a letter, if it was given and is of this kind.
+    pub(crate) fn name(&mut self, letter: u8) -> Option<Name>
+        ensures value { option_map (λ name. name.text.items) result
+            ≡ option_and_then as_name (value_at letter self.old) }
+        ensures rest { self.new ≡ without letter self.old }
+    {
+        match self.take(letter) {
+            Some(value) => value.name(),
+            None => None,
+        }
+    }
+
+    /// Takes out the value of the option of a letter, if it was given and is of this kind.
+    pub(crate) fn text(&mut self, letter: u8) -> Option<Separator>
+        ensures value { option_map (λ separator. separator.text.items) result
+            ≡ option_and_then as_text (value_at letter self.old) }
+        ensures rest { self.new ≡ without letter self.old }
+    {
+        match self.take(letter) {
+            Some(value) => value.text(),
+            None => None,
+        }
+    }
+
+    /// Takes out the value of the option of a letter, if it was given and is of this kind.
+    pub(crate) fn ranges(&mut self, letter: u8) -> Option<Vec<YankRange>>
+        ensures value { option_map (λ ranges. ranges.items) result
+            ≡ option_and_then as_ranges (value_at letter self.old) }
+        ensures rest { self.new ≡ without letter self.old }
+    {
+        match self.take(letter) {
+            Some(value) => value.ranges(),
+            None => None,
+        }
+    }
+
+    /// Takes out the value of the option of a letter, if it was given and is of this kind.
+    pub(crate) fn label(&mut self, letter: u8) -> Option<Vec<u8>>
+        ensures value { option_map (λ text. text.items) result
+            ≡ option_and_then as_label (value_at letter self.old) }
+        ensures rest { self.new ≡ without letter self.old }
+    {
+        match self.take(letter) {
+            Some(value) => value.label(),
+            None => None,
+        }
+    }
+
+    /// Takes out the value of the option of a letter, if it was given and is of this kind.
+    pub(crate) fn pattern(&mut self, letter: u8) -> Option<Pattern>
+        ensures value { result
+            ≡ option_and_then as_pattern (value_at letter self.old) }
+        ensures rest { self.new ≡ without letter self.old }
+    {
+        match self.take(letter) {
+            Some(value) => value.pattern(),
+            None => None,
+        }
+    }
+
+    /// Takes out the value of the option of a letter, if it was given and is of this kind.
+    pub(crate) fn count(&mut self, letter: u8) -> Option<TokenCount>
+        ensures value { option_map (λ count. count.number) result
+            ≡ option_and_then as_count (value_at letter self.old) }
+        ensures rest { self.new ≡ without letter self.old }
+    {
+        match self.take(letter) {
+            Some(value) => value.count(),
+            None => None,
+        }
+    }
+
+    /// Takes out the value of the option of a letter, if it was given and is of this kind.
+    pub(crate) fn steps(&mut self, letter: u8) -> Option<Steps>
+        ensures value { option_map (λ steps. steps.number) result
+            ≡ option_and_then as_steps (value_at letter self.old) }
+        ensures rest { self.new ≡ without letter self.old }
+    {
+        match self.take(letter) {
+            Some(value) => value.steps(),
+            None => None,
+        }
+    }
+
+    /// Takes out the value of the option of a letter, if it was given and is of this kind.
+    pub(crate) fn semitones(&mut self, letter: u8) -> Option<Semitones>
+        ensures value { option_map (λ semitones. semitones.number) result
+            ≡ option_and_then as_semitones (value_at letter self.old) }
+        ensures rest { self.new ≡ without letter self.old }
+    {
+        match self.take(letter) {
+            Some(value) => value.semitones(),
+            None => None,
+        }
+    }
+
+    /// Takes out the value of the option of a letter, if it was given and is of this kind.
+    pub(crate) fn duration(&mut self, letter: u8) -> Option<TimebaseOptions>
+        ensures value { option_map pace_of result
+            ≡ option_and_then as_duration (value_at letter self.old) }
+        ensures rest { self.new ≡ without letter self.old }
+    {
+        match self.take(letter) {
+            Some(value) => value.duration(),
+            None => None,
+        }
+    }
 }

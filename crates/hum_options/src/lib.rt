@@ -10,6 +10,7 @@
 mod faults;
 mod given;
 mod grammar;
+mod kinds;
 //mod letters;
 mod options;
 //mod reading;

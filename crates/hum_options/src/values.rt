@@ -37,6 +37,7 @@ pub(crate) struct Semitones {
 }
 
 /// What an option was given.
+#[derive(Drop)]
 pub(crate) enum Value {
     /// nothing: it stands alone
     Nothing,
@@ -51,24 +52,4 @@ pub(crate) enum Value {
     Steps(Steps),
     Semitones(Semitones),
     Duration(TimebaseOptions),
-}
-
-// Written out, so that a caller's proof sees one call.
-impl Drop for Value {
-    fn drop(self) {
-        match self {
-            Value::Nothing => {}
-            Value::Fields(_ranges) => {}
-            Value::Names(_names) => {}
-            Value::Name(_name) => {}
-            Value::Text(_text) => {}
-            Value::Ranges(_ranges) => {}
-            Value::Label(_label) => {}
-            Value::Pattern(_pattern) => {}
-            Value::Count(_count) => {}
-            Value::Steps(_steps) => {}
-            Value::Semitones(_semitones) => {}
-            Value::Duration(_options) => {}
-        }
-    }
 }
