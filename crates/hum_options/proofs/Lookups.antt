@@ -3,10 +3,11 @@ use Rattle.std.proofs.Common.{◌≡◌, ℕ, suc, ◌+◌, ◌<◌, ◌≤◌, 
 use Rattle.std.proofs.Common.{length, take, drop, get_or, refl, ap, sym, ◌∙◌, arith, position, is_some}
 use Rattle.std.specs.Prelude.{map, ◌||◌, if◌then◌else◌, nat_lt, remove}
 use Rattle.std.specs.List.{list_any, prefix_len}
-use Rattle.std.specs.Option.{unwrap_or}
-use Rattle.std.proofs.lemmas.Bool.{ltb-true, ltb-false}
+use Rattle.std.specs.Option.{unwrap_or, option_and_then}
+use Rattle.std.proofs.lemmas.Bool.{ltb-true, ltb-false, eqb-true}
 use Rattle.hum_path.proofs.Cases.{by_bool}
 use Rattle.hum_options.specs.declared.given.GivenOption.{GivenOption}
+use Rattle.hum_options.specs.Values.{Value}
 use Rattle.hum_options.specs.Meant.{Given, value_at, without}
 use Rattle.hum_options.specs.Seen.{seen, given_of}
 
@@ -108,3 +109,18 @@ pub is_given : (b : ℕ) (xs : List GivenOption) (found : Option ℕ)
 is_given b xs None lost = ap is_some (nothing_taken b xs lost).0
 is_given b xs (Some k) found =
     sym (something_there b xs (place_found found).1)
+
+-- the others keep their values
+pub value_at-without : (a b : ℕ) (xs : List Given) → (b == a) ≡ false
+    → value_at a (without b xs) ≡ value_at a xs
+value_at-without a b [] other = refl
+value_at-without a b (x ∷ xs) other =
+    by_bool (x.letter == b)
+    (λ w. let same : x.letter ≡ b = eqb-true x.letter b w in rw (w, same, other) refl)
+    (λ w. rw w (ap (λ o. if x.letter == a then Some x.value else o) (value_at-without a b xs other)))
+
+-- and so do they after the value of a letter was taken
+pub kept : {A : Type 0} (as_kind : Value → Option A) (a b : ℕ) (old new : List Given) → new ≡ without b old
+    → (b == a) ≡ false → option_and_then as_kind (value_at a new) ≡ option_and_then as_kind (value_at a old)
+kept as_kind a b old new is other =
+    ap (λ xs. option_and_then as_kind (value_at a xs)) is ∙ ap (option_and_then as_kind) (value_at-without a b old other)

@@ -119,33 +119,54 @@ both f None second = None
 both f (Some a) second = option_map (f a) second
 
 -- `-f`, or `-i`
+abbrev pub fields_meant : List Given → Option choice.Choice
+fields_meant given =
+    option_map (λ ranges. choice.Fields (map range_of ranges)) (get as_fields (codes "f") given)
+
 abbrev pub choice_meant : List Given → Option choice.Choice
 choice_meant given =
-    option_or (option_map (λ fields. choice.Fields (map range_of fields)) (get as_fields (codes "f") given))
-    (option_map choice.Names (get as_names (codes "i") given))
+    option_or (fields_meant given) (option_map choice.Names (get as_names (codes "i") given))
+
+-- `-b` and `-e`
+abbrev pub phrase_meant : List Given → Option Span
+phrase_meant given =
+    both Phrase (get as_pattern (codes "b") given) (get as_pattern (codes "e") given)
 
 -- `-n`, or `-b` and `-e`
 abbrev pub span_meant : List Given → Option Span
 span_meant given =
-    option_or (option_map Number (get as_count (codes "n") given))
-    (both Phrase (get as_pattern (codes "b") given) (get as_pattern (codes "e") given))
+    option_or (option_map Number (get as_count (codes "n") given)) (phrase_meant given)
 
--- `-l`, `-n`, `-o` with `-e` or without, or `-s`
+-- `-s`
+abbrev pub labels_meant : List Given → Option Markers
+labels_meant given = option_map Labels (get as_label (codes "s") given)
+
+-- `-o` with `-e` or without, or `-s`
+abbrev pub occurrences_meant : List Given → Option Markers
+occurrences_meant given =
+    option_or (option_map (λ begins. Occurrences begins (get as_pattern (codes "e") given))
+    (get as_pattern (codes "o") given)) (labels_meant given)
+
+-- `-n`, or one of these
+abbrev pub numbers_meant : List Given → Option Markers
+numbers_meant given =
+    option_or (option_map Numbers (get as_pattern (codes "n") given)) (occurrences_meant given)
+
+-- `-l`, or one of these
 abbrev pub markers_meant : List Given → Option Markers
-markers_meant given =
-    if has (codes "l") given then Some Lines
-    else option_or (option_map Numbers (get as_pattern (codes "n") given))
-    (option_or (option_map (λ begins. Occurrences begins (get as_pattern (codes "e") given))
-    (get as_pattern (codes "o") given))
-    (option_map Labels (get as_label (codes "s") given)))
+markers_meant given = if has (codes "l") given then Some Lines else numbers_meant given
 
--- `-i`, `-o`, and `-d`, which is a space where it isn't given
+-- `-d`, or a space
+abbrev pub separator_meant : List Given → List ℕ
+separator_meant given = unwrap_or (get as_text (codes "d") given) (codes " ")
+
+-- `-i` and `-o`, and `-d` or a space
 abbrev pub cleave_meant : List Given → Option cleave.Options
 cleave_meant given =
     both (λ name new_name. record {
       name = name;
       new_name = new_name;
-      separator = unwrap_or (get as_text (codes "d") given) (codes " ");
+      separator = separator_meant given;
     }) (get as_name (codes "i") given) (get as_name (codes "o") given)
 
 abbrev pub ditto_meant : List Given → DittoOptions

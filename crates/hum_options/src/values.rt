@@ -1,5 +1,5 @@
 //! What options are given.
-ghost use Rattle.std.specs.Prelude.{◌≡◌, ◌≤◌, nat_abs, true};
+ghost use Rattle.std.specs.Prelude.{◌≡◌, ◌≤◌, nat_abs, true, codes, IfOk};
 ghost use Rattle.hum_cleave.specs.Cleave.{is_name, fits_in_token};
 
 use hum_context::TokenCount;
@@ -7,6 +7,7 @@ use hum_extract::FieldRange;
 use hum_pattern::Pattern;
 use hum_timebase::TimebaseOptions;
 use hum_yank::YankRange;
+use std::alloc::{AllocError, Global};
 
 /// The name of an exclusive interpretation.
 #[derive(Drop)]
@@ -20,6 +21,16 @@ pub(crate) struct Name {
 pub(crate) struct Separator {
     pub(crate) text: Vec<u8>,
     ghost lawful: { fits_in_token text.items ≡ true },
+}
+
+impl Separator {
+    /// One space.
+    pub(crate) fn space(alloc: Global) -> Result<Separator, AllocError>
+        ensures { IfOk result (λ separator. separator.text.items ≡ codes " ") }
+    {
+        let text = b" ".to_vec(alloc)?;
+        Ok(Separator { text })
+    }
 }
 
 /// Diatonic steps, up or down.
