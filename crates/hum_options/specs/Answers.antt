@@ -3,6 +3,7 @@ use Rattle.std.specs.Prelude.{◌≡◌, ℕ, Bool, true, false, not, ◌&&◌, 
 use Rattle.std.specs.Prelude.{List, [], ◌∷◌, ◌++◌, map, Option, None, Some, Result, Ok, Err}
 use Rattle.std.specs.Prelude.{MatchBool}
 use Rattle.std.specs.List.{list_any}
+use Rattle.std.specs.Option.{option_or}
 use lib.Chars.{codes}
 use Rattle.hum_options.specs.declared.tools.Tool.{Tool}
 use Rattle.hum_options.specs.declared.tools.Tool.TheVariants as tool
@@ -13,7 +14,9 @@ use Rattle.hum_options.specs.declared.faults.Refusal.{Refusal}
 use Rattle.hum_options.specs.declared.faults.OptionRule.{OptionRule}
 use Rattle.hum_options.specs.declared.faults.OptionRule.TheVariants.{N8, N9, N10, N11, N12}
 use Rattle.hum_options.specs.declared.faults.OptionFault.{OptionFault}
-use Rattle.hum_options.specs.Options.{excludes, option_of}
+use Rattle.hum_options.specs.declared.reading.Turn.{Turn}
+use Rattle.hum_options.specs.declared.reading.Turn.TheVariants.{Free, Awaits}
+use Rattle.hum_options.specs.Options.{letter, excludes, option_of}
 use Rattle.hum_options.specs.Values.{Value, Nothing, Pattern, value_of, IsRefused}
 use Rattle.hum_options.specs.Values.{IsSound}
 use Rattle.hum_options.specs.Meant.{Given, Options, Rid, meant}
@@ -55,11 +58,6 @@ is_alone _ = false
 abbrev pub with_value : List Given → CommandOption → Value → List Given
 with_value given option value = given ++ record { letter = option.letter; value = value } ∷ []
 
--- Where words stand: in front of an option, or of the value of the option that is word n.
-pub data Turn : Type 0 where
-  Free : Turn
-  Awaits : ℕ → CommandOption → Turn
-
 -- What the options mean together, or N9 at the command where one that it requires is missing.
 abbrev pub together : ℕ → Option Options → Answer
 together n None = fault n N9
@@ -94,27 +92,36 @@ Answers tool n given (Awaits k option) ((m, text) ∷ words) answer =
     AtValue m (λ value. Answers tool n (with_value given option value) Free words answer)
     (value_of option.kind text) answer
 
--- The answer to rid's words: the first that isn't of letters is N8; one that drops all
--- interpretations where the stage isn't the last is N11; no word at all is N9 at the command.
+-- The fault of a word of rid: it isn't of letters, or it drops all interpretations and the stage isn't
+-- the last.
+abbrev pub word_fault : Bool → Word → Option OptionFault
+word_fault is_last (n, word) =
+    if not (is_letter_word word) then Some (record { word = n; rule = N8 })
+    else if not is_last && has_letter (letter (codes "I")) word
+    then Some (record { word = n; rule = N11 })
+    else None
+
+-- the first of them
 abbrev pub rid_fault : Bool → List Word → Option OptionFault
 rid_fault is_last [] = None
-rid_fault is_last ((k, word) ∷ words) =
-    if not (is_letter_word word) then Some (record { word = k; rule = N8 })
-    else if not is_last && has_letter (codes "I") word then Some (record { word = k; rule = N11 })
-    else rid_fault is_last words
+rid_fault is_last (word ∷ words) = option_or (word_fault is_last word) (rid_fault is_last words)
 
 abbrev pub text_of_word : Word → List ℕ
-text_of_word (k, word) = word
+text_of_word (n, word) = word
+
+abbrev pub has_none : List Word → Bool
+has_none [] = true
+has_none (word ∷ words) = false
 
 -- the first fault, or what the words drop
 abbrev pub rid_of : List Word → Option OptionFault → Answer
 rid_of words (Some found) = Err found
 rid_of words None = Ok (Rid (dropped (map text_of_word words)))
 
+-- The answer to rid's words: no word at all is N9 at the command.
 abbrev pub rid_answer : ℕ → Bool → List Word → Answer
-rid_answer n is_last [] = fault n N9
-rid_answer n is_last (word ∷ words) =
-    rid_of (word ∷ words) (rid_fault is_last (word ∷ words))
+rid_answer n is_last words =
+    if has_none words then fault n N9 else rid_of words (rid_fault is_last words)
 
 abbrev pub is_rid : Tool → Bool
 is_rid tool.Rid = true

@@ -21,8 +21,10 @@ use Rattle.hum_options.specs.declared.grammar.ValueError.TheVariants.{Memory as 
 use Rattle.hum_options.specs.declared.given.GivenOption.{GivenOption}
 use Rattle.hum_options.specs.declared.together.CommandOptions.{CommandOptions}
 use Rattle.hum_options.specs.declared.together.CommandOptions.TheVariants as command
+use Rattle.hum_options.specs.declared.reading.Turn.{Turn}
 use Rattle.hum_options.specs.declared.faults.OptionError.{OptionError}
 use Rattle.hum_options.specs.declared.faults.OptionError.TheVariants as failed
+use Rattle.hum_options.specs.declared.faults.OptionRule.TheVariants.{N10, N12}
 use Rattle.hum_options.specs.Values.{Value, Nothing, Fields, Names, Name, Text, Ranges, Label}
 use Rattle.hum_options.specs.Values.{Pattern, Count, Steps, Semitones, Duration}
 use Rattle.hum_options.specs.Values.{value_of, IsSound, IsRefused}
@@ -30,7 +32,7 @@ use Rattle.hum_options.specs.Meant.{Given}
 use Rattle.hum_options.specs.Meant.{Options, Span, Number, Phrase, Markers, Lines, Numbers}
 use Rattle.hum_options.specs.Meant.{Occurrences, Labels, Rid, Extract, Ditto, Timebase, Context}
 use Rattle.hum_options.specs.Meant.{Trans, Semits, Mint, Recip, Yank, Cleave}
-use Rattle.hum_options.specs.Answers.{Word, IsAnswer}
+use Rattle.hum_options.specs.Answers.{Word, Answer}
 
 -- a value, wherever its list or its text lies
 abbrev pub seen : WrittenValue → Value
@@ -91,8 +93,20 @@ words_before_bar (item.Bar n ∷ items) = []
 abbrev pub words_of : List Piece → List Word
 words_of pieces = words_before_bar (items_of pieces)
 
--- what was answered is an answer to the words, unless memory ran out
-abbrev pub Tells : Tool → ℕ → Bool → List Word → Result CommandOptions OptionError → Type 0
-Tells tool n is_last words (Ok options) = IsAnswer tool n is_last words (Ok (options_of options))
-Tells tool n is_last words (Err (failed.Fault found)) = IsAnswer tool n is_last words (Err found)
-Tells tool n is_last words (Err failed.Memory) = Unit {0}
+-- What was answered is a lawful answer, unless memory ran out.
+abbrev pub Tells : (Answer → Type 0) → Result CommandOptions OptionError → Type 0
+Tells Lawful (Ok options) = Lawful (Ok (options_of options))
+Tells Lawful (Err (failed.Fault found)) = Lawful (Err found)
+Tells Lawful (Err failed.Memory) = Unit {0}
+
+-- Each lawful answer behind a word is one in front of it, and so is a fault that was found.
+abbrev pub GoesOn : (Answer → Type 0) → (Turn → Answer → Type 0) → Result Turn OptionError → Type 0
+GoesOn Lawful Behind (Ok turn) = (answer : Answer) → Behind turn answer → Lawful answer
+GoesOn Lawful Behind (Err (failed.Fault found)) = Lawful (Err found)
+GoesOn Lawful Behind (Err failed.Memory) = Unit {0}
+
+-- the fault of a value that is word n
+abbrev pub value_fault : ℕ → ValueError → OptionError
+value_fault n Grammar = failed.Fault (record { word = n; rule = N10 })
+value_fault n (Refused refusal) = failed.Fault (record { word = n; rule = N12 refusal })
+value_fault n NoMemory = failed.Memory

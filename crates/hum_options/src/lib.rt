@@ -11,16 +11,15 @@ mod faults;
 mod given;
 mod grammar;
 mod kinds;
-//mod letters;
+mod letters;
 mod options;
-//mod reading;
+mod reading;
 mod together;
 mod tools;
 mod values;
-mod words;
 
 pub use faults::{OptionError, OptionFault, OptionRule, Refusal};
-//pub use reading::read_options;
+pub use reading::read_options;
 pub use together::CommandOptions;
 pub use tools::Tool;
 
