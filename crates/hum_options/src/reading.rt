@@ -26,10 +26,10 @@ enum Turn {
 }
 
 /// The option that a word is, if it may come behind those that were given.
-fn next_option(tool: Tool, given: &GivenOptions, word: &[u8]) -> Option<CommandOption>
+fn next_option(tool: Tool, given: &GivenOptions, word: &str) -> Option<CommandOption>
     ensures { result ≡ next_option tool given.now word.now }
 {
-    let option = option_of(tool, word)?;
+    let option = option_of(tool, word.as_bytes())?;
     if given.is_barred(tool, option) {
         None
     } else {
@@ -86,7 +86,7 @@ fn at_option(
         (Answers tool n given.old Free ((number, word.now) ∷ words))
         (λ turn. Answers tool n given.new turn words) result }
 {
-    let Some(option) = next_option(tool, given, word.as_bytes()) else {
+    let Some(option) = next_option(tool, given, word) else {
         return Err(OptionError::Fault(OptionFault {
             word: number,
             rule: OptionRule::N8,
@@ -128,16 +128,16 @@ fn at_end(
 ) -> Result<CommandOptions, OptionError>
     ensures { Tells (Answers tool number given turn []) result }
 {
-    if let Turn::Awaits(place, _) = turn {
-        return Err(OptionError::Fault(OptionFault {
+    match turn {
+        Turn::Free => match put_together(alloc, tool, given)? {
+            Some(options) => Ok(options),
+            None => Err(OptionError::Fault(OptionFault {
+                word: number,
+                rule: OptionRule::N9,
+            })),
+        },
+        Turn::Awaits(place, _) => Err(OptionError::Fault(OptionFault {
             word: place,
-            rule: OptionRule::N9,
-        }));
-    }
-    match put_together(alloc, tool, given)? {
-        Some(options) => Ok(options),
-        None => Err(OptionError::Fault(OptionFault {
-            word: number,
             rule: OptionRule::N9,
         })),
     }
