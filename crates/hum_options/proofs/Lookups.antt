@@ -27,11 +27,11 @@ pub value_there : (b : ℕ) (d : GivenOption) (xs : List GivenOption) → before
 value_there b d [] h = absurd (omega (arith, h))
 value_there b d (x ∷ xs) h =
     elim (x.letter == b) as (λ t. cond (not t) (1 + before b xs) 0 < suc (length xs)
-        → (if t then Some (seen x.value) else value_at b (map given_of xs))
-        ≡ Some (seen (get_or (x ∷ xs) (cond (not t) (1 + before b xs) 0) d).value)) [
-      true ↦ λ within. refl
+    → (if t then Some (seen x.value) else value_at b (map given_of xs))
+    ≡ Some (seen (get_or (x ∷ xs) (cond (not t) (1 + before b xs) 0) d).value)) [
+      | true ↦ λ within. refl
       | false ↦ λ within. let e : 1 + before b xs ≡ suc (before b xs) = omega arith in
-      rw e (value_there b d xs (omega (arith, within)))
+          rw e (value_there b d xs (omega (arith, within)))
     ] h
 
 pub something_there : (b : ℕ) (xs : List GivenOption) → before b xs < length xs
@@ -39,8 +39,8 @@ pub something_there : (b : ℕ) (xs : List GivenOption) → before b xs < length
 something_there b [] h = absurd (omega (arith, h))
 something_there b (x ∷ xs) h =
     elim (x.letter == b) as (λ t. cond (not t) (1 + before b xs) 0 < suc (length xs)
-        → is_some (if t then Some (seen x.value) else value_at b (map given_of xs)) ≡ true) [
-      true ↦ λ within. refl
+    → is_some (if t then Some (seen x.value) else value_at b (map given_of xs)) ≡ true) [
+      | true ↦ λ within. refl
       | false ↦ λ within. something_there b xs (omega (arith, within))
     ] h
 
@@ -50,11 +50,11 @@ pub rest_there : (b : ℕ) (xs : List GivenOption) → before b xs < length xs
 rest_there b [] h = absurd (omega (arith, h))
 rest_there b (x ∷ xs) h =
     elim (x.letter == b) as (λ t. cond (not t) (1 + before b xs) 0 < suc (length xs)
-        → map given_of (remove (x ∷ xs) (cond (not t) (1 + before b xs) 0))
-        ≡ (if t then map given_of xs else given_of x ∷ without b (map given_of xs))) [
-      true ↦ λ within. refl
+    → map given_of (remove (x ∷ xs) (cond (not t) (1 + before b xs) 0))
+    ≡ (if t then map given_of xs else given_of x ∷ without b (map given_of xs))) [
+      | true ↦ λ within. refl
       | false ↦ λ within. let e : 1 + before b xs ≡ suc (before b xs) = omega arith in
-      rw e (ap (λ (ys : List Given). given_of x ∷ ys) (rest_there b xs (omega (arith, within))))
+          rw e (ap (λ (ys : List Given). given_of x ∷ ys) (rest_there b xs (omega (arith, within))))
     ] h
 
 -- where none is of the letter
@@ -63,11 +63,11 @@ pub nothing_there : (b : ℕ) (xs : List GivenOption) → length xs ≤ before b
 nothing_there b [] h = (refl, refl)
 nothing_there b (x ∷ xs) h =
     elim (x.letter == b) as (λ t. suc (length xs) ≤ cond (not t) (1 + before b xs) 0
-        → ((if t then Some (seen x.value) else value_at b (map given_of xs)) ≡ None)
-        × ((if t then map given_of xs else given_of x ∷ without b (map given_of xs)) ≡ given_of x ∷ map given_of xs)) [
-      true ↦ λ within. absurd (omega (arith, within))
+    → ((if t then Some (seen x.value) else value_at b (map given_of xs)) ≡ None)
+    × ((if t then map given_of xs else given_of x ∷ without b (map given_of xs)) ≡ given_of x ∷ map given_of xs)) [
+      | true ↦ λ within. absurd (omega (arith, within))
       | false ↦ λ within. let none = nothing_there b xs (omega (arith, within)) in
-      (none.0, ap (λ (ys : List Given). given_of x ∷ ys) none.1)
+          (none.0, ap (λ (ys : List Given). given_of x ∷ ys) none.1)
     ] h
 
 -- a place that was found, and one that wasn't

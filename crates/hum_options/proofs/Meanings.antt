@@ -71,8 +71,13 @@ numbers_taken given new found none is rest =
 
 pub markers-without : (given : List Given) → markers_meant (without 114 given) ≡ markers_meant given
 markers-without given =
-    rw (value_at-without 108 114 given refl, value_at-without 110 114 given refl, value_at-without 111 114 given refl,
-    value_at-without 101 114 given refl, value_at-without 115 114 given refl) refl
+    rw (
+      value_at-without 108 114 given refl,
+      value_at-without 110 114 given refl,
+      value_at-without 111 114 given refl,
+      value_at-without 101 114 given refl,
+      value_at-without 115 114 given refl,
+    ) refl
 
 both_there : (found : Option Markers) (ranges : List YankRange)
     → option_map (λ markers. Yank markers ranges) found ≡ both Yank found (Some ranges)

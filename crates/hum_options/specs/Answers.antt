@@ -33,18 +33,17 @@ Answer = Result Options OptionFault
 abbrev pub fault : ℕ → OptionRule → Answer
 fault number rule = Err (record { word = number; rule = rule })
 
--- whether an option that was given is the same or excludes it
-abbrev pub bars : Tool → CommandOption → Given → Bool
-bars tool option given =
-    given.letter == option.letter || excludes tool given.letter option.letter
+-- whether an option that was given has the letter or excludes that of the letter
+abbrev pub bars : Tool → ℕ → Given → Bool
+bars tool b given = given.letter == b || excludes tool given.letter b
 
-abbrev pub is_barred : Tool → List Given → CommandOption → Bool
-is_barred tool given option = list_any (bars tool option) given
+abbrev pub is_barred : Tool → List Given → ℕ → Bool
+is_barred tool given b = list_any (bars tool b) given
 
 abbrev pub unless_barred : Tool → List Given → Option CommandOption → Option CommandOption
 unless_barred tool given None = None
 unless_barred tool given (Some option) =
-    if is_barred tool given option then None else Some option
+    if is_barred tool given option.letter then None else Some option
 
 -- the option that a word is, if it may come behind those that were given
 abbrev pub next_option : Tool → List Given → List ℕ → Option CommandOption

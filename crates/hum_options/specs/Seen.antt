@@ -2,7 +2,7 @@
 use Rattle.std.specs.Prelude.{◌≡◌, ℕ, Bool, List, [], ◌∷◌, map, Option, None, Some, Result, Ok, Err}
 use Rattle.std.specs.Option.{option_map}
 use Rattle.hum_path.specs.Spines.{texts}
-use Rattle.hum_words.specs.Pieces.{Item, items_of} 
+use Rattle.hum_words.specs.Pieces.{Item, items_of}
 use Rattle.hum_words.specs.Pieces as item
 use Rattle.hum_words.specs.declared.cutting.Piece.{Piece}
 use Rattle.hum_extract.specs.Written.{choice_of}

@@ -11,7 +11,7 @@ ghost use Rattle.hum_options.specs.Meant.{as_semitones, as_duration};
 ghost use Rattle.hum_options.specs.Seen.{seen, given_of};
 ghost use Rattle.hum_timebase.specs.Following.{pace_of};
 
-use crate::options::{CommandOption, excludes};
+use crate::options::excludes;
 use crate::tools::Tool;
 use crate::values::{Name, Semitones, Separator, Steps, Value};
 use hum_context::TokenCount;
@@ -30,18 +30,18 @@ pub(crate) struct GivenOption {
 }
 
 impl GivenOption {
-    /// Whether it is the option or excludes it.
-    fn bars(&self, tool: Tool, option: CommandOption) -> bool
-        ensures { result ≡ bars tool option (given_of self.now) }
+    /// Whether it is the option of a letter or excludes it.
+    fn bars(&self, tool: Tool, letter: u8) -> bool
+        ensures { result ≡ bars tool letter (given_of self.now) }
     {
-        self.letter == option.letter || excludes(tool, self.letter, option.letter)
+        self.letter == letter || excludes(tool, self.letter, letter)
     }
 }
 
-fn bar(entries: &[GivenOption], tool: Tool, option: CommandOption) -> bool
-    ensures { result ≡ list_any (λ g. bars tool option (given_of g)) entries.now }
+fn are_barring(entries: &[GivenOption], tool: Tool, letter: u8) -> bool
+    ensures { result ≡ list_any (λ g. bars tool letter (given_of g)) entries.now }
 {
-    entries.iter().any(|given| given.bars(tool, option))
+    entries.iter().any(|given| given.bars(tool, letter))
 }
 
 /// Where the first option of a letter stands.
@@ -86,11 +86,11 @@ impl GivenOptions {
         Ok(())
     }
 
-    /// Whether an option was given that is the same or excludes it.
-    pub(crate) fn is_barred(&self, tool: Tool, option: CommandOption) -> bool
-        ensures { result ≡ is_barred tool self.now option }
+    /// Whether the option of a letter was given, or one that excludes it.
+    pub(crate) fn is_barred(&self, tool: Tool, letter: u8) -> bool
+        ensures { result ≡ is_barred tool self.now letter }
     {
-        bar(&self.entries, tool, option)
+        are_barring(&self.entries, tool, letter)
     }
 
     /// Whether the option of a letter was given.

@@ -23,5 +23,5 @@ pub use reading::read_options;
 pub use together::CommandOptions;
 pub use tools::Tool;
 
-//#[cfg(test)]
-//mod tests;
+#[cfg(test)]
+mod tests;

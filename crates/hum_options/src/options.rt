@@ -49,46 +49,121 @@ fn table(tool: Tool) -> &'static [CommandOption]
     match tool {
         Tool::Rid => &[],
         Tool::Extract => &[
-            CommandOption { letter: b'f', kind: Kind::Fields },
-            CommandOption { letter: b'i', kind: Kind::Names },
+            CommandOption {
+                letter: b'f',
+                kind: Kind::Fields,
+            },
+            CommandOption {
+                letter: b'i',
+                kind: Kind::Names,
+            },
         ],
         Tool::Ditto => &[
-            CommandOption { letter: b's', kind: Kind::Pattern },
-            CommandOption { letter: b'p', kind: Kind::Alone },
+            CommandOption {
+                letter: b's',
+                kind: Kind::Pattern,
+            },
+            CommandOption {
+                letter: b'p',
+                kind: Kind::Alone,
+            },
         ],
-        Tool::Timebase => &[CommandOption { letter: b't', kind: Kind::Duration }],
+        Tool::Timebase => &[CommandOption {
+            letter: b't',
+            kind: Kind::Duration,
+        }],
         Tool::Context => &[
-            CommandOption { letter: b'n', kind: Kind::Count },
-            CommandOption { letter: b'b', kind: Kind::Pattern },
-            CommandOption { letter: b'e', kind: Kind::Pattern },
-            CommandOption { letter: b'o', kind: Kind::Pattern },
+            CommandOption {
+                letter: b'n',
+                kind: Kind::Count,
+            },
+            CommandOption {
+                letter: b'b',
+                kind: Kind::Pattern,
+            },
+            CommandOption {
+                letter: b'e',
+                kind: Kind::Pattern,
+            },
+            CommandOption {
+                letter: b'o',
+                kind: Kind::Pattern,
+            },
         ],
         Tool::Trans => &[
-            CommandOption { letter: b'd', kind: Kind::Steps },
-            CommandOption { letter: b'c', kind: Kind::Semitones },
+            CommandOption {
+                letter: b'd',
+                kind: Kind::Steps,
+            },
+            CommandOption {
+                letter: b'c',
+                kind: Kind::Semitones,
+            },
         ],
         Tool::Semits => &[
-            CommandOption { letter: b'x', kind: Kind::Alone },
-            CommandOption { letter: b't', kind: Kind::Alone },
+            CommandOption {
+                letter: b'x',
+                kind: Kind::Alone,
+            },
+            CommandOption {
+                letter: b't',
+                kind: Kind::Alone,
+            },
         ],
         Tool::Mint => &[
-            CommandOption { letter: b'a', kind: Kind::Alone },
-            CommandOption { letter: b'd', kind: Kind::Alone },
-            CommandOption { letter: b'b', kind: Kind::Pattern },
+            CommandOption {
+                letter: b'a',
+                kind: Kind::Alone,
+            },
+            CommandOption {
+                letter: b'd',
+                kind: Kind::Alone,
+            },
+            CommandOption {
+                letter: b'b',
+                kind: Kind::Pattern,
+            },
         ],
         Tool::Recip => &[],
         Tool::Yank => &[
-            CommandOption { letter: b'l', kind: Kind::Alone },
-            CommandOption { letter: b'n', kind: Kind::Pattern },
-            CommandOption { letter: b'o', kind: Kind::Pattern },
-            CommandOption { letter: b'e', kind: Kind::Pattern },
-            CommandOption { letter: b's', kind: Kind::Label },
-            CommandOption { letter: b'r', kind: Kind::Ranges },
+            CommandOption {
+                letter: b'l',
+                kind: Kind::Alone,
+            },
+            CommandOption {
+                letter: b'n',
+                kind: Kind::Pattern,
+            },
+            CommandOption {
+                letter: b'o',
+                kind: Kind::Pattern,
+            },
+            CommandOption {
+                letter: b'e',
+                kind: Kind::Pattern,
+            },
+            CommandOption {
+                letter: b's',
+                kind: Kind::Label,
+            },
+            CommandOption {
+                letter: b'r',
+                kind: Kind::Ranges,
+            },
         ],
         Tool::Cleave => &[
-            CommandOption { letter: b'i', kind: Kind::Name },
-            CommandOption { letter: b'o', kind: Kind::Name },
-            CommandOption { letter: b'd', kind: Kind::Text },
+            CommandOption {
+                letter: b'i',
+                kind: Kind::Name,
+            },
+            CommandOption {
+                letter: b'o',
+                kind: Kind::Name,
+            },
+            CommandOption {
+                letter: b'd',
+                kind: Kind::Text,
+            },
         ],
     }
 }

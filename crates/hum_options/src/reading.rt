@@ -30,7 +30,7 @@ fn next_option(tool: Tool, given: &GivenOptions, word: &str) -> Option<CommandOp
     ensures { result ≡ next_option tool given.now word.now }
 {
     let option = option_of(tool, word.as_bytes())?;
-    if given.is_barred(tool, option) {
+    if given.is_barred(tool, option.letter) {
         None
     } else {
         Some(option)

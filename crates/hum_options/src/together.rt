@@ -204,11 +204,7 @@ fn cleave(alloc: Global, mut given: GivenOptions) -> Result<Option<CommandOption
         return Ok(None);
     };
     let separator = separator(alloc, given)?;
-    Ok(Some(CommandOptions::Cleave(CleaveOptions::new(
-        name.text,
-        new_name.text,
-        separator.text,
-    ))))
+    Ok(Some(CommandOptions::Cleave(CleaveOptions::new(name.text, new_name.text, separator.text))))
 }
 
 /// What the options that were given are together, unless one is missing that the command requires.
