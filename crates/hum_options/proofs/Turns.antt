@@ -21,7 +21,7 @@ use Rattle.hum_options.specs.declared.reading.Turn.TheVariants.{Free, Awaits}
 use Rattle.hum_options.specs.Answers.{Word, Answer, AtValue, Answers, fault, next_option, is_alone, with_value, together}
 use Rattle.hum_options.specs.Seen.{GivesValue, GoesOn, Tells, value_fault, seen, words_of}
 
-sound : (m : ℕ) (Goes : Value → Type 0) (value : Value) (answer : Answer) → IsSound value → Goes value
+pub sound : (m : ℕ) (Goes : Value → Type 0) (value : Value) (answer : Answer) → IsSound value → Goes value
     → AtValue m Goes (Some value) answer
 sound m Goes Nothing answer is goes = goes
 sound m Goes (Fields x) answer is goes = goes

@@ -4,3 +4,4 @@ pub mod Meant
 pub mod Letters
 pub mod Answers
 pub mod Seen
+pub mod Spelling

@@ -11,6 +11,7 @@ mod faults;
 mod given;
 mod grammar;
 mod kinds;
+pub mod laws;
 mod letters;
 mod options;
 mod reading;
