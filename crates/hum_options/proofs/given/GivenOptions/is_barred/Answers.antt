@@ -1,0 +1,9 @@
+use Rattle.std.proofs.Common.{◌≡◌, sym, ◌∙◌, ap}
+use Rattle.std.specs.List.{list_any}
+use Rattle.hum_options.specs.Answers.{bars}
+use Rattle.hum_options.proofs.Lookups.{any_given}
+use Rattle.hum_options.proofs.given.GivenOptions.is_barred.Goals as goal
+
+pub returns : goal.returns
+returns c =
+    rw (← c.self.view_is) (rw (any_given (bars c.args.tool c.args.letter) c.self.inside.entries.items, ← c.deref.ensures.value) c.are_barring.ensures)

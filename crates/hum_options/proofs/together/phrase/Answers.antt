@@ -1,0 +1,10 @@
+use Rattle.hum_options.proofs.Meanings.{phrase_taken}
+use Rattle.hum_options.proofs.together.phrase.Goals as goal
+
+pub returns-in_err-end : goal.returns-in_err-end
+returns-in_err-end c = rw c.from_residual-in_err-end.ensures
+    (phrase_taken c.args.given _ _ _ c.in_ok-begin.ensures.value c.in_err-end.ensures.value c.pattern.ensures.rest)
+
+pub returns : goal.returns
+returns c =
+    phrase_taken c.args.given _ _ _ c.in_ok-begin.ensures.value c.in_ok-end.ensures.value c.pattern.ensures.rest

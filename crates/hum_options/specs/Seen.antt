@@ -1,0 +1,112 @@
+-- What contracts see of options and words.
+use Rattle.std.specs.Prelude.{◌≡◌, ℕ, Bool, List, [], ◌∷◌, map, Option, None, Some, Result, Ok, Err}
+use Rattle.std.specs.Option.{option_map}
+use Rattle.hum_path.specs.Spines.{texts}
+use Rattle.hum_words.specs.Pieces.{Item, items_of}
+use Rattle.hum_words.specs.Pieces as item
+use Rattle.hum_words.specs.declared.cutting.Piece.{Piece}
+use Rattle.hum_extract.specs.Written.{choice_of}
+use Rattle.hum_timebase.specs.Following.{pace_of}
+use Rattle.hum_context.specs.declared.options.Span.{Span as WrittenSpan}
+use Rattle.hum_context.specs.declared.options.Span.TheVariants as span
+use Rattle.hum_yank.specs.declared.options.Markers.{Markers as WrittenMarkers}
+use Rattle.hum_yank.specs.declared.options.Markers.TheVariants as markers
+use Rattle.hum_options.specs.declared.tools.Tool.{Tool}
+use Rattle.hum_options.specs.declared.options.Kind.{Kind}
+use Rattle.hum_options.specs.declared.values.Value.{Value as WrittenValue}
+use Rattle.hum_options.specs.declared.values.Value.TheVariants as value
+use Rattle.hum_options.specs.declared.grammar.ValueError.{ValueError}
+use Rattle.hum_options.specs.declared.grammar.ValueError.TheVariants.{Grammar, Pattern as Refused}
+use Rattle.hum_options.specs.declared.grammar.ValueError.TheVariants.{Memory as NoMemory}
+use Rattle.hum_options.specs.declared.given.GivenOption.{GivenOption}
+use Rattle.hum_options.specs.declared.together.CommandOptions.{CommandOptions}
+use Rattle.hum_options.specs.declared.together.CommandOptions.TheVariants as command
+use Rattle.hum_options.specs.declared.reading.Turn.{Turn}
+use Rattle.hum_options.specs.declared.faults.OptionError.{OptionError}
+use Rattle.hum_options.specs.declared.faults.OptionError.TheVariants as failed
+use Rattle.hum_options.specs.declared.faults.OptionRule.TheVariants.{N10, N12}
+use Rattle.hum_options.specs.Values.{Value, Nothing, Fields, Names, Name, Text, Ranges, Label}
+use Rattle.hum_options.specs.Values.{Pattern, Count, Steps, Semitones, Duration}
+use Rattle.hum_options.specs.Values.{value_of, IsSound, IsRefused}
+use Rattle.hum_options.specs.Meant.{Given}
+use Rattle.hum_options.specs.Meant.{Options, Span, Number, Phrase, Markers, Lines, Numbers}
+use Rattle.hum_options.specs.Meant.{Occurrences, Labels, Rid, Extract, Ditto, Timebase, Context}
+use Rattle.hum_options.specs.Meant.{Trans, Semits, Mint, Recip, Yank, Cleave}
+use Rattle.hum_options.specs.Answers.{Word, Answer}
+
+-- a value, wherever its list or its text lies
+abbrev pub seen : WrittenValue → Value
+seen value.Nothing = Nothing
+seen (value.Fields ranges) = Fields ranges.items
+seen (value.Names names) = Names (texts names.items)
+seen (value.Name name) = Name name.text.items
+seen (value.Text separator) = Text separator.text.items
+seen (value.Ranges ranges) = Ranges ranges.items
+seen (value.Label text) = Label text.items
+seen (value.Pattern pattern) = Pattern pattern
+seen (value.Count count) = Count count.number
+seen (value.Steps steps) = Steps steps.number
+seen (value.Semitones semitones) = Semitones semitones.number
+seen (value.Duration options) = Duration (pace_of options)
+
+-- what was read is the value of the kind that the text is, unless memory ran out
+abbrev pub GivesValue : Kind → List ℕ → Result WrittenValue ValueError → Type 0
+GivesValue kind text (Ok value) = (value_of kind text ≡ Some (seen value)) × IsSound (seen value)
+GivesValue kind text (Err Grammar) = value_of kind text ≡ None
+GivesValue kind text (Err (Refused refusal)) =
+    (value_of kind text ≡ Some (Pattern text)) × IsRefused refusal text
+GivesValue kind text (Err NoMemory) = Unit {0}
+
+abbrev pub given_of : GivenOption → Given
+given_of given = record { letter = given.letter; value = seen given.value }
+
+abbrev pub span_of : WrittenSpan → Span
+span_of (span.Number count) = Number count.number
+span_of (span.Phrase begin end) = Phrase begin end
+
+abbrev pub markers_of : WrittenMarkers → Markers
+markers_of markers.Lines = Lines
+markers_of (markers.Numbers pattern) = Numbers pattern
+markers_of (markers.Occurrences begins ends) = Occurrences begins ends
+markers_of (markers.Labels text) = Labels text.items
+
+-- options, wherever their lists lie
+abbrev pub options_of : CommandOptions → Options
+options_of (command.Rid options) = Rid options
+options_of (command.Extract choice) = Extract (choice_of choice)
+options_of (command.Ditto options) = Ditto options
+options_of (command.Timebase options) = Timebase (pace_of options)
+options_of (command.Context options) = Context (span_of options.span) options.omit
+options_of (command.Trans options) = Trans options.steps options.semitones
+options_of (command.Semits options) = Semits options
+options_of (command.Mint options) = Mint options
+options_of (command.Recip options) = Recip
+options_of (command.Yank options) = Yank (markers_of options.markers) options.ranges.items
+options_of (command.Cleave options) = Cleave options
+
+-- the words up to the next bar, with their numbers
+abbrev pub words_before_bar : List Item → List Word
+words_before_bar [] = []
+words_before_bar (item.Word n word ∷ items) = (n, word) ∷ words_before_bar items
+words_before_bar (item.Bar n ∷ items) = []
+
+abbrev pub words_of : List Piece → List Word
+words_of pieces = words_before_bar (items_of pieces)
+
+-- What was answered is a lawful answer, unless memory ran out.
+abbrev pub Tells : (Answer → Type 0) → Result CommandOptions OptionError → Type 0
+Tells Lawful (Ok options) = Lawful (Ok (options_of options))
+Tells Lawful (Err (failed.Fault found)) = Lawful (Err found)
+Tells Lawful (Err failed.Memory) = Unit {0}
+
+-- Each lawful answer behind a word is one in front of it, and so is a fault that was found.
+abbrev pub GoesOn : (Answer → Type 0) → (Turn → Answer → Type 0) → Result Turn OptionError → Type 0
+GoesOn Lawful Behind (Ok turn) = (answer : Answer) → Behind turn answer → Lawful answer
+GoesOn Lawful Behind (Err (failed.Fault found)) = Lawful (Err found)
+GoesOn Lawful Behind (Err failed.Memory) = Unit {0}
+
+-- the fault of a value that is word n
+abbrev pub value_fault : ℕ → ValueError → OptionError
+value_fault n Grammar = failed.Fault (record { word = n; rule = N10 })
+value_fault n (Refused refusal) = failed.Fault (record { word = n; rule = N12 refusal })
+value_fault n NoMemory = failed.Memory

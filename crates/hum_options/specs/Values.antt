@@ -1,0 +1,67 @@
+-- The values of options.
+use Rattle.std.specs.Prelude.{◌≡◌, ℕ, ℤ, Bool, true, false, if◌then◌else◌, List}
+use Rattle.std.specs.Prelude.{Option, None, Some, Ok}
+use Rattle.std.specs.Option.{option_map}
+use Rattle.hum_frac.specs.Ratio.{Ratio}
+use Rattle.hum_pattern.specs.Meaning.{IsExpression, IsNone}
+use Rattle.hum_extract.specs.declared.choice.FieldRange.{FieldRange}
+use Rattle.hum_cleave.specs.Cleave.{is_name, fits_in_token}
+use Rattle.hum_yank.specs.declared.options.YankRange.{YankRange}
+use Rattle.hum_timebase.specs.Timebase.{Pace}
+use Rattle.hum_values.specs.Items.{items_of}
+use Rattle.hum_values.specs.Fields.{fields_of, count_of}
+use Rattle.hum_values.specs.Names.{name_of, is_label}
+use Rattle.hum_values.specs.Passages.{passages_of}
+use Rattle.hum_values.specs.Numbers.{signed_of}
+use Rattle.hum_values.specs.Steps.{step_of}
+use Rattle.hum_options.specs.declared.options.Kind.{Kind}
+use Rattle.hum_options.specs.declared.options.Kind.TheVariants as kind
+use Rattle.hum_options.specs.declared.faults.Refusal.{Refusal}
+use Rattle.hum_options.specs.declared.faults.Refusal.TheVariants.{NoExpression, TooLarge}
+
+-- An option that stands alone has nothing as its value.
+pub data Value : Type 0 where
+  Nothing : Value
+  Fields : List FieldRange → Value
+  Names : List (List ℕ) → Value
+  Name : List ℕ → Value
+  Text : List ℕ → Value
+  Ranges : List YankRange → Value
+  Label : List ℕ → Value
+  Pattern : List ℕ → Value
+  Count : ℕ → Value
+  Steps : ℤ → Value
+  Semitones : ℤ → Value
+  Duration : Pace → Value
+
+abbrev pub text_if : (List ℕ → Bool) → List ℕ → Option (List ℕ)
+text_if test text = if test text then Some text else None
+
+-- a step with its text
+abbrev pub paced : List ℕ → Ratio → Pace
+paced text step = record { step = step; text = text }
+
+-- The value of a kind that a text is, if it is one. A text is a pattern where regex takes it.
+abbrev pub value_of : Kind → List ℕ → Option Value
+value_of kind.Alone text = Some Nothing
+value_of kind.Fields text = option_map Fields (items_of fields_of text)
+value_of kind.Names text = option_map Names (items_of name_of text)
+value_of kind.Name text = option_map Name (text_if is_name text)
+value_of kind.Text text = option_map Text (text_if fits_in_token text)
+value_of kind.Ranges text = option_map Ranges (items_of passages_of text)
+value_of kind.Label text = option_map Label (text_if is_label text)
+value_of kind.Pattern text = Some (Pattern text)
+value_of kind.Count text = option_map Count (count_of text)
+value_of kind.Steps text = option_map Steps (signed_of 49 text)
+value_of kind.Semitones text = option_map Semitones (signed_of 84 text)
+value_of kind.Duration text = option_map (λ step. Duration (paced text step)) (step_of text)
+
+-- A pattern is a regular expression; any other value is what its kind asks.
+abbrev pub IsSound : Value → Type 0
+IsSound (Pattern text) = IsExpression text
+IsSound _ = Unit {0}
+
+-- a text is refused for this reason: there is no expression, or it is too large
+abbrev pub IsRefused : Refusal → List ℕ → Type 0
+IsRefused NoExpression text = IsNone text
+IsRefused TooLarge text = IsExpression text

@@ -1,0 +1,219 @@
+//! The options of each command.
+ghost use Rattle.std.specs.Prelude.{◌≡◌, ◌||◌};
+ghost use Rattle.std.specs.List.{find};
+ghost use Rattle.hum_options.specs.Options.{table, is_spelled, option_of, excludes, are_in};
+ghost use Rattle.hum_options.specs.Answers.{is_alone};
+
+use crate::tools::Tool;
+
+/// What an option's value is.
+#[derive(Clone, Copy, Debug, PartialEq, Eq)]
+pub(crate) enum Kind {
+    /// the option stands alone
+    Alone,
+    /// LIST: fields
+    Fields,
+    /// NAMES of exclusive interpretations
+    Names,
+    /// NAME of an exclusive interpretation
+    Name,
+    /// TEXT that can stand in a token
+    Text,
+    /// RANGES of passages
+    Ranges,
+    /// LABEL of a section
+    Label,
+    /// PATTERN
+    Pattern,
+    /// N: a number of tokens
+    Count,
+    /// INT of at most 49
+    Steps,
+    /// INT of at most 84
+    Semitones,
+    /// RECIP: a duration
+    Duration,
+}
+
+/// An option of a command.
+#[derive(Clone, Copy, Debug, PartialEq, Eq)]
+pub(crate) struct CommandOption {
+    pub(crate) letter: u8,
+    pub(crate) kind: Kind,
+}
+
+/// The options of a command. Those of rid are words of letters.
+fn table(tool: Tool) -> &'static [CommandOption]
+    ensures { result.now ≡ table tool }
+{
+    match tool {
+        Tool::Rid => &[],
+        Tool::Extract => &[
+            CommandOption {
+                letter: b'f',
+                kind: Kind::Fields,
+            },
+            CommandOption {
+                letter: b'i',
+                kind: Kind::Names,
+            },
+        ],
+        Tool::Ditto => &[
+            CommandOption {
+                letter: b's',
+                kind: Kind::Pattern,
+            },
+            CommandOption {
+                letter: b'p',
+                kind: Kind::Alone,
+            },
+        ],
+        Tool::Timebase => &[CommandOption {
+            letter: b't',
+            kind: Kind::Duration,
+        }],
+        Tool::Context => &[
+            CommandOption {
+                letter: b'n',
+                kind: Kind::Count,
+            },
+            CommandOption {
+                letter: b'b',
+                kind: Kind::Pattern,
+            },
+            CommandOption {
+                letter: b'e',
+                kind: Kind::Pattern,
+            },
+            CommandOption {
+                letter: b'o',
+                kind: Kind::Pattern,
+            },
+        ],
+        Tool::Trans => &[
+            CommandOption {
+                letter: b'd',
+                kind: Kind::Steps,
+            },
+            CommandOption {
+                letter: b'c',
+                kind: Kind::Semitones,
+            },
+        ],
+        Tool::Semits => &[
+            CommandOption {
+                letter: b'x',
+                kind: Kind::Alone,
+            },
+            CommandOption {
+                letter: b't',
+                kind: Kind::Alone,
+            },
+        ],
+        Tool::Mint => &[
+            CommandOption {
+                letter: b'a',
+                kind: Kind::Alone,
+            },
+            CommandOption {
+                letter: b'd',
+                kind: Kind::Alone,
+            },
+            CommandOption {
+                letter: b'b',
+                kind: Kind::Pattern,
+            },
+        ],
+        Tool::Recip => &[],
+        Tool::Yank => &[
+            CommandOption {
+                letter: b'l',
+                kind: Kind::Alone,
+            },
+            CommandOption {
+                letter: b'n',
+                kind: Kind::Pattern,
+            },
+            CommandOption {
+                letter: b'o',
+                kind: Kind::Pattern,
+            },
+            CommandOption {
+                letter: b'e',
+                kind: Kind::Pattern,
+            },
+            CommandOption {
+                letter: b's',
+                kind: Kind::Label,
+            },
+            CommandOption {
+                letter: b'r',
+                kind: Kind::Ranges,
+            },
+        ],
+        Tool::Cleave => &[
+            CommandOption {
+                letter: b'i',
+                kind: Kind::Name,
+            },
+            CommandOption {
+                letter: b'o',
+                kind: Kind::Name,
+            },
+            CommandOption {
+                letter: b'd',
+                kind: Kind::Text,
+            },
+        ],
+    }
+}
+
+impl CommandOption {
+    /// Whether a word is `-` and the option's letter.
+    fn is_spelled(self, word: &[u8]) -> bool
+        ensures { result ≡ is_spelled word.now self }
+    {
+        word == [b'-', self.letter].as_slice()
+    }
+}
+
+/// The option that a word is, if it is one of the command.
+pub(crate) fn option_of(tool: Tool, word: &[u8]) -> Option<CommandOption>
+    ensures { result ≡ option_of tool word.now }
+{
+    table(tool)
+        .iter()
+        .copied()
+        .find(|option| option.is_spelled(word))
+}
+
+/// Whether both letters are in a group.
+fn are_in(a: u8, b: u8, group: &[u8]) -> bool
+    ensures { result ≡ are_in a b group.now }
+{
+    group.contains(&a) && group.contains(&b)
+}
+
+/// Whether a stage has at most one of the options of these letters.
+pub(crate) fn excludes(tool: Tool, a: u8, b: u8) -> bool
+    ensures { result ≡ excludes tool a b }
+{
+    match tool {
+        Tool::Extract => are_in(a, b, b"fi"),
+        Tool::Context => are_in(a, b, b"nb") || are_in(a, b, b"ne"),
+        Tool::Yank => are_in(a, b, b"lnos") || are_in(a, b, b"lnse"),
+        _ => false,
+    }
+}
+
+impl Kind {
+    /// Whether the option takes no value.
+    pub(crate) fn is_alone(self) -> bool
+        ensures { result ≡ is_alone self }
+    {
+        match self {
+            Kind::Alone => true,
+            _ => false,
+        }
+    }
+}

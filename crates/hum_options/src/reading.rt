@@ -1,0 +1,188 @@
+//! Words, read as options.
+ghost use Rattle.std.specs.Prelude.{◌≡◌, ◌∷◌, [], List, ℕ};
+ghost use Rattle.hum_options.specs.declared.tools.Tool.{Tool};
+ghost use Rattle.hum_options.specs.declared.reading.Turn.TheVariants.{Free, Awaits};
+ghost use Rattle.hum_options.specs.Answers.{Word, next_option, Answers, IsAnswer};
+ghost use Rattle.hum_options.specs.Seen.{words_of, value_fault, GoesOn, Tells};
+
+use crate::faults::{OptionError, OptionFault, OptionRule};
+use crate::given::GivenOptions;
+use crate::grammar::{ValueError, read_value};
+use crate::letters::read_letters;
+use crate::options::{CommandOption, option_of};
+use crate::together::{CommandOptions, put_together};
+use crate::tools::Tool;
+use crate::values::Value;
+use hum_words::Piece;
+use std::alloc::Global;
+
+/// Where words stand.
+#[derive(Clone, Copy)]
+enum Turn {
+    /// in front of an option
+    Free,
+    /// in front of the value of an option, which is the word of this number
+    Awaits(u32, CommandOption),
+}
+
+/// The option that a word is, if it may come behind those that were given.
+fn next_option(tool: Tool, given: &GivenOptions, word: &str) -> Option<CommandOption>
+    ensures { result ≡ next_option tool given.now word.now }
+{
+    let option = option_of(tool, word.as_bytes())?;
+    if given.is_barred(tool, option.letter) {
+        None
+    } else {
+        Some(option)
+    }
+}
+
+/// The fault of a value that is word `number`.
+fn value_fault(number: u32, error: ValueError) -> OptionError
+    ensures { result ≡ value_fault number error }
+{
+    match error {
+        ValueError::Grammar => OptionError::Fault(OptionFault {
+            word: number,
+            rule: OptionRule::N10,
+        }),
+        ValueError::Pattern(refusal) => OptionError::Fault(OptionFault {
+            word: number,
+            rule: OptionRule::N12(refusal),
+        }),
+        ValueError::Memory => OptionError::Memory,
+    }
+}
+
+/// Takes a word as the value of an option.
+fn at_value(
+    alloc: Global,
+    given: &mut GivenOptions,
+    option: CommandOption,
+    number: u32,
+    text: &str,
+) -> Result<Turn, OptionError>
+    ensures { (tool : Tool) (n : ℕ) (k : ℕ) (words : List Word) → GoesOn
+        (Answers tool n given.old (Awaits k option) ((number, text.now) ∷ words))
+        (λ turn. Answers tool n given.new turn words) result }
+{
+    match read_value(alloc, option.kind, text) {
+        Ok(value) => {
+            given.push(option.letter, value)?;
+            Ok(Turn::Free)
+        }
+        Err(error) => Err(value_fault(number, error)),
+    }
+}
+
+/// Takes a word as an option.
+fn at_option(
+    tool: Tool,
+    given: &mut GivenOptions,
+    number: u32,
+    word: &str,
+) -> Result<Turn, OptionError>
+    ensures { (n : ℕ) (words : List Word) → GoesOn
+        (Answers tool n given.old Free ((number, word.now) ∷ words))
+        (λ turn. Answers tool n given.new turn words) result }
+{
+    let Some(option) = next_option(tool, given, word) else {
+        return Err(OptionError::Fault(OptionFault {
+            word: number,
+            rule: OptionRule::N8,
+        }));
+    };
+    if option.kind.is_alone() {
+        given.push(option.letter, Value::Nothing)?;
+        Ok(Turn::Free)
+    } else {
+        Ok(Turn::Awaits(number, option))
+    }
+}
+
+fn at_word(
+    alloc: Global,
+    tool: Tool,
+    given: &mut GivenOptions,
+    turn: Turn,
+    number: u32,
+    word: &str,
+) -> Result<Turn, OptionError>
+    ensures { (n : ℕ) (words : List Word) → GoesOn
+        (Answers tool n given.old turn ((number, word.now) ∷ words))
+        (λ turn. Answers tool n given.new turn words) result }
+{
+    match turn {
+        Turn::Free => at_option(tool, given, number, word),
+        Turn::Awaits(_, option) => at_value(alloc, given, option, number, word),
+    }
+}
+
+/// What the options say behind the last word. The command is word `number`.
+fn at_end(
+    alloc: Global,
+    tool: Tool,
+    number: u32,
+    given: GivenOptions,
+    turn: Turn,
+) -> Result<CommandOptions, OptionError>
+    ensures { Tells (Answers tool number given turn []) result }
+{
+    match turn {
+        Turn::Free => match put_together(alloc, tool, given)? {
+            Some(options) => Ok(options),
+            None => Err(OptionError::Fault(OptionFault {
+                word: number,
+                rule: OptionRule::N9,
+            })),
+        },
+        Turn::Awaits(place, _) => Err(OptionError::Fault(OptionFault {
+            word: place,
+            rule: OptionRule::N9,
+        })),
+    }
+}
+
+/// What the options say that stand behind a command, which is word `number`.
+fn read_given(
+    alloc: Global,
+    tool: Tool,
+    number: u32,
+    pieces: &[Piece<'_>],
+) -> Result<CommandOptions, OptionError>
+    ensures { Tells (Answers tool number [] Free (words_of pieces.now)) result }
+{
+    let mut given = GivenOptions::new(alloc);
+    let mut turn = Turn::Free;
+    for piece in pieces {
+        match piece {
+            Piece::Word(place, word) => {
+                turn = at_word(alloc, tool, &mut given, turn, *place, word)?;
+            }
+            Piece::Bar(_) => return at_end(alloc, tool, number, given, turn),
+        }
+    }
+    at_end(alloc, tool, number, given, turn)
+}
+
+/// The options of a command, as the words behind it give them, up to the next bar or the end. The
+/// command is word `number` of its line; `is_last` says whether its stage is the last of the plan.
+///
+/// # Errors
+/// The first rule that the words break: N8, N9, N10 or N12 at an option, word by word, or N9 at
+/// the command, where an option is missing that it requires. For rid N8, N11 or N9. `Memory`.
+pub fn read_options(
+    alloc: Global,
+    tool: Tool,
+    number: u32,
+    pieces: &[Piece<'_>],
+    is_last: bool,
+) -> Result<CommandOptions, OptionError>
+    ensures { Tells (IsAnswer tool number is_last (words_of pieces.now)) result }
+{
+    if tool == Tool::Rid {
+        read_letters(number, is_last, pieces)
+    } else {
+        read_given(alloc, tool, number, pieces)
+    }
+}

@@ -1,0 +1,231 @@
+//! The options of commands, put together from those that were given.
+ghost use Rattle.std.specs.Prelude.{◌≡◌, IfOk, Some};
+ghost use Rattle.std.specs.Option.{option_map};
+ghost use Rattle.hum_extract.specs.Written.{choice_of};
+ghost use Rattle.hum_options.specs.Meant.{choice_meant, phrase_meant, span_meant, meant};
+ghost use Rattle.hum_options.specs.Meant.{labels_meant, occurrences_meant, numbers_meant};
+ghost use Rattle.hum_options.specs.Meant.{markers_meant, separator_meant};
+ghost use Rattle.hum_options.specs.declared.tools.Tool.TheVariants as tool;
+ghost use Rattle.hum_options.specs.Seen.{span_of, markers_of, options_of};
+
+use crate::given::GivenOptions;
+use crate::tools::Tool;
+use crate::values::{Semitones, Separator, Steps};
+use hum_cleave::CleaveOptions;
+use hum_context::{ContextOptions, Span};
+use hum_ditto::DittoOptions;
+use hum_extract::Choice;
+use hum_rid::RidOptions;
+use hum_timebase::TimebaseOptions;
+use hum_tones::{MintOptions, RecipOptions, SemitsOptions, Transposition};
+use hum_yank::{Markers, YankOptions};
+use std::alloc::{AllocError, Global};
+
+/// A command with its options.
+#[derive(Drop)]
+pub enum CommandOptions {
+    Rid(RidOptions),
+    Extract(Choice),
+    Ditto(DittoOptions),
+    Timebase(TimebaseOptions),
+    Context(ContextOptions),
+    Trans(Transposition),
+    Semits(SemitsOptions),
+    Mint(MintOptions),
+    Recip(RecipOptions),
+    Yank(YankOptions),
+    Cleave(CleaveOptions),
+}
+
+fn choice(mut given: GivenOptions) -> Option<Choice>
+    ensures { option_map choice_of result ≡ choice_meant given }
+{
+    match given.fields(b'f') {
+        Some(ranges) => Some(Choice::Fields(ranges)),
+        None => match given.names(b'i') {
+            Some(names) => Some(Choice::Names(names)),
+            None => None,
+        },
+    }
+}
+
+fn extract(given: GivenOptions) -> Option<CommandOptions>
+    ensures { option_map options_of result ≡ meant tool.Extract given }
+{
+    let choice = choice(given)?;
+    Some(CommandOptions::Extract(choice))
+}
+
+fn ditto(mut given: GivenOptions) -> CommandOptions
+    ensures { Some (options_of result) ≡ meant tool.Ditto given }
+{
+    let parentheses = given.has(b'p');
+    CommandOptions::Ditto(DittoOptions {
+        skip: given.pattern(b's'),
+        parentheses,
+    })
+}
+
+fn timebase(mut given: GivenOptions) -> Option<CommandOptions>
+    ensures { option_map options_of result ≡ meant tool.Timebase given }
+{
+    let options = given.duration(b't')?;
+    Some(CommandOptions::Timebase(options))
+}
+
+fn phrase(mut given: GivenOptions) -> Option<Span>
+    ensures { option_map span_of result ≡ phrase_meant given }
+{
+    let begin = given.pattern(b'b')?;
+    let end = given.pattern(b'e')?;
+    Some(Span::Phrase(begin, end))
+}
+
+fn span(mut given: GivenOptions) -> Option<Span>
+    ensures { option_map span_of result ≡ span_meant given }
+{
+    match given.count(b'n') {
+        Some(count) => Some(Span::Number(count)),
+        None => phrase(given),
+    }
+}
+
+fn context(mut given: GivenOptions) -> Option<CommandOptions>
+    ensures { option_map options_of result ≡ meant tool.Context given }
+{
+    let omit = given.pattern(b'o');
+    let span = span(given)?;
+    Some(CommandOptions::Context(ContextOptions { span, omit }))
+}
+
+fn transposition(steps: Steps, semitones: Semitones) -> Transposition
+    ensures steps { result.steps ≡ steps.number }
+    ensures semitones { result.semitones ≡ semitones.number }
+{
+    Transposition {
+        steps: steps.number,
+        semitones: semitones.number,
+    }
+}
+
+fn trans(mut given: GivenOptions) -> Option<CommandOptions>
+    ensures { option_map options_of result ≡ meant tool.Trans given }
+{
+    let steps = given.steps(b'd')?;
+    let semitones = given.semitones(b'c')?;
+    Some(CommandOptions::Trans(transposition(steps, semitones)))
+}
+
+fn semits(given: GivenOptions) -> Option<CommandOptions>
+    ensures { option_map options_of result ≡ meant tool.Semits given }
+{
+    if given.has(b'x') {
+        let ties_left_out = given.has(b't');
+        Some(CommandOptions::Semits(SemitsOptions { ties_left_out }))
+    } else {
+        None
+    }
+}
+
+fn mint(mut given: GivenOptions) -> CommandOptions
+    ensures { Some (options_of result) ≡ meant tool.Mint given }
+{
+    let signless = given.has(b'a');
+    let sizeonly = given.has(b'd');
+    CommandOptions::Mint(MintOptions {
+        signless,
+        sizeonly,
+        breaks: given.pattern(b'b'),
+    })
+}
+
+fn labels(mut given: GivenOptions) -> Option<Markers>
+    ensures { option_map markers_of result ≡ labels_meant given }
+{
+    let label = given.label(b's')?;
+    Some(Markers::Labels(label))
+}
+
+fn occurrences(mut given: GivenOptions) -> Option<Markers>
+    ensures { option_map markers_of result ≡ occurrences_meant given }
+{
+    match given.pattern(b'o') {
+        Some(begins) => {
+            let ends = given.pattern(b'e');
+            Some(Markers::Occurrences(begins, ends))
+        }
+        None => labels(given),
+    }
+}
+
+fn numbers(mut given: GivenOptions) -> Option<Markers>
+    ensures { option_map markers_of result ≡ numbers_meant given }
+{
+    match given.pattern(b'n') {
+        Some(numbered) => Some(Markers::Numbers(numbered)),
+        None => occurrences(given),
+    }
+}
+
+fn markers(given: GivenOptions) -> Option<Markers>
+    ensures { option_map markers_of result ≡ markers_meant given }
+{
+    if given.has(b'l') {
+        Some(Markers::Lines)
+    } else {
+        numbers(given)
+    }
+}
+
+fn yank(mut given: GivenOptions) -> Option<CommandOptions>
+    ensures { option_map options_of result ≡ meant tool.Yank given }
+{
+    let ranges = given.ranges(b'r')?;
+    let markers = markers(given)?;
+    Some(CommandOptions::Yank(YankOptions { markers, ranges }))
+}
+
+fn separator(alloc: Global, mut given: GivenOptions) -> Result<Separator, AllocError>
+    ensures { IfOk result (λ separator. separator.text.items ≡ separator_meant given) }
+{
+    match given.text(b'd') {
+        Some(separator) => Ok(separator),
+        None => Separator::space(alloc),
+    }
+}
+
+fn cleave(alloc: Global, mut given: GivenOptions) -> Result<Option<CommandOptions>, AllocError>
+    ensures { IfOk result (λ found. option_map options_of found ≡ meant tool.Cleave given) }
+{
+    let Some(name) = given.name(b'i') else {
+        return Ok(None);
+    };
+    let Some(new_name) = given.name(b'o') else {
+        return Ok(None);
+    };
+    let separator = separator(alloc, given)?;
+    Ok(Some(CommandOptions::Cleave(CleaveOptions::new(name.text, new_name.text, separator.text))))
+}
+
+/// What the options that were given are together, unless one is missing that the command requires.
+pub(crate) fn put_together(
+    alloc: Global,
+    tool: Tool,
+    given: GivenOptions,
+) -> Result<Option<CommandOptions>, AllocError>
+    ensures { IfOk result (λ found. option_map options_of found ≡ meant tool given) }
+{
+    match tool {
+        Tool::Rid => Ok(None),
+        Tool::Extract => Ok(extract(given)),
+        Tool::Ditto => Ok(Some(ditto(given))),
+        Tool::Timebase => Ok(timebase(given)),
+        Tool::Context => Ok(context(given)),
+        Tool::Trans => Ok(trans(given)),
+        Tool::Semits => Ok(semits(given)),
+        Tool::Mint => Ok(Some(mint(given))),
+        Tool::Recip => Ok(Some(CommandOptions::Recip(RecipOptions))),
+        Tool::Yank => Ok(yank(given)),
+        Tool::Cleave => cleave(alloc, given),
+    }
+}

@@ -1,0 +1,66 @@
+//! What options are given.
+ghost use Rattle.std.specs.Prelude.{◌≡◌, ◌≤◌, nat_abs, true, codes, IfOk};
+ghost use Rattle.hum_cleave.specs.Cleave.{is_name, fits_in_token};
+
+use hum_context::TokenCount;
+use hum_extract::FieldRange;
+use hum_pattern::Pattern;
+use hum_timebase::TimebaseOptions;
+use hum_yank::YankRange;
+use std::alloc::{AllocError, Global};
+
+/// The name of an exclusive interpretation.
+#[derive(Drop)]
+pub(crate) struct Name {
+    pub(crate) text: Vec<u8>,
+    ghost lawful: { is_name text.items ≡ true },
+}
+
+/// A text that can stand in a token.
+#[derive(Drop)]
+pub(crate) struct Separator {
+    pub(crate) text: Vec<u8>,
+    ghost lawful: { fits_in_token text.items ≡ true },
+}
+
+impl Separator {
+    /// One space.
+    pub(crate) fn space(alloc: Global) -> Result<Separator, AllocError>
+        ensures { IfOk result (λ separator. separator.text.items ≡ codes " ") }
+    {
+        let text = b" ".to_vec(alloc)?;
+        Ok(Separator { text })
+    }
+}
+
+/// Diatonic steps, up or down.
+#[derive(Clone, Copy)]
+pub(crate) struct Steps {
+    pub(crate) number: i32,
+    ghost within: { nat_abs number ≤ 49 },
+}
+
+/// Semitones, up or down.
+#[derive(Clone, Copy)]
+pub(crate) struct Semitones {
+    pub(crate) number: i32,
+    ghost within: { nat_abs number ≤ 84 },
+}
+
+/// What an option was given.
+#[derive(Drop)]
+pub(crate) enum Value {
+    /// nothing: it stands alone
+    Nothing,
+    Fields(Vec<FieldRange>),
+    Names(Vec<Vec<u8>>),
+    Name(Name),
+    Text(Separator),
+    Ranges(Vec<YankRange>),
+    Label(Vec<u8>),
+    Pattern(Pattern),
+    Count(TokenCount),
+    Steps(Steps),
+    Semitones(Semitones),
+    Duration(TimebaseOptions),
+}
