@@ -1,0 +1,3 @@
+pub mod Fining
+pub mod SingleLaws
+pub mod Singles

@@ -1,0 +1,24 @@
+//! What is asked of the stages of a plan, each law the contract of a function without a body.
+ghost use Rattle.std.specs.Prelude.{ℕ};
+ghost use Rattle.hum_stage.specs.Meaning.{Meaning, IsLawful as IsLawfulMeaning, KeepsScore};
+ghost use Rattle.hum_turns.specs.Plan.{IsLawful, KeepsFine};
+ghost use Rattle.hum_nodes.specs.Fine.{fine, AreFine};
+ghost use Rattle.hum_nodes.specs.Single.{single};
+
+/// Exactly scores of at most 4,294,967,295 records may lie on a link, and those that end closed
+/// only where no spine is open.
+pub fn what_is_fine()
+    ensures { AreFine }
+{}
+
+/// A stage of one input is a stage of a plan.
+pub fn singles_are_lawful()
+    ensures { (from : ℕ) (m : Meaning) → IsLawfulMeaning m
+        → IsLawful fine (single from m).stage }
+{}
+
+/// What it makes may lie on a link, where its command makes scores of scores.
+pub fn singles_keep_fine()
+    ensures { (from : ℕ) (m : Meaning) → IsLawfulMeaning m → KeepsScore m.outcomes
+        → KeepsFine fine (single from m).stage }
+{}

@@ -1,0 +1,15 @@
+//! Nodes: what a net knows of its stages, and the calls that move them.
+//!
+//! - [`Node`] is the contract: a node stands for a stage of a plan (hum_turns), what that has had
+//!   of its inputs, the bytes that it has read and how many records it has given.
+//! - [`Single`] is a stage of one input as a node.
+//! - [`what_is_fine`] and the functions beside it are the laws that a plan asks of its stages.
+#![tactic(auto)]
+
+mod laws;
+mod node;
+mod single;
+
+pub use laws::{singles_are_lawful, singles_keep_fine, what_is_fine};
+pub use node::{Doing, Node, Polled};
+pub use single::Single;
