@@ -3,13 +3,17 @@
 //! - [`Node`] is the contract: a node stands for a stage of a plan (hum_turns), what that has had
 //!   of its inputs, the bytes that it has read and how many records it has given.
 //! - [`Single`] is a stage of one input as a node.
+//! - [`Merging`] is the command assemble as a node of several inputs.
 //! - [`what_is_fine`] and the functions beside it are the laws that a plan asks of its stages.
 #![tactic(auto)]
 
 mod laws;
+mod merging;
 mod node;
 mod single;
 
+pub use laws::{mergings_are_lawful, mergings_keep_fine};
 pub use laws::{singles_are_lawful, singles_keep_fine, what_is_fine};
+pub use merging::Merging;
 pub use node::{Doing, Node, Polled};
 pub use single::Single;

@@ -13,17 +13,15 @@ use std::alloc::AllocError;
 /// A stage that reads from the stage of this number, from 0.
 #[derive(Debug, Drop)]
 pub struct Single<S> {
-    /// The stage.
-    pub inner: S,
-    /// The number of the stage that it reads from.
-    pub from: usize,
+    inner: S,
+    from: usize,
 }
 
 impl<S: Stage + Drop> Single<S> {
     /// The node of a stage that was put nothing yet.
     pub fn new(inner: S, from: usize) -> Single<S>
         ensures { (m : Meaning) → S.stands inner (opening m)
-            → IsSingle (S.stands result.inner) result.from (fresh (single from m)) }
+            → ⟦<Single<S> as Node>⟧.stands result (fresh (single from m)) }
     {
         Single { inner, from }
     }
