@@ -4,3 +4,6 @@ pub mod Singles
 pub mod Merges
 pub mod MergingLaws
 pub mod Mergings
+pub mod Pieces
+pub mod FrontFaults
+pub mod Settling
