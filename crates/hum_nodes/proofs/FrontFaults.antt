@@ -67,7 +67,7 @@ passes_within l before (b ∷ p) q h =
     ∙ ap (λ z. fault_within l z q) (append_assoc before (b ∷ []) p))
 
 -- Which of the two it is.
-one_of : (o : Option TextFault) (k : ℕ) (later : Option (ℕ × TextFault)) (m : ℕ) (f : TextFault)
+pub one_of : (o : Option TextFault) (k : ℕ) (later : Option (ℕ × TextFault)) (m : ℕ) (f : TextFault)
     → or_later o k later ≡ Some (m, f) → ((k ≡ m) × (o ≡ Some f)) ⊎ (later ≡ Some (m, f))
 one_of None k later m f h = inr h
 one_of (Some g) k later m f h = inl (first h)

@@ -7,3 +7,5 @@ pub mod Mergings
 pub mod Pieces
 pub mod FrontFaults
 pub mod Settling
+pub mod Denotes
+pub mod ReadingLaws

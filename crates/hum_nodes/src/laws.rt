@@ -5,6 +5,7 @@ ghost use Rattle.hum_turns.specs.Plan.{IsLawful, KeepsFine};
 ghost use Rattle.hum_nodes.specs.Fine.{fine, AreFine};
 ghost use Rattle.hum_nodes.specs.Single.{single};
 ghost use Rattle.hum_nodes.specs.Merging.{merging};
+ghost use Rattle.hum_nodes.specs.Reading.{reading};
 
 /// Exactly scores of at most 4,294,967,295 records may lie on a link, and those that end closed
 /// only where no spine is open.
@@ -32,4 +33,15 @@ pub fn mergings_are_lawful()
 /// What they make may lie on a link.
 pub fn mergings_keep_fine()
     ensures { (number : ℕ) (from : List ℕ) → KeepsFine fine (merging number from).stage }
+{}
+
+/// A score that is read is a stage of a plan: what has settled of the bytes so far stays, and where
+/// it wants no more of them, all has settled.
+pub fn readings_are_lawful()
+    ensures { (number : ℕ) (all : List ℕ) → IsLawful fine (reading number all).stage }
+{}
+
+/// What it gives may lie on a link.
+pub fn readings_keep_fine()
+    ensures { (number : ℕ) (all : List ℕ) → KeepsFine fine (reading number all).stage }
 {}
