@@ -1,3 +1,4 @@
+mod Examples
 pub mod Fining
 pub mod SingleLaws
 pub mod Singles
