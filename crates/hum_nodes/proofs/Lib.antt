@@ -1,4 +1,5 @@
 mod Examples
+mod Trials
 pub mod Fining
 pub mod SingleLaws
 pub mod Singles

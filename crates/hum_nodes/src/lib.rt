@@ -18,3 +18,6 @@ pub use laws::{singles_are_lawful, singles_keep_fine, what_is_fine};
 pub use merging::Merging;
 pub use node::{Doing, Node, Polled};
 pub use single::Single;
+
+#[cfg(test)]
+mod tests;
