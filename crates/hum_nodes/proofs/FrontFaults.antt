@@ -1,7 +1,7 @@
 -- The faults that stand in a front, and those of what it goes on to.
 use Rattle.std.proofs.Common.{◌≡◌, ◌∙◌, refl, sym, ap, subst, ℕ, zero, suc, ◌+◌, ◌-◌, ◌≤◌, ◌<◌, Bool}
 use Rattle.std.proofs.Common.{true, false, ◌==◌, ◌||◌, if◌then◌else◌, List, [], ◌∷◌, ◌++◌, length}
-use Rattle.std.proofs.Common.{arith, append_assoc, append-nil, get_or, Option, Some, None, ◌⊎◌, inl, inr}
+use Rattle.std.proofs.Common.{take, arith, append_assoc, append-nil, get_or, Option, Some, None, ◌⊎◌, inl, inr}
 use Rattle.std.proofs.lemmas.Option.{none-some}
 use Rattle.hum_text.specs.declared.Limits.{Limits}
 use Rattle.hum_text.specs.declared.TextFault.{TextFault}
@@ -10,7 +10,7 @@ use Rattle.hum_text.specs.Text.{onto, pieces, rule_at, rule_at_end, or_later, fa
 use Rattle.hum_text.specs.Text.{without_cr, last_piece}
 use Rattle.hum_turns.proofs.Fronts.{begins_shorter}
 use Rattle.hum_nodes.specs.Settled.{onto_first, whole_pieces, fault_within}
-use Rattle.hum_nodes.proofs.Pieces.{whole_begins, but_last, some_more}
+use Rattle.hum_nodes.proofs.Pieces.{whole_begins, but_last, some_more, pieces_grow}
 
 -- A fault that stands in a front stays.
 pub stays_after : (l : Limits) (before p q : List ℕ) (x : ℕ × TextFault)
@@ -197,3 +197,30 @@ line_behind l p x (b ∷ q) m f h =
       | inr later ↦
         line_behind l p (x ++ b ∷ []) q m f (subst (λ z. fault_within l z q ≡ Some (m, f)) next later)
     ]
+
+-- A fault that stands in a front is in a line that has begun there.
+pub line_begun : (l : Limits) (before p : List ℕ) (m : ℕ) (f : TextFault)
+    → fault_within l before p ≡ Some (m, f) → m ≤ length (pieces (before ++ p))
+unfolding fault_within
+line_begun l before [] m f h = absurd (none-some _ h)
+line_begun l before (b ∷ p) m f h =
+    let next : (before ++ b ∷ []) ++ p ≡ before ++ b ∷ p = append_assoc before (b ∷ []) p in
+    let s = ap (λ z. length (pieces z)) next in
+    elim (one_of (rule_at l (before ++ b ∷ [])) (length (pieces (before ++ b ∷ [])))
+    (fault_within l (before ++ b ∷ []) p) m f h) as (λ _. m ≤ length (pieces (before ++ b ∷ p))) [
+      | inl here ↦
+        let e = here.0 in
+        let w = pieces_grow (before ++ b ∷ []) p in
+        omega (arith, e, w, s)
+      | inr later ↦ let n = line_begun l (before ++ b ∷ []) p m f later in omega (arith, n, s)
+    ]
+
+-- Bytes that break no rule.
+pub none_within : (l : Limits) (before q : List ℕ)
+    → ((k : ℕ) → k < length q → rule_at l (before ++ take (suc k) q) ≡ None)
+    → fault_within l before q ≡ None
+unfolding fault_within
+none_within l before [] none = refl
+none_within l before (b ∷ q) none =
+    rw (none 0 (omega arith))
+    (none_within l (before ++ b ∷ []) q (λ k h. rw append_assoc (none (suc k) (omega arith))))

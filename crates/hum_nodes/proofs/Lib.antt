@@ -11,3 +11,4 @@ pub mod FrontFaults
 pub mod Settling
 pub mod Denotes
 pub mod ReadingLaws
+pub mod Fronting

@@ -1,8 +1,10 @@
 -- The pieces of a front, and those of what it goes on to.
 use Rattle.std.proofs.Common.{◌≡◌, ◌∙◌, refl, sym, ap, subst, ℕ, zero, suc, ◌+◌, ◌-◌, ◌≤◌, ◌<◌, Bool}
 use Rattle.std.proofs.Common.{true, false, ◌==◌, if◌then◌else◌, List, [], ◌∷◌, ◌++◌, length, arith}
-use Rattle.std.proofs.Common.{append_assoc, append-nil}
-use Rattle.hum_text.specs.Text.{onto, pieces}
+use Rattle.std.proofs.Common.{append_assoc, append-nil, get_or}
+use Rattle.std.proofs.lemmas.Bool.{eqb-true}
+use Rattle.hum_text.specs.Text.{onto, pieces, IsAtStart}
+use Rattle.hum_text.proofs.PieceLemmas.{NoLf, pieces-some}
 use Rattle.hum_turns.specs.Flow.{Begins}
 use Rattle.hum_nodes.specs.Settled.{onto_first, whole_pieces}
 
@@ -121,4 +123,63 @@ one_piece (b ∷ bs) c =
         ≤ length (if v then [] ∷ pieces bs else onto b (pieces bs)) + 1) [
       | true ↦ omega (arith, ih)
       | false ↦ onto_at_most b (pieces (bs ++ c ∷ [])) (pieces bs) ih
+    ]
+
+-- A front that ends where a line begins has whole pieces alone.
+onto_same : (b : ℕ) (p : List ℕ) (ps qs all : List (List ℕ)) → all ≡ p ∷ ps
+    → onto_first b (all ++ qs) ≡ onto b all ++ qs
+onto_same b p ps qs all is = rw is refl
+
+pub whole_at_start : (before q : List ℕ) → IsAtStart before
+    → whole_pieces (before ++ q) ≡ pieces before ++ whole_pieces q
+unfolding whole_pieces pieces IsAtStart
+whole_at_start [] q s = refl
+whole_at_start (b ∷ []) q s = rw s refl
+whole_at_start (b ∷ c ∷ bs) q s =
+    let ih : whole_pieces ((c ∷ bs) ++ q) ≡ pieces (c ∷ bs) ++ whole_pieces q =
+    whole_at_start (c ∷ bs) q s in
+    let some = pieces-some c bs in
+    elim (b == 10)
+        as (λ (v : Bool).
+        (if v then [] ∷ whole_pieces ((c ∷ bs) ++ q)
+        else onto_first b (whole_pieces ((c ∷ bs) ++ q)))
+        ≡ (if v then [] ∷ pieces (c ∷ bs) else onto b (pieces (c ∷ bs))) ++ whole_pieces q) [
+      | true ↦ ap (λ (ps : List (List ℕ)). [] ∷ ps) ih
+      | false ↦
+        ap (onto_first b) ih
+        ∙ onto_same b some.0 some.1 (whole_pieces q) (pieces (c ∷ bs)) some.2
+    ]
+
+-- Bytes without LF have none.
+pub none_whole : (q : List ℕ) → NoLf q → whole_pieces q ≡ []
+unfolding whole_pieces
+none_whole [] free = refl
+none_whole (b ∷ q) free =
+    let ih = none_whole q (λ k h is. free (suc k) (omega arith) is) in
+    (elim (b == 10)
+        as (λ (v : Bool). (b == 10) ≡ v
+        → (if v then [] ∷ whole_pieces q else onto_first b (whole_pieces q)) ≡ []) [
+      | true ↦ λ e. absurd (free 0 (omega arith) (eqb-true b 10 e))
+      | false ↦ λ e. ap (onto_first b) ih
+    ]) refl
+
+-- More bytes make no fewer pieces.
+
+onto_grows : (b : ℕ) (ps qs : List (List ℕ)) → length ps ≤ length qs
+    → length (onto b ps) ≤ length (onto b qs)
+onto_grows b [] qs h = some_onto b qs
+onto_grows b (p ∷ ps) [] h = absurd (omega (arith, h))
+onto_grows b (p ∷ ps) (q ∷ qs) h = omega (arith, h)
+
+pub pieces_grow : (p q : List ℕ) → length (pieces p) ≤ length (pieces (p ++ q))
+unfolding pieces
+pieces_grow [] q = omega arith
+pieces_grow (b ∷ bs) q =
+    let ih = pieces_grow bs q in
+    elim (b == 10)
+        as (λ (v : Bool).
+        length (if v then [] ∷ pieces bs else onto b (pieces bs))
+        ≤ length (if v then [] ∷ pieces (bs ++ q) else onto b (pieces (bs ++ q)))) [
+      | true ↦ omega (arith, ih)
+      | false ↦ onto_grows b (pieces bs) (pieces (bs ++ q)) ih
     ]

@@ -66,7 +66,7 @@ going_on_so_far path n (line ∷ ls) more broken =
     (λ row. going_on_so_far (after path row) (n + 1) ls more broken)
 
 -- Where the text is broken nothing is left open.
-onward_same : (line : ℕ) (r : Result Row (Option Rule)) (a b : Row → Score)
+pub onward_same : (line : ℕ) (r : Result Row (Option Rule)) (a b : Row → Score)
     → ((row : Row) → a row ≡ b row) → onward line r a ≡ onward line r b
 onward_same line (Ok row) a b h =
     ap (λ (s : Score). record { rows = row ∷ s.rows; fault = s.fault }) (h row)
@@ -100,7 +100,7 @@ take_begins n xs ys h le = subst (λ l. Begins xs (take n l)) h.1 (by n xs le)
     by (suc n) (x ∷ xs) le =
         let k = by n xs (omega arith) in (k.0, ap (λ l. x ∷ l) k.1)
 
-up_to_begins : (broken : Option (ℕ × TextFault)) (xs ys : List (List ℕ)) → Begins xs ys
+pub up_to_begins : (broken : Option (ℕ × TextFault)) (xs ys : List (List ℕ)) → Begins xs ys
     → ((m : ℕ) (f : TextFault) → broken ≡ Some (m, f) → length xs + 1 ≤ m)
     → Begins xs (up_to broken ys)
 up_to_begins None xs ys h before = h

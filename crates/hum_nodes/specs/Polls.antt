@@ -1,7 +1,7 @@
 -- What one poll of a source does.
-use Rattle.std.specs.Prelude.{◌≡◌, ℕ, ◌<◌, ◌⊎◌, Option, Some, slice_get}
+use Rattle.std.specs.Prelude.{◌≡◌, ℕ, ◌<◌, ◌≤◌, ◌⊎◌, Option, Some, slice_get}
 use Rattle.hum_nodes.specs.declared.node.Doing.{Doing}
-use Rattle.hum_nodes.specs.declared.node.Doing.TheVariants.{Gives, Reads, Wants, Done}
+use Rattle.hum_nodes.specs.declared.node.Doing.TheVariants as does
 use Rattle.hum_nodes.specs.declared.node.Polled.{Polled}
 use Rattle.hum_nodes.specs.declared.node.Polled.TheVariants as step
 use Rattle.hum_nodes.specs.At.{At, bytes_of, doing_of, output_of, after_take, read_to}
@@ -11,26 +11,22 @@ abbrev pub GoesOn : At → Polled → (At → Type 0) → Type 0
 GoesOn t (step.Record row) after =
     (slice_get (output_of t) t.given ≡ Some row) × after (after_take t)
 GoesOn t step.Nothing after = ⊥
-GoesOn t (step.End end) after = (doing_of t ≡ Done end) × after t
+GoesOn t (step.End end) after = (doing_of t ≡ does.Done end) × after t
 
--- It reads one byte or more, which is all that it does.
-pub record IsFed (t : At) (polled : Polled) (after : At → Type 0) : Type 0 where
-  pub nothing : polled ≡ step.Nothing
+-- It reads one byte or more, or their end. Then it goes on by what has settled, or it leaves that to
+-- the next poll.
+pub record Reads (t : At) (polled : Polled) (after : At → Type 0) : Type 0 where
   pub upto : ℕ
   pub more : t.read < upto
-  pub short : upto < bytes_of t
-  pub stand : after (read_to upto t)
-
--- It meets the end of the bytes, and goes on by all of them.
-pub record MeetsEnd (t : At) (polled : Polled) (after : At → Type 0) : Type 0 where
-  pub more : t.read < bytes_of t
-  pub goes : GoesOn (read_to (bytes_of t) t) polled after
+  pub within : upto ≤ bytes_of t
+  pub goes : GoesOn (read_to upto t) polled after
+      ⊎ ((polled ≡ step.Nothing) × after (read_to upto t))
 
 abbrev pub PollsBy : Doing → At → Polled → (At → Type 0) → Type 0
-PollsBy Reads t polled after = IsFed t polled after ⊎ MeetsEnd t polled after
-PollsBy Gives t polled after = GoesOn t polled after
-PollsBy (Wants place) t polled after = GoesOn t polled after
-PollsBy (Done end) t polled after = GoesOn t polled after
+PollsBy does.Reads t polled after = Reads t polled after
+PollsBy does.Gives t polled after = GoesOn t polled after
+PollsBy (does.Wants place) t polled after = GoesOn t polled after
+PollsBy (does.Done end) t polled after = GoesOn t polled after
 
 -- It reads where it is about to read, and else does what it is about to do.
 abbrev pub Polls : At → Polled → (At → Type 0) → Type 0
