@@ -133,7 +133,7 @@ read_so_far given more rows None are =
 
 -- The pieces of what was read.
 
-whole_split : {R : Type 0} (v : Scores R) (seen : List ℕ) (rows : List Row)
+pub whole_split : {R : Type 0} (v : Scores R) (seen : List ℕ) (rows : List Row)
     (h : IsFront v seen rows)
     → whole_lines seen ≡ h.given ++ whole_lines v.lines.pending
 whole_split v seen rows h =

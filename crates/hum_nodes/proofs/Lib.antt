@@ -12,3 +12,7 @@ pub mod Settling
 pub mod Denotes
 pub mod ReadingLaws
 pub mod Fronting
+pub mod Stopping
+pub mod Stops
+pub mod Readings
+pub mod Turns
