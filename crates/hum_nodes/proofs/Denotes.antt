@@ -47,16 +47,29 @@ find_named : (test : PathFault → Bool) (xs : List PathFault)
 find_named test [] all f h = absurd (none-some f h)
 find_named test (x ∷ xs) all f h =
     (elim (test x)
-        as (λ (b : Bool). cond b (Some x) (find test xs) ≡ Some f → IsNamed (path_rule f)) [
+    as (λ (b : Bool). cond b (Some x) (find test xs) ≡ Some f → IsNamed (path_rule f)) [
       | true ↦ λ e.
-        let same : x ≡ f = cc in subst (λ y. IsNamed (path_rule y)) same all.0
+          let same : x ≡ f = cc in subst (λ y. IsNamed (path_rule y)) same all.0
       | false ↦ λ e. find_named test xs all.1 f e
     ]) h
 
 all_named : AllByRecursion (λ x. IsNamed (path_rule x)) in_order
-all_named =
-    ((rule.P7, refl), ((rule.P1, refl), ((rule.P2, refl), ((rule.P6, refl), ((rule.P10, refl),
-    ((rule.P11, refl), ((rule.P3, refl), ((rule.P4, refl), ((rule.P5, refl), ((rule.P9, refl), tt))))))))))
+all_named = (
+  (rule.P7, refl),
+  (
+    (rule.P1, refl),
+    (
+      (rule.P2, refl),
+      (
+        (rule.P6, refl),
+        (
+          (rule.P10, refl),
+          ((rule.P11, refl), ((rule.P3, refl), ((rule.P4, refl), ((rule.P5, refl), ((rule.P9, refl), tt))))),
+        ),
+      ),
+    ),
+  ),
+)
 
 path_named : (path : Path) (row : Row) (f : PathFault) → path_fault_of path row ≡ Some f
     → IsNamed (path_rule f)
@@ -82,7 +95,7 @@ record_named line f h = by (has_byte 13 line) (is_comment line) h
   where
     by : (a b : Bool)
         → (if a then Err S8
-          else if b then Ok (Comment line) else spined (kind_of_tokens (parts line)) (parts line))
+        else if b then Ok (Comment line) else spined (kind_of_tokens (parts line)) (parts line))
         ≡ Err f
         → IsNamed (record_rule f)
     by true b e = same_fault S8 f e (rule.S8, refl)
@@ -116,7 +129,7 @@ same_text g f h n = let e : g ≡ f = cc in subst (λ x. IsNamed (text_rule x)) 
 
 tests_named : (f : TextFault) (a b c d : Bool)
     → (if a then Some text.S1
-      else if b then Some text.S2 else if c then Some text.S3 else if d then Some text.S7 else None)
+    else if b then Some text.S2 else if c then Some text.S3 else if d then Some text.S7 else None)
     ≡ Some f
     → IsNamed (text_rule f)
 tests_named f true b c d h = same_text text.S1 f h (rule.S1, refl)
@@ -187,21 +200,23 @@ denoted_closed path n (line ∷ ls) broken named h =
   where
     by : (r : Result Row (Option Rule)) → read_after path line ≡ r
         → ((row : Row) → (denoted (after path row) (n + 1) ls broken).fault ≡ None
-          → is_unfinished
-            (through (after path row) (denoted (after path row) (n + 1) ls broken).rows)
-          ≡ false)
+        → is_unfinished
+        (through (after path row) (denoted (after path row) (n + 1) ls broken).rows)
+        ≡ false)
         → (onward (n + 1) r (λ row. denoted (after path row) (n + 1) ls broken)).fault ≡ None
         → is_unfinished
-          (through path (onward (n + 1) r (λ row. denoted (after path row) (n + 1) ls broken)).rows)
+        (through path (onward (n + 1) r (λ row. denoted (after path row) (n + 1) ls broken)).rows)
         ≡ false
     by (Ok row) e rest k = rest row k
     by (Err o) e rest k = absurd (not_broken (n + 1) o (line_named path line o e) k)
 
 pub closed_whole : (all : List ℕ) → (score_of all).fault ≡ None → IsClosed (score_of all).rows
 closed_whole all h =
-    let broken = fault_of standard all in
-    (score-of all, denoted_closed Unopened 0 (up_to broken (lines all)) broken
-    (λ m f e. text_named standard [] all m f e) h)
+    let broken = fault_of standard all in (
+      score-of all,
+      denoted_closed Unopened 0 (up_to broken (lines all)) broken
+          (λ m f e. text_named standard [] all m f e) h,
+    )
 
 -- No more lines are read than a score may have.
 
@@ -212,8 +227,8 @@ take_le (suc n) (x ∷ xs) = let k = take_le n xs in omega (arith, k)
 
 within_in : (a b d : Bool) (most n : ℕ)
     → (if a then Some text.S1
-      else if b then Some text.S2
-      else if nat_lt most n then Some text.S3 else if d then Some text.S7 else None)
+    else if b then Some text.S2
+    else if nat_lt most n then Some text.S3 else if d then Some text.S7 else None)
     ≡ None
     → n ≤ most
 within_in true b d most n h = absurd (none-some _ (sym h))
@@ -240,35 +255,35 @@ few_lines l before [] h =
     let s = length-map (pieces (before ++ [])) without_cr in
     let e = ap (λ z. length (pieces z)) (append-nil before) in
     elim (rule_at_end before)
-        as (λ (o : Option TextFault).
-        length (up_to (or_later o (length (pieces before)) None) (lines (before ++ [])))
-        ≤ l.records) [
+    as (λ (o : Option TextFault).
+    length (up_to (or_later o (length (pieces before)) None) (lines (before ++ [])))
+    ≤ l.records) [
       | None ↦ omega (arith, s, e, h)
       | Some f ↦
-        let t = take_le (length (pieces before) - 1) (lines (before ++ [])) in
-        omega (arith, t, h)
+          let t = take_le (length (pieces before) - 1) (lines (before ++ [])) in
+          omega (arith, t, h)
     ]
 few_lines l before (b ∷ q) h =
     let n = one_piece before b in
     let next : (before ++ b ∷ []) ++ q ≡ before ++ b ∷ q = append_assoc before (b ∷ []) q in
     (elim (rule_at l (before ++ b ∷ []))
-        as (λ (o : Option TextFault). rule_at l (before ++ b ∷ []) ≡ o
-        → length (up_to (or_later o (length (pieces (before ++ b ∷ [])))
-          (fault_after l (before ++ b ∷ []) q)) (lines (before ++ b ∷ q)))
-        ≤ l.records) [
+    as (λ (o : Option TextFault). rule_at l (before ++ b ∷ []) ≡ o
+    → length (up_to (or_later o (length (pieces (before ++ b ∷ [])))
+    (fault_after l (before ++ b ∷ []) q)) (lines (before ++ b ∷ q)))
+    ≤ l.records) [
       | None ↦ λ e.
-        subst (λ z. length (up_to (fault_after l (before ++ b ∷ []) q) (lines z)) ≤ l.records) next
-        (few_lines l (before ++ b ∷ []) q (within_limit l (before ++ b ∷ []) e))
+          subst (λ z. length (up_to (fault_after l (before ++ b ∷ []) q) (lines z)) ≤ l.records) next
+          (few_lines l (before ++ b ∷ []) q (within_limit l (before ++ b ∷ []) e))
       | Some f ↦ λ e.
-        let t = take_le (length (pieces (before ++ b ∷ [])) - 1) (lines (before ++ b ∷ q)) in
-        omega (arith, t, n, h)
+          let t = take_le (length (pieces (before ++ b ∷ [])) - 1) (lines (before ++ b ∷ q)) in
+          omega (arith, t, n, h)
     ]) refl
 
 row_a_line : (path : Path) (n : ℕ) (ls : List (List ℕ)) (broken : Option (ℕ × TextFault))
     → length (denoted path n ls broken).rows ≤ length ls
 row_a_line path n [] None =
     elim (is_unfinished path)
-        as (λ (b : Bool). length (cond b (broken_at (n + 1) (Some rule.P8)) closed).rows ≤ 0)
+    as (λ (b : Bool). length (cond b (broken_at (n + 1) (Some rule.P8)) closed).rows ≤ 0)
     [ true ↦ omega arith | false ↦ omega arith ]
 row_a_line path n [] (Some (m, f)) = omega arith
 row_a_line path n (line ∷ ls) broken =

@@ -19,10 +19,10 @@ unfolding fault_within fault_after
 stays_after l before [] q x h = absurd (none-some x h)
 stays_after l before (b ∷ p) q x h =
     (elim (rule_at l (before ++ b ∷ []))
-        as (λ (o : Option TextFault).
-        or_later o (length (pieces (before ++ b ∷ []))) (fault_within l (before ++ b ∷ []) p) ≡ Some x
-        → or_later o (length (pieces (before ++ b ∷ [])))
-          (fault_after l (before ++ b ∷ []) (p ++ q)) ≡ Some x) [
+    as (λ (o : Option TextFault).
+    or_later o (length (pieces (before ++ b ∷ []))) (fault_within l (before ++ b ∷ []) p) ≡ Some x
+    → or_later o (length (pieces (before ++ b ∷ [])))
+    (fault_after l (before ++ b ∷ []) (p ++ q)) ≡ Some x) [
       | None ↦ λ e. stays_after l (before ++ b ∷ []) p q x e
       | Some f ↦ λ e. e
     ]) h
@@ -33,10 +33,10 @@ unfolding fault_within
 stays_within l before [] q x h = absurd (none-some x h)
 stays_within l before (b ∷ p) q x h =
     (elim (rule_at l (before ++ b ∷ []))
-        as (λ (o : Option TextFault).
-        or_later o (length (pieces (before ++ b ∷ []))) (fault_within l (before ++ b ∷ []) p) ≡ Some x
-        → or_later o (length (pieces (before ++ b ∷ [])))
-          (fault_within l (before ++ b ∷ []) (p ++ q)) ≡ Some x) [
+    as (λ (o : Option TextFault).
+    or_later o (length (pieces (before ++ b ∷ []))) (fault_within l (before ++ b ∷ []) p) ≡ Some x
+    → or_later o (length (pieces (before ++ b ∷ [])))
+    (fault_within l (before ++ b ∷ []) (p ++ q)) ≡ Some x) [
       | None ↦ λ e. stays_within l (before ++ b ∷ []) p q x e
       | Some f ↦ λ e. e
     ]) h
@@ -88,16 +88,16 @@ line_within l before (b ∷ p) m f h =
     elim (one_of (rule_at l (before ++ b ∷ [])) (length (pieces (before ++ b ∷ [])))
     (fault_within l (before ++ b ∷ []) p) m f h) as (λ _. m ≤ length (whole_pieces (before ++ b ∷ p)) + 1) [
       | inl here ↦
-        let e = here.0 in
-        let n = but_last (before ++ b ∷ []) in
-        let w = begins_shorter (whole_pieces (before ++ b ∷ [])) (whole_pieces ((before ++ b ∷ []) ++ p))
-        (whole_begins (before ++ b ∷ []) p) in
-        let s = ap (λ z. length (whole_pieces z)) next in
-        omega (arith, e, n, w, s)
+          let e = here.0 in
+          let n = but_last (before ++ b ∷ []) in
+          let w = begins_shorter (whole_pieces (before ++ b ∷ [])) (whole_pieces ((before ++ b ∷ []) ++ p))
+          (whole_begins (before ++ b ∷ []) p) in
+          let s = ap (λ z. length (whole_pieces z)) next in
+          omega (arith, e, n, w, s)
       | inr later ↦
-        let n = line_within l (before ++ b ∷ []) p m f later in
-        let s = ap (λ z. length (whole_pieces z)) next in
-        omega (arith, n, s)
+          let n = line_within l (before ++ b ∷ []) p m f later in
+          let s = ap (λ z. length (whole_pieces z)) next in
+          omega (arith, n, s)
     ]
 
 -- A text that doesn't end in LF has one piece that isn't whole.
@@ -113,9 +113,9 @@ open_end : (b : ℕ) (bs : List ℕ) → ends_in_lf (b ∷ bs) ≡ false
 unfolding whole_pieces pieces
 open_end b [] h =
     elim (b == 10)
-        as (λ (v : Bool). v ≡ false
-        → length (if v then [] ∷ [] else onto_first b []) + 1
-        ≤ length (if v then [] ∷ [] else onto b [])) [
+    as (λ (v : Bool). v ≡ false
+    → length (if v then [] ∷ [] else onto_first b []) + 1
+    ≤ length (if v then [] ∷ [] else onto b [])) [
       | true ↦ λ e. cc
       | false ↦ λ e. omega arith
     ] h
@@ -127,9 +127,9 @@ open_end b (c ∷ cs) h =
     ∙ sym (ap (λ n. get_or (b ∷ c ∷ cs) n 0 == 10) at) ∙ h in
     let ih = open_end c cs e in
     elim (b == 10)
-        as (λ (v : Bool).
-        length (if v then [] ∷ whole_pieces (c ∷ cs) else onto_first b (whole_pieces (c ∷ cs))) + 1
-        ≤ length (if v then [] ∷ pieces (c ∷ cs) else onto b (pieces (c ∷ cs)))) [
+    as (λ (v : Bool).
+    length (if v then [] ∷ whole_pieces (c ∷ cs) else onto_first b (whole_pieces (c ∷ cs))) + 1
+    ≤ length (if v then [] ∷ pieces (c ∷ cs) else onto b (pieces (c ∷ cs)))) [
       | true ↦ omega (arith, ih)
       | false ↦ onto_some b (pieces (c ∷ cs)) (whole_pieces (c ∷ cs)) ih
     ]
@@ -143,7 +143,7 @@ broken_end (b ∷ bs) f h =
   where
     not_ended : (empty v : Bool)
         → (if empty || v then None
-          else if length (without_cr (last_piece (b ∷ bs))) == 0 then Some S1 else None)
+        else if length (without_cr (last_piece (b ∷ bs))) == 0 then Some S1 else None)
         ≡ Some f → v ≡ false
     not_ended true v e = absurd (none-some _ e)
     not_ended false true e = absurd (none-some _ e)
@@ -182,7 +182,7 @@ line_after l p x (b ∷ q) m f h =
     (fault_after l ((p ++ x) ++ b ∷ []) q) m f h) as (λ _. length (whole_pieces p) + 1 ≤ m) [
       | inl here ↦ let e = here.0 in let n = with_more p x b in omega (arith, e, n)
       | inr later ↦
-        line_after l p (x ++ b ∷ []) q m f (subst (λ z. fault_after l z q ≡ Some (m, f)) next later)
+          line_after l p (x ++ b ∷ []) q m f (subst (λ z. fault_after l z q ≡ Some (m, f)) next later)
     ]
 
 pub line_behind : (l : Limits) (p x q : List ℕ) (m : ℕ) (f : TextFault)
@@ -195,7 +195,7 @@ line_behind l p x (b ∷ q) m f h =
     (fault_within l ((p ++ x) ++ b ∷ []) q) m f h) as (λ _. length (whole_pieces p) + 1 ≤ m) [
       | inl here ↦ let e = here.0 in let n = with_more p x b in omega (arith, e, n)
       | inr later ↦
-        line_behind l p (x ++ b ∷ []) q m f (subst (λ z. fault_within l z q ≡ Some (m, f)) next later)
+          line_behind l p (x ++ b ∷ []) q m f (subst (λ z. fault_within l z q ≡ Some (m, f)) next later)
     ]
 
 -- A fault that stands in a front is in a line that has begun there.
@@ -209,9 +209,9 @@ line_begun l before (b ∷ p) m f h =
     elim (one_of (rule_at l (before ++ b ∷ [])) (length (pieces (before ++ b ∷ [])))
     (fault_within l (before ++ b ∷ []) p) m f h) as (λ _. m ≤ length (pieces (before ++ b ∷ p))) [
       | inl here ↦
-        let e = here.0 in
-        let w = pieces_grow (before ++ b ∷ []) p in
-        omega (arith, e, w, s)
+          let e = here.0 in
+          let w = pieces_grow (before ++ b ∷ []) p in
+          omega (arith, e, w, s)
       | inr later ↦ let n = line_begun l (before ++ b ∷ []) p m f later in omega (arith, n, s)
     ]
 

@@ -172,9 +172,10 @@ given_settled v seen rows h =
     let s = sym (length-map (pieces h.before) without_cr) ∙ ap length h.whole in
     omega (arith, a, w, s)) in
     let e = ap (λ ls. denoted_so_far Unopened 0 ls o) (sym b.1)
-    ∙ read_so_far h.given b.0 rows o h.read in
-    ((denoted_so_far (through Unopened rows) (length rows) b.0 o).rows,
-      ap (λ (s : Score). s.rows) (sym e))
+    ∙ read_so_far h.given b.0 rows o h.read in (
+      (denoted_so_far (through Unopened rows) (length rows) b.0 o).rows,
+      ap (λ (s : Score). s.rows) (sym e),
+    )
 
 -- Where a read is needed, nothing else has.
 pub needs_settled : {R : Type 0} (v : Scores R) (seen : List ℕ) (rows : List Row)

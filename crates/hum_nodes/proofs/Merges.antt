@@ -29,9 +29,9 @@ few_gives : (most n : ℕ) (m : Merge)
 few_gives most zero m room h = omega arith
 few_gives most (suc n) m room h = elim (doing m) [
   | Going p e ↦
-    let r = room m p e in
-    let k = few_gives most n (given_on p m) room r in
-    rw (gives_going n m p e) (omega (arith, k))
+      let r = room m p e in
+      let k = few_gives most n (given_on p m) room r in
+      rw (gives_going n m p e) (omega (arith, k))
   | Resting e ↦ rw (gives_resting (suc n) m e) (omega (arith, h))
 ]
 
@@ -47,7 +47,7 @@ ends_on : (n : ℕ) (m : Merge)
 ends_on zero m = refl
 ends_on (suc n) m = elim (doing m) [
   | Going p e ↦ rw (on_going n m p e)
-    (ends_on n (given_on p m) ∙ all_ended true (any_due m.sources) p m.sources)
+      (ends_on n (given_on p m) ∙ all_ended true (any_due m.sources) p m.sources)
   | Resting e ↦ ap (λ (s : Merge). map (λ s. s.ended) s.sources) (on_resting (suc n) m e)
 ]
 

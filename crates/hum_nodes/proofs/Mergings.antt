@@ -55,11 +55,11 @@ rests a o None h =
 
 by_test : (b : Bool) (a : List (Flow Row)) (o : Option Fault)
     → (if b then Gives
-      else doing_by (want_from (wanted_of (inputs_of a))) (or_own (inputs_end a) (own_end o)))
+    else doing_by (want_from (wanted_of (inputs_of a))) (or_own (inputs_end a) (own_end o)))
     ≡ doing_for
-      (if b then state.Gives
-      else resting_state o (merge.inputs_end (ends (inputs_of a))))
-      (if b then None else wanted_of (inputs_of a))
+    (if b then state.Gives
+    else resting_state o (merge.inputs_end (ends (inputs_of a))))
+    (if b then None else wanted_of (inputs_of a))
 by_test true a o = refl
 by_test false a o = rests a o (wanted_of (inputs_of a)) refl
 

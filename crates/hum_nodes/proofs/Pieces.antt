@@ -21,13 +21,13 @@ whole_begins [] q = (whole_pieces q, refl)
 whole_begins (b ∷ bs) q =
     let ih = whole_begins bs q in
     elim (b == 10)
-        as (λ (v : Bool).
-        Begins (if v then [] ∷ whole_pieces bs else onto_first b (whole_pieces bs))
-        (if v then [] ∷ whole_pieces (bs ++ q) else onto_first b (whole_pieces (bs ++ q)))) [
+    as (λ (v : Bool).
+    Begins (if v then [] ∷ whole_pieces bs else onto_first b (whole_pieces bs))
+    (if v then [] ∷ whole_pieces (bs ++ q) else onto_first b (whole_pieces (bs ++ q)))) [
       | true ↦ (ih.0, ap (λ ps. [] ∷ ps) ih.1)
       | false ↦
-        subst (λ ps. Begins (onto_first b (whole_pieces bs)) (onto_first b ps)) ih.1
-        (onto_begins b (whole_pieces bs) ih.0)
+          subst (λ ps. Begins (onto_first b (whole_pieces bs)) (onto_first b ps)) ih.1
+          (onto_begins b (whole_pieces bs) ih.0)
     ]
 
 onto_front : (b : ℕ) (ps more : List (List ℕ)) → Begins (onto_first b ps) (onto b (ps ++ more))
@@ -40,13 +40,13 @@ whole_front [] q = (pieces q, refl)
 whole_front (b ∷ bs) q =
     let ih = whole_front bs q in
     elim (b == 10)
-        as (λ (v : Bool).
-        Begins (if v then [] ∷ whole_pieces bs else onto_first b (whole_pieces bs))
-        (if v then [] ∷ pieces (bs ++ q) else onto b (pieces (bs ++ q)))) [
+    as (λ (v : Bool).
+    Begins (if v then [] ∷ whole_pieces bs else onto_first b (whole_pieces bs))
+    (if v then [] ∷ pieces (bs ++ q) else onto b (pieces (bs ++ q)))) [
       | true ↦ (ih.0, ap (λ ps. [] ∷ ps) ih.1)
       | false ↦
-        subst (λ ps. Begins (onto_first b (whole_pieces bs)) (onto b ps)) ih.1
-        (onto_front b (whole_pieces bs) ih.0)
+          subst (λ ps. Begins (onto_first b (whole_pieces bs)) (onto b ps)) ih.1
+          (onto_front b (whole_pieces bs) ih.0)
     ]
 
 -- All pieces but the last are whole,
@@ -63,9 +63,9 @@ but_last [] = omega arith
 but_last (b ∷ bs) =
     let ih = but_last bs in
     elim (b == 10)
-        as (λ (v : Bool).
-        length (if v then [] ∷ pieces bs else onto b (pieces bs))
-        ≤ length (if v then [] ∷ whole_pieces bs else onto_first b (whole_pieces bs)) + 1) [
+    as (λ (v : Bool).
+    length (if v then [] ∷ pieces bs else onto b (pieces bs))
+    ≤ length (if v then [] ∷ whole_pieces bs else onto_first b (whole_pieces bs)) + 1) [
       | true ↦ omega (arith, ih)
       | false ↦ onto_longer b (pieces bs) (whole_pieces bs) ih
     ]
@@ -93,9 +93,9 @@ some_more [] c q =
 some_more (b ∷ bs) c q =
     let ih = some_more bs c q in
     elim (b == 10)
-        as (λ (v : Bool).
-        length (if v then [] ∷ whole_pieces bs else onto_first b (whole_pieces bs)) + 1
-        ≤ length (if v then [] ∷ pieces (bs ++ c ∷ q) else onto b (pieces (bs ++ c ∷ q)))) [
+    as (λ (v : Bool).
+    length (if v then [] ∷ whole_pieces bs else onto_first b (whole_pieces bs)) + 1
+    ≤ length (if v then [] ∷ pieces (bs ++ c ∷ q) else onto b (pieces (bs ++ c ∷ q)))) [
       | true ↦ omega (arith, ih)
       | false ↦ onto_some b (pieces (bs ++ c ∷ q)) (whole_pieces bs) ih
     ]
@@ -118,9 +118,9 @@ one_piece [] c =
 one_piece (b ∷ bs) c =
     let ih = one_piece bs c in
     elim (b == 10)
-        as (λ (v : Bool).
-        length (if v then [] ∷ pieces (bs ++ c ∷ []) else onto b (pieces (bs ++ c ∷ [])))
-        ≤ length (if v then [] ∷ pieces bs else onto b (pieces bs)) + 1) [
+    as (λ (v : Bool).
+    length (if v then [] ∷ pieces (bs ++ c ∷ []) else onto b (pieces (bs ++ c ∷ [])))
+    ≤ length (if v then [] ∷ pieces bs else onto b (pieces bs)) + 1) [
       | true ↦ omega (arith, ih)
       | false ↦ onto_at_most b (pieces (bs ++ c ∷ [])) (pieces bs) ih
     ]
@@ -140,14 +140,14 @@ whole_at_start (b ∷ c ∷ bs) q s =
     whole_at_start (c ∷ bs) q s in
     let some = pieces-some c bs in
     elim (b == 10)
-        as (λ (v : Bool).
-        (if v then [] ∷ whole_pieces ((c ∷ bs) ++ q)
-        else onto_first b (whole_pieces ((c ∷ bs) ++ q)))
-        ≡ (if v then [] ∷ pieces (c ∷ bs) else onto b (pieces (c ∷ bs))) ++ whole_pieces q) [
+    as (λ (v : Bool).
+    (if v then [] ∷ whole_pieces ((c ∷ bs) ++ q)
+    else onto_first b (whole_pieces ((c ∷ bs) ++ q)))
+    ≡ (if v then [] ∷ pieces (c ∷ bs) else onto b (pieces (c ∷ bs))) ++ whole_pieces q) [
       | true ↦ ap (λ (ps : List (List ℕ)). [] ∷ ps) ih
       | false ↦
-        ap (onto_first b) ih
-        ∙ onto_same b some.0 some.1 (whole_pieces q) (pieces (c ∷ bs)) some.2
+          ap (onto_first b) ih
+          ∙ onto_same b some.0 some.1 (whole_pieces q) (pieces (c ∷ bs)) some.2
     ]
 
 -- Bytes without LF have none.
@@ -157,8 +157,8 @@ none_whole [] free = refl
 none_whole (b ∷ q) free =
     let ih = none_whole q (λ k h is. free (suc k) (omega arith) is) in
     (elim (b == 10)
-        as (λ (v : Bool). (b == 10) ≡ v
-        → (if v then [] ∷ whole_pieces q else onto_first b (whole_pieces q)) ≡ []) [
+    as (λ (v : Bool). (b == 10) ≡ v
+    → (if v then [] ∷ whole_pieces q else onto_first b (whole_pieces q)) ≡ []) [
       | true ↦ λ e. absurd (free 0 (omega arith) (eqb-true b 10 e))
       | false ↦ λ e. ap (onto_first b) ih
     ]) refl
@@ -177,9 +177,9 @@ pieces_grow [] q = omega arith
 pieces_grow (b ∷ bs) q =
     let ih = pieces_grow bs q in
     elim (b == 10)
-        as (λ (v : Bool).
-        length (if v then [] ∷ pieces bs else onto b (pieces bs))
-        ≤ length (if v then [] ∷ pieces (bs ++ q) else onto b (pieces (bs ++ q)))) [
+    as (λ (v : Bool).
+    length (if v then [] ∷ pieces bs else onto b (pieces bs))
+    ≤ length (if v then [] ∷ pieces (bs ++ q) else onto b (pieces (bs ++ q)))) [
       | true ↦ omega (arith, ih)
       | false ↦ onto_grows b (pieces bs) (pieces (bs ++ q)) ih
     ]

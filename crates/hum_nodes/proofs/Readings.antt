@@ -89,10 +89,11 @@ given_at w all seen left rows whole over has true e =
     let n : all ≡ seen = whole ∙ ap (λ l. seen ++ l) (over e) ∙ append-nil seen in
     let f = front-rows w (seen ++ []) rows [] (has [] (λ _. refl)) in
     let same : settled_at all (length seen + 1) ≡ score_of seen =
-    all_settled all (length seen + 1) (let m = ap length n in omega (arith, m)) ∙ ap score_of n in
-    (f.0,
+    all_settled all (length seen + 1) (let m = ap length n in omega (arith, m)) ∙ ap score_of n in (
+      f.0,
       sym f.1 ∙ ap (λ z. (score_of z).rows) (append-nil seen)
-      ∙ ap (λ (s : Score). s.rows) (sym same))
+          ∙ ap (λ (s : Score). s.rows) (sym same),
+    )
 given_at w all seen left rows whole over has false e =
     let front = front_is w seen rows 97 (has (97 ∷ []) (λ t. absurd (false≢true (sym e ∙ t)))) in
     subst (λ (s : Score). Begins rows s.rows) (sym (so_far_at all seen left whole))
@@ -170,7 +171,7 @@ pub record Moved {R : Type 0} (remaining : R → Option (List ℕ)) (v w : Score
   pub stays : v.lines.ended ≡ true → IsUnread v.lines w.lines
   pub gives : (more : List ℕ) → (w.lines.ended ≡ true → more ≡ [])
       → Gives v.stage ((h.seen ++ bytes_read v.lines w.lines) ++ more) h.rows result
-        (λ after. HasRead w ((h.seen ++ bytes_read v.lines w.lines) ++ more) after more)
+      (λ after. HasRead w ((h.seen ++ bytes_read v.lines w.lines) ++ more) after more)
 
 pub moved : {R : Type 0} (remaining : R → Option (List ℕ)) (v w : Scores R)
     (result : Result Step ReadError) (all rest : List ℕ) (t : At) (h : HasGiven v all rest t)

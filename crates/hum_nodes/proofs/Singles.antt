@@ -44,7 +44,7 @@ rests o (Some (Broken f)) = refl
 
 by_test : (b : Bool) (o : Option Fault) (e : Option End)
     → (if b then Gives
-      else doing_by (want_by e) (or_own (lower (unwrap_or e Closed) Closed) (own_end o)))
+    else doing_by (want_by e) (or_own (lower (unwrap_or e Closed) Closed) (own_end o)))
     ≡ doing_for (if b then state.Gives else resting_state o e)
 unfolding doing_for
 by_test true o e = refl

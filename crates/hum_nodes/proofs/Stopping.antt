@@ -102,7 +102,7 @@ pub denoted_limits : (path : Path) (n : ℕ) (ls : List (List ℕ)) (broken : Op
 unfolding limits_at is_limit
 denoted_limits path n [] None none =
     elim (is_unfinished path)
-        as (λ (b : Bool). limits_at (cond b (broken_at (n + 1) (Some rule.P8)) closed).fault ≡ false)
+    as (λ (b : Bool). limits_at (cond b (broken_at (n + 1) (Some rule.P8)) closed).fault ≡ false)
     [ true ↦ refl | false ↦ refl ]
 denoted_limits path n [] (Some (m, f)) none =
     broken_limits m (text_rule f) ∙ none m f refl
@@ -147,7 +147,7 @@ end_limits l p m f h =
 
 byte_tests : (f : TextFault) (a b c d e : Bool) → a ≡ false
     → (if a && e then Some text.S1
-      else if b then Some text.S2 else if c then Some text.S3 else if d then Some text.S7 else None)
+    else if b then Some text.S2 else if c then Some text.S3 else if d then Some text.S7 else None)
     ≡ Some f
     → limits (text_rule f) ≡ true
 unfolding limits is_limit
@@ -189,7 +189,7 @@ within_limits l p (b ∷ q) free m f h =
     (fault_within l (p ++ b ∷ []) q) m f h) as (λ _. limits (text_rule f) ≡ true) [
       | inl here ↦ at_byte l p b f (no_lf b q free) here.1
       | inr later ↦
-        within_limits l (p ++ b ∷ []) q (λ k i is. free (suc k) (omega (arith, i)) is) m f later
+          within_limits l (p ++ b ∷ []) q (λ k i is. free (suc k) (omega (arith, i)) is) m f later
     ]
 
 -- Bytes without LF, more than a line may have, break one.
@@ -244,8 +244,8 @@ long_breaks l before held start free long h =
     let open_line : rule_in l (length (pieces before) + 1) all false (length before + (k + 1)) ≡ None =
     ap (λ z. rule_in l (length (pieces before) + 1) z false (length before + (k + 1))) (sym whole)
     ∙ sym (ap (λ b. if b == 10
-      then rule_in l (length (pieces before) + 1) (take k all) true (length before + (k + 1))
-      else rule_in l (length (pieces before) + 1) (take (k + 1) all) false (length before + (k + 1)))
+    then rule_in l (length (pieces before) + 1) (take k all) true (length before + (k + 1))
+    else rule_in l (length (pieces before) + 1) (take (k + 1) all) false (length before + (k + 1)))
     byte) ∙ none in
     let kept : without_cr all ≡ all =
     ap (λ b. if b == 13 then take (length all - 1) all else all) (last-snoc held 97 0) in
@@ -275,8 +275,8 @@ unfolding whole_pieces
 none_free [] h = λ k i is. absurd (omega (arith, i))
 none_free (b ∷ q) h =
     (elim (b == 10)
-        as (λ (v : Bool). (b == 10) ≡ v
-        → (if v then [] ∷ whole_pieces q else onto_first b (whole_pieces q)) ≡ [] → NoLf (b ∷ q)) [
+    as (λ (v : Bool). (b == 10) ≡ v
+    → (if v then [] ∷ whole_pieces q else onto_first b (whole_pieces q)) ≡ [] → NoLf (b ∷ q)) [
       | true ↦ λ e g. let z = ap length g in absurd (omega (arith, z))
       | false ↦ λ e g. both e (none_free q (empty (whole_pieces q) g))
     ]) refl h
@@ -284,6 +284,7 @@ none_free (b ∷ q) h =
     empty : (ps : List (List ℕ)) → onto_first b ps ≡ [] → ps ≡ []
     empty [] g = refl
     empty (p ∷ ps) g = let z = ap length g in absurd (omega (arith, z))
+
     both : (b == 10) ≡ false → NoLf q → NoLf (b ∷ q)
     both e f zero i is = false≢true (sym e ∙ ap (λ n. n == 10) is)
     both e f (suc k) i is = f k (omega (arith, i)) is

@@ -211,6 +211,9 @@ pub told_settled : {R : Type 0} (v : Scores R) (p : List ℕ) (rows : List Row) 
 told_settled v p rows stage e h told =
     let x = told_fault v p rows stage e h told (some_long standard.line) (score_so_far p).fault refl in
     let same = (settles_whole p []).broken x.0 x.1 in
-    let here = told [] in
-    (x.0, x.1, ap (λ (s : Score). s.rows) (sym same) ∙ here.records,
-      ap (λ (s : Score). end_at stage s.fault) (sym same) ∙ here.ending)
+    let here = told [] in (
+      x.0,
+      x.1,
+      ap (λ (s : Score). s.rows) (sym same) ∙ here.records,
+      ap (λ (s : Score). end_at stage s.fault) (sym same) ∙ here.ending,
+    )

@@ -145,8 +145,8 @@ never_still v w seen bs rows is none h k nears =
     let zero : length z.0 ≡ 0 = elim a.start [
       | inl s ↦ same_place x z.0 s c
       | inr e ↦
-        let f = ap length e.0 in
-        omega (arith, f, pa, qb, la, lb, na, nb, ta, tb, tc, none, lz, mz)
+          let f = ap length e.0 in
+          omega (arith, f, pa, qb, la, lb, na, nb, ta, tb, tc, none, lz, mz)
     ] in
     let sa = a.size in
     let sb = b.size in
@@ -194,9 +194,9 @@ module _ {R : Type 0} (remaining : R → Option (List ℕ)) (v w : Scores R)
 
   no_less : upto v.lines.ended h.seen ≤ upto w.lines.ended seen
   no_less = elim (no_less_by v.lines.ended w.lines.ended refl) [
-      | inl less ↦ less
-      | inr ended ↦ let e = same_bytes (m.stays ended) in omega (arith, e)
-    ]
+    | inl less ↦ less
+    | inr ended ↦ let e = same_bytes (m.stays ended) in omega (arith, e)
+  ]
 
   within_by : (b : Bool) → upto b seen ≤ length all + 1
   within_by true =
@@ -208,7 +208,7 @@ module _ {R : Type 0} (remaining : R → Option (List ℕ)) (v w : Scores R)
   turn : (p : Polled) (after : At → Type 0) → t.kind ≡ reading v.stage all → t.inputs ≡ []
       → ((NeedsRead v.lines → ⊥) → IsUnread v.lines w.lines)
       → GoesOn (read_to (upto w.lines.ended seen) t) p after
-        ⊎ ((p ≡ polled.Nothing) × after (read_to (upto w.lines.ended seen) t))
+      ⊎ ((p ≡ polled.Nothing) × after (read_to (upto w.lines.ended seen) t))
       → (t.read ≡ upto w.lines.ended seen → Polls t p after)
       → Polls t p after
   turn p after kind inputs unread goes still =
@@ -217,13 +217,13 @@ module _ {R : Type 0} (remaining : R → Option (List ℕ)) (v w : Scores R)
       let at = h.read in
       elim (cases_lt t.read r) [
         | inl less ↦
-          let d = must_read (doing_of t) (NeedsRead v.lines) (IsUnread v.lines w.lines)
-          (needs_at v all rest t v.stage kind inputs h) unread
-          (λ u. let e = same_bytes u in absurd (omega (arith, less, e, at))) in
-          let n = within_by w.lines.ended in
-          let b = ap (λ k. k.stage.bytes) kind in
-          subst (λ d. PollsBy d t p after) (sym d)
-          (record { upto = r; more = less; within = omega (arith, n, b); goes = goes })
+            let d = must_read (doing_of t) (NeedsRead v.lines) (IsUnread v.lines w.lines)
+            (needs_at v all rest t v.stage kind inputs h) unread
+            (λ u. let e = same_bytes u in absurd (omega (arith, less, e, at))) in
+            let n = within_by w.lines.ended in
+            let b = ap (λ k. k.stage.bytes) kind in
+            subst (λ d. PollsBy d t p after) (sym d)
+            (record { upto = r; more = less; within = omega (arith, n, b); goes = goes })
         | inr more ↦ still (omega (arith, more, le, at))
       ]
 
@@ -288,7 +288,7 @@ module _ {R : Type 0} (remaining : R → Option (List ℕ)) (v w : Scores R)
   -- an end
   done_by : (b : Bool) → w.lines.ended ≡ b → (e : End)
       → ((more : List ℕ) → (w.lines.ended ≡ true → more ≡ [])
-        → Denotes v.stage (seen ++ more) h.rows e)
+      → Denotes v.stage (seen ++ more) h.rows e)
       → doing_at v.stage all (upto b seen) (length h.rows) ≡ does.Done e
   done_by true is e told =
       let d = told [] (λ _. refl) in
@@ -466,6 +466,7 @@ module _ {R : Type 0} (remaining : R → Option (List ℕ)) (v w : Scores R) (t 
       same_end : (e : End)
           → ◌≡◌ {A = Result Step ReadError} (Ok (step.End end)) (Ok (step.End e)) → e ≡ end
       same_end e h = cc
+
       by : (o : Option (Result End ReadError)) → v.stopped ≡ o
           → StandsBy o (HasGiven v a.all a.rest t) t
           → IfSome o (λ s. (Ok (step.End end) ≡ answer_of s) × (w ≡ v))

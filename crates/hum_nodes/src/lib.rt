@@ -14,9 +14,10 @@ mod node;
 mod reading;
 mod single;
 
-pub use laws::{mergings_are_lawful, mergings_keep_fine};
-pub use laws::{readings_are_lawful, readings_keep_fine};
-pub use laws::{singles_are_lawful, singles_keep_fine, what_is_fine};
+pub use laws::{
+    mergings_are_lawful, mergings_keep_fine, readings_are_lawful, readings_keep_fine,
+    singles_are_lawful, singles_keep_fine, what_is_fine,
+};
 pub use merging::Merging;
 pub use node::{Doing, Node, Polled};
 pub use reading::Reading;

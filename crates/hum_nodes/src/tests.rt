@@ -2,12 +2,15 @@
 ghost use Rattle.std.specs.Prelude.{◌≡◌, Ok, [], ◌∷◌};
 ghost use Rattle.hum_path.specs.Spines.{Unopened};
 ghost use Rattle.hum_path.specs.Rules.{fault_of};
-ghost use Rattle.std.specs.Prelude.{None as Nothing, IfOk};
+ghost use Rattle.std.specs.Prelude.{None as Nothing, IfOk, ◌<◌};
+ghost use Rattle.hum_nodes.specs.At.{MayDo, bytes_of};
 
-use crate::{Doing, Merging, Node, Single};
+use crate::{Doing, Merging, Node, Polled, Reading, Single};
 use hum_path::Paths;
+use hum_read::ReadError;
 use hum_record::Record;
 use hum_stage::{AtOnce, Command, Decides, End, Fault, Rule};
+use hum_text::calls::{Marked, Source};
 use std::alloc::{AllocError, Global};
 use std::test::Fail;
 
@@ -93,5 +96,56 @@ fn scores_side_by_side(rt: HostRuntime) -> Result<(), Fail> {
     assert_eq!(rt; node.held(), 1);
     assert!(rt; node.take()?.is_none());
     assert_eq!(rt; node.doing(), Doing::Wants(1));
+    Ok(())
+}
+
+// One poll more.
+fn poll<R: Source + Drop>(node: &mut Reading<R>) -> Result<Polled, ReadError>
+    requires { MayDo (⟦<Reading<R> as Node>⟧.stands node.old) (λ t. 0 < bytes_of t) }
+    ensures { IfOk result (λ polled.
+        MayDo (⟦<Reading<R> as Node>⟧.stands node.new) (λ t. 0 < bytes_of t)) }
+{
+    node.poll()
+}
+
+// What was given, as text.
+fn shown(polled: &Polled) -> &[u8] {
+    match polled {
+        Polled::Record(record) => record.text(),
+        Polled::Nothing => b"nothing",
+        Polled::End(End::Closed) => b"closed",
+        Polled::End(End::Broken(_)) => b"broken",
+    }
+}
+
+#[test]
+fn a_score_is_read(rt: HostRuntime) -> Result<(), Fail> {
+    let source = Marked::new(b"**x\n*-".as_slice());
+    let mut node = Reading::new(rt.alloc(), 1, source);
+    assert!(rt; node.is_source());
+    assert_eq!(rt; node.held(), 0);
+    let polled = poll(&mut node)?;
+    assert_eq!(rt; shown(&polled), b"nothing".as_slice());
+    let polled = poll(&mut node)?;
+    assert_eq!(rt; shown(&polled), b"**x".as_slice());
+    let polled = poll(&mut node)?;
+    assert_eq!(rt; shown(&polled), b"*-".as_slice());
+    let polled = poll(&mut node)?;
+    assert_eq!(rt; shown(&polled), b"closed".as_slice());
+    let polled = poll(&mut node)?;
+    assert_eq!(rt; shown(&polled), b"closed".as_slice());
+    Ok(())
+}
+
+#[test]
+fn a_broken_score_is_read(rt: HostRuntime) -> Result<(), Fail> {
+    let source = Marked::new(b"**x\n\n*-\n".as_slice());
+    let mut node = Reading::new(rt.alloc(), 1, source);
+    let polled = poll(&mut node)?;
+    assert_eq!(rt; shown(&polled), b"nothing".as_slice());
+    let polled = poll(&mut node)?;
+    assert_eq!(rt; shown(&polled), b"**x".as_slice());
+    let polled = poll(&mut node)?;
+    assert_eq!(rt; shown(&polled), b"broken".as_slice());
     Ok(())
 }
