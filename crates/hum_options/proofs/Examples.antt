@@ -1,6 +1,6 @@
 -- Words and their answers, worked by the definitions. The command is word 2, the words behind it are
 -- written with one blank between them.
-use Rattle.std.proofs.Common.{◌≡◌, ℕ, suc, List, [], ◌∷◌, ◌==◌, Bool, true, false, Ok, Err, None, Some}
+use Rattle.std.proofs.Common.{ℕ, suc, List, [], ◌∷◌, ◌==◌, true, false, Ok, None, Some}
 use Rattle.std.proofs.Common.{refl, inl, inr}
 use Rattle.std.specs.Prelude.{pos, negsuc}
 use Rattle.std.specs.List.{slice_split}

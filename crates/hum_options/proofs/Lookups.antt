@@ -1,6 +1,6 @@
 -- Options that were given, looked up by their letters.
-use Rattle.std.proofs.Common.{◌≡◌, ℕ, suc, ◌+◌, ◌<◌, ◌≤◌, ◌==◌, Bool, true, false, not, cond, List, [], ◌∷◌, ◌++◌, Option, None, Some}
-use Rattle.std.proofs.Common.{length, take, drop, get_or, refl, ap, sym, ◌∙◌, arith, position, is_some}
+use Rattle.std.proofs.Common.{◌≡◌, ℕ, suc, ◌+◌, ◌<◌, ◌≤◌, ◌==◌, Bool, true, false, not, cond, List, [], ◌∷◌, Option, None, Some}
+use Rattle.std.proofs.Common.{length, get_or, refl, ap, sym, ◌∙◌, arith, position, is_some}
 use Rattle.std.specs.Prelude.{map, ◌||◌, if◌then◌else◌, nat_lt, remove}
 use Rattle.std.specs.List.{list_any, prefix_len}
 use Rattle.std.specs.Option.{unwrap_or, option_and_then}

@@ -1,12 +1,12 @@
 -- What options mean, when their values are taken out one after another.
-use Rattle.std.proofs.Common.{◌≡◌, ℕ, List, Option, None, Some, codes, refl, sym, ap, ◌∙◌}
+use Rattle.std.proofs.Common.{◌≡◌, ℕ, List, Option, None, Some, codes, refl, ap, ◌∙◌}
 use Rattle.std.specs.Prelude.{ℤ, unwrap_or}
 use Rattle.std.specs.Option.{option_map}
 use Rattle.hum_extract.specs.Choice as choice
 use Rattle.hum_yank.specs.declared.options.YankRange.{YankRange}
 use Rattle.hum_options.specs.declared.tools.Tool.TheVariants as tool
-use Rattle.hum_options.specs.Meant.{Given, without, get, Span, Phrase, Markers, Occurrences, Options, Context, Trans, Yank, Cleave, both}
-use Rattle.hum_options.specs.Meant.{as_fields, as_names, as_name, as_text, as_ranges, as_label, as_pattern, as_count, as_steps, as_semitones}
+use Rattle.hum_options.specs.Meant.{Given, without, get, Span, Phrase, Markers, Occurrences, Context, Trans, Yank, Cleave, both}
+use Rattle.hum_options.specs.Meant.{as_fields, as_names, as_name, as_text, as_ranges, as_pattern, as_count, as_steps, as_semitones}
 use Rattle.hum_options.specs.Meant.{choice_meant, phrase_meant, span_meant, labels_meant, occurrences_meant, numbers_meant, markers_meant, separator_meant, meant}
 use Rattle.hum_options.proofs.Lookups.{value_at-without, kept}
 

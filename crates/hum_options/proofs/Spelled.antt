@@ -1,5 +1,5 @@
 -- Words are answered by the options that they spell.
-use Rattle.std.proofs.Common.{◌≡◌, ℕ, List, [], ◌∷◌, ◌++◌, Bool, true, false, Ok, Err, Option, None, Some, refl, sym, ap, ◌∙◌, inl, inr, append_assoc}
+use Rattle.std.proofs.Common.{◌≡◌, ℕ, List, [], ◌∷◌, ◌++◌, Bool, true, false, Ok, Option, None, Some, refl, sym, ap, ◌∙◌, inl, inr, append_assoc}
 use Rattle.std.proofs.lemmas.List.{append-nil}
 use Rattle.std.specs.Prelude.{MatchBool}
 use Rattle.std.specs.Result.{result_unwrap_or}
@@ -13,7 +13,7 @@ use Rattle.hum_options.specs.Values.{Value, Nothing, Fields, Names, Name, Text, 
 use Rattle.hum_options.specs.Values.{value_of, IsSound}
 use Rattle.hum_options.specs.Meant.{Given, Options, meant}
 use Rattle.hum_options.specs.Answers.{Word, Answer, Answers, AtOption, AtValue, next_option, unless_barred, is_barred, is_alone, with_value, together}
-use Rattle.hum_options.specs.Spelling.{IsValue, Spells, none, alone, valued, AreAllowed, IsSpelled, AreReadAsSpelled, given_as}
+use Rattle.hum_options.specs.Spelling.{IsValue, Spells, none, alone, valued, AreAllowed, AreReadAsSpelled, given_as}
 use Rattle.hum_options.proofs.Turns.{sound, option_goes, option_awaits}
 
 next_is : (tool : Tool) (before : List Given) (word : List ℕ) (option : CommandOption)

@@ -1,5 +1,5 @@
 -- What options mean for their command.
-use Rattle.std.specs.Prelude.{ℕ, ℤ, Bool, true, false, ◌==◌, if◌then◌else◌, List, [], ◌∷◌, map}
+use Rattle.std.specs.Prelude.{ℕ, ℤ, Bool, ◌==◌, if◌then◌else◌, List, [], ◌∷◌, map}
 use Rattle.std.specs.Prelude.{Option, None, Some, is_some, unwrap_or}
 use Rattle.std.specs.Option.{option_map, option_and_then, option_or}
 use lib.Chars.{codes}
@@ -16,7 +16,7 @@ use Rattle.hum_cleave.specs.Cleave as cleave
 use Rattle.hum_options.specs.declared.tools.Tool.{Tool}
 use Rattle.hum_options.specs.declared.tools.Tool.TheVariants as tool
 use Rattle.hum_options.specs.Options.{letter}
-use Rattle.hum_options.specs.Values.{Value, Nothing, Fields, Names, Name, Text, Ranges, Label}
+use Rattle.hum_options.specs.Values.{Value, Fields, Names, Name, Text, Ranges, Label}
 use Rattle.hum_options.specs.Values.{Pattern, Count, Steps, Semitones, Duration}
 
 -- an option that was given, by its letter, with its value

@@ -1,6 +1,5 @@
 -- What contracts see of options and words.
-use Rattle.std.specs.Prelude.{◌≡◌, ℕ, Bool, List, [], ◌∷◌, map, Option, None, Some, Result, Ok, Err}
-use Rattle.std.specs.Option.{option_map}
+use Rattle.std.specs.Prelude.{◌≡◌, ℕ, List, [], ◌∷◌, None, Some, Result, Ok, Err}
 use Rattle.hum_path.specs.Spines.{texts}
 use Rattle.hum_words.specs.Pieces.{Item, items_of}
 use Rattle.hum_words.specs.Pieces as item
@@ -11,7 +10,6 @@ use Rattle.hum_context.specs.declared.options.Span.{Span as WrittenSpan}
 use Rattle.hum_context.specs.declared.options.Span.TheVariants as span
 use Rattle.hum_yank.specs.declared.options.Markers.{Markers as WrittenMarkers}
 use Rattle.hum_yank.specs.declared.options.Markers.TheVariants as markers
-use Rattle.hum_options.specs.declared.tools.Tool.{Tool}
 use Rattle.hum_options.specs.declared.options.Kind.{Kind}
 use Rattle.hum_options.specs.declared.values.Value.{Value as WrittenValue}
 use Rattle.hum_options.specs.declared.values.Value.TheVariants as value

@@ -1,5 +1,3 @@
-use Rattle.std.proofs.Common.{◌≡◌, sym, ◌∙◌, ap}
-use Rattle.std.specs.List.{list_any}
 use Rattle.hum_options.specs.Answers.{bars}
 use Rattle.hum_options.proofs.Lookups.{any_given}
 use Rattle.hum_options.proofs.given.GivenOptions.is_barred.Goals as goal
