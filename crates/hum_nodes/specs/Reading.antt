@@ -43,7 +43,8 @@ pub record HasGiven {R : Type 0} (v : Scores R) (all rest : List ℕ) (t : At) :
   pub rows : List Row
   pub seen : List ℕ
   pub whole : all ≡ seen ++ rest
-  pub has : (more : List ℕ) → (v.lines.ended ≡ true → more ≡ []) → HasRead v (seen ++ more) rows more
+  pub has : (more : List ℕ) → (v.lines.ended ≡ true → more ≡ [])
+      → HasRead v (seen ++ more) rows more
   pub over : v.lines.ended ≡ true → rest ≡ []
   pub read : t.read ≡ (if v.lines.ended then length seen + 1 else length seen)
   pub given : t.given ≡ length rows
