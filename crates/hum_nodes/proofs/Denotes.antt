@@ -1,11 +1,10 @@
 -- What bytes denote at their end: no more records than a score may have, and a closed score where
 -- no rule is broken.
-use Rattle.std.proofs.Common.{◌≡◌, ◌∙◌, refl, sym, ap, subst, ℕ, zero, suc, ◌+◌, ◌-◌, ◌≤◌, Bool, true}
+use Rattle.std.proofs.Common.{◌≡◌, refl, sym, ap, subst, ℕ, zero, suc, ◌+◌, ◌-◌, ◌≤◌, Bool, true}
 use Rattle.std.proofs.Common.{false, cond, ◌==◌, ◌||◌, ◌&&◌, if◌then◌else◌, nat_lt, List, [], ◌∷◌}
-use Rattle.std.proofs.Common.{◌++◌, length, map, take, arith, Option, Some, None, Result, Ok, Err}
+use Rattle.std.proofs.Common.{◌++◌, length, take, arith, Option, Some, None, Result, Ok, Err}
 use Rattle.std.proofs.Common.{append_assoc, append-nil, ltb-false, inl, inr}
 use Rattle.std.specs.List.{AllByRecursion, find, list_any}
-use Rattle.std.proofs.lemmas.Bool.{true≢false}
 use Rattle.std.proofs.lemmas.List.{length-map}
 use Rattle.std.proofs.lemmas.Option.{none-some}
 use Rattle.hum_record.specs.declared.RecordFault.{RecordFault}
@@ -21,16 +20,16 @@ use Rattle.hum_path.specs.Rules.{breaks, breaks_as_text, in_order, is_unfinished
 use Rattle.hum_path.specs.Rules.{fault_of as path_fault_of}
 use Rattle.hum_stage.specs.declared.faults.Rule.{Rule}
 use Rattle.hum_stage.specs.declared.faults.Rule.TheVariants as rule
-use Rattle.hum_stage.specs.Score.{through, IsScore, IsClosed}
+use Rattle.hum_stage.specs.Score.{through, IsClosed}
 use Rattle.hum_text.specs.declared.Limits.{Limits}
 use Rattle.hum_text.specs.declared.TextFault.{TextFault}
 use Rattle.hum_text.specs.declared.TextFault.TheVariants as text
-use Rattle.hum_text.specs.Text.{pieces, lines, without_cr, last_piece, ends_in_lf, rule_in, rule_at}
+use Rattle.hum_text.specs.Text.{pieces, lines, without_cr, last_piece, ends_in_lf, rule_at}
 use Rattle.hum_text.specs.Text.{rule_at_end, or_later, fault_after, fault_of}
 use Rattle.hum_text.proofs.PieceLemmas.{pieces-none}
-use Rattle.hum_read.specs.Denoted.{Score, standard, up_to, read_after, on_spines, unless, onward}
+use Rattle.hum_read.specs.Denoted.{standard, up_to, read_after, on_spines, unless, onward}
 use Rattle.hum_read.specs.Denoted.{broken_at, closed, denoted, score_of, text_rule, record_rule}
-use Rattle.hum_read.specs.Denoted.{path_rule, ending}
+use Rattle.hum_read.specs.Denoted.{path_rule}
 use Rattle.hum_read.proofs.Denoting.{score-of}
 use Rattle.hum_nodes.proofs.Pieces.{one_piece}
 use Rattle.hum_nodes.proofs.FrontFaults.{one_of}

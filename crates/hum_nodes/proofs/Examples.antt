@@ -3,15 +3,14 @@ use Rattle.std.proofs.Common.{◌≡◌, ℕ, List, [], ◌∷◌, refl, Option,
 use Rattle.std.specs.Prelude.{codes}
 use Rattle.hum_text.specs.Text.{pieces, rule_at, rule_at_end, fault_after}
 use Rattle.hum_record.specs.declared.SpinedKind.TheVariants.{Interpretation, Values}
-use Rattle.hum_record.specs.Row.{Row, Comment, Spined}
+use Rattle.hum_record.specs.Row.{Row, Spined}
 use Rattle.hum_stage.specs.declared.faults.Command.TheVariants.{Read, Rid}
 use Rattle.hum_stage.specs.declared.faults.Rule.{Rule}
 use Rattle.hum_stage.specs.declared.faults.Rule.TheVariants.{S1, P2, P8}
 use Rattle.hum_stage.specs.declared.faults.Fault.{Fault}
 use Rattle.hum_stage.specs.declared.faults.End.TheVariants.{Closed, Broken}
 use Rattle.hum_stage.specs.Outcome.{Outcome, Becomes}
-use Rattle.hum_stage.specs.Meaning.{Meaning}
-use Rattle.hum_turns.specs.Flow.{Flow, so_far}
+use Rattle.hum_turns.specs.Flow.{so_far}
 use Rattle.hum_nodes.specs.declared.node.Doing.TheVariants.{Gives, Reads, Wants, Done}
 use Rattle.hum_nodes.specs.Fine.{is_fine}
 use Rattle.hum_nodes.specs.At.{Kind, At, fresh, doing_of, holds_of, after_take, read_to}

@@ -1,5 +1,5 @@
 -- What may lie on a link, in the words of scores and as a test.
-use Rattle.std.proofs.Common.{◌≡◌, ◌∙◌, refl, sym, ap, ℕ, ◌≤◌, Bool, true, false, ◌&&◌, List, [], ◌∷◌}
+use Rattle.std.proofs.Common.{◌≡◌, ◌∙◌, refl, sym, ap, ℕ, Bool, true, false, List, [], ◌∷◌}
 use Rattle.std.proofs.Common.{length, Option, Some, None, leb-true, le-leb}
 use Rattle.std.specs.Prelude.{not, nat_le, is_none}
 use Rattle.std.proofs.lemmas.Bool.{false≢true, and_parts, and_from}
@@ -9,7 +9,7 @@ use Rattle.hum_path.specs.Spines.{Path, Unopened, after}
 use Rattle.hum_path.specs.Rules.{fault_of, is_unfinished}
 use Rattle.hum_stage.specs.declared.faults.End.{End}
 use Rattle.hum_stage.specs.declared.faults.End.TheVariants.{Closed, Broken}
-use Rattle.hum_stage.specs.Score.{Follow, through, IsScore, IsClosed}
+use Rattle.hum_stage.specs.Score.{Follow, through}
 use Rattle.hum_turns.specs.Flow.{Flow}
 use Rattle.hum_nodes.specs.Fine.{follows, may_end, is_fine, IsFine, AreFine}
 

@@ -1,21 +1,19 @@
 -- What a reader has read and given has settled of the bytes so far.
-use Rattle.std.proofs.Common.{◌≡◌, ◌∙◌, refl, sym, ap, subst, ℕ, zero, suc, ◌+◌, ◌-◌, ◌≤◌, ◌<◌, Bool}
-use Rattle.std.proofs.Common.{true, false, List, [], ◌∷◌, ◌++◌, length, map, take, arith, Option, Some}
-use Rattle.std.proofs.Common.{None, append_assoc, append-nil, inl, inr, ◌⊎◌, get_or, add-one}
-use Rattle.std.proofs.lemmas.Bool.{true≢false, false≢true}
+use Rattle.std.proofs.Common.{◌≡◌, ◌∙◌, refl, sym, ap, subst, ℕ, ◌+◌}
+use Rattle.std.proofs.Common.{List, [], ◌∷◌, ◌++◌, length, map, arith, Option, Some}
+use Rattle.std.proofs.Common.{None, append_assoc, append-nil, inl, inr, ◌⊎◌, add-one}
 use Rattle.std.proofs.lemmas.List.{length-map, append_cancel_right}
-use Rattle.std.proofs.lemmas.Option.{none-some}
 use Rattle.hum_record.specs.Row.{Row}
 use Rattle.hum_path.specs.Spines.{Path, Unopened, after}
 use Rattle.hum_stage.specs.Score.{through}
 use Rattle.hum_text.specs.declared.TextFault.{TextFault}
 use Rattle.hum_text.specs.declared.TextFault.TheVariants as text
-use Rattle.hum_text.specs.Text.{pieces, lines, without_cr, fault_of, fault_after, IsAtStart, rule_at}
+use Rattle.hum_text.specs.Text.{pieces, lines, without_cr, fault_of, fault_after, IsAtStart}
 use Rattle.hum_text.specs.Text.{rule_of_line}
-use Rattle.hum_text.specs.Reading.{Reader, Stands, NeedsRead}
-use Rattle.hum_text.proofs.PieceLemmas.{pieces-append, NoLf}
+use Rattle.hum_text.specs.Reading.{NeedsRead}
+use Rattle.hum_text.proofs.PieceLemmas.{pieces-append}
 use Rattle.hum_text.proofs.TextLemmas.{rule-at-line}
-use Rattle.hum_read.specs.Denoted.{Score, standard, up_to, read_after, denoted}
+use Rattle.hum_read.specs.Denoted.{Score, standard, up_to, read_after}
 use Rattle.hum_read.specs.Reading.{Scores, HasRead, AreRead, ahead}
 use Rattle.hum_turns.specs.Flow.{Begins}
 use Rattle.hum_nodes.specs.Settled.{whole_pieces, whole_lines, fault_in, fault_within}

@@ -12,7 +12,7 @@ use Rattle.hum_assemble.specs.Change.{Input, Change, More, Ends, had, had_at, Is
 use Rattle.hum_assemble.specs.Round.{any_due, first_from}
 use Rattle.hum_assemble.specs.Merge.{Merge, ahead, given_on}
 use Rattle.hum_assemble.specs.Meaning.{gives, goes_on, total, opening, output, rest, ends, wanted}
-use Rattle.hum_assemble.proofs.Steps.{Doing, Going, Resting, doing, on_going, on_resting, all_ended}
+use Rattle.hum_assemble.proofs.Steps.{Going, Resting, doing, on_going, on_resting, all_ended}
 use Rattle.hum_assemble.proofs.Steps.{gives_going, gives_resting}
 use Rattle.hum_assemble.proofs.Reaching.{output_grows}
 use Rattle.hum_assemble.proofs.Standings.{OpenIn, open_in, begun_ends, leftmost, waits_at}

@@ -1,6 +1,6 @@
 -- Several scores side by side are a lawful stage of a plan, and keep what may lie on a link.
-use Rattle.std.proofs.Common.{◌≡◌, ◌∙◌, refl, sym, ap, subst, ℕ, zero, suc, ◌≤◌, List, [], ◌∷◌, ◌++◌}
-use Rattle.std.proofs.Common.{length, map, Option, Some, None, arith, unwrap_or, append_assoc}
+use Rattle.std.proofs.Common.{◌≡◌, ◌∙◌, refl, sym, ap, subst, ℕ, zero, suc, List, [], ◌∷◌, ◌++◌}
+use Rattle.std.proofs.Common.{Option, Some, None, arith, append_assoc}
 use Rattle.std.proofs.lemmas.Option.{none-some, same_Some}
 use Rattle.hum_record.specs.Row.{Row}
 use Rattle.hum_path.specs.Spines.{Unopened}
@@ -15,13 +15,13 @@ use Rattle.hum_assemble.proofs.Standings.{OpenIn}
 use Rattle.hum_assemble.proofs.Scores.{keeps_scores}
 use Rattle.hum_turns.specs.Flow.{Flow, so_far, Begins, Later, AllLater, AllOver, AllFine}
 use Rattle.hum_turns.specs.Plan.{Want, Bytes, Source, Nothing, IsOpenAt, IsLawful, KeepsFine}
-use Rattle.hum_turns.specs.Plan.{lower, or_own, inputs_end, end_of, whole}
+use Rattle.hum_turns.specs.Plan.{lower, or_own, inputs_end, whole}
 use Rattle.hum_turns.proofs.Fronts.{begins_refl, begins_trans, begins_shorter}
-use Rattle.hum_nodes.specs.Fine.{fine, IsFine}
+use Rattle.hum_nodes.specs.Fine.{fine}
 use Rattle.hum_nodes.specs.Single.{own_end}
 use Rattle.hum_nodes.specs.Merging.{input_of, inputs_of, wanted_of, want_from, merging}
 use Rattle.hum_nodes.proofs.Fining.{fine_is, is_fine_by}
-use Rattle.hum_nodes.proofs.SingleLaws.{or_closed, lower_closed, own_none}
+use Rattle.hum_nodes.proofs.SingleLaws.{or_closed, own_none}
 use Rattle.hum_nodes.proofs.Merges.{few_given, wanted_open, HaveEnded, unwanted_ended, source_on}
 
 -- What is given stays.

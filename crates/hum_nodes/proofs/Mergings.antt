@@ -1,5 +1,5 @@
 -- What several scores side by side stand for, as a node.
-use Rattle.std.proofs.Common.{◌≡◌, ◌∙◌, refl, sym, ap, subst, ℕ, zero, suc, ◌<◌, Bool, true, false}
+use Rattle.std.proofs.Common.{◌≡◌, ◌∙◌, refl, sym, ap, subst, ℕ, zero, suc, Bool, true, false}
 use Rattle.std.proofs.Common.{if◌then◌else◌, nat_lt, List, [], ◌∷◌, length, map, replicate, Option}
 use Rattle.std.proofs.Common.{Some, None, arith, ◌+◌}
 use Rattle.std.specs.Prelude.{MatchOption, slice_get}
@@ -11,12 +11,12 @@ use Rattle.hum_stage.specs.declared.faults.Fault.{Fault}
 use Rattle.hum_stage.specs.declared.faults.State.{State}
 use Rattle.hum_stage.specs.declared.faults.State.TheVariants as state
 use Rattle.hum_stage.specs.Meaning.{resting_state, end_of as stage_end}
-use Rattle.hum_assemble.specs.Change.{Input, Change, More, Ends, had_at}
+use Rattle.hum_assemble.specs.Change.{Input, More, Ends, had_at}
 use Rattle.hum_assemble.specs.Meaning as merge
 use Rattle.hum_assemble.specs.Meaning.{Moment, all_of, after_take, after, own_fault, ends}
 use Rattle.hum_assemble.specs.Meaning.{state_of, wants_of, put_of, output, HasTaken}
 use Rattle.hum_assemble.proofs.Standings.{OpenIn}
-use Rattle.hum_turns.specs.Flow.{Flow, so_far, AllFine, AllOver}
+use Rattle.hum_turns.specs.Flow.{Flow, so_far, AllFine}
 use Rattle.hum_turns.specs.Plan.{or_own, inputs_end, end_of}
 use Rattle.hum_nodes.specs.declared.node.Doing.{Doing}
 use Rattle.hum_nodes.specs.declared.node.Doing.TheVariants.{Gives, Reads, Wants, Done}
@@ -27,7 +27,7 @@ use Rattle.hum_nodes.specs.At as node
 use Rattle.hum_nodes.specs.Single.{own_end}
 use Rattle.hum_nodes.specs.Merging.{input_of, inputs_of, wanted_of, want_from, merging, IsMerging}
 use Rattle.hum_nodes.proofs.Fining.{fine_is}
-use Rattle.hum_nodes.proofs.Merges.{wanted_open, HaveEnded, unwanted_ended}
+use Rattle.hum_nodes.proofs.Merges.{wanted_open, unwanted_ended}
 use Rattle.hum_nodes.proofs.MergingLaws.{ends_are, all_over}
 
 abbrev pub by_state : State → Doing

@@ -1,7 +1,6 @@
 -- The pieces of a front, and those of what it goes on to.
-use Rattle.std.proofs.Common.{◌≡◌, ◌∙◌, refl, sym, ap, subst, ℕ, zero, suc, ◌+◌, ◌-◌, ◌≤◌, ◌<◌, Bool}
+use Rattle.std.proofs.Common.{◌≡◌, ◌∙◌, refl, ap, subst, ℕ, suc, ◌+◌, ◌≤◌, Bool}
 use Rattle.std.proofs.Common.{true, false, ◌==◌, if◌then◌else◌, List, [], ◌∷◌, ◌++◌, length, arith}
-use Rattle.std.proofs.Common.{append_assoc, append-nil, get_or}
 use Rattle.std.proofs.lemmas.Bool.{eqb-true}
 use Rattle.hum_text.specs.Text.{onto, pieces, IsAtStart}
 use Rattle.hum_text.proofs.PieceLemmas.{NoLf, pieces-some}

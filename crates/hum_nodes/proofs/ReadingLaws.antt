@@ -9,18 +9,16 @@ use Rattle.std.proofs.lemmas.Option.{none-some, same_Some}
 use Rattle.hum_record.specs.Row.{Row}
 use Rattle.hum_path.specs.Spines.{Unopened}
 use Rattle.hum_stage.specs.declared.faults.Rule.{Rule}
-use Rattle.hum_stage.specs.declared.faults.Fault.{Fault}
-use Rattle.hum_stage.specs.declared.faults.End.{End}
-use Rattle.hum_stage.specs.declared.faults.End.TheVariants.{Closed, Broken}
+use Rattle.hum_stage.specs.declared.faults.End.TheVariants.{Closed}
 use Rattle.hum_stage.specs.Score.{IsScore, IsClosed}
 use Rattle.hum_stage.proofs.Growth.{Follow-front}
 use Rattle.hum_read.specs.Denoted.{Score, score_of, end_at}
 use Rattle.hum_read.proofs.Denoting.{score-of}
 use Rattle.hum_turns.specs.Flow.{Flow, so_far, Begins, AllOver}
-use Rattle.hum_turns.specs.Plan.{Want, Bytes, Source, Nothing, IsOpenAt, IsLawful, KeepsFine}
-use Rattle.hum_turns.specs.Plan.{or_own, inputs_end, end_of, whole}
+use Rattle.hum_turns.specs.Plan.{Want, Bytes, Source, Nothing, IsLawful, KeepsFine}
+use Rattle.hum_turns.specs.Plan.{or_own, inputs_end, whole}
 use Rattle.hum_turns.proofs.Fronts.{begins_refl, begins_trans, begins_shorter}
-use Rattle.hum_nodes.specs.Fine.{fine, IsFine}
+use Rattle.hum_nodes.specs.Fine.{fine}
 use Rattle.hum_nodes.specs.Settled.{score_so_far}
 use Rattle.hum_nodes.specs.Reading.{is_ended, settled_at, is_done, reading}
 use Rattle.hum_nodes.proofs.Fining.{is_fine_by}

@@ -1,36 +1,28 @@
 -- What a poll of a reader is, as a turn of a node.
-use Rattle.std.proofs.Common.{◌≡◌, ◌∙◌, refl, sym, ap, subst, ℕ, zero, suc, ◌+◌, ◌-◌, ◌*◌, ◌≤◌, ◌<◌}
-use Rattle.std.proofs.Common.{Bool, true, false, ◌||◌, if◌then◌else◌, nat_lt, List, [], ◌∷◌, ◌++◌}
-use Rattle.std.proofs.Common.{length, map, take, drop, arith, Option, Some, None, Result, Ok, Err}
-use Rattle.std.proofs.Common.{append_assoc, append-nil, length-append, length-drop, inl, inr, ◌⊎◌, lt-ltb}
-use Rattle.std.proofs.Common.{le-ltb, slice_get}
+use Rattle.std.proofs.Common.{◌≡◌, ◌∙◌, refl, sym, ap, subst, ℕ, ◌+◌, ◌≤◌, ◌<◌}
+use Rattle.std.proofs.Common.{Bool, true, false, ◌||◌, if◌then◌else◌, List, [], ◌∷◌, ◌++◌}
+use Rattle.std.proofs.Common.{length, take, arith, Option, Some, None, Result}
+use Rattle.std.proofs.Common.{append_assoc, append-nil, length-append, inl, inr, ◌⊎◌, lt-ltb}
+use Rattle.std.proofs.Common.{le-ltb}
 use Rattle.std.specs.Prelude.{is_some}
 use Rattle.std.specs.Io.KnownBytes.{Consumes, IsAtEnd}
-use Rattle.std.proofs.lemmas.Bool.{true≢false, false≢true, cond-true, cond-false, cases_lt}
-use Rattle.std.proofs.lemmas.Bool.Decides.{nat_tests}
-use Rattle.std.proofs.lemmas.List.{length-map, append_cancel_left}
+use Rattle.std.proofs.lemmas.Bool.{false≢true, cond-true}
 use Rattle.std.proofs.lemmas.Option.{none-some, same_Some}
 use Rattle.hum_record.specs.Row.{Row}
-use Rattle.hum_stage.specs.declared.faults.Rule.{Rule}
-use Rattle.hum_stage.specs.declared.faults.End.{End}
-use Rattle.hum_text.specs.Text.{pieces, IsAtStart}
-use Rattle.hum_text.specs.Reading.{Reader, Stands, NeedsRead, IsUnread, bytes_read, left_to_do}
-use Rattle.hum_text.proofs.PieceLemmas.{pieces-append, pieces-some}
+use Rattle.hum_text.specs.Reading.{NeedsRead, IsUnread, bytes_read}
 use Rattle.hum_read.specs.declared.ReadError.{ReadError}
 use Rattle.hum_read.specs.declared.scores.Step.{Step}
-use Rattle.hum_read.specs.declared.scores.Step.TheVariants as step
-use Rattle.hum_read.specs.Denoted.{Score, standard, score_of, end_at}
-use Rattle.hum_read.specs.Reading.{Scores, HasRead, GivesNext, Gives, Denotes}
+use Rattle.hum_read.specs.Denoted.{Score, score_of, end_at}
+use Rattle.hum_read.specs.Reading.{Scores, HasRead, GivesNext, Gives}
 use Rattle.hum_read.proofs.Denoting.{front-rows}
 use Rattle.hum_turns.specs.Flow.{Begins}
 use Rattle.hum_nodes.specs.declared.node.Doing.{Doing}
 use Rattle.hum_nodes.specs.declared.node.Doing.TheVariants as does
 use Rattle.hum_nodes.specs.Settled.{score_so_far}
-use Rattle.hum_nodes.specs.At.{At, doing_of, output_of, read_to, after_take}
-use Rattle.hum_nodes.specs.Reading.{is_ended, settled_at, is_done, reading, HasGiven, IsReading}
+use Rattle.hum_nodes.specs.At.{At, doing_of}
+use Rattle.hum_nodes.specs.Reading.{is_ended, settled_at, is_done, reading, HasGiven}
 use Rattle.hum_nodes.proofs.ReadingLaws.{all_settled}
-use Rattle.hum_nodes.proofs.Fronting.{IsFront, front_is, given_settled, needs_settled}
-use Rattle.hum_nodes.proofs.Stops.{told_settled}
+use Rattle.hum_nodes.proofs.Fronting.{front_is, given_settled, needs_settled}
 
 -- What it does, by what has settled.
 

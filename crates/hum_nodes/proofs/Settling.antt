@@ -1,8 +1,7 @@
 -- What has settled of a front stays, however the bytes go on.
-use Rattle.std.proofs.Common.{◌≡◌, ◌∙◌, refl, sym, ap, subst, ℕ, zero, suc, ◌+◌, ◌-◌, ◌≤◌, Bool}
-use Rattle.std.proofs.Common.{true, false, List, [], ◌∷◌, ◌++◌, length, map, take, arith, Option, Some}
+use Rattle.std.proofs.Common.{◌≡◌, ◌∙◌, refl, sym, ap, subst, ℕ, zero, suc, ◌+◌, ◌-◌, ◌≤◌}
+use Rattle.std.proofs.Common.{List, [], ◌∷◌, ◌++◌, length, map, take, arith, Option, Some}
 use Rattle.std.proofs.Common.{None, Result, Ok, Err, append-nil}
-use Rattle.std.specs.Prelude.{is_some}
 use Rattle.std.proofs.lemmas.Option.{none-some}
 use Rattle.std.proofs.lemmas.List.{length-map}
 use Rattle.hum_record.specs.Row.{Row}
@@ -10,10 +9,10 @@ use Rattle.hum_path.specs.Spines.{Path, Unopened, after}
 use Rattle.hum_stage.specs.declared.faults.Rule.{Rule}
 use Rattle.hum_text.specs.declared.TextFault.{TextFault}
 use Rattle.hum_text.specs.Text.{pieces, lines, without_cr, fault_of, fault_after}
-use Rattle.hum_read.specs.Denoted.{Score, standard, up_to, read_after, onward, broken_at, closed}
-use Rattle.hum_read.specs.Denoted.{denoted, score_of, text_rule}
+use Rattle.hum_read.specs.Denoted.{Score, standard, up_to, read_after, onward}
+use Rattle.hum_read.specs.Denoted.{denoted, score_of}
 use Rattle.hum_turns.specs.Flow.{Begins}
-use Rattle.hum_turns.proofs.Fronts.{begins_refl, begins_trans}
+use Rattle.hum_turns.proofs.Fronts.{begins_refl}
 use Rattle.hum_nodes.specs.Settled.{whole_pieces, whole_lines, fault_in, fault_within}
 use Rattle.hum_nodes.specs.Settled.{denoted_so_far, score_so_far}
 use Rattle.hum_nodes.proofs.Pieces.{whole_begins, whole_front}

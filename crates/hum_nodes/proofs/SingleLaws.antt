@@ -1,5 +1,5 @@
 -- A stage of one input is a lawful stage of a plan, and keeps what may lie on a link.
-use Rattle.std.proofs.Common.{◌≡◌, ◌∙◌, refl, sym, ap, subst, ℕ, zero, suc, ◌≤◌, Bool, true, false}
+use Rattle.std.proofs.Common.{◌≡◌, ◌∙◌, refl, sym, ap, subst, ℕ, suc, ◌≤◌, Bool, true, false}
 use Rattle.std.proofs.Common.{if◌then◌else◌, nat_lt, List, [], ◌∷◌, ◌++◌, length, Option, Some, None}
 use Rattle.std.proofs.Common.{arith, unwrap_or, append_assoc, append-nil}
 use Rattle.std.proofs.lemmas.Bool.{false≢true}
@@ -12,15 +12,15 @@ use Rattle.hum_stage.specs.declared.faults.Command.{Command}
 use Rattle.hum_stage.specs.declared.faults.Rule.{Rule}
 use Rattle.hum_stage.specs.declared.faults.Fault.{Fault}
 use Rattle.hum_stage.specs.Score.{IsScore, IsClosed}
-use Rattle.hum_stage.specs.Outcome.{settled, refusal}
+use Rattle.hum_stage.specs.Outcome.{refusal}
 use Rattle.hum_stage.specs.Meaning.{Meaning, output, own_fault, fault_at, KeepsScore}
 use Rattle.hum_stage.specs.Meaning.{IsLawful as IsLawfulMeaning}
 use Rattle.hum_stage.proofs.Growth.{settled-Goes, Follow-front}
 use Rattle.hum_turns.specs.Flow.{Flow, so_far, Begins, AllLater, AllOver, AllFine, IsOver}
 use Rattle.hum_turns.specs.Plan.{Want, Bytes, Source, Nothing, IsOpenAt, IsLawful, KeepsFine}
-use Rattle.hum_turns.specs.Plan.{lower, or_own, inputs_end, end_of, whole}
+use Rattle.hum_turns.specs.Plan.{lower, or_own, inputs_end, whole}
 use Rattle.hum_turns.proofs.Fronts.{begins_refl, begins_trans, begins_shorter}
-use Rattle.hum_nodes.specs.Fine.{fine, IsFine}
+use Rattle.hum_nodes.specs.Fine.{fine}
 use Rattle.hum_nodes.specs.Single.{items_of, want_by, want_of, own_end, single}
 use Rattle.hum_nodes.proofs.Fining.{fine_is, is_fine_by}
 

@@ -2,11 +2,11 @@
 -- has read. For with a line that is too long they would break another rule than where they end.
 use Rattle.std.proofs.Common.{◌≡◌, ◌∙◌, refl, sym, ap, subst, ℕ, zero, suc, ◌+◌, ◌-◌, ◌≤◌, ◌<◌, Bool}
 use Rattle.std.proofs.Common.{true, false, cond, ◌==◌, ◌||◌, ◌&&◌, if◌then◌else◌, nat_lt, List, [], ◌∷◌}
-use Rattle.std.proofs.Common.{◌++◌, length, map, take, arith, Option, Some, None, Result, Ok, Err}
-use Rattle.std.proofs.Common.{append_assoc, append-nil, get_or, length-append, inl, inr}
+use Rattle.std.proofs.Common.{◌++◌, length, take, arith, Option, Some, None, Result, Ok, Err}
+use Rattle.std.proofs.Common.{append_assoc, get_or, length-append, inl, inr}
 use Rattle.std.proofs.lemmas.Bool.{true≢false, false≢true, eqb-true}
 use Rattle.std.proofs.lemmas.Bool.Decides.{nat_tests}
-use Rattle.std.proofs.lemmas.List.{length-map, take_all}
+use Rattle.std.proofs.lemmas.List.{take_all}
 use Rattle.std.proofs.lemmas.Option.{none-some, same_Some}
 use Rattle.hum_record.specs.declared.RecordFault.{RecordFault}
 use Rattle.hum_record.specs.declared.RecordFault.TheVariants as of_record
@@ -14,28 +14,26 @@ use Rattle.hum_record.specs.Row.{Row}
 use Rattle.hum_record.specs.Spelling.{reading}
 use Rattle.hum_path.specs.declared.PathFault.{PathFault}
 use Rattle.hum_path.specs.declared.PathFault.TheVariants as of_path
-use Rattle.hum_path.specs.Spines.{Path, Unopened, after}
+use Rattle.hum_path.specs.Spines.{Path, after}
 use Rattle.hum_path.specs.Rules.{is_unfinished, fault_of as path_fault_of}
 use Rattle.hum_stage.specs.declared.faults.Rule.{Rule}
 use Rattle.hum_stage.specs.declared.faults.Rule.TheVariants as rule
-use Rattle.hum_stage.specs.Score.{through}
 use Rattle.hum_text.specs.declared.Limits.{Limits}
 use Rattle.hum_text.specs.declared.TextFault.{TextFault}
 use Rattle.hum_text.specs.declared.TextFault.TheVariants as text
-use Rattle.hum_text.specs.Text.{pieces, lines, without_cr, last_piece, ends_in_lf, ends_in_cr}
+use Rattle.hum_text.specs.Text.{pieces, without_cr, last_piece, ends_in_lf}
 use Rattle.hum_text.specs.Text.{rule_in, rule_at, rule_at_end, rule_of_line, or_later, fault_after}
-use Rattle.hum_text.specs.Text.{fault_of, IsAtStart}
-use Rattle.hum_text.proofs.PieceLemmas.{NoLf, pieces-append, pieces-part}
+use Rattle.hum_text.specs.Text.{IsAtStart}
+use Rattle.hum_text.proofs.PieceLemmas.{NoLf}
 use Rattle.hum_text.proofs.TextLemmas.{rule-at-line, last-snoc}
-use Rattle.hum_read.specs.Denoted.{Score, standard, up_to, read_after, on_spines, unless, onward}
-use Rattle.hum_read.specs.Denoted.{broken_at, closed, denoted, score_of, text_rule, record_rule}
+use Rattle.hum_read.specs.Denoted.{read_after, on_spines, unless, onward}
+use Rattle.hum_read.specs.Denoted.{broken_at, closed, denoted, text_rule, record_rule}
 use Rattle.hum_read.specs.Denoted.{path_rule, end_at}
 use Rattle.hum_stage.specs.declared.faults.End.{End}
 use Rattle.hum_stage.specs.declared.faults.End.TheVariants.{Closed, Broken}
-use Rattle.hum_read.specs.Reading.{AreRead, ahead}
 use Rattle.hum_nodes.specs.Settled.{onto_first, whole_pieces, fault_within, denoted_so_far}
 use Rattle.hum_nodes.proofs.FrontFaults.{one_of}
-use Rattle.hum_nodes.proofs.Denotes.{IsNamed, line_named}
+use Rattle.hum_nodes.proofs.Denotes.{line_named}
 
 -- The rules of a text's size.
 pub is_limit : Rule → Bool

@@ -1,15 +1,14 @@
 -- What a reader tells before the end of the bytes has settled.
-use Rattle.std.proofs.Common.{◌≡◌, ◌∙◌, refl, sym, ap, subst, ℕ, zero, suc, ◌+◌, ◌-◌, ◌≤◌, ◌<◌, Bool}
-use Rattle.std.proofs.Common.{true, false, ◌==◌, List, [], ◌∷◌, ◌++◌, length, map, take, arith, Option}
+use Rattle.std.proofs.Common.{◌≡◌, ◌∙◌, refl, sym, ap, subst, ℕ, zero, suc, ◌+◌, ◌-◌, ◌≤◌, ◌<◌}
+use Rattle.std.proofs.Common.{true, false, List, [], ◌∷◌, ◌++◌, length, map, take, arith, Option}
 use Rattle.std.proofs.Common.{Some, None, Result, Ok, Err, append_assoc, append-nil, length-append}
-use Rattle.std.proofs.lemmas.Bool.{true≢false, false≢true}
+use Rattle.std.proofs.lemmas.Bool.{false≢true}
 use Rattle.std.proofs.lemmas.List.{length-map}
 use Rattle.std.proofs.lemmas.Option.{none-some}
 use Rattle.hum_record.specs.Row.{Row}
 use Rattle.hum_path.specs.Spines.{Path, Unopened, after}
 use Rattle.hum_stage.specs.declared.faults.Rule.{Rule}
 use Rattle.hum_stage.specs.declared.faults.End.{End}
-use Rattle.hum_stage.specs.declared.faults.End.TheVariants.{Closed, Broken}
 use Rattle.hum_stage.specs.Score.{through}
 use Rattle.hum_text.specs.declared.TextFault.{TextFault}
 use Rattle.hum_text.specs.Text.{pieces, lines, without_cr, fault_after, fault_of}
@@ -24,7 +23,7 @@ use Rattle.hum_nodes.proofs.FrontFaults.{stays_after, passes_after, line_after, 
 use Rattle.hum_nodes.proofs.Settling.{settles_whole}
 use Rattle.hum_nodes.proofs.Denotes.{IsNamed, line_named, text_named}
 use Rattle.hum_nodes.proofs.Fronting.{IsFront, whole_split, read_so_far}
-use Rattle.hum_nodes.proofs.Stopping.{is_limit, limits, limits_at, broken_limits, denoted_limits}
+use Rattle.hum_nodes.proofs.Stopping.{limits_at, broken_limits, denoted_limits}
 use Rattle.hum_nodes.proofs.Stopping.{end_limits, within_limits, free_append, long_breaks, none_more, end_limit}
 use Rattle.hum_nodes.proofs.Stopping.{none_free, limits_end}
 

@@ -1,21 +1,20 @@
 -- A poll of a reader is a turn of its node.
-use Rattle.std.proofs.Common.{◌≡◌, ◌∙◌, refl, sym, ap, subst, ℕ, zero, suc, ◌+◌, ◌-◌, ◌*◌, ◌≤◌, ◌<◌}
-use Rattle.std.proofs.Common.{Bool, true, false, ◌||◌, if◌then◌else◌, List, [], ◌∷◌, ◌++◌, length, map}
+use Rattle.std.proofs.Common.{◌≡◌, ◌∙◌, refl, sym, ap, subst, ℕ, ◌+◌, ◌-◌, ◌*◌, ◌≤◌, ◌<◌}
+use Rattle.std.proofs.Common.{Bool, true, false, ◌||◌, List, [], ◌∷◌, ◌++◌, length}
 use Rattle.std.proofs.Common.{drop, arith, Option, Some, None, Result, Ok, Err, append_assoc, append-nil}
 use Rattle.std.proofs.Common.{length-append, length-drop, lt-ltb, inl, inr, ◌⊎◌, slice_get, IfSome}
 use Rattle.std.specs.Prelude.{is_some}
 use Rattle.std.specs.Io.KnownBytes.{Consumes, IsAtEnd}
-use Rattle.std.proofs.lemmas.Bool.{true≢false, false≢true, cases_lt}
-use Rattle.std.proofs.lemmas.List.{length-map}
+use Rattle.std.proofs.lemmas.Bool.{false≢true, cases_lt}
 use Rattle.hum_record.specs.Row.{Row}
 use Rattle.hum_stage.specs.declared.faults.End.{End}
-use Rattle.hum_text.specs.Text.{pieces, without_cr, IsAtStart}
-use Rattle.hum_text.specs.Reading.{Reader, Stands, NeedsRead, IsUnread, bytes_read, left_to_do}
+use Rattle.hum_text.specs.Text.{pieces, IsAtStart}
+use Rattle.hum_text.specs.Reading.{NeedsRead, IsUnread, bytes_read, left_to_do}
 use Rattle.hum_text.proofs.PieceLemmas.{pieces-append, pieces-some}
 use Rattle.hum_read.specs.declared.ReadError.{ReadError}
 use Rattle.hum_read.specs.declared.scores.Step.{Step}
 use Rattle.hum_read.specs.declared.scores.Step.TheVariants as step
-use Rattle.hum_read.specs.Denoted.{Score, standard, score_of, end_at}
+use Rattle.hum_read.specs.Denoted.{Score, score_of, end_at}
 use Rattle.hum_read.specs.Reading.{Scores, IsFresh, HasRead, GivesNext, Gives, Denotes, answer_of}
 use Rattle.hum_turns.specs.Flow.{Begins}
 use Rattle.hum_nodes.specs.declared.node.Doing.{Doing}
@@ -24,8 +23,7 @@ use Rattle.hum_nodes.specs.declared.node.Polled.{Polled}
 use Rattle.hum_nodes.specs.declared.node.Polled.TheVariants as polled
 use Rattle.hum_nodes.specs.At.{At, fresh, doing_of, output_of, read_to, after_take}
 use Rattle.hum_nodes.specs.Polls.{GoesOn, PollsBy, Polls}
-use Rattle.hum_nodes.specs.Settled.{score_so_far}
-use Rattle.hum_nodes.specs.Reading.{is_ended, settled_at, is_done, reading, HasGiven, IsReading}
+use Rattle.hum_nodes.specs.Reading.{is_ended, settled_at, reading, HasGiven, IsReading}
 use Rattle.hum_nodes.specs.Reading.{StandsBy}
 use Rattle.hum_nodes.proofs.ReadingLaws.{all_settled}
 use Rattle.hum_nodes.proofs.Fronting.{IsFront, front_is}

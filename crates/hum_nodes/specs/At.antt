@@ -1,6 +1,6 @@
 -- What a node stands for, and what its calls make of that.
-use Rattle.std.specs.Prelude.{◌≡◌, ℕ, zero, suc, ◌+◌, if◌then◌else◌, nat_lt, List, [], ◌∷◌, ◌++◌, map}
-use Rattle.std.specs.Prelude.{length, Option, Some, MatchOption, slice_get}
+use Rattle.std.specs.Prelude.{◌≡◌, ℕ, zero, suc, ◌+◌, if◌then◌else◌, nat_lt, List, [], ◌∷◌, ◌++◌}
+use Rattle.std.specs.Prelude.{map, length, Option, Some, MatchOption, slice_get}
 use Rattle.hum_record.specs.Row.{Row}
 use Rattle.hum_stage.specs.declared.faults.End.{End}
 use Rattle.hum_turns.specs.Flow.{Flow, so_far, AllFine}
@@ -9,7 +9,7 @@ use Rattle.hum_nodes.specs.declared.node.Doing.{Doing}
 use Rattle.hum_nodes.specs.declared.node.Doing.TheVariants.{Gives, Reads, Wants, Done}
 use Rattle.hum_nodes.specs.Fine.{fine}
 
--- A stage, and how many records wait inside it by what it has had of its inputs and how many
+-- A stage, and how many records wait inside it, by what it has had of its inputs and how many
 -- records it has given.
 pub record Kind : Type 0 where
   pub stage : Stage Row

@@ -1,9 +1,10 @@
 -- Several scores side by side as a stage of a plan.
-use Rattle.std.specs.Prelude.{◌≡◌, ℕ, List, map, length, Option, Some, None}
+use Rattle.std.specs.Prelude.{◌≡◌, ℕ, List, map, Option, Some, None}
 use Rattle.hum_record.specs.Row.{Row}
 use Rattle.hum_assemble.specs.Change.{Input}
 use Rattle.hum_assemble.specs.Merge.{ahead}
-use Rattle.hum_assemble.specs.Meaning.{Moment, opening, output, own_fault, rest, wanted, ends, held_at}
+use Rattle.hum_assemble.specs.Meaning.{Moment, opening, output, own_fault, rest, wanted, ends}
+use Rattle.hum_assemble.specs.Meaning.{held_at}
 use Rattle.hum_turns.specs.Flow.{Flow}
 use Rattle.hum_turns.specs.Plan.{Want, Source, Nothing}
 use Rattle.hum_nodes.specs.At.{Kind, At}

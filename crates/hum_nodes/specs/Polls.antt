@@ -1,5 +1,5 @@
 -- What one poll of a source does.
-use Rattle.std.specs.Prelude.{◌≡◌, ℕ, ◌<◌, ◌≤◌, ◌⊎◌, Option, Some, slice_get}
+use Rattle.std.specs.Prelude.{◌≡◌, ℕ, ◌<◌, ◌≤◌, ◌⊎◌, Some, slice_get}
 use Rattle.hum_nodes.specs.declared.node.Doing.{Doing}
 use Rattle.hum_nodes.specs.declared.node.Doing.TheVariants as does
 use Rattle.hum_nodes.specs.declared.node.Polled.{Polled}
@@ -13,8 +13,8 @@ GoesOn t (step.Record row) after =
 GoesOn t step.Nothing after = ⊥
 GoesOn t (step.End end) after = (doing_of t ≡ does.Done end) × after t
 
--- It reads one byte or more, or their end. Then it goes on by what has settled, or it leaves that to
--- the next poll.
+-- It reads one byte or more, or their end. Then it goes on by what has settled, or it leaves that
+-- to the next poll.
 pub record Reads (t : At) (polled : Polled) (after : At → Type 0) : Type 0 where
   pub upto : ℕ
   pub more : t.read < upto

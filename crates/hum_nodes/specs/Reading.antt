@@ -6,7 +6,7 @@ use Rattle.hum_stage.specs.declared.faults.End.{End}
 use Rattle.hum_read.specs.declared.ReadError.{ReadError}
 use Rattle.hum_read.specs.Denoted.{Score, score_of, end_at}
 use Rattle.hum_read.specs.Reading.{Scores, HasRead}
-use Rattle.hum_turns.specs.Plan.{Want, Bytes, Nothing}
+use Rattle.hum_turns.specs.Plan.{Bytes, Nothing}
 use Rattle.hum_nodes.specs.declared.node.Doing.TheVariants.{Done}
 use Rattle.hum_nodes.specs.Settled.{score_so_far}
 use Rattle.hum_nodes.specs.At.{Kind, At, doing_of}
@@ -43,7 +43,8 @@ pub record HasGiven {R : Type 0} (v : Scores R) (all rest : List ℕ) (t : At) :
   pub rows : List Row
   pub seen : List ℕ
   pub whole : all ≡ seen ++ rest
-  pub has : (more : List ℕ) → (v.lines.ended ≡ true → more ≡ []) → HasRead v (seen ++ more) rows more
+  pub has : (more : List ℕ) → (v.lines.ended ≡ true → more ≡ [])
+      → HasRead v (seen ++ more) rows more
   pub over : v.lines.ended ≡ true → rest ≡ []
   pub read : t.read ≡ (if v.lines.ended then length seen + 1 else length seen)
   pub given : t.given ≡ length rows

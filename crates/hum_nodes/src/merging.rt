@@ -26,7 +26,8 @@ impl Merging {
     /// Want of memory.
     pub fn new(alloc: Global, stage: u8, from: Vec<usize>) -> Result<Merging, AllocError>
         requires { length from.items ≤ 15 }
-        ensures { IfOk result (λ m. ⟦<Merging as Node>⟧.stands m (fresh (merging stage from.items))) }
+        ensures { IfOk result
+            (λ m. ⟦<Merging as Node>⟧.stands m (fresh (merging stage from.items))) }
     {
         let inner = Assemble::new(alloc, stage, from.len())?;
         Ok(Merging { inner, from })

@@ -40,7 +40,7 @@ impl<R: Source + Drop> Node for Reading<R> {
     }
 
     fn doing(&self) -> Doing {
-        // what it does is told by polls
+        // Polls tell what a source does.
         Doing::Reads
     }
 

@@ -1,4 +1,4 @@
-use Rattle.std.proofs.Common.{inr, subst, sym, ap}
+use Rattle.std.proofs.Common.{inr, subst, sym}
 use Rattle.std.specs.Prelude.{◌++◌, ◌∷◌, [], ◌<◌, length}
 use Rattle.std.proofs.lemmas.Result.{on_ok_weaker}
 use Rattle.hum_stage.specs.Score.{IsScore}
