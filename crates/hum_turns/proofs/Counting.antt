@@ -230,13 +230,18 @@ module _ {R : Type 0} (plan : Plan R) (ok : IsPlan plan) (size : ℕ) where
       let n = t.reads.more in
       let first = own_link plan k _ old between t.reads.becomes (source_less plan k src).0
       (omega arith) (omega arith) in
-      let then' = does_adds k (state plan between k) between new refl
-      (read_allowed plan ok size old between k src h t.reads) t.does in
+      let grown : (j : ℕ) → spent plan between j ≤ spent plan new j =
+      ⊎_elim
+      (λ same. spent_grows plan between new
+      (λ s. subst (Grown (between s)) (sym (same s)) (unmoved (between s))))
+      (λ does. (does_adds k (state plan between k) between new refl
+      (read_allowed plan ok size old between k src h t.reads) does).others)
+      t.does in
       let a = first.own in
-      let b = then'.own in
+      let b = grown k in
       record {
         own = omega arith;
-        others = λ j. let x = first.others j in let y = then'.others j in omega arith;
+        others = λ j. let x = first.others j in let y = grown j in omega arith;
       }
 
   step_adds : (k : ℕ) (old new : Moment R) → Step plan size k old new → Adds plan k 1 old new

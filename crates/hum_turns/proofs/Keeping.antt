@@ -143,6 +143,10 @@ module _ {R : Type 0} (plan : Plan R) (size : ℕ) (ok : IsPlan plan) where
       (λ less b on. reads_good (ok.lawful k less) size (old k) (inputs plan old k) b d.upto on
       (inv k less) unset d.more d.within)
 
+  pub same_keeps : (old new : Moment R) → Same old new → Inv plan size old → Inv plan size new
+  same_keeps old new same inv =
+      does_keeps plan.count Reads old new inv (λ less. absurd (omega arith)) tt same
+
   -- a turn
   turns_keep : (k : ℕ) (s : State) (old new : Moment R) → Inv plan size old → state plan old k ≡ s
       → ready plan size old k ≡ true → Turns plan k s old new → Inv plan size new
@@ -159,18 +163,17 @@ module _ {R : Type 0} (plan : Plan R) (size : ℕ) (ok : IsPlan plan) where
       let src = reads_source plan ok old k e in
       let r = source_ready plan size old k src h in
       let kept = reads_keeps k old t.between inv r.0 t.reads in
-      does_keeps k (state plan t.between k) t.between new kept
+      ⊎_elim
+      (λ same. same_keeps t.between new same kept)
+      (λ does. does_keeps k (state plan t.between k) t.between new kept
       (λ less. sym (state_is plan t.between k less))
-      (read_allowed plan ok size old t.between k src h t.reads) t.does
+      (read_allowed plan ok size old t.between k src h t.reads) does)
+      t.does
 
   pub step_keeps : (k : ℕ) (old new : Moment R) → Inv plan size old → Step plan size k old new
       → Inv plan size new
   step_keeps k old new inv step =
       turns_keep k (state plan old k) old new inv refl step.is_ready step.turns
-
-  pub same_keeps : (old new : Moment R) → Same old new → Inv plan size old → Inv plan size new
-  same_keeps old new same inv =
-      does_keeps plan.count Reads old new inv (λ less. absurd (omega arith)) tt same
 
   -- a run
   pub run_keeps : (ks : List ℕ) (old new : Moment R) → Inv plan size old

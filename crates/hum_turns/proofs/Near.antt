@@ -40,7 +40,9 @@ module _ {R : Type 0} (plan : Plan R) (ok : IsPlan plan) where
   turns_near k (Takes s) old new e t i far = does_near k (Takes s) old new e t i far
   turns_near k Ends old new e t i far = does_near k Ends old new e t i far
   turns_near k Reads old new e t i far =
-      does_near k (state plan t.between k) t.between new refl t.does i far
+      ⊎_elim
+      (λ same. same i)
+      (λ does. does_near k (state plan t.between k) t.between new refl does i far) t.does
       ∙ own_near k _ old t.between (reads_less plan old k e) t.reads.becomes i far
 
 -- Readiness, by the links that an actor looks at.
@@ -152,7 +154,7 @@ module _ {R : Type 0} (plan : Plan R) (size k : ℕ) where
     within = within;
     is_ready = h;
     turns = subst (λ t. Turns plan k t old new) (sym e)
-        (record { between = between; reads = r; does = d });
+        (record { between = between; reads = r; does = inr d });
   }
 
 -- a run with a turn more
@@ -192,7 +194,9 @@ module _ {R : Type 0} (plan : Plan R) (ok : IsPlan plan) (size k : ℕ) (less : 
   turns_taken (Takes s) old new e t = does_taken (Takes s) old new e t
   turns_taken Ends old new e t = does_taken Ends old new e t
   turns_taken Reads old new e t =
-      does_taken (state plan t.between k) t.between new refl t.does
+      ⊎_elim
+      (λ same. ap (λ (l : Link R). l.taken) (same (last plan)))
+      (λ does. does_taken (state plan t.between k) t.between new refl does) t.does
       ∙ keeps_taken _ old t.between t.reads.becomes refl
 
   pub step_taken : (old new : Moment R) → Step plan size k old new

@@ -1,6 +1,6 @@
 -- Turns: which actors are ready, and what one turn of one actor does. Actor k is stage k, and the
 -- actor behind the last stage is the sink.
-use Rattle.std.specs.Prelude.{◌≡◌, ◌≢◌, ℕ, ◌<◌, ◌≤◌, Bool, true, ◌&&◌, if◌then◌else◌, nat_lt, List}
+use Rattle.std.specs.Prelude.{◌≡◌, ◌≢◌, ◌⊎◌, ℕ, ◌<◌, ◌≤◌, Bool, true, ◌&&◌, if◌then◌else◌, nat_lt, List}
 use Rattle.std.specs.Prelude.{[], ◌∷◌, ◌++◌, length, Some, is_none, slice_get, slice_index}
 use Rattle.hum_turns.specs.Flow.{Flow}
 use Rattle.hum_turns.specs.Plan.{Want, Bytes, Source, Nothing, Stage, Plan, last, end_of}
@@ -97,11 +97,11 @@ pub record HasRead {R : Type 0} (plan : Plan R) (k : ℕ) (old new : Moment R) :
   pub within : upto ≤ (plan.stage k).bytes
   pub becomes : Becomes k (record (old k) { read = upto }) old new
 
--- Bytes are read, and then something is done by what these were.
+-- Bytes are read, and then something is done by what these were, or that is left to the next turn.
 pub record ReadsAndDoes {R : Type 0} (plan : Plan R) (k : ℕ) (old new : Moment R) : Type 0 where
   pub between : Moment R
   pub reads : HasRead plan k old between
-  pub does : Does plan k (state plan between k) between new
+  pub does : Same between new ⊎ Does plan k (state plan between k) between new
 
 abbrev pub Turns : {R : Type 0} → Plan R → ℕ → State → Moment R → Moment R → Type 0
 Turns plan k Gives old new = Does plan k Gives old new
