@@ -108,7 +108,7 @@ def run(size):
 
 
 def assembled():
-    """The assembler has no plan yet: the test that merges two sources of a million records, beside `paste` of two such files. The
+    """The assembler alone, without the net: the test that merges two sources of a million records, beside `paste` of two such files. The
     test also makes the records that it puts."""
     room = os.path.join('crates', 'hum_assemble')
     binary = os.path.join(room, 'out', 'hum_assemble_tests')

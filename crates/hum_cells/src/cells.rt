@@ -4,7 +4,7 @@ ghost use Rattle.hum_record.specs.declared.Kind.TheVariants.{Interpretation as A
 ghost use Rattle.hum_record.specs.Row.{Row, kind_of, text_of};
 ghost use Rattle.hum_path.specs.Spines.{exclusives};
 ghost use Rattle.hum_path.specs.Score.{IsOpen, path_after};
-ghost use Rattle.hum_cells.specs.Retelling.{Retelling, is_kern, kern_columns, retell};
+ghost use Rattle.hum_cells.specs.Retelling.{is_kern, kern_columns, retell};
 ghost use Rattle.hum_cells.specs.Telling.{MayTell, HasTold, Puts, decision};
 
 use crate::heading::{has_kern, is_kern, with_heading};
@@ -13,8 +13,11 @@ use crate::tokens::{any_told, tell_tokens};
 use crate::told::Told;
 use hum_path::{Paths, steers};
 use hum_record::{Kind, Record, Spare};
-use hum_stage::{Decides, Rule, UpToTwo};
+use hum_stage::{AtOnce, Command, Decides, Rule, UpToTwo};
 use std::alloc::{AllocError, Global};
+
+/// A command on the tokens of kern columns, as a stage.
+pub type CellStage<T> = AtOnce<Cells<T>>;
 
 /// A command on the tokens of kern columns, as one that decides each record at once.
 #[derive(Drop)]
@@ -129,29 +132,33 @@ fn tell<T: Retells>(
     }
 }
 
-impl<T: Retells> Cells<T> {
-    /// Nothing has passed yet, nor has the teller followed any record.
-    pub fn new(alloc: Global, teller: T) -> Cells<T>
-        ensures { (retelling : Retelling) → T.follows teller retelling []
-            → ⟦<Cells<T> as Decides>⟧.follows result (retell retelling) [] }
-    {
+impl<T: Retells> Decides for Cells<T> {
+    type Options = T::Options;
+
+    type Due = UpToTwo;
+
+    ghost use Rattle.hum_cells.specs.Telling.{Frames};
+
+    ghost command = { T.command };
+
+    ghost decide = { λ options. retell (T.retelling options) };
+
+    ghost follows = { λ s. Frames (T.follows s.teller) s.paths.path s.kern.items };
+
+    fn command() -> Command {
+        T::command()
+    }
+
+    fn begin(alloc: Global, options: T::Options) -> Cells<T> {
         Cells {
             alloc,
-            teller,
+            teller: T::begin(alloc, options),
             paths: Paths::new(alloc),
             kern: Vec::new(alloc),
             text: Vec::new(alloc),
             spare: Spare::none(alloc),
         }
     }
-}
-
-impl<T: Retells> Decides for Cells<T> {
-    type Due = UpToTwo;
-
-    ghost use Rattle.hum_cells.specs.Telling.{Frames};
-
-    ghost follows = { λ s. Frames (T.follows s.teller) s.paths.path s.kern.items };
 
     fn step(
         &mut self,

@@ -10,13 +10,11 @@
 mod cells;
 mod heading;
 mod retells;
-mod stage;
 mod tokens;
 mod told;
 
-pub use cells::Cells;
+pub use cells::{CellStage, Cells};
 pub use retells::{Heading, Retells};
-pub use stage::CellStage;
 
 #[cfg(test)]
 mod tests;

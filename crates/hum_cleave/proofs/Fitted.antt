@@ -19,62 +19,36 @@ use Rattle.hum_spread.specs.Writing.{Fit}
 use Rattle.hum_spread.proofs.Spreading.{marks}
 use Rattle.hum_spread.proofs.Weights.{weight, no_longer}
 use Rattle.hum_spread.proofs.OneByOne.{Lawful, null_lawful}
-use Rattle.hum_cleave.specs.Columns.{within, others, together}
+use Rattle.hum_columns.specs.Chosen.{chosen, others}
+use Rattle.hum_cleave.specs.Columns.{together}
 use Rattle.hum_cleave.specs.Tokens.{leftmost, comment_of, is_silent, interpretation_of, is_left_out, taken, following, joined, data_of}
-use Rattle.hum_cleave.specs.Cleave.{fits_in_token, each_piece, pieces, told}
-use Rattle.hum_cleave.specs.Following.{AsWide, is_interpretation}
+use Rattle.hum_columns.specs.Chosen.{each_piece}
+use Rattle.hum_cleave.specs.Cleave.{fits_in_token, pieces, text_told}
+use Rattle.hum_columns.specs.Following.{AsWide, is_interpretation}
+use Rattle.hum_columns.proofs.ChosenLists.{chosen_map, chosen_all}
+use Rattle.hum_columns.proofs.ChosenJoins.{each_tokens, each_marks}
 use Rattle.hum_cleave.proofs.Placewise.{together_none}
 
 -- of each token
-
-pub others_map : {X Y : Type 0} (f : X → Y) (fs : List Bool) (xs : List X) → map f (others fs xs) ≡ others fs (map f xs)
-others_map f [] xs = refl
-others_map f (g ∷ fs) [] = refl
-others_map f (true ∷ fs) (x ∷ xs) = others_map f fs xs
-others_map {X} {Y} f (false ∷ fs) (x ∷ xs) = ap (λ (ys : List Y). f x ∷ ys) (others_map f fs xs)
 
 pub together_map : {X Y : Type 0} (f : X → Y) (one : X) (fs : List Bool) (xs : List X)
     → map f (together one fs xs) ≡ together (f one) fs (map f xs)
 together_map f one [] xs = refl
 together_map f one (g ∷ fs) [] = refl
-together_map {X} {Y} f one (true ∷ fs) (x ∷ xs) = ap (λ (ys : List Y). f one ∷ ys) (others_map f fs xs)
+together_map {X} {Y} f one (true ∷ fs) (x ∷ xs) = ap (λ (ys : List Y). f one ∷ ys) (chosen_map f (map not fs) xs)
 together_map {X} {Y} f one (false ∷ fs) (x ∷ xs) = ap (λ (ys : List Y). f x ∷ ys) (together_map f one fs xs)
 
-pub within_map : {X Y : Type 0} (f : X → Y) (fs : List Bool) (xs : List X) → map f (within fs xs) ≡ within fs (map f xs)
-within_map f [] xs = refl
-within_map f (g ∷ fs) [] = refl
-within_map {X} {Y} f (true ∷ fs) (x ∷ xs) = ap (λ (ys : List Y). f x ∷ ys) (within_map f fs xs)
-within_map f (false ∷ fs) (x ∷ xs) = within_map f fs xs
-
-each_tokens : (b : Bool) (ts : List (List ℕ)) → tokens_in (each_piece b ts) ≡ ts
-each_tokens b [] = refl
-each_tokens b (t ∷ ts) = ap (λ (us : List (List ℕ)). t ∷ us) (each_tokens (is_join (sign_of t)) ts)
-
-each_marks : (b : Bool) (ts : List (List ℕ)) → marks (each_piece b ts) ≡ beginnings b (map sign_of ts)
-each_marks b [] = refl
-each_marks b (t ∷ ts) = cc_marks (each_marks (is_join (sign_of t)) ts)
-  where
-    cc_marks : marks (each_piece (is_join (sign_of t)) ts) ≡ beginnings (is_join (sign_of t)) (map sign_of ts)
-        → marks (each_piece b (t ∷ ts)) ≡ beginnings b (map sign_of (t ∷ ts))
-    cc_marks h = rw h refl
-
-pub pieces_tokens : (fs : List Bool) (ts : List (List ℕ)) → tokens_in (pieces fs ts) ≡ together (interpretation_of (within fs ts)) fs ts
+pub pieces_tokens : (fs : List Bool) (ts : List (List ℕ)) → tokens_in (pieces fs ts) ≡ together (interpretation_of (chosen fs ts)) fs ts
 pieces_tokens fs ts =
-    together_map (λ p. p.token) (piece false (interpretation_of (within fs ts))) fs (each_piece false ts)
-    ∙ ap (λ (us : List (List ℕ)). together (interpretation_of (within fs ts)) fs us) (each_tokens false ts)
+    together_map (λ p. p.token) (piece false (interpretation_of (chosen fs ts))) fs (each_piece false ts)
+    ∙ ap (λ (us : List (List ℕ)). together (interpretation_of (chosen fs ts)) fs us) (each_tokens false ts)
 
 pub pieces_marks : (fs : List Bool) (ts : List (List ℕ)) → marks (pieces fs ts) ≡ together false fs (beginnings false (map sign_of ts))
 pieces_marks fs ts =
-    together_map (λ p. p.begins) (piece false (interpretation_of (within fs ts))) fs (each_piece false ts)
+    together_map (λ p. p.begins) (piece false (interpretation_of (chosen fs ts))) fs (each_piece false ts)
     ∙ ap (λ (bs : List Bool). together false fs bs) (each_marks false ts)
 
 -- lawful tokens
-
-within_all : (P : List ℕ → Type 0) (fs : List Bool) (ts : List (List ℕ)) → AllByRecursion P ts → AllByRecursion P (within fs ts)
-within_all P [] ts h = tt
-within_all P (f ∷ fs) [] h = tt
-within_all P (true ∷ fs) (t ∷ ts) h = (h.0, within_all P fs ts h.1)
-within_all P (false ∷ fs) (t ∷ ts) h = within_all P fs ts h.1
 
 leftmost_is : (P : List ℕ → Type 0) (test : List ℕ → Bool) (other : List ℕ) (ts : List (List ℕ)) → P other → AllByRecursion P ts
     → P (leftmost test other ts)
@@ -185,27 +159,27 @@ filled_length : (token : List ℕ) → token ≢ [] → 1 ≤ length token
 filled_length [] h = absurd (h refl)
 filled_length (b ∷ bs) h = omega arith
 
-chosen_weight : (b : Bool) (one t : List ℕ) (ts : List (List ℕ)) → length one + 1 ≤ length t + 1 + weight ts
+either_weight : (b : Bool) (one t : List ℕ) (ts : List (List ℕ)) → length one + 1 ≤ length t + 1 + weight ts
     → length (cond b one t) + 1 ≤ length t + 1 + weight ts
-chosen_weight true one t ts h = h
-chosen_weight false one t ts h = omega arith
+either_weight true one t ts h = h
+either_weight false one t ts h = omega arith
 
 leftmost_weight : (test : List ℕ → Bool) (other t : List ℕ) (ts : List (List ℕ)) → length other ≤ 1
     → AllByRecursion (IsToken Interpretation) (t ∷ ts) → length (leftmost test other (t ∷ ts)) + 1 ≤ weight (t ∷ ts)
 leftmost_weight test other t [] short h =
-    let some = filled_length t h.0.filled in chosen_weight (test t) other t [] (omega (arith, some, short))
+    let some = filled_length t h.0.filled in either_weight (test t) other t [] (omega (arith, some, short))
 leftmost_weight test other t (u ∷ us) short h =
     let ih = leftmost_weight test other u us short h.1 in
-    chosen_weight (test t) (leftmost test other (u ∷ us)) t (u ∷ us) (omega (arith, ih))
+    either_weight (test t) (leftmost test other (u ∷ us)) t (u ∷ us) (omega (arith, ih))
 
-others_weight : (fs : List Bool) (ts : List (List ℕ)) → weight (others fs ts) + weight (within fs ts) ≤ weight ts
+others_weight : (fs : List Bool) (ts : List (List ℕ)) → weight (others fs ts) + weight (chosen fs ts) ≤ weight ts
 others_weight [] ts = omega arith
 others_weight (f ∷ fs) [] = omega arith
 others_weight (true ∷ fs) (t ∷ ts) = let ih = others_weight fs ts in omega (arith, ih)
 others_weight (false ∷ fs) (t ∷ ts) = let ih = others_weight fs ts in omega (arith, ih)
 
 together_weight : (one : List ℕ) (fs : List Bool) (ts : List (List ℕ))
-    → (1 ≤ length (within fs ts) → length one + 1 ≤ weight (within fs ts)) → weight (together one fs ts) ≤ weight ts
+    → (1 ≤ length (chosen fs ts) → length one + 1 ≤ weight (chosen fs ts)) → weight (together one fs ts) ≤ weight ts
 together_weight one [] ts h = omega arith
 together_weight one (f ∷ fs) [] h = omega arith
 together_weight one (true ∷ fs) (t ∷ ts) h =
@@ -220,9 +194,9 @@ pub pieces_fit : (fs : List Bool) (row : Row) → row ≡ Spined Interpretation 
     → Fit (pieces fs (tokens_of row))
 pieces_fit fs row e h =
     let all = lawful_tokens Interpretation row e h in
-    let inside = within_all (IsToken Interpretation) fs (tokens_of row) all.0 in
-    let one = interpretation_of (within fs (tokens_of row)) in
-    let light = together_weight one fs (tokens_of row) (one_weight (within fs (tokens_of row)) inside) in
+    let inside = chosen_all (IsToken Interpretation) fs (tokens_of row) all.0 in
+    let one = interpretation_of (chosen fs (tokens_of row)) in
+    let light = together_weight one fs (tokens_of row) (one_weight (chosen fs (tokens_of row)) inside) in
     let less = no_longer (together one fs (tokens_of row)) (tokens_of row) light in
     let most = all.1 in
     let same = ap (λ (us : List (List ℕ)). length (spelled us)) (pieces_tokens fs (tokens_of row)) in
@@ -233,17 +207,17 @@ pieces_fit fs row e h =
 
 -- a record in which no column is cleaved stays
 pub stays : (text : List ℕ) (fs : List Bool) (row : Row) → list_any (λ b. b) fs ≡ false → AsWide fs row → IsTextOf row (text_of row)
-    → is_interpretation row ≡ false → told text fs row ≡ Ok (row ∷ [])
+    → is_interpretation row ≡ false → text_told text fs row ≡ Ok (row ∷ [])
 stays text fs (Comment comment) none wide h other = refl
 stays text fs (Spined Interpretation ts) none wide h other = cc
 stays text fs (Spined Local ts) none wide h other =
     let most = h.3 in
     let short : nat_lt 1048576 (length (spelled ts)) ≡ false = grind (arith, nat_tests, most) in
-    rw (together_none (comment_of (within fs ts)) fs ts wide none, short) refl
+    rw (together_none (comment_of (chosen fs ts)) fs ts wide none, short) refl
 stays text fs (Spined Values ts) none wide h other =
     let most = h.3 in
     let short : nat_lt 1048576 (length (spelled ts)) ≡ false = grind (arith, nat_tests, most) in
-    rw (together_none (data_of text (within fs ts)) fs ts wide none, short) refl
+    rw (together_none (data_of text (chosen fs ts)) fs ts wide none, short) refl
 
 pub some_tokens : (kind : SpinedKind) (row : Row) → row ≡ Spined kind (tokens_of row) → IsTextOf row (text_of row) → tokens_of row ≢ []
 some_tokens kind (Comment text) e h = cc
@@ -260,5 +234,5 @@ pub some_bytes : (xs : List ℕ) → (length xs == 0) ≡ false → xs ≢ []
 some_bytes [] h e = cc
 some_bytes (x ∷ xs) h e = cc
 
-pub within_lawful : (fs : List Bool) (ts : List (List ℕ)) → AllByRecursion (IsToken Values) ts → AllByRecursion (IsToken Values) (within fs ts)
-within_lawful = within_all (IsToken Values)
+pub chosen_lawful : (fs : List Bool) (ts : List (List ℕ)) → AllByRecursion (IsToken Values) ts → AllByRecursion (IsToken Values) (chosen fs ts)
+chosen_lawful = chosen_all (IsToken Values)

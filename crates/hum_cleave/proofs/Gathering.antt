@@ -4,7 +4,8 @@ use Rattle.std.proofs.Common.{List, [], ◌∷◌, ◌++◌, length, map, drop, 
 use Rattle.std.specs.List.{list_any, list_all}
 use Rattle.std.proofs.lemmas.List.{drop_all}
 use lib.Chars.{codes}
-use Rattle.hum_cleave.specs.Columns.{within}
+use Rattle.hum_columns.specs.Chosen.{chosen}
+use Rattle.hum_columns.proofs.ChosenLists.{chosen_at}
 use Rattle.hum_cleave.specs.Tokens.{leftmost, is_left_out, taken, following, joined, data_of, added}
 
 -- a text so far, and the tokens that are still taken
@@ -12,48 +13,39 @@ abbrev pub so_far : List ℕ → List ℕ → List (List ℕ) → List ℕ
 so_far text [] tokens = joined text tokens
 so_far text (byte ∷ bytes) tokens = (byte ∷ bytes) ++ following text tokens
 
-within_at : {X : Type 0} (fs : List Bool) (xs : List X) (j : ℕ) (d : X) → j < length fs → length fs ≡ length xs
-    → within (drop j fs) (drop j xs)
-    ≡ cond (get_or fs j false) (get_or xs j d ∷ within (drop (suc j) fs) (drop (suc j) xs)) (within (drop (suc j) fs) (drop (suc j) xs))
-within_at [] xs j d h e = absurd (omega (arith, h))
-within_at (f ∷ fs) [] j d h e = absurd (omega (arith, e))
-within_at (true ∷ fs) (x ∷ xs) zero d h e = refl
-within_at (false ∷ fs) (x ∷ xs) zero d h e = refl
-within_at (f ∷ fs) (x ∷ xs) (suc j) d h e = within_at fs xs j d (omega (arith, h)) (omega (arith, e))
-
-within_take : {X : Type 0} (fs : List Bool) (xs : List X) (j : ℕ) (d : X) → j < length fs → length fs ≡ length xs
-    → within (take (suc j) fs) (take (suc j) xs)
-    ≡ within (take j fs) (take j xs) ++ cond (get_or fs j false) (get_or xs j d ∷ []) []
-within_take [] xs j d h e = absurd (omega (arith, h))
-within_take (f ∷ fs) [] j d h e = absurd (omega (arith, e))
-within_take (true ∷ fs) (x ∷ xs) zero d h e = refl
-within_take (false ∷ fs) (x ∷ xs) zero d h e = refl
-within_take {X} (true ∷ fs) (x ∷ xs) (suc j) d h e = ap (λ (ys : List X). x ∷ ys) (within_take fs xs j d (omega (arith, h)) (omega (arith, e)))
-within_take (false ∷ fs) (x ∷ xs) (suc j) d h e = within_take fs xs j d (omega (arith, h)) (omega (arith, e))
+chosen_take : {X : Type 0} (fs : List Bool) (xs : List X) (j : ℕ) (d : X) → j < length fs → length fs ≡ length xs
+    → chosen (take (suc j) fs) (take (suc j) xs)
+    ≡ chosen (take j fs) (take j xs) ++ cond (get_or fs j false) (get_or xs j d ∷ []) []
+chosen_take [] xs j d h e = absurd (omega (arith, h))
+chosen_take (f ∷ fs) [] j d h e = absurd (omega (arith, e))
+chosen_take (true ∷ fs) (x ∷ xs) zero d h e = refl
+chosen_take (false ∷ fs) (x ∷ xs) zero d h e = refl
+chosen_take {X} (true ∷ fs) (x ∷ xs) (suc j) d h e = ap (λ (ys : List X). x ∷ ys) (chosen_take fs xs j d (omega (arith, h)) (omega (arith, e)))
+chosen_take (false ∷ fs) (x ∷ xs) (suc j) d h e = chosen_take fs xs j d (omega (arith, h)) (omega (arith, e))
 
 -- what is left to take, from place j on
 abbrev pub taken_from : List Bool → List (List ℕ) → ℕ → List (List ℕ)
-taken_from fs ts j = taken (within (take j fs) (take j ts)) (within (drop j fs) (drop j ts))
+taken_from fs ts j = taken (chosen (take j fs) (take j ts)) (chosen (drop j fs) (drop j ts))
 
 -- another column
 pub passes : (fs : List Bool) (ts : List (List ℕ)) (j : ℕ) → j < length fs → length fs ≡ length ts → get_or fs j false ≡ false
     → taken_from fs ts (j + 1) ≡ taken_from fs ts j
 passes fs ts j h e off =
-    rw add-one (rw (within_take fs ts j [] h e, within_at fs ts j [] h e, off) (rw append-nil refl))
+    rw add-one (rw (chosen_take fs ts j [] h e, chosen_at fs ts j [] h e, off) (rw append-nil refl))
 
 -- a token that is left out
 pub leaves_out : (fs : List Bool) (ts : List (List ℕ)) (j : ℕ) → j < length fs → length fs ≡ length ts → get_or fs j false ≡ true
-    → is_left_out (within (take j fs) (take j ts)) (get_or ts j []) ≡ true
+    → is_left_out (chosen (take j fs) (take j ts)) (get_or ts j []) ≡ true
     → taken_from fs ts (j + 1) ≡ taken_from fs ts j
 leaves_out fs ts j h e on out =
-    rw add-one (rw (within_take fs ts j [] h e, within_at fs ts j [] h e, on) (rw out refl))
+    rw add-one (rw (chosen_take fs ts j [] h e, chosen_at fs ts j [] h e, on) (rw out refl))
 
 -- one that is taken
 pub takes : (fs : List Bool) (ts : List (List ℕ)) (j : ℕ) → j < length fs → length fs ≡ length ts → get_or fs j false ≡ true
-    → is_left_out (within (take j fs) (take j ts)) (get_or ts j []) ≡ false
+    → is_left_out (chosen (take j fs) (take j ts)) (get_or ts j []) ≡ false
     → get_or ts j [] ∷ taken_from fs ts (j + 1) ≡ taken_from fs ts j
 takes fs ts j h e on out =
-    rw add-one (rw (within_take fs ts j [] h e, within_at fs ts j [] h e, on) (rw out refl))
+    rw add-one (rw (chosen_take fs ts j [] h e, chosen_at fs ts j [] h e, on) (rw out refl))
 
 pub adds : (text before token : List ℕ) (rest : List (List ℕ)) → (token ≡ [] → ⊥)
     → so_far text (added text before token) rest ≡ so_far text before (token ∷ rest)
@@ -65,7 +57,7 @@ adds text (b ∷ bs) token rest some =
 -- what each cleaved column has
 
 mapped_skips : {X Y : Type 0} (f : X → Y) (fs : List Bool) (xs : List X) (j : ℕ) → j < length fs → length fs ≡ length xs
-    → get_or fs j false ≡ false → within (drop (suc j) fs) (map f (drop (suc j) xs)) ≡ within (drop j fs) (map f (drop j xs))
+    → get_or fs j false ≡ false → chosen (drop (suc j) fs) (map f (drop (suc j) xs)) ≡ chosen (drop j fs) (map f (drop j xs))
 mapped_skips f [] xs j h e off = absurd (omega (arith, h))
 mapped_skips f (g ∷ fs) [] j h e off = absurd (omega (arith, e))
 mapped_skips f (true ∷ fs) (x ∷ xs) zero h e off = cc
@@ -74,7 +66,7 @@ mapped_skips f (g ∷ fs) (x ∷ xs) (suc j) h e off = mapped_skips f fs xs j (o
 
 mapped_next : {X Y : Type 0} (f : X → Y) (fs : List Bool) (xs : List X) (j : ℕ) (d : X) → j < length fs → length fs ≡ length xs
     → get_or fs j false ≡ true
-    → within (drop j fs) (map f (drop j xs)) ≡ f (get_or xs j d) ∷ within (drop (suc j) fs) (map f (drop (suc j) xs))
+    → chosen (drop j fs) (map f (drop j xs)) ≡ f (get_or xs j d) ∷ chosen (drop (suc j) fs) (map f (drop (suc j) xs))
 mapped_next f [] xs j d h e on = absurd (omega (arith, h))
 mapped_next f (g ∷ fs) [] j d h e on = absurd (omega (arith, e))
 mapped_next f (true ∷ fs) (x ∷ xs) zero d h e on = refl
@@ -83,57 +75,57 @@ mapped_next f (g ∷ fs) (x ∷ xs) (suc j) d h e on = mapped_next f fs xs j d (
 
 module _ {Y : Type 0} (p : Y → Bool) (f : List ℕ → Y) (fs : List Bool) (ts : List (List ℕ)) (j : ℕ) (h : j < length fs) (e : length fs ≡ length ts) where
   pub any_skips : get_or fs j false ≡ false
-      → list_any p (within (drop (j + 1) fs) (map f (drop (j + 1) ts))) ≡ list_any p (within (drop j fs) (map f (drop j ts)))
+      → list_any p (chosen (drop (j + 1) fs) (map f (drop (j + 1) ts))) ≡ list_any p (chosen (drop j fs) (map f (drop j ts)))
   any_skips off = rw add-one (ap (λ (ys : List Y). list_any p ys) (mapped_skips f fs ts j h e off))
 
   pub all_skips : get_or fs j false ≡ false
-      → list_all p (within (drop (j + 1) fs) (map f (drop (j + 1) ts))) ≡ list_all p (within (drop j fs) (map f (drop j ts)))
+      → list_all p (chosen (drop (j + 1) fs) (map f (drop (j + 1) ts))) ≡ list_all p (chosen (drop j fs) (map f (drop j ts)))
   all_skips off = rw add-one (ap (λ (ys : List Y). list_all p ys) (mapped_skips f fs ts j h e off))
 
   pub any_fails : get_or fs j false ≡ true → p (f (get_or ts j [])) ≡ false
-      → list_any p (within (drop (j + 1) fs) (map f (drop (j + 1) ts))) ≡ list_any p (within (drop j fs) (map f (drop j ts)))
+      → list_any p (chosen (drop (j + 1) fs) (map f (drop (j + 1) ts))) ≡ list_any p (chosen (drop j fs) (map f (drop j ts)))
   any_fails on fails = rw add-one (rw (mapped_next f fs ts j [] h e on) (rw fails refl))
 
   pub all_holds : get_or fs j false ≡ true → p (f (get_or ts j [])) ≡ true
-      → list_all p (within (drop (j + 1) fs) (map f (drop (j + 1) ts))) ≡ list_all p (within (drop j fs) (map f (drop j ts)))
+      → list_all p (chosen (drop (j + 1) fs) (map f (drop (j + 1) ts))) ≡ list_all p (chosen (drop j fs) (map f (drop j ts)))
   all_holds on holds = rw add-one (rw (mapped_next f fs ts j [] h e on) (rw holds refl))
 
 module _ (test : List ℕ → Bool) (other : List ℕ) (fs : List Bool) (ts : List (List ℕ)) (j : ℕ) (h : j < length fs) (e : length fs ≡ length ts) where
   pub left_skips : get_or fs j false ≡ false
-      → leftmost test other (within (drop (j + 1) fs) (drop (j + 1) ts)) ≡ leftmost test other (within (drop j fs) (drop j ts))
-  left_skips off = rw add-one (rw (within_at fs ts j [] h e, off) refl)
+      → leftmost test other (chosen (drop (j + 1) fs) (drop (j + 1) ts)) ≡ leftmost test other (chosen (drop j fs) (drop j ts))
+  left_skips off = rw add-one (rw (chosen_at fs ts j [] h e, off) refl)
 
   pub left_passes : get_or fs j false ≡ true → test (get_or ts j []) ≡ true
-      → leftmost test other (within (drop (j + 1) fs) (drop (j + 1) ts)) ≡ leftmost test other (within (drop j fs) (drop j ts))
-  left_passes on out = rw add-one (rw (within_at fs ts j [] h e, on) (rw out refl))
+      → leftmost test other (chosen (drop (j + 1) fs) (drop (j + 1) ts)) ≡ leftmost test other (chosen (drop j fs) (drop j ts))
+  left_passes on out = rw add-one (rw (chosen_at fs ts j [] h e, on) (rw out refl))
 
   pub left_found : get_or fs j false ≡ true → test (get_or ts j []) ≡ false
-      → leftmost test other (within (drop j fs) (drop j ts)) ≡ get_or ts j []
-  left_found on out = rw (within_at fs ts j [] h e, on) (rw out refl)
+      → leftmost test other (chosen (drop j fs) (drop j ts)) ≡ get_or ts j []
+  left_found on out = rw (chosen_at fs ts j [] h e, on) (rw out refl)
 
 module _ (p : List ℕ → Bool) (fs : List Bool) (ts : List (List ℕ)) (j : ℕ) (h : j < length fs) (e : length fs ≡ length ts) where
   pub any_skips_token : get_or fs j false ≡ false
-      → list_any p (within (drop (j + 1) fs) (drop (j + 1) ts)) ≡ list_any p (within (drop j fs) (drop j ts))
-  any_skips_token off = rw add-one (rw (within_at fs ts j [] h e, off) refl)
+      → list_any p (chosen (drop (j + 1) fs) (drop (j + 1) ts)) ≡ list_any p (chosen (drop j fs) (drop j ts))
+  any_skips_token off = rw add-one (rw (chosen_at fs ts j [] h e, off) refl)
 
   pub any_fails_token : get_or fs j false ≡ true → p (get_or ts j []) ≡ false
-      → list_any p (within (drop (j + 1) fs) (drop (j + 1) ts)) ≡ list_any p (within (drop j fs) (drop j ts))
-  any_fails_token on fails = rw add-one (rw (within_at fs ts j [] h e, on) (rw fails refl))
+      → list_any p (chosen (drop (j + 1) fs) (drop (j + 1) ts)) ≡ list_any p (chosen (drop j fs) (drop j ts))
+  any_fails_token on fails = rw add-one (rw (chosen_at fs ts j [] h e, on) (rw fails refl))
 
-within_nothing : {X : Type 0} (fs : List Bool) (xs : List X) (j : ℕ) → length fs ≤ j → within (drop j fs) (drop j xs) ≡ []
-within_nothing fs xs j h = rw (drop_all j fs h) refl
+chosen_nothing : {X : Type 0} (fs : List Bool) (xs : List X) (j : ℕ) → length fs ≤ j → chosen (drop j fs) (drop j xs) ≡ []
+chosen_nothing fs xs j h = rw (drop_all j fs h) refl
 
 -- all columns were passed, and what was taken is there
 pub all_taken : (text so : List ℕ) (fs : List Bool) (ts : List (List ℕ)) (j : ℕ) → length fs ≤ j → (so ≡ [] → ⊥)
-    → so_far text so (taken_from fs ts j) ≡ data_of text (within fs ts) → so ≡ data_of text (within fs ts)
+    → so_far text so (taken_from fs ts j) ≡ data_of text (chosen fs ts) → so ≡ data_of text (chosen fs ts)
 all_taken text [] fs ts j h some e = absurd (some refl)
 all_taken text (b ∷ bs) fs ts j h some e =
-    sym (append-nil (b ∷ bs)) ∙ rw (within_nothing fs ts j h) at e
+    sym (append-nil (b ∷ bs)) ∙ rw (chosen_nothing fs ts j h) at e
 
 -- all columns were passed, and nothing was taken
 pub none_taken : (text so : List ℕ) (fs : List Bool) (ts : List (List ℕ)) (j : ℕ) → length fs ≤ j → so ≡ []
-    → so_far text so (taken_from fs ts j) ≡ data_of text (within fs ts) → codes "." ≡ data_of text (within fs ts)
-none_taken text [] fs ts j h none e = rw (within_nothing fs ts j h) at e
+    → so_far text so (taken_from fs ts j) ≡ data_of text (chosen fs ts) → codes "." ≡ data_of text (chosen fs ts)
+none_taken text [] fs ts j h none e = rw (chosen_nothing fs ts j h) at e
 none_taken text (b ∷ bs) fs ts j h none e = cc
 
 pub front_length : (j : ℕ) (fs : List Bool) (ts : List (List ℕ)) → length fs ≡ length ts → length (take j fs) ≡ length (take j ts)
@@ -150,9 +142,9 @@ front_short (suc j) (f ∷ fs) = let ih = front_short j fs in omega (arith, ih)
 
 -- what stands to the left of the next place
 pub front_passes : (fs : List Bool) (ts : List (List ℕ)) (j : ℕ) → j < length fs → length fs ≡ length ts → get_or fs j false ≡ false
-    → within (take (j + 1) fs) (take (j + 1) ts) ≡ within (take j fs) (take j ts)
-front_passes fs ts j h e off = rw add-one (rw (within_take fs ts j [] h e, off) (append-nil (within (take j fs) (take j ts))))
+    → chosen (take (j + 1) fs) (take (j + 1) ts) ≡ chosen (take j fs) (take j ts)
+front_passes fs ts j h e off = rw add-one (rw (chosen_take fs ts j [] h e, off) (append-nil (chosen (take j fs) (take j ts))))
 
 pub front_takes : (fs : List Bool) (ts : List (List ℕ)) (j : ℕ) → j < length fs → length fs ≡ length ts → get_or fs j false ≡ true
-    → within (take (j + 1) fs) (take (j + 1) ts) ≡ within (take j fs) (take j ts) ++ get_or ts j [] ∷ []
-front_takes fs ts j h e on = rw add-one (rw (within_take fs ts j [] h e, on) refl)
+    → chosen (take (j + 1) fs) (take (j + 1) ts) ≡ chosen (take j fs) (take j ts) ++ get_or ts j [] ∷ []
+front_takes fs ts j h e on = rw add-one (rw (chosen_take fs ts j [] h e, on) refl)

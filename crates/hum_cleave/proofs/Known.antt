@@ -39,7 +39,8 @@ tells_barline old new token is_new puts is filled bar before knows = (
   answer (list_any (λ q. bytes_eq token.now q.now) old) (any_seen token.now old ∙ knows token.now bar) is,
   λ t at.
       let k : Bor (List ℕ) = record { ref_ptr = token.ref_ptr; now = t } in
-      sym (any_seen t new) ∙ puts k ∙ rw (bytes_eq_sym token.now t) (one_more (bytes_eq t token.now) (list_any (λ q. bytes_eq t q.now) old) (list_any (bytes_eq t) before) (any_seen t old ∙ knows t at))
+      sym (any_seen t new) ∙ puts k ∙ rw (bytes_eq_sym token.now t)
+      (one_more (bytes_eq t token.now) (list_any (λ q. bytes_eq t q.now) old) (list_any (bytes_eq t) before) (any_seen t old ∙ knows t at))
       ∙ sym (list_any-append (bytes_eq t) before (token.now ∷ [])),
 )
   where

@@ -1,4 +1,3 @@
-pub mod Flags
 pub mod Taking
 pub mod Placewise
 pub mod Gathering
@@ -8,5 +7,5 @@ pub mod Selecting
 pub mod Signs
 pub mod Joined
 pub mod MergedLeads
-pub mod Keeping
+pub mod KeepsScores
 mod Examples

@@ -24,24 +24,25 @@ use Rattle.hum_spread.specs.Spread.{spread, filled}
 use Rattle.hum_spread.proofs.Spreading.{signs_in}
 use Rattle.hum_spread.proofs.Fitting.{Fits, come_to}
 use Rattle.hum_spread.proofs.Leading.{spread_leads}
-use Rattle.hum_cleave.specs.Columns.{within, others, together}
+use Rattle.hum_columns.proofs.ChosenLists.{chosen_none, chosen_map}
+use Rattle.hum_columns.proofs.TornJoins.{torn_start}
+use Rattle.hum_columns.proofs.Flags.{flags_after}
+use Rattle.hum_columns.specs.Chosen.{chosen, others}
+use Rattle.hum_cleave.specs.Columns.{together}
 use Rattle.hum_cleave.specs.Tokens.{interpretation_of}
-use Rattle.hum_cleave.specs.Cleave.{is_moved, is_end, ends_apart, is_torn, is_entangled, pieces, merged}
-use Rattle.hum_cleave.proofs.Fitted.{together_map, within_map, pieces_tokens, pieces_marks}
-use Rattle.hum_cleave.proofs.Selecting.{together_fewer, together_lacks, within_none, together_each, together_swapped, same_swapped}
+use Rattle.hum_columns.specs.Chosen.{is_torn}
+use Rattle.hum_cleave.specs.Cleave.{is_moved, is_end, ends_apart, is_entangled, pieces, merged}
+use Rattle.hum_cleave.proofs.Fitted.{together_map, pieces_tokens, pieces_marks}
+use Rattle.hum_cleave.proofs.Selecting.{together_fewer, together_lacks, together_each, together_swapped, same_swapped}
 use Rattle.hum_cleave.proofs.Selecting.{together_exchanges, together_onward, together_ended}
 use Rattle.hum_cleave.proofs.Signs.{one_lacks, one_outer, one_ends, all_or_none, plain_at, not_moved, none_moved, not_inner, not_bare}
-use Rattle.hum_cleave.proofs.Joined.{pieces_formed, torn_start}
-
--- which columns are cleaved after an interpretation
-abbrev pub flags_after : List Bool → List Sign → List Bool
-flags_after flags signs = onward (λ f. f) (beginnings false signs) signs (swapped signs flags)
+use Rattle.hum_cleave.proofs.Joined.{pieces_formed}
 
 -- An interpretation that isn't refused.
 pub record Merges (flags : List Bool) (tokens : List (List ℕ)) : Type 0 where
-  pub kept : list_any is_exclusive (within flags (map sign_of tokens)) ≡ false
-  pub unmoved : list_any is_moved (within flags (map sign_of tokens)) ≡ false
-  pub together : ends_apart (within flags (map sign_of tokens)) ≡ false
+  pub kept : list_any is_exclusive (chosen flags (map sign_of tokens)) ≡ false
+  pub unmoved : list_any is_moved (chosen flags (map sign_of tokens)) ≡ false
+  pub together : ends_apart (chosen flags (map sign_of tokens)) ≡ false
   pub whole : is_torn flags (map sign_of tokens) ≡ false
 
 module _ (name : List ℕ) (some : (length name == 0) ≡ false) where
@@ -74,22 +75,22 @@ module _ (name : List ℕ) (some : (length name == 0) ≡ false) where
 
 -- The sign of the one column.
 abbrev pub one_sign : List Bool → List (List ℕ) → Sign
-one_sign flags tokens = sign_of (interpretation_of (within flags tokens))
+one_sign flags tokens = sign_of (interpretation_of (chosen flags tokens))
 
-lacks : (p : Sign → Bool) (fs : List Bool) (ts : List (List ℕ)) → p Plain ≡ false → list_any p (within fs (map sign_of ts)) ≡ false
+lacks : (p : Sign → Bool) (fs : List Bool) (ts : List (List ℕ)) → p Plain ≡ false → list_any p (chosen fs (map sign_of ts)) ≡ false
     → p (one_sign fs ts) ≡ false
-lacks p fs ts o h = one_lacks p (within fs ts) o (ap (λ (ss : List Sign). list_any p ss) (within_map sign_of fs ts) ∙ h)
+lacks p fs ts o h = one_lacks p (chosen fs ts) o (ap (λ (ss : List Sign). list_any p ss) (chosen_map sign_of fs ts) ∙ h)
 
 pieces_signs : (fs : List Bool) (ts : List (List ℕ)) → signs_in (pieces fs ts) ≡ together (one_sign fs ts) fs (map sign_of ts)
 pieces_signs fs ts =
-    ap (λ (us : List (List ℕ)). map sign_of us) (pieces_tokens fs ts) ∙ together_map sign_of (interpretation_of (within fs ts)) fs ts
+    ap (λ (us : List (List ℕ)). map sign_of us) (pieces_tokens fs ts) ∙ together_map sign_of (interpretation_of (chosen fs ts)) fs ts
 
 steers_not : (fs : List Bool) (ts : List (List ℕ)) → is_exclusive (one_sign fs ts) ≡ false → names_and_steers (map sign_of ts) ≡ false
     → names_and_steers (together (one_sign fs ts) fs (map sign_of ts)) ≡ false
 steers_not fs ts o h = by_bool (list_any is_exclusive (map sign_of ts))
     (λ w.
     let none : list_any is_path_indicator (map sign_of ts) ≡ false = rw w at h in
-    let one = lacks is_path_indicator fs ts refl (within_none is_path_indicator fs (map sign_of ts) none) in
+    let one = lacks is_path_indicator fs ts refl (chosen_none is_path_indicator fs (map sign_of ts) none) in
     let left = together_lacks is_path_indicator (one_sign fs ts) fs (map sign_of ts) one none in
     rw left (never (list_any is_exclusive (together (one_sign fs ts) fs (map sign_of ts)))))
     (λ w.
@@ -108,13 +109,13 @@ merged_fits : (name : List ℕ) → (length name == 0) ≡ false → (fs : List 
     → Obeys names tokens → Merges fs tokens → Fits (pieces fs tokens) (together name fs names)
 merged_fits name some fs names tokens len keeps m =
     let signs = pieces_signs fs tokens in
-    let one = interpretation_of (within fs tokens) in
+    let one = interpretation_of (chosen fs tokens) in
     let exclusive = lacks is_exclusive fs tokens refl m.kept in
     let moved = lacks is_moved fs tokens refl m.unmoved in
     let count = length-map tokens sign_of in
-    let exchange = none_moved (within fs (map sign_of tokens)) m.unmoved in
+    let exchange = none_moved (chosen fs (map sign_of tokens)) m.unmoved in
     record {
-      formed = pieces_formed one name fs tokens names (not_inner (sign_of one) (one_outer (within fs tokens))) len keeps.wide m.whole keeps.lone
+      formed = pieces_formed one name fs tokens names (not_inner (sign_of one) (one_outer (chosen fs tokens))) len keeps.wide m.whole keeps.lone
           keeps.mixed;
       unnamed = rw signs (together_unnamed name some (one_sign fs tokens) fs names (map sign_of tokens) keeps.unnamed);
       bare = rw (pieces_tokens fs tokens)
@@ -136,16 +137,16 @@ goes_on_together added name fs ts xs len wide m =
     let ss : List Sign = map sign_of ts in
     let count = length-map ts sign_of in
     let size = begins_length false ss in
-    let inside : map sign_of (within fs ts) ≡ within fs ss = within_map sign_of fs ts in
-    by_bool (list_any is_end (within fs ss))
+    let inside : map sign_of (chosen fs ts) ≡ chosen fs ss = chosen_map sign_of fs ts in
+    by_bool (list_any is_end (chosen fs ss))
     (λ w.
-    let all = all_or_none (within fs ss) m.together w in
-    let ends : one_sign fs ts ≡ End = one_ends (within fs ts) (rw inside w) (rw inside all) in
+    let all = all_or_none (chosen fs ss) m.together w in
+    let ends : one_sign fs ts ≡ End = one_ends (chosen fs ts) (rw inside w) (rw inside all) in
     rw ends (together_ended added name fs (beginnings false ss) ss xs size (omega (arith, count, wide)) (omega (arith, len, count)) all))
     (λ w.
     let plain : one_sign fs ts ≡ Plain =
     plain_at (one_sign fs ts) (lacks is_end fs ts refl w) (lacks is_moved fs ts refl m.unmoved) (lacks is_exclusive fs ts refl m.kept)
-    (one_outer (within fs ts)) in
+    (one_outer (chosen fs ts)) in
     rw plain
     (together_onward added name Plain fs ss xs (omega (arith, len, count)) (omega (arith, count, wide)) (torn_start false fs ss m.whole) w))
 
@@ -157,11 +158,11 @@ merged_comes name fs names tokens len keeps m =
     let ss : List Sign = map sign_of tokens in
     let xs : List (List ℕ) = renamed_each names tokens in
     let count = length-map tokens sign_of in
-    let exchange = none_moved (within fs ss) m.unmoved in
+    let exchange = none_moved (chosen fs ss) m.unmoved in
     let still : swapped ss fs ≡ fs = same_swapped fs ss (omega (arith, len, count)) exchange in
     let each = each_length names tokens keeps.wide in
     let swap = swapped_length ss xs in
-    let own = together_each name (interpretation_of (within fs tokens)) fs names tokens keeps.wide (lacks is_exclusive fs tokens refl m.kept) in
+    let own = together_each name (interpretation_of (chosen fs tokens)) fs names tokens keeps.wide (lacks is_exclusive fs tokens refl m.kept) in
     let other = not_moved (one_sign fs tokens) (lacks is_moved fs tokens refl m.unmoved) in
     let swaps = together_swapped (one_sign fs tokens) name other fs ss xs (omega (arith, count, each)) (omega (arith, len, count)) exchange in
     rw (pieces_marks fs tokens, pieces_signs fs tokens, pieces_tokens fs tokens, own, swaps, names_onward names tokens keeps.wide keeps.pair, still)
@@ -172,9 +173,9 @@ pub merged_leads : (name : List ℕ) → (length name == 0) ≡ false → (fs : 
     → length fs ≡ length tokens → Obeys names tokens → length names ≤ 4096 → merged fs tokens ≡ Ok rows
     → Lead (together name fs names) rows (together name (flags_after fs (map sign_of tokens)) (names_after (Spines names) tokens))
 merged_leads name some fs names tokens rows len keeps few e =
-    by_tests (list_any is_exclusive (within fs (map sign_of tokens))) (is_entangled fs (map sign_of tokens)) refl refl e
+    by_tests (list_any is_exclusive (chosen fs (map sign_of tokens))) (is_entangled fs (map sign_of tokens)) refl refl e
   where
-    by_tests : (exclusive entangled : Bool) → list_any is_exclusive (within fs (map sign_of tokens)) ≡ exclusive
+    by_tests : (exclusive entangled : Bool) → list_any is_exclusive (chosen fs (map sign_of tokens)) ≡ exclusive
         → is_entangled fs (map sign_of tokens) ≡ entangled
         → ◌≡◌ {A = Result (List Row) Rule}
         (cond exclusive (Err C2) (cond entangled (Err C1) (Ok (filled Interpretation (spread (pieces fs tokens)))))) (Ok rows)
@@ -184,8 +185,8 @@ merged_leads name some fs names tokens rows len keeps few e =
     by_tests false false a b e =
         let ss : List Sign = map sign_of tokens in
         let out : filled Interpretation (spread (pieces fs tokens)) ≡ rows = cc in
-        let first = or_parts (list_any is_moved (within fs ss)) (ends_apart (within fs ss) || is_torn fs ss) b in
-        let second = or_parts (ends_apart (within fs ss)) (is_torn fs ss) first.1 in
+        let first = or_parts (list_any is_moved (chosen fs ss)) (ends_apart (chosen fs ss) || is_torn fs ss) b in
+        let second = or_parts (ends_apart (chosen fs ss)) (is_torn fs ss) first.1 in
         let m : Merges fs tokens = record { kept = a; unmoved = first.0; together = second.0; whole = second.1 } in
         let comes = merged_comes name fs names tokens len keeps m in
         let size = ap length comes in

@@ -1,32 +1,13 @@
 -- Columns, place by place.
-use Rattle.std.proofs.Common.{◌≡◌, ◌∙◌, refl, sym, ap, ℕ, zero, suc, ◌+◌, ◌<◌, ◌≤◌, Bool, true, false, ◌&&◌, ◌||◌, cond}
+use Rattle.std.proofs.Common.{◌≡◌, ◌∙◌, refl, sym, ap, ℕ, zero, suc, ◌+◌, ◌<◌, ◌≤◌, Bool, true, false, cond}
 use Rattle.std.proofs.Common.{List, [], ◌∷◌, ◌++◌, length, drop, get_or, arith, add-one, append_assoc, append-nil, subst}
 use Rattle.std.proofs.lemmas.List.{drop_all}
 use Rattle.std.specs.List.{list_any}
 use Rattle.hum_record.specs.declared.SpinedKind.{SpinedKind}
 use Rattle.hum_record.specs.Building.{Draft}
-use Rattle.hum_path.specs.declared.signs.Sign.{Sign}
-use Rattle.hum_path.specs.Sign.{is_join}
-use Rattle.hum_cleave.specs.Columns.{others, together}
-use Rattle.hum_cleave.specs.Cleave.{differ, is_torn}
+use Rattle.hum_columns.specs.Chosen.{others}
+use Rattle.hum_cleave.specs.Columns.{together}
 use Rattle.hum_record.specs.Making.{Holds}
-
--- whether joins are torn, by the left neighbour
-abbrev pub torn_after : Bool → Bool → List Bool → List Sign → Bool
-torn_after joins left [] signs = false
-torn_after joins left (f ∷ flags) [] = false
-torn_after joins left (f ∷ flags) (s ∷ signs) = (joins && (is_join s && differ left f)) || torn_after (is_join s) f flags signs
-
-torn_next : (f : Bool) (s : Sign) (flags : List Bool) (signs : List Sign) → torn_after (is_join s) f flags signs ≡ is_torn (f ∷ flags) (s ∷ signs)
-torn_next f s [] signs = refl
-torn_next f s (g ∷ flags) [] = refl
-torn_next f s (g ∷ flags) (t ∷ signs) = ap (λ b. (is_join s && (is_join t && differ f g)) || b) (torn_next g t flags signs)
-
-pub torn_first : (flags : List Bool) (signs : List Sign) → torn_after false false flags signs ≡ is_torn flags signs
-torn_first [] signs = refl
-torn_first (f ∷ []) [] = refl
-torn_first (f ∷ g ∷ flags) [] = refl
-torn_first (f ∷ flags) (s ∷ signs) = torn_next f s flags signs
 
 -- what is left to write, once the one column was written or before
 abbrev pub left_of : {X : Type 0} → Bool → X → List Bool → List X → List X

@@ -1,5 +1,5 @@
 -- What is put together of what is carried on is what is carried on of what is put together.
-use Rattle.std.proofs.Common.{◌≡◌, ◌∙◌, refl, ap, suc, ℕ, ◌+◌, ◌≤◌, Bool, true, false, not, ◌&&◌, List, [], ◌∷◌, ◌++◌, length, arith, cond}
+use Rattle.std.proofs.Common.{◌≡◌, ◌∙◌, refl, sym, ap, suc, ℕ, ◌+◌, ◌≤◌, Bool, true, false, not, ◌&&◌, List, [], ◌∷◌, ◌++◌, length, map, arith, cond}
 use Rattle.std.specs.List.{list_any, list_all}
 use Rattle.std.proofs.lemmas.Bool.{or_parts, or_from, and_parts}
 use Rattle.hum_path.specs.declared.signs.Sign.{Sign}
@@ -9,29 +9,18 @@ use Rattle.hum_path.specs.Spines.{exchanges}
 use Rattle.hum_path.specs.Onward.{beginnings, onward_one, onward, at_next, put_next, swapped, renamed_each}
 use Rattle.hum_path.proofs.Cases.{by_bool}
 use Rattle.hum_path.proofs.Onwards.{begins_length}
-use Rattle.hum_cleave.specs.Columns.{within, others, together}
-use Rattle.hum_cleave.specs.Cleave.{is_end, is_torn}
-
-pub others_fewer : {X : Type 0} (fs : List Bool) (xs : List X) → length (others fs xs) ≤ length xs
-others_fewer [] xs = omega arith
-others_fewer (f ∷ fs) [] = omega arith
-others_fewer (true ∷ fs) (x ∷ xs) = let ih = others_fewer fs xs in omega (arith, ih)
-others_fewer (false ∷ fs) (x ∷ xs) = let ih = others_fewer fs xs in omega (arith, ih)
+use Rattle.hum_columns.proofs.ChosenLists.{chosen_length, chosen_fewer, chosen_none, chosen_each}
+use Rattle.hum_columns.proofs.ChosenOnward.{others_onward}
+use Rattle.hum_columns.specs.Chosen.{chosen, others}
+use Rattle.hum_cleave.specs.Columns.{together}
+use Rattle.hum_columns.specs.Chosen.{is_torn}
+use Rattle.hum_cleave.specs.Cleave.{is_end}
 
 pub together_fewer : {X : Type 0} (one : X) (fs : List Bool) (xs : List X) → length (together one fs xs) ≤ length xs
 together_fewer one [] xs = omega arith
 together_fewer one (f ∷ fs) [] = omega arith
-together_fewer one (true ∷ fs) (x ∷ xs) = let less = others_fewer fs xs in omega (arith, less)
+together_fewer one (true ∷ fs) (x ∷ xs) = let less = chosen_fewer (map not fs) xs in omega (arith, less)
 together_fewer one (false ∷ fs) (x ∷ xs) = let ih = together_fewer one fs xs in omega (arith, ih)
-
-pub others_length : {X Y : Type 0} (fs : List Bool) (xs : List X) (ys : List Y) → length xs ≡ length ys
-    → length (others fs xs) ≡ length (others fs ys)
-others_length [] xs ys h = refl
-others_length (f ∷ fs) [] [] h = refl
-others_length (f ∷ fs) [] (y ∷ ys) h = absurd (omega (arith, h))
-others_length (f ∷ fs) (x ∷ xs) [] h = absurd (omega (arith, h))
-others_length (true ∷ fs) (x ∷ xs) (y ∷ ys) h = others_length fs xs ys (omega (arith, h))
-others_length (false ∷ fs) (x ∷ xs) (y ∷ ys) h = ap suc (others_length fs xs ys (omega (arith, h)))
 
 pub together_length : {X Y : Type 0} (one : X) (other : Y) (fs : List Bool) (xs : List X) (ys : List Y) → length xs ≡ length ys
     → length (together one fs xs) ≡ length (together other fs ys)
@@ -39,49 +28,21 @@ together_length one other [] xs ys h = refl
 together_length one other (f ∷ fs) [] [] h = refl
 together_length one other (f ∷ fs) [] (y ∷ ys) h = absurd (omega (arith, h))
 together_length one other (f ∷ fs) (x ∷ xs) [] h = absurd (omega (arith, h))
-together_length one other (true ∷ fs) (x ∷ xs) (y ∷ ys) h = ap suc (others_length fs xs ys (omega (arith, h)))
+together_length one other (true ∷ fs) (x ∷ xs) (y ∷ ys) h = ap suc (chosen_length (map not fs) xs ys (omega (arith, h)))
 together_length one other (false ∷ fs) (x ∷ xs) (y ∷ ys) h = ap suc (together_length one other fs xs ys (omega (arith, h)))
 
 -- what none of a list is, none of what is put together is
-pub others_none : {X : Type 0} (test : X → Bool) (fs : List Bool) (xs : List X) → list_any test xs ≡ false
-    → list_any test (others fs xs) ≡ false
-others_none test [] xs h = refl
-others_none test (f ∷ fs) [] h = refl
-others_none test (true ∷ fs) (x ∷ xs) h = others_none test fs xs (or_parts (test x) (list_any test xs) h).1
-others_none test (false ∷ fs) (x ∷ xs) h =
-    let both = or_parts (test x) (list_any test xs) h in
-    or_from (test x) (list_any test (others fs xs)) both.0 (others_none test fs xs both.1)
-
 pub together_lacks : {X : Type 0} (test : X → Bool) (one : X) (fs : List Bool) (xs : List X) → test one ≡ false → list_any test xs ≡ false
     → list_any test (together one fs xs) ≡ false
 together_lacks test one [] xs o h = refl
 together_lacks test one (f ∷ fs) [] o h = refl
 together_lacks test one (true ∷ fs) (x ∷ xs) o h =
-    or_from (test one) (list_any test (others fs xs)) o (others_none test fs xs (or_parts (test x) (list_any test xs) h).1)
+    or_from (test one) (list_any test (others fs xs)) o (chosen_none test (map not fs) xs (or_parts (test x) (list_any test xs) h).1)
 together_lacks test one (false ∷ fs) (x ∷ xs) o h =
     let both = or_parts (test x) (list_any test xs) h in
     or_from (test x) (list_any test (together one fs xs)) both.0 (together_lacks test one fs xs o both.1)
 
-pub within_none : {X : Type 0} (test : X → Bool) (fs : List Bool) (xs : List X) → list_any test xs ≡ false
-    → list_any test (within fs xs) ≡ false
-within_none test [] xs h = refl
-within_none test (f ∷ fs) [] h = refl
-within_none test (true ∷ fs) (x ∷ xs) h =
-    let both = or_parts (test x) (list_any test xs) h in
-    or_from (test x) (list_any test (within fs xs)) both.0 (within_none test fs xs both.1)
-within_none test (false ∷ fs) (x ∷ xs) h = within_none test fs xs (or_parts (test x) (list_any test xs) h).1
-
 -- Names.
-others_each : (fs : List Bool) (ns ts : List (List ℕ)) → length ns ≡ length ts
-    → renamed_each (others fs ns) (others fs ts) ≡ others fs (renamed_each ns ts)
-others_each [] ns ts h = refl
-others_each (f ∷ fs) [] [] h = refl
-others_each (f ∷ fs) [] (t ∷ ts) h = absurd (omega (arith, h))
-others_each (f ∷ fs) (n ∷ ns) [] h = absurd (omega (arith, h))
-others_each (true ∷ fs) (n ∷ ns) (t ∷ ts) h = others_each fs ns ts (omega (arith, h))
-others_each (false ∷ fs) (n ∷ ns) (t ∷ ts) h =
-    ap (λ (xs : List (List ℕ)). cond (is_exclusive (sign_of t)) t n ∷ xs) (others_each fs ns ts (omega (arith, h)))
-
 pub together_each : (name one : List ℕ) (fs : List Bool) (ns ts : List (List ℕ)) → length ns ≡ length ts → is_exclusive (sign_of one) ≡ false
     → renamed_each (together name fs ns) (together one fs ts) ≡ together name fs (renamed_each ns ts)
 together_each name one [] ns ts h o = refl
@@ -89,14 +50,14 @@ together_each name one (f ∷ fs) [] [] h o = refl
 together_each name one (f ∷ fs) [] (t ∷ ts) h o = absurd (omega (arith, h))
 together_each name one (f ∷ fs) (n ∷ ns) [] h o = absurd (omega (arith, h))
 together_each name one (true ∷ fs) (n ∷ ns) (t ∷ ts) h o =
-    rw o (ap (λ (xs : List (List ℕ)). name ∷ xs) (others_each fs ns ts (omega (arith, h))))
+    rw o (ap (λ (xs : List (List ℕ)). name ∷ xs) (chosen_each (map not fs) ns ts (omega (arith, h))))
 together_each name one (false ∷ fs) (n ∷ ns) (t ∷ ts) h o =
     ap (λ (xs : List (List ℕ)). cond (is_exclusive (sign_of t)) t n ∷ xs) (together_each name one fs ns ts (omega (arith, h)) o)
 
 -- Exchanges: none of them is cleaved.
 
 abbrev pub no_exchange : List Bool → List Sign → Type 0
-no_exchange flags signs = list_any is_exchange (within flags signs) ≡ false
+no_exchange flags signs = list_any is_exchange (chosen flags signs) ≡ false
 
 others_at_next : {X : Type 0} (other : X) (fs : List Bool) (ss : List Sign) (xs : List X) → length ss ≡ length xs → length fs ≡ length ss → no_exchange fs ss
     → at_next other (others fs ss) (others fs xs) ≡ at_next other ss xs
@@ -106,7 +67,7 @@ others_at_next other (f ∷ fs) [] [] h e none = refl
 others_at_next other (f ∷ fs) [] (x ∷ xs) h e none = absurd (omega (arith, h))
 others_at_next other (f ∷ fs) (s ∷ ss) [] h e none = absurd (omega (arith, h))
 others_at_next other (true ∷ fs) (s ∷ ss) (x ∷ xs) h e none =
-    let both = or_parts (is_exchange s) (list_any is_exchange (within fs ss)) none in
+    let both = or_parts (is_exchange s) (list_any is_exchange (chosen fs ss)) none in
     rw both.0 (others_at_next other fs ss xs (omega (arith, h)) (omega (arith, e)) both.1)
 others_at_next {X} other (false ∷ fs) (s ∷ ss) (x ∷ xs) h e none =
     ap (λ (y : X). cond (is_exchange s) x y) (others_at_next other fs ss xs (omega (arith, h)) (omega (arith, e)) none)
@@ -120,7 +81,7 @@ others_put_next other (f ∷ fs) [] [] h e none = refl
 others_put_next other (f ∷ fs) [] (x ∷ xs) h e none = absurd (omega (arith, h))
 others_put_next other (f ∷ fs) (s ∷ ss) [] h e none = absurd (omega (arith, h))
 others_put_next other (true ∷ fs) (s ∷ ss) (x ∷ xs) h e none =
-    let both = or_parts (is_exchange s) (list_any is_exchange (within fs ss)) none in
+    let both = or_parts (is_exchange s) (list_any is_exchange (chosen fs ss)) none in
     rw both.0 (others_put_next other fs ss xs (omega (arith, h)) (omega (arith, e)) both.1)
 others_put_next {X} other (false ∷ fs) (s ∷ ss) (x ∷ xs) h e none = by_bool (is_exchange s)
     (λ w. rw w refl)
@@ -135,10 +96,13 @@ others_swapped (f ∷ fs) [] [] h e none = refl
 others_swapped (f ∷ fs) [] (x ∷ xs) h e none = absurd (omega (arith, h))
 others_swapped (f ∷ fs) (s ∷ ss) [] h e none = absurd (omega (arith, h))
 others_swapped (true ∷ fs) (s ∷ ss) (x ∷ xs) h e none =
-    let both = or_parts (is_exchange s) (list_any is_exchange (within fs ss)) none in
+    let both = or_parts (is_exchange s) (list_any is_exchange (chosen fs ss)) none in
     rw both.0 (others_swapped fs ss xs (omega (arith, h)) (omega (arith, e)) both.1)
 others_swapped {X} (false ∷ fs) (s ∷ ss) (x ∷ xs) h e none = by_bool (is_exchange s)
-    (λ w. rw w (rw (others_at_next x fs ss xs (omega (arith, h)) (omega (arith, e)) none, others_put_next x fs ss xs (omega (arith, h)) (omega (arith, e)) none) refl))
+    (λ w. rw w (rw (
+      others_at_next x fs ss xs (omega (arith, h)) (omega (arith, e)) none,
+      others_put_next x fs ss xs (omega (arith, h)) (omega (arith, e)) none,
+    ) refl))
     (λ w. rw w (ap (λ (ys : List X). x ∷ ys) (others_swapped fs ss xs (omega (arith, h)) (omega (arith, e)) none)))
 
 module _ {X : Type 0} (sign : Sign) (one : X) (o : is_exchange sign ≡ false) where
@@ -150,7 +114,7 @@ module _ {X : Type 0} (sign : Sign) (one : X) (o : is_exchange sign ≡ false) w
   together_at_next other (f ∷ fs) [] (x ∷ xs) h e none = absurd (omega (arith, h))
   together_at_next other (f ∷ fs) (s ∷ ss) [] h e none = absurd (omega (arith, h))
   together_at_next other (true ∷ fs) (s ∷ ss) (x ∷ xs) h e none =
-      let both = or_parts (is_exchange s) (list_any is_exchange (within fs ss)) none in
+      let both = or_parts (is_exchange s) (list_any is_exchange (chosen fs ss)) none in
       rw (o, both.0) (others_at_next other fs ss xs (omega (arith, h)) (omega (arith, e)) both.1)
   together_at_next other (false ∷ fs) (s ∷ ss) (x ∷ xs) h e none =
       ap (λ (y : X). cond (is_exchange s) x y) (together_at_next other fs ss xs (omega (arith, h)) (omega (arith, e)) none)
@@ -164,7 +128,7 @@ module _ {X : Type 0} (sign : Sign) (one : X) (o : is_exchange sign ≡ false) w
   together_put_next other (f ∷ fs) [] (x ∷ xs) h e none = absurd (omega (arith, h))
   together_put_next other (f ∷ fs) (s ∷ ss) [] h e none = absurd (omega (arith, h))
   together_put_next other (true ∷ fs) (s ∷ ss) (x ∷ xs) h e none =
-      let both = or_parts (is_exchange s) (list_any is_exchange (within fs ss)) none in
+      let both = or_parts (is_exchange s) (list_any is_exchange (chosen fs ss)) none in
       rw (o, both.0) (ap (λ (ys : List X). one ∷ ys) (others_put_next other fs ss xs (omega (arith, h)) (omega (arith, e)) both.1))
   together_put_next other (false ∷ fs) (s ∷ ss) (x ∷ xs) h e none = by_bool (is_exchange s)
       (λ w. rw w refl)
@@ -179,10 +143,13 @@ module _ {X : Type 0} (sign : Sign) (one : X) (o : is_exchange sign ≡ false) w
   together_swapped (f ∷ fs) [] (x ∷ xs) h e none = absurd (omega (arith, h))
   together_swapped (f ∷ fs) (s ∷ ss) [] h e none = absurd (omega (arith, h))
   together_swapped (true ∷ fs) (s ∷ ss) (x ∷ xs) h e none =
-      let both = or_parts (is_exchange s) (list_any is_exchange (within fs ss)) none in
+      let both = or_parts (is_exchange s) (list_any is_exchange (chosen fs ss)) none in
       rw (o, both.0) (ap (λ (ys : List X). one ∷ ys) (others_swapped fs ss xs (omega (arith, h)) (omega (arith, e)) both.1))
   together_swapped (false ∷ fs) (s ∷ ss) (x ∷ xs) h e none = by_bool (is_exchange s)
-      (λ w. rw w (rw (together_at_next x fs ss xs (omega (arith, h)) (omega (arith, e)) none, together_put_next x fs ss xs (omega (arith, h)) (omega (arith, e)) none) refl))
+      (λ w. rw w (rw (
+        together_at_next x fs ss xs (omega (arith, h)) (omega (arith, e)) none,
+        together_put_next x fs ss xs (omega (arith, h)) (omega (arith, e)) none,
+      ) refl))
       (λ w. rw w (ap (λ (ys : List X). x ∷ ys) (together_swapped fs ss xs (omega (arith, h)) (omega (arith, e)) none)))
 
 -- and so the cleaved columns stay where they are
@@ -191,7 +158,7 @@ same_at_next [] [] e none = refl
 same_at_next [] (s ∷ ss) e none = absurd (omega (arith, e))
 same_at_next (f ∷ fs) [] e none = refl
 same_at_next (true ∷ fs) (s ∷ ss) e none =
-    let both = or_parts (is_exchange s) (list_any is_exchange (within fs ss)) none in
+    let both = or_parts (is_exchange s) (list_any is_exchange (chosen fs ss)) none in
     rw both.0 (same_at_next fs ss (omega (arith, e)) both.1)
 same_at_next (false ∷ fs) (s ∷ ss) e none = by_bool (is_exchange s)
     (λ w. rw w refl)
@@ -202,7 +169,7 @@ same_put_next [] [] e none = refl
 same_put_next [] (s ∷ ss) e none = absurd (omega (arith, e))
 same_put_next (f ∷ fs) [] e none = refl
 same_put_next (true ∷ fs) (s ∷ ss) e none =
-    let both = or_parts (is_exchange s) (list_any is_exchange (within fs ss)) none in
+    let both = or_parts (is_exchange s) (list_any is_exchange (chosen fs ss)) none in
     rw both.0 (ap (λ (gs : List Bool). true ∷ gs) (same_put_next fs ss (omega (arith, e)) both.1))
 same_put_next (false ∷ fs) (s ∷ ss) e none = by_bool (is_exchange s)
     (λ w. rw w refl)
@@ -213,7 +180,7 @@ same_swapped [] [] e none = refl
 same_swapped [] (s ∷ ss) e none = absurd (omega (arith, e))
 same_swapped (f ∷ fs) [] e none = refl
 same_swapped (true ∷ fs) (s ∷ ss) e none =
-    let both = or_parts (is_exchange s) (list_any is_exchange (within fs ss)) none in
+    let both = or_parts (is_exchange s) (list_any is_exchange (chosen fs ss)) none in
     rw both.0 (ap (λ (gs : List Bool). true ∷ gs) (same_swapped fs ss (omega (arith, e)) both.1))
 same_swapped (false ∷ fs) (s ∷ ss) e none = by_bool (is_exchange s)
     (λ w. rw w (rw (same_at_next fs ss (omega (arith, e)) none, same_put_next fs ss (omega (arith, e)) none) refl))
@@ -226,7 +193,7 @@ others_exchanges j k [] [] e none = refl
 others_exchanges j k [] (s ∷ ss) e none = absurd (omega (arith, e))
 others_exchanges j k (f ∷ fs) [] e none = refl
 others_exchanges j k (true ∷ fs) (s ∷ ss) e none =
-    let both = or_parts (is_exchange s) (list_any is_exchange (within fs ss)) none in
+    let both = or_parts (is_exchange s) (list_any is_exchange (chosen fs ss)) none in
     rw both.0 (others_exchanges j (k + 1) fs ss (omega (arith, e)) both.1)
 others_exchanges j k (false ∷ fs) (s ∷ ss) e none = by_bool (is_exchange s)
     (λ w. rw w (ap suc (others_exchanges (j + 1) (k + 1) fs ss (omega (arith, e)) none)))
@@ -238,7 +205,7 @@ together_exchanges sign j k [] [] e o none = refl
 together_exchanges sign j k [] (s ∷ ss) e o none = absurd (omega (arith, e))
 together_exchanges sign j k (f ∷ fs) [] e o none = refl
 together_exchanges sign j k (true ∷ fs) (s ∷ ss) e o none =
-    let both = or_parts (is_exchange s) (list_any is_exchange (within fs ss)) none in
+    let both = or_parts (is_exchange s) (list_any is_exchange (chosen fs ss)) none in
     rw (o, both.0) (others_exchanges (j + 1) (k + 1) fs ss (omega (arith, e)) both.1)
 together_exchanges sign j k (false ∷ fs) (s ∷ ss) e o none = by_bool (is_exchange s)
     (λ w. rw w (ap suc (together_exchanges sign (j + 1) (k + 1) fs ss (omega (arith, e)) o none)))
@@ -246,42 +213,9 @@ together_exchanges sign j k (false ∷ fs) (s ∷ ss) e o none = by_bool (is_exc
 
 -- Splits, joins and ends.
 
--- the columns that come of the others
-others_onward : {X : Type 0} (added : X → X) (fs begins : List Bool) (ss : List Sign) (xs : List X) → length begins ≡ length ss
-    → length ss ≡ length xs
-    → onward added (others fs begins) (others fs ss) (others fs xs) ≡ others (onward (λ f. f) begins ss fs) (onward added begins ss xs)
-others_onward added [] [] ss xs a b = refl
-others_onward added [] (g ∷ bs) [] xs a b = absurd (omega (arith, a))
-others_onward added [] (g ∷ bs) (s ∷ ss) xs a b = refl
-others_onward added (f ∷ fs) [] ss xs a b = refl
-others_onward added (f ∷ fs) (g ∷ bs) [] xs a b = absurd (omega (arith, a))
-others_onward added (f ∷ fs) (g ∷ bs) (s ∷ ss) [] a b = absurd (omega (arith, b))
-others_onward {X} added (f ∷ fs) (g ∷ bs) (s ∷ ss) (x ∷ xs) a b =
-    cell f g s (onward (λ f. f) bs ss fs) (onward added bs ss xs) (others_onward added fs bs ss xs (omega (arith, a)) (omega (arith, b)))
-  where
-    cell : (f g : Bool) (s : Sign) (gs : List Bool) (ys : List X) → onward added (others fs bs) (others fs ss) (others fs xs) ≡ others gs ys
-        → onward added (others (f ∷ fs) (g ∷ bs)) (others (f ∷ fs) (s ∷ ss)) (others (f ∷ fs) (x ∷ xs))
-        ≡ others (onward_one (λ f. f) g s f ++ gs) (onward_one added g s x ++ ys)
-    cell false g Split gs ys h = ap (λ zs. x ∷ x ∷ zs) h
-    cell false true Join gs ys h = ap (λ zs. x ∷ zs) h
-    cell false false Join gs ys h = h
-    cell false g Exchange gs ys h = ap (λ zs. x ∷ zs) h
-    cell false g Add gs ys h = ap (λ zs. x ∷ added x ∷ zs) h
-    cell false g End gs ys h = h
-    cell false g Exclusive gs ys h = ap (λ zs. x ∷ zs) h
-    cell false g Plain gs ys h = ap (λ zs. x ∷ zs) h
-    cell true g Split gs ys h = h
-    cell true true Join gs ys h = h
-    cell true false Join gs ys h = h
-    cell true g Exchange gs ys h = h
-    cell true g Add gs ys h = h
-    cell true g End gs ys h = h
-    cell true g Exclusive gs ys h = h
-    cell true g Plain gs ys h = h
-
 -- the columns that come of all, where the cleaved ones go on
 pub together_onward : {X : Type 0} (added : X → X) (one : X) (left : Sign) (fs : List Bool) (ss : List Sign) (xs : List X)
-    → length fs ≡ length ss → length ss ≡ length xs → is_torn (false ∷ fs) (left ∷ ss) ≡ false → list_any is_end (within fs ss) ≡ false
+    → length fs ≡ length ss → length ss ≡ length xs → is_torn (false ∷ fs) (left ∷ ss) ≡ false → list_any is_end (chosen fs ss) ≡ false
     → onward added (together false fs (beginnings (is_join left) ss)) (together Plain fs ss) (together one fs xs)
     ≡ together one (onward (λ f. f) (beginnings (is_join left) ss) ss fs) (onward added (beginnings (is_join left) ss) ss xs)
 together_onward added one left [] [] xs e b torn ends = refl
@@ -307,10 +241,10 @@ together_onward {X} added one left (false ∷ fs) (s ∷ ss) (x ∷ xs) e b torn
     cell g Plain gs ys h = ap (λ zs. x ∷ zs) h
 together_onward {X} added one left (true ∷ fs) (s ∷ ss) (x ∷ xs) e b torn ends =
     let here = (or_parts (is_join left && (is_join s && true)) (is_torn (true ∷ fs) (s ∷ ss)) torn).0 in
-    let ends_not = (or_parts (is_end s) (list_any is_end (within fs ss)) ends).0 in
+    let ends_not = (or_parts (is_end s) (list_any is_end (chosen fs ss)) ends).0 in
     let size = begins_length (is_join s) ss in
     cell (is_join left) s here ends_not (onward (λ f. f) (beginnings (is_join s) ss) ss fs) (onward added (beginnings (is_join s) ss) ss xs)
-    (others_onward added fs (beginnings (is_join s) ss) ss xs (omega (arith, size)) (omega (arith, b)))
+    (sym (others_onward added fs (beginnings (is_join s) ss) ss xs (omega (arith, size)) (omega (arith, b))))
   where
     cell : (after : Bool) (s' : Sign) → (after && (is_join s' && true)) ≡ false → is_end s' ≡ false → (gs : List Bool) (ys : List X)
         → onward added (others fs (beginnings (is_join s) ss)) (others fs ss) (others fs xs) ≡ others gs ys
@@ -327,7 +261,7 @@ together_onward {X} added one left (true ∷ fs) (s ∷ ss) (x ∷ xs) e b torn 
 
 -- where they all end, none is left
 others_ended : {X : Type 0} (added : X → X) (one : X) (fs begins : List Bool) (ss : List Sign) (xs : List X) → length begins ≡ length ss
-    → length ss ≡ length xs → length fs ≡ length ss → list_all is_end (within fs ss) ≡ true
+    → length ss ≡ length xs → length fs ≡ length ss → list_all is_end (chosen fs ss) ≡ true
     → others (onward (λ f. f) begins ss fs) (onward added begins ss xs) ≡ together one (onward (λ f. f) begins ss fs) (onward added begins ss xs)
 others_ended added one [] [] [] xs a b e all = refl
 others_ended added one [] begins (s ∷ ss) xs a b e all = absurd (omega (arith, e))
@@ -336,7 +270,7 @@ others_ended added one (f ∷ fs) begins [] xs a b e all = absurd (omega (arith,
 others_ended added one (f ∷ fs) [] (s ∷ ss) xs a b e all = absurd (omega (arith, a))
 others_ended added one (f ∷ fs) (g ∷ bs) (s ∷ ss) [] a b e all = absurd (omega (arith, b))
 others_ended {X} added one (true ∷ fs) (g ∷ bs) (s ∷ ss) (x ∷ xs) a b e all =
-    let both = and_parts (is_end s) (list_all is_end (within fs ss)) all in
+    let both = and_parts (is_end s) (list_all is_end (chosen fs ss)) all in
     cell s both.0 (onward (λ f. f) bs ss fs) (onward added bs ss xs)
     (others_ended added one fs bs ss xs (omega (arith, a)) (omega (arith, b)) (omega (arith, e)) both.1)
   where
@@ -380,8 +314,8 @@ end_onward {X} added one (false ∷ fs) (g ∷ bs) (s ∷ ss) (x ∷ xs) a b e =
     ap (λ (zs : List X). onward_one added g s x ++ zs) (end_onward added one fs bs ss xs (omega (arith, a)) (omega (arith, b)) (omega (arith, e)))
 
 pub together_ended : {X : Type 0} (added : X → X) (one : X) (fs begins : List Bool) (ss : List Sign) (xs : List X) → length begins ≡ length ss
-    → length ss ≡ length xs → length fs ≡ length ss → list_all is_end (within fs ss) ≡ true
+    → length ss ≡ length xs → length fs ≡ length ss → list_all is_end (chosen fs ss) ≡ true
     → onward added (together false fs begins) (together End fs ss) (together one fs xs)
     ≡ together one (onward (λ f. f) begins ss fs) (onward added begins ss xs)
 together_ended added one fs begins ss xs a b e all =
-    end_onward added one fs begins ss xs a b e ∙ others_onward added fs begins ss xs a b ∙ others_ended added one fs begins ss xs a b e all
+    end_onward added one fs begins ss xs a b e ∙ sym (others_onward added fs begins ss xs a b) ∙ others_ended added one fs begins ss xs a b e all

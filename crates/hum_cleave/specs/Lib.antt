@@ -2,4 +2,3 @@ pub mod Columns
 pub mod Tokens
 pub mod Barlines
 pub mod Cleave
-pub mod Following

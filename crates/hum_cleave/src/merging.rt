@@ -1,20 +1,21 @@
 //! Interpretations whose cleaved columns become one.
-ghost use Rattle.std.specs.Prelude.{◌≡◌, [], ◌&&◌, false, length, map, IfOk};
+ghost use Rattle.std.specs.Prelude.{◌≡◌, [], false, length, map, IfOk};
 ghost use Rattle.std.specs.List.{list_any, list_all};
 ghost use Rattle.hum_record.specs.Row.{Spined, tokens_of, width_of, text_of};
 ghost use Rattle.hum_record.specs.declared.SpinedKind.TheVariants.{Interpretation};
 ghost use Rattle.hum_record.specs.Spelling.{IsTextOf};
 ghost use Rattle.hum_path.specs.Sign.{sign_of, is_exclusive};
 ghost use Rattle.hum_spread.specs.Spread.{piece};
-ghost use Rattle.hum_cleave.specs.Columns.{within, together};
-ghost use Rattle.hum_cleave.specs.Cleave.{is_moved, is_end, ends_apart, differ, is_torn};
-ghost use Rattle.hum_cleave.specs.Cleave.{is_entangled, each_piece, merged};
-ghost use Rattle.hum_cleave.specs.Following.{Answers};
+ghost use Rattle.hum_columns.specs.Chosen.{chosen, each_piece};
+ghost use Rattle.hum_columns.specs.Following.{AnswersInRoom};
+ghost use Rattle.hum_cleave.specs.Columns.{together};
+ghost use Rattle.hum_cleave.specs.Cleave.{is_moved, is_end, ends_apart, is_entangled, merged};
 
 use crate::tokens::leftmost_interpretation;
+use hum_columns::{is_torn, write_pieces};
 use hum_path::{Sign, token_sign};
 use hum_record::Record;
-use hum_spread::{Piece, spread};
+use hum_spread::Piece;
 use hum_stage::Rule;
 use std::alloc::{AllocError, Global};
 use std::collections::VecDeque;
@@ -22,7 +23,7 @@ use std::collections::VecDeque;
 /// Whether a cleaved column has an exclusive interpretation.
 fn has_exclusive(marks: &[bool], row: &Record) -> bool
     requires { length marks.now ≡ width_of row.now }
-    ensures { result ≡ list_any is_exclusive (within marks.now (map sign_of (tokens_of row.now))) }
+    ensures { result ≡ list_any is_exclusive (chosen marks.now (map sign_of (tokens_of row.now))) }
 {
     for (j, mark) in marks.iter().enumerate() {
         if *mark && token_sign(row.token(j)).is_exclusive() {
@@ -47,7 +48,7 @@ fn is_end(sign: Sign) -> bool
 /// Whether a cleaved column is exchanged, or has a spine added to it.
 fn has_moved(marks: &[bool], row: &Record) -> bool
     requires { length marks.now ≡ width_of row.now }
-    ensures { result ≡ list_any is_moved (within marks.now (map sign_of (tokens_of row.now))) }
+    ensures { result ≡ list_any is_moved (chosen marks.now (map sign_of (tokens_of row.now))) }
 {
     for (j, mark) in marks.iter().enumerate() {
         if *mark && is_moved(token_sign(row.token(j))) {
@@ -60,7 +61,7 @@ fn has_moved(marks: &[bool], row: &Record) -> bool
 /// Whether a cleaved column ends.
 fn has_end(marks: &[bool], row: &Record) -> bool
     requires { length marks.now ≡ width_of row.now }
-    ensures { result ≡ list_any is_end (within marks.now (map sign_of (tokens_of row.now))) }
+    ensures { result ≡ list_any is_end (chosen marks.now (map sign_of (tokens_of row.now))) }
 {
     for (j, mark) in marks.iter().enumerate() {
         if *mark && is_end(token_sign(row.token(j))) {
@@ -73,7 +74,7 @@ fn has_end(marks: &[bool], row: &Record) -> bool
 /// Whether each cleaved column ends.
 fn all_end(marks: &[bool], row: &Record) -> bool
     requires { length marks.now ≡ width_of row.now }
-    ensures { result ≡ list_all is_end (within marks.now (map sign_of (tokens_of row.now))) }
+    ensures { result ≡ list_all is_end (chosen marks.now (map sign_of (tokens_of row.now))) }
 {
     for (j, mark) in marks.iter().enumerate() {
         if *mark && !is_end(token_sign(row.token(j))) {
@@ -86,40 +87,9 @@ fn all_end(marks: &[bool], row: &Record) -> bool
 /// Whether some cleaved columns end and others don't.
 fn ends_apart(marks: &[bool], row: &Record) -> bool
     requires { length marks.now ≡ width_of row.now }
-    ensures { result ≡ ends_apart (within marks.now (map sign_of (tokens_of row.now))) }
+    ensures { result ≡ ends_apart (chosen marks.now (map sign_of (tokens_of row.now))) }
 {
     has_end(marks, row) && !all_end(marks, row)
-}
-
-fn differ(a: bool, b: bool) -> bool
-    ensures { result ≡ differ a b }
-{
-    a != b
-}
-
-/// Whether neighbours tear a join: both join, and one is cleaved and the other isn't.
-fn tears(left_joins: bool, left: bool, joins: bool, mark: bool) -> bool
-    ensures { result ≡ (left_joins && (joins && differ left mark)) }
-{
-    left_joins && joins && differ(left, mark)
-}
-
-/// Whether one join has cleaved columns and others.
-fn is_torn(marks: &[bool], row: &Record) -> bool
-    requires { length marks.now ≡ width_of row.now }
-    ensures { result ≡ is_torn marks.now (map sign_of (tokens_of row.now)) }
-{
-    let mut left_joins = false;
-    let mut left = false;
-    for (j, mark) in marks.iter().enumerate() {
-        let joins = token_sign(row.token(j)).is_join();
-        if tears(left_joins, left, joins, *mark) {
-            return true;
-        }
-        left_joins = joins;
-        left = *mark;
-    }
-    false
 }
 
 /// Whether the record asks of a cleaved column what can't be written in one column.
@@ -170,7 +140,8 @@ pub fn merge(
     requires lawful { IsTextOf row.now (text_of row.now) }
     requires as_wide { length marks.now ≡ width_of row.now }
     requires empty { out.old.items ≡ [] }
-    ensures { IfOk result (Answers (merged marks.now (tokens_of row.now)) room out.new.items) }
+    ensures { IfOk result
+        (AnswersInRoom (merged marks.now (tokens_of row.now)) room out.new.items) }
 {
     if has_exclusive(marks, row) {
         return Ok(Some(Rule::C2));
@@ -180,9 +151,5 @@ pub fn merge(
     }
     let one = leftmost_interpretation(marks, row);
     let left = pieces(alloc, marks, one, row)?;
-    if spread(alloc, &left, room, out)? {
-        Ok(None)
-    } else {
-        Ok(Some(Rule::L2))
-    }
+    write_pieces(alloc, &left, room, out)
 }

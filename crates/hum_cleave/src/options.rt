@@ -15,8 +15,7 @@ pub struct CleaveOptions {
 }
 
 impl Model for CleaveOptions {
-    ghost use Rattle.hum_cleave.specs.Cleave.{Options};
-    ghost use Rattle.hum_cleave.specs.Following.{AreLawful};
+    ghost use Rattle.hum_cleave.specs.Cleave.{Options, AreLawful};
 
     ghost Value = { Options };
 

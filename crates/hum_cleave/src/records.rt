@@ -1,17 +1,18 @@
 //! Records whose cleaved columns have become one.
 ghost use Rattle.std.specs.Prelude.{◌≡◌, ℕ, List, [], true, false, length, IfOk};
-ghost use Rattle.std.specs.List.{list_any};
 ghost use Rattle.hum_record.specs.declared.SpinedKind.{SpinedKind};
 ghost use Rattle.hum_record.specs.declared.SpinedKind.TheVariants.{Local, Interpretation, Values};
 ghost use Rattle.hum_record.specs.Row.{Spined, tokens_of, width_of, text_of};
 ghost use Rattle.hum_record.specs.Spelling.{IsToken, IsTextOf};
-ghost use Rattle.hum_cleave.specs.Columns.{within, together};
+ghost use Rattle.hum_columns.specs.Chosen.{chosen};
+ghost use Rattle.hum_columns.specs.Following.{AsWide, Answers, is_interpretation};
+ghost use Rattle.hum_cleave.specs.Columns.{together};
 ghost use Rattle.hum_cleave.specs.Tokens.{comment_of, data_of};
-ghost use Rattle.hum_cleave.specs.Cleave.{fits_in_token, is_name, one_record, told};
+ghost use Rattle.hum_cleave.specs.Cleave.{fits_in_token, is_name, one_record, text_told};
 ghost use Rattle.hum_record.specs.Making.{IsMade};
-ghost use Rattle.hum_cleave.specs.Following.{AsWide, Answers, is_interpretation};
 
 use crate::tokens::{gather, leftmost_comment};
+use hum_columns::Marks;
 use hum_record::{Kind, Making, Record, Spare, SpinedKind};
 use hum_stage::Rule;
 use std::alloc::{AllocError, Global};
@@ -43,18 +44,6 @@ impl Buffers {
             spare: Spare::none(alloc),
         }
     }
-}
-
-/// Whether some column is cleaved.
-pub fn has_cleaved(marks: &[bool]) -> bool
-    ensures { result ≡ list_any (λ b. b) marks.now }
-{
-    for mark in marks {
-        if *mark {
-            return true;
-        }
-    }
-    false
 }
 
 /// The record with one token in place of those in the cleaved columns, unless it is too long.
@@ -96,7 +85,7 @@ fn comment_record(
     requires sound { IsTextOf row.now (text_of row.now) }
     requires as_wide { length marks.now ≡ width_of row.now }
     ensures { IfOk result (IsMade Local (together
-        (comment_of (within marks.now (tokens_of row.now))) marks.now (tokens_of row.now))) }
+        (comment_of (chosen marks.now (tokens_of row.now))) marks.now (tokens_of row.now))) }
 {
     let one = leftmost_comment(marks, row);
     put_together(
@@ -122,7 +111,7 @@ fn data_record(
     requires between { fits_in_token separator.now ≡ true }
     requires as_wide { length marks.now ≡ width_of row.now }
     ensures { IfOk result (IsMade Values (together
-        (data_of separator.now (within marks.now (tokens_of row.now)))
+        (data_of separator.now (chosen marks.now (tokens_of row.now)))
         marks.now (tokens_of row.now))) }
 {
     gather(alloc, separator, marks, row, &mut buffers.text)?;
@@ -189,7 +178,7 @@ pub fn give(
 pub fn give_text(
     alloc: Global,
     separator: &[u8],
-    marks: &[bool],
+    marks: &Marks,
     row: Record,
     buffers: &mut Buffers,
     out: &mut VecDeque<Record>,
@@ -200,19 +189,19 @@ pub fn give_text(
     requires kind { is_interpretation row ≡ false }
     requires lawful { IsTextOf row (text_of row) }
     ensures { IfOk result (λ refused. (room : ℕ)
-        → Answers (told separator.now marks.now row) room out.new.items refused) }
+        → Answers (text_told separator.now marks.now row) room out.new.items refused) }
 {
-    if !has_cleaved(marks) {
+    if !marks.some() {
         out.push_back(row)?;
         return Ok(None);
     }
     match row.kind() {
         Kind::Local => {
-            let made = comment_record(alloc, marks, &row, buffers)?;
+            let made = comment_record(alloc, marks.each(), &row, buffers)?;
             give(row, made, buffers, out)
         }
         Kind::Values => {
-            let made = data_record(alloc, separator, marks, &row, buffers)?;
+            let made = data_record(alloc, separator, marks.each(), &row, buffers)?;
             give(row, made, buffers, out)
         }
         _ => {

@@ -3,7 +3,7 @@ ghost use Rattle.std.specs.Prelude.{◌≡◌, true, length, OnOk};
 ghost use Rattle.hum_record.specs.Row.{Spined, tokens_of, width_of, text_of};
 ghost use Rattle.hum_record.specs.Spelling.{IsToken, IsTextOf};
 ghost use Rattle.hum_record.specs.declared.SpinedKind.TheVariants.{Local, Values};
-ghost use Rattle.hum_cleave.specs.Columns.{within};
+ghost use Rattle.hum_columns.specs.Chosen.{chosen};
 ghost use Rattle.hum_cleave.specs.Cleave.{fits_in_token};
 ghost use Rattle.hum_cleave.specs.Tokens.{is_null_comment, comment_of, is_silent};
 ghost use Rattle.hum_cleave.specs.Tokens.{interpretation_of, data_of, added};
@@ -22,7 +22,7 @@ fn is_null_comment(token: &[u8]) -> bool
 pub fn leftmost_comment<'r>(marks: &[bool], row: &'r Record) -> &'r [u8]
     requires kind { row.now ≡ Spined Local (tokens_of row.now) }
     requires as_wide { length marks.now ≡ width_of row.now }
-    ensures token { result.now ≡ comment_of (within marks.now (tokens_of row.now)) }
+    ensures token { result.now ≡ comment_of (chosen marks.now (tokens_of row.now)) }
     ensures lawful { IsToken Local result.now }
 {
     for (j, mark) in marks.iter().enumerate() {
@@ -43,7 +43,7 @@ fn is_silent(token: &[u8]) -> bool
 /// The leftmost interpretation that isn't null, a split or a join, else a null one.
 pub fn leftmost_interpretation<'r>(marks: &[bool], row: &'r Record) -> &'r [u8]
     requires as_wide { length marks.now ≡ width_of row.now }
-    ensures { result.now ≡ interpretation_of (within marks.now (tokens_of row.now)) }
+    ensures { result.now ≡ interpretation_of (chosen marks.now (tokens_of row.now)) }
 {
     for (j, mark) in marks.iter().enumerate() {
         if *mark && !is_silent(row.token(j)) {
@@ -78,7 +78,7 @@ pub fn gather(
     requires between { fits_in_token separator.now ≡ true }
     requires as_wide { length marks.now ≡ width_of row.now }
     ensures text { OnOk result (text.new.items
-        ≡ data_of separator.now (within marks.now (tokens_of row.now))) }
+        ≡ data_of separator.now (chosen marks.now (tokens_of row.now))) }
     ensures lawful { OnOk result (IsToken Values text.new.items) }
 {
     text.clear();

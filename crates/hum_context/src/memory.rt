@@ -22,7 +22,7 @@ use crate::options::ContextOptions;
 use crate::walking::walk;
 use hum_path::{Moves, Paths};
 use hum_record::{Kind, Record, Spare};
-use hum_stage::{LooksAhead, Rule, Verdict};
+use hum_stage::{Command, LooksAhead, Rule, Verdict};
 use std::alloc::{AllocError, Global};
 use std::collections::VecDeque;
 use std::mem;
@@ -204,7 +204,7 @@ impl Windows {
 
 /// The options, the spines, the records that wait and what is remembered of them.
 #[derive(Drop)]
-pub(crate) struct Collecting {
+pub struct Collecting {
     alloc: Global,
     options: ContextOptions,
     paths: Paths,
@@ -228,7 +228,17 @@ fn is_data(row: &Record) -> bool
 }
 
 impl LooksAhead for Collecting {
+    type Options = ContextOptions;
+
     type Held = Record;
+
+    ghost use Rattle.hum_stage.specs.declared.faults.Command.TheVariants.{Context};
+    ghost use Rattle.hum_context.specs.Context.{context};
+    ghost use Rattle.hum_context.specs.Options.{choice_of};
+
+    ghost command = { Context };
+
+    ghost look = { λ options. context (choice_of options) };
 
     ghost use Rattle.hum_context.specs.Memory.{Follows};
 
@@ -238,6 +248,14 @@ impl LooksAhead for Collecting {
     ghost use Rattle.hum_context.specs.Memory.{follows_each};
 
     ghost each = { λ s held look past rows h. follows_each _ _ _ _ _ _ held look past rows h };
+
+    fn command() -> Command {
+        Command::Context
+    }
+
+    fn begin(alloc: Global, options: ContextOptions) -> Collecting {
+        Collecting::new(alloc, options)
+    }
 
     fn put(&mut self, next: Record, held: &mut VecDeque<Record>) -> Result<(), AllocError> {
         let Ok(found) = self.paths.step(&next) else {
@@ -287,7 +305,7 @@ impl Collecting {
     ghost use Rattle.hum_path.specs.Spines.{Unopened};
 
     /// There were no records yet.
-    pub(crate) fn new(alloc: Global, options: ContextOptions) -> Collecting
+    fn new(alloc: Global, options: ContextOptions) -> Collecting
         ensures options { result.options ≡ options }
         ensures path { result.paths.path ≡ Unopened }
         ensures cells { result.windows.cells.items ≡ [] }

@@ -5,9 +5,6 @@
 //! exclusive interpretation.
 #![tactic(auto)]
 
-ghost use Rattle.hum_stage.specs.Meaning.{opening, KeepsScore};
-ghost use Rattle.hum_ditto.specs.Ditto.{meaning};
-
 mod filling;
 mod last_seen;
 
@@ -15,7 +12,7 @@ use filling::{is_to_fill, rebuilt};
 use hum_path::{Carried, Paths};
 use hum_pattern::Pattern;
 use hum_record::{Record, RecordFault, Spare};
-use hum_stage::{AtOnce, Command, Decides, End, Rule, Stage, State};
+use hum_stage::{AtOnce, Command, Decides, Rule};
 use last_seen::LastSeen;
 use std::alloc::{AllocError, Global};
 
@@ -30,7 +27,7 @@ pub struct DittoOptions {
 
 /// The spines, and what is remembered of each.
 #[derive(Drop)]
-struct Repeats {
+pub struct Repeats {
     alloc: Global,
     options: DittoOptions,
     paths: Paths,
@@ -42,11 +39,34 @@ struct Repeats {
 }
 
 impl Decides for Repeats {
+    type Options = DittoOptions;
+
     type Due = Option<Record>;
 
+    ghost use Rattle.hum_stage.specs.declared.faults.Command.TheVariants.{Ditto as DittoCommand};
+    ghost use Rattle.hum_ditto.specs.Ditto.{ditto};
     ghost use Rattle.hum_ditto.specs.Memory.{Follows};
 
+    ghost command = { DittoCommand };
+
+    ghost decide = { ditto };
+
     ghost follows = { λ s. Follows s.options s.paths.path s.carried.each };
+
+    fn command() -> Command {
+        Command::Ditto
+    }
+
+    fn begin(alloc: Global, options: DittoOptions) -> Repeats {
+        Repeats {
+            alloc,
+            options,
+            paths: Paths::new(alloc),
+            carried: Carried::new(alloc),
+            shown: Vec::new(alloc),
+            spare: Spare::none(alloc),
+        }
+    }
 
     fn step(
         &mut self,
@@ -84,73 +104,7 @@ impl Decides for Repeats {
 }
 
 /// The command ditto, as a stage.
-pub struct Ditto {
-    inner: AtOnce<Repeats>,
-}
-
-// Written out, so that a caller's proof sees one call and not the drop of each field.
-impl Drop for Ditto {
-    fn drop(self) {
-        let Ditto { inner: _inner } = self;
-    }
-}
-
-impl Ditto {
-    /// The stage of this number, from 1.
-    pub fn new(alloc: Global, stage: u8, options: DittoOptions) -> Ditto
-        // It stands for what the options say, with nothing put yet.
-        ensures stands { ⟦<Ditto as Stage>⟧.stands result (opening (meaning stage options)) }
-
-        // Of scores it makes scores.
-        ensures keeps { KeepsScore (meaning stage options).outcomes }
-    {
-        let repeats = Repeats {
-            alloc,
-            options,
-            paths: Paths::new(alloc),
-            carried: Carried::new(alloc),
-            shown: Vec::new(alloc),
-            spare: Spare::none(alloc),
-        };
-        Ditto {
-            inner: AtOnce::new(alloc, stage, Command::Ditto, repeats),
-        }
-    }
-}
-
-impl Stage for Ditto {
-    ghost stands = { λ s t. ⟦<AtOnce<Repeats> as Stage>⟧.stands s.inner t };
-
-    ghost left = { λ s. ⟦<AtOnce<Repeats> as Stage>⟧.left s.inner };
-
-    ghost spent = { λ s. ⟦<AtOnce<Repeats> as Stage>⟧.spent s.inner };
-
-    ghost use Rattle.hum_stage.specs.Laws.{standing_remains, standing_lawful};
-
-    ghost remains = { λ s t h. standing_remains _ _ _ _ t h };
-
-    ghost lawful = { λ s t h. standing_lawful _ _ _ _ t h };
-
-    fn put(&mut self, next: Record) -> Result<(), AllocError> {
-        self.inner.put(next)
-    }
-
-    fn end(&mut self, end: End) {
-        self.inner.end(end)
-    }
-
-    fn take(&mut self) -> Result<Option<Record>, AllocError> {
-        self.inner.take()
-    }
-
-    fn state(&self) -> State {
-        self.inner.state()
-    }
-
-    fn held(&self) -> usize {
-        self.inner.held()
-    }
-}
+pub type Ditto = AtOnce<Repeats>;
 
 #[cfg(test)]
 mod tests;

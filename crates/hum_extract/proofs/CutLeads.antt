@@ -25,10 +25,12 @@ use Rattle.hum_spread.specs.Spread.{Piece, tokens_in, spread, filled}
 use Rattle.hum_spread.proofs.Spreading.{marks, signs_in}
 use Rattle.hum_spread.proofs.Fitting.{Fits, come_to}
 use Rattle.hum_spread.proofs.Leading.{spread_leads}
-use Rattle.hum_extract.specs.Choice.{chosen}
-use Rattle.hum_extract.specs.Extract.{is_torn, exchanged_flags, is_lone, chosen_between, softened, pieces, cut}
-use Rattle.hum_extract.proofs.Selecting.{chosen_fewer, chosen_none, chosen_map, chosen_each, chosen_onward}
-use Rattle.hum_extract.proofs.Joining.{pieces_tokens, pieces_marks, pieces_formed}
+use Rattle.hum_columns.specs.Chosen.{chosen, is_torn}
+use Rattle.hum_columns.proofs.ChosenLists.{chosen_fewer, chosen_none, chosen_map, chosen_each}
+use Rattle.hum_columns.proofs.ChosenOnward.{chosen_onward}
+use Rattle.hum_columns.proofs.ChosenJoins.{chosen_tokens, chosen_marks, chosen_formed}
+use Rattle.hum_columns.proofs.Flags.{flags_after}
+use Rattle.hum_extract.specs.Extract.{exchanged_flags, is_lone, chosen_between, softened, pieces, cut}
 use Rattle.hum_extract.proofs.Exchanging.{swapped_chosen, pair_chosen, lone_stays, begin_swapped, sign_swapped}
 
 -- what a softened token's sign becomes
@@ -189,10 +191,6 @@ soft_none : (ss : List Sign) → map (soften false) ss ≡ ss
 soft_none [] = refl
 soft_none (s ∷ ss) = ap (λ (ts : List Sign). s ∷ ts) (soft_none ss)
 
--- the flags of the columns after a record
-abbrev pub flags_after : List Bool → List Sign → List Bool
-flags_after flags signs = onward (λ f. f) (beginnings false signs) signs (swapped signs flags)
-
 -- The chosen ones of what is carried on, by the chosen columns.
 chosen_comes : {X : Type 0} (added : X → X) (lone : Bool) (fs : List Bool) (ss : List Sign) (xs : List X) → length fs ≡ length ss
     → length ss ≡ length xs
@@ -233,7 +231,7 @@ has_lone flags tokens = is_lone (exchanged_flags flags (map sign_of tokens))
 -- The pieces that are cut out of an interpretation.
 abbrev pub pieces_of : List Bool → List (List ℕ) → List Piece
 pieces_of flags tokens =
-    pieces false flags (map (softened (has_lone flags tokens)) tokens)
+    pieces flags (map (softened (has_lone flags tokens)) tokens)
 
 chosen_unnamed : (fs : List Bool) (ns : List (List ℕ)) (ss : List Sign) → has_unnamed ns ss ≡ false
     → has_unnamed (chosen fs ns) (chosen fs ss) ≡ false
@@ -273,14 +271,14 @@ chosen_pair false fs ss len two is = rw (soft_none ss) (pair_chosen fs ss len tw
 chosen_pair true fs ss len two is = rw (← chosen_map (soften true) fs ss, soft_exchanges 0 (chosen fs ss)) refl
 
 cut_signs : (fs : List Bool) (lone : Bool) (ts : List (List ℕ))
-    → signs_in (pieces false fs (map (softened lone) ts)) ≡ chosen fs (map (soften lone) (map sign_of ts))
+    → signs_in (pieces fs (map (softened lone) ts)) ≡ chosen fs (map (soften lone) (map sign_of ts))
 cut_signs fs lone ts =
-    ap (λ (us : List (List ℕ)). map sign_of us) (pieces_tokens false fs (map (softened lone) ts))
+    ap (λ (us : List (List ℕ)). map sign_of us) (chosen_tokens false fs (map (softened lone) ts))
     ∙ (chosen_map sign_of fs (map (softened lone) ts) ∙ ap (λ (ss : List Sign). chosen fs ss) (soft_signs lone ts))
 
 fits_at : (lone : Bool) (fs : List Bool) (names tokens : List (List ℕ)) → length fs ≡ length tokens → Obeys names tokens
     → is_torn fs (map sign_of tokens) ≡ false
-    → has_lone fs tokens ≡ lone → Fits (pieces false fs (map (softened lone) tokens)) (chosen fs names)
+    → has_lone fs tokens ≡ lone → Fits (pieces fs (map (softened lone) tokens)) (chosen fs names)
 fits_at lone fs names tokens len keeps torn is =
     let signs = cut_signs fs lone tokens in
     let soft = soft_signs lone tokens in
@@ -288,13 +286,13 @@ fits_at lone fs names tokens len keeps torn is =
     let size = length-map tokens (softened lone) in
     let wide = keeps.wide in
     record {
-      formed = pieces_formed fs (map (softened lone) tokens) names (omega (arith, len, size)) (omega (arith, wide, size))
+      formed = chosen_formed fs (map (softened lone) tokens) names (omega (arith, len, size)) (omega (arith, wide, size))
           (rw soft (soft_torn lone fs (map sign_of tokens) ∙ torn))
           (rw soft (soft_lone lone false (map sign_of tokens) ∙ keeps.lone))
           (rw soft (soft_mixed lone names (map sign_of tokens) ∙ keeps.mixed));
       unnamed = rw signs
           (chosen_unnamed fs names (map (soften lone) (map sign_of tokens)) (soft_unnamed lone names (map sign_of tokens) ∙ keeps.unnamed));
-      bare = rw (pieces_tokens false fs (map (softened lone) tokens))
+      bare = rw (chosen_tokens false fs (map (softened lone) tokens))
           (chosen_none (bytes_eq (codes "**")) fs (map (softened lone) tokens) (soft_bare lone tokens keeps.bare));
       steers = rw signs (chosen_steers lone fs (map sign_of tokens) keeps.steers);
       pair = rw signs (chosen_pair lone fs (map sign_of tokens) (omega (arith, len, count)) keeps.pair is);
@@ -308,7 +306,7 @@ cut_fits fs names tokens len keeps torn = fits_at (has_lone fs tokens) fs names 
 
 comes_at : (lone : Bool) (fs : List Bool) (names tokens : List (List ℕ)) → length fs ≡ length tokens → Obeys names tokens
     → has_lone fs tokens ≡ lone → (lone && chosen_between fs (map sign_of tokens)) ≡ false
-    → come_to (pieces false fs (map (softened lone) tokens)) (chosen fs names)
+    → come_to (pieces fs (map (softened lone) tokens)) (chosen fs names)
     ≡ chosen (flags_after fs (map sign_of tokens)) (names_after (Spines names) tokens)
 comes_at lone fs names tokens len keeps is none =
     let signs : List Sign = map sign_of tokens in
@@ -316,13 +314,13 @@ comes_at lone fs names tokens len keeps is none =
     let count = length-map tokens sign_of in
     let wide = keeps.wide in
     let each = each_length names tokens wide in
-    let marked : marks (pieces false fs (map (softened lone) tokens)) ≡ chosen fs (beginnings false (map sign_of tokens)) =
-    pieces_marks false fs (map (softened lone) tokens)
+    let marked : marks (pieces fs (map (softened lone) tokens)) ≡ chosen fs (beginnings false (map sign_of tokens)) =
+    chosen_marks false fs (map (softened lone) tokens)
     ∙ ap (λ (bs : List Bool). chosen fs bs)
     (ap (λ (ss : List Sign). beginnings false ss) (soft_signs lone tokens) ∙ soft_begins lone false (map sign_of tokens)) in
-    let own : renamed_each (chosen fs names) (tokens_in (pieces false fs (map (softened lone) tokens)))
+    let own : renamed_each (chosen fs names) (tokens_in (pieces fs (map (softened lone) tokens)))
     ≡ chosen fs (renamed_each names tokens) =
-    ap (λ (ts : List (List ℕ)). renamed_each (chosen fs names) ts) (pieces_tokens false fs (map (softened lone) tokens))
+    ap (λ (ts : List (List ℕ)). renamed_each (chosen fs names) ts) (chosen_tokens false fs (map (softened lone) tokens))
     ∙ (chosen_each fs names (map (softened lone) tokens) (omega (arith, wide, size))
     ∙ ap (λ (ns : List (List ℕ)). chosen fs ns) (soft_each lone names tokens)) in
     let whole =

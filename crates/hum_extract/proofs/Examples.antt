@@ -26,7 +26,8 @@ score11 =
 row11 : refusal 1 (decisions (extract (Fields (only 1 ∷ only 2 ∷ []))) [] score11) ≡ Some (3, X3)
 row11 = refl
 
-row11b : settled (decisions (extract (Fields (only 1 ∷ []))) [] score11) ≡ i (codes "**a" ∷ []) ∷ d (codes "1" ∷ []) ∷ i (codes "*" ∷ []) ∷ d (codes "1" ∷ []) ∷ i (codes "*-" ∷ []) ∷ []
+row11b : settled (decisions (extract (Fields (only 1 ∷ []))) [] score11)
+    ≡ i (codes "**a" ∷ []) ∷ d (codes "1" ∷ []) ∷ i (codes "*" ∷ []) ∷ d (codes "1" ∷ []) ∷ i (codes "*-" ∷ []) ∷ []
 row11b = refl
 
 row17 : settled (decisions (extract (Names (codes "**kern" ∷ []))) [] (
@@ -34,7 +35,8 @@ row17 : settled (decisions (extract (Names (codes "**kern" ∷ []))) [] (
     ∷ d (codes "4c" ∷ codes "4e" ∷ codes "p" ∷ codes "4g" ∷ codes "4b" ∷ []) ∷ i (codes "*v" ∷ codes "*v" ∷ codes "*" ∷ codes "*v" ∷ codes "*v" ∷ [])
     ∷ d (codes "4c" ∷ codes "f" ∷ codes "4d" ∷ []) ∷ i (codes "*-" ∷ codes "*-" ∷ codes "*-" ∷ []) ∷ []))
     ≡ i (codes "**kern" ∷ codes "**kern" ∷ []) ∷ i (codes "*^" ∷ codes "*^" ∷ []) ∷ d (codes "4c" ∷ codes "4e" ∷ codes "4g" ∷ codes "4b" ∷ [])
-    ∷ i (codes "*v" ∷ codes "*v" ∷ codes "*" ∷ codes "*" ∷ []) ∷ i (codes "*" ∷ codes "*v" ∷ codes "*v" ∷ []) ∷ d (codes "4c" ∷ codes "4d" ∷ []) ∷ i (codes "*-" ∷ codes "*-" ∷ []) ∷ []
+    ∷ i (codes "*v" ∷ codes "*v" ∷ codes "*" ∷ codes "*" ∷ []) ∷ i (codes "*" ∷ codes "*v" ∷ codes "*v" ∷ []) ∷ d (codes "4c" ∷ codes "4d" ∷ [])
+    ∷ i (codes "*-" ∷ codes "*-" ∷ []) ∷ []
 row17 = refl
 
 abbrev pub score27 : List Row

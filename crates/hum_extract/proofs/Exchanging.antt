@@ -12,8 +12,8 @@ use Rattle.hum_path.specs.Rules.{is_pair_or_none}
 use Rattle.hum_path.specs.Onward.{beginnings, at_next, put_next, swapped}
 use Rattle.hum_path.proofs.Onwards.{swapped_none}
 use Rattle.hum_path.proofs.Cases.{by_bool}
-use Rattle.hum_extract.specs.Choice.{chosen}
-use Rattle.hum_extract.specs.Extract.{differ, exchanged_flags, is_lone, chosen_before, chosen_between}
+use Rattle.hum_columns.specs.Chosen.{chosen, differ}
+use Rattle.hum_extract.specs.Extract.{exchanged_flags, is_lone, chosen_before, chosen_between}
 
 -- as many flags as exchanged columns
 pub flags_size : (j : ℕ) (fs : List Bool) (ss : List Sign) → length fs ≡ length ss

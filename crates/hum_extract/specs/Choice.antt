@@ -1,12 +1,8 @@
 -- Which opening spines are chosen, and which columns come of them.
-use Rattle.std.specs.Prelude.{ℕ, ◌+◌, nat_lt, nat_le, Bool, true, false, not, ◌&&◌, ◌||◌}
-use Rattle.std.specs.Prelude.{List, [], ◌∷◌, map, length, slice_index_or}
+use Rattle.std.specs.Prelude.{ℕ, ◌+◌, nat_lt, nat_le, Bool, false, not, ◌&&◌, ◌||◌}
+use Rattle.std.specs.Prelude.{List, [], ◌∷◌, length}
 use Rattle.std.specs.List.{list_any}
 use Rattle.std.specs.Str.{bytes_eq}
-use Rattle.hum_record.specs.Row.{Row, Comment, Spined}
-use Rattle.hum_path.specs.Spines.{Path, Unopened, Spines}
-use Rattle.hum_path.specs.Score.{path_after}
-use Rattle.hum_path.specs.Chains.{origins}
 
 -- a field by its number, from 1, or the last one: `$`
 pub data Field : Type 0 where
@@ -58,31 +54,3 @@ names_beyond (Names names) width = false
 abbrev pub misses : Choice → List (List ℕ) → Bool
 misses choice names =
     names_beyond choice (length names) || not (list_any (λ b. b) (opening_flags choice names))
-
--- the tokens of the opening record, of records with the newest first
-abbrev pub opening_if : Path → List (List ℕ) → List (List ℕ) → List (List ℕ)
-opening_if Unopened tokens before = tokens
-opening_if (Spines names) tokens before = before
-
-abbrev pub opening_of : List Row → List (List ℕ)
-opening_of [] = []
-opening_of (Comment text ∷ past) = opening_of past
-opening_of (Spined kind tokens ∷ past) = opening_if (path_after past) tokens (opening_of past)
-
--- For each column after records: it is chosen where the opening spine that it comes from is.
-abbrev pub flags : Choice → List Row → List Bool
-flags choice past =
-    map (λ origin. slice_index_or (opening_flags choice (opening_of past)) origin false)
-    (origins past)
-
--- what is chosen of a list
-abbrev pub chosen : {X : Type 0} → List Bool → List X → List X
-chosen [] xs = []
-chosen (flag ∷ flags) [] = []
-chosen (true ∷ flags) (x ∷ xs) = x ∷ chosen flags xs
-chosen (false ∷ flags) (x ∷ xs) = chosen flags xs
-
--- the chosen spines
-abbrev pub chosen_path : List Bool → Path → Path
-chosen_path flags Unopened = Unopened
-chosen_path flags (Spines names) = Spines (chosen flags names)

@@ -1,27 +1,17 @@
 -- What the command extract makes of each record.
-use Rattle.std.specs.Prelude.{ℕ, Bool, true, false, not, ◌&&◌, ◌||◌, if◌then◌else◌}
+use Rattle.std.specs.Prelude.{ℕ, Bool, false, ◌&&◌, ◌||◌, if◌then◌else◌}
 use Rattle.std.specs.Prelude.{List, [], ◌∷◌, map, Result, Ok, Err}
 use lib.Chars.{codes}
 use Rattle.hum_record.specs.declared.SpinedKind.TheVariants.{Interpretation}
-use Rattle.hum_record.specs.Row.{Row, Comment, Spined}
+use Rattle.hum_record.specs.Row.{Row}
 use Rattle.hum_path.specs.declared.signs.Sign.{Sign}
-use Rattle.hum_path.specs.Sign.{sign_of, is_join, is_exchange}
-use Rattle.hum_path.specs.Spines.{Path, Unopened, Spines}
-use Rattle.hum_path.specs.Score.{path_after}
-use Rattle.hum_spread.specs.Spread.{Piece, piece, spread, filled}
+use Rattle.hum_path.specs.Sign.{sign_of, is_exchange}
+use Rattle.hum_spread.specs.Spread.{Piece, spread, filled}
 use Rattle.hum_stage.specs.declared.faults.Rule.{Rule}
 use Rattle.hum_stage.specs.declared.faults.Rule.TheVariants.{X1, X2, X3}
-use Rattle.hum_extract.specs.Choice.{Choice, misses, opening_flags, flags, chosen}
-
-abbrev pub differ : Bool → Bool → Bool
-differ true b = not b
-differ false b = b
-
--- joins side by side, of which one is chosen and the other isn't
-abbrev pub is_torn : List Bool → List Sign → Bool
-is_torn (f ∷ g ∷ flags) (s ∷ t ∷ signs) =
-    (is_join s && (is_join t && differ f g)) || is_torn (g ∷ flags) (t ∷ signs)
-is_torn _ _ = false
+use Rattle.hum_columns.specs.Chosen.{chosen, differ, is_torn, each_piece}
+use Rattle.hum_columns.specs.Deciding.{ColumnCommand, by_columns}
+use Rattle.hum_extract.specs.Choice.{Choice, misses, opening_flags}
 
 -- for each exchanged column whether it is chosen
 abbrev pub exchanged_flags : List Bool → List Sign → List Bool
@@ -50,12 +40,8 @@ abbrev pub softened : Bool → List ℕ → List ℕ
 softened lone token = if lone && is_exchange (sign_of token) then codes "*" else token
 
 -- the chosen tokens, each with whether it begins a join of the record
-abbrev pub pieces : Bool → List Bool → List (List ℕ) → List Piece
-pieces after_join (f ∷ flags) (t ∷ tokens) =
-    let joins = is_join (sign_of t) in
-    let rest = pieces joins flags tokens in
-    if f then piece (joins && not after_join) t ∷ rest else rest
-pieces after_join _ _ = []
+abbrev pub pieces : List Bool → List (List ℕ) → List Piece
+pieces flags tokens = chosen flags (each_piece false tokens)
 
 -- what an interpretation becomes where these columns are chosen
 abbrev pub cut : List Bool → List (List ℕ) → Result (List Row) Rule
@@ -64,7 +50,7 @@ cut flags tokens =
     let lone = is_lone (exchanged_flags flags signs) in
     if is_torn flags signs then Err X1
     else if lone && chosen_between flags signs then Err X3
-    else Ok (filled Interpretation (spread (pieces false flags (map (softened lone) tokens))))
+    else Ok (filled Interpretation (spread (pieces flags (map (softened lone) tokens))))
 
 -- what the opening record becomes
 abbrev pub opened : Choice → List (List ℕ) → Result (List Row) Rule
@@ -72,14 +58,16 @@ opened choice tokens =
     if misses choice tokens then Err X2
     else Ok (filled Interpretation (chosen (opening_flags choice tokens) tokens ∷ []))
 
-abbrev pub interpreted :
-    Choice → Path → List Bool → List (List ℕ) → Result (List Row) Rule
-interpreted choice Unopened flags tokens = opened choice tokens
-interpreted choice (Spines names) flags tokens = cut flags tokens
+-- What the command says of columns that are chosen so: a record that isn't an interpretation is left
+-- with its chosen tokens.
+abbrev pub column_command : Choice → ColumnCommand
+column_command choice = record {
+  choose = opening_flags choice;
+  opening = opened choice;
+  later = cut;
+  other = λ flags kind tokens. Ok (filled kind (chosen flags tokens ∷ []));
+}
 
 -- What a record becomes, after those above it, the newest first.
 abbrev pub extract : Choice → List Row → Row → Result (List Row) Rule
-extract choice past (Comment text) = Ok (Comment text ∷ [])
-extract choice past (Spined Interpretation tokens) =
-    interpreted choice (path_after past) (flags choice past) tokens
-extract choice past (Spined kind tokens) = Ok (filled kind (chosen (flags choice past) tokens ∷ []))
+extract choice = by_columns (column_command choice)

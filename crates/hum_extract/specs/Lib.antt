@@ -1,4 +1,4 @@
 pub mod Choice
 pub mod Extract
 pub mod Written
-pub mod Following
+pub mod Kept

@@ -8,7 +8,7 @@ ghost use Rattle.std.specs.Str.{bytes_eq};
 ghost use Rattle.hum_path.specs.Spines.{texts};
 ghost use Rattle.hum_extract.specs.Written.{field_of, range_of, choice_of};
 
-use crate::marks::has_chosen;
+use hum_columns::Marks;
 use hum_record::Record;
 use std::alloc::{AllocError, Global};
 
@@ -129,17 +129,17 @@ impl Choice {
     }
 
     /// The same, unless a field beyond the width is named or no opening spine is chosen.
-    pub(crate) fn marks(&self, alloc: Global, row: &Record) -> Result<Option<Vec<bool>>, AllocError>
+    pub(crate) fn marks(&self, alloc: Global, row: &Record) -> Result<Option<Marks>, AllocError>
         ensures { IfOk result (λ found. MatchOption found
             (misses (choice_of self.now) (tokens_of row.now) ≡ true)
             (λ marks. (misses (choice_of self.now) (tokens_of row.now) ≡ false)
-            × (marks.items ≡ opening_flags (choice_of self.now) (tokens_of row.now)))) }
+            × (marks ≡ opening_flags (choice_of self.now) (tokens_of row.now)))) }
     {
         if self.names_beyond(row.width()) {
             return Ok(None);
         }
-        let marks = self.opening_marks(alloc, row)?;
-        if has_chosen(&marks) {
+        let marks = Marks::new(self.opening_marks(alloc, row)?);
+        if marks.some() {
             Ok(Some(marks))
         } else {
             Ok(None)

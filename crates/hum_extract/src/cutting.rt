@@ -1,50 +1,20 @@
 //! Interpretations of which some columns are dropped.
-ghost use Rattle.std.specs.Prelude.{◌≡◌, [], ◌&&◌, false, length, map, IfOk};
+ghost use Rattle.std.specs.Prelude.{◌≡◌, [], length, map, IfOk};
 ghost use Rattle.hum_record.specs.Row.{Spined, tokens_of, width_of, text_of};
 ghost use Rattle.hum_record.specs.declared.SpinedKind.TheVariants.{Interpretation};
 ghost use Rattle.hum_record.specs.Spelling.{IsTextOf};
 ghost use Rattle.hum_path.specs.Sign.{sign_of};
-ghost use Rattle.hum_extract.specs.Extract.{differ, is_torn, exchanged_flags, is_lone};
-ghost use Rattle.hum_extract.specs.Extract.{chosen_between, softened, pieces, cut};
-ghost use Rattle.hum_extract.specs.Following.{Answers};
+ghost use Rattle.hum_columns.specs.Following.{AnswersInRoom};
+ghost use Rattle.hum_extract.specs.Extract.{exchanged_flags, is_lone, chosen_between};
+ghost use Rattle.hum_extract.specs.Extract.{softened, pieces, cut};
 
+use hum_columns::{is_torn, write_pieces};
 use hum_path::token_sign;
 use hum_record::Record;
-use hum_spread::{Piece, spread};
+use hum_spread::Piece;
 use hum_stage::Rule;
 use std::alloc::{AllocError, Global};
 use std::collections::VecDeque;
-
-fn differ(a: bool, b: bool) -> bool
-    ensures { result ≡ differ a b }
-{
-    a != b
-}
-
-/// Whether neighbours tear a join: both join, and one is chosen and the other isn't.
-fn tears(left_joins: bool, left: bool, joins: bool, mark: bool) -> bool
-    ensures { result ≡ (left_joins && (joins && differ left mark)) }
-{
-    left_joins && joins && differ(left, mark)
-}
-
-/// Whether one join has chosen and dropped columns.
-fn is_torn(marks: &[bool], row: &Record) -> bool
-    requires { length marks.now ≡ width_of row.now }
-    ensures { result ≡ is_torn marks.now (map sign_of (tokens_of row.now)) }
-{
-    let mut left_joins = false;
-    let mut left = false;
-    for (j, mark) in marks.iter().enumerate() {
-        let joins = token_sign(row.token(j)).is_join();
-        if tears(left_joins, left, joins, *mark) {
-            return true;
-        }
-        left_joins = joins;
-        left = *mark;
-    }
-    false
-}
 
 /// Whether of the exchanged columns one is chosen and the other isn't.
 fn is_lone(marks: &[bool], row: &Record) -> bool
@@ -57,7 +27,7 @@ fn is_lone(marks: &[bool], row: &Record) -> bool
         if token_sign(row.token(j)).is_exchange() {
             match first {
                 None => first = Some(*mark),
-                Some(other) => return differ(other, *mark),
+                Some(other) => return other != *mark,
             }
         }
     }
@@ -103,7 +73,7 @@ fn kept_pieces<'r>(
 ) -> Result<Vec<Piece<'r>>, AllocError>
     requires { length marks.now ≡ width_of row.now }
     ensures { IfOk result (λ kept. kept.items
-        ≡ pieces false marks.now (map (softened lone) (tokens_of row.now))) }
+        ≡ pieces marks.now (map (softened lone) (tokens_of row.now))) }
 {
     let mut kept = Vec::new(alloc);
     let mut after_join = false;
@@ -130,7 +100,7 @@ pub fn cut(
     requires lawful { IsTextOf row.now (text_of row.now) }
     requires as_wide { length marks.now ≡ width_of row.now }
     requires empty { out.old.items ≡ [] }
-    ensures { IfOk result (Answers (cut marks.now (tokens_of row.now)) room out.new.items) }
+    ensures { IfOk result (AnswersInRoom (cut marks.now (tokens_of row.now)) room out.new.items) }
 {
     if is_torn(marks, row) {
         return Ok(Some(Rule::X1));
@@ -140,9 +110,5 @@ pub fn cut(
         return Ok(Some(Rule::X3));
     }
     let pieces = kept_pieces(alloc, marks, lone, row)?;
-    if spread(alloc, &pieces, room, out)? {
-        Ok(None)
-    } else {
-        Ok(Some(Rule::L2))
-    }
+    write_pieces(alloc, &pieces, room, out)
 }

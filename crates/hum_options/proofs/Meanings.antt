@@ -4,7 +4,7 @@ use Rattle.std.specs.Prelude.{ℤ, unwrap_or}
 use Rattle.std.specs.Option.{option_map}
 use Rattle.hum_extract.specs.Choice as choice
 use Rattle.hum_yank.specs.declared.options.YankRange.{YankRange}
-use Rattle.hum_options.specs.declared.tools.Tool.TheVariants as tool
+use Rattle.hum_stage.specs.declared.faults.Command.TheVariants as command
 use Rattle.hum_options.specs.Meant.{Given, without, get, Span, Phrase, Markers, Occurrences, Context, Trans, Yank, Cleave, both}
 use Rattle.hum_options.specs.Meant.{as_fields, as_names, as_name, as_text, as_ranges, as_pattern, as_count, as_steps, as_semitones}
 use Rattle.hum_options.specs.Meant.{choice_meant, phrase_meant, span_meant, labels_meant, occurrences_meant, numbers_meant, markers_meant, separator_meant, meant}
@@ -36,13 +36,13 @@ span-without given =
 
 pub context_taken : (given new : List Given) (omit : Option (List ℕ)) (found : Option Span)
     → omit ≡ get as_pattern (codes "o") given → found ≡ span_meant new → new ≡ without 111 given
-    → option_map (λ span. Context span omit) found ≡ meant tool.Context given
+    → option_map (λ span. Context span omit) found ≡ meant command.Context given
 context_taken given new omit found first second rest =
     rw (← first) (ap (option_map (λ span. Context span omit)) (second ∙ ap span_meant rest ∙ span-without given))
 
 pub trans_taken : (given new : List Given) (steps : ℤ) (semitones : Option ℤ)
     → Some steps ≡ get as_steps (codes "d") given → semitones ≡ get as_semitones (codes "c") new
-    → new ≡ without 100 given → option_map (Trans steps) semitones ≡ meant tool.Trans given
+    → new ≡ without 100 given → option_map (Trans steps) semitones ≡ meant command.Trans given
 trans_taken given new steps semitones first second rest =
     rw (← first) (ap (option_map (Trans steps)) (second ∙ kept as_semitones 99 100 given new rest refl))
 
@@ -86,20 +86,20 @@ both_there (Some markers) ranges = refl
 
 pub yank_taken : (given new : List Given) (ranges : List YankRange) (found : Option Markers)
     → Some ranges ≡ get as_ranges (codes "r") given → found ≡ markers_meant new → new ≡ without 114 given
-    → option_map (λ markers. Yank markers ranges) found ≡ meant tool.Yank given
+    → option_map (λ markers. Yank markers ranges) found ≡ meant command.Yank given
 yank_taken given new ranges found first second rest =
     rw (← first) (both_there found ranges
     ∙ ap (λ m. both Yank m (Some ranges)) (second ∙ ap markers_meant rest ∙ markers-without given))
 
 pub cleave_lacking : (given new : List Given) (name : List ℕ) → Some name ≡ get as_name (codes "i") given
-    → None ≡ get as_name (codes "o") new → new ≡ without 105 given → None ≡ meant tool.Cleave given
+    → None ≡ get as_name (codes "o") new → new ≡ without 105 given → None ≡ meant command.Cleave given
 cleave_lacking given new name first second rest =
     let none = second ∙ kept as_name 111 105 given new rest refl in rw (← first, ← none) refl
 
 pub cleave_taken : (given new newer : List Given) (name new_name separator : List ℕ)
     → Some name ≡ get as_name (codes "i") given → Some new_name ≡ get as_name (codes "o") new
     → new ≡ without 105 given → separator ≡ separator_meant newer → newer ≡ without 111 new
-    → Some (Cleave (record { name = name; new_name = new_name; separator = separator })) ≡ meant tool.Cleave given
+    → Some (Cleave (record { name = name; new_name = new_name; separator = separator })) ≡ meant command.Cleave given
 cleave_taken given new newer name new_name separator first second rest third others =
     let is = second ∙ kept as_name 111 105 given new rest refl in
     let between = third ∙ ap (λ o. unwrap_or o (codes " "))

@@ -3,7 +3,7 @@ use Rattle.std.proofs.Common.{◌≡◌, ℕ, List, [], ◌∷◌, true, false, 
 use denote.Ref.{Bor}
 use Rattle.hum_words.specs.declared.cutting.Piece.{Piece}
 use Rattle.hum_words.specs.declared.cutting.Piece.TheVariants as piece
-use Rattle.hum_options.specs.declared.tools.Tool.{Tool}
+use Rattle.hum_stage.specs.declared.faults.Command.{Command}
 use Rattle.hum_options.specs.declared.options.Kind.{Kind}
 use Rattle.hum_options.specs.declared.options.CommandOption.{CommandOption}
 use Rattle.hum_options.specs.declared.values.Value.{Value as WrittenValue}
@@ -42,65 +42,65 @@ pub valued : (m : ℕ) (Goes : Value → Type 0) (kind : Kind) (text : List ℕ)
 valued m Goes kind text value answer read goes =
     rw read.0 (sound m Goes (seen value) answer read.1 goes)
 
-moved : (tool : Tool) (n : ℕ) (old new : List Given) (turn : Turn) (words : List Word) (answer : Answer)
-    → new ≡ old → Answers tool n new turn words answer → Answers tool n old turn words answer
-moved tool n old new turn words answer is h =
-    let P : List Given → Type 0 = λ given. Answers tool n given turn words answer in subst P is h
+moved : (command : Command) (n : ℕ) (old new : List Given) (turn : Turn) (words : List Word) (answer : Answer)
+    → new ≡ old → Answers command n new turn words answer → Answers command n old turn words answer
+moved command n old new turn words answer is h =
+    let P : List Given → Type 0 = λ given. Answers command n given turn words answer in subst P is h
 
 -- a value that was read, and what comes behind it
-pub value_goes : (tool : Tool) (n k m : ℕ) (old new : List Given) (option : CommandOption) (text : List ℕ)
+pub value_goes : (command : Command) (n k m : ℕ) (old new : List Given) (option : CommandOption) (text : List ℕ)
     (words : List Word) (value : WrittenValue) (answer : Answer) → GivesValue option.kind text (Ok value)
-    → new ≡ with_value old option (seen value) → Answers tool n new Free words answer
-    → Answers tool n old (Awaits k option) ((m, text) ∷ words) answer
+    → new ≡ with_value old option (seen value) → Answers command n new Free words answer
+    → Answers command n old (Awaits k option) ((m, text) ∷ words) answer
 unfolding Answers
-value_goes tool n k m old new option text words value answer read is goes =
-    valued m (λ v. Answers tool n (with_value old option v) Free words answer) option.kind text value answer read
-    (moved tool n (with_value old option (seen value)) new Free words answer is goes)
+value_goes command n k m old new option text words value answer read is goes =
+    valued m (λ v. Answers command n (with_value old option v) Free words answer) option.kind text value answer read
+    (moved command n (with_value old option (seen value)) new Free words answer is goes)
 
 -- a value that wasn't
-pub value_fails : (tool : Tool) (n k m : ℕ) (old : List Given) (option : CommandOption) (text : List ℕ)
+pub value_fails : (command : Command) (n k m : ℕ) (old : List Given) (option : CommandOption) (text : List ℕ)
     (words : List Word) (error : ValueError) (Behind : Turn → Answer → Type 0)
     → GivesValue option.kind text (Err error)
-    → GoesOn (Answers tool n old (Awaits k option) ((m, text) ∷ words)) Behind (Err (value_fault m error))
+    → GoesOn (Answers command n old (Awaits k option) ((m, text) ∷ words)) Behind (Err (value_fault m error))
 unfolding Answers
-value_fails tool n k m old option text words Grammar Behind read = rw read refl
-value_fails tool n k m old option text words (Refused refusal) Behind read =
+value_fails command n k m old option text words Grammar Behind read = rw read refl
+value_fails command n k m old option text words (Refused refusal) Behind read =
     rw read.0 (inr (refusal, read.1, refl))
-value_fails tool n k m old option text words NoMemory Behind read = tt
+value_fails command n k m old option text words NoMemory Behind read = tt
 
 -- a word that is no option that may come
-pub option_fails : (tool : Tool) (n k : ℕ) (old : List Given) (word : List ℕ) (words : List Word)
-    → None ≡ next_option tool old word → Answers tool n old Free ((k, word) ∷ words) (fault k N8)
+pub option_fails : (command : Command) (n k : ℕ) (old : List Given) (word : List ℕ) (words : List Word)
+    → None ≡ next_option command old word → Answers command n old Free ((k, word) ∷ words) (fault k N8)
 unfolding Answers
-option_fails tool n k old word words none = rw (← none) refl
+option_fails command n k old word words none = rw (← none) refl
 
 -- an option that stands alone, and what comes behind it
-pub option_goes : (tool : Tool) (n k : ℕ) (old new : List Given) (word : List ℕ) (words : List Word)
-    (option : CommandOption) (answer : Answer) → Some option ≡ next_option tool old word
+pub option_goes : (command : Command) (n k : ℕ) (old new : List Given) (word : List ℕ) (words : List Word)
+    (option : CommandOption) (answer : Answer) → Some option ≡ next_option command old word
     → is_alone option.kind ≡ true → new ≡ with_value old option Nothing
-    → Answers tool n new Free words answer → Answers tool n old Free ((k, word) ∷ words) answer
+    → Answers command n new Free words answer → Answers command n old Free ((k, word) ∷ words) answer
 unfolding Answers
-option_goes tool n k old new word words option answer found alone is goes =
-    rw (← found, alone) (moved tool n (with_value old option Nothing) new Free words answer is goes)
+option_goes command n k old new word words option answer found alone is goes =
+    rw (← found, alone) (moved command n (with_value old option Nothing) new Free words answer is goes)
 
 -- an option that takes a value
-pub option_awaits : (tool : Tool) (n k : ℕ) (old : List Given) (word : List ℕ) (words : List Word)
-    (option : CommandOption) (answer : Answer) → Some option ≡ next_option tool old word
+pub option_awaits : (command : Command) (n k : ℕ) (old : List Given) (word : List ℕ) (words : List Word)
+    (option : CommandOption) (answer : Answer) → Some option ≡ next_option command old word
     → is_alone option.kind ≡ false
-    → Answers tool n old (Awaits k option) words answer → Answers tool n old Free ((k, word) ∷ words) answer
+    → Answers command n old (Awaits k option) words answer → Answers command n old Free ((k, word) ∷ words) answer
 unfolding Answers
-option_awaits tool n k old word words option answer found alone goes = rw (← found, alone) goes
+option_awaits command n k old word words option answer found alone goes = rw (← found, alone) goes
 
 -- the end of the words
-pub ended : (tool : Tool) (n : ℕ) (given : List Given) (found : Option Options) → found ≡ meant tool given
-    → Answers tool n given Free [] (together n found)
+pub ended : (command : Command) (n : ℕ) (given : List Given) (found : Option Options) → found ≡ meant command given
+    → Answers command n given Free [] (together n found)
 unfolding Answers
-ended tool n given found is = ap (together n) is
+ended command n given found is = ap (together n) is
 
-pub value_lacks : (tool : Tool) (n k : ℕ) (given : List Given) (option : CommandOption)
-    → Answers tool n given (Awaits k option) [] (fault k N9)
+pub value_lacks : (command : Command) (n k : ℕ) (given : List Given) (option : CommandOption)
+    → Answers command n given (Awaits k option) [] (fault k N9)
 unfolding Answers
-value_lacks tool n k given option = refl
+value_lacks command n k given option = refl
 
 -- a fault that was found behind a front of the words
 pub passed : (Lawful Before : Answer → Type 0) (Behind : Turn → Answer → Type 0) (error : OptionError)
@@ -118,14 +118,14 @@ word_at pieces i k d word within is =
     ∙ ap (λ p. words_of (p ∷ drop (suc i) pieces)) is
 
 -- a fault of that word, behind a front of the words
-pub word_fails : (Before : Answer → Type 0) (Behind : Turn → Answer → Type 0) (tool : Tool) (n : ℕ)
+pub word_fails : (Before : Answer → Type 0) (Behind : Turn → Answer → Type 0) (command : Command) (n : ℕ)
     (given : List Given) (turn : Turn) (pieces : List Piece) (i k : ℕ) (d : Piece) (word : Bor (List ℕ))
     (error : OptionError) → i < length pieces → get_or pieces i d ≡ piece.Word k word
-    → GoesOn (Answers tool n given turn ((k, word.now) ∷ words_of (drop (suc i) pieces))) Behind (Err error)
-    → ((answer : Answer) → Answers tool n given turn (words_of (drop i pieces)) answer → Before answer)
+    → GoesOn (Answers command n given turn ((k, word.now) ∷ words_of (drop (suc i) pieces))) Behind (Err error)
+    → ((answer : Answer) → Answers command n given turn (words_of (drop i pieces)) answer → Before answer)
     → Tells Before (Err error)
-word_fails Before Behind tool n given turn pieces i k d word error within is h front =
-    passed (Answers tool n given turn ((k, word.now) ∷ words_of (drop (suc i) pieces))) Before Behind error h
+word_fails Before Behind command n given turn pieces i k d word error within is h front =
+    passed (Answers command n given turn ((k, word.now) ∷ words_of (drop (suc i) pieces))) Before Behind error h
     (λ answer lawful.
-    let P : List Word → Type 0 = λ words. Answers tool n given turn words answer in
+    let P : List Word → Type 0 = λ words. Answers command n given turn words answer in
     front answer (subst P (sym (word_at pieces i k d word within is)) lawful))

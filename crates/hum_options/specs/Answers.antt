@@ -5,8 +5,8 @@ use Rattle.std.specs.Prelude.{MatchBool}
 use Rattle.std.specs.List.{list_any}
 use Rattle.std.specs.Option.{option_or}
 use lib.Chars.{codes}
-use Rattle.hum_options.specs.declared.tools.Tool.{Tool}
-use Rattle.hum_options.specs.declared.tools.Tool.TheVariants as tool
+use Rattle.hum_stage.specs.declared.faults.Command.{Command}
+use Rattle.hum_stage.specs.declared.faults.Command.TheVariants as command
 use Rattle.hum_options.specs.declared.options.Kind.{Kind}
 use Rattle.hum_options.specs.declared.options.Kind.TheVariants as kind
 use Rattle.hum_options.specs.declared.options.CommandOption.{CommandOption}
@@ -34,20 +34,20 @@ abbrev pub fault : ℕ → OptionRule → Answer
 fault number rule = Err (record { word = number; rule = rule })
 
 -- whether an option that was given has the letter or excludes that of the letter
-abbrev pub bars : Tool → ℕ → Given → Bool
-bars tool b given = given.letter == b || excludes tool given.letter b
+abbrev pub bars : Command → ℕ → Given → Bool
+bars command b given = given.letter == b || excludes command given.letter b
 
-abbrev pub is_barred : Tool → List Given → ℕ → Bool
-is_barred tool given b = list_any (bars tool b) given
+abbrev pub is_barred : Command → List Given → ℕ → Bool
+is_barred command given b = list_any (bars command b) given
 
-abbrev pub unless_barred : Tool → List Given → Option CommandOption → Option CommandOption
-unless_barred tool given None = None
-unless_barred tool given (Some option) =
-    if is_barred tool given option.letter then None else Some option
+abbrev pub unless_barred : Command → List Given → Option CommandOption → Option CommandOption
+unless_barred command given None = None
+unless_barred command given (Some option) =
+    if is_barred command given option.letter then None else Some option
 
 -- the option that a word is, if it may come behind those that were given
-abbrev pub next_option : Tool → List Given → List ℕ → Option CommandOption
-next_option tool given word = unless_barred tool given (option_of tool word)
+abbrev pub next_option : Command → List Given → List ℕ → Option CommandOption
+next_option command given word = unless_barred command given (option_of command word)
 
 abbrev pub is_alone : Kind → Bool
 is_alone kind.Alone = true
@@ -81,14 +81,14 @@ AtValue n Goes (Some value) answer = Goes value
 
 -- The answer to words, behind options that were given, by the first rule that is broken. The
 -- command is word n.
-unfoldable pub Answers : Tool → ℕ → List Given → Turn → List Word → Answer → Type 0
-Answers tool n given Free [] answer = answer ≡ together n (meant tool given)
-Answers tool n given (Awaits k option) [] answer = answer ≡ fault k N9
-Answers tool n given Free ((k, word) ∷ words) answer =
-    AtOption k given (λ next turn. Answers tool n next turn words answer)
-    (next_option tool given word) answer
-Answers tool n given (Awaits k option) ((m, text) ∷ words) answer =
-    AtValue m (λ value. Answers tool n (with_value given option value) Free words answer)
+unfoldable pub Answers : Command → ℕ → List Given → Turn → List Word → Answer → Type 0
+Answers command n given Free [] answer = answer ≡ together n (meant command given)
+Answers command n given (Awaits k option) [] answer = answer ≡ fault k N9
+Answers command n given Free ((k, word) ∷ words) answer =
+    AtOption k given (λ next turn. Answers command n next turn words answer)
+    (next_option command given word) answer
+Answers command n given (Awaits k option) ((m, text) ∷ words) answer =
+    AtValue m (λ value. Answers command n (with_value given option value) Free words answer)
     (value_of option.kind text) answer
 
 -- The fault of a word of rid: it isn't of letters, or it drops all interpretations and the stage isn't
@@ -122,12 +122,12 @@ abbrev pub rid_answer : ℕ → Bool → List Word → Answer
 rid_answer n is_last words =
     if has_none words then fault n N9 else rid_of words (rid_fault is_last words)
 
-abbrev pub is_rid : Tool → Bool
-is_rid tool.Rid = true
+abbrev pub is_rid : Command → Bool
+is_rid command.Rid = true
 is_rid _ = false
 
 -- The answer to the words behind a command that is word n, by whether its stage is the plan's last.
-abbrev pub IsAnswer : Tool → ℕ → Bool → List Word → Answer → Type 0
-IsAnswer tool n is_last words answer =
-    MatchBool (is_rid tool) (answer ≡ rid_answer n is_last words)
-    (Answers tool n [] Free words answer)
+abbrev pub IsAnswer : Command → ℕ → Bool → List Word → Answer → Type 0
+IsAnswer command n is_last words answer =
+    MatchBool (is_rid command) (answer ≡ rid_answer n is_last words)
+    (Answers command n [] Free words answer)

@@ -13,8 +13,8 @@ use Rattle.hum_tones.specs.declared.minting.MintOptions.{MintOptions}
 use Rattle.hum_tones.specs.declared.semits.SemitsOptions.{SemitsOptions}
 use Rattle.hum_yank.specs.declared.options.YankRange.{YankRange}
 use Rattle.hum_cleave.specs.Cleave as cleave
-use Rattle.hum_options.specs.declared.tools.Tool.{Tool}
-use Rattle.hum_options.specs.declared.tools.Tool.TheVariants as tool
+use Rattle.hum_stage.specs.declared.faults.Command.{Command}
+use Rattle.hum_stage.specs.declared.faults.Command.TheVariants as command
 use Rattle.hum_options.specs.Options.{letter}
 use Rattle.hum_options.specs.Values.{Value, Fields, Names, Name, Text, Ranges, Label}
 use Rattle.hum_options.specs.Values.{Pattern, Count, Steps, Semitones, Duration}
@@ -187,17 +187,19 @@ semits_meant given =
 
 -- What the options that were given mean together: nothing where one that the command requires is
 -- missing. The words of rid are no such options.
-abbrev pub meant : Tool → List Given → Option Options
-meant tool.Rid given = None
-meant tool.Extract given = option_map Extract (choice_meant given)
-meant tool.Ditto given = Some (Ditto (ditto_meant given))
-meant tool.Timebase given = option_map Timebase (get as_duration (codes "t") given)
-meant tool.Context given =
+abbrev pub meant : Command → List Given → Option Options
+meant command.Read given = None
+meant command.Assemble given = None
+meant command.Rid given = None
+meant command.Extract given = option_map Extract (choice_meant given)
+meant command.Ditto given = Some (Ditto (ditto_meant given))
+meant command.Timebase given = option_map Timebase (get as_duration (codes "t") given)
+meant command.Context given =
     option_map (λ span. Context span (get as_pattern (codes "o") given)) (span_meant given)
-meant tool.Trans given =
+meant command.Trans given =
     both Trans (get as_steps (codes "d") given) (get as_semitones (codes "c") given)
-meant tool.Semits given = option_map Semits (semits_meant given)
-meant tool.Mint given = Some (Mint (mint_meant given))
-meant tool.Recip given = Some Recip
-meant tool.Yank given = both Yank (markers_meant given) (get as_ranges (codes "r") given)
-meant tool.Cleave given = option_map Cleave (cleave_meant given)
+meant command.Semits given = option_map Semits (semits_meant given)
+meant command.Mint given = Some (Mint (mint_meant given))
+meant command.Recip given = Some Recip
+meant command.Yank given = both Yank (markers_meant given) (get as_ranges (codes "r") given)
+meant command.Cleave given = option_map Cleave (cleave_meant given)

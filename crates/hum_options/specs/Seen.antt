@@ -17,8 +17,8 @@ use Rattle.hum_options.specs.declared.grammar.ValueError.{ValueError}
 use Rattle.hum_options.specs.declared.grammar.ValueError.TheVariants.{Grammar, Pattern as Refused}
 use Rattle.hum_options.specs.declared.grammar.ValueError.TheVariants.{Memory as NoMemory}
 use Rattle.hum_options.specs.declared.given.GivenOption.{GivenOption}
-use Rattle.hum_options.specs.declared.together.CommandOptions.{CommandOptions}
-use Rattle.hum_options.specs.declared.together.CommandOptions.TheVariants as command
+use Rattle.hum_commands.specs.declared.options.CommandOptions.{CommandOptions}
+use Rattle.hum_commands.specs.declared.options.CommandOptions.TheVariants as told
 use Rattle.hum_options.specs.declared.reading.Turn.{Turn}
 use Rattle.hum_options.specs.declared.faults.OptionError.{OptionError}
 use Rattle.hum_options.specs.declared.faults.OptionError.TheVariants as failed
@@ -70,17 +70,17 @@ markers_of (markers.Labels text) = Labels text.items
 
 -- options, wherever their lists lie
 abbrev pub options_of : CommandOptions → Options
-options_of (command.Rid options) = Rid options
-options_of (command.Extract choice) = Extract (choice_of choice)
-options_of (command.Ditto options) = Ditto options
-options_of (command.Timebase options) = Timebase (pace_of options)
-options_of (command.Context options) = Context (span_of options.span) options.omit
-options_of (command.Trans options) = Trans options.steps options.semitones
-options_of (command.Semits options) = Semits options
-options_of (command.Mint options) = Mint options
-options_of (command.Recip options) = Recip
-options_of (command.Yank options) = Yank (markers_of options.markers) options.ranges.items
-options_of (command.Cleave options) = Cleave options
+options_of (told.Rid options) = Rid options
+options_of (told.Extract choice) = Extract (choice_of choice)
+options_of (told.Ditto options) = Ditto options
+options_of (told.Timebase options) = Timebase (pace_of options)
+options_of (told.Context options) = Context (span_of options.span) options.omit
+options_of (told.Trans options) = Trans options.steps options.semitones
+options_of (told.Semits options) = Semits options
+options_of (told.Mint options) = Mint options
+options_of (told.Recip options) = Recip
+options_of (told.Yank options) = Yank (markers_of options.markers) options.ranges.items
+options_of (told.Cleave options) = Cleave options
 
 -- the words up to the next bar, with their numbers
 abbrev pub words_before_bar : List Item → List Word

@@ -12,11 +12,11 @@ ghost use Rattle.hum_options.specs.Seen.{seen, given_of};
 ghost use Rattle.hum_timebase.specs.Following.{pace_of};
 
 use crate::options::excludes;
-use crate::tools::Tool;
 use crate::values::{Name, Semitones, Separator, Steps, Value};
 use hum_context::TokenCount;
 use hum_extract::FieldRange;
 use hum_pattern::Pattern;
+use hum_stage::Command;
 use hum_timebase::TimebaseOptions;
 use hum_yank::YankRange;
 use std::alloc::{AllocError, Global};
@@ -31,17 +31,17 @@ pub(crate) struct GivenOption {
 
 impl GivenOption {
     /// Whether it is the option of a letter or excludes it.
-    fn bars(&self, tool: Tool, letter: u8) -> bool
-        ensures { result ≡ bars tool letter (given_of self.now) }
+    fn bars(&self, command: Command, letter: u8) -> bool
+        ensures { result ≡ bars command letter (given_of self.now) }
     {
-        self.letter == letter || excludes(tool, self.letter, letter)
+        self.letter == letter || excludes(command, self.letter, letter)
     }
 }
 
-fn are_barring(entries: &[GivenOption], tool: Tool, letter: u8) -> bool
-    ensures { result ≡ list_any (λ g. bars tool letter (given_of g)) entries.now }
+fn are_barring(entries: &[GivenOption], command: Command, letter: u8) -> bool
+    ensures { result ≡ list_any (λ g. bars command letter (given_of g)) entries.now }
 {
-    entries.iter().any(|given| given.bars(tool, letter))
+    entries.iter().any(|given| given.bars(command, letter))
 }
 
 /// Where the first option of a letter stands.
@@ -87,10 +87,10 @@ impl GivenOptions {
     }
 
     /// Whether the option of a letter was given, or one that excludes it.
-    pub(crate) fn is_barred(&self, tool: Tool, letter: u8) -> bool
-        ensures { result ≡ is_barred tool self.now letter }
+    pub(crate) fn is_barred(&self, command: Command, letter: u8) -> bool
+        ensures { result ≡ is_barred command self.now letter }
     {
-        are_barring(&self.entries, tool, letter)
+        are_barring(&self.entries, command, letter)
     }
 
     /// Whether the option of a letter was given.

@@ -8,7 +8,7 @@ ghost use Rattle.hum_options.specs.Answers.{rid_answer};
 ghost use Rattle.hum_options.specs.Seen.{words_of, Tells};
 
 use crate::faults::{OptionError, OptionFault, OptionRule};
-use crate::together::CommandOptions;
+use hum_commands::CommandOptions;
 use hum_rid::RidOptions;
 use hum_words::Piece;
 

@@ -16,13 +16,10 @@ mod letters;
 mod options;
 mod reading;
 mod together;
-mod tools;
 mod values;
 
 pub use faults::{OptionError, OptionFault, OptionRule, Refusal};
 pub use reading::read_options;
-pub use together::CommandOptions;
-pub use tools::Tool;
 
 #[cfg(test)]
 mod tests;

@@ -4,7 +4,7 @@ ghost use Rattle.std.specs.List.{find};
 ghost use Rattle.hum_options.specs.Options.{table, is_spelled, option_of, excludes, are_in};
 ghost use Rattle.hum_options.specs.Answers.{is_alone};
 
-use crate::tools::Tool;
+use hum_stage::Command;
 
 /// What an option's value is.
 #[derive(Clone, Copy, Debug, PartialEq, Eq)]
@@ -43,12 +43,14 @@ pub(crate) struct CommandOption {
 }
 
 /// The options of a command. Those of rid are words of letters.
-fn table(tool: Tool) -> &'static [CommandOption]
-    ensures { result.now ≡ table tool }
+fn table(command: Command) -> &'static [CommandOption]
+    ensures { result.now ≡ table command }
 {
-    match tool {
-        Tool::Rid => &[],
-        Tool::Extract => &[
+    match command {
+        Command::Read => &[],
+        Command::Assemble => &[],
+        Command::Rid => &[],
+        Command::Extract => &[
             CommandOption {
                 letter: b'f',
                 kind: Kind::Fields,
@@ -58,7 +60,7 @@ fn table(tool: Tool) -> &'static [CommandOption]
                 kind: Kind::Names,
             },
         ],
-        Tool::Ditto => &[
+        Command::Ditto => &[
             CommandOption {
                 letter: b's',
                 kind: Kind::Pattern,
@@ -68,11 +70,11 @@ fn table(tool: Tool) -> &'static [CommandOption]
                 kind: Kind::Alone,
             },
         ],
-        Tool::Timebase => &[CommandOption {
+        Command::Timebase => &[CommandOption {
             letter: b't',
             kind: Kind::Duration,
         }],
-        Tool::Context => &[
+        Command::Context => &[
             CommandOption {
                 letter: b'n',
                 kind: Kind::Count,
@@ -90,7 +92,7 @@ fn table(tool: Tool) -> &'static [CommandOption]
                 kind: Kind::Pattern,
             },
         ],
-        Tool::Trans => &[
+        Command::Trans => &[
             CommandOption {
                 letter: b'd',
                 kind: Kind::Steps,
@@ -100,7 +102,7 @@ fn table(tool: Tool) -> &'static [CommandOption]
                 kind: Kind::Semitones,
             },
         ],
-        Tool::Semits => &[
+        Command::Semits => &[
             CommandOption {
                 letter: b'x',
                 kind: Kind::Alone,
@@ -110,7 +112,7 @@ fn table(tool: Tool) -> &'static [CommandOption]
                 kind: Kind::Alone,
             },
         ],
-        Tool::Mint => &[
+        Command::Mint => &[
             CommandOption {
                 letter: b'a',
                 kind: Kind::Alone,
@@ -124,8 +126,8 @@ fn table(tool: Tool) -> &'static [CommandOption]
                 kind: Kind::Pattern,
             },
         ],
-        Tool::Recip => &[],
-        Tool::Yank => &[
+        Command::Recip => &[],
+        Command::Yank => &[
             CommandOption {
                 letter: b'l',
                 kind: Kind::Alone,
@@ -151,7 +153,7 @@ fn table(tool: Tool) -> &'static [CommandOption]
                 kind: Kind::Ranges,
             },
         ],
-        Tool::Cleave => &[
+        Command::Cleave => &[
             CommandOption {
                 letter: b'i',
                 kind: Kind::Name,
@@ -178,10 +180,10 @@ impl CommandOption {
 }
 
 /// The option that a word is, if it is one of the command.
-pub(crate) fn option_of(tool: Tool, word: &[u8]) -> Option<CommandOption>
-    ensures { result ≡ option_of tool word.now }
+pub(crate) fn option_of(command: Command, word: &[u8]) -> Option<CommandOption>
+    ensures { result ≡ option_of command word.now }
 {
-    table(tool)
+    table(command)
         .iter()
         .copied()
         .find(|option| option.is_spelled(word))
@@ -195,13 +197,13 @@ fn are_in(a: u8, b: u8, group: &[u8]) -> bool
 }
 
 /// Whether a stage has at most one of the options of these letters.
-pub(crate) fn excludes(tool: Tool, a: u8, b: u8) -> bool
-    ensures { result ≡ excludes tool a b }
+pub(crate) fn excludes(command: Command, a: u8, b: u8) -> bool
+    ensures { result ≡ excludes command a b }
 {
-    match tool {
-        Tool::Extract => are_in(a, b, b"fi"),
-        Tool::Context => are_in(a, b, b"nb") || are_in(a, b, b"ne"),
-        Tool::Yank => are_in(a, b, b"lnos") || are_in(a, b, b"lnse"),
+    match command {
+        Command::Extract => are_in(a, b, b"fi"),
+        Command::Context => are_in(a, b, b"nb") || are_in(a, b, b"ne"),
+        Command::Yank => are_in(a, b, b"lnos") || are_in(a, b, b"lnse"),
         _ => false,
     }
 }

@@ -1,6 +1,6 @@
 //! Words, read as options.
 ghost use Rattle.std.specs.Prelude.{◌≡◌, ◌∷◌, [], List, ℕ};
-ghost use Rattle.hum_options.specs.declared.tools.Tool.{Tool};
+ghost use Rattle.hum_stage.specs.declared.faults.Command.{Command};
 ghost use Rattle.hum_options.specs.declared.reading.Turn.TheVariants.{Free, Awaits};
 ghost use Rattle.hum_options.specs.Answers.{Word, next_option, Answers, IsAnswer};
 ghost use Rattle.hum_options.specs.Seen.{words_of, value_fault, GoesOn, Tells};
@@ -10,9 +10,10 @@ use crate::given::GivenOptions;
 use crate::grammar::{ValueError, read_value};
 use crate::letters::read_letters;
 use crate::options::{CommandOption, option_of};
-use crate::together::{CommandOptions, put_together};
-use crate::tools::Tool;
+use crate::together::put_together;
 use crate::values::Value;
+use hum_commands::CommandOptions;
+use hum_stage::Command;
 use hum_words::Piece;
 use std::alloc::Global;
 
@@ -26,11 +27,11 @@ enum Turn {
 }
 
 /// The option that a word is, if it may come behind those that were given.
-fn next_option(tool: Tool, given: &GivenOptions, word: &str) -> Option<CommandOption>
-    ensures { result ≡ next_option tool given.now word.now }
+fn next_option(command: Command, given: &GivenOptions, word: &str) -> Option<CommandOption>
+    ensures { result ≡ next_option command given.now word.now }
 {
-    let option = option_of(tool, word.as_bytes())?;
-    if given.is_barred(tool, option.letter) {
+    let option = option_of(command, word.as_bytes())?;
+    if given.is_barred(command, option.letter) {
         None
     } else {
         Some(option)
@@ -62,9 +63,9 @@ fn at_value(
     number: u32,
     text: &str,
 ) -> Result<Turn, OptionError>
-    ensures { (tool : Tool) (n : ℕ) (k : ℕ) (words : List Word) → GoesOn
-        (Answers tool n given.old (Awaits k option) ((number, text.now) ∷ words))
-        (λ turn. Answers tool n given.new turn words) result }
+    ensures { (command : Command) (n : ℕ) (k : ℕ) (words : List Word) → GoesOn
+        (Answers command n given.old (Awaits k option) ((number, text.now) ∷ words))
+        (λ turn. Answers command n given.new turn words) result }
 {
     match read_value(alloc, option.kind, text) {
         Ok(value) => {
@@ -77,16 +78,16 @@ fn at_value(
 
 /// Takes a word as an option.
 fn at_option(
-    tool: Tool,
+    command: Command,
     given: &mut GivenOptions,
     number: u32,
     word: &str,
 ) -> Result<Turn, OptionError>
     ensures { (n : ℕ) (words : List Word) → GoesOn
-        (Answers tool n given.old Free ((number, word.now) ∷ words))
-        (λ turn. Answers tool n given.new turn words) result }
+        (Answers command n given.old Free ((number, word.now) ∷ words))
+        (λ turn. Answers command n given.new turn words) result }
 {
-    let Some(option) = next_option(tool, given, word) else {
+    let Some(option) = next_option(command, given, word) else {
         return Err(OptionError::Fault(OptionFault {
             word: number,
             rule: OptionRule::N8,
@@ -102,18 +103,18 @@ fn at_option(
 
 fn at_word(
     alloc: Global,
-    tool: Tool,
+    command: Command,
     given: &mut GivenOptions,
     turn: Turn,
     number: u32,
     word: &str,
 ) -> Result<Turn, OptionError>
     ensures { (n : ℕ) (words : List Word) → GoesOn
-        (Answers tool n given.old turn ((number, word.now) ∷ words))
-        (λ turn. Answers tool n given.new turn words) result }
+        (Answers command n given.old turn ((number, word.now) ∷ words))
+        (λ turn. Answers command n given.new turn words) result }
 {
     match turn {
-        Turn::Free => at_option(tool, given, number, word),
+        Turn::Free => at_option(command, given, number, word),
         Turn::Awaits(_, option) => at_value(alloc, given, option, number, word),
     }
 }
@@ -121,15 +122,15 @@ fn at_word(
 /// What the options say behind the last word. The command is word `number`.
 fn at_end(
     alloc: Global,
-    tool: Tool,
+    command: Command,
     number: u32,
     given: GivenOptions,
     turn: Turn,
 ) -> Result<CommandOptions, OptionError>
-    ensures { Tells (Answers tool number given turn []) result }
+    ensures { Tells (Answers command number given turn []) result }
 {
     match turn {
-        Turn::Free => match put_together(alloc, tool, given)? {
+        Turn::Free => match put_together(alloc, command, given)? {
             Some(options) => Ok(options),
             None => Err(OptionError::Fault(OptionFault {
                 word: number,
@@ -146,23 +147,23 @@ fn at_end(
 /// What the options say that stand behind a command, which is word `number`.
 fn read_given(
     alloc: Global,
-    tool: Tool,
+    command: Command,
     number: u32,
     pieces: &[Piece<'_>],
 ) -> Result<CommandOptions, OptionError>
-    ensures { Tells (Answers tool number [] Free (words_of pieces.now)) result }
+    ensures { Tells (Answers command number [] Free (words_of pieces.now)) result }
 {
     let mut given = GivenOptions::new(alloc);
     let mut turn = Turn::Free;
     for piece in pieces {
         match piece {
             Piece::Word(place, word) => {
-                turn = at_word(alloc, tool, &mut given, turn, *place, word)?;
+                turn = at_word(alloc, command, &mut given, turn, *place, word)?;
             }
-            Piece::Bar(_) => return at_end(alloc, tool, number, given, turn),
+            Piece::Bar(_) => return at_end(alloc, command, number, given, turn),
         }
     }
-    at_end(alloc, tool, number, given, turn)
+    at_end(alloc, command, number, given, turn)
 }
 
 /// The options of a command, as the words behind it give them, up to the next bar or the end. The
@@ -173,16 +174,16 @@ fn read_given(
 /// the command, where an option is missing that it requires. For rid N8, N11 or N9. `Memory`.
 pub fn read_options(
     alloc: Global,
-    tool: Tool,
+    command: Command,
     number: u32,
     pieces: &[Piece<'_>],
     is_last: bool,
 ) -> Result<CommandOptions, OptionError>
-    ensures { Tells (IsAnswer tool number is_last (words_of pieces.now)) result }
+    ensures { Tells (IsAnswer command number is_last (words_of pieces.now)) result }
 {
-    if tool == Tool::Rid {
+    if command == Command::Rid {
         read_letters(number, is_last, pieces)
     } else {
-        read_given(alloc, tool, number, pieces)
+        read_given(alloc, command, number, pieces)
     }
 }

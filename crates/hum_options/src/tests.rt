@@ -1,8 +1,10 @@
 //! Words by hand: options of each command, and the first rule that others break.
-use crate::{CommandOptions, OptionError, OptionFault, OptionRule, Refusal, Tool, read_options};
+use crate::{OptionError, OptionFault, OptionRule, Refusal, read_options};
+use hum_commands::CommandOptions;
 use hum_context::Span;
 use hum_extract::{Choice, Field, FieldRange};
 use hum_frac::Frac;
+use hum_stage::Command;
 use hum_words::{LineFault, Piece, pieces};
 use hum_yank::{Markers, YankRange};
 use std::alloc::Global;
@@ -11,7 +13,7 @@ use std::test::Fail;
 /// The answer to the words of a line behind its first, the command.
 fn read(
     alloc: Global,
-    tool: Tool,
+    command: Command,
     line: &str,
     is_last: bool,
 ) -> Result<Result<CommandOptions, OptionError>, LineFault> {
@@ -20,25 +22,25 @@ fn read(
     }
     match pieces(alloc, line)?.as_slice() {
         [Piece::Word(number, _), words @ ..] => {
-            Ok(read_options(alloc, tool, *number, words, is_last))
+            Ok(read_options(alloc, command, *number, words, is_last))
         }
         _ => Err(LineFault::Memory),
     }
 }
 
 /// The same, where the words give options.
-fn options(alloc: Global, tool: Tool, line: &str) -> Result<CommandOptions, Fail> {
-    Ok(read(alloc, tool, line, true)??)
+fn options(alloc: Global, command: Command, line: &str) -> Result<CommandOptions, Fail> {
+    Ok(read(alloc, command, line, true)??)
 }
 
 fn is_fault(
     alloc: Global,
-    tool: Tool,
+    command: Command,
     line: &str,
     word: u32,
     rule: OptionRule,
 ) -> Result<bool, Fail> {
-    Ok(match read(alloc, tool, line, false)? {
+    Ok(match read(alloc, command, line, false)? {
         Ok(_) => false,
         Err(found) => found == OptionError::Fault(OptionFault { word, rule }),
     })
@@ -47,7 +49,7 @@ fn is_fault(
 #[test]
 fn letters(rt: HostRuntime) -> Result<(), Fail> {
     assert!(rt;
-        match options(rt.alloc(), Tool::Rid, "rid -Gl -T")? {
+        match options(rt.alloc(), Command::Rid, "rid -Gl -T")? {
             CommandOptions::Rid(options) => {
                 options.global_comments
                     && options.null_local_comments
@@ -63,7 +65,7 @@ fn letters(rt: HostRuntime) -> Result<(), Fail> {
         }
     );
     assert!(rt;
-        match options(rt.alloc(), Tool::Rid, "rid -gLIiDd | -Q")? {
+        match options(rt.alloc(), Command::Rid, "rid -gLIiDd | -Q")? {
             CommandOptions::Rid(options) => {
                 options.empty_global_comments
                     && options.local_comments
@@ -111,9 +113,9 @@ fn are_two_names(options: &CommandOptions) -> bool {
 
 #[test]
 fn fields_and_names(rt: HostRuntime) -> Result<(), Fail> {
-    let found = options(rt.alloc(), Tool::Extract, "extract -f 1,3-$")?;
+    let found = options(rt.alloc(), Command::Extract, "extract -f 1,3-$")?;
     assert!(rt; are_fields(&found));
-    let found = options(rt.alloc(), Tool::Extract, "extract -i **kern,**text")?;
+    let found = options(rt.alloc(), Command::Extract, "extract -i **kern,**text")?;
     assert!(rt; are_two_names(&found));
     Ok(())
 }
@@ -132,20 +134,24 @@ fn is_phrase(options: &CommandOptions) -> bool {
 #[test]
 fn patterns(rt: HostRuntime) -> Result<(), Fail> {
     assert!(rt;
-        match options(rt.alloc(), Tool::Ditto, "ditto -s '^=' -p")? {
+        match options(rt.alloc(), Command::Ditto, "ditto -s '^=' -p")? {
             CommandOptions::Ditto(options) => options.skip.is_some() && options.parentheses,
             _ => false,
         }
     );
     assert!(rt;
-        match options(rt.alloc(), Tool::Mint, "mint -a -b r")? {
+        match options(rt.alloc(), Command::Mint, "mint -a -b r")? {
             CommandOptions::Mint(options) => {
                 options.signless && !options.sizeonly && options.breaks.is_some()
             }
             _ => false,
         }
     );
-    let found = options(rt.alloc(), Tool::Context, "context -o r -b '[(]' -e '[)]'")?;
+    let found = options(
+        rt.alloc(),
+        Command::Context,
+        "context -o r -b '[(]' -e '[)]'",
+    )?;
     assert!(rt; is_phrase(&found));
     Ok(())
 }
@@ -153,7 +159,7 @@ fn patterns(rt: HostRuntime) -> Result<(), Fail> {
 #[test]
 fn numbers(rt: HostRuntime) -> Result<(), Fail> {
     assert!(rt;
-        match options(rt.alloc(), Tool::Context, "context -n 4096")? {
+        match options(rt.alloc(), Command::Context, "context -n 4096")? {
             CommandOptions::Context(options) => match options.span {
                 Span::Number(count) => count.number == 4096,
                 Span::Phrase(_, _) => false,
@@ -162,13 +168,13 @@ fn numbers(rt: HostRuntime) -> Result<(), Fail> {
         }
     );
     assert!(rt;
-        match options(rt.alloc(), Tool::Trans, "trans -c +84 -d -49")? {
+        match options(rt.alloc(), Command::Trans, "trans -c +84 -d -49")? {
             CommandOptions::Trans(options) => options.steps == -49 && options.semitones == 84,
             _ => false,
         }
     );
     assert!(rt;
-        match options(rt.alloc(), Tool::Timebase, "timebase -t 16")? {
+        match options(rt.alloc(), Command::Timebase, "timebase -t 16")? {
             CommandOptions::Timebase(options) => {
                 options.step == Frac::new(1, 16) && options.text.as_slice() == b"16".as_slice()
             }
@@ -181,13 +187,13 @@ fn numbers(rt: HostRuntime) -> Result<(), Fail> {
 #[test]
 fn alone(rt: HostRuntime) -> Result<(), Fail> {
     assert!(rt;
-        match options(rt.alloc(), Tool::Semits, "semits -t -x")? {
+        match options(rt.alloc(), Command::Semits, "semits -t -x")? {
             CommandOptions::Semits(options) => options.ties_left_out,
             _ => false,
         }
     );
     assert!(rt;
-        match options(rt.alloc(), Tool::Recip, "recip")? {
+        match options(rt.alloc(), Command::Recip, "recip")? {
             CommandOptions::Recip(_) => true,
             _ => false,
         }
@@ -198,7 +204,7 @@ fn alone(rt: HostRuntime) -> Result<(), Fail> {
 #[test]
 fn columns(rt: HostRuntime) -> Result<(), Fail> {
     assert!(rt;
-        match options(rt.alloc(), Tool::Cleave, "cleave -i **kern -o **all")? {
+        match options(rt.alloc(), Command::Cleave, "cleave -i **kern -o **all")? {
             CommandOptions::Cleave(options) => {
                 options.name() == b"**kern".as_slice()
                     && options.new_name() == b"**all".as_slice()
@@ -208,7 +214,11 @@ fn columns(rt: HostRuntime) -> Result<(), Fail> {
         }
     );
     assert!(rt;
-        match options(rt.alloc(), Tool::Cleave, "cleave -d '' -i **kern -o **all")? {
+        match options(
+            rt.alloc(),
+            Command::Cleave,
+            "cleave -d '' -i **kern -o **all"
+        )? {
             CommandOptions::Cleave(options) => options.separator().is_empty(),
             _ => false,
         }
@@ -219,7 +229,7 @@ fn columns(rt: HostRuntime) -> Result<(), Fail> {
 #[test]
 fn passages(rt: HostRuntime) -> Result<(), Fail> {
     assert!(rt;
-        match options(rt.alloc(), Tool::Yank, "yank -l -r 2-$-1")? {
+        match options(rt.alloc(), Command::Yank, "yank -l -r 2-$-1")? {
             CommandOptions::Yank(options) => {
                 options.ranges.as_slice()
                     == [YankRange::ToEnd {
@@ -236,7 +246,7 @@ fn passages(rt: HostRuntime) -> Result<(), Fail> {
         }
     );
     assert!(rt;
-        match options(rt.alloc(), Tool::Yank, "yank -e '[}]' -r 1 -o '[{]'")? {
+        match options(rt.alloc(), Command::Yank, "yank -e '[}]' -r 1 -o '[{]'")? {
             CommandOptions::Yank(options) => match &options.markers {
                 Markers::Occurrences(_, ends) => ends.is_some(),
                 _ => false,
@@ -245,7 +255,7 @@ fn passages(rt: HostRuntime) -> Result<(), Fail> {
         }
     );
     assert!(rt;
-        match options(rt.alloc(), Tool::Yank, "yank -n = -r 12")? {
+        match options(rt.alloc(), Command::Yank, "yank -n = -r 12")? {
             CommandOptions::Yank(options) => match &options.markers {
                 Markers::Numbers(_) => true,
                 _ => false,
@@ -254,7 +264,7 @@ fn passages(rt: HostRuntime) -> Result<(), Fail> {
         }
     );
     assert!(rt;
-        match options(rt.alloc(), Tool::Yank, "yank -r 1 -s A")? {
+        match options(rt.alloc(), Command::Yank, "yank -r 1 -s A")? {
             CommandOptions::Yank(options) => match &options.markers {
                 Markers::Labels(label) => label.as_slice() == b"A".as_slice(),
                 _ => false,
@@ -267,58 +277,58 @@ fn passages(rt: HostRuntime) -> Result<(), Fail> {
 
 #[test]
 fn faults(rt: HostRuntime) -> Result<(), Fail> {
-    let rows: [(Tool, &'static str, u32, OptionRule); 23] = [
-        (Tool::Rid, "rid", 1, OptionRule::N9),
-        (Tool::Rid, "rid -G -x", 3, OptionRule::N8),
-        (Tool::Rid, "rid -G -", 3, OptionRule::N8),
-        (Tool::Rid, "rid -GI -x", 2, OptionRule::N11),
-        (Tool::Rid, "rid -Ix", 2, OptionRule::N8),
-        (Tool::Recip, "recip x", 2, OptionRule::N8),
-        (Tool::Extract, "extract", 1, OptionRule::N9),
-        (Tool::Extract, "extract -f", 2, OptionRule::N9),
-        (Tool::Extract, "extract -f 1 -i", 4, OptionRule::N8),
-        (Tool::Extract, "extract -f 0", 3, OptionRule::N10),
+    let rows: [(Command, &'static str, u32, OptionRule); 23] = [
+        (Command::Rid, "rid", 1, OptionRule::N9),
+        (Command::Rid, "rid -G -x", 3, OptionRule::N8),
+        (Command::Rid, "rid -G -", 3, OptionRule::N8),
+        (Command::Rid, "rid -GI -x", 2, OptionRule::N11),
+        (Command::Rid, "rid -Ix", 2, OptionRule::N8),
+        (Command::Recip, "recip x", 2, OptionRule::N8),
+        (Command::Extract, "extract", 1, OptionRule::N9),
+        (Command::Extract, "extract -f", 2, OptionRule::N9),
+        (Command::Extract, "extract -f 1 -i", 4, OptionRule::N8),
+        (Command::Extract, "extract -f 0", 3, OptionRule::N10),
         (
-            Tool::Ditto,
+            Command::Ditto,
             "ditto -p -s '('",
             4,
             OptionRule::N12(Refusal::NoExpression),
         ),
         (
-            Tool::Ditto,
+            Command::Ditto,
             "ditto -s '(' -q",
             3,
             OptionRule::N12(Refusal::NoExpression),
         ),
         (
-            Tool::Context,
+            Command::Context,
             "context -o r -b '('",
             5,
             OptionRule::N12(Refusal::NoExpression),
         ),
         (
-            Tool::Mint,
+            Command::Mint,
             "mint -b 'x{99999999}'",
             3,
             OptionRule::N12(Refusal::TooLarge),
         ),
-        (Tool::Timebase, "timebase -t 0x", 3, OptionRule::N10),
-        (Tool::Context, "context -b a -n", 4, OptionRule::N8),
-        (Tool::Context, "context -e a -o b", 1, OptionRule::N9),
-        (Tool::Trans, "trans -d 50", 3, OptionRule::N10),
-        (Tool::Trans, "trans -d 5", 1, OptionRule::N9),
-        (Tool::Semits, "semits -t", 1, OptionRule::N9),
-        (Tool::Yank, "yank -e a -r 1", 1, OptionRule::N9),
-        (Tool::Yank, "yank -e a -l", 4, OptionRule::N8),
+        (Command::Timebase, "timebase -t 0x", 3, OptionRule::N10),
+        (Command::Context, "context -b a -n", 4, OptionRule::N8),
+        (Command::Context, "context -e a -o b", 1, OptionRule::N9),
+        (Command::Trans, "trans -d 50", 3, OptionRule::N10),
+        (Command::Trans, "trans -d 5", 1, OptionRule::N9),
+        (Command::Semits, "semits -t", 1, OptionRule::N9),
+        (Command::Yank, "yank -e a -r 1", 1, OptionRule::N9),
+        (Command::Yank, "yank -e a -l", 4, OptionRule::N8),
         (
-            Tool::Cleave,
+            Command::Cleave,
             "cleave -i **kern | -o **all",
             1,
             OptionRule::N9,
         ),
     ];
-    for (tool, line, word, rule) in rows {
-        assert!(rt; is_fault(rt.alloc(), tool, line, word, rule)?, "{line}");
+    for (command, line, word, rule) in rows {
+        assert!(rt; is_fault(rt.alloc(), command, line, word, rule)?, "{line}");
     }
     Ok(())
 }

@@ -5,37 +5,20 @@ ghost use Rattle.hum_extract.specs.Written.{choice_of};
 ghost use Rattle.hum_options.specs.Meant.{choice_meant, phrase_meant, span_meant, meant};
 ghost use Rattle.hum_options.specs.Meant.{labels_meant, occurrences_meant, numbers_meant};
 ghost use Rattle.hum_options.specs.Meant.{markers_meant, separator_meant};
-ghost use Rattle.hum_options.specs.declared.tools.Tool.TheVariants as tool;
+ghost use Rattle.hum_stage.specs.declared.faults.Command.TheVariants as command;
 ghost use Rattle.hum_options.specs.Seen.{span_of, markers_of, options_of};
 
 use crate::given::GivenOptions;
-use crate::tools::Tool;
 use crate::values::{Semitones, Separator, Steps};
 use hum_cleave::CleaveOptions;
+use hum_commands::CommandOptions;
 use hum_context::{ContextOptions, Span};
 use hum_ditto::DittoOptions;
 use hum_extract::Choice;
-use hum_rid::RidOptions;
-use hum_timebase::TimebaseOptions;
+use hum_stage::Command;
 use hum_tones::{MintOptions, RecipOptions, SemitsOptions, Transposition};
 use hum_yank::{Markers, YankOptions};
 use std::alloc::{AllocError, Global};
-
-/// A command with its options.
-#[derive(Drop)]
-pub enum CommandOptions {
-    Rid(RidOptions),
-    Extract(Choice),
-    Ditto(DittoOptions),
-    Timebase(TimebaseOptions),
-    Context(ContextOptions),
-    Trans(Transposition),
-    Semits(SemitsOptions),
-    Mint(MintOptions),
-    Recip(RecipOptions),
-    Yank(YankOptions),
-    Cleave(CleaveOptions),
-}
 
 fn choice(mut given: GivenOptions) -> Option<Choice>
     ensures { option_map choice_of result ≡ choice_meant given }
@@ -50,14 +33,14 @@ fn choice(mut given: GivenOptions) -> Option<Choice>
 }
 
 fn extract(given: GivenOptions) -> Option<CommandOptions>
-    ensures { option_map options_of result ≡ meant tool.Extract given }
+    ensures { option_map options_of result ≡ meant command.Extract given }
 {
     let choice = choice(given)?;
     Some(CommandOptions::Extract(choice))
 }
 
 fn ditto(mut given: GivenOptions) -> CommandOptions
-    ensures { Some (options_of result) ≡ meant tool.Ditto given }
+    ensures { Some (options_of result) ≡ meant command.Ditto given }
 {
     let parentheses = given.has(b'p');
     CommandOptions::Ditto(DittoOptions {
@@ -67,7 +50,7 @@ fn ditto(mut given: GivenOptions) -> CommandOptions
 }
 
 fn timebase(mut given: GivenOptions) -> Option<CommandOptions>
-    ensures { option_map options_of result ≡ meant tool.Timebase given }
+    ensures { option_map options_of result ≡ meant command.Timebase given }
 {
     let options = given.duration(b't')?;
     Some(CommandOptions::Timebase(options))
@@ -91,7 +74,7 @@ fn span(mut given: GivenOptions) -> Option<Span>
 }
 
 fn context(mut given: GivenOptions) -> Option<CommandOptions>
-    ensures { option_map options_of result ≡ meant tool.Context given }
+    ensures { option_map options_of result ≡ meant command.Context given }
 {
     let omit = given.pattern(b'o');
     let span = span(given)?;
@@ -109,7 +92,7 @@ fn transposition(steps: Steps, semitones: Semitones) -> Transposition
 }
 
 fn trans(mut given: GivenOptions) -> Option<CommandOptions>
-    ensures { option_map options_of result ≡ meant tool.Trans given }
+    ensures { option_map options_of result ≡ meant command.Trans given }
 {
     let steps = given.steps(b'd')?;
     let semitones = given.semitones(b'c')?;
@@ -117,7 +100,7 @@ fn trans(mut given: GivenOptions) -> Option<CommandOptions>
 }
 
 fn semits(given: GivenOptions) -> Option<CommandOptions>
-    ensures { option_map options_of result ≡ meant tool.Semits given }
+    ensures { option_map options_of result ≡ meant command.Semits given }
 {
     if given.has(b'x') {
         let ties_left_out = given.has(b't');
@@ -128,7 +111,7 @@ fn semits(given: GivenOptions) -> Option<CommandOptions>
 }
 
 fn mint(mut given: GivenOptions) -> CommandOptions
-    ensures { Some (options_of result) ≡ meant tool.Mint given }
+    ensures { Some (options_of result) ≡ meant command.Mint given }
 {
     let signless = given.has(b'a');
     let sizeonly = given.has(b'd');
@@ -178,7 +161,7 @@ fn markers(given: GivenOptions) -> Option<Markers>
 }
 
 fn yank(mut given: GivenOptions) -> Option<CommandOptions>
-    ensures { option_map options_of result ≡ meant tool.Yank given }
+    ensures { option_map options_of result ≡ meant command.Yank given }
 {
     let ranges = given.ranges(b'r')?;
     let markers = markers(given)?;
@@ -195,7 +178,7 @@ fn separator(alloc: Global, mut given: GivenOptions) -> Result<Separator, AllocE
 }
 
 fn cleave(alloc: Global, mut given: GivenOptions) -> Result<Option<CommandOptions>, AllocError>
-    ensures { IfOk result (λ found. option_map options_of found ≡ meant tool.Cleave given) }
+    ensures { IfOk result (λ found. option_map options_of found ≡ meant command.Cleave given) }
 {
     let Some(name) = given.name(b'i') else {
         return Ok(None);
@@ -210,22 +193,22 @@ fn cleave(alloc: Global, mut given: GivenOptions) -> Result<Option<CommandOption
 /// What the options that were given are together, unless one is missing that the command requires.
 pub(crate) fn put_together(
     alloc: Global,
-    tool: Tool,
+    command: Command,
     given: GivenOptions,
 ) -> Result<Option<CommandOptions>, AllocError>
-    ensures { IfOk result (λ found. option_map options_of found ≡ meant tool given) }
+    ensures { IfOk result (λ found. option_map options_of found ≡ meant command given) }
 {
-    match tool {
-        Tool::Rid => Ok(None),
-        Tool::Extract => Ok(extract(given)),
-        Tool::Ditto => Ok(Some(ditto(given))),
-        Tool::Timebase => Ok(timebase(given)),
-        Tool::Context => Ok(context(given)),
-        Tool::Trans => Ok(trans(given)),
-        Tool::Semits => Ok(semits(given)),
-        Tool::Mint => Ok(Some(mint(given))),
-        Tool::Recip => Ok(Some(CommandOptions::Recip(RecipOptions))),
-        Tool::Yank => Ok(yank(given)),
-        Tool::Cleave => cleave(alloc, given),
+    match command {
+        Command::Read | Command::Assemble | Command::Rid => Ok(None),
+        Command::Extract => Ok(extract(given)),
+        Command::Ditto => Ok(Some(ditto(given))),
+        Command::Timebase => Ok(timebase(given)),
+        Command::Context => Ok(context(given)),
+        Command::Trans => Ok(trans(given)),
+        Command::Semits => Ok(semits(given)),
+        Command::Mint => Ok(Some(mint(given))),
+        Command::Recip => Ok(Some(CommandOptions::Recip(RecipOptions))),
+        Command::Yank => Ok(yank(given)),
+        Command::Cleave => cleave(alloc, given),
     }
 }

@@ -3,13 +3,14 @@ use Rattle.std.specs.Prelude.{◌≡◌, ℕ, ◌<◌, ◌⊎◌, Bool, false, t
 use Rattle.std.specs.Prelude.{Option, None, Some, Result, Ok, Err}
 use Rattle.hum_text.specs.declared.TextFault.{TextFault}
 use Rattle.hum_text.specs.Calls.{IsCalled}
-use Rattle.hum_text.specs.Reading.{Reader, opening, Holds, bytes_read}
+use Rattle.hum_text.specs.Reading.{Reader, opening, Holds, bytes_read, NeedsRead, IsUnread, IsRead}
 use Rattle.hum_record.specs.Row.{Row}
 use Rattle.hum_path.specs.Spines.{Unopened, Tracked}
 use Rattle.hum_stage.specs.declared.faults.End.{End}
 use Rattle.hum_stage.specs.declared.faults.End.TheVariants.{Closed}
 use Rattle.hum_stage.specs.Score.{through, IsScore, IsClosed}
 use Rattle.hum_read.specs.declared.ReadError.{ReadError}
+use Rattle.hum_read.specs.declared.ReadError.TheVariants as error
 use Rattle.hum_read.specs.declared.scores.Step.{Step}
 use Rattle.hum_read.specs.declared.scores.Step.TheVariants as step
 use Rattle.hum_read.specs.Denoted.{Score, denoted, standard, score_of, end_at}
@@ -91,6 +92,24 @@ answer_of (Err error) = Err error
 abbrev pub IsCalledAtMostOnce : {S : Type 0} → (S → ℕ) → (S → Bool) → S → S → Type 0
 IsCalledAtMostOnce calls failed old new =
     (old ≡ new) ⊎ ((failure : Bool) × IsCalled calls failed old new failure)
+
+-- A read is due: the reader has not stopped, and its lines need a read.
+pub record IsDue {R : Type 0} (v : Scores R) : Type 0 where
+  pub going : v.stopped ≡ None
+  pub needs : NeedsRead v.lines
+
+-- What a poll made of the read that was due. It gave bytes, or it failed, or it gave none and so the
+-- end is marked. Where memory ran out, it was before the read or after the end.
+abbrev pub ReadsOnce : {R : Type 0} → (R → ℕ) → (R → Bool) → Scores R → Result Step ReadError
+    → Scores R → Type 0
+ReadsOnce calls failed old (Ok step.More) new = IsRead calls failed old.lines new.lines false false
+ReadsOnce calls failed old (Err error.Read) new = IsRead calls failed old.lines new.lines true false
+ReadsOnce calls failed old (Err error.Memory) new =
+    IsUnread old.lines new.lines ⊎ IsRead calls failed old.lines new.lines false true
+ReadsOnce calls failed old (Ok (step.Record row)) new =
+    IsRead calls failed old.lines new.lines false true
+ReadsOnce calls failed old (Ok (step.End end)) new =
+    IsRead calls failed old.lines new.lines false true
 
 -- the end, or nearer to it
 abbrev pub Nears : Step → ℕ → ℕ → Type 0

@@ -8,14 +8,14 @@ ghost use Rattle.hum_read.specs.Denoted.{end_at};
 ghost use Rattle.hum_read.specs.Reading.{answer_of};
 ghost use Rattle.hum_read.specs.Steps.{stop_by};
 ghost use Rattle.hum_record.specs.Spelling.{has_byte};
-ghost use Rattle.hum_text.specs.Reading.{NeedsRead, IsUnread, bytes_read, left_to_do};
+ghost use Rattle.hum_text.specs.Reading.{NeedsRead, IsUnread, IsFed, bytes_read, left_to_do};
 
 use crate::ReadError;
 use crate::rules::{path_rule, record_rule, text_rule};
 use hum_path::{PathFault, Paths};
 use hum_record::Record;
 use hum_stage::{Command, End, Fault, Rule};
-use hum_text::calls::Source;
+use hum_text::calls::{LARGEST_READ, Source};
 use hum_text::reader::LineReader;
 use hum_text::{Limits, TextFault, reader as lines};
 use std::alloc::Global;
@@ -111,7 +111,8 @@ impl<R> Model for ScoreReader<R> {
 impl<R: Source> ScoreReader<R> {
     ghost use Rattle.hum_record.specs.Row.{Row};
     ghost use Rattle.hum_read.specs.Reading.{IsFresh, HasRead, GivesNext, Denotes};
-    ghost use Rattle.hum_read.specs.Reading.{IsCalledAtMostOnce, Nears, stop_of, answer_of};
+    ghost use Rattle.hum_read.specs.Reading.{IsCalledAtMostOnce, IsDue, ReadsOnce, Nears};
+    ghost use Rattle.hum_read.specs.Reading.{stop_of, answer_of};
     ghost use Rattle.hum_read.specs.Steps.{ReadsLine, IsWholeText, refusal};
 
     /// The reader of a source of which nothing was read yet, as the stage of this number, from 1.
@@ -215,13 +216,25 @@ impl<R: Source> ScoreReader<R> {
         ensures once { NeedsRead self.old.lines
             → IsCalledAtMostOnce R.calls R.failed
             self.old.lines.source self.new.lines.source }
+        ensures due { IsDue self.old → ReadsOnce R.calls R.failed self.old result self.new }
+        ensures more { result ≡ Ok Step.More → IsFed self.old.lines self.new.lines }
+        ensures unfed { result ≢ Ok Step.More → bytes_read self.old.lines self.new.lines ≡ [] }
+        ensures asked { length (bytes_read self.old.lines self.new.lines) ≤ LARGEST_READ }
         ensures consumes { Consumes (R.remaining self.old.lines.source)
             (R.remaining self.new.lines.source) (bytes_read self.old.lines self.new.lines) }
         ensures at_end { self.new.lines.ended ≡ true
             → (self.old.lines.ended ≡ true) ⊎ IsAtEnd (R.remaining self.new.lines.source) }
+
+        // It tells of a failed read exactly where this poll's read failed.
         ensures failed { result ≡ Err ReadError.Read
             → (self.old.stopped ≡ Some (Err ReadError.Read))
             ⊎ (R.failed self.new.lines.source ≡ true) }
+        ensures marked { R.failed self.new.lines.source ≡ true
+            → (R.failed self.old.lines.source ≡ true) ⊎ (result ≡ Err ReadError.Read) }
+
+        // What was handed out is within the limits.
+        ensures taken { self.old.stopped ≡ None
+            → self.new.lines.taken ≤ self.new.lines.limits.bytes }
 
         // So each run of polls ends.
         ensures nears { IfOk result (λ step.

@@ -2,7 +2,8 @@
 use Rattle.std.specs.Prelude.{ℕ, List, [], length, slice_index_or}
 use Rattle.std.specs.List.{join_with_byte}
 use Rattle.hum_record.specs.declared.Kind.{Kind}
-use Rattle.hum_record.specs.declared.Kind.TheVariants.{Global, Local as AnyLocal, Interpretation as AnyInterpretation, Values as AnyValues}
+use Rattle.hum_record.specs.declared.Kind.TheVariants.{Global, Local as AnyLocal}
+use Rattle.hum_record.specs.declared.Kind.TheVariants.{Interpretation as AnyInterpretation, Values as AnyValues}
 use Rattle.hum_record.specs.declared.SpinedKind.{SpinedKind}
 use Rattle.hum_record.specs.declared.SpinedKind.TheVariants.{Local, Interpretation, Values}
 

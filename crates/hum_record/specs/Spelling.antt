@@ -1,5 +1,6 @@
 -- Which texts are records, and which rule the others break.
-use Rattle.std.specs.Prelude.{◌≡◌, ◌≢◌, ◌≤◌, ℕ, Bool, true, false, ◌&&◌, not, ◌==◌, nat_eq, List, [], ◌∷◌, Result, Ok, Err, length, IsTrue, if◌then◌else◌}
+use Rattle.std.specs.Prelude.{◌≡◌, ◌≢◌, ◌≤◌, ℕ, Bool, true, false, ◌&&◌, not, ◌==◌, nat_eq}
+use Rattle.std.specs.Prelude.{List, [], ◌∷◌, Result, Ok, Err, length, IsTrue, if◌then◌else◌}
 use Rattle.std.specs.List.{list_any, starts_with, slice_split, join_with_byte, AllByRecursion}
 use lib.Chars.{codes}
 use Rattle.hum_record.specs.declared.SpinedKind.{SpinedKind}

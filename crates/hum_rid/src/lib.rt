@@ -5,12 +5,11 @@ ghost use Rattle.std.specs.Prelude.{◌≡◌, false};
 ghost use Rattle.std.specs.List.{list_all};
 ghost use Rattle.std.specs.Str.{bytes_eq};
 ghost use Rattle.hum_record.specs.Row.{tokens_of};
-ghost use Rattle.hum_stage.specs.Meaning.{opening, KeepsScore};
-ghost use Rattle.hum_rid.specs.Rid.{rid, meaning, drops, all_are};
+ghost use Rattle.hum_rid.specs.Rid.{rid, drops, all_are};
 
 use hum_path::steers;
 use hum_record::{Kind, Record};
-use hum_stage::{AtOnce, Command, Decides, End, Rule, Stage, State};
+use hum_stage::{AtOnce, Command, Decides, Rule};
 use std::alloc::{AllocError, Global};
 
 /// Which records are dropped, by the letters of the command (several drop what any of them drops).
@@ -78,9 +77,27 @@ impl RidOptions {
 }
 
 impl Decides for RidOptions {
+    type Options = RidOptions;
+
     type Due = Option<Record>;
 
+    ghost use Rattle.hum_stage.specs.declared.faults.Command.TheVariants.{Rid as RidCommand};
+
+    ghost command = { RidCommand };
+
+    ghost decide = { rid };
+
+    ghost keeps = { λ options. options.interpretations ≡ false };
+
     ghost follows = { λ options decide past. decide ≡ rid options };
+
+    fn command() -> Command {
+        Command::Rid
+    }
+
+    fn begin(_alloc: Global, options: RidOptions) -> RidOptions {
+        options
+    }
 
     fn step(
         &mut self,
@@ -96,60 +113,7 @@ impl Decides for RidOptions {
 }
 
 /// The command rid, as a stage.
-#[derive(Drop)]
-pub struct Rid {
-    inner: AtOnce<RidOptions>,
-}
-
-impl Rid {
-    /// The stage of this number, from 1.
-    pub fn new(alloc: Global, stage: u8, options: RidOptions) -> Rid
-        // It stands for what the letters say, with nothing put yet.
-        ensures stands { ⟦<Rid as Stage>⟧.stands result (opening (meaning stage options)) }
-
-        // Of scores it makes scores, unless all interpretations are dropped.
-        ensures keeps { options.interpretations ≡ false
-            → KeepsScore (meaning stage options).outcomes }
-    {
-        Rid {
-            inner: AtOnce::new(alloc, stage, Command::Rid, options),
-        }
-    }
-}
-
-impl Stage for Rid {
-    ghost stands = { λ s t. ⟦<AtOnce<RidOptions> as Stage>⟧.stands s.inner t };
-
-    ghost left = { λ s. ⟦<AtOnce<RidOptions> as Stage>⟧.left s.inner };
-
-    ghost spent = { λ s. ⟦<AtOnce<RidOptions> as Stage>⟧.spent s.inner };
-
-    ghost use Rattle.hum_stage.specs.Laws.{standing_remains, standing_lawful};
-
-    ghost remains = { λ s t h. standing_remains _ _ _ _ t h };
-
-    ghost lawful = { λ s t h. standing_lawful _ _ _ _ t h };
-
-    fn put(&mut self, next: Record) -> Result<(), AllocError> {
-        self.inner.put(next)
-    }
-
-    fn end(&mut self, end: End) {
-        self.inner.end(end)
-    }
-
-    fn take(&mut self) -> Result<Option<Record>, AllocError> {
-        self.inner.take()
-    }
-
-    fn state(&self) -> State {
-        self.inner.state()
-    }
-
-    fn held(&self) -> usize {
-        self.inner.held()
-    }
-}
+pub type Rid = AtOnce<RidOptions>;
 
 #[cfg(test)]
 mod tests;

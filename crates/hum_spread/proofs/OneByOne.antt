@@ -42,10 +42,11 @@ alone_step Before p ps = elim (cases_Bool p.begins) as (λ _. alone_from Before 
   | inl w ↦ rw w refl
   | inr w ↦ rw w refl
 ]
-alone_step Inside p ps = elim (cases_Bool (goes_on p)) as (λ _. alone_from Inside (p ∷ ps) ≡ shown (next_phase Inside p) p ∷ alone_from (next_phase Inside p) ps) [
-  | inl w ↦ rw w refl
-  | inr w ↦ rw w refl
-]
+alone_step Inside p ps = elim (cases_Bool (goes_on p)) as (λ _. alone_from Inside (p ∷ ps)
+    ≡ shown (next_phase Inside p) p ∷ alone_from (next_phase Inside p) ps) [
+      | inl w ↦ rw w refl
+      | inr w ↦ rw w refl
+    ]
 alone_step After p ps = refl
 
 -- the pieces in front
@@ -177,7 +178,8 @@ pub front_of : (xs : List (List ℕ)) (x : List ℕ) (rest all : List (List ℕ)
     → length (spelled all) ≤ 1048576 → length (spelled (xs ++ x ∷ [])) ≤ 1048576
 front_of xs x rest all e fits =
     let more : length (spelled (xs ++ x ∷ [])) ≤ length (spelled all) =
-    subst (λ (ys : List (List ℕ)). length (spelled (xs ++ x ∷ [])) ≤ length (spelled ys)) (append_assoc xs (x ∷ []) rest ∙ e) (spelled_front (xs ++ x ∷ []) rest) in
+    subst (λ (ys : List (List ℕ)). length (spelled (xs ++ x ∷ [])) ≤ length (spelled ys)) (append_assoc xs (x ∷ []) rest
+    ∙ e) (spelled_front (xs ++ x ∷ []) rest) in
     omega (arith, more, fits)
 
 pub draft_push : (b new : Draft) (t : List ℕ) → b ≡ draft b.tokens → new ≡ record b { tokens = b.tokens ++ t ∷ [] }
@@ -278,6 +280,10 @@ one_more (suc n) h = refl
 pub too_many : (room n : ℕ) (ps : List Piece) → ps ≢ [] → 1 ≤ n → spread ps ≡ one_by_one (before_last n) ps → room < n
     → room < length (filled Interpretation (spread ps))
 too_many room n ps some h is over = rw (is, filled_count (before_last n) ps some, one_more n h) over
+
+pub few_enough : (room n : ℕ) (ps : List Piece) → ps ≢ [] → 1 ≤ n → spread ps ≡ one_by_one (before_last n) ps → n ≤ room
+    → length (filled Interpretation (spread ps)) ≤ room
+few_enough room n ps some h is under = rw (is, filled_count (before_last n) ps some, one_more n h) under
 
 -- one record more
 

@@ -19,13 +19,13 @@ pub record Fit (pieces : List Piece) : Type 0 where
   pub lawful : AllByRecursion (λ piece. IsToken Interpretation piece.token) pieces
   pub at_most : length (spelled (tokens_in pieces)) ≤ 1048576
 
--- Where there is room for the records that pieces are written in, they are added; else there are
--- too many of them.
+-- Where there is room for the records that pieces are written in, they are added; else nothing is.
 abbrev pub HasSpread : List Piece → ℕ → List Row → List Row → Bool → Type 0
 HasSpread pieces room before after true =
-    after ≡ before ++ filled Interpretation (spread pieces)
+    (length (filled Interpretation (spread pieces)) ≤ room)
+    × (after ≡ before ++ filled Interpretation (spread pieces))
 HasSpread pieces room before after false =
-    room < length (filled Interpretation (spread pieces))
+    (room < length (filled Interpretation (spread pieces))) × (after ≡ before)
 
 -- an interpretation in the making
 abbrev pub draft : List (List ℕ) → Draft

@@ -1,6 +1,7 @@
 //! The stage round a command that decides each record at once.
-ghost use Rattle.std.specs.Prelude.{◌≡◌, true, length};
-ghost use Rattle.hum_stage.specs.Meaning.{Moment, opening};
+ghost use Rattle.std.specs.Prelude.{◌≡◌, true, length, []};
+ghost use Rattle.hum_stage.specs.Meaning.{Moment, opening, end_of};
+ghost use Rattle.hum_stage.specs.declared.faults.State.TheVariants.{Done};
 ghost use Rattle.hum_stage.specs.Decided.{at_once};
 ghost use Rattle.hum_stage.specs.Standing.{Standing};
 
@@ -15,7 +16,6 @@ use std::alloc::{AllocError, Global};
 const LIMIT: u64 = 4_294_967_295;
 
 /// A command that decides each record at once, as a stage.
-#[derive(Drop)]
 pub struct AtOnce<C: Decides> {
     memory: C,
     stage: u8,
@@ -28,20 +28,40 @@ pub struct AtOnce<C: Decides> {
     spent: bool,
 }
 
-impl<C: Decides> AtOnce<C> {
-    ghost use Rattle.std.specs.Prelude.{[], List, Result};
-    ghost use Rattle.hum_record.specs.Row.{Row};
-    ghost use Rattle.hum_stage.specs.declared.faults.Rule.{Rule};
+// Written out, so that a caller's proof sees one call and not the drop of each field.
+impl<C: Decides + Drop> Drop for AtOnce<C> {
+    fn drop(self) {
+        let AtOnce {
+            memory: _memory,
+            stage: _,
+            command: _,
+            line: _,
+            total: _,
+            due: _due,
+            fault: _,
+            ended: _,
+            spent: _,
+        } = self;
+    }
+}
 
-    /// The stage of this number, from 1, for a command whose memory stands for no record yet.
-    pub fn new(alloc: Global, stage: u8, command: Command, memory: C) -> AtOnce<C>
-        ensures { (decide : List Row → Row → Result (List Row) Rule) → C.follows memory decide []
-            → ⟦<AtOnce<C> as Stage>⟧.stands result (opening (at_once stage command decide)) }
+impl<C: Decides> AtOnce<C> {
+    ghost use Rattle.hum_stage.specs.Meaning.{KeepsScore};
+
+    /// The stage of this number, from 1, that is told to do so.
+    pub fn new(alloc: Global, stage: u8, options: C::Options) -> AtOnce<C>
+        // It stands for what the options say, with nothing put yet.
+        ensures stands { ⟦<AtOnce<C> as Stage>⟧.stands result
+            (opening (at_once stage C.command (C.decide options))) }
+
+        // Of scores it makes scores.
+        ensures keeps { C.keeps options
+            → KeepsScore (at_once stage C.command (C.decide options)).outcomes }
     {
         AtOnce {
-            memory,
+            memory: C::begin(alloc, options),
             stage,
-            command,
+            command: C::command(),
             line: 0,
             total: 0,
             due: C::Due::none(alloc),
@@ -71,6 +91,23 @@ impl<C: Decides> AtOnce<C> {
             line: self.line,
             rule,
         });
+    }
+}
+
+// Were this inlined, every state of a stage would be put together from pieces as small as a fault's
+// fields.
+
+/// What a stage is ready for that has given all, behind such an end.
+#[inline(never)]
+fn done(end: End, own: Option<Fault>) -> State
+    ensures { result ≡ Done (end_of end own) }
+{
+    match end {
+        End::Broken(fault) => State::Done(End::Broken(fault)),
+        End::Closed => match own {
+            None => State::Done(End::Closed),
+            Some(fault) => State::Done(End::Broken(fault)),
+        },
     }
 }
 
@@ -139,11 +176,7 @@ impl<C: Decides> Stage for AtOnce<C> {
         }
         match self.ended {
             None => State::Wants,
-            Some(End::Broken(fault)) => State::Done(End::Broken(fault)),
-            Some(End::Closed) => match self.fault {
-                None => State::Done(End::Closed),
-                Some(fault) => State::Done(End::Broken(fault)),
-            },
+            Some(end) => done(end, self.fault),
         }
     }
 

@@ -2,20 +2,46 @@
 ghost use Rattle.std.specs.Prelude.{◌≡◌, [], List, Result, IfOk};
 ghost use Rattle.hum_record.specs.Row.{Row};
 ghost use Rattle.hum_stage.specs.declared.faults.Rule.{Rule};
-ghost use Rattle.hum_stage.specs.Decided.{MayStep, HasStepped};
+ghost use Rattle.hum_stage.specs.declared.faults.Command.{Command};
+ghost use Rattle.hum_stage.specs.Meaning.{KeepsScore};
+ghost use Rattle.hum_stage.specs.Decided.{at_once, MayStep, HasStepped};
 
 use crate::due::Due;
-use crate::faults::Rule;
+use crate::faults::{Command, Rule};
 use hum_record::Record;
-use std::alloc::AllocError;
+use std::alloc::{AllocError, Global};
 
-/// What a command remembers of the records so far.
+/// A command that decides each record at once, with what it remembers of the records so far.
 pub trait Decides {
+    /// What it is told to do.
+    type Options;
+
     /// How the records are held that a record becomes.
     type Due: Due;
 
+    /// Which command it is.
+    ghost command: { Command };
+
+    /// What it decides by its options: of the records so far, the newest first, and the next one.
+    ghost decide: { Self.Options → List Row → Row → Result (List Row) Rule };
+
+    /// Options with which it makes scores of scores.
+    ghost keeps: { Self.Options → Type 0 } = { λ _. Unit {0} };
+
     /// It stands for these records, the newest first, of which a command decides in this way.
     ghost follows: { Self → (List Row → Row → Result (List Row) Rule) → List Row → Type 0 };
+
+    /// Which command it is.
+    fn command() -> Command
+        ensures { result ≡ command };
+
+    /// No record has passed yet.
+    fn begin(alloc: Global, options: Self::Options) -> Self
+        // It stands for what the options say.
+        ensures follows { follows result (decide options) [] }
+
+        // Of scores it makes scores.
+        ensures keeps { keeps options → KeepsScore (at_once 0 command (decide options)).outcomes };
 
     /// Puts what the next record becomes where nothing is due, or answers the rule by which it is
     /// refused. There is room for so many records: a command that would give more may stop and

@@ -1,7 +1,7 @@
 //! The stage round a command whose records wait for later ones.
 ghost use Rattle.std.specs.Prelude.{◌≡◌, ◌+◌, true, length, [], List};
 ghost use Rattle.hum_stage.specs.Meaning.{Moment, opening, resting_state};
-ghost use Rattle.hum_stage.specs.Look.{Look, IsSteady, looking};
+ghost use Rattle.hum_stage.specs.Look.{looking};
 ghost use Rattle.hum_stage.specs.Lagging.{Lags, flat};
 
 use crate::contract::Stage;
@@ -20,7 +20,6 @@ const ROOM: usize = 65_536;
 /// What a record costs doesn't grow with how many wait. A record that is still undecided with 65,536
 /// behind it is refused by H1, at its own line. Those that are undecided when the input ends are
 /// never given.
-#[derive(Drop)]
 pub struct Lagging<C: LooksAhead> {
     memory: C,
     stage: u8,
@@ -34,16 +33,40 @@ pub struct Lagging<C: LooksAhead> {
     spent: bool,
 }
 
+// Written out, so that a caller's proof sees one call and not the drop of each field.
+impl<C: LooksAhead + Drop> Drop for Lagging<C> {
+    fn drop(self) {
+        let Lagging {
+            memory: _memory,
+            stage: _,
+            command: _,
+            line: _,
+            first: _,
+            waiting: _waiting,
+            due: _due,
+            fault: _,
+            ended: _,
+            spent: _,
+        } = self;
+    }
+}
+
 impl<C: LooksAhead> Lagging<C> {
-    /// The stage of this number, from 1, for a command whose memory stands for no record yet.
-    pub fn new(alloc: Global, stage: u8, command: Command, memory: C) -> Lagging<C>
-        ensures { (look : Look) → IsSteady look → C.follows memory [] look [] []
-            → ⟦<Lagging<C> as Stage>⟧.stands result (opening (looking 65536 stage command look)) }
+    ghost use Rattle.hum_stage.specs.Meaning.{KeepsScore};
+
+    /// The stage of this number, from 1, that is told to do so.
+    pub fn new(alloc: Global, stage: u8, options: C::Options) -> Lagging<C>
+        // It stands for what the options say, with nothing put yet.
+        ensures stands { ⟦<Lagging<C> as Stage>⟧.stands result
+            (opening (looking 65536 stage C.command (C.look options))) }
+
+        // Of scores it makes scores.
+        ensures keeps { KeepsScore (looking 65536 stage C.command (C.look options)).outcomes }
     {
         Lagging {
-            memory,
+            memory: C::begin(alloc, options),
             stage,
-            command,
+            command: C::command(),
             line: 0,
             first: 1,
             waiting: VecDeque::new(alloc),
@@ -150,6 +173,8 @@ impl<C: LooksAhead> Stage for Lagging<C> {
         }
     }
 
+    // Inlined, its answer would be taken to pieces as small as a fault's fields.
+    #[inline(never)]
     fn state(&self) -> State {
         if !self.due.is_empty() {
             return State::Gives;

@@ -1,14 +1,16 @@
 //! A command that decides a record by some of those behind it.
-ghost use Rattle.std.specs.Prelude.{◌≡◌, ◌<◌, List, IfOk, OnOk, length};
+ghost use Rattle.std.specs.Prelude.{◌≡◌, ◌<◌, List, [], IfOk, OnOk, length};
 ghost use Rattle.std.specs.VecDeque.{deque_len};
 ghost use Rattle.hum_record.specs.Row.{Row};
-ghost use Rattle.hum_stage.specs.Look.{Look};
+ghost use Rattle.hum_stage.specs.declared.faults.Command.{Command};
+ghost use Rattle.hum_stage.specs.Meaning.{KeepsScore};
+ghost use Rattle.hum_stage.specs.Look.{Look, IsSteady, looking};
 ghost use Rattle.hum_stage.specs.Settles.{MayWait, HasWaited, MaySettle};
 ghost use Rattle.hum_stage.specs.Settles.{HasSettled, Lasts, left_by};
 
-use crate::faults::Rule;
+use crate::faults::{Command, Rule};
 use hum_record::Record;
-use std::alloc::AllocError;
+use std::alloc::{AllocError, Global};
 use std::collections::VecDeque;
 
 /// What becomes of the first record that waits.
@@ -21,17 +23,42 @@ pub enum Verdict {
     Refuses(Rule),
 }
 
-/// What a command remembers of the records so far and of those that wait to be decided.
+/// A command that decides a record by some of those behind it, with what it remembers of the
+/// records so far and of those that wait to be decided.
 ///
 /// The stage round it, [`Lagging`](crate::Lagging), keeps the queue of those that wait and lends it to each
 /// call. A record that is decided before those in front of it goes on waiting until they are.
 pub trait LooksAhead {
+    /// What it is told to do.
+    type Options;
+
     /// What is kept of a record that waits.
     type Held: Drop;
+
+    /// Which command it is.
+    ghost command: { Command };
+
+    /// What it decides by its options.
+    ghost look: { Self.Options → Look };
 
     /// With what is kept of those that wait it stands for a command, the records before them, the
     /// newest first, and for them, in their order.
     ghost follows: { Self → List Self.Held → Look → List Row → List Row → Type 0 };
+
+    /// Which command it is.
+    fn command() -> Command
+        ensures { result ≡ command };
+
+    /// There were no records yet.
+    fn begin(alloc: Global, options: Self::Options) -> Self
+        // It stands for what the options say.
+        ensures follows { follows result [] (look options) [] [] }
+
+        // A record that is decided stays so.
+        ensures steady { IsSteady (look options) }
+
+        // Of scores it makes scores.
+        ensures keeps { KeepsScore (looking 65536 0 command (look options)).outcomes };
 
     /// Takes one record more, behind those that wait, of which there are 65,536 at most.
     fn put(&mut self, next: Record, held: &mut VecDeque<Self::Held>) -> Result<(), AllocError>

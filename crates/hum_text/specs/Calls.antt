@@ -1,12 +1,14 @@
 -- What a source and a sink show of the calls that were made.
-use Rattle.std.specs.Prelude.{◌≡◌, ℕ, ◌+◌, ◌-◌, ◌^◌, min, Bool, true, ◌||◌, ◌==◌, Result, Ok, Err}
+use Rattle.std.specs.Prelude.{◌≡◌, ℕ, ◌+◌, ◌-◌, ◌^◌, min, Bool, true, ◌||◌, ◌==◌, Result}
+use Rattle.std.specs.Prelude.{Ok, Err}
 
--- A source or a sink, as contracts see it: what it is made of, how many calls were made, and
--- whether one failed.
+-- A source or a sink, as contracts see it: what it is made of, how many calls were made, whether
+-- one failed, and whether the last one was a flush that didn't.
 pub record Calls (T : Type 0) : Type 0 where
   pub inner : T
   pub calls : ℕ
   pub failed : Bool
+  pub flushed : Bool
 
 -- one call more, in a number that stays at the greatest u64
 abbrev pub counted : ℕ → ℕ

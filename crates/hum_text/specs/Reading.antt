@@ -37,6 +37,11 @@ opening source limits = record {
   fault = None;
 }
 
+-- So many lines were given, from so many bytes, and both are within the limits.
+pub record IsWithin (l : Limits) (given taken : ℕ) : Type 0 where
+  pub lines : given ≤ l.records
+  pub bytes : taken ≤ l.bytes
+
 -- Of all the bytes these lines were given, n of them from t bytes, and the rest stands.
 pub record Stands (l : Limits) (all : List ℕ) (given : List (List ℕ)) (rest : List ℕ) (n t : ℕ)
     : Type 0 where

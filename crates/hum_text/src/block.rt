@@ -87,6 +87,7 @@ impl Block {
         ensures ok { IfOk result (λ n. (bs : List ℕ) × (self.new ≡ self.old ++ bs) × (length bs ≡ n)
             × Consumes (R.remaining reader.old) (R.remaining reader.new) bs
             × (n ≡ 0 → IsAtEnd (R.remaining reader.new))) }
+        ensures asked { IfOk result (λ n. n ≤ LARGEST_READ) }
         ensures read { OnOk result (IsCalled R.calls R.failed reader.old reader.new false) }
         ensures err { OnErr result ((self.new ≡ self.old)
             × Keeps (R.remaining reader.old) (R.remaining reader.new)) }
@@ -113,6 +114,7 @@ impl Block {
 fn read_at<R: Source>(bytes: &mut Vec<u8>, at: usize, reader: &mut R) -> io::Result<usize>
     requires { at < vec_len bytes.old }
     ensures within { IfOk result (λ n. at + n ≤ vec_len bytes.new) }
+    ensures asked { IfOk result (λ n. n ≤ LARGEST_READ) }
     ensures front { take at bytes.new.items ≡ take at bytes.old.items }
     ensures len { vec_len bytes.new ≡ vec_len bytes.old }
     ensures read { IfOk result (λ n. Consumes (R.remaining reader.old) (R.remaining reader.new)

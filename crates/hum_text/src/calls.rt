@@ -1,5 +1,5 @@
 //! Readers and writers that show how often they were called and whether a call failed.
-ghost use Rattle.std.specs.Prelude.{◌≡◌, ℕ, Bool, List, ◌||◌, ◌==◌, is_err, false, length};
+ghost use Rattle.std.specs.Prelude.{◌≡◌, ℕ, Bool, List, ◌||◌, ◌==◌, is_err, is_ok, false, length};
 ghost use Rattle.std.specs.Prelude.{◌<◌, ◌≤◌, Option};
 ghost use Rattle.std.specs.Io.{ReadsAtMost, WritesAtMost};
 ghost use Rattle.std.specs.Io.KnownBytes.{ReadConsumes, WriteAppends, Keeps};
@@ -39,19 +39,23 @@ pub trait Sink {
     ghost calls: { Self → ℕ };
     // whether a call failed
     ghost failed: { Self → Bool };
+    // whether the last call was a flush that didn't fail
+    ghost flushed: { Self → Bool };
 
     /// Writes some of the bytes. Taking none is a failure.
     fn write(&mut self, buf: &[u8]) -> io::Result<usize>
         ensures bound { WritesAtMost result buf.now }
         ensures bytes { WriteAppends (contents self.old) (contents self.new) result buf.now }
         ensures calls { calls self.new ≡ counted (calls self.old) }
-        ensures failed { failed self.new ≡ (failed self.old || write_fails result) };
+        ensures failed { failed self.new ≡ (failed self.old || write_fails result) }
+        ensures flushed { flushed self.new ≡ false };
 
     /// Hands on what was written and still waits.
     fn flush(&mut self) -> io::Result<()>
         ensures bytes { Keeps (contents self.old) (contents self.new) }
         ensures calls { calls self.new ≡ counted (calls self.old) }
-        ensures failed { failed self.new ≡ (failed self.old || is_err result) };
+        ensures failed { failed self.new ≡ (failed self.old || is_err result) }
+        ensures flushed { flushed self.new ≡ is_ok result };
 }
 
 /// Any reader or writer of std, with what is shown of the calls on it.
@@ -60,6 +64,7 @@ pub struct Marked<T> {
     inner: T,
     calls: u64,
     failed: bool,
+    flushed: bool,
 }
 
 impl<T> Model for Marked<T> {
@@ -67,30 +72,38 @@ impl<T> Model for Marked<T> {
 
     ghost Value = { Calls T };
 
-    ghost view = { λ m. record { inner = m.inner; calls = m.calls; failed = m.failed } };
+    ghost view = { λ m. record {
+      inner = m.inner;
+      calls = m.calls;
+      failed = m.failed;
+      flushed = m.flushed;
+    } };
 }
 
 impl<T> Marked<T> {
     /// A reader or a writer on which no call was made yet.
     pub fn new(inner: T) -> Marked<T>
-        ensures { result ≡ record { inner = inner; calls = 0; failed = false } }
+        ensures { result ≡ record { inner = inner; calls = 0; failed = false; flushed = false } }
     {
         Marked {
             inner,
             calls: 0,
             failed: false,
+            flushed: false,
         }
     }
 
-    // Counts a call, and marks whether it failed.
-    fn note(&mut self, failed: bool)
+    // Counts a call, and marks whether it failed, and whether it was a flush that didn't.
+    fn note(&mut self, failed: bool, flushed: bool)
         ensures { self.new ≡ record self.old {
           calls = counted self.old.calls;
           failed = self.old.failed || failed;
+          flushed = flushed;
         } }
     {
         self.calls = self.calls.saturating_add(1);
         self.failed = self.failed || failed;
+        self.flushed = flushed;
     }
 
     /// The reader or the writer that it was made of.
@@ -101,6 +114,7 @@ impl<T> Marked<T> {
             inner,
             calls: _,
             failed: _,
+            flushed: _,
         } = self;
         inner
     }
@@ -118,6 +132,13 @@ impl<T> Marked<T> {
     {
         self.failed
     }
+
+    /// Whether the last call was a flush that didn't fail.
+    pub fn flushed(&self) -> bool
+        ensures { result ≡ self.now.flushed }
+    {
+        self.flushed
+    }
 }
 
 impl<T: Read> Source for Marked<T> {
@@ -129,7 +150,7 @@ impl<T: Read> Source for Marked<T> {
 
     fn read(&mut self, buf: &mut [u8]) -> io::Result<usize> {
         let result = self.inner.read(buf);
-        self.note(result.is_err());
+        self.note(result.is_err(), false);
         result
     }
 }
@@ -141,15 +162,17 @@ impl<T: Write> Sink for Marked<T> {
 
     ghost failed = { λ m. m.failed };
 
+    ghost flushed = { λ m. m.flushed };
+
     fn write(&mut self, buf: &[u8]) -> io::Result<usize> {
         let result = self.inner.write(buf);
-        self.note(!matches!(&result, Ok(1..)));
+        self.note(!matches!(&result, Ok(1..)), false);
         result
     }
 
     fn flush(&mut self) -> io::Result<()> {
         let result = self.inner.flush();
-        self.note(result.is_err());
+        self.note(result.is_err(), result.is_ok());
         result
     }
 }

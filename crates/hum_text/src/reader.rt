@@ -8,7 +8,7 @@ ghost use Rattle.memchr.specs.Find.{IsFirstByte, is_byte};
 ghost use Rattle.hum_text.specs.Text.{lf, without_cr, IsLawful, BreaksFirst};
 
 use crate::block::Block;
-use crate::calls::Source;
+use crate::calls::{LARGEST_READ, Source};
 use crate::rules::{first_fault, strip_cr};
 use crate::{Limits, TextFault};
 use std::alloc::Global;
@@ -56,9 +56,9 @@ impl<R> Model for LineReader<R> {
       fault = r.fault;
     } };
 
-    ghost use Rattle.std.specs.Prelude.{◌≤◌};
+    ghost use Rattle.hum_text.specs.Reading.{IsWithin};
 
-    ghost invariant = { λ r. r.given ≤ r.limits.records };
+    ghost invariant = { λ r. IsWithin r.limits r.given r.taken };
 }
 
 // How many bytes stand up to place k, it included.
@@ -176,6 +176,7 @@ impl<R: Source> LineReader<R> {
         ensures nears { IfOk result
             (λ step. Nears step (left_to_do self.old) (left_to_do self.new)) }
         ensures limits { self.new.limits ≡ self.old.limits }
+        ensures taken { self.new.taken ≤ self.new.limits.bytes }
         ensures not_end { result ≢ Ok Step.End }
     {
         let size = through(self.block.as_slice(), k);
@@ -200,6 +201,7 @@ impl<R: Source> LineReader<R> {
         ensures nears { IfOk result
             (λ step. Nears step (left_to_do self.old) (left_to_do self.new)) }
         ensures limits { self.new.limits ≡ self.old.limits }
+        ensures taken { self.new.taken ≤ self.new.limits.bytes }
         ensures end { result ≡ Ok Step.End → IsOver self.new }
         ensures over { IsOver self.old → (result ≡ Ok Step.End) × (self.new ≡ self.old) }
     {
@@ -227,6 +229,7 @@ impl<R: Source> LineReader<R> {
             → ReadsOnce R.calls R.failed self.old result self.new }
         ensures more { result ≡ Ok Step.More → IsFed self.old self.new }
         ensures unfed { result ≢ Ok Step.More → bytes_read self.old self.new ≡ [] }
+        ensures asked { length (bytes_read self.old self.new) ≤ LARGEST_READ }
         ensures consumes { Consumes (R.remaining self.old.source) (R.remaining self.new.source)
             (bytes_read self.old self.new) }
         ensures at_end { self.new.ended ≡ true → IsAtEnd (R.remaining self.new.source) }
@@ -237,6 +240,7 @@ impl<R: Source> LineReader<R> {
         ensures nears { IfOk result
             (λ step. Nears step (left_to_do self.old) (left_to_do self.new)) }
         ensures limits { self.new.limits ≡ self.old.limits }
+        ensures taken { self.new.taken ≤ self.new.limits.bytes }
     {
         match self.fault_in(self.block.as_slice().len()) {
             Some(fault) => self.fail(fault),
@@ -263,6 +267,7 @@ impl<R: Source> LineReader<R> {
             → ReadsOnce R.calls R.failed self.old result self.new }
         ensures more { result ≡ Ok Step.More → IsFed self.old self.new }
         ensures unfed { result ≢ Ok Step.More → bytes_read self.old self.new ≡ [] }
+        ensures asked { length (bytes_read self.old self.new) ≤ LARGEST_READ }
         ensures consumes { Consumes (R.remaining self.old.source) (R.remaining self.new.source)
             (bytes_read self.old self.new) }
         ensures at_end { self.new.ended ≡ true
@@ -284,6 +289,7 @@ impl<R: Source> LineReader<R> {
         ensures nears { IfOk result
             (λ step. Nears step (left_to_do self.old) (left_to_do self.new)) }
         ensures limits { self.new.limits ≡ self.old.limits }
+        ensures taken { self.new.taken ≤ self.new.limits.bytes }
     {
         if let Some(fault) = self.fault {
             return Err(fault);

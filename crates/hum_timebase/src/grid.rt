@@ -23,7 +23,7 @@ use crate::records::{names_some, null_record, tb_record};
 use hum_frac::Frac;
 use hum_path::{Moves, PathFault, Paths};
 use hum_record::{Kind, Record, RecordFault};
-use hum_stage::{Decides, Rule};
+use hum_stage::{Command, Decides, Rule};
 use std::alloc::{AllocError, Global};
 
 /// Where the spines after a record that breaks no path rule come from.
@@ -109,7 +109,7 @@ fn place(
 
 /// The spines, which of them are timed, and where the notes end.
 #[derive(Drop)]
-pub(crate) struct Grid {
+pub struct Grid {
     alloc: Global,
     pace: Pace,
     paths: Paths,
@@ -120,21 +120,6 @@ pub(crate) struct Grid {
 }
 
 impl Grid {
-    /// No spines yet.
-    pub(crate) fn new(alloc: Global, options: TimebaseOptions) -> Grid
-        ensures { Follows result.pace result.paths.path result.timed.items result.clock
-            (timebase (pace_of options)) [] }
-    {
-        Grid {
-            alloc,
-            pace: Pace::new(options),
-            paths: Paths::new(alloc),
-            timed: Vec::new(alloc),
-            clock: Clock::new(alloc),
-            notes: Vec::new(alloc),
-        }
-    }
-
     /// Takes an interpretation.
     fn interpret(&mut self, row: Record, out: &mut Around) -> Result<Option<Rule>, AllocError>
         requires kind { kind_of row ≡ AnyInterpretation }
@@ -230,9 +215,32 @@ impl Grid {
 }
 
 impl Decides for Grid {
+    type Options = TimebaseOptions;
+
     type Due = Around;
 
+    ghost use Rattle.hum_stage.specs.declared.faults.Command.TheVariants.{Timebase};
+
+    ghost command = { Timebase };
+
+    ghost decide = { λ options. timebase (pace_of options) };
+
     ghost follows = { λ s. Follows s.pace s.paths.path s.timed.items s.clock };
+
+    fn command() -> Command {
+        Command::Timebase
+    }
+
+    fn begin(alloc: Global, options: TimebaseOptions) -> Grid {
+        Grid {
+            alloc,
+            pace: Pace::new(options),
+            paths: Paths::new(alloc),
+            timed: Vec::new(alloc),
+            clock: Clock::new(alloc),
+            notes: Vec::new(alloc),
+        }
+    }
 
     fn step(
         &mut self,

@@ -1,5 +1,5 @@
 -- What the commands on notes make of kern columns.
-use Rattle.std.specs.Prelude.{◌≡◌, ℕ, List, ◌++◌, Option, None}
+use Rattle.std.specs.Prelude.{◌≡◌, ℕ, ℤ, List, ◌++◌, Option, None}
 use Rattle.std.specs.Fmt.{signed_decimal}
 use lib.Chars.{codes}
 use Rattle.hum_record.specs.Row.{Row}
@@ -19,15 +19,15 @@ use Rattle.hum_tones.specs.Memory.{note_after}
 use Rattle.hum_tones.specs.Giving.{given}
 
 -- what goes behind **kern: by how many steps and semitones its notes were moved
-abbrev pub trans_sign : Transposition → List ℕ
-trans_sign options =
-    codes "*Trd" ++ (signed_decimal options.steps ++ (codes "c" ++ signed_decimal options.semitones))
+abbrev pub trans_sign : ℤ → ℤ → List ℕ
+trans_sign steps semitones =
+    codes "*Trd" ++ (signed_decimal steps ++ (codes "c" ++ signed_decimal semitones))
 
 -- each note is so many steps and semitones away
-abbrev pub trans : Transposition → Retelling
-trans options = record {
-  heading = Followed (trans_sign options);
-  becomes = λ above. transposed options.steps options.semitones;
+abbrev pub trans : ℤ → ℤ → Retelling
+trans steps semitones = record {
+  heading = Followed (trans_sign steps semitones);
+  becomes = λ above. transposed steps semitones;
 }
 
 -- **kern becomes **semits, and notes their semitones
@@ -48,8 +48,8 @@ recip options = record { heading = Renamed (codes "**recip"); becomes = λ above
 -- what trans keeps: its options, and the text of what goes behind **kern
 pub record Transposes (options : Transposition) (sign : List ℕ) (retelling : Retelling)
     (past : List Row) : Type 0 where
-  pub command : retelling ≡ trans options
-  pub text : sign ≡ trans_sign options
+  pub command : retelling ≡ trans options.steps options.semitones
+  pub text : sign ≡ trans_sign options.steps options.semitones
   pub lawful : IsHeading retelling.heading
 
 -- what mint keeps: its options, and the note before of each column
@@ -60,7 +60,7 @@ pub record Mints (options : MintOptions) (memories : List (Option Spelled)) (ret
 
 -- what the stages of these numbers mean
 abbrev pub meaning_of_trans : ℕ → Transposition → Meaning
-meaning_of_trans stage options = meaning stage Trans (trans options)
+meaning_of_trans stage options = meaning stage Trans (trans options.steps options.semitones)
 
 abbrev pub meaning_of_semits : ℕ → SemitsOptions → Meaning
 meaning_of_semits stage options = meaning stage Semits (semits options)

@@ -1,14 +1,12 @@
 //! The command mint: notes become the intervals from the notes before them.
-ghost use Rattle.hum_stage.specs.Meaning.{opening, KeepsScore};
 ghost use Rattle.hum_stage.specs.declared.faults.Command.TheVariants.{Mint as MintCommand};
-ghost use Rattle.hum_tones.specs.Commands.{meaning_of_mint};
 
 use crate::last_note::LastNote;
 use crate::minting::MintOptions;
 use hum_cells::{CellStage, Heading, Retells};
 use hum_path::{Carried, Moves};
 use hum_record::Record;
-use hum_stage::{Command, End, Rule, Stage, State};
+use hum_stage::{Command, Rule};
 use std::alloc::{AllocError, Global};
 
 /// What mint makes of tokens.
@@ -20,65 +18,7 @@ pub struct MintTokens {
 }
 
 /// The command mint, as a stage.
-pub struct Mint {
-    inner: CellStage<MintTokens>,
-}
-
-// Written out, so that a caller's proof sees one call and not the drop of each field.
-impl Drop for Mint {
-    fn drop(self) {
-        let Mint { inner: _inner } = self;
-    }
-}
-
-impl Mint {
-    /// The stage of this number, from 1.
-    pub fn new(alloc: Global, stage: u8, options: MintOptions) -> Mint
-        // It stands for what the options say, with nothing put yet.
-        ensures stands { ⟦<Mint as Stage>⟧.stands result (opening (meaning_of_mint stage options)) }
-
-        // Of scores it makes scores.
-        ensures keeps { KeepsScore (meaning_of_mint stage options).outcomes }
-    {
-        Mint {
-            inner: CellStage::new(alloc, stage, options),
-        }
-    }
-}
-
-impl Stage for Mint {
-    ghost stands = { λ s t. ⟦<CellStage<MintTokens> as Stage>⟧.stands s.inner t };
-
-    ghost left = { λ s. ⟦<CellStage<MintTokens> as Stage>⟧.left s.inner };
-
-    ghost spent = { λ s. ⟦<CellStage<MintTokens> as Stage>⟧.spent s.inner };
-
-    ghost use Rattle.hum_stage.specs.Laws.{standing_remains, standing_lawful};
-
-    ghost remains = { λ s t h. standing_remains _ _ _ _ t h };
-
-    ghost lawful = { λ s t h. standing_lawful _ _ _ _ t h };
-
-    fn put(&mut self, next: Record) -> Result<(), AllocError> {
-        self.inner.put(next)
-    }
-
-    fn end(&mut self, end: End) {
-        self.inner.end(end)
-    }
-
-    fn take(&mut self) -> Result<Option<Record>, AllocError> {
-        self.inner.take()
-    }
-
-    fn state(&self) -> State {
-        self.inner.state()
-    }
-
-    fn held(&self) -> usize {
-        self.inner.held()
-    }
-}
+pub type Mint = CellStage<MintTokens>;
 
 impl Retells for MintTokens {
     type Options = MintOptions;

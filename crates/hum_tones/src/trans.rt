@@ -26,7 +26,7 @@ pub type Trans = CellStage<TransTokens>;
 
 /// What goes behind `**kern`.
 fn sign(transposition: Transposition) -> ArrayString<32>
-    ensures { result.bytes ≡ trans_sign transposition }
+    ensures { result.bytes ≡ trans_sign transposition.steps transposition.semitones }
 {
     let mut number = Buffer::new();
     let mut text = ArrayString::new();
@@ -44,7 +44,7 @@ impl Retells for TransTokens {
 
     ghost command = { TransCommand };
 
-    ghost retelling = { trans };
+    ghost retelling = { λ options. trans options.steps options.semitones };
 
     ghost follows = { λ s. Transposes s.transposition s.sign.bytes };
 

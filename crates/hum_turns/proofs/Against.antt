@@ -6,9 +6,9 @@ use Rattle.std.proofs.lemmas.Bool.{cases_eq, cond-true, cond-false}
 use Rattle.std.proofs.lemmas.List.{length-map}
 use Rattle.hum_stage.specs.declared.faults.End.{End}
 use Rattle.hum_turns.specs.Flow.{Flow, Begins, IsOver, Later}
-use Rattle.hum_turns.specs.Plan.{Want, Stage, inputs_end, or_own, end_of, AreInputs, Onward, whole}
+use Rattle.hum_turns.specs.Plan.{Want, Stage, inputs_end, or_own, end_of, AreInputs, Onward, whole, KeepsFine}
 use Rattle.hum_turns.specs.Plan.{IsLawful, Plan, last, IsPlan}
-use Rattle.hum_turns.specs.Meaning.{meanings, meaning, plan_meaning}
+use Rattle.hum_turns.specs.Meaning.{meanings, meaning, plan_meaning, EveryMeaningIsFine}
 use Rattle.hum_turns.specs.Links.{Link, given, view, Moment, inputs, is_over, Agrees}
 use Rattle.hum_turns.specs.Turns.{State, Gives, by_want, stage_state}
 use Rattle.hum_turns.proofs.Fronts.{begins_trans, begins_append, begins_all, same_over, map_same}
@@ -106,6 +106,17 @@ module _ {R : Type 0} (plan : Plan R) (ok : IsPlan plan) where
         (plan.stage k).sources (ok.below k less);
   }
 
+  -- The plan's meaning, where its last stage makes what may lie on a link.
+  pub meaning_fine : KeepsFine plan.fine (plan.stage (last plan))
+      → plan.fine (plan_meaning plan) ≡ true
+  meaning_fine keeps =
+      let k = last plan in
+      let less = last_less plan.count ok.some in
+      let ss = (plan.stage k).sources in
+      let over = over_map (meaning plan) (λ s. s < k)
+      (λ s b. (meanings_over plan.count s (omega arith) (omega arith)).0) ss (ok.below k less) in
+      ap plan.fine (meaning_is plan k ok less) ∙ keeps.done (finals plan k) (fine_finals k less) over
+
   -- by induction over the stages, in order
   fronts : (size : ℕ) (m : Moment R) → Inv plan size m → (n k : ℕ) → k < n → k < plan.count
       → Begins (given (m k)) (meaning plan k).items × Later (view (m k)) (meaning plan k)
@@ -177,3 +188,6 @@ agrees_self plan size m inv = record {
   wants = λ k a h. refl;
   own = λ k a h. refl;
 }
+
+pub every_meaning_is_fine : {R : Type 0} → EveryMeaningIsFine R
+every_meaning_is_fine plan ok keeps = meaning_fine plan ok keeps

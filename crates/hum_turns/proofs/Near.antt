@@ -1,17 +1,18 @@
 -- What is near a turn, and what code that makes a turn has to show.
-use Rattle.std.proofs.Common.{◌≡◌, ℕ, zero, suc, ◌<◌, ◌≤◌, inl, inr, true, ◌&&◌, List, [], ◌∷◌}
+use Rattle.std.proofs.Common.{◌≡◌, ◌≢◌, ℕ, zero, suc, ◌<◌, ◌≤◌, inl, inr, true, ◌&&◌, List, [], ◌∷◌}
 use Rattle.std.proofs.Common.{◌++◌, map, slice_get, slice_index, Some, is_none, refl, sym, ap, ◌∙◌}
 use Rattle.std.proofs.Common.{subst, ⊎_elim, arith, le-ltb, lt-ltb}
 use Rattle.std.proofs.lemmas.Bool.{cases_eq, cases_lt, cases_Bool, and_from, and_left, cond-true}
 use Rattle.std.proofs.lemmas.Bool.{cond-false}
 use Rattle.std.proofs.lemmas.Option.{none-some, same_Some}
+use Rattle.hum_turns.specs.Flow.{Flow}
 use Rattle.hum_turns.specs.Plan.{Plan, last, IsPlan}
 use Rattle.hum_turns.specs.Links.{Link, view, has_room, has_some, Moment, inputs}
 use Rattle.hum_turns.specs.Turns.{State, Gives, Reads, Takes, Ends, stage_state, state, can}
 use Rattle.hum_turns.specs.Turns.{is_source, ready, Becomes, Does, HasRead, Turns, Step, Run}
-use Rattle.hum_turns.specs.Near.{IsOneOf, LooksAt, EveryTurnIsNear}
+use Rattle.hum_turns.specs.Near.{IsOneOf, LooksAt, touched, EveryTurnIsNear}
 use Rattle.hum_turns.proofs.States.{state_is, sink_state, gives_less, reads_less, ends_less, wanted}
-use Rattle.hum_turns.proofs.States.{last_next, taker, source_less}
+use Rattle.hum_turns.proofs.States.{last_next, taker, source_less, reads_source}
 use Rattle.std.proofs.Math.Path.{fun_ext}
 
 -- What an actor doesn't look at it leaves alone.
@@ -166,39 +167,97 @@ run_more plan size [] k old between new run step =
 run_more plan size (j ∷ ks) k old between new run step =
     (run.0, run.1, run_more plan size ks k run.0 between new run.2 step)
 
--- A turn of a stage takes nothing from the last link, so nothing is written.
+-- A turn of a stage takes nothing from the last link, and hears no end there.
 module _ {R : Type 0} (plan : Plan R) (ok : IsPlan plan) (size k : ℕ) (less : k < plan.count) where
-  -- a link that keeps what was taken from it
-  keeps_taken : (l : Link R) (old new : Moment R) → Becomes k l old new → l.taken ≡ (old k).taken
-      → (new (last plan)).taken ≡ (old (last plan)).taken
-  keeps_taken l old new d e =
+  -- a link that keeps what was taken and heard
+  keeps_view : (l : Link R) (old new : Moment R) → Becomes k l old new → view l ≡ view (old k)
+      → view (new (last plan)) ≡ view (old (last plan))
+  keeps_view l old new d e =
       ⊎_elim
-      (λ same. subst (λ j. (new j).taken ≡ (old j).taken) (sym same)
-      (ap (λ (l : Link R). l.taken) d.here ∙ e))
-      (λ other. ap (λ (l : Link R). l.taken) (d.elsewhere (last plan) other))
+      (λ same. subst (λ j. view (new j) ≡ view (old j)) (sym same) (ap view d.here ∙ e))
+      (λ other. ap view (d.elsewhere (last plan) other))
       (cases_eq (last plan) k)
 
-  does_taken : (s : State) (old new : Moment R) → state plan old k ≡ s → Does plan k s old new
-      → (new (last plan)).taken ≡ (old (last plan)).taken
-  does_taken Gives old new e d = keeps_taken _ old new d.becomes refl
-  does_taken Reads old new e d = ap (λ (l : Link R). l.taken) (d (last plan))
-  does_taken (Takes s) old new e d =
+  does_view : (s : State) (old new : Moment R) → state plan old k ≡ s → Does plan k s old new
+      → view (new (last plan)) ≡ view (old (last plan))
+  does_view Gives old new e d = keeps_view _ old new d.becomes refl
+  does_view Reads old new e d = ap view (d (last plan))
+  does_view (Takes s) old new e d =
       let lower = (wanted plan ok old k s less e).below in
       let top = last_next plan.count ok.some in
-      ap (λ (l : Link R). l.taken) (d.elsewhere (last plan) (λ same. absurd (omega arith)))
-  does_taken Ends old new e d = keeps_taken _ old new d refl
+      ap view (d.elsewhere (last plan) (λ same. absurd (omega arith)))
+  does_view Ends old new e d = keeps_view _ old new d refl
 
-  turns_taken : (s : State) (old new : Moment R) → state plan old k ≡ s → Turns plan k s old new
-      → (new (last plan)).taken ≡ (old (last plan)).taken
-  turns_taken Gives old new e t = does_taken Gives old new e t
-  turns_taken (Takes s) old new e t = does_taken (Takes s) old new e t
-  turns_taken Ends old new e t = does_taken Ends old new e t
-  turns_taken Reads old new e t =
+  turns_view : (s : State) (old new : Moment R) → state plan old k ≡ s → Turns plan k s old new
+      → view (new (last plan)) ≡ view (old (last plan))
+  turns_view Gives old new e t = does_view Gives old new e t
+  turns_view (Takes s) old new e t = does_view (Takes s) old new e t
+  turns_view Ends old new e t = does_view Ends old new e t
+  turns_view Reads old new e t =
       ⊎_elim
-      (λ same. ap (λ (l : Link R). l.taken) (same (last plan)))
-      (λ does. does_taken (state plan t.between k) t.between new refl does) t.does
-      ∙ keeps_taken _ old t.between t.reads.becomes refl
+      (λ same. ap view (same (last plan)))
+      (λ does. does_view (state plan t.between k) t.between new refl does) t.does
+      ∙ keeps_view _ old t.between t.reads.becomes refl
+
+  pub step_view : (old new : Moment R) → Step plan size k old new
+      → view (new (last plan)) ≡ view (old (last plan))
+  step_view old new step = turns_view (state plan old k) old new refl step.turns
 
   pub step_taken : (old new : Moment R) → Step plan size k old new
       → (new (last plan)).taken ≡ (old (last plan)).taken
-  step_taken old new step = turns_taken (state plan old k) old new refl step.turns
+  step_taken old new step = ap (λ (f : Flow R). f.items) (step_view old new step)
+
+  pub step_heard : (old new : Moment R) → Step plan size k old new
+      → (new (last plan)).heard ≡ (old (last plan)).heard
+  step_heard old new step = ap (λ (f : Flow R). f.end) (step_view old new step)
+
+-- A turn changes one link, and who doesn't look at it is as ready as before.
+module _ {R : Type 0} (plan : Plan R) (ok : IsPlan plan) (size k : ℕ) where
+  does_touches : (s : State) (old new : Moment R) → Does plan k s old new
+      → (i : ℕ) → i ≢ touched k s → new i ≡ old i
+  does_touches Gives old new d i other = d.becomes.elsewhere i other
+  does_touches Reads old new d i other = d i
+  does_touches (Takes s) old new d i other = d.elsewhere i other
+  does_touches Ends old new d i other = d.elsewhere i other
+
+  -- a stage that reads bytes takes from no other
+  no_source : (m : Moment R) → is_source plan k ≡ true → (s : State) → state plan m k ≡ s
+      → touched k s ≡ k
+  no_source m src Gives e = refl
+  no_source m src Reads e = refl
+  no_source m src Ends e = refl
+  no_source m src (Takes s) e =
+      let less = source_less plan k src in
+      let w = wanted plan ok m k s less.0 e in
+      let none = (ok.lawful k less.0).apart less.1 in
+      absurd (none-some s (sym (ap (λ l. slice_get l w.place) none) ∙ w.is_there))
+
+  pub source_touches : (m : Moment R) → is_source plan k ≡ true
+      → touched k (state plan m k) ≡ k
+  source_touches m src = no_source m src (state plan m k) refl
+
+  turns_touch : (s : State) (old new : Moment R) → state plan old k ≡ s → Turns plan k s old new
+      → (i : ℕ) → i ≢ touched k s → new i ≡ old i
+  turns_touch Gives old new e t i other = does_touches Gives old new t i other
+  turns_touch (Takes s) old new e t i other = does_touches (Takes s) old new t i other
+  turns_touch Ends old new e t i other = does_touches Ends old new t i other
+  turns_touch Reads old new e t i other =
+      let src = reads_source plan ok old k e in
+      ⊎_elim
+      (λ same. same i)
+      (λ does. does_touches (state plan t.between k) t.between new does i
+      (λ is. other (is ∙ source_touches t.between src)))
+      t.does
+      ∙ t.reads.becomes.elsewhere i other
+
+  pub step_touches : (old new : Moment R) → Step plan size k old new
+      → (i : ℕ) → i ≢ touched k (state plan old k) → new i ≡ old i
+  step_touches old new step i other = turns_touch (state plan old k) old new refl step.turns i other
+
+  pub ready_untouched : (old new : Moment R) → Step plan size k old new → (j : ℕ)
+      → (LooksAt plan j (touched k (state plan old k)) → ⊥)
+      → ready plan size new j ≡ ready plan size old j
+  ready_untouched old new step j far =
+      ready_same plan ok size j old new
+      (λ i at. step_touches old new step i
+      (λ is. far (subst (LooksAt plan j) is at)))

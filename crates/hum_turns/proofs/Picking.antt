@@ -86,12 +86,12 @@ module _ {R : Type 0} (plan : Plan R) (size : ℕ) (now : Now R) where
       (omega arith, i.1)
 
   -- without a failure and before the sink's mark
-  going_on : (f : Option RunResult) (e : Option End) → ended_by f e ≡ None → (f ≡ None) × (e ≡ None)
+  pub going_on : (f : Option RunResult) (e : Option End) → ended_by f e ≡ None → (f ≡ None) × (e ≡ None)
   going_on (Some by) e h = absurd (none-some by (sym h))
   going_on None (Some e) h = absurd (none-some (result_of e) (sym h))
   going_on None None h = (refl, refl)
 
-  goes_on : (turns : List ℕ) (bytes : R → List ℕ) (pick : ℕ) → HoldsNow plan size bytes turns now
+  pub goes_on : (turns : List ℕ) (bytes : R → List ℕ) (pick : ℕ) → HoldsNow plan size bytes turns now
       → result plan now ≡ None
       → (chosen (ready_list plan size now) pick ≤ plan.count)
       × (is_ready plan size now (chosen (ready_list plan size now) pick) ≡ true)

@@ -109,7 +109,7 @@ module _ {R : Type 0} (plan : Plan R) where
 
   -- Sources.
 
-  source_is : (k : ℕ) → k < plan.count → 0 < (plan.stage k).bytes → is_source plan k ≡ true
+  pub source_is : (k : ℕ) → k < plan.count → 0 < (plan.stage k).bytes → is_source plan k ≡ true
   source_is k less some = and_from _ _ (lt-ltb k plan.count less) (lt-ltb 0 (plan.stage k).bytes some)
 
   pub source_less : (k : ℕ) → is_source plan k ≡ true

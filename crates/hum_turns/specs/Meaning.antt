@@ -1,11 +1,11 @@
 -- What a plan means, with no word of turns: each stage over the whole meanings of its sources.
-use Rattle.std.specs.Prelude.{◌≡◌, ℕ, zero, suc, ◌+◌, ◌<◌, if◌then◌else◌, nat_eq, [], map, Some}
+use Rattle.std.specs.Prelude.{◌≡◌, true, ℕ, zero, suc, ◌+◌, ◌<◌, if◌then◌else◌, nat_eq, [], map, Some}
 use Rattle.std.specs.Prelude.{slice_get}
 use Rattle.hum_stage.specs.declared.faults.End.{End}
 use Rattle.hum_stage.specs.declared.faults.End.TheVariants.{Closed, Broken}
 use Rattle.hum_stage.specs.declared.faults.Fault.{Fault}
 use Rattle.hum_turns.specs.Flow.{Flow, so_far}
-use Rattle.hum_turns.specs.Plan.{Plan, IsPlan, last, or_own, whole}
+use Rattle.hum_turns.specs.Plan.{Plan, IsPlan, KeepsFine, last, or_own, whole}
 
 -- The meanings of the stages below n.
 abbrev pub meanings : {R : Type 0} → Plan R → ℕ → ℕ → Flow R
@@ -22,6 +22,11 @@ meaning plan k = meanings plan (suc k) k
 -- the plan's list and its end
 abbrev pub plan_meaning : {R : Type 0} → Plan R → Flow R
 plan_meaning plan = meaning plan (last plan)
+
+-- Where the last stage too makes what may lie on a link, so does the plan.
+abbrev pub EveryMeaningIsFine : Type 0 → Type 0
+EveryMeaningIsFine R = (plan : Plan R) → IsPlan plan
+    → KeepsFine plan.fine (plan.stage (last plan)) → plan.fine (plan_meaning plan) ≡ true
 
 -- Whose fault it is.
 

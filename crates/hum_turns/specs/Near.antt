@@ -2,7 +2,7 @@
 use Rattle.std.specs.Prelude.{◌≡◌, ◌⊎◌, ℕ, ◌<◌, ◌≤◌, List, Some, slice_get}
 use Rattle.hum_turns.specs.Plan.{Plan, IsPlan, last}
 use Rattle.hum_turns.specs.Links.{Moment}
-use Rattle.hum_turns.specs.Turns.{ready, Step}
+use Rattle.hum_turns.specs.Turns.{State, Gives, Reads, Takes, Ends, ready, Step}
 
 abbrev pub IsOneOf : List ℕ → ℕ → Type 0
 IsOneOf ss i = (place : ℕ) × (slice_get ss place ≡ Some i)
@@ -12,6 +12,13 @@ abbrev pub LooksAt : {R : Type 0} → Plan R → ℕ → ℕ → Type 0
 LooksAt plan k i =
     ((k < plan.count) × ((i ≡ k) ⊎ IsOneOf (plan.stage k).sources i))
     ⊎ ((plan.count ≤ k) × (i ≡ last plan))
+
+-- The one link that an actor's turn changes: the one that it takes from, or its own.
+abbrev pub touched : ℕ → State → ℕ
+touched k Gives = k
+touched k Reads = k
+touched k (Takes s) = s
+touched k Ends = k
 
 -- No link that actor k looks at is one that actor j looks at.
 abbrev pub AreApart : {R : Type 0} → Plan R → ℕ → ℕ → Type 0

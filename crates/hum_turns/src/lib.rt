@@ -44,6 +44,6 @@ mod theorems;
 pub use order::{Leftmost, Order, Rightmost, choose};
 pub use result::RunResult;
 pub use theorems::{
-    every_end, every_order, every_order_ends, every_pick, every_turn, every_turn_is_near,
-    whose_fault,
+    every_end, every_meaning_is_fine, every_order, every_order_ends, every_pick, every_turn,
+    every_turn_is_near, whose_fault,
 };

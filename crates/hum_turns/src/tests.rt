@@ -63,6 +63,7 @@ fn orders_pick_from_their_side(rt: HostRuntime) {
 fn theorems_hold_at_each_type(_rt: HostRuntime) {
     crate::every_order::<u8>();
     crate::whose_fault::<u8>();
+    crate::every_meaning_is_fine::<u8>();
     crate::every_turn::<u8>();
     crate::every_pick::<u8, Leftmost>();
     crate::every_end::<u8>();

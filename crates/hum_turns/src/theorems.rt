@@ -1,5 +1,5 @@
 //! The theorems on turns, each the contract of a function without a body.
-ghost use Rattle.hum_turns.specs.Meaning.{WhoseFault};
+ghost use Rattle.hum_turns.specs.Meaning.{WhoseFault, EveryMeaningIsFine};
 ghost use Rattle.hum_turns.specs.Holds.{EveryOrder};
 ghost use Rattle.hum_turns.specs.Failures.{EveryTurn};
 ghost use Rattle.hum_turns.specs.Orders.{EveryPick};
@@ -17,6 +17,12 @@ pub fn every_order<R>()
 /// numbers, each on its whole input, up to the first that refuses.
 pub fn whose_fault<R>()
     ensures { WhoseFault R }
+{}
+
+/// Where the last stage too makes what may lie on a link, the plan's meaning may lie on one: a plan
+/// of stages that make scores of scores means a score, a closed one where it ends closed.
+pub fn every_meaning_is_fine<R>()
+    ensures { EveryMeaningIsFine R }
 {}
 
 /// The same at every moment of a run that a failed read, a failed write or want of memory may

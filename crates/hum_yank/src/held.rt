@@ -7,7 +7,7 @@ use crate::ranges::{any_early, is_chosen};
 use hum_record::{Kind, Record};
 
 /// What is kept of a record, whose passage is known.
-pub(crate) enum Held {
+pub enum Held {
     /// It stays.
     Stays(Record),
     /// It is dropped.

@@ -10,13 +10,13 @@ use crate::options::{Markers, YankOptions};
 use crate::passages::Passages;
 use hum_path::Paths;
 use hum_record::Record;
-use hum_stage::{LooksAhead, Verdict};
+use hum_stage::{Command, LooksAhead, Verdict};
 use std::alloc::{AllocError, Global};
 use std::collections::VecDeque;
 
 /// The spines, the passage at hand and the last number.
 #[derive(Drop)]
-pub(crate) struct Memory {
+pub struct Memory {
     options: YankOptions,
     paths: Paths,
     passages: Passages,
@@ -36,17 +36,30 @@ fn last_after(passages: &Passages, markers: &Markers, row: &Record, closed: bool
     }
 }
 
-impl Memory {
-    ghost use Rattle.std.specs.Prelude.{[]};
+impl LooksAhead for Memory {
+    type Options = YankOptions;
+
+    type Held = Held;
+
+    ghost use Rattle.hum_stage.specs.declared.faults.Command.TheVariants.{Yank};
     ghost use Rattle.hum_yank.specs.Yank.{yank};
     ghost use Rattle.hum_yank.specs.Options.{choice_of};
-    ghost use Rattle.hum_yank.specs.Memory.{Follows};
+    ghost use Rattle.hum_yank.specs.Memory.{Follows, tell_each};
 
-    /// Before all records.
-    pub(crate) fn new(alloc: Global, options: YankOptions) -> Memory
-        ensures { Follows result.options result.paths.path result.passages result.last []
-            (yank (choice_of options)) [] [] }
-    {
+    ghost command = { Yank };
+
+    ghost look = { λ options. yank (choice_of options) };
+
+    ghost follows = { λ s held. Follows s.options s.paths.path s.passages s.last held };
+
+    ghost each = { λ s held look past rows h.
+        tell_each (choice_of s.options) past rows held h.tell };
+
+    fn command() -> Command {
+        Command::Yank
+    }
+
+    fn begin(alloc: Global, options: YankOptions) -> Memory {
         let passages = Passages::new(&options.markers);
         Memory {
             options,
@@ -55,18 +68,6 @@ impl Memory {
             last: 0,
         }
     }
-}
-
-impl LooksAhead for Memory {
-    type Held = Held;
-
-    ghost use Rattle.hum_yank.specs.Options.{choice_of};
-    ghost use Rattle.hum_yank.specs.Memory.{Follows, tell_each};
-
-    ghost follows = { λ s held. Follows s.options s.paths.path s.passages s.last held };
-
-    ghost each = { λ s held look past rows h.
-        tell_each (choice_of s.options) past rows held h.tell };
 
     fn put(&mut self, next: Record, held: &mut VecDeque<Held>) -> Result<(), AllocError> {
         let closed = self.paths.is_closed();

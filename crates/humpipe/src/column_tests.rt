@@ -67,17 +67,17 @@ const CLEAVE: [Row; 14] = [
     (
         b"out: read a | cleave -i '**a'\n--- a\n**a\n*-\n",
         b"",
-        "humpipe: plan not supported",
+        "humpipe: plan line 1, word 4: N9",
     ),
     (
         b"out: read a | cleave -i '**a' -o c\n--- a\n**a\n*-\n",
         b"",
-        "humpipe: plan not supported",
+        "humpipe: plan line 1, word 8: N10",
     ),
     (
         b"out: read a | cleave -i '**a' -o '**c' -d\n--- a\n**a\n*-\n",
         b"",
-        "humpipe: plan not supported",
+        "humpipe: plan line 1, word 9: N9",
     ),
 ];
 

@@ -1,125 +1,136 @@
-//! humpipe: commands of the Humdrum Toolkit over scores, streaming.
+//! humpipe: pipelines of commands of the Humdrum Toolkit over scores, streaming.
 //!
-//! Without an argument standard input is a bundle: the plan's lines, then for each score a line
-//! `--- NAME` and its bytes. With one argument that file is the plan, and `read FILE` opens FILE.
+//! Without a file standard input is a bundle: the plan's lines, then for each score a line `--- NAME`
+//! and its bytes. With one that file is the plan, and `read FILE` opens FILE.
 #![tactic(auto)]
 
-mod bundle;
+ghost use Rattle.std.specs.Prelude.{◌≤◌};
+
 #[cfg(test)]
 mod column_tests;
-mod first;
+mod ending;
+#[cfg(test)]
+mod failure_tests;
+mod files;
 #[cfg(test)]
 mod note_tests;
-mod options;
-mod outcome;
-mod plan;
+#[cfg(test)]
+mod order_tests;
 #[cfg(test)]
 mod rows;
-mod run;
 #[cfg(test)]
 mod tests;
 #[cfg(test)]
 mod waiting_tests;
-mod words;
-mod writing;
 
-use crate::bundle::LARGEST_BUNDLE;
-use crate::first::{run_bundle, run_source};
-use crate::outcome::Outcome;
-use crate::plan::LONGEST_PLAN;
-use crate::run::Failure;
+use crate::ending::Ending;
+use crate::files::run_files;
+use hum_bundle::LARGEST;
+use hum_line::{Choice, LineFault, Side, read_line};
+use hum_pipeline::run_bundle;
 use hum_text::calls::{LARGEST_READ, Marked};
+use hum_turns::{Leftmost, Order, Rightmost};
 use std::alloc::Global;
 use std::io::{self, BufWriter, ErrorKind, Printer, Read};
 use std::process::ExitCode;
 use std::{env, fs};
 
-/// Reads up to so many bytes and one more.
-fn read_up_to<R: Read>(alloc: Global, reader: &mut R, most: usize) -> io::Result<Vec<u8>> {
-    let mut bytes = Vec::new(alloc);
-    let mut block = [0u8; 4096];
-    while bytes.len() <= most {
-        let n = reader.read(&mut block)?;
-        if n == 0 {
-            break;
-        }
-        bytes.extend_from_slice(&block[..n])?;
-    }
-    Ok(bytes)
-}
+/// How long a plan may be, in bytes.
+const LONGEST_PLAN: u64 = 65_536;
 
 /// Standard output, in blocks.
-fn output(rt: &HostRuntime) -> io::Result<Marked<BufWriter<Printer<'_, HostRuntime>>>> {
+type Output<'a> = Marked<BufWriter<Printer<'a, HostRuntime>>>;
+
+fn output(rt: &HostRuntime) -> io::Result<Output<'_>> {
     let writer = BufWriter::with_capacity(rt.alloc(), LARGEST_READ, io::writer(rt))?;
     Ok(Marked::new(writer))
 }
 
-/// Standard input as a bundle.
-fn run_input(rt: &HostRuntime) -> Outcome {
-    let bundle = match read_up_to(rt.alloc(), &mut rt.reader(), LARGEST_BUNDLE) {
-        Ok(bundle) => bundle,
-        Err(error) => return unread(&error),
-    };
-    match output(rt) {
-        Ok(mut sink) => run_bundle(rt.alloc(), &bundle, &mut sink),
-        Err(_) => Outcome::Failed(Failure::Memory),
-    }
+/// The bytes of a reader, of which so many are wanted and one more.
+fn read_up_to<R: Read + Drop>(alloc: Global, reader: R, most: u64) -> io::Result<Vec<u8>> {
+    let mut bytes = Vec::new(alloc);
+    reader.take(most.saturating_add(1)).read_to_end(&mut bytes)?;
+    Ok(bytes)
 }
 
-/// A plan's file, whose score is a file too.
-fn run_files(rt: &HostRuntime, pipeline: &str) -> Outcome {
-    let plan = match fs::open(rt, pipeline) {
-        Ok(mut file) => read_up_to(rt.alloc(), &mut file, LONGEST_PLAN),
+/// Runs standard input as a bundle.
+fn run_input<O: Order>(rt: &HostRuntime, link: u16, order: &mut O) -> io::Result<Ending>
+    requires link { 1 ≤ link }
+    requires room { link ≤ 4096 }
+{
+    let bundle = match read_up_to(rt.alloc(), rt.reader(), LARGEST as u64) {
+        Ok(bundle) => bundle,
+        Err(error) => return unread(error),
+    };
+    let (outcome, _writer) = run_bundle(rt.alloc(), &bundle, link, order, output(rt)?);
+    Ok(Ending::Outcome(outcome))
+}
+
+/// Runs the plan of a file.
+fn run_plan<O: Order>(rt: &HostRuntime, plan: &str, link: u16, order: &mut O) -> io::Result<Ending>
+    requires link { 1 ≤ link }
+    requires room { link ≤ 4096 }
+{
+    let plan = match fs::open(rt, plan) {
+        Ok(file) => read_up_to(rt.alloc(), file, LONGEST_PLAN),
         Err(error) => Err(error),
     };
     let plan = match plan {
         Ok(plan) => plan,
-        Err(error) => return unread(&error),
+        Err(error) => return unread(error),
     };
-    match plan::read_plan(rt.alloc(), &plan) {
-        Err(_) => Outcome::Failed(Failure::Memory),
-        Ok(None) => Outcome::Unsupported,
-        Ok(Some(plan)) => match fs::open(rt, plan.file) {
-            Err(_) => Outcome::CannotOpen,
-            Ok(file) => match output(rt) {
-                Ok(mut sink) => run_source(rt.alloc(), Marked::new(file), plan.options, &mut sink),
-                Err(_) => Outcome::Failed(Failure::Memory),
-            },
-        },
+    let (outcome, _writer) = run_files(rt, &plan, link, order, output(rt)?);
+    Ok(Ending::Outcome(outcome))
+}
+
+/// What an error in reading the plan or the bundle ends with.
+fn unread(error: io::Error) -> io::Result<Ending> {
+    if error.kind() == ErrorKind::OutOfMemory {
+        Err(error)
+    } else {
+        Ok(Ending::CannotRead)
     }
 }
 
-/// What an error in reading the plan ends with.
-fn unread(error: &io::Error) -> Outcome {
-    if error.kind() == ErrorKind::OutOfMemory {
-        Outcome::Failed(Failure::Memory)
-    } else {
-        Outcome::CannotReadPlan
+/// Runs what was chosen, in an order.
+fn run_choice<O: Order>(rt: &HostRuntime, choice: Choice<'_>, order: &mut O) -> io::Result<Ending>
+    requires link { 1 ≤ choice.link }
+    requires room { choice.link ≤ 4096 }
+{
+    match choice.file {
+        None => run_input(rt, choice.link, order),
+        Some(plan) => run_plan(rt, plan, choice.link, order),
     }
 }
 
 /// Runs what the command line asks for.
-fn run_program(rt: &HostRuntime) -> Outcome {
-    let Ok(mut args) = env::args(rt) else {
-        return Outcome::Usage;
+///
+/// # Errors
+/// Want of memory.
+fn run_program(rt: &HostRuntime) -> io::Result<Ending> {
+    let words: Vec<String> = match env::args(rt) {
+        Ok(words) => words.collect(rt.alloc())?,
+        Err(error) if error.kind() == ErrorKind::OutOfMemory => return Err(error),
+        Err(_) => return Ok(Ending::Usage),
     };
-    let _program = args.next();
-    match args.next() {
-        None => run_input(rt),
-        Some(pipeline) => {
-            if pipeline.as_str().starts_with('-') || args.next().is_some() {
-                return Outcome::Usage;
-            }
-            run_files(rt, pipeline.as_str())
-        }
+    match read_line(rt.alloc(), &words) {
+        Ok(choice) => match choice.order {
+            Side::Left => run_choice(rt, choice, &mut Leftmost),
+            Side::Right => run_choice(rt, choice, &mut Rightmost),
+        },
+        Err(LineFault::Usage) => Ok(Ending::Usage),
+        Err(LineFault::Memory) => Ok(Ending::memory()),
     }
 }
 
 fn main(rt: HostRuntime) -> ExitCode {
-    let outcome = run_program(&rt);
-    let status = outcome.status();
+    let ending = match run_program(&rt) {
+        Ok(ending) => ending,
+        Err(_) => Ending::memory(),
+    };
+    let status = ending.status();
     if status != 0 {
-        let _told = eprintln!(rt; "{outcome}");
+        let _told = eprintln!(rt; "{ending}");
     }
     ExitCode::from(status)
 }

@@ -46,42 +46,42 @@ const TRANS: [Row; 16] = [
     (
         b"out: read a | trans -d 50 -c 2\n--- a\n**kern\n*-\n",
         b"",
-        "humpipe: plan not supported",
+        "humpipe: plan line 1, word 6: N10",
     ),
     (
         b"out: read a | trans -d 1 -c 85\n--- a\n**kern\n*-\n",
         b"",
-        "humpipe: plan not supported",
+        "humpipe: plan line 1, word 8: N10",
     ),
     (
         b"out: read a | trans -d 1\n--- a\n**kern\n*-\n",
         b"",
-        "humpipe: plan not supported",
+        "humpipe: plan line 1, word 4: N9",
     ),
     (
         b"out: read a | trans -d 01 -c 2\n--- a\n**kern\n*-\n",
         b"",
-        "humpipe: plan not supported",
+        "humpipe: plan line 1, word 6: N10",
     ),
     (
         b"out: read a | trans -d 1 -c 2 -c 2\n--- a\n**kern\n*-\n",
         b"",
-        "humpipe: plan not supported",
+        "humpipe: plan line 1, word 9: N8",
     ),
     (
         b"out: read a | trans -d -c 2 1\n--- a\n**kern\n*-\n",
         b"",
-        "humpipe: plan not supported",
+        "humpipe: plan line 1, word 6: N10",
     ),
     (
         b"out: read a | trans -d x -c 2\n--- a\n**kern\n*-\n",
         b"",
-        "humpipe: plan not supported",
+        "humpipe: plan line 1, word 6: N10",
     ),
     (
         b"out: read a | trans -d 1 -c -\n--- a\n**kern\n*-\n",
         b"",
-        "humpipe: plan not supported",
+        "humpipe: plan line 1, word 8: N10",
     ),
 ];
 
@@ -139,22 +139,22 @@ const SEMITS: [Row; 14] = [
     (
         b"out: read a | semits\n--- a\n**kern\n*-\n",
         b"",
-        "humpipe: plan not supported",
+        "humpipe: plan line 1, word 4: N9",
     ),
     (
         b"out: read a | semits -t\n--- a\n**kern\n*-\n",
         b"",
-        "humpipe: plan not supported",
+        "humpipe: plan line 1, word 4: N9",
     ),
     (
         b"out: read a | semits -x -x\n--- a\n**kern\n*-\n",
         b"",
-        "humpipe: plan not supported",
+        "humpipe: plan line 1, word 6: N8",
     ),
     (
         b"out: read a | semits -x -p\n--- a\n**kern\n*-\n",
         b"",
-        "humpipe: plan not supported",
+        "humpipe: plan line 1, word 6: N8",
     ),
 ];
 
@@ -232,7 +232,7 @@ const RECIP: [Row; 15] = [
     (
         b"out: read a | recip -x\n--- a\n**kern\n*-\n",
         b"",
-        "humpipe: plan not supported",
+        "humpipe: plan line 1, word 5: N8",
     ),
 ];
 
@@ -285,22 +285,22 @@ const MINT: [Row; 13] = [
     (
         b"out: read a | mint -a -a\n--- a\n**kern\n*-\n",
         b"",
-        "humpipe: plan not supported",
+        "humpipe: plan line 1, word 6: N8",
     ),
     (
         b"out: read a | mint -b\n--- a\n**kern\n*-\n",
         b"",
-        "humpipe: plan not supported",
+        "humpipe: plan line 1, word 5: N9",
     ),
     (
         b"out: read a | mint -b (\n--- a\n**kern\n*-\n",
         b"",
-        "humpipe: plan not supported",
+        "humpipe: plan line 1, word 6: N12",
     ),
     (
         b"out: read a | mint -x\n--- a\n**kern\n*-\n",
         b"",
-        "humpipe: plan not supported",
+        "humpipe: plan line 1, word 5: N8",
     ),
 ];
 
@@ -358,37 +358,37 @@ const TIMEBASE: [Row; 17] = [
     (
         b"out: read a | timebase\n--- a\n**kern\n*-\n",
         b"",
-        "humpipe: plan not supported",
+        "humpipe: plan line 1, word 4: N9",
     ),
     (
         b"out: read a | timebase -t\n--- a\n**kern\n*-\n",
         b"",
-        "humpipe: plan not supported",
+        "humpipe: plan line 1, word 5: N9",
     ),
     (
         b"out: read a | timebase -t 3%\n--- a\n**kern\n*-\n",
         b"",
-        "humpipe: plan not supported",
+        "humpipe: plan line 1, word 6: N10",
     ),
     (
         b"out: read a | timebase -t 4c\n--- a\n**kern\n*-\n",
         b"",
-        "humpipe: plan not supported",
+        "humpipe: plan line 1, word 6: N10",
     ),
     (
         b"out: read a | timebase -t 4 -t 4\n--- a\n**kern\n*-\n",
         b"",
-        "humpipe: plan not supported",
+        "humpipe: plan line 1, word 7: N8",
     ),
     (
         b"out: read a | timebase -x 4\n--- a\n**kern\n*-\n",
         b"",
-        "humpipe: plan not supported",
+        "humpipe: plan line 1, word 5: N8",
     ),
     (
         b"out: read a | timebase -t 4q\n--- a\n**kern\n*-\n",
         b"",
-        "humpipe: plan not supported",
+        "humpipe: plan line 1, word 6: N10",
     ),
 ];
 

@@ -1,6 +1,7 @@
 //! Worked rows: bundles that are run, and what comes of them.
-use crate::first::run_bundle;
+use hum_pipeline::run_bundle;
 use hum_text::calls::Marked;
+use hum_turns::Leftmost;
 use std::alloc::Global;
 use std::process::Abort;
 use std::test::Fail;
@@ -11,9 +12,9 @@ pub type Row = (&'static [u8], &'static [u8], &'static str);
 /// Runs bundles, and fails where another text is written or another line is told.
 pub fn check(rt: &impl Abort, alloc: Global, rows: &[Row]) -> Result<(), Fail> {
     for (bundle, text, told) in rows {
-        let mut sink = Marked::new(Vec::new(alloc));
-        let outcome = run_bundle(alloc, *bundle, &mut sink);
-        let line = format!(in alloc; "{outcome}")?;
+        let sink = Marked::new(Vec::new(alloc));
+        let (outcome, sink) = run_bundle(alloc, *bundle, 16, &mut Leftmost, sink);
+        let line = outcome.message(alloc)?;
         assert_eq!(rt; line.as_str(), *told, "{bundle:?}");
         assert_eq!(rt; sink.into_inner().as_slice(), *text, "{bundle:?}");
     }

@@ -1,11 +1,8 @@
-//! Whole bundles, and sources and sinks that fail.
-use crate::first::{run_bundle, run_source};
-use crate::options::CommandOptions;
+//! Whole bundles.
 use crate::rows::{Row, check};
-use hum_rid::RidOptions;
+use hum_pipeline::run_bundle;
 use hum_text::calls::Marked;
-use std::alloc::Global;
-use std::io::{self, Error, ErrorKind, Read, Write};
+use hum_turns::Leftmost;
 use std::test::Fail;
 
 const ROWS: [Row; 40] = [
@@ -112,8 +109,8 @@ const ROWS: [Row; 40] = [
     ),
     (
         b"out: read a | rid -G | rid -L\n--- a\n**x\n*-\n",
-        b"",
-        "humpipe: plan not supported",
+        b"**x\n*-\n",
+        "",
     ),
     (
         b"out: read a | extract -f 1,2\n--- a\n**a\t**b\t**c\n*x\t*\t*x\n*-\t*-\t*-\n",
@@ -168,32 +165,32 @@ const ROWS: [Row; 40] = [
     (
         b"out: read a | ditto -s '('\n--- a\n**a\n*-\n",
         b"",
-        "humpipe: plan not supported",
+        "humpipe: plan line 1, word 6: N12",
     ),
     (
         b"out: read a | ditto -p -p\n--- a\n**a\n*-\n",
         b"",
-        "humpipe: plan not supported",
+        "humpipe: plan line 1, word 6: N8",
     ),
     (
         b"out: read a | extract -f 0\n--- a\n**a\n*-\n",
         b"",
-        "humpipe: plan not supported",
+        "humpipe: plan line 1, word 6: N10",
     ),
     (
         b"out: read a | extract -f 2-1\n--- a\n**a\n*-\n",
         b"",
-        "humpipe: plan not supported",
+        "humpipe: plan line 1, word 6: N10",
     ),
     (
         b"out: read a | extract -f 1,\n--- a\n**a\n*-\n",
         b"",
-        "humpipe: plan not supported",
+        "humpipe: plan line 1, word 6: N10",
     ),
     (
         b"out: read a | extract -f 4097\n--- a\n**a\n*-\n",
         b"",
-        "humpipe: plan not supported",
+        "humpipe: plan line 1, word 6: N10",
     ),
     (
         b"out: read a | extract -f 4096\n--- a\n**a\n*-\n",
@@ -203,7 +200,7 @@ const ROWS: [Row; 40] = [
     (
         b"out: read a | extract -i **\n--- a\n**a\n*-\n",
         b"",
-        "humpipe: plan not supported",
+        "humpipe: plan line 1, word 6: N10",
     ),
 ];
 
@@ -223,106 +220,11 @@ fn long_lines(rt: HostRuntime) -> Result<(), Fail> {
             bundle.push(b'a')?;
         }
         bundle.push(b'\n')?;
-        let mut sink = Marked::new(Vec::new(rt.alloc()));
-        let outcome = run_bundle(rt.alloc(), &bundle, &mut sink);
-        let line = format!(in rt.alloc(); "{outcome}")?;
+        let sink = Marked::new(Vec::new(rt.alloc()));
+        let (outcome, sink) = run_bundle(rt.alloc(), &bundle, 16, &mut Leftmost, sink);
+        let line = outcome.message(rt.alloc())?;
         assert_eq!(rt; line.as_str(), told);
         assert_eq!(rt; sink.into_inner().len(), size);
-    }
-    Ok(())
-}
-
-// Gives its text in pieces of three bytes, and fails after so many reads.
-#[derive(Drop)]
-struct Failing {
-    text: &'static [u8],
-    good: usize,
-}
-
-impl Read for Failing {
-    fn read(&mut self, buf: &mut [u8]) -> io::Result<usize> {
-        if self.good == 0 {
-            return Err(Error::from(ErrorKind::Other));
-        }
-        self.good -= 1;
-        let n = 3usize.min(buf.len()).min(self.text.len());
-        let (front, rest) = self.text.split_at(n);
-        buf[..n].copy_from_slice(front);
-        self.text = rest;
-        Ok(n)
-    }
-}
-
-// Takes so many bytes, three at a time, and then fails.
-#[derive(Drop)]
-struct Narrow {
-    bytes: Vec<u8>,
-    room: usize,
-}
-
-impl Write for Narrow {
-    fn write(&mut self, buf: &[u8]) -> io::Result<usize> {
-        let n = 3usize.min(buf.len()).min(self.room);
-        if n == 0 || self.bytes.extend_from_slice(&buf[..n]).is_err() {
-            return Err(Error::from(ErrorKind::Other));
-        }
-        self.room -= n;
-        Ok(n)
-    }
-
-    fn flush(&mut self) -> io::Result<()> {
-        Ok(())
-    }
-}
-
-fn comments_off() -> RidOptions {
-    RidOptions {
-        global_comments: true,
-        empty_global_comments: false,
-        local_comments: false,
-        null_local_comments: false,
-        interpretations: false,
-        null_interpretations: false,
-        tandems: false,
-        values: false,
-        null_values: false,
-    }
-}
-
-// What was written of a score that is read and written in such pieces, and what is told.
-fn told(alloc: Global, good: usize, room: usize) -> Result<(Vec<u8>, String), Fail> {
-    let text = b"!!x\n**kern\n4c\n*-\n";
-    let mut sink = Marked::new(Narrow {
-        bytes: Vec::new(alloc),
-        room,
-    });
-    let outcome = run_source(
-        alloc,
-        Marked::new(Failing { text, good }),
-        CommandOptions::Rid(comments_off()),
-        &mut sink,
-    );
-    let line = format!(in alloc; "{outcome}")?;
-    let Narrow { bytes, room: _ } = sink.into_inner();
-    Ok((bytes, line))
-}
-
-#[test]
-fn failures(rt: HostRuntime) -> Result<(), Fail> {
-    let whole = b"**kern\n4c\n*-\n";
-    for good in 0..9usize {
-        let (bytes, line) = told(rt.alloc(), good, 100)?;
-        assert!(rt; whole.starts_with(bytes.as_slice()));
-        let failed = "humpipe: stage 1 (read): read failed";
-        assert_eq!(rt; line.as_str(), if good < 7 { failed } else { "" }, "{good}");
-    }
-    let (bytes, _) = told(rt.alloc(), 5, 100)?;
-    assert_eq!(rt; bytes.as_slice(), b"**kern\n4c\n".as_slice());
-    for room in 0..13usize {
-        let (bytes, line) = told(rt.alloc(), 100, room)?;
-        assert_eq!(rt; bytes.len(), room);
-        assert!(rt; whole.starts_with(bytes.as_slice()));
-        assert_eq!(rt; line.as_str(), "humpipe: write failed");
     }
     Ok(())
 }

@@ -46,27 +46,27 @@ const CONTEXT: [Row; 12] = [
     (
         b"out: read a | context -n 0\n--- a\n**x\n*-\n",
         b"",
-        "humpipe: plan not supported",
+        "humpipe: plan line 1, word 6: N10",
     ),
     (
         b"out: read a | context -n 4097\n--- a\n**x\n*-\n",
         b"",
-        "humpipe: plan not supported",
+        "humpipe: plan line 1, word 6: N10",
     ),
     (
         b"out: read a | context -n 2 -b a\n--- a\n**x\n*-\n",
         b"",
-        "humpipe: plan not supported",
+        "humpipe: plan line 1, word 7: N8",
     ),
     (
         b"out: read a | context -b a\n--- a\n**x\n*-\n",
         b"",
-        "humpipe: plan not supported",
+        "humpipe: plan line 1, word 4: N9",
     ),
     (
         b"out: read a | context\n--- a\n**x\n*-\n",
         b"",
-        "humpipe: plan not supported",
+        "humpipe: plan line 1, word 4: N9",
     ),
 ];
 
@@ -164,12 +164,12 @@ const YANK: [Row; 31] = [
     (
         b"out: read a | yank -l -r $-1-$-2\n--- a\n**x\n*-\n",
         b"",
-        "humpipe: plan not supported",
+        "humpipe: plan line 1, word 7: N10",
     ),
     (
         b"out: read a | yank -l -r $-0\n--- a\n**x\n*-\n",
         b"",
-        "humpipe: plan not supported",
+        "humpipe: plan line 1, word 7: N10",
     ),
     // the last two bars, with the comments in them
     (
@@ -187,47 +187,47 @@ const YANK: [Row; 31] = [
     (
         b"out: read a | yank -l -r 3-2\n--- a\n**x\n*-\n",
         b"",
-        "humpipe: plan not supported",
+        "humpipe: plan line 1, word 7: N10",
     ),
     (
         b"out: read a | yank -l\n--- a\n**x\n*-\n",
         b"",
-        "humpipe: plan not supported",
+        "humpipe: plan line 1, word 4: N9",
     ),
     (
         b"out: read a | yank -l -o a -r 1\n--- a\n**x\n*-\n",
         b"",
-        "humpipe: plan not supported",
+        "humpipe: plan line 1, word 6: N8",
     ),
     (
         b"out: read a | yank -n a -e b -r 1\n--- a\n**x\n*-\n",
         b"",
-        "humpipe: plan not supported",
+        "humpipe: plan line 1, word 7: N8",
     ),
     (
         b"out: read a | yank -s 'A[' -r 1\n--- a\n**x\n*-\n",
         b"",
-        "humpipe: plan not supported",
+        "humpipe: plan line 1, word 6: N10",
     ),
     (
         b"out: read a | yank -l -r 4294967296\n--- a\n**x\n*-\n",
         b"",
-        "humpipe: plan not supported",
+        "humpipe: plan line 1, word 7: N10",
     ),
     (
         b"out: read a | yank -l -r $-$\n--- a\n**x\n*-\n",
         b"",
-        "humpipe: plan not supported",
+        "humpipe: plan line 1, word 7: N10",
     ),
     (
         b"out: read a | yank -l -r 1-$-0\n--- a\n**x\n*-\n",
         b"",
-        "humpipe: plan not supported",
+        "humpipe: plan line 1, word 7: N10",
     ),
     (
         b"out: read a | yank -l -r $-01\n--- a\n**x\n*-\n",
         b"",
-        "humpipe: plan not supported",
+        "humpipe: plan line 1, word 7: N10",
     ),
 ];
 

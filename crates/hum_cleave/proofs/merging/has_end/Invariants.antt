@@ -2,11 +2,11 @@ use Rattle.std.proofs.Common.{◌≡◌, drop, map}
 use Rattle.std.specs.List.{list_any}
 use Rattle.hum_record.specs.Row.{tokens_of}
 use Rattle.hum_path.specs.Sign.{sign_of}
-use Rattle.hum_cleave.specs.Columns.{within}
+use Rattle.hum_columns.specs.Chosen.{chosen}
 use Rattle.hum_cleave.specs.Cleave.{is_end}
 use Rattle.hum_cleave.proofs.merging.has_end.Given as goal
 
 abbrev pub invariant-loop-j : goal.invariant-loop-j
 invariant-loop-j l =
-    list_any is_end (within (drop l.j l.marks) (map sign_of (drop l.j (tokens_of l.row))))
-    ≡ list_any is_end (within l.marks (map sign_of (tokens_of l.row)))
+    list_any is_end (chosen (drop l.j l.marks) (map sign_of (drop l.j (tokens_of l.row))))
+    ≡ list_any is_end (chosen l.marks (map sign_of (tokens_of l.row)))

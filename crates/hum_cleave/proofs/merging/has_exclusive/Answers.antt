@@ -13,7 +13,8 @@ loop-j-preserved c =
       | else-mark-via-then-mark+else-is_exclusive w ↦
           let test : w.is_exclusive.result ≡ is_exclusive (sign_of (get_or ts j [])) =
           w.is_exclusive.ensures ∙ ap is_exclusive (w.token_sign.ensures ∙ ap sign_of w.token.ensures.token) in
-          any_fails is_exclusive sign_of c.args.marks.now ts j c.loop-j-test.true c.requires w.if-mark.true (sym test ∙ w.if-is_exclusive.false) ∙ c.loop-j.invariant
+          any_fails is_exclusive sign_of c.args.marks.now ts j c.loop-j-test.true c.requires w.if-mark.true (sym test ∙ w.if-is_exclusive.false)
+          ∙ c.loop-j.invariant
       | else-mark-via-else-mark w ↦
           any_skips is_exclusive sign_of c.args.marks.now ts j c.loop-j-test.true c.requires w.if-mark.false ∙ c.loop-j.invariant
     ])

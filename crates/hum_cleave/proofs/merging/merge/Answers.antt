@@ -3,12 +3,12 @@ use Rattle.hum_record.specs.Row.{tokens_of}
 use Rattle.hum_spread.specs.Spread.{Piece, piece}
 use Rattle.hum_spread.specs.Writing.{Fit}
 use Rattle.hum_cleave.specs.Columns.{together}
-use Rattle.hum_cleave.specs.Cleave.{each_piece}
+use Rattle.hum_columns.specs.Chosen.{each_piece}
 use Rattle.hum_cleave.proofs.Fitted.{pieces_fit}
 use Rattle.hum_cleave.proofs.merging.merge.Goals as goal
 
-pub spread-requires : goal.spread-requires
-spread-requires c =
+pub write_pieces-requires-clause-fit : goal.write_pieces-requires-clause-fit
+write_pieces-requires-clause-fit c =
     let fs = c.args.marks.now in
     let row = c.args.row.now in
     let is = c.deref.ensures.value ∙ c.in_ok-left.ensures

@@ -2,11 +2,11 @@ use Rattle.std.proofs.Common.{◌≡◌, ◌≢◌, ◌∙◌, sym, ap, subst, [
 use Rattle.hum_record.specs.declared.SpinedKind.TheVariants.{Values}
 use Rattle.hum_record.specs.Row.{tokens_of}
 use Rattle.hum_record.specs.Spelling.{IsToken}
-use Rattle.hum_cleave.specs.Columns.{within}
+use Rattle.hum_columns.specs.Chosen.{chosen}
 use Rattle.hum_cleave.specs.Tokens.{is_left_out, data_of}
 use Rattle.hum_cleave.specs.Barlines.{Knows}
 use Rattle.hum_cleave.proofs.Gathering.{so_far, taken_from, passes, leaves_out, takes, adds, all_taken, none_taken, front_passes, front_takes}
-use Rattle.hum_cleave.proofs.Fitted.{lawful_tokens, within_lawful, token_lawful, data_lawful, no_bytes, some_bytes}
+use Rattle.hum_cleave.proofs.Fitted.{lawful_tokens, chosen_lawful, token_lawful, data_lawful, no_bytes, some_bytes}
 use Rattle.hum_cleave.proofs.tokens.gather.Goals as goal
 use Rattle.hum_cleave.proofs.tokens.gather.Goals.{then-not-branch+in_ok-add, else-not-branch, then-is_empty+in_ok-push, else-is_empty}
 
@@ -20,9 +20,10 @@ loop-j-preserved c =
     let wide = c.requires.as_wide in
     let on = c.if-not-mark.false in
     let so = so_far c.args.separator.now c.loop-j.text.items in
-    let before = within (take j fs) (take j ts) in
+    let before = chosen (take j fs) (take j ts) in
     let token : c.token-token.result.now ≡ get_or ts j [] = c.token-token.ensures.token in
-    let some : get_or ts j [] ≢ [] = λ none. (token_lawful Values row c.token-token.result.now c.requires.kind c.token-token.ensures.lawful).filled (token ∙ none) in
+    let some : get_or ts j [] ≢ [] = λ none. (token_lawful Values row c.token-token.result.now c.requires.kind c.token-token.ensures.lawful).filled (token
+    ∙ none) in
     let told = c.in_ok-leaves_out.ensures before c.loop-j.invariant.1 in
     let out = told.0 ∙ ap (is_left_out before) token in
     let knows = subst (λ known. Knows c.leaves_out.new.self known) (ap (λ t. before ++ t ∷ []) token ∙ sym (front_takes fs ts j at wide on)) told.1 in
@@ -58,7 +59,7 @@ returns c =
     let j = c.loop-j.j in
     let so = c.loop-j.text.items in
     let all = c.loop-j.invariant.0 in
-    let text : c.if-is_empty.text.items ≡ data_of separator (within fs ts) =
+    let text : c.if-is_empty.text.items ≡ data_of separator (chosen fs ts) =
     (elim c.if-is_empty.branch [
       | then-is_empty+in_ok-push w ↦
           let none = no_bytes so (rw c.loop-j.text.ok.0 at (sym c.is_empty.ensures ∙ w.if-is_empty.true)) in
@@ -67,8 +68,8 @@ returns c =
           let some = some_bytes so (rw c.loop-j.text.ok.0 at (sym c.is_empty.ensures ∙ w.if-is_empty.false)) in
           rw w.text-is (all_taken separator so fs ts j c.loop-j-test.false some all)
     ]) in
-    let lawful = within_lawful fs ts (lawful_tokens Values row c.requires.kind c.requires.sound).0 in
+    let lawful = chosen_lawful fs ts (lawful_tokens Values row c.requires.kind c.requires.sound).0 in
     record {
       text = text;
-      lawful = subst (IsToken Values) (sym text) (data_lawful separator (within fs ts) c.requires.between lawful);
+      lawful = subst (IsToken Values) (sym text) (data_lawful separator (chosen fs ts) c.requires.between lawful);
     }

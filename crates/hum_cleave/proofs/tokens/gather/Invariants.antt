@@ -1,6 +1,6 @@
 use Rattle.std.proofs.Common.{◌≡◌, take}
 use Rattle.hum_record.specs.Row.{tokens_of}
-use Rattle.hum_cleave.specs.Columns.{within}
+use Rattle.hum_columns.specs.Chosen.{chosen}
 use Rattle.hum_cleave.specs.Tokens.{data_of}
 use Rattle.hum_cleave.specs.Barlines.{Knows}
 use Rattle.hum_cleave.proofs.Gathering.{so_far, taken_from}
@@ -9,5 +9,5 @@ use Rattle.hum_cleave.proofs.tokens.gather.Given as goal
 abbrev pub invariant-loop-j : goal.invariant-loop-j
 invariant-loop-j l =
     (so_far l.separator l.text.items (taken_from l.marks (tokens_of l.row) l.j)
-    ≡ data_of l.separator (within l.marks (tokens_of l.row)))
-    × Knows l.barlines (within (take l.j l.marks) (take l.j (tokens_of l.row)))
+    ≡ data_of l.separator (chosen l.marks (tokens_of l.row)))
+    × Knows l.barlines (chosen (take l.j l.marks) (take l.j (tokens_of l.row)))

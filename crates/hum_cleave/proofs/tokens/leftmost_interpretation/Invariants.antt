@@ -1,9 +1,9 @@
 use Rattle.std.proofs.Common.{◌≡◌, drop}
 use Rattle.hum_record.specs.Row.{tokens_of}
-use Rattle.hum_cleave.specs.Columns.{within}
+use Rattle.hum_columns.specs.Chosen.{chosen}
 use Rattle.hum_cleave.specs.Tokens.{interpretation_of}
 use Rattle.hum_cleave.proofs.tokens.leftmost_interpretation.Given as goal
 
 abbrev pub invariant-loop-j : goal.invariant-loop-j
 invariant-loop-j l =
-    interpretation_of (within (drop l.j l.marks) (drop l.j (tokens_of l.row))) ≡ interpretation_of (within l.marks (tokens_of l.row))
+    interpretation_of (chosen (drop l.j l.marks) (drop l.j (tokens_of l.row))) ≡ interpretation_of (chosen l.marks (tokens_of l.row))

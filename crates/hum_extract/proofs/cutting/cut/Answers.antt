@@ -1,10 +1,10 @@
 use Rattle.std.proofs.Common.{◌∙◌, sym, subst, List}
 use Rattle.hum_spread.specs.Spread.{Piece}
 use Rattle.hum_spread.specs.Writing.{Fit}
-use Rattle.hum_extract.proofs.Placewise.{pieces_fit}
+use Rattle.hum_extract.proofs.CutFits.{pieces_fit}
 use Rattle.hum_extract.proofs.cutting.cut.Goals as goal
 
-pub spread-requires : goal.spread-requires
-spread-requires c =
+pub write_pieces-requires-clause-fit : goal.write_pieces-requires-clause-fit
+write_pieces-requires-clause-fit c =
     let is = c.deref.ensures.value ∙ c.in_ok-pieces.ensures in
     subst (λ (ps : List Piece). Fit ps) (sym is) (pieces_fit c.is_lone-lone.result c.args.marks.now c.args.row.now c.requires.kind c.requires.lawful)

@@ -12,7 +12,9 @@ loop-j-preserved c =
     c.is_exchange.ensures ∙ ap is_exchange (c.token_sign.ensures ∙ ap sign_of c.token.ensures.token) in
     (elim c.if-is_exchange.branch [
       | then-is_exchange+in-None w ↦ rw w.first-is
-          (lone_first c.loop-j.first c.args.marks.now (tokens_of c.args.row.now) j c.loop-j-test.true c.requires w.in-None.is (sym sign ∙ w.if-is_exchange.true) ∙ c.loop-j.invariant)
+          (lone_first c.loop-j.first c.args.marks.now (tokens_of c.args.row.now) j c.loop-j-test.true c.requires w.in-None.is (sym sign
+          ∙ w.if-is_exchange.true) ∙ c.loop-j.invariant)
       | else-is_exchange w ↦ rw w.first-is
-          (lone_other c.loop-j.first c.args.marks.now (tokens_of c.args.row.now) j c.loop-j-test.true c.requires (sym sign ∙ w.if-is_exchange.false) ∙ c.loop-j.invariant)
+          (lone_other c.loop-j.first c.args.marks.now (tokens_of c.args.row.now) j c.loop-j-test.true c.requires (sym sign ∙ w.if-is_exchange.false)
+          ∙ c.loop-j.invariant)
     ])

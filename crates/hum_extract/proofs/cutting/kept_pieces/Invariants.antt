@@ -1,8 +1,10 @@
-use Rattle.std.proofs.Common.{◌≡◌, ◌++◌, false, drop, map}
+use Rattle.std.proofs.Common.{◌≡◌, ◌++◌, drop, map}
 use Rattle.hum_record.specs.Row.{tokens_of}
+use Rattle.hum_columns.specs.Chosen.{chosen, each_piece}
 use Rattle.hum_extract.specs.Extract.{pieces, softened}
 use Rattle.hum_extract.proofs.cutting.kept_pieces.Given as goal
 
 abbrev pub invariant-loop-j : goal.invariant-loop-j
 invariant-loop-j l =
-    l.kept.items ++ pieces l.after_join (drop l.j l.marks) (map (softened l.lone) (drop l.j (tokens_of l.row))) ≡ pieces false l.marks (map (softened l.lone) (tokens_of l.row))
+    l.kept.items ++ chosen (drop l.j l.marks) (each_piece l.after_join (map (softened l.lone) (drop l.j (tokens_of l.row))))
+    ≡ pieces l.marks (map (softened l.lone) (tokens_of l.row))

@@ -5,14 +5,14 @@ use Rattle.hum_options.proofs.reading.at_end.Goals as goal
 
 pub returns-in-Awaits : goal.returns-in-Awaits
 returns-in-Awaits c = rw c.in-Awaits.is
-    (value_lacks c.args.tool c.args.number c.in-Awaits.place c.args.given c.in-Awaits.field-1)
+    (value_lacks c.args.command c.args.number c.in-Awaits.place c.args.given c.in-Awaits.field-1)
 
 pub returns-in-Some : goal.returns-in-Some
 returns-in-Some c =
     let found = rw c.in-Some.is at c.in_ok-options-in-Free.ensures in
-    rw c.in-Free.is (ended c.args.tool c.args.number c.args.given (Some (options_of c.in-Some.options)) found)
+    rw c.in-Free.is (ended c.args.command c.args.number c.args.given (Some (options_of c.in-Some.options)) found)
 
 pub returns-in-None : goal.returns-in-None
 returns-in-None c =
     let found = rw c.in-None.is at c.in_ok-options-in-Free.ensures in
-    rw c.in-Free.is (ended c.args.tool c.args.number c.args.given None found)
+    rw c.in-Free.is (ended c.args.command c.args.number c.args.given None found)

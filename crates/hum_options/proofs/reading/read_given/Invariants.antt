@@ -6,5 +6,5 @@ use Rattle.hum_options.proofs.reading.read_given.Given as goal
 
 abbrev pub invariant-loop-piece : goal.invariant-loop-piece
 invariant-loop-piece l = (answer : Answer)
-    → Answers l.tool l.number l.given l.turn (words_of (drop l.piece-index l.pieces)) answer
-    → Answers l.tool l.number [] Free (words_of l.pieces) answer
+    → Answers l.command l.number l.given l.turn (words_of (drop l.piece-index l.pieces)) answer
+    → Answers l.command l.number [] Free (words_of l.pieces) answer

@@ -17,5 +17,6 @@ loop-piece-preserved c =
     record {
       made = drafted c.push_fitting.new.builder _ made;
       lawful = (lawful_at c.args.pieces.now c.loop-piece.piece-index p c.loop-piece-test.true c.piece-item.is c.loop-piece.invariant.lawful).1;
-      list = list_push c.push_fitting.new.builder c.loop-piece.builder.tokens c.token.result.now _ _ _ made (rw c.token.ensures next) c.loop-piece.invariant.list;
+      list = list_push c.push_fitting.new.builder c.loop-piece.builder.tokens c.token.result.now _ _ _ made (rw c.token.ensures next)
+          c.loop-piece.invariant.list;
     }

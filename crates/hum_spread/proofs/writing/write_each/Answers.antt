@@ -27,7 +27,8 @@ loop-preserved c =
       less = omega (arith, passed.3, c.loop.invariant.less);
       within = omega (arith, passed.4, size, c.loop.invariant.within);
       list = rw (c.in_ok-push_back.ensures.items, c.in_ok-record.ensures, c.split_at.ensures.back, c.loop.invariant.before)
-          (one_written c.loop.out.items c.args.records c.loop.counter c.loop.last.tokens rest _ c.loop-test.true c.loop.invariant.some left ∙ c.loop.invariant.list);
+          (one_written c.loop.out.items c.args.records c.loop.counter c.loop.last.tokens rest _ c.loop-test.true c.loop.invariant.some left
+          ∙ c.loop.invariant.list);
     }
 
 pub push_all-requires-clause-fits : goal.push_all-requires-clause-fits
@@ -41,4 +42,5 @@ finish-requires-clause-filled c =
 pub returns : goal.returns
 returns c =
     rw (c.in_ok-push_back-2.ensures.items, c.finish.ensures, c.in_ok-push_all.ensures, c.split_at-2.ensures.back)
-    (last_written c.loop.out.items c.args.records c.loop.counter c.loop.last.tokens (drop c.loop.start c.args.pieces.now) c.loop-test.false c.loop.invariant.some ∙ c.loop.invariant.list)
+    (last_written c.loop.out.items c.args.records c.loop.counter c.loop.last.tokens (drop c.loop.start c.args.pieces.now) c.loop-test.false
+    c.loop.invariant.some ∙ c.loop.invariant.list)

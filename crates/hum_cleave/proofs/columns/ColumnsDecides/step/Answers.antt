@@ -1,24 +1,66 @@
-use Rattle.std.proofs.Common.{◌≡◌, ◌∙◌, sym, false, ℕ}
+use Rattle.std.proofs.Common.{◌≡◌, ◌∙◌, sym, true, false, ℕ}
+use Rattle.std.proofs.lemmas.List.{length-map}
+use Rattle.std.specs.Prelude.{IfNone}
+use Rattle.std.specs.Str.{bytes_eq}
+use Rattle.hum_record.specs.Row.{tokens_of}
+use Rattle.hum_path.specs.Spines.{after}
+use Rattle.hum_path.specs.Rules.{is_closed}
 use Rattle.hum_stage.specs.Decided.{HasStepped}
-use Rattle.hum_cleave.specs.Cleave.{told}
-use Rattle.hum_cleave.specs.Following.{is_interpretation, Answers, Follows}
-use Rattle.hum_cleave.proofs.Taking.{wide_still, steps_still, ok_to}
+use Rattle.hum_columns.specs.Following.{Answers, Follows, memory, is_interpretation}
+use Rattle.hum_columns.proofs.Taking.{wide_still, wide_later, steps_opening, steps_later, interpretation_kind, ok_to, both_ok}
+use Rattle.hum_cleave.specs.Cleave.{text_told, column_command}
+use Rattle.hum_cleave.proofs.Taking.{steps_still}
 use Rattle.hum_cleave.proofs.columns.ColumnsDecides.step.Goals as goal
 
 pub give_text-requires-clause-as_wide : goal.give_text-requires-clause-as_wide
 give_text-requires-clause-as_wide c =
     let still : is_interpretation c.args.next ≡ false = sym c.is_interpretation.ensures.kind ∙ c.if-not-is_interpretation.true in
     let at = c.requires.score in
-    rw c.deref.ensures.value (wide_still c.args.next at.past at.memory at.score still)
+    rw c.marks-marks.ensures (wide_still c.args.next at.past at.memory at.score still)
 
 pub returns-then-not-is_interpretation : goal.returns-then-not-is_interpretation
 returns-then-not-is_interpretation c =
     let still : is_interpretation c.args.next ≡ false = sym c.is_interpretation.ensures.kind ∙ c.if-not-is_interpretation.true in
     let s = c.args.self.now in
-    let follows = Follows s.options s.paths.path s.marks.items in
+    let follows = Follows (column_command s.options) s.columns in
     let out = c.give_text.new.out.items in
-    let given = rw (c.separator-separator.ensures.separator, c.deref.ensures.value) at c.give_text.ensures in
-    ok_to c.give_text.result (λ refused. (room : ℕ) → Answers (told s.options.separator s.marks.items c.args.next) room out refused)
+    let given = rw (c.separator-separator.ensures.separator, c.marks-marks.ensures) at c.give_text.ensures in
+    ok_to c.give_text.result (λ refused. (room : ℕ) → Answers (text_told s.options.separator s.columns.each c.args.next) room out refused)
     (λ refused. HasStepped follows follows c.args.next c.args.room out refused)
-    (λ refused answers decide past memory score. steps_still c.args.next past c.args.room out refused memory score still (answers c.args.room))
+    (λ refused answers decide past memory score. steps_still s.options c.args.next past c.args.room out refused memory score still
+    (answers c.args.room))
     given
+
+pub returns-then-is_unopened : goal.returns-then-is_unopened
+returns-then-is_unopened c =
+    let options = c.args.self.now.options in
+    let command = column_command options in
+    let row = c.args.next in
+    let is = interpretation_kind row (sym c.is_interpretation.ensures.kind ∙ c.if-not-is_interpretation.false) in
+    let on : is_closed c.args.self.now.columns.path ≡ true = sym c.is_unopened.ensures ∙ c.if-is_unopened.true in
+    let out = c.open.new.out.items in
+    let new = c.open.new.columns in
+    both_ok c.open.result (λ refused. (room : ℕ) → Answers (command.opening (tokens_of row)) room out refused)
+    (λ refused. IfNone refused (new ≡ memory (after c.args.self.now.columns.path row) (command.choose (tokens_of row))))
+    (λ refused. HasStepped (Follows command c.args.self.now.columns) (Follows command new) row c.args.room out refused)
+    (λ refused answers marked decide past follows score. steps_opening command row past c.args.room out new refused
+    (λ tokens. length-map tokens (bytes_eq options.name)) follows score is on (answers c.args.room) marked)
+    c.open.ensures.decided c.open.ensures.columns
+
+pub merge-requires-clause-as_wide : goal.merge-requires-clause-as_wide
+merge-requires-clause-as_wide c =
+    let row = c.args.next in
+    let is = interpretation_kind row (sym c.is_interpretation.ensures.kind ∙ c.if-not-is_interpretation.false) in
+    let off : is_closed c.args.self.now.columns.path ≡ false = sym c.is_unopened.ensures ∙ c.if-is_unopened.false in
+    let at = c.requires.score in
+    rw (c.each.ensures, c.marks.ensures) (wide_later (column_command c.args.self.now.options) row at.past at.memory at.score is off)
+
+pub returns : goal.returns
+returns c decide past follows score =
+    let command = column_command c.args.self.now.options in
+    let row = c.args.next in
+    let is = interpretation_kind row (sym c.is_interpretation.ensures.kind ∙ c.if-not-is_interpretation.false) in
+    let off : is_closed c.args.self.now.columns.path ≡ false = sym c.is_unopened.ensures ∙ c.if-is_unopened.false in
+    let answers = rw (c.each.ensures, c.marks.ensures) at c.in_ok-refused.ensures in
+    steps_later command row past c.args.room c.merge.new.out.items c.pass.new.self c.in_ok-refused.refused follows score is off answers
+    c.in_ok-pass.ensures.passed c.in_ok-pass.ensures.sources

@@ -4,4 +4,4 @@ use Rattle.hum_options.proofs.given.GivenOptions.is_barred.Goals as goal
 
 pub returns : goal.returns
 returns c =
-    rw (← c.self.view_is) (rw (any_given (bars c.args.tool c.args.letter) c.self.inside.entries.items, ← c.deref.ensures.value) c.are_barring.ensures)
+    rw (← c.self.view_is) (rw (any_given (bars c.args.command c.args.letter) c.self.inside.entries.items, ← c.deref.ensures.value) c.are_barring.ensures)

@@ -1,7 +1,10 @@
 use Rattle.hum_stage.proofs.Lags.{new_lags}
 use Rattle.hum_stage.proofs.lagging.Lagging.new.Goals as goal
 
-pub returns : goal.returns
-returns g c look steady h = rw c.new.ensures.items
-    (new_lags 65536 (g.C.LooksAhead.follows c.args.memory _) c.args.stage c.args.command look
-    c.new-2.result.items steady h c.new-2.ensures.items)
+pub returns-clause-stands : goal.returns-clause-stands
+returns-clause-stands g c = rw (c.command.ensures, c.new.ensures.items)
+    (new_lags 65536 (g.C.LooksAhead.follows c.begin.result _) c.args.stage _ (g.C.LooksAhead.look c.args.options)
+    c.new-2.result.items c.begin.ensures.steady c.begin.ensures.follows c.new-2.ensures.items)
+
+pub returns-clause-keeps : goal.returns-clause-keeps
+returns-clause-keeps g c = c.begin.ensures.keeps

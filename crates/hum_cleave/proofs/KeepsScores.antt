@@ -1,0 +1,137 @@
+-- What is cleaved of a score is a score.
+use Rattle.std.proofs.Common.{◌≡◌, ◌∙◌, refl, sym, ap, ℕ, ◌==◌, Bool, true, false, not, ◌&&◌, List, [], ◌∷◌, length, map}
+use Rattle.std.proofs.Common.{arith, cond}
+use Rattle.std.specs.Prelude.{None, Result, Ok, Err, nat_lt}
+use Rattle.std.specs.List.{list_all, find}
+use Rattle.std.specs.Str.{bytes_eq}
+use lib.Chars.{codes}
+use Rattle.std.proofs.lemmas.Bool.{and_parts, and_from, false≢true}
+use Rattle.std.proofs.lemmas.Bool.Decides.{nat_tests}
+use Rattle.std.proofs.lemmas.List.{length-map}
+use Rattle.hum_record.specs.declared.SpinedKind.{SpinedKind}
+use Rattle.hum_record.specs.declared.SpinedKind.TheVariants.{Interpretation}
+use Rattle.hum_record.specs.Row.{Row, Spined}
+use Rattle.hum_record.specs.Building.{spelled}
+use Rattle.hum_record.specs.Spelling.{is_empty}
+use Rattle.hum_path.specs.Sign.{sign_of, is_exclusive}
+use Rattle.hum_path.specs.Spines.{Unopened, Spines}
+use Rattle.hum_path.specs.Rules.{breaks_as_text, in_order}
+use Rattle.hum_path.proofs.Widths.{text_width}
+use Rattle.hum_path.proofs.Obeyed.{Opens}
+use Rattle.hum_stage.specs.declared.faults.Rule.{Rule}
+use Rattle.hum_stage.specs.declared.faults.Rule.TheVariants.{L1}
+use Rattle.hum_stage.specs.Meaning.{KeepsScore}
+use Rattle.hum_stage.specs.Decided.{decisions, limit}
+use Rattle.hum_columns.specs.Chosen.{chosen, others}
+use Rattle.hum_columns.proofs.KeepsScores.{Reach, Selects, text_reaches, text_parts, opening_reaches, columns_keep}
+use Rattle.hum_cleave.specs.Columns.{opening_flags, together}
+use Rattle.hum_cleave.specs.Cleave.{Options, is_name, fits_in_token, one_record, one_of, opened, cleave, column_command}
+use Rattle.hum_cleave.proofs.Placewise.{together_filled}
+use Rattle.hum_cleave.proofs.Selecting.{together_length, together_fewer, together_lacks}
+use Rattle.hum_cleave.proofs.MergedLeads.{merged_leads}
+
+-- A name that a plan may give.
+pub record IsNamed (name : List ℕ) : Type 0 where
+  pub exclusive : is_exclusive (sign_of name) ≡ true
+  pub bare : bytes_eq (codes "**") name ≡ false
+  pub some : (length name == 0) ≡ false
+
+named : (name : List ℕ) → is_name name ≡ true → IsNamed name
+named name h =
+    let both = and_parts (is_exclusive (sign_of name)) (not (bytes_eq (codes "**") name) && fits_in_token name) h in
+    record {
+      exclusive = both.0;
+      bare = flip (bytes_eq (codes "**") name) (and_parts (not (bytes_eq (codes "**") name)) (fits_in_token name) both.1).0;
+      some = filled name both.0;
+    }
+  where
+    flip : (b : Bool) → not b ≡ true → b ≡ false
+    flip true h = cc
+    flip false h = refl
+
+    filled : (name : List ℕ) → is_exclusive (sign_of name) ≡ true → (length name == 0) ≡ false
+    filled [] h = absurd (false≢true h)
+    filled (b ∷ bs) h = grind (arith, nat_tests)
+
+one_made : (kind : SpinedKind) (us : List (List ℕ)) (rows : List Row) → one_record kind us ≡ Ok rows → Spined kind us ∷ [] ≡ rows
+one_made kind us rows e = by_test (nat_lt 1048576 (length (spelled us))) e
+  where
+    by_test : (b : Bool) → ◌≡◌ {A = Result (List Row) Rule} (cond b (Err L1) (Ok (Spined kind us ∷ []))) (Ok rows) → Spined kind us ∷ [] ≡ rows
+    by_test true e = cc
+    by_test false e = cc
+
+-- A local comment or data.
+text_merged : (name one : List ℕ) (fs : List Bool) (kind : SpinedKind) (names tokens us : List (List ℕ)) → IsNamed name
+    → length fs ≡ length names → (kind ≡ Interpretation → ⊥)
+    → find (breaks_as_text (Spines names) tokens) in_order ≡ None → together one fs tokens ≡ us
+    → Reach (Spines (together name fs names)) (Spined kind us ∷ []) (Spines (together name fs names))
+text_merged name one fs kind names tokens [] is len other h e =
+    let wide = text_width (Spines names) tokens h in
+    let none = ap length (together_filled one fs tokens (omega (arith, len, wide)) e) in
+    let some = (text_parts names tokens h).0 in
+    absurd (let l : length names ≡ 0 = omega (arith, none, wide) in false≢true (sym some ∙ zero_length names l))
+  where
+    zero_length : (ns : List (List ℕ)) → length ns ≡ 0 → (length ns == 0) ≡ true
+    zero_length ns l = rw l refl
+text_merged name one fs kind names tokens (u ∷ us) is len other h e =
+    let size = together_length one name fs tokens names (text_width (Spines names) tokens h) in
+    let same = ap length e in
+    let waits = together_lacks is_empty name fs names is.some (text_parts names tokens h).1 in
+    text_reaches kind (together name fs names) u us other (omega (arith, same, size)) waits
+
+-- At the opening.
+others_exclusive : (fs : List Bool) (ts : List (List ℕ)) → list_all is_exclusive (map sign_of ts) ≡ true
+    → list_all is_exclusive (map sign_of (others fs ts)) ≡ true
+others_exclusive [] ts h = refl
+others_exclusive (f ∷ fs) [] h = refl
+others_exclusive (true ∷ fs) (t ∷ ts) h = others_exclusive fs ts (and_parts (is_exclusive (sign_of t)) (list_all is_exclusive (map sign_of ts)) h).1
+others_exclusive (false ∷ fs) (t ∷ ts) h =
+    let both = and_parts (is_exclusive (sign_of t)) (list_all is_exclusive (map sign_of ts)) h in
+    and_from (is_exclusive (sign_of t)) (list_all is_exclusive (map sign_of (others fs ts))) both.0 (others_exclusive fs ts both.1)
+
+together_exclusive : (one : List ℕ) (fs : List Bool) (ts : List (List ℕ)) → is_exclusive (sign_of one) ≡ true
+    → list_all is_exclusive (map sign_of ts) ≡ true → list_all is_exclusive (map sign_of (together one fs ts)) ≡ true
+together_exclusive one [] ts o h = refl
+together_exclusive one (f ∷ fs) [] o h = refl
+together_exclusive one (true ∷ fs) (t ∷ ts) o h =
+    let both = and_parts (is_exclusive (sign_of t)) (list_all is_exclusive (map sign_of ts)) h in
+    and_from (is_exclusive (sign_of one)) (list_all is_exclusive (map sign_of (others fs ts))) o (others_exclusive fs ts both.1)
+together_exclusive one (false ∷ fs) (t ∷ ts) o h =
+    let both = and_parts (is_exclusive (sign_of t)) (list_all is_exclusive (map sign_of ts)) h in
+    and_from (is_exclusive (sign_of t)) (list_all is_exclusive (map sign_of (together one fs ts))) both.0 (together_exclusive one fs ts o both.1)
+
+together_opens : (name : List ℕ) (fs : List Bool) (tokens : List (List ℕ)) → IsNamed name → Opens tokens → Opens (together name fs tokens)
+together_opens name fs tokens is h = record {
+  exclusive = together_exclusive name fs tokens is.exclusive h.exclusive;
+  bare = together_lacks (bytes_eq (codes "**")) name fs tokens is.bare h.bare;
+  few = let most = h.few in let fewer = together_fewer name fs tokens in omega (arith, most, fewer);
+}
+
+open_merged : (options : Options) (tokens : List (List ℕ)) (rows : List Row) → IsNamed options.new_name → Opens tokens
+    → opened options tokens ≡ Ok rows
+    → Reach Unopened rows (Spines (together options.new_name (opening_flags options.name tokens) tokens))
+open_merged options tokens rows is h e =
+    let us = together options.new_name (opening_flags options.name tokens) tokens in
+    rw (← one_made Interpretation us rows e)
+    (opening_reaches us (together_opens options.new_name (opening_flags options.name tokens) tokens is h))
+
+cleave_selects : (options : Options) → IsNamed options.new_name → Selects (column_command options) (together options.new_name)
+cleave_selects options is = record {
+  wide = λ tokens. length-map tokens (bytes_eq options.name);
+  nothing = nothing;
+  opening = λ tokens rows h e. open_merged options tokens rows is h e;
+  later = merged_leads options.new_name is.some;
+  other = λ fs kind names tokens rows len other h e.
+      let us = together (one_of options.separator kind (chosen fs tokens)) fs tokens in
+      rw (← one_made kind us rows e)
+      (text_merged options.new_name (one_of options.separator kind (chosen fs tokens)) fs kind names tokens us is len other h refl);
+}
+  where
+    nothing : (fs : List Bool) → together options.new_name fs [] ≡ []
+    nothing [] = refl
+    nothing (f ∷ fs) = refl
+
+-- The command cleave makes scores of scores.
+pub cleave_keeps : (options : Options) → is_name options.new_name ≡ true → KeepsScore (λ p. limit 4294967295 (decisions (cleave options) [] p))
+cleave_keeps options is =
+    columns_keep (column_command options) (together options.new_name) (cleave_selects options (named options.new_name is))

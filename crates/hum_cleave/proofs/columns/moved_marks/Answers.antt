@@ -1,8 +1,0 @@
-use Rattle.std.proofs.Common.{◌∙◌, false, get_or}
-use Rattle.hum_path.specs.Spines.{source}
-use Rattle.hum_path.proofs.Carry.{map_more}
-use Rattle.hum_cleave.proofs.columns.moved_marks.Goals as goal
-
-pub loop-i-preserved : goal.loop-i-preserved
-loop-i-preserved c =
-    rw (c.in_ok-push.ensures.items, c.mark_at.ensures) (map_more (λ m. get_or c.args.marks.now (source m) false) c.loop-i.each.items c.args.found.now c.loop-i.i c.get.result c.get.ensures ∙ c.loop-i.invariant)

@@ -1,6 +1,0 @@
-use Rattle.std.proofs.Common.{◌≡◌, ◌++◌, drop}
-use Rattle.hum_cleave.specs.Following.{moved}
-use Rattle.hum_cleave.proofs.columns.moved_marks.Given as goal
-
-abbrev pub invariant-loop-i : goal.invariant-loop-i
-invariant-loop-i l = l.each.items ++ moved l.marks (drop l.i l.found) ≡ moved l.marks l.found

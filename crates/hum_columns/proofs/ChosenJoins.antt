@@ -1,0 +1,128 @@
+-- Joins that aren't torn stay joins among the chosen columns.
+use Rattle.std.proofs.Common.{◌≡◌, ◌∙◌, refl, sym, ap, ℕ, Bool, true, false, not, ◌&&◌, ◌||◌, List, [], ◌∷◌, length, map, arith}
+use Rattle.std.specs.Str.{bytes_eq}
+use Rattle.std.proofs.lemmas.Bool.{or_parts, not-false, false≢true}
+use Rattle.std.proofs.lemmas.Slice.Eq.{bytes_eq-Decides}
+use Rattle.hum_path.specs.declared.signs.Sign.{Sign}
+use Rattle.hum_path.specs.declared.signs.Sign.TheVariants.{Plain}
+use Rattle.hum_path.specs.Sign.{sign_of, is_join}
+use Rattle.hum_path.specs.Rules.{first_is, has_lone_join, has_mixed_join}
+use Rattle.hum_path.specs.Onward.{beginnings}
+use Rattle.hum_spread.specs.Spread.{Piece, tokens_in}
+use Rattle.hum_spread.proofs.Spreading.{marks, next_goes_on, Formed}
+use Rattle.hum_columns.specs.Chosen.{chosen, others, differ, is_torn, each_piece}
+use Rattle.hum_columns.proofs.ChosenLists.{chosen_map, not_length}
+use Rattle.hum_columns.proofs.TornJoins.{torn_start, torn_not}
+
+pub each_tokens : (b : Bool) (ts : List (List ℕ)) → tokens_in (each_piece b ts) ≡ ts
+each_tokens b [] = refl
+each_tokens b (t ∷ ts) = ap (λ (us : List (List ℕ)). t ∷ us) (each_tokens (is_join (sign_of t)) ts)
+
+pub each_marks : (b : Bool) (ts : List (List ℕ)) → marks (each_piece b ts) ≡ beginnings b (map sign_of ts)
+each_marks b [] = refl
+each_marks b (t ∷ ts) = ap (λ (bs : List Bool). (is_join (sign_of t) && not b) ∷ bs) (each_marks (is_join (sign_of t)) ts)
+
+pub chosen_tokens : (b : Bool) (fs : List Bool) (ts : List (List ℕ)) → tokens_in (chosen fs (each_piece b ts)) ≡ chosen fs ts
+chosen_tokens b fs ts =
+    chosen_map (λ (p : Piece). p.token) fs (each_piece b ts) ∙ ap (λ (us : List (List ℕ)). chosen fs us) (each_tokens b ts)
+
+pub chosen_marks : (b : Bool) (fs : List Bool) (ts : List (List ℕ)) → marks (chosen fs (each_piece b ts)) ≡ chosen fs (beginnings b (map sign_of ts))
+chosen_marks b fs ts =
+    chosen_map (λ (p : Piece). p.begins) fs (each_piece b ts) ∙ ap (λ (bs : List Bool). chosen fs bs) (each_marks b ts)
+
+-- the join to the right is as this one
+pub join_too : (j k f g : Bool) → j ≡ true → k ≡ true → (j && (k && differ f g)) ≡ false → g ≡ f
+join_too true true true true a b h = refl
+join_too true true true false a b h = cc
+join_too true true false true a b h = cc
+join_too true true false false a b h = refl
+join_too true false f g a b h = absurd (false≢true b)
+join_too false k f g a b h = absurd (false≢true a)
+
+-- and goes on with it
+pub goes : (j k : Bool) → j ≡ true → k ≡ true → (k && not (k && not j)) ≡ true
+goes true true a b = refl
+goes true false a b = absurd (false≢true b)
+goes false k a b = absurd (false≢true a)
+
+next_chosen : (s : Sign) (fs : List Bool) (ts : List (List ℕ)) → length fs ≡ length ts → is_join s ≡ true
+    → first_is is_join (map sign_of ts) ≡ true
+    → is_torn (true ∷ fs) (s ∷ map sign_of ts) ≡ false → next_goes_on (chosen fs (each_piece (is_join s) ts)) ≡ true
+next_chosen s fs [] len join first torn = absurd (false≢true first)
+next_chosen s [] (t ∷ ts) len join first torn = absurd (omega (arith, len))
+next_chosen s (g ∷ fs) (t ∷ ts) len join first torn =
+    let here = (or_parts (is_join s && (is_join (sign_of t) && differ true g)) (is_torn (g ∷ fs) (map sign_of (t ∷ ts))) torn).0 in
+    let with = join_too (is_join s) (is_join (sign_of t)) true g join first here in
+    rw with (goes (is_join s) (is_join (sign_of t)) join first)
+
+-- a join that begins one has another to its right
+pub begins_well : (j p next : Bool) → (j && not (p || next)) ≡ false → (j && not p) ≡ true → (j ≡ true) × (next ≡ true)
+begins_well true true next lone h = absurd (false≢true h)
+begins_well true false true lone h = (refl, refl)
+begins_well true false false lone h = absurd (false≢true (sym lone))
+begins_well false p next lone h = absurd (false≢true h)
+
+-- and one that goes on has one to its left, which is as it is
+pub goes_well : (j p f g : Bool) (m n : List ℕ) → (p && (j && differ f g)) ≡ false → (p && (j && not (bytes_eq m n))) ≡ false
+    → (j && not (j && not p)) ≡ true
+    → (p ≡ true) × ((f ≡ g) × (m ≡ n))
+goes_well true true true true m n torn mixed h = (refl, (refl, (bytes_eq-Decides m n).0 (not-false (bytes_eq m n) mixed)))
+goes_well true true false false m n torn mixed h = (refl, (refl, (bytes_eq-Decides m n).0 (not-false (bytes_eq m n) mixed)))
+goes_well true true true false m n torn mixed h = absurd (false≢true (sym torn))
+goes_well true true false true m n torn mixed h = absurd (false≢true (sym torn))
+goes_well true false f g m n torn mixed h = absurd (false≢true h)
+goes_well false p f g m n torn mixed h = absurd (false≢true h)
+
+formed_from : (f : Bool) (s : Sign) (name : List ℕ) (b : Bool) (before : List ℕ) (fs : List Bool) (ts ns : List (List ℕ))
+    → length fs ≡ length ts → length ns ≡ length ts
+    → is_torn (f ∷ fs) (s ∷ map sign_of ts) ≡ false → has_lone_join (is_join s) (map sign_of ts) ≡ false
+    → has_mixed_join (name ∷ ns) (s ∷ map sign_of ts) ≡ false
+    → (f ≡ true → (b ≡ is_join s) × (before ≡ name)) → Formed b before (chosen fs (each_piece (is_join s) ts)) (chosen fs ns)
+formed_from f s name b before [] [] ns len wide torn lone mixed at = tt
+formed_from f s name b before [] (t ∷ ts) ns len wide torn lone mixed at = absurd (omega (arith, len))
+formed_from f s name b before (g ∷ fs) [] ns len wide torn lone mixed at = absurd (omega (arith, len))
+formed_from f s name b before (g ∷ fs) (t ∷ ts) [] len wide torn lone mixed at = absurd (omega (arith, wide))
+formed_from f s name b before (true ∷ fs) (t ∷ ts) (n ∷ ns) len wide torn lone mixed at =
+    let signs = map sign_of ts in
+    let tear = or_parts _ (is_torn (true ∷ fs) (sign_of t ∷ signs)) torn in
+    let alone = or_parts _ (has_lone_join (is_join (sign_of t)) signs) lone in
+    let mix = or_parts _ (has_mixed_join (n ∷ ns) (sign_of t ∷ signs)) mixed in (
+      λ e. let well = begins_well (is_join (sign_of t)) (is_join s) (first_is is_join signs) alone.0 e in
+          (well.0, next_chosen (sign_of t) fs ts (omega (arith, len)) well.0 well.1 tear.1),
+      (
+        λ e. let well = goes_well (is_join (sign_of t)) (is_join s) f true name n tear.0 mix.0 e in
+            let left = at well.1.0 in (left.0 ∙ well.0, left.1 ∙ well.1.1),
+        formed_from true (sign_of t) n (is_join (sign_of t)) n fs ts ns (omega (arith, len)) (omega (arith, wide)) tear.1 alone.1 mix.1
+            (λ e. (refl, refl)),
+      ),
+    )
+formed_from f s name b before (false ∷ fs) (t ∷ ts) (n ∷ ns) len wide torn lone mixed at =
+    let signs = map sign_of ts in
+    let tear = or_parts _ (is_torn (false ∷ fs) (sign_of t ∷ signs)) torn in
+    let alone = or_parts _ (has_lone_join (is_join (sign_of t)) signs) lone in
+    let mix = or_parts _ (has_mixed_join (n ∷ ns) (sign_of t ∷ signs)) mixed in
+    formed_from false (sign_of t) n b before fs ts ns (omega (arith, len)) (omega (arith, wide)) tear.1 alone.1 mix.1
+    (λ e. absurd (false≢true e))
+
+-- the same of the others, behind a chosen column
+pub others_formed : (s : Sign) (name : List ℕ) (b : Bool) (before : List ℕ) (fs : List Bool) (ts ns : List (List ℕ))
+    → length fs ≡ length ts → length ns ≡ length ts
+    → is_torn (true ∷ fs) (s ∷ map sign_of ts) ≡ false → has_lone_join (is_join s) (map sign_of ts) ≡ false
+    → has_mixed_join (name ∷ ns) (s ∷ map sign_of ts) ≡ false
+    → Formed b before (others fs (each_piece (is_join s) ts)) (others fs ns)
+others_formed s name b before fs ts ns len wide torn lone mixed =
+    formed_from false s name b before (map not fs) ts ns (not_length fs ∙ len) wide (torn_not (true ∷ fs) (s ∷ map sign_of ts) ∙ torn) lone mixed
+    (λ e. absurd (false≢true e))
+
+pub mixed_start : (ns : List (List ℕ)) (ss : List Sign) → has_mixed_join ns ss ≡ false → has_mixed_join ([] ∷ ns) (Plain ∷ ss) ≡ false
+mixed_start [] ss h = refl
+mixed_start (n ∷ ns) [] h = refl
+mixed_start (n ∷ ns) (s ∷ ss) h = h
+
+-- The chosen tokens are formed, where no join is torn, lone or mixed.
+pub chosen_formed : (fs : List Bool) (ts ns : List (List ℕ)) → length fs ≡ length ts → length ns ≡ length ts
+    → is_torn fs (map sign_of ts) ≡ false → has_lone_join false (map sign_of ts) ≡ false → has_mixed_join ns (map sign_of ts) ≡ false
+    → Formed false [] (chosen fs (each_piece false ts)) (chosen fs ns)
+chosen_formed fs ts ns len wide torn lone mixed =
+    formed_from false Plain [] false [] fs ts ns len wide (torn_start false fs (map sign_of ts) torn) lone (mixed_start ns (map sign_of ts) mixed)
+    (λ e. absurd (false≢true e))

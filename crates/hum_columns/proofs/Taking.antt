@@ -1,0 +1,172 @@
+-- One record more of a score.
+use Rattle.std.proofs.Common.{◌≡◌, ◌∙◌, sym, ap, refl, ℕ, suc, true, false, ◌==◌}
+use Rattle.std.proofs.Common.{List, [], ◌∷◌, length, arith, Option, None, Some}
+use Rattle.std.specs.Prelude.{Result, IfOk, IfNone, Ok, Err, nat_le}
+use Rattle.std.proofs.lemmas.Bool.{false≢true}
+use Rattle.std.proofs.lemmas.Bool.Decides.{nat_tests}
+use Rattle.hum_record.specs.declared.SpinedKind.TheVariants.{Local, Interpretation, Values}
+use Rattle.hum_record.specs.Row.{Row, Comment, Spined, tokens_of, width_of}
+use Rattle.hum_path.specs.declared.moved.Move.{Move}
+use Rattle.hum_path.specs.Spines.{Path, Unopened, Spines, width, moves, after}
+use Rattle.hum_path.specs.Rules.{fault_of, is_closed}
+use Rattle.hum_path.specs.Score.{IsOpen, path_after}
+use Rattle.hum_path.specs.Step.{ComeFrom}
+use Rattle.hum_path.proofs.Cases.{by_bool}
+use Rattle.hum_path.proofs.Plain.{sound_width}
+use Rattle.hum_path.proofs.Widths.{text_width}
+use Rattle.hum_stage.specs.declared.faults.Rule.{Rule}
+use Rattle.hum_stage.specs.Decided.{in_room, Steps}
+use Rattle.hum_columns.specs.Chosen.{flags}
+use Rattle.hum_columns.specs.Deciding.{ColumnCommand, at_path, by_columns}
+use Rattle.hum_columns.specs.Following.{AsWide, moved, Memory, memory, passed, Answers, AnswersInRoom, Follows, is_interpretation}
+use Rattle.hum_columns.proofs.Flags.{flags_width, flags_open, flags_move, text_opening}
+
+some_left : (n : ℕ) → suc n == 0 ≡ false
+some_left n = grind (arith, nat_tests)
+
+closed_path : (path : Path) (tokens : List (List ℕ)) → fault_of path (Spined Interpretation tokens) ≡ None
+    → is_closed path ≡ true → path ≡ Unopened
+closed_path Unopened tokens sound h = refl
+closed_path (Spines []) tokens sound h = cc
+closed_path (Spines (name ∷ names)) tokens sound h = absurd (false≢true (rw some_left at h))
+
+abbrev pub names_in : Path → List (List ℕ)
+names_in Unopened = []
+names_in (Spines names) = names
+
+spines_path : (path : Path) → is_closed path ≡ false → path ≡ Spines (names_in path)
+spines_path Unopened h = cc
+spines_path (Spines names) h = refl
+
+pub interpretation_kind : (row : Row) → is_interpretation row ≡ true → row ≡ Spined Interpretation (tokens_of row)
+interpretation_kind (Comment text) h = cc
+interpretation_kind (Spined Local tokens) h = cc
+interpretation_kind (Spined Values tokens) h = cc
+interpretation_kind (Spined Interpretation tokens) h = refl
+
+-- where there is room, an answer is one
+pub from_room : (decided : Result (List Row) Rule) (room : ℕ) (rows : List Row) (refused : Option Rule)
+    → AnswersInRoom decided room rows refused → Answers decided room rows refused
+from_room decided room rows (Some rule) h = h.0
+from_room (Err rule) room rows None h = cc
+from_room (Ok out) room rows None h = by_bool (nat_le (length out) room)
+    (λ w. rw w at h)
+    (λ w. absurd (never (rw w at h)))
+  where
+    never : {e : Rule} → ◌≡◌ {A = Result (List Row) Rule} (Err e) (Ok rows) → ⊥
+    never h = cc
+
+-- a record that asks nothing of the spines
+module _ {command : ColumnCommand} {m : Memory} {decide : List Row → Row → Result (List Row) Rule} where
+  pub wide_still : (row : Row) (past : List Row) → Follows command m decide past → IsOpen (row ∷ past)
+      → is_interpretation row ≡ false → AsWide m.each row
+  wide_still (Comment text) past s score still = tt
+  wide_still (Spined Local tokens) past s score still =
+      ap length s.marks ∙ flags_width command.choose past score.0 ∙ sym (text_width (path_after past) tokens score.1)
+  wide_still (Spined Values tokens) past s score still =
+      ap length s.marks ∙ flags_width command.choose past score.0 ∙ sym (text_width (path_after past) tokens score.1)
+  wide_still (Spined Interpretation tokens) past s score still = cc
+
+  -- nothing moves
+  pub follows_still : (row : Row) (past : List Row) → Follows command m decide past → IsOpen (row ∷ past)
+      → is_interpretation row ≡ false → Follows command m decide (row ∷ past)
+  follows_still (Comment text) past s score still = record { decides = s.decides; spines = s.spines; marks = s.marks }
+  follows_still (Spined Local tokens) past s score still =
+      record { decides = s.decides; spines = s.spines; marks = s.marks ∙ rw (text_opening _ tokens _ score.1) refl }
+  follows_still (Spined Values tokens) past s score still =
+      record { decides = s.decides; spines = s.spines; marks = s.marks ∙ rw (text_opening _ tokens _ score.1) refl }
+  follows_still (Spined Interpretation tokens) past s score still = cc
+
+-- no path rule is broken
+pub sound_next : (row : Row) (path : Path) (past : List Row) → path ≡ path_after past → IsOpen (row ∷ past) → fault_of path row ≡ None
+sound_next row path past spines score = ap (λ (p : Path). fault_of p row) spines ∙ score.1
+
+-- an interpretation
+module _ (command : ColumnCommand) {m : Memory} {decide : List Row → Row → Result (List Row) Rule} where
+  pub wide_later : (row : Row) (past : List Row) → Follows command m decide past → IsOpen (row ∷ past)
+      → row ≡ Spined Interpretation (tokens_of row) → is_closed m.path ≡ false → length m.each ≡ width_of row
+  wide_later (Comment text) past s score is off = cc
+  wide_later (Spined kind tokens) past s score is off =
+      let k : kind ≡ Interpretation = cc in
+      let path = spines_path (path_after past) (ap is_closed (sym s.spines) ∙ off) in
+      let sound : fault_of (Spines (names_in (path_after past))) (Spined Interpretation tokens) ≡ None = rw (k, path) at score.1 in
+      ap length s.marks ∙ flags_width command.choose past score.0 ∙ ap width path ∙ sym (sound_width (names_in (path_after past)) tokens sound)
+
+  -- the opening record
+  pub steps_opening : (row : Row) (past : List Row) (room : ℕ) (out : List Row) (new : Memory) (refused : Option Rule)
+      → ((tokens : List (List ℕ)) → length (command.choose tokens) ≡ length tokens)
+      → Follows command m decide past → IsOpen (row ∷ past) → row ≡ Spined Interpretation (tokens_of row) → is_closed m.path ≡ true
+      → Answers (command.opening (tokens_of row)) room out refused
+      → IfNone refused (new ≡ memory (after m.path row) (command.choose (tokens_of row)))
+      → Steps decide past row (Follows command new) room out refused
+  steps_opening (Comment text) past room out new refused wide s score is on answers marked = cc
+  steps_opening (Spined kind tokens) past room out new refused wide s score is on answers marked =
+      let k : kind ≡ Interpretation = cc in
+      let sound : fault_of (path_after past) (Spined Interpretation tokens) ≡ None = rw k at score.1 in
+      let path = closed_path (path_after past) tokens sound (ap is_closed (sym s.spines) ∙ on) in
+      let later = command.later (flags command.choose past) tokens in
+      let decided : at_path (path_after past) (command.opening tokens) later ≡ command.opening tokens =
+      ap (λ (p : Path). at_path p (command.opening tokens) later) path in
+      rw (k, s.decides) (one refused answers (rw k at marked) decided (flags_open command.choose past tokens (wide tokens) score.0 path))
+    where
+      one : (refused : Option Rule) → Answers (command.opening tokens) room out refused
+          → IfNone refused (new ≡ memory (after m.path (Spined Interpretation tokens)) (command.choose tokens))
+          → by_columns command past (Spined Interpretation tokens) ≡ command.opening tokens
+          → flags command.choose (Spined Interpretation tokens ∷ past) ≡ command.choose tokens
+          → Steps (by_columns command) past (Spined Interpretation tokens) (Follows command new) room out refused
+      one None answers marked decided marks_then = (
+        decided ∙ answers,
+        record {
+          decides = refl;
+          spines = ap (λ (n : Memory). n.path) marked ∙ ap (λ (p : Path). after p (Spined Interpretation tokens)) s.spines;
+          marks = ap (λ (n : Memory). n.each) marked ∙ sym marks_then;
+        },
+      )
+      one (Some rule) answers marked decided marks_then = ap (in_room room) decided ∙ answers
+
+  -- an interpretation after it
+  pub steps_later : (row : Row) (past : List Row) (room : ℕ) (out : List Row) (new : Memory) (refused : Option Rule)
+      → Follows command m decide past → IsOpen (row ∷ past) → row ≡ Spined Interpretation (tokens_of row) → is_closed m.path ≡ false
+      → AnswersInRoom (command.later m.each (tokens_of row)) room out refused → new ≡ passed m row → ComeFrom row (moves m.path row)
+      → Steps decide past row (Follows command new) room out refused
+  steps_later (Comment text) past room out new refused s score is off answers went from = cc
+  steps_later (Spined kind tokens) past room out new refused s score is off answers went from =
+      let k : kind ≡ Interpretation = cc in
+      let path = spines_path (path_after past) (ap is_closed (sym s.spines) ∙ off) in
+      let sound : fault_of (path_after past) (Spined Interpretation tokens) ≡ None = rw k at score.1 in
+      let decided : at_path (path_after past) (command.opening tokens) (command.later (flags command.choose past) tokens) ≡ command.later m.each tokens =
+      ap (λ (p : Path). at_path p (command.opening tokens) (command.later (flags command.choose past) tokens)) path
+      ∙ ap (λ fs. command.later fs tokens) (sym s.marks) in
+      let found : List Move = moves m.path (Spined Interpretation tokens) in
+      let told : found ≡ moves (path_after past) (Spined Interpretation tokens) =
+      ap (λ (p : Path). moves p (Spined Interpretation tokens)) s.spines in
+      let sources : ComeFrom (Spined Interpretation tokens) found = rw k at from in
+      let marks_then : moved m.each found ≡ flags command.choose (Spined Interpretation tokens ∷ past) =
+      ap (λ fs. moved fs found) s.marks
+      ∙ sym (flags_move command.choose past tokens (names_in (path_after past)) found score.0 path sound told sources) in
+      rw (k, s.decides)
+      (one refused (from_room (command.later m.each tokens) room out refused answers) decided (rw k at went) marks_then)
+    where
+      one : (refused : Option Rule) → Answers (command.later m.each tokens) room out refused
+          → by_columns command past (Spined Interpretation tokens) ≡ command.later m.each tokens
+          → new ≡ passed m (Spined Interpretation tokens)
+          → moved m.each (moves m.path (Spined Interpretation tokens)) ≡ flags command.choose (Spined Interpretation tokens ∷ past)
+          → Steps (by_columns command) past (Spined Interpretation tokens) (Follows command new) room out refused
+      one None answers decided went marks_then = (
+        decided ∙ answers,
+        record {
+          decides = refl;
+          spines = ap (λ (n : Memory). n.path) went ∙ ap (λ (p : Path). after p (Spined Interpretation tokens)) s.spines;
+          marks = ap (λ (n : Memory). n.each) went ∙ marks_then;
+        },
+      )
+      one (Some rule) answers decided went marks_then = ap (in_room room) decided ∙ answers
+
+-- from what holds of an answer to what it means
+pub ok_to : {T E : Type 0} (r : Result T E) (P R : T → Type 0) → ((x : T) → P x → R x) → IfOk r P → IfOk r R
+ok_to (Ok x) P R f p = f x p
+ok_to (Err e) P R f p = tt
+
+pub both_ok : {T E : Type 0} (r : Result T E) (P Q R : T → Type 0) → ((x : T) → P x → Q x → R x) → IfOk r P → IfOk r Q → IfOk r R
+both_ok (Ok x) P Q R f p q = f x p q
+both_ok (Err e) P Q R f p q = tt

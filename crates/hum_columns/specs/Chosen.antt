@@ -1,0 +1,53 @@
+-- Columns that are chosen by the opening spines that they come from.
+use Rattle.std.specs.Prelude.{ℕ, Bool, true, false, not, ◌&&◌, ◌||◌}
+use Rattle.std.specs.Prelude.{List, [], ◌∷◌, map, slice_index_or}
+use Rattle.hum_record.specs.Row.{Row, Comment, Spined}
+use Rattle.hum_path.specs.declared.signs.Sign.{Sign}
+use Rattle.hum_path.specs.Sign.{sign_of, is_join}
+use Rattle.hum_path.specs.Spines.{Path, Unopened, Spines}
+use Rattle.hum_path.specs.Score.{path_after}
+use Rattle.hum_path.specs.Chains.{origins}
+use Rattle.hum_spread.specs.Spread.{Piece, piece}
+
+-- the tokens of the opening record, of records with the newest first
+abbrev pub opening_if : Path → List (List ℕ) → List (List ℕ) → List (List ℕ)
+opening_if Unopened tokens before = tokens
+opening_if (Spines names) tokens before = before
+
+abbrev pub opening_of : List Row → List (List ℕ)
+opening_of [] = []
+opening_of (Comment text ∷ past) = opening_of past
+opening_of (Spined kind tokens ∷ past) = opening_if (path_after past) tokens (opening_of past)
+
+-- For each column after records: it is chosen where the opening spine that it comes from is.
+abbrev pub flags : (List (List ℕ) → List Bool) → List Row → List Bool
+flags choose past =
+    map (λ origin. slice_index_or (choose (opening_of past)) origin false) (origins past)
+
+-- what stands in the chosen columns
+abbrev pub chosen : {X : Type 0} → List Bool → List X → List X
+chosen [] xs = []
+chosen (flag ∷ flags) [] = []
+chosen (true ∷ flags) (x ∷ xs) = x ∷ chosen flags xs
+chosen (false ∷ flags) (x ∷ xs) = chosen flags xs
+
+-- what stands in the others
+abbrev pub others : {X : Type 0} → List Bool → List X → List X
+others flags xs = chosen (map not flags) xs
+
+abbrev pub differ : Bool → Bool → Bool
+differ true b = not b
+differ false b = b
+
+-- joins side by side, of which one is chosen and the other isn't
+abbrev pub is_torn : List Bool → List Sign → Bool
+is_torn (f ∷ g ∷ flags) (s ∷ t ∷ signs) =
+    (is_join s && (is_join t && differ f g)) || is_torn (g ∷ flags) (t ∷ signs)
+is_torn _ _ = false
+
+-- each token of a record, with whether it begins a join there
+abbrev pub each_piece : Bool → List (List ℕ) → List Piece
+each_piece after_join [] = []
+each_piece after_join (token ∷ tokens) =
+    piece (is_join (sign_of token) && not after_join) token
+    ∷ each_piece (is_join (sign_of token)) tokens

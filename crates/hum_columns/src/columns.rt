@@ -1,0 +1,97 @@
+//! The spines of a score, and which of their columns are chosen.
+ghost use Rattle.std.specs.Prelude.{◌≡◌, None, [], IfOk, OnOk};
+ghost use Rattle.hum_record.specs.Row.{Row};
+ghost use Rattle.hum_path.specs.Spines.{Unopened, moves, after};
+ghost use Rattle.hum_path.specs.Rules.{fault_of, is_closed};
+ghost use Rattle.hum_path.specs.Step.{ComeFrom};
+ghost use Rattle.hum_columns.specs.Following.{memory, passed};
+
+use crate::marks::Marks;
+use hum_path::{Moves, PathFault, Paths};
+use hum_record::Record;
+use std::alloc::{AllocError, Global};
+use std::marker::Model;
+
+/// The spines of a score so far, and for each of their columns whether it is chosen.
+#[derive(Drop)]
+pub struct ChosenColumns {
+    paths: Paths,
+    marks: Marks,
+}
+
+impl Model for ChosenColumns {
+    ghost use Rattle.hum_columns.specs.Following.{Memory, memory};
+
+    ghost Value = { Memory };
+
+    ghost view = { λ c. memory c.paths.path c.marks };
+}
+
+/// Where the spines after a record that breaks no path rule come from.
+fn follow(paths: &mut Paths, row: &Record) -> Result<Moves, AllocError>
+    requires { fault_of paths.old.path row.now ≡ None }
+    ensures moves { IfOk result (λ found. found ≡ moves paths.old.path row.now) }
+    ensures after { OnOk result (paths.new.path ≡ after paths.old.path row.now) }
+    ensures sources { IfOk result (ComeFrom row.now) }
+{
+    match paths.step(row) {
+        Ok(found) => Ok(found),
+        Err(fault) => match fault {
+            PathFault::Memory => Err(AllocError),
+            _ => unreachable!(),
+        },
+    }
+}
+
+impl ChosenColumns {
+    /// No spine was opened yet.
+    pub fn none(alloc: Global) -> ChosenColumns
+        ensures { result ≡ memory Unopened [] }
+    {
+        ChosenColumns {
+            paths: Paths::new(alloc),
+            marks: Marks::none(alloc),
+        }
+    }
+
+    /// Whether no spine is open, so that the next interpretation is the opening record.
+    pub fn is_unopened(&self) -> bool
+        ensures { result ≡ is_closed self.now.path }
+    {
+        self.paths.is_closed()
+    }
+
+    /// For each column whether it is chosen.
+    pub fn marks(&self) -> &Marks
+        ensures { result.now ≡ self.now.each }
+    {
+        &self.marks
+    }
+
+    /// Takes the opening record, of which these columns are chosen.
+    ///
+    /// # Errors
+    /// Want of memory.
+    pub fn open(&mut self, row: &Record, marks: Marks) -> Result<(), AllocError>
+        requires { fault_of self.old.path row.now ≡ None }
+        ensures { OnOk result (self.new ≡ memory (after self.old.path row.now) marks) }
+    {
+        let _found = follow(&mut self.paths, row)?;
+        self.marks = marks;
+        Ok(())
+    }
+
+    /// Takes a later interpretation: what comes of a chosen column is chosen.
+    ///
+    /// # Errors
+    /// Want of memory.
+    pub fn pass(&mut self, alloc: Global, row: &Record) -> Result<(), AllocError>
+        requires { fault_of self.old.path row.now ≡ None }
+        ensures passed { OnOk result (self.new ≡ passed self.old row.now) }
+        ensures sources { OnOk result (ComeFrom row.now (moves self.old.path row.now)) }
+    {
+        let found = follow(&mut self.paths, row)?;
+        self.marks = self.marks.moved(alloc, &found)?;
+        Ok(())
+    }
+}

@@ -1,0 +1,52 @@
+//! Columns that are chosen by the opening spines that they come from, for commands that keep them or
+//! put them together (Humdrum Toolkit: Reference Manual, extract and cleave).
+//!
+//! [`ChosenColumns`] say of each column whether it is chosen, and go on along splits, joins,
+//! exchanges and added spines; [`is_torn`] finds the joins that such a command can't write, and
+//! [`write_pieces`] writes what it makes of an interpretation.
+#![tactic(auto)]
+
+ghost use Rattle.std.specs.Prelude.{◌≡◌, [], Ok, IfOk};
+ghost use Rattle.hum_record.specs.declared.SpinedKind.TheVariants.{Interpretation};
+ghost use Rattle.hum_spread.specs.Spread.{spread, filled};
+ghost use Rattle.hum_spread.specs.Writing.{Fit};
+ghost use Rattle.hum_columns.specs.Following.{AnswersInRoom};
+
+mod columns;
+mod marks;
+mod torn;
+
+pub use columns::ChosenColumns;
+use hum_record::Record;
+use hum_spread::{Piece, spread};
+use hum_stage::Rule;
+pub use marks::Marks;
+use std::alloc::{AllocError, Global};
+use std::collections::VecDeque;
+pub use torn::is_torn;
+
+/// Writes an interpretation of these tokens by the spread rule, or answers L2 where there is no room
+/// for its records.
+///
+/// # Errors
+/// Want of memory.
+pub fn write_pieces(
+    alloc: Global,
+    pieces: &[Piece<'_>],
+    room: u64,
+    out: &mut VecDeque<Record>,
+) -> Result<Option<Rule>, AllocError>
+    requires fit { Fit pieces.now }
+    requires empty { out.old.items ≡ [] }
+    ensures { IfOk result
+        (AnswersInRoom (Ok (filled Interpretation (spread pieces.now))) room out.new.items) }
+{
+    if spread(alloc, pieces, room, out)? {
+        Ok(None)
+    } else {
+        Ok(Some(Rule::L2))
+    }
+}
+
+#[cfg(test)]
+mod tests;

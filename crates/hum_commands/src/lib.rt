@@ -1,0 +1,20 @@
+//! The commands of one input, in one list: what they are told to do, what they mean, and their
+//! stages.
+//!
+//! [`CommandOptions`] are a command and what it is told to do, [`CommandStage`] is the stage that
+//! does it.
+#![tactic(auto)]
+
+#[cfg(test)]
+mod context_tests;
+#[cfg(test)]
+mod ditto_tests;
+mod options;
+#[cfg(test)]
+mod scores;
+mod stages;
+#[cfg(test)]
+mod yank_tests;
+
+pub use options::CommandOptions;
+pub use stages::CommandStage;

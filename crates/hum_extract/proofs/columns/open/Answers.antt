@@ -1,0 +1,16 @@
+use Rattle.std.proofs.Common.{◌∙◌, ap}
+use Rattle.hum_record.specs.Row.{tokens_of}
+use Rattle.hum_columns.specs.Following.{Memory}
+use Rattle.hum_columns.proofs.Flags.{opening_wide}
+use Rattle.hum_extract.specs.Choice.{opening_flags}
+use Rattle.hum_extract.specs.Written.{choice_of}
+use Rattle.hum_extract.proofs.Taking.{opening_length}
+use Rattle.hum_extract.proofs.columns.open.Goals as goal
+
+pub keep-requires : goal.keep-requires
+keep-requires c =
+    let choice = choice_of c.args.choice.now in
+    let found = rw c.in-Some.is at c.in_ok-marks.ensures in
+    let opened = c.in_ok-open-in-Some.ensures in
+    opening_wide (opening_flags choice) c.args.row _ (opening_length choice (tokens_of c.args.row))
+    (c.marks-in-Some.ensures ∙ ap (λ (m : Memory). m.each) opened ∙ found.1)

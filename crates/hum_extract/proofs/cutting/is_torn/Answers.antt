@@ -1,8 +1,0 @@
-use Rattle.std.proofs.Common.{map}
-use Rattle.hum_record.specs.Row.{tokens_of}
-use Rattle.hum_path.specs.Sign.{sign_of}
-use Rattle.hum_extract.proofs.Placewise.{torn_first}
-use Rattle.hum_extract.proofs.cutting.is_torn.Goals as goal
-
-pub loop-j-init : goal.loop-j-init
-loop-j-init c = torn_first c.args.marks.now (map sign_of (tokens_of c.args.row.now))

@@ -1,6 +1,0 @@
-use Rattle.std.proofs.Common.{◌≡◌, ◌++◌, drop}
-use Rattle.hum_extract.specs.Following.{moved}
-use Rattle.hum_extract.proofs.marks.Marks.moved.Given as goal
-
-abbrev pub invariant-loop-i : goal.invariant-loop-i
-invariant-loop-i l = l.each.items ++ moved l.self (drop l.i l.found) ≡ moved l.self l.found

@@ -1,0 +1,117 @@
+//! The command line: `humpipe [--link N] [--order left|right] [PIPELINE]`.
+//!
+//! A link holds 1 to 4,096 records, 16 where nothing is said. The order of turns is `left` where
+//! nothing is said. PIPELINE is the file of the plan; without it a bundle is read. Any other line,
+//! `--help` too, is refused.
+#![tactic(auto)]
+
+ghost use Rattle.std.specs.Prelude.{◌≡◌, ◌≤◌, IfOk};
+ghost use Rattle.hum_line.specs.declared.LineFault.TheVariants.{Memory};
+
+use clap::error::ErrorKind;
+use clap::{Arg, ArgAction, Command};
+use std::alloc::{AllocError, Global};
+use thiserror::Error;
+
+/// How many records a link may hold at most.
+const LARGEST_LINK: u16 = 4096;
+
+/// How many it holds where the line doesn't say.
+const USUAL_LINK: u16 = 16;
+
+/// Which of the actors that are ready takes its turn.
+#[derive(Clone, Copy, Debug, PartialEq, Eq)]
+pub enum Side {
+    /// The one that comes first.
+    Left,
+    /// The one that comes last.
+    Right,
+}
+
+/// What a command line asks for.
+#[derive(Clone, Copy, Debug)]
+pub struct Choice<'a> {
+    /// how many records a link holds
+    pub link: u16,
+    /// the order of turns
+    pub order: Side,
+    /// the plan's file; without it a bundle is read
+    pub file: Option<&'a str>,
+}
+
+/// Why a command line asks for nothing.
+#[derive(Clone, Copy, Debug, PartialEq, Eq, Error)]
+pub enum LineFault {
+    /// It isn't of the form above.
+    #[error("usage: humpipe [--link N] [--order left|right] [PIPELINE]")]
+    Usage,
+    /// Memory ran out.
+    #[error("out of memory")]
+    Memory,
+}
+
+impl From<AllocError> for LineFault {
+    ghost from_gives = { λ _ e. e ≡ Memory };
+
+    fn from(_e: AllocError) -> LineFault {
+        LineFault::Memory
+    }
+}
+
+/// The arguments of the program.
+fn arguments<'a>(alloc: Global) -> Result<Command<'a>, AllocError> {
+    let link = Arg::new(alloc, "link")
+        .long("link")
+        .action(ArgAction::Set)
+        .value_parser(clap::value_parser!(u16).range(1..=4096));
+    let order = Arg::new(alloc, "order")
+        .long("order")
+        .action(ArgAction::Set);
+    let file = Arg::new(alloc, "PIPELINE").action(ArgAction::Set);
+    Ok(
+        Command::new(alloc, "humpipe")
+            .disable_help_flag(true)
+            .arg(link)?
+            .arg(order)?
+            .arg(file)?,
+    )
+}
+
+/// The order that a word is.
+fn order_of(word: Option<&str>) -> Option<Side> {
+    match word {
+        None | Some("left") => Some(Side::Left),
+        Some("right") => Some(Side::Right),
+        Some(_) => None,
+    }
+}
+
+/// What the words of a command line ask for, the program's name first.
+///
+/// # Errors
+/// `Usage` where the line isn't of the program's form; `Memory`.
+pub fn read_line<'a>(alloc: Global, words: &'a [String]) -> Result<Choice<'a>, LineFault>
+    // A link holds 1 to 4,096 records.
+    ensures { IfOk result (λ choice. (1 ≤ choice.link) × (choice.link ≤ 4096)) }
+{
+    let matches = match arguments(alloc)?.try_get_matches_from(words) {
+        Ok(matches) => matches,
+        Err(error) if error.kind() == ErrorKind::OutOfMemory => return Err(LineFault::Memory),
+        Err(_) => return Err(LineFault::Usage),
+    };
+    let link = matches.get_one::<u16>("link").unwrap_or(USUAL_LINK);
+    let Some(order) = order_of(matches.get_str("order")) else {
+        return Err(LineFault::Usage);
+    };
+    if link < 1 || link > LARGEST_LINK {
+        return Err(LineFault::Usage);
+    }
+    Ok(Choice {
+        link,
+        order,
+        file: matches.get_str("PIPELINE"),
+    })
+}
+
+#[cfg(test)]
+mod tests;

@@ -1,0 +1,13 @@
+pub mod Moving
+pub mod Polling
+pub mod Feeding
+pub mod Taking
+pub mod Acting
+pub mod Turning
+pub mod Readying
+pub mod Sending
+pub mod Reusing
+pub mod Netting
+pub mod Bounds
+pub mod Running
+pub mod Beginning

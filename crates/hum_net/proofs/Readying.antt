@@ -1,0 +1,117 @@
+-- What a web tells of who is ready.
+use Rattle.std.proofs.Common.{◌≡◌, ◌∙◌, ℕ, ◌<◌, ◌≤◌, Bool, true, false, List, length, Some, ◌&&◌}
+use Rattle.std.proofs.Common.{is_none, sym, ap, arith, slice_get, slice_index, get_or}
+use Rattle.hum_turns.specs.Links.{has_room, has_some}
+use Rattle.hum_turns.specs.Turns.{state, can, ready}
+use Rattle.hum_turns.proofs.Near.{ready_reader}
+use Rattle.hum_stage.specs.declared.faults.End.{End}
+use Rattle.hum_nodes.specs.declared.node.Doing.{Doing}
+use Rattle.hum_nodes.specs.declared.node.Doing.TheVariants as does
+use Rattle.hum_nodes.specs.At.{At}
+use Rattle.hum_nodes.specs.declared.either.Node.{Node}
+use Rattle.hum_nodes.specs.Nodes.{is_source, StandsAs}
+use Rattle.hum_links.specs.declared.link.Link as port
+use Rattle.hum_links.specs.Links.{Tells}
+use Rattle.hum_net.specs.declared.web.Web.{Web}
+use Rattle.hum_net.specs.Scene.{Scene, plan_of, at_of, IsAt, IsAbout}
+use Rattle.hum_net.proofs.Moving.{nth}
+use Rattle.hum_turns.specs.Near.{touched}
+use Rattle.hum_net.proofs.Polling.{state_gives, state_reads, state_takes, state_ends}
+use Rattle.hum_net.proofs.Feeding.{link_at, source_bytes}
+use Rattle.hum_net.proofs.Taking.{wants_at}
+
+module _ {F W : Type 0} (stands : Node F W → List ℕ → At → Type 0) (k : ℕ) (web : Web F W)
+    (doing : Doing) (s : Scene) (a : IsAbout stands k doing web s) where
+  pub about_link : (link : port.Link) → link ≡ get_or web.links.items k link
+      → slice_get web.links.items k ≡ Some link
+  about_link link e = link_at stands k web s link a.less a.at.stand e
+
+  pub room_gives : (link : port.Link) (b : Bool) → doing ≡ does.Gives
+      → link ≡ get_or web.links.items k link → Tells link b has_room
+      → b ≡ can s.size s.links k (state (plan_of s) s.links k)
+  room_gives link b is e tells =
+      tells s.size (s.links k) (a.at.stand.links k link (about_link link e))
+      ∙ sym (ap (can s.size s.links k) (state_gives s s.links k a.less (a.does ∙ is)))
+
+  pub unset_ends : (link : port.Link) (b : Bool) (end : End) → doing ≡ does.Done end
+      → link ≡ get_or web.links.items k link → Tells link b (λ size l. is_none l.mark)
+      → b ≡ can s.size s.links k (state (plan_of s) s.links k)
+  unset_ends link b end is e tells =
+      tells s.size (s.links k) (a.at.stand.links k link (about_link link e))
+      ∙ sym (ap (can s.size s.links k) (state_ends s s.links k end a.less (a.does ∙ is)))
+
+  pub within_place : (place : ℕ) → doing ≡ does.Wants place
+      → place < length (s.kinds k).stage.sources
+  within_place place is = (wants_at s k place a.at.reached.ok a.less (a.does ∙ is)).within
+
+  pub within_links : (place i : ℕ) → doing ≡ does.Wants place
+      → i ≡ slice_index (s.kinds k).stage.sources place → i < length web.links.items
+  within_links place i is e =
+      let w = (wants_at s k place a.at.reached.ok a.less (a.does ∙ is)).lower in
+      let n = a.at.stand.as_many in
+      let less = a.less in
+      omega arith
+
+  pub some_takes : (place i : ℕ) (link : port.Link) (b : Bool) → doing ≡ does.Wants place
+      → i ≡ slice_index (s.kinds k).stage.sources place
+      → link ≡ get_or web.links.items i link → Tells link b (λ size l. has_some l)
+      → b ≡ can s.size s.links k (state (plan_of s) s.links k)
+  some_takes place i link b is e value tells =
+      let at = nth web.links.items i link (within_links place i is e) value in
+      tells s.size (s.links i) (a.at.stand.links i link at)
+      ∙ ap (λ j. has_some (s.links j)) e
+      ∙ sym (ap (can s.size s.links k) (state_takes s s.links k place a.less (a.does ∙ is)))
+
+  pub touched_gives : doing ≡ does.Gives → k ≡ touched k (state (plan_of s) s.links k)
+  touched_gives is = sym (ap (touched k) (state_gives s s.links k a.less (a.does ∙ is)))
+
+  pub touched_reads : doing ≡ does.Reads → k ≡ touched k (state (plan_of s) s.links k)
+  touched_reads is = sym (ap (touched k) (state_reads s s.links k a.less (a.does ∙ is)))
+
+  pub touched_ends : (end : End) → doing ≡ does.Done end
+      → k ≡ touched k (state (plan_of s) s.links k)
+  touched_ends end is = sym (ap (touched k) (state_ends s s.links k end a.less (a.does ∙ is)))
+
+  pub touched_takes : (place i : ℕ) → doing ≡ does.Wants place
+      → i ≡ slice_index (s.kinds k).stage.sources place
+      → i ≡ touched k (state (plan_of s) s.links k)
+  touched_takes place i is e =
+      e ∙ sym (ap (touched k) (state_takes s s.links k place a.less (a.does ∙ is)))
+
+-- Of an actor.
+
+pub below : (k n l count : ℕ) → k ≤ count → l ≡ count → n ≡ l → (k ≡ n → ⊥) → k < count
+below k n l count h e f other = omega arith
+
+module _ {F W : Type 0} (feeds : F → List ℕ → At → Type 0) (works : W → At → Type 0) (k : ℕ)
+    (web : Web F W) (s : Scene) where
+  pub source_ready : (node : Node F W) (link : port.Link)
+      → ((f : F) (rest : List ℕ) (t : At) → feeds f rest t → 0 < t.kind.stage.bytes)
+      → IsAt (StandsAs feeds works) web s → k < s.count
+      → slice_get web.nodes.items k ≡ Some node → is_source node ≡ true
+      → ready (plan_of s) s.size s.links k ≡ (is_none (s.links k).mark && has_room s.size (s.links k))
+  source_ready node link law at less there kind =
+      ready_reader (plan_of s) s.size k s.links less
+      (source_bytes feeds works law node (s.rests k) (at_of s.kinds s.links k) kind
+      (at.stand.nodes k node there))
+
+  pub by_room : (a b : Bool) (link one : port.Link) → IsAt (StandsAs feeds works) web s
+      → k < s.count
+      → ready (plan_of s) s.size s.links k ≡ (is_none (s.links k).mark && has_room s.size (s.links k))
+      → link ≡ get_or web.links.items k link → Tells link a (λ size l. is_none l.mark) → a ≡ true
+      → one ≡ get_or web.links.items k one → Tells one b has_room
+      → b ≡ ready (plan_of s) s.size s.links k
+  by_room a b link one at less is e tells set f told =
+      let stands : Node F W → List ℕ → At → Type 0 = StandsAs feeds works in
+      let x = tells s.size (s.links k) (at.stand.links k link (link_at stands k web s link less at.stand e)) in
+      let y = told s.size (s.links k) (at.stand.links k one (link_at stands k web s one less at.stand f)) in
+      y ∙ sym (is ∙ ap (λ c. c && has_room s.size (s.links k)) (sym x ∙ set))
+
+  pub by_mark : (a : Bool) (link : port.Link) → IsAt (StandsAs feeds works) web s → k < s.count
+      → ready (plan_of s) s.size s.links k ≡ (is_none (s.links k).mark && has_room s.size (s.links k))
+      → link ≡ get_or web.links.items k link → Tells link a (λ size l. is_none l.mark) → a ≡ false
+      → a ≡ ready (plan_of s) s.size s.links k
+  by_mark a link at less is e tells unset =
+      let stands : Node F W → List ℕ → At → Type 0 = StandsAs feeds works in
+      let x = tells s.size (s.links k) (at.stand.links k link (link_at stands k web s link less at.stand e)) in
+      unset ∙ sym (is ∙ ap (λ c. c && has_room s.size (s.links k)) (sym x ∙ unset))

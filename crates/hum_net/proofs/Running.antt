@@ -1,0 +1,723 @@
+-- Turns that an order drives, and what they lead to.
+use Rattle.std.proofs.Common.{◌≡◌, ◌∙◌, ℕ, ◌+◌, ◌<◌, ◌≤◌, Bool, true, false, List, [], ◌∷◌, ◌++◌}
+use Rattle.std.proofs.Common.{map, length, take, Option, Some, None, refl, sym, ap, subst, arith, ◌⊎◌}
+use Rattle.std.proofs.Common.{inl, inr, ⊎_elim, append_assoc, add-one, slice_set, get_or, zero, suc, Vec, Global}
+use Rattle.std.proofs.lemmas.Bool.{false≢true}
+use Rattle.std.proofs.Math.Path.{fun_ext}
+use Rattle.std.proofs.Math.Seq.{take-suc-set}
+use Rattle.std.proofs.lemmas.List.{map-append}
+use Rattle.std.proofs.lemmas.Option.{none-some, same_Some}
+use Rattle.std.specs.Io.KnownBytes.{Appends}
+use Rattle.hum_record.specs.Row.{Row, text_of}
+use Rattle.hum_stage.specs.declared.faults.End.{End}
+use Rattle.hum_stage.specs.declared.faults.End.TheVariants.{Closed, Broken}
+use Rattle.hum_turns.specs.declared.result.RunResult.{RunResult}
+use Rattle.hum_turns.specs.declared.result.RunResult.TheVariants as ends
+use Rattle.hum_turns.specs.Plan.{last, KeepsFine}
+use Rattle.hum_turns.specs.Meaning.{IsNumbered, first_fault}
+use Rattle.hum_turns.specs.Failures.{Now, HoldsNow, IsFailure, ended_by, result, result_of, written, is_ready}
+use Rattle.hum_turns.specs.Orders.{Order, upto, some_true, ready_list, chosen, Driven}
+use Rattle.hum_turns.proofs.Writing.{every_turn, still}
+use Rattle.std.specs.Prelude.{is_some}
+use Rattle.hum_turns.specs.Counts.{most_in_all}
+use Rattle.hum_turns.specs.Holds.{SomeReady}
+use Rattle.hum_turns.proofs.Picking.{going_on, goes_on, driven_more, entry}
+use Rattle.hum_turns.proofs.Ending.{every_end}
+use Rattle.hum_nodes.specs.At.{At}
+use Rattle.hum_nodes.specs.Polls.{HasRead}
+use Rattle.hum_nodes.specs.declared.either.Node.{Node}
+use Rattle.hum_nodes.proofs.Followed.{read_none, read_more}
+use Rattle.hum_net.specs.declared.net.Net.{Net}
+use Rattle.hum_net.specs.Readers.{remaining_at, ended_at, is_read_of, is_write}
+use Rattle.hum_net.specs.Scene.{Scene, plan_of, before_all, at_of}
+use Rattle.hum_net.specs.Nets.{NetAt, AreOver, HasTurned, IsRunning, Leads, HasRun}
+use Rattle.hum_net.specs.Nets.{Outcome, WroteFront, WroteAll, IsNet, Tells, HasRunOn}
+use Rattle.hum_nodes.specs.declared.either.Node.TheVariants as node
+use Rattle.hum_nodes.specs.Nodes.{StandsAs, remaining_of}
+use Rattle.hum_net.specs.Readers.{or_none}
+use Rattle.std.proofs.Common.{slice_get, ◌≢◌, ◌&&◌, is_none, length-append, length-set, get_or-set_same, get_or-set_other}
+use Rattle.std.specs.Prelude.{IfSome}
+use Rattle.std.specs.List.{AllByRecursion}
+use Rattle.std.proofs.lemmas.Bool.{cases_eq}
+use Rattle.hum_turns.specs.Plan.{IsPlan}
+use Rattle.hum_turns.specs.Links.{Moment}
+use Rattle.hum_turns.specs.Turns.{State, Gives, Reads, Takes, Ends, state, ready, Step}
+use Rattle.hum_turns.specs.Near.{IsOneOf, LooksAt, touched}
+use Rattle.hum_turns.proofs.Near.{ready_untouched}
+use Rattle.hum_turns.proofs.Against.{meaning_fine}
+use Rattle.hum_turns.specs.Meaning.{plan_meaning}
+use Rattle.hum_nodes.specs.Fine.{fine, IsFine}
+use Rattle.hum_nodes.proofs.Fining.{fine_is}
+use Rattle.hum_turns.proofs.States.{taker, last_next}
+use Rattle.hum_turns.specs.Failures.{Turn}
+use Rattle.hum_net.specs.Scene.{TakesFrom, IsNetPlan, IsActor, moved}
+use Rattle.hum_net.specs.Nets.{Known, asked, AreAmong, GoesTo}
+use Rattle.hum_net.proofs.Netting.{is_at}
+
+-- While a run goes on, its flags say who is ready, and what is known of readers is so.
+pub record Listed {F W S : Type 0} (s : Scene) (now : Now Row) (net : Net F W S) : Type 0 where
+  pub flags : result (plan_of s) now ≡ None
+      → net.actors.items ≡ ready_list (plan_of s) s.size now
+  pub known : result (plan_of s) now ≡ None → (t r : ℕ)
+      → slice_get net.readers.items t ≡ Some (Some r) → TakesFrom s.count s.kinds r t
+
+-- What the turns so far have led to, however the bytes go on.
+pub record Ran {F W S O : Type 0} (stands : Node F W → List ℕ → At → Type 0)
+    (remaining : F → Option (List ℕ)) (ended : F → Bool) (contents : S → Option (List ℕ))
+    (flushed : S → Bool) (order : Order O) (o p : O) (old new : Net F W S) : Type 0 where
+  pub reads : ℕ → List ℕ
+  pub read : (i : ℕ)
+      → HasRead (ended_at ended i old.web.nodes.items) (ended_at ended i new.web.nodes.items)
+      (remaining_at remaining i old.web.nodes.items) (remaining_at remaining i new.web.nodes.items)
+      (reads i)
+  pub leads : (start : Option (List ℕ)) (s : Scene) (now : Now Row)
+      → AreOver ended new.web.nodes.items s.rests
+      → NetAt stands contents flushed start (before_all reads s) old now
+      → (d : Leads stands contents flushed order o p start s now new) × Listed s d.to new
+
+-- flags alone, or readers alone
+pub flags_alone : {F W S : Type 0} (a b : Net F W S) → a ≡ record b { actors = a.actors }
+    → a ≡ record b { actors = a.actors; readers = a.readers }
+flags_alone {F} {W} {S} a b e =
+    e ∙ ap (λ (n : Net F W S). record b { actors = a.actors; readers = n.readers }) (sym e)
+
+pub readers_alone : {F W S : Type 0} (a b : Net F W S) → a ≡ record b { readers = a.readers }
+    → a ≡ record b { actors = a.actors; readers = a.readers }
+readers_alone {F} {W} {S} a b e =
+    e ∙ ap (λ (n : Net F W S). record b { actors = n.actors; readers = a.readers }) (sym e)
+
+-- what changes in a net but for its flags
+pub relist : {F W S : Type 0} (a b : Net F W S) (list : Vec Bool Global)
+    → a ≡ record b { actors = a.actors } → record a { actors = list } ≡ record b { actors = list }
+relist {F} {W} {S} a b list e = ap (λ (n : Net F W S). record n { actors = list }) e
+
+some_at : (bs : List Bool) (k : ℕ) → get_or bs k false ≡ true → some_true bs ≡ true
+some_at [] k h = absurd (false≢true h)
+some_at (true ∷ bs) k h = refl
+some_at (false ∷ bs) zero h = absurd (false≢true h)
+some_at (false ∷ bs) (suc k) h = some_at bs k h
+
+-- a flag more
+pub set_next : (f : ℕ → Bool) (xs : List Bool) (k : ℕ) (b : Bool) → k < length xs
+    → take k xs ≡ map f (upto k) → b ≡ f k → take (k + 1) (slice_set xs k b) ≡ map f (upto (k + 1))
+set_next f xs k b less h e =
+    rw add-one (take-suc-set xs k b less ∙ ap (λ l. l ++ b ∷ []) h
+    ∙ ap (λ y. map f (upto k) ++ y ∷ []) e ∙ sym (map-append f (upto k) (k ∷ [])))
+
+module _ {F W S : Type 0} (stands : Node F W → List ℕ → At → Type 0)
+    (contents : S → Option (List ℕ)) (flushed : S → Bool) (start : Option (List ℕ)) (s : Scene)
+    (old new : Net F W S) (now : Now Row) where
+  -- The flags of its actors are nothing that a net stands for.
+  pub relisted : new ≡ record old { actors = new.actors; readers = new.readers }
+      → length new.actors.items ≡ length old.actors.items
+      → NetAt stands contents flushed start s old now
+      → NetAt stands contents flushed start s new now
+  relisted same len h =
+      subst (λ n. NetAt stands contents flushed start s n now) (sym same) (record {
+        plan = h.plan;
+        first = h.first;
+        turns = h.turns;
+        begin = h.begin;
+        walk = h.walk;
+        counted = h.counted;
+        actors = len ∙ h.actors;
+        going = h.going;
+        failure = h.failure;
+        written = h.written;
+        is_flushed = h.is_flushed;
+      })
+
+module _ {F W S : Type 0} (stands : Node F W → List ℕ → At → Type 0)
+    (contents : S → Option (List ℕ)) (flushed : S → Bool) (start : Option (List ℕ)) (s : Scene)
+    (net : Net F W S) (now : Now Row) (h : NetAt stands contents flushed start s net now) where
+  pub holds_at : HoldsNow (plan_of s) s.size text_of h.turns now
+  holds_at = every_turn (plan_of s) s.size text_of h.plan.ok h.plan.some h.turns h.first now h.begin h.walk
+
+  -- the actor that is chosen is ready
+  pub picked : (list : List Bool) (pick actor : ℕ) → result (plan_of s) now ≡ None
+      → list ≡ ready_list (plan_of s) s.size now → actor ≡ chosen list pick
+      → (actor ≤ s.count) × (is_ready (plan_of s) s.size now actor ≡ true)
+  picked list pick actor none e is =
+      let g = goes_on (plan_of s) s.size now h.turns text_of pick holds_at none in
+      let same : actor ≡ chosen (ready_list (plan_of s) s.size now) pick =
+      is ∙ ap (λ l. chosen l pick) e in
+      subst (λ k. (k ≤ s.count) × (is_ready (plan_of s) s.size now k ≡ true)) (sym same) g
+
+  -- and some actor is
+  pub some_ready : (list : List Bool) → result (plan_of s) now ≡ None
+      → list ≡ ready_list (plan_of s) s.size now → some_true list ≡ true
+  some_ready list none e =
+      let g = goes_on (plan_of s) s.size now h.turns text_of 0 holds_at none in
+      let k = chosen (ready_list (plan_of s) s.size now) 0 in
+      let within = g.0 in
+      some_at list k (ap (λ l. get_or l k false) e
+      ∙ entry (is_ready (plan_of s) s.size now) (s.count + 1) k (omega (arith, within)) ∙ g.1)
+
+  pub some_actor : result (plan_of s) now ≡ None → SomeReady (plan_of s) s.size now.links
+  some_actor none =
+      let n = going_on (plan_of s) s.size now now.failure (now.links (last (plan_of s))).heard none in
+      (holds_at.holds n.0).1.progress (ap is_some n.1)
+
+  pub turns_at_most : now.failure ≡ None → length h.turns ≤ most_in_all (plan_of s) now.links
+  turns_at_most none = (holds_at.holds none).1.all
+
+  -- What was written at the end.
+
+  pub partly : WroteFront s start (contents net.sink)
+  partly =
+      let f = holds_at.front (plan_of s) h.plan.ok holds_at.agrees in
+      record { part = written (plan_of s) text_of now; front = f; appends = h.written }
+
+  wholly : (e : End) → now.failure ≡ None → (now.links (last (plan_of s))).heard ≡ Some e
+      → WroteAll s start (contents net.sink) (flushed net.sink) e
+  wholly e none heard =
+      let w = holds_at.whole e none heard in
+      record {
+        end = w.end;
+        appends = subst (Appends start (contents net.sink)) w.written h.written;
+        is_flushed = h.is_flushed e none heard;
+      }
+
+  by_end : (e : End) → now.failure ≡ None → (now.links (last (plan_of s))).heard ≡ Some e
+      → Outcome s start (contents net.sink) (flushed net.sink) (result_of e)
+  by_end Closed none heard = wholly Closed none heard
+  by_end (Broken f) none heard = wholly (Broken f) none heard
+
+  by_failure : (by : RunResult) → now.failure ≡ Some by
+      → Outcome s start (contents net.sink) (flushed net.sink) by
+  by_failure ends.Finished e = absurd (holds_at.fails ends.Finished e)
+  by_failure (ends.Fault f) e = absurd (holds_at.fails (ends.Fault f) e)
+  by_failure (ends.Read k) e = partly
+  by_failure ends.Write e = partly
+  by_failure ends.Memory e = partly
+
+  ending : (f : Option RunResult) (o : Option End) (r : RunResult) → now.failure ≡ f
+      → (now.links (last (plan_of s))).heard ≡ o → ended_by f o ≡ Some r
+      → Outcome s start (contents net.sink) (flushed net.sink) r
+  ending (Some x) o r ef eo e =
+      subst (Outcome s start (contents net.sink) (flushed net.sink)) (same_Some x r e) (by_failure x ef)
+  ending None (Some e) r ef eo k =
+      subst (Outcome s start (contents net.sink) (flushed net.sink)) (same_Some (result_of e) r k)
+      (by_end e ef eo)
+  ending None None r ef eo k = absurd (none-some r k)
+
+  pub outcome : (r : RunResult) → result (plan_of s) now ≡ Some r
+      → Outcome s start (contents net.sink) (flushed net.sink) r
+  outcome r e = ending now.failure (now.links (last (plan_of s))).heard r refl refl e
+
+  pub valid : KeepsFine fine (s.kinds (last (plan_of s))).stage
+      → IsFine 4294967295 (plan_meaning (plan_of s))
+  valid keeps = fine_is 4294967295 (plan_meaning (plan_of s)) (meaning_fine (plan_of s) h.plan.ok keeps)
+
+  pub whose : (r : RunResult) → result (plan_of s) now ≡ Some r → IsNumbered (plan_of s)
+      → IsFailure r ⊎ (r ≡ result_of (first_fault (plan_of s) s.count))
+  whose r e numbered = ⊎_elim
+      (λ failed. inl failed)
+      (λ meant. inr meant.result)
+      (every_end (plan_of s) s.size text_of h.plan.ok numbered h.plan.some h.turns h.first now h.begin h.walk
+      r e)
+
+-- no failure, or the one that the result tells
+pub told_read : (k : ℕ) (f : Option RunResult) (o : Option End) (r : RunResult)
+    → ended_by f o ≡ Some r → is_read_of k f ≡ is_read_of k (Some r)
+told_read k (Some x) o r e = ap (is_read_of k) e
+told_read k None (Some Closed) r e = ap (is_read_of k) e
+told_read k None (Some (Broken f)) r e = ap (is_read_of k) e
+told_read k None None r e = absurd (none-some r e)
+
+pub told_write : (f : Option RunResult) (o : Option End) (r : RunResult)
+    → ended_by f o ≡ Some r → is_write f ≡ is_write (Some r)
+told_write (Some x) o r e = ap is_write e
+told_write None (Some Closed) r e = ap is_write e
+told_write None (Some (Broken f)) r e = ap is_write e
+told_write None None r e = absurd (none-some r e)
+
+-- The flags, once the two ends of a link were asked again.
+
+length_flags : (f : ℕ → Bool) (n : ℕ) → length (map f (upto n)) ≡ n
+length_flags f zero = refl
+length_flags f (suc n) =
+    let a = length_flags f n in
+    let b = ap length (map-append f (upto n) (n ∷ [])) in
+    let c = length-append (map f (upto n)) (f n ∷ []) in
+    omega (arith, a, b, c)
+
+-- two lists of flags that are alike at each place
+same_flags : (xs ys : List Bool) → length xs ≡ length ys
+    → ((j : ℕ) → j < length xs → get_or xs j false ≡ get_or ys j false) → xs ≡ ys
+same_flags [] [] n h = refl
+same_flags [] (y ∷ ys) n h = absurd (omega (arith, n))
+same_flags (x ∷ xs) [] n h = absurd (omega (arith, n))
+same_flags (x ∷ xs) (y ∷ ys) n h =
+    let first : x ≡ y = h 0 (omega arith) in
+    ap (λ b. b ∷ xs) first
+    ∙ ap (λ l. y ∷ l) (same_flags xs ys (omega (arith, n)) (λ j less. h (suc j) (omega (arith, less))))
+
+two_set : (f g : ℕ → Bool) (n k r : ℕ) → ((j : ℕ) → j < n → j ≢ k → j ≢ r → g j ≡ f j)
+    → slice_set (slice_set (map f (upto n)) k (g k)) r (g r) ≡ map g (upto n)
+two_set f g n k r h =
+    let xs = map f (upto n) in
+    let ys = slice_set xs k (g k) in
+    let a = length-set xs k (g k) in
+    let b = length-set ys r (g r) in
+    let c = length_flags f n in
+    let d = length_flags g n in
+    same_flags (slice_set ys r (g r)) (map g (upto n)) (omega (arith, a, b, c, d))
+    (λ j less.
+    let within : j < n = omega (arith, less, a, b, c) in
+    ⊎_elim
+    (λ (is : j ≡ r).
+    let at : r < length ys = omega (arith, is, less, a, b, c) in
+    ap (λ i. get_or (slice_set ys r (g r)) i false) is ∙ get_or-set_same ys r (g r) false at
+    ∙ sym (entry g n r (omega (arith, is, within))) ∙ ap (λ i. get_or (map g (upto n)) i false) (sym is))
+    (λ (o : j ≢ r). get_or-set_other ys r j (g r) false o ∙ ⊎_elim
+    (λ (is : j ≡ k).
+    let at : k < length xs = omega (arith, is, within, c) in
+    ap (λ i. get_or ys i false) is ∙ get_or-set_same xs k (g k) false at
+    ∙ sym (entry g n k (omega (arith, is, within))) ∙ ap (λ i. get_or (map g (upto n)) i false) (sym is))
+    (λ (p : j ≢ k). get_or-set_other xs k j (g k) false p ∙ entry f n j within ∙ sym (h j within p o)
+    ∙ sym (entry g n j within))
+    (cases_eq j k))
+    (cases_eq j r))
+
+-- Who takes from a link, and which links there are.
+
+index_all : (P : ℕ → Type 0) (ss : List ℕ) (place t : ℕ) → AllByRecursion P ss
+    → slice_get ss place ≡ Some t → P t
+index_all P [] place t h e = absurd (none-some t e)
+index_all P (x ∷ ss) zero t h e = subst P (same_Some x t e) h.0
+index_all P (x ∷ ss) (suc place) t h e = index_all P ss place t h.1 e
+
+module _ (s : Scene) (ok : IsPlan (plan_of s)) (k link : ℕ) (m : Moment Row) (within : k ≤ s.count)
+    (link_is : link ≡ touched k (state (plan_of s) m k)) where
+  by_state : (st : State) → state (plan_of s) m k ≡ st → link ≡ touched k st → k ≢ link
+      → TakesFrom s.count s.kinds k link
+  by_state Gives e is apart = absurd (apart (sym is))
+  by_state Reads e is apart = absurd (apart (sym is))
+  by_state Ends e is apart = absurd (apart (sym is))
+  by_state (Takes t) e is apart = ⊎_elim
+      (λ w. inl (w.0, (w.1.place, w.1.is_there ∙ ap Some (sym is))))
+      (λ w. let p = w.0 in inr (omega (arith, p, within), is ∙ w.1))
+      (taker (plan_of s) ok m k t e)
+
+  pub took : k ≢ link → TakesFrom s.count s.kinds k link
+  took = by_state (state (plan_of s) m k) refl link_is
+
+  pub touched_within : link ≤ s.count
+  touched_within = ⊎_elim
+      (λ (is : k ≡ link). omega (arith, is, within))
+      (λ (apart : k ≢ link). ⊎_elim
+      (λ t. let b = index_all (λ i. i < k) (s.kinds k).stage.sources t.1.0 link (ok.below k t.0) t.1.1 in
+      omega (arith, b, within))
+      (λ t. let e = t.1 in let top = last_next s.count ok.some in omega (arith, e, top))
+      (took apart))
+      (cases_eq k link)
+
+-- Whoever doesn't look at the link that a turn has changed is as ready as before.
+module _ (s : Scene) (plan : IsNetPlan s.count s.kinds s.size) (k link : ℕ) (old new : Now Row)
+    (turn : Turn (plan_of s) s.size text_of k old new) (none : result (plan_of s) new ≡ None)
+    (going : result (plan_of s) old ≡ None)
+    (link_is : link ≡ touched k (state (plan_of s) old.links k)) where
+  moves : Step (plan_of s) s.size k old.links new.links
+  moves = ⊎_elim (λ m. m.step)
+      (λ f. absurd (failed new.failure (new.links (last (plan_of s))).heard f.by f.failure none))
+      turn.turns
+    where
+      failed : (f : Option RunResult) (o : Option End) (by : RunResult) → f ≡ Some by
+          → ended_by f o ≡ None → ⊥
+      failed None o by e n = none-some by e
+      failed (Some x) o by e n = none-some x (sym n)
+
+  below_last : (j t : ℕ) → j < s.count → IsOneOf (s.kinds j).stage.sources t → t + 1 < s.count
+  below_last j t less one =
+      let b = index_all (λ i. i < j) (s.kinds j).stage.sources one.0 t (plan.ok.below j less) one.1 in
+      omega (arith, b, less)
+
+  pub as_ready : (r : ℕ) → TakesFrom s.count s.kinds r link → (j : ℕ) → j < s.count + 1
+      → j ≢ link → j ≢ r
+      → is_ready (plan_of s) s.size new j ≡ is_ready (plan_of s) s.size old j
+  as_ready r takes j within apart other =
+      let top = last_next s.count plan.ok.some in
+      let far : LooksAt (plan_of s) j link → ⊥ = λ looks. ⊎_elim
+      (λ w. ⊎_elim
+      (λ (own : link ≡ j). apart (sym own))
+      (λ (one : IsOneOf (s.kinds j).stage.sources link). ⊎_elim
+      (λ t. other (plan.tree j one.0 r t.1.0 link w.0 t.0 one.1 t.1.1).0)
+      (λ t. let b = below_last j link w.0 one in let e = t.1 in absurd (omega (arith, b, e, top)))
+      takes)
+      w.1)
+      (λ w. ⊎_elim
+      (λ t. let b = below_last r link t.0 t.1 in let e = w.1 in absurd (omega (arith, b, e, top)))
+      (λ t. let p = w.0 in let e = t.0 in absurd (other (omega (arith, p, e, within))))
+      takes)
+      looks in
+      let same = ready_untouched (plan_of s) plan.ok s.size k old.links new.links moves j
+      (subst (λ i. LooksAt (plan_of s) j i → ⊥) link_is far) in
+      ap (λ o. is_none o && ready (plan_of s) s.size new.links j) none
+      ∙ same ∙ sym (ap (λ o. is_none o && ready (plan_of s) s.size old.links j) going)
+
+  pub as_listed : (who : Option ℕ) → IfSome who (λ r. TakesFrom s.count s.kinds r link)
+      → asked (is_ready (plan_of s) s.size new) s.count (ready_list (plan_of s) s.size old) link who
+      ≡ ready_list (plan_of s) s.size new
+  as_listed None t = refl
+  as_listed (Some r) t =
+      two_set (is_ready (plan_of s) s.size old) (is_ready (plan_of s) s.size new) (s.count + 1) link r
+      (as_ready r t)
+
+-- The turns of a run.
+
+module _ {F W S O : Type 0} (stands : Node F W → List ℕ → At → Type 0)
+    (remaining : F → Option (List ℕ)) (ended : F → Bool) (contents : S → Option (List ℕ))
+    (flushed : S → Bool) (order : Order O) where
+  pub ran_none : (o : O) (old new : Net F W S)
+      → new ≡ record old { actors = new.actors; readers = new.readers }
+      → length new.actors.items ≡ length old.actors.items
+      → ((start : Option (List ℕ)) (s : Scene) (now : Now Row)
+      → NetAt stands contents flushed start s old now → result (plan_of s) now ≡ None
+      → (new.actors.items ≡ ready_list (plan_of s) s.size now)
+      × ((t r : ℕ) → slice_get new.readers.items t ≢ Some (Some r)))
+      → Ran stands remaining ended contents flushed order o o old new
+  ran_none o old new same len list = record {
+    reads = λ i. [];
+    read = λ i.
+        subst
+        (λ (n : Net F W S). HasRead (ended_at ended i old.web.nodes.items)
+        (ended_at ended i n.web.nodes.items) (remaining_at remaining i old.web.nodes.items)
+        (remaining_at remaining i n.web.nodes.items) [])
+        (sym same) (read_none _ _);
+    leads = λ start s now over h. (
+      record {
+        turns = [];
+        to = now;
+        driven = (still now, refl);
+        at = relisted stands contents flushed start s old new now same len h;
+      },
+      record {
+        flags = λ none. (list start s now h none).0;
+        known = λ none t r e. absurd ((list start s now h none).1 t r e);
+      },
+    );
+  }
+
+  no_rests : (net : Net F W S) → AreOver ended net.web.nodes.items (λ i. [])
+  no_rests net i e = refl
+
+  -- a moment that the first net stands for, where these bytes are to be read
+  opening_at : (old : Net F W S) (reads : ℕ → List ℕ) → (r : IsNet stands ended contents flushed old)
+      → ((i : ℕ) → ended_at ended i old.web.nodes.items ≡ true → reads i ≡ [])
+      → NetAt stands contents flushed r.start
+      (before_all reads (record (r.scene (λ i. reads i ++ [])) { rests = λ i. [] })) old
+      (r.now (λ i. reads i ++ []))
+  opening_at old reads r still =
+      let rests : ℕ → List ℕ = λ i. reads i ++ [] in
+      subst
+      (λ f. NetAt stands contents flushed r.start (record (r.scene rests) { rests = f }) old (r.now rests))
+      (r.rests rests) (r.at rests (λ i e. ap (λ l. l ++ []) (still i e)))
+
+  pub first_running : (old : Net F W S) → IsNet stands ended contents flushed old
+      → IsRunning stands contents flushed old
+  first_running old r = record {
+    start = r.start;
+    scene = r.scene (λ i. []);
+    now = r.now (λ i. []);
+    at = r.at (λ i. []) (no_rests old);
+  }
+
+  -- a moment that the net stands for, with its flags
+  pub record Standing (net : Net F W S) : Type 0 where
+    pub running : IsRunning stands contents flushed net
+    pub listed : Listed running.scene running.now net
+
+  pub witness : (o p : O) (old new : Net F W S) → IsNet stands ended contents flushed old
+      → Ran stands remaining ended contents flushed order o p old new
+      → Standing new
+  witness o p old new r ran =
+      let s : Scene = record (r.scene (λ i. ran.reads i ++ [])) { rests = λ i. [] } in
+      let now = r.now (λ i. ran.reads i ++ []) in
+      let d = ran.leads r.start s now (no_rests new)
+      (opening_at old ran.reads r (λ i e. ((ran.read i).still e).0)) in
+      record {
+        running = record { start = r.start; scene = s; now = d.0.to; at = d.0.at };
+        listed = d.1;
+      }
+
+  -- one turn more
+  module _ (o p : O) (old net after told : Net F W S) (list : List Bool) (pick k link : ℕ)
+      (who : Option ℕ)
+      (ran : Ran stands remaining ended contents flushed order o p old net)
+      (going : (start : Option (List ℕ)) (s : Scene) (now : Now Row)
+      → NetAt stands contents flushed start s net now → result (plan_of s) now ≡ None)
+      (lists : list ≡ net.actors.items) (is : k ≡ chosen list pick)
+      (links : (s : Scene) → IsActor stands k net.web s
+      → link ≡ touched k (state (plan_of s) s.links k))
+      (turned : HasTurned stands remaining ended contents flushed k net after)
+      (same_actors : after.actors ≡ net.actors) (same_readers : after.readers ≡ net.readers)
+      (same : told ≡ record after { readers = told.readers })
+      (learns : (t r : ℕ) → slice_get told.readers.items t ≡ Some (Some r)
+      → Known after.readers.items k link t r)
+      (tells : IfSome who (λ r. Known after.readers.items k link link r)) where
+    joined : ℕ → List ℕ
+    joined i = ran.reads i ++ turned.reads i
+
+    -- what has come of one moment
+    record Next (start : Option (List ℕ)) (s : Scene) (now : Now Row) : Type 0 where
+      before : Leads stands contents flushed order o p start (before_all turned.reads s) now net
+      none : result (plan_of s) before.to ≡ None
+      flags : net.actors.items ≡ ready_list (plan_of s) s.size before.to
+      within : k ≤ s.count
+      goes : GoesTo stands contents flushed start s k before.to after
+      link_is : link ≡ touched k (state (plan_of s) before.to.links k)
+      knows : (t r : ℕ) → Known after.readers.items k link t r → TakesFrom s.count s.kinds r t
+
+    next_at : (start : Option (List ℕ)) (s : Scene) (now : Now Row)
+        → AreOver ended after.web.nodes.items s.rests
+        → NetAt stands contents flushed start (before_all joined s) old now → Next start s now
+    unfolding joined
+    next_at start s now over h =
+        let mid : Scene = before_all turned.reads s in
+        let before : NetAt stands contents flushed start (before_all ran.reads mid) old now =
+        subst
+        (λ (f : ℕ → List ℕ). NetAt stands contents flushed start (record s { rests = f }) old now)
+        (fun_ext (λ i. append_assoc (ran.reads i) (turned.reads i) (s.rests i))) h in
+        let over_mid : AreOver ended net.web.nodes.items mid.rests = λ i e.
+        let t = (turned.read i).still e in
+        ap (λ l. l ++ s.rests i) t.0 ∙ over i t.1 in
+        let d = ran.leads start mid now over_mid before in
+        let none = going start mid d.0.to d.0.at in
+        let flags = d.1.flags none in
+        let may = picked stands contents flushed start mid net d.0.to d.0.at list pick k none
+        (lists ∙ flags) is in
+        let at = is_at stands contents flushed start mid net d.0.to k d.0.at may.1 in
+        let link_is = links (moved mid d.0.to.links) (record { at = at; within = may.0 }) in
+        record {
+          before = d.0;
+          none = none;
+          flags = flags;
+          within = may.0;
+          goes = turned.turns start s d.0.to over d.0.at may.0 may.1;
+          link_is = link_is;
+          knows = λ t r h. ⊎_elim
+              (λ (e : slice_get after.readers.items t ≡ Some (Some r)).
+              d.1.known none t r (ap (λ v. slice_get v.items t) (sym same_readers) ∙ e))
+              (λ (e : (t ≡ link) × (r ≡ k) × (k ≢ link)).
+              subst (λ i. TakesFrom s.count s.kinds i t) (sym e.1)
+              (subst (TakesFrom s.count s.kinds k) (sym e.0)
+              (took s d.0.at.plan.ok k link d.0.to.links may.0 link_is e.2)))
+              h;
+        }
+
+    reader_known : (o : Option ℕ) (s : Scene)
+        → ((r : ℕ) → Known after.readers.items k link link r → TakesFrom s.count s.kinds r link)
+        → IfSome o (λ r. Known after.readers.items k link link r)
+        → IfSome o (λ r. TakesFrom s.count s.kinds r link)
+    reader_known None s f h = tt
+    reader_known (Some r) s f h = f r h
+
+    takers_within : (o : Option ℕ) (s : Scene) → IfSome o (λ r. TakesFrom s.count s.kinds r link)
+        → IfSome o (λ r. r ≤ s.count)
+    takers_within None s h = tt
+    takers_within (Some r) s h = ⊎_elim
+        (λ t. let l = t.0 in omega (arith, l)) (λ t. let e = t.0 in omega (arith, e)) h
+
+    told_at : (start : Option (List ℕ)) (s : Scene) (now : Now Row)
+        → NetAt stands contents flushed start s after now
+        → NetAt stands contents flushed start s told now
+    told_at start s now h =
+        relisted stands contents flushed start s after told now (readers_alone told after same)
+        (ap (λ (n : Net F W S). length n.actors.items) same) h
+
+    link_within : (start : Option (List ℕ)) (s : Scene) (now : Now Row) → (n : Next start s now)
+        → link ≤ s.count
+    link_within start s now n =
+        touched_within s n.before.at.plan.ok k link n.before.to.links n.within n.link_is
+
+    still_joined : (i : ℕ) → ended_at ended i old.web.nodes.items ≡ true → joined i ≡ []
+    unfolding joined
+    still_joined i e =
+        let f = (ran.read i).still e in
+        let t = (turned.read i).still f.1 in
+        ap (λ l. l ++ turned.reads i) f.0 ∙ t.0
+
+    -- who may be asked again
+    pub may_ask : IsNet stands ended contents flushed old → AreAmong stands contents flushed link who told
+    may_ask r =
+        let s : Scene = record (r.scene (λ i. joined i ++ [])) { rests = λ i. [] } in
+        let now = r.now (λ i. joined i ++ []) in
+        let n = next_at r.start s now (no_rests after) (opening_at old joined r still_joined) in
+        record {
+          running = record {
+            start = r.start;
+            scene = s;
+            now = n.goes.to;
+            at = told_at r.start s n.goes.to n.goes.at;
+          };
+          link_within = link_within r.start s now n;
+          reader_within = takers_within who s (reader_known who s (n.knows link) tells);
+        }
+
+    pub ran_more : (q : O) (new : Net F W S) → pick ≡ order.pick p list → q ≡ order.next p list
+        → new ≡ record told { actors = new.actors }
+        → ((start : Option (List ℕ)) (s : Scene) (now : Now Row)
+        → NetAt stands contents flushed start s told now → link ≤ s.count
+        → IfSome who (λ r. r ≤ s.count)
+        → new.actors.items ≡ asked (is_ready (plan_of s) s.size now) s.count told.actors.items link who)
+        → length new.actors.items ≡ length told.actors.items
+        → Ran stands remaining ended contents flushed order o q old new
+    unfolding joined
+    ran_more q new picks next flagged again len =
+        let nodes : new.web.nodes ≡ after.web.nodes =
+        ap (λ (n : Net F W S). n.web.nodes) flagged ∙ ap (λ (n : Net F W S). n.web.nodes) same in
+        record {
+          reads = λ i. ran.reads i ++ turned.reads i;
+          read = λ i.
+              subst
+              (λ v. HasRead (ended_at ended i old.web.nodes.items) (ended_at ended i v.items)
+              (remaining_at remaining i old.web.nodes.items) (remaining_at remaining i v.items)
+              (ran.reads i ++ turned.reads i))
+              (sym nodes) (read_more _ _ _ _ _ _ _ _ (ran.read i) (turned.read i));
+          leads = λ start s now over h.
+              let n = next_at start s now
+              (subst (λ v. AreOver ended v.items s.rests) nodes over) h in
+              let at_told = told_at start s n.goes.to n.goes.at in
+              let d = n.before in
+              let e : list ≡ ready_list (plan_of s) s.size d.to = lists ∙ n.flags in
+              let choice : k ≡ chosen (ready_list (plan_of s) s.size d.to)
+              (order.pick p (ready_list (plan_of s) s.size d.to)) =
+              is ∙ ap (chosen list) picks ∙ ap (λ l. chosen l (order.pick p l)) e in
+              let known = reader_known who s (n.knows link) tells in (
+                record {
+                  turns = d.turns ++ k ∷ [];
+                  to = n.goes.to;
+                  driven = subst
+                      (λ x. Driven order (plan_of s) s.size text_of o now (d.turns ++ k ∷ []) n.goes.to x)
+                      (sym (next ∙ ap (order.next p) e))
+                      (driven_more order (plan_of s) s.size text_of d.turns k o p now d.to n.goes.to d.driven
+                      choice n.goes.turn);
+                  at = relisted stands contents flushed start s told new n.goes.to
+                      (flags_alone new told flagged) len at_told;
+                },
+                record {
+                  flags = λ none.
+                      again start s n.goes.to at_told (link_within start s now n)
+                      (takers_within who s known)
+                      ∙ ap
+                      (λ v. asked (is_ready (plan_of s) s.size n.goes.to) s.count v link who)
+                      (ap (λ (m : Net F W S). m.actors.items) same ∙ ap (λ v. v.items) same_actors
+                      ∙ n.flags)
+                      ∙ as_listed s n.goes.at.plan k link d.to n.goes.to n.goes.turn none n.none n.link_is who
+                      known;
+                  known = λ none t r h.
+                      n.knows t r (learns t r
+                      (ap (λ (m : Net F W S). slice_get m.readers.items t) (sym flagged) ∙ h));
+                },
+              );
+        }
+
+  -- the run is over
+  pub ran_to : (o p : O) (old new : Net F W S) (by : RunResult)
+      → Ran stands remaining ended contents flushed order o p old new
+      → ((start : Option (List ℕ)) (s : Scene) (now : Now Row)
+      → NetAt stands contents flushed start s new now → result (plan_of s) now ≡ Some by)
+      → HasRun stands remaining ended contents flushed order o p old new by
+  ran_to o p old new by ran is = record {
+    reads = ran.reads;
+    read = ran.read;
+    runs = λ start s now over h.
+        let d = (ran.leads start s now over h).0 in
+        let e = is start s d.to d.at in
+        record {
+          leads = d;
+          over = e;
+          outcome = outcome stands contents flushed start s new d.to d.at by e;
+          valid = valid stands contents flushed start s new d.to d.at;
+          whose = whose stands contents flushed start s new d.to d.at by e;
+        };
+  }
+
+-- Sources that tell their bytes.
+
+second_nil : (xs ys : List ℕ) → xs ++ ys ≡ [] → ys ≡ []
+second_nil [] ys h = h
+second_nil (x ∷ xs) ys h = let z = ap length h in absurd (omega (arith, z))
+
+module _ {F W S O : Type 0} (feeds : F → List ℕ → At → Type 0) (works : W → At → Type 0)
+    (remaining : F → Option (List ℕ)) (ended : F → Bool) (contents : S → Option (List ℕ))
+    (flushed : S → Bool) (order : Order O) where
+  -- what is still to come of a node that isn't a source is nothing that it stands for
+  stands_alike : (n : Node F W) (a b : List ℕ) (t : At)
+      → ((f : F) → n ≡ node.Source f → a ≡ b) → StandsAs feeds works n a t → StandsAs feeds works n b t
+  stands_alike (node.Source f) a b t same h = subst (λ r. feeds f r t) (same f refl) h
+  stands_alike (node.Stage w) a b t same h = h
+
+  rested : (start : Option (List ℕ)) (s : Scene) (net : Net F W S) (now : Now Row)
+      (rests : ℕ → List ℕ)
+      → ((i : ℕ) (f : F) → slice_get net.web.nodes.items i ≡ Some (node.Source f) → s.rests i ≡ rests i)
+      → NetAt (StandsAs feeds works) contents flushed start s net now
+      → NetAt (StandsAs feeds works) contents flushed start (record s { rests = rests }) net now
+  rested start s net now rests same h = record {
+    plan = h.plan;
+    first = h.first;
+    turns = h.turns;
+    begin = h.begin;
+    walk = h.walk;
+    counted = h.counted;
+    actors = h.actors;
+    going = λ e.
+        let st = h.going e in
+        record {
+          count = st.count;
+          as_many = st.as_many;
+          nodes = λ i n at. stands_alike n (s.rests i) (rests i) (at_of s.kinds now.links i)
+              (λ f is. same i f (at ∙ ap Some is)) (st.nodes i n at);
+          links = st.links;
+        };
+    failure = h.failure;
+    written = h.written;
+    is_flushed = h.is_flushed;
+  }
+
+  module _ (o p : O) (old new : Net F W S) (by : RunResult)
+      (ran : HasRun (StandsAs feeds works) remaining ended contents flushed order o p old new by)
+      (rests : ℕ → List ℕ) (tells : Tells remaining ended old.web.nodes.items rests) where
+    -- what is left of the bytes of a source
+    Left : ℕ → Option (Node F W) → Type 0
+    Left i o = (left : List ℕ) × ((f : F) → o ≡ Some (node.Source f) → rests i ≡ ran.reads i ++ left)
+        × (ended_at ended i new.web.nodes.items ≡ true → left ≡ [])
+
+    left_by : (i : ℕ) (o : Option (Node F W)) → slice_get old.web.nodes.items i ≡ o → Left i o
+    unfolding Left
+    left_by i None e = ([], (λ f is. absurd (none-some _ is)), (λ over. refl))
+    left_by i (Some (node.Stage w)) e = ([], (λ f is. absurd (stage_not w f is)), (λ over. refl))
+      where
+        stage_not : (w : W) (f : F)
+            → ◌≡◌ {A = Option (Node F W)} (Some (node.Stage w)) (Some (node.Source f)) → ⊥
+        stage_not w f h = cc
+    left_by i (Some (node.Source f)) e =
+        let told : remaining_at remaining i old.web.nodes.items ≡ Some (rests i) =
+        ap (or_none None (remaining_of remaining)) e ∙ tells.tells i f e in
+        let front = (ran.read i).front (rests i) told in (
+          front.rest,
+          (λ f is. front.split),
+          (λ over. ⊎_elim
+              (λ (was : ended_at ended i old.web.nodes.items ≡ true).
+              second_nil (ran.reads i) front.rest (sym front.split ∙ tells.over i was))
+              (λ (none : front.rest ≡ []). none)
+              (front.over over)),
+        )
+
+    abbrev left_at : (i : ℕ) → Left i (slice_get old.web.nodes.items i)
+    left_at i = left_by i (slice_get old.web.nodes.items i) refl
+
+    pub run_on : (start : Option (List ℕ)) (s : Scene) (now : Now Row) → s.rests ≡ rests
+        → NetAt (StandsAs feeds works) contents flushed start s old now
+        → HasRunOn (StandsAs feeds works) contents flushed order o p start s now new by
+    unfolding Left
+    run_on start s now is h =
+        let left : ℕ → List ℕ = λ i. (left_at i).0 in
+        record {
+          left = left;
+          runs = ran.runs start (record s { rests = left }) now
+              (λ i over. (left_at i).2 over)
+              (rested start s old now (λ i. ran.reads i ++ left i)
+              (λ i f at. ap (λ (r : ℕ → List ℕ). r i) is ∙ (left_at i).1 f at) h);
+        }

@@ -1,0 +1,28 @@
+use Rattle.std.proofs.Common.{◌≡◌, ◌||◌, ℕ, ◌-◌, List, Option, None, Some}
+use Rattle.hum_record.specs.Row.{Row}
+use Rattle.hum_turns.specs.declared.result.RunResult.{RunResult}
+use Rattle.hum_turns.specs.Failures.{Now, result}
+use Rattle.hum_nodes.specs.Nodes.{StandsAs}
+use Rattle.hum_net.specs.Readers.{failed_at, is_read_of, is_write}
+use Rattle.hum_net.specs.Scene.{Scene, plan_of}
+use Rattle.hum_net.specs.Nets.{NetAt}
+use Rattle.hum_net.proofs.Running.{Ran}
+use Rattle.hum_net.proofs.net.Net.run.Given as goal
+
+abbrev pub invariant-turns : goal.invariant-turns
+invariant-turns g l = record {
+  ran : Ran (StandsAs g.F.Feeds.stands g.W.Works.stands) g.F.Feeds.remaining g.F.Feeds.ended
+      g.S.Sink.contents g.S.Sink.flushed (record { pick = g.O.Order.picks; next = g.O.Order.after })
+      l.fn.order l.order l.fn.self l.self;
+  reads : l.fn.self.failure ≡ None → (i : ℕ) → failed_at g.F.Feeds.failed i l.self.web.nodes.items
+      ≡ (failed_at g.F.Feeds.failed i l.fn.self.web.nodes.items || is_read_of i l.self.failure);
+  writes : l.fn.self.failure ≡ None → g.S.Sink.failed l.self.sink
+      ≡ (g.S.Sink.failed l.fn.self.sink || is_write l.self.failure);
+  again : (start : Option (List ℕ)) (s : Scene) (now : Now Row) (by : RunResult)
+      → NetAt (StandsAs g.F.Feeds.stands g.W.Works.stands) g.S.Sink.contents g.S.Sink.flushed start s
+      l.fn.self now
+      → result (plan_of s) now ≡ Some by → (l.self ≡ l.fn.self) × (l.order ≡ l.fn.order);
+}
+
+abbrev pub decreases-turns : goal.decreases-turns
+decreases-turns g l = 18446744073709551616 - l.self.turns

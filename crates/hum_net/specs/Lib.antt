@@ -1,0 +1,3 @@
+pub mod Readers
+pub mod Scene
+pub mod Nets

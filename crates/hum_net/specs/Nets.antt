@@ -1,0 +1,259 @@
+-- What a net stands for: its web, what was written, and how it failed.
+use Rattle.std.specs.Prelude.{◌≡◌, ◌≢◌, ◌⊎◌, ℕ, ◌+◌, ◌<◌, ◌≤◌, Bool, true, List, [], ◌++◌, length}
+use Rattle.std.specs.Prelude.{Option, Some, None, IfSome, map, slice_get, slice_set}
+use Rattle.std.specs.Io.KnownBytes.{Appends}
+use Rattle.hum_record.specs.Row.{Row, text_of}
+use Rattle.hum_stage.specs.declared.faults.End.{End}
+use Rattle.hum_stage.specs.declared.faults.End.TheVariants.{Closed, Broken}
+use Rattle.hum_turns.specs.declared.result.RunResult.{RunResult}
+use Rattle.hum_turns.specs.declared.result.RunResult.TheVariants as ends
+use Rattle.hum_turns.specs.Flow.{Begins}
+use Rattle.hum_turns.specs.Plan.{KeepsFine, last}
+use Rattle.hum_turns.specs.Meaning.{plan_meaning, first_fault, IsNumbered}
+use Rattle.hum_turns.specs.Orders.{Order, Driven, upto}
+use Rattle.hum_turns.specs.Links.{has_some}
+use Rattle.hum_turns.specs.Turns.{Takes}
+use Rattle.hum_turns.specs.Text.{text}
+use Rattle.hum_turns.specs.Failures.{Now, MayFail, Turn, Walk, IsFirst, IsFailure}
+use Rattle.hum_turns.specs.Failures.{written, is_ready, result, result_of}
+use Rattle.hum_nodes.specs.At.{At}
+use Rattle.hum_nodes.specs.Fine.{fine, IsFine}
+use Rattle.hum_nodes.specs.Polls.{HasRead}
+use Rattle.hum_nodes.specs.declared.either.Node.{Node}
+use Rattle.hum_nodes.specs.declared.either.Node.TheVariants.{Source}
+use Rattle.hum_net.specs.declared.web.Web.{Web}
+use Rattle.hum_net.specs.declared.net.Net.{Net}
+use Rattle.hum_net.specs.Readers.{ended_at, remaining_at}
+use Rattle.hum_net.specs.Scene.{Scene, plan_of, moved, before_all, Stands, IsAt, IsNetPlan, IsBegun, Done}
+use Rattle.hum_net.specs.Scene.{MayTurn}
+
+-- The sink has taken what came next, and has written the text of that; behind the end it was flushed.
+pub record Sent {F W : Type 0} (stands : Node F W → List ℕ → At → Type 0) (old new : Option (List ℕ))
+    (flushed : Bool) (web : Web F W) (s : Scene) : Type 0 where
+  pub done : Done stands s.count (Takes (last (plan_of s))) web s
+  pub sent : List ℕ
+  pub appends : Appends old new sent
+  pub taken : text text_of (done.new (last (plan_of s))).taken
+      ≡ text text_of (s.links (last (plan_of s))).taken ++ sent
+  pub over : (e : End) → (done.new (last (plan_of s))).heard ≡ Some e → flushed ≡ true
+
+-- An actor has failed, and has written this much.
+pub record Failed (k : ℕ) (by : RunResult) (old new : Option (List ℕ)) (s : Scene) : Type 0 where
+  pub part : List ℕ
+  pub may : MayFail (plan_of s) k text_of s.links by part
+  pub appends : Appends old new part
+
+abbrev pub SinkWent : {F W : Type 0} → (Node F W → List ℕ → At → Type 0) → Option RunResult
+    → Option (List ℕ) → Option (List ℕ) → Bool → Web F W → Scene → Type 0
+SinkWent stands None old new flushed web s = Sent stands old new flushed web s
+SinkWent stands (Some by) old new flushed web s = Failed s.count by old new s
+
+-- the sink is ready
+pub record MayWrite {F W : Type 0} (stands : Node F W → List ℕ → At → Type 0) (web : Web F W)
+    (s : Scene) : Type 0 where
+  pub at : IsAt stands web s
+  pub some : has_some (s.links (last (plan_of s))) ≡ true
+
+-- a stage is ready, and a byte can hold its number
+pub record MayTurnFew {F W : Type 0} (stands : Node F W → List ℕ → At → Type 0) (k : ℕ)
+    (web : Web F W) (s : Scene) : Type 0 where
+  pub turn : MayTurn stands k web s
+  pub few : s.count < 256
+
+-- What a net stands for: a moment that turns have led to, written behind what the sink held at
+-- first, and flushed once the end was heard.
+pub record NetAt {F W S : Type 0} (stands : Node F W → List ℕ → At → Type 0)
+    (contents : S → Option (List ℕ)) (flushed : S → Bool) (start : Option (List ℕ)) (s : Scene)
+    (net : Net F W S) (now : Now Row) : Type 0 where
+  pub plan : IsNetPlan s.count s.kinds s.size
+  pub first : Now Row
+  pub turns : List ℕ
+  pub begin : IsFirst first
+  pub walk : Walk (plan_of s) s.size text_of first turns now
+  pub counted : net.turns ≡ length turns
+  pub actors : length net.actors.items ≡ s.count + 1
+  pub going : now.failure ≡ None → Stands stands net.web (moved s now.links)
+  pub failure : net.failure ≡ now.failure
+  pub written : Appends start (contents net.sink) (written (plan_of s) text_of now)
+  pub is_flushed : (e : End) → now.failure ≡ None → (now.links (last (plan_of s))).heard ≡ Some e
+      → flushed net.sink ≡ true
+
+-- Nothing comes behind the end of a source that was read.
+abbrev pub AreOver : {F W : Type 0} → (F → Bool) → List (Node F W) → (ℕ → List ℕ) → Type 0
+AreOver ended nodes rests = (k : ℕ) → ended_at ended k nodes ≡ true → rests k ≡ []
+
+-- an actor that is ready
+pub record MayGo {F W S : Type 0} (stands : Node F W → List ℕ → At → Type 0)
+    (contents : S → Option (List ℕ)) (flushed : S → Bool) (k : ℕ) (net : Net F W S) : Type 0 where
+  pub start : Option (List ℕ)
+  pub scene : Scene
+  pub now : Now Row
+  pub at : NetAt stands contents flushed start scene net now
+  pub within : k ≤ scene.count
+  pub ready : is_ready (plan_of scene) scene.size now k ≡ true
+
+-- a turn, and what the net stands for after it
+pub record GoesTo {F W S : Type 0} (stands : Node F W → List ℕ → At → Type 0)
+    (contents : S → Option (List ℕ)) (flushed : S → Bool) (start : Option (List ℕ)) (s : Scene)
+    (k : ℕ) (now : Now Row) (net : Net F W S) : Type 0 where
+  pub to : Now Row
+  pub turn : Turn (plan_of s) s.size text_of k now to
+  pub at : NetAt stands contents flushed start s net to
+
+-- The actor has had its turn: a source has read these bytes, no other source any. However they go
+-- on, the plan that the net stood for goes on by one turn of this actor.
+pub record HasTurned {F W S : Type 0} (stands : Node F W → List ℕ → At → Type 0)
+    (remaining : F → Option (List ℕ)) (ended : F → Bool)
+    (contents : S → Option (List ℕ)) (flushed : S → Bool) (k : ℕ) (old new : Net F W S)
+    : Type 0 where
+  pub reads : ℕ → List ℕ
+  pub others : (i : ℕ) → i ≢ k → reads i ≡ []
+  pub read : (i : ℕ)
+      → HasRead (ended_at ended i old.web.nodes.items) (ended_at ended i new.web.nodes.items)
+      (remaining_at remaining i old.web.nodes.items) (remaining_at remaining i new.web.nodes.items)
+      (reads i)
+  pub turns : (start : Option (List ℕ)) (s : Scene) (now : Now Row)
+      → AreOver ended new.web.nodes.items s.rests
+      → NetAt stands contents flushed start (before_all reads s) old now → k ≤ s.count
+      → is_ready (plan_of s) s.size now k ≡ true
+      → GoesTo stands contents flushed start s k now new
+
+-- it stands for some moment
+pub record IsRunning {F W S : Type 0} (stands : Node F W → List ℕ → At → Type 0)
+    (contents : S → Option (List ℕ)) (flushed : S → Bool) (net : Net F W S) : Type 0 where
+  pub start : Option (List ℕ)
+  pub scene : Scene
+  pub now : Now Row
+  pub at : NetAt stands contents flushed start scene net now
+
+-- and this is one of its actors
+pub record IsAmong {F W S : Type 0} (stands : Node F W → List ℕ → At → Type 0)
+    (contents : S → Option (List ℕ)) (flushed : S → Bool) (k : ℕ) (net : Net F W S) : Type 0 where
+  pub running : IsRunning stands contents flushed net
+  pub within : k ≤ running.scene.count
+
+-- Actor r is known to take from the link of stage t: it was learnt before, or this actor has just
+-- done so.
+abbrev pub Known : List (Option ℕ) → ℕ → ℕ → ℕ → ℕ → Type 0
+Known readers actor link t r =
+    (slice_get readers t ≡ Some (Some r)) ⊎ ((t ≡ link) × (r ≡ actor) × (actor ≢ link))
+
+-- what the flags are once the two ends of a link were asked again, or everyone
+abbrev pub asked : (ℕ → Bool) → ℕ → List Bool → ℕ → Option ℕ → List Bool
+asked is_ready count flags link None = map is_ready (upto (count + 1))
+asked is_ready count flags link (Some reader) =
+    slice_set (slice_set flags link (is_ready link)) reader (is_ready reader)
+
+-- two of its actors
+pub record AreAmong {F W S : Type 0} (stands : Node F W → List ℕ → At → Type 0)
+    (contents : S → Option (List ℕ)) (flushed : S → Bool) (link : ℕ) (reader : Option ℕ)
+    (net : Net F W S) : Type 0 where
+  pub running : IsRunning stands contents flushed net
+  pub link_within : link ≤ running.scene.count
+  pub reader_within : IfSome reader (λ r. r ≤ running.scene.count)
+
+-- one of its actors, while no failure has ended the run
+pub record IsGoing {F W S : Type 0} (stands : Node F W → List ℕ → At → Type 0)
+    (contents : S → Option (List ℕ)) (flushed : S → Bool) (k : ℕ) (net : Net F W S) : Type 0 where
+  pub running : IsRunning stands contents flushed net
+  pub going : running.now.failure ≡ None
+  pub within : k ≤ running.scene.count
+
+-- one of its stages
+pub record IsStage {F W S : Type 0} (stands : Node F W → List ℕ → At → Type 0)
+    (contents : S → Option (List ℕ)) (flushed : S → Bool) (k : ℕ) (net : Net F W S) : Type 0 where
+  pub running : IsRunning stands contents flushed net
+  pub going : running.now.failure ≡ None
+  pub less : k < running.scene.count
+
+-- A front of the plan's text was written.
+pub record WroteFront (s : Scene) (start held : Option (List ℕ)) : Type 0 where
+  pub part : List ℕ
+  pub front : Begins part (text text_of (plan_meaning (plan_of s)).items)
+  pub appends : Appends start held part
+
+-- The plan's whole text was written, and flushed, and this is how the plan ends.
+pub record WroteAll (s : Scene) (start held : Option (List ℕ)) (flushed : Bool) (e : End)
+    : Type 0 where
+  pub end : (plan_meaning (plan_of s)).end ≡ Some e
+  pub appends : Appends start held (text text_of (plan_meaning (plan_of s)).items)
+  pub is_flushed : flushed ≡ true
+
+-- What a run has written that ended so.
+abbrev pub Outcome : Scene → Option (List ℕ) → Option (List ℕ) → Bool → RunResult → Type 0
+Outcome s start held flushed ends.Finished = WroteAll s start held flushed Closed
+Outcome s start held flushed (ends.Fault f) = WroteAll s start held flushed (Broken f)
+Outcome s start held flushed (ends.Read k) = WroteFront s start held
+Outcome s start held flushed ends.Write = WroteFront s start held
+Outcome s start held flushed ends.Memory = WroteFront s start held
+
+-- The order's picks have led a net to a moment.
+pub record Leads {F W S O : Type 0} (stands : Node F W → List ℕ → At → Type 0)
+    (contents : S → Option (List ℕ)) (flushed : S → Bool) (order : Order O) (o p : O)
+    (start : Option (List ℕ)) (s : Scene) (now : Now Row) (net : Net F W S) : Type 0 where
+  pub turns : List ℕ
+  pub to : Now Row
+  pub driven : Driven order (plan_of s) s.size text_of o now turns to p
+  pub at : NetAt stands contents flushed start s net to
+
+-- The order's picks have led it to its end. What the plan means is a score, where the last stage too
+-- makes scores of scores; its fault is the lowest-numbered one.
+pub record RunsTo {F W S O : Type 0} (stands : Node F W → List ℕ → At → Type 0)
+    (contents : S → Option (List ℕ)) (flushed : S → Bool) (order : Order O) (o p : O)
+    (start : Option (List ℕ)) (s : Scene) (now : Now Row) (net : Net F W S) (by : RunResult)
+    : Type 0 where
+  pub leads : Leads stands contents flushed order o p start s now net
+  pub over : result (plan_of s) leads.to ≡ Some by
+  pub outcome : Outcome s start (contents net.sink) (flushed net.sink) by
+  pub valid : KeepsFine fine (s.kinds (last (plan_of s))).stage
+      → IsFine 4294967295 (plan_meaning (plan_of s))
+  pub whose : IsNumbered (plan_of s) → IsFailure by
+      ⊎ (by ≡ result_of (first_fault (plan_of s) s.count))
+
+-- The sources have read these bytes. However they go on, the plan that the net stood for goes on by
+-- the turns that the order picks, to the end of its run.
+pub record HasRun {F W S O : Type 0} (stands : Node F W → List ℕ → At → Type 0)
+    (remaining : F → Option (List ℕ)) (ended : F → Bool) (contents : S → Option (List ℕ))
+    (flushed : S → Bool) (order : Order O) (o p : O) (old new : Net F W S) (by : RunResult)
+    : Type 0 where
+  pub reads : ℕ → List ℕ
+  pub read : (i : ℕ)
+      → HasRead (ended_at ended i old.web.nodes.items) (ended_at ended i new.web.nodes.items)
+      (remaining_at remaining i old.web.nodes.items) (remaining_at remaining i new.web.nodes.items)
+      (reads i)
+  pub runs : (start : Option (List ℕ)) (s : Scene) (now : Now Row)
+      → AreOver ended new.web.nodes.items s.rests
+      → NetAt stands contents flushed start (before_all reads s) old now
+      → RunsTo stands contents flushed order o p start s now new by
+
+-- However the bytes go on that are still to come, the net stands for a moment of a plan.
+pub record IsNet {F W S : Type 0} (stands : Node F W → List ℕ → At → Type 0) (ended : F → Bool)
+    (contents : S → Option (List ℕ)) (flushed : S → Bool) (net : Net F W S) : Type 0 where
+  pub start : Option (List ℕ)
+  pub scene : (ℕ → List ℕ) → Scene
+  pub now : (ℕ → List ℕ) → Now Row
+  pub rests : (rests : ℕ → List ℕ) → (scene rests).rests ≡ rests
+  pub at : (rests : ℕ → List ℕ) → AreOver ended net.web.nodes.items rests
+      → NetAt stands contents flushed start (scene rests) net (now rests)
+
+-- Nodes that were asked nothing yet, of a plan by what is still to come of the bytes.
+pub record AreBegun {F W : Type 0} (stands : Node F W → List ℕ → At → Type 0) (size : ℕ)
+    (nodes : List (Node F W)) (scene : (ℕ → List ℕ) → Scene) : Type 0 where
+  pub rests : (rests : ℕ → List ℕ) → (scene rests).rests ≡ rests
+  pub plan : (rests : ℕ → List ℕ)
+      → IsNetPlan (scene rests).count (scene rests).kinds (scene rests).size
+  pub begun : (rests : ℕ → List ℕ) → IsBegun stands size nodes (scene rests)
+
+-- Each source tells its bytes: these, and none where it has read their end.
+pub record Tells {F W : Type 0} (remaining : F → Option (List ℕ)) (ended : F → Bool)
+    (nodes : List (Node F W)) (rests : ℕ → List ℕ) : Type 0 where
+  pub tells : (i : ℕ) (f : F) → slice_get nodes i ≡ Some (Source f) → remaining f ≡ Some (rests i)
+  pub over : AreOver ended nodes rests
+
+-- Of these bytes some are left, and the plan has gone on to its end.
+pub record HasRunOn {F W S O : Type 0} (stands : Node F W → List ℕ → At → Type 0)
+    (contents : S → Option (List ℕ)) (flushed : S → Bool) (order : Order O) (o p : O)
+    (start : Option (List ℕ)) (s : Scene) (now : Now Row) (net : Net F W S) (by : RunResult)
+    : Type 0 where
+  pub left : ℕ → List ℕ
+  pub runs : RunsTo stands contents flushed order o p start (record s { rests = left }) now net by

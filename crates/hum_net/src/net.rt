@@ -1,0 +1,448 @@
+//! A web whose last stage is written.
+ghost use Rattle.std.specs.Prelude.{◌≡◌, ◌≢◌, ◌≤◌, ◌<◌, ◌+◌, ◌||◌, ℕ, List, [], Option, None, Some};
+ghost use Rattle.std.specs.Prelude.{IfSome, IfOk, IfErr, OnErr, length, is_some, false, slice_get, slice_set};
+ghost use Rattle.hum_record.specs.Row.{Row, text_of};
+ghost use Rattle.hum_turns.specs.Links.{linked};
+ghost use Rattle.hum_turns.specs.Failures.{Now, IsFirst, MayFail, is_ready, result as ended};
+ghost use Rattle.hum_turns.specs.Orders.{ready_list};
+ghost use Rattle.hum_nodes.specs.Nodes.{StandsAs};
+ghost use Rattle.hum_nodes.specs.Polls.{AsksAtMostOnce, HasStayed};
+ghost use Rattle.hum_net.specs.Readers.{ShowsSame, remaining_at, ended_at, calls_at, failed_at};
+ghost use Rattle.hum_net.specs.Readers.{is_read_of, is_write};
+ghost use Rattle.hum_net.specs.Scene.{Scene, plan_of, Somewhere, IsAt, IsNetPlan, IsBegun, MayTurn};
+ghost use Rattle.hum_net.specs.Scene.{KeepsOthers, Fed, held_of};
+ghost use Rattle.hum_net.specs.Nets.{MayWrite, SinkWent, MayTurnFew, MayGo, HasTurned, IsRunning};
+ghost use Rattle.hum_turns.specs.Counts.{most_in_all};
+ghost use Rattle.hum_turns.specs.Holds.{SomeReady};
+ghost use Rattle.hum_net.specs.Nets.{WroteFront, IsGoing, IsStage, AreAmong, Known, asked};
+ghost use Rattle.hum_net.specs.Nets.{IsAmong, NetAt, AreBegun, Tells, HasRun, HasRunOn, IsNet};
+
+use crate::web::Web;
+use hum_links::Next;
+use hum_nodes::{Feeds, Node, Works};
+use hum_read::ReadError;
+use hum_text::calls::Sink;
+use hum_turns::{Order, RunResult, choose};
+use hum_writing::write_record;
+use std::alloc::Global;
+
+/// Nodes and links, what the last stage is written to, and the failure that has ended the run.
+#[derive(Drop)]
+pub struct Net<F, W, S> {
+    web: Web<F, W>,
+    sink: S,
+    failure: Option<RunResult>,
+    turns: u64,
+    // a flag for each actor, which an order picks by
+    actors: Vec<bool>,
+    // who takes from each link, where that was learnt
+    readers: Vec<Option<usize>>,
+}
+
+impl<F: Feeds, W: Works, S: Sink> Net<F, W, S> {
+    // Were these two inlined, their answers would be taken to pieces as small as a fault's fields,
+    // at each turn.
+
+    // The sink's turn.
+    #[inline(never)]
+    fn sink_turn(&mut self) -> Option<RunResult>
+        requires { Somewhere (IsAt (StandsAs F.stands W.stands) self.old.web) }
+        ensures went { (s : Scene) → MayWrite (StandsAs F.stands W.stands) self.old.web s
+            → SinkWent (StandsAs F.stands W.stands) result (S.contents self.old.sink)
+            (S.contents self.new.sink) (S.flushed self.new.sink) self.new.web s }
+        ensures marked { S.failed self.new.sink ≡ (S.failed self.old.sink || is_write result) }
+        ensures unread { (k : ℕ) → is_read_of k result ≡ false }
+        ensures shows { (k : ℕ) → ShowsSame F.remaining F.ended F.calls F.failed
+            self.old.web.nodes.items self.new.web.nodes.items k }
+        ensures failure { self.new.failure ≡ self.old.failure }
+        ensures turns { self.new.turns ≡ self.old.turns }
+        ensures actors { self.new.actors ≡ self.old.actors }
+        ensures readers { self.new.readers ≡ self.old.readers }
+    {
+        match self.web.take_out() {
+            Next::Record(row) => match write_record(&mut self.sink, &row) {
+                Ok(()) => {
+                    self.web.reuse(row);
+                    None
+                }
+                Err(_) => Some(RunResult::Write),
+            },
+            Next::End(_) => match self.sink.flush() {
+                Ok(()) => None,
+                Err(_) => Some(RunResult::Write),
+            },
+            Next::Nothing => None,
+        }
+    }
+
+    // A stage's turn.
+    #[inline(never)]
+    fn stage_turn(&mut self, k: usize) -> Option<RunResult>
+        requires { Somewhere (MayTurnFew (StandsAs F.stands W.stands) k self.old.web) }
+        ensures fed { result ≡ None → Fed (StandsAs F.stands W.stands) F.remaining F.ended k
+            self.old.web self.new.web }
+        ensures failed { IfSome result (λ by. (s : Scene)
+            → MayTurn (StandsAs F.stands W.stands) k self.old.web s
+            → MayFail (plan_of s) k text_of s.links by []) }
+        ensures others { KeepsOthers k self.old.web self.new.web }
+        ensures marked { failed_at F.failed k self.new.web.nodes.items
+            ≡ (failed_at F.failed k self.old.web.nodes.items || is_read_of k result) }
+        ensures unmarked { (i : ℕ) → i ≢ k → is_read_of i result ≡ false }
+        ensures unwritten { is_write result ≡ false }
+        ensures calls { AsksAtMostOnce (calls_at F.calls k self.old.web.nodes.items)
+            (failed_at F.failed k self.old.web.nodes.items)
+            (calls_at F.calls k self.new.web.nodes.items)
+            (failed_at F.failed k self.new.web.nodes.items) }
+        ensures stays { IfSome result (λ by. HasStayed
+            (ended_at F.ended k self.old.web.nodes.items)
+            (ended_at F.ended k self.new.web.nodes.items)
+            (remaining_at F.remaining k self.old.web.nodes.items)
+            (remaining_at F.remaining k self.new.web.nodes.items)) }
+        ensures sink { self.new.sink ≡ self.old.sink }
+        ensures failure { self.new.failure ≡ self.old.failure }
+        ensures turns { self.new.turns ≡ self.old.turns }
+        ensures actors { self.new.actors ≡ self.old.actors }
+        ensures readers { self.new.readers ≡ self.old.readers }
+    {
+        match self.web.turn(k) {
+            Ok(()) => None,
+            Err(ReadError::Read) => Some(RunResult::Read((k + 1) as u8)),
+            Err(ReadError::Memory) => Some(RunResult::Memory),
+        }
+    }
+
+    /// A net of nodes that were asked nothing yet, with links of this size, from 1 to 4,096.
+    ///
+    /// # Errors
+    /// Want of memory, which hands the sink back.
+    pub fn new(alloc: Global, nodes: Vec<Node<F, W>>, size: u16, sink: S) -> Result<Net<F, W, S>, S>
+        requires few { length nodes.items < 256 }
+        ensures ok { IfOk result (λ net. (s : Scene) (now : Now Row) → IsFirst now
+            → IsNetPlan s.count s.kinds s.size
+            → IsBegun (StandsAs F.stands W.stands) size nodes.items s
+            → NetAt (StandsAs F.stands W.stands) S.contents S.flushed (S.contents sink) s net now) }
+        ensures runs { IfOk result (λ net. (scene : (ℕ → List ℕ) → Scene)
+            → AreBegun (StandsAs F.stands W.stands) size nodes.items scene
+            → IsNet (StandsAs F.stands W.stands) F.ended S.contents S.flushed net) }
+        ensures nodes { IfOk result (λ net. net.web.nodes ≡ nodes) }
+        ensures err { IfErr result (λ back. back ≡ sink) }
+    {
+        let Ok(actors) = vec![in alloc; false; nodes.len() + 1] else {
+            return Err(sink);
+        };
+        let Ok(readers) = vec![in alloc; None; nodes.len()] else {
+            return Err(sink);
+        };
+        match Web::new(alloc, nodes, usize::from(size)) {
+            Ok(web) => Ok(Net {
+                web,
+                sink,
+                failure: None,
+                turns: 0,
+                actors,
+                readers,
+            }),
+            Err(_) => Err(sink),
+        }
+    }
+
+    // Sets a flag for each actor that is ready.
+    fn mark(&mut self)
+        requires { IsRunning (StandsAs F.stands W.stands) S.contents S.flushed self.old }
+        ensures same { self.new ≡ record self.old { actors = self.new.actors } }
+        ensures len { length self.new.actors.items ≡ length self.old.actors.items }
+        ensures list { (start : Option (List ℕ)) (s : Scene) (now : Now Row)
+            → NetAt (StandsAs F.stands W.stands) S.contents S.flushed start s self.old now
+            → self.new.actors.items ≡ ready_list (plan_of s) s.size now }
+    {
+        for k in 0..self.actors.len() {
+            let is = self.ready(k);
+            self.actors[k] = is;
+        }
+    }
+
+    // Nothing is known of who takes from which link.
+    fn forget(&mut self)
+        ensures same { self.new ≡ record self.old { readers = self.new.readers } }
+        ensures none { (t r : ℕ) → slice_get self.new.readers.items t ≢ Some (Some r) }
+    {
+        for t in 0..self.readers.len() {
+            self.readers[t] = None;
+        }
+    }
+
+    // Who takes from a link that this actor has just changed, if that is known: the actor itself,
+    // where the link isn't its own.
+    fn reader(&mut self, actor: usize, link: usize) -> Option<usize>
+        ensures same { self.new ≡ record self.old { readers = self.new.readers } }
+        ensures learns { (t r : ℕ) → slice_get self.new.readers.items t ≡ Some (Some r)
+            → Known self.old.readers.items actor link t r }
+        ensures tells { IfSome result (λ r. Known self.old.readers.items actor link link r) }
+    {
+        if actor != link {
+            if let Some(reader) = self.readers.get_mut(link) {
+                *reader = Some(actor);
+            }
+            return Some(actor);
+        }
+        match self.readers.get(link) {
+            Some(reader) => *reader,
+            None => None,
+        }
+    }
+
+    // Sets the flag of an actor.
+    fn ask(&mut self, k: usize)
+        requires { IsAmong (StandsAs F.stands W.stands) S.contents S.flushed k self.old }
+        ensures same { self.new ≡ record self.old { actors = self.new.actors } }
+        ensures len { length self.new.actors.items ≡ length self.old.actors.items }
+        ensures list { (start : Option (List ℕ)) (s : Scene) (now : Now Row)
+            → NetAt (StandsAs F.stands W.stands) S.contents S.flushed start s self.old now
+            → k ≤ s.count → self.new.actors.items
+            ≡ slice_set self.old.actors.items k (is_ready (plan_of s) s.size now k) }
+    {
+        let is = self.ready(k);
+        self.actors[k] = is;
+    }
+
+    // Sets the flags of the two ends of a link, or all of them where its reader isn't known.
+    fn ask_again(&mut self, link: usize, reader: Option<usize>)
+        requires { AreAmong (StandsAs F.stands W.stands) S.contents S.flushed link reader self.old }
+        ensures same { self.new ≡ record self.old { actors = self.new.actors } }
+        ensures len { length self.new.actors.items ≡ length self.old.actors.items }
+        ensures list { (start : Option (List ℕ)) (s : Scene) (now : Now Row)
+            → NetAt (StandsAs F.stands W.stands) S.contents S.flushed start s self.old now
+            → link ≤ s.count → IfSome reader (λ r. r ≤ s.count) → self.new.actors.items
+            ≡ asked (is_ready (plan_of s) s.size now) s.count self.old.actors.items link reader }
+    {
+        match reader {
+            Some(reader) => {
+                self.ask(link);
+                self.ask(reader);
+            }
+            None => self.mark(),
+        }
+    }
+
+    // Sets all flags, unless the run is over.
+    fn prepare(&mut self)
+        requires { IsRunning (StandsAs F.stands W.stands) S.contents S.flushed self.old }
+        ensures same { self.new
+            ≡ record self.old { actors = self.new.actors; readers = self.new.readers } }
+        ensures len { length self.new.actors.items ≡ length self.old.actors.items }
+        ensures list { (start : Option (List ℕ)) (s : Scene) (now : Now Row)
+            → NetAt (StandsAs F.stands W.stands) S.contents S.flushed start s self.old now
+            → ended (plan_of s) now ≡ None
+            → (self.new.actors.items ≡ ready_list (plan_of s) s.size now)
+            × ((t r : ℕ) → slice_get self.new.readers.items t ≢ Some (Some r)) }
+        ensures over { (start : Option (List ℕ)) (s : Scene) (now : Now Row) (by : RunResult)
+            → NetAt (StandsAs F.stands W.stands) S.contents S.flushed start s self.old now
+            → ended (plan_of s) now ≡ Some by → self.new ≡ self.old }
+    {
+        if self.result().is_some() {
+            return;
+        }
+        self.forget();
+        self.mark();
+    }
+
+    // How a run ended that is over.
+    #[inline(never)]
+    fn told(&self) -> RunResult
+        requires { IsRunning (StandsAs F.stands W.stands) S.contents S.flushed self.now }
+        ensures { (start : Option (List ℕ)) (s : Scene) (now : Now Row) (by : RunResult)
+            → NetAt (StandsAs F.stands W.stands) S.contents S.flushed start s self.now now
+            → ended (plan_of s) now ≡ Some by → result ≡ by }
+    {
+        match self.result() {
+            Some(result) => result,
+            None => RunResult::Finished,
+        }
+    }
+
+    /// Makes the turns that the order picks, to the end of the run.
+    pub fn run<O: Order>(&mut self, order: &mut O) -> RunResult
+        requires { IsNet (StandsAs F.stands W.stands) F.ended S.contents S.flushed self.old }
+        // Whatever bytes the sources have, and however they go on: the turns are those that the
+        // order picks, and what was written is what the plan means.
+        ensures ran { HasRun (StandsAs F.stands W.stands) F.remaining F.ended S.contents S.flushed
+            (record { pick = O.picks; next = O.after }) order.old order.new self.old self.new
+            result }
+
+        // Where the sources tell their bytes, it is what the plan means over these.
+        ensures whole { (start : Option (List ℕ)) (s : Scene) (now : Now Row)
+            → Tells F.remaining F.ended self.old.web.nodes.items s.rests
+            → NetAt (StandsAs F.stands W.stands) S.contents S.flushed start s self.old now
+            → HasRunOn (StandsAs F.stands W.stands) S.contents S.flushed
+            (record { pick = O.picks; next = O.after }) order.old order.new start s now self.new
+            result }
+
+        // It ends by a failed read or write exactly where a call has failed in it.
+        ensures reads { self.old.failure ≡ None → (i : ℕ)
+            → failed_at F.failed i self.new.web.nodes.items
+            ≡ (failed_at F.failed i self.old.web.nodes.items || is_read_of i (Some result)) }
+        ensures writes { self.old.failure ≡ None
+            → S.failed self.new.sink ≡ (S.failed self.old.sink || is_write (Some result)) }
+
+        // A run that is over answers its result again.
+        ensures again { (start : Option (List ℕ)) (s : Scene) (now : Now Row) (by : RunResult)
+            → NetAt (StandsAs F.stands W.stands) S.contents S.flushed start s self.old now
+            → ended (plan_of s) now ≡ Some by
+            → (result ≡ by) × (self.new ≡ self.old) × (order.new ≡ order.old) }
+    {
+        self.prepare();
+        'turns: loop {
+            if self.over() {
+                return self.told();
+            }
+            let pick = order.pick(&self.actors);
+            let actor = choose(&self.actors, pick);
+            let link = self.web.touched(actor);
+            self.turn(actor);
+            let reader = self.reader(actor, link);
+            self.ask_again(link, reader);
+        }
+    }
+
+    /// One turn of an actor that is ready: a stage by its number, from 0, or the sink by the number
+    /// of stages.
+    pub fn turn(&mut self, k: usize)
+        requires { MayGo (StandsAs F.stands W.stands) S.contents S.flushed k self.old }
+        // It is one turn of this actor.
+        ensures turned { HasTurned (StandsAs F.stands W.stands) F.remaining F.ended S.contents
+            S.flushed k self.old self.new }
+
+        // It makes at most one call on the actor's reader, and none on another's.
+        ensures others { (i : ℕ) → i ≢ k → ShowsSame F.remaining F.ended F.calls F.failed
+            self.old.web.nodes.items self.new.web.nodes.items i }
+        ensures calls { AsksAtMostOnce (calls_at F.calls k self.old.web.nodes.items)
+            (failed_at F.failed k self.old.web.nodes.items)
+            (calls_at F.calls k self.new.web.nodes.items)
+            (failed_at F.failed k self.new.web.nodes.items) }
+
+        // The run ends by a failed read or write exactly where a call has failed.
+        ensures reads { (i : ℕ) → failed_at F.failed i self.new.web.nodes.items
+            ≡ (failed_at F.failed i self.old.web.nodes.items || is_read_of i self.new.failure) }
+        ensures writes { S.failed self.new.sink
+            ≡ (S.failed self.old.sink || is_write self.new.failure) }
+        ensures turns { self.new.turns ≡ self.old.turns + 1 }
+        ensures actors { self.new.actors ≡ self.old.actors }
+        ensures readers { self.new.readers ≡ self.old.readers }
+    {
+        self.turns += 1;
+        if k == self.web.count() {
+            self.failure = self.sink_turn();
+        } else {
+            self.failure = self.stage_turn(k);
+        }
+    }
+
+    /// How the run ended, once it has.
+    pub fn result(&self) -> Option<RunResult>
+        requires { IsRunning (StandsAs F.stands W.stands) S.contents S.flushed self.now }
+        ensures { (start : Option (List ℕ)) (s : Scene) (now : Now Row)
+            → NetAt (StandsAs F.stands W.stands) S.contents S.flushed start s self.now now
+            → result ≡ ended (plan_of s) now }
+    {
+        if let Some(failure) = self.failure {
+            return Some(failure);
+        }
+        match self.web.heard() {
+            Some(end) => Some(RunResult::from_end(end)),
+            None => None,
+        }
+    }
+
+    /// Whether an actor is ready: a stage, or the sink by the number of stages. Once the run has
+    /// ended none is.
+    pub fn ready(&self, k: usize) -> bool
+        requires { IsAmong (StandsAs F.stands W.stands) S.contents S.flushed k self.now }
+        ensures { (start : Option (List ℕ)) (s : Scene) (now : Now Row)
+            → NetAt (StandsAs F.stands W.stands) S.contents S.flushed start s self.now now
+            → k ≤ s.count → result ≡ is_ready (plan_of s) s.size now k }
+    {
+        match self.result() {
+            Some(_) => false,
+            None => self.web.ready(k),
+        }
+    }
+
+    /// The sink, as the turns left it: at each moment a front of the plan's text was written, however
+    /// the bytes go on that are still to come.
+    pub fn into_writer(self) -> S
+        ensures sink { result ≡ self.sink }
+        ensures front { (start : Option (List ℕ)) (s : Scene) (now : Now Row)
+            → NetAt (StandsAs F.stands W.stands) S.contents S.flushed start s self now
+            → WroteFront s start (S.contents result) }
+    {
+        let Net {
+            web: _web,
+            sink,
+            failure: _,
+            turns: _,
+            actors: _actors,
+            readers: _readers,
+        } = self;
+        sink
+    }
+
+    /// How many turns were made: until a failure no more than the bytes, the records and the ends
+    /// that were moved allow.
+    pub fn turns(&self) -> u64
+        ensures turns { (start : Option (List ℕ)) (s : Scene) (now : Now Row)
+            → (at : NetAt (StandsAs F.stands W.stands) S.contents S.flushed start s self.now now)
+            → result ≡ length at.turns }
+        ensures most { (start : Option (List ℕ)) (s : Scene) (now : Now Row)
+            → NetAt (StandsAs F.stands W.stands) S.contents S.flushed start s self.now now
+            → now.failure ≡ None → result ≤ most_in_all (plan_of s) now.links }
+    {
+        self.turns
+    }
+
+    /// The stages and the sink.
+    pub fn actors(&self) -> usize
+        ensures { (start : Option (List ℕ)) (s : Scene) (now : Now Row)
+            → NetAt (StandsAs F.stands W.stands) S.contents S.flushed start s self.now now
+            → result ≡ s.count + 1 }
+    {
+        self.actors.len()
+    }
+
+    /// How many records lie on the link of a stage: those that it gave, less those taken.
+    pub fn linked(&self, k: usize) -> usize
+        requires { IsStage (StandsAs F.stands W.stands) S.contents S.flushed k self.now }
+        ensures { (start : Option (List ℕ)) (s : Scene) (now : Now Row)
+            → NetAt (StandsAs F.stands W.stands) S.contents S.flushed start s self.now now
+            → now.failure ≡ None → k < s.count
+            → (result ≡ linked (now.links k)) × (result ≤ s.size) }
+    {
+        self.web.linked(k)
+    }
+
+    /// How many records wait inside an actor: none in a source or the sink.
+    pub fn held(&self, k: usize) -> usize
+        requires { IsGoing (StandsAs F.stands W.stands) S.contents S.flushed k self.now }
+        ensures { (start : Option (List ℕ)) (s : Scene) (now : Now Row)
+            → NetAt (StandsAs F.stands W.stands) S.contents S.flushed start s self.now now
+            → now.failure ≡ None → k ≤ s.count → result ≡ held_of s now.links k }
+    {
+        if k == self.web.count() {
+            0
+        } else {
+            self.web.held(k)
+        }
+    }
+
+    /// Whether the run has ended. Until then some actor is ready.
+    pub fn over(&self) -> bool
+        requires { IsRunning (StandsAs F.stands W.stands) S.contents S.flushed self.now }
+        ensures progress { (start : Option (List ℕ)) (s : Scene) (now : Now Row)
+            → NetAt (StandsAs F.stands W.stands) S.contents S.flushed start s self.now now
+            → ended (plan_of s) now ≡ None → SomeReady (plan_of s) s.size now.links }
+        ensures over { (start : Option (List ℕ)) (s : Scene) (now : Now Row)
+            → NetAt (StandsAs F.stands W.stands) S.contents S.flushed start s self.now now
+            → result ≡ is_some (ended (plan_of s) now) }
+    {
+        self.result().is_some()
+    }
+}

@@ -1,0 +1,306 @@
+//! Nodes and their links.
+ghost use Rattle.std.specs.Prelude.{◌≡◌, ◌≢◌, ◌≤◌, ℕ, true, false, slice_index, slice_get, length, IfOk, OnOk, OnErr, Err, ◌||◌};
+ghost use Rattle.hum_turns.specs.Turns.{Gives, Takes, Ends, state, can, ready};
+ghost use Rattle.hum_turns.specs.Plan.{last};
+ghost use Rattle.hum_turns.specs.Near.{touched};
+ghost use Rattle.hum_turns.specs.Links.{has_some, linked, IsOpening};
+ghost use Rattle.hum_nodes.specs.Nodes.{StandsAs};
+ghost use Rattle.hum_nodes.specs.declared.node.Doing.TheVariants as does;
+ghost use Rattle.hum_links.specs.Links.{next_of};
+ghost use Rattle.hum_net.specs.Scene.{Scene, plan_of, Somewhere, IsAt, IsActor, MayTurn, MayAct};
+ghost use Rattle.hum_net.specs.Scene.{IsKind, Keeps, KeepsOthers, Fed, Done, IsAbout};
+ghost use Rattle.hum_net.specs.Scene.{IsBegun, Stands, HasStage, held_of};
+ghost use Rattle.hum_net.specs.Readers.{ShowsSame, remaining_at, ended_at, calls_at, failed_at};
+ghost use Rattle.hum_nodes.specs.Polls.{AsksAtMostOnce, HasStayed, is_failed_read};
+
+use hum_links::{Link, Next};
+use hum_nodes::{Doing, Feeds, Node, Polled, Works};
+use hum_read::ReadError;
+use hum_record::Record;
+use hum_stage::End;
+use std::alloc::{AllocError, Global};
+
+/// Nodes, and the link of each.
+#[derive(Drop)]
+pub struct Web<F, W> {
+    nodes: Vec<Node<F, W>>,
+    links: Vec<Link>,
+    // the source that had a turn last
+    feeder: usize,
+}
+
+impl<F: Feeds, W: Works> Web<F, W> {
+    /// Nodes that were asked nothing yet, each with a link of this size.
+    ///
+    /// # Errors
+    /// Want of memory.
+    pub fn new(alloc: Global, nodes: Vec<Node<F, W>>, size: usize) -> Result<Web<F, W>, AllocError>
+        ensures stands { IfOk result (λ web. (s : Scene) → IsOpening s.links
+            → IsBegun (StandsAs F.stands W.stands) size nodes.items s
+            → Stands (StandsAs F.stands W.stands) web s) }
+        ensures nodes { IfOk result (λ web. web.nodes ≡ nodes) }
+    {
+        let mut links = Vec::new(alloc);
+        for _node in &nodes {
+            links.push(Link::new(alloc, size)?)?;
+        }
+        Ok(Web {
+            nodes,
+            links,
+            feeder: 0,
+        })
+    }
+
+    /// How many stages.
+    pub fn count(&self) -> usize
+        ensures { result ≡ length self.now.nodes.items }
+    {
+        self.nodes.len()
+    }
+
+    // A turn of a source.
+    fn poll(&mut self, k: usize) -> Result<(), ReadError>
+        requires turn { Somewhere (MayTurn (StandsAs F.stands W.stands) k self.old) }
+        requires source { IsKind true k self.old }
+        ensures fed { OnOk result
+            (Fed (StandsAs F.stands W.stands) F.remaining F.ended k self.old self.new) }
+        ensures others { KeepsOthers k self.old self.new }
+        ensures marks { failed_at F.failed k self.new.nodes.items
+            ≡ (failed_at F.failed k self.old.nodes.items || is_failed_read result) }
+        ensures calls { AsksAtMostOnce (calls_at F.calls k self.old.nodes.items)
+            (failed_at F.failed k self.old.nodes.items) (calls_at F.calls k self.new.nodes.items)
+            (failed_at F.failed k self.new.nodes.items) }
+        ensures stays { OnErr result (HasStayed (ended_at F.ended k self.old.nodes.items)
+            (ended_at F.ended k self.new.nodes.items)
+            (remaining_at F.remaining k self.old.nodes.items)
+            (remaining_at F.remaining k self.new.nodes.items)) }
+    {
+        self.feeder = k;
+        match self.nodes[k].poll() {
+            Err(error) => return Err(error),
+            Ok(Polled::Record(row)) => self.links[k].push(row),
+            Ok(Polled::End(end)) => self.links[k].end(end),
+            Ok(Polled::Nothing) => {}
+        }
+        Ok(())
+    }
+
+    /// What the sink takes: the next record of the last stage, or its end.
+    pub fn take_out(&mut self) -> Next
+        requires { Somewhere (IsAt (StandsAs F.stands W.stands) self.old) }
+        ensures taken { (s : Scene) → IsAt (StandsAs F.stands W.stands) self.old s
+            → has_some (s.links (last (plan_of s))) ≡ true
+            → Done (StandsAs F.stands W.stands) s.count (Takes (last (plan_of s))) self.new s }
+        ensures next { (s : Scene) → IsAt (StandsAs F.stands W.stands) self.old s → result
+            ≡ next_of (s.links (last (plan_of s))).waiting (s.links (last (plan_of s))).mark }
+        ensures nodes { self.new.nodes ≡ self.old.nodes }
+    {
+        let last = self.links.len() - 1;
+        self.links[last].next()
+    }
+
+    /// Gives a record back to a source, so that its next one needs no memory of its own.
+    pub fn reuse(&mut self, row: Record)
+        ensures stands { (s : Scene) → Stands (StandsAs F.stands W.stands) self.old s
+            → Stands (StandsAs F.stands W.stands) self.new s }
+        ensures shows { (k : ℕ) → ShowsSame F.remaining F.ended F.calls F.failed
+            self.old.nodes.items self.new.nodes.items k }
+        ensures count { length self.new.nodes.items ≡ length self.old.nodes.items }
+    {
+        let k = self.feeder;
+        if k < self.nodes.len() && self.nodes[k].is_source() {
+            self.nodes[k].reuse(row);
+        }
+    }
+
+    // A stage gives a record onto its link.
+    fn give(&mut self, k: usize) -> Result<(), AllocError>
+        requires may { Somewhere (MayAct (StandsAs F.stands W.stands) k does.Gives self.old) }
+        requires stage { IsKind false k self.old }
+        ensures given { OnOk result ((s : Scene)
+            → MayAct (StandsAs F.stands W.stands) k does.Gives self.old s
+            → Done (StandsAs F.stands W.stands) k Gives self.new s) }
+        ensures nodes { Keeps k self.old self.new }
+    {
+        if let Some(row) = self.nodes[k].take()? {
+            self.links[k].push(row);
+        }
+        Ok(())
+    }
+
+    // A stage sets its end.
+    fn finish(&mut self, k: usize, end: End)
+        requires { Somewhere (MayAct (StandsAs F.stands W.stands) k (does.Done end) self.old) }
+        ensures ended { (s : Scene)
+            → MayAct (StandsAs F.stands W.stands) k (does.Done end) self.old s
+            → Done (StandsAs F.stands W.stands) k Ends self.new s }
+        ensures nodes { self.new.nodes ≡ self.old.nodes }
+    {
+        self.links[k].end(end);
+    }
+
+    // A stage takes from the link of its source at a place.
+    fn pass(&mut self, k: usize, place: usize) -> Result<(), AllocError>
+        requires may { Somewhere (MayAct (StandsAs F.stands W.stands) k (does.Wants place)
+            self.old) }
+        requires stage { IsKind false k self.old }
+        ensures passed { OnOk result ((s : Scene)
+            → MayAct (StandsAs F.stands W.stands) k (does.Wants place) self.old s
+            → Done (StandsAs F.stands W.stands) k
+            (Takes (slice_index (s.kinds k).stage.sources place)) self.new s) }
+        ensures nodes { Keeps k self.old self.new }
+    {
+        let source = self.nodes[k].source(place);
+        match self.links[source].next() {
+            Next::Record(row) => self.nodes[k].put(place, row)?,
+            Next::End(end) => self.nodes[k].stop(place, end),
+            Next::Nothing => {}
+        }
+        Ok(())
+    }
+
+    // What a stage does next.
+    fn act(&mut self, k: usize, doing: Doing) -> Result<(), AllocError>
+        requires may { Somewhere (MayAct (StandsAs F.stands W.stands) k doing self.old) }
+        requires stage { IsKind false k self.old }
+        ensures done { OnOk result ((s : Scene)
+            → MayAct (StandsAs F.stands W.stands) k doing self.old s
+            → Done (StandsAs F.stands W.stands) k (state (plan_of s) s.links k) self.new s) }
+        ensures nodes { Keeps k self.old self.new }
+    {
+        match doing {
+            Doing::Gives => self.give(k)?,
+            Doing::Wants(place) => self.pass(k, place)?,
+            Doing::Done(end) => self.finish(k, end),
+            Doing::Reads => {}
+        }
+        Ok(())
+    }
+
+    /// A turn of a stage that is ready.
+    ///
+    /// # Errors
+    /// A failed read of a source, and want of memory.
+    pub fn turn(&mut self, k: usize) -> Result<(), ReadError>
+        requires { Somewhere (MayTurn (StandsAs F.stands W.stands) k self.old) }
+        ensures turned { OnOk result
+            (Fed (StandsAs F.stands W.stands) F.remaining F.ended k self.old self.new) }
+        ensures read { result ≡ Err ReadError.Read → IsKind true k self.old }
+        ensures others { KeepsOthers k self.old self.new }
+        ensures marks { failed_at F.failed k self.new.nodes.items
+            ≡ (failed_at F.failed k self.old.nodes.items || is_failed_read result) }
+        ensures calls { AsksAtMostOnce (calls_at F.calls k self.old.nodes.items)
+            (failed_at F.failed k self.old.nodes.items) (calls_at F.calls k self.new.nodes.items)
+            (failed_at F.failed k self.new.nodes.items) }
+        ensures stays { OnErr result (HasStayed (ended_at F.ended k self.old.nodes.items)
+            (ended_at F.ended k self.new.nodes.items)
+            (remaining_at F.remaining k self.old.nodes.items)
+            (remaining_at F.remaining k self.new.nodes.items)) }
+    {
+        if self.nodes[k].is_source() {
+            return self.poll(k);
+        }
+        let doing = self.nodes[k].doing();
+        match self.act(k, doing) {
+            Ok(()) => Ok(()),
+            Err(_) => Err(ReadError::Memory),
+        }
+    }
+
+    // Whether a stage that isn't a source can do this.
+    fn can(&self, k: usize, doing: Doing) -> bool
+        requires about { Somewhere (IsAbout (StandsAs F.stands W.stands) k doing self.now) }
+        requires stage { IsKind false k self.now }
+        ensures { (s : Scene) → IsAbout (StandsAs F.stands W.stands) k doing self.now s
+            → result ≡ can s.size s.links k (state (plan_of s) s.links k) }
+    {
+        match doing {
+            Doing::Gives => self.links[k].has_room(),
+            Doing::Reads => self.links[k].has_room(),
+            Doing::Wants(place) => {
+                let source = self.nodes[k].source(place);
+                self.links[source].has_some()
+            }
+            Doing::Done(_) => self.links[k].is_unset(),
+        }
+    }
+
+    /// Whether an actor is ready: a stage, or the sink, whose number is that of the stages.
+    pub fn ready(&self, k: usize) -> bool
+        requires { Somewhere (IsActor (StandsAs F.stands W.stands) k self.now) }
+        ensures { (s : Scene) → IsActor (StandsAs F.stands W.stands) k self.now s
+            → result ≡ ready (plan_of s) s.size s.links k }
+    {
+        if k == self.nodes.len() {
+            return self.links[k - 1].has_some();
+        }
+        if self.nodes[k].is_source() {
+            return self.links[k].is_unset() && self.links[k].has_room();
+        }
+        let doing = self.nodes[k].doing();
+        self.can(k, doing)
+    }
+
+    // The link that a stage changes by doing this.
+    fn link_of(&self, k: usize, doing: Doing) -> usize
+        requires about { Somewhere (IsAbout (StandsAs F.stands W.stands) k doing self.now) }
+        requires stage { IsKind false k self.now }
+        ensures { (s : Scene) → IsAbout (StandsAs F.stands W.stands) k doing self.now s
+            → result ≡ touched k (state (plan_of s) s.links k) }
+    {
+        match doing {
+            Doing::Gives => k,
+            Doing::Reads => k,
+            Doing::Wants(place) => self.nodes[k].source(place),
+            Doing::Done(_) => k,
+        }
+    }
+
+    /// The link that a turn of this actor changes: the one that it takes from, or its own.
+    pub fn touched(&self, k: usize) -> usize
+        requires { Somewhere (IsActor (StandsAs F.stands W.stands) k self.now) }
+        ensures { (s : Scene) → IsActor (StandsAs F.stands W.stands) k self.now s
+            → result ≡ touched k (state (plan_of s) s.links k) }
+    {
+        if k == self.nodes.len() {
+            return k - 1;
+        }
+        if self.nodes[k].is_source() {
+            return k;
+        }
+        let doing = self.nodes[k].doing();
+        self.link_of(k, doing)
+    }
+
+    /// How many records lie on the link of a stage.
+    pub fn linked(&self, k: usize) -> usize
+        requires { Somewhere (HasStage (StandsAs F.stands W.stands) k self.now) }
+        ensures { (s : Scene) → HasStage (StandsAs F.stands W.stands) k self.now s
+            → (result ≡ linked (s.links k)) × (result ≤ s.size) }
+    {
+        self.links[k].len()
+    }
+
+    /// How many records wait inside a stage: none in a source.
+    pub fn held(&self, k: usize) -> usize
+        requires { Somewhere (HasStage (StandsAs F.stands W.stands) k self.now) }
+        ensures { (s : Scene) → HasStage (StandsAs F.stands W.stands) k self.now s
+            → result ≡ held_of s s.links k }
+    {
+        if self.nodes[k].is_source() {
+            0
+        } else {
+            self.nodes[k].held()
+        }
+    }
+
+    /// The end that the sink has heard.
+    pub fn heard(&self) -> Option<End>
+        requires { Somewhere (IsAt (StandsAs F.stands W.stands) self.now) }
+        ensures { (s : Scene) → IsAt (StandsAs F.stands W.stands) self.now s
+            → result ≡ (s.links (last (plan_of s))).heard }
+    {
+        let last = self.links.len() - 1;
+        self.links[last].heard()
+    }
+}

@@ -1,0 +1,123 @@
+-- What a stage of one input stands for, as a node.
+use Rattle.std.proofs.Common.{◌≡◌, ◌∙◌, refl, sym, ap, subst, ℕ, suc, ◌<◌, ◌≤◌, Bool, true}
+use Rattle.std.proofs.Common.{false, if◌then◌else◌, nat_lt, List, [], ◌∷◌, ◌++◌, length, Option, Some}
+use Rattle.std.proofs.Common.{None, unwrap_or, arith, length-append}
+use Rattle.std.proofs.lemmas.Bool.{false≢true}
+use Rattle.hum_record.specs.Row.{Row}
+use Rattle.hum_stage.specs.declared.faults.End.{End}
+use Rattle.hum_stage.specs.declared.faults.End.TheVariants.{Closed, Broken}
+use Rattle.hum_stage.specs.declared.faults.Fault.{Fault}
+use Rattle.hum_stage.specs.declared.faults.State.{State}
+use Rattle.hum_stage.specs.declared.faults.State.TheVariants as state
+use Rattle.hum_stage.specs.Meaning.{Moment, output, own_fault, state_of, resting_state}
+use Rattle.hum_turns.specs.Flow.{Flow, AllFine}
+use Rattle.hum_turns.specs.Plan.{lower, or_own, end_of}
+use Rattle.hum_nodes.specs.declared.node.Doing.{Doing}
+use Rattle.hum_nodes.specs.declared.node.Doing.TheVariants.{Gives, Reads, Wants, Done}
+use Rattle.hum_nodes.specs.Fine.{fine, IsFine}
+use Rattle.hum_nodes.specs.At.{Kind, At, doing_by, doing_of, change_at, MayChange}
+use Rattle.hum_nodes.specs.Single.{want_by, own_end, single, IsSingle}
+use Rattle.hum_nodes.proofs.Fining.{fine_is}
+
+-- what it stands for, from the stage
+abbrev pub stood : ℕ → Moment → At
+stood from m = record {
+  kind = single from m.meaning;
+  inputs = record { items = m.put; end = m.ended } ∷ [];
+  read = 0;
+  given = m.given;
+}
+
+pub doing_for : State → Doing
+doing_for state.Gives = Gives
+doing_for state.Wants = Wants 0
+doing_for (state.Done e) = Done e
+
+rests : (o : Option Fault) (e : Option End)
+    → doing_by (want_by e) (or_own (lower (unwrap_or e Closed) Closed) (own_end o))
+    ≡ doing_for (resting_state o e)
+unfolding doing_for
+rests o None = refl
+rests None (Some Closed) = refl
+rests (Some f) (Some Closed) = refl
+rests o (Some (Broken f)) = refl
+
+by_test : (b : Bool) (o : Option Fault) (e : Option End)
+    → (if b then Gives
+    else doing_by (want_by e) (or_own (lower (unwrap_or e Closed) Closed) (own_end o)))
+    ≡ doing_for (if b then state.Gives else resting_state o e)
+unfolding doing_for
+by_test true o e = refl
+by_test false o e = rests o e
+
+abbrev doing_parts : Kind → List (Flow Row) → ℕ → ℕ → Doing
+doing_parts k a r g =
+    if nat_lt g (length (k.stage.output r a)) then Gives
+    else doing_by (k.stage.wants r a) (end_of k.stage r a)
+
+-- What it does is told by the stage's state,
+pub doing_is : (stands : Moment → Type 0) (from : ℕ) (t : At) (h : IsSingle stands from t)
+    → doing_of t ≡ doing_for (state_of h.moment)
+doing_is stands from t h =
+    let m = h.moment in
+    let a : List (Flow Row) = record { items = m.put; end = m.ended } ∷ [] in
+    ap (λ k. doing_parts k t.inputs t.read t.given) h.kind
+    ∙ ap (λ i. doing_parts (single from m.meaning) i t.read t.given) h.inputs
+    ∙ ap (λ g. doing_parts (single from m.meaning) a t.read g) h.given
+    ∙ by_test (nat_lt m.given (length (output m.meaning m.put))) (own_fault m.meaning m.put)
+    m.ended
+
+place_of : Doing → ℕ
+place_of Gives = 0
+place_of Reads = 0
+place_of (Wants p) = suc p
+place_of (Done e) = 0
+
+state_wants : (s : State) (p : ℕ) → doing_for s ≡ Wants p → (s ≡ state.Wants) × (p ≡ 0)
+unfolding doing_for place_of
+state_wants state.Gives p h = let z = ap place_of h in absurd (omega arith)
+state_wants state.Wants p h = let z = ap place_of h in (refl, omega arith)
+state_wants (state.Done e) p h = let z = ap place_of h in absurd (omega arith)
+
+is_wants : State → Bool
+is_wants state.Gives = false
+is_wants state.Wants = true
+is_wants (state.Done e) = false
+
+not_ended : (b : Bool) (o : Option Fault) (e : Option End)
+    → (if b then state.Gives else resting_state o e) ≡ state.Wants → e ≡ None
+unfolding is_wants
+not_ended true o e h = absurd (false≢true (ap is_wants h))
+not_ended false o None h = refl
+not_ended false o (Some e) h = absurd (false≢true (ap is_wants h))
+
+-- and the stage may be given what the node may be given.
+pub record Changes (t : At) (m : Moment) (change : Flow Row → Flow Row) (place : ℕ)
+    : Type 0 where
+  pub wants : state_of m ≡ state.Wants
+  pub ended : m.ended ≡ None
+  pub inputs :
+      change_at change place t.inputs ≡ change (record { items = m.put; end = m.ended }) ∷ []
+  pub fine : IsFine 4294967295 (change (record { items = m.put; end = m.ended }))
+
+first_fine : (f : Flow Row) (a : List (Flow Row)) → a ≡ f ∷ [] → AllFine fine a → fine f ≡ true
+first_fine f a e h = (subst (AllFine fine) e h).0
+
+pub changes : (stands : Moment → Type 0) (from : ℕ) (t : At) (h : IsSingle stands from t)
+    (change : Flow Row → Flow Row) (place : ℕ) → MayChange t change place
+    → Changes t h.moment change place
+changes stands from t h change place p =
+    let m = h.moment in
+    let w = state_wants (state_of m) place (sym (doing_is stands from t h) ∙ p.wants) in
+    let e = ap (λ i. change_at change i t.inputs) w.1 ∙ ap (change_at change 0) h.inputs in
+    record {
+      wants = w.0;
+      ended = not_ended (nat_lt m.given (length (output m.meaning m.put)))
+          (own_fault m.meaning m.put) m.ended w.0;
+      inputs = e;
+      fine = fine_is 4294967295 _ (first_fine _ _ e p.fine);
+    }
+
+pub few_before : (p : List Row) (x : Row) (most : ℕ) → length (p ++ x ∷ []) ≤ most
+    → length p < most
+few_before p x most h = let n = length-append p (x ∷ []) in omega arith

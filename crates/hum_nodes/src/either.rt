@@ -1,0 +1,165 @@
+//! A node of either kind.
+ghost use Rattle.std.specs.Prelude.{◌≡◌, ℕ, ◌<◌, List, [], true, false, length, slice_index, IfOk, OnOk};
+ghost use Rattle.hum_nodes.specs.At.{At, MayDo, sources_of, bytes_of, doing_of, holds_of, HasTaken};
+ghost use Rattle.hum_nodes.specs.At.{MayPut, MayStop, HasPut, HasStopped};
+ghost use Rattle.std.specs.Prelude.{OnErr, ◌||◌};
+ghost use Rattle.hum_nodes.specs.Polls.{HasPolled, HasStayed, AsksAtMostOnce, Nears, IsKept};
+ghost use Rattle.hum_nodes.specs.Polls.{is_failed_read};
+ghost use Rattle.hum_nodes.specs.Nodes.{is_source, StandsAs, remaining_of, ended_of};
+ghost use Rattle.hum_nodes.specs.Nodes.{calls_of, failed_of, left_of};
+
+use crate::node::{Doing, Feeds, Polled, Works};
+use hum_read::ReadError;
+use hum_record::Record;
+use hum_stage::End;
+use std::alloc::AllocError;
+
+/// A stage of a plan: one that reads bytes, or one that reads from other stages.
+#[derive(Drop)]
+pub enum Node<F, W> {
+    Source(F),
+    Stage(W),
+}
+
+impl<F: Feeds, W: Works> Node<F, W> {
+    /// Whether it reads bytes.
+    pub fn is_source(&self) -> bool
+        ensures { result ≡ is_source self.now }
+    {
+        match self {
+            Node::Source(_) => true,
+            Node::Stage(_) => false,
+        }
+    }
+
+    /// A turn of a source.
+    pub fn poll(&mut self) -> Result<Polled, ReadError>
+        requires { is_source self.old ≡ true }
+        ensures kind { is_source self.new ≡ true }
+        ensures polled { IfOk result (HasPolled (StandsAs F.stands W.stands self.old)
+            (StandsAs F.stands W.stands self.new) (ended_of F.ended self.old)
+            (ended_of F.ended self.new) (remaining_of F.remaining self.old)
+            (remaining_of F.remaining self.new)) }
+        ensures once { AsksAtMostOnce (calls_of F.calls self.old) (failed_of F.failed self.old)
+            (calls_of F.calls self.new) (failed_of F.failed self.new) }
+        ensures marks { (rest : List ℕ) (t : At) → StandsAs F.stands W.stands self.old rest t
+            → failed_of F.failed self.new
+            ≡ (failed_of F.failed self.old || is_failed_read result) }
+        ensures stays { OnErr result (HasStayed (ended_of F.ended self.old)
+            (ended_of F.ended self.new) (remaining_of F.remaining self.old)
+            (remaining_of F.remaining self.new)) }
+        ensures nears { IfOk result
+            (λ polled. Nears polled (left_of F.left self.old) (left_of F.left self.new)) }
+    {
+        match self {
+            Node::Source(node) => node.poll(),
+            Node::Stage(_) => unreachable!(),
+        }
+    }
+
+    /// Gives a record back to a source, so that its next one needs no memory of its own.
+    pub fn reuse(&mut self, row: Record)
+        requires { is_source self.old ≡ true }
+        ensures kind { is_source self.new ≡ true }
+        ensures stands { (rest : List ℕ) (t : At) → StandsAs F.stands W.stands self.old rest t
+            → StandsAs F.stands W.stands self.new rest t }
+        ensures bytes { IsKept (remaining_of F.remaining self.old)
+            (remaining_of F.remaining self.new) (ended_of F.ended self.old)
+            (ended_of F.ended self.new) }
+        ensures calls { IsKept (calls_of F.calls self.old) (calls_of F.calls self.new)
+            (failed_of F.failed self.old) (failed_of F.failed self.new) }
+    {
+        match self {
+            Node::Source(node) => node.reuse(row),
+            Node::Stage(_) => unreachable!(),
+        }
+    }
+
+    /// How many records wait inside a stage that reads from others.
+    pub fn held(&self) -> usize
+        requires { is_source self.now ≡ false }
+        ensures { (rest : List ℕ) (t : At) → StandsAs F.stands W.stands self.now rest t
+            → result ≡ holds_of t }
+    {
+        match self {
+            Node::Source(_) => unreachable!(),
+            Node::Stage(node) => node.held(),
+        }
+    }
+
+    /// What a stage does next that reads from others.
+    pub fn doing(&self) -> Doing
+        requires { is_source self.now ≡ false }
+        ensures { (rest : List ℕ) (t : At) → StandsAs F.stands W.stands self.now rest t
+            → result ≡ doing_of t }
+    {
+        match self {
+            Node::Source(_) => unreachable!(),
+            Node::Stage(node) => node.doing(),
+        }
+    }
+
+    /// The next record that is settled, if there is one.
+    ///
+    /// # Errors
+    /// Want of memory.
+    pub fn take(&mut self) -> Result<Option<Record>, AllocError>
+        requires { is_source self.old ≡ false }
+        ensures kind { is_source self.new ≡ false }
+        ensures taken { IfOk result (λ taken. (rest : List ℕ) → HasTaken
+            (StandsAs F.stands W.stands self.old rest)
+            (StandsAs F.stands W.stands self.new rest) taken) }
+    {
+        match self {
+            Node::Source(_) => unreachable!(),
+            Node::Stage(node) => node.take(),
+        }
+    }
+
+    /// Puts the next record of the input that it wants.
+    ///
+    /// # Errors
+    /// Want of memory.
+    pub fn put(&mut self, place: usize, next: Record) -> Result<(), AllocError>
+        requires kind { is_source self.old ≡ false }
+        requires may { MayPut (StandsAs F.stands W.stands self.old []) place next }
+        ensures kind { is_source self.new ≡ false }
+        ensures put { OnOk result ((rest : List ℕ) → HasPut
+            (StandsAs F.stands W.stands self.old rest)
+            (StandsAs F.stands W.stands self.new rest) place next) }
+    {
+        match self {
+            Node::Source(_) => unreachable!(),
+            Node::Stage(node) => node.put(place, next),
+        }
+    }
+
+    /// Says how the input that it wants ends: closed only after a closed score.
+    pub fn stop(&mut self, place: usize, end: End)
+        requires kind { is_source self.old ≡ false }
+        requires may { MayStop (StandsAs F.stands W.stands self.old []) place end }
+        ensures kind { is_source self.new ≡ false }
+        ensures stopped { (rest : List ℕ) → HasStopped
+            (StandsAs F.stands W.stands self.old rest)
+            (StandsAs F.stands W.stands self.new rest) place end }
+    {
+        match self {
+            Node::Source(_) => unreachable!(),
+            Node::Stage(node) => node.stop(place, end),
+        }
+    }
+
+    /// The number, from 0, of the stage that it reads from at this place.
+    pub fn source(&self, place: usize) -> usize
+        requires kind { is_source self.now ≡ false }
+        requires place { MayDo (StandsAs F.stands W.stands self.now [])
+            (λ t. place < length (sources_of t)) }
+        ensures { (rest : List ℕ) (t : At) → StandsAs F.stands W.stands self.now rest t
+            → result ≡ slice_index (sources_of t) place }
+    {
+        match self {
+            Node::Source(_) => unreachable!(),
+            Node::Stage(node) => node.source(place),
+        }
+    }
+}

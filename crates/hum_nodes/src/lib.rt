@@ -1,0 +1,31 @@
+//! Nodes: what a net knows of its stages, and the calls that move them.
+//!
+//! - [`Works`] is the contract: a node stands for a stage of a plan (hum_turns), what that has had
+//!   of its inputs, the bytes that it has read and how many records it has given.
+//! - [`Single`] is a stage of one input as a node.
+//! - [`Merging`] is the command assemble as a node of several inputs.
+//! - [`Worker`] is one of the two.
+//! - [`Reading`] is the command read as a node that reads bytes.
+//! - [`what_is_fine`] and the functions beside it are the laws that a plan asks of its stages.
+#![tactic(auto)]
+
+mod either;
+mod laws;
+mod merging;
+mod node;
+mod reading;
+mod single;
+#[cfg(test)]
+mod tests;
+mod worker;
+
+pub use either::Node;
+pub use laws::{
+    kept_stages_are_limited, mergings_are_lawful, mergings_keep_fine, readings_are_lawful,
+    readings_keep_fine, singles_are_lawful, singles_are_limited, singles_keep_fine, what_is_fine,
+};
+pub use merging::Merging;
+pub use node::{Doing, Feeds, Polled, Works};
+pub use reading::Reading;
+pub use single::Single;
+pub use worker::Worker;

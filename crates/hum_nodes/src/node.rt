@@ -1,0 +1,139 @@
+//! The contracts of nodes.
+ghost use Rattle.std.specs.Prelude.{◌≡◌, ℕ, ◌<◌, List, Option, Bool, length, slice_index, IfOk};
+ghost use Rattle.std.specs.Prelude.{OnOk, OnErr, ◌≤◌, ◌||◌};
+ghost use Rattle.hum_nodes.specs.At.{At, MayDo, sources_of, bytes_of, doing_of, holds_of, HasTaken};
+ghost use Rattle.hum_nodes.specs.At.{MayPut, MayStop, HasPut, HasStopped};
+ghost use Rattle.hum_nodes.specs.Polls.{HasPolled, AsksAtMostOnce, Nears, IsKept};
+ghost use Rattle.hum_nodes.specs.Polls.{HasStayed, is_failed_read, most_bytes};
+
+use hum_read::ReadError;
+use hum_record::Record;
+use hum_stage::End;
+use std::alloc::AllocError;
+
+/// What a node does next.
+#[derive(Clone, Copy, Debug, Drop, PartialEq, Eq)]
+pub enum Doing {
+    /// It gives a record that is settled.
+    Gives,
+    /// It reads bytes.
+    Reads,
+    /// It wants a record or the end of its input at this place, from 0.
+    Wants(usize),
+    /// It has given all, and this is its end.
+    Done(End),
+}
+
+/// What a poll of a source gives.
+#[derive(Debug, Drop)]
+pub enum Polled {
+    /// The next record.
+    Record(Record),
+    /// Nothing yet: the poll has made a read, which gave bytes.
+    Nothing,
+    /// Nothing more: this is its end.
+    End(End),
+}
+
+/// A stage of a plan that reads from other stages.
+pub trait Works: Drop {
+    /// What a state stands for.
+    ghost stands: { Self → At → Type 0 };
+
+    /// The number, from 0, of the stage that it reads from at this place.
+    fn source(&self, place: usize) -> usize
+        requires { MayDo (stands self.now) (λ t. place < length (sources_of t)) }
+        ensures { (t : At) → stands self.now t → result ≡ slice_index (sources_of t) place };
+
+    /// What it does next.
+    fn doing(&self) -> Doing
+        ensures { (t : At) → stands self.now t → result ≡ doing_of t };
+
+    /// How many records wait inside.
+    fn held(&self) -> usize
+        ensures { (t : At) → stands self.now t → result ≡ holds_of t };
+
+    /// The next record that is settled, if there is one.
+    ///
+    /// # Errors
+    /// Want of memory.
+    fn take(&mut self) -> Result<Option<Record>, AllocError>
+        ensures { IfOk result (HasTaken (stands self.old) (stands self.new)) };
+
+    /// Puts the next record of the input that it wants.
+    ///
+    /// # Errors
+    /// Want of memory.
+    fn put(&mut self, place: usize, next: Record) -> Result<(), AllocError>
+        requires { MayPut (stands self.old) place next }
+        ensures { OnOk result (HasPut (stands self.old) (stands self.new) place next) };
+
+    /// Says how the input that it wants ends: closed only after a closed score.
+    fn stop(&mut self, place: usize, end: End)
+        requires { MayStop (stands self.old) place end }
+        ensures { HasStopped (stands self.old) (stands self.new) place end };
+
+    /// It reads no bytes.
+    ghost no_bytes: { (s : Self) (t : At) → stands s t → bytes_of t ≡ 0 };
+}
+
+/// A stage of a plan that reads bytes.
+pub trait Feeds: Drop {
+    /// What a state stands for, where these bytes are still to come.
+    ghost stands: { Self → List ℕ → At → Type 0 };
+
+    /// The bytes that its reads will give, where they are known.
+    ghost remaining: { Self → Option (List ℕ) };
+
+    /// Whether the end of the bytes was read.
+    ghost ended: { Self → Bool };
+
+    /// How many calls were made on its reader.
+    ghost calls: { Self → ℕ };
+
+    /// Whether a call on its reader failed.
+    ghost failed: { Self → Bool };
+
+    /// How much it can still do.
+    ghost left: { Self → ℕ };
+
+    /// A turn: where nothing is settled that it hasn't given, it makes one read.
+    ///
+    /// # Errors
+    /// A failed read, and want of memory.
+    fn poll(&mut self) -> Result<Polled, ReadError>
+        ensures polled { IfOk result (HasPolled (stands self.old) (stands self.new)
+            (ended self.old) (ended self.new) (remaining self.old) (remaining self.new)) }
+
+        // It makes one call on its reader, or none.
+        ensures once { AsksAtMostOnce (calls self.old) (failed self.old) (calls self.new)
+            (failed self.new) }
+
+        // It tells of a failed read exactly where a call failed.
+        ensures marks { (rest : List ℕ) (t : At) → stands self.old rest t
+            → failed self.new ≡ (failed self.old || is_failed_read result) }
+
+        // A poll that fails reads no byte.
+        ensures stays { OnErr result (HasStayed (ended self.old) (ended self.new)
+            (remaining self.old) (remaining self.new)) }
+
+        // So each run of polls ends.
+        ensures nears { IfOk result (λ polled. Nears polled (left self.old) (left self.new)) };
+
+    /// Takes a record back that was done with, so that the next one needs no memory of its own.
+    fn reuse(&mut self, row: Record)
+        ensures stands { (rest : List ℕ) (t : At) → stands self.old rest t
+            → stands self.new rest t }
+        ensures bytes { IsKept (remaining self.old) (remaining self.new) (ended self.old)
+            (ended self.new) }
+        ensures calls { IsKept (calls self.old) (calls self.new) (failed self.old)
+            (failed self.new) }
+        ensures left { left self.new ≡ left self.old };
+
+    /// It reads bytes, or their end.
+    ghost some_bytes: { (s : Self) (rest : List ℕ) (t : At) → stands s rest t → 0 < bytes_of t };
+
+    /// It reads no more than so many.
+    ghost few_bytes: { (s : Self) (rest : List ℕ) (t : At) → stands s rest t
+        → t.read ≤ most_bytes };
+}

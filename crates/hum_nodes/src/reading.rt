@@ -1,0 +1,66 @@
+//! A score that is read, as a node.
+ghost use Rattle.std.specs.Prelude.{◌≡◌, ℕ, List, false};
+ghost use Rattle.hum_text.specs.Reading.{left_to_do};
+ghost use Rattle.hum_nodes.specs.At.{fresh};
+ghost use Rattle.hum_nodes.specs.Reading.{IsReading, reading};
+
+use crate::node::{Feeds, Polled};
+use hum_read::{ReadError, ScoreReader, Step};
+use hum_record::Record;
+use hum_text::calls::Source;
+use std::alloc::Global;
+
+/// The command read.
+#[derive(Drop)]
+pub struct Reading<R> {
+    inner: ScoreReader<R>,
+}
+
+impl<R: Source + Drop> Reading<R> {
+    /// The stage of this number, from 1, of a source of which nothing was read yet.
+    pub fn new(alloc: Global, stage: u8, source: R) -> Reading<R>
+        ensures stands { (all : List ℕ)
+            → ⟦<Reading<R> as Feeds>⟧.stands result all (fresh (reading stage all)) }
+        ensures ended { ⟦<Reading<R> as Feeds>⟧.ended result ≡ false }
+        ensures remaining { ⟦<Reading<R> as Feeds>⟧.remaining result ≡ R.remaining source }
+        ensures calls { ⟦<Reading<R> as Feeds>⟧.calls result ≡ R.calls source }
+        ensures failed { ⟦<Reading<R> as Feeds>⟧.failed result ≡ R.failed source }
+    {
+        Reading {
+            inner: ScoreReader::new(alloc, stage, source),
+        }
+    }
+}
+
+impl<R: Source + Drop> Feeds for Reading<R> {
+    ghost use Rattle.hum_nodes.specs.Reading.{some_read};
+
+    ghost stands = { λ r. IsReading r.inner };
+
+    ghost remaining = { λ r. R.remaining r.inner.lines.source };
+
+    ghost ended = { λ r. r.inner.lines.ended };
+
+    ghost calls = { λ r. R.calls r.inner.lines.source };
+
+    ghost failed = { λ r. R.failed r.inner.lines.source };
+
+    ghost left = { λ r. left_to_do r.inner.lines };
+
+    ghost some_bytes = { λ r rest t h. some_read r.inner rest t h };
+
+    ghost few_bytes = { λ r rest t h. h.few };
+
+    fn poll(&mut self) -> Result<Polled, ReadError> {
+        match self.inner.poll() {
+            Ok(Step::Record(record)) => Ok(Polled::Record(record)),
+            Ok(Step::More) => Ok(Polled::Nothing),
+            Ok(Step::End(end)) => Ok(Polled::End(end)),
+            Err(error) => Err(error),
+        }
+    }
+
+    fn reuse(&mut self, row: Record) {
+        self.inner.reuse(row);
+    }
+}

@@ -1,0 +1,6 @@
+pub mod Meaning
+pub mod Treeing
+pub mod Planning
+pub mod Building
+pub mod Going
+pub mod Bundling

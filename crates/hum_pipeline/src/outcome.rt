@@ -1,0 +1,81 @@
+//! How a run of a plan's text ends: its status, and the line that tells it.
+ghost use Rattle.std.specs.Prelude.{◌≡◌};
+ghost use Rattle.hum_pipeline.specs.Outcomes.{status_of};
+
+use hum_plan::PlanFault;
+use hum_turns::RunResult;
+use std::alloc::{AllocError, Global};
+use std::fmt;
+
+/// How a run of a plan's text ends.
+#[derive(Clone, Copy, Debug, PartialEq, Eq)]
+pub enum Outcome {
+    /// The plan was run.
+    Run(RunResult),
+    /// The text is no plan: the first rule that it breaks.
+    Plan(PlanFault),
+    /// The stage of this number, from 1, is the first whose score isn't there.
+    NoScore(u8),
+    /// The bundle has over 67,108,864 bytes.
+    TooLarge,
+}
+
+impl Outcome {
+    /// The exit status: 0 where the whole text was written, 1 for the fault of a stage, 2 for a plan
+    /// or a bundle that is refused, 3 for a failure outside.
+    pub fn status(self) -> u8
+        ensures { result ≡ status_of self }
+    {
+        match self {
+            Outcome::Run(RunResult::Finished) => 0,
+            Outcome::Run(RunResult::Fault(_)) => 1,
+            Outcome::Run(RunResult::Read(_)) => 3,
+            Outcome::Run(RunResult::Write) => 3,
+            Outcome::Run(RunResult::Memory) => 3,
+            Outcome::Plan(_) => 2,
+            Outcome::NoScore(_) => 3,
+            Outcome::TooLarge => 2,
+        }
+    }
+
+    /// The line that tells it, without its end; empty at status 0.
+    ///
+    /// # Errors
+    /// Want of memory.
+    pub fn message(self, alloc: Global) -> Result<String, AllocError> {
+        format!(in alloc; "{self}")
+    }
+}
+
+/// The line of a run.
+fn write_run<W: fmt::Write>(end: RunResult, f: &mut fmt::Formatter<W>) -> fmt::Result {
+    match end {
+        RunResult::Finished => Ok(()),
+        RunResult::Fault(fault) => {
+            let stage = fault.stage;
+            let word = fault.command.word();
+            let line = fault.line;
+            let rule = fault.rule;
+            write!(f, "humpipe: stage {stage} ({word}), line {line}: {rule}")
+        }
+        RunResult::Read(stage) => write!(f, "humpipe: stage {stage} (read): read failed"),
+        RunResult::Write => write!(f, "humpipe: write failed"),
+        RunResult::Memory => write!(f, "humpipe: out of memory"),
+    }
+}
+
+impl fmt::Display for Outcome {
+    fn fmt<W: fmt::Write>(&self, f: &mut fmt::Formatter<W>) -> fmt::Result {
+        match self {
+            Outcome::Run(end) => write_run(*end, f),
+            Outcome::Plan(fault) => {
+                let line = fault.line;
+                let word = fault.word;
+                let rule = fault.rule;
+                write!(f, "humpipe: plan line {line}, word {word}: {rule}")
+            }
+            Outcome::NoScore(stage) => write!(f, "humpipe: stage {stage} (read): cannot open"),
+            Outcome::TooLarge => write!(f, "humpipe: bundle too large"),
+        }
+    }
+}

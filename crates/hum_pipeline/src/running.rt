@@ -1,0 +1,75 @@
+//! Runs of plans.
+ghost use Rattle.std.specs.Prelude.{◌≡◌, ◌≤◌, ℕ, List, length};
+ghost use Rattle.hum_plan.specs.Stages.{IsTree};
+ghost use Rattle.hum_plan.specs.Seen.{stages_of};
+ghost use Rattle.hum_pipeline.specs.Nodes.{AreTold, reads_by, reads_of};
+ghost use Rattle.hum_pipeline.specs.Runs.{HasWritten, HasPicked};
+
+use crate::nodes::plan_nodes;
+use hum_net::Net;
+use hum_plan::{Options, PlanStage};
+use hum_text::calls::{Sink, Source};
+use hum_turns::{Order, RunResult};
+use std::alloc::Global;
+
+/// Runs the stages of a plan, with a reader for each that reads a score, in their order, and links
+/// that hold so many records. The sink is handed back with how the run ended.
+pub fn run_stages<R: Source + Drop, O: Order, W: Sink + Drop>(
+    alloc: Global,
+    stages: Vec<PlanStage>,
+    readers: Vec<R>,
+    link: u16,
+    order: &mut O,
+    sink: W,
+) -> (RunResult, W)
+    requires tree { IsTree (stages_of stages.items) }
+    requires readers { reads_of stages.items ≡ length readers.items }
+    requires link { 1 ≤ link }
+    requires room { link ≤ 4096 }
+
+    // Whatever bytes the readers give, in whatever pieces, and whatever the order: what was written is
+    // the text of what the stages mean over the scores that the bytes denote, and the run ends as
+    // they mean; or a read, a write or want of memory ended it, and a front of that text was written.
+    ensures wrote { (bytes : ℕ → List ℕ) → AreTold R.remaining bytes 0 stages.items readers.items
+        → HasWritten bytes (stages_of stages.items) (W.contents sink) (W.contents result.1)
+        (W.flushed result.1) result.0 }
+
+    // The turns are those that the order picked, which is left as its picks leave it.
+    ensures picked { (bytes : ℕ → List ℕ) → AreTold R.remaining bytes 0 stages.items readers.items
+        → HasPicked (record { pick = O.picks; next = O.after }) bytes (stages_of stages.items) link
+        order.old order.new }
+{
+    let Ok(nodes) = plan_nodes(alloc, stages, readers) else {
+        return (RunResult::Memory, sink);
+    };
+    match Net::new(alloc, nodes, link, sink) {
+        Ok(mut net) => {
+            let result = net.run(order);
+            (result, net.into_writer())
+        }
+        Err(sink) => (RunResult::Memory, sink),
+    }
+}
+
+/// How many readers a stage has.
+fn reads_by(options: &Options) -> usize
+    ensures value { result ≡ reads_by options.now }
+    ensures bound { result ≤ 1 }
+{
+    match options {
+        Options::Read(_) => 1,
+        Options::Assemble => 0,
+        Options::Command(_) => 0,
+    }
+}
+
+/// How many of a plan's stages read a score.
+pub fn reads(stages: &[PlanStage]) -> usize
+    ensures { result ≡ reads_of stages.now }
+{
+    let mut count = 0;
+    for stage in stages {
+        count += reads_by(&stage.options);
+    }
+    count
+}

@@ -1,0 +1,246 @@
+-- What the text of a plan is answered: its stages, or the first rule that it breaks.
+use Rattle.std.specs.Prelude.{◌≡◌, ℕ, Bool, true, false, ◌&&◌, ◌||◌, ◌==◌, max, nat_le}
+use Rattle.std.specs.Prelude.{if◌then◌else◌, List, [], ◌∷◌, ◌++◌, length, MatchBool}
+use Rattle.std.specs.Prelude.{Option, None, Some, is_some, is_none, option_map, Result, Ok, Err}
+use Rattle.std.specs.Bool.{beq}
+use Rattle.std.specs.List.{find}
+use Rattle.std.specs.Str.{bytes_eq}
+use lib.Chars.{codes}
+use Rattle.hum_words.specs.Branches.{lines_of, branches_of}
+use Rattle.hum_words.specs.Cutting.{Cut, cut_line}
+use Rattle.hum_words.specs.Names.{name_in}
+use Rattle.hum_words.specs.Pieces.{Item}
+use Rattle.hum_words.specs.Pieces as item
+use Rattle.hum_words.specs.Text.{fault_of}
+use Rattle.hum_stage.specs.Words.{word_of}
+use Rattle.hum_stage.specs.declared.faults.Command.{Command}
+use Rattle.hum_stage.specs.declared.faults.Command.TheVariants as command
+use Rattle.hum_options.specs.Answers.{Word, Answer, IsAnswer}
+use Rattle.hum_plan.specs.declared.faults.PlanRule.TheVariants.{N2, N3, N4, N5, N6, N7, N8, N9}
+use Rattle.hum_plan.specs.declared.faults.PlanRule.TheVariants.{N10, N11}
+use Rattle.hum_plan.specs.declared.faults.PlanFault.{PlanFault}
+use Rattle.hum_plan.specs.declared.branches.Branch.{Branch}
+use Rattle.hum_plan.specs.declared.commands.Opening.{Opening}
+use Rattle.hum_plan.specs.declared.commands.Opening.TheVariants as opening
+use Rattle.hum_plan.specs.Faults.{broken, in_line, of_text}
+use Rattle.hum_plan.specs.Stages.{Stage, Options, Read, Assemble, Takes}
+use Rattle.hum_plan.specs.Branches.{Branches, branch_of, with_branch, first_unused, taken, is_out}
+use Rattle.hum_plan.specs.Lines.{groups, empty_stage}
+
+-- the stages so far, and the branches of the lines before
+pub record Outline : Type 0 where
+  pub stages : List Stage
+  pub branches : Branches
+
+abbrev pub nothing : Outline
+nothing = record { stages = []; branches = [] }
+
+-- something, or the first rule that is broken
+abbrev pub Outcome : Type 0 → Type 0
+Outcome A = Result A PlanFault
+
+-- A first answer, and what comes of it: a fault ends it.
+abbrev pub Onward : {A B : Type 0} → (A → Outcome B → Type 0) → Outcome A → Outcome B → Type 0
+Onward Next (Ok given) answer = Next given answer
+Onward Next (Err fault) answer = answer ≡ Err fault
+
+-- One step after another, each by its lawful answers.
+abbrev pub Then : {A B : Type 0} → (Outcome A → Type 0) → (A → Outcome B → Type 0) → Outcome B
+    → Type 0
+Then {A} First Next answer = (given : Outcome A) × First given × Onward Next given answer
+
+-- A fault that was found ends it.
+abbrev pub Unless : {B : Type 0} → Option PlanFault → (Outcome B → Type 0) → Outcome B → Type 0
+Unless None Next answer = Next answer
+Unless (Some fault) Next answer = answer ≡ Err fault
+
+-- The command of a stage.
+
+abbrev pub commands : List Command
+commands =
+    command.Read ∷ command.Rid ∷ command.Extract ∷ command.Ditto ∷ command.Timebase
+    ∷ command.Context ∷ command.Trans ∷ command.Semits ∷ command.Mint ∷ command.Recip
+    ∷ command.Yank ∷ command.Cleave ∷ command.Assemble ∷ []
+
+-- the command that a word is
+unfoldable pub command_of : List ℕ → Option Command
+command_of word = find (λ command. bytes_eq (word_of command) word) commands
+
+-- what a stage begins with: a source, or a command with options
+abbrev pub opening_of : Command → Opening
+opening_of command.Read = opening.Read
+opening_of command.Assemble = opening.Assemble
+opening_of command.Rid = opening.Takes command.Rid
+opening_of command.Extract = opening.Takes command.Extract
+opening_of command.Ditto = opening.Takes command.Ditto
+opening_of command.Timebase = opening.Takes command.Timebase
+opening_of command.Context = opening.Takes command.Context
+opening_of command.Trans = opening.Takes command.Trans
+opening_of command.Semits = opening.Takes command.Semits
+opening_of command.Mint = opening.Takes command.Mint
+opening_of command.Recip = opening.Takes command.Recip
+opening_of command.Yank = opening.Takes command.Yank
+opening_of command.Cleave = opening.Takes command.Cleave
+
+abbrev pub is_source : Opening → Bool
+is_source opening.Read = true
+is_source opening.Assemble = true
+is_source (opening.Takes tool) = false
+
+-- one stage more
+abbrev pub with_stage : Outline → Command → List ℕ → Options → Outline
+with_stage outline command sources options = record outline {
+  stages =
+      outline.stages ++ record { command = command; sources = sources; options = options } ∷ [];
+}
+
+-- `read` is word n: it has one word, the name of a score, which isn't empty.
+abbrev pub name_read : ℕ → ℕ → List Word → Outcome (List ℕ)
+name_read line n [] = Err (broken line n N9)
+name_read line n ((k, name) ∷ []) = if length name == 0 then Err (broken line k N10) else Ok name
+name_read line n ((k, name) ∷ ((m, word) ∷ words)) =
+    if length name == 0 then Err (broken line k N10) else Err (broken line m N8)
+
+abbrev pub with_read : Outline → Outcome (List ℕ) → Outcome Outline
+with_read outline (Ok name) = Ok (with_stage outline command.Read [] (Read name))
+with_read outline (Err fault) = Err fault
+
+-- the sources of `assemble`, and the branches with those taken
+pub record Joined : Type 0 where
+  pub sources : List ℕ
+  pub branches : Branches
+
+abbrev pub joined : List ℕ → Branches → Joined
+joined sources branches = record { sources = sources; branches = branches }
+
+-- A word names a branch, if there is one that isn't taken; the 16th is a word too many.
+abbrev pub branch_joined : ℕ → ℕ → List ℕ → Joined → Option Branch → Outcome Joined
+branch_joined line k name before None = Err (broken line k N11)
+branch_joined line k name before (Some branch) =
+    if branch.taken then Err (broken line k N11)
+    else Ok (joined (before.sources ++ branch.last ∷ [])
+    (with_branch before.branches name (taken branch)))
+
+abbrev pub name_joined : ℕ → ℕ → List ℕ → Joined → Outcome Joined
+name_joined line k name before =
+    if length before.sources == 15 then Err (broken line k N8)
+    else branch_joined line k name before (branch_of name before.branches)
+
+abbrev pub and_then : {A B : Type 0} → Outcome A → (A → Outcome B) → Outcome B
+and_then (Ok given) next = next given
+and_then (Err fault) next = Err fault
+
+-- The names behind `assemble`, which is word n: at least one.
+unfoldable pub names_joined : ℕ → ℕ → Joined → List Word → Outcome Joined
+names_joined line n before [] =
+    if length before.sources == 0 then Err (broken line n N9) else Ok before
+names_joined line n before ((k, name) ∷ words) =
+    and_then (name_joined line k name before) (λ next. names_joined line n next words)
+
+abbrev pub with_joined : Outline → Outcome Joined → Outcome Outline
+with_joined outline (Ok all) =
+    Ok (with_stage (record outline { branches = all.branches }) command.Assemble all.sources Assemble)
+with_joined outline (Err fault) = Err fault
+
+-- a command that reads from the stage before it, with the options that its words are answered
+abbrev pub with_command : ℕ → Outline → Command → Answer → Outcome Outline
+with_command line outline command (Ok options) =
+    Ok (with_stage outline command (length outline.stages ∷ []) (Takes options))
+with_command line outline command (Err found) = Err (in_line line found)
+
+-- A command that is word n, with the words behind it.
+abbrev pub Begins : ℕ → Bool → Outline → Command → ℕ → List Word → Opening → Outcome Outline → Type 0
+Begins line is_last outline command n words opening.Read answer =
+    answer ≡ with_read outline (name_read line n words)
+Begins line is_last outline command n words opening.Assemble answer = answer ≡
+    with_joined outline (names_joined line n (joined [] outline.branches) words)
+Begins line is_last outline command n words (opening.Takes tool) answer = (found : Answer)
+    × IsAnswer tool n is_last words found × (answer ≡ with_command line outline command found)
+
+-- The first stage of a line is a source, and only the first.
+abbrev pub Placed : ℕ → Bool → Bool → Outline → ℕ → List Word → Option Command → Outcome Outline
+    → Type 0
+Placed line is_first is_last outline n words None answer = answer ≡ Err (broken line n N7)
+Placed line is_first is_last outline n words (Some command) answer =
+    MatchBool (beq (is_source (opening_of command)) is_first)
+    (Begins line is_last outline command n words (opening_of command) answer)
+    (answer ≡ Err (broken line n N6))
+
+-- A stage by its words, the first of which is its command.
+abbrev pub StageAnswer : ℕ → Bool → Bool → Outline → List Word → Outcome Outline → Type 0
+StageAnswer line is_first is_last outline [] answer = answer ≡ Ok outline
+StageAnswer line is_first is_last outline ((n, word) ∷ words) answer =
+    MatchBool (nat_le 64 (length outline.stages)) (answer ≡ Err (broken line n N11))
+    (Placed line is_first is_last outline n words (command_of word) answer)
+
+abbrev pub is_end : List (List Word) → Bool
+is_end [] = true
+is_end (words ∷ groups) = false
+
+-- The stages of a line, one after another.
+unfoldable pub StagesAnswer : ℕ → Bool → Bool → Outline → List (List Word) → Outcome Outline → Type 0
+StagesAnswer line is_out is_first outline [] answer = answer ≡ Ok outline
+StagesAnswer line is_out is_first outline (words ∷ groups) answer =
+    Then (StageAnswer line is_first (is_out && is_end groups) outline words)
+    (λ next. StagesAnswer line is_out false next groups) answer
+
+-- A line.
+
+-- The first of a line's own rules that it breaks, behind its name: the name is used or the line
+-- stands behind `out`; there are 16 branches; a stage has no words.
+abbrev pub name_fault : ℕ → Branches → List ℕ → List Item → Option PlanFault
+name_fault line branches name items =
+    if is_some (branch_of (codes "out") branches) || is_some (branch_of name branches)
+    then Some (broken line 1 N4)
+    else if nat_le 16 (length branches) then Some (broken line 1 N11)
+    else option_map (λ n. broken line n N5) (empty_stage 1 true items)
+
+-- the branch of a line, whose last stage is the last so far; `out` is taken by nothing
+abbrev pub ended : ℕ → List ℕ → Outline → Outline
+ended line name outline = record outline {
+  branches = with_branch outline.branches name
+      (record { last = length outline.stages; taken = is_out name; line = line });
+}
+
+abbrev pub NameAnswer : ℕ → Outline → List Item → Option (List ℕ) → Outcome Outline → Type 0
+NameAnswer line outline items None answer = answer ≡ Err (broken line 1 N3)
+NameAnswer line outline items (Some name) answer =
+    Unless (name_fault line outline.branches name items)
+    (Then (StagesAnswer line (is_out name) true outline (groups items))
+    (λ next answer. answer ≡ Ok (ended line name next))) answer
+
+-- A branch by its words and bars: a name with a colon, and the stages.
+abbrev pub BranchAnswer : ℕ → Outline → List Item → Outcome Outline → Type 0
+BranchAnswer line outline [] answer = answer ≡ Err (broken line 1 N3)
+BranchAnswer line outline (item.Bar n ∷ items) answer = answer ≡ Err (broken line 1 N3)
+BranchAnswer line outline (item.Word n word ∷ items) answer =
+    NameAnswer line outline items (name_in word) answer
+
+-- a line that is cut into words and bars, or has a word that is wrong with its quotes
+abbrev pub CutAnswer : ℕ → Outline → Cut → Outcome Outline → Type 0
+CutAnswer line outline (Ok items) answer = BranchAnswer line outline items answer
+CutAnswer line outline (Err k) answer = answer ≡ Err (broken line k N2)
+
+-- The branches of a plan, one after another.
+unfoldable pub LinesAnswer : Outline → List (ℕ × List ℕ) → Outcome Outline → Type 0
+LinesAnswer outline [] answer = answer ≡ Ok outline
+LinesAnswer outline ((line, text) ∷ lines) answer =
+    Then (CutAnswer line outline (cut_line text)) (λ next. LinesAnswer next lines) answer
+
+-- A plan.
+
+-- the first rule that only the whole plan shows: there is `out`, and each other branch is taken
+abbrev pub whole_fault : ℕ → Branches → Option PlanFault
+whole_fault count branches =
+    if is_none (branch_of (codes "out") branches) then Some (broken (max count 1) 0 N4)
+    else option_map (λ line. broken line 0 N11) (first_unused branches)
+
+abbrev pub WholeAnswer : ℕ → Outline → Outcome (List Stage) → Type 0
+WholeAnswer count outline =
+    Unless (whole_fault count outline.branches) (λ answer. answer ≡ Ok outline.stages)
+
+-- The bytes of a plan.
+unfoldable pub PlanAnswer : List ℕ → Outcome (List Stage) → Type 0
+PlanAnswer bytes =
+    Unless (option_map of_text (fault_of bytes))
+    (Then (LinesAnswer nothing (branches_of bytes)) (WholeAnswer (length (lines_of bytes))))

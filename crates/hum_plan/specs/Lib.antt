@@ -1,0 +1,9 @@
+pub mod Faults
+pub mod Stages
+pub mod Branches
+pub mod Seen
+pub mod Lines
+pub mod Answers
+pub mod Grammar
+pub mod Tells
+pub mod Laws

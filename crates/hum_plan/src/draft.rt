@@ -1,0 +1,13 @@
+//! A plan in the making.
+ghost use Rattle.std.specs.Prelude.{◌≤◌, length};
+
+use crate::branches::Branches;
+use crate::stages::PlanStage;
+
+/// The stages so far, and the branches of the lines before.
+#[derive(Drop)]
+pub(crate) struct Draft<'a> {
+    pub(crate) stages: Vec<PlanStage>,
+    pub(crate) branches: Branches<'a>,
+    ghost within: { length stages.items ≤ 64 },
+}

@@ -1,0 +1,162 @@
+//! The rules of a plan, and where one was broken.
+ghost use Rattle.std.specs.Prelude.{◌≡◌};
+ghost use Rattle.hum_plan.specs.declared.faults.PlanError.TheVariants.{Fault, Memory};
+ghost use Rattle.hum_plan.specs.Faults.{code_of, rule_of, in_line, of_text, broken};
+
+use hum_options::{OptionFault, OptionRule};
+use hum_words::TextFault;
+use std::alloc::{AllocError, AllocFailed};
+use std::error::Error;
+use std::fmt;
+
+/// A rule of the grammar of plans.
+#[derive(Clone, Copy, Debug, PartialEq, Eq)]
+pub enum PlanRule {
+    /// The plan has over 65,536 bytes, or isn't UTF-8.
+    N1,
+    /// A quote isn't closed, stands in a word or has a word behind it.
+    N2,
+    /// The first word isn't a name and `:`.
+    N3,
+    /// The name was used before, the line stands behind `out`, or there is no `out`.
+    N4,
+    /// A stage has no words.
+    N5,
+    /// The first stage isn't `read` or `assemble`, or a later one is.
+    N6,
+    /// The command isn't known.
+    N7,
+    /// An option isn't known, comes twice or excludes an earlier one, or a word is too many.
+    N8,
+    /// An option's value or another required word is missing.
+    N9,
+    /// A value isn't of its grammar.
+    N10,
+    /// An assembled name isn't an earlier branch or is taken, there are too many branches or
+    /// stages, interpretations are dropped before the last stage, or a branch is never used.
+    N11,
+    /// A pattern is refused.
+    N12,
+}
+
+impl PlanRule {
+    /// Its code, as it is printed.
+    pub fn code(self) -> &'static str
+        ensures { result.now ≡ code_of self }
+    {
+        match self {
+            PlanRule::N1 => "N1",
+            PlanRule::N2 => "N2",
+            PlanRule::N3 => "N3",
+            PlanRule::N4 => "N4",
+            PlanRule::N5 => "N5",
+            PlanRule::N6 => "N6",
+            PlanRule::N7 => "N7",
+            PlanRule::N8 => "N8",
+            PlanRule::N9 => "N9",
+            PlanRule::N10 => "N10",
+            PlanRule::N11 => "N11",
+            PlanRule::N12 => "N12",
+        }
+    }
+}
+
+impl fmt::Display for PlanRule {
+    fn fmt<W: fmt::Write>(&self, f: &mut fmt::Formatter<W>) -> fmt::Result {
+        f.write_str(self.code())
+    }
+}
+
+/// A rule that was broken, with the number of the line, from 1, and that of the word in it, from 1,
+/// bars not counted; 0 where it is no word's.
+#[derive(Clone, Copy, Debug, PartialEq, Eq)]
+pub struct PlanFault {
+    pub line: u32,
+    pub word: u32,
+    pub rule: PlanRule,
+}
+
+/// Why bytes are no plan.
+#[derive(Clone, Copy, Debug, PartialEq, Eq)]
+pub enum PlanError {
+    /// The first rule that they break.
+    Fault(PlanFault),
+    /// Memory ran out.
+    Memory,
+}
+
+/// A rule on the words behind a command is one of the plan.
+fn rule_of(rule: OptionRule) -> PlanRule
+    ensures { result ≡ rule_of rule }
+{
+    match rule {
+        OptionRule::N8 => PlanRule::N8,
+        OptionRule::N9 => PlanRule::N9,
+        OptionRule::N10 => PlanRule::N10,
+        OptionRule::N11 => PlanRule::N11,
+        OptionRule::N12(_) => PlanRule::N12,
+    }
+}
+
+/// The fault of a plan's words in their line.
+pub(crate) fn in_line(line: u32, found: OptionFault) -> PlanFault
+    ensures { result ≡ in_line line found }
+{
+    PlanFault {
+        line,
+        word: found.word,
+        rule: rule_of(found.rule),
+    }
+}
+
+/// The fault of a plan's bytes.
+pub(crate) fn of_text(fault: TextFault) -> PlanFault
+    ensures { result ≡ of_text fault }
+{
+    let line = match fault {
+        TextFault::TooLong => 1,
+        TextFault::NotUtf8 { line } => line,
+    };
+    PlanFault {
+        line,
+        word: 0,
+        rule: PlanRule::N1,
+    }
+}
+
+impl fmt::Display for PlanError {
+    fn fmt<W: fmt::Write>(&self, f: &mut fmt::Formatter<W>) -> fmt::Result {
+        match self {
+            PlanError::Fault(fault) => {
+                let code = fault.rule.code();
+                write!(f, "line {}, word {}: {code}", fault.line, fault.word)
+            }
+            PlanError::Memory => f.write_str("out of memory"),
+        }
+    }
+}
+
+impl Error for PlanError {}
+
+impl From<AllocError> for PlanError {
+    ghost from_gives = { λ _ e. e ≡ Memory };
+
+    fn from(_e: AllocError) -> PlanError {
+        PlanError::Memory
+    }
+}
+
+impl<T: Drop> From<AllocFailed<T>> for PlanError {
+    ghost from_gives = { λ _ e. e ≡ Memory };
+
+    fn from(_e: AllocFailed<T>) -> PlanError {
+        PlanError::Memory
+    }
+}
+
+/// A rule that is broken at a word of a line.
+pub(crate) fn broken(line: u32, word: u32, rule: PlanRule) -> PlanError
+    ensures { result ≡ Fault (broken line word rule) }
+{
+    PlanError::Fault(PlanFault { line, word, rule })
+}

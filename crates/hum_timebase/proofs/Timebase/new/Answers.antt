@@ -1,6 +1,0 @@
-use Rattle.hum_timebase.specs.Following.{pace_of}
-use Rattle.hum_timebase.proofs.Keeping.{timebase_keeps}
-use Rattle.hum_timebase.proofs.Timebase.new.Goals as goal
-
-pub returns-clause-keeps : goal.returns-clause-keeps
-returns-clause-keeps c = timebase_keeps (pace_of c.args.options)

@@ -1,0 +1,51 @@
+//! Writing records.
+#![tactic(auto)]
+
+ghost use Rattle.std.specs.Prelude.{◌≡◌, ◌++◌, ◌∷◌, [], true, OnOk, OnErr};
+ghost use Rattle.std.specs.Io.KnownBytes.{Appends};
+ghost use Rattle.hum_record.specs.Row.{text_of};
+ghost use Rattle.hum_writing.specs.Writing.{WroteFront};
+
+use hum_record::Record;
+use hum_text::calls::Sink;
+
+/// A write or a flush gave an error, or a write took no byte.
+#[derive(Clone, Copy, Debug, PartialEq, Eq)]
+pub struct WriteFailed;
+
+/// Writes a text by as many writes as it takes.
+///
+/// # Errors
+/// A write that fails, or that takes no byte. A front of the text was written then.
+pub fn write_all<W: Sink>(sink: &mut W, text: &[u8]) -> Result<(), WriteFailed>
+    ensures ok { OnOk result (Appends (W.contents sink.old) (W.contents sink.new) text.now) }
+    ensures err { OnErr result (WroteFront (W.contents sink.old) (W.contents sink.new) text.now) }
+    ensures sound { OnOk result (W.failed sink.new ≡ W.failed sink.old) }
+    ensures failed { OnErr result (W.failed sink.new ≡ true) }
+{
+    let mut rest = text;
+    while !rest.is_empty() {
+        match sink.write(rest) {
+            Ok(0) => return Err(WriteFailed),
+            Ok(n) => rest = &rest[n..],
+            Err(_) => return Err(WriteFailed),
+        }
+    }
+    Ok(())
+}
+
+/// Writes a record's text and LF.
+///
+/// # Errors
+/// As [`write_all`]'s.
+pub fn write_record<W: Sink>(sink: &mut W, row: &Record) -> Result<(), WriteFailed>
+    ensures ok { OnOk result (Appends (W.contents sink.old) (W.contents sink.new)
+        (text_of row.now ++ 10 ∷ [])) }
+    ensures err { OnErr result (WroteFront (W.contents sink.old) (W.contents sink.new)
+        (text_of row.now ++ 10 ∷ [])) }
+    ensures sound { OnOk result (W.failed sink.new ≡ W.failed sink.old) }
+    ensures failed { OnErr result (W.failed sink.new ≡ true) }
+{
+    write_all(sink, row.text())?;
+    write_all(sink, b"\n")
+}

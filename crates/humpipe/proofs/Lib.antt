@@ -1,3 +1,0 @@
-pub mod Appending
-pub mod Giving
-pub mod Running

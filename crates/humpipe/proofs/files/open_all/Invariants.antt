@@ -1,0 +1,6 @@
+use Rattle.std.proofs.Common.{◌≡◌, ◌+◌, length, drop}
+use Rattle.hum_pipeline.specs.Nodes.{reads_of}
+use Rattle.humpipe.proofs.files.open_all.Given as goal
+
+abbrev pub invariant-loop-k : goal.invariant-loop-k
+invariant-loop-k l = reads_of l.stages ≡ length l.readers.items + reads_of (drop l.k l.stages)

@@ -1,0 +1,44 @@
+//! How the program ends: its status, and the line that it tells.
+use hum_pipeline::Outcome;
+use hum_turns::RunResult;
+use std::fmt;
+
+/// How the program ends.
+#[derive(Clone, Copy, Debug, PartialEq, Eq)]
+pub enum Ending {
+    /// A plan was run, or is refused.
+    Outcome(Outcome),
+    /// The command line is refused.
+    Usage,
+    /// The plan's file, or standard input, couldn't be read.
+    CannotRead,
+}
+
+impl Ending {
+    /// There was no memory.
+    pub fn memory() -> Ending {
+        Ending::Outcome(Outcome::Run(RunResult::Memory))
+    }
+
+    /// The exit status: 2 for a command line that is refused, 3 where the plan can't be read, else
+    /// that of the outcome.
+    pub fn status(self) -> u8 {
+        match self {
+            Ending::Outcome(outcome) => outcome.status(),
+            Ending::Usage => 2,
+            Ending::CannotRead => 3,
+        }
+    }
+}
+
+impl fmt::Display for Ending {
+    fn fmt<W: fmt::Write>(&self, f: &mut fmt::Formatter<W>) -> fmt::Result {
+        match self {
+            Ending::Outcome(outcome) => write!(f, "{outcome}"),
+            Ending::Usage => f.write_str(
+                "humpipe: usage: humpipe [--link N] [--order left|right] [PIPELINE]",
+            ),
+            Ending::CannotRead => f.write_str("humpipe: cannot read plan"),
+        }
+    }
+}

@@ -1,0 +1,85 @@
+//! Runs of plans whose scores are files.
+ghost use Rattle.std.specs.Prelude.{◌≡◌, ◌≤◌, ◌<◌, ◌+◌, length, IfOk, OnOk};
+ghost use Rattle.hum_pipeline.specs.Nodes.{reads_by, reads_of};
+
+use hum_pipeline::{Outcome, plan_stages, run_stages};
+use hum_plan::{Options, PlanStage};
+use hum_text::calls::{Marked, Sink};
+use hum_turns::{Order, RunResult};
+use std::fs::{self, File};
+
+/// Adds the opened file of this name.
+fn add_file(
+    rt: &HostRuntime,
+    k: usize,
+    name: &str,
+    readers: &mut Vec<Marked<File>>,
+) -> Result<(), Outcome>
+    requires { k < 64 }
+    ensures { OnOk result (length readers.new.items ≡ length readers.old.items + 1) }
+{
+    match fs::open(rt, name) {
+        Err(_) => Err(Outcome::NoScore(k as u8 + 1)),
+        Ok(file) => match readers.push(Marked::new(file)) {
+            Ok(()) => Ok(()),
+            Err(_) => Err(Outcome::Run(RunResult::Memory)),
+        },
+    }
+}
+
+/// Adds the opened file of stage `k`, from 0, if it reads a score.
+fn add_reader(
+    rt: &HostRuntime,
+    k: usize,
+    stage: &PlanStage,
+    readers: &mut Vec<Marked<File>>,
+) -> Result<(), Outcome>
+    requires { k < 64 }
+    ensures { OnOk result
+        (length readers.new.items ≡ length readers.old.items + reads_by stage.now.options) }
+{
+    match &stage.options {
+        Options::Read(name) => add_file(rt, k, name.as_str(), readers),
+        Options::Assemble => Ok(()),
+        Options::Command(_) => Ok(()),
+    }
+}
+
+/// The opened file of each stage that reads a score, in their order.
+///
+/// # Errors
+/// What the run ends with: the first stage whose file doesn't open, or want of memory.
+fn open_all(rt: &HostRuntime, stages: &[PlanStage]) -> Result<Vec<Marked<File>>, Outcome>
+    requires { length stages.now ≤ 64 }
+    ensures { IfOk result (λ readers. reads_of stages.now ≡ length readers.items) }
+{
+    let mut readers = Vec::new(rt.alloc());
+    for (k, stage) in stages.iter().enumerate() {
+        add_reader(rt, k, stage, &mut readers)?;
+    }
+    Ok(readers)
+}
+
+/// Runs a plan over files, with links that hold so many records. The writer is handed back with how
+/// it ended.
+pub fn run_files<O: Order, W: Sink + Drop>(
+    rt: &HostRuntime,
+    plan: &[u8],
+    link: u16,
+    order: &mut O,
+    writer: W,
+) -> (Outcome, W)
+    requires link { 1 ≤ link }
+    requires room { link ≤ 4096 }
+{
+    let stages = match plan_stages(rt.alloc(), plan) {
+        Ok(stages) => stages,
+        Err(outcome) => return (outcome, writer),
+    };
+    let readers = match open_all(rt, &stages) {
+        Ok(readers) => readers,
+        Err(outcome) => return (outcome, writer),
+    };
+    let (end, writer) = run_stages(rt.alloc(), stages, readers, link, order, writer);
+    (Outcome::Run(end), writer)
+}
