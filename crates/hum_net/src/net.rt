@@ -125,6 +125,8 @@ impl<F: Feeds, W: Works, S: Sink> Net<F, W, S> {
             → AreBegun (StandsAs F.stands W.stands) size nodes.items scene
             → IsNet (StandsAs F.stands W.stands) F.ended S.contents S.flushed net) }
         ensures nodes { IfOk result (λ net. net.web.nodes ≡ nodes) }
+        ensures sink { IfOk result (λ net. net.sink ≡ sink) }
+        ensures failure { IfOk result (λ net. net.failure ≡ None) }
         ensures err { IfErr result (λ back. back ≡ sink) }
     {
         let Ok(actors) = vec![in alloc; false; nodes.len() + 1] else {

@@ -13,7 +13,10 @@ use Rattle.hum_plan.specs.Seen.{stages_of, stage_of, options_of}
 use Rattle.hum_pipeline.specs.Nodes.{reads_by, reads_of, ToldBy, AreTold}
 use Rattle.hum_pipeline.specs.declared.outcome.Outcome.{Outcome}
 use Rattle.hum_pipeline.specs.declared.outcome.Outcome.TheVariants as outcome
-use Rattle.hum_pipeline.specs.Bundles.{score_by, bytes_by, or_empty, first_lacking, AddsReader, Adds, LacksHere, LacksNow, IsRefusal, Comes, ComesOfBundle, MayLackMemory, HasRunPlan, LacksScore}
+use Rattle.hum_pipeline.specs.Bundles.{score_by, bytes_by, or_empty, first_lacking, AddsReader, Adds, LacksHere, LacksNow, IsRefusal, Comes, ComesOfBundle, MayLackMemory, HasRunPlan, LacksScore, is_failed_write}
+use Rattle.hum_net.specs.Readers.{is_write}
+use Rattle.std.specs.Prelude.{◌||◌}
+use Rattle.std.proofs.Math.Bool.{or-false}
 use Rattle.hum_plan.specs.Stages.{Stage}
 use Rattle.hum_plan.specs.Grammar.{IsPlanOf}
 use Rattle.hum_turns.specs.declared.result.RunResult.{RunResult}
@@ -138,6 +141,22 @@ bundle_comes true text score old new flushed outcome e h = cc
 -- A plan that was run.
 pub run_comes : (too_large : Bool) (text : List ℕ) (score : List ℕ → Option (List ℕ)) (old new : Option (List ℕ)) (flushed : Bool) (end : RunResult) (stages : List PlanStage) → too_large ≡ false → IsPlanOf text (stages_of stages) → first_lacking score 1 (stages_of stages) ≡ None → HasWritten (bytes_by score (stages_of stages)) (stages_of stages) old new flushed end → ComesOfBundle too_large text score old new flushed (outcome.Run end)
 run_comes too_large text score old new flushed end stages e plan there written = bundle_comes too_large text score old new flushed (outcome.Run end) e (inl (record { stages = stages_of stages; plan = plan; scores = there; written = written }))
+
+-- Without a run no write fails.
+pub refusal_writes_none : (text : List ℕ) (outcome : Outcome) → IsRefusal text outcome → is_failed_write outcome ≡ false
+refusal_writes_none text (outcome.Run end) h = ap (λ e. is_write (Some e)) h
+refusal_writes_none text (outcome.Plan fault) h = refl
+refusal_writes_none text (outcome.NoScore number) h = refl
+refusal_writes_none text outcome.TooLarge h = refl
+
+pub lack_writes_none : (score : List ℕ → Option (List ℕ)) (stages : List Stage) (outcome : Outcome) → LacksNow score stages outcome → is_failed_write outcome ≡ false
+lack_writes_none score stages (outcome.Run end) h = ap (λ e. is_write (Some e)) h
+lack_writes_none score stages (outcome.Plan fault) h = refl
+lack_writes_none score stages (outcome.NoScore number) h = refl
+lack_writes_none score stages outcome.TooLarge h = refl
+
+pub unmarked : (mark : Bool) (outcome : Outcome) → is_failed_write outcome ≡ false → mark ≡ (mark || is_failed_write outcome)
+unmarked mark outcome none = sym (or-false mark) ∙ ap (λ b. mark || b) (sym none)
 
 -- How many readers there are for the stages before stage k.
 pub counted_next : (stages : List PlanStage) (k : ℕ) (stage : PlanStage) (m n : ℕ) → reads_of stages ≡ m + reads_of (drop k stages) → Some stage ≡ slice_get stages k → n ≡ m + reads_by stage.options → reads_of stages ≡ n + reads_of (drop (k + 1) stages)

@@ -4,6 +4,7 @@ use Rattle.std.specs.Prelude.{List, [], ◌∷◌, ◌++◌, Option, None, Some,
 use Rattle.hum_turns.specs.declared.result.RunResult.{RunResult}
 use Rattle.hum_turns.specs.declared.result.RunResult.TheVariants as ends
 use Rattle.hum_turns.specs.Orders.{Order}
+use Rattle.hum_net.specs.Readers.{is_write}
 use Rattle.hum_plan.specs.declared.faults.PlanFault.{PlanFault}
 use Rattle.hum_plan.specs.Stages.{Stage, Options, Read, Assemble, Takes}
 use Rattle.hum_plan.specs.Grammar.{IsPlanOf}
@@ -129,3 +130,10 @@ is_refused (outcome.Run end) = false
 is_refused (outcome.Plan fault) = true
 is_refused (outcome.NoScore number) = true
 is_refused outcome.TooLarge = true
+
+-- A write or a flush has failed.
+abbrev pub is_failed_write : Outcome → Bool
+is_failed_write (outcome.Run end) = is_write (Some end)
+is_failed_write (outcome.Plan fault) = false
+is_failed_write (outcome.NoScore number) = false
+is_failed_write outcome.TooLarge = false

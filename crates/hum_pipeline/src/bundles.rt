@@ -1,5 +1,5 @@
 //! Runs of bundles: a plan and its scores in one stream.
-ghost use Rattle.std.specs.Prelude.{◌≡◌, ◌≤◌, ◌<◌, length, nat_lt, true, IfOk, OnOk, IfErr, None};
+ghost use Rattle.std.specs.Prelude.{◌≡◌, ◌≤◌, ◌<◌, ◌||◌, length, nat_lt, true, IfOk, OnOk, IfErr, None};
 ghost use Rattle.hum_plan.specs.Stages.{IsTree, Read};
 ghost use Rattle.hum_plan.specs.Seen.{stages_of, options_of};
 ghost use Rattle.hum_plan.specs.Grammar.{IsPlanOf};
@@ -7,6 +7,7 @@ ghost use Rattle.hum_bundle.specs.Parts.{largest, plan_of, score_of};
 ghost use Rattle.hum_pipeline.specs.Nodes.{AreTold, reads_of};
 ghost use Rattle.hum_pipeline.specs.Bundles.{ComesOfBundle, LacksNow, IsRefusal, is_refused};
 ghost use Rattle.hum_pipeline.specs.Bundles.{LacksHere, Adds, bytes_by, first_lacking, MayHavePicked};
+ghost use Rattle.hum_pipeline.specs.Bundles.{is_failed_write};
 
 use crate::outcome::Outcome;
 use crate::running::run_stages;
@@ -123,6 +124,9 @@ pub fn run_bundle<O: Order, W: Sink + Drop>(
     // The turns are those that the order picked, which is left as its picks leave it.
     ensures picked { MayHavePicked (record { pick = O.picks; next = O.after }) (plan_of bundle.now)
         (λ name. score_of name bundle.now) link order.old order.new }
+
+    // A failed write or flush is told exactly where one set the writer's mark.
+    ensures marked { W.failed result.1 ≡ (W.failed writer || is_failed_write result.0) }
 
     // Where nothing was run, the writer and the order are as they were.
     ensures refused { is_refused result.0 ≡ true

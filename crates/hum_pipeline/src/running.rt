@@ -1,7 +1,8 @@
 //! Runs of plans.
-ghost use Rattle.std.specs.Prelude.{◌≡◌, ◌≤◌, ℕ, List, length};
+ghost use Rattle.std.specs.Prelude.{◌≡◌, ◌≤◌, ◌||◌, ℕ, List, Some, length};
 ghost use Rattle.hum_plan.specs.Stages.{IsTree};
 ghost use Rattle.hum_plan.specs.Seen.{stages_of};
+ghost use Rattle.hum_net.specs.Readers.{is_write};
 ghost use Rattle.hum_pipeline.specs.Nodes.{AreTold, reads_by, reads_of};
 ghost use Rattle.hum_pipeline.specs.Runs.{HasWritten, HasPicked};
 
@@ -38,6 +39,9 @@ pub fn run_stages<R: Source + Drop, O: Order, W: Sink + Drop>(
     ensures picked { (bytes : ℕ → List ℕ) → AreTold R.remaining bytes 0 stages.items readers.items
         → HasPicked (record { pick = O.picks; next = O.after }) bytes (stages_of stages.items) link
         order.old order.new }
+
+    // A failed write or flush is told exactly where one set the sink's mark.
+    ensures marked { W.failed result.1 ≡ (W.failed sink || is_write (Some result.0)) }
 {
     let Ok(nodes) = plan_nodes(alloc, stages, readers) else {
         return (RunResult::Memory, sink);

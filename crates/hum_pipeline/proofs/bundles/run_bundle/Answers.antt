@@ -5,7 +5,7 @@ use Rattle.hum_plan.specs.Seen.{stages_of}
 use Rattle.hum_plan.specs.Grammar.{IsPlanOf}
 use Rattle.hum_pipeline.specs.Nodes.{AreTold}
 use Rattle.hum_pipeline.specs.Bundles.{bytes_by, first_lacking}
-use Rattle.hum_pipeline.proofs.Bundling.{run_comes, slice_tells}
+use Rattle.hum_pipeline.proofs.Bundling.{run_comes, slice_tells, refusal_writes_none, lack_writes_none, unmarked}
 use Rattle.hum_pipeline.proofs.bundles.run_bundle.Goals as goal
 
 pub returns-clause-comes : goal.returns-clause-comes
@@ -26,3 +26,11 @@ returns-clause-picked g c =
       plan = plan;
       picked = c.run_stages-end.ensures.picked (bytes_by score (stages_of c.in-Ok.stages.items)) told;
     })
+
+pub returns-in-Err-clause-marked : goal.returns-in-Err-clause-marked
+returns-in-Err-clause-marked g c =
+    unmarked _ _ (refusal_writes_none _ _ c.in-Err.ensures.refused)
+
+pub returns-in-Err-readers-clause-marked : goal.returns-in-Err-readers-clause-marked
+returns-in-Err-readers-clause-marked g c =
+    unmarked _ _ (lack_writes_none _ _ _ c.in-Err-readers.ensures.lacks)

@@ -52,3 +52,8 @@ returns-in-Err-clause-picked g c = λ bytes told. nothing_picked _ bytes _ _ _
 
 pub returns-in_default-clause-picked : goal.returns-in_default-clause-picked
 returns-in_default-clause-picked g c = λ bytes told. nothing_picked _ bytes _ _ _
+
+pub returns-in-Ok-new-clause-marked : goal.returns-in-Ok-new-clause-marked
+returns-in-Ok-new-clause-marked g c =
+    let writes = c.run-result.ensures.writes c.in-Ok-new.ensures.failure in
+    rw c.into_writer.ensures.sink (rw c.in-Ok-new.ensures.sink at writes)
