@@ -2,6 +2,7 @@
 ghost use Rattle.std.specs.Prelude.{◌≡◌, ◌≢◌, ◌<◌, ◌≤◌, [], true, false, IsTrue};
 ghost use Rattle.std.specs.Prelude.{if◌then◌else◌, slice_index_or, Ok, Err, None};
 ghost use Rattle.std.specs.Prelude.{IfOk, IfErr, OnOk};
+ghost use Rattle.std.specs.Allocator.{alloc_error};
 ghost use Rattle.hum_path.specs.Sign.{steers};
 ghost use Rattle.hum_path.specs.Spines.{Unopened, exclusives, width, moves, after};
 ghost use Rattle.hum_path.specs.Rules.{fault_of, Refuses, is_unfinished, is_closed};
@@ -14,7 +15,7 @@ use crate::rules::{has_nameless, text_fault};
 use crate::signs::steers;
 use crate::steering::{NextSpines, spines_after};
 use hum_record::{Kind, Record};
-use std::alloc::Global;
+use std::alloc::{AllocError, Global};
 use std::marker::Model;
 
 /// The spines of a score, record by record.
@@ -121,6 +122,27 @@ impl Paths {
             self.steer(row)
         } else {
             self.stay(row)
+        }
+    }
+
+    /// The same of a record that breaks no path rule.
+    ///
+    /// # Errors
+    /// Want of memory, which each later call answers again.
+    #[inline]
+    pub fn follow(&mut self, row: &Record) -> Result<Moves, AllocError>
+        requires { fault_of self.old.path row.now ≡ None }
+        ensures moves { IfOk result (λ found. found ≡ moves self.old.path row.now) }
+        ensures after { OnOk result
+            (self.new ≡ record self.old { path = after self.old.path row.now }) }
+        ensures sources { IfOk result (ComeFrom row.now) }
+        ensures spent { IfErr result (λ _. IsTrue self.new.spent) }
+        ensures again { IsTrue self.old.spent → result ≡ Err alloc_error }
+    {
+        match self.step(row) {
+            Ok(found) => Ok(found),
+            Err(PathFault::Memory) => Err(AllocError),
+            Err(_) => unreachable!(),
         }
     }
 

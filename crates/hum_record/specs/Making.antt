@@ -1,5 +1,5 @@
 -- A record in the making that may grow too long.
-use Rattle.std.specs.Prelude.{◌≡◌, ◌<◌, ◌≤◌, ℕ, Bool, true, false, List, length, Option, None, Some}
+use Rattle.std.specs.Prelude.{◌≡◌, ◌<◌, ◌≤◌, ℕ, Bool, true, false, List, length, Option, None, Some, IsTrue}
 use Rattle.hum_record.specs.declared.SpinedKind.{SpinedKind}
 use Rattle.hum_record.specs.Row.{Row, Spined}
 use Rattle.hum_record.specs.Building.{Draft, spelled}
@@ -12,6 +12,10 @@ pub record Holds (kind : SpinedKind) (draft : Draft) (long : Bool) (tokens : Lis
   pub held : long ≡ false → draft.tokens ≡ tokens
   pub fits : long ≡ false → length (spelled tokens) ≤ 1048576
   pub over : long ≡ true → 1048576 < length (spelled tokens)
+
+-- Memory has run out.
+abbrev pub IsSpent : Draft → Bool → Type 0
+IsSpent draft long = IsTrue draft.spent × (long ≡ false)
 
 -- the record of these tokens, or none where they are too long
 abbrev pub IsMade : SpinedKind → List (List ℕ) → Option Row → Type 0

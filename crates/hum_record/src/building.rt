@@ -81,6 +81,7 @@ impl RecordBuilder {
             × (1048576 < length (spelled (self.old.tokens ++ token.now ∷ [])))
             × (self.new ≡ self.old)) }
         ensures spent { IfErr result (λ fault. fault ≡ Memory → IsTrue self.new.spent) }
+        ensures kind { self.new.kind ≡ self.old.kind }
         ensures again { IsTrue self.old.spent → result ≡ Err Memory }
     {
         if self.spent {

@@ -1,8 +1,9 @@
 //! A record in the making that may grow too long.
-ghost use Rattle.std.specs.Prelude.{◌≡◌, ◌≢◌, ℕ, List, [], ◌∷◌, ◌++◌, OnOk};
+ghost use Rattle.std.specs.Prelude.{◌≡◌, ◌≢◌, ℕ, List, [], ◌∷◌, ◌++◌, Err, OnOk, IfErr};
+ghost use Rattle.std.specs.Allocator.{alloc_error};
 ghost use Rattle.hum_record.specs.declared.SpinedKind.{SpinedKind};
 ghost use Rattle.hum_record.specs.Spelling.{IsToken};
-ghost use Rattle.hum_record.specs.Making.{Holds, IsMade};
+ghost use Rattle.hum_record.specs.Making.{Holds, IsMade, IsSpent};
 
 use crate::building::RecordBuilder;
 use crate::reading::Record;
@@ -30,12 +31,17 @@ impl Making {
     }
 
     /// One token more, at the end.
+    ///
+    /// # Errors
+    /// Want of memory; each later call answers it again.
     pub fn push(&mut self, token: &[u8]) -> Result<(), AllocError>
         requires { IsToken self.old.builder.kind token.now }
-        ensures kind { OnOk result (self.new.builder.kind ≡ self.old.builder.kind) }
+        ensures kind { self.new.builder.kind ≡ self.old.builder.kind }
         ensures pushed { OnOk result ((kind : SpinedKind) (tokens : List (List ℕ))
             → Holds kind self.old.builder self.old.is_long tokens
             → Holds kind self.new.builder self.new.is_long (tokens ++ token.now ∷ [])) }
+        ensures spent { IfErr result (λ _. IsSpent self.new.builder self.new.is_long) }
+        ensures again { IsSpent self.old.builder self.old.is_long → result ≡ Err alloc_error }
     {
         if self.is_long {
             return Ok(());
