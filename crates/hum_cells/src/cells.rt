@@ -166,9 +166,7 @@ impl<T: Retells> Decides for Cells<T> {
         _room: u64,
         out: &mut UpToTwo,
     ) -> Result<Option<Rule>, AllocError> {
-        let Ok(found) = self.paths.step(&next) else {
-            return Err(AllocError)
-        };
+        let found = self.paths.follow(&next)?;
         let told = tell(
             self.alloc,
             &mut self.teller,

@@ -1,5 +1,5 @@
 //! The spines of a score, and which of their columns are chosen.
-ghost use Rattle.std.specs.Prelude.{◌≡◌, None, [], IfOk, OnOk};
+ghost use Rattle.std.specs.Prelude.{◌≡◌, None, [], OnOk};
 ghost use Rattle.hum_record.specs.Row.{Row};
 ghost use Rattle.hum_path.specs.Spines.{Unopened, moves, after};
 ghost use Rattle.hum_path.specs.Rules.{fault_of, is_closed};
@@ -7,7 +7,7 @@ ghost use Rattle.hum_path.specs.Step.{ComeFrom};
 ghost use Rattle.hum_columns.specs.Following.{memory, passed};
 
 use crate::marks::Marks;
-use hum_path::{Moves, PathFault, Paths};
+use hum_path::Paths;
 use hum_record::Record;
 use std::alloc::{AllocError, Global};
 use std::marker::Model;
@@ -25,22 +25,6 @@ impl Model for ChosenColumns {
     ghost Value = { Memory };
 
     ghost view = { λ c. memory c.paths.path c.marks };
-}
-
-/// Where the spines after a record that breaks no path rule come from.
-fn follow(paths: &mut Paths, row: &Record) -> Result<Moves, AllocError>
-    requires { fault_of paths.old.path row.now ≡ None }
-    ensures moves { IfOk result (λ found. found ≡ moves paths.old.path row.now) }
-    ensures after { OnOk result (paths.new.path ≡ after paths.old.path row.now) }
-    ensures sources { IfOk result (ComeFrom row.now) }
-{
-    match paths.step(row) {
-        Ok(found) => Ok(found),
-        Err(fault) => match fault {
-            PathFault::Memory => Err(AllocError),
-            _ => unreachable!(),
-        },
-    }
 }
 
 impl ChosenColumns {
@@ -76,7 +60,7 @@ impl ChosenColumns {
         requires { fault_of self.old.path row.now ≡ None }
         ensures { OnOk result (self.new ≡ memory (after self.old.path row.now) marks) }
     {
-        let _found = follow(&mut self.paths, row)?;
+        let _found = self.paths.follow(row)?;
         self.marks = marks;
         Ok(())
     }
@@ -90,7 +74,7 @@ impl ChosenColumns {
         ensures passed { OnOk result (self.new ≡ passed self.old row.now) }
         ensures sources { OnOk result (ComeFrom row.now (moves self.old.path row.now)) }
     {
-        let found = follow(&mut self.paths, row)?;
+        let found = self.paths.follow(row)?;
         self.marks = self.marks.moved(alloc, &found)?;
         Ok(())
     }

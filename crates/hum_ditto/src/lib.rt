@@ -74,9 +74,7 @@ impl Decides for Repeats {
         _room: u64,
         out: &mut Option<Record>,
     ) -> Result<Option<Rule>, AllocError> {
-        let Ok(found) = self.paths.step(&next) else {
-            return Err(AllocError)
-        };
+        let found = self.paths.follow(&next)?;
         if !is_to_fill(&next) {
             self.carried.follow(&mut self.options.skip, &next, &found)?;
             *out = Some(next);

@@ -1,8 +1,9 @@
 //! How a run of a plan's text ends: its status, and the line that tells it.
-ghost use Rattle.std.specs.Prelude.{◌≡◌};
-ghost use Rattle.hum_pipeline.specs.Outcomes.{status_of};
+ghost use Rattle.std.specs.Prelude.{◌≡◌, Some, IfOk, string_bytes};
+ghost use Rattle.hum_pipeline.specs.Outcomes.{status_of, line_of};
 
 use hum_plan::PlanFault;
+use hum_stage::Fault;
 use hum_turns::RunResult;
 use std::alloc::{AllocError, Global};
 use std::fmt;
@@ -42,40 +43,35 @@ impl Outcome {
     ///
     /// # Errors
     /// Want of memory.
-    pub fn message(self, alloc: Global) -> Result<String, AllocError> {
+    pub fn message(self, alloc: Global) -> Result<String, AllocError>
+        ensures { IfOk result (λ line. string_bytes line ≡ line_of self) }
+    {
         format!(in alloc; "{self}")
     }
 }
 
-/// The line of a run.
-fn write_run<W: fmt::Write>(end: RunResult, f: &mut fmt::Formatter<W>) -> fmt::Result {
-    match end {
-        RunResult::Finished => Ok(()),
-        RunResult::Fault(fault) => {
-            let stage = fault.stage;
-            let word = fault.command.word();
-            let line = fault.line;
-            let rule = fault.rule;
-            write!(f, "humpipe: stage {stage} ({word}), line {line}: {rule}")
-        }
-        RunResult::Read(stage) => write!(f, "humpipe: stage {stage} (read): read failed"),
-        RunResult::Write => write!(f, "humpipe: write failed"),
-        RunResult::Memory => write!(f, "humpipe: out of memory"),
-    }
-}
-
 impl fmt::Display for Outcome {
+    ghost output = { λ outcome. Some (line_of outcome) };
+
     fn fmt<W: fmt::Write>(&self, f: &mut fmt::Formatter<W>) -> fmt::Result {
         match self {
-            Outcome::Run(end) => write_run(*end, f),
+            Outcome::Run(RunResult::Finished) => Ok(()),
+            Outcome::Run(RunResult::Fault(fault)) => {
+                let Fault { stage, command, line, rule } = *fault;
+                let word = command.word();
+                write!(f, "humpipe: stage {stage} ({word}), line {line}: {rule}")
+            }
+            Outcome::Run(RunResult::Read(stage)) => {
+                write!(f, "humpipe: stage {stage} (read): read failed")
+            }
+            Outcome::Run(RunResult::Write) => f.write_str("humpipe: write failed"),
+            Outcome::Run(RunResult::Memory) => f.write_str("humpipe: out of memory"),
             Outcome::Plan(fault) => {
-                let line = fault.line;
-                let word = fault.word;
-                let rule = fault.rule;
+                let PlanFault { line, word, rule } = *fault;
                 write!(f, "humpipe: plan line {line}, word {word}: {rule}")
             }
             Outcome::NoScore(stage) => write!(f, "humpipe: stage {stage} (read): cannot open"),
-            Outcome::TooLarge => write!(f, "humpipe: bundle too large"),
+            Outcome::TooLarge => f.write_str("humpipe: bundle too large"),
         }
     }
 }

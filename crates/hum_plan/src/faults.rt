@@ -1,5 +1,5 @@
 //! The rules of a plan, and where one was broken.
-ghost use Rattle.std.specs.Prelude.{◌≡◌};
+ghost use Rattle.std.specs.Prelude.{◌≡◌, Some};
 ghost use Rattle.hum_plan.specs.declared.faults.PlanError.TheVariants.{Fault, Memory};
 ghost use Rattle.hum_plan.specs.Faults.{code_of, rule_of, in_line, of_text, broken};
 
@@ -62,6 +62,8 @@ impl PlanRule {
 }
 
 impl fmt::Display for PlanRule {
+    ghost output = { λ rule. Some (code_of rule) };
+
     fn fmt<W: fmt::Write>(&self, f: &mut fmt::Formatter<W>) -> fmt::Result {
         f.write_str(self.code())
     }

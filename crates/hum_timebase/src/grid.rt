@@ -6,8 +6,7 @@ ghost use Rattle.hum_record.specs.Row.{kind_of, tokens_of, text_of};
 ghost use Rattle.hum_record.specs.Spelling.{IsTextOf};
 ghost use Rattle.hum_record.specs.declared.Kind.TheVariants.{Interpretation as AnyInterpretation};
 ghost use Rattle.hum_record.specs.declared.Kind.TheVariants.{Values as AnyValues};
-ghost use Rattle.hum_path.specs.Spines.{moves, after};
-ghost use Rattle.hum_path.specs.Rules.{fault_of};
+ghost use Rattle.hum_path.specs.Spines.{after};
 ghost use Rattle.hum_stage.specs.Decided.{MayStep, HasStepped};
 ghost use Rattle.hum_timebase.specs.Timebase.{timebase, around};
 ghost use Rattle.hum_timebase.specs.Following.{Follows, Answers, IsAbout, pace_of};
@@ -21,25 +20,10 @@ use crate::notes::{Content, content_of, read_notes, timed_at, timed_in};
 use crate::pace::Pace;
 use crate::records::{names_some, null_record, tb_record};
 use hum_frac::Frac;
-use hum_path::{Moves, PathFault, Paths};
+use hum_path::Paths;
 use hum_record::{Kind, Record, RecordFault};
 use hum_stage::{Command, Decides, Rule};
 use std::alloc::{AllocError, Global};
-
-/// Where the spines after a record that breaks no path rule come from.
-fn passed(paths: &mut Paths, row: &Record) -> Result<Moves, AllocError>
-    requires { fault_of paths.old.path row.now ≡ None }
-    ensures moves { IfOk result (λ found. found ≡ moves paths.old.path row.now) }
-    ensures after { OnOk result (paths.new.path ≡ after paths.old.path row.now) }
-{
-    match paths.step(row) {
-        Ok(found) => Ok(found),
-        Err(fault) => match fault {
-            PathFault::Memory => Err(AllocError),
-            _ => unreachable!(),
-        },
-    }
-}
 
 fn has_true(flags: &[bool]) -> bool
     ensures { result ≡ list_any (λ flag. flag) flags.now }
@@ -132,7 +116,7 @@ impl Grid {
             row room out.new refused) }
     {
         let own = timed_at(self.alloc, &self.paths, &row)?;
-        let found = passed(&mut self.paths, &row)?;
+        let found = self.paths.follow(&row)?;
         self.clock.rest(&own);
         self.clock.lead(self.alloc, &found)?;
         self.timed = timed_in(self.alloc, &self.paths)?;

@@ -71,9 +71,7 @@ impl LooksAhead for Memory {
 
     fn put(&mut self, next: Record, held: &mut VecDeque<Held>) -> Result<(), AllocError> {
         let closed = self.paths.is_closed();
-        let Ok(_) = self.paths.step(&next) else {
-            return Err(AllocError)
-        };
+        let _moves = self.paths.follow(&next)?;
         let number = self.passages.step(&mut self.options.markers, &next);
         self.last = last_after(
             &self.passages,

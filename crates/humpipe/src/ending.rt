@@ -1,4 +1,7 @@
 //! How the program ends: its status, and the line that it tells.
+ghost use Rattle.std.specs.Prelude.{◌≡◌, Some};
+ghost use Rattle.humpipe.specs.Endings.{status_of, line_of};
+
 use hum_pipeline::Outcome;
 use hum_turns::RunResult;
 use std::fmt;
@@ -22,7 +25,9 @@ impl Ending {
 
     /// The exit status: 2 for a command line that is refused, 3 where the plan can't be read, else
     /// that of the outcome.
-    pub fn status(self) -> u8 {
+    pub fn status(self) -> u8
+        ensures { result ≡ status_of self }
+    {
         match self {
             Ending::Outcome(outcome) => outcome.status(),
             Ending::Usage => 2,
@@ -32,6 +37,8 @@ impl Ending {
 }
 
 impl fmt::Display for Ending {
+    ghost output = { λ ending. Some (line_of ending) };
+
     fn fmt<W: fmt::Write>(&self, f: &mut fmt::Formatter<W>) -> fmt::Result {
         match self {
             Ending::Outcome(outcome) => write!(f, "{outcome}"),

@@ -6,10 +6,10 @@ use Rattle.hum_ditto.proofs.RepeatsDecides.step.Goals as goal
 pub returns-then-not-is_to_fill : goal.returns-then-not-is_to_fill
 returns-then-not-is_to_fill c = λ decide past h sound.
     let row = c.args.next in
-    let moved = told _ _ past row c.in-Ok.ensures.moves h.spines in
+    let moved = told _ _ past row c.in_ok-found.ensures.moves h.spines in
     let same = gives_same _ _ _ decide past h row c.is_to_fill.ensures.at_most (c.is_to_fill.ensures.kept c.if-not-is_to_fill.true) in (
       same,
-      follows_on _ _ _ decide past h row _ _ _ (ap (λ p. p.path) c.in-Ok.ensures.after) c.follow.ensures.kept
+      follows_on _ _ _ decide past h row _ _ _ (ap (λ p. p.path) c.in_ok-found.ensures.after) c.follow-then-not-is_to_fill.ensures.kept
           (c.in_ok-follow.ensures.memories past h.remembered moved),
     )
 
@@ -18,14 +18,14 @@ rebuilt-requires-clause-width c =
     memories_width _ _ _ _ _ c.requires.score.memory c.args.next c.requires.score.score
     (c.is_to_fill.ensures.kind c.if-not-is_to_fill.false)
 
-pub returns-in-Ok-rebuilt : goal.returns-in-Ok-rebuilt
-returns-in-Ok-rebuilt c = λ decide past h sound.
+pub returns-in-Ok : goal.returns-in-Ok
+returns-in-Ok c = λ decide past h sound.
     let row = c.args.next in
-    let moved = told _ _ past row c.in-Ok.ensures.moves h.spines in
-    let made = gives_made _ _ _ decide past h row c.in-Ok-rebuilt.made (c.is_to_fill.ensures.kind c.if-not-is_to_fill.false) c.in-Ok-rebuilt.ensures.made c.in-Ok-rebuilt.ensures.fits in (
+    let moved = told _ _ past row c.in_ok-found.ensures.moves h.spines in
+    let made = gives_made _ _ _ decide past h row c.in-Ok.made (c.is_to_fill.ensures.kind c.if-not-is_to_fill.false) c.in-Ok.ensures.made c.in-Ok.ensures.fits in (
       made,
-      follows_on _ _ _ decide past h row _ _ _ (ap (λ p. p.path) c.in-Ok.ensures.after) c.follow-in-Ok-rebuilt.ensures.kept
-          (c.in_ok-follow-in-Ok-rebuilt.ensures.memories past h.remembered moved),
+      follows_on _ _ _ decide past h row _ _ _ (ap (λ p. p.path) c.in_ok-found.ensures.after) c.follow-in-Ok.ensures.kept
+          (c.in_ok-follow-in-Ok.ensures.memories past h.remembered moved),
     )
 
 pub returns-in-Err-L1 : goal.returns-in-Err-L1

@@ -14,5 +14,5 @@ returns c = λ look past rows h score.
     let keeps = rw (c.deref.ensures.value, c.is_closed-closed.ensures, c.step-number.ensures.number)
     at c.of-kept.ensures in
     rw c.step-number.ensures.kept (goes_on _ _ _ _ _ _ _ _ _ _ look past rows c.args.next h
-    (ap (λ p. p.path) c.in-Ok.ensures.after) c.step-number.ensures.after ends keeps
+    (ap (λ p. p.path) c.in_ok-_moves.ensures.after) c.step-number.ensures.after ends keeps
     c.in_ok-push_back.ensures.items)
