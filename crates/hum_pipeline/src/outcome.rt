@@ -57,7 +57,12 @@ impl fmt::Display for Outcome {
         match self {
             Outcome::Run(RunResult::Finished) => Ok(()),
             Outcome::Run(RunResult::Fault(fault)) => {
-                let Fault { stage, command, line, rule } = *fault;
+                let Fault {
+                    stage,
+                    command,
+                    line,
+                    rule,
+                } = *fault;
                 let word = command.word();
                 write!(f, "humpipe: stage {stage} ({word}), line {line}: {rule}")
             }
