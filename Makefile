@@ -2,7 +2,7 @@
 #
 #   make            proves each crate and builds ./humpipe
 #   make demo       shows the main job on a score of examples/
-#   make test       the merge gate: every proof from nothing, the edits that must fail, tests, runs, the examples of the docs
+#   make test       the merge gate: make lint, every proof from nothing, the edits that must fail, tests, runs, the examples of the docs
 #   make bench      times and peak memory beside other programs on the same score
 #   make install PREFIX=/usr/local
 #   make docs       runs what the README and docs/ print, with the program
@@ -46,7 +46,7 @@ demo: humpipe
 	@./humpipe examples/no_comments.hpl
 
 # The examples run with the program that is there; DOCS=no leaves them out.
-test:
+test: lint
 	rt ci
 	@program=$$(ls humpipe crates/humpipe/out/humpipe 2>/dev/null | head -n 1); \
 	if test "$(DOCS)" = no; then :; \
@@ -62,8 +62,8 @@ docs: humpipe
 # A program that isn't there is left out.
 has = command -v $(1) >/dev/null ||
 lint:
-	@$(call has,groff) exit 0; test -z "$$(groff -ww -man -Tutf8 -z man/humpipe.1 2>&1 | tee /dev/stderr)"
-	@$(call has,man) exit 0; test -z "$$(man --warnings -l -Tutf8 -Z man/humpipe.1 2>&1 >/dev/null | tee /dev/stderr)"
+	@$(call has,groff) exit 0; test -z "$$(LC_ALL=C.UTF-8 groff -ww -man -Tutf8 -z man/humpipe.1 2>&1 | tee /dev/stderr)"
+	@$(call has,man) exit 0; test -z "$$(LC_ALL=C.UTF-8 man --warnings -l -Tutf8 -Z man/humpipe.1 2>&1 >/dev/null | tee /dev/stderr)"
 	@$(call has,mandoc) exit 0; mandoc -Tlint man/humpipe.1
 	@sh -n examples/corpus.sh && bash -n completions/humpipe.bash
 	@$(call has,zsh) exit 0; zsh -n completions/_humpipe
