@@ -1,9 +1,9 @@
 -- Records of one source after another, each alone.
-use Rattle.std.proofs.Common.{◌≡◌, ◌∙◌, refl, sym, ap, ℕ, zero, suc, ◌+◌, ◌≤◌, Bool, true}
-use Rattle.std.proofs.Common.{false, not, ◌&&◌, ◌||◌, cond, List, [], ◌∷◌, ◌++◌, length, arith}
-use Rattle.std.proofs.Common.{map, append-nil, length-append}
-use Rattle.std.specs.Prelude.{Option, None, Some, is_none, is_some, ◌==◌, replicate}
-use Rattle.std.specs.List.{list_any, list_all, AllByRecursion}
+use Rattle.std.proofs.Common.{◌≡◌, ◌∙◌, refl, ap, ℕ, suc, ◌+◌, ◌≤◌, Bool, true}
+use Rattle.std.proofs.Common.{false, ◌||◌, List, [], ◌∷◌, ◌++◌, length, arith}
+use Rattle.std.proofs.Common.{map, length-append}
+use Rattle.std.specs.Prelude.{Option, None, Some, ◌==◌, replicate}
+use Rattle.std.specs.List.{list_any}
 use Rattle.std.proofs.lemmas.Bool.Decides.{nat_tests}
 use Rattle.hum_record.specs.Row.{Row}
 use Rattle.hum_path.specs.Spines.{Path, after}
@@ -11,12 +11,11 @@ use Rattle.hum_stage.specs.Score.{Follow}
 use Rattle.hum_stage.specs.declared.faults.End as end
 use Rattle.hum_assemble.specs.declared.places.Place.{Place}
 use Rattle.hum_assemble.specs.Source.{Source, place, is_inside}
-use Rattle.hum_assemble.specs.Head.{first_of}
-use Rattle.hum_assemble.specs.Places.{rank, is_over, is_shared, step}
-use Rattle.hum_assemble.specs.Round.{any_due, is_missing, place_at, takes, still_free, in_round}
-use Rattle.hum_assemble.specs.Merge.{all_moved, moved, advanced}
+use Rattle.hum_assemble.specs.Places.{rank, is_over, is_shared}
+use Rattle.hum_assemble.specs.Round.{place_at}
+use Rattle.hum_assemble.specs.Merge.{all_moved}
 use Rattle.hum_assemble.specs.Taking.{is_at}
-use Rattle.hum_assemble.specs.Groups.{Steps, steps, then_on, alone, unit_alone, each_alone, adds}
+use Rattle.hum_assemble.specs.Groups.{alone, unit_alone, each_alone, adds}
 use Rattle.hum_assemble.proofs.Taking.{or_not_false}
 use Rattle.hum_assemble.proofs.Written.{Meets, meets_step, parts_at, Sees, AllSee}
 use Rattle.hum_assemble.proofs.Does.{Does, Both, does_nothing, does_then, does_more, does_weaken}

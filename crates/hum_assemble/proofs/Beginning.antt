@@ -1,23 +1,22 @@
 -- Where a round begins, it is as if all who take part in it were due.
-use Rattle.std.proofs.Common.{◌≡◌, ◌∙◌, refl, sym, ap, ℕ, zero, suc, ◌+◌, ◌≤◌, Bool, true}
-use Rattle.std.proofs.Common.{false, not, ◌&&◌, ◌||◌, cond, List, [], ◌∷◌, ◌++◌, length, arith}
+use Rattle.std.proofs.Common.{◌≡◌, ◌∙◌, refl, sym, ap, ℕ, ◌+◌, ◌≤◌, Bool, true}
+use Rattle.std.proofs.Common.{false, ◌&&◌, ◌||◌, cond, List, [], ◌∷◌, arith}
 use Rattle.std.proofs.Common.{map}
-use Rattle.std.specs.Prelude.{Option, None, Some, is_none, is_some, ◌==◌, nat_le}
-use Rattle.std.specs.List.{list_any, list_all, AllByRecursion}
+use Rattle.std.specs.Prelude.{Option, None, Some, ◌==◌}
+use Rattle.std.specs.List.{list_any, AllByRecursion}
 use Rattle.std.proofs.lemmas.Bool.Decides.{nat_tests}
-use Rattle.hum_record.specs.Row.{Row, text_of}
-use Rattle.hum_path.specs.Spines.{Path, after}
+use Rattle.hum_record.specs.Row.{Row}
+use Rattle.hum_path.specs.Spines.{Path}
 use Rattle.hum_stage.specs.Score.{Follow}
 use Rattle.hum_stage.specs.declared.faults.Rule.{Rule}
 use Rattle.hum_stage.specs.declared.faults.End as end
 use Rattle.hum_assemble.specs.declared.places.Place.{Place}
-use Rattle.hum_assemble.specs.declared.places.Place.TheVariants.{Over}
-use Rattle.hum_assemble.specs.Source.{Source, place, is_inside}
+use Rattle.hum_assemble.specs.Source.{Source, place}
 use Rattle.hum_assemble.specs.Head.{first_of}
-use Rattle.hum_assemble.specs.Places.{rank, is_over, is_shared, step, earlier}
-use Rattle.hum_assemble.specs.Round.{any_due, is_missing, place_at, takes, still_free, in_round}
+use Rattle.hum_assemble.specs.Places.{rank, is_over, step}
+use Rattle.hum_assemble.specs.Round.{any_due, place_at, takes, still_free}
 use Rattle.hum_assemble.specs.Round.{earliest}
-use Rattle.hum_assemble.specs.Merge.{Merge, all_moved, moved, advanced, ahead, given_row, given_on}
+use Rattle.hum_assemble.specs.Merge.{Merge, all_moved, moved, ahead, given_row, given_on}
 use Rattle.hum_assemble.specs.Merge.{ahead_of, unless_broken, made}
 use Rattle.hum_assemble.specs.Meaning.{all_given, refusal, rest}
 use Rattle.hum_assemble.specs.Taking.{is_at}
@@ -25,7 +24,7 @@ use Rattle.hum_assemble.specs.Groups.{Steps, then_on, rule_at, row_of}
 use Rattle.hum_assemble.proofs.Taking.{empty_over}
 use Rattle.hum_assemble.proofs.Alone.{paths_of}
 use Rattle.hum_assemble.proofs.Steps.{all_going, all_resting, is_giving, earliest_at}
-use Rattle.hum_assemble.proofs.Written.{Meets, meets_step, parts_at, Sees, AllSee, merge_of, refused}
+use Rattle.hum_assemble.proofs.Written.{Meets, parts_at, Sees, AllSee, merge_of, refused}
 use Rattle.hum_assemble.proofs.Written.{earlier_left, earlier_right, least, ahead_is, made_is}
 use Rattle.hum_assemble.proofs.Written.{rank_most, same_place}
 use Rattle.hum_assemble.proofs.Does.{Does}
@@ -65,8 +64,7 @@ see_from : (n : ℕ) (ss : List Source) → n ≤ rank (earliest false ss) → (
 see_from n [] l k h = tt
 see_from n (s ∷ ss) l k h =
     let a = earlier_left (place_at false s) (earliest false ss) in
-    let b = earlier_right (place_at false s) (earliest false ss) in
-    (
+    let b = earlier_right (place_at false s) (earliest false ss) in (
       record { known = h.0.known; later = omega (arith, l, a); follow = h.0.follow },
       see_from n ss (omega (arith, l, b)) k h.1,
     )
@@ -238,7 +236,7 @@ alike m n p None a b r w g =
     let x = all_going m p a in
     let y = all_going n p b in (
       x.0 ∙ (ap (λ (row : Row). row ∷ all_given (given_on p m)) r
-      ∙ (ap (λ (k : Merge). given_row p n ∷ all_given k) w ∙ sym (y.0))),
+          ∙ (ap (λ (k : Merge). given_row p n ∷ all_given k) w ∙ sym (y.0))),
       ap (λ (k : Merge). refusal (k.given + 1) (ahead k)) (x.1 ∙ (ap rest w ∙ sym (y.1))),
     )
 alike m n p (Some rule) a b r w g =
@@ -246,9 +244,9 @@ alike m n p (Some rule) a b r w g =
     let y = all_resting n (ap is_giving b) in (
       x.0 ∙ sym (y.0),
       ap (λ (k : Merge). refusal (k.given + 1) (ahead k)) x.1
-      ∙ (ap (refusal (m.given + 1)) (a ∙ sym b)
-      ∙ (ap (λ (k : ℕ). refusal (k + 1) (ahead n)) g
-      ∙ sym (ap (λ (k : Merge). refusal (k.given + 1) (ahead k)) y.1))),
+          ∙ (ap (refusal (m.given + 1)) (a ∙ sym b)
+          ∙ (ap (λ (k : ℕ). refusal (k + 1) (ahead n)) g
+          ∙ sym (ap (λ (k : Merge). refusal (k.given + 1) (ahead k)) y.1))),
     )
 
 module _ (ss : List Source) (k : ℕ) (p : Place) (i : AllIdle k ss) (o : is_over p ≡ false)

@@ -1,10 +1,9 @@
 -- A source behind its opening record: what is still to come of it, and its part in a round of units.
-use Rattle.std.proofs.Common.{◌≡◌, ◌∙◌, refl, sym, ap, ℕ, zero, suc, ◌+◌, ◌≤◌, ◌<◌, Bool, true}
-use Rattle.std.proofs.Common.{false, not, ◌&&◌, ◌||◌, cond, List, [], ◌∷◌, ◌++◌, length, arith}
+use Rattle.std.proofs.Common.{◌≡◌, ◌∙◌, refl, sym, ap, ℕ, suc, ◌≤◌, ◌<◌, Bool, true}
+use Rattle.std.proofs.Common.{false, not, ◌||◌, cond, List, [], ◌∷◌, ◌++◌, length, arith}
 use Rattle.std.proofs.Common.{map}
-use Rattle.std.specs.Prelude.{Option, None, Some, is_none, is_some, ◌==◌}
+use Rattle.std.specs.Prelude.{Option, None, Some, ◌==◌}
 use Rattle.std.specs.List.{list_any, list_all}
-use Rattle.std.proofs.lemmas.Bool.Decides.{nat_tests}
 use Rattle.hum_record.specs.declared.SpinedKind.TheVariants.{Local, Interpretation, Values}
 use Rattle.hum_record.specs.Row.{Row, Comment, Spined}
 use Rattle.hum_path.specs.Sign.{sign_of}
@@ -13,25 +12,21 @@ use Rattle.hum_stage.specs.Score.{Follow}
 use Rattle.hum_stage.specs.declared.faults.End as end
 use Rattle.hum_stage.specs.declared.faults.End.TheVariants.{Closed, Broken}
 use Rattle.hum_assemble.specs.declared.places.Place.{Place}
-use Rattle.hum_assemble.specs.declared.places.Place.TheVariants.{Aside, Begins, Remark, Change, Over}
-use Rattle.hum_assemble.specs.declared.places.Place.TheVariants.{Note, Closing, Tail}
+use Rattle.hum_assemble.specs.declared.places.Place.TheVariants.{Aside, Begins}
 use Rattle.hum_assemble.specs.Source.{Source, place, is_inside, is_end, unit_place, inside_place}
-use Rattle.hum_assemble.specs.Places.{rank, step, is_shared, is_over}
+use Rattle.hum_assemble.specs.Places.{rank, step}
 use Rattle.hum_assemble.specs.Round.{is_missing, place_at, any_due}
-use Rattle.hum_assemble.specs.Taking.{is_at}
 use Rattle.hum_assemble.specs.Groups.{Body, nothing, with_row, body, sort_of, adds, is_comment}
-use Rattle.hum_assemble.specs.Groups.{Sort, Closes, IsData, Adds, Single, is_add, is_closed_end}
-use Rattle.hum_assemble.specs.Groups.{has_some, shows_unit, behind_unit, unit_if, row_if, first, alone}
-use Rattle.hum_assemble.specs.Groups.{unit_alone, is_whole}
+use Rattle.hum_assemble.specs.Groups.{Closes, Adds, Single, is_add, is_closed_end}
+use Rattle.hum_assemble.specs.Groups.{has_some, shows_unit, behind_unit, alone}
 use Rattle.hum_assemble.proofs.Taking.{empty_over}
-use Rattle.hum_assemble.proofs.Written.{Meets, Sees, AllSee, meets_missing}
-use Rattle.hum_assemble.proofs.Does.{Does, does_more, does_nothing, stop_parts, does_weaken}
-use Rattle.hum_assemble.proofs.Does.{Shares, moved_at, part_at}
-use Rattle.hum_assemble.proofs.Apart.{waiting, gone, HasUnit, MayGive, Leaves, single_unit, alone_step}
+use Rattle.hum_assemble.proofs.Written.{Sees, AllSee, meets_missing}
+use Rattle.hum_assemble.proofs.Does.{Does, does_more, does_nothing, stop_parts}
+use Rattle.hum_assemble.proofs.Apart.{waiting, gone, Leaves, alone_step}
 use Rattle.hum_assemble.proofs.Apart.{see_more}
-use Rattle.hum_assemble.proofs.Beginning.{Idle, takes_part, begun_at}
+use Rattle.hum_assemble.proofs.Beginning.{takes_part}
 use Rattle.hum_assemble.proofs.Sorting.{stands, Sorted, AsClosing, AsData, AsAdds, AsSingle, sorted}
-use Rattle.hum_assemble.proofs.Sorting.{begins, Tests, in_tail}
+use Rattle.hum_assemble.proofs.Sorting.{begins, in_tail}
 
 -- What is still to come.
 abbrev pub still : Path → Bool → List Row → Body

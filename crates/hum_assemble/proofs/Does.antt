@@ -1,24 +1,18 @@
 -- Steps that a merge does, one after another.
-use Rattle.std.proofs.Common.{◌≡◌, ◌∙◌, refl, sym, ap, ℕ, zero, suc, ◌+◌, ◌≤◌, Bool, true}
-use Rattle.std.proofs.Common.{false, not, ◌&&◌, ◌||◌, cond, List, [], ◌∷◌, ◌++◌, length, arith}
+use Rattle.std.proofs.Common.{◌≡◌, ◌∙◌, refl, ap, Bool, true}
+use Rattle.std.proofs.Common.{false, ◌||◌, cond, List, [], ◌∷◌, ◌++◌}
 use Rattle.std.proofs.Common.{map, append-nil}
-use Rattle.std.specs.Prelude.{Option, None, Some, is_none, is_some, ◌==◌, replicate}
-use Rattle.std.specs.List.{list_any, list_all, AllByRecursion}
-use Rattle.std.proofs.lemmas.Bool.Decides.{nat_tests}
+use Rattle.std.specs.Prelude.{Option, None, is_some}
+use Rattle.std.specs.List.{list_any}
 use Rattle.hum_record.specs.Row.{Row}
-use Rattle.hum_path.specs.Spines.{Path, after}
-use Rattle.hum_path.specs.Rules.{fault_of}
-use Rattle.hum_stage.specs.Score.{Follow}
-use Rattle.hum_stage.specs.declared.faults.End as end
 use Rattle.hum_assemble.specs.declared.places.Place.{Place}
-use Rattle.hum_assemble.specs.Source.{Source, place, is_inside}
+use Rattle.hum_assemble.specs.Source.{Source}
 use Rattle.hum_assemble.specs.Head.{first_of}
-use Rattle.hum_assemble.specs.Places.{rank, is_over, is_shared, step}
-use Rattle.hum_assemble.specs.Round.{any_due, is_missing, place_at, takes, still_free, in_round}
-use Rattle.hum_assemble.specs.Merge.{all_moved, moved, advanced}
+use Rattle.hum_assemble.specs.Places.{rank, is_over, is_shared}
+use Rattle.hum_assemble.specs.Round.{any_due}
+use Rattle.hum_assemble.specs.Merge.{all_moved, moved}
 use Rattle.hum_assemble.specs.Taking.{is_at}
-use Rattle.hum_assemble.specs.Groups.{Steps, steps, then_on, where_known, where_any, together, alone}
-use Rattle.hum_assemble.proofs.Taking.{or_not_false}
+use Rattle.hum_assemble.specs.Groups.{Steps, steps, then_on, where_known, where_any, together}
 use Rattle.hum_assemble.proofs.Written.{Meets, meets_step, parts_at, Sees, AllSee}
 
 -- However it goes on behind, where these steps lead to such sources.

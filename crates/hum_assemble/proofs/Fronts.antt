@@ -1,50 +1,51 @@
 -- The front, the opening records, the tail, and all together.
-use Rattle.std.proofs.Common.{◌≡◌, ◌∙◌, refl, sym, ap, ℕ, zero, suc, ◌+◌, ◌≤◌, ◌<◌, Bool, true}
-use Rattle.std.proofs.Common.{false, not, ◌&&◌, ◌||◌, cond, List, [], ◌∷◌, ◌++◌, length, arith}
+use Rattle.std.proofs.Common.{◌≡◌, ◌∙◌, refl, sym, ap, ℕ, ◌+◌, ◌≤◌, Bool, true}
+use Rattle.std.proofs.Common.{false, not, cond, List, [], ◌∷◌, length, arith}
 use Rattle.std.proofs.Common.{map}
-use Rattle.std.specs.Prelude.{Option, None, Some, is_none, is_some, ◌==◌, nat_le, slice_get}
-use Rattle.std.specs.List.{list_any, list_all, AllByRecursion}
-use Rattle.hum_record.specs.declared.SpinedKind.{SpinedKind}
-use Rattle.hum_record.specs.Row.{Row, Comment, Spined, tokens_of}
-use Rattle.hum_path.specs.Spines.{Path, Unopened, Spines, after}
-use Rattle.hum_stage.specs.Score.{Follow, IsScore, IsClosed}
-use Rattle.hum_stage.specs.Meaning.{fault_at}
+use Rattle.std.specs.Prelude.{Option, None, Some, is_some, ◌==◌, nat_lt, slice_get}
+use Rattle.std.specs.List.{list_all}
+use Rattle.hum_record.specs.Row.{Row, Comment, Spined}
+use Rattle.hum_path.specs.Spines.{Path, Unopened, Spines}
+use Rattle.hum_stage.specs.Score.{Follow}
+use Rattle.hum_stage.specs.Meaning.{fault_at, resting_state}
+use Rattle.hum_stage.specs.declared.faults.Fault.{Fault}
+use Rattle.hum_stage.specs.declared.faults.State.TheVariants.{Gives}
+use Rattle.hum_assemble.specs.Meaning.{inputs_end, ends}
+use Rattle.hum_assemble.specs.Groups.{fault_by_groups}
 use Rattle.hum_stage.specs.declared.faults.Rule.{Rule}
 use Rattle.hum_stage.specs.declared.faults.Command.TheVariants.{Assemble}
 use Rattle.hum_stage.specs.declared.faults.End as end
-use Rattle.hum_stage.specs.declared.faults.End.TheVariants.{Closed}
 use Rattle.hum_assemble.specs.declared.places.Place.{Place}
 use Rattle.hum_assemble.specs.declared.places.Place.TheVariants.{Front, Opening, Tail}
-use Rattle.hum_assemble.specs.Source.{Source, place, is_inside}
+use Rattle.hum_assemble.specs.Source.{Source, is_inside}
 use Rattle.hum_assemble.specs.Change.{Input}
-use Rattle.hum_assemble.specs.Places.{rank, step, is_shared, is_over}
-use Rattle.hum_assemble.specs.Round.{is_missing, place_at, any_due}
-use Rattle.hum_assemble.specs.Taking.{is_at}
-use Rattle.hum_assemble.specs.Meaning.{begun, opening, AreScores, output, own_fault, Moment, all_of}
-use Rattle.hum_assemble.specs.Groups.{Body, nothing, body, with_row, sort_of, adds, is_closed_end}
-use Rattle.hum_assemble.specs.Groups.{Closes, IsData, Adds, Single, opened, is_comment}
-use Rattle.hum_assemble.specs.Groups.{has_some, behind_first, most, Steps, steps, then_on}
-use Rattle.hum_assemble.specs.Groups.{Comments, shows_comment, next_comment, behind_comment}
-use Rattle.hum_assemble.specs.Groups.{all_comments, tail_of, shows_unit, groups, closings}
+use Rattle.hum_assemble.specs.Places.{rank, step, is_over}
+use Rattle.hum_assemble.specs.Round.{is_missing, place_at}
+use Rattle.hum_assemble.specs.Meaning.{begun, AreScores, output, own_fault, Moment, all_of}
+use Rattle.hum_assemble.specs.Groups.{Body, nothing, body, is_closed_end}
+use Rattle.hum_assemble.specs.Groups.{Closes, IsData, Adds, Single, opened}
+use Rattle.hum_assemble.specs.Groups.{has_some, behind_first, most, then_on}
+use Rattle.hum_assemble.specs.Groups.{shows_comment, next_comment}
+use Rattle.hum_assemble.specs.Groups.{all_comments, tail_of, groups, closings}
 use Rattle.hum_assemble.specs.Groups.{Cut, cut, cut_of, front_of, shows_opening, openings, merged}
 use Rattle.hum_assemble.specs.Groups.{behind_openings, unopened, written, stops_at, all_parts}
-use Rattle.hum_assemble.specs.Groups.{IsByGroups, GivesByGroups, where_known, together, by_groups}
+use Rattle.hum_assemble.specs.Groups.{GivesByGroups, together, by_groups}
 use Rattle.hum_assemble.proofs.Taking.{empty_over}
 use Rattle.hum_assemble.proofs.Alone.{paths_of}
-use Rattle.hum_assemble.proofs.Written.{Meets, Sees, AllSee, meets_missing, meets_over}
+use Rattle.hum_assemble.proofs.Written.{Meets, Sees, meets_over}
 use Rattle.hum_assemble.proofs.Does.{Does, does_weaken, does_then, does_known, does_finish}
 use Rattle.hum_assemble.proofs.Does.{Both, Shares, does_together}
-use Rattle.hum_assemble.proofs.Apart.{waiting, gone, MayGive, single_unit}
+use Rattle.hum_assemble.proofs.Apart.{gone, MayGive, single_unit}
 use Rattle.hum_assemble.proofs.Beginning.{Spans, takes_part, begun_at}
 use Rattle.hum_assemble.proofs.Sorting.{Sorted, AsClosing, AsData, AsAdds, AsSingle, sorted}
-use Rattle.hum_assemble.proofs.Sorting.{opened_row, Opened}
+use Rattle.hum_assemble.proofs.Sorting.{opened_row}
 use Rattle.hum_assemble.proofs.Bodies.{InBody, View, Nothing, InTail, AtRow, view, looks, calm}
 use Rattle.hum_assemble.proofs.Bodies.{missing_end, still, Fits}
 use Rattle.hum_assemble.proofs.Units.{both_map}
-use Rattle.hum_assemble.proofs.Grouping.{both_all, both_known, both_missing, both_due, both_stuck}
-use Rattle.hum_assemble.proofs.Grouping.{both_over, both_under, clash, built, Ended, Spent, tail_body}
+use Rattle.hum_assemble.proofs.Grouping.{both_all, both_known, both_due, both_stuck}
+use Rattle.hum_assemble.proofs.Grouping.{both_over, clash, built, Ended, Spent, tail_body}
 use Rattle.hum_assemble.proofs.Grouping.{body_missing, begun_calm, nothing_body, quiet_shares}
-use Rattle.hum_assemble.proofs.Grouping.{AllShort, most_short, further_size, groups_does}
+use Rattle.hum_assemble.proofs.Grouping.{most_short, further_size, groups_does}
 use Rattle.hum_assemble.proofs.Grouping.{closings_does}
 use Rattle.hum_assemble.proofs.Remarks.{Remarks, all_comments_does}
 
@@ -474,10 +475,19 @@ pub gives_by_groups : GivesByGroups
 gives_by_groups stage xs h =
     let m = does_finish (merged (map cut_of xs)) (map begun xs)
     (merged_does (map begun xs) (map cut_of xs) (begun_front xs h)) in
+    let rows : output xs ≡ by_groups xs =
+    m.rows 0 ∙ ap (λ (paths : List Path). written 0 paths (all_parts xs)) (begun_paths xs) in
+    let fault : own_fault stage xs ≡ fault_by_groups stage xs =
+    ap (λ (o : Option (ℕ × Rule)). fault_at stage Assemble o)
+    (m.stop 0 ∙ ap (λ (paths : List Path). stops_at 0 paths (all_parts xs)) (begun_paths xs)) in
     record {
-      rows = m.rows 0 ∙ ap (λ (paths : List Path). written 0 paths (all_parts xs)) (begun_paths xs);
-      fault = ap (λ (o : Option (ℕ × Rule)). fault_at stage Assemble o)
-          (m.stop 0 ∙ ap (λ (paths : List Path). stops_at 0 paths (all_parts xs)) (begun_paths xs));
+      rows = rows;
+      fault = fault;
+      state = λ given.
+          ap (λ (given_rows : List Row). cond (nat_lt given (length given_rows)) Gives
+          (resting_state (own_fault stage xs) (inputs_end (ends xs)))) rows
+          ∙ ap (λ (o : Option Fault). cond (nat_lt given (length (by_groups xs))) Gives
+          (resting_state o (inputs_end (ends xs)))) fault;
     }
 
 -- The next of what is given is the next of what the groups give.

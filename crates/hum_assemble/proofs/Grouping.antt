@@ -1,38 +1,37 @@
 -- Group after group, the closing records.
 use Rattle.std.proofs.Common.{◌≡◌, ◌∙◌, refl, sym, ap, ℕ, zero, suc, ◌+◌, ◌≤◌, ◌<◌, Bool, true}
-use Rattle.std.proofs.Common.{false, not, ◌&&◌, ◌||◌, cond, List, [], ◌∷◌, ◌++◌, length, arith}
+use Rattle.std.proofs.Common.{false, not, ◌&&◌, ◌||◌, cond, List, [], ◌∷◌, length, arith}
 use Rattle.std.proofs.Common.{map}
-use Rattle.std.specs.Prelude.{Option, None, Some, is_none, is_some, ◌==◌, nat_le}
+use Rattle.std.specs.Prelude.{Option, None, Some, is_some, ◌==◌, nat_le}
 use Rattle.std.specs.List.{list_any, list_all, AllByRecursion}
 use Rattle.std.proofs.lemmas.Bool.Decides.{nat_tests}
 use Rattle.hum_record.specs.Row.{Row, Comment}
-use Rattle.hum_path.specs.Spines.{Path, Unopened, Spines, after}
+use Rattle.hum_path.specs.Spines.{Path, Spines}
 use Rattle.hum_stage.specs.Score.{Follow}
 use Rattle.hum_stage.specs.declared.faults.End as end
 use Rattle.hum_assemble.specs.declared.places.Place.{Place}
-use Rattle.hum_assemble.specs.declared.places.Place.TheVariants.{Note, Closing, Over}
-use Rattle.hum_assemble.specs.Source.{Source, place, is_inside, unit_place}
-use Rattle.hum_assemble.specs.Head.{first_of}
-use Rattle.hum_assemble.specs.Places.{rank, step, is_shared, is_over}
-use Rattle.hum_assemble.specs.Round.{is_missing, place_at, any_due, in_round}
+use Rattle.hum_assemble.specs.declared.places.Place.TheVariants.{Note, Closing}
+use Rattle.hum_assemble.specs.Source.{Source, is_inside}
+use Rattle.hum_assemble.specs.Places.{rank, step, is_over}
+use Rattle.hum_assemble.specs.Round.{is_missing, any_due, in_round}
 use Rattle.hum_assemble.specs.Taking.{is_at}
 use Rattle.hum_assemble.specs.Groups.{Body, nothing, with_row, body, sort_of, adds}
 use Rattle.hum_assemble.specs.Groups.{Sort, Closes, IsData, Adds, Single, is_closed_end}
-use Rattle.hum_assemble.specs.Groups.{has_some, behind_unit, behind_first, most, Steps, steps, then_on}
+use Rattle.hum_assemble.specs.Groups.{has_some, behind_unit, behind_first, most, then_on}
 use Rattle.hum_assemble.specs.Groups.{where_known, where_any, together, unit_round, rounds, groups}
 use Rattle.hum_assemble.specs.Groups.{next_data, next_group, shows_unit, shows_data, shows_closing}
 use Rattle.hum_assemble.specs.Groups.{closings}
 use Rattle.hum_assemble.proofs.Taking.{empty_over}
-use Rattle.hum_assemble.proofs.Written.{Meets, Sees, AllSee, meets_missing}
+use Rattle.hum_assemble.proofs.Written.{Meets, Sees, meets_missing}
 use Rattle.hum_assemble.proofs.Does.{Does, does_weaken, does_then, does_known, does_any, does_nothing}
-use Rattle.hum_assemble.proofs.Does.{Both, Shares, moved_at, part_at, does_together}
+use Rattle.hum_assemble.proofs.Does.{Both, Shares, moved_at, does_together}
 use Rattle.hum_assemble.proofs.Apart.{waiting, gone}
-use Rattle.hum_assemble.proofs.Beginning.{Idle, AllIdle, Spans, takes_part, begun_at, does_begin}
-use Rattle.hum_assemble.proofs.Sorting.{stands, Sorted, AsClosing, AsData, AsAdds, AsSingle, sorted}
+use Rattle.hum_assemble.proofs.Beginning.{Idle, Spans, takes_part, begun_at, does_begin}
+use Rattle.hum_assemble.proofs.Sorting.{Sorted, AsClosing, AsData, AsAdds, AsSingle, sorted}
 use Rattle.hum_assemble.proofs.Bodies.{InBody, InRound, Waits, Gone, View, Nothing, InTail, AtRow, view}
 use Rattle.hum_assemble.proofs.Bodies.{Fits}
 use Rattle.hum_assemble.specs.Groups.{is_comment}
-use Rattle.hum_assemble.proofs.Bodies.{looks, Looks, calm, body_stands, still, still_nothing}
+use Rattle.hum_assemble.proofs.Bodies.{looks, calm, body_stands, still_nothing}
 use Rattle.hum_assemble.proofs.Units.{round_does, both_map}
 
 -- Sources and what is to come of them, in step.

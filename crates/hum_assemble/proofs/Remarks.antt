@@ -1,43 +1,29 @@
 -- Rounds of global comments: the front and the tail.
 use Rattle.std.proofs.Common.{◌≡◌, ◌∙◌, refl, sym, ap, ℕ, zero, suc, ◌+◌, ◌≤◌, ◌<◌, Bool, true}
-use Rattle.std.proofs.Common.{false, not, ◌&&◌, ◌||◌, cond, List, [], ◌∷◌, ◌++◌, length, arith}
+use Rattle.std.proofs.Common.{false, not, ◌&&◌, List, [], ◌∷◌, length, arith}
 use Rattle.std.proofs.Common.{map}
-use Rattle.std.specs.Prelude.{Option, None, Some, is_none, is_some, ◌==◌, nat_le}
-use Rattle.std.specs.List.{list_any, list_all, AllByRecursion}
-use Rattle.hum_record.specs.declared.SpinedKind.{SpinedKind}
-use Rattle.hum_record.specs.Row.{Row, Comment, Spined, tokens_of}
-use Rattle.hum_path.specs.Spines.{Path, Unopened, Spines, after}
+use Rattle.std.specs.Prelude.{Option, is_some}
+use Rattle.std.specs.List.{list_any, list_all}
+use Rattle.hum_record.specs.Row.{Row}
 use Rattle.hum_stage.specs.Score.{Follow}
-use Rattle.hum_stage.specs.declared.faults.End as end
-use Rattle.hum_assemble.specs.declared.places.Place.{Place}
-use Rattle.hum_assemble.specs.declared.places.Place.TheVariants.{Front, Opening, Tail}
-use Rattle.hum_assemble.specs.Source.{Source, place, is_inside}
-use Rattle.hum_assemble.specs.Places.{rank, step, is_shared, is_over}
-use Rattle.hum_assemble.specs.Round.{is_missing, place_at, any_due}
-use Rattle.hum_assemble.specs.Taking.{is_at}
-use Rattle.hum_assemble.specs.Groups.{Body, nothing, body, with_row, sort_of, adds, is_closed_end}
-use Rattle.hum_assemble.specs.Groups.{Closes, IsData, Adds, Single, opened, is_comment}
-use Rattle.hum_assemble.specs.Groups.{has_some, behind_first, most, Steps, steps, then_on}
-use Rattle.hum_assemble.specs.Groups.{where_known, where_any, together, each_alone}
+use Rattle.hum_assemble.specs.Source.{Source}
+use Rattle.hum_assemble.specs.Places.{rank}
+use Rattle.hum_assemble.specs.Round.{is_missing, place_at}
+use Rattle.hum_assemble.specs.Groups.{most, then_on}
+use Rattle.hum_assemble.specs.Groups.{where_any, each_alone}
 use Rattle.hum_assemble.specs.Groups.{Comments, shows_comment, next_comment, behind_comment}
-use Rattle.hum_assemble.specs.Groups.{comment_rounds, all_comments, tail_of, shows_unit}
-use Rattle.hum_assemble.specs.Groups.{Cut, cut, front_of, shows_opening, openings}
-use Rattle.hum_assemble.proofs.Taking.{empty_over}
-use Rattle.hum_assemble.proofs.Written.{Meets, Sees, AllSee, meets_missing, meets_over}
+use Rattle.hum_assemble.specs.Groups.{comment_rounds, all_comments}
+use Rattle.hum_assemble.proofs.Written.{Sees}
 use Rattle.hum_assemble.proofs.Does.{Does, does_weaken, does_then, does_known, does_any, does_nothing}
-use Rattle.hum_assemble.proofs.Does.{Both, Shares, does_together}
-use Rattle.hum_assemble.proofs.Apart.{waiting, gone, MayGive, each_does, Given, single_unit}
-use Rattle.hum_assemble.proofs.Beginning.{Idle, AllIdle, Spans, takes_part, begun_at, does_begin}
-use Rattle.hum_assemble.proofs.Sorting.{stands, Sorted, AsClosing, AsData, AsAdds, AsSingle, sorted}
-use Rattle.hum_assemble.proofs.Sorting.{opened_row, Opened}
-use Rattle.hum_assemble.proofs.Bodies.{InBody, View, Nothing, InTail, AtRow, view, looks, calm}
-use Rattle.hum_assemble.proofs.Bodies.{idle_sees, missing_end, still, Fits}
+use Rattle.hum_assemble.proofs.Does.{Both}
+use Rattle.hum_assemble.proofs.Apart.{MayGive, each_does, Given}
+use Rattle.hum_assemble.proofs.Beginning.{Idle, Spans, takes_part, begun_at, does_begin}
+use Rattle.hum_assemble.proofs.Bodies.{idle_sees}
 use Rattle.hum_assemble.proofs.Units.{both_map}
-use Rattle.hum_assemble.proofs.Grouping.{both_any, both_missing, both_all, both_known, both_none}
-use Rattle.hum_assemble.proofs.Grouping.{both_moved, both_due, both_stuck, both_under, both_over}
+use Rattle.hum_assemble.proofs.Grouping.{both_any, both_all, both_known, both_none}
+use Rattle.hum_assemble.proofs.Grouping.{both_moved, both_stuck, both_under, both_over}
 use Rattle.hum_assemble.proofs.Grouping.{AllShort, most_short, none_short, shorter, some_one}
-use Rattle.hum_assemble.proofs.Grouping.{all_shorter, any_map, clash, built, Ended, tail_body}
-use Rattle.hum_assemble.proofs.Grouping.{body_missing, begun_calm, nothing_body, quiet_shares}
+use Rattle.hum_assemble.proofs.Grouping.{all_shorter, any_map}
 
 all_map : {X Y : Type 0} (f : Y → Bool) (g : X → Y) (xs : List X)
     → list_all f (map g xs) ≡ list_all (λ x. f (g x)) xs

@@ -1,10 +1,9 @@
 -- What stands behind an opening record: the sort of each record, its place, and the spines after it.
-use Rattle.std.proofs.Common.{◌≡◌, ◌∙◌, refl, sym, ap, ℕ, zero, suc, ◌+◌, ◌≤◌, Bool, true}
+use Rattle.std.proofs.Common.{◌≡◌, ◌∙◌, refl, sym, ap, ℕ, ◌≤◌, Bool, true}
 use Rattle.std.proofs.Common.{false, not, ◌&&◌, ◌||◌, cond, List, [], ◌∷◌, ◌++◌, length, arith}
 use Rattle.std.proofs.Common.{map}
-use Rattle.std.specs.Prelude.{Option, None, Some, is_none, is_some, ◌==◌}
+use Rattle.std.specs.Prelude.{None, ◌==◌}
 use Rattle.std.specs.List.{list_any, list_all, find}
-use Rattle.std.proofs.lemmas.Bool.Decides.{nat_tests}
 use Rattle.std.proofs.lemmas.List.{length-map}
 use Rattle.hum_record.specs.declared.SpinedKind.TheVariants.{Local, Interpretation, Values}
 use Rattle.hum_record.specs.Row.{Row, Comment, Spined, tokens_of}
@@ -15,20 +14,19 @@ use Rattle.hum_path.specs.declared.signs.Sign.TheVariants.{Split, Join, Exchange
 use Rattle.hum_path.specs.declared.signs.Sign.TheVariants.{Exclusive, Plain}
 use Rattle.hum_path.specs.Sign.{sign_of, is_exclusive, is_exchange, is_join, is_plain, all_plain}
 use Rattle.hum_path.specs.Sign.{is_path_indicator}
-use Rattle.hum_path.specs.Spines.{Path, Unopened, Spines, exclusives, after, names_after}
+use Rattle.hum_path.specs.Spines.{Path, Unopened, Spines, after, names_after}
 use Rattle.hum_path.specs.Rules.{fault_of, breaks, breaks_as_text, in_order, has_unnamed}
-use Rattle.hum_path.specs.Rules.{stays_unnamed, names_and_steers}
+use Rattle.hum_path.specs.Rules.{stays_unnamed}
 use Rattle.hum_path.specs.Onward.{beginnings, onward, onward_one, swapped, at_next, put_next}
 use Rattle.hum_path.specs.Onward.{renamed_each}
 use Rattle.hum_path.proofs.Obeyed.{opens, obeys}
 use Rattle.hum_path.proofs.Onwards.{names_onward, swapped_length, each_length}
 use Rattle.hum_path.proofs.Plain.{find_head}
-use Rattle.hum_assemble.specs.declared.places.Place.{Place}
 use Rattle.hum_assemble.specs.declared.places.Place.TheVariants.{Tandem, Change, Note, Closing}
-use Rattle.hum_assemble.specs.Source.{place, is_inside, is_end, unit_place, inside_place}
+use Rattle.hum_assemble.specs.Source.{place, is_inside, is_end, unit_place}
 use Rattle.hum_assemble.specs.Source.{interpretation_place}
 use Rattle.hum_assemble.specs.Places.{rank}
-use Rattle.hum_assemble.specs.Groups.{Sort, Closes, IsData, Adds, Single, sort_of, sort_signs, adds}
+use Rattle.hum_assemble.specs.Groups.{Closes, IsData, Adds, Single, sort_of, adds}
 use Rattle.hum_assemble.specs.Groups.{is_add, is_comment, is_local, is_tandem, is_other}
 use Rattle.hum_assemble.proofs.Sounding.{all_ends}
 use Rattle.hum_assemble.proofs.Turning.{exclusive_filled, exclusive_named}

@@ -1,36 +1,35 @@
 -- A round of units.
-use Rattle.std.proofs.Common.{◌≡◌, ◌∙◌, refl, sym, ap, ℕ, zero, suc, ◌+◌, ◌≤◌, ◌<◌, Bool, true}
-use Rattle.std.proofs.Common.{false, not, ◌&&◌, ◌||◌, cond, List, [], ◌∷◌, ◌++◌, length, arith}
+use Rattle.std.proofs.Common.{◌≡◌, ◌∙◌, refl, sym, ap, ℕ, suc, ◌≤◌, ◌<◌, Bool, true}
+use Rattle.std.proofs.Common.{false, not, ◌||◌, List, [], ◌∷◌, ◌++◌, length, arith}
 use Rattle.std.proofs.Common.{map}
-use Rattle.std.specs.Prelude.{Option, None, Some, is_none, is_some, ◌==◌}
-use Rattle.std.specs.List.{list_any, list_all}
+use Rattle.std.specs.Prelude.{Option, None, Some, ◌==◌}
+use Rattle.std.specs.List.{list_any}
 use Rattle.std.proofs.lemmas.Bool.Decides.{nat_tests}
 use Rattle.hum_record.specs.Row.{Row}
-use Rattle.hum_path.specs.Spines.{Path, Unopened, Spines, after}
+use Rattle.hum_path.specs.Spines.{Path, Spines, after}
 use Rattle.hum_stage.specs.Score.{Follow}
 use Rattle.hum_stage.specs.declared.faults.End as end
 use Rattle.hum_assemble.specs.declared.places.Place.{Place}
-use Rattle.hum_assemble.specs.declared.places.Place.TheVariants.{Remark, Change, Over}
+use Rattle.hum_assemble.specs.declared.places.Place.TheVariants.{Remark, Change}
 use Rattle.hum_assemble.specs.declared.places.Place.TheVariants.{Local as LocalPlace, Tandem}
 use Rattle.hum_assemble.specs.Source.{Source, place, is_inside, unit_place}
-use Rattle.hum_assemble.specs.Head.{first_of}
-use Rattle.hum_assemble.specs.Places.{rank, step, is_shared, is_over}
-use Rattle.hum_assemble.specs.Round.{is_missing, place_at, any_due}
+use Rattle.hum_assemble.specs.Places.{rank, is_shared, is_over}
+use Rattle.hum_assemble.specs.Round.{any_due}
 use Rattle.hum_assemble.specs.Taking.{is_at}
-use Rattle.hum_assemble.specs.Groups.{Body, nothing, with_row, body, sort_of, adds, is_comment}
-use Rattle.hum_assemble.specs.Groups.{Closes, IsData, Adds, Single, is_closed_end, is_local}
-use Rattle.hum_assemble.specs.Groups.{is_tandem, is_other, unit_round, each_alone, together, then_on}
-use Rattle.hum_assemble.specs.Groups.{has_some, behind_unit, unit_if, row_if, first, alone}
-use Rattle.hum_assemble.proofs.Written.{Sees, AllSee, same_place}
+use Rattle.hum_assemble.specs.Groups.{Body, with_row, body, adds, is_comment}
+use Rattle.hum_assemble.specs.Groups.{Adds, Single, is_closed_end, is_local}
+use Rattle.hum_assemble.specs.Groups.{is_tandem, is_other, unit_round, each_alone, together}
+use Rattle.hum_assemble.specs.Groups.{behind_unit, unit_if, row_if, alone}
+use Rattle.hum_assemble.proofs.Written.{same_place}
 use Rattle.hum_assemble.proofs.Does.{Does, does_more, does_weaken, does_then, Both}
-use Rattle.hum_assemble.proofs.Does.{Shares, moved_at, part_at, does_together}
+use Rattle.hum_assemble.proofs.Does.{Shares, does_together}
 use Rattle.hum_assemble.proofs.Apart.{waiting, gone, HasUnit, MayGive, Leaves, single_unit, alone_step}
 use Rattle.hum_assemble.proofs.Apart.{see_more, each_does, Given}
 use Rattle.hum_assemble.proofs.Sorting.{stands, Sorted, AsClosing, AsData, AsAdds, AsSingle, sorted}
 use Rattle.hum_assemble.proofs.Sorting.{Tests, picks_comments, picks_locals, picks_tandems}
 use Rattle.hum_assemble.proofs.Sorting.{picks_others}
 use Rattle.hum_assemble.proofs.Bodies.{InBody, InRound, Waits, Gone, GoneBefore, gone_later, round_sees}
-use Rattle.hum_assemble.proofs.Bodies.{calm_sees, body_stands, inside_does, Bare, inside_of, calm}
+use Rattle.hum_assemble.proofs.Bodies.{calm_sees, body_stands, inside_does, Bare, inside_of}
 
 -- what is left behind a unit of one record
 gone_single : (n : List ℕ) (ns : List (List ℕ)) (row : Row) (rows : List Row)

@@ -1,25 +1,24 @@
 -- What a merge gives, as parts that are written.
-use Rattle.std.proofs.Common.{◌≡◌, ◌∙◌, refl, sym, ap, ℕ, zero, suc, ◌+◌, ◌≤◌, Bool, true}
-use Rattle.std.proofs.Common.{false, not, ◌&&◌, ◌||◌, cond, List, [], ◌∷◌, ◌++◌, length, arith, map}
+use Rattle.std.proofs.Common.{◌≡◌, ◌∙◌, refl, sym, ap, ℕ, ◌+◌, ◌≤◌, Bool, true}
+use Rattle.std.proofs.Common.{false, not, ◌&&◌, ◌||◌, cond, List, [], ◌∷◌, length, arith}
 use Rattle.std.specs.Prelude.{Option, None, Some, is_none, ◌==◌}
 use Rattle.std.specs.List.{list_any, AllByRecursion}
 use Rattle.std.proofs.lemmas.Bool.Decides.{nat_tests}
 use Rattle.hum_record.specs.declared.SpinedKind.{SpinedKind}
-use Rattle.hum_record.specs.Row.{Row, Comment, Spined, text_of, tokens_of}
-use Rattle.hum_path.specs.Spines.{Path, width, after}
+use Rattle.hum_record.specs.Row.{Row, Comment, Spined, text_of}
+use Rattle.hum_path.specs.Spines.{Path, width}
 use Rattle.hum_stage.specs.Score.{Follow}
 use Rattle.hum_stage.specs.declared.faults.Rule.{Rule}
-use Rattle.hum_stage.specs.declared.faults.End as end
 use Rattle.hum_assemble.specs.declared.places.Place.{Place}
 use Rattle.hum_assemble.specs.declared.places.Next as next
 use Rattle.hum_assemble.specs.declared.places.Next.TheVariants.{Gives, Refused, Wants}
 use Rattle.hum_assemble.specs.declared.places.Next.TheVariants.{Over as NothingMore}
 use Rattle.hum_assemble.specs.Source.{Source}
 use Rattle.hum_assemble.specs.Head.{first_of}
-use Rattle.hum_assemble.specs.Places.{rank, kind_at, null_of, is_over, is_shared}
+use Rattle.hum_assemble.specs.Places.{rank, kind_at, is_over, is_shared}
 use Rattle.hum_assemble.specs.Round.{any_due, is_missing, is_lost, place_at, takes, still_free}
 use Rattle.hum_assemble.specs.Round.{earliest, first_from}
-use Rattle.hum_assemble.specs.Merge.{Merge, all_moved, moved, made, spines, rule_broken, ahead}
+use Rattle.hum_assemble.specs.Merge.{Merge, all_moved, moved, made, spines, ahead}
 use Rattle.hum_assemble.specs.Merge.{ahead_at, ahead_of, unless_broken, unless_missing, given_row}
 use Rattle.hum_assemble.specs.Merge.{given_on, comment_given, tokens_given, part_given, advanced}
 use Rattle.hum_assemble.specs.Merge.{row_of_kind}
@@ -40,7 +39,7 @@ use Rattle.hum_assemble.specs.declared.places.Place.TheVariants.{Remark, Local a
 use Rattle.hum_assemble.specs.declared.places.Place.TheVariants.{Tandem, Change, Note, Closing}
 use Rattle.hum_assemble.specs.declared.places.Place.TheVariants.{Tail, Over}
 use Rattle.hum_assemble.specs.Places.{earlier, null_at}
-use Rattle.hum_assemble.specs.Merge.{nulls, tokens_of_first, text_of_first}
+use Rattle.hum_assemble.specs.Merge.{tokens_of_first, text_of_first}
 use Rattle.hum_assemble.specs.Groups.{row_like}
 
 abbrev pub merge_of : List Source → ℕ → Merge

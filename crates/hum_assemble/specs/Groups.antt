@@ -1,6 +1,6 @@
 -- What several scores give side by side, as a musician says it: their fronts, their opening records,
 -- group after group of units with the data records in step, their closing records, their tails.
-use Rattle.std.specs.Prelude.{◌≡◌, ℕ, zero, suc, ◌+◌, nat_le, Bool, true, false, not, ◌||◌}
+use Rattle.std.specs.Prelude.{◌≡◌, ℕ, zero, suc, ◌+◌, nat_le, nat_lt, Bool, true, false, not, ◌||◌}
 use Rattle.std.specs.Prelude.{List, [], ◌∷◌, ◌++◌, map, length, replicate, if◌then◌else◌}
 use Rattle.std.specs.Prelude.{Option, None, Some, is_some, is_none, slice_get}
 use Rattle.std.specs.List.{list_any, list_all}
@@ -16,12 +16,15 @@ use Rattle.hum_stage.specs.declared.faults.Fault.{Fault}
 use Rattle.hum_stage.specs.declared.faults.Command.TheVariants.{Assemble}
 use Rattle.hum_stage.specs.declared.faults.End as end
 use Rattle.hum_stage.specs.declared.faults.End.TheVariants.{Closed, Broken}
-use Rattle.hum_stage.specs.Meaning.{fault_at}
+use Rattle.hum_stage.specs.declared.faults.State as state
+use Rattle.hum_stage.specs.declared.faults.State.TheVariants.{Gives}
+use Rattle.hum_stage.specs.Meaning.{fault_at, resting_state}
 use Rattle.hum_assemble.specs.Change.{Input}
 use Rattle.hum_assemble.specs.Source.{is_end}
 use Rattle.hum_assemble.specs.Places.{null_of}
 use Rattle.hum_assemble.specs.Merge.{rule_broken}
-use Rattle.hum_assemble.specs.Meaning.{output, own_fault, AreScores, Moment}
+use Rattle.hum_assemble.specs.Meaning.{output, own_fault, AreScores, Moment, state_of, inputs_end}
+use Rattle.hum_assemble.specs.Meaning.{ends}
 
 -- A source, cut.
 
@@ -384,10 +387,19 @@ by_groups xs = written 0 (unopened xs) (all_parts xs)
 abbrev pub fault_by_groups : ℕ → List Input → Option Fault
 fault_by_groups stage xs = fault_at stage Assemble (stops_at 0 (unopened xs) (all_parts xs))
 
+-- It gives until all of that was given, then wants until every source has ended. It is done then, with
+-- the lowest-numbered fault of a source, else its own.
+abbrev pub state_by_groups : ℕ → List Input → ℕ → state.State
+state_by_groups stage xs given =
+    if nat_lt given (length (by_groups xs)) then Gives
+    else resting_state (fault_by_groups stage xs) (inputs_end (ends xs))
+
 -- Of scores, whether they go on, have ended or are broken, what is given is just that.
 pub record IsByGroups (stage : ℕ) (xs : List Input) : Type 0 where
   pub rows : output xs ≡ by_groups xs
   pub fault : own_fault stage xs ≡ fault_by_groups stage xs
+  pub state : (given : ℕ) → state_of (record { stage = stage; inputs = xs; given = given })
+      ≡ state_by_groups stage xs given
 
 abbrev pub GivesByGroups : Type 0
 GivesByGroups = (stage : ℕ) (xs : List Input) → AreScores xs → IsByGroups stage xs
