@@ -26,7 +26,7 @@ abbrev broken : Fault
 broken = record { stage = 2; command = Read; line = 3; rule = P8 }
 
 -- splits and joins of two sources, each in a record of its own
-abbrev apart_a : Input
+abbrev pub apart_a : Input
 apart_a = record {
   put =
       i (codes "**x" ∷ []) ∷ i (codes "*^" ∷ []) ∷ d (codes "1" ∷ codes "2" ∷ [])
@@ -34,7 +34,7 @@ apart_a = record {
   ended = Some Closed;
 }
 
-abbrev apart_b : Input
+abbrev pub apart_b : Input
 apart_b = record {
   put =
       i (codes "**y" ∷ []) ∷ i (codes "*^" ∷ []) ∷ d (codes "7" ∷ codes "8" ∷ [])
@@ -42,32 +42,38 @@ apart_b = record {
   ended = Some Closed;
 }
 
-apart : output (apart_a ∷ apart_b ∷ []) ≡
+abbrev pub apart_rows : List Row
+apart_rows =
     i (codes "**x" ∷ codes "**y" ∷ []) ∷ i (codes "*^" ∷ codes "*" ∷ [])
     ∷ i (codes "*" ∷ codes "*" ∷ codes "*^" ∷ [])
     ∷ d (codes "1" ∷ codes "2" ∷ codes "7" ∷ codes "8" ∷ [])
     ∷ i (codes "*v" ∷ codes "*v" ∷ codes "*" ∷ codes "*" ∷ [])
     ∷ i (codes "*" ∷ codes "*v" ∷ codes "*v" ∷ []) ∷ d (codes "." ∷ codes "9" ∷ [])
     ∷ i (codes "*-" ∷ codes "*-" ∷ []) ∷ []
+
+apart : output (apart_a ∷ apart_b ∷ []) ≡ apart_rows
 apart = refl
 
 -- a broken source shows nothing of the round that it hasn't
-abbrev torn_a : Input
+abbrev pub torn_a : Input
 torn_a = record {
   put =
       i (codes "**x" ∷ []) ∷ d (codes "1" ∷ []) ∷ d (codes "2" ∷ []) ∷ i (codes "*-" ∷ []) ∷ [];
   ended = Some Closed;
 }
 
-abbrev torn_b : Input
+abbrev pub torn_b : Input
 torn_b = record {
   put =
       i (codes "**y" ∷ []) ∷ d (codes "7" ∷ []) ∷ [];
   ended = Some (Broken broken);
 }
 
-torn : output (torn_a ∷ torn_b ∷ []) ≡
+abbrev pub torn_rows : List Row
+torn_rows =
     i (codes "**x" ∷ codes "**y" ∷ []) ∷ d (codes "1" ∷ codes "7" ∷ []) ∷ []
+
+torn : output (torn_a ∷ torn_b ∷ []) ≡ torn_rows
 torn = refl
 
 torn_is_done : state_of (record { stage = 3; inputs = torn_a ∷ torn_b ∷ []; given = 2 })
@@ -83,7 +89,7 @@ torn_wants : wants_of (record {
 torn_wants = refl
 
 -- units of a group, round by round
-abbrev rounds_a : Input
+abbrev pub rounds_a : Input
 rounds_a = record {
   put =
       i (codes "**x" ∷ []) ∷ d (codes "1" ∷ []) ∷ i (codes "*^" ∷ [])
@@ -92,7 +98,7 @@ rounds_a = record {
   ended = Some Closed;
 }
 
-abbrev rounds_b : Input
+abbrev pub rounds_b : Input
 rounds_b = record {
   put =
       i (codes "**y" ∷ []) ∷ i (codes "*^" ∷ []) ∷ d (codes "7" ∷ codes "8" ∷ [])
@@ -101,16 +107,19 @@ rounds_b = record {
   ended = Some Closed;
 }
 
-rounds : output (rounds_a ∷ rounds_b ∷ []) ≡
+abbrev pub rounds_rows : List Row
+rounds_rows =
     i (codes "**x" ∷ codes "**y" ∷ []) ∷ i (codes "*" ∷ codes "*^" ∷ [])
     ∷ d (codes "1" ∷ codes "7" ∷ codes "8" ∷ []) ∷ i (codes "*^" ∷ codes "*" ∷ codes "*" ∷ [])
     ∷ i (codes "*" ∷ codes "*" ∷ codes "*v" ∷ codes "*v" ∷ [])
     ∷ d (codes "2" ∷ codes "3" ∷ codes "9" ∷ []) ∷ i (codes "*v" ∷ codes "*v" ∷ codes "*" ∷ [])
     ∷ d (codes "." ∷ codes "10" ∷ []) ∷ i (codes "*-" ∷ codes "*-" ∷ []) ∷ []
+
+rounds : output (rounds_a ∷ rounds_b ∷ []) ≡ rounds_rows
 rounds = refl
 
 -- a unit of several records, with a global comment inside it
-abbrev added_a : Input
+abbrev pub added_a : Input
 added_a = record {
   put =
       i (codes "**x" ∷ []) ∷ d (codes "1" ∷ []) ∷ i (codes "*+" ∷ []) ∷ Comment (codes "!!in")
@@ -119,7 +128,7 @@ added_a = record {
   ended = Some Closed;
 }
 
-abbrev added_b : Input
+abbrev pub added_b : Input
 added_b = record {
   put =
       i (codes "**y" ∷ []) ∷ Comment (codes "!!y") ∷ d (codes "7" ∷ []) ∷ Comment (codes "!!z")
@@ -127,44 +136,50 @@ added_b = record {
   ended = Some Closed;
 }
 
-added : output (added_a ∷ added_b ∷ []) ≡
+abbrev pub added_rows : List Row
+added_rows =
     i (codes "**x" ∷ codes "**y" ∷ []) ∷ Comment (codes "!!y") ∷ d (codes "1" ∷ codes "7" ∷ [])
     ∷ Comment (codes "!!z") ∷ i (codes "*+" ∷ codes "*" ∷ []) ∷ Comment (codes "!!in")
     ∷ i (codes "*" ∷ codes "**x" ∷ codes "*" ∷ [])
     ∷ i (codes "*" ∷ codes "*" ∷ codes "*clef" ∷ []) ∷ d (codes "2" ∷ codes "3" ∷ codes "8" ∷ [])
     ∷ i (codes "*-" ∷ codes "*-" ∷ codes "*-" ∷ []) ∷ []
+
+added : output (added_a ∷ added_b ∷ []) ≡ added_rows
 added = refl
 
 -- in one round global comments, then local comments, then tandem interpretations
-abbrev kinds_a : Input
+abbrev pub kinds_a : Input
 kinds_a = record {
   put =
       i (codes "**x" ∷ []) ∷ Comment (codes "!!p") ∷ d (codes "1" ∷ []) ∷ [];
   ended = None;
 }
 
-abbrev kinds_b : Input
+abbrev pub kinds_b : Input
 kinds_b = record {
   put =
       i (codes "**y" ∷ []) ∷ l (codes "!a" ∷ []) ∷ d (codes "2" ∷ []) ∷ [];
   ended = None;
 }
 
-abbrev kinds_c : Input
+abbrev pub kinds_c : Input
 kinds_c = record {
   put =
       i (codes "**z" ∷ []) ∷ i (codes "*K" ∷ []) ∷ d (codes "3" ∷ []) ∷ [];
   ended = None;
 }
 
-kinds : output (kinds_a ∷ kinds_b ∷ kinds_c ∷ []) ≡
+abbrev pub kinds_rows : List Row
+kinds_rows =
     i (codes "**x" ∷ codes "**y" ∷ codes "**z" ∷ []) ∷ Comment (codes "!!p")
     ∷ l (codes "!" ∷ codes "!a" ∷ codes "!" ∷ []) ∷ i (codes "*" ∷ codes "*" ∷ codes "*K" ∷ [])
     ∷ d (codes "1" ∷ codes "2" ∷ codes "3" ∷ []) ∷ []
+
+kinds : output (kinds_a ∷ kinds_b ∷ kinds_c ∷ []) ≡ kinds_rows
 kinds = refl
 
 -- fronts and tails in turn; the last data records stand alone before the closing one
-abbrev ends_a : Input
+abbrev pub ends_a : Input
 ends_a = record {
   put =
       Comment (codes "!!a") ∷ i (codes "**x" ∷ []) ∷ d (codes "1" ∷ []) ∷ i (codes "*-" ∷ [])
@@ -172,7 +187,7 @@ ends_a = record {
   ended = Some Closed;
 }
 
-abbrev ends_b : Input
+abbrev pub ends_b : Input
 ends_b = record {
   put =
       Comment (codes "!!d") ∷ Comment (codes "!!e") ∷ i (codes "**y" ∷ []) ∷ i (codes "*-" ∷ [])
@@ -180,30 +195,36 @@ ends_b = record {
   ended = Some Closed;
 }
 
-ends : output (ends_a ∷ ends_b ∷ []) ≡
+abbrev pub ends_rows : List Row
+ends_rows =
     Comment (codes "!!a") ∷ Comment (codes "!!d") ∷ Comment (codes "!!e")
     ∷ i (codes "**x" ∷ codes "**y" ∷ []) ∷ d (codes "1" ∷ codes "." ∷ [])
     ∷ i (codes "*-" ∷ codes "*-" ∷ []) ∷ Comment (codes "!!b") ∷ Comment (codes "!!f")
     ∷ Comment (codes "!!c") ∷ []
+
+ends : output (ends_a ∷ ends_b ∷ []) ≡ ends_rows
 ends = refl
 
 -- the closing record waits for all sources
-abbrev waits_a : Input
+abbrev pub waits_a : Input
 waits_a = record {
   put =
       i (codes "**x" ∷ []) ∷ d (codes "1" ∷ []) ∷ i (codes "*-" ∷ []) ∷ [];
   ended = Some Closed;
 }
 
-abbrev waits_b : Input
+abbrev pub waits_b : Input
 waits_b = record {
   put =
       i (codes "**y" ∷ []) ∷ d (codes "7" ∷ []) ∷ [];
   ended = None;
 }
 
-waits : output (waits_a ∷ waits_b ∷ []) ≡
+abbrev pub waits_rows : List Row
+waits_rows =
     i (codes "**x" ∷ codes "**y" ∷ []) ∷ d (codes "1" ∷ codes "7" ∷ []) ∷ []
+
+waits : output (waits_a ∷ waits_b ∷ []) ≡ waits_rows
 waits = refl
 
 -- of each source one record at most is held
@@ -214,26 +235,29 @@ waits_wants : wants_of (record { stage = 3; inputs = waits_a ∷ waits_b ∷ [];
 waits_wants = refl
 
 -- a source that breaks within a unit ends what is given
-abbrev inside_a : Input
+abbrev pub inside_a : Input
 inside_a = record {
   put =
       i (codes "**x" ∷ []) ∷ i (codes "*+" ∷ []) ∷ [];
   ended = Some (Broken broken);
 }
 
-abbrev inside_b : Input
+abbrev pub inside_b : Input
 inside_b = record {
   put =
       i (codes "**y" ∷ []) ∷ d (codes "1" ∷ []) ∷ [];
   ended = None;
 }
 
-inside : output (inside_a ∷ inside_b ∷ []) ≡
+abbrev pub inside_rows : List Row
+inside_rows =
     i (codes "**x" ∷ codes "**y" ∷ []) ∷ i (codes "*+" ∷ codes "*" ∷ []) ∷ []
+
+inside : output (inside_a ∷ inside_b ∷ []) ≡ inside_rows
 inside = refl
 
 -- a spine that ends before the others
-abbrev shifted_a : Input
+abbrev pub shifted_a : Input
 shifted_a = record {
   put =
       i (codes "**x" ∷ codes "**x" ∷ []) ∷ d (codes "1" ∷ codes "2" ∷ [])
@@ -241,35 +265,41 @@ shifted_a = record {
   ended = Some Closed;
 }
 
-abbrev shifted_b : Input
+abbrev pub shifted_b : Input
 shifted_b = record {
   put =
       i (codes "**y" ∷ []) ∷ d (codes "7" ∷ []) ∷ d (codes "8" ∷ []) ∷ i (codes "*-" ∷ []) ∷ [];
   ended = Some Closed;
 }
 
-shifted : output (shifted_a ∷ shifted_b ∷ []) ≡
+abbrev pub shifted_rows : List Row
+shifted_rows =
     i (codes "**x" ∷ codes "**x" ∷ codes "**y" ∷ []) ∷ d (codes "1" ∷ codes "2" ∷ codes "7" ∷ [])
     ∷ i (codes "*-" ∷ codes "*" ∷ codes "*" ∷ []) ∷ d (codes "3" ∷ codes "8" ∷ [])
     ∷ i (codes "*-" ∷ codes "*-" ∷ []) ∷ []
+
+shifted : output (shifted_a ∷ shifted_b ∷ []) ≡ shifted_rows
 shifted = refl
 
 -- a source without spines
-abbrev nothing_a : Input
+abbrev pub nothing_a : Input
 nothing_a = record {
   put =
       Comment (codes "!!a") ∷ [];
   ended = Some Closed;
 }
 
-abbrev nothing_b : Input
+abbrev pub nothing_b : Input
 nothing_b = record {
   put =
       Comment (codes "!!b") ∷ i (codes "**y" ∷ []) ∷ i (codes "*-" ∷ []) ∷ [];
   ended = Some Closed;
 }
 
-nothing : output (nothing_a ∷ nothing_b ∷ []) ≡
+abbrev pub nothing_rows : List Row
+nothing_rows =
     Comment (codes "!!a") ∷ Comment (codes "!!b") ∷ i (codes "**y" ∷ []) ∷ i (codes "*-" ∷ [])
     ∷ []
+
+nothing : output (nothing_a ∷ nothing_b ∷ []) ≡ nothing_rows
 nothing = refl

@@ -1,4 +1,5 @@
 mod Examples
+mod GroupExamples
 pub mod Fitting
 pub mod Bytes
 pub mod Taking
@@ -21,3 +22,13 @@ pub mod Alone
 pub mod Turning
 pub mod Fine
 pub mod Scores
+pub mod Written
+pub mod Does
+pub mod Apart
+pub mod Beginning
+pub mod Sorting
+pub mod Bodies
+pub mod Units
+pub mod Grouping
+pub mod Remarks
+pub mod Fronts

@@ -118,7 +118,7 @@ asked_rank false p path true row rows ended o h = same_rank _ _ h
 asked_rank false p path false row rows ended o h = same_rank _ _ h
 asked_rank true p path false row rows ended o h = cc
 
-takes_fields : (going : Bool) (p : Place) (path : Path) (due : Bool) (coming : List Row)
+pub takes_fields : (going : Bool) (p : Place) (path : Path) (due : Bool) (coming : List Row)
     (ended : Option end.End) → is_over p ≡ false → Follow path coming
     → is_at going p (record { path = path; due = due; coming = coming; ended = ended }) ≡ true
     → Takes p (record { path = path; due = due; coming = coming; ended = ended })

@@ -242,7 +242,7 @@ named_none [] h = tt
 named_none (path ∷ paths) h =
     let b = any_parts (exclusives path) (names_in paths) h in (b.0, named_none paths b.1)
 
-exclusive_filled : (token : List ℕ) → is_exclusive (sign_of token) ≡ true → is_empty token ≡ false
+pub exclusive_filled : (token : List ℕ) → is_exclusive (sign_of token) ≡ true → is_empty token ≡ false
 exclusive_filled [] h = cc
 exclusive_filled (b ∷ bs) h = grind (arith, nat_tests)
 

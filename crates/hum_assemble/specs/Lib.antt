@@ -9,3 +9,4 @@ pub mod Head
 pub mod Taking
 pub mod Standing
 pub mod Serving
+pub mod Groups

@@ -10,6 +10,7 @@ ghost use Rattle.hum_assemble.specs.Meaning.{Moment, MayPut, MayEnd, HasChanged,
 ghost use Rattle.hum_assemble.specs.Meaning.{state_of, wants_of, held_at, lower, inputs_end};
 ghost use Rattle.hum_assemble.specs.Meaning.{HasGrown, held_by, total, empty_moment, KeepsScores};
 ghost use Rattle.hum_assemble.specs.Standing.{Stands, state_by, wants_by};
+ghost use Rattle.hum_assemble.specs.Groups.{GivesByGroups, IsTakenByGroups};
 
 use crate::places::Next;
 use crate::round::{ahead, give};
@@ -171,6 +172,10 @@ impl Assemble {
 
         // Of scores it makes scores.
         ensures keeps { KeepsScores stage }
+
+        // What is given of scores is what their groups give, round by round; the own fault is that
+        // of the first record at which writing stops.
+        ensures groups { GivesByGroups }
     {
         let mut heads = Vec::new(alloc);
         for _ in 0..sources {
@@ -230,6 +235,9 @@ impl Assemble {
     /// Want of memory, which each later call that takes memory answers again.
     pub fn take(&mut self) -> Result<Option<Record>, AllocError>
         ensures ok { IfOk result (HasTaken (Stands self.old) (Stands self.new)) }
+
+        // Of scores it is the next of those that their groups give.
+        ensures groups { IfOk result (IsTakenByGroups (Stands self.old)) }
         ensures err { OnErr result (self.new.spent ≡ true) }
         ensures stays_spent { self.old.spent ≡ true → IsErr result }
     {

@@ -2,6 +2,7 @@ use Rattle.std.proofs.Common.{◌≡◌, ◌∙◌, arith, ap, List}
 use Rattle.hum_assemble.specs.Source.{Source}
 use Rattle.hum_assemble.specs.Merge.{ahead}
 use Rattle.hum_assemble.proofs.Scores.{keeps_scores}
+use Rattle.hum_assemble.proofs.Fronts.{gives_by_groups}
 use Rattle.hum_assemble.proofs.Calls.{new_stands, lawful_new}
 use Rattle.hum_assemble.proofs.assemble.Assemble.new.Goals as goal
 
@@ -21,7 +22,11 @@ returns c =
     record {
       stands = new_stands c.args.stage c.args.sources c.loop.heads.items (rw e at c.loop.invariant);
       keeps = keeps_scores c.args.stage;
+      groups = gives_by_groups;
     }
 
 pub returns-in_err-push-clause-keeps : goal.returns-in_err-push-clause-keeps
 returns-in_err-push-clause-keeps c = keeps_scores c.args.stage
+
+pub returns-in_err-push-clause-groups : goal.returns-in_err-push-clause-groups
+returns-in_err-push-clause-groups c = gives_by_groups

@@ -1,16 +1,20 @@
 use Rattle.std.proofs.Common.{◌∙◌, sym, ap, ◌+◌, List, arith}
 use Rattle.hum_assemble.specs.Source.{Source}
 use Rattle.hum_assemble.specs.Merge.{ahead, given_row, given_on}
+use Rattle.hum_assemble.proofs.Fronts.{next_by_groups}
 use Rattle.hum_assemble.proofs.Calls.{take_here, take_nothing, alive, told_taken}
 use Rattle.hum_assemble.proofs.assemble.Assemble.take.Goals as goal
 
 pub returns-in_default : goal.returns-in_default
 returns-in_default c =
-    let a = c.self.invariant.alive c.if-self.false in
+    let known = c.self.invariant.alive c.if-self.false in
     record {
       ok = λ t h.
           let h' = rw (← c.self.view_is) at h in
-          (take_nothing _ _ _ t h' (λ p e. c.in_default.not-Gives p (a.next ∙ e)), h);
+          (take_nothing _ _ _ t h' (λ p e. c.in_default.not-Gives p (known.next ∙ e)), h);
+      groups = λ t h a.
+          let h' = rw (← c.self.view_is) at h in
+          next_by_groups t _ (take_nothing _ _ _ t h' (λ p e. c.in_default.not-Gives p (known.next ∙ e))) a;
       err = tt;
       stays_spent = λ e. let f = rw (← c.self.view_is) at e in let g = c.if-self.false in cc;
     }
@@ -41,3 +45,6 @@ returns-clause-ok c = λ t h.
     (e.sources c.self.inside.given ∙ ap (λ (ss : List Source).
     given_on c.in-Gives.place (record { sources = ss; given = c.self.inside.given })) v)
     (omega (arith, l, n))
+
+pub returns-clause-groups : goal.returns-clause-groups
+returns-clause-groups c = λ t h a. next_by_groups t _ (returns-clause-ok c t h).0 a
