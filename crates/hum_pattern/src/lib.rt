@@ -51,11 +51,12 @@ impl<T: Drop> From<AllocFailed<T>> for PatternFault {
 #[derive(Drop)]
 pub struct Pattern {
     regex: &'static Regex,
-    matcher: Matcher<'static>,
+    // on the heap, since it is some kilobytes large
+    matcher: Box<Matcher<'static>>,
 }
 
 impl Model for Pattern {
-    ghost use Rattle.std.specs.Prelude.{ℕ, List};
+    ghost use Rattle.std.specs.Prelude.{ℕ, List, box_value};
     ghost use Rattle.regex.specs.Bytes.{regex_source, matcher_pattern};
     ghost use Rattle.hum_pattern.specs.Searching.{SearchesFor};
 
@@ -63,7 +64,7 @@ impl Model for Pattern {
 
     ghost view = { λ p. regex_source p.regex.now };
 
-    ghost invariant = { λ p. SearchesFor (regex_source p.regex.now) (matcher_pattern p.matcher) };
+    ghost invariant = { λ p. SearchesFor (regex_source p.regex.now) (matcher_pattern (box_value p.matcher)) };
 }
 
 impl Pattern {
@@ -82,7 +83,7 @@ impl Pattern {
                 let regex: &'static Regex = Box::leak(Box::new(alloc, regex)?);
                 Ok(Pattern {
                     regex,
-                    matcher: regex.matcher(alloc)?,
+                    matcher: Box::new(alloc, regex.matcher(alloc)?)?,
                 })
             }
             Err(RegexError::Syntax(_)) => Err(PatternFault::Refused),

@@ -4,11 +4,11 @@ use Rattle.hum_pattern.proofs.Pattern.new.Goals as goal
 pub invariant_of-result : goal.invariant_of-result
 invariant_of-result c =
     let made = c.in-Ok.ensures in
-    rw (c.in_ok-matcher-in-Ok.ensures.pattern, c.leak-regex.ensures.value, c.in_ok-new-in-Ok.ensures.ok, made.source)
+    rw (c.in_ok-new-in-Ok-2.ensures.ok, c.in_ok-matcher-in-Ok.ensures.pattern, c.leak-regex.ensures.value, c.in_ok-new-in-Ok.ensures.ok, made.source)
     (searches c.in-Ok.regex c.args.text.now made.source made.config made.read)
 
-pub returns-in_ok-matcher-in-Ok-clause-sound : goal.returns-in_ok-matcher-in-Ok-clause-sound
-returns-in_ok-matcher-in-Ok-clause-sound c =
+pub returns-in_ok-new-in-Ok-2-clause-sound : goal.returns-in_ok-new-in-Ok-2-clause-sound
+returns-in_ok-new-in-Ok-2-clause-sound c =
     let made = c.in-Ok.ensures in
     is_expression_of c.in-Ok.regex c.args.text.now made.source made.config made.read
 
