@@ -32,3 +32,4 @@ pub mod Units
 pub mod Grouping
 pub mod Remarks
 pub mod Fronts
+pub mod Few

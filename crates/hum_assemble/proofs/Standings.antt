@@ -168,7 +168,7 @@ waiting_open zero (s ∷ ss) w = w.1
 waiting_open (suc k) (s ∷ ss) w = waiting_open k ss w
 
 -- At the merge that is reached.
-reached_on : (n : ℕ) (m s : Merge) → Reaches n m s → goes_on n m ≡ s
+pub reached_on : (n : ℕ) (m s : Merge) → Reaches n m s → goes_on n m ≡ s
 reached_on zero m s r = r
 reached_on (suc n) m s r = on_going n m r.0 r.1 ∙ reached_on n (given_on r.0 m) s r.2
 

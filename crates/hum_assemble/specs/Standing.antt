@@ -1,6 +1,7 @@
 -- What an assembler stands for.
 use Rattle.std.specs.Prelude.{◌≡◌, ◌⊎◌, ℕ, zero, suc, ◌+◌, ◌≤◌, Bool, true, false}
-use Rattle.std.specs.Prelude.{List, map, Option, None, Some, is_none}
+use Rattle.std.specs.Prelude.{List, map, length, Option, None, Some, is_none}
+use Rattle.std.specs.List.{AllByRecursion}
 use Rattle.hum_stage.specs.declared.faults.Command.TheVariants.{Assemble}
 use Rattle.hum_stage.specs.declared.faults.End as end
 use Rattle.hum_stage.specs.declared.faults.State as state
@@ -72,3 +73,7 @@ pub record IsTold (sources : List Source) (given : ℕ) (told : next.Next) (spen
     : Type 0 where
   pub at_most : given ≤ 4294967295
   pub alive : spent ≡ false → IsToldAt sources given told
+
+-- of each source one record at most waits
+abbrev pub HoldOneEach : List Source → Type 0
+HoldOneEach = AllByRecursion (λ s. length s.coming ≤ 1)

@@ -9,7 +9,8 @@ ghost use Rattle.hum_assemble.specs.Merge.{ahead};
 ghost use Rattle.hum_assemble.specs.Meaning.{Moment, MayPut, MayEnd, HasChanged, HasTaken};
 ghost use Rattle.hum_assemble.specs.Meaning.{state_of, wants_of, held_at, lower, inputs_end};
 ghost use Rattle.hum_assemble.specs.Meaning.{HasGrown, held_by, total, empty_moment, KeepsScores};
-ghost use Rattle.hum_assemble.specs.Standing.{Stands, state_by, wants_by};
+ghost use Rattle.hum_assemble.specs.Meaning.{all_of};
+ghost use Rattle.hum_assemble.specs.Standing.{Stands, HoldOneEach, state_by, wants_by};
 ghost use Rattle.hum_assemble.specs.Groups.{GivesByGroups, IsTakenByGroups};
 
 use crate::places::Next;
@@ -93,6 +94,7 @@ fn first_open(sources: &[SourceHead]) -> Option<usize>
 fn count(sources: &[SourceHead]) -> usize
     ensures total { result ≡ total sources.now }
     ensures at_most { result ≤ length sources.now }
+    ensures each { HoldOneEach sources.now }
 {
     match sources {
         [] => 0,
@@ -152,10 +154,12 @@ fn wants_by(sources: &[SourceHead], next: Next) -> Option<usize>
 fn held_by(sources: &[SourceHead], next: Next) -> usize
     ensures held { result ≡ held_by sources.now next }
     ensures at_most { result ≤ length sources.now }
+    ensures each { HoldOneEach sources.now }
 {
+    let all = count(sources);
     match next {
-        Next::Gives(_) => count(sources),
-        Next::Wants(_) => count(sources),
+        Next::Gives(_) => all,
+        Next::Wants(_) => all,
         Next::Over => 0,
         Next::Refused(_) => 0,
     }
@@ -280,6 +284,11 @@ impl Assemble {
     pub fn held(&self) -> usize
         ensures held { (t : Moment) → Stands self.now t → result ≡ held_at t }
         ensures at_most { result ≤ length self.now.merge.sources }
+        ensures each { HoldOneEach self.now.merge.sources }
+
+        // At most so many records are taken before the next is put.
+        ensures takes { (t : Moment) → Stands self.now t
+            → length (all_of t) ≤ t.given + result }
     {
         held_by(&self.sources, self.next)
     }

@@ -2,6 +2,7 @@ use Rattle.std.proofs.Common.{◌∙◌, ap, List}
 use Rattle.hum_assemble.specs.Source.{Source}
 use Rattle.hum_assemble.specs.Meaning.{held_by}
 use Rattle.hum_assemble.proofs.Calls.{told_held}
+use Rattle.hum_assemble.proofs.Few.{few_more}
 use Rattle.hum_assemble.proofs.assemble.Assemble.held.Goals as goal
 
 pub returns-clause-held : goal.returns-clause-held
@@ -9,3 +10,8 @@ returns-clause-held c = λ t h.
     let h' = rw (← c.self.view_is) at h in
     c.held_by.ensures.held ∙ (ap (λ (ss : List Source). held_by ss c.self.inside.next) c.deref.ensures.value
     ∙ told_held _ _ _ _ _ t c.self.invariant h')
+
+pub returns-clause-takes : goal.returns-clause-takes
+returns-clause-takes c = λ t h.
+    let h' = rw (← c.self.view_is) at h in
+    rw (returns-clause-held c t h) (few_more _ _ _ t h')

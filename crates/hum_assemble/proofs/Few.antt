@@ -1,0 +1,42 @@
+-- How many records can still be taken before the next is put.
+use Rattle.std.proofs.Common.{◌≡◌, refl, ap, ℕ, zero, suc, ◌+◌, ◌≤◌, Bool, length, arith}
+use Rattle.hum_assemble.specs.declared.places.Next as next
+use Rattle.hum_assemble.specs.declared.places.Next.TheVariants.{Gives, Refused, Wants}
+use Rattle.hum_assemble.specs.declared.places.Next.TheVariants.{Over as NothingMore}
+use Rattle.hum_assemble.specs.Merge.{Merge, ahead, given_on}
+use Rattle.hum_assemble.specs.Meaning.{gives, total, all_given, opening, Moment, all_of}
+use Rattle.hum_assemble.specs.Meaning.{held_in, held_at}
+use Rattle.hum_assemble.specs.Standing.{Reaches, Standing}
+use Rattle.hum_assemble.proofs.Steps.{is_giving, doing, Going, Resting, gives_going, gives_resting}
+use Rattle.hum_assemble.proofs.Steps.{all_going, all_resting}
+use Rattle.hum_assemble.proofs.Standings.{reached_on}
+
+few : (n : ℕ) (m : Merge) → length (gives n m) ≤ n
+few zero m = omega arith
+few (suc n) m = elim (doing m) [
+  | Going p e ↦ rw (gives_going n m p e) (let f = few n (given_on p m) in omega (arith, f))
+  | Resting r ↦ rw (gives_resting (suc n) m r) (omega arith)
+]
+
+by_next : (m : Merge) (a : next.Next) → ahead m ≡ a → length (all_given m) ≤ held_in m
+by_next m (Gives p) e = rw e (few (total m.sources) m)
+by_next m (Wants j) e = rw e (few (total m.sources) m)
+by_next m (Refused rule) e = rw (e, (all_resting m (ap is_giving e)).0) (omega arith)
+by_next m NothingMore e = rw (e, (all_resting m (ap is_giving e)).0) (omega arith)
+
+reached_length : (n : ℕ) (m s : Merge) → Reaches n m s
+    → length (all_given m) ≡ n + length (all_given s)
+reached_length zero m s r =
+    let e = ap (λ (x : Merge). length (all_given x)) r in omega (arith, e)
+reached_length (suc n) m s r =
+    let ih = reached_length n (given_on r.0 m) s r.2 in
+    rw (all_going m r.0 r.1).0 (omega (arith, ih))
+
+-- At most as many as are held.
+pub few_more : (stage : ℕ) (kept : Merge) (spent : Bool) (t : Moment) → Standing stage kept spent t
+    → length (all_of t) ≤ t.given + held_at t
+few_more stage kept spent t h =
+    let g = reached_on t.given (opening t.inputs) h.at h.reached in
+    let l = reached_length t.given (opening t.inputs) h.at h.reached in
+    let f = by_next h.at (ahead h.at) refl in
+    rw g (omega (arith, l, f))
