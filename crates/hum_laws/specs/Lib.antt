@@ -1,0 +1,4 @@
+pub mod Piped
+pub mod Letters
+pub mod Shifting
+pub mod Marked
