@@ -5,3 +5,5 @@ pub mod Placed
 pub mod Undone
 pub mod Runs
 pub mod Marks
+pub mod Tokens
+pub mod Transposed

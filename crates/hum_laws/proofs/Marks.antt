@@ -20,7 +20,7 @@ use Rattle.hum_stage.specs.Outcome.{settled}
 use Rattle.hum_stage.specs.Decided.{outcome, decisions}
 use Rattle.hum_cells.specs.Retelling.{Heading, Renamed, Followed, Retelling, is_kern, kern_columns, is_told, retold, beside, all_retold, headed, with_heading, is_long, if_fit, data_record, retell}
 use Rattle.hum_laws.specs.Marked.{Marking, under_name, signed, with_values, marked, all_marked}
-use Rattle.hum_laws.proofs.Runs.{Decide, Taken, made_by, out, Fine, taken, ComesTo, RunsBehind, comes_to, fine_settled}
+use Rattle.hum_laws.proofs.Runs.{Decide, Taken, made_by, out, Fine, taken, ComesTo, RunsBehind, RunsTo, comes_to}
 
 -- what a command makes of a token, by the cells above it
 abbrev pub Becomes : Type 0
@@ -229,3 +229,44 @@ pub marks : (heading : Heading) (sign : List ℕ) (first : Becomes) (second : Li
 marks heading sign first second both h p rows score runs =
     comes_to (retell (following sign first)) (retell (second_is heading second)) (marked (marking_of heading sign both)) Behind
     (record { opening = refl; step = step heading sign first second both h }) p rows score runs
+
+-- One command, as a marking.
+abbrev pub alone_marking : Heading → Becomes → Marking
+alone_marking (Renamed name) becomes = record { name = Some name; signs = []; becomes = becomes }
+alone_marking (Followed sign) becomes = record { name = None; signs = sign ∷ []; becomes = becomes }
+
+alone_values : (marking : Marking) (past made : List Row) (tokens : List (List ℕ)) → data_record (all_retold marking.becomes (kern_columns past) (columns past) tokens) ≡ Ok made
+    → marked marking past (Spined Values tokens) ≡ Ok made
+alone_values marking past made tokens e = go (all_retold marking.becomes (kern_columns past) (columns past) tokens) e
+  where
+    go : (r : Result (List (List ℕ)) Rule) → data_record r ≡ Ok made → with_values r ≡ Ok made
+    go (Err rule) e = cc
+    go (Ok texts) e = ap (λ (x : List Row). Ok x) (fit_only (Spined Values texts ∷ []) made e)
+
+alone_step : (heading : Heading) (becomes : Becomes) (past made : List Row) (row : Row)
+    → retell (record { heading = heading; becomes = becomes }) past row ≡ Ok made → marked (alone_marking heading becomes) past row ≡ Ok made
+alone_step (Renamed name) becomes past made (Comment text) e = e
+alone_step (Followed sign) becomes past made (Comment text) e = e
+alone_step (Renamed name) becomes past made (Spined Local tokens) e = e
+alone_step (Followed sign) becomes past made (Spined Local tokens) e = e
+alone_step (Renamed name) becomes past made (Spined Interpretation tokens) e =
+    let is = fit_only (with_heading (Renamed name) tokens) made e in
+    by_bool (list_any is_kern tokens) (λ w. rw w (ap (λ (x : List Row). Ok x) is)) (λ w. rw w (ap (λ (x : List Row). Ok x) is))
+alone_step (Followed sign) becomes past made (Spined Interpretation tokens) e =
+    let is = fit_only (with_heading (Followed sign) tokens) made e in
+    by_bool (list_any is_kern tokens) (λ w. rw w (ap (λ (x : List Row). Ok x) (rw w at is))) (λ w. rw w (ap (λ (x : List Row). Ok x) (rw w at is)))
+alone_step (Renamed name) becomes past made (Spined Values tokens) e = alone_values (alone_marking (Renamed name) becomes) past made tokens e
+alone_step (Followed sign) becomes past made (Spined Values tokens) e = alone_values (alone_marking (Followed sign) becomes) past made tokens e
+
+alone_from : (heading : Heading) (becomes : Becomes) (past p : List Row) → Fine (retell (record { heading = heading; becomes = becomes })) past p
+    → settled (decisions (marked (alone_marking heading becomes)) past p) ≡ out (retell (record { heading = heading; becomes = becomes })) past p
+alone_from heading becomes past [] fine = refl
+alone_from heading becomes past (row ∷ p) fine =
+    let decide = retell (record { heading = heading; becomes = becomes }) in
+    let is = alone_step heading becomes past (made_by (decide past row)) row (taken (decide past row) fine.0) in
+    let more = alone_from heading becomes (row ∷ past) p fine.1 in
+    rw is (ap (λ (x : List Row). made_by (decide past row) ++ x) more)
+
+pub alone_marks : (heading : Heading) (becomes : Becomes) (p rows : List Row) → RunsTo (retell (record { heading = heading; becomes = becomes })) p rows
+    → rows ≡ all_marked (alone_marking heading becomes) p
+alone_marks heading becomes p rows runs = runs.gives ∙ sym (alone_from heading becomes [] p runs.fine)

@@ -2,3 +2,4 @@ pub mod Piped
 pub mod Letters
 pub mod Shifting
 pub mod Marked
+pub mod Transposing

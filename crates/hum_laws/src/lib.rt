@@ -7,6 +7,8 @@
 
 mod given;
 mod rid;
+mod trans;
 
 pub use given::Given;
 pub use rid::rid_by_letters;
+pub use trans::{semits_shifted, transpositions_add_up};
