@@ -7,3 +7,9 @@ pub mod Runs
 pub mod Marks
 pub mod Tokens
 pub mod Transposed
+pub mod Names
+pub mod Ahead
+pub mod Leading
+pub mod Telling
+pub mod Signs
+pub mod Filling

@@ -88,3 +88,18 @@ in_turn_same a b p one other few h k =
       h.0 ∙ second.0 ∙ ap (all_made (left b) []) first.0 ∙ left_in_turn a b [] [] p ∙ sym alone.0 ∙ sym k.0,
       h.1 ∙ rw (first.1, second.1, alone.1) refl ∙ sym k.1,
     )
+
+left_twice : (a : RidOptions) (past p : List Row) → all_made (left (joint a a)) past p ≡ all_made (left a) past p
+left_twice a past [] = refl
+left_twice a past (row ∷ p) = rw (drops_joint a a row, or-self (drops a row)) (ap (λ (x : List Row). left a past row ++ x) (left_twice a (row ∷ past) p))
+
+-- What is left by the same letters twice is what is left by them once.
+pub twice_same : (a : RidOptions) (p : List Row) (once twice : Given) → length p ≤ 4294967295
+    → IsAlone (meaning 1 a) p once → IsPiped (meaning 1 a) (meaning 2 a) p twice → Same once twice
+twice_same a p once twice few h k =
+    let first = rid_gives 1 a p few in
+    let between = output (meaning 1 a) p in
+    let second = rid_gives 2 a between (settled-limit_le 4294967295 (decisions (rid a) [] p)) in (
+      h.0 ∙ first.0 ∙ sym (left_twice a [] p) ∙ sym (left_in_turn a a [] [] p) ∙ ap (all_made (left a) []) (sym first.0) ∙ sym second.0 ∙ sym k.0,
+      h.1 ∙ rw (first.1, second.1) refl ∙ sym k.1,
+    )

@@ -23,6 +23,8 @@ use Rattle.hum_laws.proofs.Runs.{alone_runs, piped_runs}
 use Rattle.hum_laws.proofs.Marks.{Signs, marks, alone_marks}
 use Rattle.hum_laws.proofs.Tokens.{trans_agree}
 use Rattle.hum_laws.proofs.Undone.{added, shifted}
+use Rattle.hum_laws.proofs.Signs.{back_unsigned}
+use Rattle.hum_laws.specs.Unsigned.{unsigned, unsigned_under}
 
 behind_trans : (n m : ℤ) (second both : List ℕ → Result (Option (List ℕ)) Rule)
     → ((part text : List ℕ) → transposed_part n m part ≡ Ok (Some text) → both part ≡ second text)
@@ -55,3 +57,11 @@ pub semits_alone : (options : SemitsOptions) (p : List Row) (given : Given) → 
 semits_alone options p given h closed =
     alone_marks (Renamed (codes "**semits")) (λ above. retold (semits_of options.ties_left_out)) p given.records.items
     (alone_runs 1 Semits (retell (semits options)) p given h closed)
+
+pub back_again : (n m : ℤ) (p : List Row) (given : Given) → IsPiped (moved_by 1 n m) (moved_by 2 (neg_ℤ n) (neg_ℤ m)) p given
+    → KeepsScore (moved_by 1 n m).outcomes → IsScore p → given.end ≡ Closed
+    → given.records.items ≡ unsigned_under (trans_sign (neg_ℤ n) (neg_ℤ m) ∷ trans_sign n m ∷ []) p
+back_again n m p given h keeps score closed =
+    marks (Followed (trans_sign (neg_ℤ n) (neg_ℤ m))) (trans_sign n m) (λ above. transposed n m) (transposed (neg_ℤ n) (neg_ℤ m)) (λ above. retold unsigned)
+    (behind_trans n m (transposed_part (neg_ℤ n) (neg_ℤ m)) unsigned (λ part text e. back_unsigned n m part text e))
+    p given.records.items score (piped_runs 1 2 Trans Trans (retell (trans n m)) (retell (trans (neg_ℤ n) (neg_ℤ m))) p given h keeps score closed)

@@ -31,7 +31,7 @@ back_is n m p q small h = record { step = small; steps = omega (arith, ints, h.s
 back : (n m : ℤ) (p : Spelled) → p.step < 7 → away (neg_ℤ n) (neg_ℤ m) (away n m p) ≡ p
 back n m p small = sym (away_only (neg_ℤ n) (neg_ℤ m) (away n m p) p (back_is n m p (away n m p) small (away_is n m p)))
 
-stay : (p : Spelled) → p.step < 7 → away (pos 0) (pos 0) p ≡ p
+pub stay : (p : Spelled) → p.step < 7 → away (pos 0) (pos 0) p ≡ p
 stay p small = sym (away_only (pos 0) (pos 0) p p (record { step = small; steps = omega (arith, ints); width = omega (arith, ints) }))
 
 -- what is read has one of seven steps
@@ -87,7 +87,7 @@ put_again bytes found p h q (Ok there) =
     ap (λ (xs : List ℕ). Ok (Some (xs ++ (spelling there ++ drop (found.start + length (spelling q)) (take found.start bytes ++ (spelling q ++ drop found.end bytes)))))) front
     ∙ ap (λ (xs : List ℕ). Ok (Some (take found.start bytes ++ (spelling there ++ xs)))) rest
 
-found_step : (bytes : List ℕ) (found : Reading) (p : Spelled) → IsFound bytes (notation_of bytes) found p → p.step < 7
+pub found_step : (bytes : List ℕ) (found : Reading) (p : Spelled) → IsFound bytes (notation_of bytes) found p → p.step < 7
 found_step bytes found p h = step_in (notation_of bytes).letters (notation_of bytes).signs p h.pitch
 
 undone_there : (n m : ℤ) (part text : List ℕ) (found : Reading) (p : Spelled) → Ok found ≡ note part → found.pitch ≡ Some p → (q : Spelled) → q ≡ away n m p

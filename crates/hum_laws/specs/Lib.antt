@@ -3,3 +3,5 @@ pub mod Letters
 pub mod Shifting
 pub mod Marked
 pub mod Transposing
+pub mod Notes
+pub mod Unsigned

@@ -60,3 +60,28 @@ pub(crate) fn piped<S: Stage + Drop, T: Stage + Drop>(
     let (records, end) = whole(alloc, second, between, end)?;
     Ok(Given { records, end })
 }
+
+/// What a closed score becomes by a stage, and what that becomes by another one.
+pub(crate) fn again<S: Stage + Drop, T: Stage + Drop>(
+    alloc: Global,
+    records: &[Record],
+    first: S,
+    second: T,
+) -> Result<(Given, Given), AllocError>
+    requires first { IsFirst (S.stands first) }
+    requires second { (n : Meaning) × T.stands second (opening n) }
+    requires closed { IsClosed records.now }
+    requires few { length records.now ≤ 4294967295 }
+    ensures once { IfOk result (λ both. (m : Meaning) → S.stands first (opening m)
+        → IsAlone m records.now both.0) }
+    ensures twice { IfOk result (λ both. (m n : Meaning) → S.stands first (opening m)
+        → T.stands second (opening n) → IsPiped m n records.now both.1) }
+{
+    let once = alone(alloc, records, first)?;
+    let (again, end) = whole(alloc, second, copied(alloc, &once.records)?, once.end)?;
+    let twice = Given {
+        records: again,
+        end,
+    };
+    Ok((once, twice))
+}

@@ -5,7 +5,7 @@ ghost use Rattle.hum_rid.specs.Rid.{meaning};
 ghost use Rattle.hum_laws.specs.Piped.{IsAlone, IsPiped, Same};
 ghost use Rattle.hum_laws.specs.Letters.{joint};
 
-use crate::given::{Given, alone, piped};
+use crate::given::{Given, again, alone, piped};
 use hum_record::Record;
 use hum_rid::{Rid, RidOptions};
 use std::alloc::{AllocError, Global};
@@ -62,4 +62,49 @@ pub fn rid_by_letters(
     )?;
     let at_once = alone(alloc, records, Rid::new(alloc, 1, all))?;
     Ok((in_turn, at_once))
+}
+
+/// The same letters.
+fn same(options: &RidOptions) -> RidOptions
+    ensures { result ≡ options.now }
+{
+    RidOptions {
+        global_comments: options.global_comments,
+        empty_global_comments: options.empty_global_comments,
+        local_comments: options.local_comments,
+        null_local_comments: options.null_local_comments,
+        interpretations: options.interpretations,
+        null_interpretations: options.null_interpretations,
+        tandems: options.tandems,
+        values: options.values,
+        null_values: options.null_values,
+    }
+}
+
+/// The same letters of rid twice are the same as once.
+///
+/// # Errors
+/// Want of memory.
+pub fn rid_twice(
+    alloc: Global,
+    records: &[Record],
+    options: &RidOptions,
+) -> Result<(Given, Given), AllocError>
+    requires closed { IsClosed records.now }
+    requires few { length records.now ≤ 4294967295 }
+    requires interpretations { options.now.interpretations ≡ false }
+    ensures once { IfOk result (λ both. IsAlone (meaning 1 options.now) records.now both.0) }
+    ensures twice { IfOk result (λ both.
+        IsPiped (meaning 1 options.now) (meaning 2 options.now) records.now both.1) }
+    ensures same { IfOk result (λ both. Same both.0 both.1) }
+{
+    let first = same(options);
+    let second = same(options);
+    let both = again(
+        alloc,
+        records,
+        Rid::new(alloc, 1, first),
+        Rid::new(alloc, 2, second),
+    )?;
+    Ok(both)
 }

@@ -5,6 +5,7 @@ ghost use Rattle.hum_stage.specs.Score.{IsClosed};
 ghost use Rattle.hum_stage.specs.declared.faults.End.TheVariants.{Closed};
 ghost use Rattle.hum_tones.specs.Commands.{trans_sign, meaning_of_semits};
 ghost use Rattle.hum_laws.specs.Piped.{IsAlone, IsPiped};
+ghost use Rattle.hum_laws.specs.Unsigned.{unsigned_under};
 ghost use Rattle.hum_laws.specs.Transposing.{moved_by, transposed_under, semitones_under, as_semitones};
 
 use crate::given::{Given, alone, piped};
@@ -112,4 +113,33 @@ pub fn semits_shifted(
     )?;
     let still = alone(alloc, records, Semits::new(alloc, 1, options))?;
     Ok((moved, still))
+}
+
+/// There and back: `trans -d n -c m | trans -d -n -c -m` is the score, with the accidental `n` dropped
+/// from its pitches, and the records of `*Tr`.
+///
+/// # Errors
+/// Want of memory.
+pub fn there_and_back(
+    alloc: Global,
+    records: &[Record],
+    way: Transposition,
+) -> Result<Given, AllocError>
+    requires closed { IsClosed records.now }
+    requires few { length records.now ≤ 4294967295 }
+    ensures both_ways { IfOk result (IsPiped (moved_by 1 way.steps way.semitones)
+        (moved_by 2 (neg_ℤ way.steps) (neg_ℤ way.semitones)) records.now) }
+    ensures same { IfOk result (λ given. given.end ≡ Closed →
+        given.records.items
+        ≡ unsigned_under (trans_sign (neg_ℤ way.steps) (neg_ℤ way.semitones)
+        ∷ trans_sign way.steps way.semitones ∷ []) records.now) }
+{
+    let back = opposite(way);
+    let given = piped(
+        alloc,
+        records,
+        Trans::new(alloc, 1, way),
+        Trans::new(alloc, 2, back),
+    )?;
+    Ok(given)
 }
