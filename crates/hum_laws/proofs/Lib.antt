@@ -1,4 +1,4 @@
-pub mod Tests
+pub mod Booleans
 pub mod Plain
 pub mod Rids
 pub mod Placed

@@ -15,7 +15,7 @@ use Rattle.hum_rid.specs.Rid.{rid, drops, all_are, has_tandems, meaning}
 use Rattle.hum_laws.specs.declared.given.Given.{Given}
 use Rattle.hum_laws.specs.Piped.{IsAlone, IsPiped, Same}
 use Rattle.hum_laws.specs.Letters.{joint}
-use Rattle.hum_laws.proofs.Tests.{shuffle, spread, pair, or-self}
+use Rattle.hum_laws.proofs.Booleans.{shuffle, spread, pair, or-self}
 use Rattle.hum_stage.specs.Laws.{settled-limit_le}
 use Rattle.hum_laws.proofs.Plain.{IsPlain, all_made, plain_limit}
 
