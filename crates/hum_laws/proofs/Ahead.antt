@@ -1,0 +1,49 @@
+-- Commands that look ahead, and leave each record as it is.
+use Rattle.std.proofs.Common.{◌≡◌, ◌∙◌, refl, sym, ap, ℕ, zero, suc, ◌+◌, ◌≤◌, Bool, true, false, List, [], ◌∷◌, ◌++◌, length, map, cond, get_or, drop, take, arith}
+use Rattle.std.specs.Prelude.{nat_le, Option, None, Some, Result, Ok, Err, not, ◌&&◌, ◌||◌, filter}
+use Rattle.std.proofs.lemmas.Bool.Decides.{nat_tests}
+use Rattle.hum_record.specs.declared.SpinedKind.TheVariants.{Local, Interpretation, Values}
+use Rattle.hum_record.specs.Row.{Row, Comment, Spined, text_of}
+use Rattle.hum_path.specs.Spines.{Path}
+use Rattle.hum_path.specs.Score.{path_after}
+use Rattle.hum_path.proofs.Cases.{by_bool}
+use Rattle.hum_stage.specs.declared.faults.Rule.{Rule}
+use Rattle.hum_stage.specs.declared.faults.Command.{Command}
+use Rattle.hum_stage.specs.declared.faults.End.TheVariants.{Closed}
+use Rattle.hum_stage.specs.Outcome.{Outcome, Becomes, settled, refusal}
+use Rattle.hum_stage.specs.Meaning.{Meaning, end_of}
+use Rattle.hum_stage.specs.Look.{Look, outcomes_from, looking}
+use Rattle.hum_yank.specs.declared.options.YankRange.{YankRange}
+use Rattle.hum_yank.specs.declared.options.YankRange.TheVariants.{Onward}
+use Rattle.hum_yank.specs.Passages.{Lines}
+use Rattle.hum_yank.specs.Yank.{yank}
+use Rattle.hum_laws.specs.declared.given.Given.{Given}
+use Rattle.hum_laws.specs.Piped.{IsAlone}
+use Rattle.hum_laws.proofs.Plain.{fits}
+
+-- each record is decided, and stays
+abbrev pub Stays : Look → Type 0
+Stays look = (past : List Row) (row : Row) (rows : List Row) → look past row rows ≡ Some (Ok (row ∷ []))
+
+stays_settled : (room : ℕ) (look : Look) (line : ℕ) (past p : List Row) → Stays look
+    → (settled (outcomes_from room look past p) ≡ p) × (refusal line (outcomes_from room look past p) ≡ None)
+stays_settled room look line past [] h = (refl, refl)
+stays_settled room look line past (row ∷ p) h =
+    let more = stays_settled room look (line + 1) (row ∷ past) p h in
+    rw (h past row (take room p)) (ap (λ (x : List Row). row ∷ x) more.0, more.1)
+
+pub stays_whole : (room stage : ℕ) (command : Command) (look : Look) (p : List Row) (given : Given) → Stays look → IsAlone (looking room stage command look) p given
+    → (given.records.items ≡ p) × (given.end ≡ Closed)
+stays_whole room stage command look p given h k =
+    let s = stays_settled room look 1 [] p h in
+    (k.0 ∙ s.0, k.1 ∙ rw s.1 refl)
+
+from_first : (n : ℕ) → nat_le 1 (suc n) ≡ true
+from_first n = fits 1 (suc n) (omega arith)
+
+-- every line from the first on
+pub all_lines : (ranges : List YankRange) → ranges ≡ Onward 1 ∷ [] → Stays (yank (record { form = Lines; ranges = ranges }))
+all_lines ranges is past (Comment text) rows = rw (is, from_first (length past)) refl
+all_lines ranges is past (Spined Local tokens) rows = rw (is, from_first (length past)) refl
+all_lines ranges is past (Spined Values tokens) rows = rw (is, from_first (length past)) refl
+all_lines ranges is past (Spined Interpretation tokens) rows = refl

@@ -1,0 +1,15 @@
+pub mod Booleans
+pub mod Plain
+pub mod Rids
+pub mod Placed
+pub mod Undone
+pub mod Runs
+pub mod Marks
+pub mod Tokens
+pub mod Transposed
+pub mod Names
+pub mod Ahead
+pub mod Leading
+pub mod Telling
+pub mod Signs
+pub mod Filling

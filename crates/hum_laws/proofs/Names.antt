@@ -1,0 +1,123 @@
+-- Columns that have another name than **kern, which no command on notes changes.
+use Rattle.std.proofs.Common.{◌≡◌, ◌∙◌, refl, sym, ap, ℕ, zero, suc, Bool, true, false, not, ◌&&◌, ◌||◌, List, [], ◌∷◌, ◌++◌, length, map, cond, get_or}
+use Rattle.std.specs.Prelude.{Option, None, Some, Result, Ok, Err}
+use Rattle.std.specs.List.{list_any}
+use Rattle.std.proofs.lemmas.Bool.{or_parts, or_from}
+use Rattle.hum_record.specs.declared.SpinedKind.TheVariants.{Local, Interpretation, Values}
+use Rattle.hum_record.specs.Row.{Row, Comment, Spined}
+use Rattle.hum_path.specs.declared.moved.Move.{Move}
+use Rattle.hum_path.specs.declared.moved.Move.TheVariants.{Same, Left, Right, Join as Joined, Added}
+use Rattle.hum_path.specs.Sign.{sign_of, is_exclusive}
+use Rattle.hum_path.specs.Spines.{Path, Unopened, Spines, after, names_after, exclusives, renamed, moves_under}
+use Rattle.hum_path.specs.Score.{IsOpen, path_after, passed}
+use Rattle.hum_path.specs.Chains.{columns}
+use Rattle.hum_path.proofs.Cases.{by_bool}
+use Rattle.hum_stage.specs.declared.faults.Rule.{Rule}
+use Rattle.hum_stage.specs.Score.{Follow, IsScore}
+use Rattle.hum_stage.specs.Outcome.{settled}
+use Rattle.hum_stage.specs.Decided.{decisions}
+use Rattle.hum_cells.specs.Retelling.{Heading, Renamed, Followed, Retelling, is_kern, kern_columns, all_retold, headed, with_heading, data_record, retell}
+use Rattle.hum_laws.proofs.Runs.{Taken, made_by, out, Fine, ComesTo, RunsBehind, RunsTo, comes_to, fine_settled}
+use Rattle.hum_laws.proofs.Marks.{Becomes, fit_only, fits_as}
+
+abbrev pub no_kern : List (List ℕ) → Type 0
+no_kern names = list_any is_kern names ≡ false
+
+untold : (becomes : Becomes) (names : List (List ℕ)) (aboves : List (List (List ℕ))) (tokens : List (List ℕ)) → no_kern names
+    → all_retold becomes (map is_kern names) aboves tokens ≡ Ok tokens
+untold becomes [] aboves tokens h = refl
+untold becomes (n ∷ ns) [] tokens h = refl
+untold becomes (n ∷ ns) (x ∷ xs) [] h = refl
+untold becomes (n ∷ ns) (x ∷ xs) (t ∷ ts) h =
+    let both = or_parts (is_kern n) (list_any is_kern ns) h in
+    rw (both.0, untold becomes ns xs ts both.1) refl
+
+no_kern_named : (name : List ℕ) (tokens : List (List ℕ)) → is_kern name ≡ false → no_kern (map (headed (Renamed name)) tokens)
+no_kern_named name [] h = refl
+no_kern_named name (t ∷ ts) h = by_bool (is_kern t) (λ w. rw (w, h) (no_kern_named name ts h)) (λ w. rw (w, w) (no_kern_named name ts h))
+
+stay_named : (name : List ℕ) (tokens : List (List ℕ)) → no_kern tokens → map (headed (Renamed name)) tokens ≡ tokens
+stay_named name [] h = refl
+stay_named name (t ∷ ts) h =
+    let both = or_parts (is_kern t) (list_any is_kern ts) h in
+    rw (both.0, stay_named name ts both.1) refl
+
+same_rows : (heading : Heading) (tokens : List (List ℕ)) → no_kern tokens → with_heading heading tokens ≡ Spined Interpretation tokens ∷ []
+same_rows (Renamed name) tokens h = ap (λ (x : List (List ℕ)). Spined Interpretation x ∷ []) (stay_named name tokens h)
+same_rows (Followed sign) tokens h = rw h refl
+
+no_kern_at : (names : List (List ℕ)) (j : ℕ) → no_kern names → is_kern (get_or names j []) ≡ false
+no_kern_at [] j h = refl
+no_kern_at (n ∷ ns) zero h = (or_parts (is_kern n) (list_any is_kern ns) h).0
+no_kern_at (n ∷ ns) (suc j) h = no_kern_at ns j (or_parts (is_kern n) (list_any is_kern ns) h).1
+
+no_kern_moved : (names tokens : List (List ℕ)) (m : Move) → no_kern names → no_kern tokens → is_kern (renamed names tokens m) ≡ false
+no_kern_moved names tokens (Added j) h k = refl
+no_kern_moved names tokens (Left j) h k = no_kern_at names j h
+no_kern_moved names tokens (Right j) h k = no_kern_at names j h
+no_kern_moved names tokens (Joined first last) h k = no_kern_at names first h
+no_kern_moved names tokens (Same j) h k = by_bool (is_exclusive (sign_of (get_or tokens j [])))
+    (λ w. rw w (no_kern_at tokens j k)) (λ w. rw w (no_kern_at names j h))
+
+no_kern_all : (names tokens : List (List ℕ)) (ms : List Move) → no_kern names → no_kern tokens → no_kern (map (renamed names tokens) ms)
+no_kern_all names tokens [] h k = refl
+no_kern_all names tokens (m ∷ ms) h k = or_from (is_kern (renamed names tokens m)) (list_any is_kern (map (renamed names tokens) ms)) (no_kern_moved names tokens m h k) (no_kern_all names tokens ms h k)
+
+no_kern_after : (path : Path) (tokens : List (List ℕ)) → no_kern (exclusives path) → no_kern tokens → no_kern (names_after path tokens)
+no_kern_after Unopened tokens h k = k
+no_kern_after (Spines names) tokens h k = no_kern_all names tokens (moves_under (map sign_of tokens)) h k
+
+abbrev Holds : List Row → List Row → Type 0
+Holds past behind = no_kern (exclusives (path_after behind))
+
+abbrev naming : List ℕ → Becomes → Retelling
+naming name becomes = record { heading = Renamed name; becomes = becomes }
+
+abbrev Step : Retelling → List Row → List Row → Row → Type 0
+Step second behind made row = (out (retell second) behind made ≡ made) × no_kern (exclusives (path_after (passed behind made)))
+
+values_step : (name : List ℕ) (first : Becomes) (second : Retelling) (past behind made : List Row) (tokens : List (List ℕ)) → no_kern (exclusives (path_after behind))
+    → retell (naming name first) past (Spined Values tokens) ≡ Ok made → Fine (retell second) behind made → Step second behind made (Spined Values tokens)
+values_step name first second past behind made tokens holds e fine = go (all_retold first (kern_columns past) (columns past) tokens) e
+  where
+    one : (texts : List (List ℕ)) → Spined Values texts ∷ [] ≡ made → Step second behind made (Spined Values tokens)
+    one texts is =
+        let same = untold second.becomes (exclusives (path_after behind)) (columns behind) texts holds in
+        let took = (rw (← is) at fine).0 in
+        rw (← is) (rw (same, fits_as (Spined Values texts ∷ []) (rw same at took)) refl, holds)
+
+    go : (r : Result (List (List ℕ)) Rule) → data_record r ≡ Ok made → Step second behind made (Spined Values tokens)
+    go (Err rule) e = cc
+    go (Ok texts) e = one texts (fit_only (Spined Values texts ∷ []) made e)
+
+steering_step : (name : List ℕ) (first : Becomes) (second : Retelling) (past behind made : List Row) (tokens : List (List ℕ)) → is_kern name ≡ false
+    → no_kern (exclusives (path_after behind)) → retell (naming name first) past (Spined Interpretation tokens) ≡ Ok made → Fine (retell second) behind made
+    → Step second behind made (Spined Interpretation tokens)
+steering_step name first second past behind made tokens other holds e fine =
+    let new = map (headed (Renamed name)) tokens in
+    let none = no_kern_named name tokens other in
+    let is = fit_only (Spined Interpretation new ∷ []) made e in
+    let same = same_rows second.heading new none in
+    let took = (rw (← is) at fine).0 in
+    rw (← is) (rw (fits_as (with_heading second.heading new) took, same) refl, no_kern_after (path_after behind) new holds none)
+
+step : (name : List ℕ) (first : Becomes) (second : Retelling) (past behind made : List Row) (row : Row) → is_kern name ≡ false
+    → no_kern (exclusives (path_after behind)) → retell (naming name first) past row ≡ Ok made → Fine (retell second) behind made → Step second behind made row
+step name first second past behind made (Comment text) other holds e fine = let is : Comment text ∷ [] ≡ made = cc in rw (← is) (refl, holds)
+step name first second past behind made (Spined Local tokens) other holds e fine = let is : Spined Local tokens ∷ [] ≡ made = cc in rw (← is) (refl, holds)
+step name first second past behind made (Spined Interpretation tokens) other holds e fine = steering_step name first second past behind made tokens other holds e fine
+step name first second past behind made (Spined Values tokens) other holds e fine = values_step name first second past behind made tokens holds e fine
+
+-- What the first gives is what both give.
+pub left_alone : (name : List ℕ) (first : Becomes) (second : Retelling) (p once twice : List Row) → is_kern name ≡ false → IsScore p
+    → RunsTo (retell (naming name first)) p once → RunsBehind (retell (naming name first)) (retell second) p twice → twice ≡ once
+left_alone name first second p once twice other score alone both =
+    comes_to (retell (naming name first)) (retell second) (retell (naming name first)) Holds
+    (record {
+      opening = refl;
+      step = λ past behind made row right sound holds e goes fine.
+          let s = step name first second past behind made row other holds e fine in
+          (e ∙ ap (λ (x : List Row). Ok x) (sym s.0), s.1);
+    }) p twice score both
+    ∙ fine_settled (retell (naming name first)) [] p alone.fine
+    ∙ sym alone.gives

@@ -1,0 +1,86 @@
+-- What a command on notes wrote no command on notes changes.
+use Rattle.std.proofs.Common.{◌≡◌, ◌∙◌, refl, sym, ap, ℕ, false, List}
+use lib.Chars.{codes}
+use Rattle.hum_record.specs.Row.{Row}
+use Rattle.hum_stage.specs.declared.faults.Command.{Command}
+use Rattle.hum_stage.specs.declared.faults.Command.TheVariants as name
+use Rattle.hum_stage.specs.declared.faults.End.TheVariants.{Closed}
+use Rattle.hum_stage.specs.Score.{IsScore}
+use Rattle.hum_stage.specs.Meaning.{Meaning, KeepsScore}
+use Rattle.hum_stage.specs.Decided.{at_once}
+use Rattle.hum_cells.specs.Retelling.{Renamed, Retelling, is_kern, retell}
+use Rattle.hum_tones.specs.Commands.{trans, semits, mint, recip}
+use Rattle.hum_commands.specs.declared.options.CommandOptions.{CommandOptions}
+use Rattle.hum_commands.specs.declared.options.CommandOptions.TheVariants.{Rid, Extract, Ditto, Timebase, Context, Trans, Semits, Mint, Recip, Yank, Cleave}
+use Rattle.hum_commands.specs.Meaning.{meaning, MakesScores}
+use Rattle.hum_laws.specs.declared.given.Given.{Given}
+use Rattle.hum_laws.specs.Piped.{IsAlone, IsPiped}
+use Rattle.hum_laws.specs.Notes.{NamesColumns, IsOnNotes}
+use Rattle.hum_laws.proofs.Runs.{RunsTo, RunsBehind, alone_runs, piped_runs}
+use Rattle.hum_laws.proofs.Marks.{Becomes}
+use Rattle.hum_laws.proofs.Names.{left_alone}
+
+-- a command that gives another name
+record Naming (stage : ℕ) (options : CommandOptions) : Type 0 where
+  command : Command
+  other : List ℕ
+  becomes : Becomes
+  is : meaning stage options ≡ at_once stage command (retell (record { heading = Renamed other; becomes = becomes }))
+  apart : is_kern other ≡ false
+
+naming : (stage : ℕ) (options : CommandOptions) → NamesColumns options → Naming stage options
+naming stage (Semits options) h = record { command = name.Semits; other = codes "**semits"; becomes = (semits options).becomes; is = refl; apart = refl }
+naming stage (Mint options) h = record { command = name.Mint; other = codes "**mint"; becomes = (mint options).becomes; is = refl; apart = refl }
+naming stage (Recip options) h = record { command = name.Recip; other = codes "**recip"; becomes = (recip options).becomes; is = refl; apart = refl }
+naming stage (Rid options) h = absurd h
+naming stage (Extract options) h = absurd h
+naming stage (Ditto options) h = absurd h
+naming stage (Timebase options) h = absurd h
+naming stage (Context options) h = absurd h
+naming stage (Trans options) h = absurd h
+naming stage (Yank options) h = absurd h
+naming stage (Cleave options) h = absurd h
+
+-- it makes scores of scores
+pub makes_scores : (options : CommandOptions) → NamesColumns options → MakesScores options
+makes_scores (Semits options) h = tt
+makes_scores (Mint options) h = tt
+makes_scores (Recip options) h = tt
+makes_scores (Rid options) h = absurd h
+makes_scores (Extract options) h = absurd h
+makes_scores (Ditto options) h = absurd h
+makes_scores (Timebase options) h = absurd h
+makes_scores (Context options) h = absurd h
+makes_scores (Trans options) h = absurd h
+makes_scores (Yank options) h = absurd h
+makes_scores (Cleave options) h = absurd h
+
+record Telling (stage : ℕ) (options : CommandOptions) : Type 0 where
+  command : Command
+  retelling : Retelling
+  is : meaning stage options ≡ at_once stage command (retell retelling)
+
+telling : (stage : ℕ) (options : CommandOptions) → IsOnNotes options → Telling stage options
+telling stage (Trans options) h = record { command = name.Trans; retelling = trans options.steps options.semitones; is = refl }
+telling stage (Semits options) h = record { command = name.Semits; retelling = semits options; is = refl }
+telling stage (Mint options) h = record { command = name.Mint; retelling = mint options; is = refl }
+telling stage (Recip options) h = record { command = name.Recip; retelling = recip options; is = refl }
+telling stage (Rid options) h = absurd h
+telling stage (Extract options) h = absurd h
+telling stage (Ditto options) h = absurd h
+telling stage (Timebase options) h = absurd h
+telling stage (Context options) h = absurd h
+telling stage (Yank options) h = absurd h
+telling stage (Cleave options) h = absurd h
+
+pub told_once : (first second : CommandOptions) (p : List Row) (once twice : Given) → NamesColumns first → IsOnNotes second
+    → IsAlone (meaning 1 first) p once → IsPiped (meaning 1 first) (meaning 2 second) p twice → KeepsScore (meaning 1 first).outcomes → IsScore p
+    → once.end ≡ Closed → twice.end ≡ Closed → twice.records.items ≡ once.records.items
+told_once first second p once twice names tells h k keeps score one two =
+    let a = naming 1 first names in
+    let b = telling 2 second tells in
+    let first_is = retell (record { heading = Renamed a.other; becomes = a.becomes }) in
+    let kept : KeepsScore (at_once 1 a.command first_is).outcomes = rw a.is at keeps in
+    left_alone a.other a.becomes b.retelling p once.records.items twice.records.items a.apart score
+    (alone_runs 1 a.command first_is p once (rw a.is at h) one)
+    (piped_runs 1 2 a.command b.command first_is (retell b.retelling) p twice (rw (a.is, b.is) at k) kept score two)

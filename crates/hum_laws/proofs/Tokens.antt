@@ -1,0 +1,316 @@
+-- Tokens that are transposed and then told anew.
+use Rattle.std.proofs.Common.{◌≡◌, ◌≢◌, refl, sym, ap, ◌∙◌, ℕ, zero, suc, ℤ, pos, negsuc, ◌-ℤ◌, ◌==◌, ◌<◌, ◌≤◌, Bool, true, false, List, [], ◌∷◌, ◌++◌, take, drop, arith, Option, None, Some, subst, append_assoc}
+use Rattle.std.specs.Prelude.{Result, Ok, Err, replicate, slice_index, if◌then◌else◌, not, nat_eq, ◌&&◌}
+use Rattle.std.specs.List.{onto_first, slice_split, join_with_byte, starts_with, list_any}
+use Rattle.std.specs.Str.{bytes_eq}
+use Rattle.std.proofs.lemmas.List.Splits.{join_with_byte-slice_split}
+use Rattle.std.proofs.lemmas.Bool.{or_parts, and_parts, and_from, not-false}
+use Rattle.std.proofs.lemmas.Bool.Decides.{nat_tests}
+use Rattle.std.proofs.lemmas.Slice.Eq.{bytes_eq-Decides}
+use lib.Chars.{codes}
+use Rattle.hum_record.specs.Contents.{is_null, is_barline}
+use Rattle.hum_path.proofs.Cases.{by_bool}
+use Rattle.hum_record.specs.Spelling.{has_byte}
+use Rattle.hum_pitch.specs.Pitch.{Spelled, away}
+use Rattle.hum_pitch.specs.Spelling.{small_letters, capitals, letters, letters_of, accidentals, spelling}
+use Rattle.hum_pitch.proofs.Steps.{away_is}
+use Rattle.hum_kern.specs.declared.KernFault.{KernFault}
+use Rattle.hum_kern.specs.Note.{Reading, note}
+use Rattle.hum_stage.specs.declared.faults.Rule.{Rule}
+use Rattle.hum_stage.specs.declared.faults.Rule.TheVariants.{TR1, TR2}
+use Rattle.hum_cells.specs.Retelling.{is_told}
+use Rattle.hum_tones.specs.Subtokens.{with_first, given_by, joined, if_given, subtokens, retold}
+use Rattle.hum_tones.specs.Trans.{is_alteration, is_octave, if_spelled, put, moved, moved_as_read, transposed_part, transposed}
+use Rattle.hum_tones.proofs.Parts.{Lack}
+use Rattle.hum_tones.proofs.MovedLawful.{Becomes, Stays, Moves, repeat_lacks, both_lack}
+use Rattle.hum_tones.proofs.Written.{lacks_take, lacks_drop}
+use Rattle.hum_laws.proofs.Marks.{Agree}
+
+-- the bytes of a pitch's letters are far up
+small_over : (step : ℕ) → step < 7 → 64 < slice_index small_letters step
+small_over zero h = omega arith
+small_over (suc zero) h = omega arith
+small_over (suc (suc zero)) h = omega arith
+small_over (suc (suc (suc zero))) h = omega arith
+small_over (suc (suc (suc (suc zero)))) h = omega arith
+small_over (suc (suc (suc (suc (suc zero))))) h = omega arith
+small_over (suc (suc (suc (suc (suc (suc zero)))))) h = omega arith
+small_over (suc (suc (suc (suc (suc (suc (suc n))))))) h = absurd (omega arith)
+
+capital_over : (step : ℕ) → step < 7 → 64 < slice_index capitals step
+capital_over zero h = omega arith
+capital_over (suc zero) h = omega arith
+capital_over (suc (suc zero)) h = omega arith
+capital_over (suc (suc (suc zero))) h = omega arith
+capital_over (suc (suc (suc (suc zero)))) h = omega arith
+capital_over (suc (suc (suc (suc (suc zero))))) h = omega arith
+capital_over (suc (suc (suc (suc (suc (suc zero)))))) h = omega arith
+capital_over (suc (suc (suc (suc (suc (suc (suc n))))))) h = absurd (omega arith)
+
+no_space : (x : ℕ) → 32 < x → (x == 32) ≡ false
+no_space x h = grind arith
+
+letters_lack : (step : ℕ) (o : ℤ) → step < 7 → has_byte 32 (letters step o) ≡ false
+letters_lack step (pos k) h = let over = small_over step h in repeat_lacks (slice_index small_letters step) 32 (suc k) (no_space (slice_index small_letters step) (omega (arith, over)))
+letters_lack step (negsuc k) h = let over = capital_over step h in repeat_lacks (slice_index capitals step) 32 (suc k) (no_space (slice_index capitals step) (omega (arith, over)))
+
+signs_lack : (a : ℤ) → has_byte 32 (accidentals a) ≡ false
+signs_lack (pos k) = repeat_lacks 35 32 k refl
+signs_lack (negsuc k) = repeat_lacks 45 32 (suc k) refl
+
+spelling_lacks : (p : Spelled) → p.step < 7 → has_byte 32 (spelling p) ≡ false
+spelling_lacks p h = both_lack 32 (letters_of p) (accidentals p.alteration) (letters_lack p.step (p.octave -ℤ pos 4) h) (signs_lack p.alteration)
+
+-- a text that begins with a pitch
+record BeginsOver (text : List ℕ) : Type 0 where
+  first : ℕ
+  more : List ℕ
+  is : text ≡ first ∷ more
+  over : 64 < first
+
+letters_begin : (step : ℕ) (o : ℤ) (ys more : List ℕ) → step < 7 → BeginsOver ((letters step o ++ ys) ++ more)
+letters_begin step (pos k) ys more h = record { first = slice_index small_letters step; more = (replicate k (slice_index small_letters step) ++ ys) ++ more; is = refl; over = small_over step h }
+letters_begin step (negsuc k) ys more h = record { first = slice_index capitals step; more = (replicate k (slice_index capitals step) ++ ys) ++ more; is = refl; over = capital_over step h }
+
+-- what a part becomes: itself, or with another pitch in it
+put_becomes : (part : List ℕ) (found : Reading) (there : Spelled) (text : List ℕ) → there.step < 7 → put part found (if_spelled there) ≡ Ok (Some text) → Becomes part text
+put_becomes part found there text h e = go (is_alteration there.alteration) (is_octave there.octave) e
+  where
+    go : (a b : Bool) → put part found (if not a then Err TR1 else if not b then Err TR2 else Ok there) ≡ Ok (Some text) → Becomes part text
+    go false b e = cc
+    go true false e = cc
+    go true true e = Moves found.start found.end there h cc
+
+becomes : (n m : ℤ) (part text : List ℕ) → transposed_part n m part ≡ Ok (Some text) → Becomes part text
+becomes n m part text e = go (note part) e
+  where
+    there : (found : Reading) (p : Option Spelled) → moved n m part found p ≡ Ok (Some text) → Becomes part text
+    there found None e = Stays cc
+    there found (Some p) e = put_becomes part found (away n m p) text (away_is n m p).step e
+
+    go : (r : Result Reading KernFault) → moved_as_read n m part r ≡ Ok (Some text) → Becomes part text
+    go (Ok found) e = there found found.pitch e
+    go (Err fault) e = cc
+
+put_some : (part : List ℕ) (found : Reading) (there : Spelled) → put part found (if_spelled there) ≡ Ok None → ⊥
+put_some part found there e = go (is_alteration there.alteration) (is_octave there.octave) e
+  where
+    go : (a b : Bool) → put part found (if not a then Err TR1 else if not b then Err TR2 else Ok there) ≡ Ok None → ⊥
+    go false b e = cc
+    go true false e = cc
+    go true true e = cc
+
+never_none : (n m : ℤ) (part : List ℕ) → transposed_part n m part ≡ Ok None → ⊥
+never_none n m part e = go (note part) e
+  where
+    there : (found : Reading) (p : Option Spelled) → moved n m part found p ≡ Ok None → ⊥
+    there found None e = cc
+    there found (Some p) e = put_some part found (away n m p) e
+
+    go : (r : Result Reading KernFault) → moved_as_read n m part r ≡ Ok None → ⊥
+    go (Ok found) e = there found found.pitch e
+    go (Err fault) e = cc
+
+-- all parts of a token were transposed
+abbrev AllMoved : ℤ → ℤ → List (List ℕ) → List (List ℕ) → Type 0
+AllMoved n m [] [] = Unit {0}
+AllMoved n m (part ∷ parts) (text ∷ texts) = (transposed_part n m part ≡ Ok (Some text)) × AllMoved n m parts texts
+AllMoved n m _ _ = ⊥
+
+all_moved : (n m : ℤ) (parts texts : List (List ℕ)) → given_by (transposed_part n m) parts ≡ Ok texts → AllMoved n m parts texts
+all_moved n m [] [] e = tt
+all_moved n m [] (text ∷ texts) e = cc
+all_moved n m (part ∷ parts) texts e = go (transposed_part n m part) refl (given_by (transposed_part n m) parts) (λ others given. all_moved n m parts others given) texts e
+  where
+    go : (r : Result (Option (List ℕ)) Rule) → transposed_part n m part ≡ r → (rest : Result (List (List ℕ)) Rule) → ((others : List (List ℕ)) → rest ≡ Ok others → AllMoved n m parts others) → (texts : List (List ℕ)) → with_first r rest ≡ Ok texts → AllMoved n m (part ∷ parts) texts
+    go (Err rule) is rest more texts e = cc
+    go (Ok None) is rest more texts e = absurd (never_none n m part is)
+    go (Ok (Some text)) is (Err rule) more texts e = cc
+    go (Ok (Some text)) is (Ok others) more [] e = cc
+    go (Ok (Some text)) is (Ok others) more (first ∷ texts) e =
+        let one : text ≡ first = cc in
+        let two : others ≡ texts = cc in
+        (is ∙ ap (λ (t : List ℕ). Ok (Some t)) one, more texts (ap (λ (t : List (List ℕ)). Ok t) two))
+
+-- no part has a space
+text_lacks : (part text : List ℕ) → Becomes part text → has_byte 32 part ≡ false → has_byte 32 text ≡ false
+text_lacks part text (Stays e) h = rw e h
+text_lacks part text (Moves start end there small e) h =
+    rw e (both_lack 32 (take start part) (spelling there ++ drop end part) (lacks_take 32 start part h) (both_lack 32 (spelling there) (drop end part) (spelling_lacks there small) (lacks_drop 32 end part h)))
+
+texts_lack : (n m : ℤ) (parts texts : List (List ℕ)) → AllMoved n m parts texts → Lack 32 parts → Lack 32 texts
+texts_lack n m [] [] moved all = tt
+texts_lack n m [] (text ∷ texts) moved all = absurd moved
+texts_lack n m (part ∷ parts) [] moved all = absurd moved
+texts_lack n m (part ∷ parts) (text ∷ texts) moved all = (text_lacks part text (becomes n m part text moved.0) all.0, texts_lack n m parts texts moved.1 all.1)
+
+onto_lacks : (x : ℕ) (parts : List (List ℕ)) → (x == 32) ≡ false → Lack 32 parts → Lack 32 (onto_first x parts)
+onto_lacks x [] apart all = (rw apart refl, tt)
+onto_lacks x (part ∷ parts) apart all = (rw (apart, all.0) refl, all.1)
+
+parts_lack : (text : List ℕ) → Lack 32 (subtokens text)
+parts_lack [] = (refl, tt)
+parts_lack (x ∷ xs) =
+    let rest = parts_lack xs in
+    by_bool (x == 32) (λ w. rw w (refl, rest)) (λ w. rw w (onto_lacks x (subtokens xs) w rest))
+
+onto_some : (x : ℕ) (parts : List (List ℕ)) → onto_first x parts ≢ []
+onto_some x [] = λ e. cc
+onto_some x (part ∷ parts) = λ e. cc
+
+parts_some : (token : List ℕ) → subtokens token ≢ []
+parts_some [] = λ e. cc
+parts_some (x ∷ xs) = by_bool (x == 32) (λ w. rw w (λ e. cc)) (λ w. rw w (onto_some x (subtokens xs)))
+
+-- texts that are joined by spaces are cut again
+cut_last : (t : List ℕ) → has_byte 32 t ≡ false → subtokens t ≡ t ∷ []
+cut_last [] h = refl
+cut_last (x ∷ t) h = let both = or_parts (x == 32) (has_byte 32 t) h in rw (both.0, cut_last t both.1) refl
+
+cut_first : (t rest : List ℕ) → has_byte 32 t ≡ false → subtokens (t ++ 32 ∷ rest) ≡ t ∷ subtokens rest
+cut_first [] rest h = refl
+cut_first (x ∷ t) rest h = let both = or_parts (x == 32) (has_byte 32 t) h in rw (both.0, cut_first t rest both.1) refl
+
+cut_again : (text : List ℕ) (texts : List (List ℕ)) → Lack 32 (text ∷ texts) → subtokens (joined (text ∷ texts)) ≡ text ∷ texts
+cut_again text [] h = cut_last text h.0
+cut_again text (next ∷ texts) h = cut_first text (join_with_byte 32 (next ∷ texts)) h.0 ∙ ap (λ (x : List (List ℕ)). text ∷ x) (cut_again next texts h.1)
+
+-- what the second makes of the texts, part by part
+abbrev Alike : ℤ → ℤ → (List ℕ → Result (Option (List ℕ)) Rule) → (List ℕ → Result (Option (List ℕ)) Rule) → Type 0
+Alike n m second both = (part text : List ℕ) → transposed_part n m part ≡ Ok (Some text) → both part ≡ second text
+
+given_alike : (n m : ℤ) (second both : List ℕ → Result (Option (List ℕ)) Rule) → Alike n m second both → (parts texts : List (List ℕ)) → AllMoved n m parts texts
+    → given_by both parts ≡ given_by second texts
+given_alike n m second both h [] [] moved = refl
+given_alike n m second both h [] (text ∷ texts) moved = absurd moved
+given_alike n m second both h (part ∷ parts) [] moved = absurd moved
+given_alike n m second both h (part ∷ parts) (text ∷ texts) moved = rw (h part text moved.0, given_alike n m second both h parts texts moved.1) refl
+
+-- a text has the first byte that it had, or begins with a pitch
+front_is : (part text : List ℕ) (x : ℕ) (more : List ℕ) → Becomes part text → text ≡ x ∷ more → x < 65 → (rest : List ℕ) × (part ≡ x ∷ rest)
+front_is part text x more (Stays e) is low = (more, sym e ∙ is)
+front_is part text x more (Moves zero end there small e) is low = absurd (far (letters_begin there.step (there.octave -ℤ pos 4) (accidentals there.alteration) (drop end part) small))
+  where
+    far : BeginsOver (spelling there ++ drop end part) → ⊥
+    far h = let same : h.first ∷ h.more ≡ x ∷ more = sym h.is ∙ (sym e ∙ is) in let first : h.first ≡ x = cc in let over = h.over in omega (arith, first, over)
+front_is [] text x more (Moves (suc n) end there small e) is low = absurd (far (letters_begin there.step (there.octave -ℤ pos 4) (accidentals there.alteration) (drop end []) small))
+  where
+    far : BeginsOver (spelling there ++ drop end []) → ⊥
+    far h = let same : h.first ∷ h.more ≡ x ∷ more = sym h.is ∙ (sym e ∙ is) in let first : h.first ≡ x = cc in let over = h.over in omega (arith, first, over)
+front_is (y ∷ part) text x more (Moves (suc n) end there small e) is low =
+    let same : y ∷ (take n part ++ (spelling there ++ drop end (y ∷ part))) ≡ x ∷ more = sym e ∙ is in
+    let first : y ≡ x = cc in
+    (part, ap (λ (z : ℕ). z ∷ part) first)
+
+some_behind : (xs ys more : List ℕ) (y : ℕ) → ys ≡ y ∷ more → xs ++ ys ≡ [] → ⊥
+some_behind [] ys more y is e = let none : y ∷ more ≡ [] = sym is ∙ e in cc
+some_behind (x ∷ xs) ys more y is e = cc
+
+-- only a null part becomes null
+dot_is : (part text : List ℕ) → Becomes part text → text ≡ 46 ∷ [] → part ≡ 46 ∷ []
+dot_is part text (Stays e) is = sym e ∙ is
+dot_is part text (Moves zero end there small e) is = absurd (far (letters_begin there.step (there.octave -ℤ pos 4) (accidentals there.alteration) (drop end part) small))
+  where
+    far : BeginsOver (spelling there ++ drop end part) → ⊥
+    far h = let same : h.first ∷ h.more ≡ 46 ∷ [] = sym h.is ∙ (sym e ∙ is) in let first : h.first ≡ 46 = cc in let over = h.over in omega (arith, first, over)
+dot_is [] text (Moves (suc n) end there small e) is = absurd (far (letters_begin there.step (there.octave -ℤ pos 4) (accidentals there.alteration) (drop end []) small))
+  where
+    far : BeginsOver (spelling there ++ drop end []) → ⊥
+    far h = let same : h.first ∷ h.more ≡ 46 ∷ [] = sym h.is ∙ (sym e ∙ is) in let first : h.first ≡ 46 = cc in let over = h.over in omega (arith, first, over)
+dot_is (y ∷ part) text (Moves (suc n) end there small e) is = absurd (far (letters_begin there.step (there.octave -ℤ pos 4) (accidentals there.alteration) (drop end (y ∷ part)) small))
+  where
+    far : BeginsOver (spelling there ++ drop end (y ∷ part)) → ⊥
+    far h =
+        let same : y ∷ (take n part ++ (spelling there ++ drop end (y ∷ part))) ≡ 46 ∷ [] = sym e ∙ is in
+        let none : take n part ++ (spelling there ++ drop end (y ∷ part)) ≡ [] = cc in
+        some_behind (take n part) (spelling there ++ drop end (y ∷ part)) h.more h.first h.is none
+
+-- the first byte of a joined token, and of a token that is cut
+joined_front : (text : List ℕ) (texts : List (List ℕ)) (x : ℕ) (more : List ℕ) → joined (text ∷ texts) ≡ x ∷ more → 32 < x → (rest : List ℕ) × (text ≡ x ∷ rest)
+joined_front text [] x more e high = (more, e)
+joined_front [] (next ∷ texts) x more e high = let is : 32 ≡ x = cc in absurd (omega (arith, is))
+joined_front (y ∷ text) (next ∷ texts) x more e high = let is : y ≡ x = cc in (text, ap (λ (z : ℕ). z ∷ text) is)
+
+cut_front : (token part : List ℕ) (parts : List (List ℕ)) (x : ℕ) (more : List ℕ) → subtokens token ≡ part ∷ parts → part ≡ x ∷ more → (rest : List ℕ) × (token ≡ x ∷ rest)
+cut_front [] part parts x more e is = let none : [] ≡ part = cc in let no : [] ≡ x ∷ more = none ∙ is in cc
+cut_front (y ∷ token) part parts x more e is = by_bool (y == 32) (λ w. at_space w) (λ w. of (subtokens token) (rw w at e))
+  where
+    at_space : (y == 32) ≡ true → (rest : List ℕ) × (y ∷ token ≡ x ∷ rest)
+    at_space w = let f = rw w at e in let none : [] ≡ part = cc in let no : [] ≡ x ∷ more = none ∙ is in cc
+
+    of : (others : List (List ℕ)) → onto_first y others ≡ part ∷ parts → (rest : List ℕ) × (y ∷ token ≡ x ∷ rest)
+    of [] f = let one : y ∷ [] ≡ part = cc in let two : y ∷ [] ≡ x ∷ more = one ∙ is in let same : y ≡ x = cc in (token, ap (λ (z : ℕ). z ∷ token) same)
+    of (other ∷ others) f = let one : y ∷ other ≡ part = cc in let two : y ∷ other ≡ x ∷ more = one ∙ is in let same : y ≡ x = cc in (token, ap (λ (z : ℕ). z ∷ token) same)
+
+barline_head : (text : List ℕ) → is_barline text ≡ true → (more : List ℕ) × (text ≡ 61 ∷ more)
+barline_head [] h = cc
+barline_head (x ∷ text) h = let is : x ≡ 61 = grind (arith, nat_tests, h) in (text, ap (λ (z : ℕ). z ∷ text) is)
+
+dot_alone : (token : List ℕ) → subtokens token ≡ (46 ∷ []) ∷ [] → token ≡ 46 ∷ []
+dot_alone token e = sym (join_with_byte-slice_split 32 token) ∙ ap (join_with_byte 32) e
+
+-- a token that is told anew is so when its pitches have moved
+stays_told : (n m : ℤ) (token : List ℕ) (parts texts : List (List ℕ)) → subtokens token ≡ parts → AllMoved n m parts texts → is_told token ≡ true → is_told (joined texts) ≡ true
+stays_told n m token [] texts cut moved told = absurd (parts_some token cut)
+stays_told n m token (part ∷ parts) [] cut moved told = absurd moved
+stays_told n m token (part ∷ parts) (text ∷ texts) cut moved told =
+    let both = and_parts (not (is_null token)) (not (is_barline token)) told in
+    and_from (not (is_null (joined (text ∷ texts)))) (not (is_barline (joined (text ∷ texts))))
+    (by_bool (is_null (joined (text ∷ texts))) (λ w. absurd (null w both.0)) (λ w. rw w refl))
+    (by_bool (is_barline (joined (text ∷ texts))) (λ w. absurd (barline w both.1)) (λ w. rw w refl))
+  where
+    moves : Becomes part text
+    moves = becomes n m part text moved.0
+
+    barline : is_barline (joined (text ∷ texts)) ≡ true → not (is_barline token) ≡ true → ⊥
+    barline w apart =
+        let one = barline_head (joined (text ∷ texts)) w in
+        let two = joined_front text texts 61 one.0 one.1 (omega arith) in
+        let three = front_is part text 61 two.0 moves two.1 (omega arith) in
+        let four = cut_front token part parts 61 three.0 cut three.1 in
+        let no : false ≡ true = rw four.1 at apart in
+        cc
+
+    null : is_null (joined (text ∷ texts)) ≡ true → not (is_null token) ≡ true → ⊥
+    null w apart = alone texts moved.1 ((bytes_eq-Decides (codes ".") (joined (text ∷ texts))).0 w)
+      where
+        alone : (others : List (List ℕ)) → AllMoved n m parts others → 46 ∷ [] ≡ joined (text ∷ others) → ⊥
+        alone [] rest is = single parts cut rest (dot_is part text moves (sym is))
+          where
+            single : (parts : List (List ℕ)) → subtokens token ≡ part ∷ parts → AllMoved n m parts [] → part ≡ 46 ∷ [] → ⊥
+            single [] cut rest same =
+                let dot = dot_alone token (cut ∙ ap (λ (x : List ℕ). x ∷ []) same) in
+                let no : false ≡ true = rw dot at apart in
+                cc
+            single (other ∷ parts) cut rest same = absurd rest
+        alone (next ∷ others) rest is =
+            let two = joined_front text (next ∷ others) 46 [] (sym is) (omega arith) in
+            let whole : 46 ∷ [] ≡ (46 ∷ two.0) ++ 32 ∷ join_with_byte 32 (next ∷ others) = is ∙ ap (λ (x : List ℕ). x ++ 32 ∷ join_with_byte 32 (next ∷ others)) two.1 in
+            let none : two.0 ++ 32 ∷ join_with_byte 32 (next ∷ others) ≡ [] = cc in
+            some_behind two.0 (32 ∷ join_with_byte 32 (next ∷ others)) (join_with_byte 32 (next ∷ others)) 32 refl none
+
+-- A token that is transposed and then told part by part.
+pub trans_agree : (n m : ℤ) (second both : List ℕ → Result (Option (List ℕ)) Rule)
+    → ((part text : List ℕ) → transposed_part n m part ≡ Ok (Some text) → both part ≡ second text)
+    → Agree (λ above. transposed n m) (retold second) (λ above. retold both)
+trans_agree n m second both h above token text told e = from (given_by (transposed_part n m) (subtokens token)) refl e
+  where
+    made : (parts texts : List (List ℕ)) → subtokens token ≡ parts → AllMoved n m parts texts → joined texts ≡ text
+        → (is_told text ≡ true) × (retold both token ≡ retold second text)
+    made [] texts cut moved is = absurd (parts_some token cut)
+    made (part ∷ parts) [] cut moved is = absurd moved
+    made (part ∷ parts) (first ∷ texts) cut moved is =
+        let lack = texts_lack n m (part ∷ parts) (first ∷ texts) moved (subst (Lack 32) cut (parts_lack token)) in
+        let again : subtokens text ≡ first ∷ texts = ap subtokens (sym is) ∙ cut_again first texts lack in (
+          subst (λ (t : List ℕ). is_told t ≡ true) is (stays_told n m token (part ∷ parts) (first ∷ texts) cut moved told),
+          ap (λ (ps : List (List ℕ)). if_given (given_by both ps)) cut
+              ∙ ap if_given (given_alike n m second both h (part ∷ parts) (first ∷ texts) moved)
+              ∙ ap (λ (ps : List (List ℕ)). if_given (given_by second ps)) (sym again),
+        )
+
+    from : (r : Result (List (List ℕ)) Rule) → given_by (transposed_part n m) (subtokens token) ≡ r → if_given r ≡ Ok text
+        → (is_told text ≡ true) × (retold both token ≡ retold second text)
+    from (Err rule) is e = cc
+    from (Ok texts) is e =
+        let same : joined texts ≡ text = cc in
+        made (subtokens token) texts refl (all_moved n m (subtokens token) texts is) same

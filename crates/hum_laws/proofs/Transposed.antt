@@ -1,0 +1,67 @@
+-- Scores that are transposed, and then transposed again or told in other terms.
+use Rattle.std.proofs.Common.{◌≡◌, refl, sym, ap, ◌∙◌, ℕ, ℤ, ◌+ℤ◌, Bool, true, false, List, [], ◌∷◌}
+use Rattle.std.specs.Prelude.{neg_ℤ, Option, None, Some, Result, Ok, Err}
+use lib.Chars.{codes}
+use Rattle.hum_record.specs.Row.{Row}
+use Rattle.hum_path.specs.Sign.{sign_of, is_plain}
+use Rattle.hum_stage.specs.declared.faults.Rule.{Rule}
+use Rattle.hum_stage.specs.declared.faults.Command.TheVariants.{Trans, Semits}
+use Rattle.hum_stage.specs.declared.faults.End.TheVariants.{Closed}
+use Rattle.hum_stage.specs.Score.{IsScore}
+use Rattle.hum_stage.specs.Meaning.{Meaning, KeepsScore}
+use Rattle.hum_cells.specs.Retelling.{Renamed, Followed, is_kern, retell, meaning}
+use Rattle.hum_tones.specs.declared.semits.SemitsOptions.{SemitsOptions}
+use Rattle.hum_tones.specs.Commands.{trans, trans_sign, semits, meaning_of_semits}
+use Rattle.hum_tones.specs.Subtokens.{retold}
+use Rattle.hum_tones.specs.Trans.{transposed, transposed_part}
+use Rattle.hum_tones.specs.Semits.{semits_of}
+use Rattle.hum_laws.specs.declared.given.Given.{Given}
+use Rattle.hum_laws.specs.Piped.{IsAlone, IsPiped}
+use Rattle.hum_laws.specs.Shifting.{semits_higher}
+use Rattle.hum_laws.specs.Transposing.{moved_by, transposed_under, semitones_under, as_semitones}
+use Rattle.hum_laws.proofs.Runs.{alone_runs, piped_runs}
+use Rattle.hum_laws.proofs.Marks.{Signs, marks, alone_marks}
+use Rattle.hum_laws.proofs.Tokens.{trans_agree}
+use Rattle.hum_laws.proofs.Undone.{added, shifted}
+use Rattle.hum_laws.proofs.Signs.{back_unsigned}
+use Rattle.hum_laws.specs.Unsigned.{unsigned, unsigned_under}
+
+behind_trans : (n m : ℤ) (second both : List ℕ → Result (Option (List ℕ)) Rule)
+    → ((part text : List ℕ) → transposed_part n m part ≡ Ok (Some text) → both part ≡ second text)
+    → Signs (trans_sign n m) (λ above. transposed n m) (retold second) (λ above. retold both)
+behind_trans n m second both h = record { agree = trans_agree n m second both h; plain = refl; no_kern = refl }
+
+pub adds_up : (n m k l : ℤ) (p : List Row) (given : Given) → IsPiped (moved_by 1 n m) (moved_by 2 k l) p given
+    → KeepsScore (moved_by 1 n m).outcomes → IsScore p → given.end ≡ Closed
+    → given.records.items ≡ transposed_under (trans_sign k l ∷ trans_sign n m ∷ []) (n +ℤ k) (m +ℤ l) p
+adds_up n m k l p given h keeps score closed =
+    marks (Followed (trans_sign k l)) (trans_sign n m) (λ above. transposed n m) (transposed k l) (λ above. transposed (n +ℤ k) (m +ℤ l))
+    (behind_trans n m (transposed_part k l) (transposed_part (n +ℤ k) (m +ℤ l)) (λ part text e. sym (added n m k l part text e)))
+    p given.records.items score (piped_runs 1 2 Trans Trans (retell (trans n m)) (retell (trans k l)) p given h keeps score closed)
+
+pub moves_alone : (n m : ℤ) (p : List Row) (given : Given) → IsAlone (moved_by 1 n m) p given → given.end ≡ Closed
+    → given.records.items ≡ transposed_under (trans_sign n m ∷ []) n m p
+moves_alone n m p given h closed =
+    alone_marks (Followed (trans_sign n m)) (λ above. transposed n m) p given.records.items (alone_runs 1 Trans (retell (trans n m)) p given h closed)
+
+pub semits_moved : (n m : ℤ) (options : SemitsOptions) (p : List Row) (given : Given) → IsPiped (moved_by 1 n m) (meaning_of_semits 2 options) p given
+    → KeepsScore (moved_by 1 n m).outcomes → IsScore p → given.end ≡ Closed
+    → given.records.items ≡ semitones_under (trans_sign n m ∷ []) m options.ties_left_out p
+semits_moved n m options p given h keeps score closed =
+    marks (Renamed (codes "**semits")) (trans_sign n m) (λ above. transposed n m) (retold (semits_of options.ties_left_out)) (λ above. retold (semits_higher m options.ties_left_out))
+    (behind_trans n m (semits_of options.ties_left_out) (semits_higher m options.ties_left_out) (λ part text e. sym (shifted options.ties_left_out n m part text e)))
+    p given.records.items score (piped_runs 1 2 Trans Semits (retell (trans n m)) (retell (semits options)) p given h keeps score closed)
+
+pub semits_alone : (options : SemitsOptions) (p : List Row) (given : Given) → IsAlone (meaning_of_semits 1 options) p given → given.end ≡ Closed
+    → given.records.items ≡ as_semitones options.ties_left_out p
+semits_alone options p given h closed =
+    alone_marks (Renamed (codes "**semits")) (λ above. retold (semits_of options.ties_left_out)) p given.records.items
+    (alone_runs 1 Semits (retell (semits options)) p given h closed)
+
+pub back_again : (n m : ℤ) (p : List Row) (given : Given) → IsPiped (moved_by 1 n m) (moved_by 2 (neg_ℤ n) (neg_ℤ m)) p given
+    → KeepsScore (moved_by 1 n m).outcomes → IsScore p → given.end ≡ Closed
+    → given.records.items ≡ unsigned_under (trans_sign (neg_ℤ n) (neg_ℤ m) ∷ trans_sign n m ∷ []) p
+back_again n m p given h keeps score closed =
+    marks (Followed (trans_sign (neg_ℤ n) (neg_ℤ m))) (trans_sign n m) (λ above. transposed n m) (transposed (neg_ℤ n) (neg_ℤ m)) (λ above. retold unsigned)
+    (behind_trans n m (transposed_part (neg_ℤ n) (neg_ℤ m)) unsigned (λ part text e. back_unsigned n m part text e))
+    p given.records.items score (piped_runs 1 2 Trans Trans (retell (trans n m)) (retell (trans (neg_ℤ n) (neg_ℤ m))) p given h keeps score closed)

@@ -1,0 +1,40 @@
+//! The command ditto, again.
+ghost use Rattle.std.specs.Prelude.{◌≡◌, ◌≤◌, length, IfOk};
+ghost use Rattle.hum_stage.specs.Score.{IsClosed};
+ghost use Rattle.hum_stage.specs.declared.faults.End.TheVariants.{Closed};
+ghost use Rattle.hum_ditto.specs.Ditto.{meaning};
+ghost use Rattle.hum_laws.specs.Piped.{IsAlone, IsPiped};
+
+use crate::given::{Given, again};
+use hum_commands::{CommandOptions, CommandStage};
+use hum_ditto::DittoOptions;
+use hum_record::Record;
+use std::alloc::{AllocError, Global};
+
+/// What ditto has filled it doesn't fill again: `ditto | ditto` is `ditto`, also with `-p`.
+///
+/// # Errors
+/// Want of memory.
+pub fn ditto_twice(
+    alloc: Global,
+    records: &[Record],
+    options: DittoOptions,
+    alike: DittoOptions,
+) -> Result<(Given, Given), AllocError>
+    requires closed { IsClosed records.now }
+    requires few { length records.now ≤ 4294967295 }
+    requires alike { alike ≡ options }
+    ensures once { IfOk result (λ both. IsAlone (meaning 1 options) records.now both.0) }
+    ensures twice { IfOk result (λ both.
+        IsPiped (meaning 1 options) (meaning 2 options) records.now both.1) }
+    ensures same { IfOk result (λ both. both.0.end ≡ Closed → both.1.end ≡ Closed →
+        both.1.records.items ≡ both.0.records.items) }
+{
+    let both = again(
+        alloc,
+        records,
+        CommandStage::new(alloc, 1, CommandOptions::Ditto(options)),
+        CommandStage::new(alloc, 2, CommandOptions::Ditto(alike)),
+    )?;
+    Ok(both)
+}

@@ -1,0 +1,87 @@
+//! What stages give of a score, one alone or two one after another.
+ghost use Rattle.std.specs.Prelude.{◌≡◌, ◌≤◌, length, IfOk};
+ghost use Rattle.hum_stage.specs.Score.{IsClosed};
+ghost use Rattle.hum_stage.specs.Meaning.{Meaning, opening};
+ghost use Rattle.hum_laws.specs.Piped.{IsAlone, IsPiped, IsFirst};
+
+use hum_record::Record;
+use hum_stage::{End, Stage, whole};
+use std::alloc::{AllocError, Global};
+
+/// The records that come of a score, and how they end.
+#[derive(Drop)]
+pub struct Given {
+    pub records: Vec<Record>,
+    pub end: End,
+}
+
+// A second list that is the same.
+fn copied(alloc: Global, records: &[Record]) -> Result<Vec<Record>, AllocError>
+    ensures { IfOk result (λ copies. copies.items ≡ records.now) }
+{
+    let mut copies = Vec::new(alloc);
+    for record in records {
+        copies.push(record.copy(alloc)?)?;
+    }
+    Ok(copies)
+}
+
+/// What a stage gives of a closed score.
+pub(crate) fn alone<S: Stage + Drop>(
+    alloc: Global,
+    records: &[Record],
+    stage: S,
+) -> Result<Given, AllocError>
+    requires fresh { (m : Meaning) × S.stands stage (opening m) }
+    requires closed { IsClosed records.now }
+    requires few { length records.now ≤ 4294967295 }
+    ensures { IfOk result (λ given. (m : Meaning) → S.stands stage (opening m)
+        → IsAlone m records.now given) }
+{
+    let (records, end) = whole(alloc, stage, copied(alloc, records)?, End::Closed)?;
+    Ok(Given { records, end })
+}
+
+/// What a closed score becomes by two stages, the second behind the first.
+pub(crate) fn piped<S: Stage + Drop, T: Stage + Drop>(
+    alloc: Global,
+    records: &[Record],
+    first: S,
+    second: T,
+) -> Result<Given, AllocError>
+    requires first { IsFirst (S.stands first) }
+    requires second { (n : Meaning) × T.stands second (opening n) }
+    requires closed { IsClosed records.now }
+    requires few { length records.now ≤ 4294967295 }
+    ensures { IfOk result (λ given. (m n : Meaning) → S.stands first (opening m)
+        → T.stands second (opening n) → IsPiped m n records.now given) }
+{
+    let (between, end) = whole(alloc, first, copied(alloc, records)?, End::Closed)?;
+    let (records, end) = whole(alloc, second, between, end)?;
+    Ok(Given { records, end })
+}
+
+/// What a closed score becomes by a stage, and what that becomes by another one.
+pub(crate) fn again<S: Stage + Drop, T: Stage + Drop>(
+    alloc: Global,
+    records: &[Record],
+    first: S,
+    second: T,
+) -> Result<(Given, Given), AllocError>
+    requires first { IsFirst (S.stands first) }
+    requires second { (n : Meaning) × T.stands second (opening n) }
+    requires closed { IsClosed records.now }
+    requires few { length records.now ≤ 4294967295 }
+    ensures once { IfOk result (λ both. (m : Meaning) → S.stands first (opening m)
+        → IsAlone m records.now both.0) }
+    ensures twice { IfOk result (λ both. (m n : Meaning) → S.stands first (opening m)
+        → T.stands second (opening n) → IsPiped m n records.now both.1) }
+{
+    let once = alone(alloc, records, first)?;
+    let (again, end) = whole(alloc, second, copied(alloc, &once.records)?, once.end)?;
+    let twice = Given {
+        records: again,
+        end,
+    };
+    Ok((once, twice))
+}

@@ -1,0 +1,25 @@
+//! Laws between commands: what an analyst may lean on when stages of a plan change places, fall away
+//! or undo one another.
+//!
+//! Each function takes a closed score, runs both sides of a law on it, and answers what each side
+//! gives. Its contract says that these are what the commands mean, and how they are related.
+#![tactic(auto)]
+
+mod fill;
+mod given;
+mod looks;
+mod notes;
+mod pitches;
+mod rid;
+mod trans;
+
+pub use fill::ditto_twice;
+pub use given::Given;
+pub use looks::all_lines;
+pub use notes::told_once;
+pub use pitches::{interval_leads, intervals_add_up};
+pub use rid::{rid_by_letters, rid_twice};
+pub use trans::{semits_shifted, there_and_back, transpositions_add_up};
+
+#[cfg(test)]
+mod tests;

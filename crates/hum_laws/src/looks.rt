@@ -1,0 +1,42 @@
+//! Commands that look ahead, where they leave a score as it is.
+ghost use Rattle.std.specs.Prelude.{◌≡◌, ◌≤◌, length, IfOk, [], ◌∷◌};
+ghost use Rattle.hum_stage.specs.Score.{IsClosed};
+ghost use Rattle.hum_stage.specs.declared.faults.Command.TheVariants.{Yank as YankCommand};
+ghost use Rattle.hum_stage.specs.declared.faults.End.TheVariants.{Closed};
+ghost use Rattle.hum_stage.specs.Look.{looking};
+ghost use Rattle.hum_yank.specs.declared.options.YankRange.TheVariants.{Onward};
+ghost use Rattle.hum_yank.specs.Passages.{Lines};
+ghost use Rattle.hum_yank.specs.Yank.{yank};
+ghost use Rattle.hum_laws.specs.Piped.{IsAlone};
+
+use crate::given::{Given, alone};
+use hum_commands::{CommandOptions, CommandStage};
+use hum_record::Record;
+use hum_yank::{Markers, YankOptions, YankRange};
+use std::alloc::{AllocError, Global};
+
+/// All lines of a score are the score: `yank -l -r 1-$`.
+///
+/// # Errors
+/// Want of memory.
+pub fn all_lines(alloc: Global, records: &[Record]) -> Result<Given, AllocError>
+    requires closed { IsClosed records.now }
+    requires few { length records.now ≤ 4294967295 }
+    ensures yanked { IfOk result (IsAlone (looking 65536 1 YankCommand
+        (yank (record { form = Lines; ranges = Onward 1 ∷ [] }))) records.now) }
+    ensures same { IfOk result (λ given. given.records.items ≡ records.now) }
+    ensures end { IfOk result (λ given. given.end ≡ Closed) }
+{
+    let mut ranges = Vec::new(alloc);
+    ranges.push(YankRange::Onward { first: 1 })?;
+    let options = YankOptions {
+        markers: Markers::Lines,
+        ranges,
+    };
+    let given = alone(
+        alloc,
+        records,
+        CommandStage::new(alloc, 1, CommandOptions::Yank(options)),
+    )?;
+    Ok(given)
+}

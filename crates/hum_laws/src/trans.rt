@@ -1,0 +1,145 @@
+//! The command trans, and what comes behind it.
+ghost use Rattle.std.specs.Prelude.{◌≡◌, ◌≤◌, ◌+ℤ◌, neg_ℤ, pos, negsuc, [], ◌∷◌, length, IfOk};
+ghost use Rattle.hum_pitch.specs.Pitch.{IsWithin};
+ghost use Rattle.hum_stage.specs.Score.{IsClosed};
+ghost use Rattle.hum_stage.specs.declared.faults.End.TheVariants.{Closed};
+ghost use Rattle.hum_tones.specs.Commands.{trans_sign, meaning_of_semits};
+ghost use Rattle.hum_laws.specs.Piped.{IsAlone, IsPiped};
+ghost use Rattle.hum_laws.specs.Unsigned.{unsigned_under};
+ghost use Rattle.hum_laws.specs.Transposing.{moved_by, transposed_under, semitones_under, as_semitones};
+
+use crate::given::{Given, alone, piped};
+use hum_record::Record;
+use hum_tones::{Semits, SemitsOptions, Trans, Transposition};
+use std::alloc::{AllocError, Global};
+
+/// Both ways, one after the other.
+fn sum(some: Transposition, more: Transposition) -> Transposition
+    requires steps { IsWithin (negsuc 48) (some.steps +ℤ more.steps) (pos 49) }
+    requires semitones { IsWithin (negsuc 83) (some.semitones +ℤ more.semitones) (pos 84) }
+    ensures steps { result.steps ≡ some.steps +ℤ more.steps }
+    ensures semitones { result.semitones ≡ some.semitones +ℤ more.semitones }
+{
+    Transposition {
+        steps: some.steps + more.steps,
+        semitones: some.semitones + more.semitones,
+    }
+}
+
+/// The way back.
+fn opposite(way: Transposition) -> Transposition
+    ensures steps { result.steps ≡ neg_ℤ way.steps }
+    ensures semitones { result.semitones ≡ neg_ℤ way.semitones }
+{
+    Transposition {
+        steps: -way.steps,
+        semitones: -way.semitones,
+    }
+}
+
+/// Transpositions add up: `trans -d 1 -c 2 | trans -d 2 -c 3` is `trans -d 3 -c 5`, but for the
+/// records of `*Tr`, of which the one has two and the other one behind each record with `**kern`.
+///
+/// # Errors
+/// Want of memory.
+pub fn transpositions_add_up(
+    alloc: Global,
+    records: &[Record],
+    some: Transposition,
+    more: Transposition,
+) -> Result<(Given, Given), AllocError>
+    requires closed { IsClosed records.now }
+    requires few { length records.now ≤ 4294967295 }
+    requires steps { IsWithin (negsuc 48) (some.steps +ℤ more.steps) (pos 49) }
+    requires semitones { IsWithin (negsuc 83) (some.semitones +ℤ more.semitones) (pos 84) }
+    ensures in_turn { IfOk result (λ both.
+        IsPiped (moved_by 1 some.steps some.semitones) (moved_by 2 more.steps more.semitones)
+        records.now both.0) }
+    ensures at_once { IfOk result (λ both.
+        IsAlone (moved_by 1 (some.steps +ℤ more.steps) (some.semitones +ℤ more.semitones))
+        records.now both.1) }
+    ensures in_turn_is { IfOk result (λ both. both.0.end ≡ Closed →
+        both.0.records.items
+        ≡ transposed_under (trans_sign more.steps more.semitones
+        ∷ trans_sign some.steps some.semitones ∷ []) (some.steps +ℤ more.steps)
+        (some.semitones +ℤ more.semitones) records.now) }
+    ensures at_once_is { IfOk result (λ both. both.1.end ≡ Closed →
+        both.1.records.items
+        ≡ transposed_under (trans_sign (some.steps +ℤ more.steps)
+        (some.semitones +ℤ more.semitones) ∷ []) (some.steps +ℤ more.steps)
+        (some.semitones +ℤ more.semitones) records.now) }
+{
+    let all = sum(some, more);
+    let in_turn = piped(
+        alloc,
+        records,
+        Trans::new(alloc, 1, some),
+        Trans::new(alloc, 2, more),
+    )?;
+    let at_once = alone(alloc, records, Trans::new(alloc, 1, all))?;
+    Ok((in_turn, at_once))
+}
+
+/// What is transposed by m semitones has each of its semitones m higher: `trans -c m | semits` is
+/// `semits` with m added to the number of each pitch, and the records of `*Tr`.
+///
+/// # Errors
+/// Want of memory.
+pub fn semits_shifted(
+    alloc: Global,
+    records: &[Record],
+    way: Transposition,
+    options: SemitsOptions,
+) -> Result<(Given, Given), AllocError>
+    requires closed { IsClosed records.now }
+    requires few { length records.now ≤ 4294967295 }
+    ensures moved { IfOk result (λ both.
+        IsPiped (moved_by 1 way.steps way.semitones) (meaning_of_semits 2 options)
+        records.now both.0) }
+    ensures still { IfOk result (λ both.
+        IsAlone (meaning_of_semits 1 options) records.now both.1) }
+    ensures moved_is { IfOk result (λ both. both.0.end ≡ Closed →
+        both.0.records.items
+        ≡ semitones_under (trans_sign way.steps way.semitones ∷ []) way.semitones
+        options.ties_left_out records.now) }
+    ensures still_is { IfOk result (λ both. both.1.end ≡ Closed →
+        both.1.records.items ≡ as_semitones options.ties_left_out records.now) }
+{
+    let moved = piped(
+        alloc,
+        records,
+        Trans::new(alloc, 1, way),
+        Semits::new(alloc, 2, options),
+    )?;
+    let still = alone(alloc, records, Semits::new(alloc, 1, options))?;
+    Ok((moved, still))
+}
+
+/// There and back: `trans -d n -c m | trans -d -n -c -m` is the score, with the accidental `n` dropped
+/// from its pitches, and the records of `*Tr`.
+///
+/// # Errors
+/// Want of memory.
+pub fn there_and_back(
+    alloc: Global,
+    records: &[Record],
+    way: Transposition,
+) -> Result<Given, AllocError>
+    requires closed { IsClosed records.now }
+    requires few { length records.now ≤ 4294967295 }
+    ensures both_ways { IfOk result (IsPiped (moved_by 1 way.steps way.semitones)
+        (moved_by 2 (neg_ℤ way.steps) (neg_ℤ way.semitones)) records.now) }
+    ensures same { IfOk result (λ given. given.end ≡ Closed →
+        given.records.items
+        ≡ unsigned_under (trans_sign (neg_ℤ way.steps) (neg_ℤ way.semitones)
+        ∷ trans_sign way.steps way.semitones ∷ []) records.now) }
+{
+    let back = opposite(way);
+    let given = piped(
+        alloc,
+        records,
+        Trans::new(alloc, 1, way),
+        Trans::new(alloc, 2, back),
+    )?;
+    Ok(given)
+}
