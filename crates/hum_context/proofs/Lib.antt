@@ -15,3 +15,4 @@ pub mod Following
 pub mod Gathering
 pub mod Standing
 pub mod Lasts
+pub mod Shorter

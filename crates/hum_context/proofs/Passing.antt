@@ -72,7 +72,7 @@ chain_more path (Spined kind tokens ∷ front) rest c =
     (column_after path (Spined kind tokens ∷ front) c)) (chain_step path kind tokens front c)))
 
 -- where a column goes on, its future isn't ended
-open_end : (path : Path) (rows : List Row) (j c : ℕ) → column_after path rows j ≡ Some c
+pub open_end : (path : Path) (rows : List Row) (j c : ℕ) → column_after path rows j ≡ Some c
     → list_any is_last (chain path rows j) ≡ false
 open_end path rows j c e = by (list_any is_last (chain path rows j)) refl
   where
@@ -140,7 +140,7 @@ enough_is : (x : Extent) (count : ℕ) (t : List ℕ)
 enough_is (First n) count t = refl
 enough_is (Between opens closes) count t = refl
 
-heard_data : (o : Choice) (row : Row) (c : ℕ) (b e : Bool) → heard_under o row c ≡ Taken b e
+pub heard_data : (o : Choice) (row : Row) (c : ℕ) (b e : Bool) → heard_under o row c ≡ Taken b e
     → heard_of o (token_at row c) ≡ Taken b e
 heard_data o (Comment text) c b e h = cc
 heard_data o (Spined Local tokens) c b e h = cc

@@ -48,6 +48,11 @@ pub record Known (o : Choice) (path : Path) (row : Row) (kept : Queued) : Type 0
   pub below : (c : ℕ) → column_in kept.row kept.below c ≡ column_below path row c
   pub last : (c : ℕ) → is_last_in kept.row c ≡ list_any is_last (under row (Some c))
 
+-- nothing of a record is collected, and its spines stay where they are
+pub record IsStill (kept : Queued) : Type 0 where
+  pub quiet : kept.heard.items ≡ []
+  pub stays : (c : ℕ) → column_in kept.row kept.below c ≡ Some c
+
 -- the same of each of those that wait, the spines before the first being known
 abbrev pub Knows : Choice → Path → List Queued → List Row → Type 0
 Knows o path [] [] = Unit {0}

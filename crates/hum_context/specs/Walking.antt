@@ -1,5 +1,5 @@
 -- What a walk down a spine has come to.
-use Rattle.std.specs.Prelude.{◌≡◌, ◌⊎◌, ℕ, ◌+◌, ◌<◌, ◌≤◌, ◌*◌, true, List, [], ◌∷◌, ◌++◌, filter, length}
+use Rattle.std.specs.Prelude.{◌≡◌, ◌⊎◌, ℕ, ◌+◌, ◌-◌, ◌<◌, ◌≤◌, Bool, true, false, List, [], ◌∷◌, ◌++◌, filter, length}
 use Rattle.std.specs.Prelude.{if◌then◌else◌, slice_get, Option, Some, None}
 use Rattle.std.specs.List.{list_any, join_with_byte}
 use lib.Chars.{codes}
@@ -95,3 +95,17 @@ pub record Writes (o : Choice) (token : List ℕ) (chain before after : List (Li
 abbrev pub IsFew : Becoming → Type 0
 IsFew (Collects size) = size ≤ 9007199254740992
 IsFew _ = Unit {0}
+
+pub record IsWithout (bytes : ℕ) (enough : Bool) (before after : Walk) : Type 0 where
+  pub column : after.column ≡ before.column
+  pub ended : after.ended ≡ before.ended
+  pub count : after.count ≡ before.count - 1
+  pub size : after.size ≡ before.size - bytes
+  pub enough_is : after.enough ≡ enough
+
+-- A walk whose first token is taken away, which is collected and of so many bytes with one behind
+-- it; one that ended with it stands nowhere.
+abbrev pub Shortens : Option ℕ → Bool → ℕ → Walk → Walk → Type 0
+Shortens (Some n) ends bytes before after = IsWithout bytes false before after
+Shortens None true bytes before after = after.at ≡ 0
+Shortens None false bytes before after = IsWithout bytes before.enough before after

@@ -13,6 +13,7 @@ mod lasting;
 mod memory;
 mod options;
 mod queued;
+mod sharing;
 mod stepping;
 mod text;
 mod walk;

@@ -1,16 +1,25 @@
 //! What context remembers of the records that wait.
-ghost use Rattle.std.specs.Prelude.{◌≡◌, ◌+◌, ◌<◌, [], ◌∷◌, List, drop, length, slice_get, Some};
+ghost use Rattle.std.specs.Prelude.{◌≡◌, ◌+◌, ◌<◌, [], ◌∷◌, List, drop, slice_get, Some, IfOk, OnOk};
+ghost use Rattle.std.specs.VecDeque.{deque_len};
+ghost use Rattle.hum_record.specs.Row.{Row};
+ghost use Rattle.hum_path.specs.Spines.{Path, Unopened, after};
+ghost use Rattle.hum_context.specs.Options.{choice_of};
+ghost use Rattle.hum_context.specs.Queue.{Known, Knows};
+ghost use Rattle.hum_context.specs.Walking.{AllStand};
+ghost use Rattle.hum_context.specs.declared.queued.Queued.{Queued};
 
 use crate::front::{Weight, advance, weigh, write};
 use crate::lasting::lasting;
 use crate::options::ContextOptions;
 use crate::queued::Queued;
+use crate::sharing::share;
 use crate::walk::Walk;
 use hum_path::Paths;
 use hum_record::{Record, Spare};
 use hum_stage::{Command, LooksAhead, Rule, Verdict};
 use std::alloc::{AllocError, Global};
 use std::collections::VecDeque;
+use std::mem;
 
 /// The options, the spines, and the walks from the first record that waits.
 #[derive(Drop)]
@@ -22,6 +31,8 @@ pub struct Collecting {
     gone: u64,
     // from each cell of the first record that waits, as far as they are known
     walks: Vec<Walk>,
+    // the same list in the making
+    next: Vec<Walk>,
     // the record that gave way to another last
     spare: Spare,
 }
@@ -67,7 +78,7 @@ impl LooksAhead for Collecting {
 
     fn settle(&mut self, held: &mut VecDeque<Queued>) -> Result<Verdict, AllocError> {
         if held[0].is_quiet() {
-            let row = self.let_go(held);
+            let row = self.let_go(held)?;
             return Ok(Verdict::Gives(row));
         }
         let wanted = self.options.span.wanted();
@@ -84,7 +95,7 @@ impl LooksAhead for Collecting {
                     wanted,
                     &mut self.spare,
                 )?;
-                let row = self.let_go(held);
+                let row = self.let_go(held)?;
                 self.keep(row);
                 Ok(Verdict::Gives(Some(made)))
             }
@@ -101,14 +112,6 @@ impl LooksAhead for Collecting {
 }
 
 impl Collecting {
-    ghost use Rattle.hum_path.specs.Spines.{Unopened};
-    ghost use Rattle.hum_record.specs.Row.{Row};
-    ghost use Rattle.hum_path.specs.Score.{path_after};
-    ghost use Rattle.hum_context.specs.Context.{Choice};
-    ghost use Rattle.hum_context.specs.Queue.{Knows};
-    ghost use Rattle.hum_context.specs.Walking.{AllStand};
-    ghost use Rattle.hum_context.specs.declared.queued.Queued.{Queued};
-
     /// There were no records yet.
     fn new(alloc: Global, options: ContextOptions) -> Collecting
         ensures options { result.options ≡ options }
@@ -122,29 +125,62 @@ impl Collecting {
             paths: Paths::new(alloc),
             gone: 0,
             walks: Vec::new(alloc),
+            next: Vec::new(alloc),
             spare: Spare::none(alloc),
         }
     }
 
-    /// The first record that waits is gone.
-    fn let_go(&mut self, held: &mut VecDeque<Queued>) -> Option<Record>
-        requires few { self.old.gone < 4294967295 }
-        ensures kept { self.new ≡ record self.old { gone = self.new.gone; walks = self.new.walks } }
-        ensures gone { self.new.gone ≡ self.old.gone + 1 }
-        ensures stand { (o : Choice) (past : List Row) (row : Row) (rows : List Row)
-            → Knows o (path_after past) held.old.items (row ∷ rows)
-            → AllStand o (path_after past) self.old.gone (row ∷ rows) self.old.walks.items
-            → AllStand o (path_after (row ∷ past)) self.new.gone rows self.new.walks.items }
-        ensures held { held.new.items ≡ drop 1 held.old.items }
-        ensures row { (kept : Queued) → slice_get held.old.items 0 ≡ Some kept
-            → result ≡ Some kept.row }
+    /// The walks from the cells of the first record that waits become those from the cells below.
+    fn pass_on(&mut self, kept: &Queued) -> Result<(), AllocError>
+        ensures kept { OnOk result
+            (self.new ≡ record self.old { walks = self.new.walks; next = self.new.next }) }
+        ensures stand { OnOk result ((path : Path) (row : Row) (rows : List Row)
+            → Known (choice_of self.old.options) path row kept.now
+            → AllStand (choice_of self.old.options) path self.old.gone (row ∷ rows)
+            self.old.walks.items
+            → AllStand (choice_of self.old.options) (after path row) (self.old.gone + 1) rows
+            self.new.walks.items) }
     {
-        self.walks.clear();
-        self.gone += 1;
-        match held.pop_front() {
-            None => None,
-            Some(Queued { row, .. }) => Some(row),
+        if kept.is_still() {
+            return Ok(());
         }
+        self.next.clear();
+        share(
+            &self.walks,
+            kept,
+            self.options.span.wanted(),
+            &mut self.next,
+        )?;
+        mem::swap(&mut self.walks, &mut self.next);
+        Ok(())
+    }
+
+    /// The first record that waits is gone.
+    fn let_go(&mut self, held: &mut VecDeque<Queued>) -> Result<Option<Record>, AllocError>
+        requires few { self.old.gone < 4294967295 }
+        requires some { 0 < deque_len held.old }
+        ensures kept { OnOk result (self.new ≡ record self.old {
+          gone = self.new.gone;
+          walks = self.new.walks;
+          next = self.new.next;
+        }) }
+        ensures gone { OnOk result (self.new.gone ≡ self.old.gone + 1) }
+        ensures stand { OnOk result ((path : Path) (row : Row) (rows : List Row)
+            → Knows (choice_of self.old.options) path held.old.items (row ∷ rows)
+            → AllStand (choice_of self.old.options) path self.old.gone (row ∷ rows)
+            self.old.walks.items
+            → AllStand (choice_of self.old.options) (after path row) self.new.gone rows
+            self.new.walks.items) }
+        ensures held { OnOk result (held.new.items ≡ drop 1 held.old.items) }
+        ensures row { IfOk result (λ row. (kept : Queued) → slice_get held.old.items 0 ≡ Some kept
+            → row ≡ Some kept.row) }
+    {
+        let Some(kept) = held.pop_front() else {
+            unreachable!()
+        };
+        self.pass_on(&kept)?;
+        self.gone += 1;
+        Ok(Some(kept.row))
     }
 
     /// Keeps the buffers of a record that gave way to another.

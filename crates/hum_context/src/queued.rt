@@ -1,5 +1,5 @@
 //! A record that waits.
-ghost use Rattle.std.specs.Prelude.{◌≡◌, ◌==◌, ◌+◌, ◌≤◌, ℕ, [], length, IfOk, slice_index_or};
+ghost use Rattle.std.specs.Prelude.{◌≡◌, ◌==◌, ◌+◌, ◌≤◌, ℕ, [], true, length, IfOk, slice_index_or};
 ghost use Rattle.std.specs.List.{position};
 ghost use Rattle.hum_record.specs.declared.Kind.TheVariants.{Interpretation as AnyInterpretation};
 ghost use Rattle.hum_record.specs.Row.{kind_of, tokens_of};
@@ -7,7 +7,7 @@ ghost use Rattle.hum_path.specs.Chains.{goes_on};
 ghost use Rattle.hum_path.specs.Spines.{Path, moves};
 ghost use Rattle.hum_context.specs.Context.{is_last};
 ghost use Rattle.hum_context.specs.Options.{choice_of};
-ghost use Rattle.hum_context.specs.Queue.{Known, column_in, is_last_in, place_in};
+ghost use Rattle.hum_context.specs.Queue.{IsStill, Known, column_in, is_last_in, place_in};
 ghost use Rattle.hum_context.specs.declared.hearing.Heard.TheVariants.{Passed};
 
 use crate::below::Below;
@@ -86,6 +86,18 @@ impl Queued {
         ensures { result ≡ (length self.now.heard.items == 0) }
     {
         self.heard.is_empty()
+    }
+
+    /// Whether nothing of it is collected, and no spine moves or ends.
+    pub(crate) fn is_still(&self) -> bool
+        ensures { result ≡ true → IsStill self.now }
+    {
+        match self.row.kind() {
+            Kind::Interpretation => false,
+            Kind::Values => self.heard.is_empty(),
+            Kind::Local => self.heard.is_empty(),
+            Kind::Global => self.heard.is_empty(),
+        }
     }
 
     /// Whether a column's future is ended at its token.

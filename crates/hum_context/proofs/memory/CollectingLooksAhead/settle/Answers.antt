@@ -20,8 +20,8 @@ returns-then-is_quiet-clause-settles c look past row rows h =
     let some = c.requires.filled in
     let known = first_known o _ _ _ _ look past row rows c.index.result.now h
     (omega (arith, size, some)) c.index.ensures in
-    let e = c.let_go-row.ensures in
-    let given : option_to_list c.let_go-row.result ≡ row ∷ [] =
+    let e = c.in_ok-row.ensures in
+    let given : option_to_list c.in_ok-row.row ≡ row ∷ [] =
     ap option_to_list (e.row c.index.result.now
     (get_first _ c.index.result.now c.index.ensures (omega (arith, size, some))))
     ∙ ap (λ (r : Row). r ∷ []) known.is in
@@ -30,7 +30,7 @@ returns-then-is_quiet-clause-settles c look past row rows h =
           ∙ quiet_stays o past row rows c.index.result.now known
           (none_heard _ (sym c.is_quiet.ensures ∙ c.if-is_quiet.true)),
       follows_on o _ _ _ _ _ _ _ look past row rows h e.gone e.held
-          (e.stand o past row rows h.waits h.stand),
+          (e.stand (path_after past) row rows h.waits h.stand),
     )
 
 pub advance-requires-clause-few : goal.advance-requires-clause-few
@@ -88,8 +88,8 @@ returns-in-Long-clause-settles c look past row rows h =
     ap (λ l. l past row rows) h.command
     ∙ decided_by o past row rows long.0 (Err L1) is long.1 (long_is long.0 long.2)
 
-pub returns-in_ok-made-in-Fits-clause-settles : goal.returns-in_ok-made-in-Fits-clause-settles
-returns-in_ok-made-in-Fits-clause-settles c look past row rows h =
+pub returns-in_ok-row-in-Fits-clause-settles : goal.returns-in_ok-row-in-Fits-clause-settles
+returns-in_ok-row-in-Fits-clause-settles c look past row rows h =
     let o = choice_of c.args.self.now.options in
     let path = path_after past in
     let size = c.args.held.now.ok.0 in
@@ -111,11 +111,11 @@ returns-in_ok-made-in-Fits-clause-settles c look past row rows h =
     let new = c.in_ok-made-in-Fits.ensures o path (tokens_of row) rows want h.some_wanted knows
     (rw c.deref-in-Fits.ensures.value stands) in
     let same = same_new _ new.0 fits.0 new.2 fits.1 in
-    let e = c.let_go-row-in-Fits.ensures in
+    let e = c.in_ok-row-in-Fits.ensures in
     rw (c.keep.ensures, e.kept, new.1) (
       ap (λ l. l past row rows) h.command
           ∙ decided_by o past row rows new.0 (Ok (Spined Values new.0 ∷ [])) is new.2
           (rw same at (fits_is fits.0 fits.2)),
       follows_on o _ _ _ _ _ _ _ look past row rows h e.gone e.held
-          (e.stand o past row rows h.waits stand),
+          (e.stand path row rows h.waits stand),
     )
