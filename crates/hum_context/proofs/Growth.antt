@@ -202,7 +202,7 @@ value_goes_on (byte ∷ bytes) e = let k : nat_eq byte 42 ≡ false = not_star (
     not_star false false h = refl
 
 -- Collected tokens aren't empty, so that the text of some is empty only where there are none.
-abbrev HasBytes : List (List ℕ) → Type 0
+abbrev pub HasBytes : List (List ℕ) → Type 0
 HasBytes [] = Unit {0}
 HasBytes (t ∷ ts) = is_data t ≡ true
 
@@ -210,7 +210,7 @@ pub first_part : (a b : Bool) → (a && b) ≡ true → a ≡ true
 first_part true b h = refl
 first_part false b h = cc
 
-collected_bytes : (o : Choice) (ts : List (List ℕ)) → HasBytes (filter (is_collectable o) ts)
+pub collected_bytes : (o : Choice) (ts : List (List ℕ)) → HasBytes (filter (is_collectable o) ts)
 collected_bytes o [] = tt
 collected_bytes o (t ∷ ts) = elim (cases_Bool (is_collectable o t)) as
     (λ _. HasBytes (filter (is_collectable o) (t ∷ ts))) [
@@ -218,7 +218,7 @@ collected_bytes o (t ∷ ts) = elim (cases_Bool (is_collectable o t)) as
       | inr w ↦ rw w (collected_bytes o ts)
     ]
 
-join_push : (ts : List (List ℕ)) (t : List ℕ) → HasBytes ts
+pub join_push : (ts : List (List ℕ)) (t : List ℕ) → HasBytes ts
     → join_with_byte 32 (ts ++ t ∷ []) ≡ add_token (join_with_byte 32 ts) t
 join_push [] t h = refl
 join_push ([] ∷ ts) t h = cc

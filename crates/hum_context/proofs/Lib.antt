@@ -6,9 +6,13 @@ pub mod Growing
 pub mod Steady
 pub mod Places
 pub mod Tokens
-pub mod Walks
-pub mod Shows
-pub mod Following
-pub mod Refused
 pub mod Long
 pub mod Feeding
+pub mod Passing
+pub mod Queues
+pub mod Weighing
+pub mod Following
+pub mod Gathering
+pub mod Standing
+pub mod Lasts
+pub mod Shorter

@@ -2,7 +2,7 @@ pub mod Context
 pub mod Options
 pub mod Cells
 pub mod Heard
+pub mod Queue
+pub mod Walking
 pub mod Memory
-pub mod Shown
 pub mod Fed
-pub mod Refusals

@@ -1,17 +1,17 @@
 //! What is heard of the tokens of a data record.
-ghost use Rattle.std.specs.Prelude.{◌≡◌, ◌++◌, map, false, OnOk, IfOk, slice_index_or};
+ghost use Rattle.std.specs.Prelude.{◌≡◌, ◌≢◌, ℕ, [], map, false, true, OnOk, IfOk, slice_index_or};
 ghost use Rattle.std.specs.List.{list_any};
-ghost use Rattle.hum_record.specs.Row.{tokens_of};
-ghost use Rattle.hum_context.specs.Context.{is_data, is_null, is_collectable, begins};
+ghost use Rattle.hum_record.specs.declared.Kind.TheVariants.{Values as AnyValues};
+ghost use Rattle.hum_record.specs.Row.{kind_of, tokens_of};
+ghost use Rattle.hum_context.specs.Context.{is_data, is_null, begins};
 ghost use Rattle.hum_context.specs.Options.{choice_of, extent_of, omits_of};
-ghost use Rattle.hum_context.specs.Heard.{heard_of, is_taken, counts, ends};
-ghost use Rattle.hum_context.specs.Cells.{missing_after};
+ghost use Rattle.hum_context.specs.Heard.{heard_of, heard_under, is_taken, ends, wanted_of};
 ghost use Rattle.hum_context.specs.declared.hearing.Heard.TheVariants.{Passed};
 
 use crate::options::{ContextOptions, Span};
 use hum_pattern::Pattern;
-use hum_record::Record;
-use std::alloc::AllocError;
+use hum_record::{Kind, Record};
+use std::alloc::{AllocError, Global};
 
 /// What is heard of a token.
 #[derive(Clone, Copy, Debug, PartialEq, Eq)]
@@ -66,23 +66,13 @@ impl Span {
         }
     }
 
-    /// Whether a number of tokens is collected.
-    pub(crate) fn counts(&self) -> bool
-        ensures { result ≡ counts (extent_of self.now) }
-    {
-        match self {
-            Span::Number(_) => true,
-            Span::Phrase(_, _) => false,
-        }
-    }
-
     /// How many tokens are wanted, where that is known.
-    pub(crate) fn wanted(&self) -> u16
-        ensures { result ≡ missing_after (extent_of self.now) 0 }
+    pub(crate) fn wanted(&self) -> Option<u16>
+        ensures { result ≡ wanted_of (extent_of self.now) }
     {
         match self {
-            Span::Number(count) => count.number,
-            Span::Phrase(_, _) => 0,
+            Span::Number(count) => Some(count.number),
+            Span::Phrase(_, _) => None,
         }
     }
 }
@@ -104,18 +94,14 @@ impl ContextOptions {
         Heard::Taken { begins, ends }
     }
 
-    /// What is heard of each token of a record, and whether one is collected.
-    pub(crate) fn hear_all(
-        &mut self,
-        row: &Record,
-        heard: &mut Vec<Heard>,
-    ) -> Result<bool, AllocError>
+    /// What is heard of each token of a data record, and whether one is collected.
+    fn hear_all(&mut self, row: &Record, heard: &mut Vec<Heard>) -> Result<bool, AllocError>
+        requires { heard.old.items ≡ [] }
         ensures heard { OnOk result
             (heard.new.items ≡ map (heard_of (choice_of self.old)) (tokens_of row.now)) }
         ensures any { IfOk result (λ any. any ≡ list_any is_taken heard.new.items) }
         ensures kept { self.new ≡ self.old }
     {
-        heard.clear();
         let mut any = false;
         for j in 0..row.width() {
             let token = self.hear(row.token(j));
@@ -125,5 +111,41 @@ impl ContextOptions {
             heard.push(token)?;
         }
         Ok(any)
+    }
+
+    /// The same; nothing where none is collected.
+    fn hear_values(&mut self, alloc: Global, row: &Record) -> Result<Vec<Heard>, AllocError>
+        requires { kind_of row.now ≡ AnyValues }
+        ensures heard { IfOk result (λ heard. (c : ℕ) → slice_index_or heard.items c Passed
+            ≡ heard_under (choice_of self.old) row.now c) }
+        ensures kept { self.new ≡ self.old }
+    {
+        let mut heard = Vec::new(alloc);
+        if self.hear_all(row, &mut heard)? {
+            return Ok(heard);
+        }
+        Ok(Vec::new(alloc))
+    }
+
+    /// What is heard of each token of a record; nothing where none is collected.
+    pub(crate) fn hear_row(
+        &mut self,
+        alloc: Global,
+        row: &Record,
+    ) -> Result<Vec<Heard>, AllocError>
+        ensures heard { IfOk result (λ heard. (c : ℕ) → slice_index_or heard.items c Passed
+            ≡ heard_under (choice_of self.old) row.now c) }
+        ensures valued { IfOk result (λ heard. heard.items ≢ [] → kind_of row.now ≡ AnyValues) }
+        ensures kept { self.new ≡ self.old }
+    {
+        match row.kind() {
+            Kind::Values => {
+                let heard = self.hear_values(alloc, row)?;
+                Ok(heard)
+            }
+            Kind::Interpretation => Ok(Vec::new(alloc)),
+            Kind::Local => Ok(Vec::new(alloc)),
+            Kind::Global => Ok(Vec::new(alloc)),
+        }
     }
 }

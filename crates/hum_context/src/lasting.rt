@@ -1,65 +1,45 @@
 //! How many of the records that wait stand before one that is known to be too long.
-ghost use Rattle.std.specs.Prelude.{◌≡◌, ◌≢◌, ◌+◌, ◌≤◌, [], true, false, length, drop};
-ghost use Rattle.hum_record.specs.declared.Kind.TheVariants.{Values as AnyValues};
-ghost use Rattle.hum_record.specs.Row.{kind_of, text_of, tokens_of, width_of};
-ghost use Rattle.hum_context.specs.Refusals.{all_shut, is_long, is_refused, lasts};
-ghost use Rattle.hum_context.specs.Cells.{values_of};
+ghost use Rattle.std.specs.Prelude.{◌≡◌, ◌<◌, ◌≤◌, ◌+◌, ◌∷◌, ℕ, List, [], length, drop, None, if◌then◌else◌};
+ghost use Rattle.hum_path.specs.Score.{path_after};
+ghost use Rattle.hum_stage.specs.Settles.{lasting, or_stop};
+ghost use Rattle.hum_record.specs.Row.{Row};
+ghost use Rattle.hum_context.specs.Context.{Choice, context, taken};
+ghost use Rattle.hum_context.specs.Heard.{wanted_of};
+ghost use Rattle.hum_context.specs.Queue.{Knows};
 
-use crate::cell::Cell;
-use hum_record::{Kind, Record};
+use crate::front::{Weight, weigh};
+use crate::queued::Queued;
 use std::collections::VecDeque;
 
-// the most bytes of a record, and one more, since a tab is counted behind each token
-const MOST: usize = 1_048_577;
-
-/// Whether none of the cells of a record is open, which are those from a place on.
-fn all_shut(row: &Record, cells: &VecDeque<Cell>, at: usize) -> bool
-    requires { at + width_of row.now ≤ length cells.now.items }
-    ensures { result ≡ all_shut (tokens_of row.now) (drop at cells.now.items) }
+/// Whether the k-th record that waits is known to be too long.
+fn is_refused(held: &VecDeque<Queued>, k: usize, gone: u64, wanted: Option<u16>) -> bool
+    requires few { gone + length held.now.items ≤ 4294967295 }
+    requires within { k < length held.now.items }
+    ensures { (o : Choice) (past : List Row) (row : Row) (rows : List Row)
+        → wanted ≡ wanted_of o.extent → taken o.extent [] ≡ None
+        → Knows o (path_after past) (drop k held.now.items) (row ∷ rows)
+        → (n : ℕ) → or_stop (context o past row rows) n ≡ (if result then 0 else n + 1) }
 {
-    for j in 0..row.width() {
-        if cells[at + j].is_open() {
-            return false;
-        }
+    if held[k].is_quiet() {
+        return false;
     }
-    true
-}
-
-/// Whether a record would be too long with the tokens of its cells.
-fn is_long(row: &Record, cells: &VecDeque<Cell>, at: usize) -> bool
-    requires kind { kind_of row.now ≡ AnyValues }
-    requires within { at + width_of row.now ≤ length cells.now.items }
-    ensures { result ≡ is_long (tokens_of row.now) (drop at cells.now.items) }
-{
-    let mut size: usize = 0;
-    for j in 0..row.width() {
-        let token = cells[at + j].shown(row.token(j));
-        if token.len() > MOST {
-            return true;
-        }
-        size += token.len() + 1;
-        if size > MOST {
-            return true;
-        }
+    match weigh(held, k, gone, &[], wanted) {
+        Weight::Long => true,
+        Weight::Undecided => false,
+        Weight::Fits => false,
     }
-    false
 }
 
 /// How many records stand before the first that is known to be refused.
-pub(crate) fn lasting(held: &VecDeque<Record>, cells: &VecDeque<Cell>) -> usize
-    ensures { result ≡ lasts held.now.items cells.now.items }
+pub(crate) fn lasting(held: &VecDeque<Queued>, gone: u64, wanted: Option<u16>) -> usize
+    requires few { gone + length held.now.items ≤ 4294967295 }
+    ensures { (o : Choice) (past rows : List Row) → wanted ≡ wanted_of o.extent
+        → taken o.extent [] ≡ None → Knows o (path_after past) held.now.items rows
+        → result ≡ lasting (context o) past rows }
 {
-    let mut at: usize = 0;
     for k in 0..held.len() {
-        let row = &held[k];
-        if row.kind() == Kind::Values {
-            if cells.len() - at < row.width() {
-                return k;
-            }
-            if all_shut(row, cells, at) && is_long(row, cells, at) {
-                return k;
-            }
-            at += row.width();
+        if is_refused(held, k, gone, wanted) {
+            return k;
         }
     }
     held.len()

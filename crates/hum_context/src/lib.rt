@@ -6,15 +6,17 @@
 //! next exclusive interpretation.
 #![tactic(auto)]
 
-mod adding;
-mod becoming;
-mod cell;
+mod below;
+mod front;
 mod hearing;
 mod lasting;
 mod memory;
 mod options;
+mod queued;
+mod sharing;
+mod stepping;
 mod text;
-mod walking;
+mod walk;
 
 use hum_stage::Lagging;
 pub use memory::Collecting;

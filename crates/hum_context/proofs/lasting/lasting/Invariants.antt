@@ -1,10 +1,16 @@
-use Rattle.std.proofs.Common.{◌≡◌, ◌+◌, ◌≤◌, drop, length}
-use Rattle.hum_context.specs.Refusals.{lasts}
+use Rattle.std.proofs.Common.{◌≡◌, ◌≤◌, List, [], None, length}
+use Rattle.hum_record.specs.Row.{Row}
+use Rattle.hum_path.specs.Score.{path_after}
+use Rattle.hum_context.specs.Context.{Choice, taken}
+use Rattle.hum_context.specs.Heard.{wanted_of}
+use Rattle.hum_context.specs.Queue.{Knows}
+use Rattle.hum_context.proofs.Lasts.{Sound}
 use Rattle.hum_context.proofs.lasting.lasting.Given as goal
 
 abbrev pub invariant-loop-k : goal.invariant-loop-k
 invariant-loop-k l = record {
-  within : l.at ≤ length l.cells.items;
-  rest : l.k + lasts (drop l.k l.held.items) (drop l.at l.cells.items)
-      ≡ lasts l.held.items l.cells.items;
+  within : l.k ≤ length l.held.items;
+  sound : (o : Choice) (past rows : List Row) → l.wanted ≡ wanted_of o.extent
+      → taken o.extent [] ≡ None → Knows o (path_after past) l.held.items rows
+      → Sound o past rows l.k;
 }

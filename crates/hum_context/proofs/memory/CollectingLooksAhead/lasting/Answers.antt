@@ -1,8 +1,13 @@
-use Rattle.hum_context.specs.Options.{choice_of}
-use Rattle.hum_context.proofs.Refused.{lasts_is}
+use Rattle.std.proofs.Common.{arith}
+use Rattle.hum_context.specs.Memory.{follows_each}
 use Rattle.hum_context.proofs.memory.CollectingLooksAhead.lasting.Goals as goal
 
-pub returns : goal.returns
-returns c look past rows h =
-    rw (c.lasting.ensures, h.waits, h.command) (lasts_is (choice_of c.args.self.now.options) past
-    rows c.args.self.now.windows.cells.items h.remembered)
+pub returns-then-len-gt4294967295 : goal.returns-then-len-gt4294967295
+returns-then-len-gt4294967295 c look past rows h =
+    let each = follows_each _ _ _ _ _ look past rows h in
+    let size = c.args.held.now.ok.0 in
+    let len = c.len.ensures in
+    let over = c.if-len-gt4294967295.true in
+    let few = h.few in
+    let counted = h.counted in
+    absurd (omega (arith, each, size, len, over, few, counted))

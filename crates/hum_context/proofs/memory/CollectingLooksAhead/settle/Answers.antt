@@ -1,138 +1,121 @@
-use Rattle.std.proofs.Common.{◌≡◌, ◌∙◌, sym, ap, arith, ◌∷◌, []}
+use Rattle.std.proofs.Common.{◌≡◌, ◌∙◌, sym, ap, refl, arith, subst, ◌∷◌, [], ◌+◌, Some}
+use Rattle.std.specs.Option.{option_to_list}
+use Rattle.std.specs.Prelude.{Ok, Err}
 use Rattle.hum_record.specs.declared.SpinedKind.TheVariants.{Values}
 use Rattle.hum_record.specs.Row.{Row, Spined, tokens_of}
-use Rattle.hum_context.specs.Shown.{all_shown}
-use Rattle.std.specs.Option.{option_to_list}
-use Rattle.hum_context.proofs.Following.{settles_none, settles_new, settles_same, goes_on}
-use Rattle.hum_context.proofs.Following.{front_within, long_is, fits_is}
+use Rattle.hum_path.specs.Score.{path_after}
+use Rattle.hum_stage.specs.declared.faults.Rule.TheVariants.{L1}
+use Rattle.hum_context.specs.Options.{choice_of}
+use Rattle.hum_context.specs.Queue.{Knows}
+use Rattle.hum_context.specs.Walking.{AllStand}
+use Rattle.hum_context.proofs.Weighing.{quiet_stays, fits_is, long_is}
+use Rattle.hum_context.proofs.Following.{few_held, first_known, first_data, none_heard, get_first}
+use Rattle.hum_context.proofs.Following.{follows_on, follows_walks, undecided, decided_by, same_new}
 use Rattle.hum_context.proofs.memory.CollectingLooksAhead.settle.Goals as goal
 
-pub becomes-requires-clause-width : goal.becomes-requires-clause-width
-becomes-requires-clause-width c =
-    let m = c.requires.memory in
+pub returns-then-is_quiet-clause-settles : goal.returns-then-is_quiet-clause-settles
+returns-then-is_quiet-clause-settles c look past row rows h =
+    let o = choice_of c.args.self.now.options in
     let size = c.args.held.now.ok.0 in
     let some = c.requires.filled in
-    (front_within _ _ _ _ _ _ _ c.in-Some.row.now _ _ _ m.memory
-    (record {
-      at = c.in-Some.ensures.lookup;
-      kind = c.is_data.ensures.sound
-          c.if-not-is_data.false;
-      short = c.is_data.ensures.at_most;
-    }) (omega (arith, size, some))).0
+    let known = first_known o _ _ _ _ look past row rows c.index.result.now h
+    (omega (arith, size, some)) c.index.ensures in
+    let e = c.in_ok-row.ensures in
+    let given : option_to_list c.in_ok-row.row ≡ row ∷ [] =
+    ap option_to_list (e.row c.index.result.now
+    (get_first _ c.index.result.now c.index.ensures (omega (arith, size, some))))
+    ∙ ap (λ (r : Row). r ∷ []) known.is in
+    rw (e.kept, given) (
+      ap (λ l. l past row rows) h.command
+          ∙ quiet_stays o past row rows c.index.result.now known
+          (none_heard _ (sym c.is_quiet.ensures ∙ c.if-is_quiet.true)),
+      follows_on o _ _ _ _ _ _ _ look past row rows h e.gone e.held
+          (e.stand (path_after past) row rows h.waits h.stand),
+    )
 
-pub drop_front-requires : goal.drop_front-requires
-drop_front-requires c =
-    let m = c.requires.memory in
-    let size = c.args.held.now.ok.0 in
-    let some = c.requires.filled in
-    let few = (front_within _ _ _ _ _ _ _ c.in-Some.row.now _ _ _ m.memory
-    (record {
-      at = c.in-Some.ensures.lookup;
-      kind = c.is_data.ensures.sound
-          c.if-not-is_data.false;
-      short = c.is_data.ensures.at_most;
-    }) (omega (arith, size, some))).1
-    in
-    let width = c.width-width.ensures in
-    rw c.in_ok-becomes.ensures.kept (record { few = omega (arith, few, width) })
+pub advance-requires-clause-few : goal.advance-requires-clause-few
+advance-requires-clause-few c = few_held _ _ _ _ _ _ _ _ c.requires.memory.memory
 
-pub drop_front-requires-in-Becomes : goal.drop_front-requires-in-Becomes
-drop_front-requires-in-Becomes c =
-    let m = c.requires.memory in
-    let size = c.args.held.now.ok.0 in
-    let some = c.requires.filled in
-    let few = (front_within _ _ _ _ _ _ _ c.in-Some.row.now _ _ _ m.memory
-    (record {
-      at = c.in-Some.ensures.lookup;
-      kind = c.is_data.ensures.sound
-          c.if-not-is_data.false;
-      short = c.is_data.ensures.at_most;
-    }) (omega (arith, size, some))).1
-    in
-    let width = c.width-width.ensures in
-    rw c.in_ok-becomes.ensures.kept (record { few = omega (arith, few, width) })
+pub weigh-requires-clause-few : goal.weigh-requires-clause-few
+weigh-requires-clause-few c = few_held _ _ _ _ _ _ _ _ c.requires.memory.memory
+
+pub write-requires-clause-few : goal.write-requires-clause-few
+write-requires-clause-few c = few_held _ _ _ _ _ _ _ _ c.requires.memory.memory
 
 pub returns-in-Undecided-clause-settles : goal.returns-in-Undecided-clause-settles
 returns-in-Undecided-clause-settles c look past row rows h =
-    let none = rw c.in-Undecided.is at c.in_ok-becomes.ensures.shows in
-    rw c.in_ok-becomes.ensures.kept (
-      settles_none _ _ _ _ _ _ _ c.in-Some.row.now look past row rows
-          h (record {
-            at = c.in-Some.ensures.lookup;
-            kind = c.is_data.ensures.sound
-                c.if-not-is_data.false;
-            short = c.is_data.ensures.at_most;
-          }) none,
-      h,
+    let o = choice_of c.args.self.now.options in
+    let path = path_after past in
+    let size = c.args.held.now.ok.0 in
+    let some = c.requires.filled in
+    let known = first_known o _ _ _ _ look past row rows c.index.result.now h
+    (omega (arith, size, some)) c.index.ensures in
+    let is = first_data o path row c.index.result.now known
+    (sym c.is_quiet.ensures ∙ c.if-is_quiet.false) in
+    let want = c.wanted-wanted.ensures in
+    let zero : c.args.self.now.gone + 0 ≡ c.args.self.now.gone = omega arith in
+    let stand = c.in_ok-advance.ensures o path (row ∷ rows) want h.some_wanted h.waits h.stand in
+    let weighs = c.weigh.ensures o path (tokens_of row) rows want h.some_wanted
+    (subst (λ (r : Row). Knows o path c.args.held.now.items (r ∷ rows)) is h.waits)
+    (rw (c.deref.ensures.value, zero)
+    (subst (λ (r : Row). AllStand o path c.args.self.now.gone (r ∷ rows) c.advance.new.walks.items) is
+    stand)) in
+    (
+      ap (λ l. l past row rows) h.command
+          ∙ undecided o past row rows is (rw c.in-Undecided.is at weighs),
+      follows_walks o _ _ _ _ _ look past (row ∷ rows) h stand,
     )
 
-pub returns-in-TooLong-clause-settles : goal.returns-in-TooLong-clause-settles
-returns-in-TooLong-clause-settles c look past row rows h =
-    let long = rw c.in-TooLong.is at c.in_ok-becomes.ensures.shows in
-    settles_new _ _ _ _ _ _ _ c.in-Some.row.now look past row rows
-    (all_shown (tokens_of c.in-Some.row.now) c.args.self.now.windows.cells.items) _ h
-    (record {
-      at = c.in-Some.ensures.lookup;
-      kind = c.is_data.ensures.sound
-          c.if-not-is_data.false;
-      short = c.is_data.ensures.at_most;
-    }) long.0
-    (long_is (Spined Values (all_shown (tokens_of c.in-Some.row.now)
-    c.args.self.now.windows.cells.items)) long.1)
+pub returns-in-Long-clause-settles : goal.returns-in-Long-clause-settles
+returns-in-Long-clause-settles c look past row rows h =
+    let o = choice_of c.args.self.now.options in
+    let path = path_after past in
+    let size = c.args.held.now.ok.0 in
+    let some = c.requires.filled in
+    let known = first_known o _ _ _ _ look past row rows c.index.result.now h
+    (omega (arith, size, some)) c.index.ensures in
+    let is = first_data o path row c.index.result.now known
+    (sym c.is_quiet.ensures ∙ c.if-is_quiet.false) in
+    let want = c.wanted-wanted.ensures in
+    let zero : c.args.self.now.gone + 0 ≡ c.args.self.now.gone = omega arith in
+    let stand = c.in_ok-advance.ensures o path (row ∷ rows) want h.some_wanted h.waits h.stand in
+    let weighs = c.weigh.ensures o path (tokens_of row) rows want h.some_wanted
+    (subst (λ (r : Row). Knows o path c.args.held.now.items (r ∷ rows)) is h.waits)
+    (rw (c.deref.ensures.value, zero)
+    (subst (λ (r : Row). AllStand o path c.args.self.now.gone (r ∷ rows) c.advance.new.walks.items) is
+    stand)) in
+    let long = rw c.in-Long.is at weighs in
+    ap (λ l. l past row rows) h.command
+    ∙ decided_by o past row rows long.0 (Err L1) is long.1 (long_is long.0 long.2)
 
-pub returns-in-Stays-clause-settles : goal.returns-in-Stays-clause-settles
-returns-in-Stays-clause-settles c look past row rows h =
-    let new = rw c.in-Stays.is at c.in_ok-becomes.ensures.shows in
-    let gives = settles_same _ _ _ _ _ _ _ c.in-Some.row.now look past row rows h
-    (record {
-      at = c.in-Some.ensures.lookup;
-      kind = c.is_data.ensures.sound
-          c.if-not-is_data.false;
-      short = c.is_data.ensures.at_most;
-    }) new in
-    let first : option_to_list c.pop_front-in-Stays.result ≡ c.in-Some.row.now ∷ [] =
-    ap option_to_list (c.pop_front-in-Stays.ensures.value c.in-Some.row.now c.requires.filled)
-    ∙ ap (λ (r : Row). r ∷ []) (sym c.in-Some.ensures.lookup) in
-    let d = rw c.in_ok-becomes.ensures.kept at c.drop_front.ensures.cells in
-    let g = rw c.in_ok-becomes.ensures.kept at c.drop_front.ensures.gone in
-    let u = rw c.in_ok-becomes.ensures.kept at c.drop_front.ensures.unsettled in
-    rw (c.in_ok-becomes.ensures.kept, first) (
-      gives,
-      goes_on _ _ _ _ _ _ _ _ _ _ _ c.in-Some.row.now look past row rows _ c.width-width.result h
-          (record {
-            at = c.in-Some.ensures.lookup;
-            kind = c.is_data.ensures.sound
-                c.if-not-is_data.false;
-            short = c.is_data.ensures.at_most;
-          }) new c.width-width.ensures d g
-          u c.pop_front-in-Stays.ensures.rest,
-    )
-
-pub returns-in-Becomes-clause-settles : goal.returns-in-Becomes-clause-settles
-returns-in-Becomes-clause-settles c look past row rows h =
-    let new = rw c.in-Becomes.is at c.in_ok-becomes.ensures.shows in
-    let gives = settles_new _ _ _ _ _ _ _ c.in-Some.row.now look past row rows
-    (all_shown (tokens_of c.in-Some.row.now) c.args.self.now.windows.cells.items) _ h
-    (record {
-      at = c.in-Some.ensures.lookup;
-      kind = c.is_data.ensures.sound
-          c.if-not-is_data.false;
-      short = c.is_data.ensures.at_most;
-    }) new.1
-    (fits_is (Spined Values (all_shown (tokens_of c.in-Some.row.now)
-    c.args.self.now.windows.cells.items)) new.2) in
-    let d = rw c.in_ok-becomes.ensures.kept at c.drop_front-in-Becomes.ensures.cells in
-    let g = rw c.in_ok-becomes.ensures.kept at c.drop_front-in-Becomes.ensures.gone in
-    let u = rw c.in_ok-becomes.ensures.kept at c.drop_front-in-Becomes.ensures.unsettled in
-    rw (c.keep.ensures, c.in_ok-becomes.ensures.kept, new.0) (
-      gives,
-      goes_on _ _ _ _ _ _ _ _ _ _ _ c.in-Some.row.now look past row rows
-          (all_shown (tokens_of c.in-Some.row.now) c.args.self.now.windows.cells.items)
-          c.width-width.result h (record {
-            at = c.in-Some.ensures.lookup;
-            kind =
-                c.is_data.ensures.sound c.if-not-is_data.false;
-            short = c.is_data.ensures.at_most;
-          }) new.1
-          c.width-width.ensures d g u c.pop_front-in-Becomes.ensures.rest,
+pub returns-in_ok-row-in-Fits-clause-settles : goal.returns-in_ok-row-in-Fits-clause-settles
+returns-in_ok-row-in-Fits-clause-settles c look past row rows h =
+    let o = choice_of c.args.self.now.options in
+    let path = path_after past in
+    let size = c.args.held.now.ok.0 in
+    let some = c.requires.filled in
+    let known = first_known o _ _ _ _ look past row rows c.index.result.now h
+    (omega (arith, size, some)) c.index.ensures in
+    let is = first_data o path row c.index.result.now known
+    (sym c.is_quiet.ensures ∙ c.if-is_quiet.false) in
+    let want = c.wanted-wanted.ensures in
+    let zero : c.args.self.now.gone + 0 ≡ c.args.self.now.gone = omega arith in
+    let stand = c.in_ok-advance.ensures o path (row ∷ rows) want h.some_wanted h.waits h.stand in
+    let knows = subst (λ (r : Row). Knows o path c.args.held.now.items (r ∷ rows)) is h.waits in
+    let stands =
+    subst (λ (r : Row). AllStand o path c.args.self.now.gone (r ∷ rows) c.advance.new.walks.items) is
+    stand in
+    let weighs = c.weigh.ensures o path (tokens_of row) rows want h.some_wanted knows
+    (rw (c.deref.ensures.value, zero) stands) in
+    let fits = rw c.in-Fits.is at weighs in
+    let new = c.in_ok-made-in-Fits.ensures o path (tokens_of row) rows want h.some_wanted knows
+    (rw c.deref-in-Fits.ensures.value stands) in
+    let same = same_new _ new.0 fits.0 new.2 fits.1 in
+    let e = c.in_ok-row-in-Fits.ensures in
+    rw (c.keep.ensures, e.kept, new.1) (
+      ap (λ l. l past row rows) h.command
+          ∙ decided_by o past row rows new.0 (Ok (Spined Values new.0 ∷ [])) is new.2
+          (rw same at (fits_is fits.0 fits.2)),
+      follows_on o _ _ _ _ _ _ _ look past row rows h e.gone e.held
+          (e.stand path row rows h.waits stand),
     )

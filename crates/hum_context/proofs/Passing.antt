@@ -1,0 +1,304 @@
+-- A walk goes through one record more.
+use Rattle.std.proofs.Common.{◌≡◌, ◌∙◌, refl, sym, ap, ℕ, suc, ◌+◌, ◌≤◌, ◌<◌, Bool, true, false}
+use Rattle.std.proofs.Common.{◌||◌, List, [], ◌∷◌, ◌++◌, length, filter, append-nil, length-append}
+use Rattle.std.proofs.Common.{append_assoc, arith, cond, get_or, Option, Some, None, inl, inr, ◌⊎◌}
+use Rattle.std.specs.Prelude.{nat_le}
+use Rattle.std.specs.Option.{option_and_then}
+use Rattle.std.specs.List.{list_any, join_with_byte}
+use Rattle.std.proofs.lemmas.List.Elements.{filter-append}
+use Rattle.std.proofs.lemmas.List.Folds.{list_any-append}
+use lib.Chars.{codes}
+use Rattle.hum_record.specs.declared.SpinedKind.TheVariants.{Local, Interpretation, Values}
+use Rattle.hum_record.specs.Row.{Row, Comment, Spined, token_at}
+use Rattle.hum_path.specs.Spines.{Path, after}
+use Rattle.hum_path.specs.Chains.{below_at, future}
+use Rattle.hum_context.specs.declared.hearing.Heard.{Heard}
+use Rattle.hum_context.specs.declared.hearing.Heard.TheVariants.{Passed, Taken}
+use Rattle.hum_context.specs.declared.queued.Queued.{Queued}
+use Rattle.hum_context.specs.declared.walk.Walk.{Walk}
+use Rattle.hum_context.specs.Context.{Choice, Extent, First, Between, is_collectable, is_last, taken}
+use Rattle.hum_context.specs.Context.{to_last, chain, begins, token_or_null, new_token}
+use Rattle.hum_context.specs.Cells.{place_after, column_below, column_after, path_through, under}
+use Rattle.hum_context.specs.Heard.{heard_of, heard_under, ends, enough_by, wanted_of}
+use Rattle.hum_context.specs.Queue.{Known, column_in, is_last_in, heard_token}
+use Rattle.hum_context.specs.Walking.{Has, Stands, Halts, AllStand, collected, bytes_of}
+use Rattle.hum_context.proofs.Growth.{chain_step, chain_push, column_push, ended_none, taken_next}
+use Rattle.hum_context.proofs.Growth.{taken_stays, is_enough_by}
+use Rattle.hum_context.proofs.Tokens.{taken_is}
+
+pub bytes_append : (xs ys : List (List ℕ)) → bytes_of (xs ++ ys) ≡ bytes_of xs + bytes_of ys
+bytes_append [] ys = omega arith
+bytes_append (x ∷ xs) ys = let ih = bytes_append xs ys in omega (arith, ih)
+
+-- at the beginning
+pub has_none : (o : Choice) (path : Path) (j : ℕ) (walk : Walk) → taken o.extent [] ≡ None
+    → walk.column ≡ Some j → (walk.count ≡ 0) × (walk.size ≡ 0)
+    → (walk.enough ≡ false) × (walk.ended ≡ false) → Has o path [] j walk
+has_none o path j walk none column zero fresh = record {
+  column = column;
+  ended = fresh.1;
+  count = zero.0;
+  size = zero.1;
+  enough = rw fresh.0 none;
+}
+
+-- the chain behind one that leads to a column
+abbrev pub chain_on : Path → List Row → Option ℕ → List (List ℕ)
+chain_on path rows None = []
+chain_on path rows (Some c) = chain path rows c
+
+below_more : (path : Path) (front rest : List Row) (last : Bool) (below : Option ℕ)
+    → ((c : ℕ) → chain path (front ++ rest) c ≡ chain path front c ++ chain_on
+    (path_through path front) rest (column_after path front c))
+    → cond last [] (to_last (below_at (future path (front ++ rest)) below)) ≡ cond last []
+    (to_last (below_at (future path front) below)) ++ chain_on (path_through path front) rest
+    (option_and_then (column_after path front) (cond last None below))
+below_more path front rest true below h = refl
+below_more path front rest false None h = refl
+below_more path front rest false (Some c) h = h c
+
+pub chain_more : (path : Path) (front rest : List Row) (c : ℕ)
+    → chain path (front ++ rest) c ≡ chain path front c ++ chain_on (path_through path front) rest
+    (column_after path front c)
+chain_more path [] rest c = refl
+chain_more path (Comment text ∷ front) rest c = chain_more path front rest c
+chain_more path (Spined kind tokens ∷ front) rest c =
+    chain_step path kind tokens (front ++ rest) c
+    ∙ (ap (λ (ts : List (List ℕ)). get_or tokens c [] ∷ ts)
+    (below_more (after path (Spined kind tokens)) front rest (is_last (get_or tokens c []))
+    (place_after path kind tokens c) (chain_more (after path (Spined kind tokens)) front rest))
+    ∙ sym (ap (λ (ts : List (List ℕ)). ts ++ chain_on
+    (path_through path (Spined kind tokens ∷ front)) rest
+    (column_after path (Spined kind tokens ∷ front) c)) (chain_step path kind tokens front c)))
+
+-- where a column goes on, its future isn't ended
+pub open_end : (path : Path) (rows : List Row) (j c : ℕ) → column_after path rows j ≡ Some c
+    → list_any is_last (chain path rows j) ≡ false
+open_end path rows j c e = by (list_any is_last (chain path rows j)) refl
+  where
+    by : (b : Bool) → list_any is_last (chain path rows j) ≡ b → b ≡ false
+    by true w = let n = sym e ∙ ended_none path rows j w in cc
+    by false w = refl
+
+-- one record more, on which a walk stands
+pub record Grown (o : Choice) (path : Path) (rows : List Row) (row : Row) (j c : ℕ)
+    (heard : Heard) : Type 0 where
+  pub column : column_after path (rows ++ row ∷ []) j ≡ column_below (path_through path rows) row c
+  pub ended : list_any is_last (chain path (rows ++ row ∷ []) j)
+      ≡ list_any is_last (under row (Some c))
+  pub collected : collected o path (rows ++ row ∷ []) j
+      ≡ collected o path rows j ++ heard_token heard (token_at row c)
+
+grown : (o : Choice) (path : Path) (rows : List Row) (row : Row) (j c : ℕ) (heard : Heard)
+    → column_after path rows j ≡ Some c
+    → filter (is_collectable o) (under row (Some c)) ≡ heard_token heard (token_at row c)
+    → Grown o path rows row j c heard
+grown o path rows row j c heard at is =
+    let longer : chain path (rows ++ row ∷ []) j ≡ chain path rows j ++ under row (Some c) =
+    chain_push path rows row j ∙ ap (λ (x : Option ℕ). chain path rows j ++ under row x) at in
+    record {
+      column = column_push path rows row j
+          ∙ ap (λ (x : Option ℕ). option_and_then (column_below (path_through path rows) row) x) at;
+      ended = ap (list_any is_last) longer
+          ∙ (list_any-append is_last (chain path rows j) (under row (Some c))
+          ∙ ap (λ (b : Bool). b || list_any is_last (under row (Some c)))
+          (open_end path rows j c at));
+      collected = ap (filter (is_collectable o)) longer
+          ∙ (filter-append (is_collectable o) (chain path rows j) (under row (Some c))
+          ∙ ap (λ (ts : List (List ℕ)). collected o path rows j ++ ts) is);
+    }
+
+pub grown_by : (o : Choice) (path : Path) (rows : List Row) (row : Row) (j c : ℕ) (kept : Queued)
+    (walk : Walk) → Known o (path_through path rows) row kept → walk.column ≡ Some c
+    → Has o path rows j walk → Grown o path rows row j c (heard_under o row c)
+grown_by o path rows row j c kept walk known at h =
+    grown o path rows row j c (heard_under o row c) (sym h.column ∙ at) (known.collected c)
+
+-- where its token isn't collected
+pub pass_none : (o : Choice) (path : Path) (rows : List Row) (row : Row) (j c : ℕ) (kept : Queued)
+    (walk new : Walk) → Known o (path_through path rows) row kept → walk.column ≡ Some c
+    → walk.enough ≡ false → Has o path rows j walk
+    → get_or kept.heard.items c Passed ≡ Passed → new.column ≡ column_in kept.row kept.below c
+    → new.ended ≡ is_last_in kept.row c → new.count ≡ walk.count → new.size ≡ walk.size
+    → new.enough ≡ false → Has o path (rows ++ row ∷ []) j new
+pass_none o path rows row j c kept walk new known at short h heard column ended count size enough =
+    let none : heard_under o row c ≡ Passed = sym (known.heard c) ∙ heard in
+    let g = grown_by o path rows row j c kept walk known at h in
+    let same : collected o path (rows ++ row ∷ []) j ≡ collected o path rows j = g.collected
+    ∙ (ap (λ (x : Heard). collected o path rows j ++ heard_token x (token_at row c)) none
+    ∙ append-nil (collected o path rows j)) in
+    record {
+      column = column ∙ (known.below c ∙ sym g.column);
+      ended = ended ∙ (known.last c ∙ sym g.ended);
+      count = count ∙ (h.count ∙ ap length (sym same));
+      size = size ∙ (h.size ∙ ap bytes_of (sym same));
+      enough = rw (same, enough) (rw short at h.enough);
+    }
+
+enough_is : (x : Extent) (count : ℕ) (t : List ℕ)
+    → enough_by (wanted_of x) count (ends x t) ≡ is_enough_by x count t
+enough_is (First n) count t = refl
+enough_is (Between opens closes) count t = refl
+
+pub heard_data : (o : Choice) (row : Row) (c : ℕ) (b e : Bool) → heard_under o row c ≡ Taken b e
+    → heard_of o (token_at row c) ≡ Taken b e
+heard_data o (Comment text) c b e h = cc
+heard_data o (Spined Local tokens) c b e h = cc
+heard_data o (Spined Interpretation tokens) c b e h = cc
+heard_data o (Spined Values tokens) c b e h = h
+
+-- where it is
+pub pass_one : (o : Choice) (path : Path) (rows : List Row) (row : Row) (j c : ℕ) (kept : Queued)
+    (walk new : Walk) (wanted : Option ℕ) (b e : Bool) → wanted ≡ wanted_of o.extent
+    → Known o (path_through path rows) row kept → walk.column ≡ Some c
+    → walk.enough ≡ false → Has o path rows j walk
+    → get_or kept.heard.items c Passed ≡ Taken b e → new.column ≡ column_in kept.row kept.below c
+    → new.ended ≡ is_last_in kept.row c → new.count ≡ walk.count + 1
+    → new.size ≡ walk.size + (length (token_at kept.row c) + 1)
+    → new.enough ≡ enough_by wanted (walk.count + 1) e → Has o path (rows ++ row ∷ []) j new
+pass_one o path rows row j c kept walk new wanted b e want known at short h heard column ended count
+    size enough =
+    let one : heard_under o row c ≡ Taken b e = sym (known.heard c) ∙ heard in
+    let token = token_at row c in
+    let got = collected o path rows j in
+    let g = grown_by o path rows row j c kept walk known at h in
+    let is = taken_is o token b e (heard_data o row c b e one) in
+    let more : collected o path (rows ++ row ∷ []) j ≡ got ++ token ∷ [] = g.collected
+    ∙ ap (λ (x : Heard). got ++ heard_token x token) one in
+    let sum = length-append got (token ∷ []) in
+    let bytes = bytes_append got (token ∷ []) in
+    let was = h.count in
+    let had = h.size in
+    let long = ap (λ (r : Row). length (token_at r c)) known.is in
+    let last : new.enough ≡ is_enough_by o.extent (length got + 1) token = enough
+    ∙ (ap (λ (w : Option ℕ). enough_by w (walk.count + 1) e) want
+    ∙ (ap (λ (n : ℕ). enough_by (wanted_of o.extent) (n + 1) e) was
+    ∙ (ap (λ (x : Bool). enough_by (wanted_of o.extent) (length got + 1) x) (sym is.2)
+    ∙ enough_is o.extent (length got + 1) token))) in
+    record {
+      column = column ∙ (known.below c ∙ sym g.column);
+      ended = ended ∙ (known.last c ∙ sym g.ended);
+      count = rw more (omega (arith, count, was, sum));
+      size = rw more (omega (arith, size, had, bytes, long));
+      enough = rw (more, last) (taken_next o.extent got token (rw short at h.enough));
+    }
+
+-- What is decided at the end of a walk.
+pub decided : (o : Choice) (path : Path) (first : ℕ) (rows : List Row) (j : ℕ) (walk : Walk)
+    → (h : Halts o path first rows j walk)
+    → token_or_null (list_any is_last (chain path rows j)) (taken o.extent (collected o path rows j))
+    ≡ cond walk.enough (Some (join_with_byte 32 (collected o path h.stands.front j)))
+    (cond walk.ended (Some (codes ".")) None)
+decided o path first rows j walk h = by walk.enough refl h.halts
+  where
+    front : List Row
+    front = h.stands.front
+
+    rest : List Row
+    rest = h.stands.rest
+
+    more : List (List ℕ)
+    more = chain_on (path_through path front) rest (column_after path front j)
+
+    longer : chain path rows j ≡ chain path front j ++ more
+    longer = ap (λ (xs : List Row). chain path xs j) h.stands.split ∙ chain_more path front rest j
+
+    got : collected o path rows j ≡ collected o path front j ++ filter (is_collectable o) more
+    got = ap (filter (is_collectable o)) longer
+        ∙ filter-append (is_collectable o) (chain path front j) more
+
+    none : (walk.column ≡ None) ⊎ (rest ≡ []) → more ≡ []
+    none (inl e) = ap (chain_on (path_through path front) rest)
+        (sym h.stands.has.column ∙ e)
+    none (inr e) = ap (λ (xs : List Row). chain_on (path_through path front) xs
+        (column_after path front j)) e ∙ nothing (column_after path front j)
+      where
+        nothing : (c : Option ℕ) → chain_on (path_through path front) [] c ≡ []
+        nothing None = refl
+        nothing (Some c) = refl
+
+    short : walk.enough ≡ false → more ≡ []
+        → token_or_null (list_any is_last (chain path rows j))
+        (taken o.extent (collected o path rows j)) ≡ cond walk.ended (Some (codes ".")) None
+    short w e =
+        let same : chain path rows j ≡ chain path front j = longer
+        ∙ (ap (λ (xs : List (List ℕ)). chain path front j ++ xs) e ∙ append-nil (chain path front j))
+        in
+        rw (same, ← h.stands.has.ended, rw w at h.stands.has.enough) (ending walk.ended)
+      where
+        ending : (b : Bool) → token_or_null b None ≡ cond b (Some (codes ".")) None
+        ending true = refl
+        ending false = refl
+
+    by : (b : Bool) → walk.enough ≡ b
+        → (walk.enough ≡ true) ⊎ ((walk.column ≡ None) ⊎ (rest ≡ []))
+        → token_or_null (list_any is_last (chain path rows j))
+        (taken o.extent (collected o path rows j))
+        ≡ cond b (Some (join_with_byte 32 (collected o path front j)))
+        (cond walk.ended (Some (codes ".")) None)
+    by true w k = rw (got, taken_stays o.extent (collected o path front j)
+        (filter (is_collectable o) more) (collected o path front j) (rw w at h.stands.has.enough))
+        refl
+    by false w (inl e) = let u = sym w ∙ e in cc
+    by false w (inr e) = short w (none e)
+
+-- Tokens that are enough, of so many bytes, are joined.
+pub joined : (ts : List (List ℕ)) (t : List ℕ)
+    → length (join_with_byte 32 (t ∷ ts)) + 1 ≡ bytes_of (t ∷ ts)
+joined [] t = omega arith
+joined (u ∷ us) t =
+    let ih = joined us u in
+    let sum = length-append t (32 ∷ join_with_byte 32 (u ∷ us)) in
+    omega (arith, ih, sum)
+
+pub size_is : (x : Extent) (ts : List (List ℕ)) → taken x [] ≡ None → taken x ts ≡ Some ts
+    → length (join_with_byte 32 ts) + 1 ≡ bytes_of ts
+size_is x [] none e = let k = sym none ∙ e in cc
+size_is x (t ∷ ts) none e = joined ts t
+
+-- those that are enough stay enough
+pub enough_taken : (o : Choice) (path : Path) (rows front rest : List Row) (j : ℕ)
+    → rows ≡ front ++ rest → taken o.extent (collected o path front j) ≡ Some (collected o path front j)
+    → taken o.extent (collected o path rows j) ≡ Some (collected o path front j)
+enough_taken o path rows front rest j split e =
+    let more = chain_on (path_through path front) rest (column_after path front j) in
+    let got : collected o path rows j ≡ collected o path front j ++ filter (is_collectable o) more =
+    ap (λ (xs : List Row). collected o path xs j) split
+    ∙ (ap (filter (is_collectable o)) (chain_more path front rest j)
+    ∙ filter-append (is_collectable o) (chain path front j) more) in
+    ap (taken o.extent) got ∙ taken_stays o.extent (collected o path front j)
+    (filter (is_collectable o) more) (collected o path front j) e
+
+-- what becomes of a token from which others are collected
+token_is : (o : Choice) (token : List ℕ) (chain : List (List ℕ)) → is_collectable o token ≡ true
+    → begins o.extent token ≡ true
+    → new_token o token chain ≡ token_or_null (list_any is_last chain)
+    (taken o.extent (filter (is_collectable o) chain))
+token_is o token chain a b = rw (a, b) refl
+
+pub new_by : (o : Choice) (path : Path) (first : ℕ) (rows : List Row) (j : ℕ) (walk : Walk)
+    (token : List ℕ) → (h : Halts o path first rows j walk) → is_collectable o token ≡ true
+    → begins o.extent token ≡ true
+    → new_token o token (chain path rows j)
+    ≡ cond walk.enough (Some (join_with_byte 32 (collected o path h.stands.front j)))
+    (cond walk.ended (Some (codes ".")) None)
+new_by o path first rows j walk token h a b =
+    token_is o token (chain path rows j) a b ∙ decided o path first rows j walk h
+
+pub new_enough : (o : Choice) (path : Path) (first : ℕ) (rows : List Row) (j : ℕ) (walk : Walk)
+    (token : List ℕ) → taken o.extent [] ≡ None → Halts o path first rows j walk
+    → is_collectable o token ≡ true
+    → begins o.extent token ≡ true → walk.enough ≡ true
+    → (tokens : List (List ℕ)) × (taken o.extent (collected o path rows j) ≡ Some tokens)
+    × (new_token o token (chain path rows j) ≡ Some (join_with_byte 32 tokens))
+    × (length (join_with_byte 32 tokens) + 1 ≡ walk.size)
+new_enough o path first rows j walk token none h a b e =
+    let front = h.stands.front in
+    let got = collected o path front j in
+    let here = rw e at h.stands.has.enough in
+    (
+      got,
+      enough_taken o path rows front h.stands.rest j h.stands.split here,
+      rw e at (new_by o path first rows j walk token h a b),
+      size_is o.extent got none here ∙ sym h.stands.has.size,
+    )

@@ -1,0 +1,45 @@
+use Rattle.std.proofs.Common.{◌∙◌, sym, ap, arith, length, ◌∷◌, [], ◌++◌, ◌+◌}
+use Rattle.hum_record.specs.declared.SpinedKind.TheVariants.{Values}
+use Rattle.hum_record.specs.Row.{Row, Spined, token_at, tokens_of}
+use Rattle.hum_context.specs.Context.{chain}
+use Rattle.hum_context.specs.Walking.{bytes_of}
+use Rattle.hum_context.proofs.Weighing.{bytes_some, bytes_none, sofar_more, sofar_stops, counts_more}
+use Rattle.hum_context.proofs.Weighing.{kept_at, sofar_all, counts_long, counts_fit}
+use Rattle.hum_context.proofs.front.weigh.Goals as goal
+
+pub loop-j-preserved : goal.loop-j-preserved
+loop-j-preserved c = record {
+  few = c.plus-size.ensures.few c.loop-j.invariant.few;
+  weighs = λ o path tokens rows want none knows stand.
+      let w = c.loop-j.invariant.weighs o path tokens rows want none knows stand in
+      let known = kept_at o path c.args.held.now.items c.args.k (Spined Values tokens) rows
+      c.index-kept.result.now knows c.requires.within c.index-kept.ensures in
+      let wide = ap (λ (r : Row). length (tokens_of r)) known.is in
+      let test = c.loop-j-test.true in
+      let end = c.width-j-end.ensures in
+      let b = bytes_some o (token_at (Spined Values tokens) c.loop-j.j)
+      (chain path (Spined Values tokens ∷ rows) c.loop-j.j) _ _ _
+      (c.new_at-new.ensures.becomes o path tokens rows want none knows stand)
+      (c.bytes.ensures.bytes ∙ ap (λ (r : Row). length (token_at r c.loop-j.j) + 1) known.is)
+      (sym c.new_bytes.ensures ∙ c.in-Some.is) in
+      (
+        w.0 ++ b.0 ∷ [],
+        sofar_more o path (Spined Values tokens) rows tokens c.loop-j.j w.0 b.0 w.1
+            (omega (arith, wide, test, end)) b.1,
+        counts_more w.0 b.0 _ _ b.2 (c.plus-size.ensures.counts (bytes_of w.0) w.2),
+      );
+}
+
+pub returns-in_default : goal.returns-in_default
+returns-in_default c o path tokens rows want none knows stand =
+    let w = c.loop-j.invariant.weighs o path tokens rows want none knows stand in
+    let known = kept_at o path c.args.held.now.items c.args.k (Spined Values tokens) rows
+    c.index-kept.result.now knows c.requires.within c.index-kept.ensures in
+    let wide = ap (λ (r : Row). length (tokens_of r)) known.is in
+    let test = c.loop-j-test.true in
+    let end = c.width-j-end.ensures in
+    sofar_stops o path (Spined Values tokens) rows tokens c.loop-j.j w.0 w.1
+    (omega (arith, wide, test, end)) (bytes_none o (token_at (Spined Values tokens) c.loop-j.j)
+    (chain path (Spined Values tokens ∷ rows) c.loop-j.j) _ _
+    (c.new_at-new.ensures.becomes o path tokens rows want none knows stand)
+    (sym c.new_bytes.ensures ∙ c.in_default.is))

@@ -1,0 +1,7 @@
+use Rattle.std.proofs.Common.{arith}
+use Rattle.hum_context.proofs.Tokens.{token_short}
+use Rattle.hum_context.proofs.queued.Queued.bytes.Goals as goal
+
+pub returns-then-c-width-clause-few : goal.returns-then-c-width-clause-few
+returns-then-c-width-clause-few c = rw c.token.ensures.token (token_short c.args.self.now.row
+    c.args.c c.text-text.ensures.at_most)

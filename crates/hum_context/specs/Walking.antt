@@ -1,0 +1,111 @@
+-- What a walk down a spine has come to.
+use Rattle.std.specs.Prelude.{◌≡◌, ◌⊎◌, ℕ, ◌+◌, ◌-◌, ◌<◌, ◌≤◌, Bool, true, false, List, [], ◌∷◌, ◌++◌, filter, length}
+use Rattle.std.specs.Prelude.{if◌then◌else◌, slice_get, Option, Some, None}
+use Rattle.std.specs.List.{list_any, join_with_byte}
+use lib.Chars.{codes}
+use Rattle.hum_record.specs.Row.{Row}
+use Rattle.hum_path.specs.Spines.{Path}
+use Rattle.hum_context.specs.declared.walk.Walk.{Walk}
+use Rattle.hum_context.specs.declared.front.Becoming.{Becoming}
+use Rattle.hum_context.specs.declared.front.Becoming.TheVariants.{Undecided, Stays, Null, Collects}
+use Rattle.hum_context.specs.declared.front.Weight.{Weight}
+use Rattle.hum_context.specs.declared.front.Weight.TheVariants.{Undecided as NotYet, Long, Fits}
+use Rattle.hum_context.specs.Context.{Choice, is_collectable, is_last, taken, chain, new_token}
+use Rattle.hum_context.specs.Cells.{column_after, add_token}
+use Rattle.hum_context.specs.declared.hearing.Heard.{Heard}
+use Rattle.hum_context.specs.declared.hearing.Heard.TheVariants.{Passed, Taken}
+
+-- the bytes of some tokens, with one behind each
+abbrev pub bytes_of : List (List ℕ) → ℕ
+bytes_of [] = 0
+bytes_of (token ∷ tokens) = length token + 1 + bytes_of tokens
+
+-- the collectable tokens of the spine at place j in some rows, in its reach
+abbrev pub collected : Choice → Path → List Row → ℕ → List (List ℕ)
+collected o path rows j = filter (is_collectable o) (chain path rows j)
+
+-- A walk from the cell at place j has gone through these rows.
+pub record Has (o : Choice) (path : Path) (rows : List Row) (j : ℕ) (walk : Walk) : Type 0 where
+  pub column : walk.column ≡ column_after path rows j
+  pub ended : walk.ended ≡ list_any is_last (chain path rows j)
+  pub count : walk.count ≡ length (collected o path rows j)
+  pub size : walk.size ≡ bytes_of (collected o path rows j)
+  pub enough : taken o.extent (collected o path rows j)
+      ≡ (if walk.enough then Some (collected o path rows j) else None)
+
+-- It has gone through some of the rows that wait, the first of which has this number.
+pub record Stands (o : Choice) (path : Path) (first : ℕ) (rows : List Row) (j : ℕ) (walk : Walk)
+    : Type 0 where
+  pub front : List Row
+  pub rest : List Row
+  pub split : rows ≡ front ++ rest
+  pub at : walk.at ≡ first + length front
+  pub has : Has o path front j walk
+
+-- It stands where its tokens are enough, its column has ended or no more rows wait.
+pub record Halts (o : Choice) (path : Path) (first : ℕ) (rows : List Row) (j : ℕ) (walk : Walk)
+    : Type 0 where
+  pub stands : Stands o path first rows j walk
+  pub halts : (walk.enough ≡ true) ⊎ ((walk.column ≡ None) ⊎ (stands.rest ≡ []))
+
+-- Each walk is one from the cell at its place, unless that is still to be made.
+abbrev pub AllStand : Choice → Path → ℕ → List Row → List Walk → Type 0
+AllStand o path first rows walks =
+    (j : ℕ) (walk : Walk) → slice_get walks j ≡ Some walk → first < walk.at
+    → Stands o path first rows j walk
+
+-- what a token becomes, with those below it in reach
+abbrev pub Becomes : Choice → List ℕ → List (List ℕ) → Becoming → Type 0
+Becomes o token chain Undecided = new_token o token chain ≡ None
+Becomes o token chain Stays = new_token o token chain ≡ Some token
+Becomes o token chain Null = new_token o token chain ≡ Some (codes ".")
+Becomes o token chain (Collects size) =
+    (tokens : List (List ℕ)) × (taken o.extent (filter (is_collectable o) chain) ≡ Some tokens)
+    × (new_token o token chain ≡ Some (join_with_byte 32 tokens))
+    × (length (join_with_byte 32 tokens) + 1 ≡ size)
+
+-- whether some new tokens are known, and fit into a record
+abbrev pub Weighs : Option (List (List ℕ)) → Weight → Type 0
+Weighs new NotYet = new ≡ None
+Weighs new Long = (tokens : List (List ℕ)) × (new ≡ Some tokens) × (1048577 < bytes_of tokens)
+Weighs new Fits = (tokens : List (List ℕ)) × (new ≡ Some tokens) × (bytes_of tokens ≤ 1048577)
+
+-- so many bytes, or both are too many
+abbrev pub Counts : ℕ → ℕ → Type 0
+Counts size bytes = (bytes ≡ size) ⊎ ((1048577 < size) × (1048577 < bytes))
+
+-- how many bytes a new token has, and one more, by those of the old one
+abbrev pub bytes_by : Becoming → ℕ → Option ℕ
+bytes_by Undecided old = None
+bytes_by Stays old = Some old
+bytes_by Null old = Some 2
+bytes_by (Collects size) old = Some size
+
+-- a token behind others, if it is collected
+abbrev pub text_with : List ℕ → Heard → List ℕ → List ℕ
+text_with text Passed token = text
+text_with text (Taken begins ends) token = add_token text token
+
+-- the new token of a cell was added to others
+pub record Writes (o : Choice) (token : List ℕ) (chain before after : List (List ℕ)) : Type 0 where
+  pub new : List ℕ
+  pub is : new_token o token chain ≡ Some new
+  pub added : after ≡ before ++ new ∷ []
+
+abbrev pub IsFew : Becoming → Type 0
+IsFew (Collects size) = size ≤ 9007199254740992
+IsFew _ = Unit {0}
+
+pub record IsWithout (bytes : ℕ) (enough : Bool) (before after : Walk) : Type 0 where
+  pub column : after.column ≡ before.column
+  pub ended : after.ended ≡ before.ended
+  pub count : after.count ≡ before.count - 1
+  pub size : after.size ≡ before.size - bytes
+  pub enough_is : after.enough ≡ enough
+
+-- A walk whose first token is taken away, which is collected and of so many bytes with one behind
+-- it; one that ended with it stands nowhere.
+abbrev pub Shortens : Option ℕ → Bool → ℕ → Walk → Walk → Type 0
+Shortens (Some n) ends bytes before after = IsWithout bytes false before after
+Shortens None true bytes before after = after.at ≡ 0
+Shortens None false bytes before after = IsWithout bytes before.enough before after

@@ -1,0 +1,406 @@
+//! What a record that waits becomes, by those behind it.
+ghost use Rattle.std.specs.Prelude.{◌≡◌, ◌≢◌, ◌<◌, ◌≤◌, ◌+◌, ◌^◌, ◌∷◌, ◌++◌, ℕ, List, [], length, drop, false, true, slice_index_or};
+ghost use Rattle.std.specs.Prelude.{Some, None, IfOk, OnOk};
+ghost use Rattle.std.specs.List.{join_with_byte};
+ghost use Rattle.hum_record.specs.declared.SpinedKind.TheVariants.{Values};
+ghost use Rattle.hum_record.specs.Row.{Row, Spined, token_at};
+ghost use Rattle.hum_record.specs.Spelling.{IsToken};
+ghost use Rattle.hum_path.specs.Spines.{Path};
+ghost use Rattle.hum_context.specs.Context.{Choice, all_some, begins, chain, is_collectable, taken, new_tokens};
+ghost use Rattle.hum_context.specs.Heard.{wanted_of};
+ghost use Rattle.hum_context.specs.Queue.{Known, Knows};
+ghost use Rattle.hum_context.specs.declared.hearing.Heard.TheVariants.{Passed};
+ghost use Rattle.hum_context.specs.Walking.{AllStand, Stands, Halts, Becomes, IsFew, Weighs, Counts, collected};
+ghost use Rattle.hum_context.specs.Walking.{bytes_by, text_with, Writes};
+
+use crate::hearing::Heard;
+use crate::queued::Queued;
+use crate::text::Text;
+use crate::walk::Walk;
+use hum_record::{Kind, Record, RecordBuilder, Spare, SpinedKind};
+use std::alloc::{AllocError, Global};
+use std::collections::VecDeque;
+
+// the most bytes of a record, and one more, since a tab is counted behind each token
+const MOST: u64 = 1_048_577;
+
+/// What a token becomes.
+pub(crate) enum Becoming {
+    /// That isn't known yet.
+    Undecided,
+    /// It stays as it is.
+    Stays,
+    /// It becomes null.
+    Null,
+    /// It becomes those that are collected, which have so many bytes, with one behind each.
+    Collects(u64),
+}
+
+/// What is known of a record's new tokens.
+#[derive(Clone, Copy, Debug, PartialEq, Eq)]
+pub(crate) enum Weight {
+    /// One isn't known yet.
+    Undecided,
+    /// Together they are too long.
+    Long,
+    /// They fit into a record.
+    Fits,
+}
+
+/// The walk from a cell of the record with this number, as far as it is known.
+fn started(walks: &[Walk], at: u64, j: usize) -> Walk
+    requires { at ≤ 4294967295 }
+    ensures behind { at ≤ result.at }
+    ensures stands { (o : Choice) (path : Path) (rows : List Row) → taken o.extent [] ≡ None
+        → AllStand o path at rows walks.now → Stands o path at rows j result }
+{
+    if j < walks.len() {
+        let walk = walks[j];
+        if at < walk.at {
+            return walk;
+        }
+    }
+    Walk::from(at, j)
+}
+
+/// The walk from a cell of the k-th record that waits, down to where it is decided.
+fn walk_at(
+    held: &VecDeque<Queued>,
+    k: usize,
+    gone: u64,
+    walks: &[Walk],
+    j: usize,
+    wanted: Option<u16>,
+) -> Walk
+    requires few { gone + length held.now.items ≤ 4294967295 }
+    requires within { k ≤ length held.now.items }
+    ensures { (o : Choice) (path : Path) (rows : List Row) → wanted ≡ wanted_of o.extent
+        → taken o.extent [] ≡ None → Knows o path (drop k held.now.items) rows
+        → AllStand o path (gone + k) rows walks.now → Halts o path (gone + k) rows j result }
+{
+    started(walks, gone + k as u64, j).go_on(held, gone, wanted)
+}
+
+/// What the token of a cell becomes from which others are collected, by the walk from it.
+fn becoming_by(walk: Walk) -> Becoming
+    ensures few { IsFew result }
+    ensures becomes { (o : Choice) (path : Path) (first : ℕ) (rows : List Row) (j : ℕ)
+        → taken o.extent [] ≡ None
+        → Halts o path first rows j walk
+        → (token : List ℕ) → is_collectable o token ≡ true → begins o.extent token ≡ true
+        → Becomes o token (chain path rows j) result }
+{
+    if walk.enough {
+        return Becoming::Collects(walk.size);
+    }
+    if walk.ended {
+        return Becoming::Null;
+    }
+    Becoming::Undecided
+}
+
+/// What the token at place j becomes of the k-th record that waits.
+fn new_at(
+    held: &VecDeque<Queued>,
+    k: usize,
+    gone: u64,
+    walks: &[Walk],
+    j: usize,
+    wanted: Option<u16>,
+) -> Becoming
+    requires few { gone + length held.now.items ≤ 4294967295 }
+    requires within { k < length held.now.items }
+    ensures few { IsFew result }
+    ensures becomes { (o : Choice) (path : Path) (tokens : List (List ℕ)) (rows : List Row)
+        → wanted ≡ wanted_of o.extent → taken o.extent [] ≡ None
+        → Knows o path (drop k held.now.items) (Spined Values tokens ∷ rows)
+        → AllStand o path (gone + k) (Spined Values tokens ∷ rows) walks.now
+        → Becomes o (token_at (Spined Values tokens) j)
+        (chain path (Spined Values tokens ∷ rows) j) result }
+{
+    match held[k].heard(j) {
+        Heard::Passed => Becoming::Stays,
+        Heard::Taken { begins, ends: _ } => {
+            if !begins {
+                return Becoming::Null;
+            }
+            becoming_by(walk_at(held, k, gone, walks, j, wanted))
+        }
+    }
+}
+
+/// How many bytes a new token has, and one more.
+fn new_bytes(becoming: Becoming, old: u64) -> Option<u64>
+    ensures { result ≡ bytes_by becoming old }
+{
+    match becoming {
+        Becoming::Undecided => None,
+        Becoming::Stays => Some(old),
+        Becoming::Null => Some(2),
+        Becoming::Collects(size) => Some(size),
+    }
+}
+
+/// More bytes, unless there are too many already.
+fn plus(size: u64, more: u64) -> u64
+    requires { (size ≤ 2 ^ 60) × (more ≤ 2 ^ 53) }
+    ensures few { size ≤ 2 ^ 54 → result ≤ 2 ^ 54 }
+    ensures counts { (bytes : ℕ) → Counts size bytes → Counts result (bytes + more) }
+{
+    if size > MOST { size } else { size + more }
+}
+
+/// What is known of the new tokens of the k-th record that waits.
+pub(crate) fn weigh(
+    held: &VecDeque<Queued>,
+    k: usize,
+    gone: u64,
+    walks: &[Walk],
+    wanted: Option<u16>,
+) -> Weight
+    requires few { gone + length held.now.items ≤ 4294967295 }
+    requires within { k < length held.now.items }
+    ensures { (o : Choice) (path : Path) (tokens : List (List ℕ)) (rows : List Row)
+        → wanted ≡ wanted_of o.extent → taken o.extent [] ≡ None
+        → Knows o path (drop k held.now.items) (Spined Values tokens ∷ rows)
+        → AllStand o path (gone + k) (Spined Values tokens ∷ rows) walks.now
+        → Weighs (all_some (new_tokens o path (Spined Values tokens) rows 0 tokens)) result }
+{
+    let kept = &held[k];
+    let mut size: u64 = 0;
+    for j in 0..kept.row.width() {
+        let new = new_at(held, k, gone, walks, j, wanted);
+        let Some(more) = new_bytes(new, kept.bytes(j)) else {
+            return Weight::Undecided;
+        };
+        size = plus(size, more);
+    }
+    if size > MOST {
+        Weight::Long
+    } else {
+        Weight::Fits
+    }
+}
+
+/// Adds the token in a column, if it is collected.
+fn text_with(text: Text, next: &Queued, c: usize) -> Result<Text, AllocError>
+    ensures { IfOk result (λ new. (o : Choice) (path : Path) (row : Row) → Known o path row next.now
+        → new ≡ text_with text (slice_index_or next.now.heard.items c Passed) (token_at row c)) }
+{
+    match next.heard(c) {
+        Heard::Passed => Ok(text),
+        Heard::Taken { begins: _, ends: _ } => {
+            if c >= next.row.width() || next.row.kind() != Kind::Values {
+                return Err(AllocError);
+            }
+            let text = text.with(next.row.token(c))?;
+            Ok(text)
+        }
+    }
+}
+
+/// The tokens that are collected from a cell of the first record that waits, joined.
+fn gather(
+    alloc: Global,
+    held: &VecDeque<Queued>,
+    gone: u64,
+    j: usize,
+    wanted: Option<u16>,
+) -> Result<Text, AllocError>
+    requires few { gone + length held.now.items ≤ 4294967295 }
+    ensures { IfOk result (λ text. (o : Choice) (path : Path) (rows : List Row)
+        → wanted ≡ wanted_of o.extent → taken o.extent [] ≡ None → Knows o path held.now.items rows
+        → (tokens : List (List ℕ)) × (taken o.extent (collected o path rows j) ≡ Some tokens)
+        × (text ≡ join_with_byte 32 tokens)) }
+{
+    let mut text = Text::none(alloc);
+    let mut walk = Walk::from(gone, j);
+    for n in 0..held.len() {
+        if walk.enough {
+            return Ok(text);
+        }
+        let Some(c) = walk.column else {
+            return Err(AllocError);
+        };
+        let next = &held[n];
+        text = text_with(text, next, c)?;
+        walk = walk.pass(c, next, wanted);
+    }
+    if !walk.enough {
+        return Err(AllocError);
+    }
+    Ok(text)
+}
+
+/// Adds a token to a record.
+fn push(builder: &mut RecordBuilder, token: &[u8]) -> Result<(), AllocError>
+    requires lawful { IsToken builder.old.kind token.now }
+    ensures { OnOk result
+        (builder.new ≡ record builder.old { tokens = builder.old.tokens ++ token.now ∷ [] }) }
+{
+    match builder.push(token) {
+        Ok(()) => Ok(()),
+        Err(_) => Err(AllocError),
+    }
+}
+
+/// Adds the token in a column of a data record.
+fn push_token(builder: &mut RecordBuilder, row: &Record, j: usize) -> Result<(), AllocError>
+    requires kind { builder.old.kind ≡ Values }
+    ensures { OnOk result (builder.new
+        ≡ record builder.old { tokens = builder.old.tokens ++ token_at row.now j ∷ [] }) }
+{
+    if j >= row.width() || row.kind() != Kind::Values {
+        return Err(AllocError);
+    }
+    push(builder, row.token(j))
+}
+
+/// Adds tokens that are joined.
+fn push_text(builder: &mut RecordBuilder, text: &Text) -> Result<(), AllocError>
+    requires kind { builder.old.kind ≡ Values }
+    ensures { OnOk result
+        (builder.new ≡ record builder.old { tokens = builder.old.tokens ++ text.now ∷ [] }) }
+{
+    if text.bytes().is_empty() {
+        return Err(AllocError);
+    }
+    push(builder, text.bytes())
+}
+
+/// Writes the new token of a cell of the first record that waits.
+fn write_token(
+    alloc: Global,
+    held: &VecDeque<Queued>,
+    gone: u64,
+    j: usize,
+    wanted: Option<u16>,
+    becoming: Becoming,
+    builder: &mut RecordBuilder,
+) -> Result<(), AllocError>
+    requires few { gone + length held.now.items ≤ 4294967295 }
+    requires kind { builder.old.kind ≡ Values }
+    requires sound { builder.old.spent ≡ false }
+    requires within { 0 < length held.now.items }
+    ensures kind { OnOk result (builder.new.kind ≡ Values) }
+    ensures sound { OnOk result (builder.new.spent ≡ false) }
+    ensures longer { OnOk result (length builder.new.tokens ≡ length builder.old.tokens + 1) }
+    ensures written { OnOk result ((o : Choice) (path : Path) (tokens : List (List ℕ))
+        (rows : List Row) → wanted ≡ wanted_of o.extent → taken o.extent [] ≡ None
+        → Knows o path held.now.items (Spined Values tokens ∷ rows)
+        → Becomes o (token_at (Spined Values tokens) j)
+        (chain path (Spined Values tokens ∷ rows) j) becoming
+        → Writes o (token_at (Spined Values tokens) j)
+        (chain path (Spined Values tokens ∷ rows) j) builder.old.tokens builder.new.tokens) }
+{
+    match becoming {
+        Becoming::Undecided => Err(AllocError),
+        Becoming::Stays => push_token(builder, &held[0].row, j),
+        Becoming::Null => push(builder, b"."),
+        Becoming::Collects(_) => {
+            let text = gather(alloc, held, gone, j, wanted)?;
+            push_text(builder, &text)
+        }
+    }
+}
+
+/// The record that the first becomes that waits, whose new tokens fit into one.
+pub(crate) fn write(
+    alloc: Global,
+    held: &VecDeque<Queued>,
+    gone: u64,
+    walks: &[Walk],
+    wanted: Option<u16>,
+    spare: &mut Spare,
+) -> Result<Record, AllocError>
+    requires few { gone + length held.now.items ≤ 4294967295 }
+    requires within { 0 < length held.now.items }
+    ensures { IfOk result (λ made. (o : Choice) (path : Path) (tokens : List (List ℕ))
+        (rows : List Row) → wanted ≡ wanted_of o.extent → taken o.extent [] ≡ None
+        → Knows o path held.now.items (Spined Values tokens ∷ rows)
+        → AllStand o path gone (Spined Values tokens ∷ rows) walks.now
+        → (new : List (List ℕ)) × (made ≡ Spined Values new)
+        × (all_some (new_tokens o path (Spined Values tokens) rows 0 tokens) ≡ Some new)) }
+{
+    let width = held[0].row.width();
+    if width == 0 {
+        return Err(AllocError);
+    }
+    let mut builder = RecordBuilder::reusing(alloc, SpinedKind::Values, spare);
+    for j in 0..width {
+        let new = new_at(held, 0, gone, walks, j, wanted);
+        write_token(alloc, held, gone, j, wanted, new, &mut builder)?;
+    }
+    Ok(builder.finish())
+}
+
+/// Whether others are collected from a token of the first record that waits.
+fn begins_at(held: &VecDeque<Queued>, j: usize) -> bool
+    requires { 0 < length held.now.items }
+{
+    match held[0].heard(j) {
+        Heard::Passed => false,
+        Heard::Taken { begins, ends: _ } => begins,
+    }
+}
+
+/// Makes room for walks from so many cells of the record with this number.
+fn widen(walks: &mut Vec<Walk>, gone: u64, count: usize) -> Result<(), AllocError>
+    requires few { gone ≤ 4294967295 }
+    ensures wide { OnOk result (count ≤ length walks.new.items) }
+    ensures stand { OnOk result ((o : Choice) (path : Path) (rows : List Row)
+        → AllStand o path gone rows walks.old.items → AllStand o path gone rows walks.new.items) }
+{
+    for j in walks.len()..count {
+        walks.push(Walk::from(gone, j))?;
+    }
+    Ok(())
+}
+
+/// Lets the walk from a cell of the first record that waits go on, and says whether its token is
+/// decided.
+fn advance_at(
+    held: &VecDeque<Queued>,
+    gone: u64,
+    walks: &mut Vec<Walk>,
+    j: usize,
+    wanted: Option<u16>,
+) -> bool
+    requires few { gone + length held.now.items ≤ 4294967295 }
+    requires some { 0 < length held.now.items }
+    requires within { j < length walks.old.items }
+    ensures wide { length walks.new.items ≡ length walks.old.items }
+    ensures stand { (o : Choice) (path : Path) (rows : List Row)
+        → wanted ≡ wanted_of o.extent → taken o.extent [] ≡ None → Knows o path held.now.items rows
+        → AllStand o path gone rows walks.old.items → AllStand o path gone rows walks.new.items }
+{
+    if !begins_at(held, j) {
+        return true;
+    }
+    let walk = walk_at(held, 0, gone, walks, j, wanted);
+    walks[j] = walk;
+    walk.enough || walk.ended
+}
+
+/// Lets the walks from the first record that waits go on, to the first that isn't decided.
+pub(crate) fn advance(
+    held: &VecDeque<Queued>,
+    gone: u64,
+    walks: &mut Vec<Walk>,
+    wanted: Option<u16>,
+) -> Result<(), AllocError>
+    requires few { gone + length held.now.items ≤ 4294967295 }
+    requires within { 0 < length held.now.items }
+    ensures { OnOk result ((o : Choice) (path : Path) (rows : List Row)
+        → wanted ≡ wanted_of o.extent → taken o.extent [] ≡ None → Knows o path held.now.items rows
+        → AllStand o path gone rows walks.old.items → AllStand o path gone rows walks.new.items) }
+{
+    let width = held[0].row.width();
+    widen(walks, gone, width)?;
+    for j in 0..width {
+        if !advance_at(held, gone, walks, j, wanted) {
+            return Ok(());
+        }
+    }
+    Ok(())
+}

@@ -1,0 +1,122 @@
+//! Walks down a spine, through the records that wait.
+ghost use Rattle.std.specs.Prelude.{◌≡◌, ◌+◌, ◌≤◌, ◌<◌, ◌*◌, ℕ, List, [], ◌∷◌, ◌++◌, length, drop, false, Some, None, slice_index_or};
+ghost use Rattle.hum_record.specs.Row.{Row, tokens_of};
+ghost use Rattle.hum_path.specs.Spines.{Path};
+ghost use Rattle.hum_context.specs.Context.{Choice};
+ghost use Rattle.hum_context.specs.Cells.{path_through};
+ghost use Rattle.hum_context.specs.Heard.{wanted_of, enough_by};
+ghost use Rattle.hum_context.specs.Queue.{Known, Knows, column_in, is_last_in};
+ghost use Rattle.hum_context.specs.Walking.{Has, Stands, Halts};
+
+use crate::hearing::Heard;
+use crate::queued::Queued;
+use crate::walk::Walk;
+use std::collections::VecDeque;
+
+/// Whether so many tokens are enough, the last of which ends a group or doesn't.
+fn is_enough(wanted: Option<u16>, count: u64, ends: bool) -> bool
+    ensures { result ≡ enough_by wanted count ends }
+{
+    match wanted {
+        Some(number) => number as u64 <= count,
+        None => ends,
+    }
+}
+
+impl Walk {
+    /// A walk that is still at the cell in a column.
+    pub(crate) fn from(at: u64, column: usize) -> Walk
+        requires { at ≤ 4294967295 }
+        ensures at { result.at ≡ at }
+        ensures column { result.column ≡ Some column }
+        ensures none { (result.count ≡ 0) × (result.size ≡ 0) }
+        ensures open { (result.enough ≡ false) × (result.ended ≡ false) }
+    {
+        Walk {
+            at,
+            column: Some(column),
+            count: 0,
+            size: 0,
+            enough: false,
+            ended: false,
+        }
+    }
+
+    /// One record more, whose token in its column isn't collected.
+    fn pass_by(self, c: usize, next: &Queued) -> Walk
+        requires few { self.at < 4294967295 }
+        ensures at { result.at ≡ self.at + 1 }
+        ensures column { result.column ≡ column_in next.now.row next.now.below c }
+        ensures ended { result.ended ≡ is_last_in next.now.row c }
+        ensures same { (result.count ≡ self.count) × (result.size ≡ self.size) }
+        ensures short { result.enough ≡ false }
+    {
+        Walk {
+            at: self.at + 1,
+            column: next.below(c),
+            count: self.count,
+            size: self.size,
+            enough: false,
+            ended: next.is_last(c),
+        }
+    }
+
+    /// One record more, whose token in its column is collected, and ends a group or doesn't.
+    fn collect(self, c: usize, next: &Queued, wanted: Option<u16>, ends: bool) -> Walk
+        requires few { self.at < 4294967295 }
+        ensures at { result.at ≡ self.at + 1 }
+        ensures column { result.column ≡ column_in next.now.row next.now.below c }
+        ensures ended { result.ended ≡ is_last_in next.now.row c }
+        ensures count { result.count ≡ self.count + 1 }
+        ensures size { result.size
+            ≡ self.size + (length (slice_index_or (tokens_of next.now.row) c []) + 1) }
+        ensures enough { result.enough ≡ enough_by wanted (self.count + 1) ends }
+    {
+        Walk {
+            at: self.at + 1,
+            column: next.below(c),
+            count: self.count + 1,
+            size: self.size + next.bytes(c),
+            enough: is_enough(wanted, self.count + 1, ends),
+            ended: next.is_last(c),
+        }
+    }
+
+    /// One record more, on which it stands in a column.
+    pub(crate) fn pass(self, c: usize, next: &Queued, wanted: Option<u16>) -> Walk
+        requires few { self.at < 4294967295 }
+        ensures at { result.at ≡ self.at + 1 }
+        ensures has { (o : Choice) (path : Path) (rows : List Row) (row : Row) (j : ℕ)
+            → wanted ≡ wanted_of o.extent → Known o (path_through path rows) row next.now
+            → self.column ≡ Some c → self.enough ≡ false → Has o path rows j self
+            → Has o path (rows ++ row ∷ []) j result }
+    {
+        match next.heard(c) {
+            Heard::Passed => self.pass_by(c, next),
+            Heard::Taken { begins: _, ends } => self.collect(c, next, wanted, ends),
+        }
+    }
+
+    /// It goes on until its tokens are enough, its column ends or no more records wait, of which so
+    /// many are gone.
+    pub(crate) fn go_on(self, held: &VecDeque<Queued>, gone: u64, wanted: Option<u16>) -> Walk
+        requires behind { gone ≤ self.at }
+        requires few { gone + length held.now.items ≤ 4294967295 }
+        ensures behind { gone ≤ result.at }
+        ensures halts { (o : Choice) (path : Path) (k : ℕ) (rows : List Row) (j : ℕ)
+            → wanted ≡ wanted_of o.extent → Knows o path (drop k held.now.items) rows
+            → Stands o path (gone + k) rows j self → Halts o path (gone + k) rows j result }
+    {
+        let mut walk = self;
+        for n in (self.at - gone) as usize..held.len() {
+            if walk.enough {
+                return walk;
+            }
+            let Some(c) = walk.column else {
+                return walk;
+            };
+            walk = walk.pass(c, &held[n], wanted);
+        }
+        walk
+    }
+}
