@@ -93,15 +93,15 @@ here_at o past rows k held knows h below = by h.rest refl
           knows = rw (h.long, e, path_passed past h.front) at left;
           is = h.is ∙ ap (λ (xs : List Row). k + lasting (context o) (passed past h.front) xs) e;
           next = λ one. record {
-              front = h.front ++ row ∷ [];
-              rest = behind;
-              split = h.split ∙ (ap (λ (xs : List Row). h.front ++ xs) e
-                  ∙ sym (append_assoc h.front (row ∷ []) behind));
-              long = let sum = length-append h.front (row ∷ []) in let long = h.long in
-                  omega (arith, sum, long);
-              is = h.is ∙ (ap (λ (xs : List Row). k + lasting (context o) (passed past h.front) xs) e
-                  ∙ (ap (λ (n : ℕ). k + n) one ∙ rw more (omega arith)));
-            };
+            front = h.front ++ row ∷ [];
+            rest = behind;
+            split = h.split ∙ (ap (λ (xs : List Row). h.front ++ xs) e
+                ∙ sym (append_assoc h.front (row ∷ []) behind));
+            long = let sum = length-append h.front (row ∷ []) in let long = h.long in
+                omega (arith, sum, long);
+            is = h.is ∙ (ap (λ (xs : List Row). k + lasting (context o) (passed past h.front) xs) e
+                ∙ (ap (λ (n : ℕ). k + n) one ∙ rw more (omega arith)));
+          };
         }
 
 pub sound_all : (o : Choice) (past rows : List Row) (k : ℕ) (held : List Queued)

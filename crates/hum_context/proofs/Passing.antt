@@ -236,8 +236,11 @@ decided o path first rows j walk h = by walk.enough refl h.halts
         (taken o.extent (collected o path rows j))
         ≡ cond b (Some (join_with_byte 32 (collected o path front j)))
         (cond walk.ended (Some (codes ".")) None)
-    by true w k = rw (got, taken_stays o.extent (collected o path front j)
-        (filter (is_collectable o) more) (collected o path front j) (rw w at h.stands.has.enough))
+    by true w k = rw (
+      got,
+      taken_stays o.extent (collected o path front j)
+          (filter (is_collectable o) more) (collected o path front j) (rw w at h.stands.has.enough),
+    )
         refl
     by false w (inl e) = let u = sym w ∙ e in cc
     by false w (inr e) = short w (none e)
@@ -295,8 +298,7 @@ pub new_enough : (o : Choice) (path : Path) (first : ℕ) (rows : List Row) (j :
 new_enough o path first rows j walk token none h a b e =
     let front = h.stands.front in
     let got = collected o path front j in
-    let here = rw e at h.stands.has.enough in
-    (
+    let here = rw e at h.stands.has.enough in (
       got,
       enough_taken o path rows front h.stands.rest j h.stands.split here,
       rw e at (new_by o path first rows j walk token h a b),

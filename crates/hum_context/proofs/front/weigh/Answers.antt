@@ -21,8 +21,7 @@ loop-j-preserved c = record {
       (chain path (Spined Values tokens ∷ rows) c.loop-j.j) _ _ _
       (c.new_at-new.ensures.becomes o path tokens rows want none knows stand)
       (c.bytes.ensures.bytes ∙ ap (λ (r : Row). length (token_at r c.loop-j.j) + 1) known.is)
-      (sym c.new_bytes.ensures ∙ c.in-Some.is) in
-      (
+      (sym c.new_bytes.ensures ∙ c.in-Some.is) in (
         w.0 ++ b.0 ∷ [],
         sofar_more o path (Spined Values tokens) rows tokens c.loop-j.j w.0 b.0 w.1
             (omega (arith, wide, test, end)) b.1,
