@@ -109,13 +109,7 @@ impl Below {
         ensures { result ≡ place_in self.now c }
     {
         match self {
-            Below::Same(width) => {
-                if c < *width {
-                    Some(c)
-                } else {
-                    None
-                }
-            }
+            Below::Same(width) => { if c < *width { Some(c) } else { None } }
             Below::Listed(places) => {
                 if c >= places.len() {
                     return None;

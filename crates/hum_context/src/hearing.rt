@@ -128,11 +128,7 @@ impl ContextOptions {
     }
 
     /// What is heard of each token of a record; nothing where none is collected.
-    pub(crate) fn hear_row(
-        &mut self,
-        alloc: Global,
-        row: &Record,
-    ) -> Result<Vec<Heard>, AllocError>
+    pub(crate) fn hear_row(&mut self, alloc: Global, row: &Record) -> Result<Vec<Heard>, AllocError>
         ensures heard { IfOk result (λ heard. (c : ℕ) → slice_index_or heard.items c Passed
             ≡ heard_under (choice_of self.old) row.now c) }
         ensures valued { IfOk result (λ heard. heard.items ≢ [] → kind_of row.now ≡ AnyValues) }

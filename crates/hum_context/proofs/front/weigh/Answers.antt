@@ -4,7 +4,7 @@ use Rattle.hum_record.specs.Row.{Row, Spined, token_at, tokens_of}
 use Rattle.hum_context.specs.Context.{chain}
 use Rattle.hum_context.specs.Walking.{bytes_of}
 use Rattle.hum_context.proofs.Weighing.{bytes_some, bytes_none, sofar_more, sofar_stops, counts_more}
-use Rattle.hum_context.proofs.Weighing.{kept_at, sofar_all, counts_long, counts_fit}
+use Rattle.hum_context.proofs.Weighing.{kept_at}
 use Rattle.hum_context.proofs.front.weigh.Goals as goal
 
 pub loop-j-preserved : goal.loop-j-preserved
@@ -21,8 +21,7 @@ loop-j-preserved c = record {
       (chain path (Spined Values tokens ∷ rows) c.loop-j.j) _ _ _
       (c.new_at-new.ensures.becomes o path tokens rows want none knows stand)
       (c.bytes.ensures.bytes ∙ ap (λ (r : Row). length (token_at r c.loop-j.j) + 1) known.is)
-      (sym c.new_bytes.ensures ∙ c.in-Some.is) in
-      (
+      (sym c.new_bytes.ensures ∙ c.in-Some.is) in (
         w.0 ++ b.0 ∷ [],
         sofar_more o path (Spined Values tokens) rows tokens c.loop-j.j w.0 b.0 w.1
             (omega (arith, wide, test, end)) b.1,

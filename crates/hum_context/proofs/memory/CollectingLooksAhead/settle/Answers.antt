@@ -1,4 +1,4 @@
-use Rattle.std.proofs.Common.{◌≡◌, ◌∙◌, sym, ap, refl, arith, subst, ◌∷◌, [], ◌+◌, Some}
+use Rattle.std.proofs.Common.{◌≡◌, ◌∙◌, sym, ap, arith, subst, ◌∷◌, [], ◌+◌}
 use Rattle.std.specs.Option.{option_to_list}
 use Rattle.std.specs.Prelude.{Ok, Err}
 use Rattle.hum_record.specs.declared.SpinedKind.TheVariants.{Values}
@@ -59,8 +59,7 @@ returns-in-Undecided-clause-settles c look past row rows h =
     (subst (λ (r : Row). Knows o path c.args.held.now.items (r ∷ rows)) is h.waits)
     (rw (c.deref.ensures.value, zero)
     (subst (λ (r : Row). AllStand o path c.args.self.now.gone (r ∷ rows) c.advance.new.walks.items) is
-    stand)) in
-    (
+    stand)) in (
       ap (λ l. l past row rows) h.command
           ∙ undecided o past row rows is (rw c.in-Undecided.is at weighs),
       follows_walks o _ _ _ _ _ look past (row ∷ rows) h stand,
