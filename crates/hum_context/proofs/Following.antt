@@ -1,22 +1,16 @@
 -- What is remembered goes on.
 use Rattle.std.proofs.Common.{◌≡◌, ◌∙◌, ◌≢◌, refl, sym, ap, ℕ, suc, ◌+◌, ◌≤◌, ◌<◌, true, false}
 use Rattle.std.proofs.Common.{List, [], ◌∷◌, ◌++◌, length, drop, get_or, length-append, append_assoc}
-use Rattle.std.proofs.Common.{arith, Option, Some, None, cond, Bool}
-use Rattle.std.specs.Prelude.{Result, Ok, Err, nat_le, slice_get, ◌==◌}
-use Rattle.std.specs.Option.{option_to_list}
+use Rattle.std.proofs.Common.{arith, Option, Some, None}
+use Rattle.std.specs.Prelude.{Result, nat_le, slice_get, ◌==◌}
 use Rattle.std.proofs.lemmas.Bool.Decides.{nat_tests}
-use Rattle.hum_record.specs.declared.Kind.TheVariants.{Values as AnyValues}
 use Rattle.hum_record.specs.declared.SpinedKind.TheVariants.{Values}
-use Rattle.hum_record.specs.Row.{Row, Spined, kind_of, tokens_of}
-use Rattle.hum_path.specs.declared.moved.Move.{Move}
+use Rattle.hum_record.specs.Row.{Row, Spined, tokens_of}
 use Rattle.hum_path.specs.Spines.{Path, Unopened, after, moves}
 use Rattle.hum_path.specs.Score.{path_after, passed}
 use Rattle.hum_stage.specs.declared.faults.Rule.{Rule}
-use Rattle.hum_stage.specs.declared.faults.Rule.TheVariants.{L1}
 use Rattle.hum_stage.specs.Look.{Look}
 use Rattle.hum_stage.specs.Order.{passed-push}
-use Rattle.hum_context.specs.declared.front.Weight.{Weight}
-use Rattle.hum_context.specs.declared.front.Weight.TheVariants.{Undecided, Long, Fits}
 use Rattle.hum_context.specs.declared.options.Span.{Span}
 use Rattle.hum_context.specs.declared.options.Span.TheVariants.{Number, Phrase}
 use Rattle.hum_context.specs.declared.options.ContextOptions.{ContextOptions}
@@ -25,13 +19,12 @@ use Rattle.hum_context.specs.declared.walk.Walk.{Walk}
 use Rattle.hum_context.specs.Options.{extent_of, choice_of}
 use Rattle.hum_context.specs.Context.{Choice, taken, context, all_some, data_of, if_fits, new_tokens}
 use Rattle.hum_context.specs.Cells.{path_through}
-use Rattle.hum_context.specs.Heard.{wanted_of}
 use Rattle.hum_context.specs.Memory.{Follows, follows_each}
 use Rattle.hum_context.specs.Queue.{Known, Knows}
-use Rattle.hum_context.specs.Walking.{AllStand, Stands, Weighs}
+use Rattle.hum_context.specs.Walking.{AllStand, Stands}
 use Rattle.hum_context.proofs.Growing.{path_passed}
 use Rattle.hum_context.proofs.Queues.{knows_push}
-use Rattle.hum_context.proofs.Weighing.{data_row, fits_is, long_is, kept_at, quiet_stays}
+use Rattle.hum_context.proofs.Weighing.{data_row, kept_at}
 
 -- a walk through records that wait, when there are more
 stands_more : (o : Choice) (path : Path) (first : ℕ) (rows : List Row) (next : Row) (j : ℕ)

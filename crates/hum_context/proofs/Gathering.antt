@@ -1,6 +1,6 @@
 -- Tokens are collected, one record more.
-use Rattle.std.proofs.Common.{◌≡◌, ◌∙◌, refl, sym, ap, ℕ, suc, ◌+◌, ◌≤◌, ◌<◌, Bool, true, false, not, List, [], ◌∷◌, ◌++◌}
-use Rattle.std.proofs.Common.{length, get_or, append_assoc, append-nil, length-append, arith, Option, Some, None}
+use Rattle.std.proofs.Common.{◌≡◌, ◌∙◌, refl, sym, ap, ℕ, ◌+◌, ◌<◌, Bool, true, false, not, List, [], ◌∷◌, ◌++◌}
+use Rattle.std.proofs.Common.{length, get_or, append_assoc, append-nil, length-append, arith, Some}
 use Rattle.std.specs.List.{join_with_byte}
 use Rattle.hum_record.specs.Row.{Row, token_at}
 use Rattle.hum_path.specs.Spines.{Path}
@@ -14,7 +14,7 @@ use Rattle.hum_context.specs.Heard.{heard_under}
 use Rattle.hum_context.specs.Queue.{Known, Knows, heard_token}
 use Rattle.hum_context.specs.Walking.{Has, collected, text_with}
 use Rattle.hum_context.proofs.Growth.{join_push, collected_bytes, HasBytes}
-use Rattle.hum_context.proofs.Passing.{grown_by, enough_taken, has_none}
+use Rattle.hum_context.proofs.Passing.{grown_by, enough_taken}
 use Rattle.hum_context.proofs.Queues.{knows_at}
 
 -- So many records were gone through, and their collected tokens are joined.

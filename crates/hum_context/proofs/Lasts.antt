@@ -1,11 +1,9 @@
 -- How many records stand before the first that is refused.
-use Rattle.std.proofs.Common.{◌≡◌, ◌∙◌, refl, sym, ap, ℕ, suc, ◌+◌, ◌≤◌, ◌<◌, Bool, true, false}
-use Rattle.std.proofs.Common.{List, [], ◌∷◌, ◌++◌, length, drop, get_or, length-append, append_assoc, arith, cond, Option, Some, None}
+use Rattle.std.proofs.Common.{◌≡◌, ◌∙◌, refl, sym, ap, ℕ, ◌+◌, ◌<◌, Bool, true, false}
+use Rattle.std.proofs.Common.{List, [], ◌∷◌, ◌++◌, length, drop, length-append, append_assoc, arith, cond}
 use Rattle.std.specs.Prelude.{Ok, Err}
-use Rattle.std.proofs.lemmas.List.{length-drop}
 use Rattle.hum_record.specs.declared.SpinedKind.TheVariants.{Values}
 use Rattle.hum_record.specs.Row.{Row, Spined, tokens_of}
-use Rattle.hum_path.specs.Spines.{Path}
 use Rattle.hum_path.specs.Score.{path_after, passed}
 use Rattle.hum_stage.specs.declared.faults.Rule.TheVariants.{L1}
 use Rattle.hum_stage.specs.Order.{passed-push}
@@ -19,7 +17,7 @@ use Rattle.hum_context.specs.Memory.{knows_each}
 use Rattle.hum_context.specs.Queue.{Knows}
 use Rattle.hum_context.specs.Walking.{Weighs}
 use Rattle.hum_context.proofs.Growing.{path_passed}
-use Rattle.hum_context.proofs.Queues.{knows_drop, knows_at, no_more, drop_below, drop_get, At}
+use Rattle.hum_context.proofs.Queues.{knows_drop, no_more}
 use Rattle.hum_context.proofs.Weighing.{fits_is, long_is}
 use Rattle.hum_context.proofs.Following.{undecided, decided_by}
 

@@ -1,8 +1,7 @@
 -- A walk goes through one record more.
-use Rattle.std.proofs.Common.{◌≡◌, ◌∙◌, refl, sym, ap, ℕ, suc, ◌+◌, ◌≤◌, ◌<◌, Bool, true, false}
+use Rattle.std.proofs.Common.{◌≡◌, ◌∙◌, refl, sym, ap, ℕ, ◌+◌, Bool, true, false}
 use Rattle.std.proofs.Common.{◌||◌, List, [], ◌∷◌, ◌++◌, length, filter, append-nil, length-append}
-use Rattle.std.proofs.Common.{append_assoc, arith, cond, get_or, Option, Some, None, inl, inr, ◌⊎◌}
-use Rattle.std.specs.Prelude.{nat_le}
+use Rattle.std.proofs.Common.{arith, cond, get_or, Option, Some, None, inl, inr, ◌⊎◌}
 use Rattle.std.specs.Option.{option_and_then}
 use Rattle.std.specs.List.{list_any, join_with_byte}
 use Rattle.std.proofs.lemmas.List.Elements.{filter-append}
@@ -21,7 +20,7 @@ use Rattle.hum_context.specs.Context.{to_last, chain, begins, token_or_null, new
 use Rattle.hum_context.specs.Cells.{place_after, column_below, column_after, path_through, under}
 use Rattle.hum_context.specs.Heard.{heard_of, heard_under, ends, enough_by, wanted_of}
 use Rattle.hum_context.specs.Queue.{Known, column_in, is_last_in, heard_token}
-use Rattle.hum_context.specs.Walking.{Has, Stands, Halts, AllStand, collected, bytes_of}
+use Rattle.hum_context.specs.Walking.{Has, Halts, collected, bytes_of}
 use Rattle.hum_context.proofs.Growth.{chain_step, chain_push, column_push, ended_none, taken_next}
 use Rattle.hum_context.proofs.Growth.{taken_stays, is_enough_by}
 use Rattle.hum_context.proofs.Tokens.{taken_is}

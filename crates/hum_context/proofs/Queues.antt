@@ -1,27 +1,26 @@
 -- Records that wait, one by one.
-use Rattle.std.proofs.Common.{◌≡◌, ◌∙◌, ◌≢◌, refl, sym, ap, ℕ, zero, suc, ◌+◌, ◌-◌, ◌≤◌, ◌<◌, Bool}
+use Rattle.std.proofs.Common.{◌≡◌, ◌∙◌, ◌≢◌, refl, sym, ap, ℕ, zero, suc, ◌+◌, ◌≤◌, ◌<◌, Bool}
 use Rattle.std.proofs.Common.{true, false, ◌||◌, List, [], ◌∷◌, ◌++◌, length, filter, drop, get_or}
-use Rattle.std.proofs.Common.{append_assoc, length-append, arith, cond, Option, Some, None, inl, inr, ◌⊎◌}
-use Rattle.std.specs.List.{list_any, position}
+use Rattle.std.proofs.Common.{append_assoc, length-append, arith, cond, Option, Some, None, inl, inr}
+use Rattle.std.specs.List.{position}
 use Rattle.std.proofs.lemmas.List.{length-drop}
 use Rattle.hum_record.specs.declared.Kind.TheVariants.{Interpretation as AnyInterpretation}
 use Rattle.hum_record.specs.declared.Kind.TheVariants.{Values as AnyValues}
 use Rattle.hum_record.specs.declared.SpinedKind.TheVariants.{Local, Interpretation, Values}
-use Rattle.hum_record.specs.Row.{Row, Comment, Spined, kind_of, text_of, token_at}
+use Rattle.hum_record.specs.Row.{Row, Comment, Spined, kind_of, text_of}
 use Rattle.hum_record.specs.Spelling.{IsTextOf}
 use Rattle.hum_path.specs.declared.moved.Move.{Move}
 use Rattle.hum_path.specs.Spines.{Path, after, moves}
 use Rattle.hum_path.specs.Chains.{goes_on}
-use Rattle.hum_context.specs.declared.hearing.Heard.{Heard}
 use Rattle.hum_context.specs.declared.hearing.Heard.TheVariants.{Passed, Taken}
 use Rattle.hum_context.specs.declared.queued.Queued.{Queued}
 use Rattle.hum_context.specs.declared.walk.Walk.{Walk}
 use Rattle.hum_context.specs.Context.{Choice, is_collectable, is_last, begins}
-use Rattle.hum_context.specs.Cells.{column_below, path_through, under}
-use Rattle.hum_context.specs.Heard.{heard_of, heard_under, ends, wanted_of}
+use Rattle.hum_context.specs.Cells.{path_through}
+use Rattle.hum_context.specs.Heard.{heard_under, ends}
 use Rattle.hum_context.specs.Memory.{knows_each}
 use Rattle.hum_context.specs.Queue.{Known, Knows, column_in, is_last_in, place_in, heard_token}
-use Rattle.hum_context.specs.Walking.{Has, Stands, Halts}
+use Rattle.hum_context.specs.Walking.{Has, Stands}
 use Rattle.hum_context.proofs.Tokens.{all_at, no_data, no_data_last, no_star_data, bang_no_data}
 use Rattle.hum_context.proofs.Tokens.{bang_no_last, LawfulAt}
 

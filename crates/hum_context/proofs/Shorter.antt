@@ -1,8 +1,8 @@
 -- A walk from a cell is a walk from the cell below.
-use Rattle.std.proofs.Common.{◌≡◌, ◌∙◌, refl, sym, ap, ℕ, zero, suc, ◌+◌, ◌-◌, ◌≤◌, ◌<◌, Bool, true, false, ◌||◌}
-use Rattle.std.proofs.Common.{List, [], ◌∷◌, ◌++◌, length, filter, take, append-nil, arith, cond, get_or}
+use Rattle.std.proofs.Common.{◌≡◌, ◌∙◌, refl, sym, ap, ℕ, suc, ◌+◌, ◌<◌, Bool, true, false, ◌||◌}
+use Rattle.std.proofs.Common.{List, [], ◌∷◌, ◌++◌, length, filter, take, arith, cond, get_or}
 use Rattle.std.proofs.Common.{Option, Some, None, inl, inr, ◌⊎◌}
-use Rattle.std.specs.Prelude.{nat_le, slice_get}
+use Rattle.std.specs.Prelude.{nat_le}
 use Rattle.std.specs.Option.{option_and_then, option_map}
 use Rattle.std.specs.List.{list_any}
 use Rattle.std.proofs.lemmas.Bool.Decides.{nat_tests}
@@ -17,12 +17,12 @@ use Rattle.hum_context.specs.declared.queued.Queued.{Queued}
 use Rattle.hum_context.specs.declared.walk.Walk.{Walk}
 use Rattle.hum_context.specs.Context.{Choice, Extent, First, Between, is_collectable, is_last, taken}
 use Rattle.hum_context.specs.Context.{chain, through}
-use Rattle.hum_context.specs.Cells.{column_below, column_after, path_through, under}
-use Rattle.hum_context.specs.Heard.{heard_of, heard_under, ends, wanted_of}
+use Rattle.hum_context.specs.Cells.{column_below, column_after, under}
+use Rattle.hum_context.specs.Heard.{heard_under, ends, wanted_of}
 use Rattle.hum_context.specs.Queue.{IsStill, Known, column_in, heard_token}
 use Rattle.hum_context.specs.Walking.{AllStand, Has, IsWithout, Shortens, Stands, collected, bytes_of}
 use Rattle.hum_context.proofs.Growth.{chain_push}
-use Rattle.hum_context.proofs.Passing.{bytes_append, chain_more, chain_on, open_end, heard_data}
+use Rattle.hum_context.proofs.Passing.{chain_more, chain_on, open_end, heard_data}
 use Rattle.hum_context.proofs.Tokens.{taken_is}
 
 -- the chain of a cell, by that of the cell below

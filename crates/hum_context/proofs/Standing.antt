@@ -1,6 +1,6 @@
 -- Walks from the first record that waits.
-use Rattle.std.proofs.Common.{◌≡◌, ◌∙◌, refl, sym, ap, ℕ, zero, suc, ◌+◌, ◌<◌, ◌≤◌, List, [], ◌∷◌, ◌++◌, length, set, get_or}
-use Rattle.std.proofs.Common.{Option, Some, None, arith, inl, inr, ◌⊎◌}
+use Rattle.std.proofs.Common.{◌≡◌, refl, sym, ap, ℕ, zero, suc, ◌<◌, List, [], ◌∷◌, ◌++◌, length, set, get_or}
+use Rattle.std.proofs.Common.{Some, arith, inl, inr, ◌⊎◌}
 use Rattle.std.specs.Prelude.{slice_get}
 use Rattle.hum_record.specs.Row.{Row}
 use Rattle.hum_path.specs.Spines.{Path}

@@ -1,8 +1,8 @@
 -- New tokens of a record, one by one.
-use Rattle.std.proofs.Common.{◌≡◌, ◌∙◌, ◌≢◌, refl, sym, ap, ℕ, zero, suc, ◌+◌, ◌<◌, ◌≤◌, Bool, true, false, not}
+use Rattle.std.proofs.Common.{◌≡◌, ◌∙◌, refl, sym, ap, ℕ, suc, ◌+◌, ◌<◌, ◌≤◌, Bool, true, false}
 use Rattle.std.proofs.Common.{List, [], ◌∷◌, ◌++◌, length, drop, get_or, append_assoc, append-nil}
-use Rattle.std.proofs.Common.{length-append, arith, add-one, drop-cons, cond, Option, Some, None, inl, inr, ◌⊎◌}
-use Rattle.std.specs.Prelude.{nat_le, nat_lt, Result, Ok, Err}
+use Rattle.std.proofs.Common.{length-append, arith, add-one, drop-cons, Option, Some, None, inl, inr}
+use Rattle.std.specs.Prelude.{nat_le, Ok, Err}
 use Rattle.std.specs.Option.{option_map}
 use Rattle.std.specs.List.{join_with_byte}
 use Rattle.std.proofs.lemmas.Bool.Decides.{nat_tests}
@@ -10,23 +10,22 @@ use Rattle.std.proofs.lemmas.List.{drop_all}
 use lib.Chars.{codes}
 use Rattle.hum_record.specs.declared.Kind.TheVariants.{Values as AnyValues}
 use Rattle.hum_record.specs.declared.SpinedKind.TheVariants.{Local, Interpretation, Values}
-use Rattle.hum_record.specs.Row.{Row, Comment, Spined, kind_of, text_of, token_at, tokens_of}
+use Rattle.hum_record.specs.Row.{Row, Comment, Spined, kind_of, text_of, tokens_of}
 use Rattle.hum_path.specs.Spines.{Path}
 use Rattle.hum_path.specs.Score.{path_after}
-use Rattle.hum_stage.specs.declared.faults.Rule.{Rule}
 use Rattle.hum_stage.specs.declared.faults.Rule.TheVariants.{L1}
 use Rattle.hum_context.specs.declared.front.Becoming.{Becoming}
 use Rattle.hum_context.specs.declared.front.Becoming.TheVariants.{Undecided, Stays, Null, Collects}
 use Rattle.hum_context.specs.declared.hearing.Heard.TheVariants.{Passed, Taken}
 use Rattle.hum_context.specs.declared.queued.Queued.{Queued}
 use Rattle.hum_context.specs.Context.{Choice, all_some, push_front, chain, new_token, new_tokens}
-use Rattle.hum_context.specs.Context.{is_collectable, begins, if_fits, data_of, context, taken}
-use Rattle.hum_context.specs.Heard.{heard_of, heard_under}
+use Rattle.hum_context.specs.Context.{if_fits, context}
+use Rattle.hum_context.specs.Heard.{heard_of}
 use Rattle.hum_context.specs.Queue.{Known, Knows}
-use Rattle.hum_context.specs.Walking.{Becomes, Counts, IsFew, Writes, bytes_by, bytes_of, collected}
+use Rattle.hum_context.specs.Walking.{Becomes, Counts, IsFew, bytes_by, bytes_of}
 use Rattle.hum_context.proofs.Tokens.{passed_none, taken_is}
 use Rattle.hum_context.proofs.Passing.{bytes_append}
-use Rattle.hum_context.proofs.Queues.{At, knows_at, drop_get, drop_below}
+use Rattle.hum_context.proofs.Queues.{knows_at, drop_get, drop_below}
 
 -- these are the new tokens of the columns before place j
 pub record Sofar (o : Choice) (path : Path) (row : Row) (rows : List Row) (tokens : List (List ℕ))

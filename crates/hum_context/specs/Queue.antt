@@ -4,7 +4,7 @@ use Rattle.std.specs.Prelude.{if◌then◌else◌, slice_index_or, Option, Some,
 use Rattle.std.specs.List.{list_any}
 use Rattle.hum_record.specs.declared.Kind.TheVariants.{Values as AnyValues}
 use Rattle.hum_record.specs.declared.SpinedKind.TheVariants.{Interpretation}
-use Rattle.hum_record.specs.Row.{Row, Comment, Spined, kind_of, text_of, token_at}
+use Rattle.hum_record.specs.Row.{Row, Spined, kind_of, text_of, token_at}
 use Rattle.hum_path.specs.Spines.{Path, after}
 use Rattle.hum_context.specs.declared.below.Below.{Below}
 use Rattle.hum_context.specs.declared.below.Below.TheVariants.{Same, Listed}

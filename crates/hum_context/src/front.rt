@@ -7,7 +7,7 @@ ghost use Rattle.hum_record.specs.Row.{Row, Spined, token_at};
 ghost use Rattle.hum_record.specs.Spelling.{IsToken};
 ghost use Rattle.hum_path.specs.Spines.{Path};
 ghost use Rattle.hum_context.specs.Context.{Choice, all_some, begins, chain, is_collectable, taken, new_tokens};
-ghost use Rattle.hum_context.specs.Heard.{wanted_of};
+ghost use Rattle.hum_context.specs.Heard.{begins_in, wanted_of};
 ghost use Rattle.hum_context.specs.Queue.{Known, Knows};
 ghost use Rattle.hum_context.specs.declared.hearing.Heard.TheVariants.{Passed};
 ghost use Rattle.hum_context.specs.Walking.{AllStand, Stands, Halts, Becomes, IsFew, Weighs, Counts, collected};
@@ -334,11 +334,11 @@ pub(crate) fn write(
     Ok(builder.finish())
 }
 
-/// Whether others are collected from a token of the first record that waits.
-fn begins_at(held: &VecDeque<Queued>, j: usize) -> bool
-    requires { 0 < length held.now.items }
+/// Whether others are collected from a token.
+fn begins_others(heard: Heard) -> bool
+    ensures { result ≡ begins_in heard }
 {
-    match held[0].heard(j) {
+    match heard {
         Heard::Passed => false,
         Heard::Taken { begins, ends: _ } => begins,
     }
@@ -374,7 +374,7 @@ fn advance_at(
         → wanted ≡ wanted_of o.extent → taken o.extent [] ≡ None → Knows o path held.now.items rows
         → AllStand o path gone rows walks.old.items → AllStand o path gone rows walks.new.items }
 {
-    if !begins_at(held, j) {
+    if !begins_others(held[0].heard(j)) {
         return true;
     }
     let walk = walk_at(held, 0, gone, walks, j, wanted);

@@ -61,7 +61,8 @@ fn behind(walk: Walk, kept: &Queued, j: usize, wanted: Option<u16>) -> Walk
     }
 }
 
-/// Keeps a walk at its place; those that aren't known stand nowhere.
+/// Keeps a walk at its place, unless one is there that has come as far; those that aren't known stand
+/// nowhere.
 fn place(walks: &mut Vec<Walk>, i: usize, walk: Walk) -> Result<(), AllocError>
     ensures { OnOk result ((o : Choice) (path : Path) (first : ℕ) (rows : List Row)
         → AllStand o path first rows walks.old.items
@@ -73,7 +74,10 @@ fn place(walks: &mut Vec<Walk>, i: usize, walk: Walk) -> Result<(), AllocError>
     }
     if walks.len() == i {
         walks.push(walk)?;
-    } else {
+        return Ok(());
+    }
+    let other = walks[i];
+    if other.at < walk.at {
         walks[i] = walk;
     }
     Ok(())

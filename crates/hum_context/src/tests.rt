@@ -94,3 +94,45 @@ fn gives_a_context_once_it_is_decided(rt: HostRuntime) -> Result<(), Fail> {
     assert_eq!(rt; stage.held(), 3);
     Ok(())
 }
+
+// From a token that begins a group through the one that ends it.
+fn groups(alloc: Global) -> Result<ContextOptions, Fail> {
+    Ok(ContextOptions {
+        span: Span::Phrase(Pattern::new(alloc, r"\{")?, Pattern::new(alloc, r"\}")?),
+        omit: None,
+    })
+}
+
+#[test]
+fn follows_a_group_through_a_split_an_exchange_and_a_join(rt: HostRuntime) -> Result<(), Fail> {
+    let alloc = rt.alloc();
+    let mut paths = Paths::new(alloc);
+    let mut stage = Context::new(alloc, 1, groups(alloc)?);
+    let row = read(&rt, alloc, b"**x\t**x")?;
+    put(&rt, &mut paths, &mut stage, 0, row)?;
+    assert_eq!(rt; take(&rt, &mut stage, &paths, 1)?.width(), 2);
+    let row = read(&rt, alloc, b"{a\tb")?;
+    put(&rt, &mut paths, &mut stage, 1, row)?;
+    let row = read(&rt, alloc, b"*^\t*")?;
+    put(&rt, &mut paths, &mut stage, 2, row)?;
+    let row = read(&rt, alloc, b"c\t{d\te")?;
+    put(&rt, &mut paths, &mut stage, 3, row)?;
+    let row = read(&rt, alloc, b"*x\t*x\t*")?;
+    put(&rt, &mut paths, &mut stage, 4, row)?;
+    let row = read(&rt, alloc, b"f\tg\th")?;
+    put(&rt, &mut paths, &mut stage, 5, row)?;
+    let row = read(&rt, alloc, b"*v\t*v\t*")?;
+    put(&rt, &mut paths, &mut stage, 6, row)?;
+    assert_eq!(rt; stage.held(), 6);
+    let row = read(&rt, alloc, b"i}\tj")?;
+    put(&rt, &mut paths, &mut stage, 7, row)?;
+    let given = take(&rt, &mut stage, &paths, 8)?;
+    assert_eq!(rt; given.text(), b"{a c g i}\t.".as_slice());
+    assert_eq!(rt; take(&rt, &mut stage, &paths, 8)?.width(), 2);
+    let given = take(&rt, &mut stage, &paths, 8)?;
+    assert_eq!(rt; given.text(), b".\t{d f i}\t.".as_slice());
+    assert_eq!(rt; take(&rt, &mut stage, &paths, 8)?.width(), 3);
+    let given = take(&rt, &mut stage, &paths, 8)?;
+    assert_eq!(rt; given.text(), b".\t.\t.".as_slice());
+    Ok(())
+}

@@ -1,4 +1,4 @@
-use Rattle.std.proofs.Common.{◌≡◌, ◌∙◌, ◌+◌, ◌-◌, ◌<◌, ℕ, Bool, arith, length, drop, get_or, cond, Option}
+use Rattle.std.proofs.Common.{◌≡◌, ◌∙◌, ◌+◌, ◌-◌, ◌<◌, ℕ, arith, length, drop, get_or, cond, Option}
 use Rattle.std.proofs.Common.{Some, None, ap, sym}
 use Rattle.std.specs.List.{position_from}
 use Rattle.hum_path.specs.declared.moved.Move.TheVariants.{Same}

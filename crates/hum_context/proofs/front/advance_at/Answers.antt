@@ -1,5 +1,4 @@
 use Rattle.std.proofs.Common.{◌≡◌, ◌+◌, arith}
-use Rattle.hum_record.specs.Row.{Row}
 use Rattle.hum_context.proofs.Standing.{stand_set}
 use Rattle.hum_context.proofs.front.advance_at.Goals as goal
 

@@ -1,4 +1,3 @@
-use Rattle.std.proofs.Common.{◌∙◌}
 use Rattle.hum_context.proofs.Passing.{new_enough, new_by}
 use Rattle.hum_context.proofs.front.becoming_by.Goals as goal
 

@@ -4,7 +4,7 @@ use Rattle.hum_record.specs.Row.{Row, Spined, token_at, tokens_of}
 use Rattle.hum_context.specs.Context.{chain}
 use Rattle.hum_context.specs.Walking.{bytes_of}
 use Rattle.hum_context.proofs.Weighing.{bytes_some, bytes_none, sofar_more, sofar_stops, counts_more}
-use Rattle.hum_context.proofs.Weighing.{kept_at, sofar_all, counts_long, counts_fit}
+use Rattle.hum_context.proofs.Weighing.{kept_at}
 use Rattle.hum_context.proofs.front.weigh.Goals as goal
 
 pub loop-j-preserved : goal.loop-j-preserved

@@ -1,7 +1,7 @@
-use Rattle.std.proofs.Common.{◌≡◌, ◌∙◌, sym, ap, arith, length, ◌∷◌, [], ◌++◌, ◌+◌}
+use Rattle.std.proofs.Common.{◌≡◌, ap, arith, length, ◌+◌}
 use Rattle.hum_record.specs.declared.SpinedKind.TheVariants.{Values}
 use Rattle.hum_record.specs.Row.{Row, Spined, tokens_of}
-use Rattle.hum_context.proofs.Weighing.{kept_at, sofar_more, sofar_all}
+use Rattle.hum_context.proofs.Weighing.{kept_at, sofar_more}
 use Rattle.hum_context.proofs.front.write.Goals as goal
 
 pub loop-j-preserved : goal.loop-j-preserved

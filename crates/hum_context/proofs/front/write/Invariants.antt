@@ -1,4 +1,4 @@
-use Rattle.std.proofs.Common.{◌≡◌, ◌+◌, ℕ, List, [], ◌∷◌, length, false, None}
+use Rattle.std.proofs.Common.{◌≡◌, ℕ, List, [], ◌∷◌, length, false, None}
 use Rattle.hum_record.specs.declared.SpinedKind.TheVariants.{Values}
 use Rattle.hum_record.specs.Row.{Row, Spined}
 use Rattle.hum_path.specs.Spines.{Path}

@@ -16,8 +16,8 @@ loop-preserved c =
           (λ beyond. absurd (omega (arith, none, beyond))) items;
     }
 
-pub returns-in_ok-push-2 : goal.returns-in_ok-push-2
-returns-in_ok-push-2 c o path first rows h s =
+pub returns-then-len-i : goal.returns-then-len-i
+returns-then-len-i c o path first rows h s =
     let size = c.loop.walks.ok.0 in
     let len = c.len.ensures in
     let here = c.if-len-i.true in
@@ -26,7 +26,7 @@ returns-in_ok-push-2 c o path first rows h s =
     (c.loop.invariant.stand o path first rows h)
     (subst (λ (m : ℕ). first < c.args.walk.at → Stands o path first rows m c.args.walk) same s) c.in_ok-push-2.ensures.items
 
-pub returns-else-len-i : goal.returns-else-len-i
-returns-else-len-i c o path first rows h s =
+pub returns-then-other-walk : goal.returns-then-other-walk
+returns-then-other-walk c o path first rows h s =
     stand_in o path first rows c.loop.walks.items c.args.i c.args.walk
     (c.loop.invariant.stand o path first rows h) s

@@ -1,4 +1,4 @@
-use Rattle.std.proofs.Common.{◌≡◌, ◌∙◌, sym, ap, inr}
+use Rattle.std.proofs.Common.{ap, inr}
 use Rattle.hum_path.specs.Spines.{Tracked}
 use Rattle.hum_context.proofs.Feeding.{may_put, fed_put}
 use Rattle.hum_context.proofs.tests.put.Goals as goal

@@ -1,4 +1,3 @@
-use Rattle.std.proofs.Common.{◌∙◌, sym}
 use Rattle.hum_context.specs.Options.{choice_of}
 use Rattle.hum_context.proofs.Shorter.{still_stand}
 use Rattle.hum_context.proofs.memory.Collecting.pass_on.Goals as goal

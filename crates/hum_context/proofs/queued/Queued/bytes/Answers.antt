@@ -1,4 +1,3 @@
-use Rattle.std.proofs.Common.{arith}
 use Rattle.hum_context.proofs.Tokens.{token_short}
 use Rattle.hum_context.proofs.queued.Queued.bytes.Goals as goal
 

@@ -1,4 +1,4 @@
-use Rattle.std.proofs.Common.{arith, inl, inr}
+use Rattle.std.proofs.Common.{arith, inr}
 use Rattle.hum_context.proofs.Queues.{stands_pass, stands_out}
 use Rattle.hum_context.proofs.walk.Walk.go_on.Goals as goal
 
