@@ -20,6 +20,3 @@ pub use notes::told_once;
 pub use pitches::{interval_leads, intervals_add_up};
 pub use rid::{rid_by_letters, rid_twice};
 pub use trans::{semits_shifted, there_and_back, transpositions_add_up};
-
-#[cfg(test)]
-mod tests;
