@@ -33,4 +33,5 @@ returns-in-Err-clause-marked g c =
 
 pub returns-in-Err-readers-clause-marked : goal.returns-in-Err-readers-clause-marked
 returns-in-Err-readers-clause-marked g c =
-    unmarked _ _ (lack_writes_none _ _ _ c.in-Err-readers.ensures.lacks)
+    unmarked _ _ (lack_writes_none (λ (name : List ℕ). score_of name c.args.bundle.now)
+    (stages_of c.deref.result.now) _ c.in-Err-readers.ensures.lacks)
