@@ -1,0 +1,2 @@
+-- What is said of the program.
+pub mod Endings
