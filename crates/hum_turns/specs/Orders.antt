@@ -1,5 +1,6 @@
 -- Orders: who has the next turn, by a rule that sees which actors are ready and may remember.
-use Rattle.std.specs.Prelude.{◌≡◌, ℕ, zero, suc, ◌+◌, ◌≤◌, ◌<◌, Bool, true, false, ◌||◌, List, []}
+use Rattle.std.specs.Prelude.{◌≡◌, ℕ, zero, suc, ◌+◌, ◌≤◌, ◌<◌}
+use Rattle.std.specs.Prelude.{Bool, true, false, ◌||◌, List, []}
 use Rattle.std.specs.Prelude.{◌∷◌, ◌++◌, map, get_or, None, if◌then◌else◌}
 use Rattle.hum_turns.specs.Plan.{Plan, IsPlan}
 use Rattle.hum_turns.specs.Failures.{Now, result, is_ready, SameNow, Turn, IsFirst, HoldsNow}
