@@ -8,36 +8,50 @@
 #   make docs       runs what the README and docs/ print, with the program
 #   make lint       the man page, the scripts and the grammar, as far as there are programs that read them
 #
-# The first build proves every crate, as many side by side as there are processors, and tells how far it is.
-# Later ones prove what has changed.
+# The first build proves every crate, JOBS of them side by side, and tells each one that is proved. Later ones prove
+# what has changed. What the prover says of each function is in crates/humpipe/out/log.
 
 PREFIX ?= /usr/local
 JOBS ?= $(shell nproc)
-MAKEFLAGS += -j$(JOBS)
 
-CRATES := $(filter-out humpipe,$(shell sed -n 's/^\([a-z_0-9]*\):.*/\1/p' crates.txt))
-stamp = crates/$(1)/out/proved
-needs = $(filter $(CRATES),$(shell sed -n 's/^$(1)://p' crates.txt))
-files = $(shell find crates/$(1) -name out -prune -o -name must-fail -prune -o -type f -print)
+log = crates/humpipe/out/log
+crates = $(shell grep -c '^[a-z]' crates.txt)
+files = $(shell find crates -name out -prune -o -name must-fail -prune -o -type f -print)
 
 .PHONY: all demo test bench docs lint install clean
 
 all: humpipe
 
-# A crate is proved once those below it are.
-define library
-$(call stamp,$(1)): $(call files,$(1)) $(foreach crate,$(call needs,$(1)),$(call stamp,$(crate)))
-	@mkdir -p crates/$(1)/out
-	@cd crates/$(1) && rt lib >out/log 2>&1 || { cat out/log; exit 1; }
-	@touch $$@
-	@echo "$$$$(ls crates/*/out/proved | wc -l) of $(words $(CRATES)) crates proved: $(1)"
+# Reads the log as it grows: tells each crate that is proved, and ends with the status that the last line bears.
+# All lines of a crate stand behind its name, and there are none where it was proved before.
+define progress
+proved=0; last=; \
+tell() { proved=$$((proved + 1)); echo "$$proved of $(crates) crates proved: $$1"; }; \
+while IFS= read -r line; do \
+	case "$$last|$$line" in '== '*'|== '*) tell "$${last#== }" ;; esac; \
+	case "$$line" in \
+	'== ended '*) exit "$${line##* }" ;; \
+	'== '*) crate=$${line#== } ;; \
+	logic=proved*) tell "$$crate" ;; \
+	'rt: waiting '*) echo "$$line" ;; \
+	esac; \
+	last=$$line; \
+done; \
+exit 1
 endef
-$(foreach crate,$(CRATES),$(eval $(call library,$(crate))))
 
-humpipe: crates.txt $(call files,humpipe) $(foreach crate,$(CRATES),$(call stamp,$(crate)))
-	@echo "proving and building humpipe"
-	@cd crates/humpipe && rt run <stdin >out.log 2>&1 || { cat out.log; exit 1; }
-	@mv crates/humpipe/out/humpipe humpipe && rm crates/humpipe/out.log
+# What the log says of a build that failed.
+define failure
+grep -v '^== \|^statements \|^library \|^logic\|^crate \|^checked \|^axioms \|^so far\|^by-macro\|note: \|: proved$$\|: ok$$' \
+	$(log) | tail -n 40; \
+echo "not built: the whole log is $(log)"
+endef
+
+humpipe: crates.txt $(files)
+	@mkdir -p $(dir $(log))
+	@{ rt all check --jobs $(JOBS) 2>&1; echo "== ended $$?"; } | tee $(log) | { $(progress); } || { $(failure); exit 1; }
+	@cd crates/humpipe && rt run <stdin >out/run.log 2>&1 || { cat out/run.log; exit 1; }
+	@cp -f crates/humpipe/out/humpipe humpipe
 
 demo: humpipe
 	@echo '$$ cat examples/no_comments.hpl'

@@ -1,9 +1,11 @@
 #!/usr/bin/env python3
-"""run.py: user seconds and peak memory of ./humpipe beside other programs, on the same scores in the same run.
+"""run.py [WORD ..]: user seconds, elapsed seconds and peak memory of ./humpipe beside other programs, on the same scores in the
+same run. With words, only what has one of them in its title.
 
-The scores are made once, in bench/data. The programs run in turn, five times each, and the least user time of each counts. A
-program that isn't on the machine is left out."""
+The scores are made once, in bench/data. The programs run in turn, five times each, and the least times of each count. A program
+that isn't on the machine is left out. Of a shell's pipe the times and the memory of all its processes are added up."""
 import os
+import shlex
 import shutil
 import subprocess
 import sys
@@ -12,53 +14,99 @@ import time
 HERE = os.path.dirname(os.path.abspath(__file__))
 TOP = os.path.dirname(HERE)
 DATA = os.path.join(HERE, 'data')
+ROUNDS = 5
+SIZES = [int(size) for size in os.environ.get('BENCH_MEGABYTES', '10 100').split()]
+
 # the columns as they stand in each line; nothing is followed
 EXTRACT = 'BEGIN { FS = OFS = "\\t" } /^!!/ { print; next } { print $1, $3 }'
 DITTO = ('BEGIN { FS = OFS = "\\t" } /^[!*]/ { print; next } '
          '{ for (i = 1; i <= NF; i++) if ($i == ".") $i = (i in last) ? last[i] : "."; else last[i] = $i; print }')
-ROUNDS = 5
-SIZES = [int(size) for size in os.environ.get('BENCH_MEGABYTES', '10 100').split()]
+
+# five commands in a row, each with a program in awk
+CHAIN = [('rid -G', ['!/^!!/']), ('extract -f 1,3', [EXTRACT]), ('ditto', [DITTO]),
+         ('semits -x', ['-f', os.path.join(HERE, 'semits.awk')]), ('rid -L', ['!/^![^!]/'])]
+
+
+def processes(pid):
+    """A process and those that it started."""
+    try:
+        with open(f'/proc/{pid}/task/{pid}/children') as children:
+            return [pid] + [found for child in children.read().split() for found in processes(int(child))]
+    except (FileNotFoundError, ProcessLookupError):
+        return [pid]
 
 
 def peak_of(pid):
-    """The peak memory of a running program in KiB, or 0 once it has ended."""
-    try:
-        with open(f'/proc/{pid}/status') as status:
-            for line in status:
-                if line.startswith('VmHWM:'):
-                    return int(line.split()[1])
-    except (FileNotFoundError, ProcessLookupError):
-        pass
-    return 0
+    """The peak memory of a running program and of those that it started in KiB, or 0 once it has ended."""
+    peak = 0
+    for process in processes(pid):
+        try:
+            with open(f'/proc/{process}/status') as status:
+                peak += sum(int(line.split()[1]) for line in status if line.startswith('VmHWM:'))
+        except (FileNotFoundError, ProcessLookupError):
+            pass
+    return peak
 
 
 def measured(words):
-    """The user seconds of one run, and the peak memory in MiB. The output goes to a file."""
+    """The user seconds and the elapsed seconds of one run, and the peak memory in MiB. The output goes to a file."""
     peak = 0
     with open(os.path.join(DATA, 'out'), 'wb') as out:
+        begin = time.monotonic()
         program = subprocess.Popen(words, stdout=out)
-        time.sleep(0.02)
+        time.sleep(0.005)
         while True:
+            peak = max(peak, peak_of(program.pid))
             pid, status, usage = os.wait4(program.pid, os.WNOHANG)
             if pid:
                 break
-            peak = max(peak, peak_of(program.pid))
             time.sleep(0.005)
+        elapsed = time.monotonic() - begin
         program.returncode = os.waitstatus_to_exitcode(status)
     if program.returncode != 0:
         sys.exit(f'{words[0]} ended with status {program.returncode}')
-    return usage.ru_utime, peak / 1024
+    return usage.ru_utime, elapsed, peak / 1024
 
 
 def best_of(programs):
-    """For each program the least user seconds of its runs, and its greatest peak. They run in turn, so that what else the
-    machine does meets all of them."""
-    runs = [(float('inf'), 0)] * len(programs)
+    """For each program the least user and elapsed seconds of its runs, and its greatest peak. They run in turn, so that what else
+    the machine does meets all of them."""
+    runs = [(float('inf'), float('inf'), 0)] * len(programs)
     for _ in range(ROUNDS):
         for i, (_name, words) in enumerate(programs):
-            seconds, peak = measured(words)
-            runs[i] = (min(runs[i][0], seconds), max(runs[i][1], peak))
+            user, elapsed, peak = measured(words)
+            runs[i] = (min(runs[i][0], user), min(runs[i][1], elapsed), max(runs[i][2], peak))
     return runs
+
+
+def show(title, programs):
+    """The figures of programs, each by its name and its words; the first is set against the others."""
+    if sys.argv[1:] and not any(word in title for word in sys.argv[1:]):
+        return
+    there = [(name, words) for name, words in programs if shutil.which(words[0])]
+    print(title)
+    runs = best_of(there)
+    for (name, _words), (user, elapsed, peak) in zip(there, runs):
+        ratio = f'  {there[0][0]} takes {runs[0][0] / user:.2f} times as long' if user > 0 and name != there[0][0] else ''
+        print(f'  {name:24} {user:6.2f} s user {elapsed:6.2f} s elapsed {peak:6.1f} MiB{ratio}', flush=True)
+
+
+def plan(name, text, *options):
+    """The words that run a plan, which is put into a file of this name."""
+    path = os.path.join(DATA, name + '.hpl')
+    with open(path, 'w') as out:
+        out.write(text + '\n')
+    return ['./humpipe', *options, path]
+
+
+def pipe(*commands):
+    """The words that run commands in a shell's pipe."""
+    return ['bash', '-c', ' | '.join(shlex.join(command) for command in commands)]
+
+
+def awk(name, score):
+    """The program in awk of this name beside this one, with its words for a score."""
+    return ('mawk', ['mawk', '-f', os.path.join(HERE, name + '.awk'), score])
 
 
 def rust(name, score):
@@ -78,11 +126,13 @@ def tasks(score, steady):
         ('rid -G', score, [('grep -v', ['grep', '-v', '^!!', score]), ('mawk', ['mawk', '!/^!!/', score])] + rust('filter', score)),
         ('extract -f 1,3', score, [('cut', ['cut', '-f', '1,3', score]), ('mawk', ['mawk', EXTRACT, score])]),
         ('ditto', score, [('mawk', ['mawk', DITTO, score])]),
-        ('semits -x', score, [('mawk', ['mawk', '-f', os.path.join(HERE, 'semits.awk'), score])]
-         + rust('semits', score) + rust('semits_bytes', score)),
+        ('semits -x', score, [awk('semits', score)] + rust('semits', score) + rust('semits_bytes', score)),
+        ('trans -d 1 -c 2', score, [awk('trans', score)]),
+        ('recip', score, [awk('recip', score)]),
+        ('mint', score, [awk('mint', score)]),
         ("cleave -i '**kern' -o '**chord'", score, rust('cleave', score)),
         ("context -n 3 -o '^='", score, rust('context', score)),
-        ("yank -n '^=' -r 100-$", score, [('mawk', ['mawk', '-f', os.path.join(HERE, 'yank.awk'), score])]),
+        ("yank -n '^=' -r 100-$", score, [awk('yank', score)]),
         ('timebase -t 16', steady, rust('timebase', steady)),
     ]
 
@@ -94,17 +144,56 @@ def made_score(size, *kind):
     return score
 
 
-def run(size):
+def commands(size):
+    """Each command alone."""
     for command, score, peers in tasks(made_score(size), made_score(size, 'steady')):
-        plan = os.path.join(DATA, 'plan.hpl')
-        with open(plan, 'w') as out:
-            out.write(f'out: read {score} | {command}\n')
-        programs = [('humpipe', ['./humpipe', plan])] + [peer for peer in peers if shutil.which(peer[1][0])]
-        print(f'{size} MB, {command}')
-        runs = best_of(programs)
-        for (name, _words), (seconds, peak) in zip(programs, runs):
-            ratio = f'  humpipe takes {runs[0][0] / seconds:.2f} times as long' if seconds > 0 and name != 'humpipe' else ''
-            print(f'  {name:22} {seconds:6.2f} s  {peak:6.1f} MiB{ratio}')
+        show(f'{size} MB, {command}', [('humpipe', plan('plan', f'out: read {score} | {command}'))] + peers)
+
+
+def chain(size):
+    """Five commands in one plan, beside five processes in a pipe."""
+    score = made_score(size)
+    whole = f'out: read {score} | ' + ' | '.join(command for command, _program in CHAIN)
+    steps = [plan(f'step{k}', f'out: read {"/dev/stdin" if k else score} | {command}')
+             for k, (command, _program) in enumerate(CHAIN)]
+    programs = [['mawk', *program] for _command, program in CHAIN]
+    programs[0].append(score)
+    show(f'{size} MB, five commands in a chain', [
+        ('humpipe', plan('chain', whole)),
+        ('humpipe --link 1', plan('chain', whole, '--link', '1')),
+        ('humpipe --link 4096', plan('chain', whole, '--link', '4096')),
+        ('five humpipe in a pipe', pipe(*steps)),
+        ('five mawk in a pipe', pipe(*programs)),
+    ])
+
+
+def tree(size):
+    """A column of each of four scores, side by side."""
+    score = made_score(size)
+    branches = [f'{name}: read {score} | extract -f {k}' for k, name in enumerate('abcd', 1)]
+    text = '\n'.join(branches + ['out: assemble a b c d'])
+    cuts = ' '.join(f'<(cut -f {k} {shlex.quote(score)})' for k in range(1, 5))
+    show(f'{size} MB, a tree of four scores', [
+        ('humpipe', plan('tree', text)),
+        ('humpipe --link 1', plan('tree', text, '--link', '1')),
+        ('humpipe --link 4096', plan('tree', text, '--link', '4096')),
+        ('paste of four cut', ['bash', '-c', f'paste {cuts}']),
+    ])
+
+
+def waiting():
+    """Scores of which context holds many records."""
+    for lines in (16_000, 32_000, 65_000):
+        score = os.path.join(DATA, f'open{lines}.krn')
+        with open(score, 'w') as out:
+            out.write('**x\n' + 'a\n' * lines + '*-\n')
+        show(f'{lines} lines of a, context -b a -e b', [('humpipe', plan('plan', f'out: read {score} | context -b a -e b'))])
+    width = 4_000
+    score = os.path.join(DATA, 'wide.krn')
+    with open(score, 'w') as out:
+        row = lambda token: '\t'.join([token] * width) + '\n'
+        out.write(row('**x') + (row('*') + row('a')) * 200 + row('*-'))
+    show(f'200 times * and data of {width} columns, context -n 3', [('humpipe', plan('plan', f'out: read {score} | context -n 3'))])
 
 
 def assembled():
@@ -112,23 +201,25 @@ def assembled():
     test also makes the records that it puts."""
     room = os.path.join('crates', 'hum_assemble')
     binary = os.path.join(room, 'out', 'hum_assemble_tests')
+    title = 'two sources of 1,000,002 records, side by side'
+    if sys.argv[1:] and not any(word in title for word in sys.argv[1:]):
+        return
     if not os.path.exists(binary):
         subprocess.run(['rt', 'test'], cwd=room, check=True, stdout=subprocess.DEVNULL, stderr=subprocess.DEVNULL)
-    records = 1_000_002
     score = os.path.join(DATA, 'million.krn')
     with open(score, 'w') as out:
-        out.write('**x\n' + '4c\n' * (records - 2) + '*-\n')
-    programs = [('hum_assemble', [binary, 'tests::holds_one_record_of_each_source']), ('paste', ['paste', score, score])]
-    print('two sources of a million records, side by side')
-    for (name, _words), (seconds, peak) in zip(programs, best_of(programs)):
-        print(f'  {name:22} {seconds:6.2f} s  {peak:6.1f} MiB  {records / max(seconds, 0.001) / 1e6:.1f} million records a second')
+        out.write('**x\n' + '4c\n' * 1_000_000 + '*-\n')
+    show(title, [('hum_assemble', [binary, 'tests::holds_one_record_of_each_source']), ('paste', ['paste', score, score])])
 
 
 def main():
     os.makedirs(DATA, exist_ok=True)
     os.chdir(TOP)
     for size in SIZES:
-        run(size)
+        commands(size)
+        chain(size)
+        tree(size)
+    waiting()
     assembled()
 
 

@@ -156,7 +156,7 @@ pub named_in : (paths : List Path) → NoneIn paths → list_any is_empty (names
 named_in [] n = refl
 named_in (path ∷ paths) n = any_named (exclusives path) (names_in paths) n.0 (named_in paths n.1)
 
-named_of : (ss : List Source) → NoneIn (paths_of ss) → list_any is_empty (names_of ss) ≡ false
+pub named_of : (ss : List Source) → NoneIn (paths_of ss) → list_any is_empty (names_of ss) ≡ false
 named_of ss n = ap (list_any is_empty) (names_are ss) ∙ named_in (paths_of ss) n
 
 pub alone_leads : (going : Bool) (p : Place) (ss : List Source) → is_over p ≡ false

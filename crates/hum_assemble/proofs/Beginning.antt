@@ -21,7 +21,7 @@ use Rattle.hum_assemble.specs.Merge.{ahead_of, unless_broken, made}
 use Rattle.hum_assemble.specs.Meaning.{all_given, refusal, rest}
 use Rattle.hum_assemble.specs.Taking.{is_at}
 use Rattle.hum_assemble.specs.Groups.{Steps, then_on, rule_at, row_of}
-use Rattle.hum_assemble.proofs.Taking.{empty_over}
+use Rattle.hum_assemble.proofs.Taking.{empty_over, same_rank}
 use Rattle.hum_assemble.proofs.Alone.{paths_of}
 use Rattle.hum_assemble.proofs.Steps.{all_going, all_resting, is_giving, earliest_at}
 use Rattle.hum_assemble.proofs.Written.{Meets, parts_at, Sees, AllSee, merge_of, refused}
@@ -88,9 +88,6 @@ reach st (s ∷ ss) h =
           let l = r.before in
           record { at = r.at; is = r.is; before = omega (arith, b, l) }
     ]) refl h
-
-same_rank : (n m : ℕ) → (n == m) ≡ true → n ≡ m
-same_rank n m h = grind (arith, nat_tests)
 
 -- One source, seen as due.
 by_part : (p : Place) (path : Path) (row : Row) (rows : List Row) (ended : Option end.End)

@@ -1,15 +1,17 @@
--- How many records can still be taken before the next is put.
-use Rattle.std.proofs.Common.{◌≡◌, refl, ap, ℕ, zero, suc, ◌+◌, ◌≤◌, Bool, length, arith}
+-- How many records can still be taken before the next is put, and how many are given in all.
+use Rattle.std.proofs.Common.{◌≡◌, refl, ap, ℕ, zero, suc, ◌+◌, ◌≤◌, Bool, List, length, arith}
 use Rattle.hum_assemble.specs.declared.places.Next as next
 use Rattle.hum_assemble.specs.declared.places.Next.TheVariants.{Gives, Refused, Wants}
 use Rattle.hum_assemble.specs.declared.places.Next.TheVariants.{Over as NothingMore}
 use Rattle.hum_assemble.specs.Merge.{Merge, ahead, given_on}
-use Rattle.hum_assemble.specs.Meaning.{gives, total, all_given, opening, Moment, all_of}
+use Rattle.hum_assemble.specs.Change.{Input}
+use Rattle.hum_assemble.specs.Meaning.{gives, total, all_given, opening, Moment, all_of, output}
 use Rattle.hum_assemble.specs.Meaning.{held_in, held_at}
 use Rattle.hum_assemble.specs.Standing.{Reaches, Standing}
 use Rattle.hum_assemble.proofs.Steps.{is_giving, doing, Going, Resting, gives_going, gives_resting}
 use Rattle.hum_assemble.proofs.Steps.{all_going, all_resting}
 use Rattle.hum_assemble.proofs.Standings.{reached_on}
+use Rattle.hum_assemble.proofs.Calls.{has_room}
 
 few : (n : ℕ) (m : Merge) → length (gives n m) ≤ n
 few zero m = omega arith
@@ -40,3 +42,18 @@ few_more stage kept spent t h =
     let l = reached_length t.given (opening t.inputs) h.at h.reached in
     let f = by_next h.at (ahead h.at) refl in
     rw g (omega (arith, l, f))
+
+-- No more is given than a score may have.
+within : (n : ℕ) (m : Merge) → m.given ≤ 4294967295 → m.given + length (gives n m) ≤ 4294967295
+within zero m h = omega arith
+within (suc n) m h = elim (doing m) [
+  | Going p e ↦
+      let r = has_room m.sources m.given p e in
+      let k = within n (given_on p m) (omega (arith, r)) in
+      rw (gives_going n m p e) (omega (arith, k))
+  | Resting r ↦ rw (gives_resting (suc n) m r) (omega (arith, h))
+]
+
+pub few_in_all : (xs : List Input) → length (output xs) ≤ 4294967295
+few_in_all xs =
+    let k = within (total (opening xs).sources) (opening xs) (omega arith) in omega (arith, k)

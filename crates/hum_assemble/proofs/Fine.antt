@@ -32,9 +32,9 @@ use Rattle.hum_assemble.proofs.Rounds.{none_inside, all_sound, names_spines}
 use Rattle.hum_assemble.proofs.Quiet.{comment_stays, quiet_text, quiet_tandem, some_names}
 use Rattle.hum_assemble.proofs.Quiet.{tandem_tokens, not_going, opening_path}
 use Rattle.hum_assemble.proofs.Sounding.{leads_sound, opening_sound, text_sound, plain_sound, ends_lead}
-use Rattle.hum_assemble.proofs.Alone.{paths_of, NoneIn, OneIn, none_one, none_in, others_out}
-use Rattle.hum_assemble.proofs.Alone.{OthersOut}
-use Rattle.hum_assemble.proofs.Alone.{begins_out, alone_leads, alone_one, names_in, names_are, named_in}
+use Rattle.hum_assemble.proofs.Alone.{paths_of, OneIn, none_one, none_in, others_out}
+use Rattle.hum_assemble.proofs.Alone.{OthersOut, named_of}
+use Rattle.hum_assemble.proofs.Alone.{begins_out, alone_leads, alone_one, names_in, names_are}
 use Rattle.hum_assemble.proofs.Turning.{AllUnopened, all_open, all_close, named_none}
 use Rattle.hum_assemble.proofs.Turning.{exclusive_named}
 
@@ -115,9 +115,6 @@ quiet_paths free going p (s ∷ ss) o q i e =
 
 same_names : (ss ts : List Source) → paths_of ss ≡ paths_of ts → names_of ss ≡ names_of ts
 same_names ss ts h = names_are ss ∙ (ap names_in h ∙ sym (names_are ts))
-
-named_of : (ss : List Source) → NoneIn (paths_of ss) → list_any is_empty (names_of ss) ≡ false
-named_of ss n = ap (list_any is_empty) (names_are ss) ∙ named_in (paths_of ss) n
 
 -- no source without spines has a record elsewhere
 unopened_rank : (row : Row) → (2 ≤ rank (place Unopened row)) × (rank (place Unopened row) ≤ 3)

@@ -16,6 +16,7 @@ pub mod Served
 pub mod Beside
 pub mod Sounding
 pub mod Sides
+pub mod Room
 pub mod Rounds
 pub mod Quiet
 pub mod Alone
@@ -33,3 +34,4 @@ pub mod Grouping
 pub mod Remarks
 pub mod Fronts
 pub mod Few
+pub mod One

@@ -36,7 +36,7 @@ abbrev pub NoneInside : List Source → Type 0
 NoneInside = AllByRecursion (λ s. is_inside s.path ≡ false)
 
 -- the earliest place is before all
-earlier_le : (n : ℕ) (p q : Place) → n ≤ rank (earlier p q) → (n ≤ rank p) × (n ≤ rank q)
+pub earlier_le : (n : ℕ) (p q : Place) → n ≤ rank (earlier p q) → (n ≤ rank p) × (n ≤ rank q)
 earlier_le n p q h =
     (elim (nat_le (rank p) (rank q)) as (λ b. nat_le (rank p) (rank q) ≡ b
     → n ≤ rank (cond b p q) → (n ≤ rank p) × (n ≤ rank q)) [

@@ -2,7 +2,7 @@
 use Rattle.std.proofs.Common.{◌≡◌, ◌∙◌, refl, sym, ap, ℕ, zero, suc, ◌+◌, ◌≤◌, inl, inr}
 use Rattle.std.proofs.Common.{Bool, true, false, ◌&&◌, cond, List, [], ◌∷◌, length}
 use Rattle.std.proofs.Common.{arith, map}
-use Rattle.std.specs.Prelude.{◌==◌, Option, None, Some}
+use Rattle.std.specs.Prelude.{Option, None, Some}
 use Rattle.std.specs.List.{list_any, list_all, AllByRecursion}
 use Rattle.std.proofs.lemmas.Bool.Decides.{nat_tests}
 use Rattle.hum_record.specs.declared.SpinedKind.TheVariants.{Local, Interpretation, Values}
@@ -20,7 +20,7 @@ use Rattle.hum_assemble.specs.Round.{place_at, is_missing}
 use Rattle.hum_assemble.specs.Merge.{all_moved}
 use Rattle.hum_assemble.proofs.Sides.{IsSound}
 use Rattle.hum_assemble.proofs.Rounds.{AllSound}
-use Rattle.hum_assemble.proofs.Rounds.{names_of}
+use Rattle.hum_assemble.proofs.Rounds.{names_of, earlier_le}
 use Rattle.std.specs.Prelude.{nat_lt, nat_le, is_some}
 use Rattle.hum_record.specs.Row.{text_of}
 use Rattle.hum_record.specs.Spelling.{is_empty}
@@ -33,7 +33,6 @@ use Rattle.hum_assemble.specs.declared.places.Next as next
 use Rattle.hum_assemble.specs.declared.places.Next.TheVariants.{Gives, Refused, Wants}
 use Rattle.hum_assemble.specs.declared.places.Next.TheVariants.{Over as NothingMore}
 use Rattle.hum_assemble.specs.Change.{Input}
-use Rattle.hum_assemble.specs.Places.{earlier}
 use Rattle.hum_assemble.specs.Round.{any_due, earliest, is_asked, is_lost, first_from}
 use Rattle.hum_assemble.specs.Merge.{Merge, ahead, given_row, given_on, made, spines, rule_broken}
 use Rattle.hum_assemble.specs.Merge.{unless_broken, ahead_at, ahead_of, unless_missing}
@@ -48,6 +47,7 @@ use Rattle.hum_assemble.proofs.Rounds.{all_show}
 use Rattle.hum_assemble.proofs.Alone.{paths_of, OneIn}
 use Rattle.hum_assemble.proofs.Turning.{AllUnopened, finished}
 use Rattle.hum_assemble.proofs.Fine.{IsFine, Side, Here, goes}
+use Rattle.hum_assemble.proofs.Taking.{same_rank}
 
 -- What is given is given within the limits.
 broken_few : (p q : Place) (n bytes given : ℕ)
@@ -245,17 +245,6 @@ over_earliest : (going : Bool) (ss : List Source) (given : ℕ) → list_any (is
 over_earliest going ss given n h =
     at_over going (earliest going ss) ss given (missing_over (first_from (is_missing going) 0 ss) _ (rw n at h))
 
-same_rank : (n m : ℕ) → (n == m) ≡ true → n ≡ m
-same_rank n m h = grind (arith, nat_tests)
-
-earlier_le : (n : ℕ) (p q : Place) → n ≤ rank (earlier p q) → (n ≤ rank p) × (n ≤ rank q)
-earlier_le n p q h =
-    (elim (nat_le (rank p) (rank q)) as (λ b. nat_le (rank p) (rank q) ≡ b
-    → n ≤ rank (cond b p q) → (n ≤ rank p) × (n ≤ rank q)) [
-      | true ↦ λ e w. let l : rank p ≤ rank q = grind (arith, nat_tests) in (w, omega (arith, l, w))
-      | false ↦ λ e w. let l : rank q ≤ rank p = grind (arith, nat_tests) in (omega (arith, l, w), w)
-    ]) refl h
-
 abbrev AllOver : Bool → List Source → Type 0
 AllOver going = AllByRecursion (λ s. 11 ≤ rank (place_at going s))
 
@@ -278,7 +267,7 @@ inside_place_before : (row : Row) → rank (inside_place row) ≤ 10
 inside_place_before (Comment text) = omega arith
 inside_place_before (Spined kind tokens) = omega arith
 
-place_before : (path : Path) (row : Row) → rank (place path row) ≤ 10
+pub place_before : (path : Path) (row : Row) → rank (place path row) ≤ 10
 place_before Unopened (Comment text) = omega arith
 place_before Unopened (Spined kind tokens) = omega arith
 place_before (Spines []) row = omega arith
@@ -334,7 +323,7 @@ side_closed : (path : Path) (ss : List Source) → Side path ss → names_of ss 
 side_closed path ss (inl before) n = ap is_unfinished before.0
 side_closed path ss (inr behind) n = ap is_unfinished (behind.0 ∙ ap Spines n)
 
-own_none : (stage line : ℕ) (rule : Rule)
+pub own_none : (stage line : ℕ) (rule : Rule)
     → fault_at stage Assemble (refusal line (Refused rule)) ≡ None → ⊥
 own_none stage line rule h = cc
 

@@ -23,7 +23,7 @@ use Rattle.hum_assemble.specs.Round.{place_at, is_missing, takes, in_round}
 use Rattle.hum_assemble.specs.Merge.{moved, advanced}
 use Rattle.hum_assemble.specs.Taking.{is_at}
 use Rattle.hum_assemble.proofs.Fitting.{spined_of, kind_there}
-use Rattle.hum_assemble.proofs.Taking.{empty_over}
+use Rattle.hum_assemble.proofs.Taking.{empty_over, same_rank}
 
 -- a step of a score of which several records may come in one round
 abbrev pub is_long : Place → Bool
@@ -45,9 +45,6 @@ pub record IsSound (s : Source) : Type 0 where
 pub record Shows (going : Bool) (p : Place) (s : Source) : Type 0 where
   pub known : is_missing going s ≡ false
   pub later : rank p ≤ rank (place_at going s)
-
-same_rank : (n m : ℕ) → (n == m) ≡ true → n ≡ m
-same_rank n m h = grind (arith, nat_tests)
 
 -- Only records within a unit come before the front.
 unit_late : (row : Row) → 4 ≤ rank (unit_place row)

@@ -2,12 +2,13 @@
 use Rattle.std.proofs.Common.{◌≡◌, ◌∙◌, refl, sym, ap, ℕ, zero, suc, ◌+◌, ◌≤◌, Bool, true}
 use Rattle.std.proofs.Common.{false, not, ◌||◌, cond, List, [], ◌∷◌, length, arith, map}
 use Rattle.std.specs.Prelude.{Option, None, Some, ◌==◌}
-use Rattle.std.specs.Prelude.{nat_le}
+use Rattle.std.specs.Prelude.{nat_lt, nat_le}
 use Rattle.std.specs.List.{list_any}
 use Rattle.std.proofs.lemmas.Bool.Decides.{nat_tests}
 use Rattle.hum_record.specs.Row.{Row, text_of}
 use Rattle.hum_path.specs.Spines.{Path}
 use Rattle.hum_stage.specs.declared.faults.Rule.{Rule}
+use Rattle.hum_stage.specs.declared.faults.Rule.TheVariants.{A1, L1, L2}
 use Rattle.hum_stage.specs.declared.faults.End as end
 use Rattle.hum_assemble.specs.declared.places.Place.{Place}
 use Rattle.hum_assemble.specs.declared.places.Next as next
@@ -214,3 +215,32 @@ giving ss given p h =
       some = g.some;
       at = rw g.place (earliest_at (any_due ss) ss (rw g.place at g.some));
     }
+
+-- what a given record's text has room for
+unbroken_fits : (q p : Place) (spines bytes given : ℕ) → unless_broken q (rule_broken spines bytes given) ≡ Gives p
+    → bytes ≤ 1048576
+unbroken_fits q p spines bytes given h = by_tests (nat_lt 4096 spines) (nat_lt 1048576 bytes) refl h
+  where
+    by_tests : (a b : Bool) → nat_lt 1048576 bytes ≡ b
+        → unless_broken q (cond a (Some A1) (cond b (Some L1) (cond (nat_le 4294967295 given) (Some L2) None))) ≡ Gives p
+        → bytes ≤ 1048576
+    by_tests true b e h = cc
+    by_tests false true e h = cc
+    by_tests false false e h = grind (arith, nat_tests, e)
+
+at_fits : (going : Bool) (q p : Place) (ss : List Source) (given : ℕ) → ahead_at going q ss given ≡ Gives p
+    → length (text_of (made going q ss)) ≤ 1048576
+at_fits going q p ss given h = by_over (is_over q) h
+  where
+    by_over : (b : Bool)
+        → cond b NothingMore (unless_broken q (rule_broken (spines (all_moved true going q ss)) (length (text_of (made going q ss))) given))
+        ≡ Gives p → length (text_of (made going q ss)) ≤ 1048576
+    by_over true h = cc
+    by_over false h = unbroken_fits q p (spines (all_moved true going q ss)) (length (text_of (made going q ss))) given h
+
+pub given_fits : (going : Bool) (ss : List Source) (given : ℕ) (p : Place) → ahead_of going ss given ≡ Gives p
+    → length (text_of (made going p ss)) ≤ 1048576
+given_fits going ss given p h =
+    let g = is_given going ss given p h in
+    let at = lost_given going ss given p (list_any (is_lost going) ss) h in
+    rw g.place (at_fits going (earliest going ss) p ss given at.1)

@@ -50,7 +50,7 @@ empty_over false path false None = refl
 empty_over false path false (Some Closed) = refl
 empty_over false path false (Some (Broken f)) = refl
 
-same_rank : (n m : ℕ) → (n == m) ≡ true → n ≡ m
+pub same_rank : (n m : ℕ) → (n == m) ≡ true → n ≡ m
 same_rank n m h = grind (arith, nat_tests)
 
 asked_place : (going : Bool) (p : Place) (path : Path) (due : Bool) (row : Row) (rows : List Row)

@@ -30,6 +30,7 @@ use Rattle.hum_assemble.proofs.Sorting.{Tests, picks_comments, picks_locals, pic
 use Rattle.hum_assemble.proofs.Sorting.{picks_others}
 use Rattle.hum_assemble.proofs.Bodies.{InBody, InRound, Waits, Gone, GoneBefore, gone_later, round_sees}
 use Rattle.hum_assemble.proofs.Bodies.{calm_sees, body_stands, inside_does, Bare, inside_of}
+use Rattle.hum_assemble.proofs.Taking.{same_rank}
 
 -- what is left behind a unit of one record
 gone_single : (n : List ℕ) (ns : List (List ℕ)) (row : Row) (rows : List Row)
@@ -76,9 +77,6 @@ adds_unit n ns row rows ended whole wh ad at u st i f = record {
 }
 
 -- A source's own part, by the test of its place.
-same_rank : (n m : ℕ) → (n == m) ≡ true → n ≡ m
-same_rank n m h = grind (arith, nat_tests)
-
 past_rank : (n m : ℕ) → (n == m) ≡ false → n ≤ m → suc n ≤ m
 past_rank n m h l = grind (arith, nat_tests)
 

@@ -32,7 +32,7 @@ use Rattle.hum_assemble.proofs.Steps.{all_going, all_resting, is_giving}
 use Rattle.hum_assemble.proofs.Sides.{Takes, takes_fields}
 use Rattle.hum_assemble.proofs.Alone.{paths_of}
 use Rattle.hum_assemble.proofs.Fitting.{spined_of}
-use Rattle.hum_assemble.proofs.Taking.{or_not_false}
+use Rattle.hum_assemble.proofs.Taking.{or_not_false, same_rank}
 use Rattle.std.specs.Prelude.{nat_le, replicate}
 use Rattle.hum_assemble.specs.declared.places.Place.TheVariants.{Aside, Begins, Front, Opening}
 use Rattle.hum_assemble.specs.declared.places.Place.TheVariants.{Remark, Local as LocalPlace}
@@ -161,9 +161,6 @@ pub least : (going : Bool) (n : ℕ) (ss : List Source) → n ≤ 11 → AllSee 
 least going n [] l h = l
 least going n (s ∷ ss) l h =
     earlier_least n (place_at going s) (earliest going ss) h.0.later (least going n ss l h.1)
-
-same_rank : (n m : ℕ) → (n == m) ≡ true → n ≡ m
-same_rank n m h = grind (arith, nat_tests)
 
 reached : (going : Bool) (p : Place) (ss : List Source) → list_any (is_at going p) ss ≡ true
     → rank (earliest going ss) ≤ rank p

@@ -205,3 +205,9 @@ pub record KeepsScores (stage : ℕ) : Type 0 where
   pub score : (xs : List Input) → AreScores xs → IsScore (output xs)
   pub closed : (xs : List Input) → AreScores xs → inputs_end (ends xs) ≡ Some Closed
       → own_fault stage xs ≡ None → IsClosed (output xs)
+
+-- Of one source alone all records are given as they are, unless it refuses one.
+abbrev pub GivesOneAsItIs : Type 0
+GivesOneAsItIs =
+    (stage : ℕ) (x : Input) → IsScore x.put → own_fault stage (x ∷ []) ≡ None
+    → output (x ∷ []) ≡ x.put

@@ -1,15 +1,16 @@
 //! Several scores side by side, record by record.
-ghost use Rattle.std.specs.Prelude.{◌≡◌, ◌≤◌, ◌<◌, ◌+◌, ◌⊎◌, ℕ, true, false, [], length, map};
+ghost use Rattle.std.specs.Prelude.{◌≡◌, ◌≤◌, ◌<◌, ◌+◌, ◌⊎◌, ℕ, true, false};
+ghost use Rattle.std.specs.Prelude.{List, [], length, map};
 ghost use Rattle.std.specs.Prelude.{is_none, None, Some, IfSome, IfOk, OnOk, OnErr, IsErr};
 ghost use Rattle.hum_stage.specs.declared.faults.Command.TheVariants.{Assemble as AssembleCommand};
 ghost use Rattle.hum_stage.specs.Meaning.{fault_at, resting_state};
-ghost use Rattle.hum_assemble.specs.Change.{More, Ends, IsOpenInput};
+ghost use Rattle.hum_assemble.specs.Change.{Input, More, Ends, IsOpenInput};
 ghost use Rattle.hum_assemble.specs.Round.{first_from};
 ghost use Rattle.hum_assemble.specs.Merge.{ahead};
 ghost use Rattle.hum_assemble.specs.Meaning.{Moment, MayPut, MayEnd, HasChanged, HasTaken};
 ghost use Rattle.hum_assemble.specs.Meaning.{state_of, wants_of, held_at, lower, inputs_end};
 ghost use Rattle.hum_assemble.specs.Meaning.{HasGrown, held_by, total, empty_moment, KeepsScores};
-ghost use Rattle.hum_assemble.specs.Meaning.{all_of};
+ghost use Rattle.hum_assemble.specs.Meaning.{all_of, output, GivesOneAsItIs};
 ghost use Rattle.hum_assemble.specs.Standing.{Stands, HoldOneEach, state_by, wants_by};
 ghost use Rattle.hum_assemble.specs.Groups.{GivesByGroups, IsTakenByGroups};
 
@@ -180,6 +181,12 @@ impl Assemble {
         // What is given of scores is what their groups give, round by round; the own fault is that
         // of the first record at which writing stops.
         ensures groups { GivesByGroups }
+
+        // One score alone is given as it is.
+        ensures one { GivesOneAsItIs }
+
+        // It gives no more records than a score may have.
+        ensures few { (xs : List Input) → length (output xs) ≤ 4294967295 }
     {
         let mut heads = Vec::new(alloc);
         for _ in 0..sources {

@@ -1,7 +1,8 @@
 //! What several sources give side by side.
-ghost use Rattle.std.specs.Prelude.{◌≡◌, ◌≢◌, ◌++◌, ℕ, ◌+◌, nat_lt, nat_le, true};
+ghost use Rattle.std.specs.Prelude.{◌≡◌, ◌≢◌, ◌≤◌, ◌++◌, ℕ, ◌+◌, nat_lt, nat_le, true};
 ghost use Rattle.std.specs.Prelude.{None, Some, IfOk, OnOk, length};
 ghost use Rattle.std.specs.List.{list_any};
+ghost use Rattle.hum_record.specs.Building.{spelled};
 ghost use Rattle.hum_record.specs.Row.{text_of};
 ghost use Rattle.hum_assemble.specs.Head.{AllLawful};
 ghost use Rattle.hum_assemble.specs.Places.{kind_at};
@@ -14,7 +15,7 @@ ghost use Rattle.hum_assemble.specs.Taking.{IsGiving, IsAlone};
 
 use crate::places::{Next, Place};
 use crate::source_head::SourceHead;
-use hum_record::{Record, RecordBuilder, RecordFault, Spare, SpinedKind};
+use hum_record::{Record, RecordBuilder, Spare, SpinedKind};
 use hum_stage::Rule;
 use std::alloc::{AllocError, Global};
 
@@ -217,15 +218,17 @@ fn are_few_parts(sources: &[SourceHead], free: bool, going: bool, p: Place, left
     }
 }
 
-/// Adds the tokens of the record at this place.
+/// Adds the tokens of the record at this place, for which there is room.
 fn push_parts(
     sources: &[SourceHead],
     going: bool,
     p: Place,
     builder: &mut RecordBuilder,
-) -> Result<(), RecordFault>
+) -> Result<(), AllocError>
     requires lawful { AllLawful sources.now }
     requires kind { kind_at p ≡ Some builder.old.kind }
+    requires fits { length (spelled (builder.old.tokens
+        ++ tokens_given true going p sources.now)) ≤ 1048576 }
     ensures { OnOk result (builder.new ≡ record builder.old {
       tokens = builder.old.tokens ++ tokens_given true going p sources.now;
     }) }
@@ -284,14 +287,12 @@ fn give_side_by_side(
     requires kind { kind_at p ≡ Some kind }
     requires giving { IsGiving going p sources.old }
     requires lawful { AllLawful sources.old }
+    requires fits { length (text_of (made going p sources.old)) ≤ 1048576 }
     ensures row { IfOk result (λ row. row ≡ made going p sources.old) }
     ensures sources { OnOk result (sources.new ≡ all_moved true going p sources.old) }
 {
     let mut builder = RecordBuilder::reusing(alloc, kind, spare);
-    match push_parts(sources, going, p, &mut builder) {
-        Ok(()) => {}
-        Err(_) => return Err(AllocError),
-    }
+    push_parts(sources, going, p, &mut builder)?;
     let row = builder.finish();
     if let Some(last) = go_on(sources, going, p)? {
         spare.keep(last);
@@ -309,6 +310,7 @@ fn give_at(
 ) -> Result<Record, AllocError>
     requires giving { IsGiving going p sources.old }
     requires lawful { AllLawful sources.old }
+    requires fits { length (text_of (made going p sources.old)) ≤ 1048576 }
     ensures row { IfOk result (λ row. row ≡ made going p sources.old) }
     ensures sources { OnOk result (sources.new ≡ all_moved true going p sources.old) }
 {

@@ -2,6 +2,7 @@
 ghost use Rattle.std.specs.Prelude.{◌≡◌, ◌++◌, ◌∷◌, ◌≤◌, [], false, None, Some};
 ghost use Rattle.std.specs.Prelude.{IfOk, OnOk, length, replicate, if◌then◌else◌};
 ghost use Rattle.std.specs.List.{AllByRecursion};
+ghost use Rattle.hum_record.specs.Building.{spelled};
 ghost use Rattle.hum_record.specs.Spelling.{IsToken};
 ghost use Rattle.hum_record.specs.Row.{tokens_of};
 ghost use Rattle.hum_path.specs.Spines.{width};
@@ -60,28 +61,45 @@ impl Model for SourceHead {
     ghost invariant = { λ s. IsKept s.paths.path s.opened s.inside s.head };
 }
 
+/// Adds a token to a record that has room for it.
+fn push_token(builder: &mut RecordBuilder, token: &[u8]) -> Result<(), AllocError>
+    requires token { IsToken builder.old.kind token.now }
+    requires fits { length (spelled (builder.old.tokens ++ token.now ∷ [])) ≤ 1048576 }
+    ensures { OnOk result (builder.new ≡ record builder.old {
+      tokens = builder.old.tokens ++ token.now ∷ [];
+    }) }
+{
+    match builder.push(token) {
+        Ok(()) => Ok(()),
+        Err(RecordFault::Memory) => Err(AllocError),
+        Err(_) => unreachable!(),
+    }
+}
+
 /// Adds a token so many times.
-fn push_nulls(builder: &mut RecordBuilder, null: &[u8], count: usize) -> Result<(), RecordFault>
-    requires { IsToken builder.old.kind null.now }
+fn push_nulls(builder: &mut RecordBuilder, null: &[u8], count: usize) -> Result<(), AllocError>
+    requires token { IsToken builder.old.kind null.now }
+    requires fits { length (spelled (builder.old.tokens ++ replicate count null.now)) ≤ 1048576 }
     ensures { OnOk result (builder.new ≡ record builder.old {
       tokens = builder.old.tokens ++ replicate count null.now;
     }) }
 {
     for _ in 0..count {
-        builder.push(null)?;
+        push_token(builder, null)?;
     }
     Ok(())
 }
 
 /// Adds the tokens of a record.
-fn push_tokens(builder: &mut RecordBuilder, row: &Record) -> Result<(), RecordFault>
-    requires { AllByRecursion (IsToken builder.old.kind) (tokens_of row.now) }
+fn push_tokens(builder: &mut RecordBuilder, row: &Record) -> Result<(), AllocError>
+    requires tokens { AllByRecursion (IsToken builder.old.kind) (tokens_of row.now) }
+    requires fits { length (spelled (builder.old.tokens ++ tokens_of row.now)) ≤ 1048576 }
     ensures { OnOk result (builder.new ≡ record builder.old {
       tokens = builder.old.tokens ++ tokens_of row.now;
     }) }
 {
     for j in 0..row.width() {
-        builder.push(row.token(j))?;
+        push_token(builder, row.token(j))?;
     }
     Ok(())
 }
@@ -230,16 +248,18 @@ impl SourceHead {
         }
     }
 
-    /// Adds the source's part to a record.
+    /// Adds the source's part to a record that has room for it.
     pub fn push_part(
         &self,
         free: bool,
         going: bool,
         p: Place,
         builder: &mut RecordBuilder,
-    ) -> Result<(), RecordFault>
+    ) -> Result<(), AllocError>
         requires lawful { AreLawful self.now.path self.now.coming }
         requires kind { kind_at p ≡ Some builder.old.kind }
+        requires fits { length (spelled (builder.old.tokens
+            ++ part_given (takes free going p self.now) p self.now)) ≤ 1048576 }
         ensures { OnOk result (builder.new ≡ record builder.old {
           tokens = builder.old.tokens
               ++ part_given (takes free going p self.now) p self.now;

@@ -1,5 +1,5 @@
 -- Barlines that are known.
-use Rattle.std.proofs.Common.{◌≡◌, ◌∙◌, refl, sym, ap, ℕ, Bool, true, false, cond, ◌||◌, not, List, [], ◌∷◌, map}
+use Rattle.std.proofs.Common.{◌≡◌, ◌∙◌, refl, sym, ap, ℕ, Bool, true, false, cond, ◌||◌, not, List, [], ◌∷◌, map, subst}
 use denote.Bor.{Bor}
 use Rattle.std.specs.List.{list_any}
 use Rattle.std.specs.Str.{bytes_eq}
@@ -12,7 +12,7 @@ use Rattle.hum_record.specs.Contents.{is_null, is_barline}
 use Rattle.hum_cleave.specs.Tokens.{is_left_out}
 use Rattle.hum_cleave.specs.Barlines.{Tells}
 
-bytes_eq_sym : (a b : List ℕ) → bytes_eq a b ≡ bytes_eq b a
+pub bytes_eq_sym : (a b : List ℕ) → bytes_eq a b ≡ bytes_eq b a
 bytes_eq_sym a b = one_answer (bytes_eq a b) (bytes_eq b a) (bytes_eq-Decides a b)
     (Decides-like (bytes_eq b a) (λ (e : b ≡ a). sym e) (λ (e : a ≡ b). sym e) (bytes_eq-Decides b a))
 
@@ -42,6 +42,58 @@ tells_barline old new token is_new puts is filled bar before knows = (
       sym (any_seen t new) ∙ puts k ∙ rw (bytes_eq_sym token.now t)
       (one_more (bytes_eq t token.now) (list_any (λ q. bytes_eq t q.now) old) (list_any (bytes_eq t) before) (any_seen t old ∙ knows t at))
       ∙ sym (list_any-append (bytes_eq t) before (token.now ∷ [])),
+)
+  where
+    answer : (known : Bool) → known ≡ list_any (bytes_eq token.now) before → is_new ≡ not known
+        → not is_new ≡ is_left_out before token.now
+    answer true h e = rw (filled, bar, e) h
+    answer false h e = rw (filled, bar, e) h
+
+-- the first barline
+pub tells_first : (token : List ℕ) → is_null token ≡ false → is_barline token ≡ true
+    → Tells [] (token ∷ []) token false
+tells_first token filled bar before knows = (
+  rw (filled, bar) (knows token bar),
+  λ t at. rw (list_any-append (bytes_eq t) before (token ∷ []), ← knows t at) refl,
+)
+
+again : (same rest : Bool) → (same || rest) ≡ ((same || rest) || (same || false))
+again true rest = refl
+again false rest = sym (or_comm rest false)
+
+tells_same : (token : List ℕ) (rest : List (List ℕ)) → is_null token ≡ false
+    → is_barline token ≡ true → Tells (token ∷ rest) (token ∷ rest) token true
+tells_same token rest filled bar before knows =
+    let same : bytes_eq token token ≡ true = (bytes_eq-Decides token token).1 refl in (
+      rw (filled, bar) (rw same at (knows token bar)),
+      λ t at. rw (list_any-append (bytes_eq t) before (token ∷ []), ← knows t at)
+          (again (bytes_eq t token) (list_any (bytes_eq t) rest)),
+    )
+
+-- the first once more
+pub tells_again : (first token : List ℕ) (rest : List (List ℕ)) → bytes_eq first token ≡ true
+    → is_null token ≡ false → is_barline token ≡ true
+    → Tells (first ∷ rest) (first ∷ rest) token true
+tells_again first token rest e filled bar =
+    subst (λ (f : List ℕ). Tells (f ∷ rest) (f ∷ rest) token true)
+    (sym ((bytes_eq-Decides first token).0 e)) (tells_same token rest filled bar)
+
+beside : (first same kept : Bool) → (first || cond same true kept) ≡ ((first || kept) || (same || false))
+beside true same kept = refl
+beside false same kept = one_more same kept kept refl
+
+-- one that isn't the first
+pub tells_other : (first : List ℕ) (old new : List (Bor (List ℕ))) (token : Bor (List ℕ)) (is_new : Bool)
+    → bytes_eq token.now first ≡ false
+    → Puts old new token → is_new ≡ not (list_any (λ q. bytes_eq token.now q.now) old)
+    → is_null token.now ≡ false → is_barline token.now ≡ true
+    → Tells (first ∷ map (λ k. k.now) old) (first ∷ map (λ k. k.now) new) token.now (not is_new)
+tells_other first old new token is_new apart puts is filled bar before knows = (
+  answer (list_any (λ q. bytes_eq token.now q.now) old) (any_seen token.now old ∙ rw apart at (knows token.now bar)) is,
+  λ t at.
+      let k : Bor (List ℕ) = record { ref_ptr = token.ref_ptr; now = t } in
+      rw (list_any-append (bytes_eq t) before (token.now ∷ []), ← knows t at, ← any_seen t new, ← any_seen t old, puts k, bytes_eq_sym token.now t)
+      (beside (bytes_eq t first) (bytes_eq t token.now) (list_any (λ q. bytes_eq t q.now) old)),
 )
   where
     answer : (known : Bool) → known ≡ list_any (bytes_eq token.now) before → is_new ≡ not known

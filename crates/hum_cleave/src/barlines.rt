@@ -7,18 +7,22 @@ use std::alloc::{AllocError, Global};
 use std::collections::HashSet;
 use std::marker::Model;
 
-/// The barlines among the tokens that were asked of so far.
+/// The barlines among the tokens that were asked of so far: mostly they are all one.
 #[derive(Drop)]
 pub struct Barlines<'r> {
-    tokens: HashSet<&'r [u8]>,
+    first: Option<&'r [u8]>,
+    others: HashSet<&'r [u8]>,
 }
 
 impl<'r> Model for Barlines<'r> {
-    ghost use Rattle.std.specs.Prelude.{ℕ, List, map};
+    ghost use Rattle.std.specs.Prelude.{◌≡◌, ℕ, List, [], ◌++◌, None, map};
+    ghost use Rattle.std.specs.Option.{option_to_list};
 
     ghost Value = { List (List ℕ) };
 
-    ghost view = { λ b. map (λ token. token.now) b.tokens.keys };
+    ghost view = { λ b. map (λ token. token.now) (option_to_list b.first ++ b.others.keys) };
+
+    ghost invariant = { λ b. b.first ≡ None → b.others.keys ≡ [] };
 }
 
 impl<'r> Barlines<'r> {
@@ -27,7 +31,8 @@ impl<'r> Barlines<'r> {
         ensures { result ≡ [] }
     {
         Barlines {
-            tokens: HashSet::new(alloc),
+            first: None,
+            others: HashSet::new(alloc),
         }
     }
 
@@ -42,7 +47,18 @@ impl<'r> Barlines<'r> {
         if !is_barline(token) {
             return Ok(false);
         }
-        let is_new = self.tokens.insert(token)?;
-        Ok(!is_new)
+        match self.first {
+            None => {
+                self.first = Some(token);
+                Ok(false)
+            }
+            Some(first) => {
+                if first == token {
+                    return Ok(true);
+                }
+                let is_new = self.others.insert(token)?;
+                Ok(!is_new)
+            }
+        }
     }
 }

@@ -88,7 +88,7 @@ selected_path select flags Unopened = Unopened
 selected_path select flags (Spines names) = Spines (select flags names)
 
 module _ (command : ColumnCommand) (select : List Bool → List (List ℕ) → List (List ℕ)) (is : Selects command select) where
-  abbrev Leads : List Row → Path → Type 0
+  abbrev pub Leads : List Row → Path → Type 0
   Leads past given = given ≡ selected_path select (flags command.choose past) (path_after past)
 
   text_case : (fs : List Bool) (kind : SpinedKind) (path : Path) (tokens : List (List ℕ)) (given : Path) (rows : List Row)
@@ -118,7 +118,7 @@ module _ (command : ColumnCommand) (select : List Bool → List (List ℕ) → L
       (lead_follows (select (flags command.choose past) names) _ rows
       (is.later (flags command.choose past) names tokens rows (omega (arith, size, wide, own)) keeps most e))
 
-  next : (past : List Row) (row : Row) (given : Path) (rows : List Row) → IsOpen (row ∷ past) → Leads past given
+  pub next : (past : List Row) (row : Row) (given : Path) (rows : List Row) → IsOpen (row ∷ past) → Leads past given
       → by_columns command past row ≡ Ok rows → Follow given rows × Leads (row ∷ past) (through given rows)
   next past (Comment text) given rows sound leads e =
       let one : Comment text ∷ [] ≡ rows = cc in rw (← one) ((refl, tt), leads)

@@ -34,6 +34,12 @@ abbrev pub MakesScores : CommandOptions → Type 0
 MakesScores (told.Rid options) = options.interpretations ≡ false
 MakesScores _ = Unit {0}
 
+-- how many records behind it a record may wait for
+abbrev pub most_lag : CommandOptions → ℕ
+most_lag (told.Context options) = 65536
+most_lag (told.Yank options) = 65536
+most_lag _ = 0
+
 -- which command it is
 abbrev pub command_of : CommandOptions → Command
 command_of (told.Rid options) = name.Rid

@@ -5,16 +5,8 @@
 //! does it.
 #![tactic(auto)]
 
-#[cfg(test)]
-mod context_tests;
-#[cfg(test)]
-mod ditto_tests;
 mod options;
-#[cfg(test)]
-mod scores;
 mod stages;
-#[cfg(test)]
-mod yank_tests;
 
 pub use options::CommandOptions;
 pub use stages::CommandStage;

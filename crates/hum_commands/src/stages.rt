@@ -1,6 +1,6 @@
 //! The stages of commands.
-ghost use Rattle.hum_stage.specs.Meaning.{opening, KeepsScore};
-ghost use Rattle.hum_commands.specs.Meaning.{meaning, MakesScores};
+ghost use Rattle.hum_stage.specs.Meaning.{opening, KeepsScore, IsWithinLag};
+ghost use Rattle.hum_commands.specs.Meaning.{meaning, MakesScores, most_lag};
 
 use crate::options::CommandOptions;
 use hum_cleave::Cleave;
@@ -59,6 +59,9 @@ impl CommandStage {
 
         // Of scores it makes scores.
         ensures keeps { MakesScores options → KeepsScore (meaning number options).outcomes }
+
+        // What it holds of records that were put when it wanted them: one at most, or 65,537.
+        ensures within { IsWithinLag (most_lag options) (meaning number options) }
     {
         match options {
             CommandOptions::Rid(options) => CommandStage::Rid(Rid::new(alloc, number, options)),
@@ -93,8 +96,9 @@ impl CommandStage {
 }
 
 impl Stage for CommandStage {
-    ghost use Rattle.hum_stage.specs.Laws.{standing_remains, standing_lawful};
-    ghost use Rattle.hum_stage.specs.LookLaws.{lags_remains, lags_lawful};
+    ghost use Rattle.hum_stage.specs.Laws.{standing_remains};
+    ghost use Rattle.hum_stage.specs.LookLaws.{lags_remains};
+    ghost use Rattle.hum_stage.specs.Lawful.{standing_lawful, lags_lawful};
     ghost use Rattle.hum_commands.specs.declared.stages.CommandStage.TheVariants as stage;
 
     ghost stands = { elim [

@@ -1,11 +1,11 @@
 -- What is remembered goes on.
 use Rattle.std.proofs.Common.{◌≡◌, ◌∙◌, ◌≢◌, refl, sym, ap, ℕ, suc, ◌+◌, ◌≤◌, ◌<◌, true, false}
-use Rattle.std.proofs.Common.{List, [], ◌∷◌, ◌++◌, length, drop, get_or, length-append, append_assoc}
+use Rattle.std.proofs.Common.{List, [], ◌∷◌, ◌++◌, length, drop, get_or, length-append, append_assoc, subst}
 use Rattle.std.proofs.Common.{arith, Option, Some, None}
 use Rattle.std.specs.Prelude.{Result, nat_le, slice_get, ◌==◌}
 use Rattle.std.proofs.lemmas.Bool.Decides.{nat_tests}
 use Rattle.hum_record.specs.declared.SpinedKind.TheVariants.{Values}
-use Rattle.hum_record.specs.Row.{Row, Spined, tokens_of}
+use Rattle.hum_record.specs.Row.{Row, Spined, kind_of, tokens_of}
 use Rattle.hum_path.specs.Spines.{Path, Unopened, after, moves}
 use Rattle.hum_path.specs.Score.{path_after, passed}
 use Rattle.hum_stage.specs.declared.faults.Rule.{Rule}
@@ -18,11 +18,13 @@ use Rattle.hum_context.specs.declared.queued.Queued.{Queued}
 use Rattle.hum_context.specs.declared.walk.Walk.{Walk}
 use Rattle.hum_context.specs.Options.{extent_of, choice_of}
 use Rattle.hum_context.specs.Context.{Choice, taken, context, all_some, data_of, if_fits, new_tokens}
-use Rattle.hum_context.specs.Cells.{path_through}
+use Rattle.hum_context.specs.Columns.{path_through}
 use Rattle.hum_context.specs.Memory.{Follows, follows_each}
 use Rattle.hum_context.specs.Queue.{Known, Knows}
-use Rattle.hum_context.specs.Walking.{AllStand, Stands}
-use Rattle.hum_context.proofs.Growing.{path_passed}
+use Rattle.hum_context.specs.declared.front.Weight.TheVariants.{Fits}
+use Rattle.hum_context.specs.Heard.{wanted_of}
+use Rattle.hum_context.specs.Walking.{AllStand, Decided, Stands, Weighs, bytes_of}
+use Rattle.hum_context.proofs.Growth.{path_passed}
 use Rattle.hum_context.proofs.Queues.{knows_push}
 use Rattle.hum_context.proofs.Weighing.{data_row, kept_at}
 
@@ -156,7 +158,7 @@ none_heard (x ∷ xs) e = let no : (suc (length xs) == 0) ≡ false = grind (ari
 -- where something is heard of it, it is data
 pub first_data : (o : Choice) (path : Path) (row : Row) (kept : Queued) → Known o path row kept
     → (length kept.heard.items == 0) ≡ false → row ≡ Spined Values (tokens_of row)
-first_data o path row kept h e = data_row row (h.valued (some_heard kept.heard.items e))
+first_data o path row kept h e = data_row row (ap kind_of (sym h.is) ∙ kept.valued (some_heard kept.heard.items e))
 
 -- what is decided of data, by its new tokens
 pub undecided : (o : Choice) (past : List Row) (row : Row) (rows : List Row)
@@ -195,3 +197,49 @@ begins options path gone walks p none zero = record {
   counted = rw zero refl;
   few = omega arith;
 }
+
+front_of : {X : Type 0} (held : List X) (rows : List Row) → length held ≡ length rows
+    → 0 < length held → (row : Row) × (rest : List Row) × (rows ≡ row ∷ rest)
+front_of held [] e some = absurd (omega (arith, e, some))
+front_of held (row ∷ rest) e some = (row, rest, refl)
+
+-- The first that waits is decided, and its new tokens fit into a record.
+pub record Fitting (wanted : Option ℕ) (gone : ℕ) (held : List Queued) (walks : List Walk)
+    : Type 0 where
+  pub decided : Decided wanted gone held walks
+  pub fits : bytes_of decided.new ≤ 1048577
+
+pub fitting : (o : Choice) (number : Option ℕ) (path : Path) (gone : ℕ) (walks new : List Walk)
+    (held : List Queued) (look : Look) (past rows : List Row) (kept : Queued)
+    → number ≡ wanted_of o.extent → Follows o path gone walks held look past rows
+    → 0 < length held → kept ≡ get_or held 0 kept → (length kept.heard.items == 0) ≡ false
+    → ((p : Path) (rs : List Row) → Knows o p held rs → AllStand o p gone rs walks
+    → AllStand o p gone rs new)
+    → ((p : Path) (tokens : List (List ℕ)) (rs : List Row)
+    → Knows o p held (Spined Values tokens ∷ rs) → AllStand o p gone (Spined Values tokens ∷ rs) new
+    → Weighs (all_some (new_tokens o p (Spined Values tokens) rs 0 tokens)) Fits)
+    → Fitting number gone held new
+fitting o number path gone walks new held look past rows kept want h some at loud stands weighs =
+    let f = front_of held rows (follows_each o path gone walks held look past rows h) some in
+    let m = rw f.2 at h in
+    let known = first_known o path gone walks held look past f.0 f.1 kept m some at in
+    let is = first_data o (path_after past) f.0 kept known loud in
+    let knows = subst (λ (r : Row). Knows o (path_after past) held (r ∷ f.1)) is m.waits in
+    let stand = subst (λ (r : Row). AllStand o (path_after past) gone (r ∷ f.1) new) is
+    (stands (path_after past) (f.0 ∷ f.1) m.waits m.stand) in
+    let fits = weighs (path_after past) (tokens_of f.0) f.1 knows stand in
+    record {
+      decided = record {
+        o = o;
+        path = path_after past;
+        tokens = tokens_of f.0;
+        rows = f.1;
+        new = fits.0;
+        want = want;
+        some_wanted = m.some_wanted;
+        knows = knows;
+        stand = stand;
+        are = fits.1;
+      };
+      fits = fits.2;
+    }

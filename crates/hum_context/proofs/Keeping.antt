@@ -14,18 +14,19 @@ use Rattle.hum_path.specs.declared.PathFault.TheVariants.{P1, P2, P3, P4, P5, P6
 use Rattle.hum_path.specs.Sign.{sign_of}
 use Rattle.hum_path.specs.Spines.{Path, Unopened, Spines, moves_under, names_after, renamed}
 use Rattle.hum_path.specs.Rules.{fault_of, breaks_as_text, in_order, is_unfinished}
-use Rattle.hum_path.specs.Score.{IsOpen, path_after}
+use Rattle.hum_path.specs.Score.{IsOpen, path_after, passed}
 use Rattle.hum_path.specs.Chains.{goes_on, future, below_at}
 use Rattle.hum_path.proofs.Plain.{find_head}
 use Rattle.hum_stage.specs.Score.{through, Follow}
 use Rattle.hum_stage.specs.Meaning.{KeepsScore}
-use Rattle.hum_stage.specs.Look.{outcomes_from}
+use Rattle.hum_stage.specs.Look.{IsSteady, outcomes_from}
+use Rattle.hum_stage.proofs.Scores.{path_passed}
 use Rattle.hum_stage.proofs.LookKeeping.{looking_keeps}
 use Rattle.hum_context.specs.Context.{Choice, is_collectable, is_last, begins, taken, token_or_null}
 use Rattle.hum_context.specs.Context.{new_token, new_tokens, to_last, chain, all_some, push_front}
 use Rattle.hum_context.specs.Context.{data_of, context}
 use Rattle.hum_context.proofs.Growth.{chain_step}
-use Rattle.hum_context.proofs.Steady.{data_one, one_row}
+use Rattle.hum_context.proofs.Steady.{data_one, one_row, steady_if}
 use Rattle.hum_context.proofs.Ending.{goes_below}
 
 first_below : {X : Type 0} (p : X → Bool) (xs : List X) → list_any p xs ≡ true
@@ -193,6 +194,18 @@ decided o past (Spined Values tokens) rows sound follow end e =
         (omega (arith, wide)) in
         let k : data_of (Some there.0) ≡ None = sym (ap data_of there.1) ∙ rw is at e in
         cc
+
+-- a score goes on from each of its records
+goes_on_from : (past rows : List Row) → IsOpen (passed past rows)
+    → IsOpen past × Follow (path_after past) rows
+goes_on_from past [] score = (score, tt)
+goes_on_from past (row ∷ rows) score =
+    let more = goes_on_from (row ∷ past) rows score in (more.0.0, (more.0.1, more.1))
+
+pub context_steady : (o : Choice) → IsSteady (context o)
+context_steady o = steady_if o (λ past row rows closed e.
+    let score = goes_on_from (row ∷ past) rows closed.0 in
+    decided o past row rows score.0 score.1 (rw (path_passed (row ∷ past) rows) at closed.1) e)
 
 next_step : (o : Choice) (past : List Row) (row : Row) (behind : List Row) (given : Path)
     (rows : List Row) → IsOpen (row ∷ past) → given ≡ path_after past

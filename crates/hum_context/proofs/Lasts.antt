@@ -12,11 +12,11 @@ use Rattle.hum_context.specs.declared.front.Weight.{Weight}
 use Rattle.hum_context.specs.declared.front.Weight.TheVariants.{Undecided, Long, Fits}
 use Rattle.hum_context.specs.declared.queued.Queued.{Queued}
 use Rattle.hum_context.specs.Context.{Choice, context, all_some, new_tokens}
-use Rattle.hum_context.specs.Cells.{path_through}
+use Rattle.hum_context.specs.Columns.{path_through}
 use Rattle.hum_context.specs.Memory.{knows_each}
 use Rattle.hum_context.specs.Queue.{Knows}
 use Rattle.hum_context.specs.Walking.{Weighs}
-use Rattle.hum_context.proofs.Growing.{path_passed}
+use Rattle.hum_context.proofs.Growth.{path_passed}
 use Rattle.hum_context.proofs.Queues.{knows_drop, no_more}
 use Rattle.hum_context.proofs.Weighing.{fits_is, long_is}
 use Rattle.hum_context.proofs.Following.{undecided, decided_by}

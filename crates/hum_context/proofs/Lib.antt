@@ -2,7 +2,6 @@ mod Examples
 pub mod Ending
 pub mod Keeping
 pub mod Growth
-pub mod Growing
 pub mod Steady
 pub mod Places
 pub mod Tokens
@@ -16,3 +15,4 @@ pub mod Gathering
 pub mod Standing
 pub mod Lasts
 pub mod Shorter
+pub mod Written

@@ -17,7 +17,7 @@ use Rattle.hum_context.specs.declared.queued.Queued.{Queued}
 use Rattle.hum_context.specs.declared.walk.Walk.{Walk}
 use Rattle.hum_context.specs.Context.{Choice, Extent, First, Between, is_collectable, is_last, taken}
 use Rattle.hum_context.specs.Context.{to_last, chain, begins, token_or_null, new_token}
-use Rattle.hum_context.specs.Cells.{place_after, column_below, column_after, path_through, under}
+use Rattle.hum_context.specs.Columns.{place_after, column_below, column_after, path_through, under}
 use Rattle.hum_context.specs.Heard.{heard_of, heard_under, ends, enough_by, wanted_of}
 use Rattle.hum_context.specs.Queue.{Known, column_in, is_last_in, heard_token}
 use Rattle.hum_context.specs.Walking.{Has, Halts, collected, bytes_of}
@@ -182,67 +182,76 @@ pass_one o path rows row j c kept walk new wanted b e want known at short h hear
       enough = rw (more, last) (taken_next o.extent got token (rw short at h.enough));
     }
 
+-- those that are enough stay enough
+pub enough_taken : (o : Choice) (path : Path) (rows front rest : List Row) (j : ℕ)
+    → rows ≡ front ++ rest → taken o.extent (collected o path front j) ≡ Some (collected o path front j)
+    → taken o.extent (collected o path rows j) ≡ Some (collected o path front j)
+enough_taken o path rows front rest j split e =
+    let more = chain_on (path_through path front) rest (column_after path front j) in
+    let got : collected o path rows j ≡ collected o path front j ++ filter (is_collectable o) more =
+    ap (λ (xs : List Row). collected o path xs j) split
+    ∙ (ap (filter (is_collectable o)) (chain_more path front rest j)
+    ∙ filter-append (is_collectable o) (chain path front j) more) in
+    ap (taken o.extent) got ∙ taken_stays o.extent (collected o path front j)
+    (filter (is_collectable o) more) (collected o path front j) e
+
+-- A walk that halts without enough tokens has gone through the whole chain.
+pub whole : (o : Choice) (path : Path) (first : ℕ) (rows : List Row) (j : ℕ) (walk : Walk)
+    → (h : Halts o path first rows j walk) → walk.enough ≡ false
+    → chain path rows j ≡ chain path h.stands.front j
+whole o path first rows j walk h short = ap (λ (xs : List Row). chain path xs j) h.stands.split
+    ∙ (chain_more path front h.stands.rest j
+    ∙ (ap (λ (xs : List (List ℕ)). chain path front j ++ xs) (none h.halts)
+    ∙ append-nil (chain path front j)))
+  where
+    front : List Row
+    front = h.stands.front
+
+    nothing : (c : Option ℕ) → chain_on (path_through path front) [] c ≡ []
+    nothing None = refl
+    nothing (Some c) = refl
+
+    none : (walk.enough ≡ true) ⊎ ((walk.column ≡ None) ⊎ (h.stands.rest ≡ []))
+        → chain_on (path_through path front) h.stands.rest (column_after path front j) ≡ []
+    none (inl e) = let u = sym short ∙ e in cc
+    none (inr (inl e)) = ap (chain_on (path_through path front) h.stands.rest)
+        (sym h.stands.has.column ∙ e)
+    none (inr (inr e)) = ap (λ (xs : List Row). chain_on (path_through path front) xs
+        (column_after path front j)) e ∙ nothing (column_after path front j)
+
+pub too_few : (o : Choice) (path : Path) (first : ℕ) (rows : List Row) (j : ℕ) (walk : Walk)
+    → Halts o path first rows j walk → walk.enough ≡ false
+    → taken o.extent (collected o path rows j) ≡ None
+too_few o path first rows j walk h short =
+    rw (whole o path first rows j walk h short) (rw short at h.stands.has.enough)
+
 -- What is decided at the end of a walk.
 pub decided : (o : Choice) (path : Path) (first : ℕ) (rows : List Row) (j : ℕ) (walk : Walk)
     → (h : Halts o path first rows j walk)
     → token_or_null (list_any is_last (chain path rows j)) (taken o.extent (collected o path rows j))
     ≡ cond walk.enough (Some (join_with_byte 32 (collected o path h.stands.front j)))
     (cond walk.ended (Some (codes ".")) None)
-decided o path first rows j walk h = by walk.enough refl h.halts
+decided o path first rows j walk h = by walk.enough refl
   where
     front : List Row
     front = h.stands.front
 
-    rest : List Row
-    rest = h.stands.rest
-
-    more : List (List ℕ)
-    more = chain_on (path_through path front) rest (column_after path front j)
-
-    longer : chain path rows j ≡ chain path front j ++ more
-    longer = ap (λ (xs : List Row). chain path xs j) h.stands.split ∙ chain_more path front rest j
-
-    got : collected o path rows j ≡ collected o path front j ++ filter (is_collectable o) more
-    got = ap (filter (is_collectable o)) longer
-        ∙ filter-append (is_collectable o) (chain path front j) more
-
-    none : (walk.column ≡ None) ⊎ (rest ≡ []) → more ≡ []
-    none (inl e) = ap (chain_on (path_through path front) rest)
-        (sym h.stands.has.column ∙ e)
-    none (inr e) = ap (λ (xs : List Row). chain_on (path_through path front) xs
-        (column_after path front j)) e ∙ nothing (column_after path front j)
-      where
-        nothing : (c : Option ℕ) → chain_on (path_through path front) [] c ≡ []
-        nothing None = refl
-        nothing (Some c) = refl
-
-    short : walk.enough ≡ false → more ≡ []
-        → token_or_null (list_any is_last (chain path rows j))
-        (taken o.extent (collected o path rows j)) ≡ cond walk.ended (Some (codes ".")) None
-    short w e =
-        let same : chain path rows j ≡ chain path front j = longer
-        ∙ (ap (λ (xs : List (List ℕ)). chain path front j ++ xs) e ∙ append-nil (chain path front j))
-        in
-        rw (same, ← h.stands.has.ended, rw w at h.stands.has.enough) (ending walk.ended)
-      where
-        ending : (b : Bool) → token_or_null b None ≡ cond b (Some (codes ".")) None
-        ending true = refl
-        ending false = refl
+    ending : (b : Bool) → token_or_null b None ≡ cond b (Some (codes ".")) None
+    ending true = refl
+    ending false = refl
 
     by : (b : Bool) → walk.enough ≡ b
-        → (walk.enough ≡ true) ⊎ ((walk.column ≡ None) ⊎ (rest ≡ []))
         → token_or_null (list_any is_last (chain path rows j))
         (taken o.extent (collected o path rows j))
         ≡ cond b (Some (join_with_byte 32 (collected o path front j)))
         (cond walk.ended (Some (codes ".")) None)
-    by true w k = rw (
-      got,
-      taken_stays o.extent (collected o path front j)
-          (filter (is_collectable o) more) (collected o path front j) (rw w at h.stands.has.enough),
-    )
-        refl
-    by false w (inl e) = let u = sym w ∙ e in cc
-    by false w (inr e) = short w (none e)
+    by true w = rw (enough_taken o path rows front h.stands.rest j h.stands.split
+        (rw w at h.stands.has.enough)) refl
+    by false w = rw (
+      too_few o path first rows j walk h w,
+      whole o path first rows j walk h w,
+      ← h.stands.has.ended,
+    ) (ending walk.ended)
 
 -- Tokens that are enough, of so many bytes, are joined.
 pub joined : (ts : List (List ℕ)) (t : List ℕ)
@@ -257,19 +266,6 @@ pub size_is : (x : Extent) (ts : List (List ℕ)) → taken x [] ≡ None → ta
     → length (join_with_byte 32 ts) + 1 ≡ bytes_of ts
 size_is x [] none e = let k = sym none ∙ e in cc
 size_is x (t ∷ ts) none e = joined ts t
-
--- those that are enough stay enough
-pub enough_taken : (o : Choice) (path : Path) (rows front rest : List Row) (j : ℕ)
-    → rows ≡ front ++ rest → taken o.extent (collected o path front j) ≡ Some (collected o path front j)
-    → taken o.extent (collected o path rows j) ≡ Some (collected o path front j)
-enough_taken o path rows front rest j split e =
-    let more = chain_on (path_through path front) rest (column_after path front j) in
-    let got : collected o path rows j ≡ collected o path front j ++ filter (is_collectable o) more =
-    ap (λ (xs : List Row). collected o path xs j) split
-    ∙ (ap (filter (is_collectable o)) (chain_more path front rest j)
-    ∙ filter-append (is_collectable o) (chain path front j) more) in
-    ap (taken o.extent) got ∙ taken_stays o.extent (collected o path front j)
-    (filter (is_collectable o) more) (collected o path front j) e
 
 -- what becomes of a token from which others are collected
 token_is : (o : Choice) (token : List ℕ) (chain : List (List ℕ)) → is_collectable o token ≡ true

@@ -6,7 +6,11 @@ use Rattle.std.specs.Prelude.{nat_le, nat_lt, ◌==◌}
 use Rattle.std.specs.List.{position, position_from}
 use Rattle.std.proofs.lemmas.Bool.Decides.{nat_tests}
 use Rattle.std.proofs.lemmas.Iterator.Adapters.{position_from-zero}
-use Rattle.hum_path.specs.Spines.{same_upto}
+use Rattle.hum_record.specs.declared.SpinedKind.TheVariants.{Local, Interpretation, Values}
+use Rattle.hum_record.specs.Row.{Row, Comment, Spined}
+use Rattle.hum_path.specs.Spines.{Path, after, moves, same_upto, width}
+use Rattle.hum_path.proofs.Steady.{same_upto_length}
+use Rattle.hum_path.proofs.Widths.{moves_width}
 use Rattle.hum_path.specs.Chains.{goes_on}
 
 -- one place more, where none goes on
@@ -112,3 +116,10 @@ same_place c n =
     let a : nat_le 0 c ≡ true = grind (arith, nat_tests) in
     let b : 0 + n ≡ n = omega arith in
     sym (position_from-zero (goes_on c) (same_upto 0 n) ∙ (same_from c 0 n ∙ rw (a, b) refl))
+
+-- as many moves as spines after
+pub moves_after : (path : Path) (row : Row) → length (moves path row) ≡ width (after path row)
+moves_after path (Comment text) = same_upto_length 0 (width path)
+moves_after path (Spined Interpretation tokens) = moves_width path tokens
+moves_after path (Spined Local tokens) = same_upto_length 0 (width path)
+moves_after path (Spined Values tokens) = same_upto_length 0 (width path)

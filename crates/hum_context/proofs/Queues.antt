@@ -1,11 +1,10 @@
 -- Records that wait, one by one.
-use Rattle.std.proofs.Common.{◌≡◌, ◌∙◌, ◌≢◌, refl, sym, ap, ℕ, zero, suc, ◌+◌, ◌≤◌, ◌<◌, Bool}
+use Rattle.std.proofs.Common.{◌≡◌, ◌∙◌, refl, sym, ap, ℕ, zero, suc, ◌+◌, ◌≤◌, ◌<◌, Bool}
 use Rattle.std.proofs.Common.{true, false, ◌||◌, List, [], ◌∷◌, ◌++◌, length, filter, drop, get_or}
 use Rattle.std.proofs.Common.{append_assoc, length-append, arith, cond, Option, Some, None, inl, inr}
 use Rattle.std.specs.List.{position}
 use Rattle.std.proofs.lemmas.List.{length-drop}
 use Rattle.hum_record.specs.declared.Kind.TheVariants.{Interpretation as AnyInterpretation}
-use Rattle.hum_record.specs.declared.Kind.TheVariants.{Values as AnyValues}
 use Rattle.hum_record.specs.declared.SpinedKind.TheVariants.{Local, Interpretation, Values}
 use Rattle.hum_record.specs.Row.{Row, Comment, Spined, kind_of, text_of}
 use Rattle.hum_record.specs.Spelling.{IsTextOf}
@@ -16,7 +15,7 @@ use Rattle.hum_context.specs.declared.hearing.Heard.TheVariants.{Passed, Taken}
 use Rattle.hum_context.specs.declared.queued.Queued.{Queued}
 use Rattle.hum_context.specs.declared.walk.Walk.{Walk}
 use Rattle.hum_context.specs.Context.{Choice, is_collectable, is_last, begins}
-use Rattle.hum_context.specs.Cells.{path_through}
+use Rattle.hum_context.specs.Columns.{path_through}
 use Rattle.hum_context.specs.Heard.{heard_under, ends}
 use Rattle.hum_context.specs.Memory.{knows_each}
 use Rattle.hum_context.specs.Queue.{Known, Knows, column_in, is_last_in, place_in, heard_token}
@@ -40,25 +39,22 @@ local_none o t (inr h) = no_data o t (bang_no_data t h.of_kind)
 pub known_new : (o : Choice) (path : Path) (row : Row) (kept : Queued) (found : List Move)
     (words : List ℕ) → IsTextOf row words → length (text_of row) ≤ 1048576 → kept.row ≡ row
     → ((c : ℕ) → get_or kept.heard.items c Passed ≡ heard_under o row c)
-    → (kept.heard.items ≢ [] → kind_of row ≡ AnyValues)
     → (kind_of row ≡ AnyInterpretation → (c : ℕ)
     → place_in kept.below c ≡ position (goes_on c) found) → found ≡ moves path row
     → Known o path row kept
-known_new o path (Comment text) kept found words lawful short is heard valued places e = record {
+known_new o path (Comment text) kept found words lawful short is heard places e = record {
   is = is;
   short = short;
   heard = heard;
-  valued = valued;
   collected = λ c. refl;
   below = λ c. ap (λ (r : Row). column_in r kept.below c) is;
   last = λ c. ap (λ (r : Row). is_last_in r c) is;
 }
-known_new o path (Spined Local tokens) kept found words lawful short is heard valued places e =
+known_new o path (Spined Local tokens) kept found words lawful short is heard places e =
     record {
       is = is;
       short = short;
       heard = heard;
-      valued = valued;
       collected = λ c. none_collected o (get_or tokens c [])
           (local_none o (get_or tokens c []) (all_at Local tokens c lawful.2));
       below = λ c. ap (λ (r : Row). column_in r kept.below c) is
@@ -68,12 +64,11 @@ known_new o path (Spined Local tokens) kept found words lawful short is heard va
           ∙ ap (λ (b : Bool). b || false)
           (sym (local_last (get_or tokens c []) (all_at Local tokens c lawful.2)));
     }
-known_new o path (Spined Values tokens) kept found words lawful short is heard valued places e =
+known_new o path (Spined Values tokens) kept found words lawful short is heard places e =
     record {
       is = is;
       short = short;
       heard = heard;
-      valued = valued;
       collected = λ c. by (is_collectable o (get_or tokens c [])) (get_or tokens c []);
       below = λ c. ap (λ (r : Row). column_in r kept.below c) is
           ∙ ap (λ (b : Bool). cond b None (Some c))
@@ -88,13 +83,12 @@ known_new o path (Spined Values tokens) kept found words lawful short is heard v
         Passed) t
     by true t = refl
     by false t = refl
-known_new o path (Spined Interpretation tokens) kept found words lawful short is heard valued places
+known_new o path (Spined Interpretation tokens) kept found words lawful short is heard places
     e =
     record {
       is = is;
       short = short;
       heard = heard;
-      valued = valued;
       collected = λ c. none_collected o (get_or tokens c []) (no_data o (get_or tokens c [])
           (no_star_data (get_or tokens c []) (all_at Interpretation tokens c lawful.2)));
       below = λ c. ap (λ (r : Row). column_in r kept.below c) is

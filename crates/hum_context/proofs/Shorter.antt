@@ -17,7 +17,7 @@ use Rattle.hum_context.specs.declared.queued.Queued.{Queued}
 use Rattle.hum_context.specs.declared.walk.Walk.{Walk}
 use Rattle.hum_context.specs.Context.{Choice, Extent, First, Between, is_collectable, is_last, taken}
 use Rattle.hum_context.specs.Context.{chain, through}
-use Rattle.hum_context.specs.Cells.{column_below, column_after, under}
+use Rattle.hum_context.specs.Columns.{column_below, column_after, under}
 use Rattle.hum_context.specs.Heard.{heard_under, ends, wanted_of}
 use Rattle.hum_context.specs.Queue.{IsStill, Known, column_in, heard_token}
 use Rattle.hum_context.specs.Walking.{AllStand, Has, IsWithout, Shortens, Stands, collected, bytes_of}

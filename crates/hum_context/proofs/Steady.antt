@@ -1,53 +1,91 @@
 -- What context decides stays.
-use Rattle.std.proofs.Common.{◌≡◌, ◌∙◌, refl, sym, ap, ℕ, ◌≤◌, Bool, true, false, List}
-use Rattle.std.proofs.Common.{[], ◌∷◌, ◌++◌, map, length, arith, cond, Option, Some, None}
+use Rattle.std.proofs.Common.{◌≡◌, refl, sym, ap, ℕ, ◌+◌, ◌≤◌, Bool, true, false, List}
+use Rattle.std.proofs.Common.{[], ◌∷◌, ◌++◌, length, arith, cond, filter, append-nil, Option, Some, None}
 use Rattle.std.specs.Prelude.{nat_le, Result, Ok, Err}
+use Rattle.std.specs.List.{list_any}
+use Rattle.std.proofs.lemmas.List.Elements.{filter-append}
+use lib.Chars.{codes}
 use Rattle.hum_record.specs.declared.SpinedKind.TheVariants.{Local, Interpretation, Values}
 use Rattle.hum_record.specs.Row.{Row, Comment, Spined, text_of}
 use Rattle.hum_path.specs.Spines.{Path}
-use Rattle.hum_path.specs.Score.{path_after, passed}
+use Rattle.hum_path.specs.Score.{IsClosed, path_after, passed}
 use Rattle.hum_stage.specs.declared.faults.Rule.{Rule}
 use Rattle.hum_stage.specs.declared.faults.Rule.TheVariants.{L1}
 use Rattle.hum_stage.specs.Look.{IsSteady}
 use Rattle.hum_context.specs.Context.{Choice, context, all_some, push_front, data_of, if_fits}
-use Rattle.hum_context.specs.Context.{new_tokens}
-use Rattle.hum_context.specs.Cells.{Cell, Kept, Settled, Waiting, next_cell}
-use Rattle.hum_context.specs.Cells.{tokens_of_cells, cells_at}
-use Rattle.hum_context.proofs.Growing.{cells_grow, cells_give}
+use Rattle.hum_context.specs.Context.{is_collectable, is_last, begins, taken, chain, token_or_null}
+use Rattle.hum_context.specs.Context.{new_token, new_tokens}
+use Rattle.hum_context.specs.Columns.{column_after, under}
+use Rattle.hum_context.proofs.Growth.{chain_push, ended_none, taken_stays}
 
-front_stays : {X : Type 0} (x : X) (xs ys : Option (List X)) → ((xs ≡ None → ⊥) → ys ≡ xs)
-    → (push_front (Some x) xs ≡ None → ⊥) → push_front (Some x) ys ≡ push_front (Some x) xs
-front_stays x None ys h u = absurd (u refl)
-front_stays x (Some xs) ys h u = let e = h (λ k. cc) in rw e refl
+-- Where a chain is ended nothing comes behind it; else what is taken stays.
+taken_on : (o : Choice) (tokens more : List (List ℕ)) (ended : Bool)
+    (found : Option (List (List ℕ))) (new : List ℕ) → list_any is_last tokens ≡ ended
+    → taken o.extent (filter (is_collectable o) tokens) ≡ found → (ended ≡ true → more ≡ [])
+    → token_or_null ended found ≡ Some new
+    → token_or_null (list_any is_last (tokens ++ more))
+    (taken o.extent (filter (is_collectable o) (tokens ++ more))) ≡ Some new
+taken_on o tokens more ended (Some ts) new is found none e =
+    rw (
+      filter-append (is_collectable o) tokens more,
+      taken_stays o.extent (filter (is_collectable o) tokens) (filter (is_collectable o) more) ts found,
+    ) e
+taken_on o tokens more true None new is found none e = rw (none refl, append-nil tokens, is, found) e
+taken_on o tokens more false None new is found none e = cc
 
-pub tokens_stay : (o : Choice) (path : Path) (row : Row) (tokens : List (List ℕ))
-    (cells : List Cell) → (all_some (tokens_of_cells tokens cells) ≡ None → ⊥)
-    → all_some (tokens_of_cells tokens (map (next_cell o path row) cells)) ≡ all_some
-    (tokens_of_cells tokens cells)
-tokens_stay o path row [] cells u = refl
-tokens_stay o path row (t ∷ ts) [] u = refl
-tokens_stay o path row (t ∷ ts) (Kept ∷ cells) u =
-    front_stays t (all_some (tokens_of_cells ts cells))
-    (all_some (tokens_of_cells ts (map (next_cell o path row) cells)))
-    (tokens_stay o path row ts cells) u
-tokens_stay o path row (t ∷ ts) (Settled token ∷ cells) u =
-    front_stays token (all_some (tokens_of_cells ts cells))
-    (all_some (tokens_of_cells ts (map (next_cell o path row) cells)))
-    (tokens_stay o path row ts cells) u
-tokens_stay o path row (t ∷ ts) (Waiting column text missing ∷ cells) u = absurd (u refl)
+new_stays : (o : Choice) (token : List ℕ) (tokens more : List (List ℕ)) (new : List ℕ)
+    → (list_any is_last tokens ≡ true → more ≡ [])
+    → new_token o token tokens ≡ Some new → new_token o token (tokens ++ more) ≡ Some new
+new_stays o token tokens more new none e = by_cases (is_collectable o token) (begins o.extent token) e
+  where
+    by_cases : (a b : Bool)
+        → cond a (cond b (token_or_null (list_any is_last tokens)
+        (taken o.extent (filter (is_collectable o) tokens))) (Some (codes "."))) (Some token) ≡ Some new
+        → cond a (cond b (token_or_null (list_any is_last (tokens ++ more))
+        (taken o.extent (filter (is_collectable o) (tokens ++ more)))) (Some (codes "."))) (Some token)
+        ≡ Some new
+    by_cases true true k = taken_on o tokens more (list_any is_last tokens)
+        (taken o.extent (filter (is_collectable o) tokens)) new refl refl none k
+    by_cases true false k = k
+    by_cases false b k = k
 
-is_there : (new : Option (List (List ℕ))) (d : Result (List Row) Rule) → data_of new ≡ Some d
-    → new ≡ None → ⊥
-is_there None d e n = cc
-is_there (Some ts) d e n = cc
+-- nothing stands below the end of a column
+none_under : (row : Row) (column : Option ℕ) → column ≡ None → under row column ≡ []
+none_under row None e = refl
+none_under row (Some c) e = cc
 
--- what is decided of a data record, by what is remembered of its cells
-pub decides : (o : Choice) (past : List Row) (tokens : List (List ℕ)) (rows : List Row)
-    → data_of
-    (all_some (tokens_of_cells tokens (cells_at o (path_after past) (Spined Values tokens) rows
-    0 tokens))) ≡ context o past (Spined Values tokens) rows
-decides o past tokens rows = ap (λ (ts : List (Option (List ℕ))). data_of (all_some ts))
-    (cells_give o (path_after past) (Spined Values tokens) rows 0 tokens)
+token_stays : (o : Choice) (path : Path) (row : Row) (rows : List Row) (next : Row) (j : ℕ)
+    (token new : List ℕ) → new_token o token (chain path (row ∷ rows) j) ≡ Some new
+    → new_token o token (chain path (row ∷ (rows ++ next ∷ [])) j) ≡ Some new
+token_stays o path row rows next j token new e =
+    let column = column_after path (row ∷ rows) j in
+    rw (chain_push path (row ∷ rows) next j) (new_stays o token (chain path (row ∷ rows) j)
+    (under next column) new (λ k. none_under next column (ended_none path (row ∷ rows) j k)) e)
+
+parts : {X : Type 0} (x : Option X) (xs : Option (List X)) (ys : List X)
+    → push_front x xs ≡ Some ys
+    → (z : X) × (zs : List X) × (x ≡ Some z) × (xs ≡ Some zs) × (ys ≡ z ∷ zs)
+parts None xs ys e = cc
+parts (Some z) None ys e = cc
+parts (Some z) (Some zs) ys e = (z, zs, refl, refl, cc)
+
+-- the new tokens from place j on
+tokens_stay : (o : Choice) (path : Path) (row : Row) (rows : List Row) (next : Row) (j : ℕ)
+    (tokens new : List (List ℕ)) → all_some (new_tokens o path row rows j tokens) ≡ Some new
+    → all_some (new_tokens o path row (rows ++ next ∷ []) j tokens) ≡ Some new
+tokens_stay o path row rows next j [] new e = e
+tokens_stay o path row rows next j (t ∷ ts) new e =
+    let p = parts (new_token o t (chain path (row ∷ rows) j))
+    (all_some (new_tokens o path row rows (j + 1) ts)) new e in
+    rw (
+      token_stays o path row rows next j t p.0 p.2,
+      tokens_stay o path row rows next (j + 1) ts p.1 p.3,
+    ) (ap (λ (xs : List (List ℕ)). Some xs) (sym p.4))
+
+are_there : (new : Option (List (List ℕ))) (d : Result (List Row) Rule) → data_of new ≡ Some d
+    → (tokens : List (List ℕ)) × (new ≡ Some tokens)
+are_there None d e = cc
+are_there (Some tokens) d e = (tokens, refl)
 
 stays : (o : Choice) (past : List Row) (row : Row) (rows : List Row) (next : Row)
     (d : Result (List Row) Rule) → context o past row rows ≡ Some d
@@ -56,13 +94,9 @@ stays o past (Comment text) rows next d e = e
 stays o past (Spined Local tokens) rows next d e = e
 stays o past (Spined Interpretation tokens) rows next d e = e
 stays o past (Spined Values tokens) rows next d e =
-    let old = cells_at o (path_after past) (Spined Values tokens) rows 0 tokens in
-    let is = decides o past tokens rows ∙ e in
-    sym (decides o past tokens (rows ++ next ∷ []))
-    ∙ (ap (λ (cs : List Cell). data_of (all_some (tokens_of_cells tokens cs)))
-    (cells_grow o past (Spined Values tokens) rows next)
-    ∙ (ap data_of (tokens_stay o (path_after (passed (Spined Values tokens ∷ past) rows)) next
-    tokens old (is_there (all_some (tokens_of_cells tokens old)) d is)) ∙ is))
+    let row = Spined Values tokens in
+    let new = are_there (all_some (new_tokens o (path_after past) row rows 0 tokens)) d e in
+    rw (tokens_stay o (path_after past) row rows next 0 tokens new.0 new.1) (rw new.1 at e)
 
 pub one_row : (row : Row) (new : List Row)
     → ◌≡◌ {A = Option (Result (List Row) Rule)} (Some (Ok (row ∷ []))) (Some (Ok new))
@@ -100,8 +134,11 @@ one o past (Spined Values tokens) rows new e =
     tokens)) new e in
     single (Spined Values k.0) new k.2
 
-pub context_steady : (o : Choice) → IsSteady (context o)
-context_steady o = record {
+pub steady_if : (o : Choice)
+    → ((past : List Row) (row : Row) (rows : List Row) → IsClosed (passed (row ∷ past) rows)
+    → context o past row rows ≡ None → ⊥) → IsSteady (context o)
+steady_if o decides = record {
   stays = λ past row rows next d score e. stays o past row rows next d e;
   one = λ past row rows new e. one o past row rows new e;
+  decides = decides;
 }

@@ -15,7 +15,7 @@ use Rattle.hum_path.specs.Spines.{Path}
 use Rattle.hum_path.specs.Score.{path_after}
 use Rattle.hum_stage.specs.declared.faults.Rule.TheVariants.{L1}
 use Rattle.hum_context.specs.declared.front.Becoming.{Becoming}
-use Rattle.hum_context.specs.declared.front.Becoming.TheVariants.{Undecided, Stays, Null, Collects}
+use Rattle.hum_context.specs.declared.front.Becoming.TheVariants.{Stays, Null, Collects}
 use Rattle.hum_context.specs.declared.hearing.Heard.TheVariants.{Passed, Taken}
 use Rattle.hum_context.specs.declared.queued.Queued.{Queued}
 use Rattle.hum_context.specs.Context.{Choice, all_some, push_front, chain, new_token, new_tokens}
@@ -86,28 +86,18 @@ sofar_all o path row rows tokens j made h over = h.is
     ∙ ap (λ (ts : List (List ℕ)). Some ts) (append-nil made))
 
 -- The bytes of a new token.
-pub bytes_some : (o : Choice) (token : List ℕ) (chain : List (List ℕ)) (new : Becoming) (old more : ℕ)
-    → Becomes o token chain new → old ≡ length token + 1 → bytes_by new old ≡ Some more
-    → (text : List ℕ) × (new_token o token chain ≡ Some text) × (length text + 1 ≡ more)
-bytes_some o token chain Undecided old more h e k = cc
-bytes_some o token chain Stays old more h e k = (token, h, let s : old ≡ more = cc in sym e ∙ s)
-bytes_some o token chain Null old more h e k = (codes ".", h, let s : 2 ≡ more = cc in s)
-bytes_some o token chain (Collects size) old more h e k =
-    (join_with_byte 32 h.0, h.2, let s : size ≡ more = cc in h.3 ∙ s)
+pub bytes_some : (o : Choice) (token : List ℕ) (chain : List (List ℕ)) (new : Becoming) (old : ℕ)
+    → Becomes o token chain (Some new) → old ≡ length token + 1
+    → (text : List ℕ) × (new_token o token chain ≡ Some text) × (length text + 1 ≡ bytes_by new old)
+bytes_some o token chain Stays old h e = (token, h, sym e)
+bytes_some o token chain Null old h e = (codes ".", h, refl)
+bytes_some o token chain (Collects size) old h e = (join_with_byte 32 h.0, h.2, h.3)
 
-pub bytes_none : (o : Choice) (token : List ℕ) (chain : List (List ℕ)) (new : Becoming) (old : ℕ)
-    → Becomes o token chain new → bytes_by new old ≡ None → new_token o token chain ≡ None
-bytes_none o token chain Undecided old h k = h
-bytes_none o token chain Stays old h k = cc
-bytes_none o token chain Null old h k = cc
-bytes_none o token chain (Collects size) old h k = cc
-
-pub bytes_few : (new : Becoming) (old more : ℕ) → IsFew new → old ≤ 1048577
-    → bytes_by new old ≡ Some more → more ≤ 9007199254740992
-bytes_few Undecided old more h few e = cc
-bytes_few Stays old more h few e = let s : old ≡ more = cc in omega (arith, s, few)
-bytes_few Null old more h few e = let s : 2 ≡ more = cc in omega (arith, s)
-bytes_few (Collects size) old more h few e = let s : size ≡ more = cc in omega (arith, s, h)
+pub bytes_few : (new : Becoming) (old : ℕ) → IsFew (Some new) → old ≤ 1048577
+    → bytes_by new old ≤ 9007199254740992
+bytes_few Stays old h few = omega (arith, few)
+bytes_few Null old h few = omega arith
+bytes_few (Collects size) old h few = h
 
 pub counts_more : (made : List (List ℕ)) (text : List ℕ) (more size : ℕ) → length text + 1 ≡ more
     → Counts size (bytes_of made + more) → Counts size (bytes_of (made ++ text ∷ []))
@@ -139,7 +129,7 @@ kept_at o path held k row rows kept h below at =
     first_same r rs e = cc
 
 -- A text has a byte less than its tokens with one behind each.
-bytes_joined : (ts : List (List ℕ)) (t : List ℕ)
+pub bytes_joined : (ts : List (List ℕ)) (t : List ℕ)
     → length (join_with_byte 9 (t ∷ ts)) + 1 ≡ bytes_of (t ∷ ts)
 bytes_joined [] t = omega arith
 bytes_joined (u ∷ us) t =

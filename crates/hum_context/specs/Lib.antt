@@ -1,6 +1,6 @@
 pub mod Context
 pub mod Options
-pub mod Cells
+pub mod Columns
 pub mod Heard
 pub mod Queue
 pub mod Walking

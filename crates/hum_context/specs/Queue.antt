@@ -1,10 +1,11 @@
 -- What is kept of the records that wait.
-use Rattle.std.specs.Prelude.{◌≡◌, ◌≢◌, ◌≤◌, ℕ, Bool, false, List, [], ◌∷◌, filter, length, nat_lt}
+use Rattle.std.specs.Prelude.{◌≡◌, ◌<◌, ◌≤◌, ℕ, Bool, false, List, []}
+use Rattle.std.specs.Prelude.{◌∷◌, filter, length, nat_lt}
 use Rattle.std.specs.Prelude.{if◌then◌else◌, slice_index_or, Option, Some, None}
 use Rattle.std.specs.List.{list_any}
 use Rattle.hum_record.specs.declared.Kind.TheVariants.{Values as AnyValues}
 use Rattle.hum_record.specs.declared.SpinedKind.TheVariants.{Interpretation}
-use Rattle.hum_record.specs.Row.{Row, Spined, kind_of, text_of, token_at}
+use Rattle.hum_record.specs.Row.{Row, Spined, kind_of, text_of, token_at, width_of}
 use Rattle.hum_path.specs.Spines.{Path, after}
 use Rattle.hum_context.specs.declared.below.Below.{Below}
 use Rattle.hum_context.specs.declared.below.Below.TheVariants.{Same, Listed}
@@ -12,7 +13,7 @@ use Rattle.hum_context.specs.declared.hearing.Heard.{Heard}
 use Rattle.hum_context.specs.declared.hearing.Heard.TheVariants.{Passed, Taken}
 use Rattle.hum_context.specs.declared.queued.Queued.{Queued}
 use Rattle.hum_context.specs.Context.{Choice, is_collectable, is_last}
-use Rattle.hum_context.specs.Cells.{column_below, under}
+use Rattle.hum_context.specs.Columns.{column_below, under}
 use Rattle.hum_context.specs.Heard.{heard_under}
 
 -- the place at which the spine at place c goes on
@@ -36,13 +37,17 @@ abbrev pub heard_token : Heard → List ℕ → List (List ℕ)
 heard_token Passed token = []
 heard_token (Taken begins ends) token = token ∷ []
 
+-- the first record that waits is data, with a token at place j
+abbrev pub HasToken : List Queued → ℕ → Type 0
+HasToken [] j = ⊥
+HasToken (kept ∷ held) j = (kind_of kept.row ≡ AnyValues) × (j < width_of kept.row)
+
 -- What is kept of a record is what it is, what is heard of its tokens, where the spines under it go
 -- and which of them end there.
 pub record Known (o : Choice) (path : Path) (row : Row) (kept : Queued) : Type 0 where
   pub is : kept.row ≡ row
   pub short : length (text_of row) ≤ 1048576
   pub heard : (c : ℕ) → slice_index_or kept.heard.items c Passed ≡ heard_under o row c
-  pub valued : kept.heard.items ≢ [] → kind_of row ≡ AnyValues
   pub collected : (c : ℕ) → filter (is_collectable o) (under row (Some c))
       ≡ heard_token (heard_under o row c) (token_at row c)
   pub below : (c : ℕ) → column_in kept.row kept.below c ≡ column_below path row c

@@ -1,17 +1,23 @@
 -- What a walk down a spine has come to.
-use Rattle.std.specs.Prelude.{◌≡◌, ◌⊎◌, ℕ, ◌+◌, ◌-◌, ◌<◌, ◌≤◌, Bool, true, false, List, [], ◌∷◌, ◌++◌, filter, length}
+use Rattle.std.specs.Prelude.{◌≡◌, ◌⊎◌, ℕ, ◌+◌, ◌-◌, ◌<◌, ◌≤◌, Bool, true, false}
+use Rattle.std.specs.Prelude.{List, [], ◌∷◌, ◌++◌, filter, length}
 use Rattle.std.specs.Prelude.{if◌then◌else◌, slice_get, Option, Some, None}
 use Rattle.std.specs.List.{list_any, join_with_byte}
 use lib.Chars.{codes}
-use Rattle.hum_record.specs.Row.{Row}
+use Rattle.hum_record.specs.declared.SpinedKind.TheVariants.{Values}
+use Rattle.hum_record.specs.Row.{Row, Spined}
 use Rattle.hum_path.specs.Spines.{Path}
 use Rattle.hum_context.specs.declared.walk.Walk.{Walk}
 use Rattle.hum_context.specs.declared.front.Becoming.{Becoming}
-use Rattle.hum_context.specs.declared.front.Becoming.TheVariants.{Undecided, Stays, Null, Collects}
+use Rattle.hum_context.specs.declared.front.Becoming.TheVariants.{Stays, Null, Collects}
 use Rattle.hum_context.specs.declared.front.Weight.{Weight}
-use Rattle.hum_context.specs.declared.front.Weight.TheVariants.{Undecided as NotYet, Long, Fits}
-use Rattle.hum_context.specs.Context.{Choice, is_collectable, is_last, taken, chain, new_token}
-use Rattle.hum_context.specs.Cells.{column_after, add_token}
+use Rattle.hum_context.specs.declared.front.Weight.TheVariants.{Undecided, Long, Fits}
+use Rattle.hum_context.specs.Context.{Choice, all_some, is_collectable, is_last, taken, chain}
+use Rattle.hum_context.specs.Context.{new_token, new_tokens}
+use Rattle.hum_context.specs.Heard.{wanted_of}
+use Rattle.hum_context.specs.Queue.{Knows}
+use Rattle.hum_context.specs.declared.queued.Queued.{Queued}
+use Rattle.hum_context.specs.Columns.{column_after}
 use Rattle.hum_context.specs.declared.hearing.Heard.{Heard}
 use Rattle.hum_context.specs.declared.hearing.Heard.TheVariants.{Passed, Taken}
 
@@ -19,6 +25,11 @@ use Rattle.hum_context.specs.declared.hearing.Heard.TheVariants.{Passed, Taken}
 abbrev pub bytes_of : List (List ℕ) → ℕ
 bytes_of [] = 0
 bytes_of (token ∷ tokens) = length token + 1 + bytes_of tokens
+
+-- a token behind those so far
+abbrev pub add_token : List ℕ → List ℕ → List ℕ
+add_token [] token = token
+add_token (byte ∷ bytes) token = (byte ∷ bytes) ++ 32 ∷ token
 
 -- the collectable tokens of the spine at place j in some rows, in its reach
 abbrev pub collected : Choice → Path → List Row → ℕ → List (List ℕ)
@@ -54,19 +65,19 @@ AllStand o path first rows walks =
     (j : ℕ) (walk : Walk) → slice_get walks j ≡ Some walk → first < walk.at
     → Stands o path first rows j walk
 
--- what a token becomes, with those below it in reach
-abbrev pub Becomes : Choice → List ℕ → List (List ℕ) → Becoming → Type 0
-Becomes o token chain Undecided = new_token o token chain ≡ None
-Becomes o token chain Stays = new_token o token chain ≡ Some token
-Becomes o token chain Null = new_token o token chain ≡ Some (codes ".")
-Becomes o token chain (Collects size) =
+-- what a token becomes, with those below it in reach, if that is known
+abbrev pub Becomes : Choice → List ℕ → List (List ℕ) → Option Becoming → Type 0
+Becomes o token chain None = new_token o token chain ≡ None
+Becomes o token chain (Some Stays) = new_token o token chain ≡ Some token
+Becomes o token chain (Some Null) = new_token o token chain ≡ Some (codes ".")
+Becomes o token chain (Some (Collects size)) =
     (tokens : List (List ℕ)) × (taken o.extent (filter (is_collectable o) chain) ≡ Some tokens)
     × (new_token o token chain ≡ Some (join_with_byte 32 tokens))
     × (length (join_with_byte 32 tokens) + 1 ≡ size)
 
 -- whether some new tokens are known, and fit into a record
 abbrev pub Weighs : Option (List (List ℕ)) → Weight → Type 0
-Weighs new NotYet = new ≡ None
+Weighs new Undecided = new ≡ None
 Weighs new Long = (tokens : List (List ℕ)) × (new ≡ Some tokens) × (1048577 < bytes_of tokens)
 Weighs new Fits = (tokens : List (List ℕ)) × (new ≡ Some tokens) × (bytes_of tokens ≤ 1048577)
 
@@ -75,25 +86,39 @@ abbrev pub Counts : ℕ → ℕ → Type 0
 Counts size bytes = (bytes ≡ size) ⊎ ((1048577 < size) × (1048577 < bytes))
 
 -- how many bytes a new token has, and one more, by those of the old one
-abbrev pub bytes_by : Becoming → ℕ → Option ℕ
-bytes_by Undecided old = None
-bytes_by Stays old = Some old
-bytes_by Null old = Some 2
-bytes_by (Collects size) old = Some size
+abbrev pub bytes_by : Becoming → ℕ → ℕ
+bytes_by Stays old = old
+bytes_by Null old = 2
+bytes_by (Collects size) old = size
 
 -- a token behind others, if it is collected
 abbrev pub text_with : List ℕ → Heard → List ℕ → List ℕ
 text_with text Passed token = text
 text_with text (Taken begins ends) token = add_token text token
 
--- the new token of a cell was added to others
-pub record Writes (o : Choice) (token : List ℕ) (chain before after : List (List ℕ)) : Type 0 where
+-- the new token of a cell was added to those of a record in the making
+pub record Writes (o : Choice) (token : List ℕ) (chain : List (List ℕ))
+    (before after : List (List ℕ) → Type 0) : Type 0 where
   pub new : List ℕ
   pub is : new_token o token chain ≡ Some new
-  pub added : after ≡ before ++ new ∷ []
+  pub added : (made : List (List ℕ)) → before made → after (made ++ new ∷ [])
 
-abbrev pub IsFew : Becoming → Type 0
-IsFew (Collects size) = size ≤ 9007199254740992
+-- The first record that waits is data that is known, and so is each of its new tokens.
+pub record Decided (wanted : Option ℕ) (gone : ℕ) (held : List Queued) (walks : List Walk)
+    : Type 0 where
+  pub o : Choice
+  pub path : Path
+  pub tokens : List (List ℕ)
+  pub rows : List Row
+  pub new : List (List ℕ)
+  pub want : wanted ≡ wanted_of o.extent
+  pub some_wanted : taken o.extent [] ≡ None
+  pub knows : Knows o path held (Spined Values tokens ∷ rows)
+  pub stand : AllStand o path gone (Spined Values tokens ∷ rows) walks
+  pub are : all_some (new_tokens o path (Spined Values tokens) rows 0 tokens) ≡ Some new
+
+abbrev pub IsFew : Option Becoming → Type 0
+IsFew (Some (Collects size)) = size ≤ 9007199254740992
 IsFew _ = Unit {0}
 
 pub record IsWithout (bytes : ℕ) (enough : Bool) (before after : Walk) : Type 0 where

@@ -74,17 +74,15 @@ fn mark_move(places: &mut Vec<Option<u32>>, from: Move, place: u32) -> Result<()
 
 /// The places at which spines go on by some moves.
 fn places_below(alloc: Global, moves: &[Move]) -> Result<Vec<Option<u32>>, AllocError>
+    requires { length moves.now ≤ 4096 }
     ensures { IfOk result (λ places. (c : ℕ) → slice_index_or places.items c None
         ≡ position (goes_on c) moves.now) }
 {
     let mut places = Vec::new(alloc);
     for n in 0..moves.len() {
         let i = moves.len() - 1 - n;
-        let Ok(place) = u32::try_from(i) else {
-            return Err(AllocError);
-        };
         let from = moves[i];
-        mark_move(&mut places, from, place)?;
+        mark_move(&mut places, from, i as u32)?;
     }
     Ok(places)
 }
@@ -92,6 +90,7 @@ fn places_below(alloc: Global, moves: &[Move]) -> Result<Vec<Option<u32>>, Alloc
 impl Below {
     /// By these moves.
     pub(crate) fn by(alloc: Global, found: &Moves) -> Result<Below, AllocError>
+        requires { length found.now ≤ 4096 }
         ensures { IfOk result (λ below. (c : ℕ) → place_in below c
             ≡ position (goes_on c) found.now) }
     {

@@ -4,30 +4,29 @@ ghost use Rattle.std.specs.Prelude.{Some, None, IfOk, OnOk};
 ghost use Rattle.std.specs.List.{join_with_byte};
 ghost use Rattle.hum_record.specs.declared.SpinedKind.TheVariants.{Values};
 ghost use Rattle.hum_record.specs.Row.{Row, Spined, token_at};
-ghost use Rattle.hum_record.specs.Spelling.{IsToken};
+ghost use Rattle.hum_record.specs.Making.{Holds, IsMade};
 ghost use Rattle.hum_path.specs.Spines.{Path};
 ghost use Rattle.hum_context.specs.Context.{Choice, all_some, begins, chain, is_collectable, taken, new_tokens};
 ghost use Rattle.hum_context.specs.Heard.{begins_in, wanted_of};
-ghost use Rattle.hum_context.specs.Queue.{Known, Knows};
+ghost use Rattle.hum_context.specs.Queue.{HasToken, Known, Knows};
 ghost use Rattle.hum_context.specs.declared.hearing.Heard.TheVariants.{Passed};
 ghost use Rattle.hum_context.specs.Walking.{AllStand, Stands, Halts, Becomes, IsFew, Weighs, Counts, collected};
-ghost use Rattle.hum_context.specs.Walking.{bytes_by, text_with, Writes};
+ghost use Rattle.hum_context.specs.Walking.{Decided, bytes_by, text_with, Writes};
 
 use crate::hearing::Heard;
 use crate::queued::Queued;
 use crate::text::Text;
 use crate::walk::Walk;
-use hum_record::{Kind, Record, RecordBuilder, Spare, SpinedKind};
+use hum_record::{Making, Record, Spare, SpinedKind};
 use std::alloc::{AllocError, Global};
 use std::collections::VecDeque;
+use std::mem;
 
 // the most bytes of a record, and one more, since a tab is counted behind each token
 const MOST: u64 = 1_048_577;
 
-/// What a token becomes.
+/// What a token becomes, once that is known.
 pub(crate) enum Becoming {
-    /// That isn't known yet.
-    Undecided,
     /// It stays as it is.
     Stays,
     /// It becomes null.
@@ -48,6 +47,7 @@ pub(crate) enum Weight {
 }
 
 /// The walk from a cell of the record with this number, as far as it is known.
+#[inline]
 fn started(walks: &[Walk], at: u64, j: usize) -> Walk
     requires { at ≤ 4294967295 }
     ensures behind { at ≤ result.at }
@@ -82,7 +82,8 @@ fn walk_at(
 }
 
 /// What the token of a cell becomes from which others are collected, by the walk from it.
-fn becoming_by(walk: Walk) -> Becoming
+#[inline]
+fn becoming_by(walk: Walk) -> Option<Becoming>
     ensures few { IsFew result }
     ensures becomes { (o : Choice) (path : Path) (first : ℕ) (rows : List Row) (j : ℕ)
         → taken o.extent [] ≡ None
@@ -91,12 +92,12 @@ fn becoming_by(walk: Walk) -> Becoming
         → Becomes o token (chain path rows j) result }
 {
     if walk.enough {
-        return Becoming::Collects(walk.size);
+        return Some(Becoming::Collects(walk.size));
     }
     if walk.ended {
-        return Becoming::Null;
+        return Some(Becoming::Null);
     }
-    Becoming::Undecided
+    None
 }
 
 /// What the token at place j becomes of the k-th record that waits.
@@ -107,7 +108,7 @@ fn new_at(
     walks: &[Walk],
     j: usize,
     wanted: Option<u16>,
-) -> Becoming
+) -> Option<Becoming>
     requires few { gone + length held.now.items ≤ 4294967295 }
     requires within { k < length held.now.items }
     ensures few { IsFew result }
@@ -119,10 +120,10 @@ fn new_at(
         (chain path (Spined Values tokens ∷ rows) j) result }
 {
     match held[k].heard(j) {
-        Heard::Passed => Becoming::Stays,
+        Heard::Passed => Some(Becoming::Stays),
         Heard::Taken { begins, ends: _ } => {
             if !begins {
-                return Becoming::Null;
+                return Some(Becoming::Null);
             }
             becoming_by(walk_at(held, k, gone, walks, j, wanted))
         }
@@ -130,18 +131,19 @@ fn new_at(
 }
 
 /// How many bytes a new token has, and one more.
-fn new_bytes(becoming: Becoming, old: u64) -> Option<u64>
+#[inline]
+fn new_bytes(becoming: Becoming, old: u64) -> u64
     ensures { result ≡ bytes_by becoming old }
 {
     match becoming {
-        Becoming::Undecided => None,
-        Becoming::Stays => Some(old),
-        Becoming::Null => Some(2),
-        Becoming::Collects(size) => Some(size),
+        Becoming::Stays => old,
+        Becoming::Null => 2,
+        Becoming::Collects(size) => size,
     }
 }
 
 /// More bytes, unless there are too many already.
+#[inline]
 fn plus(size: u64, more: u64) -> u64
     requires { (size ≤ 2 ^ 60) × (more ≤ 2 ^ 53) }
     ensures few { size ≤ 2 ^ 54 → result ≤ 2 ^ 54 }
@@ -169,11 +171,10 @@ pub(crate) fn weigh(
     let kept = &held[k];
     let mut size: u64 = 0;
     for j in 0..kept.row.width() {
-        let new = new_at(held, k, gone, walks, j, wanted);
-        let Some(more) = new_bytes(new, kept.bytes(j)) else {
+        let Some(new) = new_at(held, k, gone, walks, j, wanted) else {
             return Weight::Undecided;
         };
-        size = plus(size, more);
+        size = plus(size, new_bytes(new, kept.bytes(j)));
     }
     if size > MOST {
         Weight::Long
@@ -183,6 +184,7 @@ pub(crate) fn weigh(
 }
 
 /// Adds the token in a column, if it is collected.
+#[inline]
 fn text_with(text: Text, next: &Queued, c: usize) -> Result<Text, AllocError>
     ensures { IfOk result (λ new. (o : Choice) (path : Path) (row : Row) → Known o path row next.now
         → new ≡ text_with text (slice_index_or next.now.heard.items c Passed) (token_at row c)) }
@@ -190,18 +192,16 @@ fn text_with(text: Text, next: &Queued, c: usize) -> Result<Text, AllocError>
     match next.heard(c) {
         Heard::Passed => Ok(text),
         Heard::Taken { begins: _, ends: _ } => {
-            if c >= next.row.width() || next.row.kind() != Kind::Values {
-                return Err(AllocError);
-            }
-            let text = text.with(next.row.token(c))?;
+            let text = text.with(next.token(c))?;
             Ok(text)
         }
     }
 }
 
-/// The tokens that are collected from a cell of the first record that waits, joined.
+/// The tokens that are collected from a cell of the first record that waits, joined in a text that
+/// is done with.
 fn gather(
-    alloc: Global,
+    spare: Text,
     held: &VecDeque<Queued>,
     gone: u64,
     j: usize,
@@ -210,62 +210,23 @@ fn gather(
     requires few { gone + length held.now.items ≤ 4294967295 }
     ensures { IfOk result (λ text. (o : Choice) (path : Path) (rows : List Row)
         → wanted ≡ wanted_of o.extent → taken o.extent [] ≡ None → Knows o path held.now.items rows
-        → (tokens : List (List ℕ)) × (taken o.extent (collected o path rows j) ≡ Some tokens)
-        × (text ≡ join_with_byte 32 tokens)) }
+        → (tokens : List (List ℕ)) → taken o.extent (collected o path rows j) ≡ Some tokens
+        → (text ≡ join_with_byte 32 tokens) × (text ≢ [])) }
 {
-    let mut text = Text::none(alloc);
+    let mut text = spare.cleared();
     let mut walk = Walk::from(gone, j);
     for n in 0..held.len() {
         if walk.enough {
             return Ok(text);
         }
         let Some(c) = walk.column else {
-            return Err(AllocError);
+            return Ok(text);
         };
         let next = &held[n];
         text = text_with(text, next, c)?;
         walk = walk.pass(c, next, wanted);
     }
-    if !walk.enough {
-        return Err(AllocError);
-    }
     Ok(text)
-}
-
-/// Adds a token to a record.
-fn push(builder: &mut RecordBuilder, token: &[u8]) -> Result<(), AllocError>
-    requires lawful { IsToken builder.old.kind token.now }
-    ensures { OnOk result
-        (builder.new ≡ record builder.old { tokens = builder.old.tokens ++ token.now ∷ [] }) }
-{
-    match builder.push(token) {
-        Ok(()) => Ok(()),
-        Err(_) => Err(AllocError),
-    }
-}
-
-/// Adds the token in a column of a data record.
-fn push_token(builder: &mut RecordBuilder, row: &Record, j: usize) -> Result<(), AllocError>
-    requires kind { builder.old.kind ≡ Values }
-    ensures { OnOk result (builder.new
-        ≡ record builder.old { tokens = builder.old.tokens ++ token_at row.now j ∷ [] }) }
-{
-    if j >= row.width() || row.kind() != Kind::Values {
-        return Err(AllocError);
-    }
-    push(builder, row.token(j))
-}
-
-/// Adds tokens that are joined.
-fn push_text(builder: &mut RecordBuilder, text: &Text) -> Result<(), AllocError>
-    requires kind { builder.old.kind ≡ Values }
-    ensures { OnOk result
-        (builder.new ≡ record builder.old { tokens = builder.old.tokens ++ text.now ∷ [] }) }
-{
-    if text.bytes().is_empty() {
-        return Err(AllocError);
-    }
-    push(builder, text.bytes())
 }
 
 /// Writes the new token of a cell of the first record that waits.
@@ -276,62 +237,66 @@ fn write_token(
     j: usize,
     wanted: Option<u16>,
     becoming: Becoming,
-    builder: &mut RecordBuilder,
+    text: &mut Text,
+    making: &mut Making,
 ) -> Result<(), AllocError>
     requires few { gone + length held.now.items ≤ 4294967295 }
-    requires kind { builder.old.kind ≡ Values }
-    requires sound { builder.old.spent ≡ false }
-    requires within { 0 < length held.now.items }
-    ensures kind { OnOk result (builder.new.kind ≡ Values) }
-    ensures sound { OnOk result (builder.new.spent ≡ false) }
-    ensures longer { OnOk result (length builder.new.tokens ≡ length builder.old.tokens + 1) }
+    requires kind { making.old.builder.kind ≡ Values }
+    requires token { HasToken held.now.items j }
+    ensures kind { making.new.builder.kind ≡ Values }
     ensures written { OnOk result ((o : Choice) (path : Path) (tokens : List (List ℕ))
         (rows : List Row) → wanted ≡ wanted_of o.extent → taken o.extent [] ≡ None
         → Knows o path held.now.items (Spined Values tokens ∷ rows)
         → Becomes o (token_at (Spined Values tokens) j)
-        (chain path (Spined Values tokens ∷ rows) j) becoming
+        (chain path (Spined Values tokens ∷ rows) j) (Some becoming)
         → Writes o (token_at (Spined Values tokens) j)
-        (chain path (Spined Values tokens ∷ rows) j) builder.old.tokens builder.new.tokens) }
+        (chain path (Spined Values tokens ∷ rows) j)
+        (Holds Values making.old.builder making.old.is_long)
+        (Holds Values making.new.builder making.new.is_long)) }
 {
     match becoming {
-        Becoming::Undecided => Err(AllocError),
-        Becoming::Stays => push_token(builder, &held[0].row, j),
-        Becoming::Null => push(builder, b"."),
+        Becoming::Stays => making.push(held[0].row.token(j))?,
+        Becoming::Null => making.push(b".")?,
         Becoming::Collects(_) => {
-            let text = gather(alloc, held, gone, j, wanted)?;
-            push_text(builder, &text)
+            let spare = mem::replace(text, Text::none(alloc));
+            let made = gather(spare, held, gone, j, wanted)?;
+            making.push(made.token())?;
+            *text = made;
         }
     }
+    Ok(())
 }
 
-/// The record that the first becomes that waits, whose new tokens fit into one.
+/// The record that the first becomes that waits, unless its new tokens are too long for one.
 pub(crate) fn write(
     alloc: Global,
     held: &VecDeque<Queued>,
     gone: u64,
     walks: &[Walk],
     wanted: Option<u16>,
+    text: &mut Text,
     spare: &mut Spare,
-) -> Result<Record, AllocError>
+) -> Result<Option<Record>, AllocError>
     requires few { gone + length held.now.items ≤ 4294967295 }
     requires within { 0 < length held.now.items }
+    requires decided { Decided wanted gone held.now.items walks.now }
     ensures { IfOk result (λ made. (o : Choice) (path : Path) (tokens : List (List ℕ))
         (rows : List Row) → wanted ≡ wanted_of o.extent → taken o.extent [] ≡ None
         → Knows o path held.now.items (Spined Values tokens ∷ rows)
         → AllStand o path gone (Spined Values tokens ∷ rows) walks.now
-        → (new : List (List ℕ)) × (made ≡ Spined Values new)
+        → (new : List (List ℕ)) × IsMade Values new made
         × (all_some (new_tokens o path (Spined Values tokens) rows 0 tokens) ≡ Some new)) }
 {
-    let width = held[0].row.width();
-    if width == 0 {
-        return Err(AllocError);
+    let row = &held[0].row;
+    let _kind = row.kind();
+    let mut making = Making::new(alloc, SpinedKind::Values, spare);
+    for j in 0..row.width() {
+        let Some(new) = new_at(held, 0, gone, walks, j, wanted) else {
+            unreachable!()
+        };
+        write_token(alloc, held, gone, j, wanted, new, text, &mut making)?;
     }
-    let mut builder = RecordBuilder::reusing(alloc, SpinedKind::Values, spare);
-    for j in 0..width {
-        let new = new_at(held, 0, gone, walks, j, wanted);
-        write_token(alloc, held, gone, j, wanted, new, &mut builder)?;
-    }
-    Ok(builder.finish())
+    Ok(making.finish())
 }
 
 /// Whether others are collected from a token.

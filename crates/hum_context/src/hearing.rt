@@ -1,8 +1,8 @@
 //! What is heard of the tokens of a data record.
-ghost use Rattle.std.specs.Prelude.{◌≡◌, ◌≢◌, ℕ, [], map, false, true, OnOk, IfOk, slice_index_or};
+ghost use Rattle.std.specs.Prelude.{◌≡◌, ◌≢◌, ◌≤◌, ℕ, [], length, map, false, true, OnOk, IfOk, slice_index_or};
 ghost use Rattle.std.specs.List.{list_any};
 ghost use Rattle.hum_record.specs.declared.Kind.TheVariants.{Values as AnyValues};
-ghost use Rattle.hum_record.specs.Row.{kind_of, tokens_of};
+ghost use Rattle.hum_record.specs.Row.{kind_of, tokens_of, width_of};
 ghost use Rattle.hum_context.specs.Context.{is_data, is_null, begins};
 ghost use Rattle.hum_context.specs.Options.{choice_of, extent_of, omits_of};
 ghost use Rattle.hum_context.specs.Heard.{heard_of, heard_under, is_taken, ends, wanted_of};
@@ -12,6 +12,8 @@ use crate::options::{ContextOptions, Span};
 use hum_pattern::Pattern;
 use hum_record::{Kind, Record};
 use std::alloc::{AllocError, Global};
+use std::marker::Model;
+use std::mem;
 
 /// What is heard of a token.
 #[derive(Clone, Copy, Debug, PartialEq, Eq)]
@@ -77,6 +79,47 @@ impl Span {
     }
 }
 
+/// The list of what was heard of a record that is done with, if there was one.
+///
+/// Nothing of what stood in it shows, so one is like another.
+#[derive(Drop)]
+pub(crate) struct SpareHeard {
+    heard: Vec<Heard>,
+}
+
+impl Model for SpareHeard {
+    ghost use Rattle.std.specs.Prelude.{⊤};
+
+    ghost Value = { ⊤ };
+
+    ghost view = { λ s. tt };
+}
+
+impl SpareHeard {
+    /// No record was done with as yet.
+    pub(crate) fn none(alloc: Global) -> SpareHeard {
+        SpareHeard {
+            heard: Vec::new(alloc),
+        }
+    }
+
+    /// Keeps the list of a record of which something was heard, in place of the one that was kept.
+    pub(crate) fn keep(&mut self, heard: Vec<Heard>) {
+        if !heard.is_empty() {
+            self.heard = heard;
+        }
+    }
+
+    /// Hands out the list, empty.
+    fn take(&mut self, alloc: Global) -> Vec<Heard>
+        ensures { result.items ≡ [] }
+    {
+        let mut heard = mem::replace(&mut self.heard, Vec::new(alloc));
+        heard.clear();
+        heard
+    }
+}
+
 impl ContextOptions {
     /// What is heard of a token. Patterns are never tried on null tokens.
     fn hear(&mut self, token: &[u8]) -> Heard
@@ -114,29 +157,42 @@ impl ContextOptions {
     }
 
     /// The same; nothing where none is collected.
-    fn hear_values(&mut self, alloc: Global, row: &Record) -> Result<Vec<Heard>, AllocError>
+    fn hear_values(
+        &mut self,
+        alloc: Global,
+        row: &Record,
+        spare: &mut SpareHeard,
+    ) -> Result<Vec<Heard>, AllocError>
         requires { kind_of row.now ≡ AnyValues }
         ensures heard { IfOk result (λ heard. (c : ℕ) → slice_index_or heard.items c Passed
             ≡ heard_under (choice_of self.old) row.now c) }
+        ensures narrow { IfOk result (λ heard. length heard.items ≤ width_of row.now) }
         ensures kept { self.new ≡ self.old }
     {
-        let mut heard = Vec::new(alloc);
+        let mut heard = spare.take(alloc);
         if self.hear_all(row, &mut heard)? {
             return Ok(heard);
         }
+        spare.keep(heard);
         Ok(Vec::new(alloc))
     }
 
     /// What is heard of each token of a record; nothing where none is collected.
-    pub(crate) fn hear_row(&mut self, alloc: Global, row: &Record) -> Result<Vec<Heard>, AllocError>
+    pub(crate) fn hear_row(
+        &mut self,
+        alloc: Global,
+        row: &Record,
+        spare: &mut SpareHeard,
+    ) -> Result<Vec<Heard>, AllocError>
         ensures heard { IfOk result (λ heard. (c : ℕ) → slice_index_or heard.items c Passed
             ≡ heard_under (choice_of self.old) row.now c) }
         ensures valued { IfOk result (λ heard. heard.items ≢ [] → kind_of row.now ≡ AnyValues) }
+        ensures narrow { IfOk result (λ heard. length heard.items ≤ width_of row.now) }
         ensures kept { self.new ≡ self.old }
     {
         match row.kind() {
             Kind::Values => {
-                let heard = self.hear_values(alloc, row)?;
+                let heard = self.hear_values(alloc, row, spare)?;
                 Ok(heard)
             }
             Kind::Interpretation => Ok(Vec::new(alloc)),

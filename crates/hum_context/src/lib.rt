@@ -16,6 +16,7 @@ mod queued;
 mod sharing;
 mod stepping;
 mod text;
+mod waiting;
 mod walk;
 
 use hum_stage::Lagging;

@@ -9,10 +9,12 @@ ghost use Rattle.hum_context.specs.Walking.{AllStand};
 ghost use Rattle.hum_context.specs.declared.queued.Queued.{Queued};
 
 use crate::front::{Weight, advance, weigh, write};
+use crate::hearing::SpareHeard;
 use crate::lasting::lasting;
 use crate::options::ContextOptions;
 use crate::queued::Queued;
 use crate::sharing::share;
+use crate::text::Text;
 use crate::walk::Walk;
 use hum_path::Paths;
 use hum_record::{Record, Spare};
@@ -33,8 +35,12 @@ pub struct Collecting {
     walks: Vec<Walk>,
     // the same list in the making
     next: Vec<Walk>,
+    // where a new token is made
+    text: Text,
     // the record that gave way to another last
     spare: Spare,
+    // what was heard of the record that went last
+    spare_heard: SpareHeard,
 }
 
 impl LooksAhead for Collecting {
@@ -68,10 +74,14 @@ impl LooksAhead for Collecting {
     }
 
     fn put(&mut self, next: Record, held: &mut VecDeque<Queued>) -> Result<(), AllocError> {
-        let Ok(found) = self.paths.step(&next) else {
-            return Err(AllocError);
-        };
-        let queued = Queued::new(self.alloc, &mut self.options, next, &found)?;
+        let found = self.paths.follow(&next)?;
+        let queued = Queued::new(
+            self.alloc,
+            &mut self.options,
+            next,
+            &found,
+            &mut self.spare_heard,
+        )?;
         held.push_back(queued)?;
         Ok(())
     }
@@ -87,14 +97,18 @@ impl LooksAhead for Collecting {
             Weight::Undecided => Ok(Verdict::Waits),
             Weight::Long => Ok(Verdict::Refuses(Rule::L1)),
             Weight::Fits => {
-                let made = write(
+                let Some(made) = write(
                     self.alloc,
                     held,
                     self.gone,
                     &self.walks,
                     wanted,
+                    &mut self.text,
                     &mut self.spare,
-                )?;
+                )?
+                else {
+                    unreachable!()
+                };
                 let row = self.let_go(held)?;
                 self.keep(row);
                 Ok(Verdict::Gives(Some(made)))
@@ -126,7 +140,9 @@ impl Collecting {
             gone: 0,
             walks: Vec::new(alloc),
             next: Vec::new(alloc),
+            text: Text::none(alloc),
             spare: Spare::none(alloc),
+            spare_heard: SpareHeard::none(alloc),
         }
     }
 
@@ -163,6 +179,7 @@ impl Collecting {
           gone = self.new.gone;
           walks = self.new.walks;
           next = self.new.next;
+          spare_heard = self.new.spare_heard;
         }) }
         ensures gone { OnOk result (self.new.gone ≡ self.old.gone + 1) }
         ensures stand { OnOk result ((path : Path) (row : Row) (rows : List Row)
@@ -180,7 +197,9 @@ impl Collecting {
         };
         self.pass_on(&kept)?;
         self.gone += 1;
-        Ok(Some(kept.row))
+        let Queued { row, heard, .. } = kept;
+        self.spare_heard.keep(heard);
+        Ok(Some(row))
     }
 
     /// Keeps the buffers of a record that gave way to another.

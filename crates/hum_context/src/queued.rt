@@ -1,144 +1,20 @@
 //! A record that waits.
-ghost use Rattle.std.specs.Prelude.{◌≡◌, ◌==◌, ◌+◌, ◌≤◌, ℕ, [], true, length, IfOk, slice_index_or};
-ghost use Rattle.std.specs.List.{position};
-ghost use Rattle.hum_record.specs.declared.Kind.TheVariants.{Interpretation as AnyInterpretation};
-ghost use Rattle.hum_record.specs.Row.{kind_of, tokens_of};
-ghost use Rattle.hum_path.specs.Chains.{goes_on};
-ghost use Rattle.hum_path.specs.Spines.{Path, moves};
-ghost use Rattle.hum_context.specs.Context.{is_last};
-ghost use Rattle.hum_context.specs.Options.{choice_of};
-ghost use Rattle.hum_context.specs.Queue.{IsStill, Known, column_in, is_last_in, place_in};
-ghost use Rattle.hum_context.specs.declared.hearing.Heard.TheVariants.{Passed};
+ghost use Rattle.std.specs.Prelude.{◌≡◌, ◌≢◌, ◌≤◌, [], length};
+ghost use Rattle.hum_record.specs.declared.Kind.TheVariants.{Values as AnyValues};
+ghost use Rattle.hum_record.specs.Row.{kind_of, width_of};
 
 use crate::below::Below;
 use crate::hearing::Heard;
-use crate::options::ContextOptions;
-use hum_path::{Moves, Sign, token_sign};
-use hum_record::{Kind, Record};
-use std::alloc::{AllocError, Global};
+use hum_record::Record;
 
 /// A record that waits, what was heard of its tokens, and where the spines under it go.
 #[derive(Drop)]
 pub struct Queued {
     pub(crate) row: Record,
     // of each token, or nothing where none is collected
-    heard: Vec<Heard>,
-    below: Below,
-}
-
-/// Whether a column's future is ended at its token.
-fn is_last_at(row: &Record, c: usize) -> bool
-    ensures { result ≡ is_last (slice_index_or (tokens_of row.now) c []) }
-{
-    if c >= row.width() {
-        return false;
-    }
-    match token_sign(row.token(c)) {
-        Sign::End | Sign::Exclusive => true,
-        Sign::Split | Sign::Join | Sign::Exchange | Sign::Add | Sign::Plain => false,
-    }
-}
-
-/// Where the spines under a record go, if it may move them.
-fn below_row(alloc: Global, row: &Record, found: &Moves) -> Result<Below, AllocError>
-    ensures { IfOk result (λ below. kind_of row.now ≡ AnyInterpretation
-        → (c : ℕ) → place_in below c ≡ position (goes_on c) found.now) }
-{
-    match row.kind() {
-        Kind::Interpretation => Below::by(alloc, found),
-        Kind::Values => Ok(Below::Same(0)),
-        Kind::Local => Ok(Below::Same(0)),
-        Kind::Global => Ok(Below::Same(0)),
-    }
-}
-
-impl Queued {
-    /// A record that comes, with what is heard of it.
-    pub(crate) fn new(
-        alloc: Global,
-        options: &mut ContextOptions,
-        row: Record,
-        found: &Moves,
-    ) -> Result<Queued, AllocError>
-        ensures kept { options.new ≡ options.old }
-        ensures known { IfOk result (λ queued. (path : Path) → found.now ≡ moves path row
-            → Known (choice_of options.old) path row queued) }
-    {
-        let _kind = row.kind();
-        let heard = options.hear_row(alloc, &row)?;
-        let below = below_row(alloc, &row, found)?;
-        Ok(Queued { row, heard, below })
-    }
-
-    /// What was heard in a column; nothing beyond the last.
-    pub(crate) fn heard(&self, c: usize) -> Heard
-        ensures { result ≡ slice_index_or self.now.heard.items c Passed }
-    {
-        if c < self.heard.len() {
-            self.heard[c]
-        } else {
-            Heard::Passed
-        }
-    }
-
-    /// Whether none of its tokens is collected.
-    pub(crate) fn is_quiet(&self) -> bool
-        ensures { result ≡ (length self.now.heard.items == 0) }
-    {
-        self.heard.is_empty()
-    }
-
-    /// Whether nothing of it is collected, and no spine moves or ends.
-    pub(crate) fn is_still(&self) -> bool
-        ensures { result ≡ true → IsStill self.now }
-    {
-        match self.row.kind() {
-            Kind::Interpretation => false,
-            Kind::Values => self.heard.is_empty(),
-            Kind::Local => self.heard.is_empty(),
-            Kind::Global => self.heard.is_empty(),
-        }
-    }
-
-    /// Whether a column's future is ended at its token.
-    pub(crate) fn is_last(&self, c: usize) -> bool
-        ensures { result ≡ is_last_in self.now.row c }
-    {
-        match self.row.kind() {
-            Kind::Interpretation => is_last_at(&self.row, c),
-            Kind::Values => false,
-            Kind::Local => false,
-            Kind::Global => false,
-        }
-    }
-
-    /// The column of the cell below, within the reach.
-    pub(crate) fn below(&self, c: usize) -> Option<usize>
-        ensures { result ≡ column_in self.now.row self.now.below c }
-    {
-        match self.row.kind() {
-            Kind::Interpretation => {
-                if is_last_at(&self.row, c) {
-                    return None;
-                }
-                self.below.of(c)
-            }
-            Kind::Values => Some(c),
-            Kind::Local => Some(c),
-            Kind::Global => Some(c),
-        }
-    }
-
-    /// How many bytes its token in a column has, and one more.
-    pub(crate) fn bytes(&self, c: usize) -> u64
-        ensures bytes { result ≡ length (slice_index_or (tokens_of self.now.row) c []) + 1 }
-        ensures few { result ≤ 1048577 }
-    {
-        if c < self.row.width() {
-            let _text = self.row.text();
-            self.row.token(c).len() as u64 + 1
-        } else {
-            1
-        }
-    }
+    pub(crate) heard: Vec<Heard>,
+    pub(crate) below: Below,
+    // only data is heard
+    pub ghost valued: { heard.items ≢ [] → kind_of row ≡ AnyValues },
+    pub ghost narrow: { length heard.items ≤ width_of row },
 }

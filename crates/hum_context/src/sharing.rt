@@ -2,7 +2,7 @@
 ghost use Rattle.std.specs.Prelude.{◌≡◌, ◌⊎◌, ◌<◌, ◌+◌, ◌-◌, ℕ, List, [], ◌∷◌, Some, OnOk};
 ghost use Rattle.hum_record.specs.Row.{Row};
 ghost use Rattle.hum_path.specs.Spines.{Path, after};
-ghost use Rattle.hum_context.specs.Cells.{column_below};
+ghost use Rattle.hum_context.specs.Columns.{column_below};
 ghost use Rattle.hum_context.specs.Context.{Choice};
 ghost use Rattle.hum_context.specs.Heard.{wanted_of};
 ghost use Rattle.hum_context.specs.Queue.{Known};

@@ -3,7 +3,7 @@ ghost use Rattle.std.specs.Prelude.{◌≡◌, ◌+◌, ◌≤◌, ◌<◌, ◌*
 ghost use Rattle.hum_record.specs.Row.{Row, tokens_of};
 ghost use Rattle.hum_path.specs.Spines.{Path};
 ghost use Rattle.hum_context.specs.Context.{Choice};
-ghost use Rattle.hum_context.specs.Cells.{path_through};
+ghost use Rattle.hum_context.specs.Columns.{path_through};
 ghost use Rattle.hum_context.specs.Heard.{wanted_of, enough_by};
 ghost use Rattle.hum_context.specs.Queue.{Known, Knows, column_in, is_last_in};
 ghost use Rattle.hum_context.specs.Walking.{Has, Stands, Halts};
@@ -14,6 +14,7 @@ use crate::walk::Walk;
 use std::collections::VecDeque;
 
 /// Whether so many tokens are enough, the last of which ends a group or doesn't.
+#[inline]
 fn is_enough(wanted: Option<u16>, count: u64, ends: bool) -> bool
     ensures { result ≡ enough_by wanted count ends }
 {
@@ -25,6 +26,7 @@ fn is_enough(wanted: Option<u16>, count: u64, ends: bool) -> bool
 
 impl Walk {
     /// A walk that is still at the cell in a column.
+    #[inline(always)]
     pub(crate) fn from(at: u64, column: usize) -> Walk
         requires { at ≤ 4294967295 }
         ensures at { result.at ≡ at }
@@ -43,6 +45,7 @@ impl Walk {
     }
 
     /// One record more, whose token in its column isn't collected.
+    #[inline(always)]
     fn pass_by(self, c: usize, next: &Queued) -> Walk
         requires few { self.at < 4294967295 }
         ensures at { result.at ≡ self.at + 1 }
@@ -62,6 +65,7 @@ impl Walk {
     }
 
     /// One record more, whose token in its column is collected, and ends a group or doesn't.
+    #[inline(always)]
     fn collect(self, c: usize, next: &Queued, wanted: Option<u16>, ends: bool) -> Walk
         requires few { self.at < 4294967295 }
         ensures at { result.at ≡ self.at + 1 }
@@ -83,6 +87,7 @@ impl Walk {
     }
 
     /// One record more, on which it stands in a column.
+    #[inline(always)]
     pub(crate) fn pass(self, c: usize, next: &Queued, wanted: Option<u16>) -> Walk
         requires few { self.at < 4294967295 }
         ensures at { result.at ≡ self.at + 1 }

@@ -2,7 +2,7 @@
 ghost use Rattle.std.specs.Prelude.{◌≡◌, ◌≢◌, [], IfOk};
 ghost use Rattle.hum_record.specs.Spelling.{IsToken};
 ghost use Rattle.hum_record.specs.declared.SpinedKind.TheVariants.{Values};
-ghost use Rattle.hum_context.specs.Cells.{add_token};
+ghost use Rattle.hum_context.specs.Walking.{add_token};
 
 use std::alloc::{AllocError, Global};
 use std::marker::Model;
@@ -35,7 +35,18 @@ impl Text {
         }
     }
 
+    /// There are none any more.
+    pub(crate) fn cleared(self) -> Text
+        ensures { result ≡ [] }
+    {
+        let Text { bytes } = self;
+        let mut bytes = bytes;
+        bytes.clear();
+        Text { bytes }
+    }
+
     /// A token behind those so far.
+    #[inline]
     pub(crate) fn with(self, token: &[u8]) -> Result<Text, AllocError>
         requires { IsToken Values token.now }
         ensures { IfOk result (λ t. t ≡ add_token self token.now) }
@@ -49,11 +60,16 @@ impl Text {
         Ok(Text { bytes })
     }
 
-    /// Them, joined.
-    pub(crate) fn bytes(&self) -> &[u8]
-        ensures bytes { result.now ≡ self.now }
-        ensures lawful { self.now ≢ [] → IsToken Values result.now }
+    /// The token that they make, joined; a null token where there are none.
+    #[inline]
+    pub(crate) fn token(&self) -> &[u8]
+        ensures joined { self.now ≢ [] → result.now ≡ self.now }
+        ensures lawful { IsToken Values result.now }
     {
-        self.bytes.as_slice()
+        if self.bytes.is_empty() {
+            b"."
+        } else {
+            self.bytes.as_slice()
+        }
     }
 }

@@ -95,8 +95,8 @@ impl Decides for Repeats {
                 self.spare.keep(next);
                 Ok(None)
             }
-            Err(RecordFault::L1) => Ok(Some(Rule::L1)),
-            Err(_) => Err(AllocError),
+            Err(RecordFault::Memory) => Err(AllocError),
+            Err(_too_long) => Ok(Some(Rule::L1)),
         }
     }
 }

@@ -111,7 +111,7 @@ soft_unnamed lone [] ss = refl
 soft_unnamed lone (n ∷ ns) [] = refl
 soft_unnamed lone (n ∷ ns) (s ∷ ss) = let rest = soft_unnamed lone ns ss in rw (soft_exclusive lone s, rest) refl
 
-soft_begins : (lone b : Bool) (ss : List Sign) → beginnings b (map (soften lone) ss) ≡ beginnings b ss
+pub soft_begins : (lone b : Bool) (ss : List Sign) → beginnings b (map (soften lone) ss) ≡ beginnings b ss
 soft_begins lone b [] = refl
 soft_begins lone b (s ∷ ss) = let rest = soft_begins lone (is_join s) ss in rw (soft_join lone s, rest) refl
 
@@ -192,7 +192,7 @@ soft_none [] = refl
 soft_none (s ∷ ss) = ap (λ (ts : List Sign). s ∷ ts) (soft_none ss)
 
 -- The chosen ones of what is carried on, by the chosen columns.
-chosen_comes : {X : Type 0} (added : X → X) (lone : Bool) (fs : List Bool) (ss : List Sign) (xs : List X) → length fs ≡ length ss
+pub chosen_comes : {X : Type 0} (added : X → X) (lone : Bool) (fs : List Bool) (ss : List Sign) (xs : List X) → length fs ≡ length ss
     → length ss ≡ length xs
     → is_pair_or_none (exchanges 0 ss) ≡ true → is_lone (exchanged_flags fs ss) ≡ lone → (lone && chosen_between fs ss) ≡ false
     → onward added (chosen fs (beginnings false ss)) (chosen fs (map (soften lone) ss))
@@ -270,7 +270,7 @@ chosen_pair : (lone : Bool) (fs : List Bool) (ss : List Sign) → length fs ≡ 
 chosen_pair false fs ss len two is = rw (soft_none ss) (pair_chosen fs ss len two is)
 chosen_pair true fs ss len two is = rw (← chosen_map (soften true) fs ss, soft_exchanges 0 (chosen fs ss)) refl
 
-cut_signs : (fs : List Bool) (lone : Bool) (ts : List (List ℕ))
+pub cut_signs : (fs : List Bool) (lone : Bool) (ts : List (List ℕ))
     → signs_in (pieces fs (map (softened lone) ts)) ≡ chosen fs (map (soften lone) (map sign_of ts))
 cut_signs fs lone ts =
     ap (λ (us : List (List ℕ)). map sign_of us) (chosen_tokens false fs (map (softened lone) ts))

@@ -77,7 +77,7 @@ open_kept choice tokens rows h e = by_test (misses choice tokens) refl (chosen (
         let keeps = chosen_opens (opening_flags choice tokens) tokens h in
         rw (← one, is) (opening_reaches (u ∷ us) (rw is at keeps))
 
-extract_selects : (choice : Choice) → Selects (column_command choice) chosen
+pub extract_selects : (choice : Choice) → Selects (column_command choice) chosen
 extract_selects choice = record {
   wide = opening_length choice;
   nothing = nothing;

@@ -52,7 +52,7 @@ plain_exchanged (f ∷ fs) (Add ∷ signs) h = cc
 plain_exchanged (f ∷ fs) (End ∷ signs) h = cc
 plain_exchanged (f ∷ fs) (Exclusive ∷ signs) h = cc
 
-softened_none : (ts : List (List ℕ)) → map (softened false) ts ≡ ts
+pub softened_none : (ts : List (List ℕ)) → map (softened false) ts ≡ ts
 softened_none [] = refl
 softened_none (t ∷ ts) = ap (λ rest. t ∷ rest) (softened_none ts)
 

@@ -6,7 +6,7 @@ use Rattle.std.proofs.Common.{length-append, append_assoc}
 use Rattle.std.proofs.Math.Seq.{take-append_seam, drop-append_seam}
 use Rattle.std.proofs.lemmas.Bool.{and_parts}
 use Rattle.std.proofs.lemmas.List.Folds.{list_any-append}
-use Rattle.hum_pitch.specs.Pitch.{Spelled}
+use Rattle.hum_pitch.specs.Pitch.{Spelled, IsPitch}
 use Rattle.hum_pitch.specs.Given.{spelled}
 use Rattle.hum_pitch.specs.declared.pitch.Pitch.{Pitch}
 use Rattle.hum_pitch.specs.Spelling.{run, read_letters, read_accidentals, read_pitch, altered_by, spelling}
@@ -78,10 +78,10 @@ within bytes (Ok found) e = subst (StandsIn bytes) (sym e) (stands bytes)
 within bytes (Err fault) e = tt
 
 -- the parts by where the pitch stands
-before_is : (bytes : List ℕ) (parts : Notation) → AreNoteParts bytes parts → take (length parts.before) bytes ≡ parts.before
+pub before_is : (bytes : List ℕ) (parts : Notation) → AreNoteParts bytes parts → take (length parts.before) bytes ≡ parts.before
 before_is bytes parts h = ap (take (length parts.before)) h.text ∙ take-append_seam parts.before (parts.letters ++ (parts.signs ++ parts.left))
 
-left_is : (bytes : List ℕ) (parts : Notation) → AreNoteParts bytes parts → drop (length parts.before + length parts.letters + length parts.signs) bytes ≡ parts.left
+pub left_is : (bytes : List ℕ) (parts : Notation) → AreNoteParts bytes parts → drop (length parts.before + length parts.letters + length parts.signs) bytes ≡ parts.left
 left_is bytes parts h =
     let front : List ℕ = parts.before ++ (parts.letters ++ parts.signs) in
     let joined : parts.before ++ (parts.letters ++ (parts.signs ++ parts.left)) ≡ front ++ parts.left = ap (λ (xs : List ℕ). parts.before ++ xs) (sym (append_assoc parts.letters parts.signs parts.left)) ∙ sym (append_assoc parts.before (parts.letters ++ parts.signs) parts.left) in
@@ -195,7 +195,7 @@ all_letters : (b : ℕ) (more : List ℕ) → is_letter b ≡ true → AllByRecu
 all_letters b [] h all = tt
 all_letters b (x ∷ more) h all = let e = all.0 in let is : x ≡ b = search rules in (ap is_letter is ∙ h, all_letters b more h all.1)
 
-letters_all : (letters rest : List ℕ) → IsRepeated letters rest → EndsBefore NoLetter (letters ++ rest) → AllByRecursion (λ (x : ℕ). is_letter x ≡ true) letters
+pub letters_all : (letters rest : List ℕ) → IsRepeated letters rest → EndsBefore NoLetter (letters ++ rest) → AllByRecursion (λ (x : ℕ). is_letter x ≡ true) letters
 letters_all [] rest h begins = tt
 letters_all (b ∷ more) rest h begins = let letter = uniform_of (is_letter b) begins in (letter, all_letters b more letter h.all_in)
 
@@ -211,23 +211,24 @@ is_round bytes parts found p h = record {
   no_rest = ap (λ (m : Reading). m.rest) (sym (marks_round bytes parts h.are)) ∙ h.no_rest;
 }
 
-replaced_there : (bytes : List ℕ) (found : Reading) (p : Spelled) → Ok found ≡ note bytes → found.pitch ≡ Some p → (pitch : Pitch) → note (take found.start bytes ++ (spelling (spelled pitch) ++ drop found.end bytes)) ≡ Ok (record found { pitch = Some (spelled pitch); end = found.start + length (spelling (spelled pitch)) })
-replaced_there bytes found p e there pitch =
+-- A pitch that is written in the place of one that was read is read there.
+pub placed_there : (bytes : List ℕ) (found : Reading) (p : Spelled) → Ok found ≡ note bytes → found.pitch ≡ Some p → (pitch : Spelled) → IsPitch pitch.step pitch.octave pitch.alteration → note (take found.start bytes ++ (spelling pitch ++ drop found.end bytes)) ≡ Ok (record found { pitch = Some pitch; end = found.start + length (spelling pitch) })
+placed_there bytes found p e there pitch range =
     let parts : Notation = notation_of bytes in
     let h = found_in bytes found p e there in
-    let text : take found.start bytes ++ (spelling (spelled pitch) ++ drop found.end bytes) ≡ parts.before ++ (spelling (spelled pitch) ++ parts.left) =
-    ap (λ (r : Reading). take r.start bytes ++ (spelling (spelled pitch) ++ drop r.end bytes)) h.is
-    ∙ ap (λ (xs : List ℕ). xs ++ (spelling (spelled pitch) ++ drop (length parts.before + length parts.letters + length parts.signs) bytes)) (before_is bytes parts h.are)
-    ∙ ap (λ (xs : List ℕ). parts.before ++ (spelling (spelled pitch) ++ xs)) (left_is bytes parts h.are) in
+    let text : take found.start bytes ++ (spelling pitch ++ drop found.end bytes) ≡ parts.before ++ (spelling pitch ++ parts.left) =
+    ap (λ (r : Reading). take r.start bytes ++ (spelling pitch ++ drop r.end bytes)) h.is
+    ∙ ap (λ (xs : List ℕ). xs ++ (spelling pitch ++ drop (length parts.before + length parts.letters + length parts.signs) bytes)) (before_is bytes parts h.are)
+    ∙ ap (λ (xs : List ℕ). parts.before ++ (spelling pitch ++ xs)) (left_is bytes parts h.are) in
     ap note text
-    ∙ placed parts.before parts.left (is_round bytes parts found p h) (spelled pitch) pitch.in_range
-    ∙ ap (λ (m : Reading). Ok (with_pitch m (Some (spelled pitch)) (length parts.before) (length parts.before + length (spelling (spelled pitch))))) (sym (marks_round bytes parts h.are))
-    ∙ ap (λ (r : Reading). Ok (record r { pitch = Some (spelled pitch); end = r.start + length (spelling (spelled pitch)) })) (sym h.is)
+    ∙ placed parts.before parts.left (is_round bytes parts found p h) pitch range
+    ∙ ap (λ (m : Reading). Ok (with_pitch m (Some pitch) (length parts.before) (length parts.before + length (spelling pitch)))) (sym (marks_round bytes parts h.are))
+    ∙ ap (λ (r : Reading). Ok (record r { pitch = Some pitch; end = r.start + length (spelling pitch) })) (sym h.is)
 
 pub can_be_replaced : (bytes : List ℕ) (r : Result Note KernFault) → reading_in r ≡ note bytes → IfOk r (CanBeReplaced bytes)
 can_be_replaced bytes (Ok found) e = go found.pitch refl
   where
     go : (o : Option Pitch) → found.pitch ≡ o → IfSome o (λ _. (pitch : Pitch) → note (replaced bytes found pitch) ≡ Ok (record (reading found) { pitch = Some (spelled pitch); end = found.start + length (spelling (spelled pitch)) }))
-    go (Some p) there = replaced_there bytes (reading found) (spelled p) e (ap (option_map spelled) there)
+    go (Some p) there = λ pitch. placed_there bytes (reading found) (spelled p) e (ap (option_map spelled) there) (spelled pitch) pitch.in_range
     go None there = tt
 can_be_replaced bytes (Err fault) e = tt

@@ -93,10 +93,11 @@ said_in bytes parts h = elim (is_torn parts) as (λ (b : Bool). StandsIn bytes (
   | false ↦ with_dots_in bytes (length parts.before) (length parts.before + length parts.digits + second_length parts.second) (value_of parts.digits parts.second) (length parts.dots) (omega arith) (text_length bytes parts h)
 ]
 
+-- whatever is asked first
+pub said_stands : (bytes : List ℕ) (grace none : Bool) → StandsIn bytes (if grace then Ok no_length else if none then Ok no_length else said (spelling_of bytes))
+said_stands bytes true none = (omega arith, omega arith)
+said_stands bytes false true = (omega arith, omega arith)
+said_stands bytes false false = said_in bytes (spelling_of bytes) (are_parts bytes)
+
 pub duration_in : (bytes : List ℕ) (r : Result Length KernFault) → r ≡ duration bytes → StandsIn bytes r
-duration_in bytes r e = subst (StandsIn bytes) (sym e) (go (list_any is_grace_sign bytes) (is_empty (spelling_of bytes).digits))
-  where
-    go : (a b : Bool) → StandsIn bytes (if a then Ok no_length else if b then Ok no_length else said (spelling_of bytes))
-    go true b = (omega arith, omega arith)
-    go false true = (omega arith, omega arith)
-    go false false = said_in bytes (spelling_of bytes) (are_parts bytes)
+duration_in bytes r e = subst (StandsIn bytes) (sym e) (said_stands bytes (list_any is_grace_sign bytes) (is_empty (spelling_of bytes).digits))

@@ -47,7 +47,7 @@ capital_read (suc (suc (suc (suc (suc zero))))) k h = (refl, refl)
 capital_read (suc (suc (suc (suc (suc (suc zero)))))) k h = (refl, refl)
 capital_read (suc (suc (suc (suc (suc (suc (suc n))))))) k h = absurd (omega arith)
 
-are_letters : (p : Spelled) → IsPitch p.step p.octave p.alteration → AreLetters p (letters_of p)
+pub are_letters : (p : Spelled) → IsPitch p.step p.octave p.alteration → AreLetters p (letters_of p)
 are_letters p h = go (p.octave -ℤ pos 4) (omega (arith, ints))
   where
     go : (z : ℤ) → p.octave ≡ z +ℤ pos 4 → AreLetters p (letters p.step z)
@@ -66,7 +66,7 @@ all_same : (b n : ℕ) → list_all (λ (x : ℕ). x == b) (replicate n b) ≡ t
 all_same b zero = refl
 all_same b (suc n) = let e : (b == b) ≡ true = search rules in rw e (all_same b n)
 
-all_in : (test : ℕ → Bool) (b n : ℕ) → test b ≡ true → AllByRecursion (λ (x : ℕ). test x ≡ true) (replicate n b)
+pub all_in : (test : ℕ → Bool) (b n : ℕ) → test b ≡ true → AllByRecursion (λ (x : ℕ). test x ≡ true) (replicate n b)
 all_in test b zero h = tt
 all_in test b (suc n) h = (h, all_in test b n h)
 
@@ -76,7 +76,7 @@ pub record AreSigns (a : ℤ) (xs : List ℕ) : Type 0 where
   pub uniform : is_uniform xs ≡ true
   pub alteration : alteration_of xs ≡ a
 
-are_signs : (a : ℤ) → IsAlteration a → AreSigns a (accidentals a)
+pub are_signs : (a : ℤ) → IsAlteration a → AreSigns a (accidentals a)
 are_signs (pos zero) h = record { all_in = tt; few = omega arith; uniform = refl; alteration = refl }
 are_signs (pos (suc k)) h =
     let counted : length {A = ℕ} (replicate k 35) ≡ k = length-replicate {A = ℕ} k 35 in

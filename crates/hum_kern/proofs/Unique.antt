@@ -33,7 +33,7 @@ tail_is None [] h = refl
 tail_is None (b ∷ rest) h = rw h refl
 tail_is (Some second) rest h = behind_is Digit second rest h
 
-same : {b c : List ℕ} {d e : List ℕ} {s t : Option (List ℕ)} {f g : List ℕ} {l m : List ℕ} → b ≡ c → d ≡ e → s ≡ t → f ≡ g → l ≡ m → ◌≡◌ {A = Spelling} (record { before = b; digits = d; second = s; dots = f; left = l }) (record { before = c; digits = e; second = t; dots = g; left = m })
+pub same : {b c : List ℕ} {d e : List ℕ} {s t : Option (List ℕ)} {f g : List ℕ} {l m : List ℕ} → b ≡ c → d ≡ e → s ≡ t → f ≡ g → l ≡ m → ◌≡◌ {A = Spelling} (record { before = b; digits = d; second = s; dots = f; left = l }) (record { before = c; digits = e; second = t; dots = g; left = m })
 same {b} {c} {d} {e} {s} {t} {f} {g} {l} {m} p q r u v =
     ap (λ (x : List ℕ). made x d s f l) p ∙ ap (λ (x : List ℕ). made c x s f l) q ∙ ap (λ (x : Option (List ℕ)). made c e x f l) r ∙ ap (λ (x : List ℕ). made c e t x l) u ∙ ap (λ (x : List ℕ). made c e t g x) v
   where

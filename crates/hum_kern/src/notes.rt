@@ -13,6 +13,7 @@ ghost use Rattle.hum_kern.specs.Note.{Notation, is_uniform, alteration_of, notat
 ghost use Rattle.hum_kern.specs.Note.{marks_of, with_pitch, pitched, note_by, note};
 ghost use Rattle.hum_kern.specs.Note.{reading, reading_in};
 ghost use Rattle.hum_kern.specs.NoteParts.{AreNoteParts, SaysNote, IsRead, CanBeReplaced};
+ghost use Rattle.hum_kern.specs.Lasting.{KeepsDuration};
 
 use crate::KernFault;
 use crate::runs::{Class, is_letter, split_run};
@@ -199,6 +200,7 @@ pub fn read_note(bytes: &[u8]) -> Result<Note, KernFault>
         (found.start ≤ found.end) × (found.end ≤ length bytes.now)) }
     ensures text { IfOk result (IsRead bytes.now) }
     ensures replaced { IfOk result (CanBeReplaced bytes.now) }
+    ensures keeps_duration { IfOk result (KeepsDuration bytes.now) }
     // A pitch that is written is read as that pitch, and nothing else.
     ensures written { (pitch : PitchValue) → bytes.now ≡ spelling (spelled pitch)
         → reading_in result ≡ Ok (with_pitch (marks_of []) (Some (spelled pitch)) 0 (length bytes.now)) }

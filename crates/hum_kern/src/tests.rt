@@ -2,6 +2,7 @@
 use crate::{KernFault, Length, Note, read_duration, read_note, read_recip};
 use hum_frac::Frac;
 use hum_pitch::{Pitch, write_pitch};
+use std::alloc::AllocError;
 use std::process::Abort;
 
 /// A text, its value as a numerator and a denominator, and where the duration stands in it.
@@ -283,7 +284,7 @@ fn marks(rt: HostRuntime) {
 }
 
 #[test]
-fn written_pitches_are_read(rt: HostRuntime) {
+fn written_pitches_are_read(rt: HostRuntime) -> Result<(), AllocError> {
     let alloc = rt.alloc();
     for row in [(0, 4, 0), (6, 11, 7), (0, -4, -7), (3, 3, 2), (5, 0, -1)] {
         let (step, octave, alteration) = row;
@@ -292,10 +293,7 @@ fn written_pitches_are_read(rt: HostRuntime) {
             octave,
             alteration,
         };
-        let text = match write_pitch(alloc, pitch) {
-            Ok(text) => text,
-            Err(_) => return,
-        };
+        let text = write_pitch(alloc, pitch)?;
         let note = Note {
             pitch: Some(pitch),
             start: 0,
@@ -306,4 +304,5 @@ fn written_pitches_are_read(rt: HostRuntime) {
         };
         assert_eq!(rt; read_note(&text), Ok(note));
     }
+    Ok(())
 }

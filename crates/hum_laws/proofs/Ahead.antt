@@ -1,17 +1,11 @@
 -- Commands that look ahead, and leave each record as it is.
-use Rattle.std.proofs.Common.{◌≡◌, ◌∙◌, refl, sym, ap, ℕ, zero, suc, ◌+◌, ◌≤◌, Bool, true, false, List, [], ◌∷◌, ◌++◌, length, map, cond, get_or, drop, take, arith}
-use Rattle.std.specs.Prelude.{nat_le, Option, None, Some, Result, Ok, Err, not, ◌&&◌, ◌||◌, filter}
-use Rattle.std.proofs.lemmas.Bool.Decides.{nat_tests}
+use Rattle.std.proofs.Common.{◌≡◌, ◌∙◌, refl, ap, ℕ, suc, ◌+◌, true, List, [], ◌∷◌, length, take, arith}
+use Rattle.std.specs.Prelude.{nat_le, None, Some, Ok}
 use Rattle.hum_record.specs.declared.SpinedKind.TheVariants.{Local, Interpretation, Values}
-use Rattle.hum_record.specs.Row.{Row, Comment, Spined, text_of}
-use Rattle.hum_path.specs.Spines.{Path}
-use Rattle.hum_path.specs.Score.{path_after}
-use Rattle.hum_path.proofs.Cases.{by_bool}
-use Rattle.hum_stage.specs.declared.faults.Rule.{Rule}
+use Rattle.hum_record.specs.Row.{Row, Comment, Spined}
 use Rattle.hum_stage.specs.declared.faults.Command.{Command}
 use Rattle.hum_stage.specs.declared.faults.End.TheVariants.{Closed}
-use Rattle.hum_stage.specs.Outcome.{Outcome, Becomes, settled, refusal}
-use Rattle.hum_stage.specs.Meaning.{Meaning, end_of}
+use Rattle.hum_stage.specs.Outcome.{settled, refusal}
 use Rattle.hum_stage.specs.Look.{Look, outcomes_from, looking}
 use Rattle.hum_yank.specs.declared.options.YankRange.{YankRange}
 use Rattle.hum_yank.specs.declared.options.YankRange.TheVariants.{Onward}

@@ -1,5 +1,5 @@
 -- Tests that are put together.
-use Rattle.std.proofs.Common.{◌≡◌, refl, Bool, true, false, ◌&&◌, ◌||◌, cond}
+use Rattle.std.proofs.Common.{◌≡◌, refl, Bool, true, false, ◌&&◌, ◌||◌}
 
 pub shuffle : (i j p q u v : Bool) → (i || j) || ((p || q) || (u || v)) ≡ (i || (p || u)) || (j || (q || v))
 shuffle true j p q u v = refl

@@ -1,5 +1,5 @@
 -- What ditto has filled, it doesn't fill again.
-use Rattle.std.proofs.Common.{◌≡◌, ◌∙◌, refl, sym, ap, ℕ, zero, suc, Bool, true, false, not, ◌&&◌, ◌⊎◌, inl, inr, List, [], ◌∷◌, ◌++◌, length, map, cond, get_or, subst}
+use Rattle.std.proofs.Common.{◌≡◌, ◌∙◌, refl, sym, ap, ℕ, zero, suc, Bool, true, false, not, ◌⊎◌, inl, inr, List, [], ◌∷◌, length, map, cond, get_or, subst}
 use Rattle.std.specs.Prelude.{nat_le, Option, None, Some, Result, Ok, Err}
 use Rattle.std.specs.List.{find}
 use Rattle.std.proofs.lemmas.Bool.{and_parts}
@@ -11,8 +11,8 @@ use Rattle.hum_record.specs.Contents.{is_data, is_null}
 use Rattle.hum_path.specs.declared.moved.Move.{Move}
 use Rattle.hum_path.specs.declared.moved.Move.TheVariants.{Same, Left, Right, Join as Joined, Added}
 use Rattle.hum_path.specs.Sign.{sign_of, is_exclusive}
-use Rattle.hum_path.specs.Spines.{Path, Unopened, Spines, after, moves_at}
-use Rattle.hum_path.specs.Score.{IsOpen, path_after, passed}
+use Rattle.hum_path.specs.Spines.{Path, after, moves_at}
+use Rattle.hum_path.specs.Score.{path_after, passed}
 use Rattle.hum_path.specs.Chains.{chain_of, columns, longer, reach}
 use Rattle.hum_path.proofs.Cases.{by_bool}
 use Rattle.hum_path.proofs.Plain.{find_head}
@@ -20,13 +20,13 @@ use Rattle.hum_stage.specs.declared.faults.Rule.{Rule}
 use Rattle.hum_stage.specs.declared.faults.Rule.TheVariants.{L1}
 use Rattle.hum_stage.specs.declared.faults.Command.TheVariants.{Ditto}
 use Rattle.hum_stage.specs.declared.faults.End.TheVariants.{Closed}
-use Rattle.hum_stage.specs.Score.{Follow, IsScore}
+use Rattle.hum_stage.specs.Score.{IsScore}
 use Rattle.hum_stage.specs.Meaning.{KeepsScore}
 use Rattle.hum_ditto.specs.declared.DittoOptions.{DittoOptions}
 use Rattle.hum_ditto.specs.Ditto.{may_repeat, repeated, written, filled, all_filled, new_tokens, if_fits, ditto, meaning}
 use Rattle.hum_laws.specs.declared.given.Given.{Given}
 use Rattle.hum_laws.specs.Piped.{IsAlone, IsPiped}
-use Rattle.hum_laws.proofs.Runs.{Taken, made_by, out, Fine, ComesTo, RunsTo, RunsBehind, comes_to, fine_settled, alone_runs, piped_runs}
+use Rattle.hum_laws.proofs.Runs.{out, comes_to, fine_settled, alone_runs, piped_runs}
 
 -- a token that isn't null stays
 filled_stays : (p : Bool) (source : Option (List ℕ)) (token : List ℕ) → is_null token ≡ false → filled p source token ≡ token

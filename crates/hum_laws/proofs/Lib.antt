@@ -1,8 +1,8 @@
 pub mod Booleans
 pub mod Plain
 pub mod Rids
-pub mod Placed
 pub mod Undone
+pub mod Lasts
 pub mod Runs
 pub mod Marks
 pub mod Tokens
@@ -13,3 +13,12 @@ pub mod Leading
 pub mod Telling
 pub mod Signs
 pub mod Filling
+pub mod Seen
+pub mod Spreads
+pub mod Cuts
+pub mod Indicators
+pub mod Extracted
+pub mod Uncommented
+pub mod Whole
+pub mod One
+pub mod Fields

@@ -1,13 +1,13 @@
 -- Two commands on notes, of which the first puts records behind **kern.
-use Rattle.std.proofs.Common.{◌≡◌, ◌∙◌, refl, sym, ap, ℕ, suc, Bool, true, false, not, ◌&&◌, ◌||◌, List, [], ◌∷◌, ◌++◌, length, map, cond, arith}
-use Rattle.std.specs.Prelude.{Option, None, Some, Result, Ok, Err}
-use Rattle.std.specs.List.{list_any, list_all}
+use Rattle.std.proofs.Common.{◌≡◌, ◌∙◌, refl, sym, ap, ℕ, Bool, true, false, List, [], ◌∷◌, ◌++◌, length, map, cond, arith}
+use Rattle.std.specs.Prelude.{None, Some, Result, Ok, Err}
+use Rattle.std.specs.List.{list_any}
 use Rattle.std.proofs.lemmas.Bool.{and_from}
 use Rattle.std.proofs.lemmas.List.{length-map}
 use Rattle.hum_record.specs.declared.SpinedKind.TheVariants.{Local, Interpretation, Values}
 use Rattle.hum_record.specs.Row.{Row, Comment, Spined}
 use Rattle.hum_path.specs.Sign.{sign_of, is_plain, all_plain}
-use Rattle.hum_path.specs.Spines.{Path, Unopened, Spines, after, names_after, exclusives, width}
+use Rattle.hum_path.specs.Spines.{Path, Spines, after, names_after, exclusives, width}
 use Rattle.hum_path.specs.Score.{IsOpen, path_after, passed}
 use Rattle.hum_path.specs.Chains.{columns}
 use Rattle.hum_path.proofs.Cases.{by_bool}
@@ -17,10 +17,10 @@ use Rattle.hum_stage.specs.declared.faults.Rule.{Rule}
 use Rattle.hum_stage.specs.declared.faults.Rule.TheVariants.{L1}
 use Rattle.hum_stage.specs.Score.{Follow, IsScore}
 use Rattle.hum_stage.specs.Outcome.{settled}
-use Rattle.hum_stage.specs.Decided.{outcome, decisions}
+use Rattle.hum_stage.specs.Decided.{decisions}
 use Rattle.hum_cells.specs.Retelling.{Heading, Renamed, Followed, Retelling, is_kern, kern_columns, is_told, retold, beside, all_retold, headed, with_heading, is_long, if_fit, data_record, retell}
-use Rattle.hum_laws.specs.Marked.{Marking, under_name, signed, with_values, marked, all_marked}
-use Rattle.hum_laws.proofs.Runs.{Decide, Taken, made_by, out, Fine, taken, ComesTo, RunsBehind, RunsTo, comes_to}
+use Rattle.hum_laws.specs.Marked.{Marking, with_values, marked, all_marked}
+use Rattle.hum_laws.proofs.Runs.{Taken, made_by, out, Fine, taken, RunsBehind, RunsTo, comes_to}
 
 -- what a command makes of a token, by the cells above it
 abbrev pub Becomes : Type 0

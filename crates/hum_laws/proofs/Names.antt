@@ -1,6 +1,6 @@
 -- Columns that have another name than **kern, which no command on notes changes.
-use Rattle.std.proofs.Common.{◌≡◌, ◌∙◌, refl, sym, ap, ℕ, zero, suc, Bool, true, false, not, ◌&&◌, ◌||◌, List, [], ◌∷◌, ◌++◌, length, map, cond, get_or}
-use Rattle.std.specs.Prelude.{Option, None, Some, Result, Ok, Err}
+use Rattle.std.proofs.Common.{◌≡◌, ◌∙◌, refl, sym, ap, ℕ, zero, suc, false, List, [], ◌∷◌, map, get_or}
+use Rattle.std.specs.Prelude.{Result, Ok, Err}
 use Rattle.std.specs.List.{list_any}
 use Rattle.std.proofs.lemmas.Bool.{or_parts, or_from}
 use Rattle.hum_record.specs.declared.SpinedKind.TheVariants.{Local, Interpretation, Values}
@@ -8,16 +8,14 @@ use Rattle.hum_record.specs.Row.{Row, Comment, Spined}
 use Rattle.hum_path.specs.declared.moved.Move.{Move}
 use Rattle.hum_path.specs.declared.moved.Move.TheVariants.{Same, Left, Right, Join as Joined, Added}
 use Rattle.hum_path.specs.Sign.{sign_of, is_exclusive}
-use Rattle.hum_path.specs.Spines.{Path, Unopened, Spines, after, names_after, exclusives, renamed, moves_under}
-use Rattle.hum_path.specs.Score.{IsOpen, path_after, passed}
+use Rattle.hum_path.specs.Spines.{Path, Unopened, Spines, names_after, exclusives, renamed, moves_under}
+use Rattle.hum_path.specs.Score.{path_after, passed}
 use Rattle.hum_path.specs.Chains.{columns}
 use Rattle.hum_path.proofs.Cases.{by_bool}
 use Rattle.hum_stage.specs.declared.faults.Rule.{Rule}
-use Rattle.hum_stage.specs.Score.{Follow, IsScore}
-use Rattle.hum_stage.specs.Outcome.{settled}
-use Rattle.hum_stage.specs.Decided.{decisions}
+use Rattle.hum_stage.specs.Score.{IsScore}
 use Rattle.hum_cells.specs.Retelling.{Heading, Renamed, Followed, Retelling, is_kern, kern_columns, all_retold, headed, with_heading, data_record, retell}
-use Rattle.hum_laws.proofs.Runs.{Taken, made_by, out, Fine, ComesTo, RunsBehind, RunsTo, comes_to, fine_settled}
+use Rattle.hum_laws.proofs.Runs.{out, Fine, RunsBehind, RunsTo, comes_to, fine_settled}
 use Rattle.hum_laws.proofs.Marks.{Becomes, fit_only, fits_as}
 
 abbrev pub no_kern : List (List ℕ) → Type 0

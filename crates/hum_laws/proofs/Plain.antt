@@ -1,13 +1,12 @@
 -- Commands that refuse no record, and make at most one of each.
-use Rattle.std.proofs.Common.{◌≡◌, ◌∙◌, refl, sym, ap, ℕ, suc, ◌+◌, ◌-◌, ◌≤◌, Bool, true, false}
-use Rattle.std.proofs.Common.{List, [], ◌∷◌, ◌++◌, length, cond, arith}
-use Rattle.std.specs.Prelude.{nat_le, Option, None, Result, Ok, Err}
+use Rattle.std.proofs.Common.{◌≡◌, refl, ap, ℕ, ◌+◌, ◌-◌, ◌≤◌, true}
+use Rattle.std.proofs.Common.{List, [], ◌∷◌, ◌++◌, length, arith}
+use Rattle.std.specs.Prelude.{nat_le, None, Result, Ok}
 use Rattle.std.proofs.lemmas.Bool.Decides.{nat_tests}
 use Rattle.hum_record.specs.Row.{Row}
 use Rattle.hum_stage.specs.declared.faults.Rule.{Rule}
-use Rattle.hum_stage.specs.declared.faults.Rule.TheVariants.{L2}
-use Rattle.hum_stage.specs.Outcome.{Outcome, Becomes, Refused, Undecided, settled, refusal}
-use Rattle.hum_stage.specs.Decided.{outcome, decisions, limit}
+use Rattle.hum_stage.specs.Outcome.{settled, refusal}
+use Rattle.hum_stage.specs.Decided.{decisions, limit}
 
 -- what comes of records, each by those before it
 abbrev pub all_made : (List Row → Row → List Row) → List Row → List Row → List Row

@@ -1,15 +1,13 @@
 -- What is left by rid.
-use Rattle.std.proofs.Common.{◌≡◌, ◌∙◌, refl, sym, ap, ℕ, ◌+◌, ◌≤◌, Bool, true, false, ◌&&◌, ◌||◌, not}
+use Rattle.std.proofs.Common.{◌≡◌, ◌∙◌, refl, sym, ap, ℕ, ◌≤◌, Bool, true, false, ◌&&◌, ◌||◌}
 use Rattle.std.proofs.Common.{List, [], ◌∷◌, ◌++◌, length, cond, arith}
-use Rattle.std.specs.Prelude.{None, Result, Ok, ◌==◌}
+use Rattle.std.specs.Prelude.{None}
 use Rattle.std.specs.Str.{bytes_eq}
 use lib.Chars.{codes}
 use Rattle.hum_record.specs.declared.SpinedKind.TheVariants.{Local, Interpretation, Values}
 use Rattle.hum_record.specs.Row.{Row, Comment, Spined}
-use Rattle.hum_stage.specs.declared.faults.End.TheVariants.{Closed}
-use Rattle.hum_stage.specs.Outcome.{settled, refusal}
-use Rattle.hum_stage.specs.Meaning.{output, own_fault, end_of, fault_at}
-use Rattle.hum_stage.specs.Decided.{decisions, limit}
+use Rattle.hum_stage.specs.Meaning.{output, own_fault}
+use Rattle.hum_stage.specs.Decided.{decisions}
 use Rattle.hum_rid.specs.declared.RidOptions.{RidOptions}
 use Rattle.hum_rid.specs.Rid.{rid, drops, all_are, has_tandems, meaning}
 use Rattle.hum_laws.specs.declared.given.Given.{Given}

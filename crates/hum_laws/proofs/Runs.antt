@@ -2,18 +2,17 @@
 use Rattle.std.proofs.Common.{◌≡◌, ◌∙◌, refl, sym, ap, ℕ, ◌+◌, List, [], ◌∷◌, ◌++◌, append_assoc}
 use Rattle.std.specs.Prelude.{Option, None, Some, Result, Ok, Err}
 use Rattle.hum_record.specs.Row.{Row}
-use Rattle.hum_path.specs.Spines.{Path, Unopened, after}
-use Rattle.hum_path.specs.Rules.{fault_of}
+use Rattle.hum_path.specs.Spines.{Path, after}
 use Rattle.hum_path.specs.Score.{passed, path_after, IsOpen}
-use Rattle.hum_stage.specs.Score.{through, Follow, IsScore, IsClosed}
+use Rattle.hum_stage.specs.Score.{through, Follow, IsScore}
 use Rattle.hum_stage.specs.Order.{open_passed}
 use Rattle.hum_stage.specs.declared.faults.Command.{Command}
 use Rattle.hum_stage.specs.declared.faults.Rule.{Rule}
 use Rattle.hum_stage.specs.declared.faults.Fault.{Fault}
 use Rattle.hum_stage.specs.declared.faults.End.{End}
 use Rattle.hum_stage.specs.declared.faults.End.TheVariants.{Closed, Broken}
-use Rattle.hum_stage.specs.Outcome.{Outcome, Becomes, Refused, Undecided, settled, refusal}
-use Rattle.hum_stage.specs.Meaning.{Meaning, KeepsScore, output, own_fault, end_of, fault_at}
+use Rattle.hum_stage.specs.Outcome.{settled, refusal}
+use Rattle.hum_stage.specs.Meaning.{KeepsScore, output, own_fault, end_of, fault_at}
 use Rattle.hum_stage.specs.Decided.{outcome, decisions, limit, at_once}
 use Rattle.hum_stage.specs.Laws.{limit_same, decisions_decided}
 use Rattle.hum_stage.proofs.Scores.{path_passed}
@@ -158,3 +157,38 @@ pub comes_to : (first second one : Decide) (Holds : List Row → List Row → Ty
 comes_to first second one Holds h p rows score runs =
     let k = comes_from first second one Holds h [] [] p tt score tt runs.between h.opening runs.one runs.two in
     runs.gives ∙ k.1 ∙ sym (fine_settled one [] p k.0)
+
+-- One record through two commands in either order: what stands between goes on as a score both ways.
+pub record Commutes (first second : Decide) (Holds : List Row → List Row → List Row → Type 0) : Type 0 where
+  pub opening : Holds [] [] []
+  pub step : (past one other made also : List Row) (row : Row) → IsOpen (row ∷ past) → IsOpen one → IsOpen other → Holds past one other
+      → first past row ≡ Ok made → second past row ≡ Ok also → Follow (path_after one) made → Follow (path_after other) also
+      → Fine second one made → Fine first other also
+      → (out second one made ≡ out first other also) × Holds (row ∷ past) (passed one made) (passed other also)
+
+commutes_from : (first second : Decide) (Holds : List Row → List Row → List Row → Type 0) → Commutes first second Holds
+    → (past one other p : List Row) → IsOpen past → Follow (path_after past) p → IsOpen one → Follow (path_after one) (out first past p)
+    → IsOpen other → Follow (path_after other) (out second past p) → Holds past one other
+    → Fine first past p → Fine second past p → Fine second one (out first past p) → Fine first other (out second past p)
+    → out second one (out first past p) ≡ out first other (out second past p)
+commutes_from first second Holds h past one other [] right follow sound goes also too holds a b c d = refl
+commutes_from first second Holds h past one other (row ∷ p) right follow sound goes also too holds a b c d =
+    let made = made_by (first past row) in
+    let rest = out first (row ∷ past) p in
+    let twin = made_by (second past row) in
+    let more = out second (row ∷ past) p in
+    let k = follow_parts (path_after one) made rest goes in
+    let l = follow_parts (path_after other) twin more too in
+    let f = fine_parts second one made rest c in
+    let g = fine_parts first other twin more d in
+    let s = h.step past one other made twin row (right, follow.0) sound also holds (taken (first past row) a.0) (taken (second past row) b.0) k.0 l.0 f.0 g.0 in
+    let behind = commutes_from first second Holds h (row ∷ past) (passed one made) (passed other twin) p (right, follow.0) follow.1
+    (open_passed one made sound k.0) (rw (← path_passed one made) at k.1) (open_passed other twin also l.0) (rw (← path_passed other twin) at l.1)
+    s.1 a.1 b.1 f.1 g.1 in
+    out-append second one made rest ∙ rw (s.0, behind) (sym (out-append first other twin more))
+
+-- In either order they give the same.
+pub commute : (first second : Decide) (Holds : List Row → List Row → List Row → Type 0) → Commutes first second Holds
+    → (p rows others : List Row) → IsScore p → RunsBehind first second p rows → RunsBehind second first p others → rows ≡ others
+commute first second Holds h p rows others score a b =
+    a.gives ∙ commutes_from first second Holds h [] [] [] p tt score tt a.between tt b.between h.opening a.one b.one a.two b.two ∙ sym b.gives

@@ -1,6 +1,6 @@
 -- What a pitch that was read is written as: without the sign of a natural.
-use Rattle.std.proofs.Common.{◌≡◌, refl, sym, ap, ◌∙◌, ℕ, zero, suc, ◌+◌, ◌<◌, ◌≤◌, ℤ, pos, negsuc, ◌+ℤ◌, ◌-ℤ◌, ◌≤ℤ◌, Bool, true, false, List, [], ◌∷◌, ◌++◌, append_assoc, length, take, drop, arith, Option, None, Some, subst, ◌==◌, rules}
-use Rattle.std.specs.Prelude.{Result, Ok, Err, neg_ℤ, not, ◌||◌, if◌then◌else◌, nat_le, nat_lt, filter, replicate, slice_index}
+use Rattle.std.proofs.Common.{◌≡◌, refl, sym, ap, ◌∙◌, ℕ, zero, suc, ◌+◌, ◌≤◌, ℤ, pos, negsuc, ◌+ℤ◌, ◌-ℤ◌, Bool, true, false, List, [], ◌∷◌, ◌++◌, append_assoc, length, take, drop, arith, Option, None, Some, subst, ◌==◌, rules}
+use Rattle.std.specs.Prelude.{Result, Ok, Err, neg_ℤ, not, ◌||◌, nat_lt, filter, replicate, slice_index}
 use Rattle.std.specs.List.{position, list_all, list_any, AllByRecursion}
 use Rattle.std.proofs.lemmas.Int.{ints}
 use Rattle.std.proofs.lemmas.Bool.{and_parts}
@@ -14,14 +14,12 @@ use Rattle.hum_kern.specs.declared.KernFault.{KernFault}
 use Rattle.hum_kern.specs.Classes.{is_letter, is_sign, is_natural_sign}
 use Rattle.hum_kern.specs.Note.{Notation, Reading, note, notation_of, pitch_of, alteration_of, is_uniform, is_doubtful, is_excessive}
 use Rattle.hum_kern.specs.NoteParts.{AreNoteParts}
-use Rattle.hum_kern.proofs.Found.{IsFound, found_in}
+use Rattle.hum_kern.proofs.Found.{found_in}
 use Rattle.hum_kern.proofs.Placing.{no_more}
-use Rattle.hum_stage.specs.declared.faults.Rule.{Rule}
-use Rattle.hum_stage.specs.declared.faults.Rule.TheVariants.{TR1, TR2}
 use Rattle.hum_tones.specs.Trans.{is_alteration, is_octave, if_spelled, put, moved, moved_as_read, transposed_part}
 use Rattle.hum_laws.specs.Unsigned.{without_naturals, if_pitched, unsigned_as_read, unsigned}
 use Rattle.hum_laws.proofs.Plain.{fits}
-use Rattle.hum_laws.proofs.Placed.{before_is, left_is}
+use Rattle.hum_kern.proofs.Found.{before_is, left_is}
 use Rattle.hum_laws.proofs.Undone.{stay, found_step, undone}
 
 same_byte : (x b : ℕ) → (x == b) ≡ true → x ≡ b

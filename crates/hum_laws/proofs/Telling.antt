@@ -1,12 +1,12 @@
 -- What a command on notes wrote no command on notes changes.
-use Rattle.std.proofs.Common.{◌≡◌, ◌∙◌, refl, sym, ap, ℕ, false, List}
+use Rattle.std.proofs.Common.{◌≡◌, refl, ℕ, false, List}
 use lib.Chars.{codes}
 use Rattle.hum_record.specs.Row.{Row}
 use Rattle.hum_stage.specs.declared.faults.Command.{Command}
 use Rattle.hum_stage.specs.declared.faults.Command.TheVariants as name
 use Rattle.hum_stage.specs.declared.faults.End.TheVariants.{Closed}
 use Rattle.hum_stage.specs.Score.{IsScore}
-use Rattle.hum_stage.specs.Meaning.{Meaning, KeepsScore}
+use Rattle.hum_stage.specs.Meaning.{KeepsScore}
 use Rattle.hum_stage.specs.Decided.{at_once}
 use Rattle.hum_cells.specs.Retelling.{Renamed, Retelling, is_kern, retell}
 use Rattle.hum_tones.specs.Commands.{trans, semits, mint, recip}
@@ -16,7 +16,7 @@ use Rattle.hum_commands.specs.Meaning.{meaning, MakesScores}
 use Rattle.hum_laws.specs.declared.given.Given.{Given}
 use Rattle.hum_laws.specs.Piped.{IsAlone, IsPiped}
 use Rattle.hum_laws.specs.Notes.{NamesColumns, IsOnNotes}
-use Rattle.hum_laws.proofs.Runs.{RunsTo, RunsBehind, alone_runs, piped_runs}
+use Rattle.hum_laws.proofs.Runs.{alone_runs, piped_runs}
 use Rattle.hum_laws.proofs.Marks.{Becomes}
 use Rattle.hum_laws.proofs.Names.{left_alone}
 

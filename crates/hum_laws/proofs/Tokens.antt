@@ -1,65 +1,23 @@
 -- Tokens that are transposed and then told anew.
-use Rattle.std.proofs.Common.{◌≡◌, ◌≢◌, refl, sym, ap, ◌∙◌, ℕ, zero, suc, ℤ, pos, negsuc, ◌-ℤ◌, ◌==◌, ◌<◌, ◌≤◌, Bool, true, false, List, [], ◌∷◌, ◌++◌, take, drop, arith, Option, None, Some, subst, append_assoc}
-use Rattle.std.specs.Prelude.{Result, Ok, Err, replicate, slice_index, if◌then◌else◌, not, nat_eq, ◌&&◌}
-use Rattle.std.specs.List.{onto_first, slice_split, join_with_byte, starts_with, list_any}
-use Rattle.std.specs.Str.{bytes_eq}
+use Rattle.std.proofs.Common.{◌≡◌, refl, sym, ap, ◌∙◌, ℕ, zero, suc, ℤ, pos, negsuc, ◌-ℤ◌, ◌==◌, ◌<◌, true, false, List, [], ◌∷◌, ◌++◌, take, drop, arith, Option, Some, subst}
+use Rattle.std.specs.Prelude.{Result, Ok, Err, replicate, slice_index, not}
+use Rattle.std.specs.List.{onto_first, join_with_byte}
 use Rattle.std.proofs.lemmas.List.Splits.{join_with_byte-slice_split}
-use Rattle.std.proofs.lemmas.Bool.{or_parts, and_parts, and_from, not-false}
+use Rattle.std.proofs.lemmas.Bool.{or_parts, and_parts, and_from}
 use Rattle.std.proofs.lemmas.Bool.Decides.{nat_tests}
 use Rattle.std.proofs.lemmas.Slice.Eq.{bytes_eq-Decides}
 use lib.Chars.{codes}
 use Rattle.hum_record.specs.Contents.{is_null, is_barline}
 use Rattle.hum_path.proofs.Cases.{by_bool}
 use Rattle.hum_record.specs.Spelling.{has_byte}
-use Rattle.hum_pitch.specs.Pitch.{Spelled, away}
-use Rattle.hum_pitch.specs.Spelling.{small_letters, capitals, letters, letters_of, accidentals, spelling}
-use Rattle.hum_pitch.proofs.Steps.{away_is}
-use Rattle.hum_kern.specs.declared.KernFault.{KernFault}
-use Rattle.hum_kern.specs.Note.{Reading, note}
+use Rattle.hum_pitch.specs.Spelling.{small_letters, capitals, letters, accidentals, spelling}
 use Rattle.hum_stage.specs.declared.faults.Rule.{Rule}
-use Rattle.hum_stage.specs.declared.faults.Rule.TheVariants.{TR1, TR2}
 use Rattle.hum_cells.specs.Retelling.{is_told}
-use Rattle.hum_tones.specs.Subtokens.{with_first, given_by, joined, if_given, subtokens, retold}
-use Rattle.hum_tones.specs.Trans.{is_alteration, is_octave, if_spelled, put, moved, moved_as_read, transposed_part, transposed}
-use Rattle.hum_tones.proofs.Parts.{Lack}
-use Rattle.hum_tones.proofs.MovedLawful.{Becomes, Stays, Moves, repeat_lacks, both_lack}
-use Rattle.hum_tones.proofs.Written.{lacks_take, lacks_drop}
+use Rattle.hum_tones.specs.Subtokens.{given_by, joined, if_given, subtokens, retold}
+use Rattle.hum_tones.specs.Trans.{moved, transposed_part, transposed}
+use Rattle.hum_tones.proofs.Parts.{Lack, onto_lacks}
+use Rattle.hum_tones.proofs.MovedLawful.{small_over, capital_over, Becomes, Stays, Moves, becomes, AllMoved, all_moved, each_becomes, texts_lack, parts_some}
 use Rattle.hum_laws.proofs.Marks.{Agree}
-
--- the bytes of a pitch's letters are far up
-small_over : (step : ℕ) → step < 7 → 64 < slice_index small_letters step
-small_over zero h = omega arith
-small_over (suc zero) h = omega arith
-small_over (suc (suc zero)) h = omega arith
-small_over (suc (suc (suc zero))) h = omega arith
-small_over (suc (suc (suc (suc zero)))) h = omega arith
-small_over (suc (suc (suc (suc (suc zero))))) h = omega arith
-small_over (suc (suc (suc (suc (suc (suc zero)))))) h = omega arith
-small_over (suc (suc (suc (suc (suc (suc (suc n))))))) h = absurd (omega arith)
-
-capital_over : (step : ℕ) → step < 7 → 64 < slice_index capitals step
-capital_over zero h = omega arith
-capital_over (suc zero) h = omega arith
-capital_over (suc (suc zero)) h = omega arith
-capital_over (suc (suc (suc zero))) h = omega arith
-capital_over (suc (suc (suc (suc zero)))) h = omega arith
-capital_over (suc (suc (suc (suc (suc zero))))) h = omega arith
-capital_over (suc (suc (suc (suc (suc (suc zero)))))) h = omega arith
-capital_over (suc (suc (suc (suc (suc (suc (suc n))))))) h = absurd (omega arith)
-
-no_space : (x : ℕ) → 32 < x → (x == 32) ≡ false
-no_space x h = grind arith
-
-letters_lack : (step : ℕ) (o : ℤ) → step < 7 → has_byte 32 (letters step o) ≡ false
-letters_lack step (pos k) h = let over = small_over step h in repeat_lacks (slice_index small_letters step) 32 (suc k) (no_space (slice_index small_letters step) (omega (arith, over)))
-letters_lack step (negsuc k) h = let over = capital_over step h in repeat_lacks (slice_index capitals step) 32 (suc k) (no_space (slice_index capitals step) (omega (arith, over)))
-
-signs_lack : (a : ℤ) → has_byte 32 (accidentals a) ≡ false
-signs_lack (pos k) = repeat_lacks 35 32 k refl
-signs_lack (negsuc k) = repeat_lacks 45 32 (suc k) refl
-
-spelling_lacks : (p : Spelled) → p.step < 7 → has_byte 32 (spelling p) ≡ false
-spelling_lacks p h = both_lack 32 (letters_of p) (accidentals p.alteration) (letters_lack p.step (p.octave -ℤ pos 4) h) (signs_lack p.alteration)
 
 -- a text that begins with a pitch
 record BeginsOver (text : List ℕ) : Type 0 where
@@ -72,95 +30,12 @@ letters_begin : (step : ℕ) (o : ℤ) (ys more : List ℕ) → step < 7 → Beg
 letters_begin step (pos k) ys more h = record { first = slice_index small_letters step; more = (replicate k (slice_index small_letters step) ++ ys) ++ more; is = refl; over = small_over step h }
 letters_begin step (negsuc k) ys more h = record { first = slice_index capitals step; more = (replicate k (slice_index capitals step) ++ ys) ++ more; is = refl; over = capital_over step h }
 
--- what a part becomes: itself, or with another pitch in it
-put_becomes : (part : List ℕ) (found : Reading) (there : Spelled) (text : List ℕ) → there.step < 7 → put part found (if_spelled there) ≡ Ok (Some text) → Becomes part text
-put_becomes part found there text h e = go (is_alteration there.alteration) (is_octave there.octave) e
-  where
-    go : (a b : Bool) → put part found (if not a then Err TR1 else if not b then Err TR2 else Ok there) ≡ Ok (Some text) → Becomes part text
-    go false b e = cc
-    go true false e = cc
-    go true true e = Moves found.start found.end there h cc
-
-becomes : (n m : ℤ) (part text : List ℕ) → transposed_part n m part ≡ Ok (Some text) → Becomes part text
-becomes n m part text e = go (note part) e
-  where
-    there : (found : Reading) (p : Option Spelled) → moved n m part found p ≡ Ok (Some text) → Becomes part text
-    there found None e = Stays cc
-    there found (Some p) e = put_becomes part found (away n m p) text (away_is n m p).step e
-
-    go : (r : Result Reading KernFault) → moved_as_read n m part r ≡ Ok (Some text) → Becomes part text
-    go (Ok found) e = there found found.pitch e
-    go (Err fault) e = cc
-
-put_some : (part : List ℕ) (found : Reading) (there : Spelled) → put part found (if_spelled there) ≡ Ok None → ⊥
-put_some part found there e = go (is_alteration there.alteration) (is_octave there.octave) e
-  where
-    go : (a b : Bool) → put part found (if not a then Err TR1 else if not b then Err TR2 else Ok there) ≡ Ok None → ⊥
-    go false b e = cc
-    go true false e = cc
-    go true true e = cc
-
-never_none : (n m : ℤ) (part : List ℕ) → transposed_part n m part ≡ Ok None → ⊥
-never_none n m part e = go (note part) e
-  where
-    there : (found : Reading) (p : Option Spelled) → moved n m part found p ≡ Ok None → ⊥
-    there found None e = cc
-    there found (Some p) e = put_some part found (away n m p) e
-
-    go : (r : Result Reading KernFault) → moved_as_read n m part r ≡ Ok None → ⊥
-    go (Ok found) e = there found found.pitch e
-    go (Err fault) e = cc
-
--- all parts of a token were transposed
-abbrev AllMoved : ℤ → ℤ → List (List ℕ) → List (List ℕ) → Type 0
-AllMoved n m [] [] = Unit {0}
-AllMoved n m (part ∷ parts) (text ∷ texts) = (transposed_part n m part ≡ Ok (Some text)) × AllMoved n m parts texts
-AllMoved n m _ _ = ⊥
-
-all_moved : (n m : ℤ) (parts texts : List (List ℕ)) → given_by (transposed_part n m) parts ≡ Ok texts → AllMoved n m parts texts
-all_moved n m [] [] e = tt
-all_moved n m [] (text ∷ texts) e = cc
-all_moved n m (part ∷ parts) texts e = go (transposed_part n m part) refl (given_by (transposed_part n m) parts) (λ others given. all_moved n m parts others given) texts e
-  where
-    go : (r : Result (Option (List ℕ)) Rule) → transposed_part n m part ≡ r → (rest : Result (List (List ℕ)) Rule) → ((others : List (List ℕ)) → rest ≡ Ok others → AllMoved n m parts others) → (texts : List (List ℕ)) → with_first r rest ≡ Ok texts → AllMoved n m (part ∷ parts) texts
-    go (Err rule) is rest more texts e = cc
-    go (Ok None) is rest more texts e = absurd (never_none n m part is)
-    go (Ok (Some text)) is (Err rule) more texts e = cc
-    go (Ok (Some text)) is (Ok others) more [] e = cc
-    go (Ok (Some text)) is (Ok others) more (first ∷ texts) e =
-        let one : text ≡ first = cc in
-        let two : others ≡ texts = cc in
-        (is ∙ ap (λ (t : List ℕ). Ok (Some t)) one, more texts (ap (λ (t : List (List ℕ)). Ok t) two))
-
 -- no part has a space
-text_lacks : (part text : List ℕ) → Becomes part text → has_byte 32 part ≡ false → has_byte 32 text ≡ false
-text_lacks part text (Stays e) h = rw e h
-text_lacks part text (Moves start end there small e) h =
-    rw e (both_lack 32 (take start part) (spelling there ++ drop end part) (lacks_take 32 start part h) (both_lack 32 (spelling there) (drop end part) (spelling_lacks there small) (lacks_drop 32 end part h)))
-
-texts_lack : (n m : ℤ) (parts texts : List (List ℕ)) → AllMoved n m parts texts → Lack 32 parts → Lack 32 texts
-texts_lack n m [] [] moved all = tt
-texts_lack n m [] (text ∷ texts) moved all = absurd moved
-texts_lack n m (part ∷ parts) [] moved all = absurd moved
-texts_lack n m (part ∷ parts) (text ∷ texts) moved all = (text_lacks part text (becomes n m part text moved.0) all.0, texts_lack n m parts texts moved.1 all.1)
-
-onto_lacks : (x : ℕ) (parts : List (List ℕ)) → (x == 32) ≡ false → Lack 32 parts → Lack 32 (onto_first x parts)
-onto_lacks x [] apart all = (rw apart refl, tt)
-onto_lacks x (part ∷ parts) apart all = (rw (apart, all.0) refl, all.1)
-
 parts_lack : (text : List ℕ) → Lack 32 (subtokens text)
 parts_lack [] = (refl, tt)
 parts_lack (x ∷ xs) =
     let rest = parts_lack xs in
-    by_bool (x == 32) (λ w. rw w (refl, rest)) (λ w. rw w (onto_lacks x (subtokens xs) w rest))
-
-onto_some : (x : ℕ) (parts : List (List ℕ)) → onto_first x parts ≢ []
-onto_some x [] = λ e. cc
-onto_some x (part ∷ parts) = λ e. cc
-
-parts_some : (token : List ℕ) → subtokens token ≢ []
-parts_some [] = λ e. cc
-parts_some (x ∷ xs) = by_bool (x == 32) (λ w. rw w (λ e. cc)) (λ w. rw w (onto_some x (subtokens xs)))
+    by_bool (x == 32) (λ w. rw w (refl, rest)) (λ w. rw w (onto_lacks 32 x (subtokens xs) w rest))
 
 -- texts that are joined by spaces are cut again
 cut_last : (t : List ℕ) → has_byte 32 t ≡ false → subtokens t ≡ t ∷ []
@@ -300,7 +175,7 @@ trans_agree n m second both h above token text told e = from (given_by (transpos
     made [] texts cut moved is = absurd (parts_some token cut)
     made (part ∷ parts) [] cut moved is = absurd moved
     made (part ∷ parts) (first ∷ texts) cut moved is =
-        let lack = texts_lack n m (part ∷ parts) (first ∷ texts) moved (subst (Lack 32) cut (parts_lack token)) in
+        let lack = texts_lack 32 (part ∷ parts) (first ∷ texts) (omega arith) (each_becomes n m (part ∷ parts) (first ∷ texts) moved) (subst (Lack 32) cut (parts_lack token)) in
         let again : subtokens text ≡ first ∷ texts = ap subtokens (sym is) ∙ cut_again first texts lack in (
           subst (λ (t : List ℕ). is_told t ≡ true) is (stays_told n m token (part ∷ parts) (first ∷ texts) cut moved told),
           ap (λ (ps : List (List ℕ)). if_given (given_by both ps)) cut

@@ -1,29 +1,31 @@
 -- Scores that are transposed, and then transposed again or told in other terms.
-use Rattle.std.proofs.Common.{◌≡◌, refl, sym, ap, ◌∙◌, ℕ, ℤ, ◌+ℤ◌, Bool, true, false, List, [], ◌∷◌}
-use Rattle.std.specs.Prelude.{neg_ℤ, Option, None, Some, Result, Ok, Err}
+use Rattle.std.proofs.Common.{◌≡◌, refl, sym, ℕ, ℤ, ◌+ℤ◌, List, [], ◌∷◌}
+use Rattle.std.specs.Prelude.{neg_ℤ, Option, Some, Result, Ok}
 use lib.Chars.{codes}
 use Rattle.hum_record.specs.Row.{Row}
-use Rattle.hum_path.specs.Sign.{sign_of, is_plain}
 use Rattle.hum_stage.specs.declared.faults.Rule.{Rule}
-use Rattle.hum_stage.specs.declared.faults.Command.TheVariants.{Trans, Semits}
+use Rattle.hum_stage.specs.declared.faults.Command.TheVariants.{Trans, Semits, Recip}
 use Rattle.hum_stage.specs.declared.faults.End.TheVariants.{Closed}
 use Rattle.hum_stage.specs.Score.{IsScore}
-use Rattle.hum_stage.specs.Meaning.{Meaning, KeepsScore}
-use Rattle.hum_cells.specs.Retelling.{Renamed, Followed, is_kern, retell, meaning}
+use Rattle.hum_stage.specs.Meaning.{KeepsScore}
+use Rattle.hum_cells.specs.Retelling.{Renamed, Followed, retell}
 use Rattle.hum_tones.specs.declared.semits.SemitsOptions.{SemitsOptions}
-use Rattle.hum_tones.specs.Commands.{trans, trans_sign, semits, meaning_of_semits}
+use Rattle.hum_tones.specs.declared.recip.RecipOptions.{RecipOptions}
+use Rattle.hum_tones.specs.Commands.{trans, trans_sign, semits, meaning_of_semits, recip, meaning_of_recip}
 use Rattle.hum_tones.specs.Subtokens.{retold}
 use Rattle.hum_tones.specs.Trans.{transposed, transposed_part}
 use Rattle.hum_tones.specs.Semits.{semits_of}
+use Rattle.hum_tones.specs.Recip.{recip_of}
 use Rattle.hum_laws.specs.declared.given.Given.{Given}
 use Rattle.hum_laws.specs.Piped.{IsAlone, IsPiped}
 use Rattle.hum_laws.specs.Shifting.{semits_higher}
-use Rattle.hum_laws.specs.Transposing.{moved_by, transposed_under, semitones_under, as_semitones}
+use Rattle.hum_laws.specs.Transposing.{moved_by, transposed_under, semitones_under, as_semitones, durations_under}
 use Rattle.hum_laws.proofs.Runs.{alone_runs, piped_runs}
 use Rattle.hum_laws.proofs.Marks.{Signs, marks, alone_marks}
 use Rattle.hum_laws.proofs.Tokens.{trans_agree}
 use Rattle.hum_laws.proofs.Undone.{added, shifted}
 use Rattle.hum_laws.proofs.Signs.{back_unsigned}
+use Rattle.hum_laws.proofs.Lasts.{lasts}
 use Rattle.hum_laws.specs.Unsigned.{unsigned, unsigned_under}
 
 behind_trans : (n m : ℤ) (second both : List ℕ → Result (Option (List ℕ)) Rule)
@@ -65,3 +67,16 @@ back_again n m p given h keeps score closed =
     marks (Followed (trans_sign (neg_ℤ n) (neg_ℤ m))) (trans_sign n m) (λ above. transposed n m) (transposed (neg_ℤ n) (neg_ℤ m)) (λ above. retold unsigned)
     (behind_trans n m (transposed_part (neg_ℤ n) (neg_ℤ m)) unsigned (λ part text e. back_unsigned n m part text e))
     p given.records.items score (piped_runs 1 2 Trans Trans (retell (trans n m)) (retell (trans (neg_ℤ n) (neg_ℤ m))) p given h keeps score closed)
+
+pub recip_behind : (n m : ℤ) (options : RecipOptions) (p : List Row) (given : Given) → IsPiped (moved_by 1 n m) (meaning_of_recip 2 options) p given
+    → KeepsScore (moved_by 1 n m).outcomes → IsScore p → given.end ≡ Closed → given.records.items ≡ durations_under (trans_sign n m ∷ []) p
+recip_behind n m options p given h keeps score closed =
+    marks (Renamed (codes "**recip")) (trans_sign n m) (λ above. transposed n m) (retold recip_of) (λ above. retold recip_of)
+    (behind_trans n m recip_of recip_of (lasts n m))
+    p given.records.items score (piped_runs 1 2 Trans Recip (retell (trans n m)) (retell (recip options)) p given h keeps score closed)
+
+pub recip_alone : (options : RecipOptions) (p : List Row) (given : Given) → IsAlone (meaning_of_recip 1 options) p given → given.end ≡ Closed
+    → given.records.items ≡ durations_under [] p
+recip_alone options p given h closed =
+    alone_marks (Renamed (codes "**recip")) (λ above. retold recip_of) p given.records.items
+    (alone_runs 1 Recip (retell (recip options)) p given h closed)

@@ -1,22 +1,19 @@
 -- A transposition is undone by the opposite one.
-use Rattle.std.proofs.Common.{◌≡◌, refl, sym, ap, ◌∙◌, ℕ, suc, ◌+◌, ◌<◌, ◌≤◌, ℤ, pos, negsuc, ◌+ℤ◌, ◌-ℤ◌, ◌≤ℤ◌, Bool, true, false, List, [], ◌∷◌, ◌++◌, append_assoc, length, length-append, take, drop, arith, Option, None, Some, subst, ◌==◌}
-use Rattle.std.specs.Prelude.{Result, Ok, Err, neg_ℤ, not, if◌then◌else◌, nat_le}
+use Rattle.std.proofs.Common.{◌≡◌, refl, sym, ap, ◌∙◌, ℕ, ◌+◌, ◌<◌, ◌≤◌, ℤ, pos, negsuc, ◌+ℤ◌, Bool, true, false, List, [], ◌∷◌, ◌++◌, append_assoc, length, length-append, take, drop, arith, Option, None, Some, subst, ◌==◌}
+use Rattle.std.specs.Prelude.{Result, Ok, Err, neg_ℤ, not, if◌then◌else◌}
 use Rattle.std.specs.List.{position}
 use Rattle.std.proofs.lemmas.Int.{ints}
 use Rattle.std.proofs.lemmas.Bool.Decides.{nat_tests}
 use Rattle.std.proofs.lemmas.List.Quantifiers.{position-Some}
 use Rattle.std.proofs.Math.Seq.{take-append_seam, drop-append_seam}
-use Rattle.hum_pitch.specs.Pitch.{Spelled, IsPitch, IsOctave, IsAlteration, IsAway, away, semitones, step_number}
-use Rattle.hum_pitch.specs.Spelling.{spelling, small_letters, capitals, read_letters, read_small, read_capitals, altered_by}
+use Rattle.hum_pitch.specs.Pitch.{Spelled, IsPitch, IsOctave, IsAlteration, IsAway, away, semitones}
+use Rattle.hum_pitch.specs.Spelling.{spelling, small_letters, capitals, read_small, read_capitals, altered_by}
 use Rattle.hum_pitch.proofs.Steps.{away_is, away_only}
 use Rattle.hum_kern.specs.declared.KernFault.{KernFault}
-use Rattle.hum_kern.specs.Note.{Notation, Reading, note, notation_of, pitch_of, alteration_of, marks_of, with_pitch}
-use Rattle.hum_kern.specs.NoteParts.{AreNoteParts}
-use Rattle.hum_kern.proofs.Found.{IsFound, found_in}
-use Rattle.hum_laws.proofs.Placed.{placed_there, before_is, left_is}
+use Rattle.hum_kern.specs.Note.{Notation, Reading, note, notation_of, pitch_of, alteration_of}
+use Rattle.hum_kern.proofs.Found.{IsFound, found_in, before_is, placed_there}
 use Rattle.hum_stage.specs.declared.faults.Rule.{Rule}
 use Rattle.hum_stage.specs.declared.faults.Rule.TheVariants.{TR1, TR2}
-use Rattle.hum_tones.specs.Faults.{rule_of}
 use Rattle.std.specs.Prelude.{◌&&◌}
 use Rattle.std.specs.Fmt.{signed_decimal}
 use lib.Chars.{codes}
@@ -47,11 +44,11 @@ step_in (b ∷ letters) signs p e = small (position (λ x. x == b) small_letters
     small None f e = large (position (λ x. x == b) capitals) refl e
     small (Some k) f e = let is : k ≡ p.step = cc in subst (λ (s : ℕ). s < 7) is (position-Some (λ x. x == b) small_letters k 0 f).0
 
-alteration_within : (a : ℤ) → is_alteration a ≡ true → IsAlteration a
+pub alteration_within : (a : ℤ) → is_alteration a ≡ true → IsAlteration a
 alteration_within (pos k) h = let b : k ≤ 7 = grind (arith, nat_tests, h) in (omega (arith, ints), omega (arith, ints))
 alteration_within (negsuc k) h = let b : k ≤ 6 = grind (arith, nat_tests, h) in (omega (arith, ints), omega (arith, ints))
 
-octave_within : (o : ℤ) → is_octave o ≡ true → IsOctave o
+pub octave_within : (o : ℤ) → is_octave o ≡ true → IsOctave o
 octave_within (pos k) h = let b : k ≤ 11 = grind (arith, nat_tests, h) in (omega (arith, ints), omega (arith, ints))
 octave_within (negsuc k) h = let b : k ≤ 3 = grind (arith, nat_tests, h) in (omega (arith, ints), omega (arith, ints))
 

@@ -1,5 +1,5 @@
 -- The letters of the command rid, put together.
-use Rattle.std.specs.Prelude.{Bool, ◌||◌}
+use Rattle.std.specs.Prelude.{◌||◌}
 use Rattle.hum_rid.specs.declared.RidOptions.{RidOptions}
 
 -- the letters of both

@@ -4,4 +4,6 @@ pub mod Shifting
 pub mod Marked
 pub mod Transposing
 pub mod Notes
+pub mod Comments
+pub mod Fields
 pub mod Unsigned

@@ -1,5 +1,4 @@
 -- Commands on the notes of kern columns.
-use Rattle.std.specs.Prelude.{ℕ}
 use Rattle.hum_commands.specs.declared.options.CommandOptions.{CommandOptions}
 use Rattle.hum_commands.specs.declared.options.CommandOptions.TheVariants.{Trans, Semits, Mint, Recip}
 

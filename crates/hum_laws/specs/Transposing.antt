@@ -1,15 +1,16 @@
 -- What is left when a score is transposed, and then transposed again, or told in other terms.
-use Rattle.std.specs.Prelude.{ℕ, ℤ, ◌+ℤ◌, neg_ℤ, Bool, List, [], ◌∷◌, Option, None, Some}
+use Rattle.std.specs.Prelude.{ℕ, ℤ, Bool, List, [], None, Some}
 use lib.Chars.{codes}
 use Rattle.hum_record.specs.Row.{Row}
 use Rattle.hum_stage.specs.declared.faults.Command.TheVariants.{Trans}
 use Rattle.hum_stage.specs.Meaning.{Meaning}
 use Rattle.hum_cells.specs.Retelling.{meaning}
-use Rattle.hum_tones.specs.Commands.{trans, trans_sign}
+use Rattle.hum_tones.specs.Commands.{trans}
 use Rattle.hum_tones.specs.Subtokens.{retold}
 use Rattle.hum_tones.specs.Trans.{transposed}
 use Rattle.hum_tones.specs.Semits.{semits_of}
-use Rattle.hum_laws.specs.Marked.{Marking, all_marked}
+use Rattle.hum_tones.specs.Recip.{recip_of}
+use Rattle.hum_laws.specs.Marked.{all_marked}
 use Rattle.hum_laws.specs.Shifting.{semits_higher}
 
 -- what a transposition by so many steps and semitones means
@@ -41,4 +42,13 @@ as_semitones ties_left_out =
       name = Some (codes "**semits");
       signs = [];
       becomes = λ above. retold (semits_of ties_left_out);
+    })
+
+-- Its durations as they are written, with these records behind each that had **kern.
+abbrev pub durations_under : List (List ℕ) → List Row → List Row
+durations_under signs =
+    all_marked (record {
+      name = Some (codes "**recip");
+      signs = signs;
+      becomes = λ above. retold recip_of;
     })

@@ -1,4 +1,7 @@
 //! What stages give of a score, one alone or two one after another.
+//!
+//! The laws end in `let given = piped(..)?; Ok(given)`, and not in the call alone: what it ensures is
+//! then known of the answer itself.
 ghost use Rattle.std.specs.Prelude.{◌≡◌, ◌≤◌, length, IfOk};
 ghost use Rattle.hum_stage.specs.Score.{IsClosed};
 ghost use Rattle.hum_stage.specs.Meaning.{Meaning, opening};

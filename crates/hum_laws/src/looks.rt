@@ -7,10 +7,15 @@ ghost use Rattle.hum_stage.specs.Look.{looking};
 ghost use Rattle.hum_yank.specs.declared.options.YankRange.TheVariants.{Onward};
 ghost use Rattle.hum_yank.specs.Passages.{Lines};
 ghost use Rattle.hum_yank.specs.Yank.{yank};
+ghost use Rattle.hum_stage.specs.declared.faults.Command.TheVariants.{Context as ContextCommand};
+ghost use Rattle.hum_context.specs.Context.{First, context};
+ghost use Rattle.hum_context.specs.Options.{omits_of};
 ghost use Rattle.hum_laws.specs.Piped.{IsAlone};
 
 use crate::given::{Given, alone};
 use hum_commands::{CommandOptions, CommandStage};
+use hum_context::{ContextOptions, Span, TokenCount};
+use hum_pattern::Pattern;
 use hum_record::Record;
 use hum_yank::{Markers, YankOptions, YankRange};
 use std::alloc::{AllocError, Global};
@@ -37,6 +42,34 @@ pub fn all_lines(alloc: Global, records: &[Record]) -> Result<Given, AllocError>
         alloc,
         records,
         CommandStage::new(alloc, 1, CommandOptions::Yank(options)),
+    )?;
+    Ok(given)
+}
+
+/// A context of one token is that token: `context -n 1` leaves a score as it is, with any `-o`.
+///
+/// # Errors
+/// Want of memory.
+pub fn context_of_one(
+    alloc: Global,
+    records: &[Record],
+    omit: Option<Pattern>,
+) -> Result<Given, AllocError>
+    requires closed { IsClosed records.now }
+    requires few { length records.now ≤ 4294967295 }
+    ensures collected { IfOk result (IsAlone (looking 65536 1 ContextCommand
+        (context (record { extent = First 1; omits = omits_of omit }))) records.now) }
+    ensures same { IfOk result (λ given. given.end ≡ Closed →
+        given.records.items ≡ records.now) }
+{
+    let options = ContextOptions {
+        span: Span::Number(TokenCount { number: 1 }),
+        omit,
+    };
+    let given = alone(
+        alloc,
+        records,
+        CommandStage::new(alloc, 1, CommandOptions::Context(options)),
     )?;
     Ok(given)
 }

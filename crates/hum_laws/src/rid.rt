@@ -1,11 +1,15 @@
 //! The command rid, again and again.
 ghost use Rattle.std.specs.Prelude.{◌≡◌, ◌≤◌, ◌||◌, false, length, IfOk};
 ghost use Rattle.hum_stage.specs.Score.{IsClosed};
+ghost use Rattle.hum_stage.specs.declared.faults.End.TheVariants.{Closed};
 ghost use Rattle.hum_rid.specs.Rid.{meaning};
+ghost use Rattle.hum_commands.specs.Meaning.{meaning as meaning_of};
 ghost use Rattle.hum_laws.specs.Piped.{IsAlone, IsPiped, Same};
 ghost use Rattle.hum_laws.specs.Letters.{joint};
+ghost use Rattle.hum_laws.specs.Comments.{all_comments, TellsByTokens, MeanTheSame};
 
 use crate::given::{Given, again, alone, piped};
+use hum_commands::{CommandOptions, CommandStage};
 use hum_record::Record;
 use hum_rid::{Rid, RidOptions};
 use std::alloc::{AllocError, Global};
@@ -64,23 +68,6 @@ pub fn rid_by_letters(
     Ok((in_turn, at_once))
 }
 
-/// The same letters.
-fn same(options: &RidOptions) -> RidOptions
-    ensures { result ≡ options.now }
-{
-    RidOptions {
-        global_comments: options.global_comments,
-        empty_global_comments: options.empty_global_comments,
-        local_comments: options.local_comments,
-        null_local_comments: options.null_local_comments,
-        interpretations: options.interpretations,
-        null_interpretations: options.null_interpretations,
-        tandems: options.tandems,
-        values: options.values,
-        null_values: options.null_values,
-    }
-}
-
 /// The same letters of rid twice are the same as once.
 ///
 /// # Errors
@@ -88,23 +75,78 @@ fn same(options: &RidOptions) -> RidOptions
 pub fn rid_twice(
     alloc: Global,
     records: &[Record],
-    options: &RidOptions,
+    options: RidOptions,
 ) -> Result<(Given, Given), AllocError>
     requires closed { IsClosed records.now }
     requires few { length records.now ≤ 4294967295 }
-    requires interpretations { options.now.interpretations ≡ false }
-    ensures once { IfOk result (λ both. IsAlone (meaning 1 options.now) records.now both.0) }
+    requires interpretations { options.interpretations ≡ false }
+    ensures once { IfOk result (λ both. IsAlone (meaning 1 options) records.now both.0) }
     ensures twice { IfOk result (λ both.
-        IsPiped (meaning 1 options.now) (meaning 2 options.now) records.now both.1) }
+        IsPiped (meaning 1 options) (meaning 2 options) records.now both.1) }
     ensures same { IfOk result (λ both. Same both.0 both.1) }
 {
-    let first = same(options);
-    let second = same(options);
     let both = again(
         alloc,
         records,
-        Rid::new(alloc, 1, first),
-        Rid::new(alloc, 2, second),
+        Rid::new(alloc, 1, options),
+        Rid::new(alloc, 2, options),
     )?;
     Ok(both)
+}
+
+/// The letter `G` alone.
+fn all_comments() -> RidOptions
+    ensures { result ≡ all_comments }
+{
+    RidOptions {
+        global_comments: true,
+        empty_global_comments: false,
+        local_comments: false,
+        null_local_comments: false,
+        interpretations: false,
+        null_interpretations: false,
+        tandems: false,
+        values: false,
+        null_values: false,
+    }
+}
+
+/// Global comments may be dropped before or after a command on columns or notes, or ditto:
+/// `rid -G | ditto` is `ditto | rid -G`. What is told to do the same is given twice, once for each
+/// side.
+///
+/// # Errors
+/// Want of memory.
+pub fn comments_aside(
+    alloc: Global,
+    records: &[Record],
+    command: CommandOptions,
+    alike: CommandOptions,
+) -> Result<(Given, Given), AllocError>
+    requires closed { IsClosed records.now }
+    requires few { length records.now ≤ 4294967295 }
+    requires tells { TellsByTokens command }
+    requires tells_too { TellsByTokens alike }
+    requires alike { MeanTheSame command alike }
+    ensures first { IfOk result (λ both.
+        IsPiped (meaning 1 all_comments) (meaning_of 2 command) records.now both.0) }
+    ensures last { IfOk result (λ both.
+        IsPiped (meaning_of 1 command) (meaning 2 all_comments) records.now both.1) }
+    ensures same { IfOk result (λ both. both.0.end ≡ Closed → both.1.end ≡ Closed →
+        both.0.records.items ≡ both.1.records.items) }
+{
+    let letter = all_comments();
+    let first = piped(
+        alloc,
+        records,
+        Rid::new(alloc, 1, letter),
+        CommandStage::new(alloc, 2, command),
+    )?;
+    let last = piped(
+        alloc,
+        records,
+        CommandStage::new(alloc, 1, alike),
+        Rid::new(alloc, 2, letter),
+    )?;
+    Ok((first, last))
 }

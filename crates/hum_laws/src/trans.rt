@@ -3,14 +3,15 @@ ghost use Rattle.std.specs.Prelude.{◌≡◌, ◌≤◌, ◌+ℤ◌, neg_ℤ, p
 ghost use Rattle.hum_pitch.specs.Pitch.{IsWithin};
 ghost use Rattle.hum_stage.specs.Score.{IsClosed};
 ghost use Rattle.hum_stage.specs.declared.faults.End.TheVariants.{Closed};
-ghost use Rattle.hum_tones.specs.Commands.{trans_sign, meaning_of_semits};
+ghost use Rattle.hum_tones.specs.Commands.{trans_sign, meaning_of_semits, meaning_of_recip};
 ghost use Rattle.hum_laws.specs.Piped.{IsAlone, IsPiped};
 ghost use Rattle.hum_laws.specs.Unsigned.{unsigned_under};
-ghost use Rattle.hum_laws.specs.Transposing.{moved_by, transposed_under, semitones_under, as_semitones};
+ghost use Rattle.hum_laws.specs.Transposing.{moved_by, transposed_under};
+ghost use Rattle.hum_laws.specs.Transposing.{semitones_under, as_semitones, durations_under};
 
 use crate::given::{Given, alone, piped};
 use hum_record::Record;
-use hum_tones::{Semits, SemitsOptions, Trans, Transposition};
+use hum_tones::{Recip, RecipOptions, Semits, SemitsOptions, Trans, Transposition};
 use std::alloc::{AllocError, Global};
 
 /// Both ways, one after the other.
@@ -112,6 +113,38 @@ pub fn semits_shifted(
         Semits::new(alloc, 2, options),
     )?;
     let still = alone(alloc, records, Semits::new(alloc, 1, options))?;
+    Ok((moved, still))
+}
+
+/// What is transposed lasts as long as before: `trans | recip` is `recip`, and the records of `*Tr`.
+///
+/// # Errors
+/// Want of memory.
+pub fn durations_stay(
+    alloc: Global,
+    records: &[Record],
+    way: Transposition,
+) -> Result<(Given, Given), AllocError>
+    requires closed { IsClosed records.now }
+    requires few { length records.now ≤ 4294967295 }
+    ensures moved { IfOk result (λ both.
+        IsPiped (moved_by 1 way.steps way.semitones) (meaning_of_recip 2 (record {}))
+        records.now both.0) }
+    ensures still { IfOk result (λ both.
+        IsAlone (meaning_of_recip 1 (record {})) records.now both.1) }
+    ensures moved_is { IfOk result (λ both. both.0.end ≡ Closed →
+        both.0.records.items
+        ≡ durations_under (trans_sign way.steps way.semitones ∷ []) records.now) }
+    ensures still_is { IfOk result (λ both. both.1.end ≡ Closed →
+        both.1.records.items ≡ durations_under [] records.now) }
+{
+    let moved = piped(
+        alloc,
+        records,
+        Trans::new(alloc, 1, way),
+        Recip::new(alloc, 2, RecipOptions),
+    )?;
+    let still = alone(alloc, records, Recip::new(alloc, 1, RecipOptions))?;
     Ok((moved, still))
 }
 

@@ -4,6 +4,7 @@ pub mod Feeding
 pub mod Taking
 pub mod Acting
 pub mod Turning
+pub mod Wanting
 pub mod Readying
 pub mod Sending
 pub mod Reusing

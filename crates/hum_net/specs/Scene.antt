@@ -1,15 +1,17 @@
 -- What nodes and links stand for.
-use Rattle.std.specs.Prelude.{◌≡◌, ◌≢◌, ◌⊎◌, ℕ, ◌<◌, ◌≤◌, Bool, true, false}
+use Rattle.std.specs.Prelude.{◌≡◌, ◌≢◌, ◌⊎◌, ℕ, ◌+◌, ◌<◌, ◌≤◌, Bool, true, false}
 use Rattle.std.specs.Prelude.{if◌then◌else◌, nat_eq, nat_lt, List, [], ◌++◌}
 use Rattle.std.specs.Prelude.{length, map, Option, Some, slice_get}
 use Rattle.std.specs.Io.KnownBytes.{Consumes, IsAtEnd}
 use Rattle.hum_record.specs.Row.{Row}
+use Rattle.hum_stage.specs.Meaning.{Meaning, IsWithinLag}
 use Rattle.hum_turns.specs.Plan.{Plan, IsPlan, last}
 use Rattle.hum_turns.specs.Near.{IsOneOf}
 use Rattle.hum_turns.specs.Links.{Moment, given, view, IsOpening}
 use Rattle.hum_turns.specs.Turns.{State, state, can, ready, Does, Step, Run}
 use Rattle.hum_nodes.specs.Fine.{fine}
 use Rattle.hum_nodes.specs.At.{Kind, At, IsLimited, doing_of, holds_of, fresh as fresh_at}
+use Rattle.hum_nodes.specs.Single.{single}
 use Rattle.hum_nodes.specs.declared.node.Doing.{Doing}
 use Rattle.hum_nodes.specs.declared.either.Node.{Node}
 use Rattle.hum_nodes.specs.Nodes.{is_source, remaining_of, ended_of}
@@ -177,6 +179,12 @@ held_of s m k =
     if nat_lt k s.count
     then (if nat_lt 0 (s.kinds k).stage.bytes then 0 else holds_of (at_of s.kinds m k))
     else 0
+
+-- So many records are at most one more than the greatest lag of stage k, which has one input.
+abbrev pub HoldsFew : Scene → ℕ → ℕ → Type 0
+HoldsFew s k many =
+    (from n : ℕ) (m : Meaning) → k < s.count → s.kinds k ≡ single from m → IsWithinLag n m
+    → many ≤ n + 1
 
 -- Only the node of stage k may have changed.
 abbrev pub KeepsOthers : {F W : Type 0} → ℕ → Web F W → Web F W → Type 0

@@ -10,7 +10,7 @@ ghost use Rattle.hum_nodes.specs.Polls.{AsksAtMostOnce, HasStayed};
 ghost use Rattle.hum_net.specs.Readers.{ShowsSame, remaining_at, ended_at, calls_at, failed_at};
 ghost use Rattle.hum_net.specs.Readers.{is_read_of, is_write};
 ghost use Rattle.hum_net.specs.Scene.{Scene, plan_of, Somewhere, IsAt, IsNetPlan, IsBegun, MayTurn};
-ghost use Rattle.hum_net.specs.Scene.{KeepsOthers, Fed, held_of};
+ghost use Rattle.hum_net.specs.Scene.{KeepsOthers, Fed, held_of, HoldsFew};
 ghost use Rattle.hum_net.specs.Nets.{MayWrite, SinkWent, MayTurnFew, MayGo, HasTurned, IsRunning};
 ghost use Rattle.hum_turns.specs.Counts.{most_in_all};
 ghost use Rattle.hum_turns.specs.Holds.{SomeReady};
@@ -40,74 +40,70 @@ pub struct Net<F, W, S> {
 }
 
 impl<F: Feeds, W: Works, S: Sink> Net<F, W, S> {
-    // Were these two inlined, their answers would be taken to pieces as small as a fault's fields,
-    // at each turn.
+    // Both tell in place how they failed: an answer would be taken to pieces as small as a fault's
+    // fields, at each turn.
 
     // The sink's turn.
-    #[inline(never)]
-    fn sink_turn(&mut self) -> Option<RunResult>
+    fn sink_turn(&mut self)
         requires { Somewhere (IsAt (StandsAs F.stands W.stands) self.old.web) }
         ensures went { (s : Scene) → MayWrite (StandsAs F.stands W.stands) self.old.web s
-            → SinkWent (StandsAs F.stands W.stands) result (S.contents self.old.sink)
+            → SinkWent (StandsAs F.stands W.stands) self.new.failure (S.contents self.old.sink)
             (S.contents self.new.sink) (S.flushed self.new.sink) self.new.web s }
-        ensures marked { S.failed self.new.sink ≡ (S.failed self.old.sink || is_write result) }
-        ensures unread { (k : ℕ) → is_read_of k result ≡ false }
+        ensures marked { S.failed self.new.sink
+            ≡ (S.failed self.old.sink || is_write self.new.failure) }
+        ensures unread { (k : ℕ) → is_read_of k self.new.failure ≡ false }
         ensures shows { (k : ℕ) → ShowsSame F.remaining F.ended F.calls F.failed
             self.old.web.nodes.items self.new.web.nodes.items k }
-        ensures failure { self.new.failure ≡ self.old.failure }
         ensures turns { self.new.turns ≡ self.old.turns }
         ensures actors { self.new.actors ≡ self.old.actors }
         ensures readers { self.new.readers ≡ self.old.readers }
     {
+        self.failure = None;
         match self.web.take_out() {
             Next::Record(row) => match write_record(&mut self.sink, &row) {
-                Ok(()) => {
-                    self.web.reuse(row);
-                    None
-                }
-                Err(_) => Some(RunResult::Write),
+                Ok(()) => self.web.reuse(row),
+                Err(_) => self.failure = Some(RunResult::Write),
             },
             Next::End(_) => match self.sink.flush() {
-                Ok(()) => None,
-                Err(_) => Some(RunResult::Write),
+                Ok(()) => {}
+                Err(_) => self.failure = Some(RunResult::Write),
             },
-            Next::Nothing => None,
+            Next::Nothing => {}
         }
     }
 
     // A stage's turn.
-    #[inline(never)]
-    fn stage_turn(&mut self, k: usize) -> Option<RunResult>
+    fn stage_turn(&mut self, k: usize)
         requires { Somewhere (MayTurnFew (StandsAs F.stands W.stands) k self.old.web) }
-        ensures fed { result ≡ None → Fed (StandsAs F.stands W.stands) F.remaining F.ended k
+        ensures fed { self.new.failure ≡ None → Fed (StandsAs F.stands W.stands) F.remaining F.ended k
             self.old.web self.new.web }
-        ensures failed { IfSome result (λ by. (s : Scene)
+        ensures failed { IfSome self.new.failure (λ by. (s : Scene)
             → MayTurn (StandsAs F.stands W.stands) k self.old.web s
             → MayFail (plan_of s) k text_of s.links by []) }
         ensures others { KeepsOthers k self.old.web self.new.web }
         ensures marked { failed_at F.failed k self.new.web.nodes.items
-            ≡ (failed_at F.failed k self.old.web.nodes.items || is_read_of k result) }
-        ensures unmarked { (i : ℕ) → i ≢ k → is_read_of i result ≡ false }
-        ensures unwritten { is_write result ≡ false }
+            ≡ (failed_at F.failed k self.old.web.nodes.items || is_read_of k self.new.failure) }
+        ensures unmarked { (i : ℕ) → i ≢ k → is_read_of i self.new.failure ≡ false }
+        ensures unwritten { is_write self.new.failure ≡ false }
         ensures calls { AsksAtMostOnce (calls_at F.calls k self.old.web.nodes.items)
             (failed_at F.failed k self.old.web.nodes.items)
             (calls_at F.calls k self.new.web.nodes.items)
             (failed_at F.failed k self.new.web.nodes.items) }
-        ensures stays { IfSome result (λ by. HasStayed
+        ensures stays { IfSome self.new.failure (λ by. HasStayed
             (ended_at F.ended k self.old.web.nodes.items)
             (ended_at F.ended k self.new.web.nodes.items)
             (remaining_at F.remaining k self.old.web.nodes.items)
             (remaining_at F.remaining k self.new.web.nodes.items)) }
         ensures sink { self.new.sink ≡ self.old.sink }
-        ensures failure { self.new.failure ≡ self.old.failure }
         ensures turns { self.new.turns ≡ self.old.turns }
         ensures actors { self.new.actors ≡ self.old.actors }
         ensures readers { self.new.readers ≡ self.old.readers }
     {
+        self.failure = None;
         match self.web.turn(k) {
-            Ok(()) => None,
-            Err(ReadError::Read) => Some(RunResult::Read((k + 1) as u8)),
-            Err(ReadError::Memory) => Some(RunResult::Memory),
+            Ok(()) => {}
+            Err(ReadError::Read) => self.failure = Some(RunResult::Read((k + 1) as u8)),
+            Err(ReadError::Memory) => self.failure = Some(RunResult::Memory),
         }
     }
 
@@ -333,9 +329,9 @@ impl<F: Feeds, W: Works, S: Sink> Net<F, W, S> {
     {
         self.turns += 1;
         if k == self.web.count() {
-            self.failure = self.sink_turn();
+            self.sink_turn();
         } else {
-            self.failure = self.stage_turn(k);
+            self.stage_turn(k);
         }
     }
 
@@ -424,9 +420,14 @@ impl<F: Feeds, W: Works, S: Sink> Net<F, W, S> {
     /// How many records wait inside an actor: none in a source or the sink.
     pub fn held(&self, k: usize) -> usize
         requires { IsGoing (StandsAs F.stands W.stands) S.contents S.flushed k self.now }
-        ensures { (start : Option (List ℕ)) (s : Scene) (now : Now Row)
+        ensures held { (start : Option (List ℕ)) (s : Scene) (now : Now Row)
             → NetAt (StandsAs F.stands W.stands) S.contents S.flushed start s self.now now
             → now.failure ≡ None → k ≤ s.count → result ≡ held_of s now.links k }
+
+        // In a stage of one input at most one more than the greatest lag of its records.
+        ensures few { (start : Option (List ℕ)) (s : Scene) (now : Now Row)
+            → NetAt (StandsAs F.stands W.stands) S.contents S.flushed start s self.now now
+            → now.failure ≡ None → HoldsFew s k result }
     {
         if k == self.web.count() {
             0

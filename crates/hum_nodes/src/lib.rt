@@ -5,10 +5,12 @@
 //! - [`Single`] is a stage of one input as a node.
 //! - [`Merging`] is the command assemble as a node of several inputs.
 //! - [`Worker`] is one of the two.
+//! - [`Asked`] is a stage that keeps what it does next, so that a net may ask at each turn.
 //! - [`Reading`] is the command read as a node that reads bytes.
 //! - [`what_is_fine`] and the functions beside it are the laws that a plan asks of its stages.
 #![tactic(auto)]
 
+mod asked;
 mod either;
 mod laws;
 mod merging;
@@ -19,6 +21,7 @@ mod single;
 mod tests;
 mod worker;
 
+pub use asked::Asked;
 pub use either::Node;
 pub use laws::{
     kept_stages_are_limited, mergings_are_lawful, mergings_keep_fine, readings_are_lawful,

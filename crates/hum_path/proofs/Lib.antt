@@ -5,8 +5,10 @@ pub mod Examples
 pub mod Joins
 pub mod Obeyed
 pub mod Onwards
+pub mod Places
 pub mod Plain
 pub mod Staying
 pub mod Steady
+pub mod Turned
 pub mod Widths
 pub mod Within

@@ -3,6 +3,8 @@ pub mod Spines
 pub mod Onward
 pub mod Rules
 pub mod Score
+pub mod Places
 pub mod Chains
+pub mod Turned
 pub mod Memories
 pub mod Step

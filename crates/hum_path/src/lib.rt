@@ -8,6 +8,7 @@ ghost use Rattle.std.specs.Prelude.{◌≡◌};
 ghost use Rattle.hum_path.specs.declared.PathFault.TheVariants.{Memory};
 
 mod carried;
+pub mod laws;
 mod moved;
 mod origins;
 mod rules;

@@ -3,6 +3,7 @@ ghost use Rattle.std.specs.Prelude.{◌≡◌, ◌≤◌, ◌<◌, ◌+◌, ℕ,
 ghost use Rattle.hum_stage.specs.Meaning.{Meaning, opening, IsLawful};
 ghost use Rattle.hum_nodes.specs.At.{fresh};
 ghost use Rattle.hum_nodes.specs.Nodes.{StandsAs};
+ghost use Rattle.hum_nodes.specs.Merging.{merging};
 ghost use Rattle.hum_nodes.specs.Single.{single};
 ghost use Rattle.hum_options.specs.Seen.{options_of};
 ghost use Rattle.hum_plan.specs.Stages.{IsTree, Takes};
@@ -13,15 +14,18 @@ ghost use Rattle.hum_pipeline.specs.Nodes.{AllFrom, Fits, Tells, AreTold, AreNar
 ghost use Rattle.hum_plan.specs.declared.stages.PlanStage.{PlanStage};
 
 use hum_commands::{CommandOptions, CommandStage};
-use hum_nodes::{Feeds, Merging, Node, Reading, Single, Worker, Works};
+use hum_nodes::{Asked, Feeds, Merging, Node, Reading, Single, Worker, Works};
 use hum_plan::{Options, PlanStage};
 use hum_stage::Stage;
 use hum_text::calls::Source;
 use std::alloc::{AllocError, Global};
 use std::collections::VecDeque;
 
+/// A stage of others as a node.
+pub type StageNode = Asked<Worker<CommandStage>>;
+
 /// A stage of a plan as a node: a score that is read, or a stage of others.
-pub type PlanNode<R> = Node<Reading<R>, Worker<CommandStage>>;
+pub type PlanNode<R> = Node<Reading<R>, StageNode>;
 
 /// A stage's number, counted from 0 in place of 1.
 fn from_zero(number: u8) -> usize
@@ -56,19 +60,25 @@ fn is_lawful<S: Stage>(stage: &S)
 }
 
 /// The node of a command.
-fn command_node(
-    alloc: Global,
-    number: u8,
-    sources: &[u8],
-    options: CommandOptions,
-) -> Worker<CommandStage>
-    ensures stands { ⟦<Worker<CommandStage> as Works>⟧.stands result
+fn command_node(alloc: Global, number: u8, sources: &[u8], options: CommandOptions) -> StageNode
+    ensures stands { ⟦<Asked<Worker<CommandStage>> as Works>⟧.stands result
         (fresh (single (first_of sources.now) (means number (options_of options)))) }
     ensures sound { IsSoundBy number (Takes (options_of options)) }
 {
     let stage = CommandStage::new(alloc, number, options);
     is_lawful(&stage);
-    Worker::Single(Single::new(stage, first_from_zero(sources)))
+    Asked::new(Worker::Single(Single::new(stage, first_from_zero(sources))))
+}
+
+/// The node of assemble.
+fn merging_node(alloc: Global, number: u8, sources: &[u8]) -> Result<StageNode, AllocError>
+    requires { length sources.now ≤ 15 }
+    ensures { IfOk result (λ node. ⟦<Asked<Worker<CommandStage>> as Works>⟧.stands node
+        (fresh (merging number (map pred sources.now)))) }
+{
+    let from = all_from_zero(alloc, sources)?;
+    let node = Merging::new(alloc, number, from)?;
+    Ok(Asked::new(Worker::Merging(node)))
 }
 
 /// What makes the nodes of a plan's stages, one after another.
@@ -116,7 +126,7 @@ impl<R: Source + Drop> Builder<R> {
         ensures nodes { self.new.nodes ≡ self.old.nodes }
         ensures stages { self.new.stages ≡ self.old.stages }
         ensures fits { IfOk result (Fits (StandsAs ⟦<Reading<R> as Feeds>⟧.stands
-            ⟦<Worker<CommandStage> as Works>⟧.stands) k stage) }
+            ⟦<Asked<Worker<CommandStage>> as Works>⟧.stands) k stage) }
         ensures told { IfOk result (λ made. (bytes : ℕ → List ℕ) (stages : List PlanStage)
             → AreTold R.remaining bytes k (stage ∷ stages) self.old.readers.items
             → Tells ⟦<Reading<R> as Feeds>⟧.remaining ⟦<Reading<R> as Feeds>⟧.ended bytes k stage made
@@ -134,12 +144,12 @@ impl<R: Source + Drop> Builder<R> {
                 None => unreachable!(),
             },
             Options::Assemble => {
-                let from = all_from_zero(self.alloc, &sources)?;
-                Ok(Node::Stage(Worker::Merging(Merging::new(self.alloc, number, from)?)))
+                let node = merging_node(self.alloc, number, &sources)?;
+                Ok(Node::Stage(node))
             }
             Options::Command(options) => {
-                let worker = command_node(self.alloc, number, &sources, options);
-                Ok(Node::Stage(worker))
+                let node = command_node(self.alloc, number, &sources, options);
+                Ok(Node::Stage(node))
             }
         }
     }
@@ -147,7 +157,7 @@ impl<R: Source + Drop> Builder<R> {
 
 impl<R: Source + Drop> Builds for Builder<R> {
     ghost made = { λ s front. AllFrom (Fits (StandsAs ⟦<Reading<R> as Feeds>⟧.stands
-        ⟦<Worker<CommandStage> as Works>⟧.stands)) 0 front s.nodes.items };
+        ⟦<Asked<Worker<CommandStage>> as Works>⟧.stands)) 0 front s.nodes.items };
 
     ghost told = { λ s bytes front. AllFrom (Tells ⟦<Reading<R> as Feeds>⟧.remaining
         ⟦<Reading<R> as Feeds>⟧.ended bytes) 0 front s.nodes.items
@@ -193,7 +203,7 @@ pub(crate) fn plan_nodes<R: Source + Drop>(
     requires tree { IsTree (stages_of stages.items) }
     requires readers { reads_of stages.items ≡ length readers.items }
     ensures fits { IfOk result (λ nodes. AllFrom (Fits (StandsAs ⟦<Reading<R> as Feeds>⟧.stands
-        ⟦<Worker<CommandStage> as Works>⟧.stands)) 0 stages.items nodes.items) }
+        ⟦<Asked<Worker<CommandStage>> as Works>⟧.stands)) 0 stages.items nodes.items) }
     ensures told { IfOk result (λ nodes. (bytes : ℕ → List ℕ)
         → AreTold R.remaining bytes 0 stages.items readers.items
         → AllFrom (Tells ⟦<Reading<R> as Feeds>⟧.remaining ⟦<Reading<R> as Feeds>⟧.ended bytes) 0

@@ -1,6 +1,5 @@
 -- Which rule was broken, and where.
-use Rattle.std.specs.Prelude.{ℕ, List}
-use lib.Chars.{codes}
+use Rattle.std.specs.Prelude.{ℕ, List, ◌++◌, codes, decimal}
 use Rattle.hum_words.specs.declared.text.TextFault.{TextFault}
 use Rattle.hum_words.specs.declared.text.TextFault.TheVariants.{TooLong, NotUtf8}
 use Rattle.hum_options.specs.declared.faults.OptionRule.{OptionRule}
@@ -10,6 +9,8 @@ use Rattle.hum_plan.specs.declared.faults.PlanRule.{PlanRule}
 use Rattle.hum_plan.specs.declared.faults.PlanRule.TheVariants.{N1, N2, N3, N4, N5, N6, N7, N8}
 use Rattle.hum_plan.specs.declared.faults.PlanRule.TheVariants.{N9, N10, N11, N12}
 use Rattle.hum_plan.specs.declared.faults.PlanFault.{PlanFault}
+use Rattle.hum_plan.specs.declared.faults.PlanError.{PlanError}
+use Rattle.hum_plan.specs.declared.faults.PlanError.TheVariants.{Fault, Memory}
 
 -- a rule's code, as it is printed
 abbrev pub code_of : PlanRule → List ℕ
@@ -25,6 +26,13 @@ code_of N9 = codes "N9"
 code_of N10 = codes "N10"
 code_of N11 = codes "N11"
 code_of N12 = codes "N12"
+
+-- the line that tells why bytes are no plan, without its end
+abbrev pub line_of : PlanError → List ℕ
+line_of (Fault fault) =
+    codes "line " ++ (decimal fault.line ++ (codes ", word " ++ (
+    decimal fault.word ++ (codes ": " ++ code_of fault.rule))))
+line_of Memory = codes "out of memory"
 
 -- a rule that is broken at a word of a line, both from 1; no word is 0
 abbrev pub broken : ℕ → ℕ → PlanRule → PlanFault

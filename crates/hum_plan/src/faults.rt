@@ -1,7 +1,7 @@
 //! The rules of a plan, and where one was broken.
 ghost use Rattle.std.specs.Prelude.{◌≡◌, Some};
 ghost use Rattle.hum_plan.specs.declared.faults.PlanError.TheVariants.{Fault, Memory};
-ghost use Rattle.hum_plan.specs.Faults.{code_of, rule_of, in_line, of_text, broken};
+ghost use Rattle.hum_plan.specs.Faults.{code_of, line_of, rule_of, in_line, of_text, broken};
 
 use hum_options::{OptionFault, OptionRule};
 use hum_words::TextFault;
@@ -127,11 +127,13 @@ pub(crate) fn of_text(fault: TextFault) -> PlanFault
 }
 
 impl fmt::Display for PlanError {
+    ghost output = { λ error. Some (line_of error) };
+
     fn fmt<W: fmt::Write>(&self, f: &mut fmt::Formatter<W>) -> fmt::Result {
         match self {
             PlanError::Fault(fault) => {
-                let code = fault.rule.code();
-                write!(f, "line {}, word {}: {code}", fault.line, fault.word)
+                let PlanFault { line, word, rule } = *fault;
+                write!(f, "line {line}, word {word}: {rule}")
             }
             PlanError::Memory => f.write_str("out of memory"),
         }

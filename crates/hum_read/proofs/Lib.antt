@@ -1,3 +1,4 @@
 mod Examples
 pub mod Denoting
+pub mod Faults
 pub mod Polling

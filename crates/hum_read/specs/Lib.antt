@@ -1,3 +1,4 @@
 pub mod Denoted
 pub mod Reading
 pub mod Steps
+pub mod Faults

@@ -5,6 +5,7 @@
 //! and a spine that stays open is found in the line after the last.
 #![tactic(auto)]
 
+pub mod laws;
 mod rules;
 mod scores;
 

@@ -13,14 +13,13 @@ ghost use Rattle.hum_text.specs.Reading.{NeedsRead, IsUnread, IsFed, bytes_read,
 use crate::ReadError;
 use crate::rules::{path_rule, record_rule, text_rule};
 use hum_path::{PathFault, Paths};
-use hum_record::Record;
+use hum_record::{Record, Spare};
 use hum_stage::{Command, End, Fault, Rule};
 use hum_text::calls::{LARGEST_READ, Source};
 use hum_text::reader::LineReader;
 use hum_text::{Limits, TextFault, reader as lines};
 use std::alloc::Global;
 use std::marker::Model;
-use std::mem;
 
 /// What a poll gives.
 #[derive(Debug, Drop)]
@@ -89,7 +88,7 @@ pub struct ScoreReader<R> {
     // the end that was told, or why nothing more can be read
     stopped: Option<Result<End, ReadError>>,
     // what the next record is read into
-    spare: Vec<u32>,
+    spare: Spare,
 }
 
 impl<R> Model for ScoreReader<R> {
@@ -128,7 +127,7 @@ impl<R: Source> ScoreReader<R> {
             lines: LineReader::new(alloc, source, Limits::standard()),
             paths: Paths::new(alloc),
             stopped: None,
-            spare: Vec::new(alloc),
+            spare: Spare::none(alloc),
         }
     }
 
@@ -136,15 +135,12 @@ impl<R: Source> ScoreReader<R> {
     pub fn reuse(&mut self, row: Record)
         ensures { self.new ≡ self.old }
     {
-        let (text, ends) = row.into_buffers();
-        self.lines.reuse(text);
-        self.spare = ends;
+        self.spare.keep(row);
+        self.lines.reuse(self.spare.take_text(self.alloc));
     }
 
-    // Were these inlined, their answers would be taken to pieces as small as a fault's fields, and
-    // each record be put together from such pieces.
-
-    /// The last line that was given is refused by a rule, or memory ran out.
+    /// The last line that was given is refused by a rule, or memory ran out. It happens once, so it
+    /// isn't inlined where each line passes.
     #[inline(never)]
     fn refuse(&mut self, rule: Option<Rule>) -> Result<Step, ReadError>
         ensures answer { result ≡ answer_of (refusal self.old.stage self.old.lines.given rule) }
@@ -161,7 +157,6 @@ impl<R: Source> ScoreReader<R> {
     }
 
     /// What a line gives that was just read.
-    #[inline(never)]
     fn read_line(&mut self, text: Vec<u8>) -> Result<Step, ReadError>
         requires going { self.old.stopped ≡ None }
         requires short { length text.items ≤ 1048576 }
@@ -174,8 +169,7 @@ impl<R: Source> ScoreReader<R> {
         ensures told { result ≢ Ok Step.More }
         ensures not_read { result ≢ Err ReadError.Read }
     {
-        let buffer = mem::replace(&mut self.spare, Vec::new(self.alloc));
-        let record = match Record::parse_into(buffer, text) {
+        let record = match Record::parse_into(self.alloc, &mut self.spare, text) {
             Ok(record) => record,
             Err(fault) => return self.refuse(record_rule(fault)),
         };
@@ -200,7 +194,6 @@ impl<R: Source> ScoreReader<R> {
     ///
     /// # Errors
     /// A failed read, and want of memory, which each later poll answers again.
-    #[inline(never)]
     pub fn poll(&mut self) -> Result<Step, ReadError>
         // What is given depends on the bytes read so far alone, however the input goes on.
         ensures gives { self.old.stopped ≡ None → GivesNext self.old result self.new }

@@ -3,6 +3,7 @@ pub mod Long
 pub mod Parts
 pub mod Ends
 pub mod Places
+pub mod Plain
 pub mod Cuts
 pub mod Laws
 pub mod Drafts

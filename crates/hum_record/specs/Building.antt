@@ -1,5 +1,5 @@
 -- A record in the making.
-use Rattle.std.specs.Prelude.{◌≡◌, ℕ, ◌≤◌, Bool, false, List, [], ◌∷◌, length}
+use Rattle.std.specs.Prelude.{◌≡◌, ◌≢◌, ℕ, ◌≤◌, Bool, false, true, List, [], ◌∷◌, length}
 use Rattle.std.specs.List.{join_with_byte, AllByRecursion}
 use Rattle.hum_record.specs.declared.SpinedKind.{SpinedKind}
 use Rattle.hum_record.specs.Spelling.{IsToken, parts}
@@ -39,3 +39,7 @@ pub record IsDraft (kind : SpinedKind) (text ends : List ℕ) : Type 0 where
 -- nothing is known after want of memory
 abbrev pub IsDraftUnless : Bool → SpinedKind → List ℕ → List ℕ → Type 0
 IsDraftUnless spent kind text ends = spent ≡ false → IsDraft kind text ends
+
+-- a record with tokens has the body that it will stand in, unless memory ran out
+abbrev pub HasBody : Bool → List ℕ → Bool → Type 0
+HasBody spent ends has = spent ≡ false → ends ≢ [] → has ≡ true

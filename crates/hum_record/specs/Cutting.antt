@@ -1,10 +1,11 @@
 -- Where the tokens of a text end.
 use Rattle.std.specs.Prelude.{◌≡◌, ◌==◌, ◌+◌, ℕ, true, false, List, [], ◌∷◌, map}
-use Rattle.std.specs.Prelude.{Option, None, Some, if◌then◌else◌}
+use Rattle.std.specs.Prelude.{Ok, if◌then◌else◌}
 use Rattle.std.specs.Simd.Lanes.{mask_l}
-use Rattle.std.specs.declared.vec.Vec.{Vec}
-use Rattle.std.specs.declared.alloc.Global.{Global}
-use Rattle.hum_record.specs.Spelling.{has_byte, parts}
+use Rattle.hum_record.specs.declared.SpinedKind.TheVariants.{Values}
+use Rattle.hum_record.specs.declared.tokens.Cut.{Cut}
+use Rattle.hum_record.specs.declared.tokens.Cut.TheVariants.{Plain, Whole, Broken}
+use Rattle.hum_record.specs.Spelling.{has_byte, kind_of_tokens, parts}
 use Rattle.hum_record.specs.Fields.{ends_from}
 
 -- the places of the tabs in a text whose first byte has this place
@@ -17,8 +18,10 @@ tabs_from start (byte ∷ text) =
 abbrev pub bits_of : ℕ → List ℕ → ℕ
 bits_of byte text = mask_l (map (λ x. x == byte) text)
 
--- where the tokens of a text end, or none where a carriage return stands in it
-abbrev pub AreEndsOf : List ℕ → Option (Vec ℕ Global) → Type 0
-AreEndsOf text None = has_byte 13 text ≡ true
-AreEndsOf text (Some ends) =
-    (has_byte 13 text ≡ false) × (ends.items ≡ ends_from 0 (parts text))
+-- what a text was found to be, and where its tokens end
+abbrev pub IsCut : List ℕ → List ℕ → Cut → Type 0
+IsCut text ends Broken = has_byte 13 text ≡ true
+IsCut text ends Whole = (has_byte 13 text ≡ false) × (ends ≡ ends_from 0 (parts text))
+IsCut text ends Plain =
+    (has_byte 13 text ≡ false) × (ends ≡ ends_from 0 (parts text))
+    × (kind_of_tokens (parts text) ≡ Ok Values)

@@ -1,14 +1,16 @@
 //! A record in the making.
 ghost use Rattle.std.specs.Prelude.{◌≡◌, ◌≢◌, ℕ, ◌+◌, ◌<◌, ◌≤◌, ◌^◌, [], ◌∷◌, ◌++◌, false, nat_le, length, IsTrue, Err, OnOk, IfErr};
+ghost use Rattle.std.specs.Prelude.{is_some, true};
 ghost use Rattle.hum_record.specs.Spelling.{IsToken};
 ghost use Rattle.hum_record.specs.Building.{tab_between};
 ghost use Rattle.hum_record.specs.declared.RecordFault.TheVariants.{L1, Memory};
 
 use crate::reading::Record;
-use crate::spare::Spare;
+use crate::spare::{Body, Spare, new_body};
 use crate::{RecordFault, SpinedKind};
 use std::alloc::{AllocError, Global};
 use std::marker::Model;
+use std::mem;
 
 /// The most bytes that a record's text may have.
 const MOST_BYTES: usize = 1_048_576;
@@ -22,9 +24,12 @@ const FIRST_BYTES: usize = 64;
 /// [`RecordFault::Memory`] again.
 #[derive(Drop)]
 pub struct RecordBuilder {
+    alloc: Global,
     text: Vec<u8>,
     kind: SpinedKind,
     ends: Vec<u32>,
+    // what the record will be, once it has a token
+    body: Option<Box<Body>>,
     spent: bool,
 }
 
@@ -33,11 +38,13 @@ impl Model for RecordBuilder {
 
     ghost Value = { Draft };
 
-    ghost use Rattle.hum_record.specs.Building.{draft_of, IsDraftUnless};
+    ghost use Rattle.std.specs.Prelude.{is_some};
+    ghost use Rattle.hum_record.specs.Building.{draft_of, IsDraftUnless, HasBody};
 
     ghost view = { λ b. draft_of b.kind b.text.items b.ends.items b.spent };
 
-    ghost invariant = { λ b. IsDraftUnless b.spent b.kind b.text.items b.ends.items };
+    ghost invariant = { λ b. IsDraftUnless b.spent b.kind b.text.items b.ends.items
+        × HasBody b.spent b.ends.items (is_some b.body) };
 }
 
 impl RecordBuilder {
@@ -56,11 +63,14 @@ impl RecordBuilder {
     pub fn reusing(alloc: Global, kind: SpinedKind, spare: &mut Spare) -> Self
         ensures { result ≡ record { kind = kind; tokens = []; spent = false } }
     {
-        let (text, ends) = spare.take(alloc);
+        let mut body = spare.take();
+        let (text, ends) = emptied(alloc, &mut body);
         RecordBuilder {
+            alloc,
             text,
             kind,
             ends,
+            body,
             spent: false,
         }
     }
@@ -90,7 +100,13 @@ impl RecordBuilder {
         if !has_room(&self.text, &self.ends, token) {
             return Err(RecordFault::L1);
         }
-        match append(&mut self.text, &mut self.ends, token) {
+        match add(
+            self.alloc,
+            &mut self.body,
+            &mut self.text,
+            &mut self.ends,
+            token,
+        ) {
             Ok(()) => Ok(()),
             Err(_) => {
                 self.spent = true;
@@ -105,9 +121,35 @@ impl RecordBuilder {
         requires sound { self.spent ≡ false }
         ensures { result ≡ Spined self.kind self.tokens }
     {
-        let RecordBuilder { text, ends, .. } = self;
-        Record::of_tokens(text, ends)
+        let RecordBuilder {
+            text,
+            ends,
+            body,
+            ..
+        } = self;
+        let Some(mut body) = body else {
+            unreachable!();
+        };
+        *body = Body { text, ends };
+        Record::of_body(body)
     }
+}
+
+/// The buffers of a text and of where its tokens end, empty, those of a body where there is one.
+#[inline]
+fn emptied(alloc: Global, body: &mut Option<Box<Body>>) -> (Vec<u8>, Vec<u32>)
+    ensures text { result.0.items ≡ [] }
+    ensures ends { result.1.items ≡ [] }
+    ensures body { is_some body.new ≡ is_some body.old }
+{
+    let Some(body) = body else {
+        return (Vec::new(alloc), Vec::new(alloc));
+    };
+    let mut text = mem::replace(&mut body.text, Vec::new(alloc));
+    let mut ends = mem::replace(&mut body.ends, Vec::new(alloc));
+    text.clear();
+    ends.clear();
+    (text, ends)
 }
 
 /// Whether a token may still be added.
@@ -122,6 +164,27 @@ fn has_room(text: &[u8], ends: &[u32], token: &[u8]) -> bool
     }
     let between = if ends.is_empty() { 0 } else { 1 };
     text.len() + between + token.len() <= MOST_BYTES
+}
+
+/// Adds a token behind the others, and sees to a body for the record.
+#[inline]
+fn add(
+    alloc: Global,
+    body: &mut Option<Box<Body>>,
+    text: &mut Vec<u8>,
+    ends: &mut Vec<u32>,
+    token: &[u8],
+) -> Result<(), AllocError>
+    requires { length text.old.items + length token.now < 2 ^ 31 }
+    ensures text { OnOk result
+        (text.new.items ≡ text.old.items ++ (tab_between ends.old.items ++ token.now)) }
+    ensures ends { OnOk result (ends.new.items ≡ ends.old.items ++ length text.new.items ∷ []) }
+    ensures body { OnOk result (is_some body.new ≡ true) }
+{
+    if body.is_none() {
+        *body = Some(new_body(alloc)?);
+    }
+    append(text, ends, token)
 }
 
 /// Adds a token behind the others, and a tab before it if there are any.

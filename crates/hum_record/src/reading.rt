@@ -1,20 +1,23 @@
 //! A record, and how a line is read as one.
-ghost use Rattle.std.specs.Prelude.{◌≡◌, ◌≢◌, ◌<◌, ◌≤◌, false, Ok, IfOk, IfErr, MatchResult, length};
-ghost use Rattle.hum_record.specs.Spelling.{IsTokenOf, IsTextOf, has_byte, is_comment, reading, Gives, Breaks};
+ghost use Rattle.std.specs.Prelude.{◌≡◌, ◌≢◌, ◌<◌, ◌≤◌, false, Ok, IfOk, IfErr, OnOk, MatchResult, length};
+ghost use Rattle.hum_record.specs.Spelling.{IsTokenOf, IsTextOf, has_byte, is_comment, reading, Gives, Fails, Breaks};
+ghost use Rattle.hum_record.specs.Fields.{AreFields, row_in};
 ghost use Rattle.hum_record.specs.Row.{Row, kind_of, row_of, tokens_of, width_of, token_at, text_of};
 ghost use Rattle.hum_record.specs.declared.RecordFault.TheVariants.{Memory};
 
-use crate::tokens::{ends_of, lawful_kind, token_at_end, token_kind};
+use crate::spare::{Body, Spare};
+use crate::tokens::{Cut, lawful_kind, push_ends, token_at_end, token_kind};
 use crate::{Kind, RecordFault};
 use memchr::memchr;
 use std::alloc::{AllocError, Global};
 use std::marker::Model;
 
 /// One record: a global comment, or a token of one kind for each spine.
+///
+/// It is as large as a pointer, so that it is moved as quickly.
 #[derive(Debug, Drop)]
 pub struct Record {
-    text: Vec<u8>,
-    ends: Vec<u32>,
+    body: Box<Body>,
 }
 
 impl Model for Record {
@@ -24,9 +27,9 @@ impl Model for Record {
 
     ghost use Rattle.hum_record.specs.Fields.{row_in, AreFields};
 
-    ghost view = { λ r. row_in r.text.items };
+    ghost view = { λ r. row_in r.body.value.text.items };
 
-    ghost invariant = { λ r. AreFields r.text.items r.ends.items };
+    ghost invariant = { λ r. AreFields r.body.value.text.items r.body.value.ends.items };
 }
 
 impl Record {
@@ -54,53 +57,46 @@ impl Record {
         // Which fault it is.
         ensures exact { Gives result (reading text.items) }
     {
-        Self::parse_into(Vec::new(alloc), text)
+        Self::parse_into(alloc, &mut Spare::none(alloc), text)
     }
 
-    /// Reads a text as [`Record::parse`] does, into a buffer of [`Record::into_buffers`], whatever
-    /// that holds.
-    pub fn parse_into(buffer: Vec<u32>, text: Vec<u8>) -> Result<Record, RecordFault>
+    /// Reads a text as [`Record::parse`] does, in what is left of a record that is done with.
+    pub fn parse_into(
+        alloc: Global,
+        spare: &mut Spare,
+        text: Vec<u8>,
+    ) -> Result<Record, RecordFault>
         requires at_most { length text.items ≤ 1048576 }
         requires one_line { has_byte 10 text.items ≡ false }
         ensures { Gives result (reading text.items) }
     {
-        let mut ends = buffer;
-        ends.clear();
-        if is_global(&text) {
-            if has_return(&text) {
-                return Err(RecordFault::S8);
-            }
-            return Ok(Record { text, ends });
-        }
-        let Some(ends) = ends_of(ends, &text)? else {
-            return Err(RecordFault::S8);
-        };
-        lawful_kind(&text, &ends)?;
-        Ok(Record { text, ends })
+        let mut body = spare.take_or_new(alloc)?;
+        cut(&mut body.ends, &text)?;
+        body.text = text;
+        Ok(Record { body })
     }
 
     /// The record of a text, by where each token ends in it.
-    pub(crate) fn of_tokens(text: Vec<u8>, ends: Vec<u32>) -> Record
-        requires { AreFields text.items ends.items }
-        ensures { result ≡ row_in text.items }
+    pub(crate) fn of_body(body: Box<Body>) -> Record
+        requires { AreFields body.value.text.items body.value.ends.items }
+        ensures { result ≡ row_in body.value.text.items }
     {
-        Record { text, ends }
+        Record { body }
     }
 
-    /// The buffers of a record that is done with, of its text and of where its tokens end: with
-    /// them the next record needs no memory of its own.
-    pub fn into_buffers(self) -> (Vec<u8>, Vec<u32>) {
-        let Record { text, ends } = self;
-        (text, ends)
+    /// What is left of a record that is done with.
+    pub(crate) fn into_body(self) -> Box<Body> {
+        self.body
     }
 
     /// A second record that is the same.
     pub fn copy(&self, alloc: Global) -> Result<Record, AllocError>
         ensures { IfOk result (λ r. r ≡ self.now) }
     {
+        let text = self.body.text.to_vec(alloc)?;
+        let ends = self.body.ends.to_vec(alloc)?;
         Ok(Record {
-            text: self.text.to_vec(alloc)?,
-            ends: self.ends.to_vec(alloc)?,
+            body: Box::new(alloc, Body { text, ends })?,
         })
     }
 
@@ -112,10 +108,10 @@ impl Record {
         ensures shape { self.now ≡ row_of result (text_of self.now) (tokens_of self.now) }
         ensures at_most { length (text_of self.now) ≤ 1048576 }
     {
-        if is_global(&self.text) {
+        if is_global(&self.body.text) {
             Kind::Global
         } else {
-            token_kind(&self.text).into()
+            token_kind(&self.body.text).into()
         }
     }
 
@@ -124,7 +120,7 @@ impl Record {
     pub fn width(&self) -> usize
         ensures { result ≡ width_of self.now }
     {
-        self.ends.len()
+        self.body.ends.len()
     }
 
     /// The token of the spine `j`, counted from 0.
@@ -134,7 +130,7 @@ impl Record {
         ensures token { result.now ≡ token_at self.now j }
         ensures lawful { IsTokenOf self.now result.now }
     {
-        token_at_end(&self.text, &self.ends, j)
+        token_at_end(&self.body.text, &self.body.ends, j)
     }
 
     /// The whole text: the tokens, a tab between two.
@@ -146,8 +142,35 @@ impl Record {
         // Its text is read as the record itself.
         ensures read_back { reading (text_of self.now) ≡ Ok self.now }
     {
-        &self.text
+        &self.body.text
     }
+}
+
+/// Finds where each token of a line ends, into a list that may hold anything, or the first rule that
+/// the line breaks.
+#[inline]
+fn cut(ends: &mut Vec<u32>, text: &[u8]) -> Result<(), RecordFault>
+    requires at_most { length text.now ≤ 1048576 }
+    requires one_line { has_byte 10 text.now ≡ false }
+    ensures fields { OnOk result (AreFields text.now ends.new.items) }
+    ensures read { OnOk result (reading text.now ≡ Ok (row_in text.now)) }
+    ensures refused { IfErr result (λ fault. Fails fault (reading text.now)) }
+{
+    ends.clear();
+    if is_global(text) {
+        if has_return(text) {
+            return Err(RecordFault::S8);
+        }
+        return Ok(());
+    }
+    match push_ends(ends, text)? {
+        Cut::Plain => {}
+        Cut::Whole => {
+            lawful_kind(text, ends)?;
+        }
+        Cut::Broken => return Err(RecordFault::S8),
+    }
+    Ok(())
 }
 
 /// Whether a carriage return stands in a text.

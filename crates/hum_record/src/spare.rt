@@ -1,19 +1,25 @@
-//! The buffers of a record that is done with.
-ghost use Rattle.std.specs.Prelude.{◌≡◌, []};
+//! What is left of a record that is done with.
+ghost use Rattle.std.specs.Prelude.{◌≡◌, [], IfOk};
 
 use crate::reading::Record;
-use std::alloc::Global;
+use std::alloc::{AllocError, Global};
 use std::marker::Model;
 use std::mem;
 
-/// The buffers of a record that is done with, if there was one: the next record that is made in
-/// them needs no memory of its own.
+/// The text of a record, and where each of its tokens ends in it.
+#[derive(Debug, Drop)]
+pub struct Body {
+    pub(crate) text: Vec<u8>,
+    pub(crate) ends: Vec<u32>,
+}
+
+/// What is left of a record that is done with, if there was one: the next record that is made in
+/// it needs no memory of its own.
 ///
-/// Nothing of what stood in them shows, so one spare is like another.
+/// Nothing of what stood in it shows, so one spare is like another.
 #[derive(Drop)]
 pub struct Spare {
-    text: Vec<u8>,
-    ends: Vec<u32>,
+    body: Option<Box<Body>>,
 }
 
 impl Model for Spare {
@@ -26,31 +32,45 @@ impl Model for Spare {
 
 impl Spare {
     /// No record was done with as yet.
-    pub fn none(alloc: Global) -> Spare {
-        Spare {
-            text: Vec::new(alloc),
-            ends: Vec::new(alloc),
+    pub fn none(_alloc: Global) -> Spare {
+        Spare { body: None }
+    }
+
+    /// Keeps a record that is done with, in place of what was kept.
+    #[inline]
+    pub fn keep(&mut self, row: Record) {
+        self.body = Some(row.into_body());
+    }
+
+    /// Hands out the buffer of the text, empty or not.
+    #[inline]
+    pub fn take_text(&mut self, alloc: Global) -> Vec<u8> {
+        match &mut self.body {
+            Some(body) => mem::replace(&mut body.text, Vec::new(alloc)),
+            None => Vec::new(alloc),
         }
     }
 
-    /// Keeps the buffers of a record that is done with, in place of those that were kept.
+    /// Hands out what is left, which may hold anything.
     #[inline]
-    pub fn keep(&mut self, row: Record) {
-        let (text, ends) = row.into_buffers();
-        self.text = text;
-        self.ends = ends;
+    pub(crate) fn take(&mut self) -> Option<Box<Body>> {
+        self.body.take()
     }
 
-    /// Hands out the buffers, empty: of a text, and of where its tokens end.
+    /// Hands out what is left, or where nothing is, new buffers.
     #[inline]
-    pub(crate) fn take(&mut self, alloc: Global) -> (Vec<u8>, Vec<u32>)
-        ensures text { result.0.items ≡ [] }
-        ensures ends { result.1.items ≡ [] }
-    {
-        let mut text = mem::replace(&mut self.text, Vec::new(alloc));
-        let mut ends = mem::replace(&mut self.ends, Vec::new(alloc));
-        text.clear();
-        ends.clear();
-        (text, ends)
+    pub(crate) fn take_or_new(&mut self, alloc: Global) -> Result<Box<Body>, AllocError> {
+        match self.body.take() {
+            Some(body) => Ok(body),
+            None => new_body(alloc),
+        }
     }
+}
+
+/// Empty buffers.
+#[inline(never)]
+pub(crate) fn new_body(alloc: Global) -> Result<Box<Body>, AllocError> {
+    let text = Vec::new(alloc);
+    let ends = Vec::new(alloc);
+    Ok(Box::new(alloc, Body { text, ends })?)
 }

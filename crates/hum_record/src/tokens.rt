@@ -1,12 +1,14 @@
 //! The cut of a line into tokens.
-ghost use Rattle.std.specs.Prelude.{◌≡◌, ◌<◌, ◌≤◌, ◌+◌, ◌^◌, ◌&&◌, [], ◌++◌, length, IfOk, OnOk};
+ghost use Rattle.std.specs.Prelude.{◌≡◌, ◌<◌, ◌≤◌, ◌+◌, ◌^◌, ◌&&◌, [], ◌++◌, length, IfOk, OnOk, false};
 ghost use Rattle.std.specs.Prelude.{slice_index, slice_range};
 ghost use Rattle.std.specs.List.{list_any};
 ghost use Rattle.hum_record.specs.Spelling.{has_byte, kind_of_token, kind_of_tokens, parts};
 ghost use Rattle.hum_record.specs.Spelling.{is_comment, same_kind};
 ghost use Rattle.hum_record.specs.declared.SpinedKind.TheVariants.{Local};
 ghost use Rattle.hum_record.specs.Fields.{begins_at, ends_from};
-ghost use Rattle.hum_record.specs.Cutting.{tabs_from, AreEndsOf};
+ghost use Rattle.hum_record.specs.Cutting.{tabs_from, IsCut};
+ghost use Rattle.hum_record.specs.Cutting.{bits_of};
+ghost use Rattle.hum_record.specs.Plain.{has_mark};
 
 use crate::bits::{bits_of, holds};
 use crate::{RecordFault, SpinedKind};
@@ -27,17 +29,28 @@ pub fn token_kind(token: &[u8]) -> SpinedKind
     }
 }
 
-/// Adds the place of each tab in a block of a text that begins at a place.
+/// What a line is found to be while it is cut into tokens.
+pub enum Cut {
+    /// Data, each of whose tokens is lawful.
+    Plain,
+    /// Tokens that are still to be looked at one by one.
+    Whole,
+    /// No tokens: a carriage return stands in it.
+    Broken,
+}
+
+/// Adds the place of each tab in a block of a text that begins at a place, by the bits of these.
 ///
 /// Most lines of a score are one block and have as many tabs as the line before, so that it can be
 /// foretold how often this loop turns.
 #[inline]
-fn push_tabs(block: &[u8], start: u32, ends: &mut Vec<u32>) -> Result<(), AllocError>
+fn push_tabs(block: &[u8], tabs: u64, start: u32, ends: &mut Vec<u32>) -> Result<(), AllocError>
     requires short { length block.now ≤ 32 }
     requires few { start + length block.now < 2 ^ 32 }
+    requires bits { tabs ≡ bits_of 9 block.now }
     ensures { OnOk result (ends.new.items ≡ ends.old.items ++ tabs_from start block.now) }
 {
-    let mut rest = bits_of(block, b'\t');
+    let mut rest = tabs;
     let mut at = start;
     while rest != 0 {
         let passed = rest.trailing_zeros();
@@ -49,30 +62,52 @@ fn push_tabs(block: &[u8], start: u32, ends: &mut Vec<u32>) -> Result<(), AllocE
     Ok(())
 }
 
-/// Where each token of a text ends, put into an empty list, or none where a carriage return stands
-/// in the text.
+/// Whether some token that begins in a block of a text may be none of plain data: none is where this
+/// answers no. The block is the head of a token, or not.
 #[inline]
-pub fn ends_of(list: Vec<u32>, text: &[u8]) -> Result<Option<Vec<u32>>, AllocError>
-    requires at_most { length text.now ≤ 1048576 }
-    requires empty { list.items ≡ [] }
-    ensures { IfOk result (λ ends. AreEndsOf text.now ends) }
+fn may_have_mark(block: &[u8], tabs: u64, is_head: bool) -> bool
+    requires short { length block.now ≤ 32 }
+    requires bits { tabs ≡ bits_of 9 block.now }
+    ensures { result ≡ false → has_mark is_head block.now ≡ false }
 {
-    let mut ends = list;
+    let heads = u64::from(is_head) + 2 * tabs;
+    let has_empty = heads & tabs != 0;
+    let has_comment = heads & bits_of(block, b'!') != 0;
+    let has_interpretation = heads & bits_of(block, b'*') != 0;
+    has_empty | has_comment | has_interpretation
+}
+
+/// Adds where each token of a text ends to an empty list, and tells what the text was found to be.
+#[inline]
+pub fn push_ends(ends: &mut Vec<u32>, text: &[u8]) -> Result<Cut, AllocError>
+    requires at_most { length text.now ≤ 1048576 }
+    requires empty { ends.old.items ≡ [] }
+    ensures { IfOk result (λ cut. IsCut text.now ends.new.items cut) }
+{
     let mut has_return = false;
+    let mut has_mark = false;
+    let mut is_head = true;
     let mut start = 0;
     let mut rest = text;
     while !rest.is_empty() {
         let (block, tail) = rest.split_at(rest.len().min(BLOCK));
-        push_tabs(block, start as u32, &mut ends)?;
+        let tabs = bits_of(block, b'\t');
+        push_tabs(block, tabs, start as u32, ends)?;
         has_return |= holds(block, b'\r');
+        has_mark |= may_have_mark(block, tabs, is_head);
+        is_head = block[block.len() - 1] == b'\t';
         start += block.len();
         rest = tail;
     }
-    if has_return {
-        return Ok(None);
-    }
     ends.push(text.len() as u32)?;
-    Ok(Some(ends))
+    if has_return {
+        return Ok(Cut::Broken);
+    }
+    Ok(if has_mark || is_head {
+        Cut::Whole
+    } else {
+        Cut::Plain
+    })
 }
 
 /// The one kind of a text's tokens, by where each ends, or the first rule that they break.

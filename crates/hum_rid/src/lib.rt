@@ -13,7 +13,7 @@ use hum_stage::{AtOnce, Command, Decides, Rule};
 use std::alloc::{AllocError, Global};
 
 /// Which records are dropped, by the letters of the command (several drop what any of them drops).
-#[derive(Drop)]
+#[derive(Clone, Copy)]
 pub struct RidOptions {
     /// `G`: all global comments
     pub global_comments: bool,

@@ -121,7 +121,7 @@ left_comes ps ns h =
     ∙ sym (steady_comes ps ns h))
 
 -- Joins that touch are two at least.
-touching_joins : (b : Bool) (m : List ℕ) (ps : List Piece) (ns : List (List ℕ)) → Formed b m ps ns → touches b ps ≡ true
+pub touching_joins : (b : Bool) (m : List ℕ) (ps : List Piece) (ns : List (List ℕ)) → Formed b m ps ns → touches b ps ≡ true
     → cond b 1 2 ≤ joins_in ps
 touching_joins b m [] ns f t = absurd (false≢true t)
 touching_joins b m (p ∷ ps) [] f t = absurd f
@@ -138,7 +138,7 @@ touching_joins b m (p ∷ ps) (n ∷ ns) f t =
     by_test false false true f g t more = absurd (false≢true (g refl))
     by_test false false false f g t more = more t
 
-one_apart : (ps : List Piece) (ns : List (List ℕ)) → Formed false [] ps ns → joins_in ps ≤ 1 → touches false ps ≡ false
+pub one_apart : (ps : List Piece) (ns : List (List ℕ)) → Formed false [] ps ns → joins_in ps ≤ 1 → touches false ps ≡ false
 one_apart ps ns f few = by_bool (touches false ps)
     (λ w. absurd (let two = touching_joins false [] ps ns f w in omega (arith, two, few)))
     (λ w. w)

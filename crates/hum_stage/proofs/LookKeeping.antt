@@ -1,18 +1,18 @@
 -- Commands that look ahead keep scores, step by step.
-use Rattle.std.proofs.Common.{◌≡◌, ◌∙◌, refl, sym, ap, ℕ, ◌+◌, ◌≤◌, Bool, true, false, List, [], ◌∷◌, ◌++◌, take, length, cond, inl, inr, ◌⊎◌, arith}
+use Rattle.std.proofs.Common.{◌≡◌, ◌∙◌, refl, sym, ap, ℕ, ◌+◌, Bool, true, false, List, [], ◌∷◌, take, length, cond, arith}
 use Rattle.std.specs.Prelude.{nat_le, Option, Some, None, Result, Ok, Err}
 use Rattle.std.proofs.lemmas.Bool.Decides.{nat_tests}
 use Rattle.std.proofs.lemmas.List.{take_all}
 use Rattle.hum_record.specs.Row.{Row}
 use Rattle.hum_path.specs.Spines.{Path, Unopened}
 use Rattle.hum_path.specs.Rules.{is_unfinished}
-use Rattle.hum_path.specs.Score.{IsOpen, path_after, passed}
+use Rattle.hum_path.specs.Score.{IsOpen, path_after}
 use Rattle.hum_stage.specs.declared.faults.Rule.{Rule}
 use Rattle.hum_stage.specs.declared.faults.Rule.TheVariants.{H1}
 use Rattle.hum_stage.specs.Score.{through, Follow}
-use Rattle.hum_stage.specs.Outcome.{Outcome, Becomes, Refused, Undecided, settled, refusal}
+use Rattle.hum_stage.specs.Outcome.{Refused, Undecided, settled, refusal}
 use Rattle.hum_stage.specs.Meaning.{KeepsScore}
-use Rattle.hum_stage.specs.Look.{Look, outcome_of, outcome_at, outcomes_from}
+use Rattle.hum_stage.specs.Look.{Look, outcome_of, outcomes_from}
 use Rattle.hum_stage.proofs.Scores.{Follow-append, through-append}
 
 -- How a command that looks ahead keeps scores: after records, those given lead to spines in some

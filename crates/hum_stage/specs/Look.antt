@@ -2,7 +2,7 @@
 use Rattle.std.specs.Prelude.{◌≡◌, ℕ, ◌≤◌, nat_le, List, [], ◌∷◌, ◌++◌, take, length}
 use Rattle.std.specs.Prelude.{if◌then◌else◌, Option, Some, None, Result, Ok}
 use Rattle.hum_record.specs.Row.{Row}
-use Rattle.hum_path.specs.Score.{IsOpen, passed}
+use Rattle.hum_path.specs.Score.{IsOpen, IsClosed, passed}
 use Rattle.hum_stage.specs.declared.faults.Rule.{Rule}
 use Rattle.hum_stage.specs.declared.faults.Rule.TheVariants.{H1}
 use Rattle.hum_stage.specs.declared.faults.Command.{Command}
@@ -39,10 +39,13 @@ looking room stage command look = record {
   outcomes = λ p. outcomes_from room look [] p;
 }
 
--- What every such command keeps: a record that is decided stays so, and becomes at most one.
+-- What every such command keeps: a record that is decided stays so, and becomes at most one; in a
+-- closed score each is decided.
 pub record IsSteady (look : Look) : Type 0 where
   pub stays : (past : List Row) (row : Row) (rows : List Row) (next : Row)
       (d : Result (List Row) Rule) → IsOpen (next ∷ passed (row ∷ past) rows)
       → look past row rows ≡ Some d → look past row (rows ++ next ∷ []) ≡ Some d
   pub one : (past : List Row) (row : Row) (rows new : List Row)
       → look past row rows ≡ Some (Ok new) → length new ≤ 1
+  pub decides : (past : List Row) (row : Row) (rows : List Row)
+      → IsClosed (passed (row ∷ past) rows) → look past row rows ≡ None → ⊥

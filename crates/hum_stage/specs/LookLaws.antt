@@ -10,14 +10,12 @@ use Rattle.hum_record.specs.Row.{Row}
 use Rattle.hum_path.specs.Score.{IsOpen, passed}
 use Rattle.hum_stage.specs.declared.faults.Rule.{Rule}
 use Rattle.hum_stage.specs.declared.faults.Rule.TheVariants.{H1}
-use Rattle.hum_stage.specs.declared.faults.Command.{Command}
 use Rattle.hum_stage.specs.Outcome.{Outcome, Becomes, Refused, Undecided, settled}
-use Rattle.hum_stage.specs.Meaning.{Goes, IsLawful, Moment, all_of}
+use Rattle.hum_stage.specs.Meaning.{Goes, Moment, all_of}
 use Rattle.hum_stage.specs.declared.faults.End.{End}
 use Rattle.hum_stage.specs.Lagging.{becomes, flat, Stops, Lagged, LagsAt, Lags}
 use Rattle.std.specs.Option.{option_to_list}
-use Rattle.hum_stage.specs.Order.{open_score}
-use Rattle.hum_stage.specs.Look.{Look, outcome_of, outcome_at, outcomes_from, looking, IsSteady}
+use Rattle.hum_stage.specs.Look.{Look, outcome_of, outcome_at, outcomes_from, IsSteady}
 
 -- What is decided with some records behind stays with one more.
 decided_stays : (room n m : ℕ) (old new : Option (Result (List Row) Rule))
@@ -107,14 +105,6 @@ looks_few room look past (row ∷ p) steady = first (looks_few room look (row �
         rw (length-append new (settled (outcomes_from room look (row ∷ past) p)))
         (omega (arith, one, rest))
 
-pub looking_lawful : (room stage : ℕ) (command : Command) (look : Look) → IsSteady look
-    → IsLawful (looking room stage command look)
-looking_lawful room stage command look steady = record {
-  each = λ p. looks_each room look [] p;
-  grows = λ p r s. looks_grow room look [] p r steady (open_score p r s);
-  limited = λ p few. let n = looks_few room look [] p steady in omega (arith, n, few);
-}
-
 -- what is given, by the records that were decided and the rest
 pub settled_behind : (outs : List (Option Row)) (rest : List Outcome)
     → settled (map becomes outs ++ rest) ≡ flat outs ++ settled rest
@@ -150,9 +140,3 @@ lags_remains room follows x ended spent t h =
     let sum = length-append (flat h.at.gone) (flat x.due) in
     let count = h.at.counted in
     rw h.meaning (omega (arith, all, sum, count))
-
-pub lags_lawful : (room : ℕ) (follows : Look → List Row → List Row
-    → Type 0) (x : Lagged) (ended : Option End) (spent : Bool) (t : Moment)
-    → Lags room follows x ended spent t → IsLawful t.meaning
-lags_lawful room follows x ended spent t h = rw h.meaning (looking_lawful room x.stage x.command
-    h.look h.steady)

@@ -11,7 +11,8 @@ use Rattle.hum_stage.specs.declared.faults.State.{State}
 use Rattle.hum_stage.specs.declared.faults.State.TheVariants.{Wants, Gives, Done}
 use Rattle.hum_record.specs.Row.{Row}
 use Rattle.hum_stage.specs.Score.{IsScore, IsClosed}
-use Rattle.hum_stage.specs.Outcome.{Outcome, Becomes, Refused, Undecided, settled, refusal, held_of}
+use Rattle.hum_stage.specs.Lag.{LagsAtMost, ArePutAtWants, HoldsByLag}
+use Rattle.hum_stage.specs.Outcome.{Outcome, Becomes, Refused, Undecided, AllDecided, settled, refusal, held_of}
 
 -- the number of the stage, its command, and what that makes of each record of a list
 pub record Meaning : Type 0 where
@@ -78,6 +79,13 @@ state_of t =
 abbrev pub held_at : Moment → ℕ
 held_at t = held_of t.given (is_some t.ended) (t.meaning.outcomes t.put)
 
+-- No record lags more than n; and at each moment where every record was put when the stage wanted
+-- it, n + 1 are held at most.
+pub record IsWithinLag (n : ℕ) (m : Meaning) : Type 0 where
+  pub lags : (p : List Row) → LagsAtMost m.outcomes n p
+  pub holds : (t : Moment) → t.meaning ≡ m → IsScore t.put → ArePutAtWants m.outcomes t.put t.given
+      → held_at t ≤ n + 1
+
 -- a stage that wants may be given this record
 pub record MayPut (stands : Moment → Type 0) (r : Row) : Type 0 where
   pub at : Moment
@@ -126,11 +134,19 @@ Goes (Refused rule ∷ os) [] = ⊥
 Goes (Refused rule ∷ os) (n ∷ ns) = n ≡ Refused rule
 Goes (Undecided ∷ os) new = Unit {0}
 
+-- in a closed score no record waits for a later one
+abbrev pub DecidesClosed : (List Row → List Outcome) → Type 0
+DecidesClosed outcomes = (p : List Row) → IsClosed p → AllDecided (outcomes p)
+
 -- what every command keeps
 pub record IsLawful (m : Meaning) : Type 0 where
   pub each : (p : List Row) → length (m.outcomes p) ≡ length p
   pub grows : (p : List Row) (r : Row) → IsScore (p ++ r ∷ [])
       → Goes (m.outcomes p) (m.outcomes (p ++ r ∷ []))
+  -- Of records that were put when the stage wanted them, at most one more is held than the greatest
+  -- lag.
+  pub holds : HoldsByLag m.outcomes
+  pub decides : DecidesClosed m.outcomes
   pub limited : (p : List Row) → length p ≤ 4294967295 → length (output m p) ≤ 4294967295
 
 -- Of scores it makes scores: of a closed one a closed one, unless it refuses.

@@ -46,7 +46,7 @@ impl<C: Decides + Drop> Drop for AtOnce<C> {
 }
 
 impl<C: Decides> AtOnce<C> {
-    ghost use Rattle.hum_stage.specs.Meaning.{KeepsScore};
+    ghost use Rattle.hum_stage.specs.Meaning.{KeepsScore, IsWithinLag};
 
     /// The stage of this number, from 1, that is told to do so.
     pub fn new(alloc: Global, stage: u8, options: C::Options) -> AtOnce<C>
@@ -57,6 +57,9 @@ impl<C: Decides> AtOnce<C> {
         // Of scores it makes scores.
         ensures keeps { C.keeps options
             → KeepsScore (at_once stage C.command (C.decide options)).outcomes }
+
+        // No record waits for a later one.
+        ensures within { IsWithinLag 0 (at_once stage C.command (C.decide options)) }
     {
         AtOnce {
             memory: C::begin(alloc, options),
@@ -125,7 +128,8 @@ impl<C: Decides> Stage for AtOnce<C> {
 
     ghost spent = { λ s. s.spent ≡ true };
 
-    ghost use Rattle.hum_stage.specs.Laws.{standing_remains, standing_lawful};
+    ghost use Rattle.hum_stage.specs.Laws.{standing_remains};
+    ghost use Rattle.hum_stage.specs.Lawful.{standing_lawful};
 
     ghost remains = { λ s t h. standing_remains _ _ _ _ t h };
 

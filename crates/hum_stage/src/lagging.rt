@@ -52,7 +52,7 @@ impl<C: LooksAhead + Drop> Drop for Lagging<C> {
 }
 
 impl<C: LooksAhead> Lagging<C> {
-    ghost use Rattle.hum_stage.specs.Meaning.{KeepsScore};
+    ghost use Rattle.hum_stage.specs.Meaning.{KeepsScore, DecidesClosed, IsWithinLag};
 
     /// The stage of this number, from 1, that is told to do so.
     pub fn new(alloc: Global, stage: u8, options: C::Options) -> Lagging<C>
@@ -62,6 +62,12 @@ impl<C: LooksAhead> Lagging<C> {
 
         // Of scores it makes scores.
         ensures keeps { KeepsScore (looking 65536 stage C.command (C.look options)).outcomes }
+
+        // In a closed score none is undecided.
+        ensures decides { DecidesClosed (looking 65536 stage C.command (C.look options)).outcomes }
+
+        // No record waits for more than 65,536 later ones.
+        ensures within { IsWithinLag 65536 (looking 65536 stage C.command (C.look options)) }
     {
         Lagging {
             memory: C::begin(alloc, options),
@@ -127,7 +133,8 @@ impl<C: LooksAhead> Stage for Lagging<C> {
 
     ghost spent = { λ s. s.spent ≡ true };
 
-    ghost use Rattle.hum_stage.specs.LookLaws.{lags_remains, lags_lawful};
+    ghost use Rattle.hum_stage.specs.LookLaws.{lags_remains};
+    ghost use Rattle.hum_stage.specs.Lawful.{lags_lawful};
 
     ghost remains = { λ s t h. lags_remains _ _ _ _ _ t h };
 

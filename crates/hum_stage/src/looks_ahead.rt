@@ -54,7 +54,7 @@ pub trait LooksAhead {
         // It stands for what the options say.
         ensures follows { follows result [] (look options) [] [] }
 
-        // A record that is decided stays so.
+        // A record that is decided stays so, and in a closed score each is.
         ensures steady { IsSteady (look options) }
 
         // Of scores it makes scores.

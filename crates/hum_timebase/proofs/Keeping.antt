@@ -1,12 +1,12 @@
 -- Scores stay scores.
 use Rattle.std.proofs.Common.{◌≡◌, ◌≢◌, ◌∙◌, refl, sym, ap, ℕ, zero, suc, ◌+◌, ◌≤◌, Bool, true, false, List, [], ◌∷◌, ◌++◌, length, map, replicate, arith, subst, Option, None, Some}
-use Rattle.std.specs.Prelude.{◌&&◌, ◌==◌, not, nat_le, is_some, Result, Ok, Err, if◌then◌else◌}
+use Rattle.std.specs.Prelude.{◌&&◌, ◌==◌, not, is_some, Result, Ok, Err, if◌then◌else◌}
 use Rattle.std.specs.List.{list_any, list_all, find, AllByRecursion}
 use Rattle.std.proofs.lemmas.Bool.{and_parts, or_parts}
 use Rattle.std.proofs.lemmas.Bool.Decides.{nat_tests}
 use Rattle.std.proofs.lemmas.List.{length-map}
 use Rattle.hum_record.specs.declared.SpinedKind.TheVariants.{Local, Interpretation, Values}
-use Rattle.hum_record.specs.Row.{Row, Comment, Spined, text_of}
+use Rattle.hum_record.specs.Row.{Row, Comment, Spined}
 use Rattle.hum_record.specs.Spelling.{is_empty}
 use Rattle.hum_path.specs.declared.signs.Sign.{Sign}
 use Rattle.hum_path.specs.declared.signs.Sign.TheVariants.{Split, Join, Exchange, Add, End, Exclusive, Plain}
@@ -21,7 +21,7 @@ use Rattle.hum_path.proofs.Plain.{plain_stays}
 use Rattle.hum_path.proofs.Staying.{plain_breaks}
 use Rattle.hum_frac.specs.Ratio.{Ratio}
 use Rattle.hum_stage.specs.declared.faults.Rule.{Rule}
-use Rattle.hum_stage.specs.declared.faults.Rule.TheVariants.{K3, B1, B2, F1, L1}
+use Rattle.hum_stage.specs.declared.faults.Rule.TheVariants.{K3, B1, B2, F1}
 use Rattle.hum_stage.specs.Score.{through, Follow}
 use Rattle.hum_stage.specs.Meaning.{KeepsScore}
 use Rattle.hum_stage.specs.Decided.{decisions, limit}
@@ -229,17 +229,16 @@ tb_follows path text tokens some sound few =
 interpretation_step : (pace : Pace) (past : List Row) (tokens : List (List ℕ)) (rows : List Row) → IsOpen (Spined Interpretation tokens ∷ past)
     → interpretation_rows pace.text tokens ≡ Ok rows
     → Follow (path_after past) rows × (through (path_after past) rows ≡ path_after (Spined Interpretation tokens ∷ past))
-interpretation_step pace past tokens rows sound e = go (names_some tokens) refl (nat_le (length (text_of (tb_row pace.text tokens))) 1048576) e
+interpretation_step pace past tokens rows sound e = go (names_some tokens) refl e
   where
-    go : (a : Bool) → names_some tokens ≡ a → (b : Bool)
-        → ◌≡◌ {A = Result (List Row) Rule} (if not a then Ok (Spined Interpretation tokens ∷ []) else if b then Ok (Spined Interpretation tokens ∷ tb_row pace.text tokens ∷ []) else Err L1) (Ok rows)
+    go : (a : Bool) → names_some tokens ≡ a
+        → ◌≡◌ {A = Result (List Row) Rule} (if not a then Ok (Spined Interpretation tokens ∷ []) else Ok (Spined Interpretation tokens ∷ tb_row pace.text tokens ∷ [])) (Ok rows)
         → Follow (path_after past) rows × (through (path_after past) rows ≡ path_after (Spined Interpretation tokens ∷ past))
-    go false none b e = let one : Spined Interpretation tokens ∷ [] ≡ rows = cc in rw (← one) ((sound.1, tt), refl)
-    go true some true e =
+    go false none e = let one : Spined Interpretation tokens ∷ [] ≡ rows = cc in rw (← one) ((sound.1, tt), refl)
+    go true some e =
         let two : Spined Interpretation tokens ∷ tb_row pace.text tokens ∷ [] ≡ rows = cc in
         let tb = tb_follows (path_after past) pace.text tokens some sound.1 (narrow (Spined Interpretation tokens ∷ past) sound) in
         rw (← two) ((sound.1, (tb.0, tt)), tb.1)
-    go true some false e = cc
 
 next_step : (pace : Pace) (past : List Row) (row : Row) (given : Path) (rows : List Row) → IsOpen (row ∷ past)
     → given ≡ path_after past → timebase pace past row ≡ Ok rows

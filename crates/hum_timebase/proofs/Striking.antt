@@ -1,25 +1,24 @@
 -- What a record becomes, by the ends that are kept.
-use Rattle.std.proofs.Common.{◌≡◌, ◌∙◌, ℕ, zero, suc, ◌+◌, ◌<◌, ◌≤◌, List, [], ◌∷◌, map, length, drop, get_or, replicate, refl, sym, ap, arith, add-one, length-append, min, Bool, true, false, Option, None, Some, Result, Ok, Err}
-use Rattle.std.specs.Prelude.{not, is_some, nat_le, if◌then◌else◌}
+use Rattle.std.proofs.Common.{◌≡◌, ◌∙◌, ℕ, zero, suc, ◌+◌, ◌<◌, List, [], ◌∷◌, map, length, drop, get_or, replicate, refl, sym, ap, arith, add-one, length-append, min, Bool, true, false, Option, None, Some, Result, Ok, Err}
+use Rattle.std.specs.Prelude.{not, is_some, if◌then◌else◌}
 use Rattle.std.specs.Option.{option_to_list}
 use Rattle.std.specs.List.{list_any}
-use Rattle.std.proofs.lemmas.Bool.Decides.{nat_tests}
 use Rattle.std.proofs.lemmas.List.{length-replicate}
 use Rattle.hum_record.specs.declared.Kind.TheVariants.{Global, Local as AnyLocal, Values as AnyValues, Interpretation as AnyInterpretation}
 use Rattle.hum_record.specs.declared.SpinedKind.TheVariants.{Local, Interpretation, Values}
-use Rattle.hum_record.specs.Row.{Row, Comment, Spined, kind_of, tokens_of, text_of}
+use Rattle.hum_record.specs.Row.{Row, Comment, Spined, kind_of, tokens_of}
 use Rattle.hum_path.specs.declared.moved.Move.{Move}
 use Rattle.hum_path.specs.Spines.{Path, after, moves}
 use Rattle.hum_path.specs.Score.{path_after}
 use Rattle.hum_frac.specs.Ratio.{Ratio}
 use Rattle.hum_frac.specs.Multiples.{is_multiple}
 use Rattle.hum_stage.specs.declared.faults.Rule.{Rule}
-use Rattle.hum_stage.specs.declared.faults.Rule.TheVariants.{K3, B1, B2, F1, L1}
+use Rattle.hum_stage.specs.declared.faults.Rule.TheVariants.{K3, B1, B2, F1}
 use Rattle.hum_stage.specs.Decided.{in_room, Steps}
 use Rattle.hum_timebase.specs.Notes.{timed_in, timed_at, notes_of, has_misread, is_sounding}
 use Rattle.hum_timebase.specs.Ends.{latest, next_end, living_before}
 use Rattle.hum_timebase.specs.Clock.{Clock, clock_after, time_after}
-use Rattle.hum_timebase.specs.Timebase.{Pace, data_rows, timed_rows, on_grid, around, null_row, clashes, is_too_long, count_before, count_after, living_at, names_some, tb_row, interpretation_rows}
+use Rattle.hum_timebase.specs.Timebase.{Pace, data_rows, timed_rows, on_grid, around, null_row, clashes, is_too_long, count_before, count_after, living_at, names_some, tb_row}
 use Rattle.hum_timebase.specs.Kept.{Kept, kept_of, rested, led, struck, ends_before, ends_at, ends_after, strike, strike_in, rows_of, sounding_rows}
 use Rattle.hum_timebase.specs.Following.{Follows, Answers, IsAbout}
 use Rattle.hum_timebase.specs.Dues.{due_rows}
@@ -247,23 +246,11 @@ module _ (pace : Pace) (path : Path) (timed : List Bool) (kept : Kept) (decide :
   names_none (Spined Interpretation tokens) k none = rw (h.command, none) refl
 
   pub names_fits : (row other : Row) → kind_of row ≡ AnyInterpretation → names_some (tokens_of row) ≡ true → other ≡ tb_row pace.text (tokens_of row)
-      → length (text_of (tb_row pace.text (tokens_of row))) ≤ 1048576 → decide past row ≡ Ok (row ∷ other ∷ [])
-  names_fits (Comment text) other k some is within = absurd (comment_no_interpretation k)
-  names_fits (Spined Local tokens) other k some is within = absurd cc
-  names_fits (Spined Values tokens) other k some is within = absurd cc
-  names_fits (Spined Interpretation tokens) other k some is within =
-      let test : nat_le (length (text_of (tb_row pace.text tokens))) 1048576 ≡ true = grind (arith, nat_tests, within) in
-      rw (h.command, some, is) (ap (λ (b : Bool). if b then Ok (Spined Interpretation tokens ∷ tb_row pace.text tokens ∷ []) else Err L1) test)
-
-  pub names_long : (row : Row) (room : ℕ) → kind_of row ≡ AnyInterpretation → names_some (tokens_of row) ≡ true
-      → 1048576 < length (text_of (tb_row pace.text (tokens_of row))) → in_room room (decide past row) ≡ Err L1
-  names_long (Comment text) room k some over = absurd (comment_no_interpretation k)
-  names_long (Spined Local tokens) room k some over = absurd cc
-  names_long (Spined Values tokens) room k some over = absurd cc
-  names_long (Spined Interpretation tokens) room k some over =
-      let test : nat_le (length (text_of (tb_row pace.text tokens))) 1048576 ≡ false = grind (arith, nat_tests, over) in
-      let long : interpretation_rows pace.text tokens ≡ Err L1 = rw some (ap (λ (b : Bool). if b then Ok (Spined Interpretation tokens ∷ tb_row pace.text tokens ∷ []) else Err L1) test) in
-      rw (h.command, long) refl
+      → decide past row ≡ Ok (row ∷ other ∷ [])
+  names_fits (Comment text) other k some is = absurd (comment_no_interpretation k)
+  names_fits (Spined Local tokens) other k some is = absurd cc
+  names_fits (Spined Values tokens) other k some is = absurd cc
+  names_fits (Spined Interpretation tokens) other k some is = rw (h.command, some, is) refl
 
 -- ---- room
 

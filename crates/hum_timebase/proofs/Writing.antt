@@ -1,5 +1,5 @@
 -- The records that are made.
-use Rattle.std.proofs.Common.{◌≡◌, ◌≢◌, ◌∙◌, ℕ, ◌+◌, ◌<◌, ◌≤◌, List, [], ◌∷◌, ◌++◌, map, length, drop, drop-cons, get_or, refl, sym, ap, arith, add-one, append_assoc, length-append, Bool, true, false, Option, None, Some, Ok, subst}
+use Rattle.std.proofs.Common.{◌≡◌, ◌≢◌, ◌∙◌, ℕ, ◌+◌, ◌*◌, ◌<◌, ◌≤◌, List, [], ◌∷◌, ◌++◌, map, length, drop, drop-cons, get_or, refl, sym, ap, arith, add-one, append_assoc, length-append, Bool, true, false, Option, None, Some, Ok, subst}
 use Rattle.std.specs.Prelude.{◌&&◌, ◌==◌, nat_le, if◌then◌else◌}
 use Rattle.std.specs.List.{list_any, AllByRecursion}
 use Rattle.std.proofs.lemmas.Bool.{false≢true}
@@ -7,8 +7,9 @@ use Rattle.std.proofs.lemmas.Bool.Decides.{nat_tests}
 use Rattle.std.proofs.lemmas.List.{nil_from_length, drop_all}
 use Rattle.std.proofs.lemmas.List.Folds.{list_any-append}
 use lib.Chars.{codes}
-use Rattle.hum_record.specs.declared.Kind.TheVariants.{Global, Values as AnyValues}
+use Rattle.hum_record.specs.declared.Kind.TheVariants.{Global, Interpretation as AnyInterpretation, Values as AnyValues}
 use Rattle.hum_record.specs.declared.SpinedKind.{SpinedKind}
+use Rattle.hum_record.specs.declared.SpinedKind.TheVariants.{Local, Interpretation, Values}
 use Rattle.hum_record.specs.Row.{Row, Comment, Spined, kind_of, tokens_of, text_of}
 use Rattle.hum_record.specs.Spelling.{IsToken, IsTextOf, has_byte}
 use Rattle.hum_record.specs.Building.{spelled}
@@ -21,8 +22,13 @@ use Rattle.hum_kern.specs.Duration.{Spelling, spelling_of, is_empty, is_torn, se
 use Rattle.hum_kern.specs.Parts.{AreParts, quotient_text, IsSecond}
 use Rattle.hum_kern.proofs.Parts.{are_parts}
 use Rattle.hum_kern.proofs.Laws.{recip_greater}
+use Rattle.hum_kern.proofs.Short.{recip_short}
 use Rattle.hum_timebase.specs.Timebase.{null_row, names_some, tb_token}
 use Rattle.hum_path.specs.Sign.{sign_of, is_exclusive}
+use Rattle.hum_path.specs.Spines.{Path, Unopened, Spines}
+use Rattle.hum_path.specs.Rules.{fault_of}
+use Rattle.hum_path.specs.Score.{IsOpen, path_after}
+use Rattle.hum_path.proofs.Obeyed.{opens, obeys, narrow}
 use Rattle.hum_timebase.specs.Writing.{IsPace}
 
 -- ---- what a duration is written with
@@ -126,6 +132,7 @@ is_pace step text h =
     let free : (b : ℕ) → IsForeign b → has_byte b text ≡ false = λ b foreign. free_whole b text (spelling_of text) (are_parts text) whole foreign in
     record {
       positive = recip_greater text step h;
+      short = recip_short text step h;
       lawful = record {
         filled = λ e. cc;
         one_token = free 9 (record { digit = refl; dot = refl; percent = refl });
@@ -191,3 +198,34 @@ not_global row k e = no (sym e ∙ k)
   where
     no : Global ≡ AnyValues → ⊥
     no e = cc
+
+-- the record that follows one with exclusive interpretations is short
+tb_token_short : (text token : List ℕ) → length text ≤ 15 → length (tb_token text token) ≤ 18
+tb_token_short text token short = go (is_exclusive (sign_of token))
+  where
+    go : (b : Bool) → length (if b then codes "*tb" ++ text else codes "*") ≤ 18
+    go true = let sum = length-append (codes "*tb") text in omega (arith, sum, short)
+    go false = omega arith
+
+pub tb_short : (text : List ℕ) (tokens : List (List ℕ)) → length text ≤ 15 → length (spelled (map (tb_token text) tokens)) ≤ 19 * length tokens
+tb_short text [] short = omega arith
+tb_short text (token ∷ []) short = let one = tb_token_short text token short in omega (arith, one)
+tb_short text (token ∷ next ∷ tokens) short =
+    let one = tb_token_short text token short in
+    let rest = tb_short text (next ∷ tokens) short in
+    let sum = length-append (tb_token text token) (9 ∷ spelled (map (tb_token text) (next ∷ tokens))) in
+    omega (arith, one, rest, sum)
+
+-- no record of a score has more tokens
+pub few_tokens : (past : List Row) (row : Row) → IsOpen (row ∷ past) → kind_of row ≡ AnyInterpretation → length (tokens_of row) ≤ 4096
+few_tokens past (Comment text) score k = omega arith
+few_tokens past (Spined Local tokens) score k = absurd cc
+few_tokens past (Spined Values tokens) score k = absurd cc
+few_tokens past (Spined Interpretation tokens) score k = by_path (path_after past) refl score.1
+  where
+    by_path : (path : Path) → path_after past ≡ path → fault_of path (Spined Interpretation tokens) ≡ None → length tokens ≤ 4096
+    by_path Unopened e h = (opens tokens h).few
+    by_path (Spines names) e h =
+        let wide = (obeys names tokens h).wide in
+        let most = rw e at (narrow past score.0) in
+        omega (arith, wide, most)

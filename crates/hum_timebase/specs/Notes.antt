@@ -1,5 +1,5 @@
 -- Timed columns, and the notes in their cells.
-use Rattle.std.specs.Prelude.{ℕ, ◌==◌, Bool, nat_eq, ◌&&◌, ◌||◌, not, List, [], ◌∷◌, map}
+use Rattle.std.specs.Prelude.{ℕ, Bool, ◌&&◌, ◌||◌, not, List, [], ◌∷◌, map}
 use Rattle.std.specs.Prelude.{Option, None, Some, if◌then◌else◌}
 use Rattle.std.specs.List.{list_any}
 use Rattle.std.specs.Str.{bytes_eq}

@@ -1,17 +1,17 @@
 -- What timebase makes of each record.
-use Rattle.std.specs.Prelude.{ℕ, ◌+◌, Bool, false, nat_le, ◌&&◌, not, List, [], ◌∷◌, ◌++◌, map}
-use Rattle.std.specs.Prelude.{length, replicate, Option, None, Some, is_some, Result, Ok, Err}
+use Rattle.std.specs.Prelude.{ℕ, ◌+◌, Bool, false, ◌&&◌, not, List, [], ◌∷◌, ◌++◌, map}
+use Rattle.std.specs.Prelude.{replicate, Option, None, Some, is_some, Result, Ok, Err}
 use Rattle.std.specs.Prelude.{if◌then◌else◌}
 use Rattle.std.specs.List.{list_any, list_all}
 use lib.Chars.{codes}
 use Rattle.hum_record.specs.declared.SpinedKind.TheVariants.{Interpretation, Values}
-use Rattle.hum_record.specs.Row.{Row, Comment, Spined, text_of}
+use Rattle.hum_record.specs.Row.{Row, Comment, Spined}
 use Rattle.hum_path.specs.Sign.{sign_of, is_exclusive}
 use Rattle.hum_path.specs.Score.{path_after}
 use Rattle.hum_frac.specs.Ratio.{Ratio, plus, fits, is_before}
 use Rattle.hum_frac.specs.Multiples.{is_multiple, multiples_between}
 use Rattle.hum_stage.specs.declared.faults.Rule.{Rule}
-use Rattle.hum_stage.specs.declared.faults.Rule.TheVariants.{K3, B1, B2, F1, L1}
+use Rattle.hum_stage.specs.declared.faults.Rule.TheVariants.{K3, B1, B2, F1}
 use Rattle.hum_stage.specs.declared.faults.Command.TheVariants.{Timebase}
 use Rattle.hum_stage.specs.Meaning.{Meaning}
 use Rattle.hum_stage.specs.Decided.{at_once}
@@ -111,9 +111,7 @@ tb_row text tokens = Spined Interpretation (map (tb_token text) tokens)
 abbrev pub interpretation_rows : List ℕ → List (List ℕ) → Result (List Row) Rule
 interpretation_rows text tokens =
     if not (names_some tokens) then Ok (Spined Interpretation tokens ∷ [])
-    else if nat_le (length (text_of (tb_row text tokens))) 1048576
-    then Ok (Spined Interpretation tokens ∷ tb_row text tokens ∷ [])
-    else Err L1
+    else Ok (Spined Interpretation tokens ∷ tb_row text tokens ∷ [])
 
 -- What a record becomes, after the records above it, the newest first: the records that are left
 -- and those that are put between stand at the multiples of the step.

@@ -1,5 +1,6 @@
 //! Records that are due round one.
 ghost use Rattle.std.specs.Prelude.{◌≡◌, ◌+◌, ◌<◌, ◌^◌, ◌∷◌, [], length, true, is_some, IfOk};
+ghost use Rattle.std.specs.Prelude.{OnErr};
 ghost use Rattle.std.specs.Option.{option_to_list};
 ghost use Rattle.hum_stage.specs.Dues.{IsNext};
 ghost use Rattle.hum_timebase.specs.Dues.{row_in, due_rows};
@@ -10,7 +11,7 @@ use std::alloc::{AllocError, Global};
 use std::marker::Model;
 
 /// So many copies of a record, a single one if it is there, and so many copies again. Copies are
-/// counted, and made when they are taken.
+/// counted, and made when they are taken; the last of them is the record itself.
 #[derive(Drop)]
 pub struct Around {
     alloc: Global,
@@ -38,6 +39,22 @@ fn copy_of(alloc: Global, other: &Option<Record>) -> Result<Record, AllocError>
 {
     match other {
         Some(row) => row.copy(alloc),
+        None => unreachable!(),
+    }
+}
+
+/// One of so many that are left to give: the record itself is the last, and the others are copies.
+fn one_of(alloc: Global, left: u64, other: &mut Option<Record>) -> Result<Record, AllocError>
+    requires { is_some other.old ≡ true }
+    ensures row { IfOk result (λ row. row ≡ row_in other.old) }
+    ensures kept { 1 < left → other.new ≡ other.old }
+    ensures refused { OnErr result (other.new ≡ other.old) }
+{
+    if left > 1 {
+        return copy_of(alloc, other);
+    }
+    match other.take() {
+        Some(row) => Ok(row),
         None => unreachable!(),
     }
 }
@@ -106,7 +123,7 @@ impl Due for Around {
 
     fn next(&mut self) -> Result<Option<Record>, AllocError> {
         if self.before > 0 {
-            let row = copy_of(self.alloc, &self.other)?;
+            let row = one_of(self.alloc, self.before + self.after, &mut self.other)?;
             self.before -= 1;
             return Ok(Some(row));
         }
@@ -114,7 +131,7 @@ impl Due for Around {
             return Ok(Some(row));
         }
         if self.after > 0 {
-            let row = copy_of(self.alloc, &self.other)?;
+            let row = one_of(self.alloc, self.after, &mut self.other)?;
             self.after -= 1;
             return Ok(Some(row));
         }

@@ -21,7 +21,7 @@ use crate::pace::Pace;
 use crate::records::{names_some, null_record, tb_record};
 use hum_frac::Frac;
 use hum_path::Paths;
-use hum_record::{Kind, Record, RecordFault};
+use hum_record::{Kind, Record, Spare};
 use hum_stage::{Command, Decides, Rule};
 use std::alloc::{AllocError, Global};
 
@@ -43,14 +43,24 @@ fn single(stays: bool) -> u128
     if stays { 1 } else { 0 }
 }
 
-fn kept_if(stays: bool, row: Record) -> Option<Record>
+/// The record, if it stays. Else it is done with.
+fn kept_if(stays: bool, row: Record, spare: &mut Spare) -> Option<Record>
     ensures { result ≡ (if stays then Some row else None) }
 {
-    if stays { Some(row) } else { None }
+    if stays {
+        return Some(row);
+    }
+    spare.keep(row);
+    None
 }
 
 /// The null record that stands about a timed record, if there are such.
-fn null_about(alloc: Global, made: &Strike, row: &Record) -> Result<Option<Record>, AllocError>
+fn null_about(
+    alloc: Global,
+    made: &Strike,
+    row: &Record,
+    spare: &mut Spare,
+) -> Result<Option<Record>, AllocError>
     requires lawful { IsTextOf row.now (text_of row.now) }
     requires kind { kind_of row.now ≡ AnyValues }
     ensures { IfOk result (IsAbout (made.now.before + made.now.after) (tokens_of row.now)) }
@@ -60,7 +70,7 @@ fn null_about(alloc: Global, made: &Strike, row: &Record) -> Result<Option<Recor
             return Ok(None);
         }
     }
-    Ok(Some(null_record(alloc, row)?))
+    Ok(Some(null_record(alloc, row, spare)?))
 }
 
 /// Puts what a timed record becomes where it is due, if there is room for it.
@@ -69,6 +79,7 @@ fn place(
     made: Strike,
     row: Record,
     room: u64,
+    spare: &mut Spare,
     out: &mut Around,
 ) -> Result<Option<Rule>, AllocError>
     requires lawful { IsTextOf row (text_of row) }
@@ -84,10 +95,11 @@ fn place(
     if count > room as u128 {
         return Ok(Some(Rule::L2));
     }
-    let null = null_about(alloc, &made, &row)?;
+    let null = null_about(alloc, &made, &row, spare)?;
     let before = made.before as u64;
     let after = made.after as u64;
-    *out = Around::among(alloc, before, kept_if(made.stays, row), after, null);
+    let single = kept_if(made.stays, row, spare);
+    *out = Around::among(alloc, before, single, after, null);
     Ok(None)
 }
 
@@ -101,6 +113,8 @@ pub struct Grid {
     clock: Clock,
     // the notes of the record at hand
     notes: Vec<Option<Frac>>,
+    // the record that was dropped last
+    spare: Spare,
 }
 
 impl Grid {
@@ -124,14 +138,9 @@ impl Grid {
             *out = Around::alone(self.alloc, row);
             return Ok(None);
         }
-        match tb_record(self.alloc, &self.pace, &row) {
-            Ok(other) => {
-                *out = Around::followed(self.alloc, row, other);
-                Ok(None)
-            }
-            Err(RecordFault::L1) => Ok(Some(Rule::L1)),
-            Err(_) => Err(AllocError),
-        }
+        let other = tb_record(self.alloc, &self.pace, &row)?;
+        *out = Around::followed(self.alloc, row, other);
+        Ok(None)
     }
 
     /// Takes a data record with a token that is neither null nor a barline, whose columns that
@@ -151,7 +160,11 @@ impl Grid {
             self.new.clock
             ≡ struck (notes_of self.old.timed.items (tokens_of row)) self.old.clock) }
         ensures rest { OnOk result (self.new
-            ≡ record self.old { clock = self.new.clock; notes = self.new.notes }) }
+            ≡ record self.old {
+              clock = self.new.clock;
+              notes = self.new.notes;
+              spare = self.new.spare;
+            }) }
     {
         if read_notes(&self.timed, &row, &mut self.notes)?.is_some() {
             return Ok(Some(Rule::K3));
@@ -163,7 +176,7 @@ impl Grid {
             return Ok(None);
         }
         match self.clock.strike(self.pace.step(), &self.notes) {
-            Ok(made) => place(self.alloc, made, row, room, out),
+            Ok(made) => place(self.alloc, made, row, room, &mut self.spare, out),
             Err(rule) => Ok(Some(rule)),
         }
     }
@@ -223,6 +236,7 @@ impl Decides for Grid {
             timed: Vec::new(alloc),
             clock: Clock::new(alloc),
             notes: Vec::new(alloc),
+            spare: Spare::none(alloc),
         }
     }
 

@@ -1,5 +1,5 @@
 //! How far apart the records stand.
-ghost use Rattle.std.specs.Prelude.{◌≡◌, ◌<◌, ◌++◌, Ok, IfOk};
+ghost use Rattle.std.specs.Prelude.{◌≡◌, ◌<◌, ◌≤◌, ◌++◌, Ok, IfOk, OnOk, length};
 ghost use lib.Chars.{codes};
 ghost use Rattle.hum_record.specs.declared.SpinedKind.TheVariants.{Interpretation};
 ghost use Rattle.hum_record.specs.Spelling.{IsToken};
@@ -48,6 +48,7 @@ impl Pace {
     pub(crate) fn token(&self, alloc: Global) -> Result<Vec<u8>, AllocError>
         ensures token { IfOk result (λ token. token.items ≡ codes "*tb" ++ self.now.text) }
         ensures lawful { IfOk result (λ token. IsToken Interpretation token.items) }
+        ensures short { OnOk result (length self.now.text ≤ 15) }
     {
         let mut token = Vec::new(alloc);
         token.extend_from_slice(b"*tb")?;

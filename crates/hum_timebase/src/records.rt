@@ -1,10 +1,9 @@
 //! The records that are made.
-ghost use Rattle.std.specs.Prelude.{◌≡◌, ◌≢◌, ◌≤◌, ◌<◌, ◌++◌, ◌∷◌, [], length, true, false, map};
-ghost use Rattle.std.specs.Prelude.{IfOk, OnOk, IfErr, if◌then◌else◌};
+ghost use Rattle.std.specs.Prelude.{◌≡◌, ◌≢◌, ◌≤◌, ◌++◌, ◌∷◌, [], length, true, false, map};
+ghost use Rattle.std.specs.Prelude.{IfOk, OnOk, if◌then◌else◌};
 ghost use lib.Chars.{codes};
 ghost use Rattle.hum_record.specs.declared.Kind.TheVariants.{Values as AnyValues};
 ghost use Rattle.hum_record.specs.declared.SpinedKind.TheVariants.{Interpretation, Values};
-ghost use Rattle.hum_record.specs.declared.RecordFault.TheVariants.{Memory};
 ghost use Rattle.hum_record.specs.Row.{tokens_of, kind_of, text_of};
 ghost use Rattle.hum_record.specs.Spelling.{IsToken};
 ghost use Rattle.hum_record.specs.Building.{spelled};
@@ -13,8 +12,25 @@ ghost use Rattle.hum_timebase.specs.Timebase.{null_row, names_some, tb_token, tb
 
 use crate::pace::Pace;
 use hum_path::token_sign;
-use hum_record::{Record, RecordBuilder, RecordFault, SpinedKind};
+use hum_record::{Record, RecordBuilder, RecordFault, Spare, SpinedKind};
 use std::alloc::{AllocError, Global};
+
+/// Adds a token, which fits.
+fn push_token(builder: &mut RecordBuilder, token: &[u8]) -> Result<(), AllocError>
+    requires token { IsToken builder.old.kind token.now }
+    requires fits { length (spelled (builder.old.tokens ++ token.now ∷ [])) ≤ 1048576 }
+    ensures { OnOk result (builder.new ≡ record builder.old {
+      tokens = builder.old.tokens ++ token.now ∷ [];
+    }) }
+{
+    match builder.push(token) {
+        Ok(()) => Ok(()),
+        Err(fault) => match fault {
+            RecordFault::Memory => Err(AllocError),
+            _ => unreachable!(),
+        },
+    }
+}
 
 /// Adds a null data token, which fits.
 fn push_null(builder: &mut RecordBuilder) -> Result<(), AllocError>
@@ -24,22 +40,21 @@ fn push_null(builder: &mut RecordBuilder) -> Result<(), AllocError>
       tokens = builder.old.tokens ++ codes "." ∷ [];
     }) }
 {
-    match builder.push(b".") {
-        Ok(()) => Ok(()),
-        Err(fault) => match fault {
-            RecordFault::Memory => Err(AllocError),
-            _ => unreachable!(),
-        },
-    }
+    push_token(builder, b".")
 }
 
-/// The null data record as wide as another, which is no longer than that.
-pub(crate) fn null_record(alloc: Global, row: &Record) -> Result<Record, AllocError>
+/// The null data record as wide as another, which is no longer than that, in the buffers of one that
+/// is done with.
+pub(crate) fn null_record(
+    alloc: Global,
+    row: &Record,
+    spare: &mut Spare,
+) -> Result<Record, AllocError>
     requires tokens { tokens_of row.now ≢ [] }
     requires fits { length (text_of (null_row (tokens_of row.now))) ≤ 1048576 }
     ensures { IfOk result (λ made. made ≡ null_row (tokens_of row.now)) }
 {
-    let mut builder = RecordBuilder::new(alloc, SpinedKind::Values);
+    let mut builder = RecordBuilder::reusing(alloc, SpinedKind::Values, spare);
     for j in 0..row.width() {
         push_null(&mut builder)?;
     }
@@ -75,22 +90,16 @@ fn tb_token<'a>(named: &'a [u8], token: &[u8]) -> &'a [u8]
 /// The record that follows one with exclusive interpretations.
 ///
 /// # Errors
-/// L1 where its text would pass 1,048,576 bytes, or want of memory.
-pub(crate) fn tb_record(alloc: Global, pace: &Pace, row: &Record) -> Result<Record, RecordFault>
-    requires { names_some (tokens_of row.now) ≡ true }
-    ensures made { IfOk result (λ made. made ≡ tb_row pace.now.text (tokens_of row.now)) }
-    ensures fits { OnOk result
-        (length (text_of (tb_row pace.now.text (tokens_of row.now))) ≤ 1048576) }
-    ensures refused { IfErr result (λ fault. fault ≢ Memory →
-        1048576 < length (text_of (tb_row pace.now.text (tokens_of row.now)))) }
+/// Want of memory.
+pub(crate) fn tb_record(alloc: Global, pace: &Pace, row: &Record) -> Result<Record, AllocError>
+    requires named { names_some (tokens_of row.now) ≡ true }
+    requires few { length (tokens_of row.now) ≤ 4096 }
+    ensures { IfOk result (λ made. made ≡ tb_row pace.now.text (tokens_of row.now)) }
 {
     let named = pace.token(alloc)?;
     let mut builder = RecordBuilder::new(alloc, SpinedKind::Interpretation);
     for j in 0..row.width() {
-        match builder.push(tb_token(&named, row.token(j))) {
-            Ok(()) => {}
-            Err(fault) => return Err(fault),
-        }
+        push_token(&mut builder, tb_token(&named, row.token(j)))?;
     }
     Ok(builder.finish())
 }

@@ -12,3 +12,4 @@ pub mod MovedLawful
 pub mod MintedLawful
 pub mod LastNotes
 pub mod MintSteps
+mod Worked

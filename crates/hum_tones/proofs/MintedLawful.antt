@@ -21,7 +21,7 @@ use Rattle.hum_tones.proofs.Joined.{no_comment}
 
 -- what may stand before the digits of an interval's size
 record IsFront (front : List ℕ) : Type 0 where
-  lacks : (c : ℕ) → c ≤ 13 → has_byte c front ≡ false
+  lacks : (c : ℕ) → c ≤ 32 → has_byte c front ≡ false
   kind : (more : List ℕ) → kind_of_token more ≡ Values → kind_of_token (front ++ more) ≡ Values
 
 not_byte : (x c : ℕ) → 42 < x → c ≤ 42 → (x == c) ≡ false
@@ -75,7 +75,7 @@ brackets_lawful p small =
       no_comment = refl;
     }
   where
-    lacks : (c : ℕ) → c ≤ 13 → has_byte c (codes "[") ≡ false → has_byte c (codes "]") ≡ false → has_byte c (codes "[" ++ (spelling p ++ codes "]")) ≡ false
+    lacks : (c : ℕ) → c ≤ 32 → has_byte c (codes "[") ≡ false → has_byte c (codes "]") ≡ false → has_byte c (codes "[" ++ (spelling p ++ codes "]")) ≡ false
     lacks c low left right = both_lack c (codes "[") (spelling p ++ codes "]") left (both_lack c (spelling p) (codes "]") (spelling_lacks c p small low) right)
 
 small_size : (p q : Pitch) → mag (pos (size (step_number (spelled q) -ℤ step_number (spelled p)))) < 2 ^ 63

@@ -19,11 +19,11 @@ use Rattle.hum_tones.proofs.Parts.{Lack, parts_lack}
 use Rattle.hum_tones.proofs.Written.{lacks_take, lacks_drop}
 use Rattle.hum_tones.proofs.Joined.{joined_lacks, no_comment}
 
--- the bytes of a pitch are over those that end a token or a line
-pub not_low : (x c : ℕ) → 13 < x → c ≤ 13 → (x == c) ≡ false
+-- the bytes of a pitch are over those that end a part, a token or a line
+pub not_low : (x c : ℕ) → 32 < x → c ≤ 32 → (x == c) ≡ false
 not_low x c p q = grind arith
 
-small_over : (step : ℕ) → step < 7 → 13 < slice_index small_letters step
+pub small_over : (step : ℕ) → step < 7 → 64 < slice_index small_letters step
 small_over zero h = omega arith
 small_over (suc zero) h = omega arith
 small_over (suc (suc zero)) h = omega arith
@@ -33,7 +33,7 @@ small_over (suc (suc (suc (suc (suc zero))))) h = omega arith
 small_over (suc (suc (suc (suc (suc (suc zero)))))) h = omega arith
 small_over (suc (suc (suc (suc (suc (suc (suc n))))))) h = absurd (omega arith)
 
-capital_over : (step : ℕ) → step < 7 → 13 < slice_index capitals step
+pub capital_over : (step : ℕ) → step < 7 → 64 < slice_index capitals step
 capital_over zero h = omega arith
 capital_over (suc zero) h = omega arith
 capital_over (suc (suc zero)) h = omega arith
@@ -47,18 +47,18 @@ pub repeat_lacks : (x c n : ℕ) → (x == c) ≡ false → has_byte c (replicat
 repeat_lacks x c zero h = refl
 repeat_lacks x c (suc n) h = rw (h, repeat_lacks x c n h) refl
 
-letters_lack : (c step : ℕ) (o : ℤ) → step < 7 → c ≤ 13 → has_byte c (letters step o) ≡ false
-letters_lack c step (pos k) h low = repeat_lacks (slice_index small_letters step) c (suc k) (not_low (slice_index small_letters step) c (small_over step h) low)
-letters_lack c step (negsuc k) h low = repeat_lacks (slice_index capitals step) c (suc k) (not_low (slice_index capitals step) c (capital_over step h) low)
+letters_lack : (c step : ℕ) (o : ℤ) → step < 7 → c ≤ 32 → has_byte c (letters step o) ≡ false
+letters_lack c step (pos k) h low = let over = small_over step h in repeat_lacks (slice_index small_letters step) c (suc k) (not_low (slice_index small_letters step) c (omega (arith, over)) low)
+letters_lack c step (negsuc k) h low = let over = capital_over step h in repeat_lacks (slice_index capitals step) c (suc k) (not_low (slice_index capitals step) c (omega (arith, over)) low)
 
-signs_lack : (c : ℕ) (a : ℤ) → c ≤ 13 → has_byte c (accidentals a) ≡ false
+signs_lack : (c : ℕ) (a : ℤ) → c ≤ 32 → has_byte c (accidentals a) ≡ false
 signs_lack c (pos k) low = repeat_lacks 35 c k (not_low 35 c (omega arith) low)
 signs_lack c (negsuc k) low = repeat_lacks 45 c (suc k) (not_low 45 c (omega arith) low)
 
 pub both_lack : (c : ℕ) (xs ys : List ℕ) → has_byte c xs ≡ false → has_byte c ys ≡ false → has_byte c (xs ++ ys) ≡ false
 both_lack c xs ys p q = rw (list_any-append (λ (x : ℕ). x == c) xs ys, p, q) refl
 
-pub spelling_lacks : (c : ℕ) (p : Spelled) → p.step < 7 → c ≤ 13 → has_byte c (spelling p) ≡ false
+pub spelling_lacks : (c : ℕ) (p : Spelled) → p.step < 7 → c ≤ 32 → has_byte c (spelling p) ≡ false
 spelling_lacks c p h low = both_lack c (letters_of p) (accidentals p.alteration) (letters_lack c p.step (p.octave -ℤ pos 4) h low) (signs_lack c p.alteration low)
 
 -- a pitch begins as data does
@@ -112,7 +112,7 @@ put_becomes part found there text h e = go (is_alteration there.alteration) (is_
     go true false e = cc
     go true true e = Moves found.start found.end there h cc
 
-becomes : (n m : ℤ) (part text : List ℕ) → transposed_part n m part ≡ Ok (Some text) → Becomes part text
+pub becomes : (n m : ℤ) (part text : List ℕ) → transposed_part n m part ≡ Ok (Some text) → Becomes part text
 becomes n m part text e = go (note part) e
   where
     there : (found : Reading) (p : Option Spelled) → moved n m part found p ≡ Ok (Some text) → Becomes part text
@@ -142,17 +142,18 @@ never_none n m part e = go (note part) e
     go (Ok found) e = there found found.pitch e
     go (Err fault) e = cc
 
-abbrev pub EachBecomes : List (List ℕ) → List (List ℕ) → Type 0
-EachBecomes [] [] = Unit {0}
-EachBecomes (part ∷ parts) (text ∷ texts) = Becomes part text × EachBecomes parts texts
-EachBecomes _ _ = ⊥
+-- all parts of a token were transposed
+abbrev pub AllMoved : ℤ → ℤ → List (List ℕ) → List (List ℕ) → Type 0
+AllMoved n m [] [] = Unit {0}
+AllMoved n m (part ∷ parts) (text ∷ texts) = (transposed_part n m part ≡ Ok (Some text)) × AllMoved n m parts texts
+AllMoved n m _ _ = ⊥
 
-each_becomes : (n m : ℤ) (parts texts : List (List ℕ)) → given_by (transposed_part n m) parts ≡ Ok texts → EachBecomes parts texts
-each_becomes n m [] [] e = tt
-each_becomes n m [] (text ∷ texts) e = cc
-each_becomes n m (part ∷ parts) texts e = go (transposed_part n m part) refl (given_by (transposed_part n m) parts) (λ others given. each_becomes n m parts others given) texts e
+pub all_moved : (n m : ℤ) (parts texts : List (List ℕ)) → given_by (transposed_part n m) parts ≡ Ok texts → AllMoved n m parts texts
+all_moved n m [] [] e = tt
+all_moved n m [] (text ∷ texts) e = cc
+all_moved n m (part ∷ parts) texts e = go (transposed_part n m part) refl (given_by (transposed_part n m) parts) (λ others given. all_moved n m parts others given) texts e
   where
-    go : (r : Result (Option (List ℕ)) Rule) → transposed_part n m part ≡ r → (rest : Result (List (List ℕ)) Rule) → ((others : List (List ℕ)) → rest ≡ Ok others → EachBecomes parts others) → (texts : List (List ℕ)) → with_first r rest ≡ Ok texts → EachBecomes (part ∷ parts) texts
+    go : (r : Result (Option (List ℕ)) Rule) → transposed_part n m part ≡ r → (rest : Result (List (List ℕ)) Rule) → ((others : List (List ℕ)) → rest ≡ Ok others → AllMoved n m parts others) → (texts : List (List ℕ)) → with_first r rest ≡ Ok texts → AllMoved n m (part ∷ parts) texts
     go (Err rule) is rest more texts e = cc
     go (Ok None) is rest more texts e = absurd (never_none n m part is)
     go (Ok (Some text)) is (Err rule) more texts e = cc
@@ -160,14 +161,25 @@ each_becomes n m (part ∷ parts) texts e = go (transposed_part n m part) refl (
     go (Ok (Some text)) is (Ok others) more (first ∷ texts) e =
         let one : text ≡ first = cc in
         let two : others ≡ texts = cc in
-        (becomes n m part first (is ∙ ap (λ (t : List ℕ). Ok (Some t)) one), more texts (ap (λ (t : List (List ℕ)). Ok t) two))
+        (is ∙ ap (λ (t : List ℕ). Ok (Some t)) one, more texts (ap (λ (t : List (List ℕ)). Ok t) two))
 
-text_lacks : (c : ℕ) (part text : List ℕ) → c ≤ 13 → Becomes part text → has_byte c part ≡ false → has_byte c text ≡ false
+abbrev pub EachBecomes : List (List ℕ) → List (List ℕ) → Type 0
+EachBecomes [] [] = Unit {0}
+EachBecomes (part ∷ parts) (text ∷ texts) = Becomes part text × EachBecomes parts texts
+EachBecomes _ _ = ⊥
+
+pub each_becomes : (n m : ℤ) (parts texts : List (List ℕ)) → AllMoved n m parts texts → EachBecomes parts texts
+each_becomes n m [] [] moved = tt
+each_becomes n m [] (text ∷ texts) moved = absurd moved
+each_becomes n m (part ∷ parts) [] moved = absurd moved
+each_becomes n m (part ∷ parts) (text ∷ texts) moved = (becomes n m part text moved.0, each_becomes n m parts texts moved.1)
+
+text_lacks : (c : ℕ) (part text : List ℕ) → c ≤ 32 → Becomes part text → has_byte c part ≡ false → has_byte c text ≡ false
 text_lacks c part text low (Stays e) h = rw e h
 text_lacks c part text low (Moves start end there small e) h =
     rw e (both_lack c (take start part) (spelling there ++ drop end part) (lacks_take c start part h) (both_lack c (spelling there) (drop end part) (spelling_lacks c there small low) (lacks_drop c end part h)))
 
-texts_lack : (c : ℕ) (parts texts : List (List ℕ)) → c ≤ 13 → EachBecomes parts texts → Lack c parts → Lack c texts
+pub texts_lack : (c : ℕ) (parts texts : List (List ℕ)) → c ≤ 32 → EachBecomes parts texts → Lack c parts → Lack c texts
 texts_lack c [] [] low each all = tt
 texts_lack c [] (text ∷ texts) low each all = absurd each
 texts_lack c (part ∷ parts) [] low each all = absurd each
@@ -186,7 +198,7 @@ onto_some : (x : ℕ) (parts : List (List ℕ)) → onto_first x parts ≢ []
 onto_some x [] = λ e. cc
 onto_some x (part ∷ parts) = λ e. cc
 
-parts_some : (token : List ℕ) → subtokens token ≢ []
+pub parts_some : (token : List ℕ) → subtokens token ≢ []
 parts_some [] = λ e. cc
 parts_some (x ∷ xs) = by_bool (x == 32) (λ w. rw w (λ e. cc)) (λ w. rw w (onto_some x (subtokens xs)))
 
@@ -254,4 +266,4 @@ moved_lawful n m token text e lawful = from (given_by (transposed_part n m) (sub
     from (Err rule) is e = cc
     from (Ok texts) is e =
         let same : joined texts ≡ text = cc in
-        subst (IsToken Values) same (made (subtokens token) texts refl (each_becomes n m (subtokens token) texts is))
+        subst (IsToken Values) same (made (subtokens token) texts refl (each_becomes n m (subtokens token) texts (all_moved n m (subtokens token) texts is)))

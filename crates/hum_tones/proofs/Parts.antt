@@ -10,7 +10,7 @@ use Rattle.hum_tones.specs.Subtokens.{subtokens, IsPart}
 abbrev pub Lack : ℕ → List (List ℕ) → Type 0
 Lack c = AllByRecursion (λ part. has_byte c part ≡ false)
 
-onto_lacks : (c x : ℕ) (parts : List (List ℕ)) → (x == c) ≡ false → Lack c parts → Lack c (onto_first x parts)
+pub onto_lacks : (c x : ℕ) (parts : List (List ℕ)) → (x == c) ≡ false → Lack c parts → Lack c (onto_first x parts)
 onto_lacks c x [] apart all = (rw apart refl, tt)
 onto_lacks c x (part ∷ parts) apart all = (rw (apart, all.0) refl, all.1)
 

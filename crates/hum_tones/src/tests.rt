@@ -7,7 +7,7 @@ use hum_path::ColumnMemory;
 use hum_pattern::Pattern;
 use hum_record::{Kind, Record};
 use hum_stage::Rule;
-use std::alloc::Global;
+use std::alloc::{AllocError, Global};
 use std::process::Abort;
 use std::test::Fail;
 
@@ -144,8 +144,9 @@ fn minted(rt: HostRuntime) -> Result<(), Fail> {
 #[test]
 fn minted_with_breaks(rt: HostRuntime) -> Result<(), Fail> {
     let alloc = rt.alloc();
-    let Ok(pattern) = Pattern::new(alloc, "}") else {
-        return Ok(());
+    let pattern = match Pattern::new(alloc, "}") {
+        Ok(pattern) => pattern,
+        Err(_) => return Err(AllocError.into()),
     };
     let mut options = MintOptions {
         signless: true,

@@ -22,6 +22,7 @@ use Rattle.hum_yank.specs.declared.options.YankRange.TheVariants.{Through, Onwar
 use Rattle.hum_yank.specs.Yank.{Choice, chosen_by, chooses_early, chooses_late, chooses_now}
 use Rattle.hum_yank.specs.Yank.{drops_now, to_spined, is_chosen, last_at, is_yanked, kept}
 use Rattle.hum_yank.specs.Yank.{yank_numbered, yank}
+use Rattle.hum_yank.proofs.Telling.{all_decided}
 
 -- a record more makes the last number no less
 filter_more : {X : Type 0} (p : X → Bool) (x : X) (xs : List X) → length (filter p xs) ≤ length
@@ -269,7 +270,11 @@ one_numbered o past row rows None new e = one_kept row (Some false) new e
 one_numbered o past row rows (Some x) new e = one_kept row (is_yanked o past row rows x) new e
 
 pub yank_steady : (o : Choice) → IsSteady (yank o)
-yank_steady o = record { stays = stay; one = one }
+yank_steady o = record {
+  stays = stay;
+  one = one;
+  decides = λ past row rows closed e. all_decided o past row rows (rw closed.1 refl) e;
+}
   where
     stay : (past : List Row) (row : Row) (rows : List Row) (next : Row) (d : Result (List Row) Rule)
         → IsOpen (next ∷ passed (row ∷ past) rows) → yank o past row rows ≡ Some d → yank o past row

@@ -13,6 +13,8 @@ mod ending;
 mod failure_tests;
 mod files;
 #[cfg(test)]
+mod long_tests;
+#[cfg(test)]
 mod note_tests;
 #[cfg(test)]
 mod order_tests;

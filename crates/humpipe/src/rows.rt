@@ -9,14 +9,27 @@ use std::test::Fail;
 /// A bundle, the text that is written, and the line that is told.
 pub type Row = (&'static [u8], &'static [u8], &'static str);
 
-/// Runs bundles, and fails where another text is written or another line is told.
+/// Runs a bundle, and fails where another text is written or another line is told.
+pub fn check_one(
+    rt: &impl Abort,
+    alloc: Global,
+    bundle: &[u8],
+    text: &[u8],
+    told: &str,
+) -> Result<(), Fail> {
+    let sink = Marked::new(Vec::new(alloc));
+    let (outcome, sink) = run_bundle(alloc, bundle, 16, &mut Leftmost, sink);
+    let line = outcome.message(alloc)?;
+    let front = &bundle[..bundle.len().min(100)];
+    assert_eq!(rt; line.as_str(), told, "{front:?}");
+    assert_eq!(rt; sink.into_inner().as_slice(), text, "{front:?}");
+    Ok(())
+}
+
+/// Runs each of these bundles.
 pub fn check(rt: &impl Abort, alloc: Global, rows: &[Row]) -> Result<(), Fail> {
     for (bundle, text, told) in rows {
-        let sink = Marked::new(Vec::new(alloc));
-        let (outcome, sink) = run_bundle(alloc, *bundle, 16, &mut Leftmost, sink);
-        let line = outcome.message(alloc)?;
-        assert_eq!(rt; line.as_str(), *told, "{bundle:?}");
-        assert_eq!(rt; sink.into_inner().as_slice(), *text, "{bundle:?}");
+        check_one(rt, alloc, *bundle, *text, *told)?;
     }
     Ok(())
 }

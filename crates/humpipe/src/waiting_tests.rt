@@ -1,9 +1,43 @@
-//! Scores through the commands whose records wait for later ones: what is put in, what is written,
-//! what is told.
+//! Scores through ditto, which looks back, and through the commands whose records wait for later ones:
+//! what is put in, what is written, what is told.
 use crate::rows::{Row, check};
 use std::test::Fail;
 
-const CONTEXT: [Row; 12] = [
+const DITTO: [Row; 6] = [
+    (
+        b"out: read a | ditto\n--- a\n**x\t**y\n.\t1\na\t.\n!b\t!\n*c\t*\n.\t=2\n!!d\n.\t.\n*-\t*-\n",
+        b"**x\t**y\n.\t1\na\t1\n!b\t!\n*c\t*\na\t=2\n!!d\na\t=2\n*-\t*-\n",
+        "",
+    ),
+    (
+        b"out: read a | ditto -p -s '^='\n--- a\n**x\t**y\n.\t1\na\t.\n!b\t!\n*c\t*\n.\t=2\n!!d\n.\t.\n*-\t*-\n",
+        b"**x\t**y\n.\t1\na\t(1)\n!b\t!\n*c\t*\n(a)\t=2\n!!d\n(a)\t(1)\n*-\t*-\n",
+        "",
+    ),
+    // spines that change places, a new one, a split and a join, and a new interpretation
+    (
+        b"out: read a | ditto\n--- a\n**x\t**y\na\tb\n*x\t*x\n.\t.\n*-\t*-\n",
+        b"**x\t**y\na\tb\n*x\t*x\nb\ta\n*-\t*-\n",
+        "",
+    ),
+    (
+        b"out: read a | ditto -p\n--- a\n**x\na\n*+\n*\t**x\n.\t.\n*-\t*-\n",
+        b"**x\na\n*+\n*\t**x\n(a)\t.\n*-\t*-\n",
+        "",
+    ),
+    (
+        b"out: read a | ditto\n--- a\n**x\na\n*^\n.\t.\nb\tc\n*v\t*v\n.\n*-\n",
+        b"**x\na\n*^\na\ta\nb\tc\n*v\t*v\nb\n*-\n",
+        "",
+    ),
+    (
+        b"out: read a | ditto\n--- a\n**x\na\n**y\n.\nb\n.\n*-\n",
+        b"**x\na\n**y\n.\nb\nb\n*-\n",
+        "",
+    ),
+];
+
+const CONTEXT: [Row; 18] = [
     (
         b"out: read a | context -n 2 -o '^='\n--- a\n**x\na\n=1\n.\nb\nc\n*-\n",
         b"**x\na b\n=1\n.\nb c\n.\n*-\n",
@@ -42,6 +76,39 @@ const CONTEXT: [Row; 12] = [
         b"**x\t**y\n1 2\t.\n*\t**z\n.\tb c\n*-\t*\n.\n*-\n",
         "",
     ),
+    // a number of one leaves the tokens; comments and tandem interpretations stay
+    (
+        b"out: read a | context -n 1\n--- a\n!!f\n**x\t**y\na\t.\n!l\t!\n*c\t*\nb\t1\n*-\t*-\n",
+        b"!!f\n**x\t**y\na\t.\n!l\t!\n*c\t*\nb\t1\n*-\t*-\n",
+        "",
+    ),
+    (
+        b"out: read a | context -n 2\n--- a\n!!f\n**x\t**y\na\t.\n!l\t!\n*c\t*\nb\t1\n*-\t*-\n",
+        b"!!f\n**x\t**y\na b\t.\n!l\t!\n*c\t*\n.\t.\n*-\t*-\n",
+        "",
+    ),
+    // a phrase within another, one of a single note, and one without an end
+    (
+        b"out: read a | context -b '\\(' -e '\\)'\n--- a\n**x\t**x\n(a\tc\n(b\t(d)\n.\t.\ne)\tf\ng\t(h\n*-\t*-\n",
+        b"**x\t**x\n(a (b e)\t.\n(b e)\t(d)\n.\t.\n.\t.\n.\t.\n*-\t*-\n",
+        "",
+    ),
+    // spines that change places, the end of a spine and a new one
+    (
+        b"out: read a | context -n 2\n--- a\n**x\t**y\na\tb\n*x\t*x\nc\td\n*-\t*-\n",
+        b"**x\t**y\na d\tb c\n*x\t*x\n.\t.\n*-\t*-\n",
+        "",
+    ),
+    (
+        b"out: read a | context -n 2\n--- a\n**x\t**y\na\tb\n*-\t*\nc\n*+\n*\t**z\nd\te\n*-\t*-\n",
+        b"**x\t**y\n.\tb c\n*-\t*\nc d\n*+\n*\t**z\n.\t.\n*-\t*-\n",
+        "",
+    ),
+    (
+        b"out: read a | context -n 2\n--- a\n**x\t**y\na\tb\n**z\t*\nc\td\ne\tf\n*-\t*-\n",
+        b"**x\t**y\n.\tb d\n**z\t*\nc e\td f\n.\t.\n*-\t*-\n",
+        "",
+    ),
     // what isn't understood
     (
         b"out: read a | context -n 0\n--- a\n**x\n*-\n",
@@ -70,7 +137,7 @@ const CONTEXT: [Row; 12] = [
     ),
 ];
 
-const YANK: [Row; 31] = [
+const YANK: [Row; 49] = [
     (
         b"out: read a | yank -n '^=' -r 1\n--- a\n**kern\n!!up\n4c\n=1\n4d\n*k[]\n=2\n4e\n==\n*-\n",
         b"**kern\n=1\n4d\n*k[]\n*-\n",
@@ -183,6 +250,103 @@ const YANK: [Row; 31] = [
         b"**kern\n=012\n4c\n=12a\n4e\n*-\n",
         "",
     ),
+    // sections by their last number, and a label that no section has
+    (
+        b"out: read a | yank -s A -r $\n--- a\n**kern\n*>A\n4c\n*>B\n4d\n*>A\n4e\n*-\n",
+        b"**kern\n*>A\n*>B\n*>A\n4e\n*-\n",
+        "",
+    ),
+    (
+        b"out: read a | yank -s C -r 0-$\n--- a\n**kern\n*>A\n4c\n*>B\n4d\n*>A\n4e\n*-\n",
+        b"**kern\n*>A\n*>B\n*>A\n*-\n",
+        "",
+    ),
+    // an order of sections is no label, a label in any spine is one, and the leftmost counts
+    (
+        b"out: read a | yank -s A -r 0-$\n--- a\n**kern\t**kern\n*>[A,B]\t*\n1c\t1d\n*\t*>A\n2c\t2d\n!!in A\n*>B\t*>A\n4c\t4d\n*-\t*-\n",
+        b"**kern\t**kern\n*>[A,B]\t*\n*\t*>A\n2c\t2d\n!!in A\n*>B\t*>A\n*-\t*-\n",
+        "",
+    ),
+    // a phrase of one note, a comment between two, and a null token in one
+    (
+        b"out: read a | yank -o '[{]' -e '}' -r 0-$\n--- a\n**kern\n4r\n{4c}\n4d\n!!g\n{4e\n.\n4f}\n!!h\n*-\n",
+        b"**kern\n{4c}\n{4e\n.\n4f}\n*-\n",
+        "",
+    ),
+    (
+        b"out: read a | yank -o '[{]' -e '}' -r $\n--- a\n**kern\n4r\n{4c}\n4d\n!!g\n{4e\n.\n4f}\n!!h\n*-\n",
+        b"**kern\n{4e\n.\n4f}\n*-\n",
+        "",
+    ),
+    (
+        b"out: read a | yank -o . -r 6\n--- a\n**kern\n4r\n{4c}\n4d\n!!g\n{4e\n.\n4f}\n!!h\n*-\n",
+        b"**kern\n*-\n",
+        "",
+    ),
+    // numbers are values: what follows the digits says nothing, and none is above the greatest
+    (
+        b"out: read a | yank -n '^=' -r 1\n--- a\n**kern\n=01\n4c\n=2:|!\n4d\n=1\n4e\n=10\n*-\n",
+        b"**kern\n=01\n4c\n=1\n4e\n*-\n",
+        "",
+    ),
+    (
+        b"out: read a | yank -n '^=' -r $\n--- a\n**kern\n=01\n4c\n=2:|!\n4d\n=1\n4e\n=10\n*-\n",
+        b"**kern\n=10\n*-\n",
+        "",
+    ),
+    (
+        b"out: read a | yank -n '^=' -r 0-$\n--- a\n**x\n=4294967295\na\n=4294967296\nb\n=99999999999999999999999999999999999999999999\nc\n*-\n",
+        b"**x\n=4294967295\na\n*-\n",
+        "",
+    ),
+    (
+        b"out: read a | yank -n '^=' -r $\n--- a\n**x\n=4294967295\na\n=4294967296\nb\n=99999999999999999999999999999999999999999999\nc\n*-\n",
+        b"**x\n=4294967295\na\n*-\n",
+        "",
+    ),
+    // the leftmost token that matches bears the number
+    (
+        b"out: read a | yank -n '^=' -r 4-5\n--- a\n**x\t**x\n.\t=3\n=4\t=5\na\tb\n*-\t*-\n",
+        b"**x\t**x\n=4\t=5\na\tb\n*-\t*-\n",
+        "",
+    ),
+    // a line and the last but one; beyond the first line, all; up to before the first, none
+    (
+        b"out: read a | yank -l -r 3,$-1\n--- a\n**kern\n!!up\n4c\n=1\n4d\n*k[]\n=2\n4e\n==\n*-\n",
+        b"**kern\n4c\n*k[]\n==\n*-\n",
+        "",
+    ),
+    (
+        b"out: read a | yank -l -r $-4294967295-$\n--- a\n**kern\n!!up\n4c\n=1\n4d\n*k[]\n=2\n4e\n==\n*-\n",
+        b"**kern\n!!up\n4c\n=1\n4d\n*k[]\n=2\n4e\n==\n*-\n",
+        "",
+    ),
+    (
+        b"out: read a | yank -l -r 0-$-4294967295\n--- a\n**kern\n!!up\n4c\n=1\n4d\n*k[]\n=2\n4e\n==\n*-\n",
+        b"**kern\n*k[]\n*-\n",
+        "",
+    ),
+    // comments before and behind, and a score without spines
+    (
+        b"out: read a | yank -o '^a' -r 0-$\n--- a\n!!f\n**x\na\n*-\n!!t\n",
+        b"**x\na\n*-\n!!t\n",
+        "",
+    ),
+    (
+        b"out: read a | yank -l -r 2\n--- a\n!!a\n!!b\n",
+        b"!!b\n",
+        "",
+    ),
+    (
+        b"out: read a | yank -l -r $-9-$\n--- a\n!!a\n!!b\n",
+        b"",
+        "",
+    ),
+    (
+        b"out: read a | yank -n '^=' -r 0\n--- a\n!!a\n!!b\n",
+        b"!!a\n!!b\n",
+        "",
+    ),
     // what isn't understood
     (
         b"out: read a | yank -l -r 3-2\n--- a\n**x\n*-\n",
@@ -230,6 +394,11 @@ const YANK: [Row; 31] = [
         "humpipe: plan line 1, word 7: N10",
     ),
 ];
+
+#[test]
+fn repeated_tokens(rt: HostRuntime) -> Result<(), Fail> {
+    check(&rt, rt.alloc(), &DITTO)
+}
 
 #[test]
 fn contexts(rt: HostRuntime) -> Result<(), Fail> {

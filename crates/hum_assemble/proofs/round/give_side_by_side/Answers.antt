@@ -6,7 +6,7 @@ use Rattle.hum_assemble.proofs.round.give_side_by_side.Goals as goal
 
 pub finish-row-requires-clause-filled : goal.finish-row-requires-clause-filled
 finish-row-requires-clause-filled c = λ e.
-    let a = ap (λ (d : Draft). d.tokens) c.in-Ok.ensures in
+    let a = ap (λ (d : Draft). d.tokens) c.in_ok-push_parts.ensures in
     let b = ap (λ (d : Draft). d.tokens
     ++ tokens_given true c.args.going c.args.p c.args.sources.now) c.reusing-builder.ensures in
     filled c.args.going c.args.p c.args.sources.now c.args.kind c.requires.kind c.requires.giving

@@ -1,5 +1,5 @@
 use Rattle.std.proofs.Common.{◌≡◌, ◌∙◌, ◌+◌, ◌-◌, ◌<◌, ℕ, arith, length, drop, get_or, cond, Option}
-use Rattle.std.proofs.Common.{Some, None, ap, sym}
+use Rattle.std.proofs.Common.{Some, ap, sym}
 use Rattle.std.specs.List.{position_from}
 use Rattle.hum_path.specs.declared.moved.Move.TheVariants.{Same}
 use Rattle.hum_path.specs.Chains.{goes_on}
@@ -16,10 +16,9 @@ loop-n-preserved c n =
     let below : i < length moves = omega (arith, test) in
     let goes = goes_on n (get_or moves i (Same 0)) in
     rw here (c.in_ok-mark_move.ensures n
-    ∙ (ap (λ (x : ℕ). cond goes (Some x) (get_or c.loop-n.places.items n None)) c.in-Ok.ensures.1
     ∙ (ap (λ (x : Option ℕ). cond goes (Some i) x) (c.loop-n.invariant n
     ∙ ap (λ (k : ℕ). position_from (goes_on n) k (drop k moves)) (sym next))
-    ∙ sym (position_step (goes_on n) moves i (Same 0) below))))
+    ∙ sym (position_step (goes_on n) moves i (Same 0) below)))
 
 pub returns : goal.returns
 returns c n =

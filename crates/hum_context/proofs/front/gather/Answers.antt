@@ -1,11 +1,18 @@
-use Rattle.std.proofs.Common.{arith}
-use Rattle.hum_context.proofs.Gathering.{gathered_more, gathered_all, not_not}
+use Rattle.std.proofs.Common.{arith, inl}
+use Rattle.hum_context.specs.Memory.{knows_each}
+use Rattle.hum_context.proofs.Gathering.{gathered_more, gathered_all, gathered_few, gathered_end}
 use Rattle.hum_context.proofs.front.gather.Goals as goal
 
 pub returns-then-walk : goal.returns-then-walk
-returns-then-walk c o path rows want none knows =
-    gathered_all o path rows c.args.j c.loop-n.n c.loop-n.walk c.loop-n.text
-    (c.loop-n.invariant.text o path rows want none knows) c.if-walk.true
+returns-then-walk c o path rows want none knows tokens e =
+    gathered_all o path rows c.args.j c.loop-n.n c.loop-n.walk c.loop-n.text tokens
+    (c.loop-n.invariant.text o path rows want none knows) none e c.if-walk.true
+
+pub returns-in_default : goal.returns-in_default
+returns-in_default c o path rows want none knows tokens e =
+    absurd (gathered_few o path c.args.gone rows c.args.j c.loop-n.n c.loop-n.walk c.loop-n.text tokens
+    (c.loop-n.invariant.text o path rows want none knows) c.loop-n.invariant.at
+    (inl c.in_default.is) e c.if-walk.false)
 
 pub loop-n-preserved : goal.loop-n-preserved
 loop-n-preserved c =
@@ -27,6 +34,11 @@ loop-n-preserved c =
     }
 
 pub returns : goal.returns
-returns c o path rows want none knows =
-    gathered_all o path rows c.args.j c.loop-n.n c.loop-n.walk c.loop-n.text
-    (c.loop-n.invariant.text o path rows want none knows) (not_not _ c.if-not-walk.false)
+returns c o path rows want none knows tokens e =
+    let each = knows_each o path c.args.held.now.items rows knows in
+    let size = c.args.held.now.ok.0 in
+    let end = c.len-n-end.ensures in
+    let over = c.loop-n-test.false in
+    gathered_end o path c.args.gone rows c.args.j c.loop-n.n c.loop-n.walk c.loop-n.text tokens
+    (c.loop-n.invariant.text o path rows want none knows) c.loop-n.invariant.at
+    (omega (arith, each, size, end, over)) none e

@@ -1,4 +1,4 @@
-use Rattle.std.proofs.Common.{◌≡◌, ℕ, List, [], ◌∷◌, length, false, None}
+use Rattle.std.proofs.Common.{◌≡◌, ℕ, List, [], ◌∷◌, None}
 use Rattle.hum_record.specs.declared.SpinedKind.TheVariants.{Values}
 use Rattle.hum_record.specs.Row.{Row, Spined}
 use Rattle.hum_path.specs.Spines.{Path}
@@ -6,17 +6,15 @@ use Rattle.hum_context.specs.Context.{Choice, taken}
 use Rattle.hum_context.specs.Heard.{wanted_of}
 use Rattle.hum_context.specs.Queue.{Knows}
 use Rattle.hum_context.specs.Walking.{AllStand}
-use Rattle.hum_context.proofs.Weighing.{Sofar}
+use Rattle.hum_context.proofs.Written.{Written}
 use Rattle.hum_context.proofs.front.write.Given as goal
 
 abbrev pub invariant-loop-j : goal.invariant-loop-j
 invariant-loop-j l = record {
-  kind : l.builder.kind ≡ Values;
-  sound : l.builder.spent ≡ false;
-  long : length l.builder.tokens ≡ l.j;
+  kind : l.making.builder.kind ≡ Values;
   made : (o : Choice) (path : Path) (tokens : List (List ℕ)) (rows : List Row)
       → l.wanted ≡ wanted_of o.extent → taken o.extent [] ≡ None
       → Knows o path l.held.items (Spined Values tokens ∷ rows)
       → AllStand o path l.gone (Spined Values tokens ∷ rows) l.walks
-      → Sofar o path (Spined Values tokens) rows tokens l.j l.builder.tokens;
+      → Written o path tokens rows l.j l.making.builder l.making.is_long;
 }

@@ -1,5 +1,4 @@
-use Rattle.std.proofs.Common.{◌≡◌, ap}
-use Rattle.hum_record.specs.declared.RecordFault.TheVariants.{Memory}
+use Rattle.std.proofs.Common.{rules, ap}
 use Rattle.hum_ditto.proofs.Steps.{told, memories_width, gives_made, gives_same, refuses_long, follows_on}
 use Rattle.hum_ditto.proofs.RepeatsDecides.step.Goals as goal
 
@@ -28,7 +27,6 @@ returns-in-Ok c = λ decide past h sound.
           (c.in_ok-follow-in-Ok.ensures.memories past h.remembered moved),
     )
 
-pub returns-in-Err-L1 : goal.returns-in-Err-L1
-returns-in-Err-L1 c = λ decide past h sound.
-    let known : (c.in-Err-L1.field-0 ≡ Memory → ⊥) = λ e. let long = c.in-Err-L1.field-0-is in cc in
-    refuses_long _ _ _ decide past h c.args.next c.args._room (c.is_to_fill.ensures.kind c.if-not-is_to_fill.false) (c.in-Err-L1.ensures.refused known)
+pub returns : goal.returns
+returns c = λ decide past h sound.
+    refuses_long _ _ _ decide past h c.args.next c.args._room (c.is_to_fill.ensures.kind c.if-not-is_to_fill.false) (c.in-Err.ensures.refused (λ e. search rules))

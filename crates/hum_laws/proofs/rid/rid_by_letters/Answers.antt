@@ -1,4 +1,3 @@
-use Rattle.hum_stage.specs.Meaning.{Meaning}
 use Rattle.hum_rid.specs.Rid.{meaning}
 use Rattle.hum_laws.specs.Letters.{joint}
 use Rattle.hum_laws.specs.Piped.{IsAlone, IsPiped}

@@ -15,4 +15,7 @@ returns-then-count-room c =
     (rw (around_length made.before made.after made.stays (tokens_of c.args.row), ← s) (over_count made.before made.after c.single.result c.args.room c.saturating_add.result c.saturating_add-count.result a b c.if-count-room.true))
 
 pub returns : goal.returns
-returns c = ap Ok (place_rows c.args.made.before c.args.made.after c.args.made.stays c.args.row c.in_ok-null.null c.requires.kind c.in_ok-null.ensures ∙ rw (← c.kept_if.ensures) (sym c.among.ensures))
+returns c =
+    ap Ok (place_rows c.args.made.before c.args.made.after c.args.made.stays c.args.row c.in_ok-null.null
+    c.requires.kind c.in_ok-null.ensures
+    ∙ rw (← c.kept_if-single.ensures) (sym c.among.ensures))

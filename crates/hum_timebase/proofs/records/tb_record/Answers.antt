@@ -1,28 +1,27 @@
 use Rattle.std.proofs.Common.{◌∙◌, arith}
 use Rattle.hum_record.specs.Row.{tokens_of}
 use Rattle.hum_timebase.specs.Timebase.{tb_token}
-use Rattle.hum_timebase.proofs.Writing.{one_more, front_fits, has_made, some_named, named_token}
+use Rattle.hum_timebase.proofs.Writing.{one_more, front_fits, has_made, some_named, named_token, tb_short}
 use Rattle.hum_timebase.proofs.records.tb_record.Goals as goal
 
-pub returns-in-Err-clause-refused : goal.returns-in-Err-clause-refused
-returns-in-Err-clause-refused c = λ known.
+pub push_token-requires-clause-fits : goal.push_token-requires-clause-fits
+push_token-requires-clause-fits c =
     let below = c.loop-j-test.true in
     let width = c.width-j-end.ensures in
     let made = named_token c.args.pace.now.text c.deref.result.now _ c.token-in-loop-j.result.now c.tb_token.result.now (c.deref.ensures.value ∙ c.in_ok-named.ensures.token) c.token-in-loop-j.ensures.token c.tb_token.ensures.token in
-    let short = front_fits (tb_token c.args.pace.now.text) (tokens_of c.args.row.now) c.loop-j.builder.tokens _ c.loop-j.j c.tb_token.result.now (omega (arith, below, width)) made c.loop-j.invariant.made in
-    let over = (c.in-Err.ensures.refused known).1 in
-    omega (arith, short, over)
+    let front = front_fits (tb_token c.args.pace.now.text) (tokens_of c.args.row.now) c.loop-j.builder.tokens _ c.loop-j.j c.tb_token.result.now (omega (arith, below, width)) made c.loop-j.invariant.made in
+    let short = tb_short c.args.pace.now.text (tokens_of c.args.row.now) c.in_ok-named.ensures.short in
+    let few = c.requires.few in
+    omega (arith, front, short, few)
 
 pub loop-j-preserved : goal.loop-j-preserved
 loop-j-preserved c =
     let below = c.loop-j-test.true in
     let width = c.width-j-end.ensures in
     let made = named_token c.args.pace.now.text c.deref.result.now _ c.token-in-loop-j.result.now c.tb_token.result.now (c.deref.ensures.value ∙ c.in_ok-named.ensures.token) c.token-in-loop-j.ensures.token c.tb_token.ensures.token in
-    let fits = c.in-Ok.ensures.fits in
-    rw c.in-Ok.ensures.pushed (record {
+    rw c.in_ok-push_token.ensures (record {
       kind = c.loop-j.invariant.kind;
       sound = c.loop-j.invariant.sound;
-      fits = fits;
       made = one_more (tb_token c.args.pace.now.text) (tokens_of c.args.row.now) c.loop-j.builder.tokens _ c.loop-j.j c.tb_token.result.now (omega (arith, below, width)) made c.loop-j.invariant.made;
     })
 
@@ -30,4 +29,4 @@ pub finish-requires-clause-filled : goal.finish-requires-clause-filled
 finish-requires-clause-filled c =
     let past = c.loop-j-test.false in
     let width = c.width-j-end.ensures in
-    has_made (tb_token c.args.pace.now.text) (tokens_of c.args.row.now) c.loop-j.builder.tokens c.loop-j.j (some_named (tokens_of c.args.row.now) c.requires) (omega (arith, past, width)) c.loop-j.invariant.made
+    has_made (tb_token c.args.pace.now.text) (tokens_of c.args.row.now) c.loop-j.builder.tokens c.loop-j.j (some_named (tokens_of c.args.row.now) c.requires.named) (omega (arith, past, width)) c.loop-j.invariant.made

@@ -1,6 +1,5 @@
-use Rattle.std.proofs.Common.{◌≡◌, ◌++◌, ◌≤◌, drop, map, false, length}
+use Rattle.std.proofs.Common.{◌≡◌, ◌++◌, drop, map, false}
 use Rattle.hum_record.specs.Row.{tokens_of}
-use Rattle.hum_record.specs.Building.{spelled}
 use Rattle.hum_record.specs.declared.SpinedKind.TheVariants.{Interpretation}
 use Rattle.hum_timebase.specs.Timebase.{tb_token}
 use Rattle.hum_timebase.proofs.records.tb_record.Given as goal
@@ -9,6 +8,5 @@ abbrev pub invariant-loop-j : goal.invariant-loop-j
 invariant-loop-j l = record {
   kind : l.builder.kind ≡ Interpretation;
   sound : l.builder.spent ≡ false;
-  fits : length (spelled l.builder.tokens) ≤ 1048576;
   made : l.builder.tokens ++ map (tb_token l.pace.text) (drop l.j (tokens_of l.row)) ≡ map (tb_token l.pace.text) (tokens_of l.row);
 }

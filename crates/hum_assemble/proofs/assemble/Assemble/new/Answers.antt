@@ -4,6 +4,8 @@ use Rattle.hum_assemble.specs.Merge.{ahead}
 use Rattle.hum_assemble.proofs.Scores.{keeps_scores}
 use Rattle.hum_assemble.proofs.Fronts.{gives_by_groups}
 use Rattle.hum_assemble.proofs.Calls.{new_stands, lawful_new}
+use Rattle.hum_assemble.proofs.One.{gives_one}
+use Rattle.hum_assemble.proofs.Few.{few_in_all}
 use Rattle.hum_assemble.proofs.assemble.Assemble.new.Goals as goal
 
 pub invariant_of-result : goal.invariant_of-result
@@ -23,6 +25,8 @@ returns c =
       stands = new_stands c.args.stage c.args.sources c.loop.heads.items (rw e at c.loop.invariant);
       keeps = keeps_scores c.args.stage;
       groups = gives_by_groups;
+      one = gives_one;
+      few = few_in_all;
     }
 
 pub returns-in_err-push-clause-keeps : goal.returns-in_err-push-clause-keeps
@@ -30,3 +34,9 @@ returns-in_err-push-clause-keeps c = keeps_scores c.args.stage
 
 pub returns-in_err-push-clause-groups : goal.returns-in_err-push-clause-groups
 returns-in_err-push-clause-groups c = gives_by_groups
+
+pub returns-in_err-push-clause-one : goal.returns-in_err-push-clause-one
+returns-in_err-push-clause-one c = gives_one
+
+pub returns-in_err-push-clause-few : goal.returns-in_err-push-clause-few
+returns-in_err-push-clause-few c = few_in_all

@@ -1,9 +1,17 @@
-use Rattle.std.proofs.Common.{sym, ◌∙◌}
-use Rattle.hum_cleave.proofs.Known.{tells_barline}
+use Rattle.std.proofs.Common.{sym, ◌∙◌, map}
+use Rattle.hum_cleave.proofs.Known.{tells_again, tells_other, bytes_eq_sym}
 use Rattle.hum_cleave.proofs.barlines.Barlines.leaves_out.Goals as goal
 
-pub returns : goal.returns
-returns c =
-    rw (← c.self.view_is) (tells_barline c.self.inside.tokens.keys c.insert.new.self.keys c.args.token c.in_ok-is_new.is_new
-    c.in_ok-is_new.ensures.updates.0 c.in_ok-is_new.ensures.added (sym c.is_null.ensures ∙ c.if-is_null.false) (sym c.is_barline.ensures
-    ∙ c.if-not-is_barline.false))
+pub returns-then-eq : goal.returns-then-eq
+returns-then-eq c =
+    rw (← c.self.view_is, c.in-Some.is) (tells_again c.in-Some.first.now c.args.token.now
+    (map (λ k. k.now) c.self.inside.others.keys) (sym c.eq.ensures ∙ c.if-eq.true)
+    (sym c.is_null.ensures ∙ c.if-is_null.false) (sym c.is_barline.ensures ∙ c.if-not-is_barline.false))
+
+pub returns-in_ok-is_new-in-Some : goal.returns-in_ok-is_new-in-Some
+returns-in_ok-is_new-in-Some c =
+    rw (← c.self.view_is, c.in-Some.is) (tells_other c.in-Some.first.now c.self.inside.others.keys
+    c.insert.new.self.keys c.args.token c.in_ok-is_new-in-Some.is_new
+    (bytes_eq_sym c.args.token.now c.in-Some.first.now ∙ (sym c.eq.ensures ∙ c.if-eq.false))
+    c.in_ok-is_new-in-Some.ensures.updates.0 c.in_ok-is_new-in-Some.ensures.added
+    (sym c.is_null.ensures ∙ c.if-is_null.false) (sym c.is_barline.ensures ∙ c.if-not-is_barline.false))

@@ -1,6 +1,5 @@
 use Rattle.hum_context.specs.Options.{choice_of}
-use Rattle.hum_context.proofs.Keeping.{context_keeps}
-use Rattle.hum_context.proofs.Steady.{context_steady}
+use Rattle.hum_context.proofs.Keeping.{context_keeps, context_steady}
 use Rattle.hum_context.proofs.Following.{begins}
 use Rattle.hum_context.proofs.memory.CollectingLooksAhead.begin.Goals as goal
 

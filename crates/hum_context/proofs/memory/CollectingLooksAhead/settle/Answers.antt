@@ -10,7 +10,8 @@ use Rattle.hum_context.specs.Queue.{Knows}
 use Rattle.hum_context.specs.Walking.{AllStand}
 use Rattle.hum_context.proofs.Weighing.{quiet_stays, fits_is, long_is}
 use Rattle.hum_context.proofs.Following.{few_held, first_known, first_data, none_heard, get_first}
-use Rattle.hum_context.proofs.Following.{follows_on, follows_walks, undecided, decided_by, same_new}
+use Rattle.hum_context.proofs.Written.{short}
+use Rattle.hum_context.proofs.Following.{fitting, follows_on, follows_walks, undecided, decided_by, same_new}
 use Rattle.hum_context.proofs.memory.CollectingLooksAhead.settle.Goals as goal
 
 pub returns-then-is_quiet-clause-settles : goal.returns-then-is_quiet-clause-settles
@@ -107,14 +108,50 @@ returns-in_ok-row-in-Fits-clause-settles c look past row rows h =
     let weighs = c.weigh.ensures o path (tokens_of row) rows want h.some_wanted knows
     (rw (c.deref.ensures.value, zero) stands) in
     let fits = rw c.in-Fits.is at weighs in
-    let new = c.in_ok-made-in-Fits.ensures o path (tokens_of row) rows want h.some_wanted knows
-    (rw c.deref-in-Fits.ensures.value stands) in
+    let new = rw c.in-Some.is at
+    (c.in_ok-made-in-Fits.ensures o path (tokens_of row) rows want h.some_wanted knows
+    (rw c.deref-in-Fits.ensures.value stands)) in
     let same = same_new _ new.0 fits.0 new.2 fits.1 in
     let e = c.in_ok-row-in-Fits.ensures in
-    rw (c.keep.ensures, e.kept, new.1) (
+    rw (c.keep.ensures, e.kept, new.1.0) (
       ap (λ l. l past row rows) h.command
           ∙ decided_by o past row rows new.0 (Ok (Spined Values new.0 ∷ [])) is new.2
           (rw same at (fits_is fits.0 fits.2)),
       follows_on o _ _ _ _ _ _ _ look past row rows h e.gone e.held
           (e.stand path row rows h.waits stand),
     )
+
+pub write-requires-clause-decided : goal.write-requires-clause-decided
+write-requires-clause-decided c =
+    let m = c.requires.memory in
+    let o = choice_of c.args.self.now.options in
+    let size = c.args.held.now.ok.0 in
+    let some = c.requires.filled in
+    let want = c.wanted-wanted.ensures in
+    let none = m.memory.some_wanted in
+    let zero : c.args.self.now.gone + 0 ≡ c.args.self.now.gone = omega arith in
+    let f = fitting o _ _ _ _ _ _ m.look m.past m.rows c.index.result.now want m.memory
+    (omega (arith, size, some)) c.index.ensures (sym c.is_quiet.ensures ∙ c.if-is_quiet.false)
+    (λ p rs k s. c.in_ok-advance.ensures o p rs want none k s)
+    (λ p tokens rs k s. rw c.in-Fits.is at (c.weigh.ensures o p tokens rs want none k
+    (rw (c.deref.ensures.value, zero) s))) in
+    rw c.deref-in-Fits.ensures.value f.decided
+
+pub unreachable-requires : goal.unreachable-requires
+unreachable-requires c =
+    let m = c.requires.memory in
+    let o = choice_of c.args.self.now.options in
+    let size = c.args.held.now.ok.0 in
+    let some = c.requires.filled in
+    let want = c.wanted-wanted.ensures in
+    let none = m.memory.some_wanted in
+    let zero : c.args.self.now.gone + 0 ≡ c.args.self.now.gone = omega arith in
+    let f = fitting o _ _ _ _ _ _ m.look m.past m.rows c.index.result.now want m.memory
+    (omega (arith, size, some)) c.index.ensures (sym c.is_quiet.ensures ∙ c.if-is_quiet.false)
+    (λ p rs k s. c.in_ok-advance.ensures o p rs want none k s)
+    (λ p tokens rs k s. rw c.in-Fits.is at (c.weigh.ensures o p tokens rs want none k
+    (rw (c.deref.ensures.value, zero) s))) in
+    let d = f.decided in
+    let made = rw c.in_default.is at (c.in_ok-made-in-Fits.ensures d.o d.path d.tokens d.rows d.want
+    d.some_wanted d.knows (rw c.deref-in-Fits.ensures.value d.stand)) in
+    short made.0 (rw (same_new _ made.0 d.new made.2 d.are) at f.fits) made.1

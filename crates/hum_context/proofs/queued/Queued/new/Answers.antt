@@ -7,4 +7,4 @@ pub returns-clause-known : goal.returns-clause-known
 returns-clause-known c path e =
     known_new (choice_of c.args.options.now) path c.args.row _ c.args.found.now _
     c.kind-kind.ensures.lawful c.kind-kind.ensures.at_most refl c.in_ok-heard.ensures.heard
-    c.in_ok-heard.ensures.valued c.in_ok-below.ensures e
+    c.in_ok-below.ensures e

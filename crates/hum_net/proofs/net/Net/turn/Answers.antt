@@ -8,15 +8,15 @@ use Rattle.hum_net.specs.Scene.{moved}
 use Rattle.hum_net.proofs.Netting.{no_failure, is_at, now_ready, below_count, stage_turned, sink_turned, marks_by}
 use Rattle.hum_net.proofs.net.Net.turn.Goals as goal
 
-pub sink_turn-self-requires : goal.sink_turn-self-requires
-sink_turn-self-requires g c =
+pub sink_turn-requires : goal.sink_turn-requires
+sink_turn-requires g c =
     let m = c.requires in
     let at = is_at (StandsAs g.F.Feeds.stands g.W.Works.stands) g.S.Sink.contents g.S.Sink.flushed m.start
     m.scene c.args.self.now m.now c.args.k m.at m.ready in
     record { scene = moved m.scene m.now.links; holds = at }
 
-pub stage_turn-self-requires : goal.stage_turn-self-requires
-stage_turn-self-requires g c =
+pub stage_turn-requires : goal.stage_turn-requires
+stage_turn-requires g c =
     let m = c.requires in
     let s = m.scene in
     let stands = StandsAs g.F.Feeds.stands g.W.Works.stands in
@@ -40,24 +40,24 @@ pub returns-then-k-count-clause-turned : goal.returns-then-k-count-clause-turned
 returns-then-k-count-clause-turned g c =
     sink_turned (StandsAs g.F.Feeds.stands g.W.Works.stands) g.F.Feeds.remaining g.F.Feeds.ended
     g.S.Sink.contents g.S.Sink.flushed c.args.k c.args.self.now _ g.F.Feeds.calls g.F.Feeds.failed
-    c.sink_turn-self.result
+    c.sink_turn.new.self.failure
     (c.if-k-count.true ∙ c.count.ensures)
-    c.sink_turn-self.ensures.went c.sink_turn-self.ensures.shows refl c.sink_turn-self.ensures.turns
-    c.sink_turn-self.ensures.actors
+    c.sink_turn.ensures.went c.sink_turn.ensures.shows refl c.sink_turn.ensures.turns
+    c.sink_turn.ensures.actors
 
 pub returns-else-k-count-clause-turned : goal.returns-else-k-count-clause-turned
 returns-else-k-count-clause-turned g c =
-    let e = c.stage_turn-self.ensures in
+    let e = c.stage_turn.ensures in
     stage_turned (StandsAs g.F.Feeds.stands g.W.Works.stands) g.F.Feeds.remaining g.F.Feeds.ended
-    g.S.Sink.contents g.S.Sink.flushed c.args.k c.args.self.now _ c.stage_turn-self.result
+    g.S.Sink.contents g.S.Sink.flushed c.args.k c.args.self.now _ c.stage_turn.new.self.failure
     (λ e. c.if-k-count.false (e ∙ sym c.count.ensures))
     e.fed e.failed e.stays e.others e.sink refl e.turns e.actors
 
 pub returns-else-k-count-clause-reads : goal.returns-else-k-count-clause-reads
 returns-else-k-count-clause-reads g c =
-    let e = c.stage_turn-self.ensures in
+    let e = c.stage_turn.ensures in
     marks_by g.F.Feeds.failed c.args.k c.args.self.now.web.nodes.items
-    c.stage_turn-self.new.self.web.nodes.items c.stage_turn-self.result e.others e.marked e.unmarked
+    c.stage_turn.new.self.web.nodes.items c.stage_turn.new.self.failure e.others e.marked e.unmarked
 
 pub overflow_add-self : goal.overflow_add-self
 overflow_add-self g c =
@@ -74,15 +74,15 @@ overflow_add-self g c =
 pub returns-else-k-count-clause-others : goal.returns-else-k-count-clause-others
 returns-else-k-count-clause-others g c i o =
     shows_alike g.F.Feeds.remaining g.F.Feeds.ended g.F.Feeds.calls g.F.Feeds.failed
-    c.args.self.now.web.nodes.items c.stage_turn-self.new.self.web.nodes.items i
-    (c.stage_turn-self.ensures.others i o)
+    c.args.self.now.web.nodes.items c.stage_turn.new.self.web.nodes.items i
+    (c.stage_turn.ensures.others i o)
 
 pub returns-then-k-count-clause-reads : goal.returns-then-k-count-clause-reads
 returns-then-k-count-clause-reads g c i =
-    (c.sink_turn-self.ensures.shows i).mark ∙ or_false _
+    (c.sink_turn.ensures.shows i).mark ∙ or_false _
     ∙ ap (λ b. failed_at g.F.Feeds.failed i c.args.self.now.web.nodes.items || b)
-    (sym (c.sink_turn-self.ensures.unread i))
+    (sym (c.sink_turn.ensures.unread i))
 
 pub returns-then-k-count-clause-calls : goal.returns-then-k-count-clause-calls
 returns-then-k-count-clause-calls g c =
-    let h = c.sink_turn-self.ensures.shows c.args.k in inl (h.calls_made, h.mark)
+    let h = c.sink_turn.ensures.shows c.args.k in inl (h.calls_made, h.mark)

@@ -1,3 +1,4 @@
+use Rattle.hum_stage.specs.Lawful.{looking_within, looking_decides}
 use Rattle.hum_stage.proofs.Lags.{new_lags}
 use Rattle.hum_stage.proofs.lagging.Lagging.new.Goals as goal
 
@@ -8,3 +9,10 @@ returns-clause-stands g c = rw (c.command.ensures, c.new.ensures.items)
 
 pub returns-clause-keeps : goal.returns-clause-keeps
 returns-clause-keeps g c = c.begin.ensures.keeps
+
+pub returns-clause-within : goal.returns-clause-within
+returns-clause-within g c =
+    looking_within 65536 c.args.stage g.C.LooksAhead.command (g.C.LooksAhead.look c.args.options) c.begin.ensures.steady
+
+pub returns-clause-decides : goal.returns-clause-decides
+returns-clause-decides g c = looking_decides 65536 (g.C.LooksAhead.look c.args.options) c.begin.ensures.steady

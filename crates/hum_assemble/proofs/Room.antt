@@ -1,0 +1,73 @@
+-- Tokens at the front of some for which a record has room.
+use Rattle.std.proofs.Common.{◌≡◌, ◌∙◌, refl, sym, ap, ℕ, zero, suc, ◌<◌, ◌≤◌, Bool, List, [], ◌∷◌, ◌++◌, length}
+use Rattle.std.proofs.Common.{replicate, take, get_or, append_assoc, arith}
+use Rattle.hum_record.specs.Building.{spelled}
+use Rattle.hum_record.proofs.Drafts.{spelled_front}
+use Rattle.hum_assemble.specs.declared.places.Place.{Place}
+use Rattle.hum_assemble.specs.Source.{Source}
+use Rattle.hum_assemble.specs.Round.{takes, still_free}
+use Rattle.hum_assemble.specs.Merge.{part_given, tokens_given}
+
+pub front_fits : (front rest all : List (List ℕ)) → all ≡ front ++ rest → length (spelled all) ≤ 1048576
+    → length (spelled front) ≤ 1048576
+front_fits front rest all e h =
+    let front_of = spelled_front front rest in
+    let same = ap (λ (ts : List (List ℕ)). length (spelled ts)) e in
+    omega (arith, front_of, same, h)
+
+-- one more of some that are alike
+record Further (x : List ℕ) (k n : ℕ) : Type 0 where
+  rest : List (List ℕ)
+  whole : replicate n x ≡ replicate k x ++ x ∷ rest
+
+further : (x : List ℕ) (k n : ℕ) → k < n → Further x k n
+further x k zero h = absurd (omega (arith, h))
+further x zero (suc n) h = record { rest = replicate n x; whole = refl }
+further x (suc k) (suc n) h =
+    let w = further x k n (omega (arith, h)) in
+    record { rest = w.rest; whole = ap (λ (ts : List (List ℕ)). x ∷ ts) w.whole }
+
+-- those so far, the next, and the rest
+one_more : (tokens front : List (List ℕ)) (t : List ℕ) (rest : List (List ℕ))
+    → tokens ++ (front ++ t ∷ rest) ≡ ((tokens ++ front) ++ t ∷ []) ++ rest
+one_more tokens front t rest = rw (append_assoc (tokens ++ front) (t ∷ []) rest, append_assoc tokens front (t ∷ rest)) refl
+
+pub null_fits : (tokens : List (List ℕ)) (null : List ℕ) (k n : ℕ) → k < n
+    → length (spelled (tokens ++ replicate n null)) ≤ 1048576
+    → length (spelled ((tokens ++ replicate k null) ++ null ∷ [])) ≤ 1048576
+null_fits tokens null k n less h =
+    let w = further null k n less in
+    front_fits ((tokens ++ replicate k null) ++ null ∷ []) w.rest (tokens ++ replicate n null)
+    (ap (λ (ts : List (List ℕ)). tokens ++ ts) w.whole ∙ one_more tokens (replicate k null) null w.rest) h
+
+-- the token at a place, between those before it and those behind
+record Parted (all : List (List ℕ)) (j : ℕ) : Type 0 where
+  rest : List (List ℕ)
+  whole : all ≡ take j all ++ get_or all j [] ∷ rest
+
+parted : (all : List (List ℕ)) (j : ℕ) → j < length all → Parted all j
+parted [] j h = absurd (omega (arith, h))
+parted (t ∷ ts) zero h = record { rest = ts; whole = refl }
+parted (t ∷ ts) (suc j) h =
+    let w = parted ts j (omega (arith, h)) in
+    record { rest = w.rest; whole = ap (λ (xs : List (List ℕ)). t ∷ xs) w.whole }
+
+pub token_fits : (tokens all : List (List ℕ)) (j : ℕ) → j < length all → length (spelled (tokens ++ all)) ≤ 1048576
+    → length (spelled ((tokens ++ take j all) ++ get_or all j [] ∷ [])) ≤ 1048576
+token_fits tokens all j less h =
+    let w = parted all j less in
+    front_fits ((tokens ++ take j all) ++ get_or all j [] ∷ []) w.rest (tokens ++ all)
+    (ap (λ (ts : List (List ℕ)). tokens ++ ts) w.whole ∙ one_more tokens (take j all) (get_or all j []) w.rest) h
+
+pub part_fits : (tokens part rest : List (List ℕ)) → length (spelled (tokens ++ (part ++ rest))) ≤ 1048576
+    → length (spelled (tokens ++ part)) ≤ 1048576
+part_fits tokens part rest h = front_fits (tokens ++ part) rest (tokens ++ (part ++ rest)) (sym (append_assoc tokens part rest)) h
+
+-- what the first of some sources has in the record that is given
+pub first_fits : (tokens : List (List ℕ)) (free going : Bool) (p : Place) (ss : List Source) (s d : Source)
+    → 1 ≤ length ss → s ≡ get_or ss 0 d
+    → length (spelled (tokens ++ tokens_given free going p ss)) ≤ 1048576
+    → length (spelled (tokens ++ part_given (takes free going p s) p s)) ≤ 1048576
+first_fits tokens free going p [] s d some is h = absurd (omega (arith, some))
+first_fits tokens free going p (x ∷ ss) s d some is h =
+    rw is (part_fits tokens (part_given (takes free going p x) p x) (tokens_given (still_free free going p x) going p ss) h)

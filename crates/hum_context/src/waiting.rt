@@ -1,0 +1,155 @@
+//! What is asked of a record that waits.
+ghost use Rattle.std.specs.Prelude.{◌≡◌, ◌≢◌, ◌==◌, ◌+◌, ◌≤◌, ℕ, [], true, length, IfOk, slice_index_or};
+ghost use Rattle.std.specs.List.{position};
+ghost use Rattle.hum_record.specs.declared.Kind.TheVariants.{Interpretation as AnyInterpretation};
+ghost use Rattle.hum_record.specs.declared.SpinedKind.TheVariants.{Values};
+ghost use Rattle.hum_record.specs.Row.{kind_of, token_at, tokens_of};
+ghost use Rattle.hum_record.specs.Spelling.{IsToken};
+ghost use Rattle.hum_path.specs.Chains.{goes_on};
+ghost use Rattle.hum_path.specs.Spines.{Path, moves};
+ghost use Rattle.hum_context.specs.Context.{is_last};
+ghost use Rattle.hum_context.specs.Options.{choice_of};
+ghost use Rattle.hum_context.specs.Queue.{IsStill, Known, column_in, is_last_in, place_in};
+ghost use Rattle.hum_context.specs.declared.hearing.Heard.TheVariants.{Passed};
+
+use crate::below::Below;
+use crate::hearing::{Heard, SpareHeard};
+use crate::options::ContextOptions;
+use crate::queued::Queued;
+use hum_path::{Moves, Sign, token_sign};
+use hum_record::{Kind, Record};
+use std::alloc::{AllocError, Global};
+
+/// Whether a column's future is ended at its token.
+fn is_last_at(row: &Record, c: usize) -> bool
+    ensures { result ≡ is_last (slice_index_or (tokens_of row.now) c []) }
+{
+    if c >= row.width() {
+        return false;
+    }
+    match token_sign(row.token(c)) {
+        Sign::End | Sign::Exclusive => true,
+        Sign::Split | Sign::Join | Sign::Exchange | Sign::Add | Sign::Plain => false,
+    }
+}
+
+/// Where the spines under a record go, if it may move them.
+fn below_row(alloc: Global, row: &Record, found: &Moves) -> Result<Below, AllocError>
+    requires { length found.now ≤ 4096 }
+    ensures { IfOk result (λ below. kind_of row.now ≡ AnyInterpretation
+        → (c : ℕ) → place_in below c ≡ position (goes_on c) found.now) }
+{
+    match row.kind() {
+        Kind::Interpretation => Below::by(alloc, found),
+        Kind::Values => Ok(Below::Same(0)),
+        Kind::Local => Ok(Below::Same(0)),
+        Kind::Global => Ok(Below::Same(0)),
+    }
+}
+
+impl Queued {
+    /// A record that comes, with what is heard of it, for which there is a list that is done with.
+    pub(crate) fn new(
+        alloc: Global,
+        options: &mut ContextOptions,
+        row: Record,
+        found: &Moves,
+        spare: &mut SpareHeard,
+    ) -> Result<Queued, AllocError>
+        requires { length found.now ≤ 4096 }
+        ensures kept { options.new ≡ options.old }
+        ensures known { IfOk result (λ queued. (path : Path) → found.now ≡ moves path row
+            → Known (choice_of options.old) path row queued) }
+    {
+        let _kind = row.kind();
+        let heard = options.hear_row(alloc, &row, spare)?;
+        let below = below_row(alloc, &row, found)?;
+        Ok(Queued { row, heard, below })
+    }
+
+    /// What was heard in a column; nothing beyond the last.
+    #[inline]
+    pub(crate) fn heard(&self, c: usize) -> Heard
+        ensures { result ≡ slice_index_or self.now.heard.items c Passed }
+    {
+        if c < self.heard.len() {
+            self.heard[c]
+        } else {
+            Heard::Passed
+        }
+    }
+
+    /// Its token in a column that is collected.
+    #[inline]
+    pub(crate) fn token(&self, c: usize) -> &[u8]
+        requires { slice_index_or self.now.heard.items c Passed ≢ Passed }
+        ensures token { result.now ≡ token_at self.now.row c }
+        ensures lawful { IsToken Values result.now }
+    {
+        self.row.token(c)
+    }
+
+    /// Whether none of its tokens is collected.
+    pub(crate) fn is_quiet(&self) -> bool
+        ensures { result ≡ (length self.now.heard.items == 0) }
+    {
+        self.heard.is_empty()
+    }
+
+    /// Whether nothing of it is collected, and no spine moves or ends.
+    pub(crate) fn is_still(&self) -> bool
+        ensures { result ≡ true → IsStill self.now }
+    {
+        match self.row.kind() {
+            Kind::Interpretation => false,
+            Kind::Values => self.heard.is_empty(),
+            Kind::Local => self.heard.is_empty(),
+            Kind::Global => self.heard.is_empty(),
+        }
+    }
+
+    /// Whether a column's future is ended at its token.
+    #[inline]
+    pub(crate) fn is_last(&self, c: usize) -> bool
+        ensures { result ≡ is_last_in self.now.row c }
+    {
+        match self.row.kind() {
+            Kind::Interpretation => is_last_at(&self.row, c),
+            Kind::Values => false,
+            Kind::Local => false,
+            Kind::Global => false,
+        }
+    }
+
+    /// The column of the cell below, within the reach.
+    #[inline]
+    pub(crate) fn below(&self, c: usize) -> Option<usize>
+        ensures { result ≡ column_in self.now.row self.now.below c }
+    {
+        match self.row.kind() {
+            Kind::Interpretation => {
+                if is_last_at(&self.row, c) {
+                    return None;
+                }
+                self.below.of(c)
+            }
+            Kind::Values => Some(c),
+            Kind::Local => Some(c),
+            Kind::Global => Some(c),
+        }
+    }
+
+    /// How many bytes its token in a column has, and one more.
+    #[inline]
+    pub(crate) fn bytes(&self, c: usize) -> u64
+        ensures bytes { result ≡ length (slice_index_or (tokens_of self.now.row) c []) + 1 }
+        ensures few { result ≤ 1048577 }
+    {
+        if c < self.row.width() {
+            let _text = self.row.text();
+            self.row.token(c).len() as u64 + 1
+        } else {
+            1
+        }
+    }
+}

@@ -1,0 +1,113 @@
+//! Columns that are extracted, beside other commands.
+ghost use Rattle.std.specs.Prelude.{◌≡◌, ◌≤◌, length, IfOk};
+ghost use Rattle.hum_stage.specs.Score.{IsClosed};
+ghost use Rattle.hum_stage.specs.declared.faults.Command.TheVariants.{Extract};
+ghost use Rattle.hum_stage.specs.declared.faults.End.TheVariants.{Closed};
+ghost use Rattle.hum_stage.specs.Decided.{at_once};
+ghost use Rattle.hum_path.specs.Spines.{texts};
+ghost use Rattle.hum_extract.specs.Choice.{Names};
+ghost use Rattle.hum_extract.specs.Extract.{extract};
+ghost use Rattle.hum_extract.specs.Written.{choice_of, meaning as meaning_of_extract};
+ghost use Rattle.hum_ditto.specs.Ditto.{meaning as meaning_of_ditto};
+ghost use Rattle.hum_laws.specs.Piped.{IsAlone, IsPiped};
+ghost use Rattle.hum_laws.specs.Fields.{every_field};
+
+use crate::given::{Given, again, alone, piped};
+use hum_commands::{CommandOptions, CommandStage};
+use hum_ditto::DittoOptions;
+use hum_extract::{Choice, Field, FieldRange};
+use hum_record::Record;
+use std::alloc::{AllocError, Global};
+
+/// What is extracted and then filled is what is filled and then extracted:
+/// `extract -f 1 | ditto` is `ditto | extract -f 1`. What the two are told is given twice, once for
+/// each side.
+///
+/// # Errors
+/// Want of memory.
+pub fn extract_ditto(
+    alloc: Global,
+    records: &[Record],
+    chosen: (Choice, Choice),
+    options: (DittoOptions, DittoOptions),
+) -> Result<(Given, Given), AllocError>
+    requires closed { IsClosed records.now }
+    requires few { length records.now ≤ 4294967295 }
+    requires chosen { choice_of chosen.1 ≡ choice_of chosen.0 }
+    requires alike { options.1 ≡ options.0 }
+    ensures extracted { IfOk result (λ both.
+        IsPiped (meaning_of_extract 1 chosen.0) (meaning_of_ditto 2 options.0) records.now both.0) }
+    ensures filled { IfOk result (λ both.
+        IsPiped (meaning_of_ditto 1 options.0) (meaning_of_extract 2 chosen.0) records.now both.1) }
+    ensures same { IfOk result (λ both. both.0.end ≡ Closed → both.1.end ≡ Closed →
+        both.0.records.items ≡ both.1.records.items) }
+{
+    let extracted = piped(
+        alloc,
+        records,
+        CommandStage::new(alloc, 1, CommandOptions::Extract(chosen.0)),
+        CommandStage::new(alloc, 2, CommandOptions::Ditto(options.0)),
+    )?;
+    let filled = piped(
+        alloc,
+        records,
+        CommandStage::new(alloc, 1, CommandOptions::Ditto(options.1)),
+        CommandStage::new(alloc, 2, CommandOptions::Extract(chosen.1)),
+    )?;
+    Ok((extracted, filled))
+}
+
+/// All fields of a score are the score: `extract -f 1-$`.
+///
+/// # Errors
+/// Want of memory.
+pub fn all_fields(alloc: Global, records: &[Record]) -> Result<Given, AllocError>
+    requires closed { IsClosed records.now }
+    requires few { length records.now ≤ 4294967295 }
+    ensures extracted { IfOk result (IsAlone
+        (at_once 1 Extract (extract every_field)) records.now) }
+    ensures same { IfOk result (λ given. given.end ≡ Closed →
+        given.records.items ≡ records.now) }
+{
+    let mut ranges = Vec::new(alloc);
+    ranges.push(FieldRange {
+        first: Field::Number(1),
+        last: Field::Last,
+    })?;
+    let given = alone(
+        alloc,
+        records,
+        CommandStage::new(alloc, 1, CommandOptions::Extract(Choice::Fields(ranges))),
+    )?;
+    Ok(given)
+}
+
+/// What is extracted by some names has no others: `extract -i NAMES` twice is once.
+///
+/// # Errors
+/// Want of memory.
+pub fn names_twice(
+    alloc: Global,
+    records: &[Record],
+    names: Vec<Vec<u8>>,
+    alike: Vec<Vec<u8>>,
+) -> Result<(Given, Given), AllocError>
+    requires closed { IsClosed records.now }
+    requires few { length records.now ≤ 4294967295 }
+    requires alike { texts alike.items ≡ texts names.items }
+    ensures once { IfOk result (λ both. IsAlone
+        (at_once 1 Extract (extract (Names (texts names.items)))) records.now both.0) }
+    ensures twice { IfOk result (λ both. IsPiped
+        (at_once 1 Extract (extract (Names (texts names.items))))
+        (at_once 2 Extract (extract (Names (texts names.items)))) records.now both.1) }
+    ensures same { IfOk result (λ both. both.0.end ≡ Closed → both.1.end ≡ Closed →
+        both.1.records.items ≡ both.0.records.items) }
+{
+    let both = again(
+        alloc,
+        records,
+        CommandStage::new(alloc, 1, CommandOptions::Extract(Choice::Names(names))),
+        CommandStage::new(alloc, 2, CommandOptions::Extract(Choice::Names(alike))),
+    )?;
+    Ok(both)
+}

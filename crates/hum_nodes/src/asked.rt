@@ -1,0 +1,63 @@
+//! A stage that knows what it does next.
+ghost use Rattle.std.specs.Prelude.{◌≡◌};
+ghost use Rattle.hum_nodes.specs.At.{At, doing_of};
+
+use crate::node::{Doing, Works};
+use hum_record::Record;
+use hum_stage::End;
+use std::alloc::AllocError;
+
+/// A stage that reads from others, and what it does next, learnt once after each of its calls: a net
+/// asks more often than a stage moves.
+#[derive(Drop)]
+pub struct Asked<W> {
+    inner: W,
+    doing: Doing,
+}
+
+impl<W: Works> Asked<W> {
+    /// The same stage.
+    pub fn new(inner: W) -> Asked<W>
+        ensures { (t : At) → W.stands inner t → ⟦<Asked<W> as Works>⟧.stands result t }
+    {
+        let doing = inner.doing();
+        Asked { inner, doing }
+    }
+}
+
+impl<W: Works> Works for Asked<W> {
+    ghost stands = { λ s t. (W.stands s.inner t) × (s.doing ≡ doing_of t) };
+
+    ghost no_bytes = { λ s t h. W.no_bytes s.inner t h.0 };
+
+    #[inline(always)]
+    fn source(&self, place: usize) -> usize {
+        self.inner.source(place)
+    }
+
+    #[inline(always)]
+    fn doing(&self) -> Doing {
+        self.doing
+    }
+
+    fn held(&self) -> usize {
+        self.inner.held()
+    }
+
+    fn take(&mut self) -> Result<Option<Record>, AllocError> {
+        let taken = self.inner.take()?;
+        self.doing = self.inner.doing();
+        Ok(taken)
+    }
+
+    fn put(&mut self, place: usize, next: Record) -> Result<(), AllocError> {
+        self.inner.put(place, next)?;
+        self.doing = self.inner.doing();
+        Ok(())
+    }
+
+    fn stop(&mut self, place: usize, end: End) {
+        self.inner.stop(place, end);
+        self.doing = self.inner.doing();
+    }
+}

@@ -1,0 +1,21 @@
+//! What holds of every record and of every score, as contracts.
+ghost use Rattle.std.specs.Prelude.{ℕ, List};
+ghost use Rattle.hum_record.specs.Row.{Row};
+ghost use Rattle.hum_path.specs.Spines.{Path};
+ghost use Rattle.hum_path.specs.Places.{AreRulesByPlace};
+ghost use Rattle.hum_path.specs.Turned.{StepsTurn, ColumnsTurn};
+
+/// Of an interpretation after others: P3 is broken exactly where some `*v` has no `*v` beside it;
+/// P4 isn't broken exactly where no `*x` stands in it, or two; P5 is broken exactly where two `*v`
+/// stand beside each other under different exclusive interpretations, and P6 exactly where an added
+/// spine doesn't get one.
+pub fn rules_hold_by_place()
+    ensures { (names tokens : List (List ℕ)) → AreRulesByPlace names tokens }
+{}
+
+/// The cells above and the cells below are each other's, turned round, but for the right one of a
+/// split, and for joined ones that aren't the leftmost.
+pub fn cells_turn_round()
+    ensures steps { (path : Path) (tokens : List (List ℕ)) → StepsTurn path tokens }
+    ensures columns { (past rows : List Row) → ColumnsTurn past rows }
+{}

@@ -1,9 +1,0 @@
-use Rattle.std.proofs.Common.{length}
-use Rattle.hum_record.proofs.Cuts.{SoFar}
-use Rattle.hum_record.proofs.tokens.ends_of.Given as goal
-
-abbrev pub invariant-loop-rest : goal.invariant-loop-rest
-invariant-loop-rest l = SoFar l.text l.rest l.start l.ends.items l.has_return
-
-abbrev pub decreases-loop-rest : goal.decreases-loop-rest
-decreases-loop-rest l = length l.rest

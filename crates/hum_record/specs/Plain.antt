@@ -1,0 +1,16 @@
+-- Texts of plain data: no token is empty, and none begins with the mark of another kind.
+use Rattle.std.specs.Prelude.{◌==◌, ◌&&◌, ◌||◌, ℕ, Bool, false, List, [], ◌∷◌}
+
+-- a byte with which no token of data begins: a tab, since then it is empty, `!` and `*`
+abbrev pub is_mark : ℕ → Bool
+is_mark byte = byte == 9 || (byte == 33 || byte == 42)
+
+-- Some token that begins in a text is none of data; with the text's first byte begins one, or not.
+abbrev pub has_mark : Bool → List ℕ → Bool
+has_mark head [] = false
+has_mark head (byte ∷ text) = (head && is_mark byte) || has_mark (byte == 9) text
+
+-- Behind a text a token begins.
+abbrev pub head_after : Bool → List ℕ → Bool
+head_after head [] = head
+head_after head (byte ∷ text) = head_after (byte == 9) text
