@@ -3,6 +3,7 @@ pub mod Ending
 pub mod Keeping
 pub mod Growth
 pub mod Steady
+pub mod Nulls
 pub mod Places
 pub mod Tokens
 pub mod Long

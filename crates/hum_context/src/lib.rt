@@ -9,6 +9,7 @@
 mod below;
 mod front;
 mod hearing;
+mod held;
 mod lasting;
 mod memory;
 mod options;

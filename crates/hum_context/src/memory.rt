@@ -199,7 +199,7 @@ impl Collecting {
         self.gone += 1;
         let Queued { row, heard, .. } = kept;
         self.spare_heard.keep(heard);
-        Ok(Some(row))
+        Ok(Some(row.given(self.alloc)?))
     }
 
     /// Keeps the buffers of a record that gave way to another.

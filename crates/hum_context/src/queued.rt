@@ -5,12 +5,12 @@ ghost use Rattle.hum_record.specs.Row.{kind_of, width_of};
 
 use crate::below::Below;
 use crate::hearing::Heard;
-use hum_record::Record;
+use crate::held::HeldRecord;
 
 /// A record that waits, what was heard of its tokens, and where the spines under it go.
 #[derive(Drop)]
 pub struct Queued {
-    pub(crate) row: Record,
+    pub(crate) row: HeldRecord,
     // of each token, or nothing where none is collected
     pub(crate) heard: Vec<Heard>,
     pub(crate) below: Below,

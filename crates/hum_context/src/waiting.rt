@@ -14,6 +14,7 @@ ghost use Rattle.hum_context.specs.declared.hearing.Heard.TheVariants.{Passed};
 
 use crate::below::Below;
 use crate::hearing::{Heard, SpareHeard};
+use crate::held::HeldRecord;
 use crate::options::ContextOptions;
 use crate::queued::Queued;
 use hum_path::{Moves, Sign, token_sign};
@@ -21,7 +22,7 @@ use hum_record::{Kind, Record};
 use std::alloc::{AllocError, Global};
 
 /// Whether a column's future is ended at its token.
-fn is_last_at(row: &Record, c: usize) -> bool
+fn is_last_at(row: &HeldRecord, c: usize) -> bool
     ensures { result ≡ is_last (slice_index_or (tokens_of row.now) c []) }
 {
     if c >= row.width() {
@@ -64,6 +65,7 @@ impl Queued {
         let _kind = row.kind();
         let heard = options.hear_row(alloc, &row, spare)?;
         let below = below_row(alloc, &row, found)?;
+        let row = HeldRecord::of(row, heard.is_empty());
         Ok(Queued { row, heard, below })
     }
 
@@ -146,7 +148,7 @@ impl Queued {
         ensures few { result ≤ 1048577 }
     {
         if c < self.row.width() {
-            let _text = self.row.text();
+            let _kind = self.row.kind();
             self.row.token(c).len() as u64 + 1
         } else {
             1

@@ -1,0 +1,161 @@
+//! A record that waits, or what it takes to make it again.
+ghost use Rattle.std.specs.Prelude.{◌≡◌, ◌<◌, ◌≤◌, ◌++◌, ◌∷◌, [], true, length, IfOk, OnOk};
+ghost use Rattle.std.specs.List.{list_all};
+ghost use lib.Chars.{codes};
+ghost use Rattle.hum_record.specs.declared.SpinedKind.TheVariants.{Values};
+ghost use Rattle.hum_record.specs.Building.{spelled};
+ghost use Rattle.hum_record.specs.Contents.{is_null};
+ghost use Rattle.hum_record.specs.Row.{kind_of, row_of, text_of, token_at, tokens_of, width_of};
+ghost use Rattle.hum_record.specs.Spelling.{IsTextOf, IsTokenOf};
+ghost use Rattle.hum_context.specs.Held.{nulls};
+
+use hum_record::{Kind, Record, RecordBuilder, RecordFault, SpinedKind};
+use std::alloc::{AllocError, Global};
+use std::marker::Model;
+
+/// Null tokens up to so many stay a record.
+const FEW_COLUMNS: usize = 64;
+
+/// What is held of a record.
+#[derive(Drop)]
+enum Holding {
+    Whole(Record),
+    Nulls(usize),
+}
+
+/// A record that waits. A wide one of null tokens, of which nothing is collected, is held by how many
+/// they are.
+#[derive(Drop)]
+pub struct HeldRecord {
+    holding: Holding,
+}
+
+impl Model for HeldRecord {
+    ghost use Rattle.hum_record.specs.Row.{Row};
+    ghost use Rattle.hum_context.specs.Held.{held_row, MayHold};
+
+    ghost Value = { Row };
+
+    ghost view = { λ h. held_row h.holding };
+
+    ghost invariant = { λ h. MayHold h.holding };
+}
+
+/// Whether each token of a record is null.
+fn all_null(row: &Record) -> bool
+    ensures { result ≡ list_all is_null (tokens_of row.now) }
+{
+    for j in 0..row.width() {
+        if b".".as_slice() != row.token(j) {
+            return false;
+        }
+    }
+    true
+}
+
+/// Whether a record is data, and null.
+fn is_null_data(row: &Record) -> bool
+    ensures { result ≡ true → row.now ≡ nulls (width_of row.now) }
+{
+    match row.kind() {
+        Kind::Values => all_null(row),
+        Kind::Interpretation => false,
+        Kind::Local => false,
+        Kind::Global => false,
+    }
+}
+
+/// Adds a null token, which fits.
+fn push_null(builder: &mut RecordBuilder) -> Result<(), AllocError>
+    requires kind { builder.old.kind ≡ Values }
+    requires fits { length (spelled (builder.old.tokens ++ codes "." ∷ [])) ≤ 1048576 }
+    ensures { OnOk result (builder.new ≡ record builder.old {
+      tokens = builder.old.tokens ++ codes "." ∷ [];
+    }) }
+{
+    match builder.push(b".") {
+        Ok(()) => Ok(()),
+        Err(fault) => match fault {
+            RecordFault::Memory => Err(AllocError),
+            _ => unreachable!(),
+        },
+    }
+}
+
+/// The data record of so many null tokens.
+fn made_of_nulls(alloc: Global, width: usize) -> Result<Record, AllocError>
+    requires { IsTextOf (nulls width) (text_of (nulls width)) }
+    ensures { IfOk result (λ row. row ≡ nulls width) }
+{
+    let mut builder = RecordBuilder::new(alloc, SpinedKind::Values);
+    for _ in 0..width {
+        push_null(&mut builder)?;
+    }
+    Ok(builder.finish())
+}
+
+impl HeldRecord {
+    /// What is held of a record, of which something is collected or nothing.
+    pub(crate) fn of(row: Record, is_quiet: bool) -> HeldRecord
+        ensures { result ≡ row }
+    {
+        let width = row.width();
+        let holding = if is_quiet && width > FEW_COLUMNS && is_null_data(&row) {
+            Holding::Nulls(width)
+        } else {
+            Holding::Whole(row)
+        };
+        HeldRecord { holding }
+    }
+
+    /// What the record is.
+    #[inline]
+    pub(crate) fn kind(&self) -> Kind
+        ensures kind { result ≡ kind_of self.now }
+        ensures lawful { IsTextOf self.now (text_of self.now) }
+        ensures shape { self.now ≡ row_of result (text_of self.now) (tokens_of self.now) }
+        ensures at_most { length (text_of self.now) ≤ 1048576 }
+    {
+        match &self.holding {
+            Holding::Whole(row) => row.kind(),
+            Holding::Nulls(_) => Kind::Values,
+        }
+    }
+
+    /// How many tokens it has.
+    #[inline]
+    pub(crate) fn width(&self) -> usize
+        ensures { result ≡ width_of self.now }
+    {
+        match &self.holding {
+            Holding::Whole(row) => row.width(),
+            Holding::Nulls(width) => *width,
+        }
+    }
+
+    /// Its token at place j.
+    #[inline]
+    pub(crate) fn token(&self, j: usize) -> &[u8]
+        requires { j < width_of self.now }
+        ensures token { result.now ≡ token_at self.now j }
+        ensures lawful { IsTokenOf self.now result.now }
+    {
+        match &self.holding {
+            Holding::Whole(row) => row.token(j),
+            Holding::Nulls(_) => b".",
+        }
+    }
+
+    /// The record itself, made again if it isn't held.
+    ///
+    /// # Errors
+    /// Want of memory.
+    pub(crate) fn given(self, alloc: Global) -> Result<Record, AllocError>
+        ensures { IfOk result (λ row. row ≡ self) }
+    {
+        match self.holding {
+            Holding::Whole(row) => Ok(row),
+            Holding::Nulls(width) => made_of_nulls(alloc, width),
+        }
+    }
+}
