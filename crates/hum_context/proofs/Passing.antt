@@ -1,5 +1,5 @@
 -- A walk goes through one record more.
-use Rattle.std.proofs.Common.{◌≡◌, ◌∙◌, refl, sym, ap, ℕ, ◌+◌, Bool, true, false}
+use Rattle.std.proofs.Common.{◌≡◌, ◌≢◌, ◌∙◌, refl, sym, ap, ℕ, ◌+◌, Bool, true, false}
 use Rattle.std.proofs.Common.{◌||◌, List, [], ◌∷◌, ◌++◌, length, filter, append-nil, length-append}
 use Rattle.std.proofs.Common.{arith, cond, get_or, Option, Some, None, inl, inr, ◌⊎◌}
 use Rattle.std.specs.Option.{option_and_then}
@@ -8,7 +8,8 @@ use Rattle.std.proofs.lemmas.List.Elements.{filter-append}
 use Rattle.std.proofs.lemmas.List.Folds.{list_any-append}
 use lib.Chars.{codes}
 use Rattle.hum_record.specs.declared.SpinedKind.TheVariants.{Local, Interpretation, Values}
-use Rattle.hum_record.specs.Row.{Row, Comment, Spined, token_at}
+use Rattle.hum_record.specs.declared.Kind.TheVariants.{Values as AnyValues}
+use Rattle.hum_record.specs.Row.{Row, Comment, Spined, kind_of, token_at}
 use Rattle.hum_path.specs.Spines.{Path, after}
 use Rattle.hum_path.specs.Chains.{below_at, future}
 use Rattle.hum_context.specs.declared.hearing.Heard.{Heard}
@@ -299,3 +300,19 @@ new_enough o path first rows j walk token none h a b e =
       rw e at (new_by o path first rows j walk token h a b),
       size_is o.extent got none here ∙ sym h.stands.has.size,
     )
+
+-- under data each column goes on
+pub data_goes_on : (kept : Queued) (c : ℕ) → get_or kept.heard.items c Passed ≢ Passed
+    → (column_in kept.row kept.below c ≡ Some c) × (is_last_in kept.row c ≡ false)
+data_goes_on kept c taken = by kept.row (kept.valued (some_heard kept.heard.items taken))
+  where
+    some_heard : (heard : List Heard) → get_or heard c Passed ≢ Passed → heard ≢ []
+    some_heard [] h e = h refl
+    some_heard (x ∷ heard) h e = cc
+
+    by : (row : Row) → kind_of row ≡ AnyValues
+        → (column_in row kept.below c ≡ Some c) × (is_last_in row c ≡ false)
+    by (Comment text) e = (refl, refl)
+    by (Spined Local tokens) e = (refl, refl)
+    by (Spined Values tokens) e = (refl, refl)
+    by (Spined Interpretation tokens) e = cc

@@ -1,5 +1,5 @@
 //! Walks down a spine, through the records that wait.
-ghost use Rattle.std.specs.Prelude.{◌≡◌, ◌+◌, ◌≤◌, ◌<◌, ◌*◌, ℕ, List, [], ◌∷◌, ◌++◌, length, drop, false, Some, None, slice_index_or};
+ghost use Rattle.std.specs.Prelude.{◌≡◌, ◌≢◌, ◌+◌, ◌≤◌, ◌<◌, ◌*◌, ℕ, List, [], ◌∷◌, ◌++◌, length, drop, false, Some, None, slice_index_or};
 ghost use Rattle.hum_record.specs.Row.{Row, tokens_of};
 ghost use Rattle.hum_path.specs.Spines.{Path};
 ghost use Rattle.hum_context.specs.Context.{Choice};
@@ -7,6 +7,7 @@ ghost use Rattle.hum_context.specs.Columns.{path_through};
 ghost use Rattle.hum_context.specs.Heard.{wanted_of, enough_by};
 ghost use Rattle.hum_context.specs.Queue.{Known, Knows, column_in, is_last_in};
 ghost use Rattle.hum_context.specs.Walking.{Has, Stands, Halts};
+ghost use Rattle.hum_context.specs.declared.hearing.Heard.TheVariants.{Passed};
 
 use crate::hearing::Heard;
 use crate::queued::Queued;
@@ -64,10 +65,12 @@ impl Walk {
         }
     }
 
-    /// One record more, whose token in its column is collected, and ends a group or doesn't.
+    /// One record more, whose token in its column is collected, and ends a group or doesn't. It is
+    /// data, so that the column goes on.
     #[inline(always)]
     fn collect(self, c: usize, next: &Queued, wanted: Option<u16>, ends: bool) -> Walk
         requires few { self.at < 4294967295 }
+        requires taken { slice_index_or next.now.heard.items c Passed ≢ Passed }
         ensures at { result.at ≡ self.at + 1 }
         ensures column { result.column ≡ column_in next.now.row next.now.below c }
         ensures ended { result.ended ≡ is_last_in next.now.row c }
@@ -78,11 +81,11 @@ impl Walk {
     {
         Walk {
             at: self.at + 1,
-            column: next.below(c),
+            column: Some(c),
             count: self.count + 1,
             size: self.size + next.bytes(c),
             enough: is_enough(wanted, self.count + 1, ends),
-            ended: next.is_last(c),
+            ended: false,
         }
     }
 

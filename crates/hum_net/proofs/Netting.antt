@@ -440,6 +440,9 @@ module _ {F W S : Type 0} (stands : Node F W → List ℕ → At → Type 0)
   still_going o is e =
       h.failure ∙ none_failed now.failure (now.links (last (plan_of s))).heard (sym is ∙ e)
 
+  pub unfailed_now : result (plan_of s) now ≡ None → now.failure ≡ None
+  unfailed_now e = none_failed now.failure (now.links (last (plan_of s))).heard e
+
   pub ready_going : (o : Option RunResult) (b : Bool) → o ≡ result (plan_of s) now → o ≡ None
       → b ≡ ready (plan_of s) s.size now.links k → b ≡ is_ready (plan_of s) s.size now k
   ready_going o b is e r =

@@ -558,8 +558,8 @@ module _ {F W S O : Type 0} (stands : Node F W → List ℕ → At → Type 0)
     pub ran_more : (q : O) (new : Net F W S) → pick ≡ order.pick p list → q ≡ order.next p list
         → new ≡ record told { actors = new.actors }
         → ((start : Option (List ℕ)) (s : Scene) (now : Now Row)
-        → NetAt stands contents flushed start s told now → link ≤ s.count
-        → IfSome who (λ r. r ≤ s.count)
+        → NetAt stands contents flushed start s told now → result (plan_of s) now ≡ None
+        → link ≤ s.count → IfSome who (λ r. r ≤ s.count)
         → new.actors.items ≡ asked (is_ready (plan_of s) s.size now) s.count told.actors.items link who)
         → length new.actors.items ≡ length told.actors.items
         → Ran stands remaining ended contents flushed order o q old new
@@ -598,7 +598,7 @@ module _ {F W S O : Type 0} (stands : Node F W → List ℕ → At → Type 0)
                 },
                 record {
                   flags = λ none.
-                      again start s n.goes.to at_told (link_within start s now n)
+                      again start s n.goes.to at_told none (link_within start s now n)
                       (takers_within who s known)
                       ∙ ap
                       (λ v. asked (is_ready (plan_of s) s.size n.goes.to) s.count v link who)

@@ -189,30 +189,36 @@ impl<F: Feeds, W: Works, S: Sink> Net<F, W, S> {
         }
     }
 
-    // Sets the flag of an actor.
+    // Sets the flag of an actor. While the run goes on it says whether that one is ready.
+    #[inline(always)]
     fn ask(&mut self, k: usize)
-        requires { IsAmong (StandsAs F.stands W.stands) S.contents S.flushed k self.old }
+        requires { IsGoing (StandsAs F.stands W.stands) S.contents S.flushed k self.old }
         ensures same { self.new ≡ record self.old { actors = self.new.actors } }
         ensures len { length self.new.actors.items ≡ length self.old.actors.items }
         ensures list { (start : Option (List ℕ)) (s : Scene) (now : Now Row)
             → NetAt (StandsAs F.stands W.stands) S.contents S.flushed start s self.old now
-            → k ≤ s.count → self.new.actors.items
+            → ended (plan_of s) now ≡ None → k ≤ s.count → self.new.actors.items
             ≡ slice_set self.old.actors.items k (is_ready (plan_of s) s.size now k) }
     {
-        let is = self.ready(k);
+        let is = self.web.ready(k);
         self.actors[k] = is;
     }
 
-    // Sets the flags of the two ends of a link, or all of them where its reader isn't known.
+    // Sets the flags of the two ends of a link, or all of them where its reader isn't known. A run
+    // that is over needs none.
     fn ask_again(&mut self, link: usize, reader: Option<usize>)
         requires { AreAmong (StandsAs F.stands W.stands) S.contents S.flushed link reader self.old }
         ensures same { self.new ≡ record self.old { actors = self.new.actors } }
         ensures len { length self.new.actors.items ≡ length self.old.actors.items }
         ensures list { (start : Option (List ℕ)) (s : Scene) (now : Now Row)
             → NetAt (StandsAs F.stands W.stands) S.contents S.flushed start s self.old now
+            → ended (plan_of s) now ≡ None
             → link ≤ s.count → IfSome reader (λ r. r ≤ s.count) → self.new.actors.items
             ≡ asked (is_ready (plan_of s) s.size now) s.count self.old.actors.items link reader }
     {
+        if self.failure.is_some() {
+            return;
+        }
         match reader {
             Some(reader) => {
                 self.ask(link);

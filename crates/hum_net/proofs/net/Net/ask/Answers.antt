@@ -1,6 +1,29 @@
-use Rattle.std.proofs.Common.{ap, slice_set}
+use Rattle.std.proofs.Common.{None, sym, ap, slice_set}
+use Rattle.hum_nodes.specs.Nodes.{StandsAs}
+use Rattle.hum_net.specs.Scene.{moved}
+use Rattle.hum_net.proofs.Netting.{running, unfailed_now, ready_going}
 use Rattle.hum_net.proofs.net.Net.ask.Goals as goal
 
+pub ready-is-requires : goal.ready-is-requires
+ready-is-requires g c =
+    let r = c.requires.running in
+    record {
+      scene = moved r.scene r.now.links;
+      holds = record {
+        at = running (StandsAs g.F.Feeds.stands g.W.Works.stands) g.S.Sink.contents g.S.Sink.flushed
+            r.start r.scene c.args.self.now r.now r.at c.requires.going;
+        within = c.requires.within;
+      };
+    }
+
 pub returns-clause-list : goal.returns-clause-list
-returns-clause-list g c start s now h within =
-    ap (slice_set c.args.self.now.actors.items c.args.k) (c.ready-is.ensures start s now h within)
+returns-clause-list g c start s now h none within =
+    let stands = StandsAs g.F.Feeds.stands g.W.Works.stands in
+    let contents = g.S.Sink.contents in
+    let flushed = g.S.Sink.flushed in
+    let net = c.args.self.now in
+    let at = running stands contents flushed start s net now h
+    (unfailed_now stands contents flushed start s net now c.args.k h none) in
+    ap (slice_set net.actors.items c.args.k)
+    (ready_going stands contents flushed start s net now c.args.k h None c.ready-is.result (sym none) refl
+    (c.ready-is.ensures (moved s now.links) (record { at = at; within = within })))

@@ -1,16 +1,33 @@
-use Rattle.std.proofs.Common.{◌∙◌, ◌≤◌, sym, ap, subst, length, length-set, slice_set}
+use Rattle.std.proofs.Common.{◌∙◌, ◌≤◌, sym, ap, subst, slice_set, Some, is_some}
 use Rattle.std.specs.Prelude.{IfSome}
+use Rattle.std.proofs.lemmas.Bool.{false≢true}
 use Rattle.hum_turns.specs.Failures.{is_ready}
 use Rattle.hum_nodes.specs.Nodes.{StandsAs}
 use Rattle.hum_net.specs.Scene.{plan_of}
 use Rattle.hum_net.specs.Nets.{asked}
+use Rattle.hum_net.proofs.Netting.{not_over, unfailed_now}
 use Rattle.hum_net.proofs.Running.{flags_alone, relisted}
 use Rattle.hum_net.proofs.net.Net.ask_again.Goals as goal
+
+-- A run that has failed doesn't go on.
+pub returns-then-is_some-clause-list : goal.returns-then-is_some-clause-list
+returns-then-is_some-clause-list g c start s now h none link_within reader_within =
+    let unfailed = h.failure ∙ unfailed_now (StandsAs g.F.Feeds.stands g.W.Works.stands)
+    g.S.Sink.contents g.S.Sink.flushed start s c.args.self.now now 0 h none in
+    absurd (false≢true (sym (c.is_some.ensures ∙ ap is_some unfailed) ∙ c.if-is_some.true))
+
+pub ask-requires : goal.ask-requires
+ask-requires g c =
+    let r = c.requires.running in
+    record {
+      running = r;
+      going = sym r.at.failure ∙ not_over _ c.is_some.ensures c.if-is_some.false;
+      within = c.requires.link_within;
+    }
 
 pub ask-requires-in-Some : goal.ask-requires-in-Some
 ask-requires-in-Some g c =
     let r = c.requires.running in
-    let list = c.ask.ensures.list r.start r.scene r.now r.at c.requires.link_within in
     record {
       running = record {
         start = r.start;
@@ -18,26 +35,26 @@ ask-requires-in-Some g c =
         now = r.now;
         at = relisted (StandsAs g.F.Feeds.stands g.W.Works.stands) g.S.Sink.contents g.S.Sink.flushed
             r.start r.scene c.args.self.now c.ask.new.self r.now
-            (flags_alone c.ask.new.self c.args.self.now c.ask.ensures.same)
-            (ap length list ∙ length-set _ _ _) r.at;
+            (flags_alone c.ask.new.self c.args.self.now c.ask.ensures.same) c.ask.ensures.len r.at;
       };
+      going = sym r.at.failure ∙ not_over _ c.is_some.ensures c.if-is_some.false;
       within = subst (λ o. IfSome o (λ i. i ≤ r.scene.count)) c.in-Some.is c.requires.reader_within;
     }
 
 pub returns-in-Some-clause-list : goal.returns-in-Some-clause-list
-returns-in-Some-clause-list g c start s now h link_within reader_within =
+returns-in-Some-clause-list g c start s now h none link_within reader_within =
     let f = is_ready (plan_of s) s.size now in
-    let first = c.ask.ensures.list start s now h link_within in
+    let first = c.ask.ensures.list start s now h none link_within in
     let at = relisted (StandsAs g.F.Feeds.stands g.W.Works.stands) g.S.Sink.contents g.S.Sink.flushed
     start s c.args.self.now c.ask.new.self now
-    (flags_alone c.ask.new.self c.args.self.now c.ask.ensures.same) (ap length first ∙ length-set _ _ _) h in
-    c.ask-in-Some.ensures.list start s now at
+    (flags_alone c.ask.new.self c.args.self.now c.ask.ensures.same) c.ask.ensures.len h in
+    c.ask-in-Some.ensures.list start s now at none
     (subst (λ o. IfSome o (λ i. i ≤ s.count)) c.in-Some.is reader_within)
     ∙ ap (λ l. slice_set l c.in-Some.reader (f c.in-Some.reader)) first
     ∙ sym (ap (asked f s.count c.args.self.now.actors.items c.args.link) c.in-Some.is)
 
 pub returns-in-None-clause-list : goal.returns-in-None-clause-list
-returns-in-None-clause-list g c start s now h link_within reader_within =
+returns-in-None-clause-list g c start s now h none link_within reader_within =
     c.mark.ensures.list start s now h
     ∙ sym (ap (asked (is_ready (plan_of s) s.size now) s.count c.args.self.now.actors.items c.args.link)
     c.in-None.is)
