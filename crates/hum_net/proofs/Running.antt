@@ -51,8 +51,8 @@ use Rattle.hum_nodes.proofs.Fining.{fine_is}
 use Rattle.hum_turns.proofs.States.{taker, last_next}
 use Rattle.hum_turns.specs.Failures.{Turn}
 use Rattle.hum_net.specs.Scene.{TakesFrom, IsNetPlan, IsActor, moved}
-use Rattle.hum_net.specs.Nets.{Known, asked, AreAmong, GoesTo}
-use Rattle.hum_net.proofs.Netting.{is_at}
+use Rattle.hum_net.specs.Nets.{Known, asked, AreAmong, GoesTo, IsChanged}
+use Rattle.hum_net.proofs.Netting.{is_at, unfailed_now}
 
 -- While a run goes on, its flags say who is ready, and what is known of readers is so.
 pub record Listed {F W S : Type 0} (s : Scene) (now : Now Row) (net : Net F W S) : Type 0 where
@@ -448,8 +448,7 @@ module _ {F W S O : Type 0} (stands : Node F W → List ℕ → At → Type 0)
       (going : (start : Option (List ℕ)) (s : Scene) (now : Now Row)
       → NetAt stands contents flushed start s net now → result (plan_of s) now ≡ None)
       (lists : list ≡ net.actors.items) (is : k ≡ chosen list pick)
-      (links : (s : Scene) → IsActor stands k net.web s
-      → link ≡ touched k (state (plan_of s) s.links k))
+      (links : (s : Scene) → IsActor stands k net.web s → IsChanged k s after.failure link)
       (turned : HasTurned stands remaining ended contents flushed k net after)
       (same_actors : after.actors ≡ net.actors) (same_readers : after.readers ≡ net.readers)
       (same : told ≡ record after { readers = told.readers })
@@ -466,7 +465,7 @@ module _ {F W S O : Type 0} (stands : Node F W → List ℕ → At → Type 0)
       flags : net.actors.items ≡ ready_list (plan_of s) s.size before.to
       within : k ≤ s.count
       goes : GoesTo stands contents flushed start s k before.to after
-      link_is : link ≡ touched k (state (plan_of s) before.to.links k)
+      link_is : IsChanged k (moved s before.to.links) after.failure link
       knows : (t r : ℕ) → Known after.readers.items k link t r → TakesFrom s.count s.kinds r t
 
     next_at : (start : Option (List ℕ)) (s : Scene) (now : Now Row)
@@ -502,7 +501,8 @@ module _ {F W S O : Type 0} (stands : Node F W → List ℕ → At → Type 0)
               (λ (e : (t ≡ link) × (r ≡ k) × (k ≢ link)).
               subst (λ i. TakesFrom s.count s.kinds i t) (sym e.1)
               (subst (TakesFrom s.count s.kinds k) (sym e.0)
-              (took s d.0.at.plan.ok k link d.0.to.links may.0 link_is e.2)))
+              (⊎_elim (λ is. took s d.0.at.plan.ok k link d.0.to.links may.0 is e.2)
+              (λ own. absurd (e.2 (sym own.0))) link_is)))
               h;
         }
 
@@ -529,7 +529,8 @@ module _ {F W S O : Type 0} (stands : Node F W → List ℕ → At → Type 0)
     link_within : (start : Option (List ℕ)) (s : Scene) (now : Now Row) → (n : Next start s now)
         → link ≤ s.count
     link_within start s now n =
-        touched_within s n.before.at.plan.ok k link n.before.to.links n.within n.link_is
+        ⊎_elim (λ is. touched_within s n.before.at.plan.ok k link n.before.to.links n.within is)
+        (λ own. let is = own.0 in let within = n.within in omega (arith, is, within)) n.link_is
 
     still_joined : (i : ℕ) → ended_at ended i old.web.nodes.items ≡ true → joined i ≡ []
     unfolding joined
@@ -604,8 +605,11 @@ module _ {F W S O : Type 0} (stands : Node F W → List ℕ → At → Type 0)
                       (λ v. asked (is_ready (plan_of s) s.size n.goes.to) s.count v link who)
                       (ap (λ (m : Net F W S). m.actors.items) same ∙ ap (λ v. v.items) same_actors
                       ∙ n.flags)
-                      ∙ as_listed s n.goes.at.plan k link d.to n.goes.to n.goes.turn none n.none n.link_is who
-                      known;
+                      ∙ as_listed s n.goes.at.plan k link d.to n.goes.to n.goes.turn none n.none
+                      (⊎_elim (λ is. is) (λ own. absurd (own.1 (n.goes.at.failure
+                      ∙ unfailed_now stands contents flushed start s after n.goes.to k n.goes.at none)))
+                      n.link_is)
+                      who known;
                   known = λ none t r h.
                       n.knows t r (learns t r
                       (ap (λ (m : Net F W S). slice_get m.readers.items t) (sym flagged) ∙ h));

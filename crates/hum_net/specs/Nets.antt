@@ -12,7 +12,8 @@ use Rattle.hum_turns.specs.Plan.{KeepsFine, last}
 use Rattle.hum_turns.specs.Meaning.{plan_meaning, first_fault, IsNumbered}
 use Rattle.hum_turns.specs.Orders.{Order, Driven, upto}
 use Rattle.hum_turns.specs.Links.{has_some}
-use Rattle.hum_turns.specs.Turns.{Takes}
+use Rattle.hum_turns.specs.Turns.{Takes, state}
+use Rattle.hum_turns.specs.Near.{touched}
 use Rattle.hum_turns.specs.Text.{text}
 use Rattle.hum_turns.specs.Failures.{Now, MayFail, Turn, Walk, IsFirst, IsFailure}
 use Rattle.hum_turns.specs.Failures.{written, is_ready, result, result_of}
@@ -131,6 +132,11 @@ pub record IsAmong {F W S : Type 0} (stands : Node F W → List ℕ → At → T
     (contents : S → Option (List ℕ)) (flushed : S → Bool) (k : ℕ) (net : Net F W S) : Type 0 where
   pub running : IsRunning stands contents flushed net
   pub within : k ≤ running.scene.count
+
+-- The link that a turn of actor k has changed; where it has failed, its own may stand for it.
+abbrev pub IsChanged : ℕ → Scene → Option RunResult → ℕ → Type 0
+IsChanged k s failure link =
+    (link ≡ touched k (state (plan_of s) s.links k)) ⊎ ((link ≡ k) × (failure ≢ None))
 
 -- Actor r is known to take from the link of stage t: it was learnt before, or this actor has just
 -- done so.

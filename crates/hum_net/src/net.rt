@@ -9,12 +9,12 @@ ghost use Rattle.hum_nodes.specs.Nodes.{StandsAs};
 ghost use Rattle.hum_nodes.specs.Polls.{AsksAtMostOnce, HasStayed};
 ghost use Rattle.hum_net.specs.Readers.{ShowsSame, remaining_at, ended_at, calls_at, failed_at};
 ghost use Rattle.hum_net.specs.Readers.{is_read_of, is_write};
-ghost use Rattle.hum_net.specs.Scene.{Scene, plan_of, Somewhere, IsAt, IsNetPlan, IsBegun, MayTurn};
+ghost use Rattle.hum_net.specs.Scene.{Scene, plan_of, Somewhere, IsActor, IsAt, IsNetPlan, IsBegun, MayTurn};
 ghost use Rattle.hum_net.specs.Scene.{KeepsOthers, Fed, held_of, HoldsFew};
 ghost use Rattle.hum_net.specs.Nets.{MayWrite, SinkWent, MayTurnFew, MayGo, HasTurned, IsRunning};
 ghost use Rattle.hum_turns.specs.Counts.{most_in_all};
 ghost use Rattle.hum_turns.specs.Holds.{SomeReady};
-ghost use Rattle.hum_net.specs.Nets.{WroteFront, IsGoing, IsStage, AreAmong, Known, asked};
+ghost use Rattle.hum_net.specs.Nets.{WroteFront, IsGoing, IsStage, IsChanged, AreAmong, Known, asked};
 ghost use Rattle.hum_net.specs.Nets.{IsAmong, NetAt, AreBegun, Tells, HasRun, HasRunOn, IsNet};
 
 use crate::web::Web;
@@ -72,11 +72,13 @@ impl<F: Feeds, W: Works, S: Sink> Net<F, W, S> {
         }
     }
 
-    // A stage's turn.
-    fn stage_turn(&mut self, k: usize)
+    // A stage's turn, and the link that it has changed; its own, where it failed.
+    fn stage_turn(&mut self, k: usize) -> usize
         requires { Somewhere (MayTurnFew (StandsAs F.stands W.stands) k self.old.web) }
         ensures fed { self.new.failure ≡ None → Fed (StandsAs F.stands W.stands) F.remaining F.ended k
             self.old.web self.new.web }
+        ensures link { (s : Scene) → IsActor (StandsAs F.stands W.stands) k self.old.web s
+            → IsChanged k s self.new.failure result }
         ensures failed { IfSome self.new.failure (λ by. (s : Scene)
             → MayTurn (StandsAs F.stands W.stands) k self.old.web s
             → MayFail (plan_of s) k text_of s.links by []) }
@@ -101,10 +103,11 @@ impl<F: Feeds, W: Works, S: Sink> Net<F, W, S> {
     {
         self.failure = None;
         match self.web.turn(k) {
-            Ok(()) => {}
+            Ok(link) => return link,
             Err(ReadError::Read) => self.failure = Some(RunResult::Read((k + 1) as u8)),
             Err(ReadError::Memory) => self.failure = Some(RunResult::Memory),
         }
+        k
     }
 
     /// A net of nodes that were asked nothing yet, with links of this size, from 1 to 4,096.
@@ -301,20 +304,21 @@ impl<F: Feeds, W: Works, S: Sink> Net<F, W, S> {
             }
             let pick = order.pick(&self.actors);
             let actor = choose(&self.actors, pick);
-            let link = self.web.touched(actor);
-            self.turn(actor);
+            let link = self.turn(actor);
             let reader = self.reader(actor, link);
             self.ask_again(link, reader);
         }
     }
 
     /// One turn of an actor that is ready: a stage by its number, from 0, or the sink by the number
-    /// of stages.
-    pub fn turn(&mut self, k: usize)
+    /// of stages. It answers the link that the turn has changed.
+    pub fn turn(&mut self, k: usize) -> usize
         requires { MayGo (StandsAs F.stands W.stands) S.contents S.flushed k self.old }
         // It is one turn of this actor.
         ensures turned { HasTurned (StandsAs F.stands W.stands) F.remaining F.ended S.contents
             S.flushed k self.old self.new }
+        ensures link { (s : Scene) → IsActor (StandsAs F.stands W.stands) k self.old.web s
+            → IsChanged k s self.new.failure result }
 
         // It makes at most one call on the actor's reader, and none on another's.
         ensures others { (i : ℕ) → i ≢ k → ShowsSame F.remaining F.ended F.calls F.failed
@@ -335,9 +339,11 @@ impl<F: Feeds, W: Works, S: Sink> Net<F, W, S> {
     {
         self.turns += 1;
         if k == self.web.count() {
+            let link = self.web.touched(k);
             self.sink_turn();
+            link
         } else {
-            self.stage_turn(k);
+            self.stage_turn(k)
         }
     }
 

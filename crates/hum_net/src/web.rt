@@ -58,12 +58,13 @@ impl<F: Feeds, W: Works> Web<F, W> {
         self.nodes.len()
     }
 
-    // A turn of a source.
-    fn poll(&mut self, k: usize) -> Result<(), ReadError>
+    // A turn of a source, which changes its own link.
+    fn poll(&mut self, k: usize) -> Result<usize, ReadError>
         requires turn { Somewhere (MayTurn (StandsAs F.stands W.stands) k self.old) }
         requires source { IsKind true k self.old }
         ensures fed { OnOk result
             (Fed (StandsAs F.stands W.stands) F.remaining F.ended k self.old self.new) }
+        ensures link { IfOk result (λ link. link ≡ k) }
         ensures others { KeepsOthers k self.old self.new }
         ensures marks { failed_at F.failed k self.new.nodes.items
             ≡ (failed_at F.failed k self.old.nodes.items || is_failed_read result) }
@@ -82,7 +83,7 @@ impl<F: Feeds, W: Works> Web<F, W> {
             Ok(Polled::End(end)) => self.links[k].end(end),
             Ok(Polled::Nothing) => {}
         }
-        Ok(())
+        Ok(k)
     }
 
     /// What the sink takes: the next record of the last stage, or its end.
@@ -177,14 +178,18 @@ impl<F: Feeds, W: Works> Web<F, W> {
         Ok(())
     }
 
-    /// A turn of a stage that is ready.
+    /// A turn of a stage that is ready, and the link that it has changed: the one that it took from,
+    /// or its own.
     ///
     /// # Errors
     /// A failed read of a source, and want of memory.
-    pub fn turn(&mut self, k: usize) -> Result<(), ReadError>
+    pub fn turn(&mut self, k: usize) -> Result<usize, ReadError>
         requires { Somewhere (MayTurn (StandsAs F.stands W.stands) k self.old) }
         ensures turned { OnOk result
             (Fed (StandsAs F.stands W.stands) F.remaining F.ended k self.old self.new) }
+        ensures link { IfOk result (λ link. (s : Scene)
+            → IsActor (StandsAs F.stands W.stands) k self.old s
+            → link ≡ touched k (state (plan_of s) s.links k)) }
         ensures read { result ≡ Err ReadError.Read → IsKind true k self.old }
         ensures others { KeepsOthers k self.old self.new }
         ensures marks { failed_at F.failed k self.new.nodes.items
@@ -201,8 +206,9 @@ impl<F: Feeds, W: Works> Web<F, W> {
             return self.poll(k);
         }
         let doing = self.nodes[k].doing();
+        let link = self.link_of(k, doing);
         match self.act(k, doing) {
-            Ok(()) => Ok(()),
+            Ok(()) => Ok(link),
             Err(_) => Err(ReadError::Memory),
         }
     }

@@ -1,4 +1,4 @@
-use Rattle.std.proofs.Common.{None, sym, ap, slice_set}
+use Rattle.std.proofs.Common.{None, refl, sym, ap, slice_set}
 use Rattle.hum_nodes.specs.Nodes.{StandsAs}
 use Rattle.hum_net.specs.Scene.{moved}
 use Rattle.hum_net.proofs.Netting.{running, unfailed_now, ready_going}

@@ -1,4 +1,4 @@
-use Rattle.std.proofs.Common.{◌∙◌, ◌≤◌, sym, ap, subst, slice_set, Some, is_some}
+use Rattle.std.proofs.Common.{◌∙◌, ◌≤◌, sym, ap, subst, slice_set, is_some}
 use Rattle.std.specs.Prelude.{IfSome}
 use Rattle.std.proofs.lemmas.Bool.{false≢true}
 use Rattle.hum_turns.specs.Failures.{is_ready}

@@ -5,10 +5,10 @@ use Rattle.hum_turns.specs.Failures.{ended_by}
 use Rattle.hum_turns.specs.Orders.{Order}
 use Rattle.hum_nodes.specs.Nodes.{StandsAs}
 use Rattle.hum_net.specs.Readers.{failed_at, is_read_of, is_write}
-use Rattle.hum_net.specs.Scene.{plan_of, moved}
+use Rattle.hum_net.specs.Scene.{plan_of}
 use Rattle.hum_net.specs.Nets.{NetAt}
 use Rattle.hum_net.proofs.Bounds.{turns_few, reads_few}
-use Rattle.hum_net.proofs.Netting.{not_over, has_told, or_false, still_going, is_at}
+use Rattle.hum_net.proofs.Netting.{not_over, has_told, or_false, still_going}
 use Rattle.hum_net.proofs.Running.{picked, some_ready, told_read, told_write, ran_none, first_running}
 use Rattle.hum_net.proofs.Running.{witness, may_ask, ran_more, ran_to, run_on}
 use Rattle.hum_net.proofs.net.Net.run.Goals as goal
@@ -75,32 +75,8 @@ pick-pick-requires g c =
     some_ready stands contents flushed w.start w.scene c.turns.self w.now w.at c.deref.result.now none
     (c.deref.ensures.value ∙ flags)
 
-pub touched-link-requires : goal.touched-link-requires
-touched-link-requires g c =
-    let stands = StandsAs g.F.Feeds.stands g.W.Works.stands in
-    let contents = g.S.Sink.contents in
-    let flushed = g.S.Sink.flushed in
-    let order : Order g.row.O.Denot = record { pick = g.O.Order.picks; next = g.O.Order.after } in
-    let inv = c.turns.invariant in
-    let st = witness stands g.F.Feeds.remaining g.F.Feeds.ended contents flushed order c.args.order.now
-    c.turns.order c.args.self.now c.turns.self c.requires inv.ran in
-    let w = st.running in
-    let none = not_over _ (c.over.ensures.over w.start w.scene w.now w.at) c.if-over.false in
-    let flags = st.listed.flags none in
-    let may = picked stands contents flushed w.start w.scene c.turns.self w.now w.at
-    c.deref-in-turns.result.now c.pick-pick.result c.choose-actor.result none
-    (c.deref-in-turns.ensures.value ∙ flags) c.choose-actor.ensures.chosen in
-    record {
-      scene = moved w.scene w.now.links;
-      holds = record {
-        at = is_at stands contents flushed w.start w.scene c.turns.self w.now c.choose-actor.result w.at
-            may.1;
-        within = may.0;
-      };
-    }
-
-pub turn-requires : goal.turn-requires
-turn-requires g c =
+pub turn-link-requires : goal.turn-link-requires
+turn-link-requires g c =
     let stands = StandsAs g.F.Feeds.stands g.W.Works.stands in
     let contents = g.S.Sink.contents in
     let flushed = g.S.Sink.flushed in
@@ -131,12 +107,12 @@ ask_again-requires g c =
     let order : Order g.row.O.Denot = record { pick = g.O.Order.picks; next = g.O.Order.after } in
     let inv = c.turns.invariant in
     may_ask stands g.F.Feeds.remaining g.F.Feeds.ended contents flushed order c.args.order.now
-    c.turns.order c.args.self.now c.turns.self c.turn.new.self c.reader-reader.new.self
-    c.deref-in-turns.result.now c.pick-pick.result c.choose-actor.result c.touched-link.result
+    c.turns.order c.args.self.now c.turns.self c.turn-link.new.self c.reader-reader.new.self
+    c.deref-in-turns.result.now c.pick-pick.result c.choose-actor.result c.turn-link.result
     c.reader-reader.result inv.ran
     (λ start s now h. not_over _ (c.over.ensures.over start s now h) c.if-over.false)
-    c.deref-in-turns.ensures.value c.choose-actor.ensures.chosen c.touched-link.ensures
-    c.turn.ensures.turned c.turn.ensures.actors c.turn.ensures.readers
+    c.deref-in-turns.ensures.value c.choose-actor.ensures.chosen c.turn-link.ensures.link
+    c.turn-link.ensures.turned c.turn-link.ensures.actors c.turn-link.ensures.readers
     c.reader-reader.ensures.same c.reader-reader.ensures.learns c.reader-reader.ensures.tells c.requires
 
 pub turns-smaller : goal.turns-smaller
@@ -156,7 +132,7 @@ turns-smaller g c =
     (reads_few g.F.Feeds.stands g.W.Works.stands g.met.F.Feeds.few_bytes g.met.W.Works.no_bytes) w.at
     (sym w.at.failure ∙ unfailed) in
     let counted = w.at.counted in
-    let turned = c.turn.ensures.turns in
+    let turned = c.turn-link.ensures.turns in
     let same = ap (λ n. n.turns) c.reader-reader.ensures.same in
     let told = ap (λ n. n.turns) c.ask_again.ensures.same in
     omega (arith, few, counted, turned, same, told)
@@ -180,12 +156,12 @@ turns-preserved g c =
     let net = c.args.self.now in
     record {
       ran = ran_more stands g.F.Feeds.remaining g.F.Feeds.ended contents flushed order c.args.order.now
-          c.turns.order c.args.self.now c.turns.self c.turn.new.self c.reader-reader.new.self
-          c.deref-in-turns.result.now c.pick-pick.result c.choose-actor.result c.touched-link.result
+          c.turns.order c.args.self.now c.turns.self c.turn-link.new.self c.reader-reader.new.self
+          c.deref-in-turns.result.now c.pick-pick.result c.choose-actor.result c.turn-link.result
           c.reader-reader.result inv.ran
           (λ start s now h. not_over _ (c.over.ensures.over start s now h) c.if-over.false)
-          c.deref-in-turns.ensures.value c.choose-actor.ensures.chosen c.touched-link.ensures
-          c.turn.ensures.turned c.turn.ensures.actors c.turn.ensures.readers
+          c.deref-in-turns.ensures.value c.choose-actor.ensures.chosen c.turn-link.ensures.link
+          c.turn-link.ensures.turned c.turn-link.ensures.actors c.turn-link.ensures.readers
           c.reader-reader.ensures.same c.reader-reader.ensures.learns c.reader-reader.ensures.tells
           c.pick-pick.new.self c.ask_again.new.self
           (c.pick-pick.ensures.picks ∙ ap (g.O.Order.picks c.turns.order) alike)
@@ -193,8 +169,8 @@ turns-preserved g c =
           told c.ask_again.ensures.list c.ask_again.ensures.len;
       reads = λ none i. ap (λ n. failed_at g.F.Feeds.failed i n.web.nodes.items) (told)
           ∙ ap (λ n. failed_at g.F.Feeds.failed i n.web.nodes.items) same
-          ∙ c.turn.ensures.reads i
-          ∙ ap (λ b. b || is_read_of i c.turn.new.self.failure)
+          ∙ c.turn-link.ensures.reads i
+          ∙ ap (λ b. b || is_read_of i c.turn-link.new.self.failure)
           (inv.reads none i
           ∙ ap (λ f. failed_at g.F.Feeds.failed i net.web.nodes.items || is_read_of i f) unfailed
           ∙ sym (or_false _))
@@ -202,8 +178,8 @@ turns-preserved g c =
           (sym (ap (λ n. n.failure) told ∙ ap (λ n. n.failure) same));
       writes = λ none. ap (λ n. g.S.Sink.failed n.sink) told
           ∙ ap (λ n. g.S.Sink.failed n.sink) same
-          ∙ c.turn.ensures.writes
-          ∙ ap (λ b. b || is_write c.turn.new.self.failure)
+          ∙ c.turn-link.ensures.writes
+          ∙ ap (λ b. b || is_write c.turn-link.new.self.failure)
           (inv.writes none
           ∙ ap (λ f. g.S.Sink.failed net.sink || is_write f) unfailed
           ∙ sym (or_false _))

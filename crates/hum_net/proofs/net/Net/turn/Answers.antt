@@ -86,3 +86,13 @@ returns-then-k-count-clause-reads g c i =
 pub returns-then-k-count-clause-calls : goal.returns-then-k-count-clause-calls
 returns-then-k-count-clause-calls g c =
     let h = c.sink_turn.ensures.shows c.args.k in inl (h.calls_made, h.mark)
+
+pub touched-link-requires : goal.touched-link-requires
+touched-link-requires g c =
+    let m = c.requires in
+    let at = is_at (StandsAs g.F.Feeds.stands g.W.Works.stands) g.S.Sink.contents g.S.Sink.flushed m.start
+    m.scene c.args.self.now m.now c.args.k m.at m.ready in
+    record { scene = moved m.scene m.now.links; holds = record { at = at; within = m.within } }
+
+pub returns-then-k-count-clause-link : goal.returns-then-k-count-clause-link
+returns-then-k-count-clause-link g c s h = inl (c.touched-link.ensures s h)
