@@ -64,6 +64,7 @@ fn started(walks: &[Walk], at: u64, j: usize) -> Walk
 }
 
 /// The walk from a cell of the k-th record that waits, down to where it is decided.
+#[inline(always)]
 fn walk_at(
     held: &VecDeque<Queued>,
     k: usize,
@@ -101,6 +102,7 @@ fn becoming_by(walk: Walk) -> Option<Becoming>
 }
 
 /// What the token at place j becomes of the k-th record that waits.
+#[inline(always)]
 fn new_at(
     held: &VecDeque<Queued>,
     k: usize,

@@ -107,7 +107,23 @@ impl Walk {
 
     /// It goes on until its tokens are enough, its column ends or no more records wait, of which so
     /// many are gone.
+    #[inline(always)]
     pub(crate) fn go_on(self, held: &VecDeque<Queued>, gone: u64, wanted: Option<u16>) -> Walk
+        requires behind { gone ≤ self.at }
+        requires few { gone + length held.now.items ≤ 4294967295 }
+        ensures behind { gone ≤ result.at }
+        ensures halts { (o : Choice) (path : Path) (k : ℕ) (rows : List Row) (j : ℕ)
+            → wanted ≡ wanted_of o.extent → Knows o path (drop k held.now.items) rows
+            → Stands o path (gone + k) rows j self → Halts o path (gone + k) rows j result }
+    {
+        if self.enough {
+            return self;
+        }
+        self.go_further(held, gone, wanted)
+    }
+
+    // The same, by a look at its records.
+    fn go_further(self, held: &VecDeque<Queued>, gone: u64, wanted: Option<u16>) -> Walk
         requires behind { gone ≤ self.at }
         requires few { gone + length held.now.items ≤ 4294967295 }
         ensures behind { gone ≤ result.at }

@@ -123,9 +123,19 @@ impl Queued {
         }
     }
 
-    /// The column of the cell below, within the reach.
+    /// The column of the cell below, within the reach. Under data that is collected it is the same.
     #[inline]
     pub(crate) fn below(&self, c: usize) -> Option<usize>
+        ensures { result ≡ column_in self.now.row self.now.below c }
+    {
+        match self.heard(c) {
+            Heard::Taken { begins: _, ends: _ } => Some(c),
+            Heard::Passed => self.column_below(c),
+        }
+    }
+
+    /// The same, by what the record is.
+    fn column_below(&self, c: usize) -> Option<usize>
         ensures { result ≡ column_in self.now.row self.now.below c }
     {
         match self.row.kind() {

@@ -1,33 +1,6 @@
-use Rattle.std.proofs.Common.{arith, inr}
-use Rattle.hum_context.proofs.Queues.{stands_pass, stands_out}
+use Rattle.std.proofs.Common.{inl}
 use Rattle.hum_context.proofs.walk.Walk.go_on.Goals as goal
 
-pub loop-n-preserved : goal.loop-n-preserved
-loop-n-preserved c =
-    let next = c.pass-walk.ensures.at in
-    let at = c.loop-n.invariant.at in
-    let size = c.args.held.now.ok.0 in
-    let end = c.len-n-end.ensures in
-    let below = c.loop-n-test.true in
-    record {
-      at = omega (arith, next, at);
-      stands = λ o path k rows j want knows s.
-          stands_pass o path c.args.gone k rows j c.loop-n.n c.args.held.now.items
-          c.index.result.now c.loop-n.walk c.pass-walk.result knows
-          (c.loop-n.invariant.stands o path k rows j want knows s) at
-          (omega (arith, size, end, below)) c.index.ensures next
-          (λ front row known h. c.pass-walk.ensures.has o path front row j want known c.in-Some.is
-          c.if-walk.false h);
-    }
-
-pub returns-clause-halts : goal.returns-clause-halts
-returns-clause-halts c o path k rows j want knows s =
-    let h = c.loop-n.invariant.stands o path k rows j want knows s in
-    let size = c.args.held.now.ok.0 in
-    let end = c.len-n-end.ensures in
-    let over = c.loop-n-test.false in
-    record {
-      stands = h;
-      halts = inr (inr (stands_out o path c.args.gone k rows j c.loop-n.n c.args.held.now.items
-          c.loop-n.walk knows h c.loop-n.invariant.at (omega (arith, size, end, over))));
-    }
+pub returns-then-self-clause-halts : goal.returns-then-self-clause-halts
+returns-then-self-clause-halts c o path k rows j want knows s =
+    record { stands = s; halts = inl c.if-self.true }

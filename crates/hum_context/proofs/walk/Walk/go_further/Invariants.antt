@@ -5,7 +5,7 @@ use Rattle.hum_context.specs.Context.{Choice}
 use Rattle.hum_context.specs.Heard.{wanted_of}
 use Rattle.hum_context.specs.Queue.{Knows}
 use Rattle.hum_context.specs.Walking.{Stands}
-use Rattle.hum_context.proofs.walk.Walk.go_on.Given as goal
+use Rattle.hum_context.proofs.walk.Walk.go_further.Given as goal
 
 abbrev pub invariant-loop-n : goal.invariant-loop-n
 invariant-loop-n l = record {
