@@ -14,8 +14,8 @@ use Rattle.hum_turns.proofs.States.{state_is}
 use Rattle.hum_turns.proofs.Near.{step_does, step_reads}
 use Rattle.hum_nodes.specs.declared.node.Doing.{Doing}
 use Rattle.hum_nodes.specs.declared.node.Doing.TheVariants as does
-use Rattle.hum_nodes.specs.declared.node.Polled.{Polled}
-use Rattle.hum_nodes.specs.declared.node.Polled.TheVariants as polled
+use Rattle.hum_read.specs.declared.scores.Step.{Step as Polled}
+use Rattle.hum_read.specs.declared.scores.Step.TheVariants as polled
 use Rattle.hum_nodes.specs.At.{At, doing_by, doing_of, output_of, read_to}
 use Rattle.hum_nodes.specs.Polls.{GoesOn, PollsBy, Polls}
 use Rattle.hum_links.specs.declared.link.Link as port
@@ -123,7 +123,7 @@ gives_less false w e h = absurd (false≢true h)
 -- A poll goes on by what has settled: the link of the source has this record more, or its end.
 abbrev pub Linked : ℕ → Moment Row → ℕ → Polled → port.Link → Type 0
 Linked size m k (polled.Record row) after = IsLink size after (pushed (m k) row)
-Linked size m k polled.Nothing after = IsLink size after (m k)
+Linked size m k polled.More after = IsLink size after (m k)
 Linked size m k (polled.End e) after = IsLink size after (record (m k) { mark = Some e })
 
 module _ {N : Type 0} (stands : N → List ℕ → At → Type 0) (s : Scene) (k : ℕ) (m : Moment Row)
@@ -141,7 +141,7 @@ module _ {N : Type 0} (stands : N → List ℕ → At → Type 0) (s : Scene) (k
       subst (λ d. Did stands s k d m (slice_set nodes k node) (slice_set links k after))
       (sym (state_gives s m k less doing))
       (did_give stands s k m nodes links others hl node after row h.0 h.1 l)
-  goes_on polled.Nothing h l = absurd h
+  goes_on polled.More h l = absurd h
   goes_on (polled.End e) h l =
       subst (λ d. Did stands s k d m (slice_set nodes k node) (slice_set links k after))
       (sym (state_ends s m k e less h.0))
@@ -150,12 +150,12 @@ module _ {N : Type 0} (stands : N → List ℕ → At → Type 0) (s : Scene) (k
 -- what a poll has made of the link of its source, and of all links
 abbrev pub LinkGoes : Polled → port.Link → port.Link → Type 0
 LinkGoes (polled.Record row) link after = Goes link after (λ l. pushed l row)
-LinkGoes polled.Nothing link after = Unit {0}
+LinkGoes polled.More link after = Unit {0}
 LinkGoes (polled.End e) link after = Goes link after (ended e)
 
 abbrev pub links_by : Polled → List port.Link → ℕ → port.Link → List port.Link
 links_by (polled.Record row) links k after = slice_set links k after
-links_by polled.Nothing links k after = links
+links_by polled.More links k after = links
 links_by (polled.End e) links k after = slice_set links k after
 
 -- An actor has had a turn.
@@ -176,7 +176,7 @@ module _ {N : Type 0} (stands : N → List ℕ → At → Type 0) (s : Scene) (k
   moves_on (polled.Record row) m others hl h l =
       goes_on stands s k m nodes links others hl less node after (polled.Record row) h
       (l s.size (m k) (hl k link at_link))
-  moves_on polled.Nothing m others hl h l = absurd h
+  moves_on polled.More m others hl h l = absurd h
   moves_on (polled.End e) m others hl h l =
       goes_on stands s k m nodes links others hl less node after (polled.End e) h
       (l s.size (m k) (hl k link at_link))
@@ -248,11 +248,11 @@ module _ {N : Type 0} (stands : N → List ℕ → At → Type 0) (s : Scene) (k
         }
 
     only_nothing : (p : Polled) (n : ℕ) → (s.links k).read < n → n ≤ (s.kinds k).stage.bytes
-        → doing_of (at_of s.kinds s.links k) ≡ does.Reads → p ≡ polled.Nothing
+        → doing_of (at_of s.kinds s.links k) ≡ does.Reads → p ≡ polled.More
         → stands node (s.rests k) (read_to n (at_of s.kinds s.links k))
         → Turned stands s k (slice_set nodes k node) (links_by p links k after)
     only_nothing (polled.Record row) n more within e h st = cc
-    only_nothing polled.Nothing n more within e h st = reads_only n more within e st
+    only_nothing polled.More n more within e h st = reads_only n more within e st
     only_nothing (polled.End f) n more within e h st = cc
 
     by_doing : (p : Polled) (d : Doing) → doing_of (at_of s.kinds s.links k) ≡ d

@@ -14,8 +14,8 @@ ghost use Rattle.hum_net.specs.Readers.{ShowsSame, remaining_at, ended_at, calls
 ghost use Rattle.hum_nodes.specs.Polls.{AsksAtMostOnce, HasStayed, is_failed_read};
 
 use hum_links::{Link, Next};
-use hum_nodes::{Doing, Feeds, Node, Polled, Works};
-use hum_read::ReadError;
+use hum_nodes::{Doing, Feeds, Node, Works};
+use hum_read::{ReadError, Step};
 use hum_record::Record;
 use hum_stage::End;
 use std::alloc::{AllocError, Global};
@@ -79,9 +79,9 @@ impl<F: Feeds, W: Works> Web<F, W> {
         self.feeder = k;
         match self.nodes[k].poll() {
             Err(error) => return Err(error),
-            Ok(Polled::Record(row)) => self.links[k].push(row),
-            Ok(Polled::End(end)) => self.links[k].end(end),
-            Ok(Polled::Nothing) => {}
+            Ok(Step::Record(row)) => self.links[k].push(row),
+            Ok(Step::End(end)) => self.links[k].end(end),
+            Ok(Step::More) => {}
         }
         Ok(k)
     }

@@ -18,8 +18,6 @@ use Rattle.hum_read.specs.Reading.{Scores, IsFresh, HasRead, GivesNext, Gives, D
 use Rattle.hum_turns.specs.Flow.{Begins}
 use Rattle.hum_nodes.specs.declared.node.Doing.{Doing}
 use Rattle.hum_nodes.specs.declared.node.Doing.TheVariants as does
-use Rattle.hum_nodes.specs.declared.node.Polled.{Polled}
-use Rattle.hum_nodes.specs.declared.node.Polled.TheVariants as polled
 use Rattle.hum_nodes.specs.At.{At, fresh, doing_of, output_of, read_to, after_take}
 use Rattle.hum_nodes.specs.Polls.{GoesOn, PollsBy, Polls, most_bytes}
 use Rattle.hum_nodes.specs.Reading.{is_ended, settled_at, reading, HasGiven, IsReading}
@@ -238,10 +236,10 @@ module _ {R : Type 0} (v w : Scores R)
       omega (arith, n, z, f)
 
   -- A turn reads where something was read, and else it does what it was about to do.
-  turn : (p : Polled) (after : At → Type 0) → t.kind ≡ reading v.stage all → t.inputs ≡ []
+  turn : (p : Step) (after : At → Type 0) → t.kind ≡ reading v.stage all → t.inputs ≡ []
       → ((NeedsRead v.lines → ⊥) → IsUnread v.lines w.lines)
       → GoesOn (read_to (upto w.lines.ended seen) t) p after
-      ⊎ ((p ≡ polled.Nothing) × after (read_to (upto w.lines.ended seen) t))
+      ⊎ ((p ≡ step.More) × after (read_to (upto w.lines.ended seen) t))
       → (t.read ≡ upto w.lines.ended seen → Polls t p after)
       → Polls t p after
   turn p after kind inputs unread goes still =
@@ -261,7 +259,7 @@ module _ {R : Type 0} (v w : Scores R)
       ]
 
   -- the same, as what was about to be done
-  still_goes : (p : Polled) (after : At → Type 0) (d : Doing) → doing_of t ≡ d
+  still_goes : (p : Step) (after : At → Type 0) (d : Doing) → doing_of t ≡ d
       → (GoesOn t p after → PollsBy d t p after)
       → GoesOn (read_to (upto w.lines.ended seen) t) p after
       → t.read ≡ upto w.lines.ended seen → Polls t p after
@@ -273,7 +271,7 @@ module _ {R : Type 0} (v w : Scores R)
   record_turn : (row : Row) → result ≡ Ok (step.Record row) → t.kind ≡ reading v.stage all
       → t.inputs ≡ [] → ((NeedsRead v.lines → ⊥) → IsUnread v.lines w.lines)
       → w.stopped ≡ None → w.stage ≡ v.stage → bytes_read v.lines w.lines ≡ []
-      → Polls t (polled.Record row) (IsReading w left)
+      → Polls t (step.Record row) (IsReading w left)
   record_turn row is kind inputs unread stopped stage unfed =
       let r = upto w.lines.ended seen in
       let has : (more : List ℕ) → (w.lines.ended ≡ true → more ≡ [])
@@ -313,9 +311,9 @@ module _ {R : Type 0} (v w : Scores R)
             });
       } in
       let low = at.1 in
-      turn (polled.Record row) (IsReading w left) kind inputs unread (inl (next, stands))
+      turn (step.Record row) (IsReading w left) kind inputs unread (inl (next, stands))
       (λ e.
-      still_goes (polled.Record row) (IsReading w left) does.Gives
+      still_goes (step.Record row) (IsReading w left) does.Gives
       (doing_is v.stage all t kind inputs ∙ ap (λ r. doing_at v.stage all r t.given) e
       ∙ gives_at v.stage all r t.given (omega (arith, given, low)))
       (λ g. g) (next, stands) e)
@@ -362,7 +360,7 @@ module _ {R : Type 0} (v w : Scores R)
   end_turn : (e : End) → result ≡ Ok (step.End e) → t.kind ≡ reading v.stage all
       → t.inputs ≡ [] → ((NeedsRead v.lines → ⊥) → IsUnread v.lines w.lines)
       → w.stopped ≡ Some (Ok e) → w.stage ≡ v.stage → bytes_read v.lines w.lines ≡ []
-      → Polls t (polled.End e) (IsReading w left)
+      → Polls t (step.End e) (IsReading w left)
   end_turn e is kind inputs unread stopped stage unfed =
       let r = upto w.lines.ended seen in
       let done : doing_of (read_to r t) ≡ does.Done e =
@@ -381,9 +379,9 @@ module _ {R : Type 0} (v w : Scores R)
         stands = subst (λ o. StandsBy o (HasGiven w all left (read_to r t)) (read_to r t))
             (sym stopped) done;
       } in
-      turn (polled.End e) (IsReading w left) kind inputs unread (inl (done, stands))
+      turn (step.End e) (IsReading w left) kind inputs unread (inl (done, stands))
       (λ f.
-      still_goes (polled.End e) (IsReading w left) (does.Done e)
+      still_goes (step.End e) (IsReading w left) (does.Done e)
       (subst (λ r. doing_of (read_to r t) ≡ does.Done e) (sym f) done)
       (λ g. g) (done, stands) f)
 
@@ -393,7 +391,7 @@ module _ {R : Type 0} (v w : Scores R)
       → left_to_do w.lines < left_to_do v.lines
       → w.stopped ≡ None → w.stage ≡ v.stage → IsFed v.lines w.lines
       → w.lines.taken ≤ w.lines.limits.bytes → length (bytes_read v.lines w.lines) ≤ 65536
-      → Polls t polled.Nothing (IsReading w left)
+      → Polls t step.More (IsReading w left)
   more_turn is kind inputs unread nears stopped stage fed within asked =
       let r = upto w.lines.ended seen in
       let has : (more : List ℕ) → (w.lines.ended ≡ true → more ≡ [])
@@ -422,7 +420,7 @@ module _ {R : Type 0} (v w : Scores R)
               given = h.given;
             });
       } in
-      turn polled.Nothing (IsReading w left) kind inputs unread (inr (refl, stands))
+      turn step.More (IsReading w left) kind inputs unread (inr (refl, stands))
       (λ e.
       absurd (never_still v w h.seen (bytes_read v.lines w.lines) h.rows refl
       (no_bytes v.lines.ended w.lines.ended refl refl (sym h.read ∙ e))
@@ -465,13 +463,13 @@ module _ {R : Type 0} (v w : Scores R) (t : At)
       → w.stopped ≡ None
       → IfSome v.stopped (λ s. (Ok (step.Record row) ≡ answer_of s) × (w ≡ v))
       → bytes_read v.lines w.lines ≡ []
-      → Polls t (polled.Record row) (IsReading w left)
+      → Polls t (step.Record row) (IsReading w left)
   poll_record row gives stops again unfed = by v.stopped refl a.stands again
     where
       by : (o : Option (Result End ReadError)) → v.stopped ≡ o
           → StandsBy o (HasGiven v a.all (bytes_read v.lines w.lines ++ left) t) t
           → IfSome o (λ s. (Ok (step.Record row) ≡ answer_of s) × (w ≡ v))
-          → Polls t (polled.Record row) (IsReading w left)
+          → Polls t (step.Record row) (IsReading w left)
       by None e h x =
           record_turn v w (Ok (step.Record row)) a.all (bytes_read v.lines w.lines ++ left) t h left (made _ (gives e) h) row
           refl a.kind a.inputs unread stops stage unfed
@@ -484,13 +482,13 @@ module _ {R : Type 0} (v w : Scores R) (t : At)
       → IsFed v.lines w.lines
       → (v.stopped ≡ None → w.lines.taken ≤ w.lines.limits.bytes)
       → length (bytes_read v.lines w.lines) ≤ 65536
-      → Polls t polled.Nothing (IsReading w left)
+      → Polls t step.More (IsReading w left)
   poll_more gives stops nears again fed within asked = by v.stopped refl a.stands again
     where
       by : (o : Option (Result End ReadError)) → v.stopped ≡ o
           → StandsBy o (HasGiven v a.all (bytes_read v.lines w.lines ++ left) t) t
           → IfSome o (λ s. (Ok step.More ≡ answer_of s) × (w ≡ v))
-          → Polls t polled.Nothing (IsReading w left)
+          → Polls t step.More (IsReading w left)
       by None e h x =
           more_turn v w (Ok step.More) a.all (bytes_read v.lines w.lines ++ left) t h left (made _ (gives e) h) refl a.kind
           a.inputs unread nears stops stage fed (within e) asked
@@ -501,7 +499,7 @@ module _ {R : Type 0} (v w : Scores R) (t : At)
       → w.stopped ≡ Some (Ok end)
       → IfSome v.stopped (λ s. (Ok (step.End end) ≡ answer_of s) × (w ≡ v))
       → bytes_read v.lines w.lines ≡ []
-      → Polls t (polled.End end) (IsReading w left)
+      → Polls t (step.End end) (IsReading w left)
   poll_end end gives stops again unfed = by v.stopped refl a.stands again
     where
       same_end : (e : End)
@@ -511,13 +509,13 @@ module _ {R : Type 0} (v w : Scores R) (t : At)
       by : (o : Option (Result End ReadError)) → v.stopped ≡ o
           → StandsBy o (HasGiven v a.all (bytes_read v.lines w.lines ++ left) t) t
           → IfSome o (λ s. (Ok (step.End end) ≡ answer_of s) × (w ≡ v))
-          → Polls t (polled.End end) (IsReading w left)
+          → Polls t (step.End end) (IsReading w left)
       by None e h x =
           end_turn v w (Ok (step.End end)) a.all (bytes_read v.lines w.lines ++ left) t h left (made _ (gives e) h) end
           refl a.kind a.inputs unread stops stage unfed
       by (Some (Ok told)) e h x =
           let d : doing_of t ≡ does.Done end = h ∙ ap does.Done (same_end told x.0) in
-          subst (λ d. PollsBy d t (polled.End end) (IsReading w left)) (sym d) (
+          subst (λ d. PollsBy d t (step.End end) (IsReading w left)) (sym d) (
             d,
             record {
               all = a.all;

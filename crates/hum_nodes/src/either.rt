@@ -8,8 +8,8 @@ ghost use Rattle.hum_nodes.specs.Polls.{is_failed_read};
 ghost use Rattle.hum_nodes.specs.Nodes.{is_source, StandsAs, remaining_of, ended_of};
 ghost use Rattle.hum_nodes.specs.Nodes.{calls_of, failed_of, left_of};
 
-use crate::node::{Doing, Feeds, Polled, Works};
-use hum_read::ReadError;
+use crate::node::{Doing, Feeds, Works};
+use hum_read::{ReadError, Step};
 use hum_record::Record;
 use hum_stage::End;
 use std::alloc::AllocError;
@@ -33,7 +33,7 @@ impl<F: Feeds, W: Works> Node<F, W> {
     }
 
     /// A turn of a source.
-    pub fn poll(&mut self) -> Result<Polled, ReadError>
+    pub fn poll(&mut self) -> Result<Step, ReadError>
         requires { is_source self.old ≡ true }
         ensures kind { is_source self.new ≡ true }
         ensures polled { IfOk result (HasPolled (StandsAs F.stands W.stands self.old)

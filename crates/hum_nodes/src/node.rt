@@ -6,7 +6,7 @@ ghost use Rattle.hum_nodes.specs.At.{MayPut, MayStop, HasPut, HasStopped};
 ghost use Rattle.hum_nodes.specs.Polls.{HasPolled, AsksAtMostOnce, Nears, IsKept};
 ghost use Rattle.hum_nodes.specs.Polls.{HasStayed, is_failed_read, most_bytes};
 
-use hum_read::ReadError;
+use hum_read::{ReadError, Step};
 use hum_record::Record;
 use hum_stage::End;
 use std::alloc::AllocError;
@@ -22,17 +22,6 @@ pub enum Doing {
     Wants(usize),
     /// It has given all, and this is its end.
     Done(End),
-}
-
-/// What a poll of a source gives.
-#[derive(Debug, Drop)]
-pub enum Polled {
-    /// The next record.
-    Record(Record),
-    /// Nothing yet: the poll has made a read, which gave bytes.
-    Nothing,
-    /// Nothing more: this is its end.
-    End(End),
 }
 
 /// A stage of a plan that reads from other stages.
@@ -101,7 +90,7 @@ pub trait Feeds: Drop {
     ///
     /// # Errors
     /// A failed read, and want of memory.
-    fn poll(&mut self) -> Result<Polled, ReadError>
+    fn poll(&mut self) -> Result<Step, ReadError>
         ensures polled { IfOk result (HasPolled (stands self.old) (stands self.new)
             (ended self.old) (ended self.new) (remaining self.old) (remaining self.new)) }
 

@@ -4,7 +4,7 @@ ghost use Rattle.hum_text.specs.Reading.{left_to_do};
 ghost use Rattle.hum_nodes.specs.At.{fresh};
 ghost use Rattle.hum_nodes.specs.Reading.{IsReading, reading};
 
-use crate::node::{Feeds, Polled};
+use crate::node::Feeds;
 use hum_read::{ReadError, ScoreReader, Step};
 use hum_record::Record;
 use hum_text::calls::Source;
@@ -51,13 +51,8 @@ impl<R: Source + Drop> Feeds for Reading<R> {
 
     ghost few_bytes = { λ r rest t h. h.few };
 
-    fn poll(&mut self) -> Result<Polled, ReadError> {
-        match self.inner.poll() {
-            Ok(Step::Record(record)) => Ok(Polled::Record(record)),
-            Ok(Step::More) => Ok(Polled::Nothing),
-            Ok(Step::End(end)) => Ok(Polled::End(end)),
-            Err(error) => Err(error),
-        }
+    fn poll(&mut self) -> Result<Step, ReadError> {
+        self.inner.poll()
     }
 
     fn reuse(&mut self, row: Record) {

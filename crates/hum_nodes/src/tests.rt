@@ -1,6 +1,6 @@
 //! Nodes by hand, call after call.
-use crate::{Doing, Feeds, Merging, Polled, Reading, Works};
-use hum_read::ReadError;
+use crate::{Doing, Feeds, Merging, Reading, Works};
+use hum_read::{ReadError, Step};
 use hum_stage::End;
 use hum_text::calls::{Marked, Source};
 use std::io;
@@ -8,21 +8,21 @@ use std::io::{Error, ErrorKind, Read};
 use std::test::Fail;
 
 // What was given, as text.
-fn shown(polled: &Polled) -> &[u8] {
+fn shown(polled: &Step) -> &[u8] {
     match polled {
-        Polled::Record(record) => record.text(),
-        Polled::Nothing => b"nothing",
-        Polled::End(End::Closed) => b"closed",
-        Polled::End(End::Broken(_)) => b"broken",
+        Step::Record(record) => record.text(),
+        Step::More => b"nothing",
+        Step::End(End::Closed) => b"closed",
+        Step::End(End::Broken(_)) => b"broken",
     }
 }
 
 // Gives back what was given.
-fn give_back<R: Source + Drop>(node: &mut Reading<R>, polled: Polled) {
+fn give_back<R: Source + Drop>(node: &mut Reading<R>, polled: Step) {
     match polled {
-        Polled::Record(row) => node.reuse(row),
-        Polled::Nothing => {}
-        Polled::End(_) => {}
+        Step::Record(row) => node.reuse(row),
+        Step::More => {}
+        Step::End(_) => {}
     }
 }
 

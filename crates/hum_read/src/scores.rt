@@ -194,6 +194,8 @@ impl<R: Source> ScoreReader<R> {
     ///
     /// # Errors
     /// A failed read, and want of memory, which each later poll answers again.
+    // Inlined, its answer would be taken to pieces as small as a fault's fields.
+    #[inline(never)]
     pub fn poll(&mut self) -> Result<Step, ReadError>
         // What is given depends on the bytes read so far alone, however the input goes on.
         ensures gives { self.old.stopped ≡ None → GivesNext self.old result self.new }

@@ -1,7 +1,7 @@
 use Rattle.std.proofs.Common.{refl, subst}
 use Rattle.hum_nodes.specs.Nodes.{StandsAs, ended_of, remaining_of}
 use Rattle.hum_nodes.specs.Polls.{HasPolled}
-use Rattle.hum_nodes.specs.declared.node.Polled.TheVariants as polled
+use Rattle.hum_read.specs.declared.scores.Step.TheVariants as polled
 use Rattle.hum_net.specs.Scene.{at_of}
 use Rattle.hum_net.proofs.Feeding.{polled_marks, polled_calls, polled_stays}
 use Rattle.hum_net.proofs.Feeding.{fed, node_at, link_at, source_room, source_bytes, link_of}
@@ -64,8 +64,8 @@ returns-in-Ok-End-clause-fed g c =
     c.in-Ok-End.field-0-is c.in-Ok-End.ensures.polled)
     c.end.ensures refl refl
 
-pub returns-in-Ok-Nothing-clause-fed : goal.returns-in-Ok-Nothing-clause-fed
-returns-in-Ok-Nothing-clause-fed g c =
+pub returns-in-Ok-More-clause-fed : goal.returns-in-Ok-More-clause-fed
+returns-in-Ok-More-clause-fed g c =
     let s = c.requires.turn.scene in
     let may = c.requires.turn.holds in
     let web = c.args.self.now in
@@ -76,11 +76,11 @@ returns-in-Ok-Nothing-clause-fed g c =
     c.poll.new.self link.0 link.0
     (node_at stands c.args.k web s node may.less may.at.stand c.index_mut.ensures.value)
     link.1
-    polled.Nothing
+    polled.More
     (subst (HasPolled (stands node) (stands c.poll.new.self) (ended_of g.F.Feeds.ended node)
     (ended_of g.F.Feeds.ended c.poll.new.self) (remaining_of g.F.Feeds.remaining node)
     (remaining_of g.F.Feeds.remaining c.poll.new.self))
-    c.in-Ok-Nothing.field-0-is c.in-Ok-Nothing.ensures.polled)
+    c.in-Ok-More.field-0-is c.in-Ok-More.ensures.polled)
     tt refl refl
 
 pub returns-in-Ok-Record-clause-marks : goal.returns-in-Ok-Record-clause-marks
@@ -131,8 +131,8 @@ returns-in-Ok-End-clause-calls g c =
     polled_calls g.F.Feeds.remaining g.F.Feeds.ended g.F.Feeds.calls g.F.Feeds.failed c.args.k
     web.nodes.items node c.poll.new.self at c.in-Ok-End.ensures.once
 
-pub returns-in-Ok-Nothing-clause-marks : goal.returns-in-Ok-Nothing-clause-marks
-returns-in-Ok-Nothing-clause-marks g c =
+pub returns-in-Ok-More-clause-marks : goal.returns-in-Ok-More-clause-marks
+returns-in-Ok-More-clause-marks g c =
     let s = c.requires.turn.scene in
     let may = c.requires.turn.holds in
     let web = c.args.self.now in
@@ -141,11 +141,11 @@ returns-in-Ok-Nothing-clause-marks g c =
     c.index_mut.ensures.value in
     polled_marks g.F.Feeds.remaining g.F.Feeds.ended g.F.Feeds.calls g.F.Feeds.failed c.args.k
     web.nodes.items node c.poll.new.self at _
-    (c.in-Ok-Nothing.ensures.marks (s.rests c.args.k) (at_of s.kinds s.links c.args.k)
+    (c.in-Ok-More.ensures.marks (s.rests c.args.k) (at_of s.kinds s.links c.args.k)
     (may.at.stand.nodes c.args.k node at))
 
-pub returns-in-Ok-Nothing-clause-calls : goal.returns-in-Ok-Nothing-clause-calls
-returns-in-Ok-Nothing-clause-calls g c =
+pub returns-in-Ok-More-clause-calls : goal.returns-in-Ok-More-clause-calls
+returns-in-Ok-More-clause-calls g c =
     let s = c.requires.turn.scene in
     let may = c.requires.turn.holds in
     let web = c.args.self.now in
@@ -153,7 +153,7 @@ returns-in-Ok-Nothing-clause-calls g c =
     let at = node_at (StandsAs g.F.Feeds.stands g.W.Works.stands) c.args.k web s node may.less may.at.stand
     c.index_mut.ensures.value in
     polled_calls g.F.Feeds.remaining g.F.Feeds.ended g.F.Feeds.calls g.F.Feeds.failed c.args.k
-    web.nodes.items node c.poll.new.self at c.in-Ok-Nothing.ensures.once
+    web.nodes.items node c.poll.new.self at c.in-Ok-More.ensures.once
 
 pub returns-in-Err-clause-marks : goal.returns-in-Err-clause-marks
 returns-in-Err-clause-marks g c =
