@@ -12,6 +12,3 @@ mod round;
 mod source_head;
 
 pub use assemble::Assemble;
-
-#[cfg(test)]
-mod tests;

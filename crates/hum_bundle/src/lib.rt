@@ -102,6 +102,3 @@ pub fn score<'a>(bundle: &'a [u8], name: &str) -> Option<&'a [u8]>
     }
     None
 }
-
-#[cfg(test)]
-mod tests;

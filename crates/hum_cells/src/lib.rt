@@ -15,6 +15,3 @@ mod told;
 
 pub use cells::{CellStage, Cells};
 pub use retells::{Heading, Retells};
-
-#[cfg(test)]
-mod tests;

@@ -25,6 +25,3 @@ pub use options::{CleaveOptions, is_name, is_separator};
 ///
 /// What it remembers is one mark for each spine, and the spines' exclusive interpretations.
 pub type Cleave = AtOnce<Columns>;
-
-#[cfg(test)]
-mod tests;

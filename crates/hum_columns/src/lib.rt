@@ -47,6 +47,3 @@ pub fn write_pieces(
         Ok(Some(Rule::L2))
     }
 }
-
-#[cfg(test)]
-mod tests;

@@ -26,6 +26,3 @@ pub use options::{ContextOptions, Span, TokenCount};
 
 /// The command context, as a stage.
 pub type Context = Lagging<Collecting>;
-
-#[cfg(test)]
-mod tests;

@@ -103,6 +103,3 @@ impl Decides for Repeats {
 
 /// The command ditto, as a stage.
 pub type Ditto = AtOnce<Repeats>;
-
-#[cfg(test)]
-mod tests;

@@ -22,6 +22,3 @@ use hum_stage::AtOnce;
 ///
 /// What it remembers is one mark for each spine, and the spines' exclusive interpretations.
 pub type Extract = AtOnce<Columns>;
-
-#[cfg(test)]
-mod tests;

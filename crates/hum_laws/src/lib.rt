@@ -12,8 +12,6 @@ mod looks;
 mod notes;
 mod pitches;
 mod rid;
-#[cfg(test)]
-mod tests;
 mod trans;
 
 pub use columns::{all_fields, extract_ditto, names_twice};

@@ -112,6 +112,3 @@ pub fn read_line<'a>(alloc: Global, words: &'a [String]) -> Result<Choice<'a>, L
         file: matches.get_str("PIPELINE"),
     })
 }
-
-#[cfg(test)]
-mod tests;

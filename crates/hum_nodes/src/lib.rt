@@ -17,8 +17,6 @@ mod merging;
 mod node;
 mod reading;
 mod single;
-#[cfg(test)]
-mod tests;
 mod worker;
 
 pub use asked::Asked;

@@ -20,6 +20,3 @@ mod values;
 
 pub use faults::{OptionError, OptionFault, OptionRule, Refusal};
 pub use reading::read_options;
-
-#[cfg(test)]
-mod tests;

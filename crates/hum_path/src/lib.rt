@@ -68,6 +68,3 @@ impl<T: Drop> From<AllocFailed<T>> for PathFault {
         PathFault::Memory
     }
 }
-
-#[cfg(test)]
-mod tests;

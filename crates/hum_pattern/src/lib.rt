@@ -109,6 +109,3 @@ impl Pattern {
         self.matcher.shortest_match(token)
     }
 }
-
-#[cfg(test)]
-mod tests;

@@ -16,6 +16,3 @@ pub use intervals::Interval;
 pub use naming::{push_interval, write_interval};
 pub use pitch::{Pitch, PitchFault};
 pub use spelling::{push_pitch, write_pitch};
-
-#[cfg(test)]
-mod tests;

@@ -20,8 +20,3 @@ mod stages;
 pub use faults::{PlanError, PlanFault, PlanRule};
 pub use plan::{Plan, parse_plan};
 pub use stages::{Options, PlanStage};
-
-#[cfg(test)]
-mod tests;
-#[cfg(test)]
-mod word_tests;

@@ -22,6 +22,3 @@ pub enum ReadError {
     #[error("out of memory")]
     Memory,
 }
-
-#[cfg(test)]
-mod tests;

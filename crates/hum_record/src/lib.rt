@@ -105,6 +105,3 @@ impl<T: Drop> From<AllocFailed<T>> for RecordFault {
         RecordFault::Memory
     }
 }
-
-#[cfg(test)]
-mod tests;

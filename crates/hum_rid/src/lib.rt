@@ -114,6 +114,3 @@ impl Decides for RidOptions {
 
 /// The command rid, as a stage.
 pub type Rid = AtOnce<RidOptions>;
-
-#[cfg(test)]
-mod tests;

@@ -74,6 +74,3 @@ fn records_for(pieces: &[Piece<'_>]) -> usize
 {
     if touches(pieces) { joins_in(pieces) } else { 1 }
 }
-
-#[cfg(test)]
-mod tests;

@@ -60,6 +60,3 @@ impl Limits {
         }
     }
 }
-
-#[cfg(test)]
-mod tests;

@@ -31,6 +31,3 @@ pub use options::TimebaseOptions;
 /// It keeps one end for each spine, and counts null records without making them before they are
 /// taken.
 pub type Timebase = AtOnce<Grid>;
-
-#[cfg(test)]
-mod tests;

@@ -21,6 +21,3 @@ pub use recip::{Recip, RecipOptions, RecipTokens};
 pub use semits::{Semits, SemitsOptions, SemitsTokens};
 pub use trans::{Trans, TransTokens};
 pub use transposing::Transposition;
-
-#[cfg(test)]
-mod tests;

@@ -37,8 +37,6 @@
 
 mod order;
 mod result;
-#[cfg(test)]
-mod tests;
 mod theorems;
 
 pub use order::{Leftmost, Order, Rightmost, choose};

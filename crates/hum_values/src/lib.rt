@@ -23,6 +23,3 @@ pub use steps::step;
 
 /// How many items a list may have.
 const MOST_ITEMS: usize = 64;
-
-#[cfg(test)]
-mod tests;

@@ -18,6 +18,3 @@ pub use branches::{Line, Lines, line_count};
 pub use cutting::{LineFault, Piece, pieces};
 pub use naming::name_of;
 pub use text::{TextFault, plan_text};
-
-#[cfg(test)]
-mod tests;

@@ -21,6 +21,3 @@ pub use options::{Markers, YankOptions, YankRange};
 ///
 /// H1: a record that is still undecided with 65,536 records behind it is refused, at its line.
 pub type Yank = Lagging<Memory>;
-
-#[cfg(test)]
-mod tests;

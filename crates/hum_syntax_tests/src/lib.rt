@@ -1,0 +1,36 @@
+//! Tests of the libraries below the commands: lines, records, spines, numbers, notes, nodes and links.
+//!
+//! They call what any crate may call, and stand in a crate of their own: so no library is proved once more
+//! with its tests.
+#![tactic(auto)]
+
+#[cfg(test)]
+mod bundle;
+#[cfg(test)]
+mod frac;
+#[cfg(test)]
+mod kern;
+#[cfg(test)]
+mod line;
+#[cfg(test)]
+mod links;
+#[cfg(test)]
+mod nodes;
+#[cfg(test)]
+mod path;
+#[cfg(test)]
+mod pattern;
+#[cfg(test)]
+mod pitch;
+#[cfg(test)]
+mod read;
+#[cfg(test)]
+mod record;
+#[cfg(test)]
+mod spread;
+#[cfg(test)]
+mod text;
+#[cfg(test)]
+mod turns;
+#[cfg(test)]
+mod words;
