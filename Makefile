@@ -8,14 +8,17 @@
 #   make docs       runs what the README and docs/ print, with the program
 #   make lint       the man page, the scripts and the grammar, as far as there are programs that read them
 #
-# The first build proves every crate, JOBS of them side by side, and tells each one that is proved. Later ones prove
-# what has changed. What the prover says of each function is in crates/humpipe/out/log.
+# The first build proves every crate that the program is made of, JOBS of them side by side, and tells each one that is
+# proved. Later ones prove what has changed. What the prover says of each function is in crates/humpipe/out/log. The laws
+# and the crates of tests, which the program doesn't need, are proved by make test.
 
 PREFIX ?= /usr/local
 JOBS ?= $(shell nproc)
 
 log = crates/humpipe/out/log
-crates = $(shell grep -c '^[a-z]' crates.txt)
+# how many crates the program is made of: each line of crates.txt names those that a crate uses, which stand above it
+crates = $(shell tac crates.txt | awk -F'[: ]+' '$$1 == "humpipe" { uses[$$1] } \
+	$$1 in uses { n++; for (i = 2; i <= NF; i++) uses[$$i] } END { print n }')
 files = $(shell find crates -name out -prune -o -name must-fail -prune -o -type f -print)
 
 .PHONY: all demo test bench docs lint install clean
@@ -49,7 +52,7 @@ endef
 
 humpipe: crates.txt $(files)
 	@mkdir -p $(dir $(log))
-	@{ rt all check --jobs $(JOBS) 2>&1; echo "== ended $$?"; } | tee $(log) | { $(progress); } || { $(failure); exit 1; }
+	@{ (cd crates/humpipe && rt all check --jobs $(JOBS)) 2>&1; echo "== ended $$?"; } | tee $(log) | { $(progress); } || { $(failure); exit 1; }
 	@cd crates/humpipe && rt run <stdin >out/run.log 2>&1 || { cat out/run.log; exit 1; }
 	@cp -f crates/humpipe/out/humpipe humpipe
 

@@ -55,7 +55,8 @@ pub set_more : (k : ℕ) (ss : List Source) (s s' : Source) (row : Row) → Wait
 set_more k [] s s' row w e f = absurd w
 set_more zero (x ∷ ss) s s' row w e f =
     let c = w.0 in
-    ap (λ (y : Source). y ∷ ss) (f ∙ (ap (λ (y : Source). record y { coming = row ∷ [] }) e ∙ ap (λ (rows : List Row). record x { coming = rows ++ row ∷ [] }) (sym c)))
+    ap (λ (y : Source). y ∷ ss) (f ∙ (ap (λ (y : Source). record y { coming = row ∷ [] }) e
+    ∙ ap (λ (rows : List Row). record x { coming = rows ++ row ∷ [] }) (sym c)))
 set_more (suc k) (x ∷ ss) s s' row w e f = ap (λ (ys : List Source). x ∷ ys) (set_more k ss s s' row w e f)
 
 pub set_end : (k : ℕ) (ss : List Source) (s s' : Source) (e : end.End) → s ≡ get_or ss k s
@@ -74,7 +75,8 @@ AllPaths (x ∷ xs) (s ∷ ss) = (through s.path s.coming ≡ through Unopened x
 moved_path : (b going : Bool) (p : Place) (s : Source)
     → through (moved b going p s).path (moved b going p s).coming ≡ through s.path s.coming
 moved_path false going p s = refl
-moved_path true going p s = elim s.coming as (λ c. through (advanced s.path s.due c s.ended).path (advanced s.path s.due c s.ended).coming ≡ through s.path c) [ [] ↦ refl | x ∷ xs ↦ refl ]
+moved_path true going p s = elim s.coming as (λ c. through (advanced s.path s.due c s.ended).path
+    (advanced s.path s.due c s.ended).coming ≡ through s.path c) [ [] ↦ refl | x ∷ xs ↦ refl ]
 
 moved_paths : (free going : Bool) (p : Place) (xs : List Input) (ss : List Source) → AllPaths xs ss
     → AllPaths xs (all_moved free going p ss)
@@ -119,8 +121,15 @@ sound_put stage kept j k row s e g may =
     let h = may.stand in
     let n = same_next stage kept false may.at h in
     let i : k ≡ j = wanted_is stage kept false may.at j k h e may.wants in
-    let live : kept ≡ h.at = elim h.keeps [ inl x ↦ x | inr d ↦ absurd (let r = stopped_rests (ahead h.at) d.stopped in let v = sym (d.same) ∙ e in waits_not (ahead h.at) k d.stopped v) ] in
-    let a : AllPaths may.at.inputs kept.sources = rw live (reached_paths may.at.given may.at.inputs (opening may.at.inputs) h.at (opening_paths may.at.inputs) h.reached) in
+    let live : kept ≡ h.at = elim h.keeps [
+      | inl x ↦ x
+      | inr d ↦ absurd
+          (let r = stopped_rests (ahead h.at) d.stopped in
+          let v = sym (d.same) ∙ e in waits_not (ahead h.at) k d.stopped v)
+    ] in
+    let a : AllPaths may.at.inputs kept.sources = rw live
+    (reached_paths may.at.given may.at.inputs (opening may.at.inputs) h.at (opening_paths may.at.inputs)
+    h.reached) in
     let p = path_at k may.at.inputs kept.sources s a (waits_at kept k e) g in
     rw (p, i) (sound_last Unopened (put_of j may.at.inputs) row may.score)
 
@@ -208,7 +217,8 @@ pub put_here : (stage : ℕ) (sources : List Source) (given : ℕ) (t : Moment) 
     (s s' : Source)
     → Standing stage (record { sources = sources; given = given }) false t
     → ahead (record { sources = sources; given = given }) ≡ Wants k → wants_of t ≡ Some j
-    → s ≡ get_or sources k s → s' ≡ record s { coming = row ∷ [] } → Standing stage (record { sources = set sources k s'; given = given }) false (after j (More row) t)
+    → s ≡ get_or sources k s → s' ≡ record s { coming = row ∷ [] } →
+    Standing stage (record { sources = set sources k s'; given = given }) false (after j (More row) t)
 put_here stage sources given t j k row s s' h e w f g =
     let i : k ≡ j = wanted_is stage (record { sources = sources; given = given }) false t j k h e w in
     let x = set_more k sources s s' row (waits_at (record { sources = sources; given = given }) k e) f g in
@@ -218,17 +228,22 @@ put_here stage sources given t j k row s s' h e w f g =
 pub end_here : (stage : ℕ) (sources : List Source) (given : ℕ) (spent : Bool) (t : Moment)
     (j : ℕ) (e : end.End) (s s' : Source)
     → Standing stage (record { sources = sources; given = given }) spent t → wants_of t ≡ Some j
-    → s ≡ get_or sources j s → s' ≡ record s { ended = Some e } → Standing stage (record { sources = set sources j s'; given = given }) spent (after j (Ends e) t)
+    → s ≡ get_or sources j s → s' ≡ record s { ended = Some e } →
+    Standing stage (record { sources = set sources j s'; given = given }) spent (after j (Ends e) t)
 end_here stage sources given spent t j e s s' h w f g =
     let x = set_end j sources s s' e f g in
-    rw x (with_spent stage (changed_in j (Ends e) (record { sources = sources; given = given })) spent (after j (Ends e) t) h.alive (end_stands stage (record { sources = sources; given = given }) t j e (alive stage _ spent t h.alive h) w))
+    rw x (with_spent stage (changed_in j (Ends e) (record { sources = sources; given = given })) spent
+    (after j (Ends e) t) h.alive (end_stands stage (record { sources = sources; given = given }) t j e
+    (alive stage _ spent t h.alive h) w))
 
 -- a record is given
 pub take_here : (stage : ℕ) (sources news : List Source) (given n : ℕ) (t : Moment) (p : Place)
     (row : Row) (more : List Source)
     → Standing stage (record { sources = sources; given = given }) false t
     → ahead (record { sources = sources; given = given }) ≡ Gives p
-    → row ≡ given_row p (record { sources = sources; given = given }) → record { sources = news; given = given + 1 } ≡ given_on p (record { sources = sources; given = given }) → n ≡ length news
+    → row ≡ given_row p (record { sources = sources; given = given }) →
+    record { sources = news; given = given + 1 } ≡ given_on p (record { sources = sources; given = given })
+    → n ≡ length news
     → (Some row ≡ slice_get (all_of t) t.given) × Standing stage (record { sources = take n (news ++ more); given = given + 1 }) false (after_take t)
 take_here stage sources news given n t p row more h e f g l =
     let w = take_gives stage (record { sources = sources; given = given }) t p h e in
@@ -243,21 +258,29 @@ take_nothing stage kept spent t h n = sym (take_none stage kept spent t h (not_g
 broken_room : (p q : Place) (spines bytes given : ℕ)
     → unless_broken q (rule_broken spines bytes given) ≡ Gives p → given < 4294967295
 broken_room p q spines bytes given h =
-    (elim (nat_lt 4096 spines) as (λ a. unless_broken q (cond a (Some A1) (cond (nat_lt 1048576 bytes) (Some L1) (cond (nat_le 4294967295 given) (Some L2) None))) ≡ Gives p → given < 4294967295) [
+    (elim (nat_lt 4096 spines) as (λ a. unless_broken q
+    (cond a (Some A1) (cond (nat_lt 1048576 bytes) (Some L1)
+    (cond (nat_le 4294967295 given) (Some L2) None))) ≡ Gives p → given < 4294967295) [
       | true ↦ λ e. cc
-      | false ↦ λ e. (elim (nat_lt 1048576 bytes) as (λ a. unless_broken q (cond a (Some L1) (cond (nat_le 4294967295 given) (Some L2) None)) ≡ Gives p → given < 4294967295) [
-        | true ↦ λ f. cc
-        | false ↦ λ f. (elim (nat_le 4294967295 given) as (λ a. nat_le 4294967295 given ≡ a → unless_broken q (cond a (Some L2) None) ≡ Gives p → given < 4294967295) [
-          | true ↦ λ g i. cc
-          | false ↦ λ g i. grind (arith, nat_tests)
-        ]) refl f
-      ]) e
+      | false ↦ λ e. (elim (nat_lt 1048576 bytes) as
+          (λ a. unless_broken q (cond a (Some L1) (cond (nat_le 4294967295 given) (Some L2) None)) ≡ Gives p →
+          given < 4294967295) [
+            | true ↦ λ f. cc
+            | false ↦ λ f. (elim (nat_le 4294967295 given) as
+                (λ a. nat_le 4294967295 given ≡ a → unless_broken q (cond a (Some L2) None) ≡ Gives p →
+                given < 4294967295) [
+                  | true ↦ λ g i. cc
+                  | false ↦ λ g i. grind (arith, nat_tests)
+                ]) refl f
+          ]) e
     ]) h
 
 at_room : (going : Bool) (q p : Place) (ss : List Source) (given : ℕ)
     → ahead_at going q ss given ≡ Gives p → given < 4294967295
 at_room going q p ss given h =
-    (elim (is_over q) as (λ b. cond b NothingMore (unless_broken q (rule_broken (spines (all_moved true going q ss)) (length (text_of (made going q ss))) given)) ≡ Gives p → given < 4294967295) [
+    (elim (is_over q) as (λ b. cond b NothingMore
+    (unless_broken q (rule_broken (spines (all_moved true going q ss)) (length (text_of (made going q ss)))
+    given)) ≡ Gives p → given < 4294967295) [
       | true ↦ λ w. cc
       | false ↦ λ w. broken_room p q (spines (all_moved true going q ss)) (length (text_of (made going q ss))) given w
     ]) h

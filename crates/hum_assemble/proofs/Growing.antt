@@ -32,7 +32,12 @@ none_missing : (going : Bool) (i : ℕ) (ss : List Source) → first_from (is_mi
     → AllKnown going ss
 none_missing going i [] h = tt
 none_missing going i (s ∷ ss) h =
-    elim (is_missing going s) as (λ b. cond b (Some i) (first_from (is_missing going) (i + 1) ss) ≡ None → (b ≡ false) × AllKnown going ss) [ true ↦ λ e. cc | false ↦ λ e. (refl, none_missing going (i + 1) ss e) ] h
+    elim (is_missing going s) as (λ b. cond b (Some i) (first_from (is_missing going) (i + 1) ss) ≡ None →
+    (b ≡ false) × AllKnown going ss) [
+      | true ↦ λ e. cc
+      | false ↦ λ e.
+          (refl, none_missing going (i + 1) ss e)
+    ] h
 
 pub missing_none : (going : Bool) (i : ℕ) (ss : List Source) → AllKnown going ss
     → first_from (is_missing going) i ss ≡ None
@@ -50,21 +55,38 @@ at_same : (going : Bool) (p : Place) (j : ℕ) (change : Change) (ss : List Sour
     → IsOpenAt j ss → AllKnown going ss
     → ahead_at going p (changed_at j change ss) given ≡ ahead_at going p ss given
 at_same going p j change ss given i k =
-    (elim (is_over p) as (λ b. (b ≡ false → rule_broken (spines (all_moved true going p (changed_at j change ss))) (length (text_of (made going p (changed_at j change ss)))) given ≡ rule_broken (spines (all_moved true going p ss)) (length (text_of (made going p ss))) given) → cond b NothingMore (unless_broken p (rule_broken (spines (all_moved true going p (changed_at j change ss))) (length (text_of (made going p (changed_at j change ss)))) given)) ≡ cond b NothingMore (unless_broken p (rule_broken (spines (all_moved true going p ss)) (length (text_of (made going p ss))) given))) [
+    (elim (is_over p) as (λ b. (b ≡ false → rule_broken
+    (spines (all_moved true going p (changed_at j change ss)))
+    (length (text_of (made going p (changed_at j change ss)))) given ≡ rule_broken
+    (spines (all_moved true going p ss)) (length (text_of (made going p ss))) given) →
+    cond b NothingMore (unless_broken p
+    (rule_broken (spines (all_moved true going p (changed_at j change ss)))
+    (length (text_of (made going p (changed_at j change ss)))) given)) ≡ cond b NothingMore
+    (unless_broken p (rule_broken (spines (all_moved true going p ss)) (length (text_of (made going p ss)))
+    given))) [
       | true ↦ λ e. refl
       | false ↦ λ e. ap (unless_broken p) (e refl)
     ]) (λ o.
     let m = (all_moves true going p j change ss o i k).moved_are in
-    let w : spines (all_moved true going p (changed_at j change ss)) ≡ spines (all_moved true going p ss) = ap spines m ∙ spines_same j change (all_moved true going p ss) in
+    let w : spines (all_moved true going p (changed_at j change ss)) ≡ spines (all_moved true going p ss) =
+    ap spines m ∙ spines_same j change (all_moved true going p ss) in
     let t = ap (λ (r : Row). length (text_of r)) (made_same going p j change ss o i k) in
-    ap (λ (n : ℕ). rule_broken n (length (text_of (made going p (changed_at j change ss)))) given) w ∙ ap (λ (n : ℕ). rule_broken (spines (all_moved true going p ss)) n given) t)
+    ap (λ (n : ℕ). rule_broken n (length (text_of (made going p (changed_at j change ss)))) given) w
+    ∙ ap (λ (n : ℕ). rule_broken (spines (all_moved true going p ss)) n given) t)
 
 known_ahead : (going : Bool) (j : ℕ) (change : Change) (ss : List Source) (given : ℕ)
     → IsOpenAt j ss → AllKnown going ss
     → ahead_of going (changed_at j change ss) given ≡ ahead_of going ss given
 known_ahead going j change ss given i k =
     let k' = known_same going j change ss i k in
-    rw (known_not_lost going (changed_at j change ss) k', known_not_lost going ss k, missing_none going 0 (changed_at j change ss) k', missing_none going 0 ss k, earliest_same going j change ss i k)
+    rw (
+      known_not_lost going (changed_at j change ss) k',
+      known_not_lost going ss k,
+      missing_none going 0
+          (changed_at j change ss) k',
+      missing_none going 0 ss k,
+      earliest_same going j change ss i k,
+    )
     (at_same going (earliest going ss) j change ss given i k)
 
 -- what a merge that doesn't wait knows
@@ -75,12 +97,16 @@ pub data Ahead (going : Bool) (ss : List Source) (given : ℕ) : Type 0 where
 pub seen : (going : Bool) (ss : List Source) (given : ℕ)
     → is_waiting (ahead_of going ss given) ≡ false → Ahead going ss given
 seen going ss given h =
-    (elim (list_any (is_lost going) ss) as (λ b. list_any (is_lost going) ss ≡ b → is_waiting (cond b NothingMore (unless_missing (first_from (is_missing going) 0 ss) (ahead_at going (earliest going ss) ss given))) ≡ false → Ahead going ss given) [
+    (elim (list_any (is_lost going) ss) as (λ b. list_any (is_lost going) ss ≡ b →
+    is_waiting (cond b NothingMore (unless_missing (first_from (is_missing going) 0 ss)
+    (ahead_at going (earliest going ss) ss given))) ≡ false → Ahead going ss given) [
       | true ↦ λ e w. Lost e
-      | false ↦ λ e w. (elim (first_from (is_missing going) 0 ss) as (λ o. first_from (is_missing going) 0 ss ≡ o → is_waiting (unless_missing o (ahead_at going (earliest going ss) ss given)) ≡ false → Ahead going ss given) [
-        | None ↦ λ f v. Known (none_missing going 0 ss f)
-        | Some k ↦ λ f v. cc
-      ]) refl w
+      | false ↦ λ e w. (elim (first_from (is_missing going) 0 ss) as
+          (λ o. first_from (is_missing going) 0 ss ≡ o → is_waiting
+          (unless_missing o (ahead_at going (earliest going ss) ss given)) ≡ false → Ahead going ss given) [
+            | None ↦ λ f v. Known (none_missing going 0 ss f)
+            | Some k ↦ λ f v. cc
+          ]) refl w
     ]) refl h
 
 lost_ahead : (going : Bool) (ss : List Source) (given : ℕ) → list_any (is_lost going) ss ≡ true
@@ -89,7 +115,8 @@ lost_ahead going ss given h = rw h refl
 
 same_ahead : (going : Bool) (j : ℕ) (change : Change) (ss : List Source) (given : ℕ) → IsOpenAt j ss
     → Ahead going ss given → ahead_of going (changed_at j change ss) given ≡ ahead_of going ss given
-same_ahead going j change ss given i (Lost h) = lost_ahead going (changed_at j change ss) given (lost_same going j change ss i h) ∙ sym (lost_ahead going ss given h)
+same_ahead going j change ss given i (Lost h) = lost_ahead going (changed_at j change ss) given
+    (lost_same going j change ss i h) ∙ sym (lost_ahead going ss given h)
 same_ahead going j change ss given i (Known k) = known_ahead going j change ss given i k
 
 -- What can be done next stays, unless a record is waited for.
@@ -97,4 +124,5 @@ pub ahead_kept : (j : ℕ) (change : Change) (m : Merge) → IsOpenAt j m.source
     → is_waiting (ahead m) ≡ false → ahead (changed_in j change m) ≡ ahead m
 ahead_kept j change m i h =
     let s = seen (any_due m.sources) m.sources m.given h in
-    ap (λ (b : Bool). ahead_of b (changed_at j change m.sources) m.given) (due_same j change m.sources) ∙ same_ahead (any_due m.sources) j change m.sources m.given i s
+    ap (λ (b : Bool). ahead_of b (changed_at j change m.sources) m.given) (due_same j change m.sources)
+    ∙ same_ahead (any_due m.sources) j change m.sources m.given i s

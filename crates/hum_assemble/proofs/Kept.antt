@@ -27,5 +27,6 @@ kept_fields false change path false [] h = cc
 pub kept : (going : Bool) (change : Change) (s : Source) → s.ended ≡ None
     → is_missing going s ≡ false → Kept going change s
 kept going change s e h =
-    let same : s ≡ record { path = s.path; due = s.due; coming = s.coming; ended = None } = ap (λ (x : Option end.End). record { path = s.path; due = s.due; coming = s.coming; ended = x }) e in
+    let same : s ≡ record { path = s.path; due = s.due; coming = s.coming; ended = None } =
+    ap (λ (x : Option end.End). record { path = s.path; due = s.due; coming = s.coming; ended = x }) e in
     rw same (kept_fields going change s.path s.due s.coming (rw same at h))

@@ -23,7 +23,8 @@ AllKnown going = AllByRecursion (λ s. is_missing going s ≡ false)
 pub record Moves (free going : Bool) (p : Place) (change : Change) (s : Source) : Type 0 where
   pub taken : takes free going p (changed change s) ≡ takes free going p s
   pub moved_is : moved (takes free going p s) going p (changed change s) ≡ changed change (moved (takes free going p s) going p s)
-  pub tokens : (if takes free going p s then tokens_of_first (changed change s).coming else nulls p (changed change s)) ≡ (if takes free going p s then tokens_of_first s.coming else nulls p s)
+  pub tokens : (if takes free going p s then tokens_of_first (changed change s).coming else nulls p
+      (changed change s)) ≡ (if takes free going p s then tokens_of_first s.coming else nulls p s)
   pub text : takes free going p s ≡ true
       → text_of_first (changed change s).coming ≡ text_of_first s.coming
 
@@ -52,13 +53,16 @@ not_taken going p (Ends x) s b f e = rw (f, same_round going p (Ends x) s e) ref
 moved_taken : (going : Bool) (p : Place) (change : Change) (path : Path) (due : Bool) (x : Row)
     (xs : List Row) (b : Bool)
     → b ≡ true
-    → moved b going p (changed change (record { path = path; due = due; coming = x ∷ xs; ended = None })) ≡ changed change (moved b going p (record { path = path; due = due; coming = x ∷ xs; ended = None }))
+    → moved b going p (changed change (record { path = path; due = due; coming = x ∷ xs; ended = None })) ≡
+    changed change (moved b going p (record { path = path; due = due; coming = x ∷ xs; ended = None }))
 moved_taken going p (More row) path due x xs b t = rw t refl
 moved_taken going p (Ends e) path due x xs b t = rw t refl
 
 same_tokens : (p : Place) (change : Change) (path : Path) (due : Bool) (x : Row) (xs : List Row)
     (b : Bool)
-    → (if b then tokens_of_first (changed change (record { path = path; due = due; coming = x ∷ xs; ended = None })).coming else nulls p (changed change (record { path = path; due = due; coming = x ∷ xs; ended = None })))
+    → (if b then tokens_of_first (changed change
+    (record { path = path; due = due; coming = x ∷ xs; ended = None })).coming else nulls p
+    (changed change (record { path = path; due = due; coming = x ∷ xs; ended = None })))
     ≡ (if b then tokens_of_first (x ∷ xs) else nulls p (record { path = path; due = due; coming = x ∷ xs; ended = None }))
 same_tokens p (More row) path due x xs true = refl
 same_tokens p (More row) path due x xs false = refl
@@ -93,7 +97,12 @@ moves_fields free going p change path due (x ∷ xs) o h =
     let k = kept going change s refl h in
     record {
       taken = same_takes free going p change s k.place;
-      moved_is = elim (takes free going p s) as (λ b. moved b going p (changed change s) ≡ changed change (moved b going p s)) [ true ↦ moved_taken going p change path due x xs true refl | false ↦ not_taken going p change s false refl k.place ];
+      moved_is = elim (takes free going p s) as (λ b. moved b going p (changed change s) ≡ changed change
+          (moved b going p s)) [
+            | true ↦ moved_taken going p change path due x xs true refl
+            | false ↦
+                not_taken going p change s false refl k.place
+          ];
       tokens = same_tokens p change path due x xs (takes free going p s);
       text = λ t. same_text change path due x xs;
     }
@@ -111,7 +120,8 @@ moves_fields free going p change path due [] o h =
 pub moves : (free going : Bool) (p : Place) (change : Change) (s : Source) → is_over p ≡ false
     → s.ended ≡ None → is_missing going s ≡ false → Moves free going p change s
 moves free going p change s o e h =
-    let same : s ≡ record { path = s.path; due = s.due; coming = s.coming; ended = None } = ap (λ (x : Option end.End). record { path = s.path; due = s.due; coming = s.coming; ended = x }) e in
+    let same : s ≡ record { path = s.path; due = s.due; coming = s.coming; ended = None } =
+    ap (λ (x : Option end.End). record { path = s.path; due = s.due; coming = s.coming; ended = x }) e in
     rw same (moves_fields free going p change s.path s.due s.coming o (rw same at h))
 
 -- All sources.
@@ -141,7 +151,10 @@ pub comment_same : (going : Bool) (p : Place) (j : ℕ) (change : Change) (ss : 
 comment_same going p j change [] o i k = absurd i
 comment_same going p zero change (s ∷ ss) o i k =
     let m = moves true going p change s o i k.0 in
-    rw m.taken (elim (takes true going p s) as (λ b. (b ≡ true → text_of_first (changed change s).coming ≡ text_of_first s.coming) → cond b (text_of_first (changed change s).coming) (comment_given going p ss) ≡ cond b (text_of_first s.coming) (comment_given going p ss)) [ true ↦ λ e. e refl | false ↦ λ e. refl ] m.text)
+    rw m.taken (elim (takes true going p s) as
+    (λ b. (b ≡ true → text_of_first (changed change s).coming ≡ text_of_first s.coming) →
+    cond b (text_of_first (changed change s).coming) (comment_given going p ss) ≡ cond b
+    (text_of_first s.coming) (comment_given going p ss)) [ true ↦ λ e. e refl | false ↦ λ e. refl ] m.text)
 comment_same going p (suc j) change (s ∷ ss) o i k = rw (comment_same going p j change ss o i k.1) refl
 
 pub earliest_same : (going : Bool) (j : ℕ) (change : Change) (ss : List Source) → IsOpenAt j ss
@@ -197,7 +210,9 @@ lost_same going zero change (s ∷ ss) i h =
     let t : list_any (is_lost going) ss ≡ true = rw e at h in
     rw t (or_true (is_lost going (changed change s)))
 lost_same going (suc j) change (s ∷ ss) i h =
-    elim (is_lost going s) as (λ b. (b || list_any (is_lost going) ss) ≡ true → (b || list_any (is_lost going) (changed_at j change ss)) ≡ true) [ true ↦ λ e. refl | false ↦ λ e. lost_same going j change ss i e ] h
+    elim (is_lost going s) as (λ b. (b || list_any (is_lost going) ss) ≡ true →
+    (b || list_any (is_lost going) (changed_at j change ss)) ≡ true)
+    [ true ↦ λ e. refl | false ↦ λ e. lost_same going j change ss i e ] h
 
 and_false : (a b c : Bool) → (a && b) ≡ false → (a && (b && c)) ≡ false
 and_false true true c h = cc

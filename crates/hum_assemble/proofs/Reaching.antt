@@ -116,15 +116,20 @@ front_going : (j : ℕ) (change : Change) (m : Merge) (p : Place) → IsOpenAt j
 front_going j change m p i h w =
     let k = given_kept j change m p i h in
     let a = (all_going m p h).0 in
-    let b = (all_going (changed_in j change m) p (gives_kept j change m p i h)).0 in
-    (w.0, ap (λ (x : List Row). x ++ w.0) a ∙ (ap (λ (x : List Row). given_row p m ∷ x) w.1 ∙ (ap (λ (x : Row). x ∷ all_given (changed_in j change (given_on p m))) (sym k.1) ∙ (ap (λ (x : Merge). given_row p (changed_in j change m) ∷ all_given x) (sym k.0) ∙ sym b))))
+    let b = (all_going (changed_in j change m) p (gives_kept j change m p i h)).0 in (
+      w.0,
+      ap (λ (x : List Row). x ++ w.0) a ∙ (ap (λ (x : List Row). given_row p m ∷ x) w.1
+          ∙ (ap (λ (x : Row). x ∷ all_given (changed_in j change (given_on p m))) (sym k.1)
+          ∙ (ap (λ (x : Merge). given_row p (changed_in j change m) ∷ all_given x) (sym k.0) ∙ sym b))),
+    )
 
 front_doing : (k j : ℕ) (change : Change) (m : Merge) → IsOpenAt j m.sources → total m.sources ≤ k
     → Doing m
     → ((m : Merge) → IsOpenAt j m.sources → total m.sources < k → (more : List Row) × (all_given m ++ more ≡ all_given (changed_in j change m)))
     → (more : List Row) × (all_given m ++ more ≡ all_given (changed_in j change m))
 front_doing k j change m i h (Resting r) ih = front_resting j change m r
-front_doing k j change m i h (Going p e) ih = front_going j change m p i e (ih (given_on p m) (open_on j m p i) (let t = takes_one m p e in omega (arith, t, h)))
+front_doing k j change m i h (Going p e) ih = front_going j change m p i e
+    (ih (given_on p m) (open_on j m p i) (let t = takes_one m p e in omega (arith, t, h)))
 
 front_within : (k j : ℕ) (change : Change) (m : Merge) → IsOpenAt j m.sources → total m.sources ≤ k
     → (more : List Row) × (all_given m ++ more ≡ all_given (changed_in j change m))

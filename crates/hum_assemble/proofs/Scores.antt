@@ -54,7 +54,9 @@ broken_few : (p q : Place) (n bytes given : ℕ)
     → unless_broken q (rule_broken n bytes given) ≡ Gives p
     → n ≤ 4096
 broken_few p q n bytes given h =
-    (elim (nat_lt 4096 n) as (λ a. nat_lt 4096 n ≡ a → unless_broken q (cond a (Some A1) (cond (nat_lt 1048576 bytes) (Some L1) (cond (nat_le 4294967295 given) (Some L2) None))) ≡ Gives p → n ≤ 4096) [
+    (elim (nat_lt 4096 n) as (λ a. nat_lt 4096 n ≡ a → unless_broken q
+    (cond a (Some A1) (cond (nat_lt 1048576 bytes) (Some L1)
+    (cond (nat_le 4294967295 given) (Some L2) None))) ≡ Gives p → n ≤ 4096) [
       | true ↦ λ e w. cc
       | false ↦ λ e w. grind (arith, nat_tests)
     ]) refl h
@@ -63,7 +65,9 @@ at_few : (going : Bool) (q p : Place) (ss : List Source) (given : ℕ)
     → ahead_at going q ss given ≡ Gives p
     → spines (all_moved true going q ss) ≤ 4096
 at_few going q p ss given h =
-    (elim (is_over q) as (λ b. cond b NothingMore (unless_broken q (rule_broken (spines (all_moved true going q ss)) (length (text_of (made going q ss))) given)) ≡ Gives p → spines (all_moved true going q ss) ≤ 4096) [
+    (elim (is_over q) as (λ b. cond b NothingMore
+    (unless_broken q (rule_broken (spines (all_moved true going q ss)) (length (text_of (made going q ss)))
+    given)) ≡ Gives p → spines (all_moved true going q ss) ≤ 4096) [
       | true ↦ λ w. cc
       | false ↦ λ w. broken_few p q (spines (all_moved true going q ss)) (length (text_of (made going q ss))) given w
     ]) h
@@ -209,10 +213,13 @@ not_lost_fields : (going : Bool) (path : Path) (due : Bool) (coming : List Row)
     (ended : Option end.End)
     → IsSound (record { path = path; due = due; coming = coming; ended = ended }) → ended ≡ Some Closed
     → is_lost going (record { path = path; due = due; coming = coming; ended = ended }) ≡ false
-not_lost_fields going path due (row ∷ rows) ended i e = and_false (is_asked going (record { path = path; due = due; coming = row ∷ rows; ended = ended })) false (is_some ended) refl
+not_lost_fields going path due (row ∷ rows) ended i e = and_false
+    (is_asked going (record { path = path; due = due; coming = row ∷ rows; ended = ended })) false
+    (is_some ended) refl
 not_lost_fields going path true [] ended i e = absurd (never_due path ended i e)
 not_lost_fields going path false [] None i e = cc
-not_lost_fields going path false [] (Some Closed) i e = and_false (is_asked going (record { path = path; due = false; coming = []; ended = Some Closed })) false true refl
+not_lost_fields going path false [] (Some Closed) i e = and_false
+    (is_asked going (record { path = path; due = false; coming = []; ended = Some Closed })) false true refl
 not_lost_fields going path false [] (Some (Broken f)) i e = cc
 
 none_lost : (going : Bool) (ss : List Source) → AllSound ss → AllClosed ss
@@ -230,7 +237,9 @@ at_over : (going : Bool) (q : Place) (ss : List Source) (given : ℕ)
     → ahead_at going q ss given ≡ NothingMore
     → is_over q ≡ true
 at_over going q ss given h =
-    (elim (is_over q) as (λ b. cond b NothingMore (unless_broken q (rule_broken (spines (all_moved true going q ss)) (length (text_of (made going q ss))) given)) ≡ NothingMore → b ≡ true) [
+    (elim (is_over q) as (λ b. cond b NothingMore
+    (unless_broken q (rule_broken (spines (all_moved true going q ss)) (length (text_of (made going q ss)))
+    given)) ≡ NothingMore → b ≡ true) [
       | true ↦ λ w. refl
       | false ↦ λ w. absurd (broken_over q (rule_broken (spines (all_moved true going q ss)) (length (text_of (made going q ss))) given) w)
     ]) h

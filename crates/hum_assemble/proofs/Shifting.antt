@@ -70,7 +70,9 @@ exchanges_shift n j [] = refl
 exchanges_shift n j (s ∷ signs) =
     let e : j + n + 1 ≡ j + 1 + n = omega arith in
     let i = ap (λ (k : ℕ). exchanges k signs) e ∙ exchanges_shift n (j + 1) signs in
-    rw i (elim (is_exchange s) as (λ t. cond t ((j + n) ∷ further n (exchanges (j + 1) signs)) (further n (exchanges (j + 1) signs)) ≡ further n (cond t (j ∷ exchanges (j + 1) signs) (exchanges (j + 1) signs))) [ true ↦ refl | false ↦ refl ])
+    rw i (elim (is_exchange s) as (λ t. cond t ((j + n) ∷ further n (exchanges (j + 1) signs))
+    (further n (exchanges (j + 1) signs)) ≡ further n
+    (cond t (j ∷ exchanges (j + 1) signs) (exchanges (j + 1) signs))) [ true ↦ refl | false ↦ refl ])
 
 moves_plains : (m : ℕ) (pair : List ℕ) (j : ℕ) (b : Bool)
     → heirs_from pair j b (plains m) ≡ stays j m
@@ -94,12 +96,15 @@ moves_right pair j b [] m = moves_plains m pair j b ∙ ap (λ (k : ℕ). stays 
 moves_right pair j b (s ∷ signs) m =
     let e : j + 1 + length signs ≡ j + length (s ∷ signs) = omega arith in
     ap (λ (xs : List Move). xs ++ heirs_from pair (j + 1) (is_join s) (signs ++ plains m)) (heirs_right pair j b s signs m)
-    ∙ (ap (λ (xs : List Move). heirs pair j b s signs ++ xs) (moves_right pair (j + 1) (is_join s) signs m ∙ ap (λ (k : ℕ). heirs_from pair (j + 1) (is_join s) signs ++ stays k m) e)
+    ∙ (ap (λ (xs : List Move). heirs pair j b s signs ++ xs) (moves_right pair (j + 1) (is_join s) signs m
+    ∙ ap (λ (k : ℕ). heirs_from pair (j + 1) (is_join s) signs ++ stays k m) e)
     ∙ sym (append_assoc (heirs pair j b s signs) (heirs_from pair (j + 1) (is_join s) signs) (stays (j + length (s ∷ signs)) m)))
 
 -- The spines after a record of one source between null tokens of others: those to its left, its own, those to its right.
 pub moves_between : (n : ℕ) (signs : List Sign) (m : ℕ)
-    → heirs_from (exchanges 0 (plains n ++ (signs ++ plains m))) 0 false (plains n ++ (signs ++ plains m)) ≡ stays 0 n ++ (map (shift n) (heirs_from (exchanges 0 signs) 0 false signs) ++ stays (n + length signs) m)
+    → heirs_from (exchanges 0 (plains n ++ (signs ++ plains m))) 0 false
+    (plains n ++ (signs ++ plains m)) ≡ stays 0
+    n ++ (map (shift n) (heirs_from (exchanges 0 signs) 0 false signs) ++ stays (n + length signs) m)
 moves_between n signs m =
     let a = exchanges_left n 0 (signs ++ plains m) ∙ (exchanges_right (0 + n) signs m ∙ exchanges_shift n 0 signs) in
     let z : 0 + n ≡ n = omega arith in

@@ -128,7 +128,8 @@ first_waits going i k [] h l = cc
 first_waits going i k (s ∷ ss) h l =
     (elim (is_missing going s) as (λ b. is_missing going s ≡ b → cond b (Some i) (first_from (is_missing going) (i + 1) ss) ≡ Some k → Waiting i k (s ∷ ss)) [
       | true ↦ λ e w. record { place = 0; is = (let v : i ≡ k = cc in omega (arith, v)); waits = missing_waits going s e (or_left (is_lost going s) _ l) }
-      | false ↦ λ e w. let f = first_waits going (i + 1) k ss w (or_right (is_lost going s) _ l) in record { place = suc f.place; is = (let v = f.is in omega (arith, v)); waits = f.waits }
+      | false ↦ λ e w. let f = first_waits going (i + 1) k ss w (or_right (is_lost going s) _ l) in
+          record { place = suc f.place; is = (let v = f.is in omega (arith, v)); waits = f.waits }
     ]) refl h
 
 broken_waits : (k : ℕ) (p : Place) (o : Option Rule) → unless_broken p o ≡ Wants k → ⊥
@@ -153,7 +154,9 @@ ahead_waits : (going : Bool) (ss : List Source) (given k : ℕ) (b : Bool)
     (ahead_at going (earliest going ss) ss given)) ≡ Wants k
     → Waiting 0 k ss
 ahead_waits going ss given k true e h = cc
-ahead_waits going ss given k false e h = first_waits going 0 k ss (missing_is k _ (ahead_at going (earliest going ss) ss given) (at_waits going (earliest going ss) ss given k (is_over (earliest going ss))) h) e
+ahead_waits going ss given k false e h = first_waits going 0 k ss
+    (missing_is k _ (ahead_at going (earliest going ss) ss given)
+    (at_waits going (earliest going ss) ss given k (is_over (earliest going ss))) h) e
 
 -- The source that is wanted has no record, and hasn't ended.
 pub waits_at : (m : Merge) (k : ℕ) → ahead m ≡ Wants k → WaitsAt k m.sources
@@ -239,12 +242,18 @@ resting_wants : (stage : ℕ) (kept : Merge) (spent : Bool) (t : Moment)
 resting_wants stage kept spent t h r =
     let n = same_next stage kept spent t h in
     let a = (at t.given (opening t.inputs) h.at h.reached).resting (ap is_giving (sym n) ∙ r) in
-    rw (lt_false t.given (length (all_of t)) a.0) (ap (λ (m : Merge). wanted (ahead m) (ends t.inputs)) a.1 ∙ (ap (λ (x : next.Next). wanted x (ends t.inputs)) (sym n) ∙ ap (wanted (ahead kept)) (sym (same_ends stage kept spent t h))))
+    rw (lt_false t.given (length (all_of t)) a.0) (ap (λ (m : Merge). wanted (ahead m) (ends t.inputs)) a.1
+    ∙ (ap (λ (x : next.Next). wanted x (ends t.inputs)) (sym n)
+    ∙ ap (wanted (ahead kept)) (sym (same_ends stage kept spent t h))))
 
 giving_at : (stage : ℕ) (kept : Merge) (spent : Bool) (t : Moment)
     (h : Standing stage kept spent t) (p : Place)
     → ahead kept ≡ Gives p → kept ≡ h.at
-giving_at stage kept spent t h p g = elim h.keeps [ inl e ↦ e | inr d ↦ absurd (let s = stopped_rests (ahead h.at) d.stopped in let e = ap is_giving (sym (d.same) ∙ g) in cc) ]
+giving_at stage kept spent t h p g = elim h.keeps [
+  | inl e ↦ e
+  | inr d ↦
+      absurd (let s = stopped_rests (ahead h.at) d.stopped in let e = ap is_giving (sym (d.same) ∙ g) in cc)
+]
 
 giving_now : (stage : ℕ) (kept : Merge) (spent : Bool) (t : Moment)
     (h : Standing stage kept spent t) (p : Place)
@@ -261,8 +270,12 @@ state_cases stage kept spent t h (Wants j) e =
     let r = resting_is stage kept spent t h (ap is_giving e) in
     let n = no_end j (ends_in kept) (open_in j kept.sources (waiting_open j kept.sources (waits_at kept j e))) in
     sym (r ∙ (ap (λ (x : Option end.End). resting_state (fault_at stage Assemble (refusal (kept.given + 1) (ahead kept))) x) n))
-state_cases stage kept spent t h (Refused rule) e = sym (resting_is stage kept spent t h (ap is_giving e) ∙ ap (λ (x : next.Next). resting_state (fault_at stage Assemble (refusal (kept.given + 1) x)) (inputs_end (ends_in kept))) e)
-state_cases stage kept spent t h NothingMore e = sym (resting_is stage kept spent t h (ap is_giving e) ∙ ap (λ (x : next.Next). resting_state (fault_at stage Assemble (refusal (kept.given + 1) x)) (inputs_end (ends_in kept))) e)
+state_cases stage kept spent t h (Refused rule) e = sym (resting_is stage kept spent t h (ap is_giving e)
+    ∙ ap (λ (x : next.Next). resting_state (fault_at stage Assemble (refusal (kept.given + 1) x))
+    (inputs_end (ends_in kept))) e)
+state_cases stage kept spent t h NothingMore e = sym (resting_is stage kept spent t h (ap is_giving e)
+    ∙ ap (λ (x : next.Next). resting_state (fault_at stage Assemble (refusal (kept.given + 1) x))
+    (inputs_end (ends_in kept))) e)
 
 pub state_stands : (stage : ℕ) (kept : Merge) (spent : Bool) (t : Moment)
     → Standing stage kept spent t → state_by stage kept (ahead kept) ≡ state_of t
@@ -273,7 +286,8 @@ wants_cases : (stage : ℕ) (kept : Merge) (spent : Bool) (t : Moment)
     → ahead kept ≡ a → wants_by kept a ≡ wants_of t
 wants_cases stage kept spent t h (Gives p) e = rw (giving_now stage kept spent t h p e) refl
 wants_cases stage kept spent t h (Wants j) e = sym (resting_wants stage kept spent t h (ap is_giving e) ∙ ap (λ (x : next.Next). wanted x (ends_in kept)) e)
-wants_cases stage kept spent t h (Refused rule) e = sym (resting_wants stage kept spent t h (ap is_giving e) ∙ ap (λ (x : next.Next). wanted x (ends_in kept)) e)
+wants_cases stage kept spent t h (Refused rule) e = sym (resting_wants stage kept spent t h (ap is_giving e)
+    ∙ ap (λ (x : next.Next). wanted x (ends_in kept)) e)
 wants_cases stage kept spent t h NothingMore e = sym (resting_wants stage kept spent t h (ap is_giving e) ∙ ap (λ (x : next.Next). wanted x (ends_in kept)) e)
 
 pub wants_stands : (stage : ℕ) (kept : Merge) (spent : Bool) (t : Moment)
@@ -366,7 +380,11 @@ pub put_kept : (stage : ℕ) (kept : Merge) (t : Moment) (j k : ℕ) (change : C
 put_kept stage kept t j k change h e w =
     let n = same_next stage kept false t h in
     let i = rw (same_ends stage kept false t h) at (open_wanted stage kept false t h j w) in
-    let live : kept ≡ h.at = elim h.keeps [ inl x ↦ x | inr d ↦ absurd (let s = stopped_rests (ahead h.at) d.stopped in let v = ap is_waiting (sym (d.same) ∙ e) in cc) ] in
+    let live : kept ≡ h.at = elim h.keeps [
+      | inl x ↦ x
+      | inr d ↦ absurd
+          (let s = stopped_rests (ahead h.at) d.stopped in let v = ap is_waiting (sym (d.same) ∙ e) in cc)
+    ] in
     record {
       stage_is = h.stage_is;
       alive = refl;
@@ -402,7 +420,8 @@ put_dropped stage kept t j row h st w =
       keeps = inr (record {
         stopped = ap is_stopped (same ∙ sym n) ∙ st;
         same = n ∙ sym same;
-        ended = (same_ends stage kept false t h ∙ sym (reaches_ended t.given (opening t.inputs) h.at h.reached ∙ begun_ends t.inputs)) ∙ sym (more_ends j row h.at.sources);
+        ended = (same_ends stage kept false t h ∙ sym (reaches_ended t.given (opening t.inputs) h.at h.reached
+            ∙ begun_ends t.inputs)) ∙ sym (more_ends j row h.at.sources);
         given = omega (arith, g, g');
       });
     }
@@ -427,6 +446,13 @@ end_stands stage kept t j e h w =
         | inr d ↦ let r = stopped_rests (ahead h.at) d.stopped in
             let a = ahead_kept j (Ends e) h.at at_open r.1 in
             let b = ahead_kept j (Ends e) kept kept_open (ap is_waiting d.same ∙ r.1) in
-            inr (record { stopped = ap is_stopped a ∙ d.stopped; same = b ∙ (d.same ∙ sym a); ended = changed_ends j e kept.sources h.at.sources same_end; given = d.given })
+            inr (record {
+              stopped = ap is_stopped a ∙ d.stopped;
+              same = b
+                  ∙ (d.same ∙ sym a);
+              ended = changed_ends j e kept.sources h.at.sources same_end;
+              given =
+                  d.given;
+            })
       ];
     }

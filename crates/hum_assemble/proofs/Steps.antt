@@ -39,7 +39,13 @@ pub data Doing (m : Merge) : Type 0 where
   Resting : is_giving (ahead m) ≡ false → Doing m
 
 pub doing : (m : Merge) → Doing m
-doing m = (elim (ahead m) as (λ a. ahead m ≡ a → Doing m) [ Gives p ↦ λ e. Going p e | Refused rule ↦ λ e. Resting (ap is_giving e) | Wants j ↦ λ e. Resting (ap is_giving e) | NothingMore ↦ λ e. Resting (ap is_giving e) ]) refl
+doing m = (elim (ahead m) as (λ a. ahead m ≡ a → Doing m) [
+  | Gives p ↦ λ e. Going p e
+  | Refused rule ↦ λ e. Resting (ap is_giving e)
+  | Wants j ↦ λ e.
+      Resting (ap is_giving e)
+  | NothingMore ↦ λ e. Resting (ap is_giving e)
+]) refl
 
 -- where a record is given
 pub record IsGiven (going : Bool) (ss : List Source) (given : ℕ) (p : Place) : Type 0 where
@@ -54,7 +60,9 @@ broken_gives q p (Some rule) h = cc
 at_gives : (going : Bool) (q p : Place) (ss : List Source) (given : ℕ)
     → ahead_at going q ss given ≡ Gives p → (p ≡ q) × (is_over q ≡ false)
 at_gives going q p ss given h =
-    (elim (is_over q) as (λ b. is_over q ≡ b → cond b NothingMore (unless_broken q (rule_broken (spines (all_moved true going q ss)) (length (text_of (made going q ss))) given)) ≡ Gives p → (p ≡ q) × (is_over q ≡ false)) [
+    (elim (is_over q) as (λ b. is_over q ≡ b → cond b NothingMore
+    (unless_broken q (rule_broken (spines (all_moved true going q ss)) (length (text_of (made going q ss)))
+    given)) ≡ Gives p → (p ≡ q) × (is_over q ≡ false)) [
       | true ↦ λ e w. cc
       | false ↦ λ e w. (broken_gives q p _ w, e)
     ]) refl h
@@ -127,7 +135,9 @@ pub total_less : (going : Bool) (p : Place) (ss : List Source) → is_over p ≡
     → list_any (is_at going p) ss ≡ true → total (all_moved true going p ss) + 1 ≤ total ss
 total_less going p [] o h = cc
 total_less going p (s ∷ ss) o h =
-    (elim (is_at going p s) as (λ b. is_at going p s ≡ b → (b || list_any (is_at going p) ss) ≡ true → length (moved b going p s).coming + total (all_moved (is_shared p || not b) going p ss) + 1 ≤ length s.coming + total ss) [
+    (elim (is_at going p s) as (λ b. is_at going p s ≡ b → (b || list_any (is_at going p) ss) ≡ true →
+    length (moved b going p s).coming + total (all_moved (is_shared p || not b) going p ss) + 1 ≤ length
+    s.coming + total ss) [
       | true ↦ λ e w. let l = one_less going p s.path s.due s.coming s.ended o e in omega (arith, l, total_le (is_shared p || false) going p ss)
       | false ↦ λ e w. rw (or_not_false (is_shared p)) (let t = total_less going p ss o w in omega (arith, t))
     ]) refl h
@@ -139,7 +149,10 @@ pub earliest_at : (going : Bool) (ss : List Source) → is_over (earliest going 
     → list_any (is_at going (earliest going ss)) ss ≡ true
 earliest_at going [] h = cc
 earliest_at going (s ∷ ss) h =
-    (elim (nat_le (rank (place_at going s)) (rank (earliest going ss))) as (λ b. is_over (cond b (place_at going s) (earliest going ss)) ≡ false → (is_at going (cond b (place_at going s) (earliest going ss)) s || list_any (is_at going (cond b (place_at going s) (earliest going ss))) ss) ≡ true) [
+    (elim (nat_le (rank (place_at going s)) (rank (earliest going ss))) as
+    (λ b. is_over (cond b (place_at going s) (earliest going ss)) ≡ false →
+    (is_at going (cond b (place_at going s) (earliest going ss)) s || list_any
+    (is_at going (cond b (place_at going s) (earliest going ss))) ss) ≡ true) [
       | true ↦ λ o. rw (self_at (rank (place_at going s))) refl
       | false ↦ λ o. rw (earliest_at going ss o) (or_not_false (is_at going (earliest going ss) s))
     ]) h
@@ -153,11 +166,26 @@ takes_one m p h =
 -- All records that can be given.
 pub gives_going : (n : ℕ) (m : Merge) (p : Place) → ahead m ≡ Gives p
     → gives (suc n) m ≡ given_row p m ∷ gives n (given_on p m)
-gives_going n m p h = ap (λ (a : next.Next). elim a as (λ b. List Row) [ Gives q ↦ given_row q m ∷ gives n (given_on q m) | Refused rule ↦ [] | Wants j ↦ [] | NothingMore ↦ [] ]) h
+gives_going n m p h = ap (λ (a : next.Next). elim a as (λ b. List Row)
+    [ Gives q ↦ given_row q m ∷ gives n (given_on q m) | Refused rule ↦ [] | Wants j ↦ [] | NothingMore ↦ [] ])
+    h
 
 pub gives_resting : (n : ℕ) (m : Merge) → is_giving (ahead m) ≡ false → gives n m ≡ []
 gives_resting zero m h = refl
-gives_resting (suc n) m h = (elim (ahead m) as (λ a. is_giving a ≡ false → (elim a as (λ b. List Row) [ Gives p ↦ given_row p m ∷ gives n (given_on p m) | Refused rule ↦ [] | Wants j ↦ [] | NothingMore ↦ [] ]) ≡ []) [ Gives p ↦ λ e. cc | Refused rule ↦ λ e. refl | Wants j ↦ λ e. refl | NothingMore ↦ λ e. refl ]) h
+gives_resting (suc n) m h = (elim (ahead m) as (λ a. is_giving a ≡ false →
+    (elim a as (λ b. List Row) [
+      | Gives p ↦ given_row p m ∷ gives n (given_on p m)
+      | Refused rule ↦
+          []
+      | Wants j ↦ []
+      | NothingMore ↦ []
+    ]) ≡ []) [
+      | Gives p ↦ λ e. cc
+      | Refused rule ↦ λ e. refl
+      | Wants j ↦
+          λ e. refl
+      | NothingMore ↦ λ e. refl
+    ]) h
 
 pub on_going : (n : ℕ) (m : Merge) (p : Place) → ahead m ≡ Gives p
     → goes_on (suc n) m ≡ goes_on n (given_on p m)
@@ -165,7 +193,20 @@ on_going n m p h = ap (λ (a : next.Next). elim a as (λ b. Merge) [ Gives q ↦
 
 pub on_resting : (n : ℕ) (m : Merge) → is_giving (ahead m) ≡ false → goes_on n m ≡ m
 on_resting zero m h = refl
-on_resting (suc n) m h = (elim (ahead m) as (λ a. is_giving a ≡ false → (elim a as (λ b. Merge) [ Gives p ↦ goes_on n (given_on p m) | Refused rule ↦ m | Wants j ↦ m | NothingMore ↦ m ]) ≡ m) [ Gives p ↦ λ e. cc | Refused rule ↦ λ e. refl | Wants j ↦ λ e. refl | NothingMore ↦ λ e. refl ]) h
+on_resting (suc n) m h = (elim (ahead m) as (λ a. is_giving a ≡ false →
+    (elim a as (λ b. Merge) [
+      | Gives p ↦ goes_on n (given_on p m)
+      | Refused rule ↦ m
+      | Wants j ↦
+          m
+      | NothingMore ↦ m
+    ]) ≡ m) [
+      | Gives p ↦ λ e. cc
+      | Refused rule ↦ λ e. refl
+      | Wants j ↦ λ e.
+          refl
+      | NothingMore ↦ λ e. refl
+    ]) h
 
 abbrev Same : ℕ → ℕ → Merge → Type 0
 Same k l m = (gives k m ≡ gives l m) × (goes_on k m ≡ goes_on l m)

@@ -37,7 +37,8 @@ kern_stays past (Spined Interpretation tokens) quiets sound =
     ap (map is_kern) (quiet (path_after past) tokens (not-false (all_plain tokens) quiets) sound.1)
 
 -- what was decided was put
-pub stepped : (decide : List Row → Row → Result (List Row) Rule) (past : List Row) (row : Row) (after : (List Row → Row → Result (List Row) Rule) → List Row → Type 0)
+pub stepped : (decide : List Row → Row → Result (List Row) Rule) (past : List Row) (row : Row)
+    (after : (List Row → Row → Result (List Row) Rule) → List Row → Type 0)
     (room : ℕ) (out : List Row) (told : Told) (refused : Option Rule) → decide past row ≡ decision row told → Puts (decision row told) out refused
     → after decide (row ∷ past) → Steps decide past row after room out refused
 stepped decide past row after room out told None is put on = (is ∙ put, on)

@@ -75,7 +75,9 @@ over : (heading : Heading) (tokens : List (List ℕ)) → list_any is_kern token
 over (Renamed name) tokens some o = rw (long (map (headed (Renamed name)) tokens) o) refl
 over (Followed tandem) tokens some o =
     let behind = map (headed (Followed tandem)) tokens in
-    let l : list_any is_long (Spined Interpretation tokens ∷ Spined Interpretation behind ∷ []) ≡ true = second (is_long (Spined Interpretation tokens)) (is_long (Spined Interpretation behind)) (long behind o) in
+    let l : list_any is_long (Spined Interpretation tokens ∷ Spined Interpretation behind ∷ []) ≡ true =
+    second (is_long (Spined Interpretation tokens)) (is_long (Spined Interpretation behind)) (long behind o)
+    in
     rw (some, l) refl
 
 replaced : (name : List ℕ) (tokens : List (List ℕ)) → length (spelled (map (headed (Renamed name)) tokens)) ≤ 1048576

@@ -1,5 +1,6 @@
 -- Scores stay scores.
-use Rattle.std.proofs.Common.{◌≡◌, ◌∙◌, refl, sym, ap, ℕ, suc, ◌+◌, ◌==◌, ◌≤◌, Bool, true, false, not, ◌&&◌, ◌||◌, List, [], ◌∷◌, length, map, cond, get_or, arith}
+use Rattle.std.proofs.Common.{◌≡◌, ◌∙◌, refl, sym, ap, ℕ, suc, ◌+◌, ◌==◌, ◌≤◌, Bool, true, false, not, ◌&&◌}
+use Rattle.std.proofs.Common.{◌||◌, List, [], ◌∷◌, length, map, cond, get_or, arith}
 use Rattle.std.specs.Prelude.{nat_lt, None, Some, Result, Ok, Err}
 use Rattle.std.specs.List.{list_any, list_all, find}
 use Rattle.std.specs.Str.{bytes_eq}
@@ -34,7 +35,9 @@ use Rattle.hum_stage.specs.Score.{through, Follow}
 use Rattle.hum_stage.specs.Meaning.{KeepsScore}
 use Rattle.hum_stage.specs.Decided.{decisions, limit}
 use Rattle.hum_stage.proofs.Keeping.{at_once_keeps}
-use Rattle.hum_cells.specs.Retelling.{Heading, Renamed, Followed, Retelling, is_kern, kern_columns, is_long, if_fit, data_record, headed, with_heading, beside, retold, all_retold, retell, IsHeading}
+use Rattle.hum_cells.specs.Retelling.{Heading, Renamed, Followed, Retelling, is_kern, kern_columns, is_long}
+use Rattle.hum_cells.specs.Retelling.{if_fit, data_record, headed, with_heading, beside, retold, all_retold}
+use Rattle.hum_cells.specs.Retelling.{retell, IsHeading}
 
 -- the spines of the records that are given
 abbrev pub led : Heading → Path → Path
@@ -148,7 +151,8 @@ module _ (name : List ℕ) (exclusive : is_exclusive (sign_of name) ≡ true) (n
       let few : nat_lt 4096 (length tokens) ≡ false = grind (arith, nat_tests, most) in
       rw (new_signs tokens, k.exclusive, new_bare tokens k.bare, length-map tokens new, few) refl
 
-  sound_new : (names tokens : List (List ℕ)) → find (breaks (Spines names) tokens) in_order ≡ None → find (breaks (Spines (map new names)) (map new tokens)) in_order ≡ None
+  sound_new : (names tokens : List (List ℕ)) → find (breaks (Spines names) tokens) in_order ≡ None →
+      find (breaks (Spines (map new names)) (map new tokens)) in_order ≡ None
   sound_new names tokens h =
       let k = obeys names tokens h in
       let wide = k.wide in
@@ -157,7 +161,23 @@ module _ (name : List ℕ) (exclusive : is_exclusive (sign_of name) ≡ true) (n
       let some : (length names == 0) ≡ false = (find_head (breaks (Spines names) tokens) P7 (P1 ∷ P2 ∷ P6 ∷ P10 ∷ P11 ∷ P3 ∷ P4 ∷ P5 ∷ P9 ∷ []) h).0 in
       let same : (length tokens == length names) ≡ true = grind (arith, nat_tests, wide) in
       let few : nat_lt 4096 (length (moves_under (map sign_of tokens))) ≡ false = grind (arith, nat_tests, most, count) in
-      rw (new_signs tokens, length-map tokens new, length-map names new, some, same, new_unnamed names (map sign_of tokens), k.unnamed, new_bare tokens k.bare, k.steers, k.lone, k.pair, new_mixed names (map sign_of tokens) k.mixed, few) refl
+      rw (
+        new_signs tokens,
+        length-map tokens new,
+        length-map names new,
+        some,
+        same,
+        new_unnamed names
+            (map sign_of tokens),
+        k.unnamed,
+        new_bare tokens k.bare,
+        k.steers,
+        k.lone,
+        k.pair,
+        new_mixed names
+            (map sign_of tokens) k.mixed,
+        few,
+      ) refl
 
   renames : (path : Path) (tokens : List (List ℕ)) → find (breaks path tokens) in_order ≡ None
       → Reach (led (Renamed name) path) (Spined Interpretation (map new tokens) ∷ []) (led (Renamed name) (Spines (names_after path tokens)))

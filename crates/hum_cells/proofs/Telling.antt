@@ -54,7 +54,8 @@ pub record Done (becomes : List (List ℕ) → List ℕ → Result (List ℕ) Ru
 first_told : (becomes : List (List ℕ) → List ℕ → Result (List ℕ) Rule) (kerns : List Bool) (columns : List (List (List ℕ))) (tokens : List (List ℕ)) (j : ℕ)
     → j < length kerns → j < length columns → j < length tokens
     → all_retold becomes (drop j kerns) (drop j columns) (drop j tokens)
-    ≡ beside (retold becomes (get_or kerns j false) (get_or columns j []) (get_or tokens j [])) (all_retold becomes (drop (j + 1) kerns) (drop (j + 1) columns) (drop (j + 1) tokens))
+    ≡ beside (retold becomes (get_or kerns j false) (get_or columns j []) (get_or tokens j []))
+    (all_retold becomes (drop (j + 1) kerns) (drop (j + 1) columns) (drop (j + 1) tokens))
 first_told becomes kerns columns tokens j a b c =
     rw (add-one, drop-cons kerns j false a, drop-cons columns j [] b, drop-cons tokens j [] c) refl
 
@@ -90,7 +91,8 @@ module _ (becomes : List (List ℕ) → List ℕ → Result (List ℕ) Rule) (ke
       record {
         done = d.done ++ p.0 ∷ [];
         size = omega (arith, size, more);
-        whole = sym (behind_one d.done p.0 rest) ∙ (ap (λ one. behind d.done (beside one rest)) (sym p.1) ∙ (ap (behind d.done) (sym (first_told becomes kerns columns tokens j a b c)) ∙ d.whole));
+        whole = sym (behind_one d.done p.0 rest) ∙ (ap (λ one. behind d.done (beside one rest)) (sym p.1)
+            ∙ (ap (behind d.done) (sym (first_told becomes kerns columns tokens j a b c)) ∙ d.whole));
         holds = p.2 d.done d.holds;
       }
 

@@ -9,7 +9,7 @@ use hum_ditto::Ditto;
 use hum_extract::Extract;
 use hum_record::Record;
 use hum_rid::Rid;
-use hum_stage::{End, Stage, State};
+use hum_stage::{End, Readiness, Stage, State};
 use hum_timebase::Timebase;
 use hum_tones::{Mint, Recip, Semits, Trans};
 use hum_yank::Yank;
@@ -185,6 +185,10 @@ impl Stage for CommandStage {
 
     fn state(&self) -> State {
         each!(self, stage => stage.state())
+    }
+
+    fn readiness(&self) -> Readiness {
+        each!(self, stage => stage.readiness())
     }
 
     fn held(&self) -> usize {

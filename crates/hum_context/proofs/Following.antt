@@ -216,7 +216,7 @@ pub fitting : (o : Choice) (number : Option ℕ) (path : Path) (gone : ℕ) (wal
     → ((p : Path) (rs : List Row) → Knows o p held rs → AllStand o p gone rs walks
     → AllStand o p gone rs new)
     → ((p : Path) (tokens : List (List ℕ)) (rs : List Row)
-    → Knows o p held (Spined Values tokens ∷ rs) → AllStand o p gone (Spined Values tokens ∷ rs) new
+    → Knows o p held (Spined Values tokens ∷ rs) → AllStand o p gone (Spined Values tokens ∷ rs) walks
     → Weighs (all_some (new_tokens o p (Spined Values tokens) rs 0 tokens)) Fits)
     → Fitting number gone held new
 fitting o number path gone walks new held look past rows kept want h some at loud stands weighs =
@@ -227,7 +227,8 @@ fitting o number path gone walks new held look past rows kept want h some at lou
     let knows = subst (λ (r : Row). Knows o (path_after past) held (r ∷ f.1)) is m.waits in
     let stand = subst (λ (r : Row). AllStand o (path_after past) gone (r ∷ f.1) new) is
     (stands (path_after past) (f.0 ∷ f.1) m.waits m.stand) in
-    let fits = weighs (path_after past) (tokens_of f.0) f.1 knows stand in
+    let before = subst (λ (r : Row). AllStand o (path_after past) gone (r ∷ f.1) walks) is m.stand in
+    let fits = weighs (path_after past) (tokens_of f.0) f.1 knows before in
     record {
       decided = record {
         o = o;

@@ -1,7 +1,7 @@
 -- A walk goes through one record more.
 use Rattle.std.proofs.Common.{◌≡◌, ◌≢◌, ◌∙◌, refl, sym, ap, ℕ, ◌+◌, Bool, true, false}
 use Rattle.std.proofs.Common.{◌||◌, List, [], ◌∷◌, ◌++◌, length, filter, append-nil, length-append}
-use Rattle.std.proofs.Common.{arith, cond, get_or, Option, Some, None, inl, inr, ◌⊎◌}
+use Rattle.std.proofs.Common.{arith, cond, get_or, Option, Some, None, inl, inr, ◌⊎◌, subst}
 use Rattle.std.specs.Option.{option_and_then}
 use Rattle.std.specs.List.{list_any, join_with_byte}
 use Rattle.std.proofs.lemmas.List.Elements.{filter-append}
@@ -21,7 +21,9 @@ use Rattle.hum_context.specs.Context.{to_last, chain, begins, token_or_null, new
 use Rattle.hum_context.specs.Columns.{place_after, column_below, column_after, path_through, under}
 use Rattle.hum_context.specs.Heard.{heard_of, heard_under, ends, enough_by, wanted_of}
 use Rattle.hum_context.specs.Queue.{Known, column_in, is_last_in, heard_token}
-use Rattle.hum_context.specs.Walking.{Has, Halts, collected, bytes_of}
+use Rattle.hum_context.specs.Walking.{Becomes, Has, Halts, Stands, collected, bytes_of}
+use Rattle.hum_context.specs.declared.front.Becoming.{Becoming}
+use Rattle.hum_context.specs.declared.front.Becoming.TheVariants.{Collects}
 use Rattle.hum_context.proofs.Growth.{chain_step, chain_push, column_push, ended_none, taken_next}
 use Rattle.hum_context.proofs.Growth.{taken_stays, is_enough_by}
 use Rattle.hum_context.proofs.Tokens.{taken_is}
@@ -300,6 +302,17 @@ new_enough o path first rows j walk token none h a b e =
       rw e at (new_by o path first rows j walk token h a b),
       size_is o.extent got none here ∙ sym h.stands.has.size,
     )
+
+-- the same by a walk that has gone through some of the records
+pub enough_becomes : (o : Choice) (path : Path) (first : ℕ) (rows : List Row) (j : ℕ) (walk : Walk)
+    (becoming : Becoming) (token : List ℕ) → taken o.extent [] ≡ None → Stands o path first rows j walk
+    → walk.enough ≡ true → ◌≡◌ {A = Option Becoming} (Some (Collects walk.size)) (Some becoming)
+    → is_collectable o token ≡ true → begins o.extent token ≡ true
+    → Becomes o token (chain path rows j) (Some becoming)
+enough_becomes o path first rows j walk becoming token none h enough is a b =
+    let same : Collects walk.size ≡ becoming = cc in
+    subst (λ (x : Becoming). Becomes o token (chain path rows j) (Some x)) same
+    (new_enough o path first rows j walk token none (record { stands = h; halts = inl enough }) a b enough)
 
 -- under data each column goes on
 pub data_goes_on : (kept : Queued) (c : ℕ) → get_or kept.heard.items c Passed ≢ Passed

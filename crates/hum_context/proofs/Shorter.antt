@@ -1,8 +1,9 @@
 -- A walk from a cell is a walk from the cell below.
-use Rattle.std.proofs.Common.{◌≡◌, ◌∙◌, refl, sym, ap, ℕ, suc, ◌+◌, ◌<◌, Bool, true, false, ◌||◌}
-use Rattle.std.proofs.Common.{List, [], ◌∷◌, ◌++◌, length, filter, take, arith, cond, get_or}
+use Rattle.std.proofs.Common.{◌≡◌, ◌∙◌, refl, sym, ap, ℕ, zero, suc, ◌+◌, ◌<◌, ◌≤◌, Bool, true, false, ◌||◌}
+use Rattle.std.proofs.Common.{List, [], ◌∷◌, ◌++◌, length, filter, take, arith, cond, get_or, set}
+use Rattle.std.proofs.Math.Nat.{eq-or-lt_of_le}
 use Rattle.std.proofs.Common.{Option, Some, None, inl, inr, ◌⊎◌}
-use Rattle.std.specs.Prelude.{nat_le}
+use Rattle.std.specs.Prelude.{nat_le, slice_get}
 use Rattle.std.specs.Option.{option_and_then, option_map}
 use Rattle.std.specs.List.{list_any}
 use Rattle.std.proofs.lemmas.Bool.Decides.{nat_tests}
@@ -206,3 +207,79 @@ shared_stand o path first row rows j i kept walk new known below s (inl same) ha
     (λ front h. has front (sym (known.below j) ∙ below) h (omega (arith, beyond)))
 shared_stand o path first row rows j i kept walk new known below s (inr none) has beyond =
     absurd (omega (arith, none, beyond))
+
+get_below : {X : Type 0} (xs : List X) (j : ℕ) (x : X) → slice_get xs j ≡ Some x → j < length xs
+get_below {X = X} [] j x h = absurd (nothing j h)
+  where
+    nothing : (j : ℕ) → ◌≡◌ {A = Option X} (slice_get [] j) (Some x) → ⊥
+    nothing j k = cc
+get_below (y ∷ ys) zero x h = omega arith
+get_below (y ∷ ys) (suc j) x h = let k = get_below ys j x h in omega (arith, k)
+
+less : (j n : ℕ) → j < n + 1 → (j ≡ n → ⊥) → j < n
+less j n h other = let most : j ≤ n = omega (arith, h) in by (eq-or-lt_of_le most)
+  where
+    by : (j ≡ n) ⊎ (j < n) → j < n
+    by (inl same) = absurd (other same)
+    by (inr below) = below
+
+-- a place of a list with a new element: it is another place, or the new one
+get_place : {X : Type 0} (xs : List X) (n : ℕ) (y : X) (j : ℕ) (x : X)
+    → slice_get (set xs n y) j ≡ Some x
+    → ((j ≡ n → ⊥) × (slice_get xs j ≡ Some x)) ⊎ ((j ≡ n) × (x ≡ y))
+get_place {X = X} [] n y j x h = absurd (nothing j h)
+  where
+    nothing : (j : ℕ) → ◌≡◌ {A = Option X} (slice_get [] j) (Some x) → ⊥
+    nothing j k = cc
+get_place (z ∷ zs) zero y zero x h = inr (refl, let e : y ≡ x = cc in sym e)
+get_place (z ∷ zs) zero y (suc j) x h = inl (λ e. absurd (omega (arith, e)), h)
+get_place (z ∷ zs) (suc n) y zero x h = inl (λ e. absurd (omega (arith, e)), h)
+get_place {X = X} (z ∷ zs) (suc n) y (suc j) x h = by (get_place zs n y j x h)
+  where
+    by : ((j ≡ n → ⊥) × (slice_get zs j ≡ Some x)) ⊎ ((j ≡ n) × (x ≡ y))
+        → ((suc j ≡ suc n → ⊥) × (slice_get zs j ≡ Some x)) ⊎ ((suc j ≡ suc n) × (x ≡ y))
+    by (inl e) = inl (λ k. e.0 (omega (arith, k)), e.1)
+    by (inr e) = inr (ap suc e.0, e.1)
+
+-- The walks before place n are those from the cells below, the others those from the cells.
+pub record ShortTo (o : Choice) (path : Path) (first : ℕ) (row : Row) (rows : List Row) (n : ℕ)
+    (walks : List Walk) : Type 0 where
+  pub short : (j : ℕ) (walk : Walk) → slice_get walks j ≡ Some walk → j < n → first + 1 < walk.at
+      → Stands o (after path row) (first + 1) rows j walk
+  pub long : (j : ℕ) (walk : Walk) → slice_get walks j ≡ Some walk → n ≤ j → first < walk.at
+      → Stands o path first (row ∷ rows) j walk
+
+pub short_none : (o : Choice) (path : Path) (first : ℕ) (row : Row) (rows : List Row)
+    (walks : List Walk) → AllStand o path first (row ∷ rows) walks
+    → ShortTo o path first row rows 0 walks
+short_none o path first row rows walks h = record {
+  short = λ j walk at below beyond. absurd (omega (arith, below));
+  long = λ j walk at over beyond. h j walk at beyond;
+}
+
+pub short_more : (o : Choice) (path : Path) (first : ℕ) (row : Row) (rows : List Row) (n : ℕ)
+    (walks : List Walk) (new : Walk) → ShortTo o path first row rows n walks
+    → (first + 1 < new.at → Stands o (after path row) (first + 1) rows n new)
+    → ShortTo o path first row rows (n + 1) (set walks n new)
+short_more o path first row rows n walks new h s = record {
+  short = λ j walk at below beyond. near j walk beyond below (get_place walks n new j walk at);
+  long = λ j walk at over beyond. far j walk beyond over (get_place walks n new j walk at);
+}
+  where
+    near : (j : ℕ) (walk : Walk) → first + 1 < walk.at → j < n + 1
+        → ((j ≡ n → ⊥) × (slice_get walks j ≡ Some walk)) ⊎ ((j ≡ n) × (walk ≡ new))
+        → Stands o (after path row) (first + 1) rows j walk
+    near j walk beyond below (inl w) = h.short j walk w.1 (less j n below w.0) beyond
+    near j walk beyond below (inr w) = rw (w.0, w.1) (s (rw w.1 at beyond))
+
+    far : (j : ℕ) (walk : Walk) → first < walk.at → n + 1 ≤ j
+        → ((j ≡ n → ⊥) × (slice_get walks j ≡ Some walk)) ⊎ ((j ≡ n) × (walk ≡ new))
+        → Stands o path first (row ∷ rows) j walk
+    far j walk beyond over (inl w) = h.long j walk w.1 (omega (arith, over)) beyond
+    far j walk beyond over (inr w) = let same = w.0 in absurd (omega (arith, same, over))
+
+pub short_all : (o : Choice) (path : Path) (first : ℕ) (row : Row) (rows : List Row) (n : ℕ)
+    (walks : List Walk) → ShortTo o path first row rows n walks → length walks ≤ n
+    → AllStand o (after path row) (first + 1) rows walks
+short_all o path first row rows n walks h all j walk at beyond =
+    let below = get_below walks j walk at in h.short j walk at (omega (arith, below, all)) beyond

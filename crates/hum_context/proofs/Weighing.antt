@@ -19,7 +19,7 @@ use Rattle.hum_context.specs.declared.front.Becoming.TheVariants.{Stays, Null, C
 use Rattle.hum_context.specs.declared.hearing.Heard.TheVariants.{Passed, Taken}
 use Rattle.hum_context.specs.declared.queued.Queued.{Queued}
 use Rattle.hum_context.specs.Context.{Choice, all_some, push_front, chain, new_token, new_tokens}
-use Rattle.hum_context.specs.Context.{if_fits, context}
+use Rattle.hum_context.specs.Context.{if_fits, context, is_collectable, begins}
 use Rattle.hum_context.specs.Heard.{heard_of}
 use Rattle.hum_context.specs.Queue.{Known, Knows}
 use Rattle.hum_context.specs.Walking.{Becomes, Counts, IsFew, bytes_by, bytes_of}
@@ -195,3 +195,9 @@ pub shut_is : (o : Choice) (path : Path) (tokens : List (List ℕ)) (kept : Queu
 shut_is o path tokens kept j chain b e h w shut =
     let is = taken_is o (get_or tokens j []) b e (sym (h.heard j) ∙ w) in
     rw (is.0, is.1, shut) refl
+
+pub open_is : (o : Choice) (path : Path) (tokens : List (List ℕ)) (kept : Queued) (j : ℕ) (b e : Bool)
+    → Known o path (Spined Values tokens) kept → get_or kept.heard.items j Passed ≡ Taken b e → b ≡ true
+    → (is_collectable o (get_or tokens j []) ≡ true) × (begins o.extent (get_or tokens j []) ≡ true)
+open_is o path tokens kept j b e h w open_now =
+    let is = taken_is o (get_or tokens j []) b e (sym (h.heard j) ∙ w) in (is.0, is.1 ∙ open_now)

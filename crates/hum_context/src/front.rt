@@ -3,15 +3,15 @@ ghost use Rattle.std.specs.Prelude.{◌≡◌, ◌≢◌, ◌<◌, ◌≤◌, �
 ghost use Rattle.std.specs.Prelude.{Some, None, IfOk, OnOk};
 ghost use Rattle.std.specs.List.{join_with_byte};
 ghost use Rattle.hum_record.specs.declared.SpinedKind.TheVariants.{Values};
-ghost use Rattle.hum_record.specs.Row.{Row, Spined, token_at};
+ghost use Rattle.hum_record.specs.Row.{Row, Spined, token_at, tokens_of};
 ghost use Rattle.hum_record.specs.Making.{Holds, IsMade};
 ghost use Rattle.hum_path.specs.Spines.{Path};
 ghost use Rattle.hum_context.specs.Context.{Choice, all_some, begins, chain, is_collectable, taken, new_tokens};
-ghost use Rattle.hum_context.specs.Heard.{begins_in, wanted_of};
+ghost use Rattle.hum_context.specs.Heard.{wanted_of};
 ghost use Rattle.hum_context.specs.Queue.{HasToken, Known, Knows};
 ghost use Rattle.hum_context.specs.declared.hearing.Heard.TheVariants.{Passed};
 ghost use Rattle.hum_context.specs.Walking.{AllStand, Stands, Halts, Becomes, IsFew, Weighs, Counts, collected};
-ghost use Rattle.hum_context.specs.Walking.{Decided, bytes_by, text_with, Writes};
+ghost use Rattle.hum_context.specs.Walking.{Decided, bytes_by, bytes_of, text_with, Writes};
 
 use crate::hearing::Heard;
 use crate::queued::Queued;
@@ -101,6 +101,27 @@ fn becoming_by(walk: Walk) -> Option<Becoming>
     None
 }
 
+/// What the token of a cell becomes from which others are collected, where the walk from it is known
+/// to have enough of them.
+#[inline]
+fn enough_at(walks: &[Walk], at: u64, j: usize) -> Option<Becoming>
+    requires { at ≤ 4294967295 }
+    ensures few { IsFew result }
+    ensures becomes { (o : Choice) (path : Path) (rows : List Row) → taken o.extent [] ≡ None
+        → AllStand o path at rows walks.now → (becoming : Becoming) → result ≡ Some becoming
+        → (token : List ℕ) → is_collectable o token ≡ true → begins o.extent token ≡ true
+        → Becomes o token (chain path rows j) (Some becoming) }
+{
+    if j >= walks.len() {
+        return None;
+    }
+    let walk = walks[j];
+    if at < walk.at && walk.enough {
+        return Some(Becoming::Collects(walk.size));
+    }
+    None
+}
+
 /// What the token at place j becomes of the k-th record that waits.
 #[inline(always)]
 fn new_at(
@@ -127,18 +148,24 @@ fn new_at(
             if !begins {
                 return Some(Becoming::Null);
             }
+            if let Some(known) = enough_at(walks, gone + k as u64, j) {
+                return Some(known);
+            }
             becoming_by(walk_at(held, k, gone, walks, j, wanted))
         }
     }
 }
 
-/// How many bytes a new token has, and one more.
+/// How many bytes the new token in a column has, and one more.
 #[inline]
-fn new_bytes(becoming: Becoming, old: u64) -> u64
-    ensures { result ≡ bytes_by becoming old }
+fn new_bytes(becoming: Becoming, kept: &Queued, j: usize) -> u64
+    requires { IsFew (Some becoming) }
+    ensures bytes { result
+        ≡ bytes_by becoming (length (slice_index_or (tokens_of kept.now.row) j []) + 1) }
+    ensures few { result ≤ 2 ^ 53 }
 {
     match becoming {
-        Becoming::Stays => old,
+        Becoming::Stays => kept.bytes(j),
         Becoming::Null => 2,
         Becoming::Collects(size) => size,
     }
@@ -154,35 +181,37 @@ fn plus(size: u64, more: u64) -> u64
     if size > MOST { size } else { size + more }
 }
 
-/// What is known of the new tokens of the k-th record that waits.
-pub(crate) fn weigh(
-    held: &VecDeque<Queued>,
-    k: usize,
-    gone: u64,
-    walks: &[Walk],
-    wanted: Option<u16>,
-) -> Weight
-    requires few { gone + length held.now.items ≤ 4294967295 }
-    requires within { k < length held.now.items }
-    ensures { (o : Choice) (path : Path) (tokens : List (List ℕ)) (rows : List Row)
-        → wanted ≡ wanted_of o.extent → taken o.extent [] ≡ None
-        → Knows o path (drop k held.now.items) (Spined Values tokens ∷ rows)
-        → AllStand o path (gone + k) (Spined Values tokens ∷ rows) walks.now
-        → Weighs (all_some (new_tokens o path (Spined Values tokens) rows 0 tokens)) result }
+/// What is known of new tokens that have so many bytes, with one behind each.
+#[inline]
+fn weight_of(size: u64) -> Weight
+    ensures { (made : List (List ℕ)) → Counts size (bytes_of made) → Weighs (Some made) result }
 {
-    let kept = &held[k];
-    let mut size: u64 = 0;
-    for j in 0..kept.row.width() {
-        let Some(new) = new_at(held, k, gone, walks, j, wanted) else {
-            return Weight::Undecided;
-        };
-        size = plus(size, new_bytes(new, kept.bytes(j)));
-    }
     if size > MOST {
         Weight::Long
     } else {
         Weight::Fits
     }
+}
+
+/// What is known of the new tokens of the k-th record that waits.
+pub(crate) fn weigh(held: &VecDeque<Queued>, k: usize, gone: u64, wanted: Option<u16>) -> Weight
+    requires few { gone + length held.now.items ≤ 4294967295 }
+    requires within { k < length held.now.items }
+    ensures { (o : Choice) (path : Path) (tokens : List (List ℕ)) (rows : List Row)
+        → wanted ≡ wanted_of o.extent → taken o.extent [] ≡ None
+        → Knows o path (drop k held.now.items) (Spined Values tokens ∷ rows)
+        → Weighs (all_some (new_tokens o path (Spined Values tokens) rows 0 tokens)) result }
+{
+    let kept = &held[k];
+    let unknown: &[Walk] = &[];
+    let mut size: u64 = 0;
+    for j in 0..kept.row.width() {
+        let Some(new) = new_at(held, k, gone, unknown, j, wanted) else {
+            return Weight::Undecided;
+        };
+        size = plus(size, new_bytes(new, kept, j));
+    }
+    weight_of(size)
 }
 
 /// Adds the token in a column, if it is collected.
@@ -225,8 +254,9 @@ fn gather(
             return Ok(text);
         };
         let next = &held[n];
+        let further = walk.pass(c, next, wanted);
         text = text_with(text, next, c)?;
-        walk = walk.pass(c, next, wanted);
+        walk = further;
     }
     Ok(text)
 }
@@ -301,16 +331,6 @@ pub(crate) fn write(
     Ok(making.finish())
 }
 
-/// Whether others are collected from a token.
-fn begins_others(heard: Heard) -> bool
-    ensures { result ≡ begins_in heard }
-{
-    match heard {
-        Heard::Passed => false,
-        Heard::Taken { begins, ends: _ } => begins,
-    }
-}
-
 /// Makes room for walks from so many cells of the record with this number.
 fn widen(walks: &mut Vec<Walk>, gone: u64, count: usize) -> Result<(), AllocError>
     requires few { gone ≤ 4294967295 }
@@ -324,50 +344,100 @@ fn widen(walks: &mut Vec<Walk>, gone: u64, count: usize) -> Result<(), AllocErro
     Ok(())
 }
 
-/// Lets the walk from a cell of the first record that waits go on, and says whether its token is
-/// decided.
+/// The walk from a cell of the first record that waits goes on. What the token of the cell becomes,
+/// from which others are collected.
+#[inline(never)]
+fn advance_walk(
+    held: &VecDeque<Queued>,
+    gone: u64,
+    walks: &mut Vec<Walk>,
+    j: usize,
+    wanted: Option<u16>,
+) -> Option<Becoming>
+    requires few { gone + length held.now.items ≤ 4294967295 }
+    requires within { j < length walks.old.items }
+    ensures wide { length walks.new.items ≡ length walks.old.items }
+    ensures few { IsFew result }
+    ensures stand { (o : Choice) (path : Path) (rows : List Row)
+        → wanted ≡ wanted_of o.extent → taken o.extent [] ≡ None → Knows o path held.now.items rows
+        → AllStand o path gone rows walks.old.items → AllStand o path gone rows walks.new.items }
+    ensures becomes { (o : Choice) (path : Path) (rows : List Row)
+        → wanted ≡ wanted_of o.extent → taken o.extent [] ≡ None → Knows o path held.now.items rows
+        → AllStand o path gone rows walks.old.items
+        → (token : List ℕ) → is_collectable o token ≡ true → begins o.extent token ≡ true
+        → Becomes o token (chain path rows j) result }
+{
+    let walk = walk_at(held, 0, gone, walks, j, wanted);
+    walks[j] = walk;
+    becoming_by(walk)
+}
+
+/// What the token at place j becomes of the first record that waits. The walk from it goes on.
+#[inline]
 fn advance_at(
     held: &VecDeque<Queued>,
     gone: u64,
     walks: &mut Vec<Walk>,
     j: usize,
     wanted: Option<u16>,
-) -> bool
+) -> Option<Becoming>
     requires few { gone + length held.now.items ≤ 4294967295 }
     requires some { 0 < length held.now.items }
     requires within { j < length walks.old.items }
     ensures wide { length walks.new.items ≡ length walks.old.items }
+    ensures few { IsFew result }
     ensures stand { (o : Choice) (path : Path) (rows : List Row)
         → wanted ≡ wanted_of o.extent → taken o.extent [] ≡ None → Knows o path held.now.items rows
         → AllStand o path gone rows walks.old.items → AllStand o path gone rows walks.new.items }
+    ensures becomes { (o : Choice) (path : Path) (tokens : List (List ℕ)) (rows : List Row)
+        → wanted ≡ wanted_of o.extent → taken o.extent [] ≡ None
+        → Knows o path held.now.items (Spined Values tokens ∷ rows)
+        → AllStand o path gone (Spined Values tokens ∷ rows) walks.old.items
+        → Becomes o (token_at (Spined Values tokens) j)
+        (chain path (Spined Values tokens ∷ rows) j) result }
 {
-    if !begins_others(held[0].heard(j)) {
-        return true;
+    match held[0].heard(j) {
+        Heard::Passed => Some(Becoming::Stays),
+        Heard::Taken { begins, ends: _ } => {
+            if !begins {
+                return Some(Becoming::Null);
+            }
+            if let Some(known) = enough_at(walks, gone, j) {
+                return Some(known);
+            }
+            advance_walk(held, gone, walks, j, wanted)
+        }
     }
-    let walk = walk_at(held, 0, gone, walks, j, wanted);
-    walks[j] = walk;
-    walk.enough || walk.ended
 }
 
-/// Lets the walks from the first record that waits go on, to the first that isn't decided.
+/// What is known of the new tokens of the first record that waits. The walks from it go on, to the
+/// first that isn't decided.
 pub(crate) fn advance(
     held: &VecDeque<Queued>,
     gone: u64,
     walks: &mut Vec<Walk>,
     wanted: Option<u16>,
-) -> Result<(), AllocError>
+) -> Result<Weight, AllocError>
     requires few { gone + length held.now.items ≤ 4294967295 }
     requires within { 0 < length held.now.items }
-    ensures { OnOk result ((o : Choice) (path : Path) (rows : List Row)
+    ensures stand { OnOk result ((o : Choice) (path : Path) (rows : List Row)
         → wanted ≡ wanted_of o.extent → taken o.extent [] ≡ None → Knows o path held.now.items rows
         → AllStand o path gone rows walks.old.items → AllStand o path gone rows walks.new.items) }
+    ensures weighs { IfOk result (λ weight. (o : Choice) (path : Path) (tokens : List (List ℕ))
+        (rows : List Row) → wanted ≡ wanted_of o.extent → taken o.extent [] ≡ None
+        → Knows o path held.now.items (Spined Values tokens ∷ rows)
+        → AllStand o path gone (Spined Values tokens ∷ rows) walks.old.items
+        → Weighs (all_some (new_tokens o path (Spined Values tokens) rows 0 tokens)) weight) }
 {
-    let width = held[0].row.width();
+    let kept = &held[0];
+    let width = kept.row.width();
     widen(walks, gone, width)?;
+    let mut size: u64 = 0;
     for j in 0..width {
-        if !advance_at(held, gone, walks, j, wanted) {
-            return Ok(());
-        }
+        let Some(new) = advance_at(held, gone, walks, j, wanted) else {
+            return Ok(Weight::Undecided);
+        };
+        size = plus(size, new_bytes(new, kept, j));
     }
-    Ok(())
+    Ok(weight_of(size))
 }

@@ -13,7 +13,6 @@ use hum_pattern::Pattern;
 use hum_record::{Kind, Record};
 use std::alloc::{AllocError, Global};
 use std::marker::Model;
-use std::mem;
 
 /// What is heard of a token.
 #[derive(Clone, Copy, Debug, PartialEq, Eq)]
@@ -79,12 +78,15 @@ impl Span {
     }
 }
 
-/// The list of what was heard of a record that is done with, if there was one.
+/// How many lists are kept, since records are given in bursts.
+const MOST_SPARE: usize = 16;
+
+/// Lists of what was heard of records that are done with.
 ///
-/// Nothing of what stood in it shows, so one is like another.
+/// Nothing of what stood in them shows, so one is like another.
 #[derive(Drop)]
 pub(crate) struct SpareHeard {
-    heard: Vec<Heard>,
+    lists: Vec<Vec<Heard>>,
 }
 
 impl Model for SpareHeard {
@@ -99,22 +101,23 @@ impl SpareHeard {
     /// No record was done with as yet.
     pub(crate) fn none(alloc: Global) -> SpareHeard {
         SpareHeard {
-            heard: Vec::new(alloc),
+            lists: Vec::new(alloc),
         }
     }
 
-    /// Keeps the list of a record of which something was heard, in place of the one that was kept.
+    /// Keeps the list of a record of which something was heard, if there is room for it.
     pub(crate) fn keep(&mut self, heard: Vec<Heard>) {
-        if !heard.is_empty() {
-            self.heard = heard;
+        if heard.is_empty() || self.lists.len() >= MOST_SPARE {
+            return;
         }
+        let _ = self.lists.push(heard);
     }
 
-    /// Hands out the list, empty.
+    /// Hands out a list, empty.
     fn take(&mut self, alloc: Global) -> Vec<Heard>
         ensures { result.items ≡ [] }
     {
-        let mut heard = mem::replace(&mut self.heard, Vec::new(alloc));
+        let mut heard = self.lists.pop().unwrap_or(Vec::new(alloc));
         heard.clear();
         heard
     }

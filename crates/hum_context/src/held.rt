@@ -1,15 +1,16 @@
-//! A record that waits, or what it takes to make it again.
-ghost use Rattle.std.specs.Prelude.{◌≡◌, ◌<◌, ◌≤◌, ◌++◌, ◌∷◌, [], true, length, IfOk, OnOk};
+//! A record that waits or is due, or what it takes to make it again.
+ghost use Rattle.std.specs.Prelude.{◌≡◌, ◌<◌, ◌≤◌, ◌++◌, ◌∷◌, [], true, length, Some, IfOk, OnOk};
 ghost use Rattle.std.specs.List.{list_all};
 ghost use lib.Chars.{codes};
 ghost use Rattle.hum_record.specs.declared.SpinedKind.TheVariants.{Values};
 ghost use Rattle.hum_record.specs.Building.{spelled};
 ghost use Rattle.hum_record.specs.Contents.{is_null};
-ghost use Rattle.hum_record.specs.Row.{kind_of, row_of, text_of, token_at, tokens_of, width_of};
+ghost use Rattle.hum_record.specs.Row.{Row, kind_of, row_of, text_of, token_at, tokens_of, width_of};
 ghost use Rattle.hum_record.specs.Spelling.{IsTextOf, IsTokenOf};
 ghost use Rattle.hum_context.specs.Held.{nulls};
 
 use hum_record::{Kind, Record, RecordBuilder, RecordFault, SpinedKind};
+use hum_stage::IntoRecord;
 use std::alloc::{AllocError, Global};
 use std::marker::Model;
 
@@ -23,8 +24,8 @@ enum Holding {
     Nulls(usize),
 }
 
-/// A record that waits. A wide one of null tokens, of which nothing is collected, is held by how many
-/// they are.
+/// A record that waits or is due. A wide one of null tokens, of which nothing is collected, is held by
+/// how many they are.
 #[derive(Drop)]
 pub struct HeldRecord {
     holding: Holding,
@@ -146,13 +147,31 @@ impl HeldRecord {
         }
     }
 
-    /// The record itself, made again if it isn't held.
-    ///
-    /// # Errors
-    /// Want of memory.
-    pub(crate) fn given(self, alloc: Global) -> Result<Record, AllocError>
-        ensures { IfOk result (λ row. row ≡ self) }
+    /// The record, unless it is held by its width.
+    pub(crate) fn whole(self) -> Option<Record>
+        ensures { (row : Row) → result ≡ Some row → self ≡ row }
     {
+        match self.holding {
+            Holding::Whole(row) => Some(row),
+            Holding::Nulls(_) => None,
+        }
+    }
+}
+
+impl From<Record> for HeldRecord {
+    ghost from_gives = { λ row held. held ≡ row };
+
+    fn from(row: Record) -> HeldRecord {
+        HeldRecord {
+            holding: Holding::Whole(row),
+        }
+    }
+}
+
+impl IntoRecord for HeldRecord {
+    ghost becomes = { λ s. s };
+
+    fn into_record(self, alloc: Global) -> Result<Record, AllocError> {
         match self.holding {
             Holding::Whole(row) => Ok(row),
             Holding::Nulls(width) => made_of_nulls(alloc, width),

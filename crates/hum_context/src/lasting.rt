@@ -23,7 +23,7 @@ fn is_refused(held: &VecDeque<Queued>, k: usize, gone: u64, wanted: Option<u16>)
     if held[k].is_quiet() {
         return false;
     }
-    match weigh(held, k, gone, &[], wanted) {
+    match weigh(held, k, gone, wanted) {
         Weight::Long => true,
         Weight::Undecided => false,
         Weight::Fits => false,

@@ -8,12 +8,13 @@ ghost use Rattle.hum_context.specs.Queue.{Known, Knows};
 ghost use Rattle.hum_context.specs.Walking.{AllStand};
 ghost use Rattle.hum_context.specs.declared.queued.Queued.{Queued};
 
-use crate::front::{Weight, advance, weigh, write};
+use crate::front::{Weight, advance, write};
 use crate::hearing::SpareHeard;
+use crate::held::HeldRecord;
 use crate::lasting::lasting;
 use crate::options::ContextOptions;
 use crate::queued::Queued;
-use crate::sharing::share;
+use crate::sharing::{share, shorten};
 use crate::text::Text;
 use crate::walk::Walk;
 use hum_path::Paths;
@@ -47,6 +48,8 @@ impl LooksAhead for Collecting {
     type Options = ContextOptions;
 
     type Held = Queued;
+
+    type Due = HeldRecord;
 
     ghost use Rattle.hum_stage.specs.declared.faults.Command.TheVariants.{Context};
     ghost use Rattle.hum_context.specs.Context.{context};
@@ -86,14 +89,14 @@ impl LooksAhead for Collecting {
         Ok(())
     }
 
-    fn settle(&mut self, held: &mut VecDeque<Queued>) -> Result<Verdict, AllocError> {
+    fn settle(&mut self, held: &mut VecDeque<Queued>) -> Result<Verdict<HeldRecord>, AllocError> {
         if held[0].is_quiet() {
             let row = self.let_go(held)?;
-            return Ok(Verdict::Gives(row));
+            return Ok(Verdict::Gives(Some(row)));
         }
         let wanted = self.options.span.wanted();
-        advance(held, self.gone, &mut self.walks, wanted)?;
-        match weigh(held, 0, self.gone, &self.walks, wanted) {
+        let weight = advance(held, self.gone, &mut self.walks, wanted)?;
+        match weight {
             Weight::Undecided => Ok(Verdict::Waits),
             Weight::Long => Ok(Verdict::Refuses(Rule::L1)),
             Weight::Fits => {
@@ -111,7 +114,7 @@ impl LooksAhead for Collecting {
                 };
                 let row = self.let_go(held)?;
                 self.keep(row);
-                Ok(Verdict::Gives(Some(made)))
+                Ok(Verdict::Gives(Some(HeldRecord::from(made))))
             }
         }
     }
@@ -160,19 +163,19 @@ impl Collecting {
         if kept.is_still() {
             return Ok(());
         }
+        let wanted = self.options.span.wanted();
+        if kept.keeps_columns() {
+            shorten(&mut self.walks, kept, wanted);
+            return Ok(());
+        }
         self.next.clear();
-        share(
-            &self.walks,
-            kept,
-            self.options.span.wanted(),
-            &mut self.next,
-        )?;
+        share(&self.walks, kept, wanted, &mut self.next)?;
         mem::swap(&mut self.walks, &mut self.next);
         Ok(())
     }
 
     /// The first record that waits is gone.
-    fn let_go(&mut self, held: &mut VecDeque<Queued>) -> Result<Option<Record>, AllocError>
+    fn let_go(&mut self, held: &mut VecDeque<Queued>) -> Result<HeldRecord, AllocError>
         requires few { self.old.gone < 4294967295 }
         requires some { 0 < deque_len held.old }
         ensures kept { OnOk result (self.new ≡ record self.old {
@@ -190,7 +193,7 @@ impl Collecting {
             self.new.walks.items) }
         ensures held { OnOk result (held.new.items ≡ drop 1 held.old.items) }
         ensures row { IfOk result (λ row. (kept : Queued) → slice_get held.old.items 0 ≡ Some kept
-            → row ≡ Some kept.row) }
+            → row ≡ kept.row) }
     {
         let Some(kept) = held.pop_front() else {
             unreachable!()
@@ -199,14 +202,14 @@ impl Collecting {
         self.gone += 1;
         let Queued { row, heard, .. } = kept;
         self.spare_heard.keep(heard);
-        Ok(Some(row.given(self.alloc)?))
+        Ok(row)
     }
 
     /// Keeps the buffers of a record that gave way to another.
-    fn keep(&mut self, row: Option<Record>)
+    fn keep(&mut self, row: HeldRecord)
         ensures { self.new ≡ record self.old { spare = self.new.spare } }
     {
-        if let Some(row) = row {
+        if let Some(row) = row.whole() {
             self.spare.keep(row);
         }
     }

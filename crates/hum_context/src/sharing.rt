@@ -5,7 +5,7 @@ ghost use Rattle.hum_path.specs.Spines.{Path, after};
 ghost use Rattle.hum_context.specs.Columns.{column_below};
 ghost use Rattle.hum_context.specs.Context.{Choice};
 ghost use Rattle.hum_context.specs.Heard.{wanted_of};
-ghost use Rattle.hum_context.specs.Queue.{Known};
+ghost use Rattle.hum_context.specs.Queue.{Known, column_in};
 ghost use Rattle.hum_context.specs.Walking.{AllStand, Has, Shortens, Stands};
 
 use crate::hearing::Heard;
@@ -124,4 +124,18 @@ pub(crate) fn share(
         share_one(walk, kept, j, wanted, next)?;
     }
     Ok(())
+}
+
+/// The walks from the cells below a record that is gone, under which each spine stays where it is.
+pub(crate) fn shorten(walks: &mut Vec<Walk>, kept: &Queued, wanted: Option<u16>)
+    requires { (c : ℕ) → column_in kept.now.row kept.now.below c ≡ Some c }
+    ensures { (o : Choice) (path : Path) (first : ℕ) (row : Row) (rows : List Row)
+        → wanted ≡ wanted_of o.extent → Known o path row kept.now
+        → AllStand o path first (row ∷ rows) walks.old.items
+        → AllStand o (after path row) (first + 1) rows walks.new.items }
+{
+    for j in 0..walks.len() {
+        let walk = walks[j];
+        walks[j] = behind(walk, kept, j, wanted);
+    }
 }

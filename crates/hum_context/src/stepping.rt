@@ -123,6 +123,7 @@ impl Walk {
     }
 
     // The same, by a look at its records.
+    #[inline]
     fn go_further(self, held: &VecDeque<Queued>, gone: u64, wanted: Option<u16>) -> Walk
         requires behind { gone ≤ self.at }
         requires few { gone + length held.now.items ≤ 4294967295 }

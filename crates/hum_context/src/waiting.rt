@@ -1,5 +1,5 @@
 //! What is asked of a record that waits.
-ghost use Rattle.std.specs.Prelude.{◌≡◌, ◌≢◌, ◌==◌, ◌+◌, ◌≤◌, ℕ, [], true, length, IfOk, slice_index_or};
+ghost use Rattle.std.specs.Prelude.{◌≡◌, ◌≢◌, ◌==◌, ◌+◌, ◌≤◌, ℕ, [], true, length, Some, IfOk, slice_index_or};
 ghost use Rattle.std.specs.List.{position};
 ghost use Rattle.hum_record.specs.declared.Kind.TheVariants.{Interpretation as AnyInterpretation};
 ghost use Rattle.hum_record.specs.declared.SpinedKind.TheVariants.{Values};
@@ -107,6 +107,19 @@ impl Queued {
             Kind::Values => self.heard.is_empty(),
             Kind::Local => self.heard.is_empty(),
             Kind::Global => self.heard.is_empty(),
+        }
+    }
+
+    /// Whether each spine stays where it is under it.
+    #[inline]
+    pub(crate) fn keeps_columns(&self) -> bool
+        ensures { result ≡ true → (c : ℕ) → column_in self.now.row self.now.below c ≡ Some c }
+    {
+        match self.row.kind() {
+            Kind::Interpretation => false,
+            Kind::Values => true,
+            Kind::Local => true,
+            Kind::Global => true,
         }
     }
 

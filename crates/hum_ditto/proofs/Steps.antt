@@ -79,7 +79,9 @@ module _ (options : DittoOptions) (path : Path) (memories : List (Option (List �
 
   -- the state goes on with the record
   pub follows_on : (row : Row) (path' : Path) (skip' : Option (List ℕ)) (memories' : List (Option (List ℕ))) → path' ≡ after path row → skip' ≡ options.skip
-      → Remember (last_seen options.skip) None (row ∷ past) memories' → Follows (record { skip = skip'; parentheses = options.parentheses }) path' memories' decide (row ∷ past)
+      → Remember (last_seen options.skip) None (row ∷ past) memories' →
+      Follows (record { skip = skip'; parentheses = options.parentheses }) path' memories' decide
+      (row ∷ past)
   follows_on row path' skip' memories' is same remember = rw same (record {
     command = h.command;
     spines = is ∙ ap (λ (p : Path). after p row) h.spines;

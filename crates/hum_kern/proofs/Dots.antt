@@ -48,7 +48,9 @@ one_more f b t u w h e is =
 shared_same : (value : Ratio) (dots : ℕ) → IsSame (shared value dots) (dotted value dots)
 shared_same value zero = refl
 shared_same value (suc dots) =
-    rw (added_top value dots) (one_more (shared value dots).top (shared value dots).bottom value.top (dotted value dots).top (dotted value dots).bottom (2 * (added value dots).bottom) (shared_same value dots) (ap (λ (x : ℕ). 2 * x) (added_bottom value dots)))
+    rw (added_top value dots) (one_more (shared value dots).top (shared value dots).bottom value.top
+    (dotted value dots).top (dotted value dots).bottom (2 * (added value dots).bottom)
+    (shared_same value dots) (ap (λ (x : ℕ). 2 * x) (added_bottom value dots)))
 
 pub shared_positive : (value : Ratio) (dots : ℕ) → 0 < value.bottom → 0 < (shared value dots).bottom
 shared_positive value zero q = q
@@ -59,11 +61,15 @@ pub shared_reduced : (value : Ratio) (dots : ℕ) → 0 < value.top → 0 < valu
 shared_reduced value dots p q =
     let some = shared_positive value dots q in
     let more = (dotted_greater value dots p q).bottom in
-    lowest_of_one (reduced (shared value dots)) (reduced (dotted value dots)) (reduced_positive (shared value dots) some) (reduced_positive (dotted value dots) more) (reduced_lowest (shared value dots) some) (reduced_lowest (dotted value dots) more)
+    lowest_of_one (reduced (shared value dots)) (reduced (dotted value dots))
+    (reduced_positive (shared value dots) some) (reduced_positive (dotted value dots) more)
+    (reduced_lowest (shared value dots) some) (reduced_lowest (dotted value dots) more)
     (same_trans (reduced (shared value dots)) (shared value dots) (reduced (dotted value dots)) some (reduced_value (shared value dots))
     (same_trans (shared value dots) (dotted value dots) (reduced (dotted value dots)) more (shared_same value dots) (sym (reduced_value (dotted value dots)))))
 
-pub shared_bound : (top bottom dots : ℕ) → top ≤ 4096 → bottom ≤ 4096 → dots ≤ 6 → ((shared (record { top = top; bottom = bottom }) dots).top < 1048576) × ((shared (record { top = top; bottom = bottom }) dots).bottom < 1048576)
+pub shared_bound : (top bottom dots : ℕ) → top ≤ 4096 → bottom ≤ 4096 → dots ≤ 6 →
+    ((shared (record { top = top; bottom = bottom }) dots).top < 1048576) × ((shared
+    (record { top = top; bottom = bottom }) dots).bottom < 1048576)
 shared_bound top bottom zero p q r = (omega arith, omega arith)
 shared_bound top bottom (suc zero) p q r = (omega arith, omega arith)
 shared_bound top bottom (suc (suc zero)) p q r = (omega arith, omega arith)

@@ -18,7 +18,9 @@ capital_at (suc (suc (suc (suc (suc zero))))) count h = refl
 capital_at (suc (suc (suc (suc (suc (suc zero)))))) count h = refl
 capital_at (suc (suc (suc (suc (suc (suc (suc k))))))) count h = absurd (omega arith)
 
-pub capital_is : (letter count : ℕ) → 65 ≤ letter → letter ≤ 71 → read_letters letter count ≡ Some (natural_note (slice_index_or {A = ℕ} steps (letter - 65) 0) (pos 4 -ℤ pos count))
+pub capital_is : (letter count : ℕ) → 65 ≤ letter → letter ≤ 71 →
+    read_letters letter count ≡ Some (natural_note (slice_index_or {A = ℕ} steps (letter - 65) 0)
+    (pos 4 -ℤ pos count))
 capital_is letter count p q =
     let back : letter ≡ 65 + (letter - 65) = omega arith in
     ap (λ (x : ℕ). read_letters x count) back ∙ capital_at (letter - 65) count (omega arith)

@@ -30,8 +30,11 @@ repeated_maximal (b ∷ bytes) = run_maximal (Repeat b) bytes
 pub are_note_parts : (bytes : List ℕ) → AreNoteParts bytes (notation_of bytes)
 are_note_parts bytes =
     let rest = behind (is_in NoLetter) bytes in
-    let last : front (is_in Sign) (behind_repeated rest) ++ behind (is_in Sign) (behind_repeated rest) ≡ behind_repeated rest = front-behind Sign (behind_repeated rest) in
-    let from : repeated rest ++ (front (is_in Sign) (behind_repeated rest) ++ behind (is_in Sign) (behind_repeated rest)) ≡ rest = ap (λ (xs : List ℕ). repeated rest ++ xs) last ∙ repeated-behind rest in
+    let last : front (is_in Sign) (behind_repeated rest) ++ behind (is_in Sign)
+    (behind_repeated rest) ≡ behind_repeated rest = front-behind Sign (behind_repeated rest) in
+    let from : repeated rest ++ (front (is_in Sign) (behind_repeated rest) ++ behind (is_in Sign)
+    (behind_repeated rest)) ≡ rest = ap (λ (xs : List ℕ). repeated rest ++ xs) last
+    ∙ repeated-behind rest in
     record {
       text = sym (ap (λ (xs : List ℕ). front (is_in NoLetter) bytes ++ xs) from ∙ front-behind NoLetter bytes);
       before = subst (IsMaximal NoLetter (front (is_in NoLetter) bytes)) (sym from) (run_maximal NoLetter bytes);
@@ -47,17 +50,24 @@ behind_repeated_is : (letters rest : List ℕ) → IsRepeated letters rest → b
 behind_repeated_is [] rest h = rw h refl
 behind_repeated_is (b ∷ letters) rest h = behind_is (Repeat b) letters rest h
 
-same : {b c l m s t o p : List ℕ} → b ≡ c → l ≡ m → s ≡ t → o ≡ p → ◌≡◌ {A = Notation} (record { before = b; letters = l; signs = s; left = o }) (record { before = c; letters = m; signs = t; left = p })
+same : {b c l m s t o p : List ℕ} → b ≡ c → l ≡ m → s ≡ t → o ≡ p →
+    ◌≡◌ {A = Notation} (record { before = b; letters = l; signs = s; left = o })
+    (record { before = c; letters = m; signs = t; left = p })
 same {b} {c} {l} {m} {s} {t} {o} {p} u v w x =
     ap (λ (y : List ℕ). made y l s o) u ∙ ap (λ (y : List ℕ). made c y s o) v ∙ ap (λ (y : List ℕ). made c m y o) w ∙ ap (λ (y : List ℕ). made c m t y) x
   where
     made : List ℕ → List ℕ → List ℕ → List ℕ → Notation
     made b l s o = record { before = b; letters = l; signs = s; left = o }
 
-pub of_parts : (parts : Notation) → IsMaximal NoLetter parts.before (parts.letters ++ (parts.signs ++ parts.left)) → IsRepeated parts.letters (parts.signs ++ parts.left) → IsMaximal Sign parts.signs parts.left → notation_of (parts.before ++ (parts.letters ++ (parts.signs ++ parts.left))) ≡ parts
+pub of_parts : (parts : Notation) → IsMaximal NoLetter parts.before
+    (parts.letters ++ (parts.signs ++ parts.left)) → IsRepeated parts.letters (parts.signs ++ parts.left) →
+    IsMaximal Sign parts.signs parts.left → notation_of
+    (parts.before ++ (parts.letters ++ (parts.signs ++ parts.left))) ≡ parts
 of_parts parts before letters signs =
     let first = behind_is NoLetter parts.before (parts.letters ++ (parts.signs ++ parts.left)) before in
-    let rest : behind_repeated (behind (is_in NoLetter) (parts.before ++ (parts.letters ++ (parts.signs ++ parts.left)))) ≡ parts.signs ++ parts.left = ap behind_repeated first ∙ behind_repeated_is parts.letters (parts.signs ++ parts.left) letters in
+    let rest : behind_repeated (behind (is_in NoLetter)
+    (parts.before ++ (parts.letters ++ (parts.signs ++ parts.left)))) ≡ parts.signs ++ parts.left =
+    ap behind_repeated first ∙ behind_repeated_is parts.letters (parts.signs ++ parts.left) letters in
     same (front_is NoLetter parts.before (parts.letters ++ (parts.signs ++ parts.left)) before)
     (ap repeated first ∙ repeated_is parts.letters (parts.signs ++ parts.left) letters)
     (ap (front (is_in Sign)) rest ∙ front_is Sign parts.signs parts.left signs)

@@ -1,5 +1,6 @@
 -- Every text has parts, and a duration stands within its text.
-use Rattle.std.proofs.Common.{◌≡◌, ℕ, suc, ◌+◌, ◌==◌, Bool, true, false, List, [], ◌∷◌, ◌++◌, take, drop, Option, None, Some, refl, sym, ap, ◌∙◌, subst, arith, rules}
+use Rattle.std.proofs.Common.{◌≡◌, ℕ, suc, ◌+◌, ◌==◌, Bool, true, false, List, [], ◌∷◌, ◌++◌, take, drop}
+use Rattle.std.proofs.Common.{Option, None, Some, refl, sym, ap, ◌∙◌, subst, arith, rules}
 use Rattle.std.specs.Prelude.{if◌then◌else◌, nat_le, length, ◌≤◌, Result, Ok, Err, IfOk}
 use Rattle.std.specs.List.{list_any}
 use Rattle.std.proofs.Common.{length-append}
@@ -13,14 +14,17 @@ use Rattle.hum_kern.specs.declared.runs.Class.{Class}
 use Rattle.hum_kern.specs.declared.runs.Class.TheVariants.{Digit, Other, Dot}
 use Rattle.hum_kern.specs.Runs.{run, front, behind, starts_with}
 use Rattle.hum_kern.specs.Classes.{is_in, is_grace_sign}
-use Rattle.hum_kern.specs.Duration.{Spelling, spelling, spelling_of, second_of, behind_digits, is_empty, is_torn, second_length, with_dots, said, no_length, duration}
+use Rattle.hum_kern.specs.Duration.{Spelling, spelling, spelling_of, second_of, behind_digits, is_empty}
+use Rattle.hum_kern.specs.Duration.{is_torn, second_length, with_dots, said, no_length, duration}
 use Rattle.hum_kern.specs.Parts.{IsMaximal, quotient_text, IsSecond, behind_first, AreParts}
 
 pub run_maximal : (class : Class) (bytes : List ℕ) → IsMaximal class (front (is_in class) bytes) (behind (is_in class) bytes)
 run_maximal class [] = record { all_in = tt; ends = tt }
 run_maximal class (b ∷ bytes) = go (run_maximal class bytes) (is_in class b) refl
   where
-    go : IsMaximal class (front (is_in class) bytes) (behind (is_in class) bytes) → (t : Bool) → is_in class b ≡ t → IsMaximal class (take (if t then run (is_in class) bytes + 1 else 0) (b ∷ bytes)) (drop (if t then run (is_in class) bytes + 1 else 0) (b ∷ bytes))
+    go : IsMaximal class (front (is_in class) bytes) (behind (is_in class) bytes) → (t : Bool) →
+        is_in class b ≡ t → IsMaximal class (take (if t then run (is_in class) bytes + 1 else 0) (b ∷ bytes))
+        (drop (if t then run (is_in class) bytes + 1 else 0) (b ∷ bytes))
     go more true e =
         let next : run (is_in class) bytes + 1 ≡ suc (run (is_in class) bytes) = omega arith in
         rw next (record { all_in = (e, more.all_in); ends = more.ends })
@@ -34,7 +38,10 @@ rest_text : (before digits rest : List ℕ) → behind_first (spelling before di
 rest_text before digits [] = refl
 rest_text before digits (b ∷ bytes) = go (b == 37) refl
   where
-    go : (t : Bool) → (b == 37) ≡ t → quotient_text (if t then Some (front (is_in Digit) bytes) else None) ++ (front (is_in Dot) (if t then behind (is_in Digit) bytes else b ∷ bytes) ++ behind (is_in Dot) (if t then behind (is_in Digit) bytes else b ∷ bytes)) ≡ b ∷ bytes
+    go : (t : Bool) → (b == 37) ≡ t → quotient_text
+        (if t then Some (front (is_in Digit) bytes) else None) ++ (front (is_in Dot)
+        (if t then behind (is_in Digit) bytes else b ∷ bytes) ++ behind (is_in Dot)
+        (if t then behind (is_in Digit) bytes else b ∷ bytes)) ≡ b ∷ bytes
     go true e =
         let is : b ≡ 37 = search rules in
         ap (λ (xs : List ℕ). 37 ∷ (front (is_in Digit) bytes ++ xs)) (front-behind Dot (behind (is_in Digit) bytes))
@@ -46,14 +53,20 @@ rest_second : (before digits rest : List ℕ) → IsSecond (second_of rest) ((sp
 rest_second before digits [] = refl
 rest_second before digits (b ∷ bytes) = go (b == 37) refl
   where
-    go : (t : Bool) → (b == 37) ≡ t → IsSecond (if t then Some (front (is_in Digit) bytes) else None) (front (is_in Dot) (if t then behind (is_in Digit) bytes else b ∷ bytes) ++ behind (is_in Dot) (if t then behind (is_in Digit) bytes else b ∷ bytes))
+    go : (t : Bool) → (b == 37) ≡ t → IsSecond (if t then Some (front (is_in Digit) bytes) else None)
+        (front (is_in Dot) (if t then behind (is_in Digit) bytes else b ∷ bytes) ++ behind (is_in Dot)
+        (if t then behind (is_in Digit) bytes else b ∷ bytes))
     go true e = subst (IsMaximal Digit (front (is_in Digit) bytes)) (sym (front-behind Dot (behind (is_in Digit) bytes))) (run_maximal Digit bytes)
     go false e = subst (λ (xs : List ℕ). starts_with 37 xs ≡ false) (sym (front-behind Dot (b ∷ bytes))) e
 
 pub are_parts : (bytes : List ℕ) → AreParts bytes (spelling_of bytes)
 are_parts bytes =
-    let last : behind_first (spelling_of bytes) ≡ behind (is_in Digit) (behind (is_in Other) bytes) = rest_text (front (is_in Other) bytes) (front (is_in Digit) (behind (is_in Other) bytes)) (behind (is_in Digit) (behind (is_in Other) bytes)) in
-    let from : front (is_in Digit) (behind (is_in Other) bytes) ++ behind_first (spelling_of bytes) ≡ behind (is_in Other) bytes = ap (λ (xs : List ℕ). front (is_in Digit) (behind (is_in Other) bytes) ++ xs) last ∙ front-behind Digit (behind (is_in Other) bytes) in
+    let last : behind_first (spelling_of bytes) ≡ behind (is_in Digit) (behind (is_in Other) bytes) =
+    rest_text (front (is_in Other) bytes) (front (is_in Digit) (behind (is_in Other) bytes))
+    (behind (is_in Digit) (behind (is_in Other) bytes)) in
+    let from : front (is_in Digit) (behind (is_in Other) bytes) ++ behind_first (spelling_of bytes) ≡ behind
+    (is_in Other) bytes = ap (λ (xs : List ℕ). front (is_in Digit) (behind (is_in Other) bytes) ++ xs) last
+    ∙ front-behind Digit (behind (is_in Other) bytes) in
     record {
       text = sym (ap (λ (xs : List ℕ). front (is_in Other) bytes ++ xs) from ∙ front-behind Other bytes);
       before = subst (IsMaximal Other (front (is_in Other) bytes)) (sym from) (run_maximal Other bytes);
@@ -62,7 +75,8 @@ are_parts bytes =
       dots = run_maximal Dot (behind_digits (behind (is_in Digit) (behind (is_in Other) bytes)));
     }
 
-text_length : (bytes : List ℕ) (parts : Spelling) → AreParts bytes parts → length parts.before + length parts.digits + second_length parts.second + length parts.dots ≤ length bytes
+text_length : (bytes : List ℕ) (parts : Spelling) → AreParts bytes parts →
+    length parts.before + length parts.digits + second_length parts.second + length parts.dots ≤ length bytes
 text_length bytes parts h =
     let all = ap length h.text in
     let one = length-append parts.before (parts.digits ++ behind_first parts) in
@@ -80,21 +94,30 @@ text_length bytes parts h =
 abbrev pub StandsIn : List ℕ → Result Length KernFault → Type 0
 StandsIn bytes read = IfOk read (λ found. (found.start ≤ found.end) × (found.end ≤ length bytes))
 
-with_dots_in : (bytes : List ℕ) (start end : ℕ) (value : Option Ratio) (dots : ℕ) → start ≤ end → end + dots ≤ length bytes → StandsIn bytes (with_dots start end value dots)
+with_dots_in : (bytes : List ℕ) (start end : ℕ) (value : Option Ratio) (dots : ℕ) → start ≤ end →
+    end + dots ≤ length bytes → StandsIn bytes (with_dots start end value dots)
 with_dots_in bytes start end None dots p q = tt
-with_dots_in bytes start end (Some value) dots p q = elim (nat_le dots 6) as (λ (b : Bool). StandsIn bytes (if b then Ok (record { value = Some (reduced (dotted value dots)); start = start; end = end + dots }) else Err K3)) [
-  | true ↦ (omega arith, q)
-  | false ↦ tt
-]
+with_dots_in bytes start end (Some value) dots p q = elim (nat_le dots 6) as
+    (λ (b : Bool). StandsIn bytes (if b then Ok
+    (record { value = Some (reduced (dotted value dots)); start = start; end = end + dots }) else Err K3)) [
+      | true ↦ (omega arith, q)
+      | false ↦ tt
+    ]
 
 said_in : (bytes : List ℕ) (parts : Spelling) → AreParts bytes parts → StandsIn bytes (said parts)
-said_in bytes parts h = elim (is_torn parts) as (λ (b : Bool). StandsIn bytes (if b then Err K3 else with_dots (length parts.before) (length parts.before + length parts.digits + second_length parts.second) (value_of parts.digits parts.second) (length parts.dots))) [
-  | true ↦ tt
-  | false ↦ with_dots_in bytes (length parts.before) (length parts.before + length parts.digits + second_length parts.second) (value_of parts.digits parts.second) (length parts.dots) (omega arith) (text_length bytes parts h)
-]
+said_in bytes parts h = elim (is_torn parts) as (λ (b : Bool). StandsIn bytes
+    (if b then Err K3 else with_dots (length parts.before)
+    (length parts.before + length parts.digits + second_length parts.second)
+    (value_of parts.digits parts.second) (length parts.dots))) [
+      | true ↦ tt
+      | false ↦ with_dots_in bytes (length parts.before)
+          (length parts.before + length parts.digits + second_length parts.second)
+          (value_of parts.digits parts.second) (length parts.dots) (omega arith) (text_length bytes parts h)
+    ]
 
 -- whatever is asked first
-pub said_stands : (bytes : List ℕ) (grace none : Bool) → StandsIn bytes (if grace then Ok no_length else if none then Ok no_length else said (spelling_of bytes))
+pub said_stands : (bytes : List ℕ) (grace none : Bool) → StandsIn bytes
+    (if grace then Ok no_length else if none then Ok no_length else said (spelling_of bytes))
 said_stands bytes true none = (omega arith, omega arith)
 said_stands bytes false true = (omega arith, omega arith)
 said_stands bytes false false = said_in bytes (spelling_of bytes) (are_parts bytes)

@@ -1,5 +1,7 @@
 -- A pitch that is written among other bytes is read there.
-use Rattle.std.proofs.Common.{◌≡◌, ℕ, zero, suc, ◌+◌, ◌==◌, ◌<◌, ◌≤◌, Bool, true, false, ℤ, pos, negsuc, ◌+ℤ◌, ◌-ℤ◌, List, [], ◌∷◌, ◌++◌, Option, Some, None, Ok, length, refl, sym, ap, ◌∙◌, subst, arith, rules}
+use Rattle.std.proofs.Common.{◌≡◌, ℕ, zero, suc, ◌+◌, ◌==◌, ◌<◌, ◌≤◌, Bool, true, false, ℤ, pos, negsuc, ◌+ℤ◌}
+use Rattle.std.proofs.Common.{◌-ℤ◌, List, [], ◌∷◌, ◌++◌, Option, Some, None, Ok, length, refl, sym, ap, ◌∙◌}
+use Rattle.std.proofs.Common.{subst, arith, rules}
 use Rattle.std.specs.Prelude.{replicate, slice_index, nat_lt, ◌||◌, not, if◌then◌else◌}
 use Rattle.std.specs.List.{list_any, list_all, AllByRecursion}
 use Rattle.std.proofs.lemmas.List.{length-replicate, append-nil}
@@ -14,7 +16,9 @@ use Rattle.hum_pitch.proofs.Steps.{same_note}
 use Rattle.hum_kern.specs.declared.runs.Class.TheVariants.{NoLetter, Repeat, Sign}
 use Rattle.hum_kern.specs.Classes.{is_in, is_letter, is_sign, is_rest_sign, is_grace_sign, is_continued_sign}
 use Rattle.hum_kern.specs.Parts.{EndsBefore}
-use Rattle.hum_kern.specs.Note.{Notation, Reading, is_uniform, alteration_of, pitch_of, is_doubtful, is_excessive, is_rest, marks_of, with_pitch, pitched, note_by, note, notation_of}
+use Rattle.hum_kern.specs.Note.{Notation, Reading, is_uniform, alteration_of, pitch_of, is_doubtful}
+use Rattle.hum_kern.specs.Note.{is_excessive, is_rest, marks_of, with_pitch, pitched, note_by, note}
+use Rattle.hum_kern.specs.Note.{notation_of}
 use Rattle.hum_kern.specs.NoteParts.{IsRepeated}
 use Rattle.hum_kern.proofs.Notations.{of_parts}
 
@@ -27,7 +31,8 @@ pub record AreLetters (p : Spelled) (xs : List ℕ) : Type 0 where
   pub few : suc more ≤ 8
   pub read : read_letters letter (suc more) ≡ Some (natural_note p.step p.octave)
 
-small_read : (step k : ℕ) → step < 7 → (is_letter (slice_index small_letters step) ≡ true) × (read_letters (slice_index small_letters step) (suc k) ≡ Some (natural_note step (pos 3 +ℤ pos (suc k))))
+small_read : (step k : ℕ) → step < 7 → (is_letter (slice_index small_letters step) ≡ true) × (read_letters
+    (slice_index small_letters step) (suc k) ≡ Some (natural_note step (pos 3 +ℤ pos (suc k))))
 small_read zero k h = (refl, refl)
 small_read (suc zero) k h = (refl, refl)
 small_read (suc (suc zero)) k h = (refl, refl)
@@ -37,7 +42,8 @@ small_read (suc (suc (suc (suc (suc zero))))) k h = (refl, refl)
 small_read (suc (suc (suc (suc (suc (suc zero)))))) k h = (refl, refl)
 small_read (suc (suc (suc (suc (suc (suc (suc n))))))) k h = absurd (omega arith)
 
-capital_read : (step k : ℕ) → step < 7 → (is_letter (slice_index capitals step) ≡ true) × (read_letters (slice_index capitals step) (suc k) ≡ Some (natural_note step (pos 4 -ℤ pos (suc k))))
+capital_read : (step k : ℕ) → step < 7 → (is_letter (slice_index capitals step) ≡ true) × (read_letters
+    (slice_index capitals step) (suc k) ≡ Some (natural_note step (pos 4 -ℤ pos (suc k))))
 capital_read zero k h = (refl, refl)
 capital_read (suc zero) k h = (refl, refl)
 capital_read (suc (suc zero)) k h = (refl, refl)
@@ -55,12 +61,28 @@ are_letters p h = go (p.octave -ℤ pos 4) (omega (arith, ints))
         let octave : pos 3 +ℤ pos (suc k) ≡ p.octave = omega (arith, ints) in
         let read = small_read p.step k h.0 in
         let limits = h.1 in
-        record { letter = slice_index small_letters p.step; more = k; is = refl; letter_is = read.0; few = omega (arith, ints); read = read.1 ∙ ap (λ (o : ℤ). Some (natural_note p.step o)) octave }
+        record {
+          letter = slice_index small_letters p.step;
+          more = k;
+          is = refl;
+          letter_is = read.0;
+          few =
+              omega (arith, ints);
+          read = read.1 ∙ ap (λ (o : ℤ). Some (natural_note p.step o)) octave;
+        }
     go (negsuc k) e =
         let octave : pos 4 -ℤ pos (suc k) ≡ p.octave = omega (arith, ints) in
         let read = capital_read p.step k h.0 in
         let limits = h.1 in
-        record { letter = slice_index capitals p.step; more = k; is = refl; letter_is = read.0; few = omega (arith, ints); read = read.1 ∙ ap (λ (o : ℤ). Some (natural_note p.step o)) octave }
+        record {
+          letter = slice_index capitals p.step;
+          more = k;
+          is = refl;
+          letter_is = read.0;
+          few =
+              omega (arith, ints);
+          read = read.1 ∙ ap (λ (o : ℤ). Some (natural_note p.step o)) octave;
+        }
 
 all_same : (b n : ℕ) → list_all (λ (x : ℕ). x == b) (replicate n b) ≡ true
 all_same b zero = refl
@@ -104,15 +126,22 @@ ends_letters x (pos (suc k)) left h none = differs 35 x refl h
 ends_letters x (negsuc k) left h none = differs 45 x refl h
 
 -- bytes that a test doesn't tell
-pub off : (test class : ℕ → Bool) → ((b : ℕ) → class b ≡ true → test b ≡ false) → (xs : List ℕ) → AllByRecursion (λ (x : ℕ). class x ≡ true) xs → list_any test xs ≡ false
+pub off : (test class : ℕ → Bool) → ((b : ℕ) → class b ≡ true → test b ≡ false) → (xs : List ℕ) →
+    AllByRecursion (λ (x : ℕ). class x ≡ true) xs → list_any test xs ≡ false
 off test class h [] all = refl
 off test class h (x ∷ xs) all = rw (h x all.0) (off test class h xs all.1)
 
 -- A test that tells neither letters nor signs tells the same of a text with a pitch and without.
-pub beside : (test : ℕ → Bool) → ((b : ℕ) → is_letter b ≡ true → test b ≡ false) → ((b : ℕ) → is_sign b ≡ true → test b ≡ false) → (before letters signs left : List ℕ) → AllByRecursion (λ (x : ℕ). is_letter x ≡ true) letters → AllByRecursion (λ (x : ℕ). is_sign x ≡ true) signs → list_any test (before ++ (letters ++ (signs ++ left))) ≡ list_any test (before ++ left)
+pub beside : (test : ℕ → Bool) → ((b : ℕ) → is_letter b ≡ true → test b ≡ false) →
+    ((b : ℕ) → is_sign b ≡ true → test b ≡ false) → (before letters signs left : List ℕ) →
+    AllByRecursion (λ (x : ℕ). is_letter x ≡ true) letters → AllByRecursion (λ (x : ℕ). is_sign x ≡ true) signs
+    → list_any test (before ++ (letters ++ (signs ++ left))) ≡ list_any test (before ++ left)
 beside test f g before letters signs left p q =
     list_any-append test before (letters ++ (signs ++ left))
-    ∙ ap (λ (b : Bool). list_any test before || b) (list_any-append test letters (signs ++ left) ∙ ap (λ (b : Bool). b || list_any test (signs ++ left)) (off test is_letter f letters p) ∙ list_any-append test signs left ∙ ap (λ (b : Bool). b || list_any test left) (off test is_sign g signs q))
+    ∙ ap (λ (b : Bool). list_any test before || b) (list_any-append test letters (signs ++ left)
+    ∙ ap (λ (b : Bool). b || list_any test (signs ++ left)) (off test is_letter f letters p)
+    ∙ list_any-append test signs left ∙ ap (λ (b : Bool). b || list_any test left)
+    (off test is_sign g signs q))
     ∙ sym (list_any-append test before left)
 
 -- no letter and no sign is a mark
@@ -134,15 +163,22 @@ continued_letter b h = grind arith
 continued_sign : (b : ℕ) → is_sign b ≡ true → is_continued_sign b ≡ false
 continued_sign b h = grind arith
 
-same_marks : {a b c d e f : Bool} → a ≡ b → c ≡ d → e ≡ f → ◌≡◌ {A = Reading} (record { pitch = None; start = 0; end = 0; rest = a; grace = c; continued = e }) (record { pitch = None; start = 0; end = 0; rest = b; grace = d; continued = f })
+same_marks : {a b c d e f : Bool} → a ≡ b → c ≡ d → e ≡ f → ◌≡◌ {A = Reading}
+    (record { pitch = None; start = 0; end = 0; rest = a; grace = c; continued = e })
+    (record { pitch = None; start = 0; end = 0; rest = b; grace = d; continued = f })
 same_marks {a} {b} {c} {d} {e} {f} p q r = ap (λ (x : Bool). made x c e) p ∙ ap (λ (x : Bool). made b x e) q ∙ ap (λ (x : Bool). made b d x) r
   where
     made : Bool → Bool → Bool → Reading
     made a c e = record { pitch = None; start = 0; end = 0; rest = a; grace = c; continued = e }
 
 -- A pitch bears no marks.
-pub marks_beside : (before letters signs left : List ℕ) → AllByRecursion (λ (x : ℕ). is_letter x ≡ true) letters → AllByRecursion (λ (x : ℕ). is_sign x ≡ true) signs → marks_of (before ++ (letters ++ (signs ++ left))) ≡ marks_of (before ++ left)
-marks_beside before letters signs left p q = same_marks (beside is_rest_sign rest_letter rest_sign before letters signs left p q) (beside is_grace_sign grace_letter grace_sign before letters signs left p q) (beside is_continued_sign continued_letter continued_sign before letters signs left p q)
+pub marks_beside : (before letters signs left : List ℕ) → AllByRecursion (λ (x : ℕ). is_letter x ≡ true) letters
+    → AllByRecursion (λ (x : ℕ). is_sign x ≡ true) signs → marks_of
+    (before ++ (letters ++ (signs ++ left))) ≡ marks_of (before ++ left)
+marks_beside before letters signs left p q = same_marks
+    (beside is_rest_sign rest_letter rest_sign before letters signs left p q)
+    (beside is_grace_sign grace_letter grace_sign before letters signs left p q)
+    (beside is_continued_sign continued_letter continued_sign before letters signs left p q)
 
 -- what stands round a pitch: no letters, no sign directly behind it, and no rest
 pub record IsRound (before left : List ℕ) : Type 0 where
@@ -176,40 +212,65 @@ pitch_there p xs l ys s =
     ∙ ap (λ (a : ℤ). altered_by (Some (natural_note p.step p.octave)) (Some a)) s.alteration
     ∙ ap Some (same_note _ p refl refl refl)
 
-letters_alone : (p : Spelled) (left : List ℕ) (letter more : ℕ) → is_letter letter ≡ true → list_any is_letter left ≡ false → IsRepeated (replicate (suc more) letter) (accidentals p.alteration ++ left)
-letters_alone p left letter more h none = let same : (letter == letter) ≡ true = search rules in record { all_in = all_in (λ (x : ℕ). x == letter) letter more same; ends = ends_letters letter p.alteration left h none }
+letters_alone : (p : Spelled) (left : List ℕ) (letter more : ℕ) → is_letter letter ≡ true →
+    list_any is_letter left ≡ false → IsRepeated (replicate (suc more) letter)
+    (accidentals p.alteration ++ left)
+letters_alone p left letter more h none = let same : (letter == letter) ≡ true = search rules in
+    record {
+      all_in = all_in (λ (x : ℕ). x == letter) letter more same;
+      ends =
+          ends_letters letter p.alteration left h none;
+    }
 
-some_letters : (p : Spelled) (xs : List ℕ) → AreLetters p xs → (marks : Reading) (before ys left : List ℕ) → is_doubtful (record { before = before; letters = xs; signs = ys; left = left }) ≡ false → is_excessive (record { before = before; letters = xs; signs = ys; left = left }) ≡ false → pitched marks (record { before = before; letters = xs; signs = ys; left = left }) ≡ Ok (with_pitch marks (pitch_of xs ys) (length before) (length before + length xs + length ys))
+some_letters : (p : Spelled) (xs : List ℕ) → AreLetters p xs → (marks : Reading) (before ys left : List ℕ) →
+    is_doubtful (record { before = before; letters = xs; signs = ys; left = left }) ≡ false →
+    is_excessive (record { before = before; letters = xs; signs = ys; left = left }) ≡ false →
+    pitched marks (record { before = before; letters = xs; signs = ys; left = left }) ≡ Ok
+    (with_pitch marks (pitch_of xs ys) (length before) (length before + length xs + length ys))
 some_letters p [] l marks before ys left d e = let no = l.is in cc
 some_letters p (x ∷ xs) l marks before ys left d e = otherwise _ _ _ d ∙ otherwise _ _ _ e
 
-placed_in : (before left : List ℕ) → IsRound before left → (p : Spelled) (xs : List ℕ) → AreLetters p xs → IsRepeated xs (accidentals p.alteration ++ left) → AreSigns p.alteration (accidentals p.alteration) → note (before ++ (xs ++ (accidentals p.alteration ++ left))) ≡ Ok (with_pitch (marks_of (before ++ left)) (Some p) (length before) (length before + length xs + length (accidentals p.alteration)))
+placed_in : (before left : List ℕ) → IsRound before left → (p : Spelled) (xs : List ℕ) → AreLetters p xs →
+    IsRepeated xs (accidentals p.alteration ++ left) → AreSigns p.alteration (accidentals p.alteration) →
+    note (before ++ (xs ++ (accidentals p.alteration ++ left))) ≡ Ok
+    (with_pitch (marks_of (before ++ left)) (Some p) (length before)
+    (length before + length xs + length (accidentals p.alteration)))
 placed_in before left h p xs l repeated s =
     let ys : List ℕ = accidentals p.alteration in
     let parts : Notation = record { before = before; letters = xs; signs = ys; left = left } in
     let text : List ℕ = before ++ (xs ++ (ys ++ left)) in
-    let all : AllByRecursion (λ (x : ℕ). is_letter x ≡ true) xs = subst (AllByRecursion (λ (x : ℕ). is_letter x ≡ true)) (sym l.is) (all_in is_letter l.letter (suc l.more) l.letter_is) in
-    let begins : EndsBefore NoLetter (xs ++ (ys ++ left)) = subst (λ (zs : List ℕ). EndsBefore NoLetter (zs ++ (ys ++ left))) (sym l.is) (not_of (is_letter l.letter) l.letter_is) in
-    let cut : notation_of text ≡ parts = of_parts parts (record { all_in = h.letterless; ends = begins }) repeated (record { all_in = s.all_in; ends = h.no_sign }) in
+    let all : AllByRecursion (λ (x : ℕ). is_letter x ≡ true) xs =
+    subst (AllByRecursion (λ (x : ℕ). is_letter x ≡ true)) (sym l.is)
+    (all_in is_letter l.letter (suc l.more) l.letter_is) in
+    let begins : EndsBefore NoLetter (xs ++ (ys ++ left)) =
+    subst (λ (zs : List ℕ). EndsBefore NoLetter (zs ++ (ys ++ left))) (sym l.is)
+    (not_of (is_letter l.letter) l.letter_is) in
+    let cut : notation_of text ≡ parts = of_parts parts (record { all_in = h.letterless; ends = begins })
+    repeated (record { all_in = s.all_in; ends = h.no_sign }) in
     let marks : marks_of text ≡ marks_of (before ++ left) = marks_beside before xs ys left all s.all_in in
     let no_rest : is_rest text ≡ false = ap (λ (m : Reading). m.rest) marks ∙ h.no_rest in
     let counted : length xs ≡ suc l.more = ap length l.is ∙ length-replicate (suc l.more) l.letter in
     let few : length xs ≤ 8 = let bound = l.few in omega arith in
     let clear : is_doubtful parts ≡ false = neither (list_any is_letter left) (not (is_uniform ys)) h.no_letter (not_of (is_uniform ys) s.uniform) in
-    let modest : is_excessive parts ≡ false = neither (nat_lt 8 (length xs)) (nat_lt 7 (length ys)) (not_over 8 (length xs) few) (not_over 7 (length ys) s.few) in
+    let modest : is_excessive parts ≡ false = neither (nat_lt 8 (length xs)) (nat_lt 7 (length ys))
+    (not_over 8 (length xs) few) (not_over 7 (length ys) s.few) in
     ap (note_by text) cut
     ∙ otherwise (is_rest text) (Ok (marks_of text)) (pitched (marks_of text) parts) no_rest
     ∙ ap (λ (m : Reading). pitched m parts) marks
     ∙ some_letters p xs l (marks_of (before ++ left)) before ys left clear modest
-    ∙ ap (λ (o : Option Spelled). Ok (with_pitch (marks_of (before ++ left)) o (length before) (length before + length xs + length ys))) (pitch_there p xs l ys s)
+    ∙ ap (λ (o : Option Spelled). Ok (with_pitch (marks_of (before ++ left)) o (length before)
+    (length before + length xs + length ys))) (pitch_there p xs l ys s)
 
 -- A pitch that is written among such bytes is read there.
-pub placed : (before left : List ℕ) → IsRound before left → (p : Spelled) → IsPitch p.step p.octave p.alteration → note (before ++ (spelling p ++ left)) ≡ Ok (with_pitch (marks_of (before ++ left)) (Some p) (length before) (length before + length (spelling p)))
+pub placed : (before left : List ℕ) → IsRound before left → (p : Spelled) →
+    IsPitch p.step p.octave p.alteration → note (before ++ (spelling p ++ left)) ≡ Ok
+    (with_pitch (marks_of (before ++ left)) (Some p) (length before) (length before + length (spelling p)))
 placed before left h p range =
     let xs : List ℕ = letters_of p in
     let ys : List ℕ = accidentals p.alteration in
     let l = are_letters p range in
-    let repeated : IsRepeated xs (ys ++ left) = subst (λ (zs : List ℕ). IsRepeated zs (ys ++ left)) (sym l.is) (letters_alone p left l.letter l.more l.letter_is h.no_letter) in
+    let repeated : IsRepeated xs (ys ++ left) = subst (λ (zs : List ℕ). IsRepeated zs (ys ++ left)) (sym l.is)
+    (letters_alone p left l.letter l.more l.letter_is h.no_letter) in
     let counted : length before + length xs + length ys ≡ length before + length (xs ++ ys) = let both = length-append xs ys in omega arith in
     ap (λ (zs : List ℕ). note (before ++ zs)) (append_assoc xs ys left)
     ∙ placed_in before left h p xs l repeated (are_signs p.alteration range.2)

@@ -33,9 +33,14 @@ tail_is None [] h = refl
 tail_is None (b ∷ rest) h = rw h refl
 tail_is (Some second) rest h = behind_is Digit second rest h
 
-pub same : {b c : List ℕ} {d e : List ℕ} {s t : Option (List ℕ)} {f g : List ℕ} {l m : List ℕ} → b ≡ c → d ≡ e → s ≡ t → f ≡ g → l ≡ m → ◌≡◌ {A = Spelling} (record { before = b; digits = d; second = s; dots = f; left = l }) (record { before = c; digits = e; second = t; dots = g; left = m })
+pub same : {b c : List ℕ} {d e : List ℕ} {s t : Option (List ℕ)} {f g : List ℕ} {l m : List ℕ} → b ≡ c → d ≡ e →
+    s ≡ t → f ≡ g → l ≡ m → ◌≡◌ {A = Spelling}
+    (record { before = b; digits = d; second = s; dots = f; left = l })
+    (record { before = c; digits = e; second = t; dots = g; left = m })
 same {b} {c} {d} {e} {s} {t} {f} {g} {l} {m} p q r u v =
-    ap (λ (x : List ℕ). made x d s f l) p ∙ ap (λ (x : List ℕ). made c x s f l) q ∙ ap (λ (x : Option (List ℕ)). made c e x f l) r ∙ ap (λ (x : List ℕ). made c e t x l) u ∙ ap (λ (x : List ℕ). made c e t g x) v
+    ap (λ (x : List ℕ). made x d s f l) p ∙ ap (λ (x : List ℕ). made c x s f l) q
+    ∙ ap (λ (x : Option (List ℕ)). made c e x f l) r ∙ ap (λ (x : List ℕ). made c e t x l) u
+    ∙ ap (λ (x : List ℕ). made c e t g x) v
   where
     made : List ℕ → List ℕ → Option (List ℕ) → List ℕ → List ℕ → Spelling
     made b d s f l = record { before = b; digits = d; second = s; dots = f; left = l }
@@ -43,8 +48,12 @@ same {b} {c} {d} {e} {s} {t} {f} {g} {l} {m} p q r u v =
 of_text : (bytes : List ℕ) (parts : Spelling) → AreParts bytes parts → spelling_of (parts.before ++ (parts.digits ++ behind_first parts)) ≡ parts
 of_text bytes parts h =
     let first = behind_is Other parts.before (parts.digits ++ behind_first parts) h.before in
-    let rest : behind (is_in Digit) (behind (is_in Other) (parts.before ++ (parts.digits ++ behind_first parts))) ≡ behind_first parts = ap (behind (is_in Digit)) first ∙ behind_is Digit parts.digits (behind_first parts) h.digits in
-    let tail : behind_digits (behind (is_in Digit) (behind (is_in Other) (parts.before ++ (parts.digits ++ behind_first parts)))) ≡ parts.dots ++ parts.left = ap behind_digits rest ∙ tail_is parts.second (parts.dots ++ parts.left) h.second in
+    let rest : behind (is_in Digit) (behind (is_in Other)
+    (parts.before ++ (parts.digits ++ behind_first parts))) ≡ behind_first parts =
+    ap (behind (is_in Digit)) first ∙ behind_is Digit parts.digits (behind_first parts) h.digits in
+    let tail : behind_digits (behind (is_in Digit) (behind (is_in Other)
+    (parts.before ++ (parts.digits ++ behind_first parts)))) ≡ parts.dots ++ parts.left =
+    ap behind_digits rest ∙ tail_is parts.second (parts.dots ++ parts.left) h.second in
     same (front_is Other parts.before (parts.digits ++ behind_first parts) h.before)
     (ap (front (is_in Digit)) first ∙ front_is Digit parts.digits (behind_first parts) h.digits)
     (ap second_of rest ∙ second_is parts.second (parts.dots ++ parts.left) h.second)

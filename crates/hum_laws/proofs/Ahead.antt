@@ -26,7 +26,8 @@ stays_settled room look line past (row ∷ p) h =
     let more = stays_settled room look (line + 1) (row ∷ past) p h in
     rw (h past row (take room p)) (ap (λ (x : List Row). row ∷ x) more.0, more.1)
 
-pub stays_whole : (room stage : ℕ) (command : Command) (look : Look) (p : List Row) (given : Given) → Stays look → IsAlone (looking room stage command look) p given
+pub stays_whole : (room stage : ℕ) (command : Command) (look : Look) (p : List Row) (given : Given) →
+    Stays look → IsAlone (looking room stage command look) p given
     → (given.records.items ≡ p) × (given.end ≡ Closed)
 stays_whole room stage command look p given h k =
     let s = stays_settled room look 1 [] p h in

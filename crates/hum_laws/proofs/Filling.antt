@@ -129,7 +129,8 @@ longer_same p skip (c ∷ cs) [] tokens h = absurd h
 longer_same p skip (c ∷ cs) (d ∷ ds) [] h = h
 longer_same p skip (c ∷ cs) (d ∷ ds) (t ∷ ts) h = ((inl refl, h.0), longer_same p skip cs ds ts h.1)
 
-at_filled : (p : Bool) (skip : Option (List ℕ)) (cs ds : List (List (List ℕ))) (j : ℕ) → AllFilled p skip cs ds → Filled p skip (get_or cs j []) (get_or ds j [])
+at_filled : (p : Bool) (skip : Option (List ℕ)) (cs ds : List (List (List ℕ))) (j : ℕ) →
+    AllFilled p skip cs ds → Filled p skip (get_or cs j []) (get_or ds j [])
 at_filled p skip [] [] j h = tt
 at_filled p skip [] (d ∷ ds) j h = absurd h
 at_filled p skip (c ∷ cs) [] j h = absurd h
@@ -177,7 +178,8 @@ values_step options past behind made tokens h e =
       },
     )
 
-step : (options : DittoOptions) (past behind made : List Row) (row : Row) → Behind options past behind → ditto options past row ≡ Ok made → Step options past behind made row
+step : (options : DittoOptions) (past behind made : List Row) (row : Row) → Behind options past behind →
+    ditto options past row ≡ Ok made → Step options past behind made row
 step options past behind made (Comment text) h e = let is : Comment text ∷ [] ≡ made = cc in rw (← is) (refl, record { path = h.path; cells = h.cells })
 step options past behind made (Spined Local tokens) h e =
     let is : Spined Local tokens ∷ [] ≡ made = cc in
@@ -194,7 +196,8 @@ step options past behind made (Spined Interpretation tokens) h e =
 step options past behind made (Spined Values tokens) h e = values_step options past behind made tokens h e
 
 -- What ditto gives twice is what it gives once.
-pub filled_twice : (options : DittoOptions) (p : List Row) (once twice : Given) → IsAlone (meaning 1 options) p once → IsPiped (meaning 1 options) (meaning 2 options) p twice
+pub filled_twice : (options : DittoOptions) (p : List Row) (once twice : Given) →
+    IsAlone (meaning 1 options) p once → IsPiped (meaning 1 options) (meaning 2 options) p twice
     → KeepsScore (meaning 1 options).outcomes → IsScore p → once.end ≡ Closed → twice.end ≡ Closed → twice.records.items ≡ once.records.items
 filled_twice options p once twice h k keeps score one two =
     let alone = alone_runs 1 Ditto (ditto options) p once h one in

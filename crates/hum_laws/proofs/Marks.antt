@@ -18,7 +18,9 @@ use Rattle.hum_stage.specs.declared.faults.Rule.TheVariants.{L1}
 use Rattle.hum_stage.specs.Score.{Follow, IsScore}
 use Rattle.hum_stage.specs.Outcome.{settled}
 use Rattle.hum_stage.specs.Decided.{decisions}
-use Rattle.hum_cells.specs.Retelling.{Heading, Renamed, Followed, Retelling, is_kern, kern_columns, is_told, retold, beside, all_retold, headed, with_heading, is_long, if_fit, data_record, retell}
+use Rattle.hum_cells.specs.Retelling.{Heading, Renamed, Followed, Retelling, is_kern, kern_columns, is_told}
+use Rattle.hum_cells.specs.Retelling.{retold, beside, all_retold, headed, with_heading, is_long, if_fit}
+use Rattle.hum_cells.specs.Retelling.{data_record, retell}
 use Rattle.hum_laws.specs.Marked.{Marking, with_values, marked, all_marked}
 use Rattle.hum_laws.proofs.Runs.{Taken, made_by, out, Fine, taken, RunsBehind, RunsTo, comes_to}
 
@@ -50,7 +52,9 @@ all_tokens first second both h (k ∷ ks) [] others tokens texts wide as_wide e 
 all_tokens first second both h (k ∷ ks) (x ∷ xs) [] tokens texts wide as_wide e = absurd (omega (arith, as_wide))
 all_tokens first second both h (k ∷ ks) (x ∷ xs) (y ∷ ys) [] texts wide as_wide e = let is : [] ≡ texts = cc in rw (← is) refl
 all_tokens first second both h (k ∷ ks) (x ∷ xs) (y ∷ ys) (t ∷ ts) texts wide as_wide e =
-    go (retold first k x t) refl (all_retold first ks xs ts) (λ rest is. all_tokens first second both h ks xs ys ts rest (omega (arith, wide)) (omega (arith, as_wide)) is) e
+    go (retold first k x t) refl (all_retold first ks xs ts)
+    (λ rest is. all_tokens first second both h ks xs ys ts rest (omega (arith, wide))
+    (omega (arith, as_wide)) is) e
   where
     go : (r : Result (List ℕ) Rule) → retold first k x t ≡ r → (q : Result (List (List ℕ)) Rule)
         → ((rest : List (List ℕ)) → q ≡ Ok rest → all_retold both ks xs ts ≡ all_retold (λ _. second) ks ys rest)
@@ -130,10 +134,11 @@ values_step heading sign first second both h past behind made tokens right sound
     as_wide = columns_width behind sound ∙ ap width holds ∙ sym (length-map (exclusives (path_after past)) is_kern)
 
     both_is : marked (marking_of heading sign both) past (Spined Values tokens) ≡ with_values (all_retold both (kern_columns past) (columns past) tokens)
-    both_is = elim heading as (λ (x : Heading). marked (marking_of x sign both) past (Spined Values tokens) ≡ with_values (all_retold both (kern_columns past) (columns past) tokens)) [
-      | Renamed name ↦ refl
-      | Followed other ↦ refl
-    ]
+    both_is = elim heading as (λ (x : Heading). marked (marking_of x sign both) past
+        (Spined Values tokens) ≡ with_values (all_retold both (kern_columns past) (columns past) tokens)) [
+          | Renamed name ↦ refl
+          | Followed other ↦ refl
+        ]
 
     second_row : (q : Result (List (List ℕ)) Rule) → Taken (data_record q) → with_values q ≡ Ok (made_by (data_record q) ++ [])
     second_row (Err rule) f = absurd f
@@ -161,7 +166,14 @@ two_rows : (heading : Heading) (sign : List ℕ) (second : List ℕ → Result (
     ≡ Ok (out (retell (second_is heading second)) behind (Spined Interpretation tokens ∷ Spined Interpretation (map (headed (Followed sign)) tokens) ∷ []))
 two_rows (Renamed name) sign second both past behind tokens h some fine =
     let below = map (headed (Followed sign)) tokens in
-    rw (some, fits_as (Spined Interpretation (map (headed (Renamed name)) tokens) ∷ []) fine.0, fits_as (Spined Interpretation (map (headed (Renamed name)) below) ∷ []) fine.1.0, name_below name sign tokens h) refl
+    rw (
+      some,
+      fits_as (Spined Interpretation (map (headed (Renamed name)) tokens) ∷ []) fine.0,
+      fits_as
+          (Spined Interpretation (map (headed (Renamed name)) below) ∷ []) fine.1.0,
+      name_below name sign tokens
+          h,
+    ) refl
 two_rows (Followed other) sign second both past behind tokens h some fine =
     let below = map (headed (Followed sign)) tokens in
     let none = no_kern_below sign tokens h in
@@ -171,7 +183,8 @@ two_rows (Followed other) sign second both past behind tokens h some fine =
 
 one_row : (heading : Heading) (sign : List ℕ) (second : List ℕ → Result (List ℕ) Rule) (both : Becomes) (past behind : List Row) (tokens : List (List ℕ))
     → list_any is_kern tokens ≡ false → Fine (retell (second_is heading second)) behind (Spined Interpretation tokens ∷ [])
-    → marked (marking_of heading sign both) past (Spined Interpretation tokens) ≡ Ok (out (retell (second_is heading second)) behind (Spined Interpretation tokens ∷ []))
+    → marked (marking_of heading sign both) past (Spined Interpretation tokens) ≡ Ok
+    (out (retell (second_is heading second)) behind (Spined Interpretation tokens ∷ []))
 one_row (Renamed name) sign second both past behind tokens none fine =
     rw (none, fits_as (Spined Interpretation (map (headed (Renamed name)) tokens) ∷ []) fine.0) refl
 one_row (Followed other) sign second both past behind tokens none fine =
@@ -180,7 +193,8 @@ one_row (Followed other) sign second both past behind tokens none fine =
 
 steering_step : (heading : Heading) (sign : List ℕ) (first : Becomes) (second : List ℕ → Result (List ℕ) Rule) (both : Becomes) → Signs sign first second both
     → (past behind made : List Row) (tokens : List (List ℕ)) → Behind past behind
-    → retell (following sign first) past (Spined Interpretation tokens) ≡ Ok made → Follow (path_after behind) made → Fine (retell (second_is heading second)) behind made
+    → retell (following sign first) past (Spined Interpretation tokens) ≡ Ok made →
+    Follow (path_after behind) made → Fine (retell (second_is heading second)) behind made
     → Step heading sign first second both past behind made (Spined Interpretation tokens)
 steering_step heading sign first second both h past behind made tokens holds e goes fine =
     by_bool (list_any is_kern tokens) (λ some. two some (fit_only _ made e)) (λ none. one none (fit_only _ made e))
@@ -191,7 +205,8 @@ steering_step heading sign first second both h past behind made tokens holds e g
     names : List (List ℕ)
     names = names_after (path_after behind) tokens
 
-    two : list_any is_kern tokens ≡ true → with_heading (Followed sign) tokens ≡ made → Step heading sign first second both past behind made (Spined Interpretation tokens)
+    two : list_any is_kern tokens ≡ true → with_heading (Followed sign) tokens ≡ made →
+        Step heading sign first second both past behind made (Spined Interpretation tokens)
     two some is =
         let rows : Spined Interpretation tokens ∷ Spined Interpretation below ∷ [] ≡ made = rw some at is in
         let follow = rw (← rows) at goes in
@@ -201,7 +216,8 @@ steering_step heading sign first second both h past behind made tokens holds e g
           ap Spines stays ∙ ap (λ (p : Path). after p (Spined Interpretation tokens)) holds,
         )
 
-    one : list_any is_kern tokens ≡ false → with_heading (Followed sign) tokens ≡ made → Step heading sign first second both past behind made (Spined Interpretation tokens)
+    one : list_any is_kern tokens ≡ false → with_heading (Followed sign) tokens ≡ made →
+        Step heading sign first second both past behind made (Spined Interpretation tokens)
     one none is =
         let rows : Spined Interpretation tokens ∷ [] ≡ made = rw none at is in
         rw (← rows) (
@@ -213,10 +229,14 @@ step : (heading : Heading) (sign : List ℕ) (first : Becomes) (second : List �
     → (past behind made : List Row) (row : Row) → IsOpen (row ∷ past) → IsOpen behind → Behind past behind
     → retell (following sign first) past row ≡ Ok made → Follow (path_after behind) made → Fine (retell (second_is heading second)) behind made
     → Step heading sign first second both past behind made row
-step (Renamed name) sign first second both h past behind made (Comment text) right sound holds e goes fine = let is : Comment text ∷ [] ≡ made = cc in rw (← is) (refl, holds)
-step (Followed other) sign first second both h past behind made (Comment text) right sound holds e goes fine = let is : Comment text ∷ [] ≡ made = cc in rw (← is) (refl, holds)
-step (Renamed name) sign first second both h past behind made (Spined Local tokens) right sound holds e goes fine = let is : Spined Local tokens ∷ [] ≡ made = cc in rw (← is) (refl, holds)
-step (Followed other) sign first second both h past behind made (Spined Local tokens) right sound holds e goes fine = let is : Spined Local tokens ∷ [] ≡ made = cc in rw (← is) (refl, holds)
+step (Renamed name) sign first second both h past behind made (Comment text) right sound holds e goes fine =
+    let is : Comment text ∷ [] ≡ made = cc in rw (← is) (refl, holds)
+step (Followed other) sign first second both h past behind made (Comment text) right sound holds e goes fine =
+    let is : Comment text ∷ [] ≡ made = cc in rw (← is) (refl, holds)
+step (Renamed name) sign first second both h past behind made (Spined Local tokens) right sound holds e goes
+    fine = let is : Spined Local tokens ∷ [] ≡ made = cc in rw (← is) (refl, holds)
+step (Followed other) sign first second both h past behind made (Spined Local tokens) right sound holds e goes
+    fine = let is : Spined Local tokens ∷ [] ≡ made = cc in rw (← is) (refl, holds)
 step heading sign first second both h past behind made (Spined Interpretation tokens) right sound holds e goes fine =
     steering_step heading sign first second both h past behind made tokens holds e goes fine
 step heading sign first second both h past behind made (Spined Values tokens) right sound holds e goes fine =
@@ -235,7 +255,8 @@ abbrev pub alone_marking : Heading → Becomes → Marking
 alone_marking (Renamed name) becomes = record { name = Some name; signs = []; becomes = becomes }
 alone_marking (Followed sign) becomes = record { name = None; signs = sign ∷ []; becomes = becomes }
 
-alone_values : (marking : Marking) (past made : List Row) (tokens : List (List ℕ)) → data_record (all_retold marking.becomes (kern_columns past) (columns past) tokens) ≡ Ok made
+alone_values : (marking : Marking) (past made : List Row) (tokens : List (List ℕ)) →
+    data_record (all_retold marking.becomes (kern_columns past) (columns past) tokens) ≡ Ok made
     → marked marking past (Spined Values tokens) ≡ Ok made
 alone_values marking past made tokens e = go (all_retold marking.becomes (kern_columns past) (columns past) tokens) e
   where

@@ -59,7 +59,9 @@ no_kern_moved names tokens (Same j) h k = by_bool (is_exclusive (sign_of (get_or
 
 no_kern_all : (names tokens : List (List ℕ)) (ms : List Move) → no_kern names → no_kern tokens → no_kern (map (renamed names tokens) ms)
 no_kern_all names tokens [] h k = refl
-no_kern_all names tokens (m ∷ ms) h k = or_from (is_kern (renamed names tokens m)) (list_any is_kern (map (renamed names tokens) ms)) (no_kern_moved names tokens m h k) (no_kern_all names tokens ms h k)
+no_kern_all names tokens (m ∷ ms) h k = or_from (is_kern (renamed names tokens m))
+    (list_any is_kern (map (renamed names tokens) ms)) (no_kern_moved names tokens m h k)
+    (no_kern_all names tokens ms h k)
 
 no_kern_after : (path : Path) (tokens : List (List ℕ)) → no_kern (exclusives path) → no_kern tokens → no_kern (names_after path tokens)
 no_kern_after Unopened tokens h k = k
@@ -74,7 +76,8 @@ naming name becomes = record { heading = Renamed name; becomes = becomes }
 abbrev Step : Retelling → List Row → List Row → Row → Type 0
 Step second behind made row = (out (retell second) behind made ≡ made) × no_kern (exclusives (path_after (passed behind made)))
 
-values_step : (name : List ℕ) (first : Becomes) (second : Retelling) (past behind made : List Row) (tokens : List (List ℕ)) → no_kern (exclusives (path_after behind))
+values_step : (name : List ℕ) (first : Becomes) (second : Retelling) (past behind made : List Row)
+    (tokens : List (List ℕ)) → no_kern (exclusives (path_after behind))
     → retell (naming name first) past (Spined Values tokens) ≡ Ok made → Fine (retell second) behind made → Step second behind made (Spined Values tokens)
 values_step name first second past behind made tokens holds e fine = go (all_retold first (kern_columns past) (columns past) tokens) e
   where
@@ -103,7 +106,8 @@ step : (name : List ℕ) (first : Becomes) (second : Retelling) (past behind mad
     → no_kern (exclusives (path_after behind)) → retell (naming name first) past row ≡ Ok made → Fine (retell second) behind made → Step second behind made row
 step name first second past behind made (Comment text) other holds e fine = let is : Comment text ∷ [] ≡ made = cc in rw (← is) (refl, holds)
 step name first second past behind made (Spined Local tokens) other holds e fine = let is : Spined Local tokens ∷ [] ≡ made = cc in rw (← is) (refl, holds)
-step name first second past behind made (Spined Interpretation tokens) other holds e fine = steering_step name first second past behind made tokens other holds e fine
+step name first second past behind made (Spined Interpretation tokens) other holds e fine =
+    steering_step name first second past behind made tokens other holds e fine
 step name first second past behind made (Spined Values tokens) other holds e fine = values_step name first second past behind made tokens holds e fine
 
 -- What the first gives is what both give.

@@ -56,7 +56,8 @@ drops_joint a b (Spined Interpretation tokens) =
     let e = all_are (codes "*") tokens in
     let f = has_tandems tokens in
     ap (λ x. (a.interpretations || b.interpretations) || (x || ((a.tandems || b.tandems) && f))) (spread a.null_interpretations b.null_interpretations e)
-    ∙ ap (λ x. (a.interpretations || b.interpretations) || (((a.null_interpretations && e) || (b.null_interpretations && e)) || x)) (spread a.tandems b.tandems f)
+    ∙ ap (λ x. (a.interpretations || b.interpretations) ||
+    (((a.null_interpretations && e) || (b.null_interpretations && e)) || x)) (spread a.tandems b.tandems f)
     ∙ shuffle a.interpretations b.interpretations (a.null_interpretations && e) (b.null_interpretations && e) (a.tandems && f) (b.tandems && f)
 
 -- in turn is at once

@@ -141,14 +141,17 @@ comes_from first second one Holds h past behind (row ∷ p) right follow sound g
     let k = follow_parts (path_after behind) made rest goes in
     let f = fine_parts second behind made rest b in
     let s = h.step past behind made row (right, follow.0) sound holds (taken (first past row) a.0) k.0 f.0 in
-    let more = comes_from first second one Holds h (row ∷ past) (passed behind made) p (right, follow.0) follow.1 (open_passed behind made sound k.0) (rw (← path_passed behind made) at k.1) s.1 a.1 f.1 in
+    let more = comes_from first second one Holds h (row ∷ past) (passed behind made) p (right, follow.0)
+    follow.1 (open_passed behind made sound k.0) (rw (← path_passed behind made) at k.1) s.1 a.1 f.1 in
     (rw s.0 (tt, more.0), out-append second behind made rest ∙ rw s.0 (ap (λ (x : List Row). out second behind made ++ x) more.1))
 
 pub fine_settled : (decide : Decide) (past rows : List Row) → Fine decide past rows → settled (decisions decide past rows) ≡ out decide past rows
 fine_settled decide past [] h = refl
 fine_settled decide past (row ∷ rows) h = one (decide past row) h.0 (fine_settled decide (row ∷ past) rows h.1)
   where
-    one : (d : Result (List Row) Rule) → Taken d → settled (decisions decide (row ∷ past) rows) ≡ out decide (row ∷ past) rows → settled (outcome d ∷ decisions decide (row ∷ past) rows) ≡ made_by d ++ out decide (row ∷ past) rows
+    one : (d : Result (List Row) Rule) → Taken d → settled (decisions decide (row ∷ past) rows) ≡ out decide
+        (row ∷ past) rows → settled (outcome d ∷ decisions decide (row ∷ past) rows) ≡ made_by d ++ out decide
+        (row ∷ past) rows
     one (Ok made) f more = ap (λ (x : List Row). made ++ x) more
     one (Err rule) f more = absurd f
 

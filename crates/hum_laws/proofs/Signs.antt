@@ -1,5 +1,7 @@
 -- What a pitch that was read is written as: without the sign of a natural.
-use Rattle.std.proofs.Common.{◌≡◌, refl, sym, ap, ◌∙◌, ℕ, zero, suc, ◌+◌, ◌≤◌, ℤ, pos, negsuc, ◌+ℤ◌, ◌-ℤ◌, Bool, true, false, List, [], ◌∷◌, ◌++◌, append_assoc, length, take, drop, arith, Option, None, Some, subst, ◌==◌, rules}
+use Rattle.std.proofs.Common.{◌≡◌, refl, sym, ap, ◌∙◌, ℕ, zero, suc, ◌+◌, ◌≤◌, ℤ, pos, negsuc, ◌+ℤ◌, ◌-ℤ◌, Bool}
+use Rattle.std.proofs.Common.{true, false, List, [], ◌∷◌, ◌++◌, append_assoc, length, take, drop, arith, Option}
+use Rattle.std.proofs.Common.{None, Some, subst, ◌==◌, rules}
 use Rattle.std.specs.Prelude.{Result, Ok, Err, neg_ℤ, not, ◌||◌, nat_lt, filter, replicate, slice_index}
 use Rattle.std.specs.List.{position, list_all, list_any, AllByRecursion}
 use Rattle.std.proofs.lemmas.Int.{ints}
@@ -113,10 +115,15 @@ kept [] all same few = record { text = refl; few = (omega (arith, ints), omega (
 kept (s ∷ signs) all same few =
     let run = all_same s signs same in
     let size : suc (length signs) ≤ 7 = few in
-    by_bool (s == 35) (λ w. let is = same_byte s 35 w in subst Kept (sym (ap (λ (x : List ℕ). s ∷ x) run ∙ ap (λ (b : ℕ). b ∷ replicate (length signs) b) is)) (sharps (length signs) size))
-    (λ no_sharp. by_bool (s == 45) (λ w. let is = same_byte s 45 w in subst Kept (sym (ap (λ (x : List ℕ). s ∷ x) run ∙ ap (λ (b : ℕ). b ∷ replicate (length signs) b) is)) (flats (length signs) size))
+    by_bool (s == 35) (λ w. let is = same_byte s 35 w in
+    subst Kept (sym (ap (λ (x : List ℕ). s ∷ x) run ∙ ap (λ (b : ℕ). b ∷ replicate (length signs) b) is))
+    (sharps (length signs) size))
+    (λ no_sharp. by_bool (s == 45) (λ w. let is = same_byte s 45 w in
+    subst Kept (sym (ap (λ (x : List ℕ). s ∷ x) run ∙ ap (λ (b : ℕ). b ∷ replicate (length signs) b) is))
+    (flats (length signs) size))
     (λ no_flat. let w : (s == 110) ≡ true = third (s == 35) (s == 45) (s == 110) all.0 no_sharp no_flat in
-    let is = same_byte s 110 w in subst Kept (sym (ap (λ (x : List ℕ). s ∷ x) run ∙ ap (λ (b : ℕ). b ∷ replicate (length signs) b) is)) (naturals (length signs))))
+    let is = same_byte s 110 w in subst Kept (sym (ap (λ (x : List ℕ). s ∷ x) run
+    ∙ ap (λ (b : ℕ). b ∷ replicate (length signs) b) is)) (naturals (length signs))))
   where
     third : (a b c : Bool) → a || (b || c) ≡ true → a ≡ false → b ≡ false → c ≡ true
     third true b c h p q = cc
@@ -156,18 +163,22 @@ rewritten b more signs p same all uniform few modest e = go (read_letters b (len
         let octave = octave_is q.octave (w.octave few) in
         let altered = alteration_is (alteration_of signs) k.few in
         rw (← is) (record {
-          text = ap (λ (x : List ℕ). x ++ accidentals (alteration_of signs)) (w.text ∙ sym (ap (λ (x : List ℕ). b ∷ x) (all_repeated b more same))) ∙ ap (λ (x : List ℕ). (b ∷ more) ++ x) k.text;
+          text = ap (λ (x : List ℕ). x ++ accidentals (alteration_of signs)) (w.text
+              ∙ sym (ap (λ (x : List ℕ). b ∷ x) (all_repeated b more same)))
+              ∙ ap (λ (x : List ℕ). (b ∷ more) ++ x) k.text;
           spelled = rw (altered, octave) refl;
         })
 
-by_letters : (bytes before letters signs left : List ℕ) (p : Spelled) → AreNoteParts bytes (record { before = before; letters = letters; signs = signs; left = left })
+by_letters : (bytes before letters signs left : List ℕ) (p : Spelled) →
+    AreNoteParts bytes (record { before = before; letters = letters; signs = signs; left = left })
     → list_any is_letter left || not (is_uniform signs) ≡ false → nat_lt 8 (length letters) || nat_lt 7 (length signs) ≡ false
     → pitch_of letters signs ≡ Some p → Rewritten letters signs p
 by_letters bytes before [] signs left p are clear modest e = cc
 by_letters bytes before (b ∷ more) signs left p are clear modest e =
     let doubt = no_more (list_any is_letter left) (not (is_uniform signs)) clear in
     let long = no_more (nat_lt 8 (length (b ∷ more))) (nat_lt 7 (length signs)) modest in
-    rewritten b more signs p are.letters.all_in are.signs.all_in (uniform_of (is_uniform signs) doubt.1) (at_most (length (b ∷ more)) 8 long.0) (at_most (length signs) 7 long.1) e
+    rewritten b more signs p are.letters.all_in are.signs.all_in (uniform_of (is_uniform signs) doubt.1)
+    (at_most (length (b ∷ more)) 8 long.0) (at_most (length signs) 7 long.1) e
 
 found_again : (parts : Notation) (bytes : List ℕ) (p : Spelled) → AreNoteParts bytes parts → is_doubtful parts ≡ false → is_excessive parts ≡ false
     → pitch_of parts.letters parts.signs ≡ Some p → Rewritten parts.letters parts.signs p
@@ -194,7 +205,8 @@ unsigned_there part found p read there =
 not_moved : (part : List ℕ) → transposed_part (pos 0) (pos 0) part ≡ unsigned part
 not_moved part = go (note part) refl
   where
-    there : (found : Reading) → note part ≡ Ok found → (o : Option Spelled) → found.pitch ≡ o → moved (pos 0) (pos 0) part found o ≡ Ok (Some (if_pitched part o))
+    there : (found : Reading) → note part ≡ Ok found → (o : Option Spelled) → found.pitch ≡ o →
+        moved (pos 0) (pos 0) part found o ≡ Ok (Some (if_pitched part o))
     there found read None is = refl
     there found read (Some p) is = unsigned_there part found p (sym read) is
 

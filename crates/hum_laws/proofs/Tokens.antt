@@ -1,5 +1,6 @@
 -- Tokens that are transposed and then told anew.
-use Rattle.std.proofs.Common.{◌≡◌, refl, sym, ap, ◌∙◌, ℕ, zero, suc, ℤ, pos, negsuc, ◌-ℤ◌, ◌==◌, ◌<◌, true, false, List, [], ◌∷◌, ◌++◌, take, drop, arith, Option, Some, subst}
+use Rattle.std.proofs.Common.{◌≡◌, refl, sym, ap, ◌∙◌, ℕ, zero, suc, ℤ, pos, negsuc, ◌-ℤ◌, ◌==◌, ◌<◌, true}
+use Rattle.std.proofs.Common.{false, List, [], ◌∷◌, ◌++◌, take, drop, arith, Option, Some, subst}
 use Rattle.std.specs.Prelude.{Result, Ok, Err, replicate, slice_index, not}
 use Rattle.std.specs.List.{onto_first, join_with_byte}
 use Rattle.std.proofs.lemmas.List.Splits.{join_with_byte-slice_split}
@@ -27,8 +28,20 @@ record BeginsOver (text : List ℕ) : Type 0 where
   over : 64 < first
 
 letters_begin : (step : ℕ) (o : ℤ) (ys more : List ℕ) → step < 7 → BeginsOver ((letters step o ++ ys) ++ more)
-letters_begin step (pos k) ys more h = record { first = slice_index small_letters step; more = (replicate k (slice_index small_letters step) ++ ys) ++ more; is = refl; over = small_over step h }
-letters_begin step (negsuc k) ys more h = record { first = slice_index capitals step; more = (replicate k (slice_index capitals step) ++ ys) ++ more; is = refl; over = capital_over step h }
+letters_begin step (pos k) ys more h = record {
+  first = slice_index small_letters step;
+  more =
+      (replicate k (slice_index small_letters step) ++ ys) ++ more;
+  is = refl;
+  over = small_over step h;
+}
+letters_begin step (negsuc k) ys more h = record {
+  first = slice_index capitals step;
+  more =
+      (replicate k (slice_index capitals step) ++ ys) ++ more;
+  is = refl;
+  over = capital_over step h;
+}
 
 -- no part has a space
 parts_lack : (text : List ℕ) → Lack 32 (subtokens text)
@@ -54,7 +67,8 @@ cut_again text (next ∷ texts) h = cut_first text (join_with_byte 32 (next ∷ 
 abbrev Alike : ℤ → ℤ → (List ℕ → Result (Option (List ℕ)) Rule) → (List ℕ → Result (Option (List ℕ)) Rule) → Type 0
 Alike n m second both = (part text : List ℕ) → transposed_part n m part ≡ Ok (Some text) → both part ≡ second text
 
-given_alike : (n m : ℤ) (second both : List ℕ → Result (Option (List ℕ)) Rule) → Alike n m second both → (parts texts : List (List ℕ)) → AllMoved n m parts texts
+given_alike : (n m : ℤ) (second both : List ℕ → Result (Option (List ℕ)) Rule) → Alike n m second both →
+    (parts texts : List (List ℕ)) → AllMoved n m parts texts
     → given_by both parts ≡ given_by second texts
 given_alike n m second both h [] [] moved = refl
 given_alike n m second both h [] (text ∷ texts) moved = absurd moved
@@ -64,11 +78,15 @@ given_alike n m second both h (part ∷ parts) (text ∷ texts) moved = rw (h pa
 -- a text has the first byte that it had, or begins with a pitch
 front_is : (part text : List ℕ) (x : ℕ) (more : List ℕ) → Becomes part text → text ≡ x ∷ more → x < 65 → (rest : List ℕ) × (part ≡ x ∷ rest)
 front_is part text x more (Stays e) is low = (more, sym e ∙ is)
-front_is part text x more (Moves zero end there small e) is low = absurd (far (letters_begin there.step (there.octave -ℤ pos 4) (accidentals there.alteration) (drop end part) small))
+front_is part text x more (Moves zero end there small e) is low =
+    absurd (far (letters_begin there.step (there.octave -ℤ pos 4) (accidentals there.alteration) (drop end part)
+    small))
   where
     far : BeginsOver (spelling there ++ drop end part) → ⊥
     far h = let same : h.first ∷ h.more ≡ x ∷ more = sym h.is ∙ (sym e ∙ is) in let first : h.first ≡ x = cc in let over = h.over in omega (arith, first, over)
-front_is [] text x more (Moves (suc n) end there small e) is low = absurd (far (letters_begin there.step (there.octave -ℤ pos 4) (accidentals there.alteration) (drop end []) small))
+front_is [] text x more (Moves (suc n) end there small e) is low =
+    absurd (far (letters_begin there.step (there.octave -ℤ pos 4) (accidentals there.alteration) (drop end [])
+    small))
   where
     far : BeginsOver (spelling there ++ drop end []) → ⊥
     far h = let same : h.first ∷ h.more ≡ x ∷ more = sym h.is ∙ (sym e ∙ is) in let first : h.first ≡ x = cc in let over = h.over in omega (arith, first, over)
@@ -84,15 +102,20 @@ some_behind (x ∷ xs) ys more y is e = cc
 -- only a null part becomes null
 dot_is : (part text : List ℕ) → Becomes part text → text ≡ 46 ∷ [] → part ≡ 46 ∷ []
 dot_is part text (Stays e) is = sym e ∙ is
-dot_is part text (Moves zero end there small e) is = absurd (far (letters_begin there.step (there.octave -ℤ pos 4) (accidentals there.alteration) (drop end part) small))
+dot_is part text (Moves zero end there small e) is = absurd
+    (far (letters_begin there.step (there.octave -ℤ pos 4) (accidentals there.alteration) (drop end part)
+    small))
   where
     far : BeginsOver (spelling there ++ drop end part) → ⊥
     far h = let same : h.first ∷ h.more ≡ 46 ∷ [] = sym h.is ∙ (sym e ∙ is) in let first : h.first ≡ 46 = cc in let over = h.over in omega (arith, first, over)
-dot_is [] text (Moves (suc n) end there small e) is = absurd (far (letters_begin there.step (there.octave -ℤ pos 4) (accidentals there.alteration) (drop end []) small))
+dot_is [] text (Moves (suc n) end there small e) is = absurd
+    (far (letters_begin there.step (there.octave -ℤ pos 4) (accidentals there.alteration) (drop end []) small))
   where
     far : BeginsOver (spelling there ++ drop end []) → ⊥
     far h = let same : h.first ∷ h.more ≡ 46 ∷ [] = sym h.is ∙ (sym e ∙ is) in let first : h.first ≡ 46 = cc in let over = h.over in omega (arith, first, over)
-dot_is (y ∷ part) text (Moves (suc n) end there small e) is = absurd (far (letters_begin there.step (there.octave -ℤ pos 4) (accidentals there.alteration) (drop end (y ∷ part)) small))
+dot_is (y ∷ part) text (Moves (suc n) end there small e) is = absurd
+    (far (letters_begin there.step (there.octave -ℤ pos 4) (accidentals there.alteration) (drop end (y ∷ part))
+    small))
   where
     far : BeginsOver (spelling there ++ drop end (y ∷ part)) → ⊥
     far h =
@@ -106,7 +129,8 @@ joined_front text [] x more e high = (more, e)
 joined_front [] (next ∷ texts) x more e high = let is : 32 ≡ x = cc in absurd (omega (arith, is))
 joined_front (y ∷ text) (next ∷ texts) x more e high = let is : y ≡ x = cc in (text, ap (λ (z : ℕ). z ∷ text) is)
 
-cut_front : (token part : List ℕ) (parts : List (List ℕ)) (x : ℕ) (more : List ℕ) → subtokens token ≡ part ∷ parts → part ≡ x ∷ more → (rest : List ℕ) × (token ≡ x ∷ rest)
+cut_front : (token part : List ℕ) (parts : List (List ℕ)) (x : ℕ) (more : List ℕ) →
+    subtokens token ≡ part ∷ parts → part ≡ x ∷ more → (rest : List ℕ) × (token ≡ x ∷ rest)
 cut_front [] part parts x more e is = let none : [] ≡ part = cc in let no : [] ≡ x ∷ more = none ∙ is in cc
 cut_front (y ∷ token) part parts x more e is = by_bool (y == 32) (λ w. at_space w) (λ w. of (subtokens token) (rw w at e))
   where
@@ -115,7 +139,8 @@ cut_front (y ∷ token) part parts x more e is = by_bool (y == 32) (λ w. at_spa
 
     of : (others : List (List ℕ)) → onto_first y others ≡ part ∷ parts → (rest : List ℕ) × (y ∷ token ≡ x ∷ rest)
     of [] f = let one : y ∷ [] ≡ part = cc in let two : y ∷ [] ≡ x ∷ more = one ∙ is in let same : y ≡ x = cc in (token, ap (λ (z : ℕ). z ∷ token) same)
-    of (other ∷ others) f = let one : y ∷ other ≡ part = cc in let two : y ∷ other ≡ x ∷ more = one ∙ is in let same : y ≡ x = cc in (token, ap (λ (z : ℕ). z ∷ token) same)
+    of (other ∷ others) f = let one : y ∷ other ≡ part = cc in let two : y ∷ other ≡ x ∷ more = one ∙ is in
+        let same : y ≡ x = cc in (token, ap (λ (z : ℕ). z ∷ token) same)
 
 barline_head : (text : List ℕ) → is_barline text ≡ true → (more : List ℕ) × (text ≡ 61 ∷ more)
 barline_head [] h = cc
@@ -125,7 +150,8 @@ dot_alone : (token : List ℕ) → subtokens token ≡ (46 ∷ []) ∷ [] → to
 dot_alone token e = sym (join_with_byte-slice_split 32 token) ∙ ap (join_with_byte 32) e
 
 -- a token that is told anew is so when its pitches have moved
-stays_told : (n m : ℤ) (token : List ℕ) (parts texts : List (List ℕ)) → subtokens token ≡ parts → AllMoved n m parts texts → is_told token ≡ true → is_told (joined texts) ≡ true
+stays_told : (n m : ℤ) (token : List ℕ) (parts texts : List (List ℕ)) → subtokens token ≡ parts →
+    AllMoved n m parts texts → is_told token ≡ true → is_told (joined texts) ≡ true
 stays_told n m token [] texts cut moved told = absurd (parts_some token cut)
 stays_told n m token (part ∷ parts) [] cut moved told = absurd moved
 stays_told n m token (part ∷ parts) (text ∷ texts) cut moved told =
@@ -160,7 +186,8 @@ stays_told n m token (part ∷ parts) (text ∷ texts) cut moved told =
             single (other ∷ parts) cut rest same = absurd rest
         alone (next ∷ others) rest is =
             let two = joined_front text (next ∷ others) 46 [] (sym is) (omega arith) in
-            let whole : 46 ∷ [] ≡ (46 ∷ two.0) ++ 32 ∷ join_with_byte 32 (next ∷ others) = is ∙ ap (λ (x : List ℕ). x ++ 32 ∷ join_with_byte 32 (next ∷ others)) two.1 in
+            let whole : 46 ∷ [] ≡ (46 ∷ two.0) ++ 32 ∷ join_with_byte 32 (next ∷ others) = is
+            ∙ ap (λ (x : List ℕ). x ++ 32 ∷ join_with_byte 32 (next ∷ others)) two.1 in
             let none : two.0 ++ 32 ∷ join_with_byte 32 (next ∷ others) ≡ [] = cc in
             some_behind two.0 (32 ∷ join_with_byte 32 (next ∷ others)) (join_with_byte 32 (next ∷ others)) 32 refl none
 
@@ -175,7 +202,8 @@ trans_agree n m second both h above token text told e = from (given_by (transpos
     made [] texts cut moved is = absurd (parts_some token cut)
     made (part ∷ parts) [] cut moved is = absurd moved
     made (part ∷ parts) (first ∷ texts) cut moved is =
-        let lack = texts_lack 32 (part ∷ parts) (first ∷ texts) (omega arith) (each_becomes n m (part ∷ parts) (first ∷ texts) moved) (subst (Lack 32) cut (parts_lack token)) in
+        let lack = texts_lack 32 (part ∷ parts) (first ∷ texts) (omega arith)
+        (each_becomes n m (part ∷ parts) (first ∷ texts) moved) (subst (Lack 32) cut (parts_lack token)) in
         let again : subtokens text ≡ first ∷ texts = ap subtokens (sym is) ∙ cut_again first texts lack in (
           subst (λ (t : List ℕ). is_told t ≡ true) is (stays_told n m token (part ∷ parts) (first ∷ texts) cut moved told),
           ap (λ (ps : List (List ℕ)). if_given (given_by both ps)) cut

@@ -1,5 +1,7 @@
 -- A transposition is undone by the opposite one.
-use Rattle.std.proofs.Common.{◌≡◌, refl, sym, ap, ◌∙◌, ℕ, ◌+◌, ◌<◌, ◌≤◌, ℤ, pos, negsuc, ◌+ℤ◌, Bool, true, false, List, [], ◌∷◌, ◌++◌, append_assoc, length, length-append, take, drop, arith, Option, None, Some, subst, ◌==◌}
+use Rattle.std.proofs.Common.{◌≡◌, refl, sym, ap, ◌∙◌, ℕ, ◌+◌, ◌<◌, ◌≤◌, ℤ, pos, negsuc, ◌+ℤ◌, Bool, true}
+use Rattle.std.proofs.Common.{false, List, [], ◌∷◌, ◌++◌, append_assoc, length, length-append, take, drop}
+use Rattle.std.proofs.Common.{arith, Option, None, Some, subst, ◌==◌}
 use Rattle.std.specs.Prelude.{Result, Ok, Err, neg_ℤ, not, if◌then◌else◌}
 use Rattle.std.specs.List.{position}
 use Rattle.std.proofs.lemmas.Int.{ints}
@@ -36,11 +38,13 @@ step_in : (letters signs : List ℕ) (p : Spelled) → pitch_of letters signs �
 step_in [] signs p e = cc
 step_in (b ∷ letters) signs p e = small (position (λ x. x == b) small_letters) refl e
   where
-    large : (o : Option ℕ) → position (λ x. x == b) capitals ≡ o → altered_by (read_capitals (length (b ∷ letters)) o) (Some (alteration_of signs)) ≡ Some p → p.step < 7
+    large : (o : Option ℕ) → position (λ x. x == b) capitals ≡ o →
+        altered_by (read_capitals (length (b ∷ letters)) o) (Some (alteration_of signs)) ≡ Some p → p.step < 7
     large None f e = cc
     large (Some k) f e = let is : k ≡ p.step = cc in subst (λ (s : ℕ). s < 7) is (position-Some (λ x. x == b) capitals k 0 f).0
 
-    small : (o : Option ℕ) → position (λ x. x == b) small_letters ≡ o → altered_by (read_small b (length (b ∷ letters)) o) (Some (alteration_of signs)) ≡ Some p → p.step < 7
+    small : (o : Option ℕ) → position (λ x. x == b) small_letters ≡ o →
+        altered_by (read_small b (length (b ∷ letters)) o) (Some (alteration_of signs)) ≡ Some p → p.step < 7
     small None f e = large (position (λ x. x == b) capitals) refl e
     small (Some k) f e = let is : k ≡ p.step = cc in subst (λ (s : ℕ). s < 7) is (position-Some (λ x. x == b) small_letters k 0 f).0
 
@@ -53,7 +57,9 @@ octave_within (pos k) h = let b : k ≤ 11 = grind (arith, nat_tests, h) in (ome
 octave_within (negsuc k) h = let b : k ≤ 3 = grind (arith, nat_tests, h) in (omega (arith, ints), omega (arith, ints))
 
 -- the text before and behind a pitch that was put there
-front_there : (bytes : List ℕ) (found : Reading) (p : Spelled) → IsFound bytes (notation_of bytes) found p → (xs : List ℕ) → take found.start (take found.start bytes ++ (xs ++ drop found.end bytes)) ≡ take found.start bytes
+front_there : (bytes : List ℕ) (found : Reading) (p : Spelled) → IsFound bytes (notation_of bytes) found p →
+    (xs : List ℕ) → take found.start (take found.start bytes ++ (xs ++ drop found.end bytes)) ≡ take found.start
+    bytes
 front_there bytes found p h xs =
     let parts : Notation = notation_of bytes in
     let start : found.start ≡ length parts.before = ap (λ (r : Reading). r.start) h.is in
@@ -63,7 +69,9 @@ front_there bytes found p h xs =
     ∙ take-append_seam parts.before (xs ++ drop found.end bytes)
     ∙ sym front
 
-rest_there : (bytes : List ℕ) (found : Reading) (p : Spelled) → IsFound bytes (notation_of bytes) found p → (xs : List ℕ) → drop (found.start + length xs) (take found.start bytes ++ (xs ++ drop found.end bytes)) ≡ drop found.end bytes
+rest_there : (bytes : List ℕ) (found : Reading) (p : Spelled) → IsFound bytes (notation_of bytes) found p →
+    (xs : List ℕ) → drop (found.start + length xs)
+    (take found.start bytes ++ (xs ++ drop found.end bytes)) ≡ drop found.end bytes
 rest_there bytes found p h xs =
     let parts : Notation = notation_of bytes in
     let start : found.start ≡ length parts.before = ap (λ (r : Reading). r.start) h.is in
@@ -76,12 +84,14 @@ rest_there bytes found p h xs =
 
 -- what is put where a pitch was put is put where the first one was
 put_again : (bytes : List ℕ) (found : Reading) (p : Spelled) → IsFound bytes (notation_of bytes) found p → (q : Spelled) (r : Result Spelled Rule) →
-    put (take found.start bytes ++ (spelling q ++ drop found.end bytes)) (record found { pitch = Some q; end = found.start + length (spelling q) }) r ≡ put bytes found r
+    put (take found.start bytes ++ (spelling q ++ drop found.end bytes))
+    (record found { pitch = Some q; end = found.start + length (spelling q) }) r ≡ put bytes found r
 put_again bytes found p h q (Err rule) = refl
 put_again bytes found p h q (Ok there) =
     let front = front_there bytes found p h (spelling q) in
     let rest = rest_there bytes found p h (spelling q) in
-    ap (λ (xs : List ℕ). Ok (Some (xs ++ (spelling there ++ drop (found.start + length (spelling q)) (take found.start bytes ++ (spelling q ++ drop found.end bytes)))))) front
+    ap (λ (xs : List ℕ). Ok (Some (xs ++ (spelling there ++ drop (found.start + length (spelling q))
+    (take found.start bytes ++ (spelling q ++ drop found.end bytes)))))) front
     ∙ ap (λ (xs : List ℕ). Ok (Some (take found.start bytes ++ (spelling there ++ xs)))) rest
 
 pub found_step : (bytes : List ℕ) (found : Reading) (p : Spelled) → IsFound bytes (notation_of bytes) found p → p.step < 7
@@ -97,28 +107,40 @@ undone_there n m part text found p read there q is e = go (is_alteration q.alter
     small : p.step < 7
     small = found_step part found p h
 
-    made : IsPitch q.step q.octave q.alteration → take found.start part ++ (spelling q ++ drop found.end part) ≡ text → transposed_part (neg_ℤ n) (neg_ℤ m) text ≡ put part found (if_spelled (away (pos 0) (pos 0) p))
+    made : IsPitch q.step q.octave q.alteration → take found.start
+        part ++ (spelling q ++ drop found.end part) ≡ text → transposed_part (neg_ℤ n) (neg_ℤ m) text ≡ put part
+        found (if_spelled (away (pos 0) (pos 0) p))
     made range same =
         let new : List ℕ = take found.start part ++ (spelling q ++ drop found.end part) in
         ap (transposed_part (neg_ℤ n) (neg_ℤ m)) (sym same)
         ∙ ap (moved_as_read (neg_ℤ n) (neg_ℤ m) new) (placed_there part found p read there q range)
-        ∙ ap (λ (x : Spelled). put new (record found { pitch = Some q; end = found.start + length (spelling q) }) (if_spelled x)) (ap (away (neg_ℤ n) (neg_ℤ m)) is ∙ back n m p small)
+        ∙ ap (λ (x : Spelled). put new (record found {
+          pitch = Some q;
+          end =
+              found.start + length (spelling q);
+        }) (if_spelled x)) (ap (away (neg_ℤ n) (neg_ℤ m)) is
+        ∙ back n m p small)
         ∙ put_again part found p h q (if_spelled p)
         ∙ ap (λ (x : Spelled). put part found (if_spelled x)) (sym (stay p small))
 
     step_of : q.step < 7
     step_of = subst (λ (x : Spelled). x.step < 7) (sym is) (away_is n m p).step
 
-    go : (a : Bool) → is_alteration q.alteration ≡ a → (b : Bool) → is_octave q.octave ≡ b → put part found (if not a then Err TR1 else if not b then Err TR2 else Ok q) ≡ Ok (Some text) → transposed_part (neg_ℤ n) (neg_ℤ m) text ≡ put part found (if_spelled (away (pos 0) (pos 0) p))
+    go : (a : Bool) → is_alteration q.alteration ≡ a → (b : Bool) → is_octave q.octave ≡ b →
+        put part found (if not a then Err TR1 else if not b then Err TR2 else Ok q) ≡ Ok (Some text) →
+        transposed_part (neg_ℤ n) (neg_ℤ m) text ≡ put part found (if_spelled (away (pos 0) (pos 0) p))
     go false f b g e = cc
     go true f false g e = cc
     go true f true g e = made (step_of, octave_within q.octave g, alteration_within q.alteration f) cc
 
 -- A transposition is undone by the opposite one.
-pub undone : (n m : ℤ) (part text : List ℕ) → transposed_part n m part ≡ Ok (Some text) → transposed_part (neg_ℤ n) (neg_ℤ m) text ≡ transposed_part (pos 0) (pos 0) part
+pub undone : (n m : ℤ) (part text : List ℕ) → transposed_part n m part ≡ Ok (Some text) →
+    transposed_part (neg_ℤ n) (neg_ℤ m) text ≡ transposed_part (pos 0) (pos 0) part
 undone n m part text e = go (note part) refl e
   where
-    there : (found : Reading) → note part ≡ Ok found → (o : Option Spelled) → found.pitch ≡ o → moved n m part found o ≡ Ok (Some text) → transposed_part (neg_ℤ n) (neg_ℤ m) text ≡ moved (pos 0) (pos 0) part found o
+    there : (found : Reading) → note part ≡ Ok found → (o : Option Spelled) → found.pitch ≡ o →
+        moved n m part found o ≡ Ok (Some text) → transposed_part (neg_ℤ n) (neg_ℤ m) text ≡ moved (pos 0)
+        (pos 0) part found o
     there found read None is e =
         let same : part ≡ text = cc in
         ap (transposed_part (neg_ℤ n) (neg_ℤ m)) (sym same)
@@ -126,11 +148,13 @@ undone n m part text e = go (note part) refl e
         ∙ ap (moved (neg_ℤ n) (neg_ℤ m) part found) is
     there found read (Some p) is e = undone_there n m part text found p (sym read) is (away n m p) refl e
 
-    go : (r : Result Reading KernFault) → note part ≡ r → moved_as_read n m part r ≡ Ok (Some text) → transposed_part (neg_ℤ n) (neg_ℤ m) text ≡ transposed_part (pos 0) (pos 0) part
+    go : (r : Result Reading KernFault) → note part ≡ r → moved_as_read n m part r ≡ Ok (Some text) →
+        transposed_part (neg_ℤ n) (neg_ℤ m) text ≡ transposed_part (pos 0) (pos 0) part
     go (Ok found) read e = there found read found.pitch refl e ∙ sym (ap (moved_as_read (pos 0) (pos 0) part) read)
     go (Err fault) read e = cc
 
-shifted_there : (ties : Bool) (n m : ℤ) (part text : List ℕ) (found : Reading) (p : Spelled) → Ok found ≡ note part → found.pitch ≡ Some p → (q : Spelled) → q ≡ away n m p
+shifted_there : (ties : Bool) (n m : ℤ) (part text : List ℕ) (found : Reading) (p : Spelled) →
+    Ok found ≡ note part → found.pitch ≡ Some p → (q : Spelled) → q ≡ away n m p
     → put part found (if_spelled q) ≡ Ok (Some text) → semits_of ties text ≡ Ok (higher_reading m ties found)
 shifted_there ties n m part text found p read there q is e = go (is_alteration q.alteration) refl (is_octave q.octave) refl e
   where
@@ -140,14 +164,18 @@ shifted_there ties n m part text found p read there q is e = go (is_alteration q
     sounds : semitones q ≡ semitones p +ℤ m
     sounds = subst (λ (x : Spelled). semitones x ≡ semitones p +ℤ m) (sym is) (away_is n m p).width
 
-    made : IsPitch q.step q.octave q.alteration → take found.start part ++ (spelling q ++ drop found.end part) ≡ text → semits_of ties text ≡ Ok (higher_reading m ties found)
+    made : IsPitch q.step q.octave q.alteration → take found.start
+        part ++ (spelling q ++ drop found.end part) ≡ text → semits_of ties text ≡ Ok
+        (higher_reading m ties found)
     made range same =
         ap (semits_of ties) (sym same)
         ∙ ap (by_reading ties) (placed_there part found p read there q range)
         ∙ ap (λ (z : ℤ). Ok (if found.rest then Some (codes "r") else if ties && found.continued then None else Some (signed_decimal z))) sounds
         ∙ ap (λ (o : Option Spelled). Ok (if found.rest then Some (codes "r") else higher_pitch m (ties && found.continued) o)) (sym there)
 
-    go : (a : Bool) → is_alteration q.alteration ≡ a → (b : Bool) → is_octave q.octave ≡ b → put part found (if not a then Err TR1 else if not b then Err TR2 else Ok q) ≡ Ok (Some text) → semits_of ties text ≡ Ok (higher_reading m ties found)
+    go : (a : Bool) → is_alteration q.alteration ≡ a → (b : Bool) → is_octave q.octave ≡ b →
+        put part found (if not a then Err TR1 else if not b then Err TR2 else Ok q) ≡ Ok (Some text) →
+        semits_of ties text ≡ Ok (higher_reading m ties found)
     go false f b g e = cc
     go true f false g e = cc
     go true f true g e = made (step_of, octave_within q.octave g, alteration_within q.alteration f) cc
@@ -155,7 +183,8 @@ shifted_there ties n m part text found p read there q is e = go (is_alteration q
 pub shifted : (ties : Bool) (n m : ℤ) (part text : List ℕ) → transposed_part n m part ≡ Ok (Some text) → semits_of ties text ≡ semits_higher m ties part
 shifted ties n m part text e = go (note part) refl e
   where
-    there : (found : Reading) → note part ≡ Ok found → (o : Option Spelled) → found.pitch ≡ o → moved n m part found o ≡ Ok (Some text) → semits_of ties text ≡ Ok (higher_reading m ties found)
+    there : (found : Reading) → note part ≡ Ok found → (o : Option Spelled) → found.pitch ≡ o →
+        moved n m part found o ≡ Ok (Some text) → semits_of ties text ≡ Ok (higher_reading m ties found)
     there found read None is e =
         let same : part ≡ text = cc in
         ap (semits_of ties) (sym same) ∙ ap (by_reading ties) read ∙ ap (λ (o : Option Spelled). Ok (if found.rest then Some (codes "r") else of_pitch (ties && found.continued) o)) is
@@ -171,7 +200,8 @@ both_ways : (n m k l : ℤ) (p q r : Spelled) → IsAway n m p q → IsAway k l 
 both_ways n m k l p q r f g = record { step = g.step; steps = omega (arith, ints, f.steps, g.steps); width = omega (arith, ints, f.width, g.width) }
 
 further : (n m k l : ℤ) (p : Spelled) → away k l (away n m p) ≡ away (n +ℤ k) (m +ℤ l) p
-further n m k l p = away_only (n +ℤ k) (m +ℤ l) p (away k l (away n m p)) (both_ways n m k l p (away n m p) (away k l (away n m p)) (away_is n m p) (away_is k l (away n m p)))
+further n m k l p = away_only (n +ℤ k) (m +ℤ l) p (away k l (away n m p))
+    (both_ways n m k l p (away n m p) (away k l (away n m p)) (away_is n m p) (away_is k l (away n m p)))
 
 added_there : (n m k l : ℤ) (part text : List ℕ) (found : Reading) (p : Spelled) → Ok found ≡ note part → found.pitch ≡ Some p → (q : Spelled) → q ≡ away n m p
     → put part found (if_spelled q) ≡ Ok (Some text) → transposed_part k l text ≡ put part found (if_spelled (away (n +ℤ k) (m +ℤ l) p))
@@ -183,15 +213,23 @@ added_there n m k l part text found p read there q is e = go (is_alteration q.al
     step_of : q.step < 7
     step_of = subst (λ (x : Spelled). x.step < 7) (sym is) (away_is n m p).step
 
-    made : IsPitch q.step q.octave q.alteration → take found.start part ++ (spelling q ++ drop found.end part) ≡ text → transposed_part k l text ≡ put part found (if_spelled (away (n +ℤ k) (m +ℤ l) p))
+    made : IsPitch q.step q.octave q.alteration → take found.start
+        part ++ (spelling q ++ drop found.end part) ≡ text → transposed_part k l text ≡ put part found
+        (if_spelled (away (n +ℤ k) (m +ℤ l) p))
     made range same =
         let new : List ℕ = take found.start part ++ (spelling q ++ drop found.end part) in
         ap (transposed_part k l) (sym same)
         ∙ ap (moved_as_read k l new) (placed_there part found p read there q range)
-        ∙ ap (λ (x : Spelled). put new (record found { pitch = Some q; end = found.start + length (spelling q) }) (if_spelled x)) (ap (away k l) is ∙ further n m k l p)
+        ∙ ap (λ (x : Spelled). put new (record found {
+          pitch = Some q;
+          end =
+              found.start + length (spelling q);
+        }) (if_spelled x)) (ap (away k l) is ∙ further n m k l p)
         ∙ put_again part found p h q (if_spelled (away (n +ℤ k) (m +ℤ l) p))
 
-    go : (a : Bool) → is_alteration q.alteration ≡ a → (b : Bool) → is_octave q.octave ≡ b → put part found (if not a then Err TR1 else if not b then Err TR2 else Ok q) ≡ Ok (Some text) → transposed_part k l text ≡ put part found (if_spelled (away (n +ℤ k) (m +ℤ l) p))
+    go : (a : Bool) → is_alteration q.alteration ≡ a → (b : Bool) → is_octave q.octave ≡ b →
+        put part found (if not a then Err TR1 else if not b then Err TR2 else Ok q) ≡ Ok (Some text) →
+        transposed_part k l text ≡ put part found (if_spelled (away (n +ℤ k) (m +ℤ l) p))
     go false f b g e = cc
     go true f false g e = cc
     go true f true g e = made (step_of, octave_within q.octave g, alteration_within q.alteration f) cc
@@ -200,12 +238,15 @@ added_there n m k l part text found p read there q is e = go (is_alteration q.al
 pub added : (n m k l : ℤ) (part text : List ℕ) → transposed_part n m part ≡ Ok (Some text) → transposed_part k l text ≡ transposed_part (n +ℤ k) (m +ℤ l) part
 added n m k l part text e = go (note part) refl e
   where
-    there : (found : Reading) → note part ≡ Ok found → (o : Option Spelled) → found.pitch ≡ o → moved n m part found o ≡ Ok (Some text) → transposed_part k l text ≡ moved (n +ℤ k) (m +ℤ l) part found o
+    there : (found : Reading) → note part ≡ Ok found → (o : Option Spelled) → found.pitch ≡ o →
+        moved n m part found o ≡ Ok (Some text) → transposed_part k l text ≡ moved (n +ℤ k) (m +ℤ l) part found
+        o
     there found read None is e =
         let same : part ≡ text = cc in
         ap (transposed_part k l) (sym same) ∙ ap (moved_as_read k l part) read ∙ ap (moved k l part found) is
     there found read (Some p) is e = added_there n m k l part text found p (sym read) is (away n m p) refl e
 
-    go : (r : Result Reading KernFault) → note part ≡ r → moved_as_read n m part r ≡ Ok (Some text) → transposed_part k l text ≡ transposed_part (n +ℤ k) (m +ℤ l) part
+    go : (r : Result Reading KernFault) → note part ≡ r → moved_as_read n m part r ≡ Ok (Some text) →
+        transposed_part k l text ≡ transposed_part (n +ℤ k) (m +ℤ l) part
     go (Ok found) read e = there found read found.pitch refl e ∙ sym (ap (moved_as_read (n +ℤ k) (m +ℤ l) part) read)
     go (Err fault) read e = cc

@@ -5,6 +5,7 @@ pub mod Taking
 pub mod Acting
 pub mod Turning
 pub mod Wanting
+pub mod Doings
 pub mod Readying
 pub mod Sending
 pub mod Reusing

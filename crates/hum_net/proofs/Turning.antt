@@ -9,7 +9,8 @@ use Rattle.hum_turns.specs.Turns.{state, can, ready}
 use Rattle.hum_turns.proofs.States.{reads_bytes}
 use Rattle.hum_turns.proofs.Near.{step_does}
 use Rattle.hum_nodes.specs.declared.node.Doing.{Doing}
-use Rattle.hum_nodes.specs.At.{At, doing_of, bytes_of, holds_of}
+use Rattle.hum_nodes.specs.declared.node.DoingKind.{DoingKind}
+use Rattle.hum_nodes.specs.At.{At, doing_of, kind_of, bytes_of, holds_of}
 use Rattle.hum_nodes.specs.declared.either.Node.{Node}
 use Rattle.hum_nodes.specs.declared.either.Node.TheVariants as node
 use Rattle.hum_nodes.specs.Nodes.{is_source, StandsAs, remaining_of, ended_of, calls_of, failed_of}
@@ -19,7 +20,7 @@ use Rattle.hum_net.specs.declared.web.Web.{Web}
 use Rattle.hum_record.specs.Row.{Row}
 use Rattle.hum_turns.specs.Links.{Moment}
 use Rattle.hum_net.specs.Scene.{Scene, plan_of, before, at_of, held_of, Done}
-use Rattle.hum_net.specs.Scene.{IsAt, MayTurn, MayAct, IsAbout, Keeps, IsKind, Fed, Stepped}
+use Rattle.hum_net.specs.Scene.{IsAt, MayTurn, MayAct, IsAbout, IsAboutKind, Keeps, IsKind, Fed, Stepped}
 
 pub one_kind : {F W : Type 0} (k : ℕ) (web : Web F W) (node : Node F W) (b : Bool)
     → slice_get web.nodes.items k ≡ Some node → is_source node ≡ b → IsKind b k web
@@ -129,6 +130,21 @@ module _ {F W : Type 0} (feeds : F → List ℕ → At → Type 0) (works : W �
         at = at;
         less = less;
         bytes = stage_bytes feeds works law node (s.rests k) (at_of s.kinds s.links k) kind h;
+        does = sym (tells (s.rests k) (at_of s.kinds s.links k) h);
+      }
+
+  pub about_kind : (web : Web F W) (kind : DoingKind) (s : Scene) (node : Node F W)
+      → ((w : W) (t : At) → works w t → bytes_of t ≡ 0)
+      → IsAt (StandsAs feeds works) web s → k < s.count
+      → slice_get web.nodes.items k ≡ Some node → is_source node ≡ false
+      → ((rest : List ℕ) (t : At) → StandsAs feeds works node rest t → kind ≡ kind_of (doing_of t))
+      → IsAboutKind (StandsAs feeds works) k kind web s
+  about_kind web kind s node law at less there is tells =
+      let h = at.stand.nodes k node there in
+      record {
+        at = at;
+        less = less;
+        bytes = stage_bytes feeds works law node (s.rests k) (at_of s.kinds s.links k) is h;
         does = sym (tells (s.rests k) (at_of s.kinds s.links k) h);
       }
 

@@ -10,9 +10,10 @@ use Rattle.hum_turns.specs.Near.{IsOneOf}
 use Rattle.hum_turns.specs.Links.{Moment, given, view, IsOpening}
 use Rattle.hum_turns.specs.Turns.{State, state, can, ready, Does, Step, Run}
 use Rattle.hum_nodes.specs.Fine.{fine}
-use Rattle.hum_nodes.specs.At.{Kind, At, IsLimited, doing_of, holds_of, fresh as fresh_at}
+use Rattle.hum_nodes.specs.At.{Kind, At, IsLimited, doing_of, kind_of, holds_of, fresh as fresh_at}
 use Rattle.hum_nodes.specs.Single.{single}
 use Rattle.hum_nodes.specs.declared.node.Doing.{Doing}
+use Rattle.hum_nodes.specs.declared.node.DoingKind.{DoingKind}
 use Rattle.hum_nodes.specs.declared.either.Node.{Node}
 use Rattle.hum_nodes.specs.Nodes.{is_source, remaining_of, ended_of}
 use Rattle.hum_links.specs.declared.link.Link.{Link}
@@ -209,6 +210,14 @@ pub record IsAbout {F W : Type 0} (stands : Node F W → List ℕ → At → Typ
   pub less : k < s.count
   pub bytes : (s.kinds k).stage.bytes ≡ 0
   pub does : doing_of (at_of s.kinds s.links k) ≡ doing
+
+-- the same without its end
+pub record IsAboutKind {F W : Type 0} (stands : Node F W → List ℕ → At → Type 0) (k : ℕ)
+    (kind : DoingKind) (web : Web F W) (s : Scene) : Type 0 where
+  pub at : IsAt stands web s
+  pub less : k < s.count
+  pub bytes : (s.kinds k).stage.bytes ≡ 0
+  pub does : kind_of (doing_of (at_of s.kinds s.links k)) ≡ kind
 
 -- Stage k has read these bytes, and the turn is what follows from them however they go on. A stage
 -- that isn't a source reads none.

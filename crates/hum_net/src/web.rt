@@ -9,12 +9,13 @@ ghost use Rattle.hum_nodes.specs.declared.node.Doing.TheVariants as does;
 ghost use Rattle.hum_links.specs.Links.{next_of};
 ghost use Rattle.hum_net.specs.Scene.{Scene, plan_of, Somewhere, IsAt, IsActor, MayTurn, MayAct};
 ghost use Rattle.hum_net.specs.Scene.{IsKind, Keeps, KeepsOthers, Fed, Done, IsAbout};
+ghost use Rattle.hum_net.specs.Scene.{IsAboutKind};
 ghost use Rattle.hum_net.specs.Scene.{IsBegun, Stands, HasStage, held_of};
 ghost use Rattle.hum_net.specs.Readers.{ShowsSame, remaining_at, ended_at, calls_at, failed_at};
 ghost use Rattle.hum_nodes.specs.Polls.{AsksAtMostOnce, HasStayed, is_failed_read};
 
 use hum_links::{Link, Next};
-use hum_nodes::{Doing, Feeds, Node, Works};
+use hum_nodes::{Doing, DoingKind, Feeds, Node, Works};
 use hum_read::{ReadError, Step};
 use hum_record::Record;
 use hum_stage::End;
@@ -214,20 +215,20 @@ impl<F: Feeds, W: Works> Web<F, W> {
     }
 
     // Whether a stage that isn't a source can do this.
-    fn can(&self, k: usize, doing: Doing) -> bool
-        requires about { Somewhere (IsAbout (StandsAs F.stands W.stands) k doing self.now) }
+    fn can(&self, k: usize, kind: DoingKind) -> bool
+        requires about { Somewhere (IsAboutKind (StandsAs F.stands W.stands) k kind self.now) }
         requires stage { IsKind false k self.now }
-        ensures { (s : Scene) → IsAbout (StandsAs F.stands W.stands) k doing self.now s
+        ensures { (s : Scene) → IsAboutKind (StandsAs F.stands W.stands) k kind self.now s
             → result ≡ can s.size s.links k (state (plan_of s) s.links k) }
     {
-        match doing {
-            Doing::Gives => self.links[k].has_room(),
-            Doing::Reads => self.links[k].has_room(),
-            Doing::Wants(place) => {
+        match kind {
+            DoingKind::Gives => self.links[k].has_room(),
+            DoingKind::Reads => self.links[k].has_room(),
+            DoingKind::Wants(place) => {
                 let source = self.nodes[k].source(place);
                 self.links[source].has_some()
             }
-            Doing::Done(_) => self.links[k].is_unset(),
+            DoingKind::Done => self.links[k].is_unset(),
         }
     }
 
@@ -243,8 +244,8 @@ impl<F: Feeds, W: Works> Web<F, W> {
         if self.nodes[k].is_source() {
             return self.links[k].is_unset() && self.links[k].has_room();
         }
-        let doing = self.nodes[k].doing();
-        self.can(k, doing)
+        let kind = self.nodes[k].doing_kind();
+        self.can(k, kind)
     }
 
     // The link that a stage changes by doing this.

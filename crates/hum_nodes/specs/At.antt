@@ -7,6 +7,8 @@ use Rattle.hum_turns.specs.Flow.{Flow, so_far, AllFine}
 use Rattle.hum_turns.specs.Plan.{Want, Bytes, Source, Nothing, Stage, AreInputs, end_of}
 use Rattle.hum_nodes.specs.declared.node.Doing.{Doing}
 use Rattle.hum_nodes.specs.declared.node.Doing.TheVariants.{Gives, Reads, Wants, Done}
+use Rattle.hum_nodes.specs.declared.node.DoingKind.{DoingKind}
+use Rattle.hum_nodes.specs.declared.node.DoingKind.TheVariants as kind
 use Rattle.hum_nodes.specs.Fine.{fine}
 
 -- A stage, and how many records wait inside it, by what it has had of its inputs and how many
@@ -58,6 +60,13 @@ abbrev pub doing_of : At → Doing
 doing_of t =
     if nat_lt t.given (length (output_of t)) then Gives
     else doing_by (t.kind.stage.wants t.read t.inputs) (ending_of t)
+
+-- the same without the end
+abbrev pub kind_of : Doing → DoingKind
+kind_of Gives = kind.Gives
+kind_of Reads = kind.Reads
+kind_of (Wants place) = kind.Wants place
+kind_of (Done end) = kind.Done
 
 -- It gives no more records than a score may have.
 abbrev pub IsLimited : Stage Row → Type 0

@@ -1,8 +1,8 @@
 //! A stage that knows what it does next.
 ghost use Rattle.std.specs.Prelude.{◌≡◌};
-ghost use Rattle.hum_nodes.specs.At.{At, doing_of};
+ghost use Rattle.hum_nodes.specs.At.{At, doing_of, kind_of};
 
-use crate::node::{Doing, Works};
+use crate::node::{Doing, DoingKind, Works};
 use hum_record::Record;
 use hum_stage::End;
 use std::alloc::AllocError;
@@ -12,7 +12,7 @@ use std::alloc::AllocError;
 #[derive(Drop)]
 pub struct Asked<W> {
     inner: W,
-    doing: Doing,
+    kind: DoingKind,
 }
 
 impl<W: Works> Asked<W> {
@@ -20,13 +20,21 @@ impl<W: Works> Asked<W> {
     pub fn new(inner: W) -> Asked<W>
         ensures { (t : At) → W.stands inner t → ⟦<Asked<W> as Works>⟧.stands result t }
     {
-        let doing = inner.doing();
-        Asked { inner, doing }
+        let kind = inner.doing_kind();
+        Asked { inner, kind }
+    }
+
+    // Ends once, so that the end isn't asked for where each record passes.
+    #[inline(never)]
+    fn ended(&self) -> Doing
+        ensures { (t : At) → W.stands self.now.inner t → result ≡ doing_of t }
+    {
+        self.inner.doing()
     }
 }
 
 impl<W: Works> Works for Asked<W> {
-    ghost stands = { λ s t. (W.stands s.inner t) × (s.doing ≡ doing_of t) };
+    ghost stands = { λ s t. (W.stands s.inner t) × (s.kind ≡ kind_of (doing_of t)) };
 
     ghost no_bytes = { λ s t h. W.no_bytes s.inner t h.0 };
 
@@ -37,7 +45,17 @@ impl<W: Works> Works for Asked<W> {
 
     #[inline(always)]
     fn doing(&self) -> Doing {
-        self.doing
+        match self.kind {
+            DoingKind::Gives => Doing::Gives,
+            DoingKind::Reads => Doing::Reads,
+            DoingKind::Wants(place) => Doing::Wants(place),
+            DoingKind::Done => self.ended(),
+        }
+    }
+
+    #[inline(always)]
+    fn doing_kind(&self) -> DoingKind {
+        self.kind
     }
 
     fn held(&self) -> usize {
@@ -46,18 +64,18 @@ impl<W: Works> Works for Asked<W> {
 
     fn take(&mut self) -> Result<Option<Record>, AllocError> {
         let taken = self.inner.take()?;
-        self.doing = self.inner.doing();
+        self.kind = self.inner.doing_kind();
         Ok(taken)
     }
 
     fn put(&mut self, place: usize, next: Record) -> Result<(), AllocError> {
         self.inner.put(place, next)?;
-        self.doing = self.inner.doing();
+        self.kind = self.inner.doing_kind();
         Ok(())
     }
 
     fn stop(&mut self, place: usize, end: End) {
         self.inner.stop(place, end);
-        self.doing = self.inner.doing();
+        self.kind = self.inner.doing_kind();
     }
 }

@@ -1,14 +1,14 @@
 //! A node of either kind.
 ghost use Rattle.std.specs.Prelude.{◌≡◌, ℕ, ◌<◌, List, [], true, false, length, slice_index, IfOk, OnOk};
 ghost use Rattle.hum_nodes.specs.At.{At, MayDo, sources_of, bytes_of, doing_of, holds_of, HasTaken};
-ghost use Rattle.hum_nodes.specs.At.{MayPut, MayStop, HasPut, HasStopped};
+ghost use Rattle.hum_nodes.specs.At.{MayPut, MayStop, HasPut, HasStopped, kind_of};
 ghost use Rattle.std.specs.Prelude.{OnErr, ◌||◌};
 ghost use Rattle.hum_nodes.specs.Polls.{HasPolled, HasStayed, AsksAtMostOnce, Nears, IsKept};
 ghost use Rattle.hum_nodes.specs.Polls.{is_failed_read};
 ghost use Rattle.hum_nodes.specs.Nodes.{is_source, StandsAs, remaining_of, ended_of};
 ghost use Rattle.hum_nodes.specs.Nodes.{calls_of, failed_of, left_of};
 
-use crate::node::{Doing, Feeds, Works};
+use crate::node::{Doing, DoingKind, Feeds, Works};
 use hum_read::{ReadError, Step};
 use hum_record::Record;
 use hum_stage::End;
@@ -96,6 +96,18 @@ impl<F: Feeds, W: Works> Node<F, W> {
         match self {
             Node::Source(_) => unreachable!(),
             Node::Stage(node) => node.doing(),
+        }
+    }
+
+    /// The same without the end.
+    pub fn doing_kind(&self) -> DoingKind
+        requires { is_source self.now ≡ false }
+        ensures { (rest : List ℕ) (t : At) → StandsAs F.stands W.stands self.now rest t
+            → result ≡ kind_of (doing_of t) }
+    {
+        match self {
+            Node::Source(_) => unreachable!(),
+            Node::Stage(node) => node.doing_kind(),
         }
     }
 

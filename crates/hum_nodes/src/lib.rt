@@ -26,7 +26,7 @@ pub use laws::{
     readings_keep_fine, singles_are_lawful, singles_are_limited, singles_keep_fine, what_is_fine,
 };
 pub use merging::Merging;
-pub use node::{Doing, Feeds, Works};
+pub use node::{Doing, DoingKind, Feeds, Works};
 pub use reading::Reading;
 pub use single::Single;
 pub use worker::Worker;

@@ -4,7 +4,7 @@ ghost use Rattle.hum_assemble.specs.Standing.{Stands};
 ghost use Rattle.hum_nodes.specs.At.{fresh};
 ghost use Rattle.hum_nodes.specs.Merging.{IsMerging, merging};
 
-use crate::node::{Doing, Works};
+use crate::node::{Doing, DoingKind, Works};
 use hum_assemble::Assemble;
 use hum_record::Record;
 use hum_stage::{End, State};
@@ -56,6 +56,10 @@ impl Works for Merging {
                 State::Done(end) => Doing::Done(end),
             },
         }
+    }
+
+    fn doing_kind(&self) -> DoingKind {
+        self.doing().kind()
     }
 
     fn held(&self) -> usize {

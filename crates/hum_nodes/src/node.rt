@@ -2,7 +2,7 @@
 ghost use Rattle.std.specs.Prelude.{◌≡◌, ℕ, ◌<◌, List, Option, Bool, length, slice_index, IfOk};
 ghost use Rattle.std.specs.Prelude.{OnOk, OnErr, ◌≤◌, ◌||◌};
 ghost use Rattle.hum_nodes.specs.At.{At, MayDo, sources_of, bytes_of, doing_of, holds_of, HasTaken};
-ghost use Rattle.hum_nodes.specs.At.{MayPut, MayStop, HasPut, HasStopped};
+ghost use Rattle.hum_nodes.specs.At.{MayPut, MayStop, HasPut, HasStopped, kind_of};
 ghost use Rattle.hum_nodes.specs.Polls.{HasPolled, AsksAtMostOnce, Nears, IsKept};
 ghost use Rattle.hum_nodes.specs.Polls.{HasStayed, is_failed_read, most_bytes};
 
@@ -24,6 +24,29 @@ pub enum Doing {
     Done(End),
 }
 
+/// What a node does next, without its end: it is as small as a number, and so asked for more quickly.
+#[derive(Clone, Copy, Debug, Drop, PartialEq, Eq)]
+pub enum DoingKind {
+    Gives,
+    Reads,
+    Wants(usize),
+    Done,
+}
+
+impl Doing {
+    /// The same without the end.
+    pub fn kind(self) -> DoingKind
+        ensures { result ≡ kind_of self }
+    {
+        match self {
+            Doing::Gives => DoingKind::Gives,
+            Doing::Reads => DoingKind::Reads,
+            Doing::Wants(place) => DoingKind::Wants(place),
+            Doing::Done(_) => DoingKind::Done,
+        }
+    }
+}
+
 /// A stage of a plan that reads from other stages.
 pub trait Works: Drop {
     /// What a state stands for.
@@ -37,6 +60,10 @@ pub trait Works: Drop {
     /// What it does next.
     fn doing(&self) -> Doing
         ensures { (t : At) → stands self.now t → result ≡ doing_of t };
+
+    /// The same without the end.
+    fn doing_kind(&self) -> DoingKind
+        ensures { (t : At) → stands self.now t → result ≡ kind_of (doing_of t) };
 
     /// How many records wait inside.
     fn held(&self) -> usize

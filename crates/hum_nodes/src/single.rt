@@ -4,9 +4,9 @@ ghost use Rattle.hum_stage.specs.Meaning.{Meaning, opening};
 ghost use Rattle.hum_nodes.specs.At.{fresh};
 ghost use Rattle.hum_nodes.specs.Single.{IsSingle, single};
 
-use crate::node::{Doing, Works};
+use crate::node::{Doing, DoingKind, Works};
 use hum_record::Record;
-use hum_stage::{End, Stage, State};
+use hum_stage::{End, Readiness, Stage, State};
 use std::alloc::AllocError;
 
 /// A stage that reads from the stage of this number, from 0.
@@ -44,6 +44,15 @@ impl<S: Stage + Drop> Works for Single<S> {
             State::Gives => Doing::Gives,
             State::Wants => Doing::Wants(0),
             State::Done(end) => Doing::Done(end),
+        }
+    }
+
+    #[inline(always)]
+    fn doing_kind(&self) -> DoingKind {
+        match self.inner.readiness() {
+            Readiness::Gives => DoingKind::Gives,
+            Readiness::Wants => DoingKind::Wants(0),
+            Readiness::Done => DoingKind::Done,
         }
     }
 

@@ -2,7 +2,7 @@
 ghost use Rattle.hum_nodes.specs.Workers.{StandsBy, no_bytes_by};
 
 use crate::merging::Merging;
-use crate::node::{Doing, Works};
+use crate::node::{Doing, DoingKind, Works};
 use crate::single::Single;
 use hum_record::Record;
 use hum_stage::{End, Stage};
@@ -38,6 +38,14 @@ impl<S: Stage + Drop> Works for Worker<S> {
         match self {
             Worker::Single(stage) => stage.doing(),
             Worker::Merging(stage) => stage.doing(),
+        }
+    }
+
+    #[inline(always)]
+    fn doing_kind(&self) -> DoingKind {
+        match self {
+            Worker::Single(stage) => stage.doing_kind(),
+            Worker::Merging(stage) => stage.doing_kind(),
         }
     }
 

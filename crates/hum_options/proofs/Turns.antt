@@ -1,5 +1,6 @@
 -- Answers to words, one word after another.
-use Rattle.std.proofs.Common.{◌≡◌, ℕ, List, [], ◌∷◌, true, false, Ok, Err, Option, None, Some, refl, sym, ap, subst, ◌∙◌, inl, inr, suc, ◌<◌, length, drop, drop-cons, get_or}
+use Rattle.std.proofs.Common.{◌≡◌, ℕ, List, [], ◌∷◌, true, false, Ok, Err, Option, None, Some, refl, sym, ap}
+use Rattle.std.proofs.Common.{subst, ◌∙◌, inl, inr, suc, ◌<◌, length, drop, drop-cons, get_or}
 use denote.Ref.{Bor}
 use Rattle.hum_words.specs.declared.cutting.Piece.{Piece}
 use Rattle.hum_words.specs.declared.cutting.Piece.TheVariants as piece

@@ -68,8 +68,11 @@ plain_names : (names tokens : List (List ℕ)) (j n : ℕ) → list_all is_plain
 plain_names names tokens j zero h e = sym (drop_all j names (omega (arith, e)))
 plain_names names tokens j (suc n) h e =
     let first : renamed names tokens (Same j) ≡ get_or names j [] = ap (λ (b : Bool). cond b (get_or tokens j []) (get_or names j [])) (plain_at tokens j h) in
-    let rest : map (renamed names tokens) (same_upto (j + 1) n) ≡ drop (suc j) names = plain_names names tokens (j + 1) n h (omega (arith, e)) ∙ ap (λ (k : ℕ). drop k names) (add-one j) in
-    rw (drop-cons names j [] (omega (arith, e))) (ap (λ (x : List ℕ). x ∷ map (renamed names tokens) (same_upto (j + 1) n)) first ∙ ap (λ (xs : List (List ℕ)). get_or names j [] ∷ xs) rest)
+    let rest : map (renamed names tokens) (same_upto (j + 1) n) ≡ drop (suc j) names =
+    plain_names names tokens (j + 1) n h (omega (arith, e)) ∙ ap (λ (k : ℕ). drop k names) (add-one j) in
+    rw (drop-cons names j [] (omega (arith, e)))
+    (ap (λ (x : List ℕ). x ∷ map (renamed names tokens) (same_upto (j + 1) n)) first
+    ∙ ap (λ (xs : List (List ℕ)). get_or names j [] ∷ xs) rest)
 
 -- no name changes
 pub plain_stays : (names tokens : List (List ℕ)) → list_all is_plain (map sign_of tokens) ≡ true

@@ -140,10 +140,11 @@ plain_breaks Unopened [] h filled few = absurd (filled refl)
 plain_breaks Unopened (t ∷ ts) h filled few =
     let both = and_parts (is_plain (sign_of t)) (all_plain ts) h in
     rw (not_exclusive (sign_of t) both.0) refl
-plain_breaks (Spines names) tokens h filled few = elim (cases_Bool (length tokens == length names)) as (λ _. find (breaks (Spines names) tokens) in_order ≡ find (breaks_as_text (Spines names) tokens) in_order) [
-  | inl same ↦ plain_as_wide names tokens h few (grind (arith, nat_tests))
-  | inr other ↦ rw other refl
-]
+plain_breaks (Spines names) tokens h filled few = elim (cases_Bool (length tokens == length names)) as
+    (λ _. find (breaks (Spines names) tokens) in_order ≡ find (breaks_as_text (Spines names) tokens) in_order) [
+      | inl same ↦ plain_as_wide names tokens h few (grind (arith, nat_tests))
+      | inr other ↦ rw other refl
+    ]
 
 plain_after : (path : Path) (tokens : List (List ℕ)) → all_plain tokens ≡ true → tokens ≢ []
     → find (breaks path tokens) in_order ≡ None

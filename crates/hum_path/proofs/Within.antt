@@ -50,7 +50,8 @@ all_below : (n j : ℕ) (pair : List ℕ) (after_join : Bool) (signs : List Sign
     → j + length signs ≤ n → From n (heirs_from pair j after_join signs)
 all_below n j pair after_join [] p h = tt
 all_below n j pair after_join (sign ∷ signs) p h =
-    both n (heirs pair j after_join sign signs) _ (heirs_below n j pair after_join sign signs p (omega arith)) (all_below n (j + 1) pair (is_join sign) signs p (omega arith))
+    both n (heirs pair j after_join sign signs) _ (heirs_below n j pair after_join sign signs p (omega arith))
+    (all_below n (j + 1) pair (is_join sign) signs p (omega arith))
 
 pub same_below : (n j m : ℕ) → j + m ≤ n → From n (same_upto j m)
 same_below n j zero h = tt

@@ -136,6 +136,7 @@ pub(crate) fn has_nameless(names: &[Vec<u8>]) -> bool
 }
 
 /// The first rule that a record breaks which asks nothing of the spines.
+#[inline]
 pub(crate) fn text_fault(
     opened: bool,
     waits: bool,

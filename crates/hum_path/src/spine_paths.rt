@@ -92,6 +92,19 @@ impl Paths {
         }
     }
 
+    /// Whether a record is data with a token for each spine, of which none waits for its exclusive
+    /// interpretation: then it breaks no rule, and each spine goes on.
+    #[inline]
+    pub fn goes_on(&self, row: &Record) -> bool
+        ensures sound { result ≡ true → fault_of self.now.path row.now ≡ None }
+        ensures same { result ≡ true → after self.now.path row.now ≡ self.now.path }
+    {
+        match row.kind() {
+            Kind::Values => text_fault(self.opened, self.waits, &self.names, row).is_none(),
+            _ => false,
+        }
+    }
+
     /// Takes one more record, and says where each spine after it comes from.
     ///
     /// A record without a path indicator or an exclusive interpretation takes no memory.

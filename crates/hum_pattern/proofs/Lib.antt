@@ -1,3 +1,4 @@
 mod Examples
 pub mod OnLiterals
 pub mod Reading
+pub mod Remembered

@@ -1,8 +1,17 @@
 -- What searches for a pattern.
-use Rattle.std.specs.Prelude.{ℕ, List}
+use Rattle.std.specs.Prelude.{◌≡◌, ℕ, Bool, List, Some, slice_get}
 use Rattle.regex.specs.Patterns.{Re, SameCaptures}
-use Rattle.hum_pattern.specs.Meaning.{expression}
+use Rattle.hum_pattern.specs.Meaning.{expression, matched}
+use Rattle.hum_pattern.specs.declared.searched.Searched.{Searched}
 
 -- What is searched for finds in all bytes what the expression of the text finds.
 abbrev pub SearchesFor : List ℕ → Re → Type 0
 SearchesFor text searched = SameCaptures searched (expression text)
+
+-- What is remembered of a token is what the text, as a pattern, finds in it.
+pub record Finds (text : List ℕ) (searched : Searched) : Type 0 where
+  pub is : (found : Bool) → searched.found ≡ Some found → matched text searched.token.items ≡ found
+
+-- the same of each that is remembered
+pub record AllFound (text : List ℕ) (all : List Searched) : Type 0 where
+  pub each : (i : ℕ) (searched : Searched) → slice_get all i ≡ Some searched → Finds text searched

@@ -8,6 +8,9 @@ ghost use Rattle.std.specs.Prelude.{◌≡◌, IfOk, IfErr, OnOk};
 ghost use Rattle.hum_pattern.specs.Meaning.{IsExpression, IsNone, matched, first_end};
 ghost use Rattle.hum_pattern.specs.declared.PatternFault.TheVariants.{Refused, TooLarge, Memory};
 
+mod searched;
+
+use crate::searched::{Searched, none_searched, recalled, remember};
 use regex::Error as RegexError;
 use regex::bytes::{Matcher, Regex};
 use std::alloc::{AllocError, AllocFailed, Global};
@@ -53,18 +56,21 @@ pub struct Pattern {
     regex: &'static Regex,
     // on the heap, since it is some kilobytes large
     matcher: Box<Matcher<'static>>,
+    // tokens that were searched before
+    searched: Vec<Searched>,
 }
 
 impl Model for Pattern {
     ghost use Rattle.std.specs.Prelude.{ℕ, List, box_value};
     ghost use Rattle.regex.specs.Bytes.{regex_source, matcher_pattern};
-    ghost use Rattle.hum_pattern.specs.Searching.{SearchesFor};
+    ghost use Rattle.hum_pattern.specs.Searching.{SearchesFor, AllFound};
 
     ghost Value = { List ℕ };
 
     ghost view = { λ p. regex_source p.regex.now };
 
-    ghost invariant = { λ p. SearchesFor (regex_source p.regex.now) (matcher_pattern (box_value p.matcher)) };
+    ghost invariant = { λ p. SearchesFor (regex_source p.regex.now) (matcher_pattern (box_value p.matcher))
+        × AllFound (regex_source p.regex.now) p.searched.items };
 }
 
 impl Pattern {
@@ -84,6 +90,7 @@ impl Pattern {
                 Ok(Pattern {
                     regex,
                     matcher: Box::new(alloc, regex.matcher(alloc)?)?,
+                    searched: none_searched(alloc)?,
                 })
             }
             Err(RegexError::Syntax(_)) => Err(PatternFault::Refused),
@@ -98,7 +105,12 @@ impl Pattern {
         ensures found { result ≡ matched self.old token.now }
         ensures same { self.new ≡ self.old }
     {
-        self.matcher.is_match(token)
+        if let Some(found) = recalled(&self.searched, token) {
+            return found;
+        }
+        let found = self.matcher.is_match(token);
+        remember(&mut self.searched, token, found);
+        found
     }
 
     /// Where the leftmost match ends in a token, counted in bytes from its beginning.

@@ -13,7 +13,9 @@ use Rattle.hum_plan.specs.Seen.{stages_of, stage_of, options_of}
 use Rattle.hum_pipeline.specs.Nodes.{reads_by, reads_of, ToldBy, AreTold}
 use Rattle.hum_pipeline.specs.declared.outcome.Outcome.{Outcome}
 use Rattle.hum_pipeline.specs.declared.outcome.Outcome.TheVariants as outcome
-use Rattle.hum_pipeline.specs.Bundles.{score_by, bytes_by, or_empty, first_lacking, AddsReader, Adds, LacksHere, LacksNow, IsRefusal, Comes, ComesOfBundle, MayLackMemory, HasRunPlan, LacksScore, is_failed_write}
+use Rattle.hum_pipeline.specs.Bundles.{score_by, bytes_by, or_empty, first_lacking, AddsReader, Adds, LacksHere}
+use Rattle.hum_pipeline.specs.Bundles.{LacksNow, IsRefusal, Comes, ComesOfBundle, MayLackMemory, HasRunPlan}
+use Rattle.hum_pipeline.specs.Bundles.{LacksScore, is_failed_write}
 use Rattle.hum_net.specs.Readers.{is_write}
 use Rattle.std.specs.Prelude.{◌||◌}
 use Rattle.std.proofs.Math.Bool.{or-false}
@@ -30,27 +32,36 @@ rest_of (x ∷ xs) zero stage h = ap (λ (s : PlanStage). s ∷ xs) (sym (same_S
 rest_of (x ∷ xs) (suc k) stage h = rest_of xs k stage h
 
 -- The bytes of stage k are those of its score.
-pub bytes_at : (score : List ℕ → Option (List ℕ)) (stages : List PlanStage) (k : ℕ) (stage : PlanStage) → Some stage ≡ slice_get stages k → bytes_by score (stages_of stages) k ≡ or_empty (score_by score (options_of stage.options))
+pub bytes_at : (score : List ℕ → Option (List ℕ)) (stages : List PlanStage) (k : ℕ) (stage : PlanStage) →
+    Some stage ≡ slice_get stages k → bytes_by score (stages_of stages) k ≡ or_empty
+    (score_by score (options_of stage.options))
 bytes_at score [] k stage h = cc
 bytes_at score (x ∷ xs) zero stage h = ap (λ (s : PlanStage). or_empty (score_by score (options_of s.options))) (sym (same_Some stage x h))
 bytes_at score (x ∷ xs) (suc k) stage h = bytes_at score xs k stage h
 
 -- Readers of the stages before stage k, in front of those of the rest.
-pub record Filled {R : Type 0} (remaining : R → Option (List ℕ)) (score : List ℕ → Option (List ℕ)) (stages : List PlanStage) (k : ℕ) (readers : List R) : Type 0 where
-  pub tells : (rest : List R) → AreTold remaining (bytes_by score (stages_of stages)) k (drop k stages) rest → AreTold remaining (bytes_by score (stages_of stages)) 0 stages (readers ++ rest)
+pub record Filled {R : Type 0} (remaining : R → Option (List ℕ)) (score : List ℕ → Option (List ℕ))
+    (stages : List PlanStage) (k : ℕ) (readers : List R) : Type 0 where
+  pub tells : (rest : List R) → AreTold remaining (bytes_by score (stages_of stages)) k (drop k stages) rest →
+      AreTold remaining (bytes_by score (stages_of stages)) 0 stages (readers ++ rest)
   pub count : reads_of stages ≡ length readers + reads_of (drop k stages)
   pub lacks : first_lacking score 1 (stages_of stages) ≡ first_lacking score (suc k) (stages_of (drop k stages))
 
-pub filled_none : {R : Type 0} (remaining : R → Option (List ℕ)) (score : List ℕ → Option (List ℕ)) (stages : List PlanStage) → Filled remaining score stages 0 []
+pub filled_none : {R : Type 0} (remaining : R → Option (List ℕ)) (score : List ℕ → Option (List ℕ))
+    (stages : List PlanStage) → Filled remaining score stages 0 []
 filled_none remaining score stages = record { tells = λ rest h. h; count = omega arith; lacks = refl }
 
 -- What one stage more adds.
-pub record Adding {R : Type 0} (remaining : R → Option (List ℕ)) (bytes : List ℕ) (options : Options) (Rest : List R → Type 0) (old new rest : List R) : Type 0 where
+pub record Adding {R : Type 0} (remaining : R → Option (List ℕ)) (bytes : List ℕ) (options : Options)
+    (Rest : List R → Type 0) (old new rest : List R) : Type 0 where
   pub front : List R
   pub along : old ++ front ≡ new ++ rest
   pub told : ToldBy remaining bytes options Rest front
 
-pub told_more : {R : Type 0} (remaining : R → Option (List ℕ)) (score : List ℕ → Option (List ℕ)) (o : Options) (Rest : List R → Type 0) (old new rest : List R) (bytes : List ℕ) → bytes ≡ or_empty (score_by score (options_of o)) → Adds remaining score (options_of o) old new → Rest rest → Adding remaining bytes o Rest old new rest
+pub told_more : {R : Type 0} (remaining : R → Option (List ℕ)) (score : List ℕ → Option (List ℕ)) (o : Options)
+    (Rest : List R → Type 0) (old new rest : List R) (bytes : List ℕ) →
+    bytes ≡ or_empty (score_by score (options_of o)) → Adds remaining score (options_of o) old new → Rest rest →
+    Adding remaining bytes o Rest old new rest
 told_more remaining score (told.Read name) Rest old new rest bytes e adds h = record {
   front = adds.reader ∷ rest;
   along = sym (append_assoc old (adds.reader ∷ []) rest) ∙ ap (λ xs. xs ++ rest) (sym adds.adds);
@@ -59,17 +70,24 @@ told_more remaining score (told.Read name) Rest old new rest bytes e adds h = re
 told_more remaining score told.Assemble Rest old new rest bytes e adds h = record { front = rest; along = ap (λ xs. xs ++ rest) (sym adds); told = h }
 told_more remaining score (told.Command options) Rest old new rest bytes e adds h = record { front = rest; along = ap (λ xs. xs ++ rest) (sym adds); told = h }
 
-pub added_length : {R : Type 0} (remaining : R → Option (List ℕ)) (score : List ℕ → Option (List ℕ)) (o : Options) (old new : List R) → Adds remaining score (options_of o) old new → length new ≡ length old + reads_by o
+pub added_length : {R : Type 0} (remaining : R → Option (List ℕ)) (score : List ℕ → Option (List ℕ))
+    (o : Options) (old new : List R) → Adds remaining score (options_of o) old new →
+    length new ≡ length old + reads_by o
 added_length remaining score (told.Read name) old new adds = ap length adds.adds ∙ length-append old (adds.reader ∷ [])
 added_length remaining score told.Assemble old new adds = ap length adds ∙ omega arith
 added_length remaining score (told.Command options) old new adds = ap length adds ∙ omega arith
 
-pub is_there : {R : Type 0} (remaining : R → Option (List ℕ)) (score : List ℕ → Option (List ℕ)) (o : Options) (old new : List R) → Adds remaining score (options_of o) old new → is_none (score_by score (options_of o)) ≡ false
+pub is_there : {R : Type 0} (remaining : R → Option (List ℕ)) (score : List ℕ → Option (List ℕ)) (o : Options)
+    (old new : List R) → Adds remaining score (options_of o) old new →
+    is_none (score_by score (options_of o)) ≡ false
 is_there remaining score (told.Read name) old new adds = ap is_none adds.is_score
 is_there remaining score told.Assemble old new adds = refl
 is_there remaining score (told.Command options) old new adds = refl
 
-pub filled_more : {R : Type 0} (remaining : R → Option (List ℕ)) (score : List ℕ → Option (List ℕ)) (stages : List PlanStage) (k : ℕ) (stage : PlanStage) (old new : List R) → Filled remaining score stages k old → Some stage ≡ slice_get stages k → Adds remaining score (options_of stage.options) old new → Filled remaining score stages (suc k) new
+pub filled_more : {R : Type 0} (remaining : R → Option (List ℕ)) (score : List ℕ → Option (List ℕ))
+    (stages : List PlanStage) (k : ℕ) (stage : PlanStage) (old new : List R) →
+    Filled remaining score stages k old → Some stage ≡ slice_get stages k →
+    Adds remaining score (options_of stage.options) old new → Filled remaining score stages (suc k) new
 filled_more remaining score stages k stage old new filled here adds =
     let bytes = bytes_by score (stages_of stages) in
     let front = rest_of stages k stage here in
@@ -79,14 +97,21 @@ filled_more remaining score stages k stage old new filled here adds =
     let lacks = filled.lacks ∙ ap (λ s. first_lacking score (suc k) (stages_of s)) front in
     record {
       tells = λ rest h.
-          let more = told_more remaining score stage.options (AreTold remaining bytes (suc k) (drop (suc k) stages)) old new rest (bytes k) (bytes_at score stages k stage here) adds h in
-          subst (AreTold remaining bytes 0 stages) more.along (filled.tells more.front (subst (λ s. AreTold remaining bytes k s more.front) (sym front) more.told));
+          let more = told_more remaining score stage.options
+          (AreTold remaining bytes (suc k) (drop (suc k) stages)) old new rest (bytes k)
+          (bytes_at score stages k stage here) adds h in
+          subst (AreTold remaining bytes 0 stages) more.along
+          (filled.tells more.front (subst (λ s. AreTold remaining bytes k s more.front) (sym front)
+          more.told));
       count = omega (arith, count, longer);
       lacks = lacks ∙ ap (λ b. if b then Some (suc k) else first_lacking score (suc (suc k)) (stages_of (drop (suc k) stages))) there;
     }
 
 -- The first stage whose score isn't there is this one.
-pub lacks_here : {R : Type 0} (remaining : R → Option (List ℕ)) (score : List ℕ → Option (List ℕ)) (stages : List PlanStage) (k : ℕ) (stage : PlanStage) (old : List R) → Filled remaining score stages k old → Some stage ≡ slice_get stages k → (outcome : Outcome) → LacksHere score k (options_of stage.options) outcome → LacksNow score (stages_of stages) outcome
+pub lacks_here : {R : Type 0} (remaining : R → Option (List ℕ)) (score : List ℕ → Option (List ℕ))
+    (stages : List PlanStage) (k : ℕ) (stage : PlanStage) (old : List R) → Filled remaining score stages k old →
+    Some stage ≡ slice_get stages k → (outcome : Outcome) → LacksHere score k (options_of stage.options) outcome
+    → LacksNow score (stages_of stages) outcome
 lacks_here remaining score stages k stage old filled here (outcome.Run end) h = h
 lacks_here remaining score stages k stage old filled here (outcome.Plan fault) h = h
 lacks_here remaining score stages k stage old filled here (outcome.NoScore number) h =
@@ -96,51 +121,70 @@ lacks_here remaining score stages k stage old filled here (outcome.NoScore numbe
 lacks_here remaining score stages k stage old filled here outcome.TooLarge h = h
 
 -- All are there.
-pub record AllFilled {R : Type 0} (remaining : R → Option (List ℕ)) (score : List ℕ → Option (List ℕ)) (stages : List PlanStage) (readers : List R) : Type 0 where
+pub record AllFilled {R : Type 0} (remaining : R → Option (List ℕ)) (score : List ℕ → Option (List ℕ))
+    (stages : List PlanStage) (readers : List R) : Type 0 where
   pub count : reads_of stages ≡ length readers
   pub there : first_lacking score 1 (stages_of stages) ≡ None
   pub told : AreTold remaining (bytes_by score (stages_of stages)) 0 stages readers
 
-pub filled_all : {R : Type 0} (remaining : R → Option (List ℕ)) (score : List ℕ → Option (List ℕ)) (stages : List PlanStage) (k : ℕ) (readers : List R) → Filled remaining score stages k readers → length stages ≤ k → AllFilled remaining score stages readers
+pub filled_all : {R : Type 0} (remaining : R → Option (List ℕ)) (score : List ℕ → Option (List ℕ))
+    (stages : List PlanStage) (k : ℕ) (readers : List R) → Filled remaining score stages k readers →
+    length stages ≤ k → AllFilled remaining score stages readers
 filled_all remaining score stages k readers filled past =
     let none : drop k stages ≡ [] = drop_all k stages past in
     record {
       count = filled.count ∙ ap (λ s. length readers + reads_of s) none ∙ omega arith;
       there = filled.lacks ∙ ap (λ s. first_lacking score (suc k) (stages_of s)) none;
-      told = subst (AreTold remaining (bytes_by score (stages_of stages)) 0 stages) (append-nil readers) (filled.tells [] (subst (λ s. AreTold remaining (bytes_by score (stages_of stages)) k s []) (sym none) tt));
+      told = subst (AreTold remaining (bytes_by score (stages_of stages)) 0 stages) (append-nil readers)
+          (filled.tells [] (subst (λ s. AreTold remaining (bytes_by score (stages_of stages)) k s []) (sym none)
+          tt));
     }
 
 -- the bytes that a reader of a slice tells
 abbrev pub slice_tells : Calls (Bor (List ℕ)) → Option (List ℕ)
 slice_tells m = Some m.inner.now
 
-pub filled_next : {R : Type 0} (remaining : R → Option (List ℕ)) (score : List ℕ → Option (List ℕ)) (stages : List PlanStage) (k : ℕ) (stage : PlanStage) (old new : List R) → Filled remaining score stages k old → Some stage ≡ slice_get stages k → Adds remaining score (options_of stage.options) old new → Filled remaining score stages (k + 1) new
+pub filled_next : {R : Type 0} (remaining : R → Option (List ℕ)) (score : List ℕ → Option (List ℕ))
+    (stages : List PlanStage) (k : ℕ) (stage : PlanStage) (old new : List R) →
+    Filled remaining score stages k old → Some stage ≡ slice_get stages k →
+    Adds remaining score (options_of stage.options) old new → Filled remaining score stages (k + 1) new
 filled_next remaining score stages k stage old new filled here adds =
     let next : suc k ≡ k + 1 = omega arith in
     subst (λ n. Filled remaining score stages n new) next (filled_more remaining score stages k stage old new filled here adds)
 
 -- What a text that is refused comes to.
-pub refusal_comes : (text : List ℕ) (score : List ℕ → Option (List ℕ)) (old : Option (List ℕ)) (flushed : Bool) (outcome : Outcome) → IsRefusal text outcome → Comes text score old old flushed outcome
+pub refusal_comes : (text : List ℕ) (score : List ℕ → Option (List ℕ)) (old : Option (List ℕ)) (flushed : Bool)
+    (outcome : Outcome) → IsRefusal text outcome → Comes text score old old flushed outcome
 refusal_comes text score old flushed (outcome.Run end) h = inr (subst (MayLackMemory old old) (sym h) refl)
 refusal_comes text score old flushed (outcome.Plan fault) h = h
 refusal_comes text score old flushed (outcome.NoScore number) h = absurd h
 refusal_comes text score old flushed outcome.TooLarge h = absurd h
 
 -- What a plan that lacks a score comes to.
-pub lack_comes : (text : List ℕ) (score : List ℕ → Option (List ℕ)) (old : Option (List ℕ)) (flushed : Bool) (stages : List Stage) → IsPlanOf text stages → (outcome : Outcome) → LacksNow score stages outcome → Comes text score old old flushed outcome
+pub lack_comes : (text : List ℕ) (score : List ℕ → Option (List ℕ)) (old : Option (List ℕ)) (flushed : Bool)
+    (stages : List Stage) → IsPlanOf text stages → (outcome : Outcome) → LacksNow score stages outcome →
+    Comes text score old old flushed outcome
 lack_comes text score old flushed stages plan (outcome.Run end) h = inr (subst (MayLackMemory old old) (sym h) refl)
 lack_comes text score old flushed stages plan (outcome.Plan fault) h = absurd h
 lack_comes text score old flushed stages plan (outcome.NoScore number) h = record { stages = stages; plan = plan; first = h }
 lack_comes text score old flushed stages plan outcome.TooLarge h = absurd h
 
 -- the same for a bundle that isn't too large
-pub bundle_comes : (too_large : Bool) (text : List ℕ) (score : List ℕ → Option (List ℕ)) (old new : Option (List ℕ)) (flushed : Bool) (outcome : Outcome) → too_large ≡ false → Comes text score old new flushed outcome → ComesOfBundle too_large text score old new flushed outcome
+pub bundle_comes : (too_large : Bool) (text : List ℕ) (score : List ℕ → Option (List ℕ))
+    (old new : Option (List ℕ)) (flushed : Bool) (outcome : Outcome) → too_large ≡ false →
+    Comes text score old new flushed outcome → ComesOfBundle too_large text score old new flushed outcome
 bundle_comes false text score old new flushed outcome e h = h
 bundle_comes true text score old new flushed outcome e h = cc
 
 -- A plan that was run.
-pub run_comes : (too_large : Bool) (text : List ℕ) (score : List ℕ → Option (List ℕ)) (old new : Option (List ℕ)) (flushed : Bool) (end : RunResult) (stages : List PlanStage) → too_large ≡ false → IsPlanOf text (stages_of stages) → first_lacking score 1 (stages_of stages) ≡ None → HasWritten (bytes_by score (stages_of stages)) (stages_of stages) old new flushed end → ComesOfBundle too_large text score old new flushed (outcome.Run end)
-run_comes too_large text score old new flushed end stages e plan there written = bundle_comes too_large text score old new flushed (outcome.Run end) e (inl (record { stages = stages_of stages; plan = plan; scores = there; written = written }))
+pub run_comes : (too_large : Bool) (text : List ℕ) (score : List ℕ → Option (List ℕ))
+    (old new : Option (List ℕ)) (flushed : Bool) (end : RunResult) (stages : List PlanStage) →
+    too_large ≡ false → IsPlanOf text (stages_of stages) → first_lacking score 1 (stages_of stages) ≡ None →
+    HasWritten (bytes_by score (stages_of stages)) (stages_of stages) old new flushed end →
+    ComesOfBundle too_large text score old new flushed (outcome.Run end)
+run_comes too_large text score old new flushed end stages e plan there written =
+    bundle_comes too_large text score old new flushed (outcome.Run end) e
+    (inl (record { stages = stages_of stages; plan = plan; scores = there; written = written }))
 
 -- Without a run no write fails.
 pub refusal_writes_none : (text : List ℕ) (outcome : Outcome) → IsRefusal text outcome → is_failed_write outcome ≡ false
@@ -149,7 +193,8 @@ refusal_writes_none text (outcome.Plan fault) h = refl
 refusal_writes_none text (outcome.NoScore number) h = refl
 refusal_writes_none text outcome.TooLarge h = refl
 
-pub lack_writes_none : (score : List ℕ → Option (List ℕ)) (stages : List Stage) (outcome : Outcome) → LacksNow score stages outcome → is_failed_write outcome ≡ false
+pub lack_writes_none : (score : List ℕ → Option (List ℕ)) (stages : List Stage) (outcome : Outcome) →
+    LacksNow score stages outcome → is_failed_write outcome ≡ false
 lack_writes_none score stages (outcome.Run end) h = ap (λ e. is_write (Some e)) h
 lack_writes_none score stages (outcome.Plan fault) h = refl
 lack_writes_none score stages (outcome.NoScore number) h = refl
@@ -159,7 +204,9 @@ pub unmarked : (mark : Bool) (outcome : Outcome) → is_failed_write outcome ≡
 unmarked mark outcome none = sym (or-false mark) ∙ ap (λ b. mark || b) (sym none)
 
 -- How many readers there are for the stages before stage k.
-pub counted_next : (stages : List PlanStage) (k : ℕ) (stage : PlanStage) (m n : ℕ) → reads_of stages ≡ m + reads_of (drop k stages) → Some stage ≡ slice_get stages k → n ≡ m + reads_by stage.options → reads_of stages ≡ n + reads_of (drop (k + 1) stages)
+pub counted_next : (stages : List PlanStage) (k : ℕ) (stage : PlanStage) (m n : ℕ) →
+    reads_of stages ≡ m + reads_of (drop k stages) → Some stage ≡ slice_get stages k →
+    n ≡ m + reads_by stage.options → reads_of stages ≡ n + reads_of (drop (k + 1) stages)
 counted_next stages k stage m n count here longer =
     let step = ap reads_of (rest_of stages k stage here) in
     let next : suc k ≡ k + 1 = omega arith in

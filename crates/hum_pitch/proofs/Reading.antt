@@ -1,11 +1,13 @@
 -- What is written is read as the same pitch.
-use Rattle.std.proofs.Common.{◌≡◌, ◌==◌, ◌+◌, ◌<◌, ℕ, zero, suc, ℤ, pos, negsuc, ◌+ℤ◌, ◌-ℤ◌, true, false, List, ◌++◌, Option, Some, length, drop, refl, ap, ◌∙◌, arith, ◌<ℤ◌, eq-eqb}
+use Rattle.std.proofs.Common.{◌≡◌, ◌==◌, ◌+◌, ◌<◌, ℕ, zero, suc, ℤ, pos, negsuc, ◌+ℤ◌, ◌-ℤ◌, true, false, List}
+use Rattle.std.proofs.Common.{◌++◌, Option, Some, length, drop, refl, ap, ◌∙◌, arith, ◌<ℤ◌, eq-eqb}
 use Rattle.std.specs.Prelude.{replicate, slice_index, IfOk, Result, Ok, Err}
 use Rattle.std.proofs.lemmas.List.{length-replicate}
 use Rattle.std.proofs.lemmas.Int.{ints}
 use Rattle.hum_pitch.specs.Pitch.{Spelled}
 use Rattle.hum_pitch.proofs.Steps.{same_note}
-use Rattle.hum_pitch.specs.Spelling.{small_letters, capitals, letters, accidentals, spelling, run, natural_note, read_letters, read_accidentals, altered_by, read_pitch}
+use Rattle.hum_pitch.specs.Spelling.{small_letters, capitals, letters, accidentals, spelling, run, natural_note}
+use Rattle.hum_pitch.specs.Spelling.{read_letters, read_accidentals, altered_by, read_pitch}
 
 pub capital_letters : (step n : ℕ) (z : ℤ) → z <ℤ pos 4 → pos n ≡ pos 4 -ℤ z
     → replicate n (slice_index capitals step) ≡ letters step (z -ℤ pos 4)

@@ -21,7 +21,10 @@ use Rattle.hum_plan.specs.Faults.{rule_of, of_text}
 use Rattle.hum_plan.specs.Stages.{Stage}
 use Rattle.hum_plan.specs.Branches.{is_out}
 use Rattle.hum_plan.specs.Lines.{groups}
-use Rattle.hum_plan.specs.Answers.{Outline, Outcome, nothing, with_command, command_of, opening_of, is_source, is_end, Begins, Placed, StageAnswer, StagesAnswer, Then, Onward, Unless, name_fault, ended, NameAnswer, BranchAnswer, CutAnswer, LinesAnswer, whole_fault, WholeAnswer, PlanAnswer}
+use Rattle.hum_plan.specs.Answers.{Outline, Outcome, nothing, with_command, command_of, opening_of, is_source}
+use Rattle.hum_plan.specs.Answers.{is_end, Begins, Placed, StageAnswer, StagesAnswer, Then, Onward, Unless}
+use Rattle.hum_plan.specs.Answers.{name_fault, ended, NameAnswer, BranchAnswer, CutAnswer, LinesAnswer}
+use Rattle.hum_plan.specs.Answers.{whole_fault, WholeAnswer, PlanAnswer}
 use Rattle.hum_plan.specs.Laws.{Agrees, IsOnePlan}
 use Rattle.hum_plan.proofs.Written.{read_as_written, then_ok}
 

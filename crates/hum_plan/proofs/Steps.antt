@@ -1,5 +1,7 @@
 -- One step of a line's words and stages after another.
-use Rattle.std.proofs.Common.{◌≡◌, ℕ, ◌<◌, ◌&&◌, Bool, true, false, List, [], ◌∷◌, length, drop, drop-cons, get_or, Option, None, Some, option_map, is_none, Result, Ok, Err, refl, sym, ap, ◌∙◌, suc}
+use Rattle.std.proofs.Common.{◌≡◌, ℕ, ◌<◌, ◌&&◌, Bool, true, false, List, [], ◌∷◌, length, drop, drop-cons}
+use Rattle.std.proofs.Common.{get_or, Option, None, Some, option_map, is_none, Result, Ok, Err, refl, sym, ap}
+use Rattle.std.proofs.Common.{◌∙◌, suc}
 use denote.Bor.{Bor}
 use Rattle.std.specs.Bool.{beq}
 use Rattle.std.specs.Prelude.{nat_le}
@@ -12,7 +14,8 @@ use Rattle.hum_options.specs.Seen.{words_of, words_before_bar}
 use Rattle.hum_plan.specs.declared.faults.PlanError.{PlanError}
 use Rattle.hum_plan.specs.declared.faults.PlanError.TheVariants.{Fault, Memory}
 use Rattle.hum_plan.specs.declared.faults.PlanFault.{PlanFault}
-use Rattle.hum_plan.specs.Answers.{Outline, Outcome, Joined, name_joined, names_joined, Begins, StageAnswer, StagesAnswer, opening_of, command_of, is_source, is_end}
+use Rattle.hum_plan.specs.Answers.{Outline, Outcome, Joined, name_joined, names_joined, Begins, StageAnswer}
+use Rattle.hum_plan.specs.Answers.{StagesAnswer, opening_of, command_of, is_source, is_end}
 use Rattle.hum_plan.specs.Lines.{behind_bar, groups, groups_behind}
 use Rattle.hum_plan.specs.Tells.{Fails, Tells}
 

@@ -1,5 +1,7 @@
 -- The text of a plan is answered as it is written.
-use Rattle.std.proofs.Common.{◌≡◌, ◌≢◌, ℕ, ◌<◌, ◌≤◌, ◌==◌, ◌&&◌, ◌||◌, Bool, true, false, List, [], ◌∷◌, ◌++◌, length, Option, None, Some, is_some, is_none, Ok, Err, refl, sym, ap, subst, ◌∙◌, if◌then◌else◌, arith, option_map, slice_index, ◌-◌}
+use Rattle.std.proofs.Common.{◌≡◌, ◌≢◌, ℕ, ◌<◌, ◌≤◌, ◌==◌, ◌&&◌, ◌||◌, Bool, true, false, List, [], ◌∷◌, ◌++◌}
+use Rattle.std.proofs.Common.{length, Option, None, Some, is_some, is_none, Ok, Err, refl, sym, ap, subst, ◌∙◌}
+use Rattle.std.proofs.Common.{if◌then◌else◌, arith, option_map, slice_index, ◌-◌}
 use Rattle.std.proofs.lemmas.Bool.{eqb-true}
 use Rattle.std.proofs.lemmas.Bool.Decides.{nat_tests}
 use Rattle.std.proofs.lemmas.Option.{same_Some}
@@ -34,8 +36,12 @@ use Rattle.hum_plan.specs.Faults.{of_text}
 use Rattle.hum_plan.specs.Stages.{Stage, Read, Assemble, Takes, IsTree}
 use Rattle.hum_plan.specs.Branches.{Branches, branch_of, first_unused, is_out}
 use Rattle.hum_plan.specs.Lines.{groups, groups_behind, empty_stage}
-use Rattle.hum_plan.specs.Answers.{Outline, Outcome, nothing, with_stage, with_read, with_joined, with_command, name_read, names_joined, joined, Joined, command_of, opening_of, is_source, is_end, commands}
-use Rattle.hum_plan.specs.Answers.{Begins, Placed, StageAnswer, StagesAnswer, Then, Onward, Unless, name_fault, ended, NameAnswer, BranchAnswer, CutAnswer, LinesAnswer, whole_fault, WholeAnswer, PlanAnswer}
+use Rattle.hum_plan.specs.Answers.{Outline, Outcome, nothing, with_stage, with_read, with_joined, with_command}
+use Rattle.hum_plan.specs.Answers.{name_read, names_joined, joined, Joined, command_of, opening_of, is_source}
+use Rattle.hum_plan.specs.Answers.{is_end, commands}
+use Rattle.hum_plan.specs.Answers.{Begins, Placed, StageAnswer, StagesAnswer, Then, Onward, Unless, name_fault}
+use Rattle.hum_plan.specs.Answers.{ended, NameAnswer, BranchAnswer, CutAnswer, LinesAnswer, whole_fault}
+use Rattle.hum_plan.specs.Answers.{WholeAnswer, PlanAnswer}
 use Rattle.hum_plan.specs.Grammar.{AddsStage, AddStages, IsBranch, AreBranches, IsPlanOf, TakesBranches}
 use Rattle.hum_plan.specs.Laws.{IsReadAsWritten}
 use Rattle.hum_plan.proofs.Trees.{has_a_tree}

@@ -29,19 +29,19 @@ use Rattle.hum_read.specs.Steps.{HasLine, IsWholeText, refusal, stop_by}
 use Rattle.hum_read.proofs.Denoting.{read-more, refused-next, broken-next, ended-next, denotes-broken, denotes-closed}
 
 -- The line that was just given is refused by this rule, or memory ran out.
-gives-refused : {R : Type 0} (v : Scores R) (all : List ℕ) (rows : List Row) (line rest : List ℕ)
+gives-refused : {R : Type 0} (v : Scores R) (all : List ℕ) (rows : List Row) (rest : List ℕ)
     (rule : Option Rule) (result : Result Step ReadError) (After : List Row → Type 0)
-    → result ≡ answer_of (refusal v.stage v.lines.given rule) → HasLine v all rows line rest
-    → read_after (through Unopened rows) line ≡ Err rule → Gives v.stage all rows result After
-gives-refused v all rows line rest None result After told h is =
+    → result ≡ answer_of (refusal v.stage v.lines.given rule) → HasLine v all rows rest
+    → read_after (through Unopened rows) v.lines.line ≡ Err rule → Gives v.stage all rows result After
+gives-refused v all rows rest None result After told h is =
     let G : Result Step ReadError → Type 0 = λ r. Gives v.stage all rows r After in
     subst G (sym told) tt
-gives-refused v all rows line rest (Some rule) result After told h is =
+gives-refused v all rows rest (Some rule) result After told h is =
     let G : Result Step ReadError → Type 0 = λ r. Gives v.stage all rows r After in
     let count : v.lines.given ≡ length rows + 1 =
-    (let n = h.holds.stands.number in let m = length-append h.given (line ∷ []) in
+    (let n = h.holds.stands.number in let m = length-append h.given (v.lines.line ∷ []) in
     let k = h.as_many in omega (arith, n, m, k)) in
-    let score = refused-next v.lines all h.given line rows rest (Some rule) h.limits h.read h.holds is in
+    let score = refused-next v.lines all h.given v.lines.line rows rest (Some rule) h.limits h.read h.holds is in
     let denotes : Denotes v.stage all rows (end_at v.stage (Some (v.lines.given, rule))) =
     denotes-broken v.stage all rows (length rows + 1) rule _ score
     (ap (λ (n : ℕ). end_at v.stage (Some (n, rule))) count) in
@@ -82,51 +82,51 @@ gives-memory stage given all rows rule result After told none =
     subst G (sym (told ∙ ap (λ (r : Option Rule). answer_of (refusal stage given r)) none)) tt
 
 -- The text of the line is refused.
-pub text-refused : {R : Type 0} (v : Scores R) (line : List ℕ) (fault : RecordFault)
+pub text-refused : {R : Type 0} (v : Scores R) (fault : RecordFault)
     (result : Result Step ReadError) (all : List ℕ) (rows : List Row) (rest : List ℕ) (After : List Row → Type 0)
-    → Fails fault (reading line) → result ≡ answer_of (refusal v.stage v.lines.given (record_rule fault))
-    → HasLine v all rows line rest → Gives v.stage all rows result After
-text-refused v line fault result all rows rest After fails told h =
-    elim (parse-refused fault (reading line) fails) as (λ _. Gives v.stage all rows result After) [
+    → Fails fault (reading v.lines.line) → result ≡ answer_of (refusal v.stage v.lines.given (record_rule fault))
+    → HasLine v all rows rest → Gives v.stage all rows result After
+text-refused v fault result all rows rest After fails told h =
+    elim (parse-refused fault (reading v.lines.line) fails) as (λ _. Gives v.stage all rows result After) [
       | inl memory ↦ gives-memory v.stage v.lines.given all rows (record_rule fault) result After told memory
-      | inr is ↦ gives-refused v all rows line rest (record_rule fault) result After told h
+      | inr is ↦ gives-refused v all rows rest (record_rule fault) result After told h
           (ap (on_spines (through Unopened rows)) is)
     ]
 
 -- The record of the line breaks a rule of the spines.
-pub record-refused : {R : Type 0} (v : Scores R) (line : List ℕ) (row : Row) (fault : PathFault)
+pub record-refused : {R : Type 0} (v : Scores R) (row : Row) (fault : PathFault)
     (result : Result Step ReadError) (all : List ℕ) (rows : List Row) (rest : List ℕ) (After : List Row → Type 0)
-    → reading line ≡ Ok row → Refuses fault (path_fault_of v.spines.path row)
+    → reading v.lines.line ≡ Ok row → Refuses fault (path_fault_of v.spines.path row)
     → result ≡ answer_of (refusal v.stage v.lines.given (path_rule fault))
-    → HasLine v all rows line rest → Gives v.stage all rows result After
-record-refused v line row fault result all rows rest After read refuses told h =
+    → HasLine v all rows rest → Gives v.stage all rows result After
+record-refused v row fault result all rows rest After read refuses told h =
     elim (step-refused fault (path_fault_of v.spines.path row) refuses) as (λ _. Gives v.stage all rows result After) [
       | inl memory ↦ gives-memory v.stage v.lines.given all rows (path_rule fault) result After told memory
-      | inr is ↦ gives-refused v all rows line rest (path_rule fault) result After told h
+      | inr is ↦ gives-refused v all rows rest (path_rule fault) result After told h
           (ap (on_spines (through Unopened rows)) read
           ∙ ap (unless row) (ap (λ (p : Path). path_fault_of p row) (sym h.path) ∙ is))
     ]
 
 -- The record of the line is given.
-pub record-given : {R : Type 0} (v w : Scores R) (line : List ℕ) (row : Row) (all : List ℕ) (rows : List Row)
-    (rest : List ℕ) → reading line ≡ Ok row → path_fault_of v.spines.path row ≡ None → w.lines ≡ v.lines
-    → w.spines.path ≡ after v.spines.path row → v.lines.given ≤ 4294967295 → HasLine v all rows line rest
+pub record-given : {R : Type 0} (v w : Scores R) (row : Row) (all : List ℕ) (rows : List Row)
+    (rest : List ℕ) → reading v.lines.line ≡ Ok row → path_fault_of v.spines.path row ≡ None → w.lines ≡ v.lines
+    → w.spines.path ≡ after v.spines.path row → v.lines.given ≤ 4294967295 → HasLine v all rows rest
     → HasRead w all (rows ++ row ∷ []) rest × (length rows < 4294967295)
-record-given v w line row all rows rest read sound lines path few h =
+record-given v w row all rows rest read sound lines path few h =
     let here : path_fault_of (through Unopened rows) row ≡ None =
     ap (λ (p : Path). path_fault_of p row) (sym h.path) ∙ sound in
-    let reads : read_after (through Unopened rows) line ≡ Ok row =
+    let reads : read_after (through Unopened rows) v.lines.line ≡ Ok row =
     ap (on_spines (through Unopened rows)) read ∙ ap (unless row) here in
-    let size = length-append h.given (line ∷ []) in
+    let size = length-append h.given (v.lines.line ∷ []) in
     let more = length-append rows (row ∷ []) in
     let number = h.holds.stands.number in
     let many = h.as_many in
-    let H : Reader _ → Type 0 = λ r. Holds r all (h.given ++ line ∷ []) rest in (
+    let H : Reader _ → Type 0 = λ r. Holds r all (h.given ++ v.lines.line ∷ []) rest in (
       record {
         limits = ap (λ r. r.limits) lines ∙ h.limits;
-        given = h.given ++ line ∷ [];
+        given = h.given ++ v.lines.line ∷ [];
         holds = subst H (sym lines) h.holds;
-        read = read-more h.given rows line row h.read reads;
+        read = read-more h.given rows v.lines.line row h.read reads;
         score = Follow-append Unopened rows (row ∷ []) h.score (here, tt);
         path = path ∙ ap (λ (p : Path). after p row) h.path ∙ sym (through-append Unopened rows (row ∷ []));
         as_many = omega (arith, size, more, many);
@@ -191,10 +191,10 @@ is-unfinished true f h = refl
 is-unfinished false f h = cc
 
 -- what the lines have given, as what the reader of scores has: a line, or none
-pub has-line : {R : Type 0} (v w : Scores R) (all : List ℕ) (rows : List Row) (line read rest : List ℕ)
+pub has-line : {R : Type 0} (v w : Scores R) (all : List ℕ) (rows : List Row) (read rest : List ℕ)
     → (h : HasRead v all rows read) → w.lines.limits ≡ v.lines.limits → w.spines.path ≡ v.spines.path
-    → Holds w.lines all (h.given ++ line ∷ []) rest → HasLine w all rows line rest
-has-line v w all rows line read rest h limits path holds = record {
+    → Holds w.lines all (h.given ++ w.lines.line ∷ []) rest → HasLine w all rows rest
+has-line v w all rows read rest h limits path holds = record {
   limits = limits ∙ h.limits;
   given = h.given;
   holds = holds;

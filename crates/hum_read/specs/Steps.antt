@@ -14,8 +14,9 @@ use Rattle.hum_stage.specs.declared.faults.Rule.TheVariants.{S1, S2, S3, S7}
 use Rattle.hum_read.specs.declared.ReadError.{ReadError}
 use Rattle.hum_read.specs.declared.ReadError.TheVariants.{Read, Memory}
 use Rattle.hum_read.specs.declared.scores.Step.{Step}
+use Rattle.hum_read.specs.declared.scores.Step.TheVariants as step
 use Rattle.hum_read.specs.Denoted.{standard, end_at}
-use Rattle.hum_read.specs.Reading.{Scores, HasRead, AreRead, Gives}
+use Rattle.hum_read.specs.Reading.{Scores, HasRead, AreRead, Gives, answer_of}
 
 -- a reader that goes on has met no fault
 pub record IsTidy {R : Type 0} (lines : Reader R) (stopped : Option (Result End ReadError))
@@ -25,21 +26,21 @@ pub record IsTidy {R : Type 0} (lines : Reader R) (stopped : Option (Result End 
 
 -- Of all these bytes the reader has given these records, one for each line but the last, which was
 -- given and isn't read as a record yet.
-pub record HasLine {R : Type 0} (v : Scores R) (all : List ℕ) (rows : List Row) (line rest : List ℕ)
+pub record HasLine {R : Type 0} (v : Scores R) (all : List ℕ) (rows : List Row) (rest : List ℕ)
     : Type 0 where
   pub limits : v.lines.limits ≡ standard
   pub given : List (List ℕ)
-  pub holds : Holds v.lines all (given ++ line ∷ []) rest
+  pub holds : Holds v.lines all (given ++ v.lines.line ∷ []) rest
   pub read : AreRead given rows
   pub score : IsScore rows
   pub path : v.spines.path ≡ through Unopened rows
   pub as_many : length given ≡ length rows
 
 -- the line that was just given is read
-abbrev pub ReadsLine : {R : Type 0} → Scores R → List ℕ → Result Step ReadError → Scores R → Type 0
-ReadsLine old line result new =
+abbrev pub ReadsLine : {R : Type 0} → Scores R → Result Step ReadError → Scores R → Type 0
+ReadsLine old result new =
     (all : List ℕ) (rows : List Row) (rest : List ℕ)
-    → HasLine old all rows line rest
+    → HasLine old all rows rest
     → Gives old.stage all rows result (λ after. HasRead new all after rest)
 
 -- all lines of a text without fault are read as these records
@@ -53,6 +54,12 @@ pub record IsWholeText (all : List ℕ) (rows : List Row) : Type 0 where
 abbrev pub refusal : ℕ → ℕ → Option Rule → Result End ReadError
 refusal stage line None = Err Memory
 refusal stage line (Some rule) = Ok (end_at stage (Some (line, rule)))
+
+-- what a reader answers that has given a record, or none since it has stopped
+abbrev pub given_by : Option Row → Option (Result End ReadError) → Result Step ReadError
+given_by (Some row) stopped = Ok (step.Record row)
+given_by None (Some why) = answer_of why
+given_by None None = Ok step.More
 
 -- why it stops after so many lines, by a fault of the next
 abbrev pub stop_by : ℕ → ℕ → TextFault → Result End ReadError

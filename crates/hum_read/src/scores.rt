@@ -45,6 +45,7 @@ fn broken(stage: u8, line: u64, rule: Rule) -> End
 }
 
 /// Why a reader stops after so many lines, by a fault of the next.
+#[inline(never)]
 fn stop(stage: u8, given: u64, fault: TextFault) -> Result<End, ReadError>
     requires { given ≤ 4294967295 }
     ensures { result ≡ stop_by stage given fault }
@@ -57,6 +58,7 @@ fn stop(stage: u8, given: u64, fault: TextFault) -> Result<End, ReadError>
 }
 
 /// What a reader answers that has stopped.
+#[inline(never)]
 fn answer(why: Result<End, ReadError>) -> Result<Step, ReadError>
     ensures { result ≡ answer_of why }
 {
@@ -67,7 +69,21 @@ fn answer(why: Result<End, ReadError>) -> Result<Step, ReadError>
 }
 
 /// Takes the spines past a record.
+#[inline]
 fn pass(paths: &mut Paths, row: &Record) -> Result<(), PathFault>
+    ensures sound { OnOk result (fault_of paths.old.path row.now ≡ None) }
+    ensures after { OnOk result (paths.new.path ≡ after paths.old.path row.now) }
+    ensures refused { IfErr result (λ fault. Refuses fault (fault_of paths.old.path row.now)) }
+{
+    if paths.goes_on(row) {
+        return Ok(());
+    }
+    step_past(paths, row)
+}
+
+/// The same of any record.
+#[inline(never)]
+fn step_past(paths: &mut Paths, row: &Record) -> Result<(), PathFault>
     ensures sound { OnOk result (fault_of paths.old.path row.now ≡ None) }
     ensures after { OnOk result (paths.new.path ≡ after paths.old.path row.now) }
     ensures refused { IfErr result (λ fault. Refuses fault (fault_of paths.old.path row.now)) }
@@ -112,7 +128,7 @@ impl<R: Source> ScoreReader<R> {
     ghost use Rattle.hum_read.specs.Reading.{IsFresh, HasRead, GivesNext, Denotes};
     ghost use Rattle.hum_read.specs.Reading.{IsCalledAtMostOnce, IsDue, ReadsOnce, Nears};
     ghost use Rattle.hum_read.specs.Reading.{stop_of, answer_of};
-    ghost use Rattle.hum_read.specs.Steps.{ReadsLine, IsWholeText, refusal};
+    ghost use Rattle.hum_read.specs.Steps.{ReadsLine, IsWholeText, refusal, given_by};
 
     /// The reader of a source of which nothing was read yet, as the stage of this number, from 1.
     pub fn new(alloc: Global, stage: u8, source: R) -> ScoreReader<R>
@@ -136,50 +152,66 @@ impl<R: Source> ScoreReader<R> {
         ensures { self.new ≡ self.old }
     {
         self.spare.keep(row);
-        self.lines.reuse(self.spare.take_text(self.alloc));
     }
 
     /// The last line that was given is refused by a rule, or memory ran out. It happens once, so it
     /// isn't inlined where each line passes.
     #[inline(never)]
-    fn refuse(&mut self, rule: Option<Rule>) -> Result<Step, ReadError>
-        ensures answer { result ≡ answer_of (refusal self.old.stage self.old.lines.given rule) }
-        ensures state { self.new ≡ record self.old {
+    fn refuse(&mut self, rule: Option<Rule>)
+        ensures { self.new ≡ record self.old {
           stopped = Some (refusal self.old.stage self.old.lines.given rule);
         } }
     {
-        let why = match rule {
+        self.stopped = Some(match rule {
             Some(rule) => Ok(broken(self.stage, self.lines.given(), rule)),
             None => Err(ReadError::Memory),
-        };
-        self.stopped = Some(why);
-        answer(why)
+        });
     }
 
-    /// What a line gives that was just read.
-    fn read_line(&mut self, text: Vec<u8>) -> Result<Step, ReadError>
+    /// What it answers that has given no record.
+    #[inline(never)]
+    fn told(&self) -> Result<Step, ReadError>
+        ensures { result ≡ given_by None self.now.stopped }
+    {
+        match self.stopped {
+            Some(why) => answer(why),
+            None => Ok(Step::More),
+        }
+    }
+
+    /// The record of the line that was just read, or none where it is refused.
+    #[inline]
+    fn read_line(&mut self) -> Option<Record>
         requires going { self.old.stopped ≡ None }
-        requires short { length text.items ≤ 1048576 }
-        requires one_line { has_byte 10 text.items ≡ false }
+        requires short { length self.old.lines.line ≤ 1048576 }
+        requires one_line { has_byte 10 self.old.lines.line ≡ false }
         requires few { self.old.lines.given ≤ 4294967295 }
-        ensures gives { ReadsLine self.old text.items result self.new }
+        ensures gives { ReadsLine self.old (given_by result self.new.stopped) self.new }
         ensures lines { self.new.lines ≡ self.old.lines }
         ensures stage { self.new.stage ≡ self.old.stage }
-        ensures stops { self.new.stopped ≡ stop_of result }
-        ensures told { result ≢ Ok Step.More }
-        ensures not_read { result ≢ Err ReadError.Read }
+        ensures stops { self.new.stopped ≡ stop_of (given_by result self.new.stopped) }
+        ensures told { given_by result self.new.stopped ≢ Ok Step.More }
+        ensures not_read { given_by result self.new.stopped ≢ Err ReadError.Read }
     {
-        let record = match Record::parse_into(self.alloc, &mut self.spare, text) {
+        let (held, len) = self.lines.from_line();
+        let record = match Record::parse_into(self.alloc, &mut self.spare, held, len) {
             Ok(record) => record,
-            Err(fault) => return self.refuse(record_rule(fault)),
+            Err(fault) => {
+                self.refuse(record_rule(fault));
+                return None;
+            }
         };
         match pass(&mut self.paths, &record) {
-            Ok(()) => Ok(Step::Record(record)),
-            Err(fault) => self.refuse(path_rule(fault)),
+            Ok(()) => Some(record),
+            Err(fault) => {
+                self.refuse(path_rule(fault));
+                None
+            }
         }
     }
 
     /// How a text without fault ends.
+    #[inline(never)]
     fn close(&self) -> End
         ensures { (all : List ℕ) (rows : List Row) (rest : List ℕ) → HasRead self.now all rows rest
             → IsWholeText all rows → Denotes self.now.stage all rows result }
@@ -187,6 +219,61 @@ impl<R: Source> ScoreReader<R> {
         match self.paths.close() {
             Ok(()) => End::Closed,
             Err(_) => broken(self.stage, self.lines.given() + 1, Rule::P8),
+        }
+    }
+
+    /// The next record, or none where there is nothing yet or it has stopped: `told` answers which,
+    /// so that the answer of a poll is made in one place but for a record.
+    #[inline]
+    fn next(&mut self) -> Option<Record>
+        ensures gives { self.old.stopped ≡ None
+            → GivesNext self.old (given_by result self.new.stopped) self.new }
+        ensures stops { self.new.stopped ≡ stop_of (given_by result self.new.stopped) }
+        ensures again { IfSome self.old.stopped
+            (λ s. (given_by result self.new.stopped ≡ answer_of s) × (self.new ≡ self.old)) }
+        ensures stage { self.new.stage ≡ self.old.stage }
+        ensures unread { ¬ NeedsRead self.old.lines → IsUnread self.old.lines self.new.lines }
+        ensures once { NeedsRead self.old.lines
+            → IsCalledAtMostOnce R.calls R.failed
+            self.old.lines.source self.new.lines.source }
+        ensures due { IsDue self.old → ReadsOnce R.calls R.failed self.old
+            (given_by result self.new.stopped) self.new }
+        ensures more { given_by result self.new.stopped ≡ Ok Step.More
+            → IsFed self.old.lines self.new.lines }
+        ensures unfed { given_by result self.new.stopped ≢ Ok Step.More
+            → bytes_read self.old.lines self.new.lines ≡ [] }
+        ensures asked { length (bytes_read self.old.lines self.new.lines) ≤ LARGEST_READ }
+        ensures consumes { Consumes (R.remaining self.old.lines.source)
+            (R.remaining self.new.lines.source) (bytes_read self.old.lines self.new.lines) }
+        ensures at_end { self.new.lines.ended ≡ true
+            → (self.old.lines.ended ≡ true) ⊎ IsAtEnd (R.remaining self.new.lines.source) }
+        ensures failed { given_by result self.new.stopped ≡ Err ReadError.Read
+            → (self.old.stopped ≡ Some (Err ReadError.Read))
+            ⊎ (R.failed self.new.lines.source ≡ true) }
+        ensures marked { R.failed self.new.lines.source ≡ true
+            → (R.failed self.old.lines.source ≡ true)
+            ⊎ (given_by result self.new.stopped ≡ Err ReadError.Read) }
+        ensures taken { self.old.stopped ≡ None
+            → self.new.lines.taken ≤ self.new.lines.limits.bytes }
+        ensures nears { IfOk (given_by result self.new.stopped) (λ step.
+            Nears step (left_to_do self.old.lines) (left_to_do self.new.lines)) }
+    {
+        if self.stopped.is_some() {
+            return None;
+        }
+        match self.lines.poll() {
+            Ok(lines::Step::Line) => self.read_line(),
+            Ok(lines::Step::More) => None,
+            Ok(lines::Step::End) => {
+                let end = self.close();
+                self.stopped = Some(Ok(end));
+                None
+            }
+            Err(fault) => {
+                let why = stop(self.stage, self.lines.given(), fault);
+                self.stopped = Some(why);
+                None
+            }
         }
     }
 
@@ -235,24 +322,9 @@ impl<R: Source> ScoreReader<R> {
         ensures nears { IfOk result (λ step.
             Nears step (left_to_do self.old.lines) (left_to_do self.new.lines)) }
     {
-        match self.stopped {
-            Some(Ok(end)) => return Ok(Step::End(end)),
-            Some(Err(error)) => return Err(error),
-            None => {}
-        }
-        match self.lines.poll() {
-            Ok(lines::Step::Line(text)) => self.read_line(text),
-            Ok(lines::Step::More) => Ok(Step::More),
-            Ok(lines::Step::End) => {
-                let end = self.close();
-                self.stopped = Some(Ok(end));
-                Ok(Step::End(end))
-            }
-            Err(fault) => {
-                let why = stop(self.stage, self.lines.given(), fault);
-                self.stopped = Some(why);
-                answer(why)
-            }
+        match self.next() {
+            Some(record) => Ok(Step::Record(record)),
+            None => self.told(),
         }
     }
 }

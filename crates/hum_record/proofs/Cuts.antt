@@ -92,8 +92,11 @@ pub all_found : (text rest : List ℕ) (start : ℕ) (ends : List ℕ) (has_retu
     → (has_return ≡ has_byte 13 text) × (ends ++ length text ∷ [] ≡ ends_from 0 (parts text))
 all_found text rest start ends has_return so_far done =
     let none : (has_return || false) ≡ has_byte 13 text = rw done at so_far.returns in
-    let all : ends ++ [] ≡ tabs_from 0 text = rw done at so_far.tabs in
-    (sym (or_false has_return) ∙ none, ap (λ ts. ts ++ length text ∷ []) (sym (append-nil ends) ∙ all) ∙ ap (λ (n : ℕ). tabs_from 0 text ++ n ∷ []) (omega arith) ∙ sym (ends_tabs 0 text))
+    let all : ends ++ [] ≡ tabs_from 0 text = rw done at so_far.tabs in (
+      sym (or_false has_return) ∙ none,
+      ap (λ ts. ts ++ length text ∷ []) (sym (append-nil ends) ∙ all)
+          ∙ ap (λ (n : ℕ). tabs_from 0 text ++ n ∷ []) (omega arith) ∙ sym (ends_tabs 0 text),
+    )
 
 -- one token more
 pub any_take : (p : List ℕ → Bool) (ts : List (List ℕ)) (j : ℕ) → j < length ts → list_any p (take (j + 1) ts) ≡ (list_any p (take j ts) || p (get_or ts j []))

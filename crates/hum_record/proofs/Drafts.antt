@@ -42,7 +42,8 @@ more_text : (k : SpinedKind) (text ends t : List ℕ) → IsDraft k text ends �
 more_text k text ends t draft = ap (λ front. front ++ (tab_between ends ++ t)) draft.spelling ∙ sym (spelled_more text ends t)
 
 -- the tokens with one more
-pub more_tokens : (k : SpinedKind) (text ends t : List ℕ) (end : ℕ) → IsDraft k text ends → IsToken k t → tokens_in (text ++ (tab_between ends ++ t)) (ends ++ end ∷ []) ≡ tokens_in text ends ++ t ∷ []
+pub more_tokens : (k : SpinedKind) (text ends t : List ℕ) (end : ℕ) → IsDraft k text ends → IsToken k t →
+    tokens_in (text ++ (tab_between ends ++ t)) (ends ++ end ∷ []) ≡ tokens_in text ends ++ t ∷ []
 more_tokens k text ends t end draft is =
     tokens_push (text ++ (tab_between ends ++ t)) ends end
     ∙ ap parts (more_text k text ends t draft)
@@ -52,7 +53,9 @@ more_length : (text between t : List ℕ) → length (text ++ (between ++ t)) �
 more_length text between t = omega (arith, length-append text (between ++ t), length-append between t)
 
 -- a draft with one token more
-pub draft_more : (k : SpinedKind) (text ends t : List ℕ) → IsDraft k text ends → IsToken k t → length text + length (tab_between ends) + length t ≤ 1048576 → IsDraft k (text ++ (tab_between ends ++ t)) (ends ++ length (text ++ (tab_between ends ++ t)) ∷ [])
+pub draft_more : (k : SpinedKind) (text ends t : List ℕ) → IsDraft k text ends → IsToken k t →
+    length text + length (tab_between ends) + length t ≤ 1048576 →
+    IsDraft k (text ++ (tab_between ends ++ t)) (ends ++ length (text ++ (tab_between ends ++ t)) ∷ [])
 draft_more k text ends t draft is fits =
     let all = text ++ (tab_between ends ++ t) in
     let tokens = more_tokens k text ends t (length all) draft is in
@@ -60,11 +63,14 @@ draft_more k text ends t draft is fits =
     record {
       spelling = spells ∙ ap spelled (sym tokens);
       lawful = rw tokens (lawful_push k (tokens_in text ends) t draft.lawful is);
-      cut = ap (λ front. front ++ length all ∷ []) draft.cut ∙ ap (λ n. ends_from 0 (tokens_in text ends) ++ n ∷ []) (ap length spells ∙ omega arith) ∙ sym (ends_push 0 (tokens_in text ends) t) ∙ ap (ends_from 0) (sym tokens);
+      cut = ap (λ front. front ++ length all ∷ []) draft.cut
+          ∙ ap (λ n. ends_from 0 (tokens_in text ends) ++ n ∷ []) (ap length spells ∙ omega arith)
+          ∙ sym (ends_push 0 (tokens_in text ends) t) ∙ ap (ends_from 0) (sym tokens);
       at_most = omega (arith, more_length text (tab_between ends) t, fits);
     }
 
-pub draft_length : (k : SpinedKind) (text ends t : List ℕ) → IsDraft k text ends → length (spelled (tokens_in text ends ++ t ∷ [])) ≡ length text + length (tab_between ends) + length t
+pub draft_length : (k : SpinedKind) (text ends t : List ℕ) → IsDraft k text ends →
+    length (spelled (tokens_in text ends ++ t ∷ [])) ≡ length text + length (tab_between ends) + length t
 draft_length k text ends t draft = ap length (sym (more_text k text ends t draft)) ∙ more_length text (tab_between ends) t
 
 -- a draft with tokens is a record's text

@@ -1,5 +1,7 @@
 -- Where tokens end in their text.
-use Rattle.std.proofs.Common.{◌≡◌, ◌≢◌, ℕ, zero, suc, ◌+◌, ◌-◌, ◌<◌, ◌≤◌, Bool, true, false, ◌||◌, List, [], ◌∷◌, ◌++◌, length, get_or, refl, sym, ap, subst, ◌∙◌, arith, append_assoc, length-append}
+use Rattle.std.proofs.Common.{◌≡◌, ◌≢◌, ℕ, zero, suc, ◌+◌, ◌-◌, ◌<◌, ◌≤◌, Bool, true, false, ◌||◌, List, []}
+use Rattle.std.proofs.Common.{◌∷◌, ◌++◌, length, get_or, refl, sym, ap, subst, ◌∙◌, arith, append_assoc}
+use Rattle.std.proofs.Common.{length-append}
 use Rattle.std.specs.List.{list_any, join_with_byte}
 use Rattle.std.specs.Prelude.{slice_range}
 use Rattle.std.proofs.lemmas.List.Splits.{join_with_byte-slice_split}
@@ -13,11 +15,17 @@ length-ends_from start [] = refl
 length-ends_from start (t ∷ ts) = let ih = length-ends_from (start + length t + 1) ts in omega (arith, ih)
 
 -- one token more
-pub ends_more : (ends all : List ℕ) (start : ℕ) (t : List ℕ) (more ts : List (List ℕ)) → ts ≡ t ∷ more → ends ++ ends_from start ts ≡ all → (ends ++ (start + length t) ∷ []) ++ ends_from (start + length t + 1) more ≡ all
-ends_more ends all start t more ts cut e = append_assoc ends ((start + length t) ∷ []) (ends_from (start + length t + 1) more) ∙ (let step : ends_from start ts ≡ (start + length t) ∷ ends_from (start + length t + 1) more = ap (ends_from start) cut in rw (← step) e)
+pub ends_more : (ends all : List ℕ) (start : ℕ) (t : List ℕ) (more ts : List (List ℕ)) → ts ≡ t ∷ more →
+    ends ++ ends_from start ts ≡ all → (ends ++ (start + length t) ∷ []) ++ ends_from (start + length t + 1)
+    more ≡ all
+ends_more ends all start t more ts cut e = append_assoc ends ((start + length t) ∷ [])
+    (ends_from (start + length t + 1) more)
+    ∙ (let step : ends_from start ts ≡ (start + length t) ∷ ends_from (start + length t + 1) more =
+    ap (ends_from start) cut in rw (← step) e)
 
 -- a test of the tokens so far and of the rest, one token on
-pub any_more : (p : List ℕ → Bool) (so_far all : Bool) (t : List ℕ) (more ts : List (List ℕ)) → ts ≡ t ∷ more → (so_far || list_any p ts) ≡ all → ((so_far || p t) || list_any p more) ≡ all
+pub any_more : (p : List ℕ → Bool) (so_far all : Bool) (t : List ℕ) (more ts : List (List ℕ)) → ts ≡ t ∷ more →
+    (so_far || list_any p ts) ≡ all → ((so_far || p t) || list_any p more) ≡ all
 any_more p true all t more ts cut e = e
 any_more p false all t more ts cut e = sym (ap (list_any p) cut) ∙ e
 
@@ -32,7 +40,9 @@ abbrev begins_from : ℕ → List ℕ → ℕ → ℕ
 begins_from start ends zero = start
 begins_from start ends (suc j) = get_or ends j 0 + 1
 
-begins_next : (start : ℕ) (t : List ℕ) (ts : List (List ℕ)) (j : ℕ) → begins_from start (ends_from start (t ∷ ts)) (suc j) ≡ begins_from (start + length t + 1) (ends_from (start + length t + 1) ts) j
+begins_next : (start : ℕ) (t : List ℕ) (ts : List (List ℕ)) (j : ℕ) →
+    begins_from start (ends_from start (t ∷ ts)) (suc j) ≡ begins_from (start + length t + 1)
+    (ends_from (start + length t + 1) ts) j
 begins_next start t ts zero = refl
 begins_next start t ts (suc j) = refl
 
@@ -46,7 +56,9 @@ first_lies text front t rest start at e =
       reads = rw (size, e, drop_at front (t ++ rest) start at) (take_at t rest (length t) refl);
     }
 
-lies_from : (text front : List ℕ) (start : ℕ) (ts : List (List ℕ)) (j : ℕ) → length front ≡ start → text ≡ front ++ join_with_byte 9 ts → j < length ts → Lies text (get_or ts j []) (begins_from start (ends_from start ts) j) (get_or (ends_from start ts) j 0)
+lies_from : (text front : List ℕ) (start : ℕ) (ts : List (List ℕ)) (j : ℕ) → length front ≡ start →
+    text ≡ front ++ join_with_byte 9 ts → j < length ts → Lies text (get_or ts j [])
+    (begins_from start (ends_from start ts) j) (get_or (ends_from start ts) j 0)
 lies_from text front start [] j at e below = absurd (omega arith)
 lies_from text front start (t ∷ []) zero at e below = first_lies text front t [] start at (e ∙ ap (λ rest. front ++ rest) (sym (append-nil t)))
 lies_from text front start (t ∷ u ∷ us) zero at e below = first_lies text front t (9 ∷ join_with_byte 9 (u ∷ us)) start at e
@@ -55,14 +67,16 @@ lies_from text front start (t ∷ u ∷ us) (suc j) at e below =
     let next : length (front ++ (t ++ 9 ∷ [])) ≡ start + length t + 1 = omega (arith, at, length-append front (t ++ 9 ∷ []), length-append t (9 ∷ [])) in
     let same : text ≡ (front ++ (t ++ 9 ∷ [])) ++ join_with_byte 9 (u ∷ us) = e ∙ simp append_assoc in
     let ih = lies_from text (front ++ (t ++ 9 ∷ [])) (start + length t + 1) (u ∷ us) j next same (omega arith) in
-    subst (λ (from : ℕ). Lies text (get_or (u ∷ us) j []) from (get_or (ends_from (start + length t + 1) (u ∷ us)) j 0)) (sym (begins_next start t (u ∷ us) j)) ih
+    subst (λ (from : ℕ). Lies text (get_or (u ∷ us) j []) from
+    (get_or (ends_from (start + length t + 1) (u ∷ us)) j 0)) (sym (begins_next start t (u ∷ us) j)) ih
 
 begins_same : (ends : List ℕ) (j : ℕ) → begins_from 0 ends j ≡ begins_at ends j
 begins_same ends zero = refl
 begins_same ends (suc j) = refl
 
 -- a token lies from where it begins to where it ends
-pub token_lies : (text ends : List ℕ) (ts : List (List ℕ)) (j : ℕ) → text ≡ join_with_byte 9 ts → ends ≡ ends_from 0 ts → j < length ts → Lies text (get_or ts j []) (begins_at ends j) (get_or ends j 0)
+pub token_lies : (text ends : List ℕ) (ts : List (List ℕ)) (j : ℕ) → text ≡ join_with_byte 9 ts →
+    ends ≡ ends_from 0 ts → j < length ts → Lies text (get_or ts j []) (begins_at ends j) (get_or ends j 0)
 token_lies text ends ts j e cut below = rw (← begins_same ends j, cut) (lies_from text [] 0 ts j refl e below)
 
 -- there are as many parts as ends
@@ -82,12 +96,14 @@ joined_cons : (x : List ℕ) (ts : List (List ℕ)) → ts ≢ [] → join_with_
 joined_cons x [] filled = absurd (filled refl)
 joined_cons x (t ∷ ts) filled = refl
 
-pub ends_push : (start : ℕ) (ts : List (List ℕ)) (t : List ℕ) → ends_from start (ts ++ t ∷ []) ≡ ends_from start ts ++ (start + length (join_with_byte 9 (ts ++ t ∷ []))) ∷ []
+pub ends_push : (start : ℕ) (ts : List (List ℕ)) (t : List ℕ) → ends_from start (ts ++ t ∷ []) ≡ ends_from start
+    ts ++ (start + length (join_with_byte 9 (ts ++ t ∷ []))) ∷ []
 ends_push start [] t = refl
 ends_push start (x ∷ ts) t =
     let later = ts ++ t ∷ [] in
     let filled : later ≢ [] = λ e. let n = ap length e in omega (arith, n, length-append ts (t ∷ [])) in
-    let size : length (join_with_byte 9 (x ∷ later)) ≡ length x + (1 + length (join_with_byte 9 later)) = ap length (joined_cons x later filled) ∙ omega (arith, length-append x (9 ∷ join_with_byte 9 later)) in
+    let size : length (join_with_byte 9 (x ∷ later)) ≡ length x + (1 + length (join_with_byte 9 later)) =
+    ap length (joined_cons x later filled) ∙ omega (arith, length-append x (9 ∷ join_with_byte 9 later)) in
     let last : start + length x + 1 + length (join_with_byte 9 later) ≡ start + length (join_with_byte 9 (x ∷ later)) = omega (arith, size) in
     ap (λ rest. (start + length x) ∷ rest) (ends_push (start + length x + 1) ts t ∙ ap (λ n. ends_from (start + length x + 1) ts ++ n ∷ []) last)
 

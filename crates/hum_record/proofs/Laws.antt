@@ -1,5 +1,7 @@
 -- What reading accepts is a record's text, and each record's text is read as that record.
-use Rattle.std.proofs.Common.{◌≡◌, ◌≢◌, ℕ, zero, suc, get_or, ◌<◌, ◌≤◌, Bool, true, false, ◌&&◌, ◌||◌, not, cond, List, [], ◌∷◌, ◌++◌, length, Result, Ok, Err, refl, sym, ap, ◌∙◌, subst, arith, ◌⊎◌, inl, inr}
+use Rattle.std.proofs.Common.{◌≡◌, ◌≢◌, ℕ, zero, suc, get_or, ◌<◌, ◌≤◌, Bool, true, false, ◌&&◌, ◌||◌, not}
+use Rattle.std.proofs.Common.{cond, List, [], ◌∷◌, ◌++◌, length, Result, Ok, Err, refl, sym, ap, ◌∙◌, subst}
+use Rattle.std.proofs.Common.{arith, ◌⊎◌, inl, inr}
 use Rattle.std.specs.List.{list_any, All, AllByRecursion, onto_first, join_with_byte}
 use Rattle.std.proofs.lemmas.Bool.Decides.{eqb_tells}
 use Rattle.std.proofs.lemmas.Bool.{or_from, or_parts, not-false, cases_Bool, eqb-true, and_parts, cond-true, cond-false, ne_eqb, and_right}
@@ -12,7 +14,9 @@ use Rattle.hum_record.specs.declared.SpinedKind.TheVariants.{Local, Interpretati
 use Rattle.hum_record.specs.declared.RecordFault.{RecordFault}
 use Rattle.hum_record.specs.declared.RecordFault.TheVariants.{S4, S5, S6, S8, L1, Memory}
 use Rattle.hum_record.specs.Row.{Row, Comment, Spined, width_of, token_at, tokens_of, text_of}
-use Rattle.hum_record.specs.Spelling.{Breaks, has_byte, is_comment, is_empty, kind_of_token, kind_of_first, same_kind, mixes_kinds, kind_of_tokens, parts, IsToken, IsTokenOf, IsTextOf, spined, reading, Gives, Fails}
+use Rattle.hum_record.specs.Spelling.{Breaks, has_byte, is_comment, is_empty, kind_of_token, kind_of_first}
+use Rattle.hum_record.specs.Spelling.{same_kind, mixes_kinds, kind_of_tokens, parts, IsToken, IsTokenOf}
+use Rattle.hum_record.specs.Spelling.{IsTextOf, spined, reading, Gives, Fails}
 use Rattle.std.specs.Prelude.{IfOk, IfErr, MatchResult}
 use Rattle.hum_record.specs.Fields.{row_in, AreFields, ends_from}
 use Rattle.hum_record.proofs.Parts.{kind_of_parts}
@@ -43,7 +47,8 @@ each : (p : List ℕ → Bool) (P : List ℕ → Type 0) → ((t : List ℕ) →
 each p P f [] h = tt
 each p P f (t ∷ ts) h = let both = or_parts (p t) (list_any p ts) h in (f t both.0, each p P f ts both.1)
 
-free_onto : (b x : ℕ) (ts : List (List ℕ)) → (x == b) ≡ false → AllByRecursion (λ t. has_byte b t ≡ false) ts → AllByRecursion (λ t. has_byte b t ≡ false) (onto_first x ts)
+free_onto : (b x : ℕ) (ts : List (List ℕ)) → (x == b) ≡ false → AllByRecursion (λ t. has_byte b t ≡ false) ts →
+    AllByRecursion (λ t. has_byte b t ≡ false) (onto_first x ts)
 free_onto b x [] e h = (or_from _ _ e refl, tt)
 free_onto b x (t ∷ ts) e h = (or_from _ _ e h.0, h.1)
 
@@ -82,7 +87,10 @@ not_comment k t e h = elim (cases_Bool (is_comment t)) as (λ _. is_comment t �
   | inr isnt ↦ isnt
 ]
 
-lawful : (k : SpinedKind) (ts : List (List ℕ)) → list_any is_empty ts ≡ false → AllByRecursion (λ t. has_byte 9 t ≡ false) ts → AllByRecursion (λ t. has_byte 13 t ≡ false) ts → AllByRecursion (λ t. has_byte 10 t ≡ false) ts → list_any (λ t. not (same_kind (kind_of_token t) k)) ts ≡ false → (same_kind k Local && list_any is_comment ts) ≡ false → AllByRecursion (IsToken k) ts
+lawful : (k : SpinedKind) (ts : List (List ℕ)) → list_any is_empty ts ≡ false →
+    AllByRecursion (λ t. has_byte 9 t ≡ false) ts → AllByRecursion (λ t. has_byte 13 t ≡ false) ts →
+    AllByRecursion (λ t. has_byte 10 t ≡ false) ts → list_any (λ t. not (same_kind (kind_of_token t) k))
+    ts ≡ false → (same_kind k Local && list_any is_comment ts) ≡ false → AllByRecursion (IsToken k) ts
 lawful k [] filled tabs returns lines kinds comments = tt
 lawful k (t ∷ ts) filled tabs returns lines kinds comments =
     let f = or_parts (is_empty t) (list_any is_empty ts) filled in
@@ -104,7 +112,9 @@ spined_ok : (r : Result SpinedKind RecordFault) (ts : List (List ℕ)) (row : Ro
 spined_ok (Ok k) ts row h = (k, refl, cc)
 spined_ok (Err e) ts row h = cc
 
-kinds_ok : (ts : List (List ℕ)) (k : SpinedKind) → kind_of_tokens ts ≡ Ok k → (list_any is_empty ts ≡ false) × (mixes_kinds ts ≡ false) × ((same_kind (kind_of_first ts) Local && list_any is_comment ts) ≡ false) × (kind_of_first ts ≡ k)
+kinds_ok : (ts : List (List ℕ)) (k : SpinedKind) → kind_of_tokens ts ≡ Ok k →
+    (list_any is_empty ts ≡ false) × (mixes_kinds ts ≡ false) × ((same_kind (kind_of_first ts) Local && list_any
+    is_comment ts) ≡ false) × (kind_of_first ts ≡ k)
 kinds_ok ts k h = elim (chosen (list_any is_empty ts) _ _ _ h) [
   | inl w ↦ let z = w.1 in cc
   | inr w ↦ elim (chosen (mixes_kinds ts) _ _ _ w.1) [
@@ -129,8 +139,13 @@ found text row fits line h = elim (chosen (has_byte 13 text) _ _ _ h) [
     | inr v ↦
         let s = spined_ok (kind_of_tokens (parts text)) (parts text) row v.1 in
         let k = kinds_ok (parts text) s.0 s.1 in
-        subst (λ (r : Row). IsTextOf r text) s.2
-        (sym (join_with_byte-slice_split 9 text), parts_filled text, lawful s.0 (parts text) k.0 (free_of_tabs text) (free_of 13 text w.0) (free_of 10 text line) (rw (← k.3) k.1) (rw (← k.3) k.2), fits)
+        subst (λ (r : Row). IsTextOf r text) s.2 (
+          sym (join_with_byte-slice_split 9 text),
+          parts_filled text,
+          lawful s.0 (parts text) k.0
+              (free_of_tabs text) (free_of 13 text w.0) (free_of 10 text line) (rw (← k.3) k.1) (rw (← k.3) k.2),
+          fits,
+        )
   ]
 ]
 
@@ -146,7 +161,8 @@ no_tab t h = All-from_recursion (λ x. (x == 9) ≡ false) t (no_byte 9 t h)
 -- tokens joined are cut again
 pub parts_join : (k : SpinedKind) (t : List ℕ) (ts : List (List ℕ)) → AllByRecursion (IsToken k) (t ∷ ts) → parts (join_with_byte 9 (t ∷ ts)) ≡ t ∷ ts
 parts_join k t [] h = slice_split_none (λ x. x == 9) t (no_tab t h.0.one_token)
-parts_join k t (u ∷ ts) h = slice_split_at (λ x. x == 9) t 9 (join_with_byte 9 (u ∷ ts)) (no_tab t h.0.one_token) refl ∙ ap (λ rest. t ∷ rest) (parts_join k u ts h.1)
+parts_join k t (u ∷ ts) h = slice_split_at (λ x. x == 9) t 9 (join_with_byte 9 (u ∷ ts))
+    (no_tab t h.0.one_token) refl ∙ ap (λ rest. t ∷ rest) (parts_join k u ts h.1)
 
 join_free : (k : SpinedKind) (ts : List (List ℕ)) → AllByRecursion (IsToken k) ts → has_byte 13 (join_with_byte 9 ts) ≡ false
 join_free k [] h = refl
@@ -179,7 +195,9 @@ no_comments k (t ∷ ts) h = or_from _ _ h.0.no_comment (no_comments k ts h.1)
 kinds_again : (k : SpinedKind) (t : List ℕ) (ts : List (List ℕ)) → AllByRecursion (IsToken k) (t ∷ ts) → kind_of_tokens (t ∷ ts) ≡ Ok k
 kinds_again k t ts h =
     let first : kind_of_token t ≡ k = h.0.of_kind in
-    let kinds : mixes_kinds (t ∷ ts) ≡ false = subst (λ kind. list_any (λ t. not (same_kind (kind_of_token t) kind)) (t ∷ ts) ≡ false) (sym first) (all_kind k (t ∷ ts) h) in
+    let kinds : mixes_kinds (t ∷ ts) ≡ false =
+    subst (λ kind. list_any (λ t. not (same_kind (kind_of_token t) kind)) (t ∷ ts) ≡ false) (sym first)
+    (all_kind k (t ∷ ts) h) in
     let comments : list_any is_comment (t ∷ ts) ≡ false = no_comments k (t ∷ ts) h in
     cond-false _ _ _ (all_filled k (t ∷ ts) h)
     ∙ cond-false _ _ _ kinds
@@ -212,10 +230,12 @@ reads_comment text line comment = rw (line, comment) refl
 reads : (text : List ℕ) → has_byte 13 text ≡ false → is_comment text ≡ false → reading text ≡ spined (kind_of_tokens (parts text)) (parts text)
 reads text line comment = rw (line, comment) refl
 
-pub reads_fault : (text : List ℕ) (fault : RecordFault) → has_byte 13 text ≡ false → is_comment text ≡ false → kind_of_tokens (parts text) ≡ Err fault → Fails fault (reading text)
+pub reads_fault : (text : List ℕ) (fault : RecordFault) → has_byte 13 text ≡ false → is_comment text ≡ false →
+    kind_of_tokens (parts text) ≡ Err fault → Fails fault (reading text)
 reads_fault text fault line comment h = fails fault _ (reads text line comment ∙ rw h refl)
 
-pub reads_spined : (text : List ℕ) (k : SpinedKind) → has_byte 13 text ≡ false → is_comment text ≡ false → kind_of_tokens (parts text) ≡ Ok k → reading text ≡ Ok (Spined k (parts text))
+pub reads_spined : (text : List ℕ) (k : SpinedKind) → has_byte 13 text ≡ false → is_comment text ≡ false →
+    kind_of_tokens (parts text) ≡ Ok k → reading text ≡ Ok (Spined k (parts text))
 reads_spined text k line comment h =
     reads text line comment ∙ ap (λ kind. spined kind (parts text)) h
 
@@ -236,7 +256,8 @@ row_read text row h = elim (chosen (has_byte 13 text) _ _ _ h) [
 pub reads_row : (text : List ℕ) (row : Row) → reading text ≡ Ok row → reading text ≡ Ok (row_in text)
 reads_row text row h = h ∙ ap (λ (r : Row). Ok r) (sym (row_read text row h))
 
-pub read_fields : (text ends : List ℕ) (row : Row) → length text ≤ 1048576 → has_byte 10 text ≡ false → reading text ≡ Ok row → ends ≡ ends_from 0 (tokens_of row) → AreFields text ends
+pub read_fields : (text ends : List ℕ) (row : Row) → length text ≤ 1048576 → has_byte 10 text ≡ false →
+    reading text ≡ Ok row → ends ≡ ends_from 0 (tokens_of row) → AreFields text ends
 read_fields text ends row fits line h e =
     let is = row_read text row h in
     record {
@@ -247,10 +268,13 @@ read_fields text ends row fits line h e =
 pub comment_fields : (text : List ℕ) → length text ≤ 1048576 → has_byte 10 text ≡ false → has_byte 13 text ≡ false → is_comment text ≡ true → AreFields text []
 comment_fields text fits line return comment = read_fields text [] (Comment text) fits line (reads_comment text return comment) refl
 
-pub spined_fields : (text ends : List ℕ) (k : SpinedKind) → length text ≤ 1048576 → has_byte 10 text ≡ false → has_byte 13 text ≡ false → is_comment text ≡ false → kind_of_tokens (parts text) ≡ Ok k → ends ≡ ends_from 0 (parts text) → AreFields text ends
+pub spined_fields : (text ends : List ℕ) (k : SpinedKind) → length text ≤ 1048576 → has_byte 10 text ≡ false →
+    has_byte 13 text ≡ false → is_comment text ≡ false → kind_of_tokens (parts text) ≡ Ok k →
+    ends ≡ ends_from 0 (parts text) → AreFields text ends
 spined_fields text ends k fits line return comment h e = read_fields text ends (Spined k (parts text)) fits line (reads_spined text k return comment h) e
 
-pub gives_found : (r : Result Row RecordFault) (text : List ℕ) → length text ≤ 1048576 → has_byte 10 text ≡ false → Gives r (reading text) → IfOk r (λ row. IsTextOf row text)
+pub gives_found : (r : Result Row RecordFault) (text : List ℕ) → length text ≤ 1048576 →
+    has_byte 10 text ≡ false → Gives r (reading text) → IfOk r (λ row. IsTextOf row text)
 gives_found (Ok row) text fits line h = found text row fits line h
 gives_found (Err fault) text fits line h = tt
 
@@ -262,7 +286,8 @@ not_fault S8 row read e h = cc
 not_fault L1 row read e h = cc
 not_fault Memory row read e h = refl
 
-pub gives_only : (r : Result Row RecordFault) (text : List ℕ) → Gives r (reading text) → (row : Row) → IsTextOf row text → MatchResult r (λ read. read ≡ row) (λ fault. fault ≡ Memory)
+pub gives_only : (r : Result Row RecordFault) (text : List ℕ) → Gives r (reading text) → (row : Row) →
+    IsTextOf row text → MatchResult r (λ read. read ≡ row) (λ fault. fault ≡ Memory)
 gives_only (Ok read) text h row is = let e = only text row is in cc
 gives_only (Err fault) text h row is = not_fault fault row (reading text) (only text row is) h
 
@@ -281,7 +306,9 @@ reads_back text row h = ap reading (sym (text_is row text h)) ∙ only text row 
 
 -- The faults
 
-kinds_broken : (ts : List (List ℕ)) (fault : RecordFault) → kind_of_tokens ts ≡ Err fault → ((fault ≡ S4) × (list_any is_empty ts ≡ true)) ⊎ (((fault ≡ S5) × (mixes_kinds ts ≡ true)) ⊎ ((fault ≡ S6) × ((same_kind (kind_of_first ts) Local && list_any is_comment ts) ≡ true)))
+kinds_broken : (ts : List (List ℕ)) (fault : RecordFault) → kind_of_tokens ts ≡ Err fault →
+    ((fault ≡ S4) × (list_any is_empty ts ≡ true)) ⊎ (((fault ≡ S5) × (mixes_kinds
+    ts ≡ true)) ⊎ ((fault ≡ S6) × ((same_kind (kind_of_first ts) Local && list_any is_comment ts) ≡ true)))
 kinds_broken ts fault h = elim (chosen (list_any is_empty ts) _ _ _ h) [
   | inl w ↦ inl ((let z = w.1 in cc), w.0)
   | inr w ↦ elim (chosen (mixes_kinds ts) _ _ _ w.1) [
@@ -338,8 +365,11 @@ kinds_empty ts empty = sym (cond-true _ _ _ empty)
 pub kinds_mixed : (ts : List (List ℕ)) → list_any is_empty ts ≡ false → mixes_kinds ts ≡ true → Err S5 ≡ kind_of_tokens ts
 kinds_mixed ts empty mixed = sym (cond-false _ _ _ empty ∙ cond-true _ _ _ mixed)
 
-pub kinds_comment : (ts : List (List ℕ)) → list_any is_empty ts ≡ false → mixes_kinds ts ≡ false → (same_kind (kind_of_first ts) Local && list_any is_comment ts) ≡ true → Err S6 ≡ kind_of_tokens ts
+pub kinds_comment : (ts : List (List ℕ)) → list_any is_empty ts ≡ false → mixes_kinds ts ≡ false →
+    (same_kind (kind_of_first ts) Local && list_any is_comment ts) ≡ true → Err S6 ≡ kind_of_tokens ts
 kinds_comment ts empty mixed comment = sym (cond-false _ _ _ empty ∙ cond-false _ _ _ mixed ∙ cond-true _ _ _ comment)
 
-pub kinds_one : (ts : List (List ℕ)) → list_any is_empty ts ≡ false → mixes_kinds ts ≡ false → (same_kind (kind_of_first ts) Local && list_any is_comment ts) ≡ false → Ok (kind_of_first ts) ≡ kind_of_tokens ts
+pub kinds_one : (ts : List (List ℕ)) → list_any is_empty ts ≡ false → mixes_kinds ts ≡ false →
+    (same_kind (kind_of_first ts) Local && list_any is_comment ts) ≡ false →
+    Ok (kind_of_first ts) ≡ kind_of_tokens ts
 kinds_one ts empty mixed comment = sym (cond-false _ _ _ empty ∙ cond-false _ _ _ mixed ∙ cond-false _ _ _ comment)

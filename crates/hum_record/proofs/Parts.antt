@@ -1,5 +1,7 @@
 -- The first part of a text, up to its first tab.
-use Rattle.std.proofs.Common.{◌≡◌, ℕ, ◌+◌, ◌<◌, ◌≤◌, Bool, true, false, List, [], ◌∷◌, ◌++◌, Option, None, Some, length, take, drop, get_or, refl, sym, ap, ◌∙◌, inl, inr, arith, add-one, drop-cons}
+use Rattle.std.proofs.Common.{◌≡◌, ℕ, ◌+◌, ◌<◌, ◌≤◌, Bool, true, false, List, [], ◌∷◌, ◌++◌, Option, None, Some}
+use Rattle.std.proofs.Common.{length, take, drop, get_or, refl, sym, ap, ◌∙◌, inl, inr, arith, add-one}
+use Rattle.std.proofs.Common.{drop-cons}
 use Rattle.std.proofs.lemmas.List.{take-append-drop, get_or-take, get_or_default, take_all, length-take}
 use Rattle.std.proofs.lemmas.List.Splits.{slice_split_at, slice_split_none}
 use Rattle.memchr.specs.Find.{IsFirstByte, is_byte}
@@ -26,7 +28,10 @@ pub parts_step : (xs : List ℕ) (k : ℕ) → IsFirstByte (is_byte 9) xs (Some 
 parts_step xs k h =
     ap parts (around xs k h.0.high)
     ∙ slice_split_at (is_byte 9) (take k xs) (get_or xs k 0) (drop (k + 1) xs)
-    (λ j d lt. let low : j < k = omega (arith, length-take k xs) in not_true _ (λ yes. h.0.before j (omega arith) low (let same : get_or (take k xs) j d ≡ get_or xs j 0 = get_or-take k xs j d low ∙ get_or_default xs j d 0 (omega (arith, h.0.high)) in rw same at yes)))
+    (λ j d lt. let low : j < k = omega (arith, length-take k xs) in
+    not_true _ (λ yes. h.0.before j (omega arith) low
+    (let same : get_or (take k xs) j d ≡ get_or xs j 0 = get_or-take k xs j d low
+    ∙ get_or_default xs j d 0 (omega (arith, h.0.high)) in rw same at yes)))
     h.1
 
 pub parts_last : (xs : List ℕ) → IsFirstByte (is_byte 9) xs None → parts xs ≡ xs ∷ []
@@ -36,7 +41,8 @@ pub same_test : (n : ℕ) → (n == n) ≡ true
 same_test n = elim (eqb_tells n n) as (λ _. (n == n) ≡ true) [ inl w ↦ w.0 | inr w ↦ absurd (w.1 refl) ]
 
 -- the first part ends where a search for a tab ends
-pub parts_first : (xs : List ℕ) (r : Option ℕ) → IsFirstByte (is_byte 9) xs r → parts xs ≡ take (unwrap_or r (length xs)) xs ∷ parts_after (unwrap_or r (length xs)) xs
+pub parts_first : (xs : List ℕ) (r : Option ℕ) → IsFirstByte (is_byte 9) xs r →
+    parts xs ≡ take (unwrap_or r (length xs)) xs ∷ parts_after (unwrap_or r (length xs)) xs
 parts_first xs None h = parts_last xs h ∙ rw (take_all (length xs) xs (omega arith)) (ap (λ rest. xs ∷ rest) (sym (cond-true _ _ _ (same_test (length xs)))))
 parts_first xs (Some k) h = parts_step xs k h ∙ ap (λ rest. take k xs ∷ rest) (sym (cond-false _ _ _ (ne_eqb k (length xs) (λ e. omega (arith, e, h.0.high)))))
 
@@ -54,5 +60,6 @@ kind_of_parts (x ∷ xs) = elim (eqb_tells x 9) as (λ _. kind_of_token (x ∷ x
 
 -- a search finds a byte where there is one
 pub search_finds : (b : ℕ) (text : List ℕ) (r : Option ℕ) → IsFirstByte (is_byte b) text r → is_some r ≡ has_byte b text
-search_finds b text None h = sym (list_any_none (is_byte b) text (λ j d lt. not_true _ (λ yes. h j (omega arith) lt (rw (get_or_default text j d 0 lt) at yes))))
+search_finds b text None h = sym (list_any_none (is_byte b) text
+    (λ j d lt. not_true _ (λ yes. h j (omega arith) lt (rw (get_or_default text j d 0 lt) at yes))))
 search_finds b text (Some k) h = sym (list_any_at (is_byte b) text k 0 h.0.high h.1)

@@ -1,5 +1,6 @@
 -- Bits that say where a byte stands.
-use Rattle.std.proofs.Common.{◌≡◌, ◌∙◌, refl, sym, ap, ap₂, subst, ℕ, zero, suc, ◌+◌, ◌-◌, ◌*◌, ◌/◌, ◌%◌, ◌^◌, ◌<◌, ◌≤◌, Bool, true, false, not, ◌||◌, cond, List, [], ◌∷◌, ◌++◌}
+use Rattle.std.proofs.Common.{◌≡◌, ◌∙◌, refl, sym, ap, ap₂, subst, ℕ, zero, suc, ◌+◌, ◌-◌, ◌*◌, ◌/◌, ◌%◌, ◌^◌}
+use Rattle.std.proofs.Common.{◌<◌, ◌≤◌, Bool, true, false, not, ◌||◌, cond, List, [], ◌∷◌, ◌++◌}
 use Rattle.std.proofs.Common.{length, take, drop, map, arith, append_assoc, length-drop, take_all, add-one, drop-cons, get_or}
 use Rattle.std.proofs.lemmas.List.{append-nil, drop-drop, length-map}
 use mir.Val.{bool_byte}
@@ -8,6 +9,9 @@ use Rattle.std.specs.Prelude.{◌==◌}
 use Rattle.std.specs.List.{prefix_len}
 use Rattle.std.specs.Simd.Lanes.{chunk}
 use Rattle.std.specs.Int.Count.{count_trailing_zeros}
+use Rattle.std.specs.Int.Bits.{bit_and}
+use Rattle.std.proofs.lemmas.Nat.{and_mask}
+use Rattle.std.proofs.Math.Nat.{add-mul-mod_self_right}
 use Rattle.std.proofs.lemmas.Bool.Decides.{nat_tests}
 use Rattle.std.proofs.lemmas.Simd.{mask_l-lt, trailing_mask_l}
 use native.Mathlib.Nat.{pow-suc, mul_comm, zero-div, div-one, div-div-eq-div-mul, mod-eq_of_lt, two-pow-succ}
@@ -132,7 +136,8 @@ next_tab block start at rest ends all short later some p =
     let place = p.place in
     let some_left : 0 < bits_of 9 left = rw p.bits at some in
     let first = first_tab at left some_left in
-    let k : count_trailing_zeros 64 rest ≡ before_tab left = ap (count_trailing_zeros 64) p.bits ∙ trailing_mask_l (λ x. x == 9) 64 left (omega (arith, place, short, later)) some_left in
+    let k : count_trailing_zeros 64 rest ≡ before_tab left = ap (count_trailing_zeros 64) p.bits
+    ∙ trailing_mask_l (λ x. x == 9) 64 left (omega (arith, place, short, later)) some_left in
     let within = first.within in
     record {
       within = omega (arith, k, within, place);
@@ -183,3 +188,35 @@ high_fits b xs each first last few le covered is_first is_last =
     let bound = bits_short b xs (omega (arith, few, covered)) in
     let fits : first + last / 2 ^ (2 * each - length xs) * 2 ^ each < 4294967296 = rw all bound in
     (mod-eq_of_lt (omega (arith, fits)), fits)
+
+pub take_count : (k : ℕ) (zs : List ℕ) → k ≤ length zs → length (take k zs) ≡ k
+take_count zero zs h = refl
+take_count (suc k) [] h = absurd (omega arith)
+take_count (suc k) (z ∷ zs) h = let next = take_count k zs (omega arith) in omega (arith, next)
+
+-- the front of a front
+pub front_of_front : (k m : ℕ) (zs : List ℕ) → k ≤ m → take k (take m zs) ≡ take k zs
+front_of_front zero m zs h = refl
+front_of_front (suc k) zero zs h = absurd (omega arith)
+front_of_front (suc k) (suc m) [] h = refl
+front_of_front (suc k) (suc m) (z ∷ zs) h = ap (λ (ys : List ℕ). z ∷ ys) (front_of_front k m zs (omega arith))
+
+-- the bits of the first bytes are the low ones of those of more bytes
+pub bits_front : (b : ℕ) (xs : List ℕ) (n bits : ℕ) → n ≤ 32 → 32 ≤ length xs → bits ≡ bits_of b (chunk 0 32 xs)
+    → bit_and bits (2 ^ n - 1) ≡ bits_of b (take n xs)
+bits_front b xs n bits few room is =
+    let ys = take 32 xs in
+    let size : length ys ≡ 32 = take_count 32 xs room in
+    let two : bits_of b ys ≡ bits_of b (take n ys) + bits_of b (drop n ys) * 2 ^ n = in_two b ys n (omega (arith, size, few)) in
+    let below : bits_of b (take n ys) < 2 ^ n =
+    subst (λ k. bits_of b (take n ys) < 2 ^ k) (take_count n ys (omega (arith, size, few))) (bits_below b (take n ys)) in
+    and_mask bits n ∙ ap (λ m. m % 2 ^ n) (is ∙ two)
+    ∙ add-mul-mod_self_right (bits_of b (take n ys)) (bits_of b (drop n ys)) (2 ^ n)
+    ∙ mod-eq_of_lt below
+    ∙ ap (bits_of b) (front_of_front n 32 xs few)
+
+pub one_moved : (n : ℕ) → n ≤ 32 → 1 * 2 ^ n % 18446744073709551616 ≡ 2 ^ n
+one_moved n few =
+    let bound : 2 ^ n ≤ 2 ^ 32 = pow_mono few in
+    let same : 1 * 2 ^ n ≡ 2 ^ n = omega arith in
+    ap (λ m. m % 18446744073709551616) same ∙ mod-eq_of_lt (omega (arith, bound))

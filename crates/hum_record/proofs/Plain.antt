@@ -22,7 +22,8 @@ use Rattle.hum_record.specs.Plain.{is_mark, has_mark, head_after}
 -- One text behind another.
 pub mark_append : (head : Bool) (xs ys : List ℕ) → has_mark head (xs ++ ys) ≡ (has_mark head xs || has_mark (head_after head xs) ys)
 mark_append head [] ys = refl
-mark_append head (x ∷ xs) ys = ap (λ b. (head && is_mark x) || b) (mark_append (x == 9) xs ys) ∙ sym (or_associates (head && is_mark x) (has_mark (x == 9) xs) (has_mark (head_after (x == 9) xs) ys))
+mark_append head (x ∷ xs) ys = ap (λ b. (head && is_mark x) || b) (mark_append (x == 9) xs ys)
+    ∙ sym (or_associates (head && is_mark x) (has_mark (x == 9) xs) (has_mark (head_after (x == 9) xs) ys))
   where
     or_associates : (a b c : Bool) → ((a || b) || c) ≡ (a || (b || c))
     or_associates true b c = refl
@@ -48,7 +49,8 @@ map_or p q [] i = refl
 map_or p q (x ∷ xs) zero = refl
 map_or p q (x ∷ xs) (suc i) = map_or p q xs i
 
-free_heads : (head : Bool) (xs : List ℕ) → ((i : ℕ) → get_or (head ∷ map (λ x. x == 9) xs) i false ≡ true → get_or (map is_mark xs) i false ≡ false) → has_mark head xs ≡ false
+free_heads : (head : Bool) (xs : List ℕ) → ((i : ℕ) → get_or (head ∷ map (λ x. x == 9) xs) i false ≡ true →
+    get_or (map is_mark xs) i false ≡ false) → has_mark head xs ≡ false
 free_heads head [] free = refl
 free_heads head (x ∷ xs) free = first head (is_mark x) (has_mark (x == 9) xs) (free 0) (free_heads (x == 9) xs (λ i. free (suc i)))
   where
@@ -60,7 +62,8 @@ not_true : (b : Bool) → (b ≡ true → ⊥) → b ≡ false
 not_true true h = absurd (h refl)
 not_true false h = refl
 
-pub no_marks : (head : Bool) (xs : List ℕ) → bit_and (mask_l (head ∷ map (λ x. x == 9) xs)) (bits_of 9 xs) ≡ 0 → bit_and (mask_l (head ∷ map (λ x. x == 9) xs)) (bits_of 33 xs) ≡ 0
+pub no_marks : (head : Bool) (xs : List ℕ) → bit_and (mask_l (head ∷ map (λ x. x == 9) xs)) (bits_of 9 xs) ≡ 0 →
+    bit_and (mask_l (head ∷ map (λ x. x == 9) xs)) (bits_of 33 xs) ≡ 0
     → bit_and (mask_l (head ∷ map (λ x. x == 9) xs)) (bits_of 42 xs) ≡ 0 → has_mark head xs ≡ false
 no_marks head xs tabs bangs stars = free_heads head xs (λ i at.
     let heads = head ∷ map (λ x. x == 9) xs in
@@ -110,7 +113,8 @@ one_more x xs h true w = rw w (refl, h.0)
 one_more x xs h false w =
     let first : list_any is_odd (onto_first x (parts xs)) ≡ ((is_mark x || has_mark false xs) || head_after false xs) =
     onto x (parts xs) (parts_filled xs) w ∙ ap (λ b. is_mark x || b) h.1 ∙ assoc (is_mark x) (has_mark false xs) (head_after false xs) in
-    let others : list_any is_odd (drop 1 (onto_first x (parts xs))) ≡ (has_mark false xs || head_after false xs) = ap (list_any is_odd) (behind x (parts xs) (parts_filled xs)) ∙ h.1 in
+    let others : list_any is_odd (drop 1 (onto_first x (parts xs))) ≡ (has_mark false xs || head_after false
+    xs) = ap (list_any is_odd) (behind x (parts xs) (parts_filled xs)) ∙ h.1 in
     rw w ((rw w at first), others)
 
 odd_tokens : (xs : List ℕ) → Begin xs
@@ -121,11 +125,11 @@ odd_tokens (x ∷ xs) = one_more x xs (odd_tokens xs) (x == 9) refl
 filled : (x : ℕ) (t : List ℕ) → is_empty (x ∷ t) ≡ false
 filled x t = search rules
 
-or_left : (a b : Bool) → (a || b) ≡ false → a ≡ false
+pub or_left : (a b : Bool) → (a || b) ≡ false → a ≡ false
 or_left true b h = h
 or_left false b h = refl
 
-or_right : (a b : Bool) → (a || b) ≡ false → b ≡ false
+pub or_right : (a b : Bool) → (a || b) ≡ false → b ≡ false
 or_right true b h = let z = h in cc
 or_right false b h = h
 
@@ -173,7 +177,8 @@ head_last : (head : Bool) (x : ℕ) (xs : List ℕ) → head_after head (x ∷ x
 head_last head x [] = refl
 head_last head x (y ∷ ys) = head_last (x == 9) y ys
 
-pub next_marks : (text rest block tail : List ℕ) (has may head next : Bool) → Marked text rest has head → rest ≡ block ++ tail → (may ≡ false → has_mark head block ≡ false)
+pub next_marks : (text rest block tail : List ℕ) (has may head next : Bool) → Marked text rest has head →
+    rest ≡ block ++ tail → (may ≡ false → has_mark head block ≡ false)
     → next ≡ head_after head block → Marked text tail (has || may) next
 next_marks text rest block tail has may head next marked cut free is = record {
   none = λ none later. marked.none (or_left has may none) (
@@ -204,7 +209,8 @@ pub byte_few : (b : Bool) → bool_byte b ≤ 1
 byte_few true = omega arith
 byte_few false = omega arith
 
-pub none_found : (head : Bool) (heads tabs bangs stars : ℕ) (xs : List ℕ) → heads ≡ bool_byte head + 2 * tabs → tabs ≡ bits_of 9 xs → bangs ≡ bits_of 33 xs → stars ≡ bits_of 42 xs
+pub none_found : (head : Bool) (heads tabs bangs stars : ℕ) (xs : List ℕ) → heads ≡ bool_byte head + 2 * tabs →
+    tabs ≡ bits_of 9 xs → bangs ≡ bits_of 33 xs → stars ≡ bits_of 42 xs
     → ((not (bit_and heads tabs == 0) || not (bit_and heads bangs == 0)) || not (bit_and heads stars == 0)) ≡ false → has_mark head xs ≡ false
 none_found head heads tabs bangs stars xs is t b s none =
     let same : heads ≡ mask_l (head ∷ map (λ x. x == 9) xs) = is ∙ ap (λ n. bool_byte head + 2 * n) t ∙ ap (λ n. n + 2 * bits_of 9 xs) (bit_of head) in
@@ -220,7 +226,8 @@ head_end head [] some = absurd (omega (arith, some))
 head_end head (x ∷ xs) some = ap (λ n. get_or (x ∷ xs) n 0 == 9) (omega arith) ∙ sym (head_last head x xs)
 
 -- all of a text was searched
-pub plain_text : (text rest : List ℕ) (has head : Bool) → Marked text rest has head → rest ≡ [] → has ≡ false → head ≡ false → kind_of_tokens (parts text) ≡ Ok Values
+pub plain_text : (text rest : List ℕ) (has head : Bool) → Marked text rest has head → rest ≡ [] → has ≡ false →
+    head ≡ false → kind_of_tokens (parts text) ≡ Ok Values
 plain_text text rest has head marked done none end =
     let over : head ≡ head_after true text = ap (head_after head) (sym done) ∙ marked.ends in
     plain_data text (marked.none none (ap (has_mark head) done)) (sym over ∙ end)

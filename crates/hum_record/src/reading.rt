@@ -1,16 +1,19 @@
 //! A record, and how a line is read as one.
-ghost use Rattle.std.specs.Prelude.{◌≡◌, ◌≢◌, ◌<◌, ◌≤◌, false, Ok, IfOk, IfErr, OnOk, MatchResult, length};
+ghost use Rattle.std.specs.Prelude.{◌≡◌, ◌≢◌, ◌<◌, ◌≤◌, false, Ok, IfOk, IfErr, OnOk, MatchResult, length, take};
 ghost use Rattle.hum_record.specs.Spelling.{IsTokenOf, IsTextOf, has_byte, is_comment, reading, Gives, Fails, Breaks};
 ghost use Rattle.hum_record.specs.Fields.{AreFields, row_in};
 ghost use Rattle.hum_record.specs.Row.{Row, kind_of, row_of, tokens_of, width_of, token_at, text_of};
 ghost use Rattle.hum_record.specs.declared.RecordFault.TheVariants.{Memory};
 
-use crate::spare::{Body, Spare};
+use crate::spare::{Body, Spare, new_body};
 use crate::tokens::{Cut, lawful_kind, push_ends, token_at_end, token_kind};
 use crate::{Kind, RecordFault};
 use memchr::memchr;
 use std::alloc::{AllocError, Global};
 use std::marker::Model;
+
+/// How many bytes of a line are moved at once: most lines are shorter.
+const FEW: usize = 32;
 
 /// One record: a global comment, or a token of one kind for each spine.
 ///
@@ -57,22 +60,42 @@ impl Record {
         // Which fault it is.
         ensures exact { Gives result (reading text.items) }
     {
-        Self::parse_into(alloc, &mut Spare::none(alloc), text)
+        Self::of_text(alloc, text)
     }
 
-    /// Reads a text as [`Record::parse`] does, in what is left of a record that is done with.
-    pub fn parse_into(
-        alloc: Global,
-        spare: &mut Spare,
-        text: Vec<u8>,
-    ) -> Result<Record, RecordFault>
+    /// The same, by what a text is read as.
+    fn of_text(alloc: Global, text: Vec<u8>) -> Result<Record, RecordFault>
         requires at_most { length text.items ≤ 1048576 }
         requires one_line { has_byte 10 text.items ≡ false }
         ensures { Gives result (reading text.items) }
     {
-        let mut body = spare.take_or_new(alloc)?;
-        cut(&mut body.ends, &text)?;
+        let mut body = new_body(alloc)?;
+        cut(&mut body.ends, &text, text.len())?;
         body.text = text;
+        Ok(Record { body })
+    }
+
+    /// Reads the first `len` bytes of what is held as [`Record::parse`] reads a text, and copies them
+    /// into what is left of a record that is done with. Where more is held than these, they are
+    /// looked at in pieces of one size.
+    ///
+    /// # Errors
+    /// The first rule that the text breaks, or [`RecordFault::Memory`] where memory was refused.
+    #[inline]
+    pub fn parse_into(
+        alloc: Global,
+        spare: &mut Spare,
+        held: &[u8],
+        len: usize,
+    ) -> Result<Record, RecordFault>
+        requires within { len ≤ length held.now }
+        requires at_most { length (take len held.now) ≤ 1048576 }
+        requires one_line { has_byte 10 (take len held.now) ≡ false }
+        ensures { Gives result (reading (take len held.now)) }
+    {
+        let mut body = spare.take_or_new(alloc)?;
+        cut(&mut body.ends, held, len)?;
+        copy_front(&mut body.text, held, len)?;
         Ok(Record { body })
     }
 
@@ -147,23 +170,25 @@ impl Record {
 }
 
 /// Finds where each token of a line ends, into a list that may hold anything, or the first rule that
-/// the line breaks.
+/// the line breaks. The line is the first `len` bytes of what is held.
 #[inline]
-fn cut(ends: &mut Vec<u32>, text: &[u8]) -> Result<(), RecordFault>
-    requires at_most { length text.now ≤ 1048576 }
-    requires one_line { has_byte 10 text.now ≡ false }
-    ensures fields { OnOk result (AreFields text.now ends.new.items) }
-    ensures read { OnOk result (reading text.now ≡ Ok (row_in text.now)) }
-    ensures refused { IfErr result (λ fault. Fails fault (reading text.now)) }
+fn cut(ends: &mut Vec<u32>, held: &[u8], len: usize) -> Result<(), RecordFault>
+    requires within { len ≤ length held.now }
+    requires at_most { length (take len held.now) ≤ 1048576 }
+    requires one_line { has_byte 10 (take len held.now) ≡ false }
+    ensures fields { OnOk result (AreFields (take len held.now) ends.new.items) }
+    ensures read { OnOk result (reading (take len held.now) ≡ Ok (row_in (take len held.now))) }
+    ensures refused { IfErr result (λ fault. Fails fault (reading (take len held.now))) }
 {
     ends.clear();
+    let text = &held[..len];
     if is_global(text) {
         if has_return(text) {
             return Err(RecordFault::S8);
         }
         return Ok(());
     }
-    match push_ends(ends, text)? {
+    match push_ends(ends, held, len)? {
         Cut::Plain => {}
         Cut::Whole => {
             lawful_kind(text, ends)?;
@@ -171,6 +196,22 @@ fn cut(ends: &mut Vec<u32>, text: &[u8]) -> Result<(), RecordFault>
         Cut::Broken => return Err(RecordFault::S8),
     }
     Ok(())
+}
+
+/// Puts the first `len` bytes of what is held into a list that may hold anything: most often with
+/// others behind them that are taken off again, since so many bytes are moved without a call.
+#[inline]
+fn copy_front(text: &mut Vec<u8>, held: &[u8], len: usize) -> Result<(), AllocError>
+    requires { len ≤ length held.now }
+    ensures { OnOk result (text.new.items ≡ take len held.now) }
+{
+    text.clear();
+    if len <= FEW && held.len() >= FEW {
+        text.extend_from_slice(&held[..FEW])?;
+        text.truncate(len);
+        return Ok(());
+    }
+    text.extend_from_slice(&held[..len])
 }
 
 /// Whether a carriage return stands in a text.

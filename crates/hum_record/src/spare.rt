@@ -4,7 +4,6 @@ ghost use Rattle.std.specs.Prelude.{◌≡◌, [], IfOk};
 use crate::reading::Record;
 use std::alloc::{AllocError, Global};
 use std::marker::Model;
-use std::mem;
 
 /// The text of a record, and where each of its tokens ends in it.
 #[derive(Debug, Drop)]
@@ -40,15 +39,6 @@ impl Spare {
     #[inline]
     pub fn keep(&mut self, row: Record) {
         self.body = Some(row.into_body());
-    }
-
-    /// Hands out the buffer of the text, empty or not.
-    #[inline]
-    pub fn take_text(&mut self, alloc: Global) -> Vec<u8> {
-        match &mut self.body {
-            Some(body) => mem::replace(&mut body.text, Vec::new(alloc)),
-            None => Vec::new(alloc),
-        }
     }
 
     /// Hands out what is left, which may hold anything.

@@ -1,6 +1,6 @@
 //! The cut of a line into tokens.
-ghost use Rattle.std.specs.Prelude.{◌≡◌, ◌<◌, ◌≤◌, ◌+◌, ◌^◌, ◌&&◌, [], ◌++◌, length, IfOk, OnOk, false};
-ghost use Rattle.std.specs.Prelude.{slice_index, slice_range};
+ghost use Rattle.std.specs.Prelude.{◌≡◌, ◌<◌, ◌≤◌, ◌+◌, ◌^◌, ◌&&◌, [], ◌++◌, length, IfOk, OnOk, true, false};
+ghost use Rattle.std.specs.Prelude.{slice_index, slice_range, take};
 ghost use Rattle.std.specs.List.{list_any};
 ghost use Rattle.hum_record.specs.Spelling.{has_byte, kind_of_token, kind_of_tokens, parts};
 ghost use Rattle.hum_record.specs.Spelling.{is_comment, same_kind};
@@ -8,9 +8,9 @@ ghost use Rattle.hum_record.specs.declared.SpinedKind.TheVariants.{Local};
 ghost use Rattle.hum_record.specs.Fields.{begins_at, ends_from};
 ghost use Rattle.hum_record.specs.Cutting.{tabs_from, IsCut};
 ghost use Rattle.hum_record.specs.Cutting.{bits_of};
-ghost use Rattle.hum_record.specs.Plain.{has_mark};
+ghost use Rattle.hum_record.specs.Plain.{has_mark, head_after};
 
-use crate::bits::{bits_of, holds};
+use crate::bits::{bits_of, bits_within, holds};
 use crate::{RecordFault, SpinedKind};
 use std::alloc::AllocError;
 
@@ -65,21 +65,71 @@ fn push_tabs(block: &[u8], tabs: u64, start: u32, ends: &mut Vec<u32>) -> Result
 /// Whether some token that begins in a block of a text may be none of plain data: none is where this
 /// answers no. The block is the head of a token, or not.
 #[inline]
-fn may_have_mark(block: &[u8], tabs: u64, is_head: bool) -> bool
+fn may_have_mark(block: &[u8], is_head: bool, tabs: u64, bangs: u64, stars: u64) -> bool
     requires short { length block.now ≤ 32 }
-    requires bits { tabs ≡ bits_of 9 block.now }
+    requires tabs { tabs ≡ bits_of 9 block.now }
+    requires bangs { bangs ≡ bits_of 33 block.now }
+    requires stars { stars ≡ bits_of 42 block.now }
     ensures { result ≡ false → has_mark is_head block.now ≡ false }
 {
     let heads = u64::from(is_head) + 2 * tabs;
     let has_empty = heads & tabs != 0;
-    let has_comment = heads & bits_of(block, b'!') != 0;
-    let has_interpretation = heads & bits_of(block, b'*') != 0;
+    let has_comment = heads & bangs != 0;
+    let has_interpretation = heads & stars != 0;
     has_empty | has_comment | has_interpretation
 }
 
-/// Adds where each token of a text ends to an empty list, and tells what the text was found to be.
+/// Adds where each token of the first bytes of what is held ends to an empty list, and tells what
+/// these bytes were found to be.
 #[inline]
-pub fn push_ends(ends: &mut Vec<u32>, text: &[u8]) -> Result<Cut, AllocError>
+pub fn push_ends(ends: &mut Vec<u32>, held: &[u8], len: usize) -> Result<Cut, AllocError>
+    requires within { len ≤ length held.now }
+    requires at_most { length (take len held.now) ≤ 1048576 }
+    requires empty { ends.old.items ≡ [] }
+    ensures { IfOk result (λ cut. IsCut (take len held.now) ends.new.items cut) }
+{
+    if len <= BLOCK && held.len() >= BLOCK {
+        push_near_ends(ends, held, len)
+    } else {
+        push_all_ends(ends, &held[..len])
+    }
+}
+
+/// The same of a text of one block that as many bytes are held of.
+#[inline]
+fn push_near_ends(ends: &mut Vec<u32>, held: &[u8], len: usize) -> Result<Cut, AllocError>
+    requires short { len ≤ 32 }
+    requires filled { 32 ≤ length held.now }
+    requires empty { ends.old.items ≡ [] }
+    ensures { IfOk result (λ cut. IsCut (take len held.now) ends.new.items cut) }
+{
+    let text = &held[..len];
+    let tabs = bits_within(held, len, b'\t');
+    let bangs = bits_within(held, len, b'!');
+    let stars = bits_within(held, len, b'*');
+    let has_return = bits_within(held, len, b'\r') != 0;
+    let is_odd = may_have_mark(text, true, tabs, bangs, stars) | is_head_behind(text);
+    push_tabs(text, tabs, 0, ends)?;
+    ends.push(len as u32)?;
+    if has_return {
+        return Ok(Cut::Broken);
+    }
+    Ok(if is_odd { Cut::Whole } else { Cut::Plain })
+}
+
+/// Whether a token begins behind a text.
+#[inline]
+fn is_head_behind(text: &[u8]) -> bool
+    ensures { result ≡ head_after true text.now }
+{
+    match text {
+        [] => true,
+        [.., last] => *last == b'\t',
+    }
+}
+
+/// The same of any text, block by block.
+fn push_all_ends(ends: &mut Vec<u32>, text: &[u8]) -> Result<Cut, AllocError>
     requires at_most { length text.now ≤ 1048576 }
     requires empty { ends.old.items ≡ [] }
     ensures { IfOk result (λ cut. IsCut text.now ends.new.items cut) }
@@ -94,7 +144,9 @@ pub fn push_ends(ends: &mut Vec<u32>, text: &[u8]) -> Result<Cut, AllocError>
         let tabs = bits_of(block, b'\t');
         push_tabs(block, tabs, start as u32, ends)?;
         has_return |= holds(block, b'\r');
-        has_mark |= may_have_mark(block, tabs, is_head);
+        let bangs = bits_of(block, b'!');
+        let stars = bits_of(block, b'*');
+        has_mark |= may_have_mark(block, is_head, tabs, bangs, stars);
         is_head = block[block.len() - 1] == b'\t';
         start += block.len();
         rest = tail;

@@ -63,7 +63,8 @@ stays_interpreted Unopened [] h filled sound = absurd (filled refl)
 stays_interpreted Unopened (t ∷ ts) h filled sound =
     let a = find_head (breaks Unopened (t ∷ ts)) P7 (P1 ∷ P2 ∷ P6 ∷ P10 ∷ P11 ∷ P3 ∷ P4 ∷ P5 ∷ P9 ∷ []) sound in
     let b = find_head (breaks Unopened (t ∷ ts)) P1 (P2 ∷ P6 ∷ P10 ∷ P11 ∷ P3 ∷ P4 ∷ P5 ∷ P9 ∷ []) a.1 in
-    let first = (and_parts (is_exclusive (sign_of t)) (list_all is_exclusive (map sign_of ts)) (not-false (list_all is_exclusive (map sign_of (t ∷ ts))) b.0)).0 in
+    let first = (and_parts (is_exclusive (sign_of t)) (list_all is_exclusive (map sign_of ts))
+    (not-false (list_all is_exclusive (map sign_of (t ∷ ts))) b.0)).0 in
     let plain = (and_parts (is_plain (sign_of t)) (all_plain ts) h).0 in
     absurd (false≢true (sym (not_exclusive (sign_of t) plain) ∙ first))
 stays_interpreted (Spines names) tokens h filled sound =

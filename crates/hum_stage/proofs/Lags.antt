@@ -343,7 +343,7 @@ due_filled xs n b l e h none = let k : length xs ≡ 0 = rw none refl in
     let f : b ≡ true = rw e (grind (arith, nat_tests, l, k)) in
     absurd (let c : true ≡ false = sym f ∙ h in cc)
 
-pub due_none : (xs : List (Option Row)) (n m : ℕ) (o : Option (Option Row)) → n ≡ length xs
+pub due_none : {X : Type 0} (xs : List X) (n m : ℕ) (o : Option X) → n ≡ length xs
     → o ≡ None → MatchOption o ((n ≡ 0) × (m ≡ 0)) (λ _. m + 1 ≡ n) → xs ≡ []
 due_none xs n m o l e h = let k = rw e at h in let z = k.0 in
     nil_from_length xs (omega (arith, l, z))

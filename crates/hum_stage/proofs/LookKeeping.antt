@@ -49,10 +49,14 @@ score_from room look Leads past (row ∷ rows) given k sound leads follow =
 
 closed_from : (room : ℕ) (look : Look) (Leads : List Row → Path → Type 0) (past rows : List Row) (line : ℕ) (given : Path)
     → LookKeeps look Leads → IsOpen past → Leads past given → Follow (path_after past) rows
-    → refusal line (outcomes_from room look past rows) ≡ None → is_unfinished (through (path_after past) rows) ≡ false → is_unfinished (through given (settled (outcomes_from room look past rows))) ≡ false
+    → refusal line (outcomes_from room look past rows) ≡ None → is_unfinished
+    (through (path_after past) rows) ≡ false → is_unfinished
+    (through given (settled (outcomes_from room look past rows))) ≡ false
 closed_from room look Leads past [] line given k sound leads follow none end = k.closing past given sound end leads
 closed_from room look Leads past (row ∷ rows) line given k sound leads follow none end =
-    one_of (look past row (take room rows)) refl (λ next leads none. closed_from room look Leads (row ∷ past) rows (line + 1) next k (sound, follow.0) leads follow.1 none end) none
+    one_of (look past row (take room rows)) refl (λ next leads none.
+    closed_from room look Leads (row ∷ past) rows (line + 1) next k (sound, follow.0) leads follow.1 none
+    end) none
   where
     undecided : (b : Bool) → nat_le room (length rows) ≡ b → look past row (take room rows) ≡ None
         → refusal line (cond b (Refused H1) Undecided ∷ outcomes_from room look (row ∷ past) rows) ≡ None
@@ -63,7 +67,9 @@ closed_from room look Leads past (row ∷ rows) line given k sound leads follow 
         absurd (k.decided past row rows (sound, follow.0) follow.1 end (ap (look past row) (sym all) ∙ e))
 
     one_of : (d : Option (Result (List Row) Rule)) → look past row (take room rows) ≡ d
-        → ((next : Path) → Leads (row ∷ past) next → refusal (line + 1) (outcomes_from room look (row ∷ past) rows) ≡ None → is_unfinished (through next (settled (outcomes_from room look (row ∷ past) rows))) ≡ false)
+        → ((next : Path) → Leads (row ∷ past) next → refusal (line + 1)
+        (outcomes_from room look (row ∷ past) rows) ≡ None →
+        is_unfinished (through next (settled (outcomes_from room look (row ∷ past) rows))) ≡ false)
         → refusal line (outcome_of room (length rows) d ∷ outcomes_from room look (row ∷ past) rows) ≡ None
         → is_unfinished (through given (settled (outcome_of room (length rows) d ∷ outcomes_from room look (row ∷ past) rows))) ≡ false
     one_of (Some (Ok out)) e more none =

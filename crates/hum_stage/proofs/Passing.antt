@@ -1,11 +1,12 @@
 -- Letting records go, one by one.
 use Rattle.std.proofs.Common.{◌≡◌, ◌∙◌, refl, sym, ap, ℕ, ◌<◌, List, [], ◌∷◌, ◌++◌}
+use Rattle.std.proofs.lemmas.List.{map-append, length-map}
 use Rattle.std.proofs.Common.{length, append_assoc, append-nil, arith, Option, Some, None}
 use Rattle.std.specs.Prelude.{Ok, Bool, true, false, ◌==◌}
 use Rattle.std.proofs.Common.{inl, inr}
 use Rattle.std.proofs.lemmas.Bool.{cases_Bool}
 use Rattle.std.proofs.lemmas.Bool.Decides.{nat_tests}
-use Rattle.std.specs.Option.{option_to_list}
+use Rattle.std.specs.Option.{option_map, option_to_list}
 use Rattle.std.proofs.lemmas.List.{nil_from_length}
 use Rattle.hum_record.specs.Row.{Row}
 use Rattle.hum_path.specs.Score.{passed}
@@ -13,6 +14,7 @@ use Rattle.hum_stage.specs.declared.faults.Rule.{Rule}
 use Rattle.hum_stage.specs.Order.{passed-push}
 use Rattle.hum_stage.specs.declared.looks_ahead.Verdict.TheVariants.{Waits, Gives, Refuses}
 use Rattle.hum_stage.specs.Look.{Look}
+use Rattle.hum_stage.specs.Dues.{due_rows}
 use Rattle.hum_stage.specs.Settles.{Settles, AllGiven, SettlesAll, Passing}
 
 given_push : (look : Look) (past front rest : List Row) (row : Row) (outs : List (Option Row))
@@ -29,13 +31,14 @@ given_push look past (r ∷ front) rest row (x ∷ outs) o h e = (
 )
 
 -- the first that waits is given
-pub passing_given : (look : Look) (past rows : List Row) (follows follows' : List Row → List Row
-    → Type 0) (before after after' : List (Option Row)) (o : Option Row)
-    → (h : Passing look past rows follows before after) → 0 < length h.rest
+pub passing_given : {D : Type 0} (row_of : D → Row) (look : Look) (past rows : List Row)
+    (follows follows' : List Row → List Row → Type 0) (before after after' : List (Option Row))
+    (held : Option D) → (h : Passing look past rows follows before after) → 0 < length h.rest
     → ((past : List Row) (row : Row) (rows : List Row) → follows past (row ∷ rows)
-    → Settles look past row rows follows' (Gives o)) → after' ≡ after ++ o ∷ []
+    → Settles row_of look past row rows follows' (Gives held))
+    → after' ≡ after ++ option_map row_of held ∷ []
     → Passing look past rows follows' before after'
-passing_given look past rows follows follows' before after after' o h some verdict pushed =
+passing_given row_of look past rows follows follows' before after after' held h some verdict pushed =
     on h.rest h.split h.given h.memory some
   where
     on : (rest : List Row) → rows ≡ h.front ++ rest → AllGiven look past h.front rest h.outs
@@ -47,21 +50,21 @@ passing_given look past rows follows follows' before after after' o h some verdi
         record {
           front = h.front ++ row ∷ [];
           rest = rest;
-          outs = h.outs ++ o ∷ [];
+          outs = h.outs ++ option_map row_of held ∷ [];
           split = rw (append_assoc h.front (row ∷ []) rest) split;
-          given = given_push look past h.front rest row h.outs o given v.0;
-          due = pushed ∙ (ap (λ (xs : List (Option Row)). xs ++ o ∷ []) h.due
-              ∙ append_assoc before h.outs (o ∷ []));
+          given = given_push look past h.front rest row h.outs (option_map row_of held) given v.0;
+          due = pushed ∙ (ap (λ (xs : List (Option Row)). xs ++ option_map row_of held ∷ []) h.due
+              ∙ append_assoc before h.outs (option_map row_of held ∷ []));
           memory = rw (passed-push past h.front row) v.1;
         }
 
-pub passing_waits : (look : Look) (past rows : List Row) (follows follows' : List Row → List Row
+pub passing_waits : {D : Type 0} (row_of : D → Row) (look : Look) (past rows : List Row) (follows follows' : List Row → List Row
     → Type 0) (before after : List (Option Row)) → (h : Passing look past rows follows before after)
     → 0 < length h.rest
     → ((past : List Row) (row : Row) (rows : List Row) → follows past (row ∷ rows)
-    → Settles look past row rows follows' Waits)
+    → Settles row_of look past row rows follows' Waits)
     → SettlesAll look past rows follows' before after None
-passing_waits look past rows follows follows' before after h some verdict =
+passing_waits row_of look past rows follows follows' before after h some verdict =
     on h.rest h.split h.given h.memory some
   where
     on : (rest : List Row) → rows ≡ h.front ++ rest → AllGiven look past h.front rest h.outs
@@ -82,13 +85,13 @@ passing_waits look past rows follows follows' before after h some verdict =
           memory = v.1;
         }
 
-pub passing_refused : (look : Look) (past rows : List Row) (follows follows' : List Row → List Row
+pub passing_refused : {D : Type 0} (row_of : D → Row) (look : Look) (past rows : List Row) (follows follows' : List Row → List Row
     → Type 0) (before after : List (Option Row)) (rule : Rule)
     → (h : Passing look past rows follows before after) → 0 < length h.rest
     → ((past : List Row) (row : Row) (rows : List Row) → follows past (row ∷ rows)
-    → Settles look past row rows follows' (Refuses rule))
+    → Settles row_of look past row rows follows' (Refuses rule))
     → SettlesAll look past rows follows' before after (Some rule)
-passing_refused look past rows follows follows' before after rule h some verdict =
+passing_refused row_of look past rows follows follows' before after rule h some verdict =
     on h.rest h.split h.given h.memory some
   where
     on : (rest : List Row) → rows ≡ h.front ++ rest → AllGiven look past h.front rest h.outs
@@ -139,6 +142,17 @@ passing_none look past rows follows before after e h = record {
   due = e ∙ sym (append-nil before);
   memory = h;
 }
+
+-- one more is held of
+pub due_pushed : {D : Type 0} (row_of : D → Row) (held new : List (Option D)) (o : Option D)
+    → new ≡ held ++ o ∷ [] → due_rows row_of new ≡ due_rows row_of held ++ option_map row_of o ∷ []
+due_pushed row_of held new o e =
+    ap (due_rows row_of) e ∙ map-append (option_map row_of) held (o ∷ [])
+
+-- as many are due as are held of
+pub due_count : {D : Type 0} (row_of : D → Row) (held : List (Option D)) (n : ℕ) → n ≡ length held
+    → n ≡ length (due_rows row_of held)
+due_count row_of held n e = e ∙ sym (length-map held (option_map row_of))
 
 -- what waits is there
 pub filled : (size count rest : ℕ) (b : Bool) → size ≡ count → count ≡ rest → b ≡ (size == 0)

@@ -9,6 +9,8 @@ use Rattle.hum_stage.specs.declared.faults.End.{End}
 use Rattle.hum_stage.specs.declared.faults.End.TheVariants.{Closed, Broken}
 use Rattle.hum_stage.specs.declared.faults.State.{State}
 use Rattle.hum_stage.specs.declared.faults.State.TheVariants.{Wants, Gives, Done}
+use Rattle.hum_stage.specs.declared.faults.Readiness.{Readiness}
+use Rattle.hum_stage.specs.declared.faults.Readiness.TheVariants as ready
 use Rattle.hum_record.specs.Row.{Row}
 use Rattle.hum_stage.specs.Score.{IsScore, IsClosed}
 use Rattle.hum_stage.specs.Lag.{LagsAtMost, ArePutAtWants, HoldsByLag}
@@ -76,6 +78,12 @@ state_of t =
     if nat_lt t.given (length (all_of t)) then Gives
     else resting_state (own_fault t.meaning t.put) t.ended
 
+-- a state without its end
+abbrev pub readiness_by : State → Readiness
+readiness_by Wants = ready.Wants
+readiness_by Gives = ready.Gives
+readiness_by (Done end) = ready.Done
+
 abbrev pub held_at : Moment → ℕ
 held_at t = held_of t.given (is_some t.ended) (t.meaning.outcomes t.put)
 
@@ -121,6 +129,9 @@ HasTaken before after taken =
 
 abbrev pub ShowsState : (Moment → Type 0) → State → Type 0
 ShowsState stands state = (t : Moment) → stands t → state ≡ state_of t
+
+abbrev pub ShowsReadiness : (Moment → Type 0) → Readiness → Type 0
+ShowsReadiness stands is = (t : Moment) → stands t → is ≡ readiness_by (state_of t)
 
 abbrev pub ShowsHeld : (Moment → Type 0) → ℕ → Type 0
 ShowsHeld stands held = (t : Moment) → stands t → held ≡ held_at t

@@ -1,7 +1,7 @@
 -- What becomes of records that wait.
 use Rattle.std.specs.Prelude.{◌≡◌, ℕ, ◌+◌, ◌<◌, ◌≤◌, List, [], ◌∷◌, ◌++◌, length}
 use Rattle.std.specs.Prelude.{Option, Some, None, Result, Ok, Err}
-use Rattle.std.specs.Option.{option_to_list}
+use Rattle.std.specs.Option.{option_map, option_to_list}
 use Rattle.hum_record.specs.Row.{Row}
 use Rattle.hum_path.specs.Score.{IsOpen, passed}
 use Rattle.hum_stage.specs.declared.faults.Rule.{Rule}
@@ -38,22 +38,24 @@ pub record MaySettle (follows : Follows) : Type 0 where
   pub rows : List Row
   pub memory : follows look past rows
 
--- The first of those that wait is undecided, or it is given and gone, or it is refused.
-abbrev pub Settles : Look → List Row → Row → List Row → (List Row → List Row → Type 0) → Verdict
-    → Type 0
-Settles look past row rows follows Waits =
+-- The first of those that wait is undecided, or it is given and gone, or it is refused. What is
+-- given is held in some way.
+abbrev pub Settles : {D : Type 0} → (D → Row) → Look → List Row → Row → List Row
+    → (List Row → List Row → Type 0) → Verdict D → Type 0
+Settles row_of look past row rows follows Waits =
     (look past row rows ≡ None) × follows past (row ∷ rows)
-Settles look past row rows follows (Gives o) =
-    (look past row rows ≡ Some (Ok (option_to_list o))) × follows (row ∷ past) rows
-Settles look past row rows follows (Refuses rule) = look past row rows ≡ Some (Err rule)
+Settles row_of look past row rows follows (Gives held) =
+    (look past row rows ≡ Some (Ok (option_to_list (option_map row_of held))))
+    × follows (row ∷ past) rows
+Settles row_of look past row rows follows (Refuses rule) = look past row rows ≡ Some (Err rule)
 
-abbrev pub HasSettled : Follows → Follows → Verdict → Type 0
-HasSettled before after verdict =
+abbrev pub HasSettled : {D : Type 0} → (D → Row) → Follows → Follows → Verdict D → Type 0
+HasSettled row_of before after verdict =
     (look : Look) (past : List Row) (row : Row) (rows : List Row) → before look past (row ∷ rows)
-    → Settles look past row rows (after look) verdict
+    → Settles row_of look past row rows (after look) verdict
 
 -- how many waited before a verdict that left so many
-abbrev pub left_by : Verdict → ℕ → ℕ
+abbrev pub left_by : {D : Type 0} → Verdict D → ℕ → ℕ
 left_by Waits n = n
 left_by (Gives o) n = n + 1
 left_by (Refuses rule) n = n

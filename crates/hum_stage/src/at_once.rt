@@ -8,7 +8,7 @@ ghost use Rattle.hum_stage.specs.Standing.{Standing};
 use crate::contract::Stage;
 use crate::deciding::Decides;
 use crate::due::Due;
-use crate::faults::{Command, End, Fault, Rule, State};
+use crate::faults::{Command, End, Fault, Readiness, Rule, State};
 use hum_record::Record;
 use std::alloc::{AllocError, Global};
 
@@ -181,6 +181,14 @@ impl<C: Decides> Stage for AtOnce<C> {
         match self.ended {
             None => State::Wants,
             Some(end) => done(end, self.fault),
+        }
+    }
+
+    fn readiness(&self) -> Readiness {
+        match self.ended {
+            _ if !self.due.is_empty() => Readiness::Gives,
+            None => Readiness::Wants,
+            Some(_) => Readiness::Done,
         }
     }
 

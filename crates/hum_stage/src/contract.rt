@@ -6,9 +6,10 @@
 //! of its whole input, and it is all of it once the stage is done.
 ghost use Rattle.std.specs.Prelude.{◌≡◌, ℕ, ◌+◌, ◌⊎◌, length, IfOk, OnOk, OnErr, IsErr};
 ghost use Rattle.hum_stage.specs.Meaning.{Moment, IsLawful, MayPut, MayEnd, all_of};
-ghost use Rattle.hum_stage.specs.Meaning.{HasPut, HasEnded, HasTaken, ShowsState, ShowsHeld};
+ghost use Rattle.hum_stage.specs.Meaning.{HasPut, HasEnded, HasTaken, ShowsHeld};
+ghost use Rattle.hum_stage.specs.Meaning.{ShowsState, ShowsReadiness};
 
-use crate::faults::{End, State};
+use crate::faults::{End, Readiness, State};
 use hum_record::Record;
 use std::alloc::AllocError;
 
@@ -48,6 +49,10 @@ pub trait Stage {
     /// is done after the end.
     fn state(&self) -> State
         ensures { ShowsState (stands self.now) result };
+
+    /// The same without the end.
+    fn readiness(&self) -> Readiness
+        ensures { ShowsReadiness (stands self.now) result };
 
     /// How many records wait inside.
     fn held(&self) -> usize

@@ -1,11 +1,14 @@
 //! The stage round a command whose records wait for later ones.
-ghost use Rattle.std.specs.Prelude.{◌≡◌, ◌+◌, true, length, [], List};
+ghost use Rattle.std.specs.Prelude.{◌≡◌, ◌+◌, true, length, [], List, IfOk};
+ghost use Rattle.std.specs.Option.{option_map};
 ghost use Rattle.hum_stage.specs.Meaning.{Moment, opening, resting_state};
+ghost use Rattle.hum_stage.specs.Dues.{due_rows};
 ghost use Rattle.hum_stage.specs.Look.{looking};
 ghost use Rattle.hum_stage.specs.Lagging.{Lags, flat};
 
 use crate::contract::Stage;
-use crate::faults::{Command, End, Fault, Rule, State};
+use crate::faults::{Command, End, Fault, Readiness, Rule, State};
+use crate::into_record::IntoRecord;
 use crate::looks_ahead::LooksAhead;
 use crate::settling::{settle_all, trim};
 use hum_record::Record;
@@ -21,13 +24,14 @@ const ROOM: usize = 65_536;
 /// behind it is refused by H1, at its own line. Those that are undecided when the input ends are
 /// never given.
 pub struct Lagging<C: LooksAhead> {
+    alloc: Global,
     memory: C,
     stage: u8,
     command: Command,
     line: u64,
     first: u64,
     waiting: VecDeque<C::Held>,
-    due: VecDeque<Option<Record>>,
+    due: VecDeque<Option<C::Due>>,
     fault: Option<Fault>,
     ended: Option<End>,
     spent: bool,
@@ -37,6 +41,7 @@ pub struct Lagging<C: LooksAhead> {
 impl<C: LooksAhead + Drop> Drop for Lagging<C> {
     fn drop(self) {
         let Lagging {
+            alloc: _,
             memory: _memory,
             stage: _,
             command: _,
@@ -70,6 +75,7 @@ impl<C: LooksAhead> Lagging<C> {
         ensures within { IsWithinLag 65536 (looking 65536 stage C.command (C.look options)) }
     {
         Lagging {
+            alloc,
             memory: C::begin(alloc, options),
             stage,
             command: C::command(),
@@ -119,17 +125,30 @@ fn resting(ended: Option<End>, own: Option<Fault>) -> State
     }
 }
 
+/// The record of which this is held, if there is one.
+fn taken<D: IntoRecord>(held: Option<D>, alloc: Global) -> Result<Option<Record>, AllocError>
+    ensures { IfOk result (λ row. row ≡ option_map D.becomes held) }
+{
+    match held {
+        None => Ok(None),
+        Some(held) => {
+            let row = held.into_record(alloc)?;
+            Ok(Some(row))
+        }
+    }
+}
+
 impl<C: LooksAhead> Stage for Lagging<C> {
     ghost stands = { λ s t. Lags 65536 (C.follows s.memory s.waiting.items) (record {
       stage = s.stage;
       command = s.command;
       line = s.line;
       first = s.first;
-      due = s.due.items;
+      due = due_rows C.Due.becomes s.due.items;
       fault = s.fault;
     }) s.ended s.spent t };
 
-    ghost left = { λ s. length (flat s.due.items) };
+    ghost left = { λ s. length (flat (due_rows C.Due.becomes s.due.items)) };
 
     ghost spent = { λ s. s.spent ≡ true };
 
@@ -176,7 +195,12 @@ impl<C: LooksAhead> Stage for Lagging<C> {
         trim(&mut self.due);
         match next {
             None => Ok(None),
-            Some(becomes) => Ok(becomes),
+            Some(becomes) => {
+                self.spent = true;
+                let row = taken(becomes, self.alloc)?;
+                self.spent = false;
+                Ok(row)
+            }
         }
     }
 
@@ -187,6 +211,14 @@ impl<C: LooksAhead> Stage for Lagging<C> {
             return State::Gives;
         }
         resting(self.ended, self.fault)
+    }
+
+    fn readiness(&self) -> Readiness {
+        match self.ended {
+            _ if !self.due.is_empty() => Readiness::Gives,
+            None => Readiness::Wants,
+            Some(_) => Readiness::Done,
+        }
     }
 
     fn held(&self) -> usize {

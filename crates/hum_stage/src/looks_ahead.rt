@@ -9,16 +9,17 @@ ghost use Rattle.hum_stage.specs.Settles.{MayWait, HasWaited, MaySettle};
 ghost use Rattle.hum_stage.specs.Settles.{HasSettled, Lasts, left_by};
 
 use crate::faults::{Command, Rule};
+use crate::into_record::IntoRecord;
 use hum_record::Record;
 use std::alloc::{AllocError, Global};
 use std::collections::VecDeque;
 
 /// What becomes of the first record that waits.
-pub enum Verdict {
+pub enum Verdict<D> {
     /// It is undecided.
     Waits,
     /// It is decided: it becomes this record, or none.
-    Gives(Option<Record>),
+    Gives(Option<D>),
     /// It is refused by this rule.
     Refuses(Rule),
 }
@@ -34,6 +35,9 @@ pub trait LooksAhead {
 
     /// What is kept of a record that waits.
     type Held: Drop;
+
+    /// What is held of a record that is decided, until it is taken.
+    type Due: IntoRecord;
 
     /// Which command it is.
     ghost command: { Command };
@@ -68,11 +72,11 @@ pub trait LooksAhead {
 
     /// Lets the first record that waits go, if it is decided. What is kept of it is then gone from
     /// the queue.
-    fn settle(&mut self, held: &mut VecDeque<Self::Held>) -> Result<Verdict, AllocError>
+    fn settle(&mut self, held: &mut VecDeque<Self::Held>) -> Result<Verdict<Self::Due>, AllocError>
         requires filled { 0 < deque_len held.old }
         requires memory { MaySettle (follows self.old held.old.items) }
         ensures fewer { IfOk result (λ v. deque_len held.old ≡ left_by v (deque_len held.new)) }
-        ensures settles { IfOk result (HasSettled
+        ensures settles { IfOk result (HasSettled Self.Due.becomes
             (follows self.old held.old.items) (follows self.new held.new.items)) };
 
     /// How many of those that wait stand before the first that is known to be refused.

@@ -1,11 +1,12 @@
 //! Letting records go that waited.
 ghost use Rattle.std.specs.Prelude.{◌≡◌, IfOk};
 ghost use Rattle.hum_stage.specs.Settles.{MaySettle, HasSettledAll};
+ghost use Rattle.hum_stage.specs.Dues.{due_rows};
 ghost use Rattle.hum_stage.specs.Lagging.{trimmed};
 
 use crate::faults::Rule;
+use crate::into_record::IntoRecord;
 use crate::looks_ahead::{LooksAhead, Verdict};
-use hum_record::Record;
 use std::alloc::AllocError;
 use std::collections::VecDeque;
 
@@ -14,11 +15,12 @@ use std::collections::VecDeque;
 pub fn settle_all<C: LooksAhead>(
     memory: &mut C,
     waiting: &mut VecDeque<C::Held>,
-    due: &mut VecDeque<Option<Record>>,
+    due: &mut VecDeque<Option<C::Due>>,
 ) -> Result<Option<Rule>, AllocError>
     requires { MaySettle (C.follows memory.old waiting.old.items) }
     ensures { IfOk result (HasSettledAll (C.follows memory.old waiting.old.items)
-        (C.follows memory.new waiting.new.items) due.old.items due.new.items) }
+        (C.follows memory.new waiting.new.items)
+        (due_rows C.Due.becomes due.old.items) (due_rows C.Due.becomes due.new.items)) }
 {
     while !waiting.is_empty() {
         match memory.settle(waiting) {
@@ -32,8 +34,8 @@ pub fn settle_all<C: LooksAhead>(
 }
 
 /// Drops the records at the front of what is due that became none.
-pub fn trim(due: &mut VecDeque<Option<Record>>)
-    ensures { due.new.items ≡ trimmed due.old.items }
+pub fn trim<D: IntoRecord>(due: &mut VecDeque<Option<D>>)
+    ensures { due_rows D.becomes due.new.items ≡ trimmed (due_rows D.becomes due.old.items) }
 {
     while let Some(None) = due.front() {
         due.pop_front();

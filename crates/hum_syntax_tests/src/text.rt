@@ -100,8 +100,8 @@ fn read_all<R: Source + Drop>(alloc: Global, source: R, limits: Limits) -> Resul
     };
     for _ in 0..10_000 {
         match reader.poll() {
-            Ok(Step::Line(line)) => {
-                reading.lines.extend_from_slice(&line)?;
+            Ok(Step::Line) => {
+                reading.lines.extend_from_slice(reader.line())?;
                 reading.lines.push(b'\n')?;
             }
             Ok(Step::More) => reading.reads = reading.reads.saturating_add(1),

@@ -5,3 +5,4 @@ pub mod TextLemmas
 pub mod ReadingLemmas
 pub mod LimitLemmas
 pub mod FrontLemmas
+pub mod NearLemmas

@@ -1,5 +1,7 @@
 -- A line that is handed out is within the limits and holds no LF.
-use Rattle.std.proofs.Common.{◌≡◌, ℕ, zero, suc, ◌+◌, ◌-◌, ◌<◌, ◌≤◌, Bool, true, false, ◌&&◌, ◌==◌, nat_lt, List, [], ◌∷◌, length, get_or, take, refl, ap, sym, ◌∙◌, subst, arith, None, Some, inl, inr, length-take}
+use Rattle.std.proofs.Common.{◌≡◌, ℕ, zero, suc, ◌+◌, ◌-◌, ◌<◌, ◌≤◌, Bool, true, false, ◌&&◌, ◌==◌, nat_lt}
+use Rattle.std.proofs.Common.{List, [], ◌∷◌, length, get_or, take, refl, ap, sym, ◌∙◌, subst, arith, None, Some}
+use Rattle.std.proofs.Common.{inl, inr, length-take}
 use Rattle.std.specs.List.{list_any}
 use Rattle.std.proofs.lemmas.Bool.{cases_Bool, eqb-true, or_from, or_parts}
 use Rattle.std.proofs.lemmas.Bool.Decides.{nat_tests}
@@ -25,7 +27,8 @@ short l n piece ended size none = elim (cases_Bool (ended && length (without_cr 
     some-none e = cc
 
 -- the line whose LF is at k
-pub whole-short : (l : Limits) (n t : ℕ) (block : List ℕ) (k : ℕ) → IsFirstByte (is_byte 10) block (Some k) → IsLawful l n t (take (k + 1) block) → length (without_cr (take k block)) ≤ l.line
+pub whole-short : (l : Limits) (n t : ℕ) (block : List ℕ) (k : ℕ) → IsFirstByte (is_byte 10) block (Some k) →
+    IsLawful l n t (take (k + 1) block) → length (without_cr (take k block)) ≤ l.line
 whole-short l n t block k first lawful =
     let high : k < length block = first.0.high in
     let ten : get_or (take (k + 1) block) k 0 ≡ 10 = get_or-take (k + 1) block k 0 (omega arith) ∙ eqb-true _ 10 first.1 in
@@ -39,10 +42,13 @@ whole-short l n t block k first lawful =
     take-take (suc k) m (x ∷ xs) = let next : suc k + m ≡ suc (k + m) = omega arith in rw next (ap (λ (ys : List ℕ). x ∷ ys) (take-take k m xs))
 
 -- the last line
-pub last-short : (l : Limits) (n t : ℕ) (block : List ℕ) → 0 < length block → IsFirstByte (is_byte 10) block None → IsLawful l n t block → length (without_cr block) ≤ l.line
+pub last-short : (l : Limits) (n t : ℕ) (block : List ℕ) → 0 < length block →
+    IsFirstByte (is_byte 10) block None → IsLawful l n t block → length (without_cr block) ≤ l.line
 last-short l n t block some unended lawful =
     let k = length block - 1 in
-    let not_ten : (get_or block k 0 == 10) ≡ false = elim (cases_Bool (get_or block k 0 == 10)) as (λ _. (get_or block k 0 == 10) ≡ false) [ inl is ↦ absurd (none-free block unended k (omega arith) (eqb-true _ 10 is)) | inr isnt ↦ isnt ] in
+    let not_ten : (get_or block k 0 == 10) ≡ false = elim (cases_Bool (get_or block k 0 == 10)) as
+    (λ _. (get_or block k 0 == 10) ≡ false)
+    [ inl is ↦ absurd (none-free block unended k (omega arith) (eqb-true _ 10 is)) | inr isnt ↦ isnt ] in
     let here : rule_of_line l n t block k ≡ None = lawful k (omega arith) in
     let all : take (k + 1) block ≡ block = ap (λ (n : ℕ). take n block) (omega arith) ∙ take-length block in
     subst (λ (q : List ℕ). length (without_cr q) ≤ l.line) all (short l n (take (k + 1) block) false (t + (k + 1)) (rw not_ten at here))
@@ -61,7 +67,8 @@ any-take (suc n) [] h = refl
 any-take (suc n) (b ∷ q) h = let both = or_parts (b == lf) (list_any (λ b. b == lf) q) h in or_from _ _ both.0 (any-take n q both.1)
 
 any-without : (q : List ℕ) → list_any (λ b. b == lf) q ≡ false → list_any (λ b. b == lf) (without_cr q) ≡ false
-any-without q h = elim (cases_Bool (ends_in_cr q)) as (λ _. list_any (λ b. b == lf) (without_cr q) ≡ false) [ inl is ↦ rw is (any-take (length q - 1) q h) | inr isnt ↦ rw isnt h ]
+any-without q h = elim (cases_Bool (ends_in_cr q)) as (λ _. list_any (λ b. b == lf) (without_cr q) ≡ false)
+    [ inl is ↦ rw is (any-take (length q - 1) q h) | inr isnt ↦ rw isnt h ]
 
 pub whole-free : (block : List ℕ) (k : ℕ) → IsFirstByte (is_byte 10) block (Some k) → list_any (λ b. b == lf) (without_cr (take k block)) ≡ false
 whole-free block k first = any-without (take k block) (free-any (take k block) (λ j h is.

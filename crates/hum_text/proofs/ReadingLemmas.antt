@@ -1,8 +1,8 @@
 -- What a reader stands for, from step to step.
 use Rattle.std.proofs.Common.{◌≡◌, ◌≢◌, ℕ, zero, suc, ◌+◌, ◌<◌, ◌≤◌, true, false, List, [], ◌∷◌, ◌++◌}
 use Rattle.std.proofs.Common.{length, get_or, take, drop, refl, ap, sym, ◌∙◌, subst, arith, Option, None}
-use Rattle.std.proofs.Common.{Some, Result, Ok, Err, append_assoc, length-take, IfOk, OnOk}
-use Rattle.std.proofs.Common.{OnErr, ◌==◌, ◌⊎◌, inl, inr}
+use Rattle.std.proofs.Common.{Some, Result, Ok, Err, append_assoc, length-take}
+use Rattle.std.proofs.Common.{◌==◌, ◌⊎◌, inl, inr}
 use Rattle.std.specs.Io.KnownBytes.{Consumes, IsAtEnd}
 use Rattle.std.proofs.lemmas.Bool.{eqb-true, eq-eqb}
 use Rattle.std.proofs.lemmas.List.{take_more, drop_more, get_or-take, append-nil, take-append-drop}
@@ -10,11 +10,11 @@ use Rattle.std.proofs.Math.Seq.{drop-length, take-length}
 use Rattle.memchr.specs.Find.{IsFirstByte, is_byte}
 use Rattle.hum_text.specs.declared.Limits.{Limits}
 use Rattle.hum_text.specs.declared.TextFault.{TextFault}
-use Rattle.hum_text.specs.declared.TextFault.TheVariants.{S1, Memory}
+use Rattle.hum_text.specs.declared.TextFault.TheVariants.{S1}
 use Rattle.hum_text.specs.declared.reader.Step.{Step}
-use Rattle.hum_text.specs.declared.reader.Step.TheVariants.{Line, More, End}
+use Rattle.hum_text.specs.declared.reader.Step.TheVariants.{Line}
 use Rattle.hum_text.specs.Text.{lines, without_cr, rule_of_line, fault_of, IsOfText, IsLawful, BreaksFirst}
-use Rattle.hum_text.specs.Reading.{Reader, Stands, Holds, Gives, GivesNext, HasGiven, IsLine, bytes_read}
+use Rattle.hum_text.specs.Reading.{Reader, Stands, Holds, Gives, GivesNext, HasGiven, bytes_read}
 use Rattle.hum_text.specs.Reading.{NeedsRead, IsUnread, IsOver}
 use Rattle.hum_text.proofs.PieceLemmas.{NoLf}
 use Rattle.hum_text.proofs.TextLemmas.{step-line, step-fault, step-last, step-end-fault, step-end}
@@ -135,45 +135,36 @@ length-drop_le zero xs = omega arith
 length-drop_le (suc n) [] = omega arith
 length-drop_le (suc n) (x ∷ xs) = omega (arith, length-drop_le n xs)
 
-pub of-memory : (f : TextFault) → f ≡ Memory → IsOfText f → ⊥
-of-memory f is text = let P : TextFault → Type 0 = IsOfText in subst P is text
-
 -- What a fault gives, where it is the text's whatever follows.
 pub gives-fault : {R : Type 0} (old new : Reader R) (result : Result Step TextFault) (f : TextFault) → result ≡ Err f
     → ((all : List ℕ) (gs : List (List ℕ)) (rest : List ℕ) → Holds old all gs rest → IsOfText f
     → fault_of old.limits all ≡ Some (length gs + 1, f))
     → GivesNext old result new
 gives-fault {R} old new result f is fault = λ all gs rest h end.
-    let P : Result Step TextFault → Type 0 = λ r. Gives old.limits all gs r (λ after. Holds new all after rest) in
+    let P : Result Step TextFault → Type 0 =
+    λ r. Gives old.limits all gs r new.line (λ after. Holds new all after rest) in
     subst P (sym is) (fault all gs (bytes_read old new ++ rest) h)
 
--- a reader that has handed out the first pending bytes as a line
-abbrev pub given_of : {R : Type 0} → Reader R → ℕ → Reader R
-given_of v size = record v { pending = drop size v.pending; given = v.given + 1; taken = v.taken + size }
+-- a reader that has handed out these bytes as a line, of the first pending ones
+abbrev pub given_of : {R : Type 0} → Reader R → List ℕ → ℕ → Reader R
+given_of v bytes size =
+    record v { line = bytes; pending = drop size v.pending; given = v.given + 1; taken = v.taken + size }
 
--- What a line gives, whichever way its handing out went.
-pub gives-line : {R : Type 0} (old new : Reader R) (result : Result Step TextFault) (bytes : List ℕ) (size : ℕ)
-    → IfOk result (λ step. IsLine step bytes) → OnErr result (result ≡ Err Memory)
-    → OnOk result (new ≡ given_of old size)
+-- What a line gives that was handed out.
+pub gives-line : {R : Type 0} (old new : Reader R) (bytes : List ℕ) (size : ℕ) → new ≡ given_of old bytes size
     → ((all : List ℕ) (gs : List (List ℕ)) (rest : List ℕ) → Holds old all gs rest
     → Stands old.limits all (gs ++ bytes ∷ []) (drop size old.pending ++ rest) (old.given + 1) (old.taken + size))
-    → GivesNext old result new
-gives-line {R} old new (Ok (Line v)) bytes size line memory is step = λ all gs rest h end.
+    → GivesNext old (Ok Line) new
+gives-line {R} old new bytes size is step = λ all gs rest h end.
     let none : bytes_read old new ≡ [] =
     ap (λ (w : Reader R). bytes_read old w) is
     ∙ drop-all (drop size old.pending) (length old.pending) (length-drop_le size old.pending) in
     let H : List ℕ → Type 0 = λ zs. Holds old all gs (zs ++ rest) in
     let here : Holds old all gs rest = subst H none h in
-    let P : List ℕ → Type 0 = λ zs. Holds new all (gs ++ zs ∷ []) rest in
-    let Q : Reader R → Type 0 = λ w. Holds w all (gs ++ bytes ∷ []) rest in
-    let there : Holds (given_of old size) all (gs ++ bytes ∷ []) rest =
+    let Q : Reader R → Type 0 = λ w. Holds w all (gs ++ w.line ∷ []) rest in
+    let there : Holds (given_of old bytes size) all (gs ++ bytes ∷ []) rest =
     record { stands = step all gs rest here; done = here.done } in
-    subst P (sym line) (subst Q (sym is) there)
-gives-line old new (Ok More) bytes size line memory is step = absurd line
-gives-line old new (Ok End) bytes size line memory is step = absurd line
-gives-line old new (Err f) bytes size line memory is step =
-    let same : f ≡ Memory = cc in
-    λ all gs rest h end text. absurd (of-memory f same text)
+    subst Q (sym is) there
 
 -- the first fault in the first bytes of the line, as a scan of them finds it
 pub found-fault : {R : Type 0} (v : Reader R) (size : ℕ) (f : TextFault) → size ≤ length v.pending
@@ -285,7 +276,7 @@ pub next-given : {R : Type 0} (old new : Reader R) (result : Result Step TextFau
     (seen : List ℕ) (given : List (List ℕ))
     → HasGiven old seen given → (old.ended ≡ true → IsUnread old new) → GivesNext old result new
     → (rest : List ℕ) → (new.ended ≡ true → rest ≡ [])
-    → Gives old.limits ((seen ++ bytes_read old new) ++ rest) given result
+    → Gives old.limits ((seen ++ bytes_read old new) ++ rest) given result new.line
     (λ after. Holds new ((seen ++ bytes_read old new) ++ rest) after rest)
 next-given old new result seen given has unread gives rest end =
     let quiet : old.ended ≡ true → bytes_read old new ++ rest ≡ [] = λ is.
@@ -316,7 +307,7 @@ pub known-given : {R : Type 0} (remaining : R → Option (List ℕ)) (old new : 
     → Consumes (remaining old.source) (remaining new.source) (bytes_read old new)
     → (new.ended ≡ true → (old.ended ≡ true) ⊎ IsAtEnd (remaining new.source)) → GivesNext old result new
     → (left : List ℕ) × (remaining new.source ≡ Some left)
-    × Gives old.limits all given result (λ after. Holds new all after left)
+    × Gives old.limits all given result new.line (λ after. Holds new all after left)
 known-given {R} remaining old new result all given rest tells h takes end gives =
     let found = consumed rest (bytes_read old new) (remaining old.source) (remaining new.source) tells takes in
     let H : List ℕ → Type 0 = λ zs. Holds old all given zs in

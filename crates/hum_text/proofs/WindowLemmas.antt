@@ -1,5 +1,5 @@
 -- Windows of a buffer.
-use Rattle.std.proofs.Common.{◌≡◌, ℕ, ◌+◌, ◌-◌, ◌<◌, ◌≤◌, List, ◌++◌, length, get_or, take, drop, refl, ap}
+use Rattle.std.proofs.Common.{◌≡◌, ℕ, zero, suc, ◌+◌, ◌-◌, ◌<◌, ◌≤◌, List, [], ◌∷◌, ◌++◌, length, get_or, take, drop, refl, ap}
 use Rattle.std.proofs.Common.{sym, ◌∙◌, arith, length-take, length-drop, slice_range, Some, inl, inr}
 use Rattle.std.proofs.lemmas.List.{get_or-take, get_or-drop, drop-take, drop-drop}
 use Rattle.std.proofs.Math.Seq.{take-add}
@@ -141,3 +141,16 @@ grow-window xs s e j low high =
 pub IsWindow-grown : (xs : List ℕ) (s m e j : ℕ) → IsWindow xs s m e → e ≤ j → j ≤ length xs → IsWindow xs s m j
 IsWindow-grown xs s m e j w h fits =
     record { low = w.low; middle = omega (arith, w.middle); high = fits; searched = w.searched }
+
+-- the first bytes of a window
+pub front-window : (xs : List ℕ) (s e n : ℕ) → n ≤ e - s → slice_range xs s (s + n) ≡ take n (slice_range xs s e)
+front-window xs s e n h =
+    ap (λ (k : ℕ). take k (drop s xs)) size ∙ sym (shorter n (e - s) (drop s xs) h) where
+      size : (s + n) - s ≡ n
+      size = omega arith
+
+      shorter : (n m : ℕ) (zs : List ℕ) → n ≤ m → take n (take m zs) ≡ take n zs
+      shorter zero m zs h = refl
+      shorter (suc n) zero zs h = absurd (omega arith)
+      shorter (suc n) (suc m) [] h = refl
+      shorter (suc n) (suc m) (z ∷ zs) h = ap (λ (ys : List ℕ). z ∷ ys) (shorter n m zs (omega arith))

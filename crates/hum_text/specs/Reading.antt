@@ -13,12 +13,13 @@ use Rattle.hum_text.specs.Calls.{IsCalled}
 use Rattle.hum_text.specs.Text.{lf, lines, pieces, rule_at_end, fault_after, fault_of}
 use Rattle.hum_text.specs.Text.{IsAtStart, IsOfText, IsLawful}
 
--- A reader of lines, as contracts see it: its source and limits, the bytes that were read and not
--- handed out, how many lines were given and from how many bytes, whether a read gave no byte, and
--- its fault.
+-- A reader of lines, as contracts see it: its source and limits, the line that was given last, the
+-- bytes that were read and not handed out, how many lines were given and from how many bytes,
+-- whether a read gave no byte, and its fault.
 pub record Reader (R : Type 0) : Type 0 where
   pub source : R
   pub limits : Limits
+  pub line : List ℕ
   pub pending : List ℕ
   pub given : ℕ
   pub taken : ℕ
@@ -30,6 +31,7 @@ abbrev pub opening : {R : Type 0} → R → Limits → Reader R
 opening source limits = record {
   source = source;
   limits = limits;
+  line = [];
   pending = [];
   given = 0;
   taken = 0;
@@ -70,21 +72,22 @@ HasGiven v seen given =
 abbrev pub bytes_read : {R : Type 0} → Reader R → Reader R → List ℕ
 bytes_read old new = appended_bytes old.pending new.pending
 
--- What a poll gave: the next line; nothing; the end, after all lines of a text without fault; or
--- the text's first fault, which stands in the line after those given.
-abbrev pub Gives : Limits → List ℕ → List (List ℕ) → Result Step TextFault
+-- What a poll gave: the next line, which is this one; nothing; the end, after all lines of a text
+-- without fault; or the text's first fault, which stands in the line after those given.
+abbrev pub Gives : Limits → List ℕ → List (List ℕ) → Result Step TextFault → List ℕ
     → (List (List ℕ) → Type 0) → Type 0
-Gives l all given (Ok (Line v)) After = After (given ++ v.items ∷ [])
-Gives l all given (Ok More) After = After given
-Gives l all given (Ok End) After = (lines all ≡ given) × (fault_of l all ≡ None) × After given
-Gives l all given (Err f) After = IsOfText f → fault_of l all ≡ Some (length given + 1, f)
+Gives l all given (Ok Line) line After = After (given ++ line ∷ [])
+Gives l all given (Ok More) line After = After given
+Gives l all given (Ok End) line After =
+    (lines all ≡ given) × (fault_of l all ≡ None) × After given
+Gives l all given (Err f) line After = IsOfText f → fault_of l all ≡ Some (length given + 1, f)
 
 -- However the input goes on after what the poll read, the poll gave what comes next there.
 abbrev pub GivesNext : {R : Type 0} → Reader R → Result Step TextFault → Reader R → Type 0
 GivesNext old result new =
     (all : List ℕ) (given : List (List ℕ)) (rest : List ℕ)
     → Holds old all given (bytes_read old new ++ rest) → (new.ended ≡ true → rest ≡ [])
-    → Gives old.limits all given result (λ after. Holds new all after rest)
+    → Gives old.limits all given result new.line (λ after. Holds new all after rest)
 
 -- A poll needs a read: there is no fault yet, no read gave 0 bytes, and no pending byte is LF or
 -- breaks a rule.
@@ -120,13 +123,19 @@ pub record IsFed {R : Type 0} (old new : Reader R) : Type 0 where
   pub some : 0 < length (bytes_read old new)
   pub behind : new ≡ record old {
     source = new.source;
+    line = [];
     pending = old.pending ++ bytes_read old new;
   }
 
 -- The reader has this fault, and what was pending it has still.
 abbrev pub Fails : {R : Type 0} → Reader R → Reader R → TextFault → Type 0
 Fails old new fault =
-    new ≡ record old { source = new.source; ended = new.ended; fault = Some fault }
+    new ≡ record old {
+      source = new.source;
+      line = new.line;
+      ended = new.ended;
+      fault = Some fault;
+    }
 
 -- the input has ended, all of it was handed out, and no fault was met
 pub record IsOver {R : Type 0} (v : Reader R) : Type 0 where
@@ -135,17 +144,11 @@ pub record IsOver {R : Type 0} (v : Reader R) : Type 0 where
   pub sound : v.fault ≡ None
 
 -- A line that was given is within the limits, it and those before it, and it holds no LF.
-abbrev pub KeepsLimits : Limits → Step → ℕ → Type 0
-KeepsLimits l (Line v) given =
-    (length v.items ≤ l.line) × (list_any (λ b. b == lf) v.items ≡ false) × (given ≤ l.records)
-KeepsLimits l More given = Unit {0}
-KeepsLimits l End given = Unit {0}
-
--- a line with these bytes
-abbrev pub IsLine : Step → List ℕ → Type 0
-IsLine (Line v) bytes = v.items ≡ bytes
-IsLine More bytes = ⊥
-IsLine End bytes = ⊥
+abbrev pub KeepsLimits : Limits → Step → List ℕ → ℕ → Type 0
+KeepsLimits l Line line given =
+    (length line ≤ l.line) × (list_any (λ b. b == lf) line ≡ false) × (given ≤ l.records)
+KeepsLimits l More line given = Unit {0}
+KeepsLimits l End line given = Unit {0}
 
 -- How much a reader can still do: bytes to read, up to the limit and one more, and bytes to hand
 -- out.
@@ -156,4 +159,4 @@ left_to_do v = (v.limits.bytes + 1 - length v.pending) + 2 * (v.limits.bytes - v
 abbrev pub Nears : Step → ℕ → ℕ → Type 0
 Nears End old new = Unit {0}
 Nears More old new = new < old
-Nears (Line v) old new = new < old
+Nears Line old new = new < old

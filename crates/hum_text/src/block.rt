@@ -1,62 +1,96 @@
-//! The bytes that were read and not yet handed out.
+//! The bytes that were read and not yet handed out, and the line that was handed out last.
 ghost use Rattle.std.specs.Prelude.{◌≡◌, ◌≢◌, ℕ, ◌+◌, ◌-◌, ◌<◌, ◌≤◌, List, [], ◌++◌, length};
 ghost use Rattle.std.specs.Prelude.{take, drop, vec_len, IfOk, IfErr, OnOk, OnErr};
 ghost use Rattle.std.specs.Prelude.{slice_range, ◌⊎◌, is_err, false, true};
 ghost use Rattle.std.specs.Io.KnownBytes.{Consumes, IsAtEnd, Keeps};
 ghost use Rattle.memchr.specs.Find.{IsFirstByte, is_byte};
-ghost use Rattle.hum_text.specs.Window.{IsWindow};
 ghost use Rattle.hum_text.specs.Text.{lf};
 ghost use Rattle.hum_text.specs.Calls.{IsCalled};
 
 use crate::TextFault;
 use crate::calls::{LARGEST_READ, Source};
-use memchr::memchr;
+use crate::near::first_lf;
 use std::alloc::{AllocError, Global};
 use std::io;
 use std::marker::Model;
 
-/// The bytes that were read and not yet handed out.
+/// The bytes that were read and not yet handed out, and in front of them the line that was handed
+/// out last, until the next read.
 #[derive(Drop)]
 pub struct Block {
     bytes: Vec<u8>,
+    line_start: usize,
+    line_end: usize,
     start: usize,
     scanned: usize,
     end: usize,
 }
 
 impl Model for Block {
-    ghost Value = { List ℕ };
+    ghost use Rattle.std.specs.Prelude.{slice_range};
+    ghost use Rattle.hum_text.specs.Window.{Held, IsWindow, IsBefore};
 
-    ghost view = { λ b. slice_range b.bytes.items b.start b.end };
+    ghost Value = { Held };
 
-    ghost invariant = { λ b. IsWindow b.bytes.items b.start b.scanned b.end };
+    ghost view = { λ b. record {
+      line = slice_range b.bytes.items b.line_start b.line_end;
+      pending = slice_range b.bytes.items b.start b.end;
+    } };
+
+    ghost invariant = { λ b. IsWindow b.bytes.items b.start b.scanned b.end
+        × IsBefore b.line_start b.line_end b.end };
 }
 
 impl Block {
     pub fn new(alloc: Global) -> Block
-        ensures { result ≡ [] }
+        ensures { result ≡ record { line = []; pending = [] } }
     {
         Block {
             bytes: Vec::new(alloc),
+            line_start: 0,
+            line_end: 0,
             start: 0,
             scanned: 0,
             end: 0,
         }
     }
 
-    pub fn as_slice(&self) -> &[u8]
-        ensures { result.now ≡ self.now }
+    /// The line that was handed out last.
+    #[inline]
+    pub fn line(&self) -> &[u8]
+        ensures { result.now ≡ self.now.line }
+    {
+        &self.bytes[self.line_start..self.line_end]
+    }
+
+    /// The buffer from that line on, and how many bytes of it are the line.
+    #[inline]
+    pub fn from_line(&self) -> (&[u8], usize)
+        ensures within { result.1 ≤ length result.0.now }
+        ensures line { take result.1 result.0.now ≡ self.now.line }
+    {
+        (
+            &self.bytes[self.line_start..],
+            self.line_end - self.line_start,
+        )
+    }
+
+    /// The bytes that were not yet handed out.
+    #[inline]
+    pub fn pending(&self) -> &[u8]
+        ensures { result.now ≡ self.now.pending }
     {
         &self.bytes[self.start..self.end]
     }
 
     /// Where the first LF stands. No byte is searched twice.
-    pub fn line_end(&mut self) -> Option<usize>
-        ensures found { IsFirstByte (is_byte lf) self.old result }
+    #[inline]
+    pub fn find_line_end(&mut self) -> Option<usize>
+        ensures found { IsFirstByte (is_byte lf) self.old.pending result }
         ensures same { self.new ≡ self.old }
     {
         let from = self.scanned;
-        match memchr(b'\n', &self.bytes[from..self.end]) {
+        match first_lf(&self.bytes[from..self.end]) {
             None => {
                 self.scanned = self.end;
                 None
@@ -68,32 +102,38 @@ impl Block {
         }
     }
 
-    /// Drops the first n bytes.
-    pub fn consume(&mut self, n: usize)
-        requires { n ≤ length self.old }
-        ensures { self.new ≡ drop n self.old }
+    /// Hands out the first `len` bytes as a line, and drops `size` bytes.
+    #[inline]
+    pub fn hand_out(&mut self, len: usize, size: usize)
+        requires order { len ≤ size }
+        requires within { size ≤ length self.old.pending }
+        ensures { self.new ≡ record {
+          line = take len self.old.pending;
+          pending = drop size self.old.pending;
+        } }
     {
-        self.start += n;
+        self.line_start = self.start;
+        self.line_end = self.start + len;
+        self.start += size;
         self.scanned = self.scanned.max(self.start);
-        if self.start == self.end {
-            self.start = 0;
-            self.scanned = 0;
-            self.end = 0;
-        }
     }
 
-    /// Makes one read, and takes what it gives to the end.
+    /// Makes one read, and takes what it gives to the end. The line is gone.
     pub fn fill<R: Source>(&mut self, reader: &mut R) -> Result<usize, TextFault>
-        ensures ok { IfOk result (λ n. (bs : List ℕ) × (self.new ≡ self.old ++ bs) × (length bs ≡ n)
+        ensures line { self.new.line ≡ [] }
+        ensures ok { IfOk result (λ n. (bs : List ℕ)
+            × (self.new.pending ≡ self.old.pending ++ bs) × (length bs ≡ n)
             × Consumes (R.remaining reader.old) (R.remaining reader.new) bs
             × (n ≡ 0 → IsAtEnd (R.remaining reader.new))) }
         ensures asked { IfOk result (λ n. n ≤ LARGEST_READ) }
         ensures read { OnOk result (IsCalled R.calls R.failed reader.old reader.new false) }
-        ensures err { OnErr result ((self.new ≡ self.old)
+        ensures err { OnErr result ((self.new.pending ≡ self.old.pending)
             × Keeps (R.remaining reader.old) (R.remaining reader.new)) }
         ensures kind { IfErr result (λ f. ((f ≡ TextFault.Memory) × (reader.new ≡ reader.old))
             ⊎ ((f ≡ TextFault.Read) × IsCalled R.calls R.failed reader.old reader.new true)) }
     {
+        self.line_start = 0;
+        self.line_end = 0;
         let Ok(from) = make_room(&mut self.bytes, self.start, self.end) else {
             return Err(TextFault::Memory);
         };
@@ -138,6 +178,9 @@ fn make_room(bytes: &mut Vec<u8>, start: usize, end: usize) -> Result<usize, All
     ensures err { OnErr result (bytes.new.items ≡ bytes.old.items) }
 {
     let len = bytes.len();
+    if start == end && len > 0 {
+        return Ok(0);
+    }
     if len - end >= LARGEST_READ {
         return Ok(start);
     }

@@ -3,6 +3,7 @@
 
 mod block;
 pub mod calls;
+mod near;
 pub mod reader;
 mod rules;
 

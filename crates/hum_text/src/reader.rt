@@ -13,13 +13,12 @@ use crate::rules::{first_fault, strip_cr};
 use crate::{Limits, TextFault};
 use std::alloc::Global;
 use std::marker::Model;
-use std::mem;
 
 /// What a poll gives.
-#[derive(Debug, Drop)]
+#[derive(Debug, Clone, Copy, PartialEq, Eq)]
 pub enum Step {
-    /// The next line, without its line end.
-    Line(Vec<u8>),
+    /// The next line: [`LineReader::line`] shows it until the next poll.
+    Line,
     /// Nothing yet: the poll has made a read, which gave bytes.
     More,
     /// Nothing more: every line was given.
@@ -29,7 +28,6 @@ pub enum Step {
 /// The lines of a source.
 #[derive(Drop)]
 pub struct LineReader<R> {
-    alloc: Global,
     source: R,
     limits: Limits,
     block: Block,
@@ -37,8 +35,6 @@ pub struct LineReader<R> {
     taken: u64,
     ended: bool,
     fault: Option<TextFault>,
-    // what the next line is put into
-    spare: Vec<u8>,
 }
 
 impl<R> Model for LineReader<R> {
@@ -49,7 +45,8 @@ impl<R> Model for LineReader<R> {
     ghost view = { λ r. record {
       source = r.source;
       limits = r.limits;
-      pending = r.block;
+      line = r.block.line;
+      pending = r.block.pending;
       given = r.given;
       taken = r.taken;
       ended = r.ended;
@@ -62,6 +59,7 @@ impl<R> Model for LineReader<R> {
 }
 
 // How many bytes stand up to place k, it included.
+#[inline]
 fn through(held: &[u8], k: usize) -> usize
     requires { k < length held.now }
     ensures { result ≡ k + 1 }
@@ -70,7 +68,7 @@ fn through(held: &[u8], k: usize) -> usize
 }
 
 impl<R: Source> LineReader<R> {
-    ghost use Rattle.hum_text.specs.Reading.{opening, Holds, GivesNext, bytes_read, IsLine};
+    ghost use Rattle.hum_text.specs.Reading.{opening, Holds, GivesNext, bytes_read};
     ghost use Rattle.hum_text.specs.Reading.{NeedsRead, ReadsOnce, IsUnread, IsFed};
     ghost use Rattle.hum_text.specs.Reading.{IsOver, KeepsLimits, Fails, left_to_do, Nears};
 
@@ -80,7 +78,6 @@ impl<R: Source> LineReader<R> {
         ensures holds { (all : List ℕ) → Holds result all [] all }
     {
         LineReader {
-            alloc,
             source,
             limits,
             block: Block::new(alloc),
@@ -88,15 +85,26 @@ impl<R: Source> LineReader<R> {
             taken: 0,
             ended: false,
             fault: None,
-            spare: Vec::new(alloc),
         }
     }
 
-    /// Takes a line that was done with, so that the next one needs no memory of its own.
-    pub fn reuse(&mut self, line: Vec<u8>)
-        ensures { self.new ≡ self.old }
+    /// The line that the last poll gave, without its line end; where it gave none, what this shows
+    /// is of no use.
+    #[inline]
+    pub fn line(&self) -> &[u8]
+        ensures { result.now ≡ self.now.line }
     {
-        self.spare = line;
+        self.block.line()
+    }
+
+    /// That line with the bytes that the reader holds behind it, and how many bytes of these are
+    /// the line: so it can be looked at in pieces of one size.
+    #[inline]
+    pub fn from_line(&self) -> (&[u8], usize)
+        ensures within { result.1 ≤ length result.0.now }
+        ensures line { take result.1 result.0.now ≡ self.now.line }
+    {
+        self.block.from_line()
     }
 
     /// How many lines were given.
@@ -108,6 +116,7 @@ impl<R: Source> LineReader<R> {
     }
 
     // From here on each poll gives this fault.
+    #[inline(never)]
     fn fail(&mut self, fault: TextFault) -> Result<Step, TextFault>
         ensures result { result ≡ Err fault }
         ensures state { self.new ≡ record self.old { fault = Some fault } }
@@ -116,38 +125,28 @@ impl<R: Source> LineReader<R> {
         Err(fault)
     }
 
-    // Hands out the first `len` bytes as a line, and drops `size` bytes.
-    fn hand_out(&mut self, len: usize, size: usize) -> Result<Step, TextFault>
+    // Hands out the first `len` bytes as a line, but for a CR at their end, and drops `size` bytes.
+    #[inline]
+    fn hand_out(&mut self, len: usize, size: usize)
         requires order { len ≤ size }
         requires within { size ≤ length self.old.pending }
         requires records { self.old.given < self.old.limits.records }
         requires bytes { self.old.taken + size ≤ self.old.limits.bytes }
-        requires short { length (without_cr (take len self.old.pending)) ≤ self.old.limits.line }
-        requires free { list_any (λ b. b == lf) (without_cr (take len self.old.pending)) ≡ false }
-        ensures within { IfOk result (λ step. KeepsLimits self.old.limits step self.new.given) }
-        ensures line { IfOk result (λ step. IsLine step (without_cr (take len self.old.pending))) }
-        ensures ok { OnOk result (self.new ≡ record self.old {
+        ensures { self.new ≡ record self.old {
+          line = without_cr (take len self.old.pending);
           pending = drop size self.old.pending;
           given = self.old.given + 1;
           taken = self.old.taken + size;
-        }) }
-        ensures err { OnErr result (self.new ≡ record self.old { fault = Some TextFault.Memory }) }
-        ensures memory { OnErr result (result ≡ Err TextFault.Memory) }
+        } }
     {
-        let mut line = mem::replace(&mut self.spare, Vec::new(self.alloc));
-        line.clear();
-        match line.extend_from_slice(strip_cr(&self.block.as_slice()[..len])) {
-            Ok(()) => {
-                self.block.consume(size);
-                self.given += 1;
-                self.taken += size as u64;
-                Ok(Step::Line(line))
-            }
-            Err(_) => self.fail(TextFault::Memory),
-        }
+        let line = strip_cr(&self.block.pending()[..len]).len();
+        self.block.hand_out(line, size);
+        self.given += 1;
+        self.taken += size as u64;
     }
 
     // The first fault in the first `size` bytes, of which only the last may be LF.
+    #[inline]
     fn fault_in(&self, size: usize) -> Option<TextFault>
         requires within { size ≤ length self.now.pending }
         requires one_line { (k : ℕ) → k + 1 < size → slice_index self.now.pending k ≢ lf }
@@ -158,15 +157,17 @@ impl<R: Source> LineReader<R> {
         ensures records { IfNone result (0 < size → self.now.given < self.now.limits.records) }
         ensures bytes { IfNone result (0 < size → self.now.taken + size ≤ self.now.limits.bytes) }
     {
-        let held = &self.block.as_slice()[..size];
+        let held = &self.block.pending()[..size];
         first_fault(&self.limits, self.given, self.taken, held)
     }
 
     // The line whose LF is at `k`, or the first fault in it.
+    #[inline]
     fn whole_line(&mut self, k: usize) -> Result<Step, TextFault>
         requires sound { self.old.fault ≡ None }
         requires first { IsFirstByte (is_byte lf) self.old.pending (Some k) }
-        ensures within { IfOk result (λ step. KeepsLimits self.old.limits step self.new.given) }
+        ensures within { IfOk result
+            (λ step. KeepsLimits self.old.limits step self.new.line self.new.given) }
         ensures gives { GivesNext self.old result self.new }
         ensures unread { IsUnread self.old self.new }
         ensures not_more { result ≢ Ok Step.More }
@@ -179,19 +180,24 @@ impl<R: Source> LineReader<R> {
         ensures taken { self.new.taken ≤ self.new.limits.bytes }
         ensures not_end { result ≢ Ok Step.End }
     {
-        let size = through(self.block.as_slice(), k);
+        let size = through(self.block.pending(), k);
         match self.fault_in(size) {
             Some(fault) => self.fail(fault),
-            None => self.hand_out(k, size),
+            None => {
+                self.hand_out(k, size);
+                Ok(Step::Line)
+            }
         }
     }
 
     // The last line, which no LF ends, or the first fault in it; or the end.
+    #[inline(never)]
     fn last_line(&mut self) -> Result<Step, TextFault>
         requires sound { self.old.fault ≡ None }
         requires unended { IsFirstByte (is_byte lf) self.old.pending None }
         requires ended { self.old.ended ≡ true }
-        ensures within { IfOk result (λ step. KeepsLimits self.old.limits step self.new.given) }
+        ensures within { IfOk result
+            (λ step. KeepsLimits self.old.limits step self.new.line self.new.given) }
         ensures gives { GivesNext self.old result self.new }
         ensures unread { IsUnread self.old self.new }
         ensures not_more { result ≢ Ok Step.More }
@@ -205,24 +211,29 @@ impl<R: Source> LineReader<R> {
         ensures end { result ≡ Ok Step.End → IsOver self.new }
         ensures over { IsOver self.old → (result ≡ Ok Step.End) × (self.new ≡ self.old) }
     {
-        let size = self.block.as_slice().len();
+        let size = self.block.pending().len();
         if size == 0 {
             return Ok(Step::End);
         }
-        let is_empty = strip_cr(self.block.as_slice()).is_empty();
+        let is_empty = strip_cr(self.block.pending()).is_empty();
         match self.fault_in(size) {
             Some(fault) => self.fail(fault),
             None if is_empty => self.fail(TextFault::S1),
-            None => self.hand_out(size, size),
+            None => {
+                self.hand_out(size, size);
+                Ok(Step::Line)
+            }
         }
     }
 
     // What a poll gives where no LF was read: a fault of the line so far, or what a read gives.
+    #[inline(never)]
     fn read_on(&mut self) -> Result<Step, TextFault>
         requires sound { self.old.fault ≡ None }
         requires unended { IsFirstByte (is_byte lf) self.old.pending None }
         requires going { self.old.ended ≡ false }
-        ensures within { IfOk result (λ step. KeepsLimits self.old.limits step self.new.given) }
+        ensures within { IfOk result
+            (λ step. KeepsLimits self.old.limits step self.new.line self.new.given) }
         ensures gives { GivesNext self.old result self.new }
         ensures reads_not { ¬ NeedsRead self.old → IsUnread self.old self.new }
         ensures reads_once { NeedsRead self.old
@@ -242,7 +253,7 @@ impl<R: Source> LineReader<R> {
         ensures limits { self.new.limits ≡ self.old.limits }
         ensures taken { self.new.taken ≤ self.new.limits.bytes }
     {
-        match self.fault_in(self.block.as_slice().len()) {
+        match self.fault_in(self.block.pending().len()) {
             Some(fault) => self.fail(fault),
             None => match self.block.fill(&mut self.source) {
                 Err(fault) => self.fail(fault),
@@ -257,6 +268,7 @@ impl<R: Source> LineReader<R> {
 
     /// The next step. A line or a fault that was read is given without a read, and no poll reads
     /// twice. After a fault it gives that fault again, and after the end the end.
+    #[inline]
     pub fn poll(&mut self) -> Result<Step, TextFault>
         // What is given depends on the bytes read so far alone, however the input goes on.
         ensures gives { self.old.fault ≡ None → GivesNext self.old result self.new }
@@ -276,7 +288,8 @@ impl<R: Source> LineReader<R> {
             → (self.old.fault ≡ Some TextFault.Read) ⊎ (R.failed self.new.source ≡ true) }
 
         // A line keeps to the limits.
-        ensures within { IfOk result (λ step. KeepsLimits self.old.limits step self.new.given) }
+        ensures within { IfOk result
+            (λ step. KeepsLimits self.old.limits step self.new.line self.new.given) }
 
         // The end and a fault last.
         ensures end { result ≡ Ok Step.End → IsOver self.new }
@@ -294,7 +307,7 @@ impl<R: Source> LineReader<R> {
         if let Some(fault) = self.fault {
             return Err(fault);
         }
-        match self.block.line_end() {
+        match self.block.find_line_end() {
             Some(k) => self.whole_line(k),
             None if self.ended => self.last_line(),
             None => self.read_on(),

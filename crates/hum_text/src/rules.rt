@@ -8,6 +8,7 @@ ghost use Rattle.hum_text.specs.Text.{IsLawful, BreaksFirst};
 use crate::{Limits, TextFault};
 
 /// The piece without one CR at its end.
+#[inline]
 pub fn strip_cr(piece: &[u8]) -> &[u8]
     ensures { result.now ≡ without_cr piece.now }
 {
@@ -49,6 +50,7 @@ fn rule(
 }
 
 // Whether no byte of the line breaks a rule.
+#[inline]
 fn is_sound(limits: &Limits, given: u64, taken: u64, held: &[u8]) -> bool
     requires one_line { (k : ℕ) → k + 1 < length held.now → slice_index held.now k ≢ lf }
     ensures { IsTrue result → IsLawful limits.now (given + 1) taken held.now }
@@ -83,6 +85,7 @@ fn fault_at(limits: &Limits, given: u64, taken: u64, held: &[u8], k: usize) -> O
 }
 
 /// The first rule that a byte of the line breaks. Only its last byte may be LF.
+#[inline]
 pub fn first_fault(limits: &Limits, given: u64, taken: u64, held: &[u8]) -> Option<TextFault>
     requires one_line { (k : ℕ) → k + 1 < length held.now → slice_index held.now k ≢ lf }
     ensures found { IfSome result (BreaksFirst limits.now (given + 1) taken held.now) }
@@ -94,6 +97,16 @@ pub fn first_fault(limits: &Limits, given: u64, taken: u64, held: &[u8]) -> Opti
     if is_sound(limits, given, taken, held) {
         return None;
     }
+    find_fault(limits, given, taken, held)
+}
+
+// The same, byte by byte.
+#[inline(never)]
+fn find_fault(limits: &Limits, given: u64, taken: u64, held: &[u8]) -> Option<TextFault>
+    requires one_line { (k : ℕ) → k + 1 < length held.now → slice_index held.now k ≢ lf }
+    ensures found { IfSome result (BreaksFirst limits.now (given + 1) taken held.now) }
+    ensures none { IfNone result (IsLawful limits.now (given + 1) taken held.now) }
+{
     for k in 0..held.len() {
         if let Some(fault) = fault_at(limits, given, taken, held, k) {
             return Some(fault);

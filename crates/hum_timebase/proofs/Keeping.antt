@@ -1,5 +1,6 @@
 -- Scores stay scores.
-use Rattle.std.proofs.Common.{◌≡◌, ◌≢◌, ◌∙◌, refl, sym, ap, ℕ, zero, suc, ◌+◌, ◌≤◌, Bool, true, false, List, [], ◌∷◌, ◌++◌, length, map, replicate, arith, subst, Option, None, Some}
+use Rattle.std.proofs.Common.{◌≡◌, ◌≢◌, ◌∙◌, refl, sym, ap, ℕ, zero, suc, ◌+◌, ◌≤◌, Bool, true, false, List, []}
+use Rattle.std.proofs.Common.{◌∷◌, ◌++◌, length, map, replicate, arith, subst, Option, None, Some}
 use Rattle.std.specs.Prelude.{◌&&◌, ◌==◌, not, is_some, Result, Ok, Err, if◌then◌else◌}
 use Rattle.std.specs.List.{list_any, list_all, find, AllByRecursion}
 use Rattle.std.proofs.lemmas.Bool.{and_parts, or_parts}
@@ -30,7 +31,9 @@ use Rattle.hum_record.specs.Contents.{is_null}
 use Rattle.hum_timebase.specs.Notes.{timed_in, is_barline_record, notes_of, has_misread}
 use Rattle.hum_timebase.specs.Ends.{latest, next_end, living_before}
 use Rattle.hum_timebase.specs.Clock.{Clock, clock_after, time_after}
-use Rattle.hum_timebase.specs.Timebase.{Pace, timebase, data_rows, timed_rows, on_grid, around, null_row, clashes, is_too_long, living_at, names_some, tb_token, tb_row, interpretation_rows}
+use Rattle.hum_timebase.specs.Timebase.{Pace, timebase, data_rows, timed_rows, on_grid, around, null_row}
+use Rattle.hum_timebase.specs.Timebase.{clashes, is_too_long, living_at, names_some, tb_token, tb_row}
+use Rattle.hum_timebase.specs.Timebase.{interpretation_rows}
 use Rattle.hum_timebase.proofs.Writing.{some_named}
 
 -- ---- data
@@ -74,7 +77,9 @@ timed_alike : (step : Ratio) (end time : Option Ratio) (notes before ends : List
 timed_alike step end None notes before ends tokens rows e = cc
 timed_alike step end (Some time) notes before ends tokens rows e = go (clashes time notes before) (list_any (is_too_long time) notes) e
   where
-    go : (a b : Bool) → ◌≡◌ {A = Result (List Row) Rule} (if a then Err B2 else if b then Err F1 else Ok (on_grid step end time (next_end time ends) tokens)) (Ok rows) → AllByRecursion (IsAlike (length tokens)) rows
+    go : (a b : Bool) → ◌≡◌ {A = Result (List Row) Rule}
+        (if a then Err B2 else if b then Err F1 else Ok (on_grid step end time (next_end time ends) tokens))
+        (Ok rows) → AllByRecursion (IsAlike (length tokens)) rows
     go true b e = cc
     go false true e = cc
     go false false e =
@@ -118,7 +123,8 @@ any_signs [] = refl
 any_signs (token ∷ tokens) = rw (any_signs tokens) refl
 
 -- exclusive interpretations stand beside no path indicator
-quiet_steers : (tokens : List (List ℕ)) (indicators : Bool) → names_some tokens ≡ true → (list_any is_exclusive (map sign_of tokens) && indicators) ≡ false → indicators ≡ false
+quiet_steers : (tokens : List (List ℕ)) (indicators : Bool) → names_some tokens ≡ true →
+    (list_any is_exclusive (map sign_of tokens) && indicators) ≡ false → indicators ≡ false
 quiet_steers tokens indicators some h = rw (any_signs tokens, some) at h
 
 quiet_exchanges : (j : ℕ) (signs : List Sign) → list_any is_path_indicator signs ≡ false → exchanges j signs ≡ []
@@ -232,7 +238,8 @@ interpretation_step : (pace : Pace) (past : List Row) (tokens : List (List ℕ))
 interpretation_step pace past tokens rows sound e = go (names_some tokens) refl e
   where
     go : (a : Bool) → names_some tokens ≡ a
-        → ◌≡◌ {A = Result (List Row) Rule} (if not a then Ok (Spined Interpretation tokens ∷ []) else Ok (Spined Interpretation tokens ∷ tb_row pace.text tokens ∷ [])) (Ok rows)
+        → ◌≡◌ {A = Result (List Row) Rule} (if not a then Ok (Spined Interpretation tokens ∷ []) else Ok
+        (Spined Interpretation tokens ∷ tb_row pace.text tokens ∷ [])) (Ok rows)
         → Follow (path_after past) rows × (through (path_after past) rows ≡ path_after (Spined Interpretation tokens ∷ past))
     go false none e = let one : Spined Interpretation tokens ∷ [] ≡ rows = cc in rw (← one) ((sound.1, tt), refl)
     go true some e =

@@ -58,7 +58,8 @@ later_after a b h = elim (before_cases a b) [ inl t ↦ rw t.0 refl | inr t ↦ 
 later_not_after : (a b : Ratio) → NotBefore a b → later (Some a) (Some b) ≡ Some a
 later_not_after a b h = elim (before_cases a b) [ inl t ↦ absurd (omega arith) | inr t ↦ rw t.0 refl ]
 
-later_assoc_of : (a b c : Ratio) → 0 < a.bottom → 0 < b.bottom → 0 < c.bottom → later (later (Some a) (Some b)) (Some c) ≡ later (Some a) (later (Some b) (Some c))
+later_assoc_of : (a b c : Ratio) → 0 < a.bottom → 0 < b.bottom → 0 < c.bottom →
+    later (later (Some a) (Some b)) (Some c) ≡ later (Some a) (later (Some b) (Some c))
 later_assoc_of a b c p q r = elim (before_cases a b) [
   | inl t ↦ elim (before_cases b c) [
     | inl u ↦ left (later_after a b t.1) ∙ later_after b c u.1 ∙ sym (right (later_after b c u.1) ∙ later_after a c (before_trans a b c r t.1 u.1))
@@ -66,7 +67,8 @@ later_assoc_of a b c p q r = elim (before_cases a b) [
   ]
   | inr t ↦ elim (before_cases b c) [
     | inl u ↦ left (later_not_after a b t.1) ∙ sym (right (later_after b c u.1))
-    | inr u ↦ left (later_not_after a b t.1) ∙ later_not_after a c (not_before_trans a b c q t.1 u.1) ∙ sym (right (later_not_after b c u.1) ∙ later_not_after a b t.1)
+    | inr u ↦ left (later_not_after a b t.1) ∙ later_not_after a c (not_before_trans a b c q t.1 u.1)
+        ∙ sym (right (later_not_after b c u.1) ∙ later_not_after a b t.1)
   ]
 ]
   where
@@ -109,19 +111,24 @@ AreSound-append (note ∷ xs) ys p q = (p.0, AreSound-append xs ys p.1 q)
 
 led_sound : (j : ℕ) (move : Move) (after : List (List Note)) → AllSound after → AreSound (led_by j move after)
 led_sound j move [] h = tt
-led_sound j move (notes ∷ after) h = elim (goes_on j move) as (λ (b : Bool). AreSound (if b then notes ++ led_by (j + 1) move after else led_by (j + 1) move after)) [
-  | true ↦ AreSound-append notes _ h.0 (led_sound (j + 1) move after h.1)
-  | false ↦ led_sound (j + 1) move after h.1
-]
+led_sound j move (notes ∷ after) h = elim (goes_on j move) as
+    (λ (b : Bool). AreSound (if b then notes ++ led_by (j + 1) move after else led_by (j + 1) move after)) [
+      | true ↦ AreSound-append notes _ h.0 (led_sound (j + 1) move after h.1)
+      | false ↦ led_sound (j + 1) move after h.1
+    ]
 
 latest-led_by : (j : ℕ) (move : Move) (after : List (List Note)) → AllSound after → latest (led_by j move after) ≡ end_by j move (map latest after)
 latest-led_by j move [] h = refl
-latest-led_by j move (notes ∷ after) h = elim (goes_on j move) as (λ (b : Bool). latest (if b then notes ++ led_by (j + 1) move after else led_by (j + 1) move after) ≡ (if b then later (latest notes) (end_by (j + 1) move (map latest after)) else end_by (j + 1) move (map latest after))) [
-  | true ↦ latest-append notes _ h.0 (led_sound (j + 1) move after h.1) ∙ ap (later (latest notes)) (latest-led_by (j + 1) move after h.1)
-  | false ↦ latest-led_by (j + 1) move after h.1
-]
+latest-led_by j move (notes ∷ after) h = elim (goes_on j move) as
+    (λ (b : Bool). latest (if b then notes ++ led_by (j + 1) move after else led_by (j + 1) move after) ≡ (if b
+    then later (latest notes) (end_by (j + 1) move (map latest after)) else end_by (j + 1) move
+    (map latest after))) [
+      | true ↦ latest-append notes _ h.0 (led_sound (j + 1) move after h.1) ∙ ap (later (latest notes)) (latest-led_by (j + 1) move after h.1)
+      | false ↦ latest-led_by (j + 1) move after h.1
+    ]
 
-latest-led : (moves : List Move) (after : List (List Note)) → AllSound after → map latest (map (λ move. led_by 0 move after) moves) ≡ map (λ move. end_by 0 move (map latest after)) moves
+latest-led : (moves : List Move) (after : List (List Note)) → AllSound after →
+    map latest (map (λ move. led_by 0 move after) moves) ≡ map (λ move. end_by 0 move (map latest after)) moves
 latest-led [] after h = refl
 latest-led (move ∷ moves) after h = let a = latest-led_by 0 move after h in let b = latest-led moves after h in cc
 
@@ -143,17 +150,20 @@ before_sound (timed ∷ more) [] h = tt
 before_sound (true ∷ more) (notes ∷ leading) h = (h.0, before_sound more leading h.1)
 before_sound (false ∷ more) (notes ∷ leading) h = (tt, before_sound more leading h.1)
 
-pub latest-after : (time : Ratio) (notes : List (Option Ratio)) (before : List (List Note)) → map latest (living_after time notes before) ≡ ends_after time notes (map latest before)
+pub latest-after : (time : Ratio) (notes : List (Option Ratio)) (before : List (List Note)) →
+    map latest (living_after time notes before) ≡ ends_after time notes (map latest before)
 latest-after time [] before = refl
 latest-after time (own ∷ notes) [] = refl
 latest-after time (None ∷ notes) (lives ∷ before) = ap (λ (xs : List (Option Ratio)). latest lives ∷ xs) (latest-after time notes before)
 latest-after time (Some lasting ∷ notes) (lives ∷ before) = ap (λ (xs : List (Option Ratio)). Some (plus time lasting) ∷ xs) (latest-after time notes before)
 
-pub latest-at : (time : Option Ratio) (notes : List (Option Ratio)) (before : List (List Note)) → map latest (living_at time notes before) ≡ ends_at time notes (map latest before)
+pub latest-at : (time : Option Ratio) (notes : List (Option Ratio)) (before : List (List Note)) →
+    map latest (living_at time notes before) ≡ ends_at time notes (map latest before)
 latest-at None notes before = refl
 latest-at (Some time) notes before = latest-after time notes before
 
-after_sound : (time : Ratio) (notes : List (Option Ratio)) (before : List (List Note)) → 0 < time.bottom → ArePositive notes → AllSound before → AllSound (living_after time notes before)
+after_sound : (time : Ratio) (notes : List (Option Ratio)) (before : List (List Note)) → 0 < time.bottom →
+    ArePositive notes → AllSound before → AllSound (living_after time notes before)
 after_sound time [] before t n h = h
 after_sound time (own ∷ notes) [] t n h = tt
 after_sound time (None ∷ notes) (lives ∷ before) t n h = (h.0, after_sound time notes before t n.1 h.1)
@@ -183,7 +193,9 @@ time_positive None ends h = omega arith
 time_positive (Some last) ends h = next_positive last ends h
 
 time_of_positive : (last : Option Ratio) (notes ends : List (Option Ratio)) → ArePositive ends → IsPositive (time_of last notes ends)
-time_of_positive last notes ends h = elim (list_any is_some notes) as (λ (b : Bool). IsPositive (if b then time_after last ends else None)) [ true ↦ time_positive last ends h | false ↦ tt ]
+time_of_positive last notes ends h = elim (list_any is_some notes) as
+    (λ (b : Bool). IsPositive (if b then time_after last ends else None))
+    [ true ↦ time_positive last ends h | false ↦ tt ]
 
 -- ---- one record
 
@@ -211,7 +223,8 @@ kept-tick clock timed notes =
     kept-ticked clock (time_of clock.last notes (map latest (living_before timed clock.leading))) notes (living_before timed clock.leading)
     ∙ ap (λ (ends : List (Option Ratio)). struck notes (make clock.last clock.next ends)) (latest-before timed clock.leading)
 
-ticked_sound : (clock : Clock) (time : Option Ratio) (notes : List (Option Ratio)) (before : List (List Note)) → IsPositive time → ArePositive notes → AllSound before → AllSound (ticked clock time notes before).leading
+ticked_sound : (clock : Clock) (time : Option Ratio) (notes : List (Option Ratio)) (before : List (List Note)) →
+    IsPositive time → ArePositive notes → AllSound before → AllSound (ticked clock time notes before).leading
 ticked_sound clock None notes before t n h = h
 ticked_sound clock (Some time) notes before t n h = after_sound time notes before t n h
 
@@ -227,10 +240,13 @@ chosen_positive (Some value) rest h more = h
 
 first_positive : (parts : List (List ℕ)) → IsPositive (first_duration parts)
 first_positive [] = tt
-first_positive (part ∷ parts) = chosen_positive (value_in (duration part)) (first_duration parts) (positive (value_in (duration part)) (duration_greater part)) (first_positive parts)
+first_positive (part ∷ parts) = chosen_positive (value_in (duration part)) (first_duration parts)
+    (positive (value_in (duration part)) (duration_greater part)) (first_positive parts)
 
 note_positive : (timed : Bool) (token : List ℕ) → IsPositive (note_of timed token)
-note_positive timed token = elim (timed && is_sounding token) as (λ (b : Bool). IsPositive (if b then first_duration (subtokens token) else None)) [ true ↦ first_positive (subtokens token) | false ↦ tt ]
+note_positive timed token = elim (timed && is_sounding token) as
+    (λ (b : Bool). IsPositive (if b then first_duration (subtokens token) else None))
+    [ true ↦ first_positive (subtokens token) | false ↦ tt ]
 
 notes_positive : (timed : List Bool) (tokens : List (List ℕ)) → ArePositive (notes_of timed tokens)
 notes_positive [] tokens = tt
@@ -253,4 +269,6 @@ all_sound (Spined Values tokens ∷ past) =
     let notes = notes_of timed tokens in
     let before = living_before timed clock.leading in
     let h : AllSound before = before_sound timed clock.leading (all_sound past) in
-    ticked_sound clock (time_of clock.last notes (map latest before)) notes before (time_of_positive clock.last notes (map latest before) (all_positive before h)) (notes_positive timed tokens) h
+    ticked_sound clock (time_of clock.last notes (map latest before)) notes before
+    (time_of_positive clock.last notes (map latest before) (all_positive before h))
+    (notes_positive timed tokens) h

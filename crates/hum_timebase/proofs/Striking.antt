@@ -1,5 +1,7 @@
 -- What a record becomes, by the ends that are kept.
-use Rattle.std.proofs.Common.{◌≡◌, ◌∙◌, ℕ, zero, suc, ◌+◌, ◌<◌, List, [], ◌∷◌, map, length, drop, get_or, replicate, refl, sym, ap, arith, add-one, length-append, min, Bool, true, false, Option, None, Some, Result, Ok, Err}
+use Rattle.std.proofs.Common.{◌≡◌, ◌∙◌, ℕ, zero, suc, ◌+◌, ◌<◌, List, [], ◌∷◌, map, length, drop, get_or}
+use Rattle.std.proofs.Common.{replicate, refl, sym, ap, arith, add-one, length-append, min, Bool, true, false}
+use Rattle.std.proofs.Common.{Option, None, Some, Result, Ok, Err}
 use Rattle.std.specs.Prelude.{not, is_some, if◌then◌else◌}
 use Rattle.std.specs.Option.{option_to_list}
 use Rattle.std.specs.List.{list_any}
@@ -18,7 +20,8 @@ use Rattle.hum_stage.specs.Decided.{in_room, Steps}
 use Rattle.hum_timebase.specs.Notes.{timed_in, timed_at, notes_of, has_misread, is_sounding}
 use Rattle.hum_timebase.specs.Ends.{latest, next_end, living_before}
 use Rattle.hum_timebase.specs.Clock.{Clock, clock_after, time_after}
-use Rattle.hum_timebase.specs.Timebase.{Pace, data_rows, timed_rows, on_grid, around, null_row, clashes, is_too_long, count_before, count_after, living_at, names_some, tb_row}
+use Rattle.hum_timebase.specs.Timebase.{Pace, data_rows, timed_rows, on_grid, around, null_row, clashes}
+use Rattle.hum_timebase.specs.Timebase.{is_too_long, count_before, count_after, living_at, names_some, tb_row}
 use Rattle.hum_timebase.specs.Kept.{Kept, kept_of, rested, led, struck, ends_before, ends_at, ends_after, strike, strike_in, rows_of, sounding_rows}
 use Rattle.hum_timebase.specs.Following.{Follows, Answers, IsAbout}
 use Rattle.hum_timebase.specs.Dues.{due_rows}
@@ -75,9 +78,21 @@ pub single_length : (stays : Bool) (row : Row) → length (option_to_list (if st
 single_length true row = refl
 single_length false row = refl
 
-pub around_length : (before after : ℕ) (stays : Bool) (tokens : List (List ℕ)) → length (around before stays after tokens) ≡ before + (if stays then 1 else 0) + after
-around_length before after true tokens = rw (length-append (replicate before (null_row tokens)) (Spined Values tokens ∷ replicate after (null_row tokens)), length-replicate before (null_row tokens), length-replicate after (null_row tokens)) (omega arith)
-around_length before after false tokens = rw (length-append (replicate before (null_row tokens)) (replicate after (null_row tokens)), length-replicate before (null_row tokens), length-replicate after (null_row tokens)) (omega arith)
+pub around_length : (before after : ℕ) (stays : Bool) (tokens : List (List ℕ)) →
+    length (around before stays after tokens) ≡ before + (if stays then 1 else 0) + after
+around_length before after true tokens = rw (
+  length-append (replicate before (null_row tokens))
+      (Spined Values tokens ∷ replicate after (null_row tokens)),
+  length-replicate before (null_row tokens),
+  length-replicate after (null_row tokens),
+) (omega arith)
+around_length before after false tokens = rw (
+  length-append (replicate before (null_row tokens))
+      (replicate after (null_row tokens)),
+  length-replicate before (null_row tokens),
+  length-replicate after
+      (null_row tokens),
+) (omega arith)
 
 -- ---- a timed record
 
@@ -90,7 +105,13 @@ timed_strike step kept (Some time) notes tokens = go (clashes time notes kept.en
     next = next_end time (ends_after time notes kept.ends)
 
     go : (a b : Bool) → (if a then Err B2 else if b then Err F1 else Ok (on_grid step kept.next time next tokens))
-        ≡ rows_of tokens (if a then Err B2 else if b then Err F1 else Ok (record { before = count_before step kept.next time; stays = is_multiple time step; after = count_after step time next }))
+        ≡ rows_of tokens (if a then Err B2 else if b then Err F1 else Ok
+        (record {
+          before = count_before step kept.next time;
+          stays = is_multiple time step;
+          after =
+              count_after step time next;
+        }))
     go true b = refl
     go false true = refl
     go false false = refl
@@ -105,7 +126,8 @@ timed_kept step clock timed notes tokens =
     let time = time_after clock.last (map latest before) in
     let ends = ends_before timed (map latest clock.leading) in
     ap (λ (after : List (Option Ratio)). timed_rows step clock.next time notes (map latest before) after tokens) (latest-at time notes before)
-    ∙ ap (λ (ends : List (Option Ratio)). timed_rows step clock.next (time_after clock.last ends) notes ends (ends_at (time_after clock.last ends) notes ends) tokens) (latest-before timed clock.leading)
+    ∙ ap (λ (ends : List (Option Ratio)). timed_rows step clock.next (time_after clock.last ends) notes ends
+    (ends_at (time_after clock.last ends) notes ends) tokens) (latest-before timed clock.leading)
     ∙ timed_strike step (rested timed (kept_of clock)) (time_after clock.last ends) notes tokens
 
 -- ---- a data record
@@ -206,7 +228,8 @@ module _ (pace : Pace) (path : Path) (timed : List Bool) (kept : Kept) (decide :
   after_sounds (Spined Interpretation tokens) kept' k is = absurd cc
   after_sounds (Spined Values tokens) kept' k is = after_notes tokens kept' is
 
-  pub goes_sounds : (row : Row) (kept' : Kept) (room : ℕ) (rows : List Row) (refused : Option Rule) → kind_of row ≡ AnyValues → content_of (tokens_of row) ≡ Sounds
+  pub goes_sounds : (row : Row) (kept' : Kept) (room : ℕ) (rows : List Row) (refused : Option Rule) →
+      kind_of row ≡ AnyValues → content_of (tokens_of row) ≡ Sounds
       → Answers (sounding_rows pace.step (rested timed kept) timed (tokens_of row)) room rows refused
       → (refused ≡ None → kept' ≡ struck (notes_of timed (tokens_of row)) (rested timed kept))
       → Steps decide past row (Follows pace path timed kept') room rows refused
@@ -236,7 +259,9 @@ module _ (pace : Pace) (path : Path) (timed : List Bool) (kept : Kept) (decide :
         command = h.command;
         spines = now;
         columns = t ∙ ap timed_in now;
-        clock = c ∙ rw (h.spines, h.clock) (sym (kept-moved (clock_after past) (timed_at (path_after past) tokens) (moves (path_after past) (Spined Interpretation tokens)) (all_sound past)));
+        clock = c ∙ rw (h.spines, h.clock)
+            (sym (kept-moved (clock_after past) (timed_at (path_after past) tokens)
+            (moves (path_after past) (Spined Interpretation tokens)) (all_sound past)));
       }
 
   pub names_none : (row : Row) → kind_of row ≡ AnyInterpretation → names_some (tokens_of row) ≡ false → decide past row ≡ Ok (row ∷ [])

@@ -1,5 +1,7 @@
 -- The records that are made.
-use Rattle.std.proofs.Common.{◌≡◌, ◌≢◌, ◌∙◌, ℕ, ◌+◌, ◌*◌, ◌<◌, ◌≤◌, List, [], ◌∷◌, ◌++◌, map, length, drop, drop-cons, get_or, refl, sym, ap, arith, add-one, append_assoc, length-append, Bool, true, false, Option, None, Some, Ok, subst}
+use Rattle.std.proofs.Common.{◌≡◌, ◌≢◌, ◌∙◌, ℕ, ◌+◌, ◌*◌, ◌<◌, ◌≤◌, List, [], ◌∷◌, ◌++◌, map, length, drop}
+use Rattle.std.proofs.Common.{drop-cons, get_or, refl, sym, ap, arith, add-one, append_assoc, length-append}
+use Rattle.std.proofs.Common.{Bool, true, false, Option, None, Some, Ok, subst}
 use Rattle.std.specs.Prelude.{◌&&◌, ◌==◌, nat_le, if◌then◌else◌}
 use Rattle.std.specs.List.{list_any, AllByRecursion}
 use Rattle.std.proofs.lemmas.Bool.{false≢true}
@@ -105,7 +107,9 @@ whole_dots bytes start end dots None step h = cc
 whole_dots bytes start end dots (Some value) step h = go (nat_le dots 6) refl h
   where
     go : (b : Bool) → nat_le dots 6 ≡ b → recip_of bytes (with_dots start end (Some value) dots) ≡ Ok step → (start ≡ 0) × (end + dots ≡ length bytes)
-    go true e h = let w = whole_found bytes (record { value = Some (reduced (dotted value dots)); start = start; end = end + dots }) step (rw e at h) in (w.1, w.2)
+    go true e h = let w = whole_found bytes
+        (record { value = Some (reduced (dotted value dots)); start = start; end = end + dots }) step
+        (rw e at h) in (w.1, w.2)
     go false e h = let w = rw e at h in cc
 
 whole_said : (bytes : List ℕ) (parts : Spelling) (step : Ratio) → recip_of bytes (said parts) ≡ Ok step → IsWhole bytes parts
@@ -114,13 +118,16 @@ whole_said bytes parts step h = go (is_torn parts) refl h
     go : (b : Bool) → is_torn parts ≡ b → recip_of bytes (said parts) ≡ Ok step → IsWhole bytes parts
     go true e h = let w = rw e at h in cc
     go false e h =
-        let w = whole_dots bytes (length parts.before) (length parts.before + length parts.digits + second_length parts.second) (length parts.dots) (value_of parts.digits parts.second) step (rw e at h) in
+        let w = whole_dots bytes (length parts.before)
+        (length parts.before + length parts.digits + second_length parts.second) (length parts.dots)
+        (value_of parts.digits parts.second) step (rw e at h) in
         record { before = w.0; end = w.1 }
 
 whole_text : (bytes : List ℕ) (step : Ratio) → recip bytes ≡ Ok step → IsWhole bytes (spelling_of bytes)
 whole_text bytes step h = go (list_any is_grace_sign bytes) refl (is_empty (spelling_of bytes).digits) refl h
   where
-    go : (a : Bool) → list_any is_grace_sign bytes ≡ a → (b : Bool) → is_empty (spelling_of bytes).digits ≡ b → recip bytes ≡ Ok step → IsWhole bytes (spelling_of bytes)
+    go : (a : Bool) → list_any is_grace_sign bytes ≡ a → (b : Bool) → is_empty (spelling_of bytes).digits ≡ b →
+        recip bytes ≡ Ok step → IsWhole bytes (spelling_of bytes)
     go true e b f h = let w = rw e at h in cc
     go false e true f h = let w = rw (e, f) at h in cc
     go false e false f h = whole_said bytes (spelling_of bytes) step (rw (e, f) at h)

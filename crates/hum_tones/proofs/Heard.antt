@@ -1,5 +1,6 @@
 -- What is heard of the first parts of a token.
-use Rattle.std.proofs.Common.{◌≡◌, refl, sym, ap, ◌∙◌, ℕ, ◌+◌, ◌<◌, ◌≤◌, Bool, true, false, List, [], ◌∷◌, ◌++◌, append_assoc, append-nil, length, drop, get_or, Option, None, Some}
+use Rattle.std.proofs.Common.{◌≡◌, refl, sym, ap, ◌∙◌, ℕ, ◌+◌, ◌<◌, ◌≤◌, Bool, true, false, List, [], ◌∷◌, ◌++◌}
+use Rattle.std.proofs.Common.{append_assoc, append-nil, length, drop, get_or, Option, None, Some}
 use Rattle.std.specs.Prelude.{Result, Ok, Err, ◌||◌, option_map}
 use Rattle.std.specs.List.{list_any}
 use Rattle.std.proofs.lemmas.List.{at_drop_more, drop_all}
@@ -28,7 +29,8 @@ onto_nothing : (r : Result (List Reading) Rule) → r ≡ onto [] r
 onto_nothing (Ok readings) = refl
 onto_nothing (Err rule) = refl
 
-onto_one_more : (done : List Reading) (reading : Reading) (r : Result (List Reading) Rule) → onto done (with_reading (Ok reading) r) ≡ onto (done ++ reading ∷ []) r
+onto_one_more : (done : List Reading) (reading : Reading) (r : Result (List Reading) Rule) →
+    onto done (with_reading (Ok reading) r) ≡ onto (done ++ reading ∷ []) r
 onto_one_more done reading (Ok readings) = ap (λ all. Ok all) (sym (append_assoc done (reading ∷ []) readings))
 onto_one_more done reading (Err rule) = refl
 
@@ -36,21 +38,26 @@ first_of_assoc : (p : Option Spelled) (b : Bool) (o rest : Option Tone) → or_t
 first_of_assoc (Some p) b o rest = refl
 first_of_assoc None b o rest = refl
 
-leading_one_more : (done : List Reading) (reading : Reading) → leading (done ++ reading ∷ []) ≡ first_of (leading done) (or_tone reading.pitch reading.continued None)
+leading_one_more : (done : List Reading) (reading : Reading) → leading (done ++ reading ∷ []) ≡ first_of
+    (leading done) (or_tone reading.pitch reading.continued None)
 leading_one_more [] reading = refl
-leading_one_more (first ∷ done) reading = ap (or_tone first.pitch first.continued) (leading_one_more done reading) ∙ first_of_assoc first.pitch first.continued (leading done) (or_tone reading.pitch reading.continued None)
+leading_one_more (first ∷ done) reading = ap (or_tone first.pitch first.continued)
+    (leading_one_more done reading) ∙ first_of_assoc first.pitch first.continued (leading done)
+    (or_tone reading.pitch reading.continued None)
 
 or_assoc : (a b c : Bool) → (a || (b || c)) ≡ ((a || b) || c)
 or_assoc true b c = refl
 or_assoc false b c = refl
 
-rest_one_more : (done : List Reading) (reading : Reading) → list_any (λ (r : Reading). r.rest) (done ++ reading ∷ []) ≡ (list_any (λ (r : Reading). r.rest) done || reading.rest)
+rest_one_more : (done : List Reading) (reading : Reading) → list_any (λ (r : Reading). r.rest)
+    (done ++ reading ∷ []) ≡ (list_any (λ (r : Reading). r.rest) done || reading.rest)
 rest_one_more [] reading = by reading.rest
   where
     by : (b : Bool) → (b || false) ≡ b
     by true = refl
     by false = refl
-rest_one_more (first ∷ done) reading = ap (λ (b : Bool). first.rest || b) (rest_one_more done reading) ∙ or_assoc first.rest (list_any (λ (r : Reading). r.rest) done) reading.rest
+rest_one_more (first ∷ done) reading = ap (λ (b : Bool). first.rest || b) (rest_one_more done reading)
+    ∙ or_assoc first.rest (list_any (λ (r : Reading). r.rest) done) reading.rest
 
 heard_one_more : (done : List Reading) (reading : Reading) → heard (done ++ reading ∷ []) ≡ heard_with (heard done) reading
 heard_one_more done reading =
@@ -65,35 +72,48 @@ nothing_yet parts kept is = record { done = []; is = is; rest = onto_nothing (re
 
 module _ (parts : List (List ℕ)) (n : ℕ) (kept : Kept) (h : HeardSoFar parts n kept) where
   -- the next part
-  split : (part : List ℕ) → n < length parts → part ≡ get_or parts n part → readings_of parts ≡ onto h.done (with_reading (note part) (readings_of (drop (n + 1) parts)))
+  split : (part : List ℕ) → n < length parts → part ≡ get_or parts n part →
+      readings_of parts ≡ onto h.done (with_reading (note part) (readings_of (drop (n + 1) parts)))
   split part below is =
       let next : readings_of (drop n parts) ≡ with_reading (note part) (readings_of (drop (n + 1) parts)) =
       at_drop_more readings_of parts n part below ∙ ap (λ (p : List ℕ). with_reading (note p) (readings_of (drop (n + 1) parts))) (sym is) in
       h.rest ∙ ap (λ (r : Result (List Reading) Rule). onto h.done r) next
 
-  pub one_more : (part : List ℕ) (reading : Reading) (after : Kept) → (n < length parts) × (part ≡ get_or parts n part) → Ok reading ≡ note part → hearing after ≡ heard_with (hearing kept) reading → HeardSoFar parts (n + 1) after
+  pub one_more : (part : List ℕ) (reading : Reading) (after : Kept) →
+      (n < length parts) × (part ≡ get_or parts n part) → Ok reading ≡ note part →
+      hearing after ≡ heard_with (hearing kept) reading → HeardSoFar parts (n + 1) after
   one_more part reading after at read more = record {
     done = h.done ++ reading ∷ [];
     is = more ∙ ap (λ (x : Heard). heard_with x reading) h.is ∙ sym (heard_one_more h.done reading);
-    rest = split part at.0 at.1 ∙ ap (λ (r : Result Reading KernFault). onto h.done (with_reading r (readings_of (drop (n + 1) parts)))) (sym read) ∙ onto_one_more h.done reading (readings_of (drop (n + 1) parts));
+    rest = split part at.0 at.1 ∙ ap (λ (r : Result Reading KernFault).
+        onto h.done (with_reading r (readings_of (drop (n + 1) parts)))) (sym read)
+        ∙ onto_one_more h.done reading (readings_of (drop (n + 1) parts));
   }
 
-  pub refused : (part : List ℕ) (fault : KernFault) → (n < length parts) × (part ≡ get_or parts n part) → Err fault ≡ note part → readings_of parts ≡ Err (rule_of fault)
-  refused part fault at read = split part at.0 at.1 ∙ ap (λ (r : Result Reading KernFault). onto h.done (with_reading r (readings_of (drop (n + 1) parts)))) (sym read)
+  pub refused : (part : List ℕ) (fault : KernFault) → (n < length parts) × (part ≡ get_or parts n part) →
+      Err fault ≡ note part → readings_of parts ≡ Err (rule_of fault)
+  refused part fault at read = split part at.0 at.1
+      ∙ ap (λ (r : Result Reading KernFault). onto h.done (with_reading r (readings_of (drop (n + 1) parts))))
+      (sym read)
 
   pub all_heard : length parts ≤ n → Ok (hearing kept) ≡ heard_in (readings_of parts)
   all_heard past =
       let all : readings_of parts ≡ Ok h.done = h.rest ∙ rw (drop_all n parts past, append-nil h.done) refl in
       ap (λ (x : Heard). Ok x) h.is ∙ sym (ap heard_in all)
 
-told_as_heard : (signless sizeonly : Bool) (before : Option Spelled) (rs : Result (List Reading) Rule) (h : Heard) → Ok h ≡ heard_in rs → told_of signless sizeonly before rs ≡ Ok (told signless sizeonly before h.tone h.rest)
+told_as_heard : (signless sizeonly : Bool) (before : Option Spelled) (rs : Result (List Reading) Rule)
+    (h : Heard) → Ok h ≡ heard_in rs → told_of signless sizeonly before rs ≡ Ok
+    (told signless sizeonly before h.tone h.rest)
 told_as_heard signless sizeonly before (Ok readings) h e =
     let same : heard readings ≡ h = cc in
     ap (λ (x : Heard). Ok (told signless sizeonly before x.tone x.rest)) same
 told_as_heard signless sizeonly before (Err rule) h e = cc
 
 -- a token with a note that begins anew
-pub told_anew : (signless sizeonly : Bool) (before : Option Spelled) (token : List ℕ) (kept : Kept) (tone : KeptTone) → Ok (hearing kept) ≡ heard_in (readings token) → kept.tone ≡ Some tone → tone.continued ≡ false → minted signless sizeonly before token ≡ Ok (approached signless sizeonly before (spelled tone.pitch))
+pub told_anew : (signless sizeonly : Bool) (before : Option Spelled) (token : List ℕ) (kept : Kept)
+    (tone : KeptTone) → Ok (hearing kept) ≡ heard_in (readings token) → kept.tone ≡ Some tone →
+    tone.continued ≡ false → minted signless sizeonly before token ≡ Ok
+    (approached signless sizeonly before (spelled tone.pitch))
 told_anew signless sizeonly before token kept tone e is anew =
     told_as_heard signless sizeonly before (readings token) (hearing kept) e
     ∙ ap (λ (t : Option KeptTone). Ok (told signless sizeonly before (option_map tone_of t) kept.rest)) is

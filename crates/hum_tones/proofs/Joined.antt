@@ -26,7 +26,8 @@ spaced_lacks c (text ∷ texts) apart all = rw (list_any-append (λ x. x == c) t
 front_lacks : (c : ℕ) (front more : List ℕ) → has_byte c (front ++ more) ≡ false → has_byte c front ≡ false
 front_lacks c front more h = (or_parts (has_byte c front) (has_byte c more) (rw (list_any-append (λ x. x == c) front more) at h)).0
 
-pub joined_lacks : (c : ℕ) (text : List ℕ) (texts : List (List ℕ)) → (32 == c) ≡ false → AllByRecursion (λ text. has_byte c text ≡ false) (text ∷ texts) → has_byte c (joined (text ∷ texts)) ≡ false
+pub joined_lacks : (c : ℕ) (text : List ℕ) (texts : List (List ℕ)) → (32 == c) ≡ false →
+    AllByRecursion (λ text. has_byte c text ≡ false) (text ∷ texts) → has_byte c (joined (text ∷ texts)) ≡ false
 joined_lacks c text texts apart all =
     front_lacks c (joined (text ∷ texts)) (32 ∷ []) (rw (spaced_joined text texts) at (spaced_lacks c (text ∷ texts) apart all))
 
@@ -85,7 +86,8 @@ pub none_given : (gives : List ℕ → Result (Option (List ℕ)) Rule) (parts :
     → length parts ≤ n → text ≡ [] → (after : List ℕ) → after ≡ codes "." → IsRetold (if_given (given_by gives parts)) after None
 none_given gives parts n text h past empty after is = go h.done h.pieces (all_given gives parts n text h past) (sym h.made ∙ empty)
   where
-    go : (done : List (List ℕ)) → AllByRecursion IsPiece done → given_by gives parts ≡ Ok done → spaced done ≡ [] → IsRetold (if_given (given_by gives parts)) after None
+    go : (done : List (List ℕ)) → AllByRecursion IsPiece done → given_by gives parts ≡ Ok done →
+        spaced done ≡ [] → IsRetold (if_given (given_by gives parts)) after None
     go [] all given e = rw (given, is) (refl, joined_lawful [] tt)
     go (first ∷ done) all given e = absurd (nothing first (spaced done) e)
       where
@@ -97,7 +99,8 @@ pub some_given : (gives : List ℕ → Result (Option (List ℕ)) Rule) (parts :
     → length parts ≤ n → (after : List ℕ) (last : ℕ) → text ≡ after ++ last ∷ [] → IsRetold (if_given (given_by gives parts)) after None
 some_given gives parts n text h past after last cut = go h.done h.pieces (all_given gives parts n text h past) (sym h.made ∙ cut)
   where
-    go : (done : List (List ℕ)) → AllByRecursion IsPiece done → given_by gives parts ≡ Ok done → spaced done ≡ after ++ last ∷ [] → IsRetold (if_given (given_by gives parts)) after None
+    go : (done : List (List ℕ)) → AllByRecursion IsPiece done → given_by gives parts ≡ Ok done →
+        spaced done ≡ after ++ last ∷ [] → IsRetold (if_given (given_by gives parts)) after None
     go [] all given e = absurd (nothing after e)
       where
         nothing : (xs : List ℕ) → [] ≡ xs ++ last ∷ [] → ⊥

@@ -17,7 +17,8 @@ use Rattle.hum_record.specs.Contents.{is_filled}
 use Rattle.hum_tones.specs.Mint.{is_break, is_some, settles, settled, note_before, remembered_of}
 use Rattle.hum_tones.specs.Memory.{note_after, or_before}
 
-others : (a b c d e : Bool) → is_exclusive (if a then Split else if b then Join else if c then Exchange else if d then Add else if e then End else Plain) ≡ false
+others : (a b c d e : Bool) → is_exclusive (if a then Split else if b then Join else if c then Exchange else if
+    d then Add else if e then End else Plain) ≡ false
 others true b c d e = refl
 others false true c d e = refl
 others false false true d e = refl
@@ -53,7 +54,8 @@ not_remembered : (token : List ℕ) → is_filled token ≡ false → remembered
 not_remembered token h = rw h refl
 
 -- one cell more, by what it is
-one_more : (breaks : Option (List ℕ)) (token : List ℕ) (before : Option Spelled) (rest : List (List ℕ)) → (e : Bool) → (e ≡ true → is_filled token ≡ false) → before ≡ settled breaks (find (settles breaks) rest)
+one_more : (breaks : Option (List ℕ)) (token : List ℕ) (before : Option Spelled) (rest : List (List ℕ)) →
+    (e : Bool) → (e ≡ true → is_filled token ≡ false) → before ≡ settled breaks (find (settles breaks) rest)
     → (b : Bool) → is_break breaks token ≡ b → (r : Option Spelled) → remembered_of token ≡ r
     → (if e then None else if b then None else or_before r before)
     ≡ settled breaks (if b || is_some r then Some token else find (settles breaks) (if e then [] else rest))
@@ -67,7 +69,8 @@ one_more breaks token before rest false apart is false f None g = is
 pub remembers_note : (breaks : Option (List ℕ)) (above : List (List ℕ)) → remembered (note_after breaks) None above ≡ note_before breaks above
 remembers_note breaks [] = refl
 remembers_note breaks (token ∷ above) =
-    one_more breaks token (remembered (note_after breaks) None above) (reach above) (is_exclusive (sign_of token)) (exclusive_not_filled token) (remembers_note breaks above)
+    one_more breaks token (remembered (note_after breaks) None above) (reach above)
+    (is_exclusive (sign_of token)) (exclusive_not_filled token) (remembers_note breaks above)
     (is_break breaks token) refl (remembered_of token) refl
 
 pub all_remembered : (breaks : Option (List ℕ)) (columns : List (List (List ℕ)))

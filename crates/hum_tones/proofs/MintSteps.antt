@@ -17,16 +17,19 @@ use Rattle.hum_tones.specs.Memory.{note_after}
 use Rattle.hum_tones.specs.Commands.{Mints}
 use Rattle.hum_tones.proofs.LastNotes.{all_remembered}
 
-at_map : (f : List (List ℕ) → Option Spelled) (xs : List (List (List ℕ))) (j : ℕ) (e : Option Spelled) → j < length xs → slice_index_or (map f xs) j e ≡ f (slice_index_or xs j [])
+at_map : (f : List (List ℕ) → Option Spelled) (xs : List (List (List ℕ))) (j : ℕ) (e : Option Spelled) →
+    j < length xs → slice_index_or (map f xs) j e ≡ f (slice_index_or xs j [])
 at_map f [] j e h = absurd (omega (arith, h))
 at_map f (x ∷ xs) zero e h = refl
 at_map f (x ∷ xs) (suc j) e h = at_map f xs j e (omega (arith, h))
 
-many : (options : MintOptions) (memories : List (Option Spelled)) (retelling : Retelling) (past : List Row) → Mints options memories retelling past → length memories ≡ length (columns past)
+many : (options : MintOptions) (memories : List (Option Spelled)) (retelling : Retelling) (past : List Row) →
+    Mints options memories retelling past → length memories ≡ length (columns past)
 many options memories retelling past h = ap length h.remembered ∙ length-map (columns past) (remembered (note_after options.breaks) None)
 
 -- What is remembered of a column is the note before its next cell.
-before_is : (options : MintOptions) (memories : List (Option Spelled)) (j : ℕ) (before : Option Spelled) → MayRetell (Mints options memories) j → before ≡ slice_index_or memories j before
+before_is : (options : MintOptions) (memories : List (Option Spelled)) (j : ℕ) (before : Option Spelled) →
+    MayRetell (Mints options memories) j → before ≡ slice_index_or memories j before
     → (retelling : Retelling) (past : List Row) → Mints options memories retelling past → before ≡ note_before options.breaks (history past j)
 before_is options memories j before may is retelling past h =
     let one = many options memories may.retelling may.past may.memory in
@@ -37,7 +40,9 @@ before_is options memories j before may is retelling past h =
     ∙ at_map (note_before options.breaks) (columns past) j before below
 
 -- the token that was told is what the command makes of it
-told_by : (signless sizeonly : Bool) (before : Option Spelled) (token text : List ℕ) (refused : Option Rule) → IsRetold (minted signless sizeonly before token) text refused → Tells (minted signless sizeonly before token) text refused
+told_by : (signless sizeonly : Bool) (before : Option Spelled) (token text : List ℕ) (refused : Option Rule) →
+    IsRetold (minted signless sizeonly before token) text refused →
+    Tells (minted signless sizeonly before token) text refused
 told_by signless sizeonly before token text refused h = go (minted signless sizeonly before token) refused h
   where
     go : (r : Result (List ℕ) Rule) (refused : Option Rule) → IsRetold r text refused → Tells r text refused
@@ -46,8 +51,11 @@ told_by signless sizeonly before token text refused h = go (minted signless size
     go (Err rule) None h = absurd h
     go (Err rule) (Some other) h = ap (λ (x : Rule). Err x) (sym h)
 
-pub has_retold : (options : MintOptions) (memories : List (Option Spelled)) (j : ℕ) (token text : List ℕ) (before : Option Spelled) → MayRetell (Mints options memories) j → before ≡ slice_index_or memories j before
-    → (r : Result (Option Rule) AllocError) → IfOk r (IsRetold (minted options.signless options.sizeonly before token) text) → IfOk r (HasRetold (Mints options memories) (Mints options memories) j token text)
+pub has_retold : (options : MintOptions) (memories : List (Option Spelled)) (j : ℕ) (token text : List ℕ)
+    (before : Option Spelled) → MayRetell (Mints options memories) j → before ≡ slice_index_or memories j before
+    → (r : Result (Option Rule) AllocError) → IfOk r
+    (IsRetold (minted options.signless options.sizeonly before token) text) →
+    IfOk r (HasRetold (Mints options memories) (Mints options memories) j token text)
 has_retold options memories j token text before may is (Err wanting) h = tt
 has_retold options memories j token text before may is (Ok refused) h = λ retelling past follows. (follows, tells retelling past follows)
   where

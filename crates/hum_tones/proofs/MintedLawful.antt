@@ -81,7 +81,9 @@ brackets_lawful p small =
 small_size : (p q : Pitch) → mag (pos (size (step_number (spelled q) -ℤ step_number (spelled p)))) < 2 ^ 63
 small_size p q = let a = p.in_range in let b = q.in_range in omega (arith, ints)
 
-pub approached_lawful : (signless sizeonly : Bool) (before : Option Pitch) (pitch : Pitch) → IsToken Values (approached signless sizeonly (option_map spelled before) (spelled pitch))
+pub approached_lawful : (signless sizeonly : Bool) (before : Option Pitch) (pitch : Pitch) →
+    IsToken Values (approached signless sizeonly (option_map spelled before) (spelled pitch))
 approached_lawful signless sizeonly None pitch = brackets_lawful (spelled pitch) pitch.in_range.0
 approached_lawful signless sizeonly (Some before) pitch =
-    named_lawful signless sizeonly (step_number (spelled pitch) -ℤ step_number (spelled before)) (semitones (spelled pitch) -ℤ semitones (spelled before)) (small_size before pitch)
+    named_lawful signless sizeonly (step_number (spelled pitch) -ℤ step_number (spelled before))
+    (semitones (spelled pitch) -ℤ semitones (spelled before)) (small_size before pitch)

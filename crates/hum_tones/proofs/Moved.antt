@@ -26,7 +26,8 @@ module _ (gives : List ℕ → Result (Option (List ℕ)) Rule) (parts : List (L
       at_drop_more (given_by gives) parts n part below ∙ ap (λ p. with_first (gives p) (given_by gives (drop (n + 1) parts))) (sym is) in
       h.rest ∙ ap (λ r. onto h.done r) next
 
-  pub one_moved : (part after : List ℕ) → (n < length parts) × (part ≡ get_or parts n part) → HasMoved (gives part) text after None → MovedSoFar gives parts (n + 1) after
+  pub one_moved : (part after : List ℕ) → (n < length parts) × (part ≡ get_or parts n part) →
+      HasMoved (gives part) text after None → MovedSoFar gives parts (n + 1) after
   one_moved part after at added = go (gives part) refl added
     where
       go : (given : Result (Option (List ℕ)) Rule) → gives part ≡ given → HasMoved given text after None → MovedSoFar gives parts (n + 1) after

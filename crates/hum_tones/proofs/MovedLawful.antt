@@ -1,5 +1,7 @@
 -- A transposed token is a lawful one.
-use Rattle.std.proofs.Common.{◌≡◌, ◌≢◌, refl, sym, ap, ◌∙◌, ℕ, zero, suc, ℤ, pos, negsuc, ◌-ℤ◌, ◌==◌, ◌<◌, ◌≤◌, Bool, true, false, List, [], ◌∷◌, ◌++◌, take, drop, arith, Option, None, Some, subst}
+use Rattle.std.proofs.Common.{◌≡◌, ◌≢◌, refl, sym, ap, ◌∙◌, ℕ, zero, suc, ℤ, pos, negsuc, ◌-ℤ◌, ◌==◌, ◌<◌, ◌≤◌}
+use Rattle.std.proofs.Common.{Bool, true, false, List, [], ◌∷◌, ◌++◌, take, drop, arith, Option, None, Some}
+use Rattle.std.proofs.Common.{subst}
 use Rattle.std.specs.Prelude.{Result, Ok, Err, replicate, slice_index, if◌then◌else◌, not}
 use Rattle.std.specs.List.{onto_first}
 use Rattle.std.proofs.lemmas.List.Folds.{list_any-append}
@@ -48,8 +50,12 @@ repeat_lacks x c zero h = refl
 repeat_lacks x c (suc n) h = rw (h, repeat_lacks x c n h) refl
 
 letters_lack : (c step : ℕ) (o : ℤ) → step < 7 → c ≤ 32 → has_byte c (letters step o) ≡ false
-letters_lack c step (pos k) h low = let over = small_over step h in repeat_lacks (slice_index small_letters step) c (suc k) (not_low (slice_index small_letters step) c (omega (arith, over)) low)
-letters_lack c step (negsuc k) h low = let over = capital_over step h in repeat_lacks (slice_index capitals step) c (suc k) (not_low (slice_index capitals step) c (omega (arith, over)) low)
+letters_lack c step (pos k) h low = let over = small_over step h in
+    repeat_lacks (slice_index small_letters step) c (suc k)
+    (not_low (slice_index small_letters step) c (omega (arith, over)) low)
+letters_lack c step (negsuc k) h low = let over = capital_over step h in
+    repeat_lacks (slice_index capitals step) c (suc k)
+    (not_low (slice_index capitals step) c (omega (arith, over)) low)
 
 signs_lack : (c : ℕ) (a : ℤ) → c ≤ 32 → has_byte c (accidentals a) ≡ false
 signs_lack c (pos k) low = repeat_lacks 35 c k (not_low 35 c (omega arith) low)
@@ -59,7 +65,8 @@ pub both_lack : (c : ℕ) (xs ys : List ℕ) → has_byte c xs ≡ false → has
 both_lack c xs ys p q = rw (list_any-append (λ (x : ℕ). x == c) xs ys, p, q) refl
 
 pub spelling_lacks : (c : ℕ) (p : Spelled) → p.step < 7 → c ≤ 32 → has_byte c (spelling p) ≡ false
-spelling_lacks c p h low = both_lack c (letters_of p) (accidentals p.alteration) (letters_lack c p.step (p.octave -ℤ pos 4) h low) (signs_lack c p.alteration low)
+spelling_lacks c p h low = both_lack c (letters_of p) (accidentals p.alteration)
+    (letters_lack c p.step (p.octave -ℤ pos 4) h low) (signs_lack c p.alteration low)
 
 -- a pitch begins as data does
 small_kind : (step : ℕ) (more : List ℕ) → step < 7 → kind_of_token (slice_index small_letters step ∷ more) ≡ Values
@@ -104,7 +111,8 @@ pub data Becomes (part text : List ℕ) : Type 0 where
   Stays : text ≡ part → Becomes part text
   Moves : (start end : ℕ) (there : Spelled) → there.step < 7 → text ≡ take start part ++ (spelling there ++ drop end part) → Becomes part text
 
-put_becomes : (part : List ℕ) (found : Reading) (there : Spelled) (text : List ℕ) → there.step < 7 → put part found (if_spelled there) ≡ Ok (Some text) → Becomes part text
+put_becomes : (part : List ℕ) (found : Reading) (there : Spelled) (text : List ℕ) → there.step < 7 →
+    put part found (if_spelled there) ≡ Ok (Some text) → Becomes part text
 put_becomes part found there text h e = go (is_alteration there.alteration) (is_octave there.octave) e
   where
     go : (a b : Bool) → put part found (if not a then Err TR1 else if not b then Err TR2 else Ok there) ≡ Ok (Some text) → Becomes part text
@@ -151,9 +159,13 @@ AllMoved n m _ _ = ⊥
 pub all_moved : (n m : ℤ) (parts texts : List (List ℕ)) → given_by (transposed_part n m) parts ≡ Ok texts → AllMoved n m parts texts
 all_moved n m [] [] e = tt
 all_moved n m [] (text ∷ texts) e = cc
-all_moved n m (part ∷ parts) texts e = go (transposed_part n m part) refl (given_by (transposed_part n m) parts) (λ others given. all_moved n m parts others given) texts e
+all_moved n m (part ∷ parts) texts e = go (transposed_part n m part) refl (given_by (transposed_part n m) parts)
+    (λ others given. all_moved n m parts others given) texts e
   where
-    go : (r : Result (Option (List ℕ)) Rule) → transposed_part n m part ≡ r → (rest : Result (List (List ℕ)) Rule) → ((others : List (List ℕ)) → rest ≡ Ok others → AllMoved n m parts others) → (texts : List (List ℕ)) → with_first r rest ≡ Ok texts → AllMoved n m (part ∷ parts) texts
+    go : (r : Result (Option (List ℕ)) Rule) → transposed_part n m part ≡ r →
+        (rest : Result (List (List ℕ)) Rule) → ((others : List (List ℕ)) → rest ≡ Ok others →
+        AllMoved n m parts others) → (texts : List (List ℕ)) → with_first r rest ≡ Ok texts →
+        AllMoved n m (part ∷ parts) texts
     go (Err rule) is rest more texts e = cc
     go (Ok None) is rest more texts e = absurd (never_none n m part is)
     go (Ok (Some text)) is (Err rule) more texts e = cc
@@ -177,7 +189,9 @@ each_becomes n m (part ∷ parts) (text ∷ texts) moved = (becomes n m part tex
 text_lacks : (c : ℕ) (part text : List ℕ) → c ≤ 32 → Becomes part text → has_byte c part ≡ false → has_byte c text ≡ false
 text_lacks c part text low (Stays e) h = rw e h
 text_lacks c part text low (Moves start end there small e) h =
-    rw e (both_lack c (take start part) (spelling there ++ drop end part) (lacks_take c start part h) (both_lack c (spelling there) (drop end part) (spelling_lacks c there small low) (lacks_drop c end part h)))
+    rw e (both_lack c (take start part) (spelling there ++ drop end part) (lacks_take c start part h)
+    (both_lack c (spelling there) (drop end part) (spelling_lacks c there small low)
+    (lacks_drop c end part h)))
 
 pub texts_lack : (c : ℕ) (parts texts : List (List ℕ)) → c ≤ 32 → EachBecomes parts texts → Lack c parts → Lack c texts
 texts_lack c [] [] low each all = tt
@@ -187,11 +201,15 @@ texts_lack c (part ∷ parts) (text ∷ texts) low each all = (text_lacks c part
 
 text_kind : (part text : List ℕ) → Becomes part text → kind_of_token part ≡ Values → kind_of_token text ≡ Values
 text_kind part text (Stays e) h = rw e h
-text_kind part text (Moves start end there small e) h = rw e (front_kind start part (spelling there ++ drop end part) h (letters_kind there.step (there.octave -ℤ pos 4) (accidentals there.alteration) (drop end part) small))
+text_kind part text (Moves start end there small e) h =
+    rw e (front_kind start part (spelling there ++ drop end part) h
+    (letters_kind there.step (there.octave -ℤ pos 4) (accidentals there.alteration) (drop end part) small))
 
 text_some : (part text : List ℕ) → Becomes part text → part ≢ [] → text ≢ []
 text_some part text (Stays e) h = λ f. h (sym e ∙ f)
-text_some part text (Moves start end there small e) h = λ f. front_some (take start part) (spelling there ++ drop end part) (letters_some there.step (there.octave -ℤ pos 4) (accidentals there.alteration) (drop end part)) (sym e ∙ f)
+text_some part text (Moves start end there small e) h = λ f. front_some (take start part)
+    (spelling there ++ drop end part) (letters_some there.step (there.octave -ℤ pos 4)
+    (accidentals there.alteration) (drop end part)) (sym e ∙ f)
 
 -- the first part of a token
 onto_some : (x : ℕ) (parts : List (List ℕ)) → onto_first x parts ≢ []
@@ -202,7 +220,8 @@ pub parts_some : (token : List ℕ) → subtokens token ≢ []
 parts_some [] = λ e. cc
 parts_some (x ∷ xs) = by_bool (x == 32) (λ w. rw w (λ e. cc)) (λ w. rw w (onto_some x (subtokens xs)))
 
-first_kind : (token : List ℕ) (part : List ℕ) (parts : List (List ℕ)) → subtokens token ≡ part ∷ parts → kind_of_token token ≡ Values → kind_of_token part ≡ Values
+first_kind : (token : List ℕ) (part : List ℕ) (parts : List (List ℕ)) → subtokens token ≡ part ∷ parts →
+    kind_of_token token ≡ Values → kind_of_token part ≡ Values
 first_kind [] part parts e h = let is : [] ≡ part = cc in rw (← is) refl
 first_kind (x ∷ xs) part parts e h = by_bool (x == 32) (λ w. at_space w) (λ w. within w)
   where
@@ -249,9 +268,15 @@ moved_lawful n m token text e lawful = from (given_by (transposed_part n m) (sub
         let kind = join_kind first texts (text_kind part first each.0 (first_kind token part parts is lawful.of_kind)) in
         record {
           filled = some parts texts is each;
-          one_token = joined_lacks 9 first texts refl (texts_lack 9 (part ∷ parts) (first ∷ texts) (omega arith) each (subst (Lack 9) is (parts_lack 9 token lawful.one_token)));
-          one_line = joined_lacks 13 first texts refl (texts_lack 13 (part ∷ parts) (first ∷ texts) (omega arith) each (subst (Lack 13) is (parts_lack 13 token lawful.one_line)));
-          no_line_end = joined_lacks 10 first texts refl (texts_lack 10 (part ∷ parts) (first ∷ texts) (omega arith) each (subst (Lack 10) is (parts_lack 10 token lawful.no_line_end)));
+          one_token = joined_lacks 9 first texts refl
+              (texts_lack 9 (part ∷ parts) (first ∷ texts) (omega arith) each
+              (subst (Lack 9) is (parts_lack 9 token lawful.one_token)));
+          one_line = joined_lacks 13 first texts refl
+              (texts_lack 13 (part ∷ parts) (first ∷ texts) (omega arith) each
+              (subst (Lack 13) is (parts_lack 13 token lawful.one_line)));
+          no_line_end = joined_lacks 10 first texts refl
+              (texts_lack 10 (part ∷ parts) (first ∷ texts) (omega arith) each
+              (subst (Lack 10) is (parts_lack 10 token lawful.no_line_end)));
           of_kind = kind;
           no_comment = no_comment (joined (first ∷ texts)) kind;
         }

@@ -48,7 +48,9 @@ can_be_spelled : (there : Spelled) → IsAlteration there.alteration → IsOctav
 can_be_spelled there h in_octave = rw (alteration_in there.alteration h, octave_in there.octave in_octave) refl
 
 -- where a pitch was read
-with_pitch : (n m : ℤ) (part : List ℕ) (found : Note) (pitch : Pitch) → Ok (reading found) ≡ note part → found.pitch ≡ Some pitch → transposed_part n m part ≡ put part (reading found) (if_spelled (away n m (spelled pitch)))
+with_pitch : (n m : ℤ) (part : List ℕ) (found : Note) (pitch : Pitch) → Ok (reading found) ≡ note part →
+    found.pitch ≡ Some pitch → transposed_part n m part ≡ put part (reading found)
+    (if_spelled (away n m (spelled pitch)))
 with_pitch n m part found pitch read there =
     ap (moved_as_read n m part) (sym read) ∙ ap (λ (o : Option Pitch). moved n m part (reading found) (option_map spelled o)) there
 
@@ -56,13 +58,22 @@ pub without_pitch : (n m : ℤ) (part : List ℕ) (found : Note) → Ok (reading
 without_pitch n m part found read there =
     ap (moved_as_read n m part) (sym read) ∙ ap (λ (o : Option Pitch). moved n m part (reading found) (option_map spelled o)) there
 
-pub too_many_signs : (n m : ℤ) (part : List ℕ) (found : Note) (pitch : Pitch) → Ok (reading found) ≡ note part → found.pitch ≡ Some pitch → IsOutside (negsuc 6) (away n m (spelled pitch)).alteration (pos 7) → transposed_part n m part ≡ Err TR1
-too_many_signs n m part found pitch read there h = with_pitch n m part found pitch read there ∙ ap (put part (reading found)) (over_seven (away n m (spelled pitch)) h)
+pub too_many_signs : (n m : ℤ) (part : List ℕ) (found : Note) (pitch : Pitch) → Ok (reading found) ≡ note part →
+    found.pitch ≡ Some pitch → IsOutside (negsuc 6) (away n m (spelled pitch)).alteration (pos 7) →
+    transposed_part n m part ≡ Err TR1
+too_many_signs n m part found pitch read there h = with_pitch n m part found pitch read there
+    ∙ ap (put part (reading found)) (over_seven (away n m (spelled pitch)) h)
 
-pub too_far : (n m : ℤ) (part : List ℕ) (found : Note) (pitch : Pitch) → Ok (reading found) ≡ note part → found.pitch ≡ Some pitch → IsAlteration (away n m (spelled pitch)).alteration × IsOutside (negsuc 3) (away n m (spelled pitch)).octave (pos 11) → transposed_part n m part ≡ Err TR2
-too_far n m part found pitch read there h = with_pitch n m part found pitch read there ∙ ap (put part (reading found)) (octave_beyond (away n m (spelled pitch)) h.0 h.1)
+pub too_far : (n m : ℤ) (part : List ℕ) (found : Note) (pitch : Pitch) → Ok (reading found) ≡ note part →
+    found.pitch ≡ Some pitch → IsAlteration (away n m (spelled pitch)).alteration × IsOutside (negsuc 3)
+    (away n m (spelled pitch)).octave (pos 11) → transposed_part n m part ≡ Err TR2
+too_far n m part found pitch read there h = with_pitch n m part found pitch read there
+    ∙ ap (put part (reading found)) (octave_beyond (away n m (spelled pitch)) h.0 h.1)
 
-pub put_there : (n m : ℤ) (part : List ℕ) (found : Note) (pitch q : Pitch) → Ok (reading found) ≡ note part → found.pitch ≡ Some pitch → spelled q ≡ away n m (spelled pitch) → transposed_part n m part ≡ Ok (Some (take found.start part ++ (spelling (spelled q) ++ drop found.end part)))
+pub put_there : (n m : ℤ) (part : List ℕ) (found : Note) (pitch q : Pitch) → Ok (reading found) ≡ note part →
+    found.pitch ≡ Some pitch → spelled q ≡ away n m (spelled pitch) →
+    transposed_part n m part ≡ Ok (Some
+    (take found.start part ++ (spelling (spelled q) ++ drop found.end part)))
 put_there n m part found pitch q read there h =
     with_pitch n m part found pitch read there
     ∙ ap (λ (p : Spelled). put part (reading found) (if_spelled p)) (sym h)

@@ -1,5 +1,6 @@
 -- Numbers, as they are written, may stand in a token.
-use Rattle.std.proofs.Common.{◌≡◌, ◌≢◌, refl, ℕ, zero, suc, ◌+◌, ◌≤◌, ◌<◌, ◌/◌, ◌%◌, ◌^◌, ◌==◌, ◌&&◌, Bool, false, List, [], ◌∷◌, ◌++◌, arith, None, Some, to_z, of_z, w32}
+use Rattle.std.proofs.Common.{◌≡◌, ◌≢◌, refl, ℕ, zero, suc, ◌+◌, ◌≤◌, ◌<◌, ◌/◌, ◌%◌, ◌^◌, ◌==◌, ◌&&◌, Bool}
+use Rattle.std.proofs.Common.{false, List, [], ◌∷◌, ◌++◌, arith, None, Some, to_z, of_z, w32}
 use Rattle.std.specs.Prelude.{ℤ, pos, negsuc, Ok}
 use Rattle.std.specs.List.{AllByRecursion}
 use Rattle.std.specs.Fmt.{decimal, signed_decimal}
@@ -39,9 +40,15 @@ digits_of (suc fuel) n below fits = elim (leb_tells 10 n) [
   | inl told ↦ (
       let large = told.1 in
       let more = digits_of fuel (n / 10) (omega (arith, below, large)) (omega (arith, fits, large)) in
-      rw (decimal_step n large fits) (record { all = push_all IsDigit (decimal (n / 10)) (48 + n % 10) more.all (record { low = omega arith; high = omega arith }); some = some_push (decimal (n / 10)) (48 + n % 10) })
+      rw (decimal_step n large fits) (record {
+        all = push_all IsDigit (decimal (n / 10)) (48 + n % 10) more.all
+            (record { low = omega arith; high = omega arith });
+        some =
+            some_push (decimal (n / 10)) (48 + n % 10);
+      })
       )
-  | inr small ↦ rw (decimal_digit n (omega (arith, small.1))) (record { all = (record { low = omega arith; high = omega (arith, small.1) }, tt); some = λ e. cc })
+  | inr small ↦ rw (decimal_digit n (omega (arith, small.1)))
+      (record { all = (record { low = omega arith; high = omega (arith, small.1) }, tt); some = λ e. cc })
 ]
 
 digits_lack : (c : ℕ) (text : List ℕ) → c < 48 → AllByRecursion IsDigit text → has_byte c text ≡ false
@@ -56,7 +63,13 @@ digits_piece (x ∷ text) h =
     let not_comment : (x == 33) ≡ false = grind (arith, nat_tests, h.all.0.low) in
     let not_star : (x == 42) ≡ false = grind (arith, nat_tests, h.all.0.low) in
     record {
-      part = record { one_token = digits_lack 9 (x ∷ text) (omega arith) h.all; one_line = digits_lack 13 (x ∷ text) (omega arith) h.all; no_line_end = digits_lack 10 (x ∷ text) (omega arith) h.all };
+      part = record {
+        one_token = digits_lack 9 (x ∷ text) (omega arith) h.all;
+        one_line =
+            digits_lack 13 (x ∷ text) (omega arith) h.all;
+        no_line_end =
+            digits_lack 10 (x ∷ text) (omega arith) h.all;
+      };
       filled = h.some;
       of_kind = rw (not_comment, not_star) refl;
     }
@@ -67,13 +80,20 @@ number_piece (pos n) fits = digits_piece (decimal n) (digits_of (suc n) n (omega
 number_piece (negsuc n) fits =
     let h = digits_of (suc (suc n)) (suc n) (omega arith) (omega (arith, fits)) in
     record {
-      part = record { one_token = digits_lack 9 (decimal (suc n)) (omega arith) h.all; one_line = digits_lack 13 (decimal (suc n)) (omega arith) h.all; no_line_end = digits_lack 10 (decimal (suc n)) (omega arith) h.all };
+      part = record {
+        one_token = digits_lack 9 (decimal (suc n)) (omega arith) h.all;
+        one_line =
+            digits_lack 13 (decimal (suc n)) (omega arith) h.all;
+        no_line_end =
+            digits_lack 10 (decimal (suc n)) (omega arith) h.all;
+      };
       filled = λ e. cc;
       of_kind = refl;
     }
 
 -- the semitones of a part
-pub adds_semitones : (ties : Bool) (part : List ℕ) (reading : Reading) (pitch : Spelled) (before after : List ℕ) → Ok reading ≡ note part → reading.rest ≡ false → reading.pitch ≡ Some pitch
+pub adds_semitones : (ties : Bool) (part : List ℕ) (reading : Reading) (pitch : Spelled) (before after : List ℕ)
+    → Ok reading ≡ note part → reading.rest ≡ false → reading.pitch ≡ Some pitch
     → (ties && reading.continued) ≡ false → mag (semitones pitch) < 2 ^ 63 → after ≡ before ++ (signed_decimal (semitones pitch) ++ codes " ") → HasAdded (semits_of ties part) before after None
 adds_semitones ties part reading pitch before after is no_rest some kept fits made =
     rw (← is) (rw no_rest (rw some (rw kept (made, number_piece (semitones pitch) fits))))

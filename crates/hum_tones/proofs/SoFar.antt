@@ -1,5 +1,6 @@
 -- A token whose first parts have given their texts.
-use Rattle.std.proofs.Common.{◌≡◌, refl, sym, ap, ◌∙◌, ℕ, ◌+◌, ◌<◌, ◌≤◌, List, [], ◌∷◌, ◌++◌, append_assoc, append-nil, length, drop, get_or, Option, None, Some}
+use Rattle.std.proofs.Common.{◌≡◌, refl, sym, ap, ◌∙◌, ℕ, ◌+◌, ◌<◌, ◌≤◌, List, [], ◌∷◌, ◌++◌, append_assoc}
+use Rattle.std.proofs.Common.{append-nil, length, drop, get_or, Option, None, Some}
 use Rattle.std.specs.Prelude.{Result, Ok, Err}
 use Rattle.std.specs.List.{AllByRecursion}
 use Rattle.std.proofs.lemmas.List.{at_drop_more, drop_all}
@@ -54,7 +55,8 @@ module _ (gives : List ℕ → Result (Option (List ℕ)) Rule) (parts : List (L
       at_drop_more (given_by gives) parts n part below ∙ ap (λ p. with_first (gives p) (given_by gives (drop (n + 1) parts))) (sym is) in
       h.rest ∙ ap (λ r. onto h.done r) next
 
-  pub one_more : (part after : List ℕ) → (n < length parts) × (part ≡ get_or parts n part) → HasAdded (gives part) text after None → SoFar gives parts (n + 1) after
+  pub one_more : (part after : List ℕ) → (n < length parts) × (part ≡ get_or parts n part) →
+      HasAdded (gives part) text after None → SoFar gives parts (n + 1) after
   one_more part after at added = go (gives part) refl added
     where
       go : (given : Result (Option (List ℕ)) Rule) → gives part ≡ given → HasAdded given text after None → SoFar gives parts (n + 1) after

@@ -1,5 +1,7 @@
 -- The duration of a part, as it is written, may stand in a token.
-use Rattle.std.proofs.Common.{◌≡◌, ◌≢◌, refl, sym, ap, ◌∙◌, ℕ, zero, suc, ◌+◌, ◌-◌, ◌≤◌, ◌<◌, ◌==◌, Bool, true, false, List, [], ◌∷◌, ◌++◌, append_assoc, length, take, drop, arith, Option, None, Some}
+use Rattle.std.proofs.Common.{◌≡◌, ◌≢◌, refl, sym, ap, ◌∙◌, ℕ, zero, suc, ◌+◌, ◌-◌, ◌≤◌, ◌<◌, ◌==◌, Bool, true}
+use Rattle.std.proofs.Common.{false, List, [], ◌∷◌, ◌++◌, append_assoc, length, take, drop, arith, Option, None}
+use Rattle.std.proofs.Common.{Some}
 use Rattle.std.specs.Prelude.{nat_le, if◌then◌else◌, Ok, Err}
 use Rattle.std.specs.List.{list_any, AllByRecursion}
 use Rattle.std.proofs.lemmas.List.{drop_at}
@@ -21,15 +23,19 @@ use Rattle.hum_tones.specs.Subtokens.{IsPart, HasAdded}
 use Rattle.hum_kern.specs.Note.{is_rest}
 use Rattle.hum_tones.specs.Recip.{written, rest_sign, by_value, recip_of}
 
-place_of : (start end : ℕ) (value : Option Ratio) (dots : ℕ) (found : Length) → Ok found ≡ with_dots start end value dots → (found.start ≡ start) × (end ≤ found.end)
+place_of : (start end : ℕ) (value : Option Ratio) (dots : ℕ) (found : Length) →
+    Ok found ≡ with_dots start end value dots → (found.start ≡ start) × (end ≤ found.end)
 place_of start end None dots found e = cc
 place_of start end (Some value) dots found e = go (nat_le dots 6) e
   where
-    go : (b : Bool) → Ok found ≡ (if b then Ok (record { value = Some (reduced (dotted value dots)); start = start; end = end + dots }) else Err K3) → (found.start ≡ start) × (end ≤ found.end)
+    go : (b : Bool) → Ok found ≡ (if b then Ok
+        (record { value = Some (reduced (dotted value dots)); start = start; end = end + dots }) else Err K3) →
+        (found.start ≡ start) × (end ≤ found.end)
     go true e = let same : found ≡ record { value = Some (reduced (dotted value dots)); start = start; end = end + dots } = cc in rw same (refl, omega arith)
     go false e = cc
 
-said_place : (parts : Spelling) (found : Length) → Ok found ≡ said parts → (found.start ≡ length parts.before) × (length parts.before + length parts.digits ≤ found.end)
+said_place : (parts : Spelling) (found : Length) → Ok found ≡ said parts →
+    (found.start ≡ length parts.before) × (length parts.before + length parts.digits ≤ found.end)
 said_place parts found e = go (is_torn parts) e
   where
     start : ℕ
@@ -38,7 +44,9 @@ said_place parts found e = go (is_torn parts) e
     end : ℕ
     end = length parts.before + length parts.digits + second_length parts.second
 
-    go : (b : Bool) → Ok found ≡ (if b then Err K3 else with_dots start end (value_of parts.digits parts.second) (length parts.dots)) → (found.start ≡ length parts.before) × (length parts.before + length parts.digits ≤ found.end)
+    go : (b : Bool) → Ok found ≡ (if b then Err K3 else with_dots start end (value_of parts.digits parts.second)
+        (length parts.dots)) → (found.start ≡ length parts.before) × (length parts.before + length
+        parts.digits ≤ found.end)
     go true e = cc
     go false e = let at = place_of start end (value_of parts.digits parts.second) (length parts.dots) found e in (at.0, let ends = at.1 in omega arith)
 
@@ -49,7 +57,8 @@ pub record BeginsWithDigit (text : List ℕ) : Type 0 where
   pub is : text ≡ first ∷ more
   pub digit : is_digit first ≡ true
 
-from_place : (before digits behind : List ℕ) (end : ℕ) → is_empty digits ≡ false → AllByRecursion (λ b. is_digit b ≡ true) digits → length before + length digits ≤ end
+from_place : (before digits behind : List ℕ) (end : ℕ) → is_empty digits ≡ false →
+    AllByRecursion (λ b. is_digit b ≡ true) digits → length before + length digits ≤ end
     → BeginsWithDigit (take (end - length before) (drop (length before) (before ++ (digits ++ behind))))
 from_place before [] behind end some all far = cc
 from_place before (d ∷ digits) behind end some all far =
@@ -59,13 +68,16 @@ from_place before (d ∷ digits) behind end some all far =
     front zero h = absurd (omega arith)
     front (suc n) h = record { first = d; more = take n (digits ++ behind); is = refl; digit = all.0 }
 
-begins : (bytes : List ℕ) (parts : Spelling) (found : Length) → AreParts bytes parts → Ok found ≡ said_of bytes parts → found.value ≢ None → BeginsWithDigit (written found bytes)
+begins : (bytes : List ℕ) (parts : Spelling) (found : Length) → AreParts bytes parts →
+    Ok found ≡ said_of bytes parts → found.value ≢ None → BeginsWithDigit (written found bytes)
 begins bytes parts found are e some = go (list_any is_grace_sign bytes) (is_empty parts.digits) refl e
   where
     nothing : found ≡ no_length → ⊥
     nothing is = some (rw is refl)
 
-    go : (a b : Bool) → is_empty parts.digits ≡ b → Ok found ≡ (if a then Ok no_length else if b then Ok no_length else said parts) → BeginsWithDigit (written found bytes)
+    go : (a b : Bool) → is_empty parts.digits ≡ b →
+        Ok found ≡ (if a then Ok no_length else if b then Ok no_length else said parts) →
+        BeginsWithDigit (written found bytes)
     go true b h e = absurd (nothing cc)
     go false true h e = absurd (nothing cc)
     go false false h e =
@@ -85,9 +97,16 @@ lacks_take c (suc n) (x ∷ text) h = let both = or_parts (x == c) (has_byte c t
 lacks_rest : (c : ℕ) (part : List ℕ) → (114 == c) ≡ false → has_byte c (rest_sign part) ≡ false
 lacks_rest c part apart = by_bool (is_rest part) (λ w. rw (w, apart) refl) (λ w. rw w refl)
 
-lacks_written : (c : ℕ) (found : Length) (part : List ℕ) → (114 == c) ≡ false → has_byte c part ≡ false → has_byte c (written found part ++ rest_sign part) ≡ false
+lacks_written : (c : ℕ) (found : Length) (part : List ℕ) → (114 == c) ≡ false → has_byte c part ≡ false →
+    has_byte c (written found part ++ rest_sign part) ≡ false
 lacks_written c found part apart h =
-    rw (list_any-append (λ x. x == c) (written found part) (rest_sign part), lacks_take c (found.end - found.start) (drop found.start part) (lacks_drop c found.start part h), lacks_rest c part apart) refl
+    rw (
+      list_any-append (λ x. x == c) (written found part) (rest_sign part),
+      lacks_take c
+          (found.end - found.start) (drop found.start part) (lacks_drop c found.start part h),
+      lacks_rest c part
+          apart,
+    ) refl
 
 digit_kind : (text more : List ℕ) → BeginsWithDigit text → (kind_of_token (text ++ more) ≡ Values) × (text ++ more ≢ [])
 digit_kind text more h =
@@ -96,7 +115,8 @@ digit_kind text more h =
     rw h.is (rw (not_comment, not_star) refl, λ e. cc)
 
 -- the duration of a part with the sign of a rest
-pub adds_written : (part : List ℕ) (parts : Spelling) (found : Length) (before after : List ℕ) → AreParts part parts → Ok found ≡ said_of part parts → Ok found ≡ duration part
+pub adds_written : (part : List ℕ) (parts : Spelling) (found : Length) (before after : List ℕ) →
+    AreParts part parts → Ok found ≡ said_of part parts → Ok found ≡ duration part
     → IsPart part → found.value ≢ None → after ≡ before ++ ((written found part ++ rest_sign part) ++ codes " ") → HasAdded (recip_of part) before after None
 adds_written part parts found before after are says is lawful some made = rw (← is) (go found.value refl)
   where

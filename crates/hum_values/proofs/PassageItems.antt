@@ -15,7 +15,8 @@ use Rattle.hum_path.proofs.Cases.{by_bool}
 use Rattle.hum_values.specs.Cutting.{front, rest}
 use Rattle.hum_values.specs.Numbers.{number_of, positive_of}
 use Rattle.hum_values.specs.Passages.{greatest, IsPassage, IsDistance, ArePassages, one, span, onward, to_end, last, before_last, last_few, few_to_end}
-use Rattle.hum_values.specs.Passages.{behind_dollar, distance_of, in_order, through, from_number, near_end, from_distance, by_distance, from_last, by_number, passages_of}
+use Rattle.hum_values.specs.Passages.{behind_dollar, distance_of, in_order, through, from_number, near_end}
+use Rattle.hum_values.specs.Passages.{from_distance, by_distance, from_last, by_number, passages_of}
 use Rattle.hum_values.proofs.Choices.{chosen}
 use Rattle.hum_values.proofs.Cuts.{whole, rest_begins, front_alone, rest_alone, front_before, rest_before}
 use Rattle.hum_values.proofs.Digits.{number_is, number_alone, positive_is, positive_alone, number_digits, number_lacks, joined_lack}

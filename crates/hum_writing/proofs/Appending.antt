@@ -39,10 +39,21 @@ wrote_front a b c text rest w h =
     record { bytes = w.bytes; front = (rest, w.sum); appends = subst (Appends a c) (append-nil w.bytes) (appends_trans a b c w.bytes [] w.appends h) }
 
 pub front_first : (a b : Option (List ℕ)) (x y : List ℕ) → WroteFront a b x → WroteFront a b (x ++ y)
-front_first a b x y f = record { bytes = f.bytes; front = (f.front.0 ++ y, sym (append_assoc f.bytes f.front.0 y) ∙ ap (λ l. l ++ y) f.front.1); appends = f.appends }
+front_first a b x y f = record {
+  bytes = f.bytes;
+  front =
+      (f.front.0 ++ y, sym (append_assoc f.bytes f.front.0 y) ∙ ap (λ l. l ++ y) f.front.1);
+  appends = f.appends;
+}
 
 pub front_second : (a b c : Option (List ℕ)) (x y : List ℕ) → Appends a b x → WroteFront b c y → WroteFront a c (x ++ y)
-front_second a b c x y h f = record { bytes = x ++ f.bytes; front = (f.front.0, append_assoc x f.bytes f.front.0 ∙ ap (λ l. x ++ l) f.front.1); appends = appends_trans a b c x f.bytes h f.appends }
+front_second a b c x y h f = record {
+  bytes = x ++ f.bytes;
+  front =
+      (f.front.0, append_assoc x f.bytes f.front.0 ∙ ap (λ l. x ++ l) f.front.1);
+  appends =
+      appends_trans a b c x f.bytes h f.appends;
+}
 
 -- a fact that holds, holds where there is an error
 pub err-of : {A E : Type 0} (Q : Type 0) (r : Result A E) → Q → OnErr r Q
@@ -50,6 +61,7 @@ err-of Q (Ok x) h = tt
 err-of Q (Err e) h = h
 
 -- a front of the second part behind the first
-pub last-err : {A E : Type 0} (r : Result A E) (a b c : Option (List ℕ)) (x y : List ℕ) → Appends a b x → OnErr r (WroteFront b c y) → OnErr r (WroteFront a c (x ++ y))
+pub last-err : {A E : Type 0} (r : Result A E) (a b c : Option (List ℕ)) (x y : List ℕ) → Appends a b x →
+    OnErr r (WroteFront b c y) → OnErr r (WroteFront a c (x ++ y))
 last-err (Ok z) a b c x y h k = tt
 last-err (Err e) a b c x y h k = front_second a b c x y h k

@@ -5,5 +5,6 @@ use Rattle.hum_cells.proofs.cells.tell.Goals as goal
 pub returns-else-any_told : goal.returns-else-any_told
 returns-else-any_told g c = λ retelling past h kern sound. (
   h,
-  same_data retelling past c.args.row.now (sym c.in-Values.ensures.kind) c.in-Values.ensures.at_most (rw kern at (sym c.any_told.ensures ∙ c.if-any_told.false)),
+  same_data retelling past c.args.row.now (sym c.in-Values.ensures.kind) c.in-Values.ensures.at_most
+      (rw kern at (sym c.any_told.ensures ∙ c.if-any_told.false)),
 )

@@ -8,7 +8,8 @@ use Rattle.hum_cells.proofs.heading.with_heading.Goals as goal
 
 pub push-requires : goal.push-requires
 push-requires c =
-    rw (c.loop-j.invariant.kind, c.headed.ensures) (headed_lawful (shown c.args.heading) _ c.requires.lawful (token_of_sign c.args.row.now _ c.requires.kind c.token.ensures.lawful))
+    rw (c.loop-j.invariant.kind, c.headed.ensures) (headed_lawful (shown c.args.heading) _ c.requires.lawful
+    (token_of_sign c.args.row.now _ c.requires.kind c.token.ensures.lawful))
 
 pub loop-j-preserved : goal.loop-j-preserved
 loop-j-preserved c =

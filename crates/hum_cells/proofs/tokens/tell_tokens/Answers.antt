@@ -25,7 +25,9 @@ returns-in-Some g c = λ retelling past h kern sound.
     let kerns : length c.args.kern.now ≡ width_of c.args.row.now = rw kern wide.1 in
     let width = c.width-j-end.ensures in
     let at = c.loop-j-test.true in
-    let refused = refused_at _ c.args.kern.now _ (tokens_of c.args.row.now) c.loop-j.j _ _ c.in-Some.rule (omega (arith, kerns, width, at)) (omega (arith, columns, width, at)) (omega (arith, width, at)) before.1 (rw c.token.ensures.token at p.1) in (
+    let refused = refused_at _ c.args.kern.now _ (tokens_of c.args.row.now) c.loop-j.j _ _ c.in-Some.rule
+    (omega (arith, kerns, width, at)) (omega (arith, columns, width, at)) (omega (arith, width, at))
+    before.1 (rw c.token.ensures.token at p.1) in (
       p.0,
       told_data retelling past c.args.row.now c.requires.kind ∙ rw (← kern, refused) refl,
     )
@@ -42,7 +44,9 @@ loop-j-preserved g c = record {
       let width = c.width-j-end.ensures in
       let at = c.loop-j-test.true in (
         p.0,
-        done_more _ c.args.kern.now _ (tokens_of c.args.row.now) c.loop-j.j _ _ _ _ (omega (arith, kerns, width, at)) (omega (arith, columns, width, at)) (omega (arith, width, at)) before.1 (rw c.token.ensures.token at p.1),
+        done_more _ c.args.kern.now _ (tokens_of c.args.row.now) c.loop-j.j _ _ _ _
+            (omega (arith, kerns, width, at)) (omega (arith, columns, width, at)) (omega (arith, width, at))
+            before.1 (rw c.token.ensures.token at p.1),
       );
 }
 

@@ -1,17 +1,14 @@
-use Rattle.std.proofs.Common.{◌≡◌, ◌+◌, arith}
-use Rattle.hum_context.proofs.Standing.{stand_set}
+use Rattle.std.proofs.Common.{◌∙◌, sym, ◌∷◌}
+use Rattle.hum_record.specs.declared.SpinedKind.TheVariants.{Values}
+use Rattle.hum_record.specs.Row.{Spined, token_at}
+use Rattle.hum_context.proofs.Weighing.{kept_at, open_is}
 use Rattle.hum_context.proofs.front.advance_at.Goals as goal
 
-pub returns-then-walk-clause-stand : goal.returns-then-walk-clause-stand
-returns-then-walk-clause-stand c o path rows want none knows h =
-    let zero : c.args.gone + 0 ≡ c.args.gone = omega arith in
-    stand_set o path c.args.gone rows _ c.args.j _ h
-    (rw zero at (c.walk_at-walk.ensures o path rows want none knows
-    (rw (c.deref.ensures.value, zero) h)).stands)
-
-pub returns-else-walk-clause-stand : goal.returns-else-walk-clause-stand
-returns-else-walk-clause-stand c o path rows want none knows h =
-    let zero : c.args.gone + 0 ≡ c.args.gone = omega arith in
-    stand_set o path c.args.gone rows _ c.args.j _ h
-    (rw zero at (c.walk_at-walk.ensures o path rows want none knows
-    (rw (c.deref.ensures.value, zero) h)).stands)
+pub returns-in-Some-clause-becomes : goal.returns-in-Some-clause-becomes
+returns-in-Some-clause-becomes c o path tokens rows want none knows stand =
+    let known = kept_at o path c.args.held.now.items 0 (Spined Values tokens) rows
+    c.index.result.now knows c.requires.some c.index.ensures in
+    let is = open_is o path tokens c.index.result.now c.args.j c.in-Taken.begins c.in-Taken.ends known
+    (sym c.heard.ensures ∙ c.in-Taken.is) c.if-not-begins.false in
+    c.enough_at.ensures.becomes o path (Spined Values tokens ∷ rows) none (rw c.deref.ensures.value stand) c.in-Some.known c.in-Some.is
+    (token_at (Spined Values tokens) c.args.j) is.0 is.1

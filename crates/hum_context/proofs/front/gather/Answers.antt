@@ -16,7 +16,7 @@ returns-in_default c o path rows want none knows tokens e =
 
 pub loop-n-preserved : goal.loop-n-preserved
 loop-n-preserved c =
-    let next = c.pass-walk.ensures.at in
+    let next = c.pass-further.ensures.at in
     let at = c.loop-n.invariant.at in
     let size = c.args.held.now.ok.0 in
     let end = c.len-n-end.ensures in
@@ -25,11 +25,11 @@ loop-n-preserved c =
       at = omega (arith, next, at);
       text = λ o path rows want none knows.
           gathered_more o path rows c.args.j c.loop-n.n c.in-Some.c c.args.held.now.items
-          c.index-next.result.now c.loop-n.walk c.pass-walk.result c.loop-n.text c.in_ok-text.text
+          c.index-next.result.now c.loop-n.walk c.pass-further.result c.loop-n.text c.in_ok-text.text
           knows (c.loop-n.invariant.text o path rows want none knows)
           (omega (arith, size, end, below)) c.index-next.ensures c.in-Some.is
           (λ p row known. c.in_ok-text.ensures o p row known)
-          (λ front row known h. c.pass-walk.ensures.has o path front row c.args.j want known
+          (λ front row known h. c.pass-further.ensures.has o path front row c.args.j want known
           c.in-Some.is c.if-walk.false h);
     }
 

@@ -1,17 +1,18 @@
-use Rattle.std.proofs.Common.{◌∙◌, sym, ap, arith, length, ◌∷◌, [], ◌++◌, ◌+◌}
+use Rattle.std.proofs.Common.{◌∙◌, sym, ap, refl, arith, length, ◌∷◌, [], ◌++◌, ◌+◌}
 use Rattle.hum_record.specs.declared.SpinedKind.TheVariants.{Values}
 use Rattle.hum_record.specs.Row.{Row, Spined, token_at, tokens_of}
 use Rattle.hum_context.specs.Context.{chain}
 use Rattle.hum_context.specs.Walking.{bytes_of}
-use Rattle.hum_context.proofs.Weighing.{bytes_some, sofar_more, sofar_stops, counts_more}
+use Rattle.hum_context.proofs.Following.{none_stand}
+use Rattle.hum_context.proofs.Weighing.{bytes_some, sofar_more, sofar_stops, sofar_all, counts_more}
 use Rattle.hum_context.proofs.Weighing.{kept_at}
 use Rattle.hum_context.proofs.front.weigh.Goals as goal
 
 pub loop-j-preserved : goal.loop-j-preserved
 loop-j-preserved c = record {
   few = c.plus-size.ensures.few c.loop-j.invariant.few;
-  weighs = λ o path tokens rows want none knows stand.
-      let w = c.loop-j.invariant.weighs o path tokens rows want none knows stand in
+  weighs = λ o path tokens rows want none knows.
+      let w = c.loop-j.invariant.weighs o path tokens rows want none knows in
       let known = kept_at o path c.args.held.now.items c.args.k (Spined Values tokens) rows
       c.index-kept.result.now knows c.requires.within c.index-kept.ensures in
       let wide = ap (λ (r : Row). length (tokens_of r)) known.is in
@@ -19,18 +20,19 @@ loop-j-preserved c = record {
       let end = c.width-j-end.ensures in
       let b = bytes_some o (token_at (Spined Values tokens) c.loop-j.j)
       (chain path (Spined Values tokens ∷ rows) c.loop-j.j) c.in-Some.new _
-      (rw c.in-Some.is at (c.new_at.ensures.becomes o path tokens rows want none knows stand))
-      (c.bytes.ensures.bytes ∙ ap (λ (r : Row). length (token_at r c.loop-j.j) + 1) known.is) in (
+      (rw c.in-Some.is at (c.new_at.ensures.becomes o path tokens rows want none knows
+      (none_stand o _ _ _ _ refl)))
+      (ap (λ (r : Row). length (token_at r c.loop-j.j) + 1) known.is) in (
         w.0 ++ b.0 ∷ [],
         sofar_more o path (Spined Values tokens) rows tokens c.loop-j.j w.0 b.0 w.1
             (omega (arith, wide, test, end)) b.1,
-        counts_more w.0 b.0 _ _ (b.2 ∙ sym c.new_bytes.ensures) (c.plus-size.ensures.counts (bytes_of w.0) w.2),
+        counts_more w.0 b.0 _ _ (b.2 ∙ sym c.new_bytes.ensures.bytes) (c.plus-size.ensures.counts (bytes_of w.0) w.2),
       );
 }
 
 pub returns-in_default : goal.returns-in_default
-returns-in_default c o path tokens rows want none knows stand =
-    let w = c.loop-j.invariant.weighs o path tokens rows want none knows stand in
+returns-in_default c o path tokens rows want none knows =
+    let w = c.loop-j.invariant.weighs o path tokens rows want none knows in
     let known = kept_at o path c.args.held.now.items c.args.k (Spined Values tokens) rows
     c.index-kept.result.now knows c.requires.within c.index-kept.ensures in
     let wide = ap (λ (r : Row). length (tokens_of r)) known.is in
@@ -38,4 +40,16 @@ returns-in_default c o path tokens rows want none knows stand =
     let end = c.width-j-end.ensures in
     sofar_stops o path (Spined Values tokens) rows tokens c.loop-j.j w.0 w.1
     (omega (arith, wide, test, end))
-    (rw c.in_default.is at (c.new_at.ensures.becomes o path tokens rows want none knows stand))
+    (rw c.in_default.is at (c.new_at.ensures.becomes o path tokens rows want none knows
+    (none_stand o _ _ _ _ refl)))
+
+pub returns : goal.returns
+returns c o path tokens rows want none knows =
+    let w = c.loop-j.invariant.weighs o path tokens rows want none knows in
+    let known = kept_at o path c.args.held.now.items c.args.k (Spined Values tokens) rows
+    c.index-kept.result.now knows c.requires.within c.index-kept.ensures in
+    let wide = ap (λ (r : Row). length (tokens_of r)) known.is in
+    let over = c.loop-j-test.false in
+    let end = c.width-j-end.ensures in
+    rw (sofar_all o path (Spined Values tokens) rows tokens c.loop-j.j w.0 w.1
+    (omega (arith, wide, over, end))) (c.weight_of.ensures w.0 w.2)

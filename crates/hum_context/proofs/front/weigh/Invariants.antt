@@ -1,11 +1,11 @@
-use Rattle.std.proofs.Common.{◌≡◌, ◌≤◌, ◌+◌, ℕ, List, [], ◌∷◌, drop, None}
+use Rattle.std.proofs.Common.{◌≡◌, ◌≤◌, ℕ, List, [], ◌∷◌, drop, None}
 use Rattle.hum_record.specs.declared.SpinedKind.TheVariants.{Values}
 use Rattle.hum_record.specs.Row.{Row, Spined}
 use Rattle.hum_path.specs.Spines.{Path}
 use Rattle.hum_context.specs.Context.{Choice, taken}
 use Rattle.hum_context.specs.Heard.{wanted_of}
 use Rattle.hum_context.specs.Queue.{Knows}
-use Rattle.hum_context.specs.Walking.{AllStand, Counts, bytes_of}
+use Rattle.hum_context.specs.Walking.{Counts, bytes_of}
 use Rattle.hum_context.proofs.Weighing.{Sofar}
 use Rattle.hum_context.proofs.front.weigh.Given as goal
 
@@ -15,7 +15,6 @@ invariant-loop-j l = record {
   weighs : (o : Choice) (path : Path) (tokens : List (List ℕ)) (rows : List Row)
       → l.wanted ≡ wanted_of o.extent → taken o.extent [] ≡ None
       → Knows o path (drop l.k l.held.items) (Spined Values tokens ∷ rows)
-      → AllStand o path (l.gone + l.k) (Spined Values tokens ∷ rows) l.walks
       → (made : List (List ℕ)) × Sofar o path (Spined Values tokens) rows tokens l.j made
       × Counts l.size (bytes_of made);
 }

@@ -1,4 +1,4 @@
-use Rattle.std.proofs.Common.{◌∙◌, sym, ap, refl, subst, ◌∷◌, ◌+◌, cond}
+use Rattle.std.proofs.Common.{◌∙◌, sym, ap, subst, ◌∷◌, ◌+◌, cond}
 use Rattle.hum_record.specs.Row.{Row, tokens_of}
 use Rattle.hum_path.specs.Score.{path_after}
 use Rattle.hum_stage.specs.Settles.{or_stop}
@@ -6,7 +6,7 @@ use Rattle.hum_context.specs.declared.front.Weight.{Weight}
 use Rattle.hum_context.specs.Queue.{Knows}
 use Rattle.std.proofs.Common.{drop}
 use Rattle.hum_context.proofs.Weighing.{kept_at, quiet_stays}
-use Rattle.hum_context.proofs.Following.{first_data, none_heard, none_stand}
+use Rattle.hum_context.proofs.Following.{first_data, none_heard}
 use Rattle.hum_context.proofs.Lasts.{stops_by, is_long}
 use Rattle.hum_context.proofs.lasting.is_refused.Goals as goal
 
@@ -26,7 +26,7 @@ returns-in-Long c o past row rows want none knows n =
     stops_by o past row rows c.weigh.result n is
     (c.weigh.ensures o (path_after past) (tokens_of row) rows want none
     (subst (λ (r : Row). Knows o (path_after past) (drop c.args.k c.args.held.now.items) (r ∷ rows))
-    is knows) (none_stand o _ _ _ _ refl))
+    is knows))
     ∙ ap (λ (w : Weight). cond (is_long w) 0 (n + 1)) c.in-Long.is
 
 pub returns-in-Fits : goal.returns-in-Fits
@@ -38,5 +38,5 @@ returns-in-Fits c o past row rows want none knows n =
     stops_by o past row rows c.weigh.result n is
     (c.weigh.ensures o (path_after past) (tokens_of row) rows want none
     (subst (λ (r : Row). Knows o (path_after past) (drop c.args.k c.args.held.now.items) (r ∷ rows))
-    is knows) (none_stand o _ _ _ _ refl))
+    is knows))
     ∙ ap (λ (w : Weight). cond (is_long w) 0 (n + 1)) c.in-Fits.is

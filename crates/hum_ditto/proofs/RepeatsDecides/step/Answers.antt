@@ -21,7 +21,8 @@ pub returns-in-Ok : goal.returns-in-Ok
 returns-in-Ok c = λ decide past h sound.
     let row = c.args.next in
     let moved = told _ _ past row c.in_ok-found.ensures.moves h.spines in
-    let made = gives_made _ _ _ decide past h row c.in-Ok.made (c.is_to_fill.ensures.kind c.if-not-is_to_fill.false) c.in-Ok.ensures.made c.in-Ok.ensures.fits in (
+    let made = gives_made _ _ _ decide past h row c.in-Ok.made
+    (c.is_to_fill.ensures.kind c.if-not-is_to_fill.false) c.in-Ok.ensures.made c.in-Ok.ensures.fits in (
       made,
       follows_on _ _ _ decide past h row _ _ _ (ap (λ p. p.path) c.in_ok-found.ensures.after) c.follow-in-Ok.ensures.kept
           (c.in_ok-follow-in-Ok.ensures.memories past h.remembered moved),
@@ -29,4 +30,5 @@ returns-in-Ok c = λ decide past h sound.
 
 pub returns : goal.returns
 returns c = λ decide past h sound.
-    refuses_long _ _ _ decide past h c.args.next c.args._room (c.is_to_fill.ensures.kind c.if-not-is_to_fill.false) (c.in-Err.ensures.refused (λ e. search rules))
+    refuses_long _ _ _ decide past h c.args.next c.args._room
+    (c.is_to_fill.ensures.kind c.if-not-is_to_fill.false) (c.in-Err.ensures.refused (λ e. search rules))

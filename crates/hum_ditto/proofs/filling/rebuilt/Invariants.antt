@@ -10,5 +10,6 @@ invariant-loop-j l = record {
   kind : l.builder.kind ≡ Values;
   sound : l.builder.spent ≡ false;
   fits : length (spelled l.builder.tokens) ≤ 1048576;
-  made : l.builder.tokens ++ all_filled l.parentheses (drop l.j l.memories.each) (drop l.j (tokens_of l.row)) ≡ all_filled l.parentheses l.memories.each (tokens_of l.row);
+  made : l.builder.tokens ++ all_filled l.parentheses (drop l.j l.memories.each)
+      (drop l.j (tokens_of l.row)) ≡ all_filled l.parentheses l.memories.each (tokens_of l.row);
 }

@@ -5,4 +5,5 @@ pub returns-clause-value : goal.returns-clause-value
 returns-clause-value c = rw (← c.self.view_is, ← c.other.view_is) (sum_value _ _ c.lowest.result c.lowest.ensures.reduced)
 
 pub returns-clause-none : goal.returns-clause-none
-returns-clause-none c = rw (← c.self.view_is, ← c.other.view_is) (sum_none _ _ c.lowest.result c.self.invariant.positive c.other.invariant.positive c.lowest.ensures.refused)
+returns-clause-none c = rw (← c.self.view_is, ← c.other.view_is)
+    (sum_none _ _ c.lowest.result c.self.invariant.positive c.other.invariant.positive c.lowest.ensures.refused)

@@ -14,6 +14,7 @@ returns-clause-in_turn_is c = λ end.
 
 pub returns-clause-at_once_is : goal.returns-clause-at_once_is
 returns-clause-at_once_is c = λ end.
-    let alone : IsAlone (moved_by 1 (c.args.some.steps +ℤ c.args.more.steps) (c.args.some.semitones +ℤ c.args.more.semitones)) c.args.records.now c.in_ok-at_once.at_once =
+    let alone : IsAlone (moved_by 1 (c.args.some.steps +ℤ c.args.more.steps)
+    (c.args.some.semitones +ℤ c.args.more.semitones)) c.args.records.now c.in_ok-at_once.at_once =
     rw (c.sum-all.ensures.steps, c.sum-all.ensures.semitones) at (c.in_ok-at_once.ensures _ c.new-3.ensures.stands) in
     moves_alone (c.args.some.steps +ℤ c.args.more.steps) (c.args.some.semitones +ℤ c.args.more.semitones) c.args.records.now c.in_ok-at_once.at_once alone end

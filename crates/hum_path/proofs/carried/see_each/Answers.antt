@@ -12,7 +12,9 @@ loop-j-preserved g c =
     let width = c.width-j-end.ensures in
     let at = c.loop-j-test.true in
     let saw = rw c.loop-j.invariant.1 at c.in_ok-see_token.ensures.seen in (
-      see_more see (tokens_of c.args.row.now) c.loop-j.memories.items c.loop-j.j c.index_mut.result.now c.see_token.new.memory (omega (arith, width, at)) (omega (arith, size, len, inside)) c.index_mut.ensures.value saw ∙ c.loop-j.invariant.0,
+      see_more see (tokens_of c.args.row.now) c.loop-j.memories.items c.loop-j.j c.index_mut.result.now
+          c.see_token.new.memory (omega (arith, width, at)) (omega (arith, size, len, inside))
+          c.index_mut.ensures.value saw ∙ c.loop-j.invariant.0,
       c.see_token.ensures.kept ∙ c.loop-j.invariant.1,
     )
 

@@ -5,4 +5,6 @@ use Rattle.hum_path.proofs.origins.all_origins.Goals as goal
 
 pub loop-i-preserved : goal.loop-i-preserved
 loop-i-preserved c =
-    rw (c.in_ok-push.ensures.items, c.origin_of.ensures) (map_more (origin_of c.args.above.now) c.loop-i.next.items c.args.found.now c.loop-i.i c.get.result c.get.ensures ∙ c.loop-i.invariant)
+    rw (c.in_ok-push.ensures.items, c.origin_of.ensures)
+    (map_more (origin_of c.args.above.now) c.loop-i.next.items c.args.found.now c.loop-i.i c.get.result
+    c.get.ensures ∙ c.loop-i.invariant)

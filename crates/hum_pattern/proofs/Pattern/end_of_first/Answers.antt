@@ -5,4 +5,4 @@ use Rattle.hum_pattern.proofs.Pattern.end_of_first.Goals as goal
 pub returns-clause-found : goal.returns-clause-found
 returns-clause-found c =
     c.shortest_match.ensures.found
-    ∙ same_end c.args.self.now c.args.token.now _ (rw c.deref_mut.ensures.value (rw c.self.view_is at c.self.invariant)) (λ k. (c.type_inv.token k).fits)
+    ∙ same_end c.args.self.now c.args.token.now _ (rw c.deref_mut.ensures.value (rw c.self.view_is at c.self.invariant.0)) (λ k. (c.type_inv.token k).fits)

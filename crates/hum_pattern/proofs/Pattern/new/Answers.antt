@@ -5,10 +5,10 @@ pub invariant_of-result : goal.invariant_of-result
 invariant_of-result c =
     let made = c.in-Ok.ensures in
     rw (c.in_ok-new-in-Ok-2.ensures.ok, c.in_ok-matcher-in-Ok.ensures.pattern, c.leak-regex.ensures.value, c.in_ok-new-in-Ok.ensures.ok, made.source)
-    (searches c.in-Ok.regex c.args.text.now made.source made.config made.read)
+    (searches c.in-Ok.regex c.args.text.now made.source made.config made.read, c.in_ok-none_searched-in-Ok.ensures c.args.text.now)
 
-pub returns-in_ok-new-in-Ok-2-clause-sound : goal.returns-in_ok-new-in-Ok-2-clause-sound
-returns-in_ok-new-in-Ok-2-clause-sound c =
+pub returns-in_ok-none_searched-in-Ok-clause-sound : goal.returns-in_ok-none_searched-in-Ok-clause-sound
+returns-in_ok-none_searched-in-Ok-clause-sound c =
     let made = c.in-Ok.ensures in
     is_expression_of c.in-Ok.regex c.args.text.now made.source made.config made.read
 

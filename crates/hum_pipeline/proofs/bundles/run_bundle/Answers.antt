@@ -13,14 +13,17 @@ returns-clause-comes g c =
     let score = λ (name : List ℕ). score_of name c.args.bundle.now in
     let plan = subst (λ (text : List ℕ). IsPlanOf text (stages_of c.in-Ok.stages.items)) c.plan_part.ensures c.in-Ok.ensures.plan in
     let there = subst (λ (s : List PlanStage). first_lacking score 1 (stages_of s) ≡ None) c.deref.ensures.value c.in-Ok-readers.ensures.there in
-    let told = subst (λ (s : List PlanStage). AreTold slice_tells (bytes_by score (stages_of s)) 0 s c.in-Ok-readers.readers.items) c.deref.ensures.value c.in-Ok-readers.ensures.told in
-    run_comes _ _ score _ _ _ _ c.in-Ok.stages.items (sym c.if-is_too_large.ensures) plan there (c.run_stages-end.ensures.wrote (bytes_by score (stages_of c.in-Ok.stages.items)) told)
+    let told = subst (λ (s : List PlanStage). AreTold slice_tells (bytes_by score (stages_of s)) 0 s
+    c.in-Ok-readers.readers.items) c.deref.ensures.value c.in-Ok-readers.ensures.told in
+    run_comes _ _ score _ _ _ _ c.in-Ok.stages.items (sym c.if-is_too_large.ensures) plan there
+    (c.run_stages-end.ensures.wrote (bytes_by score (stages_of c.in-Ok.stages.items)) told)
 
 pub returns-clause-picked : goal.returns-clause-picked
 returns-clause-picked g c =
     let score = λ (name : List ℕ). score_of name c.args.bundle.now in
     let plan = subst (λ (text : List ℕ). IsPlanOf text (stages_of c.in-Ok.stages.items)) c.plan_part.ensures c.in-Ok.ensures.plan in
-    let told = subst (λ (s : List PlanStage). AreTold slice_tells (bytes_by score (stages_of s)) 0 s c.in-Ok-readers.readers.items) c.deref.ensures.value c.in-Ok-readers.ensures.told in
+    let told = subst (λ (s : List PlanStage). AreTold slice_tells (bytes_by score (stages_of s)) 0 s
+    c.in-Ok-readers.readers.items) c.deref.ensures.value c.in-Ok-readers.ensures.told in
     inl (record {
       stages = stages_of c.in-Ok.stages.items;
       plan = plan;

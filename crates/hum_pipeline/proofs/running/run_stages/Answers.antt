@@ -18,7 +18,8 @@ pub returns-in-Ok-new-clause-wrote : goal.returns-in-Ok-new-clause-wrote
 returns-in-Ok-new-clause-wrote g c bytes told =
     let stages = stages_of c.args.stages.items in
     let some : 0 < c.args.link = let l = c.requires.link in omega (arith, l) in
-    let tells = all_tell (λ r. g.R.Source.remaining r.inner.lines.source) (λ r. r.inner.lines.ended) bytes c.args.stages.items c.in-Ok.nodes.items (c.in-Ok.ensures.told bytes told) in
+    let tells = all_tell (λ r. g.R.Source.remaining r.inner.lines.source) (λ r. r.inner.lines.ended) bytes
+    c.args.stages.items c.in-Ok.nodes.items (c.in-Ok.ensures.told bytes told) in
     let at = net_at bytes c.args.stages.items c.in-Ok.nodes.items c.args.link _ c.in-Ok-new.net c.in-Ok-new.ensures.ok
     c.requires.tree some c.in-Ok.ensures.fits in
     let ran = c.run-result.ensures.whole _ (scene_of bytes bytes stages c.args.link) first_now
@@ -31,7 +32,8 @@ pub returns-in-Ok-new-clause-picked : goal.returns-in-Ok-new-clause-picked
 returns-in-Ok-new-clause-picked g c bytes told =
     let stages = stages_of c.args.stages.items in
     let some : 0 < c.args.link = let l = c.requires.link in omega (arith, l) in
-    let tells = all_tell (λ r. g.R.Source.remaining r.inner.lines.source) (λ r. r.inner.lines.ended) bytes c.args.stages.items c.in-Ok.nodes.items (c.in-Ok.ensures.told bytes told) in
+    let tells = all_tell (λ r. g.R.Source.remaining r.inner.lines.source) (λ r. r.inner.lines.ended) bytes
+    c.args.stages.items c.in-Ok.nodes.items (c.in-Ok.ensures.told bytes told) in
     let at = net_at bytes c.args.stages.items c.in-Ok.nodes.items c.args.link _ c.in-Ok-new.net c.in-Ok-new.ensures.ok
     c.requires.tree some c.in-Ok.ensures.fits in
     let ran = c.run-result.ensures.whole _ (scene_of bytes bytes stages c.args.link) first_now

@@ -38,7 +38,8 @@ none_empty text ends j found cut all e =
     let count = parts_count text ends cut in
     sym (e ∙ ap (list_any is_empty) (take_all j (parts text) (omega (arith, count, all))))
 
-none_mixed : (text ends : List ℕ) (j : ℕ) (found : Bool) → ends ≡ ends_from 0 (parts text) → length ends ≤ j → found ≡ list_any (is_other (kind_of_token text)) (take j (parts text))
+none_mixed : (text ends : List ℕ) (j : ℕ) (found : Bool) → ends ≡ ends_from 0 (parts text) → length ends ≤ j →
+    found ≡ list_any (is_other (kind_of_token text)) (take j (parts text))
     → mixes_kinds (parts text) ≡ found
 none_mixed text ends j found cut all e =
     let count = parts_count text ends cut in
@@ -47,23 +48,27 @@ none_mixed text ends j found cut all e =
 
 pub returns-then-has_empty : goal.returns-then-has_empty
 returns-then-has_empty c =
-    kinds_empty (parts c.args.text.now) (none_empty c.args.text.now c.args.ends.now _ _ c.requires c.loop-j-test.false c.loop-j.invariant.0 ∙ c.if-has_empty.true)
+    kinds_empty (parts c.args.text.now) (none_empty c.args.text.now c.args.ends.now _ _ c.requires
+    c.loop-j-test.false c.loop-j.invariant.0 ∙ c.if-has_empty.true)
 
 pub returns-then-mixes_kinds : goal.returns-then-mixes_kinds
 returns-then-mixes_kinds c =
-    kinds_mixed (parts c.args.text.now) (none_empty c.args.text.now c.args.ends.now _ _ c.requires c.loop-j-test.false c.loop-j.invariant.0 ∙ c.if-has_empty.false)
+    kinds_mixed (parts c.args.text.now) (none_empty c.args.text.now c.args.ends.now _ _ c.requires
+    c.loop-j-test.false c.loop-j.invariant.0 ∙ c.if-has_empty.false)
     (none_mixed c.args.text.now c.args.ends.now _ _ c.requires c.loop-j-test.false c.loop-j.invariant.1 ∙ c.if-mixes_kinds.true)
 
 pub returns-then-is_local_with_comment : goal.returns-then-is_local_with_comment
 returns-then-is_local_with_comment c =
     let kind : c.token_kind-kind.result ≡ kind_of_first (parts c.args.text.now) = c.token_kind-kind.ensures ∙ kind_of_parts c.args.text.now in
-    kinds_comment (parts c.args.text.now) (none_empty c.args.text.now c.args.ends.now _ _ c.requires c.loop-j-test.false c.loop-j.invariant.0 ∙ c.if-has_empty.false)
+    kinds_comment (parts c.args.text.now) (none_empty c.args.text.now c.args.ends.now _ _ c.requires
+    c.loop-j-test.false c.loop-j.invariant.0 ∙ c.if-has_empty.false)
     (none_mixed c.args.text.now c.args.ends.now _ _ c.requires c.loop-j-test.false c.loop-j.invariant.1 ∙ c.if-mixes_kinds.false)
     (rw kind at (sym c.is_local_with_comment.ensures ∙ c.if-is_local_with_comment.true))
 
 pub returns : goal.returns
 returns c =
     let kind : c.token_kind-kind.result ≡ kind_of_first (parts c.args.text.now) = c.token_kind-kind.ensures ∙ kind_of_parts c.args.text.now in
-    rw kind (kinds_one (parts c.args.text.now) (none_empty c.args.text.now c.args.ends.now _ _ c.requires c.loop-j-test.false c.loop-j.invariant.0 ∙ c.if-has_empty.false)
+    rw kind (kinds_one (parts c.args.text.now) (none_empty c.args.text.now c.args.ends.now _ _ c.requires
+    c.loop-j-test.false c.loop-j.invariant.0 ∙ c.if-has_empty.false)
     (none_mixed c.args.text.now c.args.ends.now _ _ c.requires c.loop-j-test.false c.loop-j.invariant.1 ∙ c.if-mixes_kinds.false)
     (rw kind at (sym c.is_local_with_comment.ensures ∙ c.if-is_local_with_comment.false)))

@@ -14,7 +14,9 @@ loop-j-preserved c =
     record {
       within = omega arith;
       below = omega arith;
-      end = end_by-next c.args.from c.args.ends.now c.loop-j.j c.index-ends-j.result c.loop-j.end c.later-end.result (omega arith) c.loop-j.invariant.within c.loop-j.invariant.below (omega arith) c.index-ends-j.is c.loop-j.invariant.end c.later-end.ensures;
+      end = end_by-next c.args.from c.args.ends.now c.loop-j.j c.index-ends-j.result c.loop-j.end
+          c.later-end.result (omega arith) c.loop-j.invariant.within c.loop-j.invariant.below (omega arith)
+          c.index-ends-j.is c.loop-j.invariant.end c.later-end.ensures;
     }
 
 pub returns : goal.returns

@@ -11,5 +11,6 @@ loop-j-preserved c = record {
       c.in_ok-end.end None c.loop-j-test.true c.index-notes-j.is
       (c.in_ok-end.ensures.end ∙ ap (own_end c.args.time c.index-notes-j.result) c.end_at.ensures) c.put_end.ensures c.loop-j.invariant.ends;
   long =
-      long_more c.args.time c.args.notes.now c.loop-j.j c.index-notes-j.result _ c.loop-j-test.true c.index-notes-j.is c.in_ok-end.ensures.fits c.loop-j.invariant.long;
+      long_more c.args.time c.args.notes.now c.loop-j.j c.index-notes-j.result _ c.loop-j-test.true
+      c.index-notes-j.is c.in_ok-end.ensures.fits c.loop-j.invariant.long;
 }

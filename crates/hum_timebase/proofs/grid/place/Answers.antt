@@ -12,7 +12,9 @@ returns-then-count-room c =
     let b = c.saturating_add-count.ensures in
     let s = c.single.ensures in
     over_room c.args.room (around made.before made.stays made.after (tokens_of c.args.row)) _ refl
-    (rw (around_length made.before made.after made.stays (tokens_of c.args.row), ← s) (over_count made.before made.after c.single.result c.args.room c.saturating_add.result c.saturating_add-count.result a b c.if-count-room.true))
+    (rw (around_length made.before made.after made.stays (tokens_of c.args.row), ← s)
+    (over_count made.before made.after c.single.result c.args.room c.saturating_add.result
+    c.saturating_add-count.result a b c.if-count-room.true))
 
 pub returns : goal.returns
 returns c =

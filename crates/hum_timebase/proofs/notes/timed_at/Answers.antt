@@ -9,5 +9,6 @@ loop-j-preserved c =
     let below = c.loop-j-test.true in
     let width = c.width-j-end.ensures in
     rw c.in_ok-push.ensures.items
-    (timed_more (exclusives c.args.paths.now.path) (tokens_of c.args.row.now) c.loop-j.timed.items _ c.loop-j.j c.is_timed.result c.own_name.result.now c.token.result.now
+    (timed_more (exclusives c.args.paths.now.path) (tokens_of c.args.row.now) c.loop-j.timed.items _ c.loop-j.j
+    c.is_timed.result c.own_name.result.now c.token.result.now
     (omega (arith, below, width)) c.is_timed.ensures c.own_name.ensures c.token.ensures.token c.loop-j.invariant)

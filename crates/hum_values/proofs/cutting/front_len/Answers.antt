@@ -11,5 +11,6 @@ returns c =
     c.unwrap_or.ensures
     ∙ sym (index_from_first (λ xs. length (front byte xs)) (λ b. b ≡ byte) (λ b. b ≡ byte → ⊥)
     refl (front_hit byte) (front_miss byte) c.args.text.now c.position.result
-    (IsFirst-from_position _ _ c.position.result (λ b. b ≡ byte) (λ b. b ≡ byte → ⊥) c.position.ensures.ran (YieldsList-from_slice c.args.text.now c.iter.ensures.rest)
+    (IsFirst-from_position _ _ c.position.result (λ b. b ≡ byte) (λ b. b ≡ byte → ⊥) c.position.ensures.ran
+    (YieldsList-from_slice c.args.text.now c.iter.ensures.rest)
     (λ x q k. search (rules, tests)) (λ x q k. search (rules, tests))))

@@ -7,7 +7,8 @@ use Rattle.hum_values.proofs.passages.passage_ranges.Goals as goal
 
 pub returns-clause-are : goal.returns-clause-are
 returns-clause-are c = IfOk_mapped (AreListed ArePassages c.args.text.now) (λ found. found.items) c.read_ranges.result
-    (items_of passages_of c.args.text.now) c.read_ranges.ensures (items_are passages_of ArePassages (λ item value lacks. passages_are item value) c.args.text.now)
+    (items_of passages_of c.args.text.now) c.read_ranges.ensures
+    (items_are passages_of ArePassages (λ item value lacks. passages_are item value) c.args.text.now)
 
 pub returns-clause-alone : goal.returns-clause-alone
 returns-clause-alone c = IfOk_alone (AreListed ArePassages c.args.text.now) (λ found. found.items) c.read_ranges.result

@@ -1,8 +1,10 @@
-use Rattle.std.proofs.Common.{[], arith}
+use Rattle.std.proofs.Common.{[], arith, ◌∙◌}
 use Rattle.hum_nodes.specs.Nodes.{StandsAs}
+use Rattle.hum_nodes.specs.At.{doing_of}
 use Rattle.hum_net.specs.Scene.{at_of}
 use Rattle.hum_net.proofs.Feeding.{node_at}
 use Rattle.hum_net.proofs.Acting.{any_rest}
+use Rattle.hum_net.proofs.Doings.{gives_of, wants_of, done_of, about_it}
 use Rattle.hum_net.proofs.Readying.{room_gives, unset_ends, within_place, within_links, some_takes}
 use Rattle.hum_net.proofs.web.Web.can.Goals as goal
 
@@ -13,13 +15,14 @@ source-source-requires-clause-place g c =
     let web = c.args.self.now in
     let k = c.args.k in
     let stands = StandsAs g.F.Feeds.stands g.W.Works.stands in
+    let b = about_it stands k c.args.kind web s a in
     let node = c.index-in-Wants.result.now in
     let there = node_at stands k web s node a.less a.at.stand c.index-in-Wants.ensures in
     record {
       at = at_of s.kinds s.links k;
       stand = any_rest g.F.Feeds.stands g.W.Works.stands node (c.requires.stage node there)
           (s.rests k) [] _ (a.at.stand.nodes k node there);
-      holds = within_place stands k web c.args.doing s a c.in-Wants.place c.in-Wants.is;
+      holds = within_place stands k web (doing_of (at_of s.kinds s.links k)) s b c.in-Wants.place (wants_of _ _ (a.does ∙ c.in-Wants.is));
     }
 
 pub index-requires-in-Wants-2 : goal.index-requires-in-Wants-2
@@ -29,12 +32,13 @@ index-requires-in-Wants-2 g c =
     let web = c.args.self.now in
     let k = c.args.k in
     let stands = StandsAs g.F.Feeds.stands g.W.Works.stands in
+    let b = about_it stands k c.args.kind web s a in
     let node = c.index-in-Wants.result.now in
     let there = node_at stands k web s node a.less a.at.stand c.index-in-Wants.ensures in
     let e = c.source-source.ensures (s.rests k) (at_of s.kinds s.links k)
     (a.at.stand.nodes k node there) in
-    let n = within_links stands k web c.args.doing s a c.in-Wants.place c.source-source.result
-    c.in-Wants.is e in
+    let n = within_links stands k web (doing_of (at_of s.kinds s.links k)) s b c.in-Wants.place c.source-source.result
+    (wants_of _ _ (a.does ∙ c.in-Wants.is)) e in
     let l = web.links.ok.0 in
     omega (arith, n, l)
 
@@ -43,7 +47,8 @@ returns-in-Gives g c s a =
     let web = c.args.self.now in
     let k = c.args.k in
     let stands = StandsAs g.F.Feeds.stands g.W.Works.stands in
-    room_gives stands k web c.args.doing s a c.index.result.now c.has_room.result c.in-Gives.is
+    let b = about_it stands k c.args.kind web s a in
+    room_gives stands k web (doing_of (at_of s.kinds s.links k)) s b c.index.result.now c.has_room.result (gives_of _ (a.does ∙ c.in-Gives.is))
     c.index.ensures c.has_room.ensures.has_room
 
 pub returns-in-Wants : goal.returns-in-Wants
@@ -51,12 +56,13 @@ returns-in-Wants g c s a =
     let web = c.args.self.now in
     let k = c.args.k in
     let stands = StandsAs g.F.Feeds.stands g.W.Works.stands in
+    let b = about_it stands k c.args.kind web s a in
     let node = c.index-in-Wants.result.now in
     let there = node_at stands k web s node a.less a.at.stand c.index-in-Wants.ensures in
     let e = c.source-source.ensures (s.rests k) (at_of s.kinds s.links k)
     (a.at.stand.nodes k node there) in
-    some_takes stands k web c.args.doing s a c.in-Wants.place c.source-source.result
-    c.index-in-Wants-2.result.now c.has_some.result c.in-Wants.is e c.index-in-Wants-2.ensures
+    some_takes stands k web (doing_of (at_of s.kinds s.links k)) s b c.in-Wants.place c.source-source.result
+    c.index-in-Wants-2.result.now c.has_some.result (wants_of _ _ (a.does ∙ c.in-Wants.is)) e c.index-in-Wants-2.ensures
     c.has_some.ensures
 
 pub returns-in-Done : goal.returns-in-Done
@@ -64,5 +70,7 @@ returns-in-Done g c s a =
     let web = c.args.self.now in
     let k = c.args.k in
     let stands = StandsAs g.F.Feeds.stands g.W.Works.stands in
-    unset_ends stands k web c.args.doing s a c.index-in-Done.result.now c.is_unset.result
-    c.in-Done.field-0 c.in-Done.is c.index-in-Done.ensures c.is_unset.ensures
+    let b = about_it stands k c.args.kind web s a in
+    let d = done_of _ (a.does ∙ c.in-Done.is) in
+    unset_ends stands k web (doing_of (at_of s.kinds s.links k)) s b c.index-in-Done.result.now
+    c.is_unset.result d.0 d.1 c.index-in-Done.ensures c.is_unset.ensures

@@ -1,7 +1,10 @@
 use Rattle.std.proofs.Common.{◌∙◌, sym, false}
 use Rattle.hum_nodes.specs.Nodes.{StandsAs}
 use Rattle.hum_net.proofs.Feeding.{node_at}
-use Rattle.hum_net.proofs.Turning.{one_kind, about, stage_ready}
+use Rattle.hum_nodes.specs.At.{doing_of}
+use Rattle.hum_net.specs.Scene.{at_of}
+use Rattle.hum_net.proofs.Doings.{about_it}
+use Rattle.hum_net.proofs.Turning.{one_kind, about_kind, stage_ready}
 use Rattle.hum_net.proofs.Readying.{below, source_ready, by_room, by_mark}
 use Rattle.hum_net.proofs.web.Web.ready.Goals as goal
 
@@ -51,9 +54,9 @@ can-requires-clause-about g c =
     let two = node_at stands k web s c.index-3.result.now less h.at.stand c.index-3.ensures in
     let kind = one_kind k web c.index-2.result.now false one
     (sym c.is_source.ensures ∙ c.if-is_source.false) in
-    let a = about g.F.Feeds.stands g.W.Works.stands k web c.doing-doing.result s
+    let a = about_kind g.F.Feeds.stands g.W.Works.stands k web c.doing_kind-kind.result s
     c.index-3.result.now g.met.W.Works.no_bytes h.at less two (kind c.index-3.result.now two)
-    c.doing-doing.ensures in
+    c.doing_kind-kind.ensures in
     record { scene = s; holds = a }
 
 pub can-requires-clause-stage : goal.can-requires-clause-stage
@@ -69,9 +72,9 @@ can-requires-clause-stage g c =
     let two = node_at stands k web s c.index-3.result.now less h.at.stand c.index-3.ensures in
     let kind = one_kind k web c.index-2.result.now false one
     (sym c.is_source.ensures ∙ c.if-is_source.false) in
-    let a = about g.F.Feeds.stands g.W.Works.stands k web c.doing-doing.result s
+    let a = about_kind g.F.Feeds.stands g.W.Works.stands k web c.doing_kind-kind.result s
     c.index-3.result.now g.met.W.Works.no_bytes h.at less two (kind c.index-3.result.now two)
-    c.doing-doing.ensures in
+    c.doing_kind-kind.ensures in
     kind
 
 pub returns : goal.returns
@@ -85,7 +88,8 @@ returns g c s h =
     let two = node_at stands k web s c.index-3.result.now less h.at.stand c.index-3.ensures in
     let kind = one_kind k web c.index-2.result.now false one
     (sym c.is_source.ensures ∙ c.if-is_source.false) in
-    let a = about g.F.Feeds.stands g.W.Works.stands k web c.doing-doing.result s
+    let a = about_kind g.F.Feeds.stands g.W.Works.stands k web c.doing_kind-kind.result s
     c.index-3.result.now g.met.W.Works.no_bytes h.at less two (kind c.index-3.result.now two)
-    c.doing-doing.ensures in
-    c.can.ensures s a ∙ sym (stage_ready stands k web c.doing-doing.result s a)
+    c.doing_kind-kind.ensures in
+    c.can.ensures s a ∙ sym (stage_ready stands k web (doing_of (at_of s.kinds s.links k)) s
+    (about_it stands k c.doing_kind-kind.result web s a))

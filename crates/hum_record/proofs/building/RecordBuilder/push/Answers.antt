@@ -11,7 +11,8 @@ returns-then-not-has_room-clause-refused c h =
     let room = rw (c.deref.ensures.value, c.deref-2.ensures.value) at c.has_room.ensures in
     let draft = c.self.invariant.0 c.if-self.false in
     let len = draft_length inside.kind inside.text.items inside.ends.items c.args.token.now draft in
-    let over : 1048576 < (length inside.text.items + length (tab_between inside.ends.items) + length c.args.token.now) = leb-false _ _ (sym room ∙ c.if-not-has_room.true) in
+    let over : 1048576 < (length inside.text.items + length (tab_between inside.ends.items) + length
+    c.args.token.now) = leb-false _ _ (sym room ∙ c.if-not-has_room.true) in
     (refl, subst (λ (d : Draft). 1048576 < length (spelled (d.tokens ++ c.args.token.now ∷ []))) c.self.view_is (omega (arith, len, over)), refl)
 
 pub invariant_of-self : goal.invariant_of-self
@@ -19,9 +20,12 @@ invariant_of-self c =
     let inside = c.self.inside in (
       (λ sound.
           let room = rw (c.deref.ensures.value, c.deref-2.ensures.value) at c.has_room.ensures in
-          let under : (length inside.text.items + length (tab_between inside.ends.items) + length c.args.token.now) ≤ 1048576 = leb-true _ _ (sym room ∙ c.if-not-has_room.false) in
+          let under : (length inside.text.items + length (tab_between inside.ends.items) + length
+          c.args.token.now) ≤ 1048576 = leb-true _ _ (sym room ∙ c.if-not-has_room.false) in
           let is : IsToken inside.kind c.args.token.now = subst (λ (d : Draft). IsToken d.kind c.args.token.now) (sym c.self.view_is) c.requires in
-          rw (c.in-Ok.ensures.ends, c.in-Ok.ensures.text) (draft_more inside.kind inside.text.items inside.ends.items c.args.token.now (c.self.invariant.0 sound) is under)),
+          rw (c.in-Ok.ensures.ends, c.in-Ok.ensures.text)
+          (draft_more inside.kind inside.text.items inside.ends.items c.args.token.now
+          (c.self.invariant.0 sound) is under)),
       (λ sound some. c.in-Ok.ensures.body),
     )
 
@@ -31,7 +35,13 @@ returns-in-Ok-clause-pushed c =
     let draft = c.self.invariant.0 c.if-self.false in
     let is : IsToken inside.kind c.args.token.now = subst (λ (d : Draft). IsToken d.kind c.args.token.now) (sym c.self.view_is) c.requires in
     rw (c.in-Ok.ensures.ends, c.in-Ok.ensures.text)
-    (ap (λ (ts : List (List ℕ)). let d : Draft = record { kind = inside.kind; tokens = ts; spent = inside.spent } in d) (more_tokens inside.kind inside.text.items inside.ends.items c.args.token.now _ draft is)
+    (ap (λ (ts : List (List ℕ)). let d : Draft = record {
+      kind = inside.kind;
+      tokens = ts;
+      spent =
+          inside.spent;
+    } in d) (more_tokens inside.kind inside.text.items inside.ends.items c.args.token.now _
+    draft is)
     ∙ ap (λ (d : Draft). let e : Draft = record { kind = d.kind; tokens = d.tokens ++ c.args.token.now ∷ []; spent = d.spent } in e) c.self.view_is)
 
 pub returns-in-Ok-clause-fits : goal.returns-in-Ok-clause-fits
@@ -40,5 +50,6 @@ returns-in-Ok-clause-fits c =
     let room = rw (c.deref.ensures.value, c.deref-2.ensures.value) at c.has_room.ensures in
     let draft = c.self.invariant.0 c.if-self.false in
     let len = draft_length inside.kind inside.text.items inside.ends.items c.args.token.now draft in
-    let under : (length inside.text.items + length (tab_between inside.ends.items) + length c.args.token.now) ≤ 1048576 = leb-true _ _ (sym room ∙ c.if-not-has_room.false) in
+    let under : (length inside.text.items + length (tab_between inside.ends.items) + length
+    c.args.token.now) ≤ 1048576 = leb-true _ _ (sym room ∙ c.if-not-has_room.false) in
     subst (λ (d : Draft). length (spelled (d.tokens ++ c.args.token.now ∷ [])) ≤ 1048576) c.self.view_is (omega (arith, len, under))

@@ -2,10 +2,10 @@ use Rattle.hum_record.proofs.Laws.{gives_found, gives_only, gives_broken}
 use Rattle.hum_record.proofs.reading.Record.parse.Goals as goal
 
 pub returns-clause-found : goal.returns-clause-found
-returns-clause-found c = gives_found c.parse_into.result c.args.text.items c.requires.at_most c.requires.one_line c.parse_into.ensures
+returns-clause-found c = gives_found c.of_text.result c.args.text.items c.requires.at_most c.requires.one_line c.of_text.ensures
 
 pub returns-clause-only : goal.returns-clause-only
-returns-clause-only c = gives_only c.parse_into.result c.args.text.items c.parse_into.ensures
+returns-clause-only c = gives_only c.of_text.result c.args.text.items c.of_text.ensures
 
 pub returns-clause-broken : goal.returns-clause-broken
-returns-clause-broken c = gives_broken c.parse_into.result c.args.text.items c.parse_into.ensures
+returns-clause-broken c = gives_broken c.of_text.result c.args.text.items c.of_text.ensures

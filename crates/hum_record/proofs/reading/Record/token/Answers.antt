@@ -8,7 +8,8 @@ token_at_end-requires c =
     let inside = c.self.inside in
     let lies = piece_lies inside.body.value.text.items inside.body.value.ends.items c.args.self.now c.args.j c.self.invariant c.self.view_is c.requires in
     let count = width_counts inside.body.value.text.items inside.body.value.ends.items c.args.self.now c.self.invariant c.self.view_is in
-    rw (c.deref-2.ensures.value, c.deref.ensures, c.deref-4.ensures.value, c.deref-3.ensures) (record { counted = omega (arith, count); order = lies.order; within = lies.within })
+    rw (c.deref-2.ensures.value, c.deref.ensures, c.deref-4.ensures.value, c.deref-3.ensures)
+    (record { counted = omega (arith, count); order = lies.order; within = lies.within })
 
 pub returns-clause-token : goal.returns-clause-token
 returns-clause-token c =

@@ -1,5 +1,6 @@
 use Rattle.std.proofs.Common.{◌∙◌, sym, arith}
 use Rattle.hum_stage.proofs.Moves.{no_fault}
+use Rattle.hum_stage.proofs.Passing.{due_count}
 use Rattle.hum_stage.proofs.Lags.{may_wait, lags_first, lags_dropped, lags_empty, lags_put}
 use Rattle.hum_stage.proofs.Lags.{lags_full, lags_refused}
 use Rattle.hum_stage.proofs.lagging.LaggingStage.put.Goals as goal
@@ -11,7 +12,7 @@ returns-then-is_some-clause-ok g c = λ t h e s. lags_dropped _ _ _ _ _ t c.args
 pub overflow_add-self-2 : goal.overflow_add-self-2
 overflow_add-self-2 g c =
     let ok = no_fault _ (sym c.is_some.ensures ∙ c.if-is_some.false) in
-    let size = c.settle_all.new.due.ok.0 in
+    let size = due_count g.C.Due.IntoRecord.becomes c.settle_all.new.due.items _ c.settle_all.new.due.ok.0 in
     let len = c.len.ensures in
     let few = lags_first 65536 _ _ _ _ _ c.args.next _ _ c.if-self.false ok c.requires
     (λ look past rows k o. c.in_ok-stop.ensures look past _ (c.in_ok-put.ensures look past rows
@@ -22,7 +23,7 @@ pub returns-in-Some-clause-ok : goal.returns-in-Some-clause-ok
 returns-in-Some-clause-ok g c = λ t h e s.
     let empty = lags_empty _ _ _ _ _ c.args.next c.if-self.false c.requires in
     let ok = no_fault _ (sym c.is_some.ensures ∙ c.if-is_some.false) in
-    let size = c.settle_all.new.due.ok.0 in
+    let size = due_count g.C.Due.IntoRecord.becomes c.settle_all.new.due.items _ c.settle_all.new.due.ok.0 in
     rw (c.refuse.ensures, c.trim.ensures, c.len.ensures, size) (lags_refused 65536 _ _ _ _ _ _ t
     c.args.next _ c.in-Some.rule h s empty ok (λ look past rows k o. rw c.in-Some.is at
     (c.in_ok-stop.ensures look past _ (c.in_ok-put.ensures look past rows k o))))
@@ -31,7 +32,7 @@ pub returns-then-len-gt-ROOM-clause-ok : goal.returns-then-len-gt-ROOM-clause-ok
 returns-then-len-gt-ROOM-clause-ok g c = λ t h e s.
     let empty = lags_empty _ _ _ _ _ c.args.next c.if-self.false c.requires in
     let ok = no_fault _ (sym c.is_some.ensures ∙ c.if-is_some.false) in
-    let size = c.settle_all.new.due.ok.0 in
+    let size = due_count g.C.Due.IntoRecord.becomes c.settle_all.new.due.items _ c.settle_all.new.due.ok.0 in
     let over = c.if-len-gt-ROOM.true in
     rw (c.refuse-then-len-gt-ROOM.ensures, c.trim.ensures, c.len.ensures, size)
     (lags_full 65536 _ _ _ _ _ _ t c.args.next _ c.len-2.result h s empty ok
@@ -44,7 +45,7 @@ pub returns-else-len-gt-ROOM-clause-ok : goal.returns-else-len-gt-ROOM-clause-ok
 returns-else-len-gt-ROOM-clause-ok g c = λ t h e s.
     let empty = lags_empty _ _ _ _ _ c.args.next c.if-self.false c.requires in
     let ok = no_fault _ (sym c.is_some.ensures ∙ c.if-is_some.false) in
-    let size = c.settle_all.new.due.ok.0 in
+    let size = due_count g.C.Due.IntoRecord.becomes c.settle_all.new.due.items _ c.settle_all.new.due.ok.0 in
     let within = c.if-len-gt-ROOM.false in
     rw (c.trim.ensures, c.len.ensures, size) (lags_put 65536 _ _ _ _ _ t c.args.next _
     c.len-2.result h s empty ok

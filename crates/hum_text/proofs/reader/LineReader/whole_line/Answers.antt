@@ -14,15 +14,17 @@ returns-in-Some-clause-gives g c =
 
 pub returns-in-None-clause-gives : goal.returns-in-None-clause-gives
 returns-in-None-clause-gives g c =
-    gives-line _ _ _ _ c.through-size.result c.hand_out.ensures.line c.hand_out.ensures.memory c.hand_out.ensures.ok
+    gives-line _ _ _ c.through-size.result c.hand_out.ensures
     (whole-given c.args.self.now c.args.k _ c.requires.first c.through-size.ensures c.in-None.ensures.none)
 
-pub hand_out-requires-clause-short : goal.hand_out-requires-clause-short
-hand_out-requires-clause-short g c =
+pub returns-in-None-clause-within : goal.returns-in-None-clause-within
+returns-in-None-clause-within g c =
     let v = c.args.self.now in
     let lawful : IsLawful v.limits (v.given + 1) v.taken (take (c.args.k + 1) v.pending) =
     rw c.through-size.ensures at c.in-None.ensures.none in
-    whole-short v.limits (v.given + 1) v.taken v.pending c.args.k c.requires.first lawful
-
-pub hand_out-requires-clause-free : goal.hand_out-requires-clause-free
-hand_out-requires-clause-free g c = whole-free c.args.self.now.pending c.args.k c.requires.first
+    let records = c.in-None.ensures.records in
+    rw c.hand_out.ensures (
+      whole-short v.limits (v.given + 1) v.taken v.pending c.args.k c.requires.first lawful,
+      whole-free c.args.self.now.pending c.args.k c.requires.first,
+      omega (arith, c.through-size.ensures, records),
+    )

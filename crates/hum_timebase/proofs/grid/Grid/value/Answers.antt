@@ -5,12 +5,16 @@ use Rattle.hum_timebase.proofs.grid.Grid.value.Goals as goal
 
 pub returns-in-Nulls : goal.returns-in-Nulls
 returns-in-Nulls c = λ decide past h sound.
-    let step = goes_nulls _ _ _ _ decide past h c.args.row c.rest.new.self c.requires.kind (sym c.content_of.ensures ∙ c.in-Nulls.is) (c.rest.ensures ∙ ap (λ flags. rested flags c.args.self.now.clock) c.deref.ensures.value) in
+    let step = goes_nulls _ _ _ _ decide past h c.args.row c.rest.new.self c.requires.kind
+    (sym c.content_of.ensures ∙ c.in-Nulls.is) (c.rest.ensures
+    ∙ ap (λ flags. rested flags c.args.self.now.clock) c.deref.ensures.value) in
     rw c.requires.empty step
 
 pub returns-in-Barlines : goal.returns-in-Barlines
 returns-in-Barlines c = λ decide past h sound.
-    let step = goes_barlines _ _ _ _ decide past h c.args.row c.rest.new.self c.requires.kind (sym c.content_of.ensures ∙ c.in-Barlines.is) (c.rest.ensures ∙ ap (λ flags. rested flags c.args.self.now.clock) c.deref.ensures.value) in
+    let step = goes_barlines _ _ _ _ decide past h c.args.row c.rest.new.self c.requires.kind
+    (sym c.content_of.ensures ∙ c.in-Barlines.is) (c.rest.ensures
+    ∙ ap (λ flags. rested flags c.args.self.now.clock) c.deref.ensures.value) in
     rw c.alone.ensures step
 
 pub returns-in_ok-refused-in-Sounds : goal.returns-in_ok-refused-in-Sounds

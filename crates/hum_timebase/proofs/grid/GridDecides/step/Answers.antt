@@ -5,5 +5,7 @@ use Rattle.hum_timebase.proofs.grid.GridDecides.step.Goals as goal
 
 pub returns-in-Local : goal.returns-in-Local
 returns-in-Local c = λ decide past h sound.
-    let step = goes_local _ _ _ _ decide past h c.args.next c.rest.new.self (sym c.kind.ensures.kind ∙ c.in-Local.is) (c.rest.ensures ∙ ap (λ flags. rested flags c.args.self.now.clock) c.deref.ensures.value) in
+    let step = goes_local _ _ _ _ decide past h c.args.next c.rest.new.self (sym c.kind.ensures.kind
+    ∙ c.in-Local.is) (c.rest.ensures ∙ ap (λ flags. rested flags c.args.self.now.clock)
+    c.deref.ensures.value) in
     rw c.alone-in-Local.ensures step

@@ -15,31 +15,56 @@ loop-part-init c = rw c.requires.empty (nothing_yet (gives c.args.self) (subtoke
 pub add-requires : goal.add-requires
 add-requires c =
     let start = c.into_iter-part-iterator.ensures.into_iter_gives in
-    let t = YieldsList-turn (YieldsList-from_slice_split {s = c.into_iter-part-iterator.result} _ (λ b. b == 32) c.args.token.now (rw start c.split-part-items.ensures.rest) (rw start c.split-part-items.ensures.done) (rw start c.split-part-items.ensures.closure) (λ x b q k. search rules)) c.loop-part.yielded _ c.loop-part.yielded_by _ _ c.in-Some.part c.in-Some.is c.next.ensures.steps in
+    let t = YieldsList-turn (YieldsList-from_slice_split {s = c.into_iter-part-iterator.result} _ (λ b. b == 32)
+    c.args.token.now (rw start c.split-part-items.ensures.rest) (rw start c.split-part-items.ensures.done)
+    (rw start c.split-part-items.ensures.closure) (λ x b q k. search rules)) c.loop-part.yielded _
+    c.loop-part.yielded_by _ _ c.in-Some.part c.in-Some.is c.next.ensures.steps in
     rw t.1 (part_at c.args.token.now (length c.loop-part.yielded) c.in-Some.part.now t.0 c.requires.lawful)
 
 pub returns-in-Some-2 : goal.returns-in-Some-2
 returns-in-Some-2 c =
     let start = c.into_iter-part-iterator.ensures.into_iter_gives in
-    let t = YieldsList-turn (YieldsList-from_slice_split {s = c.into_iter-part-iterator.result} _ (λ b. b == 32) c.args.token.now (rw start c.split-part-items.ensures.rest) (rw start c.split-part-items.ensures.done) (rw start c.split-part-items.ensures.closure) (λ x b q k. search rules)) c.loop-part.yielded _ c.loop-part.yielded_by _ _ c.in-Some.part c.in-Some.is c.next.ensures.steps in
-    rw (refused (gives c.args.self) (subtokens c.args.token.now) (length c.loop-part.yielded) c.loop-part.text.items c.loop-part.invariant c.in-Some.part.now c.add.new.text.items c.in-Some-2.rule t (rw c.in-Some-2.is at c.in_ok-rule.ensures)) refl
+    let t = YieldsList-turn (YieldsList-from_slice_split {s = c.into_iter-part-iterator.result} _ (λ b. b == 32)
+    c.args.token.now (rw start c.split-part-items.ensures.rest) (rw start c.split-part-items.ensures.done)
+    (rw start c.split-part-items.ensures.closure) (λ x b q k. search rules)) c.loop-part.yielded _
+    c.loop-part.yielded_by _ _ c.in-Some.part c.in-Some.is c.next.ensures.steps in
+    rw (refused (gives c.args.self) (subtokens c.args.token.now) (length c.loop-part.yielded)
+    c.loop-part.text.items c.loop-part.invariant c.in-Some.part.now c.add.new.text.items c.in-Some-2.rule t
+    (rw c.in-Some-2.is at c.in_ok-rule.ensures)) refl
 
 pub loop-part-preserved : goal.loop-part-preserved
 loop-part-preserved c =
     let start = c.into_iter-part-iterator.ensures.into_iter_gives in
-    let t = YieldsList-turn (YieldsList-from_slice_split {s = c.into_iter-part-iterator.result} _ (λ b. b == 32) c.args.token.now (rw start c.split-part-items.ensures.rest) (rw start c.split-part-items.ensures.done) (rw start c.split-part-items.ensures.closure) (λ x b q k. search rules)) c.loop-part.yielded _ c.loop-part.yielded_by _ _ c.in-Some.part c.in-Some.is c.next.ensures.steps in
-    rw (length_push c.loop-part.yielded c.in-Some.part) (one_more (gives c.args.self) (subtokens c.args.token.now) (length c.loop-part.yielded) c.loop-part.text.items c.loop-part.invariant c.in-Some.part.now c.add.new.text.items t (rw c.in_default.is at c.in_ok-rule.ensures))
+    let t = YieldsList-turn (YieldsList-from_slice_split {s = c.into_iter-part-iterator.result} _ (λ b. b == 32)
+    c.args.token.now (rw start c.split-part-items.ensures.rest) (rw start c.split-part-items.ensures.done)
+    (rw start c.split-part-items.ensures.closure) (λ x b q k. search rules)) c.loop-part.yielded _
+    c.loop-part.yielded_by _ _ c.in-Some.part c.in-Some.is c.next.ensures.steps in
+    rw (length_push c.loop-part.yielded c.in-Some.part)
+    (one_more (gives c.args.self) (subtokens c.args.token.now) (length c.loop-part.yielded)
+    c.loop-part.text.items c.loop-part.invariant c.in-Some.part.now c.add.new.text.items t
+    (rw c.in_default.is at c.in_ok-rule.ensures))
 
 pub returns-in_ok-push-in-None-pop : goal.returns-in_ok-push-in-None-pop
 returns-in_ok-push-in-None-pop c =
     let start = c.into_iter-part-iterator.ensures.into_iter_gives in
-    let t = YieldsList-end (YieldsList-from_slice_split {s = c.into_iter-part-iterator.result} _ (λ b. b == 32) c.args.token.now (rw start c.split-part-items.ensures.rest) (rw start c.split-part-items.ensures.done) (rw start c.split-part-items.ensures.closure) (λ x b q k. search rules)) c.loop-part.yielded _ c.loop-part.yielded_by _ _ c.in-None.is c.next.ensures.steps in
+    let t = YieldsList-end (YieldsList-from_slice_split {s = c.into_iter-part-iterator.result} _ (λ b. b == 32)
+    c.args.token.now (rw start c.split-part-items.ensures.rest) (rw start c.split-part-items.ensures.done)
+    (rw start c.split-part-items.ensures.closure) (λ x b q k. search rules)) c.loop-part.yielded _
+    c.loop-part.yielded_by _ _ c.in-None.is c.next.ensures.steps in
     let length_0 : length c.pop.new.self.items ≡ 0 = omega (arith, (rw c.in-None-pop.is at c.pop.ensures.cases).1, c.pop.new.self.ok.0) in
     let empty : c.pop.new.self.items ≡ [] = nil_from_length c.pop.new.self.items length_0 in
-    none_given (gives c.args.self) (subtokens c.args.token.now) (length c.loop-part.yielded) c.loop-part.text.items c.loop-part.invariant (omega (arith, t.1)) ((rw c.in-None-pop.is at c.pop.ensures.items) ∙ rw empty refl) c.push.new.self.items (c.in_ok-push-in-None-pop.ensures.items ∙ rw empty refl)
+    none_given (gives c.args.self) (subtokens c.args.token.now) (length c.loop-part.yielded)
+    c.loop-part.text.items c.loop-part.invariant (omega (arith, t.1))
+    ((rw c.in-None-pop.is at c.pop.ensures.items) ∙ rw empty refl) c.push.new.self.items
+    (c.in_ok-push-in-None-pop.ensures.items ∙ rw empty refl)
 
 pub returns-in-Some-pop : goal.returns-in-Some-pop
 returns-in-Some-pop c =
     let start = c.into_iter-part-iterator.ensures.into_iter_gives in
-    let t = YieldsList-end (YieldsList-from_slice_split {s = c.into_iter-part-iterator.result} _ (λ b. b == 32) c.args.token.now (rw start c.split-part-items.ensures.rest) (rw start c.split-part-items.ensures.done) (rw start c.split-part-items.ensures.closure) (λ x b q k. search rules)) c.loop-part.yielded _ c.loop-part.yielded_by _ _ c.in-None.is c.next.ensures.steps in
-    some_given (gives c.args.self) (subtokens c.args.token.now) (length c.loop-part.yielded) c.loop-part.text.items c.loop-part.invariant (omega (arith, t.1)) c.pop.new.self.items _ (rw c.in-Some-pop.is at c.pop.ensures.items)
+    let t = YieldsList-end (YieldsList-from_slice_split {s = c.into_iter-part-iterator.result} _ (λ b. b == 32)
+    c.args.token.now (rw start c.split-part-items.ensures.rest) (rw start c.split-part-items.ensures.done)
+    (rw start c.split-part-items.ensures.closure) (λ x b q k. search rules)) c.loop-part.yielded _
+    c.loop-part.yielded_by _ _ c.in-None.is c.next.ensures.steps in
+    some_given (gives c.args.self) (subtokens c.args.token.now) (length c.loop-part.yielded)
+    c.loop-part.text.items c.loop-part.invariant (omega (arith, t.1)) c.pop.new.self.items _
+    (rw c.in-Some-pop.is at c.pop.ensures.items)

@@ -1,7 +1,7 @@
 use Rattle.std.proofs.Common.{length}
 use Rattle.hum_record.proofs.Cuts.{SoFar}
 use Rattle.hum_record.proofs.Plain.{Marked}
-use Rattle.hum_record.proofs.tokens.push_ends.Given as goal
+use Rattle.hum_record.proofs.tokens.push_all_ends.Given as goal
 
 abbrev pub invariant-loop-rest : goal.invariant-loop-rest
 invariant-loop-rest l =

@@ -1,0 +1,16 @@
+use Rattle.std.proofs.Common.{◌≡◌, ◌+◌, ◌-◌, ◌≤◌, ◌∙◌, sym, ap, arith, take, drop, length, slice_range}
+use Rattle.hum_text.proofs.WindowLemmas.{front-window, drop-window, length-window}
+use Rattle.hum_text.proofs.block.Block.hand_out.Goals as goal
+
+pub returns : goal.returns
+returns c =
+    let b = c.self.inside in
+    let xs = b.bytes.items in
+    let is = ap (λ h. h.pending) c.self.view_is in
+    let held = length-window xs b.start b.end c.self.invariant.0.high in
+    let fits : c.args.size ≤ b.end - b.start = omega (arith, c.requires.within, ap length is, held) in
+    let line : slice_range xs b.start (b.start + c.args.len) ≡ take c.args.len c.args.self.now.pending =
+    front-window xs b.start b.end c.args.len (omega (arith, fits, c.requires.order)) ∙ ap (take c.args.len) is in
+    let pending : slice_range xs (b.start + c.args.size) b.end ≡ drop c.args.size c.args.self.now.pending =
+    sym (drop-window xs b.start b.end c.args.size fits) ∙ ap (drop c.args.size) is in
+    cc

@@ -1,0 +1,36 @@
+//! The first LF of some bytes.
+ghost use Rattle.std.specs.Prelude.{◌≡◌, ◌≤◌, length, map};
+ghost use Rattle.std.specs.Simd.Lanes.{chunk, mask_l};
+ghost use Rattle.memchr.specs.Find.{IsFirstByte, is_byte};
+ghost use Rattle.hum_text.specs.Text.{lf};
+
+use memchr::memchr;
+use std::simd::prelude::*;
+
+/// How many bytes are looked at at once: most lines are shorter.
+const NEAR: usize = 32;
+
+/// Where LF stands in the first 32 bytes, as the bits of a number.
+#[inline(always)]
+fn near_bits(bytes: &[u8]) -> u64
+    requires { 32 ≤ length bytes.now }
+    ensures { result ≡ mask_l (map (is_byte lf) (chunk 0 32 bytes.now)) }
+{
+    u8x32::from_slice(&bytes[0..])
+        .simd_eq(u8x32::splat(b'\n'))
+        .to_bitmask()
+}
+
+/// Where the first LF stands.
+#[inline]
+pub fn first_lf(bytes: &[u8]) -> Option<usize>
+    ensures { IsFirstByte (is_byte lf) bytes.now result }
+{
+    if bytes.len() >= NEAR {
+        let near = near_bits(bytes);
+        if near != 0 {
+            return Some(near.trailing_zeros() as usize);
+        }
+    }
+    memchr(b'\n', bytes)
+}
