@@ -312,6 +312,7 @@ impl<F: Feeds, W: Works, S: Sink> Net<F, W, S> {
 
     /// One turn of an actor that is ready: a stage by its number, from 0, or the sink by the number
     /// of stages. It answers the link that the turn has changed.
+    #[inline(always)]
     pub fn turn(&mut self, k: usize) -> usize
         requires { MayGo (StandsAs F.stands W.stands) S.contents S.flushed k self.old }
         // It is one turn of this actor.

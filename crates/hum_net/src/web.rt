@@ -179,12 +179,12 @@ impl<F: Feeds, W: Works> Web<F, W> {
         match self.nodes[k].doing_kind() {
             DoingKind::Wants(place) => return self.pass(k, place),
             DoingKind::Gives => self.give(k)?,
-            DoingKind::Done => {
+            // it reads nothing
+            DoingKind::Done | DoingKind::Reads => {
                 if let Doing::Done(end) = self.nodes[k].doing() {
                     self.finish(k, end);
                 }
             }
-            DoingKind::Reads => {}
         }
         Ok(k)
     }
@@ -230,13 +230,12 @@ impl<F: Feeds, W: Works> Web<F, W> {
             → result ≡ can s.size s.links k (state (plan_of s) s.links k) }
     {
         match kind {
-            DoingKind::Gives => self.links[k].has_room(),
-            DoingKind::Reads => self.links[k].has_room(),
+            DoingKind::Gives | DoingKind::Reads => self.links[k].has_room(),
+            DoingKind::Done => self.links[k].is_unset(),
             DoingKind::Wants(place) => {
                 let source = self.nodes[k].source(place);
                 self.links[source].has_some()
             }
-            DoingKind::Done => self.links[k].is_unset(),
         }
     }
 

@@ -1,4 +1,4 @@
-use Rattle.std.proofs.Common.{◌∙◌, sym, refl, slice_index}
+use Rattle.std.proofs.Common.{◌∙◌, sym, refl, slice_index, ⊎_elim}
 use Rattle.hum_nodes.specs.declared.node.Doing.TheVariants as does
 use Rattle.hum_nodes.specs.Nodes.{StandsAs}
 use Rattle.hum_turns.specs.Turns.{Takes}
@@ -6,7 +6,7 @@ use Rattle.hum_net.specs.Scene.{at_of}
 use Rattle.hum_net.proofs.Doings.{gives_of, reads_of, wants_of, done_of}
 use Rattle.hum_net.proofs.Feeding.{node_at}
 use Rattle.hum_net.proofs.Polling.{state_gives, state_takes, state_ends}
-use Rattle.hum_net.proofs.Readying.{touched_gives, touched_takes, touched_ends, touched_reads}
+use Rattle.hum_net.proofs.Readying.{touched_gives, touched_takes, touched_ends}
 use Rattle.hum_net.proofs.Stepping.{about_to, may_do, here_too, has_done, never_reads, when_ok, if_ok}
 use Rattle.hum_net.proofs.Turning.{about_kind}
 use Rattle.hum_net.proofs.web.Web.act.Goals as goal
@@ -189,41 +189,16 @@ returns-in_default g c =
     let stands = StandsAs feeds works in
     let node = c.index.result.now in
     let there = node_at stands k web s node turn.less turn.at.stand c.index.ensures in
-    let is = c.requires.stage node there in
+    let isnt = c.requires.stage node there in
     let then = c.index-in-Done.result.now in
     let again = node_at stands k web s then turn.less turn.at.stand c.index-in-Done.ensures in
     let told = c.doing.ensures (s.rests k) (at_of s.kinds s.links k) (turn.at.stand.nodes k then again) in
     let a = about_kind feeds works k web c.doing_kind.result s node g.met.W.Works.no_bytes turn.at turn.less
-    there is c.doing_kind.ensures in
-    let end = done_of _ (a.does ∙ c.in-Done.is) in
-    absurd (c.in_default.not-Done end.0 (told ∙ end.1))
-
-pub returns-in-Reads-clause-done : goal.returns-in-Reads-clause-done
-returns-in-Reads-clause-done g c s turn =
-    let web = c.args.self.now in
-    let k = c.args.k in
-    let feeds = g.F.Feeds.stands in
-    let works = g.W.Works.stands in
-    let stands = StandsAs feeds works in
-    let node = c.index.result.now in
-    let there = node_at stands k web s node turn.less turn.at.stand c.index.ensures in
-    let is = c.requires.stage node there in
+    there isnt c.doing_kind.ensures in
+    ⊎_elim
+    (λ is. let end = done_of _ (a.does ∙ is) in absurd (c.in_default.not-Done end.0 (told ∙ end.1)))
+    (λ is.
     let may = may_do feeds works k web c.doing_kind.result s node g.met.W.Works.no_bytes turn.at turn.less there
-    is c.doing_kind.ensures does.Reads (λ h. reads_of _ (h ∙ c.in-Reads.is)) turn.ready in
-    absurd (never_reads stands k web web _ s may may.does)
-
-pub returns-in-Reads-clause-link : goal.returns-in-Reads-clause-link
-returns-in-Reads-clause-link g c s actor =
-    let web = c.args.self.now in
-    let k = c.args.k in
-    let feeds = g.F.Feeds.stands in
-    let works = g.W.Works.stands in
-    let stands = StandsAs feeds works in
-    let node = c.index.result.now in
-    let here = here_too k _ c.requires.turn.scene.count s.count c.requires.turn.holds.less
-    c.requires.turn.holds.at.stand.count actor.at.stand.count in
-    let there = node_at stands k web s node here actor.at.stand c.index.ensures in
-    let is = c.requires.stage node there in
-    let about = about_to feeds works k web c.doing_kind.result s node g.met.W.Works.no_bytes actor.at here there
-    is c.doing_kind.ensures does.Reads (λ h. reads_of _ (h ∙ c.in-Reads.is)) in
-    touched_reads stands k web _ s about refl
+    isnt c.doing_kind.ensures does.Reads (λ h. reads_of _ (h ∙ is)) turn.ready in
+    absurd (never_reads stands k web web _ s may may.does))
+    c.in-Done.is
