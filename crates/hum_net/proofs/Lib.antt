@@ -7,6 +7,7 @@ pub mod Turning
 pub mod Wanting
 pub mod Doings
 pub mod Readying
+pub mod Stepping
 pub mod Sending
 pub mod Reusing
 pub mod Netting

@@ -33,6 +33,13 @@ module _ {F W : Type 0} (stands : Node F W → List ℕ → At → Type 0) (k : 
       tells s.size (s.links k) (a.at.stand.links k link (about_link link e))
       ∙ sym (ap (can s.size s.links k) (state_gives s s.links k a.less (a.does ∙ is)))
 
+  pub room_reads : (link : port.Link) (b : Bool) → doing ≡ does.Reads
+      → link ≡ get_or web.links.items k link → Tells link b has_room
+      → b ≡ can s.size s.links k (state (plan_of s) s.links k)
+  room_reads link b is e tells =
+      tells s.size (s.links k) (a.at.stand.links k link (about_link link e))
+      ∙ sym (ap (can s.size s.links k) (state_reads s s.links k a.less (a.does ∙ is)))
+
   pub unset_ends : (link : port.Link) (b : Bool) (end : End) → doing ≡ does.Done end
       → link ≡ get_or web.links.items k link → Tells link b (λ size l. is_none l.mark)
       → b ≡ can s.size s.links k (state (plan_of s) s.links k)

@@ -5,6 +5,7 @@ use Rattle.std.proofs.lemmas.Option.{none-some, same_Some}
 use Rattle.std.specs.Io.KnownBytes.{Appends}
 use Rattle.hum_record.specs.Row.{Row, text_of}
 use Rattle.hum_stage.specs.declared.faults.End.{End}
+use Rattle.hum_turns.specs.declared.result.RunResult.{RunResult}
 use Rattle.hum_turns.specs.declared.result.RunResult.TheVariants as ends
 use Rattle.hum_turns.specs.Flow.{Flow, Begins}
 use Rattle.hum_turns.specs.Plan.{last}
@@ -19,7 +20,7 @@ use Rattle.hum_links.specs.declared.link.Next.TheVariants as next
 use Rattle.hum_links.specs.Links.{next_of}
 use Rattle.hum_net.specs.declared.web.Web.{Web}
 use Rattle.hum_net.specs.Scene.{Scene, plan_of, Done}
-use Rattle.hum_net.specs.Nets.{Sent, Failed}
+use Rattle.hum_net.specs.Nets.{Sent, SinkWent, Failed}
 use Rattle.hum_writing.specs.Writing.{WroteFront}
 use Rattle.hum_net.proofs.Taking.{next_record, next_end, next_nothing}
 
@@ -46,6 +47,11 @@ module _ {F W : Type 0} (stands : Node F W → List ℕ → At → Type 0) (web 
     (old new : Option (List ℕ)) (flushed : Bool) where
   abbrev l : Link Row
   l = s.links (last (plan_of s))
+
+  -- where no failure has come
+  pub went : (failure : Option RunResult) → failure ≡ None → Sent stands old new flushed web s
+      → SinkWent stands failure old new flushed web s
+  went failure none sent = subst (λ f. SinkWent stands f old new flushed web s) (sym none) sent
 
   pub sent_record : (answer : Next) (x : Row)
       → Done stands s.count (Takes (last (plan_of s))) web s → answer ≡ next_of l.waiting l.mark

@@ -100,19 +100,17 @@ module _ {F W : Type 0} (stands : Node F W → List ℕ → At → Type 0) (k : 
       let other = and_right (nat_lt k s.count) _ (le-ltb 0 (s.kinds k).stage.bytes (omega arith)) in
       cond-false _ _ _ other
 
-  stepped : (old new : Web F W) (doing : Doing) (s : Scene) → MayAct stands k doing old s
-      → ready (plan_of s) s.size s.links k ≡ true
+  stepped : (old new : Web F W) (s : Scene) → MayTurn stands k old s → (s.kinds k).stage.bytes ≡ 0
       → Done stands k (state (plan_of s) s.links k) new s → Stepped stands k new s
-  stepped old new doing s a h d =
-      let less = a.less in
+  stepped old new s may none d =
+      let less = may.less in
       record {
         new = d.new;
         step = step_does (plan_of s) s.size k (state (plan_of s) s.links k) s.links d.new
-            (omega (arith, less)) h refl
+            (omega (arith, less)) may.ready refl
             (λ e.
-            let n = reads_bytes (plan_of s) a.at.reached.ok s.links k less e in
-            let none = a.bytes in
-            absurd (omega arith))
+            let n = reads_bytes (plan_of s) may.at.reached.ok s.links k less e in
+            absurd (omega (arith, n, none)))
             d.does;
         stand = d.stand;
       }
@@ -149,22 +147,18 @@ module _ {F W : Type 0} (feeds : F → List ℕ → At → Type 0) (works : W �
       }
 
   -- A turn of a stage that isn't a source.
-  pub stage_fed : (tells : F → Option (List ℕ)) (over : F → Bool) (old new : Web F W) (doing : Doing)
+  pub stage_fed : (tells : F → Option (List ℕ)) (over : F → Bool) (old new : Web F W)
       (node : Node F W) (here : Scene)
       → ((w : W) (t : At) → works w t → bytes_of t ≡ 0)
       → MayTurn (StandsAs feeds works) k old here
       → slice_get old.nodes.items k ≡ Some node → is_source node ≡ false
-      → ((rest : List ℕ) (t : At) → StandsAs feeds works node rest t → doing ≡ doing_of t)
-      → ((s : Scene) → MayAct (StandsAs feeds works) k doing old s
+      → ((s : Scene) → MayTurn (StandsAs feeds works) k old s
       → Done (StandsAs feeds works) k (state (plan_of s) s.links k) new s)
       → Keeps k old new
       → Fed (StandsAs feeds works) tells over k old new
-  stage_fed tells over old new doing node here law may there kind says does keep =
+  stage_fed tells over old new node here law may there kind does keep =
       let stands : Node F W → List ℕ → At → Type 0 = StandsAs feeds works in
-      let act : (s : Scene) → MayTurn stands k old s → MayAct stands k doing old s = λ s m.
-      acting stands k old doing s
-      (about old doing s node law m.at m.less there kind says) m.ready in
-      let d = does here (act here may) in
+      let d = does here may in
       let n = d.stand.count in
       let less = may.less in
       let after : (x : Node F W) × (slice_get new.nodes.items k ≡ Some x) =
@@ -183,7 +177,9 @@ module _ {F W : Type 0} (feeds : F → List ℕ → At → Type 0) (works : W �
         still = λ e. absurd (not_ended over node kind e);
         turns = λ s last m.
             let u = unfed stands k old s m in
-            stepped stands k old new doing s (act s u) u.ready (does s (act s u));
+            let bytes = stage_bytes feeds works law node (s.rests k) (at_of s.kinds s.links k) kind
+            (u.at.stand.nodes k node there) in
+            stepped stands k old new s u bytes (does s u);
       }
 
 -- A stage that isn't a source has no reader.

@@ -45,7 +45,8 @@ impl<F: Feeds, W: Works, S: Sink> Net<F, W, S> {
 
     // The sink's turn.
     fn sink_turn(&mut self)
-        requires { Somewhere (IsAt (StandsAs F.stands W.stands) self.old.web) }
+        requires none { self.old.failure ≡ None }
+        requires may { Somewhere (IsAt (StandsAs F.stands W.stands) self.old.web) }
         ensures went { (s : Scene) → MayWrite (StandsAs F.stands W.stands) self.old.web s
             → SinkWent (StandsAs F.stands W.stands) self.new.failure (S.contents self.old.sink)
             (S.contents self.new.sink) (S.flushed self.new.sink) self.new.web s }
@@ -58,7 +59,6 @@ impl<F: Feeds, W: Works, S: Sink> Net<F, W, S> {
         ensures actors { self.new.actors ≡ self.old.actors }
         ensures readers { self.new.readers ≡ self.old.readers }
     {
-        self.failure = None;
         match self.web.take_out() {
             Next::Record(row) => match write_record(&mut self.sink, &row) {
                 Ok(()) => self.web.reuse(row),
@@ -74,7 +74,8 @@ impl<F: Feeds, W: Works, S: Sink> Net<F, W, S> {
 
     // A stage's turn, and the link that it has changed; its own, where it failed.
     fn stage_turn(&mut self, k: usize) -> usize
-        requires { Somewhere (MayTurnFew (StandsAs F.stands W.stands) k self.old.web) }
+        requires none { self.old.failure ≡ None }
+        requires may { Somewhere (MayTurnFew (StandsAs F.stands W.stands) k self.old.web) }
         ensures fed { self.new.failure ≡ None → Fed (StandsAs F.stands W.stands) F.remaining F.ended k
             self.old.web self.new.web }
         ensures link { (s : Scene) → IsActor (StandsAs F.stands W.stands) k self.old.web s
@@ -101,7 +102,6 @@ impl<F: Feeds, W: Works, S: Sink> Net<F, W, S> {
         ensures actors { self.new.actors ≡ self.old.actors }
         ensures readers { self.new.readers ≡ self.old.readers }
     {
-        self.failure = None;
         match self.web.turn(k) {
             Ok(link) => return link,
             Err(ReadError::Read) => self.failure = Some(RunResult::Read((k + 1) as u8)),
@@ -312,6 +312,7 @@ impl<F: Feeds, W: Works, S: Sink> Net<F, W, S> {
 
     /// One turn of an actor that is ready: a stage by its number, from 0, or the sink by the number
     /// of stages. It answers the link that the turn has changed.
+    #[inline(always)]
     pub fn turn(&mut self, k: usize) -> usize
         requires { MayGo (StandsAs F.stands W.stands) S.contents S.flushed k self.old }
         // It is one turn of this actor.
@@ -339,7 +340,7 @@ impl<F: Feeds, W: Works, S: Sink> Net<F, W, S> {
     {
         self.turns += 1;
         if k == self.web.count() {
-            let link = self.web.touched(k);
+            let link = self.web.last();
             self.sink_turn();
             link
         } else {

@@ -141,8 +141,8 @@ impl<F: Feeds, W: Works> Web<F, W> {
         self.links[k].end(end);
     }
 
-    // A stage takes from the link of its source at a place.
-    fn pass(&mut self, k: usize, place: usize) -> Result<(), AllocError>
+    // A stage takes from the link of its source at a place, whose number it answers.
+    fn pass(&mut self, k: usize, place: usize) -> Result<usize, AllocError>
         requires may { Somewhere (MayAct (StandsAs F.stands W.stands) k (does.Wants place)
             self.old) }
         requires stage { IsKind false k self.old }
@@ -150,6 +150,9 @@ impl<F: Feeds, W: Works> Web<F, W> {
             → MayAct (StandsAs F.stands W.stands) k (does.Wants place) self.old s
             → Done (StandsAs F.stands W.stands) k
             (Takes (slice_index (s.kinds k).stage.sources place)) self.new s) }
+        ensures source { IfOk result (λ source. (s : Scene)
+            → IsAbout (StandsAs F.stands W.stands) k (does.Wants place) self.old s
+            → source ≡ slice_index (s.kinds k).stage.sources place) }
         ensures nodes { Keeps k self.old self.new }
     {
         let source = self.nodes[k].source(place);
@@ -158,25 +161,32 @@ impl<F: Feeds, W: Works> Web<F, W> {
             Next::End(end) => self.nodes[k].stop(place, end),
             Next::Nothing => {}
         }
-        Ok(())
+        Ok(source)
     }
 
-    // What a stage does next.
-    fn act(&mut self, k: usize, doing: Doing) -> Result<(), AllocError>
-        requires may { Somewhere (MayAct (StandsAs F.stands W.stands) k doing self.old) }
+    // The turn of a stage that isn't a source, and the link that it has changed: the one that it
+    // took from, or its own.
+    fn act(&mut self, k: usize) -> Result<usize, AllocError>
+        requires turn { Somewhere (MayTurn (StandsAs F.stands W.stands) k self.old) }
         requires stage { IsKind false k self.old }
-        ensures done { OnOk result ((s : Scene)
-            → MayAct (StandsAs F.stands W.stands) k doing self.old s
+        ensures done { OnOk result ((s : Scene) → MayTurn (StandsAs F.stands W.stands) k self.old s
             → Done (StandsAs F.stands W.stands) k (state (plan_of s) s.links k) self.new s) }
+        ensures link { IfOk result (λ link. (s : Scene)
+            → IsActor (StandsAs F.stands W.stands) k self.old s
+            → link ≡ touched k (state (plan_of s) s.links k)) }
         ensures nodes { Keeps k self.old self.new }
     {
-        match doing {
-            Doing::Gives => self.give(k)?,
-            Doing::Wants(place) => self.pass(k, place)?,
-            Doing::Done(end) => self.finish(k, end),
-            Doing::Reads => {}
+        match self.nodes[k].doing_kind() {
+            DoingKind::Wants(place) => return self.pass(k, place),
+            DoingKind::Gives => self.give(k)?,
+            // it reads nothing
+            DoingKind::Done | DoingKind::Reads => {
+                if let Doing::Done(end) = self.nodes[k].doing() {
+                    self.finish(k, end);
+                }
+            }
         }
-        Ok(())
+        Ok(k)
     }
 
     /// A turn of a stage that is ready, and the link that it has changed: the one that it took from,
@@ -206,10 +216,8 @@ impl<F: Feeds, W: Works> Web<F, W> {
         if self.nodes[k].is_source() {
             return self.poll(k);
         }
-        let doing = self.nodes[k].doing();
-        let link = self.link_of(k, doing);
-        match self.act(k, doing) {
-            Ok(()) => Ok(link),
+        match self.act(k) {
+            Ok(link) => Ok(link),
             Err(_) => Err(ReadError::Memory),
         }
     }
@@ -222,13 +230,12 @@ impl<F: Feeds, W: Works> Web<F, W> {
             → result ≡ can s.size s.links k (state (plan_of s) s.links k) }
     {
         match kind {
-            DoingKind::Gives => self.links[k].has_room(),
-            DoingKind::Reads => self.links[k].has_room(),
+            DoingKind::Gives | DoingKind::Reads => self.links[k].has_room(),
+            DoingKind::Done => self.links[k].is_unset(),
             DoingKind::Wants(place) => {
                 let source = self.nodes[k].source(place);
                 self.links[source].has_some()
             }
-            DoingKind::Done => self.links[k].is_unset(),
         }
     }
 
@@ -248,35 +255,13 @@ impl<F: Feeds, W: Works> Web<F, W> {
         self.can(k, kind)
     }
 
-    // The link that a stage changes by doing this.
-    fn link_of(&self, k: usize, doing: Doing) -> usize
-        requires about { Somewhere (IsAbout (StandsAs F.stands W.stands) k doing self.now) }
-        requires stage { IsKind false k self.now }
-        ensures { (s : Scene) → IsAbout (StandsAs F.stands W.stands) k doing self.now s
-            → result ≡ touched k (state (plan_of s) s.links k) }
+    /// The number of the last stage, whose link the sink takes from.
+    pub fn last(&self) -> usize
+        requires { Somewhere (IsAt (StandsAs F.stands W.stands) self.now) }
+        ensures { (s : Scene) → IsAt (StandsAs F.stands W.stands) self.now s
+            → result ≡ last (plan_of s) }
     {
-        match doing {
-            Doing::Gives => k,
-            Doing::Reads => k,
-            Doing::Wants(place) => self.nodes[k].source(place),
-            Doing::Done(_) => k,
-        }
-    }
-
-    /// The link that a turn of this actor changes: the one that it takes from, or its own.
-    pub fn touched(&self, k: usize) -> usize
-        requires { Somewhere (IsActor (StandsAs F.stands W.stands) k self.now) }
-        ensures { (s : Scene) → IsActor (StandsAs F.stands W.stands) k self.now s
-            → result ≡ touched k (state (plan_of s) s.links k) }
-    {
-        if k == self.nodes.len() {
-            return k - 1;
-        }
-        if self.nodes[k].is_source() {
-            return k;
-        }
-        let doing = self.nodes[k].doing();
-        self.link_of(k, doing)
+        self.links.len() - 1
     }
 
     /// How many records lie on the link of a stage.

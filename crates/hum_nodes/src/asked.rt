@@ -62,12 +62,14 @@ impl<W: Works> Works for Asked<W> {
         self.inner.held()
     }
 
+    #[inline(always)]
     fn take(&mut self) -> Result<Option<Record>, AllocError> {
         let taken = self.inner.take()?;
         self.kind = self.inner.doing_kind();
         Ok(taken)
     }
 
+    #[inline(always)]
     fn put(&mut self, place: usize, next: Record) -> Result<(), AllocError> {
         self.inner.put(place, next)?;
         self.kind = self.inner.doing_kind();

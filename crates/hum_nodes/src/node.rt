@@ -29,8 +29,8 @@ pub enum Doing {
 pub enum DoingKind {
     Gives,
     Reads,
-    Wants(usize),
     Done,
+    Wants(usize),
 }
 
 impl Doing {

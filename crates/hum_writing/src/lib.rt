@@ -38,6 +38,7 @@ pub fn write_all<W: Sink>(sink: &mut W, text: &[u8]) -> Result<(), WriteFailed>
 ///
 /// # Errors
 /// As [`write_all`]'s.
+#[inline(always)]
 pub fn write_record<W: Sink>(sink: &mut W, row: &Record) -> Result<(), WriteFailed>
     ensures ok { OnOk result (Appends (W.contents sink.old) (W.contents sink.new)
         (text_of row.now ++ 10 ∷ [])) }

@@ -6,17 +6,30 @@ use Rattle.hum_net.proofs.Bounds.{turns_few, reads_few}
 use Rattle.hum_nodes.specs.Nodes.{StandsAs}
 use Rattle.hum_net.specs.Scene.{moved}
 use Rattle.hum_net.proofs.Netting.{no_failure, is_at, now_ready, below_count, stage_turned, sink_turned, marks_by}
+use Rattle.hum_net.proofs.Stepping.{sink_touches}
 use Rattle.hum_net.proofs.net.Net.turn.Goals as goal
 
-pub sink_turn-requires : goal.sink_turn-requires
-sink_turn-requires g c =
+pub sink_turn-requires-clause-none : goal.sink_turn-requires-clause-none
+sink_turn-requires-clause-none g c =
+    let m = c.requires in
+    m.at.failure ∙ no_failure (StandsAs g.F.Feeds.stands g.W.Works.stands) g.S.Sink.contents g.S.Sink.flushed
+    m.start m.scene c.args.self.now m.now c.args.k m.at m.ready
+
+pub stage_turn-requires-clause-none : goal.stage_turn-requires-clause-none
+stage_turn-requires-clause-none g c =
+    let m = c.requires in
+    m.at.failure ∙ no_failure (StandsAs g.F.Feeds.stands g.W.Works.stands) g.S.Sink.contents g.S.Sink.flushed
+    m.start m.scene c.args.self.now m.now c.args.k m.at m.ready
+
+pub sink_turn-requires-clause-may : goal.sink_turn-requires-clause-may
+sink_turn-requires-clause-may g c =
     let m = c.requires in
     let at = is_at (StandsAs g.F.Feeds.stands g.W.Works.stands) g.S.Sink.contents g.S.Sink.flushed m.start
     m.scene c.args.self.now m.now c.args.k m.at m.ready in
     record { scene = moved m.scene m.now.links; holds = at }
 
-pub stage_turn-requires : goal.stage_turn-requires
-stage_turn-requires g c =
+pub stage_turn-requires-clause-may : goal.stage_turn-requires-clause-may
+stage_turn-requires-clause-may g c =
     let m = c.requires in
     let s = m.scene in
     let stands = StandsAs g.F.Feeds.stands g.W.Works.stands in
@@ -87,12 +100,15 @@ pub returns-then-k-count-clause-calls : goal.returns-then-k-count-clause-calls
 returns-then-k-count-clause-calls g c =
     let h = c.sink_turn.ensures.shows c.args.k in inl (h.calls_made, h.mark)
 
-pub touched-link-requires : goal.touched-link-requires
-touched-link-requires g c =
+pub last-link-requires : goal.last-link-requires
+last-link-requires g c =
     let m = c.requires in
     let at = is_at (StandsAs g.F.Feeds.stands g.W.Works.stands) g.S.Sink.contents g.S.Sink.flushed m.start
     m.scene c.args.self.now m.now c.args.k m.at m.ready in
-    record { scene = moved m.scene m.now.links; holds = record { at = at; within = m.within } }
+    record { scene = moved m.scene m.now.links; holds = at }
 
 pub returns-then-k-count-clause-link : goal.returns-then-k-count-clause-link
-returns-then-k-count-clause-link g c s h = inl (c.touched-link.ensures s h)
+returns-then-k-count-clause-link g c s h =
+    let stands = StandsAs g.F.Feeds.stands g.W.Works.stands in
+    inl (sink_touches s c.args.k c.last-link.result (c.if-k-count.true ∙ c.count.ensures ∙ h.at.stand.count)
+    (c.last-link.ensures s h.at))

@@ -1,11 +1,11 @@
-use Rattle.std.proofs.Common.{[], arith, ◌∙◌}
+use Rattle.std.proofs.Common.{[], arith, ◌∙◌, ⊎_elim}
 use Rattle.hum_nodes.specs.Nodes.{StandsAs}
 use Rattle.hum_nodes.specs.At.{doing_of}
 use Rattle.hum_net.specs.Scene.{at_of}
 use Rattle.hum_net.proofs.Feeding.{node_at}
 use Rattle.hum_net.proofs.Acting.{any_rest}
-use Rattle.hum_net.proofs.Doings.{gives_of, wants_of, done_of, about_it}
-use Rattle.hum_net.proofs.Readying.{room_gives, unset_ends, within_place, within_links, some_takes}
+use Rattle.hum_net.proofs.Doings.{gives_of, reads_of, wants_of, done_of, about_it}
+use Rattle.hum_net.proofs.Readying.{room_gives, room_reads, unset_ends, within_place, within_links, some_takes}
 use Rattle.hum_net.proofs.web.Web.can.Goals as goal
 
 pub source-source-requires-clause-place : goal.source-source-requires-clause-place
@@ -48,8 +48,13 @@ returns-in-Gives g c s a =
     let k = c.args.k in
     let stands = StandsAs g.F.Feeds.stands g.W.Works.stands in
     let b = about_it stands k c.args.kind web s a in
-    room_gives stands k web (doing_of (at_of s.kinds s.links k)) s b c.index.result.now c.has_room.result (gives_of _ (a.does ∙ c.in-Gives.is))
-    c.index.ensures c.has_room.ensures.has_room
+    let doing = doing_of (at_of s.kinds s.links k) in
+    ⊎_elim
+    (λ is. room_gives stands k web doing s b c.index.result.now c.has_room.result (gives_of _ (a.does ∙ is))
+    c.index.ensures c.has_room.ensures.has_room)
+    (λ is. room_reads stands k web doing s b c.index.result.now c.has_room.result (reads_of _ (a.does ∙ is))
+    c.index.ensures c.has_room.ensures.has_room)
+    c.in-Gives.is
 
 pub returns-in-Wants : goal.returns-in-Wants
 returns-in-Wants g c s a =

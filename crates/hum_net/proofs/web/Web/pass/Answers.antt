@@ -179,3 +179,30 @@ returns-in-Nothing-clause-nodes g c =
     let w = passing stands k place web s i c.index_mut.result.now may e c.index_mut.ensures.value in
     absurd (nothing_next stands k place web s i c.index_mut.result.now c.next.result may w
     c.next.ensures.next c.in-Nothing.is)
+
+pub returns-in_ok-put-in-Record-clause-source : goal.returns-in_ok-put-in-Record-clause-source
+returns-in_ok-put-in-Record-clause-source g c s about =
+    let web = c.args.self.now in
+    let node = c.index.result.now in
+    let there = node_at (StandsAs g.F.Feeds.stands g.W.Works.stands) c.args.k web s node about.less
+    about.at.stand c.index.ensures in
+    c.source-source.ensures (s.rests c.args.k) (at_of s.kinds s.links c.args.k)
+    (about.at.stand.nodes c.args.k node there)
+
+pub returns-in-End-clause-source : goal.returns-in-End-clause-source
+returns-in-End-clause-source g c s about =
+    let web = c.args.self.now in
+    let node = c.index.result.now in
+    let there = node_at (StandsAs g.F.Feeds.stands g.W.Works.stands) c.args.k web s node about.less
+    about.at.stand c.index.ensures in
+    c.source-source.ensures (s.rests c.args.k) (at_of s.kinds s.links c.args.k)
+    (about.at.stand.nodes c.args.k node there)
+
+pub returns-in-Nothing-clause-source : goal.returns-in-Nothing-clause-source
+returns-in-Nothing-clause-source g c s about =
+    let web = c.args.self.now in
+    let node = c.index.result.now in
+    let there = node_at (StandsAs g.F.Feeds.stands g.W.Works.stands) c.args.k web s node about.less
+    about.at.stand c.index.ensures in
+    c.source-source.ensures (s.rests c.args.k) (at_of s.kinds s.links c.args.k)
+    (about.at.stand.nodes c.args.k node there)

@@ -7,33 +7,15 @@ use Rattle.hum_turns.specs.Turns.{state}
 use Rattle.hum_turns.specs.Near.{touched}
 use Rattle.hum_net.specs.Scene.{Scene, IsActor, plan_of, at_of}
 use Rattle.hum_net.proofs.Feeding.{node_at, source_bytes}
-use Rattle.hum_net.proofs.Turning.{one_kind, acting, about, stage_fed, act_marks, act_calls, act_stays}
+use Rattle.hum_net.proofs.Turning.{one_kind, stage_fed, act_marks, act_calls, act_stays}
 use Rattle.hum_net.proofs.web.Web.turn.Goals as goal
 
 on_ok : {E : Type 0} (P Q : ℕ → Type 0) (r : Result ℕ E) → IfOk r P → ((n : ℕ) → P n → Q n) → IfOk r Q
 on_ok P Q (Ok n) h f = f n h
 on_ok P Q (Err e) h f = h
 
-pub act-requires-clause-may : goal.act-requires-clause-may
-act-requires-clause-may g c =
-    let s = c.requires.scene in
-    let may = c.requires.holds in
-    let web = c.args.self.now in
-    let k = c.args.k in
-    let feeds = g.F.Feeds.stands in
-    let works = g.W.Works.stands in
-    let one = node_at (StandsAs feeds works) k web s c.index.result.now may.less may.at.stand
-    c.index.ensures in
-    let two = node_at (StandsAs feeds works) k web s c.index-2.result.now may.less may.at.stand
-    c.index-2.ensures in
-    let kind = one_kind k web c.index.result.now false one (sym c.is_source.ensures ∙ c.if-is_source.false)
-    c.index-2.result.now two in
-    record {
-      scene = s;
-      holds = acting (StandsAs feeds works) k web c.doing-doing.result s
-          (about feeds works k web c.doing-doing.result s c.index-2.result.now g.met.W.Works.no_bytes
-          may.at may.less two kind c.doing-doing.ensures) may.ready;
-    }
+pub act-requires-clause-turn : goal.act-requires-clause-turn
+act-requires-clause-turn g c = c.requires
 
 pub act-requires-clause-stage : goal.act-requires-clause-stage
 act-requires-clause-stage g c =
@@ -55,13 +37,10 @@ returns-in-Ok-clause-turned g c =
     let works = g.W.Works.stands in
     let one = node_at (StandsAs feeds works) k web s c.index.result.now may.less may.at.stand
     c.index.ensures in
-    let two = node_at (StandsAs feeds works) k web s c.index-2.result.now may.less may.at.stand
-    c.index-2.ensures in
-    let kind = one_kind k web c.index.result.now false one (sym c.is_source.ensures ∙ c.if-is_source.false)
-    c.index-2.result.now two in
     stage_fed feeds works k g.F.Feeds.remaining g.F.Feeds.ended web c.act.new.self
-    c.doing-doing.result c.index-2.result.now s g.met.W.Works.no_bytes may two kind
-    c.doing-doing.ensures c.in-Ok.ensures.done c.in-Ok.ensures.nodes
+    c.index.result.now s g.met.W.Works.no_bytes may one
+    (sym c.is_source.ensures ∙ c.if-is_source.false)
+    c.in-Ok.ensures.done c.in-Ok.ensures.nodes
 
 pub returns-in-Ok-clause-marks : goal.returns-in-Ok-clause-marks
 returns-in-Ok-clause-marks g c =
@@ -123,36 +102,6 @@ returns-in-Err-clause-stays g c =
     act_stays g.F.Feeds.remaining g.F.Feeds.ended g.F.Feeds.calls g.F.Feeds.failed c.args.k web
     c.act.new.self was c.in-Err.ensures.nodes.kind
 
-pub link_of-link-requires-clause-about : goal.link_of-link-requires-clause-about
-link_of-link-requires-clause-about g c =
-    let s = c.requires.scene in
-    let may = c.requires.holds in
-    let web = c.args.self.now in
-    let k = c.args.k in
-    let feeds = g.F.Feeds.stands in
-    let works = g.W.Works.stands in
-    let one = node_at (StandsAs feeds works) k web s c.index.result.now may.less may.at.stand
-    c.index.ensures in
-    let two = node_at (StandsAs feeds works) k web s c.index-2.result.now may.less may.at.stand
-    c.index-2.ensures in
-    let kind = one_kind k web c.index.result.now false one (sym c.is_source.ensures ∙ c.if-is_source.false)
-    c.index-2.result.now two in
-    record {
-      scene = s;
-      holds = about feeds works k web c.doing-doing.result s c.index-2.result.now g.met.W.Works.no_bytes
-          may.at may.less two kind c.doing-doing.ensures;
-    }
-
-pub link_of-link-requires-clause-stage : goal.link_of-link-requires-clause-stage
-link_of-link-requires-clause-stage g c =
-    let s = c.requires.scene in
-    let may = c.requires.holds in
-    let web = c.args.self.now in
-    one_kind c.args.k web c.index.result.now false
-    (node_at (StandsAs g.F.Feeds.stands g.W.Works.stands) c.args.k web s c.index.result.now may.less
-    may.at.stand c.index.ensures)
-    (sym c.is_source.ensures ∙ c.if-is_source.false)
-
 pub returns-then-is_source-clause-link : goal.returns-then-is_source-clause-link
 returns-then-is_source-clause-link g c =
     on_ok (λ link. link ≡ c.args.k)
@@ -175,19 +124,4 @@ returns-then-is_source-clause-link g c =
     is ∙ sym (source_touches (plan_of s) h.at.reached.ok s.size k s.links (source_is (plan_of s) k here some)))
 
 pub returns-in-Ok-clause-link : goal.returns-in-Ok-clause-link
-returns-in-Ok-clause-link g c s h =
-    let web = c.args.self.now in
-    let k = c.args.k in
-    let feeds = g.F.Feeds.stands in
-    let works = g.W.Works.stands in
-    let stands = StandsAs feeds works in
-    let less = c.requires.holds.less in
-    let count = sym c.requires.holds.at.stand.count ∙ h.at.stand.count in
-    let here : k < s.count = omega (arith, less, count) in
-    let one = node_at stands k web s c.index.result.now here h.at.stand c.index.ensures in
-    let two = node_at stands k web s c.index-2.result.now here h.at.stand c.index-2.ensures in
-    let kind = one_kind k web c.index.result.now false one
-    (sym c.is_source.ensures ∙ c.if-is_source.false) in
-    c.link_of-link.ensures s (about feeds works k web c.doing-doing.result s
-    c.index-2.result.now g.met.W.Works.no_bytes h.at here two (kind c.index-2.result.now two)
-    c.doing-doing.ensures)
+returns-in-Ok-clause-link g c = c.in-Ok.ensures.link
