@@ -1,9 +1,9 @@
 //! The command assemble: small scores side by side, by hand, and long ones.
 ghost use Rattle.std.specs.Prelude.{◌≡◌, true};
-ghost use Rattle.hum_record.specs.Spelling.{has_byte};
 ghost use Rattle.hum_path.specs.Rules.{is_closed};
 ghost use Rattle.hum_stage.specs.declared.faults.End.TheVariants.{Closed};
 
+use crate::scores::read;
 use hum_assemble::Assemble;
 use hum_path::Paths;
 use hum_record::Record;
@@ -31,17 +31,6 @@ impl Model for Service {
     ghost view = { λ s. tt };
 
     ghost invariant = { λ s. IsServed s.inner s.paths.items s.puts };
-}
-
-fn has_line_feed(text: &[u8]) -> bool
-    ensures { result ≡ has_byte 10 text.now }
-{
-    text.contains(&b'\n')
-}
-
-fn read(rt: &impl Abort, alloc: Global, text: &[u8]) -> Result<Record, Fail> {
-    assert!(rt; text.len() <= 1_048_576 && !has_line_feed(text));
-    Ok(Record::parse(alloc, text.to_vec(alloc)?)?)
 }
 
 // Whether a source of these spines may end so.
@@ -72,15 +61,15 @@ impl Service {
 
     // One record more of the source that is wanted.
     fn put(self, rt: &impl Abort, text: &[u8]) -> Result<Service, Fail> {
+        let next = read(rt, self.alloc, text)?;
         let Service {
             alloc,
             mut inner,
             mut paths,
             puts,
         } = self;
-        let next = read(rt, alloc, text)?;
         let Some(source) = inner.wants() else {
-            return Err(Fail::new("no source is wanted"));
+            panic!(rt; "no source is wanted")
         };
         assert!(rt; source < paths.len());
         assert!(rt; puts < 4_294_967_295);
@@ -95,7 +84,7 @@ impl Service {
     }
 
     // The end of the source that is wanted: closed only where no spine is open.
-    fn end(self, rt: &impl Abort, end: End) -> Result<Service, Fail> {
+    fn end(self, rt: &impl Abort, end: End) -> Service {
         let Service {
             alloc,
             mut inner,
@@ -103,36 +92,39 @@ impl Service {
             puts,
         } = self;
         let Some(source) = inner.wants() else {
-            return Err(Fail::new("no source is wanted"));
+            panic!(rt; "no source is wanted")
         };
         assert!(rt; source < paths.len());
         if !may_end(&paths[source], end) {
-            return Err(Fail::new("a spine is open"));
+            panic!(rt; "a spine is open")
         }
         inner.end(source, end);
-        Ok(Service {
+        Service {
             alloc,
             inner,
             paths,
             puts,
-        })
+        }
     }
 
-    fn take(self) -> Result<(Service, Option<Record>), Fail> {
+    // What is given.
+    fn take(self, rt: &impl Abort) -> Result<(Service, Record), Fail> {
         let Service {
             alloc,
             mut inner,
             paths,
             puts,
         } = self;
-        let taken = inner.take()?;
+        let Some(row) = inner.take()? else {
+            panic!(rt; "nothing is given")
+        };
         let service = Service {
             alloc,
             inner,
             paths,
             puts,
         };
-        Ok((service, taken))
+        Ok((service, row))
     }
 }
 
@@ -167,7 +159,127 @@ fn broken(stage: u8, line: u64, lines: &'static [&'static [u8]]) -> Source {
     }
 }
 
-// Serves the sources by what is wanted: these lines are given, and this is the end.
+// A record of one token, whose width was doubled so many times.
+fn wide(alloc: Global, token: &[u8], times: usize) -> Result<Vec<u8>, Fail> {
+    let mut text = token.to_vec(alloc)?;
+    for _ in 0..times {
+        let half = text.as_slice().to_vec(alloc)?;
+        text.push(b'\t')?;
+        text.extend_from_slice(&half)?;
+    }
+    Ok(text)
+}
+
+// What the sources hold: these lines, so many splits of all spines that are then joined, or a
+// million data records.
+#[derive(Clone, Copy)]
+enum Sources<'a> {
+    Listed(&'a [Source]),
+    Doubled(usize),
+    Million,
+}
+
+// The line of this place in a source whose spines are split so many times.
+fn doubled(alloc: Global, splits: usize, place: usize) -> Result<Option<Vec<u8>>, Fail> {
+    if place == 0 {
+        return Ok(Some(b"**x".to_vec(alloc)?));
+    }
+    if place <= splits {
+        return Ok(Some(wide(alloc, b"*^", place - 1)?));
+    }
+    match place - splits {
+        1 => Ok(Some(wide(alloc, b"*v", splits)?)),
+        2 => Ok(Some(b"*-".to_vec(alloc)?)),
+        _ => Ok(None),
+    }
+}
+
+impl<'a> Sources<'a> {
+    // The line of this place in a source; none at its end.
+    fn line(self, alloc: Global, source: usize, place: usize) -> Result<Option<Vec<u8>>, Fail> {
+        let line: Option<&'static [u8]> = match self {
+            Sources::Doubled(splits) => return doubled(alloc, splits, place),
+            Sources::Listed(sources) => match sources.get(source) {
+                Some(source) => source.lines.get(place).copied(),
+                None => None,
+            },
+            Sources::Million => match place {
+                0 => Some(b"**x"),
+                1..=1_000_000 => Some(b"4c"),
+                1_000_001 => Some(b"*-"),
+                _ => None,
+            },
+        };
+        match line {
+            Some(line) => Ok(Some(line.to_vec(alloc)?)),
+            None => Ok(None),
+        }
+    }
+
+    // How a source ends.
+    fn end(self, source: usize) -> End {
+        match self {
+            Sources::Listed(sources) => match sources.get(source) {
+                Some(source) => source.end,
+                None => End::Closed,
+            },
+            _ => End::Closed,
+        }
+    }
+}
+
+// Serves the source that is wanted, of each of which so many lines were put.
+fn fed(
+    service: Service,
+    rt: &impl Abort,
+    sources: Sources<'_>,
+    places: &mut Vec<usize>,
+) -> Result<Service, Fail> {
+    let Some(source) = service.inner.wants() else {
+        panic!(rt; "no source is wanted")
+    };
+    assert!(rt; source < places.len());
+    let place = places[source];
+    assert!(rt; place < 4_000_000);
+    places[source] = place + 1;
+    match sources.line(service.alloc, source, place)? {
+        Some(line) => service.put(rt, &line),
+        None => Ok(service.end(rt, sources.end(source))),
+    }
+}
+
+// Serves so many sources by what is wanted: what is given is what is wanted of it, if anything.
+// How many records are given, and the end.
+fn served(
+    rt: &impl Abort,
+    alloc: Global,
+    sources: Sources<'_>,
+    count: usize,
+    want: &[&'static [u8]],
+) -> Result<(usize, End), Fail> {
+    let mut service = Service::new(rt, alloc, count)?;
+    let mut places = vec![in alloc; 0usize; count]?;
+    let mut given = 0usize;
+    for _ in 0..4_000_000 {
+        assert!(rt; service.inner.held() <= count);
+        match service.inner.state() {
+            State::Gives => {
+                let (next, row) = service.take(rt)?;
+                service = next;
+                if let Some(text) = want.get(given) {
+                    assert_eq!(rt; row.text(), *text);
+                }
+                assert!(rt; given < 4_000_000);
+                given += 1;
+            }
+            State::Wants => service = fed(service, rt, sources, &mut places)?,
+            State::Done(end) => return Ok((given, end)),
+        }
+    }
+    Err(Fail::new("it isn't done"))
+}
+
+// Of these sources those lines are given, and this is the end.
 fn check(
     rt: &impl Abort,
     alloc: Global,
@@ -175,47 +287,10 @@ fn check(
     want: &[&'static [u8]],
     ending: End,
 ) -> Result<(), Fail> {
-    let mut service = Service::new(rt, alloc, sources.len())?;
-    let mut places = Vec::new(alloc);
-    for _ in sources {
-        places.push(0usize)?;
-    }
-    let mut given = 0usize;
-    for _ in 0..1_000 {
-        assert!(rt; service.inner.held() <= sources.len());
-        match service.inner.state() {
-            State::Gives => {
-                let (next, taken) = service.take()?;
-                service = next;
-                let Some(row) = taken else {
-                    return Err(Fail::new("nothing was taken"));
-                };
-                assert!(rt; given < want.len());
-                assert_eq!(rt; row.text(), want[given]);
-                given += 1;
-            }
-            State::Wants => {
-                let Some(j) = service.inner.wants() else {
-                    return Err(Fail::new("no source is wanted"));
-                };
-                assert!(rt; j < sources.len());
-                assert!(rt; j < places.len());
-                let place = places[j];
-                assert!(rt; place < 1_000);
-                places[j] = place + 1;
-                service = match sources[j].lines.get(place) {
-                    Some(line) => service.put(rt, line)?,
-                    None => service.end(rt, sources[j].end)?,
-                };
-            }
-            State::Done(end) => {
-                assert_eq!(rt; given, want.len());
-                assert_eq!(rt; end, ending);
-                return Ok(());
-            }
-        }
-    }
-    Err(Fail::new("it isn't done"))
+    let (given, end) = served(rt, alloc, Sources::Listed(sources), sources.len(), want)?;
+    assert_eq!(rt; given, want.len());
+    assert_eq!(rt; end, ending);
+    Ok(())
 }
 
 #[test]
@@ -422,66 +497,6 @@ fn fronts_and_tails_go_in_turn(rt: HostRuntime) -> Result<(), Fail> {
     Ok(())
 }
 
-// A record of one token, so many times.
-fn wide(alloc: Global, token: &[u8], width: usize) -> Result<Vec<u8>, Fail> {
-    let mut text = Vec::new(alloc);
-    for j in 0..width {
-        if j > 0 {
-            text.push(b'\t')?;
-        }
-        text.extend_from_slice(token)?;
-    }
-    Ok(text)
-}
-
-// Two sources that split all spines so many times and then join them: how many records are given,
-// and the end.
-fn doubled(rt: &impl Abort, alloc: Global, splits: usize) -> Result<(usize, End), Fail> {
-    let mut service = Service::new(rt, alloc, 2)?;
-    let mut puts = [0usize; 2];
-    let mut widths = [1usize; 2];
-    let mut given = 0usize;
-    for _ in 0..1_000 {
-        match service.inner.state() {
-            State::Gives => {
-                let (next, taken) = service.take()?;
-                service = next;
-                assert!(rt; taken.is_some());
-                assert!(rt; given < 1_000_000);
-                given += 1;
-            }
-            State::Wants => {
-                let Some(j) = service.inner.wants() else {
-                    return Err(Fail::new("no source is wanted"));
-                };
-                assert!(rt; j < 2);
-                assert!(rt; splits < 100);
-                let put = puts[j];
-                let width = widths[j];
-                assert!(rt; put < 1_000);
-                assert!(rt; width <= 4_096);
-                puts[j] = put + 1;
-                if put == 0 {
-                    service = service.put(rt, b"**x")?;
-                } else if put <= splits {
-                    let text = wide(alloc, b"*^", width)?;
-                    service = service.put(rt, &text)?;
-                    widths[j] = width * 2;
-                } else if put == splits + 1 {
-                    let text = wide(alloc, b"*v", width)?;
-                    service = service.put(rt, &text)?;
-                } else if put == splits + 2 {
-                    service = service.put(rt, b"*-")?;
-                } else {
-                    service = service.end(rt, End::Closed)?;
-                }
-            }
-            State::Done(end) => return Ok((given, end)),
-        }
-    }
-    Err(Fail::new("it isn't done"))
-}
-
 #[test]
 fn more_than_4096_spines_are_refused(rt: HostRuntime) -> Result<(), Fail> {
     let alloc = rt.alloc();
@@ -491,8 +506,10 @@ fn more_than_4096_spines_are_refused(rt: HostRuntime) -> Result<(), Fail> {
         line: 24,
         rule: Rule::A1,
     });
-    assert_eq!(&rt; doubled(&rt, alloc, 12)?, (23, refused));
-    assert_eq!(&rt; doubled(&rt, alloc, 11)?, (26, End::Closed));
+    let (given, end) = served(&rt, alloc, Sources::Doubled(12), 2, &[])?;
+    assert!(rt; given == 23 && end == refused);
+    let (given, end) = served(&rt, alloc, Sources::Doubled(11), 2, &[])?;
+    assert!(rt; given == 26 && end == End::Closed);
     Ok(())
 }
 
@@ -500,39 +517,7 @@ fn more_than_4096_spines_are_refused(rt: HostRuntime) -> Result<(), Fail> {
 #[test]
 fn holds_one_record_of_each_source(rt: HostRuntime) -> Result<(), Fail> {
     let alloc = rt.alloc();
-    let mut service = Service::new(&rt, alloc, 2)?;
-    let mut puts = [0usize; 2];
-    let mut given = 0usize;
-    for _ in 0..4_000_000 {
-        assert!(&rt; service.inner.held() <= 2);
-        match service.inner.state() {
-            State::Gives => {
-                let (next, taken) = service.take()?;
-                service = next;
-                assert!(&rt; taken.is_some());
-                assert!(&rt; given < 4_000_000);
-                given += 1;
-            }
-            State::Wants => {
-                let Some(j) = service.inner.wants() else {
-                    return Err(Fail::new("no source is wanted"));
-                };
-                assert!(&rt; j < 2);
-                let put = puts[j];
-                assert!(&rt; put < 4_000_000);
-                puts[j] = put + 1;
-                service = match put {
-                    0 => service.put(&rt, b"**x")?,
-                    1..=1_000_000 => service.put(&rt, b"4c")?,
-                    1_000_001 => service.put(&rt, b"*-")?,
-                    _ => service.end(&rt, End::Closed)?,
-                };
-            }
-            State::Done(end) => {
-                assert_eq!(&rt; (given, end), (1_000_002, End::Closed));
-                return Ok(());
-            }
-        }
-    }
-    Err(Fail::new("it isn't done"))
+    let (given, end) = served(&rt, alloc, Sources::Million, 2, &[])?;
+    assert!(rt; given == 1_000_002 && end == End::Closed);
+    Ok(())
 }

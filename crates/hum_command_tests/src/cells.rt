@@ -1,13 +1,15 @@
 //! The frame of the commands on notes: two small commands in it, and scores through them.
 ghost use lib.Chars.{codes};
-ghost use Rattle.std.specs.Prelude.{◌≡◌, ◌≤◌, ◌<◌, ◌++◌, length, IfOk, OnOk};
+ghost use Rattle.std.specs.Prelude.{◌≡◌, ◌≤◌, ◌<◌, ◌++◌, IfOk, OnOk};
 ghost use Rattle.hum_record.specs.declared.SpinedKind.TheVariants.{Values};
 ghost use Rattle.hum_record.specs.Spelling.{IsToken, has_byte};
 
+use crate::checks::{self, check_texts, given_first};
+use crate::scores::{Score, read, score_of};
 use hum_cells::{CellStage, Heading, Retells};
-use hum_path::{Carried, ColumnMemory, Moves, Paths};
+use hum_path::{Carried, ColumnMemory, Moves};
 use hum_record::{Record, RecordBuilder, SpinedKind};
-use hum_stage::{Command, End, Fault, Rule, Stage, State, whole};
+use hum_stage::{Command, End, Rule, whole};
 use std::alloc::{AllocError, Global};
 use std::marker::Model;
 use std::process::Abort;
@@ -186,57 +188,6 @@ impl Retells for Pursues {
     }
 }
 
-// The records of a score so far, and its spines.
-#[derive(Drop)]
-struct Score {
-    paths: Paths,
-    records: Vec<Record>,
-}
-
-impl Model for Score {
-    ghost use Rattle.std.specs.Prelude.{◌≡◌, List};
-    ghost use Rattle.hum_record.specs.Row.{Row};
-    ghost use Rattle.hum_path.specs.Spines.{Unopened};
-    ghost use Rattle.hum_stage.specs.Score.{through, IsScore};
-
-    ghost Value = { List Row };
-
-    ghost view = { λ s. s.records.items };
-
-    ghost invariant = { λ s. IsScore s.records.items
-        × (s.paths.path ≡ through Unopened s.records.items) };
-}
-
-impl Score {
-    fn new(alloc: Global) -> Score {
-        Score {
-            paths: Paths::new(alloc),
-            records: Vec::new(alloc),
-        }
-    }
-
-    fn with(self, row: Record) -> Result<Score, Fail> {
-        let Score {
-            mut paths,
-            mut records,
-        } = self;
-        paths.step(&row)?;
-        records.push(row)?;
-        Ok(Score { paths, records })
-    }
-}
-
-fn has_line_feed(text: &[u8]) -> bool
-    ensures { result ≡ has_byte 10 text.now }
-{
-    text.contains(&b'\n')
-}
-
-fn read(rt: &impl Abort, alloc: Global, text: &[u8]) -> Result<Record, Fail> {
-    assert!(rt; text.len() <= 1_048_576 && !has_line_feed(text));
-    Ok(Record::parse(alloc, text.to_vec(alloc)?)?)
-}
-
 // A token of one letter, so many times.
 fn long_token(alloc: Global, letter: u8, len: usize) -> Result<Vec<u8>, Fail>
     requires { (97 ≤ letter) × (0 < len) }
@@ -256,34 +207,34 @@ fn pair(alloc: Global, left: &[u8], right: &[u8]) -> Result<Record, Fail>
     Ok(builder.finish())
 }
 
-// Runs a closed score through a command, as stage 2.
-fn run<T: Retells>(
+// Puts a closed score through a command, as stage 2.
+fn run<T: Retells<Options = bool>>(
     rt: &impl Abort,
     alloc: Global,
-    options: T::Options,
     score: Score,
 ) -> Result<(Vec<Record>, End), Fail> {
-    let Score { paths, records } = score;
-    assert!(rt; paths.is_closed());
-    assert!(rt; records.len() < 100);
-    let stage: CellStage<T> = CellStage::new(alloc, 2, options);
+    let records = score.closed(rt)?;
+    let stage: CellStage<T> = CellStage::new(alloc, 2, true);
     Ok(whole(alloc, stage, records, End::Closed)?)
 }
 
-fn read_score(rt: &impl Abort, alloc: Global, lines: &[&'static [u8]]) -> Result<Score, Fail> {
-    let mut score = Score::new(alloc);
-    for text in lines {
-        score = score.with(read(rt, alloc, *text)?)?;
-    }
-    Ok(score)
+// Of these lines a command gives those, and it ends so.
+fn check<T: Retells<Options = bool>>(
+    rt: &impl Abort,
+    alloc: Global,
+    lines: &[&'static [u8]],
+    want: &[&'static [u8]],
+    ending: End,
+) -> Result<(), Fail> {
+    let score = score_of(rt, alloc, lines)?;
+    let (given, end) = run::<T>(rt, alloc, score)?;
+    assert_eq!(rt; end, ending);
+    check_texts(rt, &given, want);
+    Ok(())
 }
 
-fn check_texts(rt: &impl Abort, given: &[Record], want: &[&'static [u8]]) -> Result<(), Fail> {
-    assert_eq!(rt; given.len(), want.len());
-    for (i, (record, text)) in given.iter().zip(want).enumerate() {
-        assert_eq!(rt; record.text(), *text, "record {i}");
-    }
-    Ok(())
+fn broken(line: u64, rule: Rule) -> End {
+    checks::broken(Command::Semits, line, rule)
 }
 
 #[test]
@@ -315,10 +266,7 @@ fn tells_kern_columns(rt: HostRuntime) -> Result<(), Fail> {
         b"*\t*\t**x",
         b"*-\t*-\t*-",
     ];
-    let score = read_score(&rt, alloc, &put)?;
-    let (given, end) = run::<Marks>(&rt, alloc, true, score)?;
-    assert_eq!(rt; end, End::Closed);
-    check_texts(&rt, &given, &want)
+    check::<Marks>(&rt, alloc, &put, &want, End::Closed)
 }
 
 #[test]
@@ -346,50 +294,44 @@ fn follows_kern_and_the_cells_above(rt: HostRuntime) -> Result<(), Fail> {
         b"h\ti",
         b"*-\t*-",
     ];
-    let score = read_score(&rt, alloc, &put)?;
-    let (given, end) = run::<Pursues>(&rt, alloc, true, score)?;
-    assert_eq!(rt; end, End::Closed);
-    check_texts(&rt, &given, &want)
-}
-
-fn broken(line: u64, rule: Rule) -> End {
-    End::Broken(Fault {
-        stage: 2,
-        command: Command::Semits,
-        line,
-        rule,
-    })
+    check::<Pursues>(&rt, alloc, &put, &want, End::Closed)
 }
 
 #[test]
 fn the_leftmost_refused_token_decides(rt: HostRuntime) -> Result<(), Fail> {
     let alloc = rt.alloc();
     let put: [&'static [u8]; 3] = [b"**kern\t**kern", b"a*\tb?", b"*-\t*-"];
-    let score = read_score(&rt, alloc, &put)?;
-    let (given, end) = run::<Marks>(&rt, alloc, true, score)?;
-    assert_eq!(rt; end, broken(2, Rule::K2));
-    check_texts(&rt, &given, &[b"**x\t**x"])
+    let want: [&'static [u8]; 1] = [b"**x\t**x"];
+    check::<Marks>(&rt, alloc, &put, &want, broken(2, Rule::K2))
+}
+
+// The score whose data record has these two tokens is refused there by this rule.
+fn check_refused(
+    rt: &impl Abort,
+    alloc: Global,
+    left: &[u8],
+    right: &[u8],
+    rule: Rule,
+) -> Result<(), Fail>
+    requires left { IsToken Values left.now }
+    requires right { IsToken Values right.now }
+{
+    let score = Score::new(alloc)
+        .with(read(rt, alloc, b"**kern\t**kern")?)?
+        .with(pair(alloc, left, right)?)?
+        .with(read(rt, alloc, b"*-\t*-")?)?;
+    let (given, end) = run::<Marks>(rt, alloc, score)?;
+    assert_eq!(rt; end, broken(2, rule));
+    assert_eq!(rt; given.len(), 1);
+    Ok(())
 }
 
 #[test]
 fn refuses_a_record_that_would_be_too_long(rt: HostRuntime) -> Result<(), Fail> {
     let alloc = rt.alloc();
     let token = long_token(alloc, b'a', 524_287)?;
-    let score = Score::new(alloc)
-        .with(read(&rt, alloc, b"**kern\t**kern")?)?
-        .with(pair(alloc, &token, &token)?)?
-        .with(read(&rt, alloc, b"*-\t*-")?)?;
-    let (given, end) = run::<Marks>(&rt, alloc, true, score)?;
-    assert_eq!(rt; end, broken(2, Rule::L1));
-    assert_eq!(rt; given.len(), 1);
-    let last = Score::new(alloc)
-        .with(read(&rt, alloc, b"**kern\t**kern")?)?
-        .with(pair(alloc, &token, b"b?")?)?
-        .with(read(&rt, alloc, b"*-\t*-")?)?;
-    let (given, end) = run::<Marks>(&rt, alloc, true, last)?;
-    assert_eq!(rt; end, broken(2, Rule::K1));
-    assert_eq!(rt; given.len(), 1);
-    Ok(())
+    check_refused(&rt, alloc, &token, &token, Rule::L1)?;
+    check_refused(&rt, alloc, &token, b"b?", Rule::K1)
 }
 
 // How a command names its stage.
@@ -398,17 +340,8 @@ type MarksStage = CellStage<Marks>;
 #[test]
 fn gives_each_record_at_once(rt: HostRuntime) -> Result<(), Fail> {
     let alloc = rt.alloc();
-    let row = read(&rt, alloc, b"**kern\t**b")?;
-    let mut paths = Paths::new(alloc);
-    paths.step(&row)?;
-    let mut stage = MarksStage::new(alloc, 1, true);
-    assert_eq!(rt; stage.state(), State::Wants);
-    assert_eq!(rt; stage.held(), 0);
-    stage.put(row)?;
-    assert_eq!(rt; stage.state(), State::Gives);
-    assert_eq!(rt; stage.held(), 1);
-    assert_eq!(rt; stage.take()?.map(|record| record.width()), Some(2));
-    assert_eq!(rt; stage.state(), State::Wants);
-    assert!(rt; stage.take()?.is_none());
+    let stage = MarksStage::new(alloc, 1, true);
+    let given = given_first(&rt, alloc, stage, b"**kern\t**b")?;
+    assert_eq!(rt; given.map(|record| record.width()), Some(2));
     Ok(())
 }

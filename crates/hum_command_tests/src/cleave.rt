@@ -1,114 +1,41 @@
 //! The command cleave: small scores, by hand.
-ghost use Rattle.std.specs.Prelude.{◌≡◌, ◌+◌, ◌≤◌, false, length, IfOk, OnOk};
-ghost use Rattle.hum_record.specs.Spelling.{has_byte};
-ghost use Rattle.hum_path.specs.Spines.{Unopened};
-ghost use Rattle.hum_stage.specs.Score.{through, IsScore, IsClosed};
-
+use crate::checks;
 use hum_cleave::{Cleave, CleaveOptions, is_name, is_separator};
-use hum_path::Paths;
-use hum_record::Record;
-use hum_stage::{Command, End, Fault, Rule, Stage, State, whole};
+use hum_commands::CommandOptions;
+use hum_stage::{Command, End, Rule, Stage, State};
 use std::alloc::Global;
 use std::process::Abort;
 use std::test::Fail;
 
-// Reads one record more of a score.
-fn add(alloc: Global, paths: &mut Paths, records: &mut Vec<Record>, text: &[u8]) -> Result<(), Fail>
-    requires at_most { length text.now ≤ 1048576 }
-    requires one_line { has_byte 10 text.now ≡ false }
-    requires score { IsScore records.old.items }
-    requires spines { paths.old.path ≡ through Unopened records.old.items }
-    ensures score { OnOk result (IsScore records.new.items) }
-    ensures spines { OnOk result (paths.new.path ≡ through Unopened records.new.items) }
-    ensures one { OnOk result (length records.new.items ≡ length records.old.items + 1) }
-{
-    let row = Record::parse(alloc, text.to_vec(alloc)?)?;
-    paths.step(&row)?;
-    records.push(row)?;
-    Ok(())
+fn broken(line: u64, rule: Rule) -> End {
+    checks::broken(Command::Cleave, line, rule)
 }
 
-fn has_line_end(text: &[u8]) -> bool
-    ensures { result ≡ has_byte 10 text.now }
-{
-    for byte in text {
-        if *byte == b'\n' {
-            return true;
-        }
-    }
-    false
-}
-
-// A score of these lines.
-fn score(
+// Cleaves **a as **b.
+fn cleaved(
     rt: &impl Abort,
     alloc: Global,
-    paths: &mut Paths,
-    lines: &[&'static [u8]],
-) -> Result<Vec<Record>, Fail>
-    requires { paths.old.path ≡ Unopened }
-    ensures score { IfOk result (λ records. IsScore records.items) }
-    ensures spines { IfOk result (λ records. paths.new.path ≡ through Unopened records.items) }
-    ensures few { IfOk result (λ records. length records.items ≤ 4294967295) }
-{
-    assert!(rt; lines.len() <= 4_294_967_295);
-    let mut records = Vec::new(alloc);
-    for line in lines {
-        assert!(rt; line.len() <= 1_048_576);
-        assert!(rt; !has_line_end(line));
-        add(alloc, paths, &mut records, line)?;
-    }
-    Ok(records)
+    separator: &'static [u8],
+) -> Result<CommandOptions, Fail> {
+    assert!(rt; is_separator(separator));
+    let name = b"**a".to_vec(alloc)?;
+    let new_name = b"**b".to_vec(alloc)?;
+    let options = CleaveOptions::new(name, new_name, separator.to_vec(alloc)?);
+    assert_eq!(rt; options.name(), b"**a".as_slice());
+    Ok(CommandOptions::Cleave(options))
 }
 
-// The same, of lines that end all spines.
-fn closed_score(
-    rt: &impl Abort,
-    alloc: Global,
-    lines: &[&'static [u8]],
-) -> Result<Vec<Record>, Fail>
-    ensures closed { IfOk result (λ records. IsClosed records.items) }
-    ensures few { IfOk result (λ records. length records.items ≤ 4294967295) }
-{
-    let mut paths = Paths::new(alloc);
-    let records = score(rt, alloc, &mut paths, lines)?;
-    assert!(rt; paths.is_closed());
-    Ok(records)
-}
-
-// Runs a score through the command that cleaves **a as **b, which gives these lines, and refuses
-// this line, if any, by this rule.
+// What cleaving with this separator gives, and how it ends.
 fn check(
     rt: &impl Abort,
     alloc: Global,
     separator: &'static [u8],
     lines: &[&'static [u8]],
     want: &[&'static [u8]],
-    refused: Option<(u64, Rule)>,
+    ending: End,
 ) -> Result<(), Fail> {
-    let records = closed_score(rt, alloc, lines)?;
-    assert!(rt; is_separator(separator));
-    let name = b"**a".to_vec(alloc)?;
-    let new_name = b"**b".to_vec(alloc)?;
-    let options = CleaveOptions::new(name, new_name, separator.to_vec(alloc)?);
-    assert_eq!(rt; options.name(), b"**a".as_slice());
-    let stage = Cleave::new(alloc, 2, options);
-    let (given, end) = whole(alloc, stage, records, End::Closed)?;
-    let ending = match refused {
-        None => End::Closed,
-        Some((line, rule)) => End::Broken(Fault {
-            stage: 2,
-            command: Command::Cleave,
-            line,
-            rule,
-        }),
-    };
-    assert_eq!(rt; end, ending);
-    assert_eq!(rt; given.len(), want.len());
-    for (record, text) in given.iter().zip(want) {
-        assert_eq!(rt; record.text(), *text);
-    }
-    Ok(())
+    let options = cleaved(rt, alloc, separator)?;
+    checks::check(rt, alloc, options, lines, want, ending)
 }
 
 #[test]
@@ -132,7 +59,7 @@ fn joins_what_is_not_null(rt: HostRuntime) -> Result<(), Fail> {
         b"=2\t=2",
         b"*-\t*-",
     ];
-    check(&rt, alloc, b" ", &lines, &spaced, None)?;
+    check(&rt, alloc, b" ", &lines, &spaced, End::Closed)?;
     let commas: [&'static [u8]; 7] = [
         b"**b\t**z",
         b"1\tq",
@@ -142,7 +69,7 @@ fn joins_what_is_not_null(rt: HostRuntime) -> Result<(), Fail> {
         b"=2\t=2",
         b"*-\t*-",
     ];
-    check(&rt, alloc, b",", &lines, &commas, None)?;
+    check(&rt, alloc, b",", &lines, &commas, End::Closed)?;
     let bare: [&'static [u8]; 7] = [
         b"**b\t**z",
         b"1\tq",
@@ -152,7 +79,7 @@ fn joins_what_is_not_null(rt: HostRuntime) -> Result<(), Fail> {
         b"=2\t=2",
         b"*-\t*-",
     ];
-    check(&rt, alloc, b"", &lines, &bare, None)?;
+    check(&rt, alloc, b"", &lines, &bare, End::Closed)?;
     Ok(())
 }
 
@@ -181,7 +108,7 @@ fn goes_to_the_leftmost_place(rt: HostRuntime) -> Result<(), Fail> {
         b"*-\t*-",
         b"!!end",
     ];
-    check(&rt, alloc, b" ", &lines, &want, None)?;
+    check(&rt, alloc, b" ", &lines, &want, End::Closed)?;
     Ok(())
 }
 
@@ -210,7 +137,7 @@ fn follows_the_columns(rt: HostRuntime) -> Result<(), Fail> {
         b"*-\t*\t*",
         b"*-\t*-",
     ];
-    check(&rt, alloc, b" ", &lines, &want, None)?;
+    check(&rt, alloc, b" ", &lines, &want, End::Closed)?;
     Ok(())
 }
 
@@ -234,7 +161,7 @@ fn writes_neighbouring_joins_one_after_another(rt: HostRuntime) -> Result<(), Fa
         b"1 3\t2\t4",
         b"*-\t*-\t*-",
     ];
-    check(&rt, alloc, b" ", &lines, &want, None)?;
+    check(&rt, alloc, b" ", &lines, &want, End::Closed)?;
     Ok(())
 }
 
@@ -255,7 +182,7 @@ fn exchanges_others_across(rt: HostRuntime) -> Result<(), Fail> {
         b"3\t2 4\t1",
         b"*-\t*-\t*-",
     ];
-    check(&rt, alloc, b" ", &lines, &want, None)?;
+    check(&rt, alloc, b" ", &lines, &want, End::Closed)?;
     Ok(())
 }
 
@@ -270,7 +197,7 @@ fn echoes_where_no_name_is_found(rt: HostRuntime) -> Result<(), Fail> {
         b"=1\t=1\t=1",
         b"*-\t*-\t*-",
     ];
-    check(&rt, alloc, b" ", &lines, &lines, None)?;
+    check(&rt, alloc, b" ", &lines, &lines, End::Closed)?;
     Ok(())
 }
 
@@ -279,17 +206,17 @@ fn refuses_what_does_not_fit_one_column(rt: HostRuntime) -> Result<(), Fail> {
     let alloc = rt.alloc();
     let opening: [&'static [u8]; 1] = [b"**b"];
     let ends: [&'static [u8]; 4] = [b"**a\t**a", b"*-\t*", b"1", b"*-"];
-    check(&rt, alloc, b" ", &ends, &opening, Some((2, Rule::C1)))?;
+    check(&rt, alloc, b" ", &ends, &opening, broken(2, Rule::C1))?;
     let named: [&'static [u8]; 4] = [b"**a\t**a", b"**c\t**c", b"1\t2", b"*-\t*-"];
-    check(&rt, alloc, b" ", &named, &opening, Some((2, Rule::C2)))?;
+    check(&rt, alloc, b" ", &named, &opening, broken(2, Rule::C2))?;
     let exchanged: [&'static [u8]; 3] = [b"**a\t**a", b"*x\t*x", b"*-\t*-"];
-    check(&rt, alloc, b" ", &exchanged, &opening, Some((2, Rule::C1)))?;
+    check(&rt, alloc, b" ", &exchanged, &opening, broken(2, Rule::C1))?;
     let added: [&'static [u8]; 4] = [b"**a", b"*+", b"*\t**n", b"*-\t*-"];
-    check(&rt, alloc, b" ", &added, &opening, Some((2, Rule::C1)))?;
+    check(&rt, alloc, b" ", &added, &opening, broken(2, Rule::C1))?;
     // two columns that are of one name by now, of which one is cleaved
     let joined: [&'static [u8]; 5] = [b"**a\t**c", b"*\t**a", b"*v\t*v", b"1", b"*-"];
     let before: [&'static [u8]; 2] = [b"**b\t**c", b"*\t**a"];
-    check(&rt, alloc, b" ", &joined, &before, Some((3, Rule::C1)))?;
+    check(&rt, alloc, b" ", &joined, &before, broken(3, Rule::C1))?;
     Ok(())
 }
 

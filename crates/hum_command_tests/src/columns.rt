@@ -1,6 +1,7 @@
 //! Chosen columns of a small score, followed by hand.
+use crate::scores::read;
 use hum_columns::{ChosenColumns, Marks, is_torn, write_pieces};
-use hum_record::Record;
+use hum_path::Paths;
 use hum_spread::Piece;
 use hum_stage::Rule;
 use std::alloc::Global;
@@ -26,10 +27,13 @@ fn goes_on_with_splits_and_added_spines(rt: HostRuntime) -> Result<(), Fail> {
     let alloc = rt.alloc();
     let mut columns = ChosenColumns::none(alloc);
     assert!(rt; columns.is_unopened());
-    let opening = Record::parse(alloc, b"**a\t**b".as_slice().to_vec(alloc)?)?;
+    let mut paths = Paths::new(alloc);
+    let opening = read(&rt, alloc, b"**a\t**b")?;
+    paths.step(&opening)?;
     columns.open(&opening, marks(alloc, &[false, true])?)?;
     assert!(rt; !columns.is_unopened());
-    let moves = Record::parse(alloc, b"*^\t*+".as_slice().to_vec(alloc)?)?;
+    let moves = read(&rt, alloc, b"*^\t*+")?;
+    paths.step(&moves)?;
     columns.pass(alloc, &moves)?;
     assert_eq!(rt;
         columns.marks().each(),
@@ -41,7 +45,7 @@ fn goes_on_with_splits_and_added_spines(rt: HostRuntime) -> Result<(), Fail> {
 #[test]
 fn finds_torn_joins(rt: HostRuntime) -> Result<(), Fail> {
     let alloc = rt.alloc();
-    let row = Record::parse(alloc, b"*v\t*v\t*".as_slice().to_vec(alloc)?)?;
+    let row = read(&rt, alloc, b"*v\t*v\t*")?;
     assert!(rt; row.width() == 3);
     assert!(rt; is_torn(&[true, false, false], &row));
     assert!(rt; !is_torn(&[true, true, false], &row));

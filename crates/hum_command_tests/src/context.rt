@@ -1,8 +1,8 @@
 //! The command context, call by call.
 ghost use Rattle.std.specs.Prelude.{◌≡◌, ◌+◌, ◌≤◌, OnOk};
-ghost use Rattle.hum_record.specs.Spelling.{has_byte};
 ghost use Rattle.hum_context.specs.Fed.{Fed};
 
+use crate::scores::read;
 use hum_context::{Context, ContextOptions, Span, TokenCount};
 use hum_path::Paths;
 use hum_pattern::Pattern;
@@ -11,17 +11,6 @@ use hum_stage::{Stage, State};
 use std::alloc::Global;
 use std::process::Abort;
 use std::test::Fail;
-
-fn has_line_feed(text: &[u8]) -> bool
-    ensures { result ≡ has_byte 10 text.now }
-{
-    text.contains(&b'\n')
-}
-
-fn read(rt: &impl Abort, alloc: Global, text: &[u8]) -> Result<Record, Fail> {
-    assert!(rt; text.len() <= 1_048_576 && !has_line_feed(text));
-    Ok(Record::parse(alloc, text.to_vec(alloc)?)?)
-}
 
 // So many tokens, without those that match a pattern.
 fn so_many(alloc: Global, number: u16, omit: Option<&str>) -> Result<ContextOptions, Fail>

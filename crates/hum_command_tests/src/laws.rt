@@ -1,12 +1,13 @@
 //! Each law on a small score.
 ghost use Rattle.std.specs.Prelude.{◌≡◌, ◌≤◌, false, [], ◌∷◌, length, None, IfOk};
 ghost use lib.Chars.{codes};
-ghost use Rattle.hum_record.specs.Spelling.{has_byte};
 ghost use Rattle.hum_path.specs.Spines.{texts};
 ghost use Rattle.hum_extract.specs.Choice.{Fields, Number};
 ghost use Rattle.hum_extract.specs.Written.{choice_of};
 ghost use Rattle.hum_stage.specs.Score.{IsClosed};
 
+use crate::checks::check_texts;
+use crate::scores::score_of;
 use hum_commands::CommandOptions;
 use hum_ditto::DittoOptions;
 use hum_extract::{Choice, Field, FieldRange};
@@ -15,79 +16,19 @@ use hum_laws::{
     extract_ditto, names_twice, rid_by_letters, rid_twice, semits_shifted, there_and_back,
     told_once, transpositions_add_up,
 };
-use hum_path::Paths;
 use hum_record::Record;
 use hum_rid::RidOptions;
 use hum_stage::End;
 use hum_tones::{SemitsOptions, Transposition};
 use std::alloc::Global;
-use std::marker::Model;
 use std::process::Abort;
 use std::test::Fail;
-
-// The records of a score so far, and its spines.
-#[derive(Drop)]
-struct Score {
-    paths: Paths,
-    records: Vec<Record>,
-}
-
-impl Model for Score {
-    ghost use Rattle.std.specs.Prelude.{◌≡◌, List};
-    ghost use Rattle.hum_record.specs.Row.{Row};
-    ghost use Rattle.hum_path.specs.Spines.{Unopened};
-    ghost use Rattle.hum_stage.specs.Score.{through, IsScore};
-
-    ghost Value = { List Row };
-
-    ghost view = { λ s. s.records.items };
-
-    ghost invariant = { λ s. IsScore s.records.items
-        × (s.paths.path ≡ through Unopened s.records.items) };
-}
-
-impl Score {
-    fn with(self, row: Record) -> Result<Score, Fail> {
-        let Score {
-            mut paths,
-            mut records,
-        } = self;
-        paths.step(&row)?;
-        records.push(row)?;
-        Ok(Score { paths, records })
-    }
-}
-
-fn has_line_feed(text: &[u8]) -> bool
-    ensures { result ≡ has_byte 10 text.now }
-{
-    text.contains(&b'\n')
-}
-
-fn read(rt: &impl Abort, alloc: Global, text: &[u8]) -> Result<Record, Fail> {
-    assert!(rt; text.len() <= 1_048_576 && !has_line_feed(text));
-    Ok(Record::parse(alloc, text.to_vec(alloc)?)?)
-}
-
-fn closed(rt: &impl Abort, score: Score) -> Result<Vec<Record>, Fail>
-    ensures closed { IfOk result (λ records. IsClosed records.items) }
-    ensures few { IfOk result (λ records. length records.items ≤ 4294967295) }
-{
-    let Score { paths, records } = score;
-    assert!(rt; paths.is_closed());
-    assert!(rt; records.len() < 100_000);
-    Ok(records)
-}
 
 // A small song.
 fn song(rt: &impl Abort, alloc: Global) -> Result<Vec<Record>, Fail>
     ensures closed { IfOk result (λ records. IsClosed records.items) }
     ensures few { IfOk result (λ records. length records.items ≤ 4294967295) }
 {
-    let mut score = Score {
-        paths: Paths::new(alloc),
-        records: Vec::new(alloc),
-    };
     let lines: [&'static [u8]; 7] = [
         b"!!song",
         b"**kern\t**text",
@@ -97,28 +38,38 @@ fn song(rt: &impl Abort, alloc: Global) -> Result<Vec<Record>, Fail>
         b"8e-J\t.",
         b"*-\t*-",
     ];
-    for text in &lines {
-        score = score.with(read(rt, alloc, *text)?)?;
-    }
-    closed(rt, score)
+    score_of(rt, alloc, &lines)?.closed(rt)
 }
 
 // It ended well, and these are its lines.
-fn has(rt: &impl Abort, given: &Given, want: &[&'static [u8]]) -> Result<(), Fail> {
+fn has(rt: &impl Abort, given: Given, want: &[&'static [u8]]) {
     assert_eq!(rt; given.end, End::Closed);
-    assert_eq!(rt; given.records.len(), want.len());
-    for (record, text) in given.records.iter().zip(want) {
-        assert_eq!(rt; record.text(), *text);
-    }
-    Ok(())
+    check_texts(rt, &given.records, want);
 }
 
-// The line of this place is this one.
-fn has_line(rt: &impl Abort, given: &Given, place: usize, want: &'static [u8]) -> Result<(), Fail> {
+// The same of both.
+fn both_have(rt: &impl Abort, both: (Given, Given), want: &[&'static [u8]]) {
+    has(rt, both.0, want);
+    has(rt, both.1, want);
+}
+
+/// The place of a line, and its text.
+type Line = (usize, &'static [u8]);
+
+// It ended well, and the lines of these places are these.
+fn has_lines(rt: &impl Abort, given: Given, lines: &[Line]) {
     assert_eq!(rt; given.end, End::Closed);
-    assert!(rt; place < given.records.len());
-    assert_eq!(rt; given.records[place].text(), want);
-    Ok(())
+    for line in lines {
+        let (place, text) = *line;
+        assert!(rt; place < given.records.len());
+        assert_eq!(rt; given.records[place].text(), text);
+    }
+}
+
+// The same of both, each with its lines.
+fn have_lines(rt: &impl Abort, both: (Given, Given), first: &[Line], last: &[Line]) {
+    has_lines(rt, both.0, first);
+    has_lines(rt, both.1, last);
 }
 
 fn plain() -> DittoOptions
@@ -175,48 +126,59 @@ const FILLED: [&'static [u8]; 6] = [
     b"*-\t*-",
 ];
 
+// The words alone, each null token filled.
+fn filled_words(rt: &impl Abort, alloc: Global, records: &[Record]) -> Result<(), Fail>
+    requires closed { IsClosed records.now }
+    requires few { length records.now ≤ 4294967295 }
+{
+    let choices = (second(alloc)?, second(alloc)?);
+    let both = extract_ditto(alloc, records, choices, (plain(), plain()))?;
+    let want: [&'static [u8]; 7] = [b"!!song", b"**text", b"la", b"la", b"lo", b"lo", b"*-"];
+    both_have(rt, both, &want);
+    Ok(())
+}
+
 #[test]
 fn columns_and_null_tokens(rt: HostRuntime) -> Result<(), Fail> {
     let alloc = rt.alloc();
     let records = song(&rt, alloc)?;
-    let choices = (second(alloc)?, second(alloc)?);
-    let both = extract_ditto(alloc, &records, choices, (plain(), plain()))?;
-    let want: [&'static [u8]; 7] = [b"!!song", b"**text", b"la", b"la", b"lo", b"lo", b"*-"];
-    has(&rt, &both.0, &want)?;
-    has(&rt, &both.1, &want)?;
+    filled_words(&rt, alloc, &records)?;
+    let filled: [Line; 1] = [(5, b"8e-J\tlo")];
     let both = ditto_twice(alloc, &records, plain(), plain())?;
-    has_line(&rt, &both.0, 5, b"8e-J\tlo")?;
-    has_line(&rt, &both.1, 5, b"8e-J\tlo")?;
-    let ditto = (
-        CommandOptions::Ditto(plain()),
-        CommandOptions::Ditto(plain()),
-    );
-    let both = comments_aside(alloc, &records, ditto.0, ditto.1)?;
-    has(&rt, &both.0, &FILLED)?;
-    has(&rt, &both.1, &FILLED)
+    have_lines(&rt, both, &filled, &filled);
+    let ditto = CommandOptions::Ditto(plain());
+    let alike = CommandOptions::Ditto(plain());
+    let both = comments_aside(alloc, &records, ditto, alike)?;
+    both_have(&rt, both, &FILLED);
+    Ok(())
+}
+
+// The words alone.
+fn words(rt: &impl Abort, alloc: Global, records: &[Record]) -> Result<(), Fail>
+    requires closed { IsClosed records.now }
+    requires few { length records.now ≤ 4294967295 }
+{
+    let both = names_twice(alloc, records, named(alloc)?, named(alloc)?)?;
+    let want: [&'static [u8]; 7] = [b"!!song", b"**text", b"la", b".", b"lo", b".", b"*-"];
+    both_have(rt, both, &want);
+    Ok(())
 }
 
 #[test]
 fn what_leaves_a_score_as_it_is(rt: HostRuntime) -> Result<(), Fail> {
     let alloc = rt.alloc();
     let records = song(&rt, alloc)?;
-    let given = all_fields(alloc, &records)?;
-    has_line(&rt, &given, 4, b"8dL 8f#\tlo")?;
-    let given = all_lines(alloc, &records)?;
-    has_line(&rt, &given, 6, b"*-\t*-")?;
-    let given = context_of_one(alloc, &records, None)?;
-    has_line(&rt, &given, 4, b"8dL 8f#\tlo")?;
-    let both = names_twice(alloc, &records, named(alloc)?, named(alloc)?)?;
-    let want: [&'static [u8]; 7] = [b"!!song", b"**text", b"la", b".", b"lo", b".", b"*-"];
-    has(&rt, &both.0, &want)?;
-    has(&rt, &both.1, &want)
+    let chord: [Line; 1] = [(4, b"8dL 8f#\tlo")];
+    has_lines(&rt, all_fields(alloc, &records)?, &chord);
+    has_lines(&rt, all_lines(alloc, &records)?, &[(6, b"*-\t*-")]);
+    has_lines(&rt, context_of_one(alloc, &records, None)?, &chord);
+    words(&rt, alloc, &records)
 }
 
 #[test]
 fn letters_of_rid(rt: HostRuntime) -> Result<(), Fail> {
     let alloc = rt.alloc();
     let records = song(&rt, alloc)?;
-    let both = rid_by_letters(alloc, &records, letters(true, false), letters(false, true))?;
     let want: [&'static [u8]; 5] = [
         b"**kern\t**text",
         b"4cn\tla",
@@ -224,22 +186,23 @@ fn letters_of_rid(rt: HostRuntime) -> Result<(), Fail> {
         b"8e-J\t.",
         b"*-\t*-",
     ];
-    has(&rt, &both.0, &want)?;
-    has(&rt, &both.1, &want)?;
+    let both = rid_by_letters(alloc, &records, letters(true, false), letters(false, true))?;
+    both_have(&rt, both, &want);
     let both = rid_twice(alloc, &records, letters(true, true))?;
-    has(&rt, &both.0, &want)?;
-    has(&rt, &both.1, &want)
+    both_have(&rt, both, &want);
+    Ok(())
 }
 
-#[test]
-fn notes_that_move(rt: HostRuntime) -> Result<(), Fail> {
-    let alloc = rt.alloc();
-    let records = song(&rt, alloc)?;
-    let up = Transposition {
-        steps: 1,
-        semitones: 2,
-    };
-    let given = there_and_back(alloc, &records, up)?;
+const UP: Transposition = Transposition {
+    steps: 1,
+    semitones: 2,
+};
+
+// A major second up, once and twice, and back.
+fn transposed(rt: &impl Abort, alloc: Global, records: &[Record]) -> Result<(), Fail>
+    requires closed { IsClosed records.now }
+    requires few { length records.now ≤ 4294967295 }
+{
     let want: [&'static [u8]; 9] = [
         b"!!song",
         b"**kern\t**text",
@@ -251,23 +214,29 @@ fn notes_that_move(rt: HostRuntime) -> Result<(), Fail> {
         b"8e-J\t.",
         b"*-\t*-",
     ];
-    has(&rt, &given, &want)?;
-    let both = transpositions_add_up(alloc, &records, up, up)?;
-    has_line(&rt, &both.0, 4, b"4e\tla")?;
-    has_line(&rt, &both.1, 2, b"*Trd2c4\t*")?;
-    has_line(&rt, &both.1, 3, b"4e\tla")?;
+    has(rt, there_and_back(alloc, records, UP)?, &want);
+    let both = transpositions_add_up(alloc, records, UP, UP)?;
+    let last: [Line; 2] = [(2, b"*Trd2c4\t*"), (3, b"4e\tla")];
+    have_lines(rt, both, &[(4, b"4e\tla")], &last);
+    Ok(())
+}
+
+#[test]
+fn notes_that_move(rt: HostRuntime) -> Result<(), Fail> {
+    let alloc = rt.alloc();
+    let records = song(&rt, alloc)?;
+    transposed(&rt, alloc, &records)?;
     let options = SemitsOptions {
         ties_left_out: false,
     };
-    let both = semits_shifted(alloc, &records, up, options)?;
-    has_line(&rt, &both.0, 5, b"4 8\tlo")?;
-    has_line(&rt, &both.1, 4, b"2 6\tlo")?;
-    let both = durations_stay(alloc, &records, up)?;
-    has_line(&rt, &both.0, 2, b"*Trd1c2\t*")?;
-    has_line(&rt, &both.0, 5, b"8 8\tlo")?;
-    has_line(&rt, &both.1, 4, b"8 8\tlo")?;
+    let moved: [Line; 1] = [(4, b"2 6\tlo")];
+    let both = semits_shifted(alloc, &records, UP, options)?;
+    have_lines(&rt, both, &[(5, b"4 8\tlo")], &moved);
+    let both = durations_stay(alloc, &records, UP)?;
+    let first: [Line; 2] = [(2, b"*Trd1c2\t*"), (5, b"8 8\tlo")];
+    have_lines(&rt, both, &first, &[(4, b"8 8\tlo")]);
     let told = CommandOptions::Semits(options);
-    let both = told_once(alloc, &records, told, CommandOptions::Trans(up))?;
-    has_line(&rt, &both.0, 4, b"2 6\tlo")?;
-    has_line(&rt, &both.1, 4, b"2 6\tlo")
+    let both = told_once(alloc, &records, told, CommandOptions::Trans(UP))?;
+    have_lines(&rt, both, &moved, &moved);
+    Ok(())
 }

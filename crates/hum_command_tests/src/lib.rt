@@ -1,13 +1,15 @@
 //! Tests of the commands and of the laws, on small scores.
 //!
-//! They call what any crate may call, and stand in a crate of their own: so no library is proved once more
-//! with its tests.
+//! They call what any crate may call, and stand in a crate of their own: so no library is proved
+//! once more with its tests.
 #![tactic(auto)]
 
 #[cfg(test)]
 mod assemble;
 #[cfg(test)]
 mod cells;
+#[cfg(test)]
+mod checks;
 #[cfg(test)]
 mod cleave;
 #[cfg(test)]
@@ -22,6 +24,8 @@ mod extract;
 mod laws;
 #[cfg(test)]
 mod rid;
+#[cfg(test)]
+mod scores;
 #[cfg(test)]
 mod timebase;
 #[cfg(test)]

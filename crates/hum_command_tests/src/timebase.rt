@@ -1,91 +1,31 @@
 //! The command timebase: small scores on a grid, by hand.
-ghost use Rattle.std.specs.Prelude.{◌≡◌, ◌≤◌, length, Ok, IfOk};
-ghost use Rattle.hum_record.specs.Spelling.{has_byte};
+ghost use Rattle.std.specs.Prelude.{Ok};
 ghost use Rattle.hum_kern.specs.Duration.{recip};
 
+use crate::checks::{self, run};
+use crate::scores::{Score, read};
+use hum_commands::CommandOptions;
 use hum_kern::read_recip;
-use hum_path::Paths;
 use hum_record::Record;
-use hum_stage::{Command, End, Fault, Rule, whole};
-use hum_timebase::{Timebase, TimebaseOptions};
+use hum_stage::{Command, End, Rule};
+use hum_timebase::TimebaseOptions;
 use std::alloc::Global;
-use std::marker::Model;
 use std::process::Abort;
 use std::test::Fail;
 
-// The records of a score so far, and its spines.
-#[derive(Drop)]
-struct Score {
-    paths: Paths,
-    records: Vec<Record>,
-}
-
-impl Model for Score {
-    ghost use Rattle.std.specs.Prelude.{◌≡◌, List};
-    ghost use Rattle.hum_record.specs.Row.{Row};
-    ghost use Rattle.hum_path.specs.Spines.{Unopened};
-    ghost use Rattle.hum_stage.specs.Score.{through, IsScore};
-
-    ghost Value = { List Row };
-
-    ghost view = { λ s. s.records.items };
-
-    ghost invariant = { λ s. IsScore s.records.items
-        × (s.paths.path ≡ through Unopened s.records.items) };
-}
-
-impl Score {
-    fn new(alloc: Global) -> Score {
-        Score {
-            paths: Paths::new(alloc),
-            records: Vec::new(alloc),
-        }
-    }
-
-    fn with(self, row: Record) -> Result<Score, Fail> {
-        let Score {
-            mut paths,
-            mut records,
-        } = self;
-        paths.step(&row)?;
-        records.push(row)?;
-        Ok(Score { paths, records })
-    }
-}
-
-fn has_line_feed(text: &[u8]) -> bool
-    ensures { result ≡ has_byte 10 text.now }
-{
-    text.contains(&b'\n')
-}
-
-fn read(rt: &impl Abort, alloc: Global, text: &[u8]) -> Result<Record, Fail> {
-    assert!(rt; text.len() <= 1_048_576 && !has_line_feed(text));
-    Ok(Record::parse(alloc, text.to_vec(alloc)?)?)
+fn broken(line: u64, rule: Rule) -> End {
+    checks::broken(Command::Timebase, line, rule)
 }
 
 // The step that a text writes.
-fn step(alloc: Global, text: &[u8]) -> Result<TimebaseOptions, Fail> {
+fn step(alloc: Global, text: &[u8]) -> Result<CommandOptions, Fail> {
     let text = text.to_vec(alloc)?;
     let step = read_recip(&text)?;
-    Ok(TimebaseOptions { step, text })
+    Ok(CommandOptions::Timebase(TimebaseOptions { step, text }))
 }
 
-// Puts a closed score through the command, as stage 2.
-fn run(
-    rt: &impl Abort,
-    alloc: Global,
-    text: &[u8],
-    score: Score,
-) -> Result<(Vec<Record>, End), Fail> {
-    let Score { paths, records } = score;
-    assert!(rt; paths.is_closed());
-    assert!(rt; records.len() < 100);
-    let stage = Timebase::new(alloc, 2, step(alloc, text)?);
-    Ok(whole(alloc, stage, records, End::Closed)?)
-}
-
-fn lines(alloc: Global, records: &[Record]) -> Result<Vec<u8>, Fail> {
+// A text of records, ` / ` between two and ` & ` between two tokens.
+fn text_of(alloc: Global, records: &[Record]) -> Result<Vec<u8>, Fail> {
     let mut text = Vec::new(alloc);
     for record in records {
         if !text.is_empty() {
@@ -102,22 +42,29 @@ fn lines(alloc: Global, records: &[Record]) -> Result<Vec<u8>, Fail> {
     Ok(text)
 }
 
-// The records of a text, ` / ` between two and ` & ` between two tokens.
+// The line of a text in which ` & ` stands between two tokens.
+fn line_of(alloc: Global, text: &str) -> Result<Vec<u8>, Fail> {
+    let mut line = Vec::new(alloc);
+    for (i, token) in text.split(" & ").enumerate() {
+        if i > 0 {
+            line.push(b'\t')?;
+        }
+        line.extend_from_slice(token.as_bytes())?;
+    }
+    Ok(line)
+}
+
+// The score of such a text.
 fn score_of(rt: &impl Abort, alloc: Global, text: &str) -> Result<Score, Fail> {
     let mut score = Score::new(alloc);
-    for line in text.split(" / ") {
-        let mut bytes = Vec::new(alloc);
-        for (i, token) in line.split(" & ").enumerate() {
-            if i > 0 {
-                bytes.push(b'\t')?;
-            }
-            bytes.extend_from_slice(token.as_bytes())?;
-        }
-        score = score.with(read(rt, alloc, &bytes)?)?;
+    for text in text.split(" / ") {
+        let line = line_of(alloc, text)?;
+        score = score.with(read(rt, alloc, &line)?)?;
     }
     Ok(score)
 }
 
+// On the grid of this step a score is that one, and the command ends so.
 fn check(
     rt: &impl Abort,
     alloc: Global,
@@ -127,20 +74,11 @@ fn check(
     ending: End,
 ) -> Result<(), Fail> {
     let score = score_of(rt, alloc, put)?;
-    let (given, end) = run(rt, alloc, text, score)?;
-    let written = lines(alloc, &given)?;
+    let (given, end) = run(rt, alloc, step(alloc, text)?, score)?;
+    let written = text_of(alloc, &given)?;
     assert_eq!(rt; written.as_slice(), want.as_bytes(), "{put}");
     assert_eq!(rt; end, ending, "{put}");
     Ok(())
-}
-
-fn broken(line: u64, rule: Rule) -> End {
-    End::Broken(Fault {
-        stage: 2,
-        command: Command::Timebase,
-        line,
-        rule,
-    })
 }
 
 #[test]

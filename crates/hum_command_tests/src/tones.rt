@@ -1,38 +1,35 @@
 //! The commands on notes: tokens worked by hand.
-ghost use Rattle.std.specs.Prelude.{◌≡◌};
-ghost use Rattle.hum_record.specs.Spelling.{has_byte};
-
+use crate::scores::read;
 use hum_path::ColumnMemory;
 use hum_pattern::Pattern;
-use hum_record::{Kind, Record};
+use hum_record::Kind;
 use hum_stage::Rule;
 use hum_tones::{LastNote, MintOptions, Transposition};
 use std::alloc::{AllocError, Global};
 use std::process::Abort;
 use std::test::Fail;
 
-fn has_line_feed(text: &[u8]) -> bool
-    ensures { result ≡ has_byte 10 text.now }
-{
-    text.contains(&b'\n')
-}
-
-// A data record of one token.
-fn data(rt: &impl Abort, alloc: Global, text: &[u8]) -> Result<Record, Fail> {
-    assert!(rt; text.len() > 0 && text.len() <= 1_048_576 && !has_line_feed(text));
-    Ok(Record::parse(alloc, text.to_vec(alloc)?)?)
-}
-
 /// Steps, semitones, a token, and what it becomes.
 type Row = (i32, i32, &'static [u8], Result<&'static [u8], Rule>);
+
+// What a token becomes: the rule that refuses it, if any, and what was written.
+fn moved(
+    rt: &impl Abort,
+    alloc: Global,
+    way: Transposition,
+    token: &[u8],
+) -> Result<(Option<Rule>, Vec<u8>), Fail> {
+    let record = read(rt, alloc, token)?;
+    assert!(rt; record.kind() == Kind::Values && record.width() == 1);
+    let mut text = Vec::new(alloc);
+    let found = way.retell(record.token(0), &mut text)?;
+    Ok((found, text))
+}
 
 fn check_moved(rt: &impl Abort, alloc: Global, row: Row) -> Result<(), Fail> {
     let (steps, semitones, token, want) = row;
     assert!(rt; steps >= -49 && steps <= 49 && semitones >= -84 && semitones <= 84);
-    let record = data(rt, alloc, token)?;
-    assert!(rt; record.kind() == Kind::Values && record.width() == 1);
-    let mut text = Vec::new(alloc);
-    let found = Transposition { steps, semitones }.retell(record.token(0), &mut text)?;
+    let (found, text) = moved(rt, alloc, Transposition { steps, semitones }, token)?;
     match want {
         Ok(want) => {
             assert_eq!(rt; found, None, "{token:?}");
@@ -89,22 +86,34 @@ fn transposed(rt: HostRuntime) -> Result<(), Fail> {
 /// A cell of a column, and what it becomes.
 type Cell = (&'static [u8], &'static [u8]);
 
-fn check_column(
+// What the token below the last note becomes, which then is the last note.
+fn minted_below(
     rt: &impl Abort,
     alloc: Global,
     options: &mut MintOptions,
+    memory: &mut LastNote,
+    token: &[u8],
+) -> Result<(Option<Rule>, Vec<u8>), Fail> {
+    let record = read(rt, alloc, token)?;
+    assert!(rt; record.kind() == Kind::Values && record.width() == 1);
+    let mut text = Vec::new(alloc);
+    let found = options.retell(memory, record.token(0), &mut text)?;
+    memory.see(&mut options.breaks, record.token(0))?;
+    Ok((found, text))
+}
+
+fn check_column(
+    rt: &impl Abort,
+    alloc: Global,
+    mut options: MintOptions,
     cells: &[Cell],
 ) -> Result<(), Fail> {
     let mut memory = LastNote::fresh(alloc);
     for cell in cells {
         let (token, want) = *cell;
-        let record = data(rt, alloc, token)?;
-        assert!(rt; record.kind() == Kind::Values && record.width() == 1);
-        let mut text = Vec::new(alloc);
-        let found = options.retell(&memory, record.token(0), &mut text)?;
+        let (found, text) = minted_below(rt, alloc, &mut options, &mut memory, token)?;
         assert_eq!(rt; found, None, "{token:?}");
         assert_eq!(rt; text.as_slice(), want, "{token:?}");
-        memory.see(&mut options.breaks, record.token(0))?;
     }
     Ok(())
 }
@@ -112,7 +121,7 @@ fn check_column(
 #[test]
 fn minted(rt: HostRuntime) -> Result<(), Fail> {
     let alloc = rt.alloc();
-    let mut options = MintOptions {
+    let options = MintOptions {
         signless: false,
         sizeonly: false,
         breaks: None,
@@ -138,20 +147,24 @@ fn minted(rt: HostRuntime) -> Result<(), Fail> {
         (b"4bb--", b"+dd9"),
         (b"8bb--q", b"P1"),
     ];
-    check_column(&rt, alloc, &mut options, &cells)
+    check_column(&rt, alloc, options, &cells)
+}
+
+// A note that matches this ends what is told of those before it.
+fn breaks(alloc: Global, text: &str) -> Result<Option<Pattern>, Fail> {
+    match Pattern::new(alloc, text) {
+        Ok(pattern) => Ok(Some(pattern)),
+        Err(_) => Err(AllocError.into()),
+    }
 }
 
 #[test]
 fn minted_with_breaks(rt: HostRuntime) -> Result<(), Fail> {
     let alloc = rt.alloc();
-    let pattern = match Pattern::new(alloc, "}") {
-        Ok(pattern) => pattern,
-        Err(_) => return Err(AllocError.into()),
-    };
-    let mut options = MintOptions {
+    let signless = MintOptions {
         signless: true,
         sizeonly: false,
-        breaks: Some(pattern),
+        breaks: breaks(alloc, "}")?,
     };
     let cells: [Cell; 6] = [
         (b"4c", b"[c]"),
@@ -161,9 +174,12 @@ fn minted_with_breaks(rt: HostRuntime) -> Result<(), Fail> {
         (b"4r", b"r"),
         (b"4f", b"[f]"),
     ];
-    check_column(&rt, alloc, &mut options, &cells)?;
-    options.sizeonly = true;
-    options.signless = false;
-    options.breaks = None;
-    check_column(&rt, alloc, &mut options, &[(b"4c", b"[c]"), (b"4A", b"-3")])
+    check_column(&rt, alloc, signless, &cells)?;
+    let sizeonly = MintOptions {
+        signless: false,
+        sizeonly: true,
+        breaks: None,
+    };
+    let cells: [Cell; 2] = [(b"4c", b"[c]"), (b"4A", b"-3")];
+    check_column(&rt, alloc, sizeonly, &cells)
 }

@@ -1,5 +1,5 @@
 use Rattle.hum_stage.proofs.OneMore.{one_more, spines_after}
-use Rattle.hum_command_tests.proofs.cells.Score.with.Goals as goal
+use Rattle.hum_command_tests.proofs.scores.Score.with.Goals as goal
 
 pub invariant_of-result : goal.invariant_of-result
 invariant_of-result c =

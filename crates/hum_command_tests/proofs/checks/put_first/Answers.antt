@@ -1,16 +1,16 @@
-use Rattle.std.proofs.Common.{◌∙◌, ap, inr, refl, sym, arith}
+use Rattle.std.proofs.Common.{◌∙◌, ap, inr, sym, arith}
 use Rattle.hum_path.specs.Spines.{Tracked}
 use Rattle.hum_path.specs.Rules.{fault_of}
 use Rattle.hum_stage.specs.Meaning.{opening}
-use Rattle.hum_command_tests.proofs.yank.gives_at_once_what_is_decided.Goals as goal
+use Rattle.hum_command_tests.proofs.checks.put_first.Goals as goal
 
 pub put-requires : goal.put-requires
 put-requires g c =
     let row = c.in_ok-row.row in
     inr (record {
-      at = opening _;
-      stand = c.new-stage.ensures.stands;
-      wants = refl;
+      at = opening c.requires.0;
+      stand = c.requires.1;
+      wants = sym (c.state.ensures _ c.requires.1) ∙ c.in-Wants.is;
       score = (sym (ap (λ (t : Tracked). fault_of t.path row) c.new-paths.ensures) ∙ c.in_ok-step.ensures.sound, tt);
       few = omega arith;
     })

@@ -1,6 +1,0 @@
-use Rattle.std.proofs.Common.{◌≡◌, drop}
-use Rattle.hum_record.specs.Spelling.{has_byte}
-use Rattle.hum_command_tests.proofs.cleave.has_line_end.Given as goal
-
-abbrev pub invariant-loop-byte : goal.invariant-loop-byte
-invariant-loop-byte l = has_byte 10 (drop l.byte-index l.text) ≡ has_byte 10 l.text
