@@ -56,6 +56,7 @@ pub(crate) struct GivenOptions {
     entries: Vec<GivenOption>,
 }
 
+// Written out, so that a caller's proof sees one call and not the drop of each value.
 impl Drop for GivenOptions {
     fn drop(self) {
         let GivenOptions { entries: _entries } = self;
