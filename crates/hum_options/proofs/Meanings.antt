@@ -80,6 +80,10 @@ markers-without given =
       value_at-without 115 114 given refl,
     ) refl
 
+pub none_there : (found : Option Markers) → None ≡ both Yank found None
+none_there None = refl
+none_there (Some markers) = refl
+
 both_there : (found : Option Markers) (ranges : List YankRange)
     → option_map (λ markers. Yank markers ranges) found ≡ both Yank found (Some ranges)
 both_there None ranges = refl

@@ -1,5 +1,5 @@
 -- Answers to words, one word after another.
-use Rattle.std.proofs.Common.{◌≡◌, ℕ, List, [], ◌∷◌, true, false, Ok, Err, Option, None, Some, refl, sym, ap}
+use Rattle.std.proofs.Common.{◌≡◌, ℕ, List, [], ◌∷◌, Bool, true, false, if◌then◌else◌, Ok, Err, Option, None, Some, refl, sym, ap}
 use Rattle.std.proofs.Common.{subst, ◌∙◌, inl, inr, suc, ◌<◌, length, drop, drop-cons, get_or}
 use denote.Ref.{Bor}
 use Rattle.hum_words.specs.declared.cutting.Piece.{Piece}
@@ -12,6 +12,7 @@ use Rattle.hum_options.specs.declared.grammar.ValueError.{ValueError}
 use Rattle.hum_options.specs.declared.grammar.ValueError.TheVariants.{Grammar, Pattern as Refused, Memory as NoMemory}
 use Rattle.hum_options.specs.Values.{Value, Nothing, Fields, Names, Name, Text, Ranges, Label, Pattern, Count, Steps, Semitones, Duration}
 use Rattle.hum_options.specs.Values.{value_of, IsSound}
+use Rattle.hum_options.specs.Options.{option_of}
 use Rattle.hum_options.specs.Meant.{Given}
 use Rattle.hum_options.specs.Meant.{Options, meant}
 use Rattle.hum_options.specs.declared.faults.OptionError.{OptionError}
@@ -19,7 +20,7 @@ use Rattle.hum_options.specs.declared.faults.OptionError.TheVariants as failed
 use Rattle.hum_options.specs.declared.faults.OptionRule.TheVariants.{N8, N9}
 use Rattle.hum_options.specs.declared.reading.Turn.{Turn}
 use Rattle.hum_options.specs.declared.reading.Turn.TheVariants.{Free, Awaits}
-use Rattle.hum_options.specs.Answers.{Word, Answer, AtValue, Answers, fault, next_option, is_alone, with_value, together}
+use Rattle.hum_options.specs.Answers.{Word, Answer, AtValue, Answers, fault, next_option, unless_barred, is_barred, is_alone, with_value, together}
 use Rattle.hum_options.specs.Seen.{GivesValue, GoesOn, Tells, value_fault, seen, words_of}
 
 pub sound : (m : ℕ) (Goes : Value → Type 0) (value : Value) (answer : Answer) → IsSound value → Goes value
@@ -68,6 +69,17 @@ value_fails command n k m old option text words Grammar Behind read = rw read re
 value_fails command n k m old option text words (Refused refusal) Behind read =
     rw read.0 (inr (refusal, read.1, refl))
 value_fails command n k m old option text words NoMemory Behind read = tt
+
+-- a word that is no option of the command, and one that is
+pub next_lost : (command : Command) (given : List Given) (word : List ℕ) → None ≡ option_of command word
+    → None ≡ next_option command given word
+next_lost command given word none = ap (unless_barred command given) none
+
+pub next_barred : (command : Command) (given : List Given) (word : List ℕ) (option : CommandOption) (bars : Bool)
+    → Some option ≡ option_of command word → bars ≡ is_barred command given option.letter
+    → (if bars then None else Some option) ≡ next_option command given word
+next_barred command given word option bars found is =
+    ap (λ b. if b then None else Some option) is ∙ ap (unless_barred command given) found
 
 -- a word that is no option that may come
 pub option_fails : (command : Command) (n k : ℕ) (old : List Given) (word : List ℕ) (words : List Word)

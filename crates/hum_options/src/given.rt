@@ -52,9 +52,15 @@ fn place_of(entries: &[GivenOption], letter: u8) -> Option<usize>
 }
 
 /// The options that were given, in order.
-#[derive(Drop)]
 pub(crate) struct GivenOptions {
     entries: Vec<GivenOption>,
+}
+
+// Written out, so that a caller's proof sees one call and not the drop of each value.
+impl Drop for GivenOptions {
+    fn drop(self) {
+        let GivenOptions { entries: _entries } = self;
+    }
 }
 
 impl Model for GivenOptions {

@@ -1,5 +1,5 @@
 //! A value, if it is of some kind.
-ghost use Rattle.std.specs.Prelude.{◌≡◌};
+ghost use Rattle.std.specs.Prelude.{◌≡◌, None};
 ghost use Rattle.std.specs.Option.{option_map};
 ghost use Rattle.hum_path.specs.Spines.{texts};
 ghost use Rattle.hum_options.specs.Meant.{as_fields, as_names, as_name, as_text, as_ranges};
@@ -16,12 +16,19 @@ use hum_timebase::TimebaseOptions;
 use hum_yank::YankRange;
 
 impl Value {
+    /// Nothing, since the value is of another kind.
+    fn of_another_kind<T: Drop>(self) -> Option<T>
+        ensures { result ≡ None }
+    {
+        None
+    }
+
     pub(crate) fn fields(self) -> Option<Vec<FieldRange>>
         ensures { option_map (λ ranges. ranges.items) result ≡ as_fields (seen self) }
     {
         match self {
             Value::Fields(found) => Some(found),
-            _ => None,
+            other => other.of_another_kind(),
         }
     }
 
@@ -30,7 +37,7 @@ impl Value {
     {
         match self {
             Value::Names(found) => Some(found),
-            _ => None,
+            other => other.of_another_kind(),
         }
     }
 
@@ -39,7 +46,7 @@ impl Value {
     {
         match self {
             Value::Name(found) => Some(found),
-            _ => None,
+            other => other.of_another_kind(),
         }
     }
 
@@ -48,7 +55,7 @@ impl Value {
     {
         match self {
             Value::Text(found) => Some(found),
-            _ => None,
+            other => other.of_another_kind(),
         }
     }
 
@@ -57,7 +64,7 @@ impl Value {
     {
         match self {
             Value::Ranges(found) => Some(found),
-            _ => None,
+            other => other.of_another_kind(),
         }
     }
 
@@ -66,7 +73,7 @@ impl Value {
     {
         match self {
             Value::Label(found) => Some(found),
-            _ => None,
+            other => other.of_another_kind(),
         }
     }
 
@@ -75,7 +82,7 @@ impl Value {
     {
         match self {
             Value::Pattern(found) => Some(found),
-            _ => None,
+            other => other.of_another_kind(),
         }
     }
 
@@ -84,7 +91,7 @@ impl Value {
     {
         match self {
             Value::Count(found) => Some(found),
-            _ => None,
+            other => other.of_another_kind(),
         }
     }
 
@@ -93,7 +100,7 @@ impl Value {
     {
         match self {
             Value::Steps(found) => Some(found),
-            _ => None,
+            other => other.of_another_kind(),
         }
     }
 
@@ -102,7 +109,7 @@ impl Value {
     {
         match self {
             Value::Semitones(found) => Some(found),
-            _ => None,
+            other => other.of_another_kind(),
         }
     }
 
@@ -111,7 +118,7 @@ impl Value {
     {
         match self {
             Value::Duration(found) => Some(found),
-            _ => None,
+            other => other.of_another_kind(),
         }
     }
 }

@@ -1,3 +1,4 @@
+use Rattle.std.proofs.Common.{refl}
 use Rattle.hum_options.proofs.Meanings.{phrase_taken}
 use Rattle.hum_options.proofs.together.phrase.Goals as goal
 
@@ -8,3 +9,6 @@ returns-in_err-end c = rw c.from_residual-in_err-end.ensures
 pub returns : goal.returns
 returns c =
     phrase_taken c.args.given _ _ _ c.in_ok-begin.ensures.value c.in_ok-end.ensures.value c.pattern.ensures.rest
+
+pub returns-in_err-begin : goal.returns-in_err-begin
+returns-in_err-begin c = rw (c.from_residual.ensures, ← c.in_err-begin.ensures.value) refl
