@@ -11,7 +11,7 @@ use std::process::Abort;
 use std::test::Fail;
 
 /// How the command ends as stage 2, where it refuses this line by this rule.
-pub fn broken(command: Command, line: u64, rule: Rule) -> End {
+pub(crate) fn broken(command: Command, line: u64, rule: Rule) -> End {
     End::Broken(Fault {
         stage: 2,
         command,
@@ -21,7 +21,7 @@ pub fn broken(command: Command, line: u64, rule: Rule) -> End {
 }
 
 /// Puts a closed score through the command, as stage 2.
-pub fn run(
+pub(crate) fn run(
     rt: &impl Abort,
     alloc: Global,
     options: CommandOptions,
@@ -33,7 +33,7 @@ pub fn run(
 }
 
 /// These are the records' texts.
-pub fn check_texts(rt: &impl Abort, given: &[Record], want: &[&'static [u8]]) {
+pub(crate) fn check_texts(rt: &impl Abort, given: &[Record], want: &[&'static [u8]]) {
     assert_eq!(rt; given.len(), want.len());
     for (record, text) in given.iter().zip(want) {
         assert_eq!(rt; record.text(), *text);
@@ -41,7 +41,7 @@ pub fn check_texts(rt: &impl Abort, given: &[Record], want: &[&'static [u8]]) {
 }
 
 /// Of these lines the command gives those, and it ends so.
-pub fn check(
+pub(crate) fn check(
     rt: &impl Abort,
     alloc: Global,
     options: CommandOptions,
@@ -78,7 +78,7 @@ fn put_first<S: Stage>(
 
 /// Puts a line into a stage that was given none: the record that it gives at once, if any, is all
 /// that it holds.
-pub fn given_first<S: Stage + Drop>(
+pub(crate) fn given_first<S: Stage + Drop>(
     rt: &impl Abort,
     alloc: Global,
     mut stage: S,

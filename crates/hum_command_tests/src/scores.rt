@@ -12,7 +12,7 @@ use std::test::Fail;
 
 /// The records of a score so far, and its spines.
 #[derive(Drop)]
-pub struct Score {
+pub(crate) struct Score {
     paths: Paths,
     records: Vec<Record>,
 }
@@ -32,7 +32,7 @@ impl Model for Score {
 }
 
 impl Score {
-    pub fn new(alloc: Global) -> Score {
+    pub(crate) fn new(alloc: Global) -> Score {
         Score {
             paths: Paths::new(alloc),
             records: Vec::new(alloc),
@@ -40,7 +40,7 @@ impl Score {
     }
 
     /// The score with one record more.
-    pub fn with(self, row: Record) -> Result<Score, Fail> {
+    pub(crate) fn with(self, row: Record) -> Result<Score, Fail> {
         let Score {
             mut paths,
             mut records,
@@ -51,7 +51,7 @@ impl Score {
     }
 
     /// Its records, all spines of which have ended.
-    pub fn closed(self, rt: &impl Abort) -> Result<Vec<Record>, Fail>
+    pub(crate) fn closed(self, rt: &impl Abort) -> Result<Vec<Record>, Fail>
         ensures closed { IfOk result (λ records. IsClosed records.items) }
         ensures few { IfOk result (λ records. length records.items ≤ 4294967295) }
     {
@@ -69,13 +69,17 @@ fn has_line_feed(text: &[u8]) -> bool
 }
 
 /// The record of a line.
-pub fn read(rt: &impl Abort, alloc: Global, text: &[u8]) -> Result<Record, Fail> {
+pub(crate) fn read(rt: &impl Abort, alloc: Global, text: &[u8]) -> Result<Record, Fail> {
     assert!(rt; text.len() <= 1_048_576 && !has_line_feed(text));
     Ok(Record::parse(alloc, text.to_vec(alloc)?)?)
 }
 
 /// The score of these lines.
-pub fn score_of(rt: &impl Abort, alloc: Global, lines: &[&'static [u8]]) -> Result<Score, Fail> {
+pub(crate) fn score_of(
+    rt: &impl Abort,
+    alloc: Global,
+    lines: &[&'static [u8]],
+) -> Result<Score, Fail> {
     let mut score = Score::new(alloc);
     for text in lines {
         score = score.with(read(rt, alloc, *text)?)?;
