@@ -73,21 +73,29 @@ fn put_end(ends: &mut [Option<Frac>], j: usize, end: Option<Frac>)
     }
 }
 
-/// The end before a cell.
-fn end_if_timed(timed: bool, end: Option<Frac>) -> Option<Frac>
-    ensures { result ≡ end_if_timed timed end }
+/// Drops the end at a place whose column isn't timed. Answers whether there was one.
+fn drop_end(timed: bool, ends: &mut [Option<Frac>], j: usize) -> bool
+    ensures end { ends.new
+        ≡ slice_set ends.old j (end_if_timed timed (slice_index_or ends.old j None)) }
+    ensures kept { result ≡ false → ends.new ≡ ends.old }
 {
-    if timed { end } else { None }
+    if timed || end_at(ends, j).is_none() {
+        return false;
+    }
+    put_end(ends, j, None);
+    true
 }
 
-/// Columns that aren't timed have no end.
-pub(crate) fn drop_untimed(timed: &[bool], ends: &mut [Option<Frac>])
-    ensures { ends.new ≡ ends_before timed.now ends.old }
+/// Columns that aren't timed have no end. Answers whether one had.
+pub(crate) fn drop_untimed(timed: &[bool], ends: &mut [Option<Frac>]) -> bool
+    ensures ends { ends.new ≡ ends_before timed.now ends.old }
+    ensures kept { result ≡ false → ends.new ≡ ends.old }
 {
+    let mut dropped = false;
     for j in 0..timed.len() {
-        let end = end_if_timed(timed[j], end_at(ends, j));
-        put_end(ends, j, end);
+        dropped |= drop_end(timed[j], ends, j);
     }
+    dropped
 }
 
 /// Where the cells begin whose next cell below is that of the spine that comes by a move.
