@@ -18,7 +18,7 @@ use crate::clock::{Clock, Strike};
 use crate::due::Around;
 use crate::notes::{Content, content_of, read_notes, timed_at, timed_in};
 use crate::pace::Pace;
-use crate::records::{names_some, null_record, tb_record};
+use crate::records::{names_some, tb_record};
 use hum_frac::Frac;
 use hum_path::Paths;
 use hum_record::{Kind, Record, Spare};
@@ -43,39 +43,8 @@ fn single(stays: bool) -> u128
     if stays { 1 } else { 0 }
 }
 
-/// The record, if it stays. Else it is done with.
-fn kept_if(stays: bool, row: Record, spare: &mut Spare) -> Option<Record>
-    ensures { result ≡ (if stays then Some row else None) }
-{
-    if stays {
-        return Some(row);
-    }
-    spare.keep(row);
-    None
-}
-
-/// The null record that stands about a timed record, if there are such.
-fn null_about(
-    alloc: Global,
-    made: &Strike,
-    row: &Record,
-    spare: &mut Spare,
-) -> Result<Option<Record>, AllocError>
-    requires lawful { IsTextOf row.now (text_of row.now) }
-    requires kind { kind_of row.now ≡ AnyValues }
-    ensures { IfOk result (IsAbout (made.now.before + made.now.after) (tokens_of row.now)) }
-{
-    if made.before == 0 {
-        if made.after == 0 {
-            return Ok(None);
-        }
-    }
-    Ok(Some(null_record(alloc, row, spare)?))
-}
-
 /// Puts what a timed record becomes where it is due, if there is room for it.
 fn place(
-    alloc: Global,
     made: Strike,
     row: Record,
     room: u64,
@@ -95,11 +64,9 @@ fn place(
     if count > room as u128 {
         return Ok(Some(Rule::L2));
     }
-    let null = null_about(alloc, &made, &row, spare)?;
     let before = made.before as u64;
     let after = made.after as u64;
-    let single = kept_if(made.stays, row, spare);
-    *out = Around::among(alloc, before, single, after, null);
+    out.put_among(before, row, made.stays, after, spare)?;
     Ok(None)
 }
 
@@ -135,11 +102,11 @@ impl Grid {
         self.clock.lead(self.alloc, &found)?;
         self.timed = timed_in(self.alloc, &self.paths)?;
         if !names_some(&row) {
-            *out = Around::alone(self.alloc, row);
+            out.put(row);
             return Ok(None);
         }
         let other = tb_record(self.alloc, &self.pace, &row)?;
-        *out = Around::followed(self.alloc, row, other);
+        out.put_both(row, other);
         Ok(None)
     }
 
@@ -176,7 +143,7 @@ impl Grid {
             return Ok(None);
         }
         match self.clock.strike(self.pace.step(), &self.notes) {
-            Ok(made) => place(self.alloc, made, row, room, &mut self.spare, out),
+            Ok(made) => place(made, row, room, &mut self.spare, out),
             Err(rule) => Ok(Some(rule)),
         }
     }
@@ -200,7 +167,7 @@ impl Grid {
         match content_of(&row) {
             Content::Nulls => Ok(None),
             Content::Barlines => {
-                *out = Around::alone(self.alloc, row);
+                out.put(row);
                 Ok(None)
             }
             Content::Sounds => {
@@ -248,12 +215,12 @@ impl Decides for Grid {
     ) -> Result<Option<Rule>, AllocError> {
         match next.kind() {
             Kind::Global => {
-                *out = Around::alone(self.alloc, next);
+                out.put(next);
                 Ok(None)
             }
             Kind::Local => {
                 self.clock.rest(&self.timed);
-                *out = Around::alone(self.alloc, next);
+                out.put(next);
                 Ok(None)
             }
             Kind::Interpretation => self.interpret(next, out),

@@ -15,7 +15,7 @@ returns-in-Barlines c = λ decide past h sound.
     let step = goes_barlines _ _ _ _ decide past h c.args.row c.rest.new.self c.requires.kind
     (sym c.content_of.ensures ∙ c.in-Barlines.is) (c.rest.ensures
     ∙ ap (λ flags. rested flags c.args.self.now.clock) c.deref.ensures.value) in
-    rw c.alone.ensures step
+    rw c.put.ensures step
 
 pub returns-in_ok-refused-in-Sounds : goal.returns-in_ok-refused-in-Sounds
 returns-in_ok-refused-in-Sounds c = λ decide past h sound.
