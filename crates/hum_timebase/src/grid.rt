@@ -44,6 +44,7 @@ fn single(stays: bool) -> u128
 }
 
 /// Puts what a timed record becomes where it is due, if there is room for it.
+#[inline(always)]
 fn place(
     made: Strike,
     row: Record,
