@@ -1,6 +1,6 @@
 //! What each record becomes.
 ghost use Rattle.std.specs.Prelude.{◌≡◌, ◌+◌, [], Ok, Err, Some, None, ℕ};
-ghost use Rattle.std.specs.Prelude.{IfOk, OnOk, is_some, if◌then◌else◌};
+ghost use Rattle.std.specs.Prelude.{IfOk, OnOk, is_some, if◌then◌else◌, List, Bool};
 ghost use Rattle.std.specs.List.{list_any};
 ghost use Rattle.hum_record.specs.Row.{kind_of, tokens_of, text_of};
 ghost use Rattle.hum_record.specs.Spelling.{IsTextOf};
@@ -11,6 +11,7 @@ ghost use Rattle.hum_stage.specs.Decided.{MayStep, HasStepped};
 ghost use Rattle.hum_timebase.specs.Timebase.{timebase, around};
 ghost use Rattle.hum_timebase.specs.Following.{Follows, Answers, IsAbout, pace_of};
 ghost use Rattle.hum_timebase.specs.Notes.{notes_of};
+ghost use Rattle.hum_timebase.specs.Reading.{content_of, Read};
 ghost use Rattle.hum_timebase.specs.Kept.{sounding_rows, struck};
 
 use crate::TimebaseOptions;
@@ -20,6 +21,7 @@ use crate::notes::{Content, content_of, read_notes, timed_at, timed_in};
 use crate::pace::Pace;
 use crate::records::{names_some, tb_record};
 use hum_frac::Frac;
+use hum_kern::KernFault;
 use hum_path::Paths;
 use hum_record::{Kind, Record, Spare};
 use hum_stage::{Command, Decides, Rule};
@@ -41,6 +43,20 @@ fn single(stays: bool) -> u128
     ensures { result ≡ (if stays then 1 else 0) }
 {
     if stays { 1 } else { 0 }
+}
+
+/// What a data record holds, by what was read of it: most often that tells.
+fn content_by(misread: Option<KernFault>, notes: &[Option<Frac>], row: &Record) -> Content
+    requires { (timed : List Bool) × Read timed (tokens_of row.now) notes.now misread }
+    ensures { result ≡ content_of (tokens_of row.now) }
+{
+    if misread.is_some() {
+        return Content::Sounds;
+    }
+    if has_note(notes) {
+        return Content::Sounds;
+    }
+    content_of(row)
 }
 
 /// Puts what a timed record becomes where it is due, if there is room for it.
@@ -112,9 +128,10 @@ impl Grid {
     }
 
     /// Takes a data record with a token that is neither null nor a barline, whose columns that
-    /// aren't timed have no end any more.
+    /// aren't timed have no end any more, and what was read of it.
     fn sound(
         &mut self,
+        misread: Option<KernFault>,
         row: Record,
         room: u64,
         out: &mut Around,
@@ -122,6 +139,7 @@ impl Grid {
         requires lawful { IsTextOf row (text_of row) }
         requires kind { kind_of row ≡ AnyValues }
         requires empty { out.old ≡ [] }
+        requires read { Read self.old.timed.items (tokens_of row) self.old.notes.items misread }
         ensures decided { IfOk result (Answers (sounding_rows self.old.pace.step self.old.clock
             self.old.timed.items (tokens_of row)) room out.new) }
         ensures clock { IfOk result (λ refused. refused ≡ None →
@@ -130,11 +148,10 @@ impl Grid {
         ensures rest { OnOk result (self.new
             ≡ record self.old {
               clock = self.new.clock;
-              notes = self.new.notes;
               spare = self.new.spare;
             }) }
     {
-        if read_notes(&self.timed, &row, &mut self.notes)?.is_some() {
+        if misread.is_some() {
             return Ok(Some(Rule::K3));
         }
         if !has_true(&self.timed) {
@@ -165,14 +182,15 @@ impl Grid {
             row room out.new) }
     {
         self.clock.rest(&self.timed);
-        match content_of(&row) {
+        let misread = read_notes(&self.timed, &row, &mut self.notes)?;
+        match content_by(misread, &self.notes, &row) {
             Content::Nulls => Ok(None),
             Content::Barlines => {
                 out.put(row);
                 Ok(None)
             }
             Content::Sounds => {
-                let refused = self.sound(row, room, out)?;
+                let refused = self.sound(misread, row, room, out)?;
                 Ok(refused)
             }
         }
