@@ -57,6 +57,7 @@ fn part(digits: &[u8]) -> Option<u64>
 }
 
 /// What a zero and the digits behind it write.
+#[inline(never)]
 fn breves(rest: &[u8]) -> Option<Base>
     ensures { result ≡ plain_value (48 ∷ rest.now) }
 {
@@ -70,6 +71,7 @@ fn breves(rest: &[u8]) -> Option<Base>
 
 impl Base {
     /// What digits write without a percent sign behind them.
+    #[inline(always)]
     pub(crate) fn plain(digits: &[u8]) -> Option<Base>
         ensures { result ≡ plain_value digits.now }
     {

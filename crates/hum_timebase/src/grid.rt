@@ -9,7 +9,7 @@ ghost use Rattle.hum_record.specs.declared.Kind.TheVariants.{Values as AnyValues
 ghost use Rattle.hum_path.specs.Spines.{after};
 ghost use Rattle.hum_stage.specs.Decided.{MayStep, HasStepped};
 ghost use Rattle.hum_timebase.specs.Timebase.{timebase, around};
-ghost use Rattle.hum_timebase.specs.Following.{Follows, Answers, IsAbout, pace_of};
+ghost use Rattle.hum_timebase.specs.Following.{Follows, Answers, pace_of};
 ghost use Rattle.hum_timebase.specs.Notes.{notes_of};
 ghost use Rattle.hum_timebase.specs.Reading.{content_of, Read};
 ghost use Rattle.hum_timebase.specs.Kept.{sounding_rows, struck};
