@@ -1,6 +1,6 @@
 //! Durations before their dots.
 
-ghost use Rattle.std.specs.Prelude.{◌≡◌, ◌<◌, ◌≤◌, IfSome};
+ghost use Rattle.std.specs.Prelude.{◌≡◌, ◌∷◌, ◌<◌, ◌≤◌, IfSome};
 ghost use Rattle.hum_frac.specs.Ratio.{reduced};
 ghost use Rattle.hum_kern.specs.Runs.{starts_with};
 ghost use Rattle.hum_kern.specs.Value.{IsBase, part_of, plain_value, quotient_value, dotted};
@@ -56,26 +56,34 @@ fn part(digits: &[u8]) -> Option<u64>
     if n > 0 && n <= 4096 { Some(n) } else { None }
 }
 
+/// What a zero and the digits behind it write.
+#[inline(never)]
+fn breves(rest: &[u8]) -> Option<Base>
+    ensures { result ≡ plain_value (48 ∷ rest.now) }
+{
+    match rest {
+        [] => Some(Base { top: 2, bottom: 1 }),
+        [b'0'] => Some(Base { top: 4, bottom: 1 }),
+        [b'0', b'0'] => Some(Base { top: 8, bottom: 1 }),
+        _ => None,
+    }
+}
+
 impl Base {
     /// What digits write without a percent sign behind them.
+    #[inline(always)]
     pub(crate) fn plain(digits: &[u8]) -> Option<Base>
         ensures { result ≡ plain_value digits.now }
     {
-        if digits == b"0".as_slice() {
-            return Some(Base { top: 2, bottom: 1 });
-        }
-        if digits == b"00".as_slice() {
-            return Some(Base { top: 4, bottom: 1 });
-        }
-        if digits == b"000".as_slice() {
-            return Some(Base { top: 8, bottom: 1 });
-        }
-        match part(digits) {
-            Some(number) => Some(Base {
-                top: 1,
-                bottom: number,
-            }),
-            None => None,
+        match digits {
+            [b'0', rest @ ..] => breves(rest),
+            _ => match part(digits) {
+                Some(number) => Some(Base {
+                    top: 1,
+                    bottom: number,
+                }),
+                None => None,
+            },
         }
     }
 

@@ -1,20 +1,43 @@
--- The first of the records that are due.
-use Rattle.std.proofs.Common.{◌≡◌, ℕ, zero, suc, ◌+◌, ◌-◌, ◌<◌, ◌∷◌, ◌∙◌, refl, sym, ap, arith}
-use Rattle.std.specs.Prelude.{Option}
-use Rattle.hum_record.specs.Row.{Row}
-use Rattle.hum_timebase.specs.Dues.{row_in, due_rows}
+-- The records that are due round one.
+use Rattle.std.proofs.Common.{◌≡◌, ◌≢◌, ℕ, zero, suc, ◌+◌, ◌<◌, List, [], ◌∷◌, ◌∙◌, map, length, replicate, refl, sym, ap, arith, Bool}
+use Rattle.std.specs.Prelude.{Option, None, Some, if◌then◌else◌}
+use lib.Chars.{codes}
+use Rattle.hum_record.specs.declared.Kind.TheVariants.{Values as AnyValues}
+use Rattle.hum_record.specs.declared.SpinedKind.TheVariants.{Values}
+use Rattle.hum_record.specs.Row.{Row, Spined, kind_of, tokens_of, text_of}
+use Rattle.hum_record.specs.Spelling.{IsTextOf}
+use Rattle.hum_record.proofs.Drafts.{filled_tokens}
+use Rattle.hum_timebase.specs.Dues.{due_rows, AreNulls}
+use Rattle.hum_timebase.specs.Timebase.{around, null_row}
+use Rattle.hum_timebase.proofs.Striking.{place_rows}
+use Rattle.hum_timebase.proofs.Writing.{not_global}
 
-gives_one : (left after : ℕ) (single old new : Option Row) → (1 < suc left + after → new ≡ old)
-    → due_rows (suc left) single after old ≡ row_in old ∷ due_rows left single after new
-gives_one zero zero single old new kept = refl
-gives_one zero (suc after) single old new kept = let e = kept (omega arith) in rw e refl
-gives_one (suc left) after single old new kept = let e = kept (omega arith) in rw e refl
+dots : (tokens : List (List ℕ)) → map (λ _. codes ".") tokens ≡ replicate (length tokens) (codes ".")
+dots [] = refl
+dots (token ∷ tokens) = ap (λ xs. codes "." ∷ xs) (dots tokens)
 
--- where copies come first one of them is given; what the other is counts only while some are left
-pub gives_first : (before after : ℕ) (single old new : Option Row) → 0 < before
-    → (1 < before + after → new ≡ old)
-    → due_rows before single after old ≡ row_in old ∷ due_rows (before - 1) single after new
-gives_first before after single old new some kept =
-    let e : suc (before - 1) ≡ before = omega (arith, some) in
-    let left : 1 < suc (before - 1) + after → new ≡ old = λ h. kept (omega (arith, some, h)) in
-    ap (λ k. due_rows k single after old) (sym e) ∙ gives_one (before - 1) after single old new left
+-- a null record is told by its width
+pub null_by : (tokens : List (List ℕ)) (width : ℕ) → width ≡ length tokens → null_row tokens ≡ Spined Values (replicate width (codes "."))
+null_by tokens width is = ap (Spined Values) (dots tokens) ∙ rw is refl
+
+filled : (tokens : List (List ℕ)) → tokens ≢ [] → 0 < length tokens
+filled [] some = absurd (some refl)
+filled (token ∷ tokens) some = omega arith
+
+pub null_known : (row : Row) (nulls width : ℕ) (other : Option Row) → IsTextOf row (text_of row) → kind_of row ≡ AnyValues
+    → nulls ≡ width → width ≡ length (tokens_of row) → AreNulls nulls other → other ≡ Some (null_row (tokens_of row))
+null_known row nulls width other lawful kind same is known =
+    let some = filled (tokens_of row) (filled_tokens row _ lawful (not_global row kind)) in
+    known (omega (arith, same, is, some)) ∙ ap Some (sym (null_by (tokens_of row) nulls (same ∙ is)))
+
+pub null_made : (row made : Row) (width : ℕ) → made ≡ null_row (tokens_of row) → width ≡ length (tokens_of row) → AreNulls width (Some made)
+null_made row made width is wide some = ap Some (is ∙ null_by (tokens_of row) width wide)
+
+pub due_among : (before after : ℕ) (stays : Bool) (row : Row) (other : Option Row) → kind_of row ≡ AnyValues
+    → (0 < before + after → other ≡ Some (null_row (tokens_of row)))
+    → due_rows before (if stays then Some row else None) after other ≡ around before stays after (tokens_of row)
+due_among zero zero stays row other k known = sym (place_rows 0 0 stays row None k refl)
+due_among zero (suc after) stays row other k known =
+    rw (known (omega arith)) (sym (place_rows 0 (suc after) stays row (Some (null_row (tokens_of row))) k refl))
+due_among (suc before) after stays row other k known =
+    rw (known (omega arith)) (sym (place_rows (suc before) after stays row (Some (null_row (tokens_of row))) k refl))

@@ -1,12 +1,14 @@
 -- What is read of a record, token by token.
 use Rattle.std.proofs.Common.{◌≡◌, ◌∙◌, ℕ, zero, suc, ◌+◌, ◌<◌, List, [], ◌∷◌, ◌++◌, map, length, drop, get_or}
-use Rattle.std.proofs.Common.{refl, sym, ap, arith, add-one, append_assoc, Bool, true, false, None}
+use Rattle.std.proofs.Common.{refl, sym, ap, arith, add-one, append_assoc, Bool, true, false, Option, None, Some}
 use Rattle.std.specs.Prelude.{◌&&◌, ◌||◌, not, is_some, if◌then◌else◌}
 use Rattle.std.specs.List.{list_any, list_all}
 use Rattle.std.proofs.lemmas.Bool.{or_parts}
 use Rattle.hum_record.specs.Contents.{is_null, is_barline}
-use Rattle.hum_timebase.specs.Notes.{is_timed, own_name, own_names, is_sounding, note_of, notes_of}
-use Rattle.hum_timebase.specs.Reading.{content_of}
+use Rattle.hum_frac.specs.Ratio.{Ratio}
+use Rattle.hum_kern.specs.declared.KernFault.{KernFault}
+use Rattle.hum_timebase.specs.Notes.{is_timed, own_name, own_names, is_sounding, note_of, notes_of, is_misread, has_misread}
+use Rattle.hum_timebase.specs.Reading.{content_of, Read}
 use Rattle.hum_timebase.specs.declared.notes.Content.TheVariants.{Nulls, Barlines, Sounds}
 
 own-none : (tokens : List (List ℕ)) (j : ℕ) → j < length tokens
@@ -105,3 +107,34 @@ content_nulls tokens e = go (list_any is_sounding tokens) (list_any is_barline t
     go true b e = cc
     go false true e = cc
     go false false e = (refl, refl)
+
+-- without a token that sounds nothing is refused
+no_misread : (timed : List Bool) (tokens : List (List ℕ)) → list_any is_sounding tokens ≡ false → has_misread timed tokens ≡ false
+no_misread [] tokens s = refl
+no_misread (timed ∷ more) [] s = refl
+no_misread (timed ∷ more) (token ∷ tokens) s =
+    let p = or_parts (is_sounding token) (list_any is_sounding tokens) s in
+    rw (silent_read timed token p.0) (no_misread more tokens p.1)
+  where
+    silent_read : (timed : Bool) (token : List ℕ) → is_sounding token ≡ false → is_misread timed token ≡ false
+    silent_read true token e = rw e refl
+    silent_read false token e = refl
+
+sounds_by : (tokens : List (List ℕ)) → (list_any is_sounding tokens ≡ false → ⊥) → content_of tokens ≡ Sounds
+sounds_by tokens never = go (list_any is_sounding tokens) refl
+  where
+    go : (s : Bool) → list_any is_sounding tokens ≡ s → content_of tokens ≡ Sounds
+    go true e = rw e refl
+    go false e = absurd (never e)
+
+-- what was read tells that a token sounds
+pub sounds_misread : (timed : List Bool) (tokens : List (List ℕ)) (notes : List (Option Ratio)) (misread : Option KernFault) →
+    Read timed tokens notes misread → is_some misread ≡ true → content_of tokens ≡ Sounds
+sounds_misread timed tokens notes (Some fault) read some = sounds_by tokens (λ none. let free = no_misread timed tokens none in cc)
+sounds_misread timed tokens notes None read some = cc
+
+pub sounds_noted : (timed : List Bool) (tokens : List (List ℕ)) (notes : List (Option Ratio)) (misread : Option KernFault) →
+    Read timed tokens notes misread → is_some misread ≡ false → list_any is_some notes ≡ true → content_of tokens ≡ Sounds
+sounds_noted timed tokens notes (Some fault) read none some = cc
+sounds_noted timed tokens notes None read none some =
+    sounds_by tokens (λ silent. let free = no_notes timed tokens silent in let is = rw read.1 at some in cc)

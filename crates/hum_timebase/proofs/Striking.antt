@@ -69,11 +69,6 @@ place_rows before after stays (Spined Local tokens) null k is = absurd cc
 place_rows before after stays (Spined Interpretation tokens) null k is = absurd cc
 place_rows before after stays (Spined Values tokens) null k is = placed before after stays tokens null is
 
--- the null record is known where there are copies of it
-pub about_known : (count : ℕ) (tokens : List (List ℕ)) (null : Option Row) → IsAbout count tokens null → 0 < count → is_some null ≡ true
-about_known count tokens (Some row) is some = refl
-about_known count tokens None none some = absurd (omega (arith, none, some))
-
 pub single_length : (stays : Bool) (row : Row) → length (option_to_list (if stays then Some row else None)) ≡ (if stays then 1 else 0)
 single_length true row = refl
 single_length false row = refl

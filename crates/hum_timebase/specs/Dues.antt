@@ -2,7 +2,9 @@
 use Rattle.std.specs.Prelude.{◌≡◌, ℕ, ◌+◌, ◌<◌, ◌^◌, true, List, [], ◌++◌, length, replicate}
 use Rattle.std.specs.Prelude.{Option, None, Some, is_some}
 use Rattle.std.specs.Option.{option_to_list}
-use Rattle.hum_record.specs.Row.{Row, Comment}
+use lib.Chars.{codes}
+use Rattle.hum_record.specs.declared.SpinedKind.TheVariants.{Values}
+use Rattle.hum_record.specs.Row.{Row, Comment, Spined}
 
 -- a record, or any where there is none
 abbrev pub row_in : Option Row → Row
@@ -19,3 +21,12 @@ due_rows before single after other =
 pub record IsDue (before : ℕ) (single : Option Row) (after : ℕ) (other : Option Row) : Type 0 where
   pub known : 0 < before + after → is_some other ≡ true
   pub few : before + length (option_to_list single) + after < 2 ^ 64
+
+-- where it is told how wide the other is, it is the null record as wide
+abbrev pub AreNulls : ℕ → Option Row → Type 0
+AreNulls width other = 0 < width → other ≡ Some (Spined Values (replicate width (codes ".")))
+
+pub record AreDue (before : ℕ) (single : Option Row) (after : ℕ) (other : Option Row) (width : ℕ)
+    : Type 0 where
+  pub due : IsDue before single after other
+  pub nulls : AreNulls width other

@@ -1,5 +1,6 @@
 -- What is kept of a clock: for each spine the end of what leads to its next cell.
-use Rattle.std.specs.Prelude.{ℕ, ◌+◌, Bool, List, [], ◌∷◌, map, Option, None, Some, is_some}
+use Rattle.std.specs.Prelude.{◌≡◌, ℕ, ◌+◌, Bool, true, List, [], ◌∷◌, map, Option, None, Some}
+use Rattle.std.specs.Prelude.{is_some}
 use Rattle.std.specs.Prelude.{Result, Ok, Err, not, if◌then◌else◌}
 use Rattle.std.specs.List.{list_any}
 use Rattle.hum_record.specs.Row.{Row}
@@ -24,6 +25,10 @@ pub record Kept : Type 0 where
 abbrev pub kept_of : Clock → Kept
 kept_of clock =
     record { last = clock.last; next = clock.next; ends = map latest clock.leading }
+
+-- Where it is settled, the next timed record comes at the least end after the last one.
+abbrev pub IsSettledIf : Bool → Option Ratio → Option Ratio → List (Option Ratio) → Type 0
+IsSettledIf settled last next ends = settled ≡ true → next ≡ time_after last ends
 
 -- the end before a cell
 abbrev pub end_if_timed : Bool → Option Ratio → Option Ratio

@@ -71,14 +71,18 @@ pub(crate) struct Clock {
     last: Option<Frac>,
     next: Option<Frac>,
     ends: Vec<Option<Frac>>,
+    // no end was dropped or moved since the last timed record: the least one is the next time
+    is_settled: bool,
 }
 
 impl Model for Clock {
-    ghost use Rattle.hum_timebase.specs.Kept.{Kept};
+    ghost use Rattle.hum_timebase.specs.Kept.{Kept, IsSettledIf};
 
     ghost Value = { Kept };
 
     ghost view = { λ c. record { last = c.last; next = c.next; ends = c.ends.items } };
+
+    ghost invariant = { λ c. IsSettledIf c.is_settled c.last c.next c.ends.items };
 }
 
 impl Clock {
@@ -92,6 +96,7 @@ impl Clock {
             last: None,
             next: None,
             ends: Vec::new(alloc),
+            is_settled: false,
         }
     }
 
@@ -99,7 +104,8 @@ impl Clock {
     pub(crate) fn rest(&mut self, timed: &[bool])
         ensures { self.new ≡ rested timed.now self.old }
     {
-        drop_untimed(timed, &mut self.ends);
+        let dropped = drop_untimed(timed, &mut self.ends);
+        self.is_settled &= !dropped;
     }
 
     /// The spines move.
@@ -108,7 +114,19 @@ impl Clock {
     {
         let next = ends_by(alloc, &self.ends, found)?;
         self.ends = next;
+        self.is_settled = false;
         Ok(())
+    }
+
+    /// The time of a timed record, by that of the last one and the ends before its cells.
+    fn time(&self) -> Option<Frac>
+        ensures { result ≡ time_after self.now.last self.now.ends }
+    {
+        if self.is_settled {
+            self.next
+        } else {
+            time_after(self.last, &self.ends)
+        }
     }
 
     /// Takes the notes of a timed record, and says what it becomes.
@@ -123,18 +141,20 @@ impl Clock {
         ensures after { OnOk result (self.new
             ≡ kept_at (time_after self.old.last self.old.ends) notes.now self.old) }
     {
-        let Some(time) = time_after(self.last, &self.ends) else {
+        let Some(time) = self.time() else {
             return Err(Rule::B2);
         };
         if has_clash(time, notes, &self.ends) {
             return Err(Rule::B2);
         }
+        self.is_settled = false;
         if sound(time, notes, &mut self.ends).is_err() {
             return Err(Rule::F1);
         }
         let before = count_before(step, self.next, time);
         self.last = Some(time);
         self.next = next_end(time, &self.ends);
+        self.is_settled = true;
         Ok(Strike {
             before,
             stays: time.is_multiple(step),

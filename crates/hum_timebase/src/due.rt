@@ -1,17 +1,23 @@
 //! Records that are due round one.
 ghost use Rattle.std.specs.Prelude.{◌≡◌, ◌+◌, ◌<◌, ◌^◌, ◌∷◌, [], length, true, is_some, IfOk};
-ghost use Rattle.std.specs.Prelude.{OnErr};
+ghost use Rattle.std.specs.Prelude.{None, Some, OnOk, if◌then◌else◌};
 ghost use Rattle.std.specs.Option.{option_to_list};
+ghost use Rattle.hum_record.specs.Row.{kind_of, tokens_of, text_of};
+ghost use Rattle.hum_record.specs.Spelling.{IsTextOf};
+ghost use Rattle.hum_record.specs.declared.Kind.TheVariants.{Values as AnyValues};
 ghost use Rattle.hum_stage.specs.Dues.{IsNext};
-ghost use Rattle.hum_timebase.specs.Dues.{row_in, due_rows};
+ghost use Rattle.hum_timebase.specs.Dues.{row_in, due_rows, AreNulls};
+ghost use Rattle.hum_timebase.specs.Timebase.{around, null_row};
 
-use hum_record::Record;
+use crate::records::null_record;
+use hum_record::{Record, Spare};
 use hum_stage::Due;
 use std::alloc::{AllocError, Global};
 use std::marker::Model;
 
 /// So many copies of a record, a single one if it is there, and so many copies again. Copies are
-/// counted, and made when they are taken; the last of them is the record itself.
+/// counted, and made when they are taken. The record that they are of stays for later ones: most
+/// often it is the null record of a score's width.
 #[derive(Drop)]
 pub struct Around {
     alloc: Global,
@@ -19,18 +25,20 @@ pub struct Around {
     single: Option<Record>,
     after: u64,
     other: Option<Record>,
+    // how many tokens the other has where it is a null record, else 0
+    nulls: usize,
 }
 
 impl Model for Around {
     ghost use Rattle.std.specs.Prelude.{List};
     ghost use Rattle.hum_record.specs.Row.{Row};
-    ghost use Rattle.hum_timebase.specs.Dues.{due_rows, IsDue};
+    ghost use Rattle.hum_timebase.specs.Dues.{due_rows, AreDue};
 
     ghost Value = { List Row };
 
     ghost view = { λ d. due_rows d.before d.single d.after d.other };
 
-    ghost invariant = { λ d. IsDue d.before d.single d.after d.other };
+    ghost invariant = { λ d. AreDue d.before d.single d.after d.other d.nulls };
 }
 
 fn copy_of(alloc: Global, other: &Option<Record>) -> Result<Record, AllocError>
@@ -43,68 +51,103 @@ fn copy_of(alloc: Global, other: &Option<Record>) -> Result<Record, AllocError>
     }
 }
 
-/// One of so many that are left to give: the record itself is the last, and the others are copies.
-fn one_of(alloc: Global, left: u64, other: &mut Option<Record>) -> Result<Record, AllocError>
-    requires { is_some other.old ≡ true }
-    ensures row { IfOk result (λ row. row ≡ row_in other.old) }
-    ensures kept { 1 < left → other.new ≡ other.old }
-    ensures refused { OnErr result (other.new ≡ other.old) }
+/// Makes another record the null record as wide as a data record, if it is wanted and isn't that
+/// already.
+fn make_null(
+    alloc: Global,
+    wanted: bool,
+    row: &Record,
+    other: &mut Option<Record>,
+    nulls: &mut usize,
+    spare: &mut Spare,
+) -> Result<(), AllocError>
+    requires lawful { IsTextOf row.now (text_of row.now) }
+    requires kind { kind_of row.now ≡ AnyValues }
+    requires nulls { AreNulls nulls.old other.old }
+    ensures made { OnOk result
+        (wanted ≡ true → other.new ≡ Some (null_row (tokens_of row.now))) }
+    ensures nulls { AreNulls nulls.new other.new }
 {
-    if left > 1 {
-        return copy_of(alloc, other);
+    if !wanted {
+        return Ok(());
     }
-    match other.take() {
-        Some(row) => Ok(row),
-        None => unreachable!(),
+    if *nulls == row.width() {
+        return Ok(());
     }
+    let made = null_record(alloc, row, spare)?;
+    *other = Some(made);
+    *nulls = row.width();
+    Ok(())
+}
+
+/// Whether there are copies.
+fn are_some(before: u64, after: u64) -> bool
+    ensures { 0 < before + after → result ≡ true }
+{
+    before > 0 || after > 0
+}
+
+/// The record, if it stays. Else it is done with.
+fn kept_if(stays: bool, row: Record, spare: &mut Spare) -> Option<Record>
+    ensures { result ≡ (if stays then Some row else None) }
+{
+    if stays {
+        return Some(row);
+    }
+    spare.keep(row);
+    None
 }
 
 impl Around {
-    /// One record alone.
-    pub fn alone(alloc: Global, row: Record) -> Around
-        ensures { result ≡ row ∷ [] }
+    /// One record alone is due, in place of those that were.
+    pub fn put(&mut self, row: Record)
+        ensures { self.new ≡ row ∷ [] }
     {
-        Around {
-            alloc,
-            before: 0,
-            single: Some(row),
-            after: 0,
-            other: None,
-        }
+        self.before = 0;
+        self.single = Some(row);
+        self.after = 0;
     }
 
-    /// One record and another.
-    pub fn followed(alloc: Global, row: Record, other: Record) -> Around
-        ensures { result ≡ row ∷ other ∷ [] }
+    /// One record is due and then another, in place of those that were.
+    pub fn put_both(&mut self, row: Record, behind: Record)
+        ensures { self.new ≡ row ∷ behind ∷ [] }
     {
-        Around {
-            alloc,
-            before: 0,
-            single: Some(row),
-            after: 1,
-            other: Some(other),
-        }
+        self.before = 0;
+        self.single = Some(row);
+        self.after = 1;
+        self.other = Some(behind);
+        self.nulls = 0;
     }
 
-    /// A record, if it is there, among so many copies of another.
-    pub fn among(
-        alloc: Global,
+    /// A data record is due, if it stays, among so many null records as wide as it is, in place of
+    /// those that were. Where it doesn't stay it is done with.
+    pub fn put_among(
+        &mut self,
         before: u64,
-        single: Option<Record>,
+        row: Record,
+        stays: bool,
         after: u64,
-        other: Option<Record>,
-    ) -> Around
-        requires known { 0 < before + after → is_some other ≡ true }
-        requires few { before + length (option_to_list single) + after < 2 ^ 64 }
-        ensures { result ≡ due_rows before single after other }
+        spare: &mut Spare,
+    ) -> Result<(), AllocError>
+        requires lawful { IsTextOf row (text_of row) }
+        requires kind { kind_of row ≡ AnyValues }
+        requires few { before + (if stays then 1 else 0) + after < 2 ^ 64 }
+        ensures { OnOk result (self.new ≡ around before stays after (tokens_of row)) }
     {
-        Around {
-            alloc,
-            before,
-            single,
-            after,
-            other,
-        }
+        self.before = 0;
+        self.after = 0;
+        make_null(
+            self.alloc,
+            are_some(before, after),
+            &row,
+            &mut self.other,
+            &mut self.nulls,
+            spare,
+        )?;
+        self.before = before;
+        self.single = kept_if(stays, row, spare);
+        self.after = after;
+        Ok(())
     }
 }
 
@@ -118,12 +161,13 @@ impl Due for Around {
             single: None,
             after: 0,
             other: None,
+            nulls: 0,
         }
     }
 
     fn next(&mut self) -> Result<Option<Record>, AllocError> {
         if self.before > 0 {
-            let row = one_of(self.alloc, self.before + self.after, &mut self.other)?;
+            let row = copy_of(self.alloc, &self.other)?;
             self.before -= 1;
             return Ok(Some(row));
         }
@@ -131,7 +175,7 @@ impl Due for Around {
             return Ok(Some(row));
         }
         if self.after > 0 {
-            let row = one_of(self.alloc, self.after, &mut self.other)?;
+            let row = copy_of(self.alloc, &self.other)?;
             self.after -= 1;
             return Ok(Some(row));
         }

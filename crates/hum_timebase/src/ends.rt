@@ -73,21 +73,29 @@ fn put_end(ends: &mut [Option<Frac>], j: usize, end: Option<Frac>)
     }
 }
 
-/// The end before a cell.
-fn end_if_timed(timed: bool, end: Option<Frac>) -> Option<Frac>
-    ensures { result ≡ end_if_timed timed end }
+/// Drops the end at a place whose column isn't timed. Answers whether there was one.
+fn drop_end(timed: bool, ends: &mut [Option<Frac>], j: usize) -> bool
+    ensures end { ends.new
+        ≡ slice_set ends.old j (end_if_timed timed (slice_index_or ends.old j None)) }
+    ensures kept { result ≡ false → ends.new ≡ ends.old }
 {
-    if timed { end } else { None }
+    if timed || end_at(ends, j).is_none() {
+        return false;
+    }
+    put_end(ends, j, None);
+    true
 }
 
-/// Columns that aren't timed have no end.
-pub(crate) fn drop_untimed(timed: &[bool], ends: &mut [Option<Frac>])
-    ensures { ends.new ≡ ends_before timed.now ends.old }
+/// Columns that aren't timed have no end. Answers whether one had.
+pub(crate) fn drop_untimed(timed: &[bool], ends: &mut [Option<Frac>]) -> bool
+    ensures ends { ends.new ≡ ends_before timed.now ends.old }
+    ensures kept { result ≡ false → ends.new ≡ ends.old }
 {
+    let mut dropped = false;
     for j in 0..timed.len() {
-        let end = end_if_timed(timed[j], end_at(ends, j));
-        put_end(ends, j, end);
+        dropped |= drop_end(timed[j], ends, j);
     }
+    dropped
 }
 
 /// Where the cells begin whose next cell below is that of the spine that comes by a move.
@@ -163,16 +171,28 @@ pub(crate) fn has_clash(time: Frac, notes: &[Option<Frac>], ends: &[Option<Frac>
     false
 }
 
-/// The end after a cell: that of its own note, else the one before.
-fn own_end(time: Frac, note: Option<Frac>, end: Option<Frac>) -> Result<Option<Frac>, FracFault>
-    ensures end { IfOk result (λ e. e ≡ own_end time note end) }
+/// The end after a cell is that of its own note, where it has one.
+///
+/// # Errors
+/// F1 where that doesn't fit.
+fn sound_at(
+    time: Frac,
+    note: Option<Frac>,
+    ends: &mut [Option<Frac>],
+    j: usize,
+) -> Result<(), FracFault>
+    ensures end { OnOk result (ends.new
+        ≡ slice_set ends.old j (own_end time note (slice_index_or ends.old j None))) }
     ensures fits { OnOk result (is_too_long time note ≡ false) }
     ensures refused { OnErr result (is_too_long time note ≡ true) }
 {
     match note {
-        None => Ok(end),
+        None => Ok(()),
         Some(lasting) => match time.add(lasting) {
-            Ok(sum) => Ok(Some(sum)),
+            Ok(sum) => {
+                put_end(ends, j, Some(sum));
+                Ok(())
+            }
             Err(fault) => Err(fault),
         },
     }
@@ -192,8 +212,7 @@ pub(crate) fn sound(
     ensures refused { OnErr result (list_any (is_too_long time) notes.now ≡ true) }
 {
     for j in 0..notes.len() {
-        let end = own_end(time, notes[j], end_at(ends, j))?;
-        put_end(ends, j, end);
+        sound_at(time, notes[j], ends, j)?;
     }
     Ok(())
 }

@@ -1,6 +1,6 @@
 //! What each record becomes.
 ghost use Rattle.std.specs.Prelude.{◌≡◌, ◌+◌, [], Ok, Err, Some, None, ℕ};
-ghost use Rattle.std.specs.Prelude.{IfOk, OnOk, is_some, if◌then◌else◌};
+ghost use Rattle.std.specs.Prelude.{IfOk, OnOk, is_some, if◌then◌else◌, List, Bool};
 ghost use Rattle.std.specs.List.{list_any};
 ghost use Rattle.hum_record.specs.Row.{kind_of, tokens_of, text_of};
 ghost use Rattle.hum_record.specs.Spelling.{IsTextOf};
@@ -9,8 +9,9 @@ ghost use Rattle.hum_record.specs.declared.Kind.TheVariants.{Values as AnyValues
 ghost use Rattle.hum_path.specs.Spines.{after};
 ghost use Rattle.hum_stage.specs.Decided.{MayStep, HasStepped};
 ghost use Rattle.hum_timebase.specs.Timebase.{timebase, around};
-ghost use Rattle.hum_timebase.specs.Following.{Follows, Answers, IsAbout, pace_of};
+ghost use Rattle.hum_timebase.specs.Following.{Follows, Answers, pace_of};
 ghost use Rattle.hum_timebase.specs.Notes.{notes_of};
+ghost use Rattle.hum_timebase.specs.Reading.{content_of, Read};
 ghost use Rattle.hum_timebase.specs.Kept.{sounding_rows, struck};
 
 use crate::TimebaseOptions;
@@ -18,8 +19,9 @@ use crate::clock::{Clock, Strike};
 use crate::due::Around;
 use crate::notes::{Content, content_of, read_notes, timed_at, timed_in};
 use crate::pace::Pace;
-use crate::records::{names_some, null_record, tb_record};
+use crate::records::{names_some, tb_record};
 use hum_frac::Frac;
+use hum_kern::KernFault;
 use hum_path::Paths;
 use hum_record::{Kind, Record, Spare};
 use hum_stage::{Command, Decides, Rule};
@@ -43,39 +45,23 @@ fn single(stays: bool) -> u128
     if stays { 1 } else { 0 }
 }
 
-/// The record, if it stays. Else it is done with.
-fn kept_if(stays: bool, row: Record, spare: &mut Spare) -> Option<Record>
-    ensures { result ≡ (if stays then Some row else None) }
+/// What a data record holds, by what was read of it: most often that tells.
+fn content_by(misread: Option<KernFault>, notes: &[Option<Frac>], row: &Record) -> Content
+    requires { (timed : List Bool) × Read timed (tokens_of row.now) notes.now misread }
+    ensures { result ≡ content_of (tokens_of row.now) }
 {
-    if stays {
-        return Some(row);
+    if misread.is_some() {
+        return Content::Sounds;
     }
-    spare.keep(row);
-    None
-}
-
-/// The null record that stands about a timed record, if there are such.
-fn null_about(
-    alloc: Global,
-    made: &Strike,
-    row: &Record,
-    spare: &mut Spare,
-) -> Result<Option<Record>, AllocError>
-    requires lawful { IsTextOf row.now (text_of row.now) }
-    requires kind { kind_of row.now ≡ AnyValues }
-    ensures { IfOk result (IsAbout (made.now.before + made.now.after) (tokens_of row.now)) }
-{
-    if made.before == 0 {
-        if made.after == 0 {
-            return Ok(None);
-        }
+    if has_note(notes) {
+        return Content::Sounds;
     }
-    Ok(Some(null_record(alloc, row, spare)?))
+    content_of(row)
 }
 
 /// Puts what a timed record becomes where it is due, if there is room for it.
+#[inline(always)]
 fn place(
-    alloc: Global,
     made: Strike,
     row: Record,
     room: u64,
@@ -95,11 +81,9 @@ fn place(
     if count > room as u128 {
         return Ok(Some(Rule::L2));
     }
-    let null = null_about(alloc, &made, &row, spare)?;
     let before = made.before as u64;
     let after = made.after as u64;
-    let single = kept_if(made.stays, row, spare);
-    *out = Around::among(alloc, before, single, after, null);
+    out.put_among(before, row, made.stays, after, spare)?;
     Ok(None)
 }
 
@@ -135,18 +119,19 @@ impl Grid {
         self.clock.lead(self.alloc, &found)?;
         self.timed = timed_in(self.alloc, &self.paths)?;
         if !names_some(&row) {
-            *out = Around::alone(self.alloc, row);
+            out.put(row);
             return Ok(None);
         }
         let other = tb_record(self.alloc, &self.pace, &row)?;
-        *out = Around::followed(self.alloc, row, other);
+        out.put_both(row, other);
         Ok(None)
     }
 
     /// Takes a data record with a token that is neither null nor a barline, whose columns that
-    /// aren't timed have no end any more.
+    /// aren't timed have no end any more, and what was read of it.
     fn sound(
         &mut self,
+        misread: Option<KernFault>,
         row: Record,
         room: u64,
         out: &mut Around,
@@ -154,6 +139,7 @@ impl Grid {
         requires lawful { IsTextOf row (text_of row) }
         requires kind { kind_of row ≡ AnyValues }
         requires empty { out.old ≡ [] }
+        requires read { Read self.old.timed.items (tokens_of row) self.old.notes.items misread }
         ensures decided { IfOk result (Answers (sounding_rows self.old.pace.step self.old.clock
             self.old.timed.items (tokens_of row)) room out.new) }
         ensures clock { IfOk result (λ refused. refused ≡ None →
@@ -162,11 +148,10 @@ impl Grid {
         ensures rest { OnOk result (self.new
             ≡ record self.old {
               clock = self.new.clock;
-              notes = self.new.notes;
               spare = self.new.spare;
             }) }
     {
-        if read_notes(&self.timed, &row, &mut self.notes)?.is_some() {
+        if misread.is_some() {
             return Ok(Some(Rule::K3));
         }
         if !has_true(&self.timed) {
@@ -176,7 +161,7 @@ impl Grid {
             return Ok(None);
         }
         match self.clock.strike(self.pace.step(), &self.notes) {
-            Ok(made) => place(self.alloc, made, row, room, &mut self.spare, out),
+            Ok(made) => place(made, row, room, &mut self.spare, out),
             Err(rule) => Ok(Some(rule)),
         }
     }
@@ -197,14 +182,15 @@ impl Grid {
             row room out.new) }
     {
         self.clock.rest(&self.timed);
-        match content_of(&row) {
+        let misread = read_notes(&self.timed, &row, &mut self.notes)?;
+        match content_by(misread, &self.notes, &row) {
             Content::Nulls => Ok(None),
             Content::Barlines => {
-                *out = Around::alone(self.alloc, row);
+                out.put(row);
                 Ok(None)
             }
             Content::Sounds => {
-                let refused = self.sound(row, room, out)?;
+                let refused = self.sound(misread, row, room, out)?;
                 Ok(refused)
             }
         }
@@ -248,12 +234,12 @@ impl Decides for Grid {
     ) -> Result<Option<Rule>, AllocError> {
         match next.kind() {
             Kind::Global => {
-                *out = Around::alone(self.alloc, next);
+                out.put(next);
                 Ok(None)
             }
             Kind::Local => {
                 self.clock.rest(&self.timed);
-                *out = Around::alone(self.alloc, next);
+                out.put(next);
                 Ok(None)
             }
             Kind::Interpretation => self.interpret(next, out),

@@ -120,6 +120,7 @@ fn cut(text: &[u8]) -> (&[u8], &[u8])
 }
 
 /// The duration of a subtoken.
+#[inline(always)]
 fn part_duration(part: &[u8]) -> Result<Option<Frac>, KernFault>
     ensures value { IfOk result (λ value. value ≡ value_in (duration part.now)) }
     ensures read { OnOk result (is_refused (duration part.now) ≡ false) }

@@ -1,4 +1,5 @@
-use Rattle.hum_frac.proofs.Ratios.{sum_value, sum_none}
+use Rattle.hum_frac.specs.Ratio.{sum}
+use Rattle.hum_frac.proofs.Ratios.{sum_value, sum_none, reduced_value}
 use Rattle.hum_frac.proofs.Frac.add.Goals as goal
 
 pub returns-clause-value : goal.returns-clause-value
@@ -7,3 +8,6 @@ returns-clause-value c = rw (← c.self.view_is, ← c.other.view_is) (sum_value
 pub returns-clause-none : goal.returns-clause-none
 returns-clause-none c = rw (← c.self.view_is, ← c.other.view_is)
     (sum_none _ _ c.lowest.result c.self.invariant.positive c.other.invariant.positive c.lowest.ensures.refused)
+
+pub returns-then-is_small-2-clause-value : goal.returns-then-is_small-2-clause-value
+returns-then-is_small-2-clause-value c = rw c.add_small.ensures (reduced_value (sum c.args.self c.args.other))

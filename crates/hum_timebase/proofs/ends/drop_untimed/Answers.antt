@@ -1,13 +1,19 @@
-use Rattle.std.proofs.Common.{false, None, get_or, refl, ap, ◌∙◌}
+use Rattle.std.proofs.Common.{false, None, get_or, refl, ◌∙◌}
+use Rattle.std.proofs.lemmas.Bool.{or_parts}
 use Rattle.hum_timebase.specs.Kept.{end_if_timed}
 use Rattle.hum_timebase.proofs.Pairs.{over_next, over_all}
 use Rattle.hum_timebase.proofs.ends.drop_untimed.Goals as goal
 
 pub loop-j-preserved : goal.loop-j-preserved
-loop-j-preserved c =
-    over_next end_if_timed c.args.timed.now c.loop-j.ends c.put_end.new.ends _ c.loop-j.j (get_or c.args.timed.now c.loop-j.j false) false
-    c.end_if_timed-end.result None c.loop-j-test.true refl
-    (c.end_if_timed-end.ensures ∙ ap (end_if_timed (get_or c.args.timed.now c.loop-j.j false)) c.end_at.ensures) c.put_end.ensures c.loop-j.invariant
+loop-j-preserved c = record {
+  ends =
+      over_next end_if_timed c.args.timed.now c.loop-j.ends c.drop_end-dropped.new.ends _ c.loop-j.j (get_or c.args.timed.now c.loop-j.j false) false
+      _ None c.loop-j-test.true refl refl c.drop_end-dropped.ensures.end c.loop-j.invariant.ends;
+  kept =
+      λ none.
+      let parts = or_parts c.loop-j.dropped c.drop_end-dropped.result none in
+      c.drop_end-dropped.ensures.kept parts.1 ∙ c.loop-j.invariant.kept parts.0;
+}
 
-pub returns : goal.returns
-returns c = over_all end_if_timed c.args.timed.now c.loop-j.ends _ c.loop-j.j c.loop-j-test.false c.loop-j.invariant
+pub returns-clause-ends : goal.returns-clause-ends
+returns-clause-ends c = over_all end_if_timed c.args.timed.now c.loop-j.ends _ c.loop-j.j c.loop-j-test.false c.loop-j.invariant.ends

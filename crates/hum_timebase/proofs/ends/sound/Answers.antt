@@ -1,4 +1,4 @@
-use Rattle.std.proofs.Common.{None, ap, ◌∙◌}
+use Rattle.std.proofs.Common.{None, refl}
 use Rattle.hum_timebase.specs.Kept.{own_end}
 use Rattle.hum_timebase.proofs.Pairs.{over_next}
 use Rattle.hum_timebase.proofs.Striking.{long_more}
@@ -7,10 +7,9 @@ use Rattle.hum_timebase.proofs.ends.sound.Goals as goal
 pub loop-j-preserved : goal.loop-j-preserved
 loop-j-preserved c = record {
   ends =
-      over_next (own_end c.args.time) c.args.notes.now c.loop-j.ends c.put_end.new.ends _ c.loop-j.j c.index-notes-j.result c.index-notes-j.result
-      c.in_ok-end.end None c.loop-j-test.true c.index-notes-j.is
-      (c.in_ok-end.ensures.end ∙ ap (own_end c.args.time c.index-notes-j.result) c.end_at.ensures) c.put_end.ensures c.loop-j.invariant.ends;
+      over_next (own_end c.args.time) c.args.notes.now c.loop-j.ends c.sound_at.new.ends _ c.loop-j.j c.index-notes-j.result c.index-notes-j.result
+      _ None c.loop-j-test.true c.index-notes-j.is refl c.in_ok-sound_at.ensures.end c.loop-j.invariant.ends;
   long =
       long_more c.args.time c.args.notes.now c.loop-j.j c.index-notes-j.result _ c.loop-j-test.true
-      c.index-notes-j.is c.in_ok-end.ensures.fits c.loop-j.invariant.long;
+      c.index-notes-j.is c.in_ok-sound_at.ensures.fits c.loop-j.invariant.long;
 }

@@ -1,8 +1,8 @@
-use Rattle.std.proofs.Common.{◌∙◌, sym, refl, ap, Ok}
+use Rattle.std.proofs.Common.{refl}
 use Rattle.hum_record.specs.Row.{tokens_of}
 use Rattle.hum_stage.proofs.Moves.{over_room}
 use Rattle.hum_timebase.specs.Timebase.{around}
-use Rattle.hum_timebase.proofs.Striking.{place_rows, around_length, over_count}
+use Rattle.hum_timebase.proofs.Striking.{around_length, over_count}
 use Rattle.hum_timebase.proofs.grid.place.Goals as goal
 
 pub returns-then-count-room : goal.returns-then-count-room
@@ -15,9 +15,3 @@ returns-then-count-room c =
     (rw (around_length made.before made.after made.stays (tokens_of c.args.row), ← s)
     (over_count made.before made.after c.single.result c.args.room c.saturating_add.result
     c.saturating_add-count.result a b c.if-count-room.true))
-
-pub returns : goal.returns
-returns c =
-    ap Ok (place_rows c.args.made.before c.args.made.after c.args.made.stays c.args.row c.in_ok-null.null
-    c.requires.kind c.in_ok-null.ensures
-    ∙ rw (← c.kept_if-single.ensures) (sym c.among.ensures))

@@ -6,21 +6,21 @@ use Rattle.hum_timebase.proofs.grid.Grid.value.Goals as goal
 pub returns-in-Nulls : goal.returns-in-Nulls
 returns-in-Nulls c = λ decide past h sound.
     let step = goes_nulls _ _ _ _ decide past h c.args.row c.rest.new.self c.requires.kind
-    (sym c.content_of.ensures ∙ c.in-Nulls.is) (c.rest.ensures
+    (sym c.content_by.ensures ∙ c.in-Nulls.is) (c.rest.ensures
     ∙ ap (λ flags. rested flags c.args.self.now.clock) c.deref.ensures.value) in
     rw c.requires.empty step
 
 pub returns-in-Barlines : goal.returns-in-Barlines
 returns-in-Barlines c = λ decide past h sound.
     let step = goes_barlines _ _ _ _ decide past h c.args.row c.rest.new.self c.requires.kind
-    (sym c.content_of.ensures ∙ c.in-Barlines.is) (c.rest.ensures
+    (sym c.content_by.ensures ∙ c.in-Barlines.is) (c.rest.ensures
     ∙ ap (λ flags. rested flags c.args.self.now.clock) c.deref.ensures.value) in
-    rw c.alone.ensures step
+    rw c.put.ensures step
 
 pub returns-in_ok-refused-in-Sounds : goal.returns-in_ok-refused-in-Sounds
 returns-in_ok-refused-in-Sounds c = λ decide past h sound.
     let rest = c.in_ok-refused-in-Sounds.ensures.rest in
     sounds_on _ _ _ _ decide past h c.args.row c.rest.new.self c.sound.new.self.clock _ _ _ c.args.room c.sound.new.out c.in_ok-refused-in-Sounds.refused
-    c.requires.kind (sym c.content_of.ensures ∙ c.in-Sounds.is) (c.rest.ensures ∙ ap (λ flags. rested flags c.args.self.now.clock) c.deref.ensures.value)
+    c.requires.kind (sym c.content_by.ensures ∙ c.in-Sounds.is) (c.rest.ensures ∙ ap (λ flags. rested flags c.args.self.now.clock) c.deref.ensures.value)
     (ap (λ s. s.pace) rest) (ap (λ s. s.paths.path) rest) (ap (λ s. s.timed.items) rest)
     c.in_ok-refused-in-Sounds.ensures.decided c.in_ok-refused-in-Sounds.ensures.clock

@@ -8,4 +8,4 @@ returns-in-Local c = λ decide past h sound.
     let step = goes_local _ _ _ _ decide past h c.args.next c.rest.new.self (sym c.kind.ensures.kind
     ∙ c.in-Local.is) (c.rest.ensures ∙ ap (λ flags. rested flags c.args.self.now.clock)
     c.deref.ensures.value) in
-    rw c.alone-in-Local.ensures step
+    rw c.put-in-Local.ensures step
