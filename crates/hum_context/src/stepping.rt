@@ -16,7 +16,7 @@ use std::collections::VecDeque;
 
 /// Whether so many tokens are enough, the last of which ends a group or doesn't.
 #[inline]
-fn is_enough(wanted: Option<u16>, count: u64, ends: bool) -> bool
+pub(crate) fn is_enough(wanted: Option<u16>, count: u64, ends: bool) -> bool
     ensures { result ≡ enough_by wanted count ends }
 {
     match wanted {
@@ -42,6 +42,21 @@ impl Walk {
             size: 0,
             enough: false,
             ended: false,
+        }
+    }
+
+    /// The same, put together anew: what pads its fields isn't moved along with them.
+    #[inline(always)]
+    pub(crate) fn by_fields(self) -> Walk
+        ensures { result ≡ self }
+    {
+        Walk {
+            at: self.at,
+            column: self.column,
+            count: self.count,
+            size: self.size,
+            enough: self.enough,
+            ended: self.ended,
         }
     }
 
@@ -123,7 +138,7 @@ impl Walk {
     }
 
     // The same, by a look at its records.
-    #[inline]
+    #[inline(always)]
     fn go_further(self, held: &VecDeque<Queued>, gone: u64, wanted: Option<u16>) -> Walk
         requires behind { gone ≤ self.at }
         requires few { gone + length held.now.items ≤ 4294967295 }

@@ -135,6 +135,15 @@ impl Pattern {
         if self.is_barline {
             return begins_barline(token);
         }
+        self.finds(token)
+    }
+
+    /// The same, by what is remembered of the token, or by a search.
+    #[inline(never)]
+    fn finds(&mut self, token: &[u8]) -> bool
+        ensures found { result ≡ matched self.old token.now }
+        ensures same { self.new ≡ self.old }
+    {
         if let Some(found) = recalled(&self.searched, token) {
             return found;
         }
