@@ -12,7 +12,7 @@ use Rattle.hum_context.specs.Context.{Choice, Extent, chain, is_collectable, tak
 use Rattle.hum_context.specs.Columns.{column_after, path_through}
 use Rattle.hum_context.specs.Heard.{ends, enough_by, heard_under, wanted_of}
 use Rattle.hum_context.specs.Memory.{knows_each}
-use Rattle.hum_context.specs.Queue.{Known, Knows, column_in, heard_token}
+use Rattle.hum_context.specs.Queue.{Knows, column_in, heard_token}
 use Rattle.hum_context.specs.Walking.{add_token, collected}
 use Rattle.hum_context.proofs.Growth.{join_push, collected_bytes, is_enough_by, taken_next, HasBytes}
 use Rattle.hum_context.proofs.Passing.{chain_more, chain_on, data_goes_on, enough_is, enough_taken, grown, heard_data}

@@ -6,7 +6,7 @@ use Rattle.std.proofs.lemmas.Bool.Decides.{nat_tests}
 use Rattle.regex.specs.Patterns.{in_ranges}
 use Rattle.regex_hir.specs.Text.{is_some_and, has_bytes_at, byte_before}
 use Rattle.regex_hir.specs.Re.{Re, accept, attempt, alt, byte_in, cat, empty, literal, look}
-use Rattle.regex_hir.specs.Find.{find, first_from}
+use Rattle.regex_hir.specs.Find.{first_from}
 use Rattle.regex_hir.specs.Looks.{holds, holds_between}
 use Rattle.regex_hir.specs.declared.look.Look.TheVariants.{Start}
 use Rattle.hum_pattern.specs.Meaning.{expression, matched}

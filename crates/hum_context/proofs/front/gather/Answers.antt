@@ -1,6 +1,6 @@
-use Rattle.std.proofs.Common.{◌≡◌, ◌∙◌, ◌≤◌, ◌<◌, ◌+◌, sym, ap, arith, length, false}
-use Rattle.hum_context.proofs.Gathering.{gathers_none, gathers_take, gathers_pass, gathers_all}
-use Rattle.hum_context.proofs.Gathering.{gathers_stop, gathers_end, Gathers}
+use Rattle.std.proofs.Common.{◌∙◌, sym, arith}
+use Rattle.hum_context.proofs.Gathering.{gathers_take, gathers_pass, gathers_all}
+use Rattle.hum_context.proofs.Gathering.{gathers_stop, gathers_end}
 use Rattle.hum_context.proofs.front.gather.Goals as goal
 use Rattle.hum_context.proofs.front.gather.Goals.{in-Taken+in_ok-text-in-Taken+else-is_enough, in-Passed+in-Some}
 

@@ -1,4 +1,4 @@
-use Rattle.std.proofs.Common.{ap, arith, length, ◌≤◌}
+use Rattle.std.proofs.Common.{ap, arith, length}
 use Rattle.hum_context.proofs.Places.{moves_after}
 use Rattle.hum_context.proofs.memory.below_row.Goals as goal
 

@@ -1,4 +1,4 @@
-use Rattle.std.proofs.Common.{◌∙◌, ◌∷◌, ◌≤◌, ap, arith}
+use Rattle.std.proofs.Common.{◌∙◌, ◌∷◌, ap, arith}
 use Rattle.std.specs.List.{position}
 use Rattle.hum_path.specs.Spines.{Path, after, width}
 use Rattle.hum_path.specs.Chains.{goes_on}
