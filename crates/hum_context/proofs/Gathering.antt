@@ -1,78 +1,132 @@
 -- Tokens are collected, one record more.
-use Rattle.std.proofs.Common.{◌≡◌, ◌≢◌, ◌∙◌, ◌⊎◌, refl, sym, ap, ℕ, ◌+◌, ◌<◌, ◌≤◌, Bool}
-use Rattle.std.proofs.Common.{true, false, List, [], ◌∷◌, ◌++◌}
-use Rattle.std.proofs.Common.{length, get_or, append_assoc, append-nil, length-append, arith, Option, Some, None, inr}
+use Rattle.std.proofs.Common.{◌≡◌, ◌≢◌, ◌∙◌, refl, sym, ap, ℕ, ◌+◌, ◌<◌, ◌≤◌, Bool}
+use Rattle.std.proofs.Common.{true, false, List, [], ◌∷◌, ◌++◌, cond, filter}
+use Rattle.std.proofs.Common.{length, get_or, append_assoc, append-nil, length-append, arith, Option, Some, None}
 use Rattle.std.specs.List.{join_with_byte}
 use Rattle.hum_record.specs.Row.{Row, token_at}
 use Rattle.hum_path.specs.Spines.{Path}
 use Rattle.hum_context.specs.declared.hearing.Heard.{Heard}
 use Rattle.hum_context.specs.declared.hearing.Heard.TheVariants.{Passed, Taken}
 use Rattle.hum_context.specs.declared.queued.Queued.{Queued}
-use Rattle.hum_context.specs.declared.walk.Walk.{Walk}
-use Rattle.hum_context.specs.Context.{Choice, Extent, chain, taken}
-use Rattle.hum_context.specs.Columns.{path_through}
-use Rattle.hum_context.specs.Heard.{heard_under}
-use Rattle.hum_context.specs.Queue.{Known, Knows, heard_token}
-use Rattle.hum_context.specs.Walking.{Has, collected, text_with}
-use Rattle.hum_context.proofs.Growth.{join_push, collected_bytes, HasBytes}
-use Rattle.hum_context.proofs.Passing.{grown_by, enough_taken, too_few}
-use Rattle.hum_context.proofs.Queues.{knows_at}
+use Rattle.hum_context.specs.Context.{Choice, Extent, chain, is_collectable, taken}
+use Rattle.hum_context.specs.Columns.{column_after, path_through}
+use Rattle.hum_context.specs.Heard.{ends, enough_by, heard_under, wanted_of}
+use Rattle.hum_context.specs.Memory.{knows_each}
+use Rattle.hum_context.specs.Queue.{Knows, column_in, heard_token}
+use Rattle.hum_context.specs.Walking.{add_token, collected}
+use Rattle.hum_context.proofs.Growth.{join_push, collected_bytes, is_enough_by, taken_next, HasBytes}
+use Rattle.hum_context.proofs.Passing.{chain_more, chain_on, data_goes_on, enough_is, enough_taken, grown, heard_data}
+use Rattle.hum_context.proofs.Queues.{At, knows_at}
+use Rattle.hum_context.proofs.Tokens.{taken_is}
 
--- So many records were gone through, and their collected tokens are joined.
-pub record Gathered (o : Choice) (path : Path) (rows : List Row) (j n : ℕ) (walk : Walk)
-    (text : List ℕ) : Type 0 where
+-- So many records were gone through down to a column. So many tokens are collected and joined, and
+-- they are enough or not.
+pub record Gathers (o : Choice) (path : Path) (rows : List Row) (j n c count : ℕ) (text : List ℕ)
+    (enough : Bool) : Type 0 where
   pub front : List Row
   pub rest : List Row
   pub split : rows ≡ front ++ rest
   pub long : length front ≡ n
-  pub has : Has o path front j walk
+  pub column : column_after path front j ≡ Some c
+  pub count_is : count ≡ length (collected o path front j)
+  pub enough_are : taken o.extent (collected o path front j)
+      ≡ cond enough (Some (collected o path front j)) None
   pub text_is : text ≡ join_with_byte 32 (collected o path front j)
 
-pub gathered_none : (o : Choice) (path : Path) (rows : List Row) (j : ℕ) (walk : Walk)
-    (text : List ℕ) → text ≡ [] → Has o path [] j walk → Gathered o path rows j 0 walk text
-gathered_none o path rows j walk text e has = record {
+pub gathers_none : (o : Choice) (path : Path) (rows : List Row) (j count : ℕ) (text : List ℕ)
+    → taken o.extent [] ≡ None → count ≡ 0 → text ≡ []
+    → Gathers o path rows j 0 j count text false
+gathers_none o path rows j count text none zero e = record {
   front = [];
   rest = rows;
   split = refl;
   long = refl;
-  has = has;
+  column = refl;
+  count_is = zero;
+  enough_are = none;
   text_is = e;
 }
 
-text_more : (heard : Heard) (got : List (List ℕ)) (token : List ℕ) → HasBytes got
-    → text_with (join_with_byte 32 got) heard token
-    ≡ join_with_byte 32 (got ++ heard_token heard token)
-text_more Passed got token h = ap (join_with_byte 32) (sym (append-nil got))
-text_more (Taken b e) got token h = sym (join_push got token h)
-
-pub gathered_more : (o : Choice) (path : Path) (rows : List Row) (j n c : ℕ) (held : List Queued)
-    (kept : Queued) (walk new : Walk) (text text' : List ℕ)
-    → Knows o path held rows → Gathered o path rows j n walk text → n < length held
-    → kept ≡ get_or held n kept → walk.column ≡ Some c
-    → ((p : Path) (row : Row) → Known o p row kept
-    → text' ≡ text_with text (get_or kept.heard.items c Passed) (token_at row c))
-    → ((front : List Row) (row : Row) → Known o (path_through path front) row kept
-    → Has o path front j walk → Has o path (front ++ row ∷ []) j new)
-    → Gathered o path rows j (n + 1) new text'
-gathered_more o path rows j n c held kept walk new text text' knows h below is at collect pass =
+-- the record that is gone through next
+next_at : (o : Choice) (path : Path) (rows : List Row) (j n c count : ℕ) (text : List ℕ)
+    (held : List Queued) (kept : Queued) → Knows o path held rows
+    → (h : Gathers o path rows j n c count text false) → n < length held → kept ≡ get_or held n kept
+    → At o (path_through path h.front) h.rest kept
+next_at o path rows j n c count text held kept knows h below is =
     let long = h.long in
-    let here = knows_at o path held h.front h.rest kept (rw h.split at knows)
-    (omega (arith, long, below)) (rw (sym long) at is) in
+    knows_at o path held h.front h.rest kept (rw h.split at knows) (omega (arith, long, below))
+    (rw (sym long) at is)
+
+longer : (rows front rest behind : List Row) (row : Row) → rows ≡ front ++ rest
+    → rest ≡ row ∷ behind → rows ≡ (front ++ row ∷ []) ++ behind
+longer rows front rest behind row split next =
+    split ∙ (ap (λ (xs : List Row). front ++ xs) next ∙ sym (append_assoc front (row ∷ []) behind))
+
+-- where its token isn't collected
+pub gathers_pass : (o : Choice) (path : Path) (rows : List Row) (j n c d count : ℕ) (text : List ℕ)
+    (held : List Queued) (kept : Queued) → Knows o path held rows
+    → Gathers o path rows j n c count text false → n < length held → kept ≡ get_or held n kept
+    → get_or kept.heard.items c Passed ≡ Passed → column_in kept.row kept.below c ≡ Some d
+    → Gathers o path rows j (n + 1) d count text false
+gathers_pass o path rows j n c d count text held kept knows h below is heard goes =
+    let here = next_at o path rows j n c count text held kept knows h below is in
+    let none : heard_under o here.row c ≡ Passed = sym (here.known.heard c) ∙ heard in
+    let g = grown o path h.front here.row j c (heard_under o here.row c) h.column (here.known.collected c) in
+    let got = collected o path h.front j in
+    let same : collected o path (h.front ++ here.row ∷ []) j ≡ got = g.collected
+    ∙ (ap (λ (x : Heard). got ++ heard_token x (token_at here.row c)) none ∙ append-nil got) in
+    let long = h.long in
     let sum = length-append h.front (here.row ∷ []) in
-    let g = grown_by o path h.front here.row j c kept walk here.known at h.has in
     record {
       front = h.front ++ here.row ∷ [];
       rest = here.behind;
-      split = h.split ∙ (ap (λ (xs : List Row). h.front ++ xs) here.split
-          ∙ sym (append_assoc h.front (here.row ∷ []) here.behind));
+      split = longer rows h.front h.rest here.behind here.row h.split here.split;
       long = omega (arith, long, sum);
-      has = pass h.front here.row here.known h.has;
-      text_is = collect (path_through path h.front) here.row here.known
-          ∙ (ap (λ (x : Heard). text_with text x (token_at here.row c)) (here.known.heard c)
-          ∙ (ap (λ (t : List ℕ). text_with t (heard_under o here.row c) (token_at here.row c)) h.text_is
-          ∙ (text_more (heard_under o here.row c) (collected o path h.front j) (token_at here.row c)
-          (collected_bytes o (chain path h.front j))
-          ∙ ap (join_with_byte 32) (sym g.collected))));
+      column = g.column ∙ (sym (here.known.below c) ∙ goes);
+      count_is = h.count_is ∙ ap length (sym same);
+      enough_are = rw same h.enough_are;
+      text_is = h.text_is ∙ ap (join_with_byte 32) (sym same);
+    }
+
+-- where it is
+pub gathers_take : (o : Choice) (path : Path) (rows : List Row) (j n c count : ℕ)
+    (text text' : List ℕ) (held : List Queued) (kept : Queued) (wanted : Option ℕ) (b e : Bool)
+    → wanted ≡ wanted_of o.extent → Knows o path held rows
+    → Gathers o path rows j n c count text false → n < length held → kept ≡ get_or held n kept
+    → get_or kept.heard.items c Passed ≡ Taken b e → text' ≡ add_token text (token_at kept.row c)
+    → Gathers o path rows j (n + 1) c (count + 1) text' (enough_by wanted (count + 1) e)
+gathers_take o path rows j n c count text text' held kept wanted b e want knows h below is heard added =
+    let here = next_at o path rows j n c count text held kept knows h below is in
+    let one : heard_under o here.row c ≡ Taken b e = sym (here.known.heard c) ∙ heard in
+    let g = grown o path h.front here.row j c (heard_under o here.row c) h.column (here.known.collected c) in
+    let token = token_at here.row c in
+    let got = collected o path h.front j in
+    let heard_is = taken_is o token b e (heard_data o here.row c b e one) in
+    let more : collected o path (h.front ++ here.row ∷ []) j ≡ got ++ token ∷ [] = g.collected
+    ∙ ap (λ (x : Heard). got ++ heard_token x token) one in
+    let goes = data_goes_on kept c (λ none. let k = sym none ∙ heard in cc) in
+    let long = h.long in
+    let was = h.count_is in
+    let sum = length-append h.front (here.row ∷ []) in
+    let counted = length-append got (token ∷ []) in
+    let last : enough_by wanted (count + 1) e ≡ is_enough_by o.extent (length got + 1) token =
+    ap (λ (w : Option ℕ). enough_by w (count + 1) e) want
+    ∙ (ap (λ (m : ℕ). enough_by (wanted_of o.extent) (m + 1) e) was
+    ∙ (ap (λ (x : Bool). enough_by (wanted_of o.extent) (length got + 1) x) (sym heard_is.2)
+    ∙ enough_is o.extent (length got + 1) token)) in
+    record {
+      front = h.front ++ here.row ∷ [];
+      rest = here.behind;
+      split = longer rows h.front h.rest here.behind here.row h.split here.split;
+      long = omega (arith, long, sum);
+      column = g.column ∙ (sym (here.known.below c) ∙ goes.0);
+      count_is = rw more (omega (arith, was, counted));
+      enough_are = rw (more, last) (taken_next o.extent got token h.enough_are);
+      text_is = added
+          ∙ (ap (λ (r : Row). add_token text (token_at r c)) here.known.is
+          ∙ (ap (λ (t : List ℕ). add_token t token) h.text_is
+          ∙ (sym (join_push got token (collected_bytes o (chain path h.front j)))
+          ∙ ap (join_with_byte 32) (sym more))));
     }
 
 -- tokens that are enough have bytes
@@ -86,13 +140,14 @@ filled x ((b ∷ bs) ∷ t ∷ ts) h none e = λ k. cc
 some_same : (x : Option (List (List ℕ))) (xs ys : List (List ℕ)) → x ≡ Some xs → x ≡ Some ys → xs ≡ ys
 some_same x xs ys e k = let u = sym e ∙ k in cc
 
-pub gathered_all : (o : Choice) (path : Path) (rows : List Row) (j n : ℕ) (walk : Walk)
-    (text : List ℕ) (tokens : List (List ℕ)) → Gathered o path rows j n walk text
-    → taken o.extent [] ≡ None → taken o.extent (collected o path rows j) ≡ Some tokens
-    → walk.enough ≡ true → (text ≡ join_with_byte 32 tokens) × (text ≢ [])
-gathered_all o path rows j n walk text tokens h none e enough =
+pub gathers_all : (o : Choice) (path : Path) (rows : List Row) (j n c count : ℕ) (text : List ℕ)
+    (enough : Bool) (tokens : List (List ℕ)) → Gathers o path rows j n c count text enough
+    → enough ≡ true → taken o.extent [] ≡ None
+    → taken o.extent (collected o path rows j) ≡ Some tokens
+    → (text ≡ join_with_byte 32 tokens) × (text ≢ [])
+gathers_all o path rows j n c count text enough tokens h are none e =
     let got = collected o path h.front j in
-    let here : taken o.extent got ≡ Some got = rw enough at h.has.enough in
+    let here : taken o.extent got ≡ Some got = rw are at h.enough_are in
     let same : got ≡ tokens = some_same (taken o.extent (collected o path rows j)) got tokens
     (enough_taken o path rows h.front h.rest j h.split here) e in (
       h.text_is ∙ ap (join_with_byte 32) same,
@@ -100,24 +155,38 @@ gathered_all o path rows j n walk text tokens h none e enough =
           (sym h.text_is ∙ k),
     )
 
--- where the walk stops without enough of them there aren't any
-pub gathered_few : (o : Choice) (path : Path) (first : ℕ) (rows : List Row) (j n : ℕ) (walk : Walk)
-    (text : List ℕ) (tokens : List (List ℕ)) → (h : Gathered o path rows j n walk text)
-    → walk.at ≡ first + n → (walk.column ≡ None) ⊎ (h.rest ≡ [])
-    → taken o.extent (collected o path rows j) ≡ Some tokens → walk.enough ≡ false → ⊥
-gathered_few o path first rows j n walk text tokens h at halts e short =
-    let long = h.long in
-    let none = too_few o path first rows j walk (record {
-      stands = record {
-        front = h.front;
-        rest = h.rest;
-        split = h.split;
-        at = omega (arith, at, long);
-        has = h.has;
-      };
-      halts = inr halts;
-    }) short in
-    let u = sym none ∙ e in cc
+-- where nothing is collected any more, too few stay too few
+too_few : (o : Choice) (path : Path) (rows front rest : List Row) (j : ℕ) (tokens : List (List ℕ))
+    → rows ≡ front ++ rest → chain_on (path_through path front) rest (column_after path front j) ≡ []
+    → taken o.extent (collected o path front j) ≡ None
+    → taken o.extent (collected o path rows j) ≡ Some tokens → ⊥
+too_few o path rows front rest j tokens split none few e =
+    let same : chain path rows j ≡ chain path front j = ap (λ (xs : List Row). chain path xs j) split
+    ∙ (chain_more path front rest j
+    ∙ (ap (λ (xs : List (List ℕ)). chain path front j ++ xs) none ∙ append-nil (chain path front j))) in
+    let u = sym few
+    ∙ (ap (λ (xs : List (List ℕ)). taken o.extent (filter (is_collectable o) xs)) (sym same) ∙ e) in cc
+
+-- its column ends at the next record
+pub gathers_stop : (o : Choice) (path : Path) (rows : List Row) (j n c count : ℕ) (text : List ℕ)
+    (held : List Queued) (kept : Queued) (tokens : List (List ℕ)) → Knows o path held rows
+    → Gathers o path rows j n c count text false → n < length held → kept ≡ get_or held n kept
+    → get_or kept.heard.items c Passed ≡ Passed → column_in kept.row kept.below c ≡ None
+    → taken o.extent (collected o path rows j) ≡ Some tokens → ⊥
+gathers_stop o path rows j n c count text held kept tokens knows h below is heard ends e =
+    let here = next_at o path rows j n c count text held kept knows h below is in
+    let none : heard_under o here.row c ≡ Passed = sym (here.known.heard c) ∙ heard in
+    let g = grown o path h.front here.row j c (heard_under o here.row c) h.column (here.known.collected c) in
+    let got = collected o path h.front j in
+    let front = h.front ++ here.row ∷ [] in
+    let same : collected o path (h.front ++ here.row ∷ []) j ≡ got = g.collected
+    ∙ (ap (λ (x : Heard). got ++ heard_token x (token_at here.row c)) none ∙ append-nil got) in
+    let stops : column_after path (h.front ++ here.row ∷ []) j ≡ None =
+    g.column ∙ (sym (here.known.below c) ∙ ends) in
+    too_few o path rows (h.front ++ here.row ∷ []) here.behind j tokens
+    (longer rows h.front h.rest here.behind here.row h.split here.split)
+    (ap (chain_on (path_through path (h.front ++ here.row ∷ [])) here.behind) stops)
+    (rw same h.enough_are) e
 
 none_left : (rows front rest : List Row) → rows ≡ front ++ rest → length rows ≤ length front
     → rest ≡ []
@@ -128,15 +197,15 @@ none_left rows front (row ∷ rest) e h =
     absurd (omega (arith, long, sum, h))
 
 -- all of the records that wait were gone through
-pub gathered_end : (o : Choice) (path : Path) (first : ℕ) (rows : List Row) (j n : ℕ) (walk : Walk)
-    (text : List ℕ) (tokens : List (List ℕ)) → Gathered o path rows j n walk text
-    → walk.at ≡ first + n → length rows ≤ n → taken o.extent [] ≡ None
-    → taken o.extent (collected o path rows j) ≡ Some tokens
-    → (text ≡ join_with_byte 32 tokens) × (text ≢ [])
-gathered_end o path first rows j n walk text tokens h at over none e = by walk.enough refl
-  where
-    by : (b : Bool) → walk.enough ≡ b → (text ≡ join_with_byte 32 tokens) × (text ≢ [])
-    by true w = gathered_all o path rows j n walk text tokens h none e w
-    by false w = let long = h.long in
-        absurd (gathered_few o path first rows j n walk text tokens h at
-        (inr (none_left rows h.front h.rest h.split (omega (arith, over, long)))) e w)
+pub gathers_end : (o : Choice) (path : Path) (rows : List Row) (j n c count : ℕ) (text : List ℕ)
+    (held : List Queued) (tokens : List (List ℕ)) → Knows o path held rows
+    → Gathers o path rows j n c count text false → length held ≤ n
+    → taken o.extent (collected o path rows j) ≡ Some tokens → ⊥
+gathers_end o path rows j n c count text held tokens knows h over e =
+    let each = knows_each o path held rows knows in
+    let long = h.long in
+    let left = none_left rows h.front h.rest h.split (omega (arith, over, each, long)) in
+    too_few o path rows h.front h.rest j tokens h.split
+    (ap (λ (xs : List Row). chain_on (path_through path h.front) xs (column_after path h.front j)) left
+    ∙ ap (chain_on (path_through path h.front) []) h.column)
+    h.enough_are e

@@ -91,7 +91,7 @@ pub record Grown (o : Choice) (path : Path) (rows : List Row) (row : Row) (j c :
   pub collected : collected o path (rows ++ row ∷ []) j
       ≡ collected o path rows j ++ heard_token heard (token_at row c)
 
-grown : (o : Choice) (path : Path) (rows : List Row) (row : Row) (j c : ℕ) (heard : Heard)
+pub grown : (o : Choice) (path : Path) (rows : List Row) (row : Row) (j c : ℕ) (heard : Heard)
     → column_after path rows j ≡ Some c
     → filter (is_collectable o) (under row (Some c)) ≡ heard_token heard (token_at row c)
     → Grown o path rows row j c heard
@@ -137,7 +137,7 @@ pass_none o path rows row j c kept walk new known at short h heard column ended 
       enough = rw (same, enough) (rw short at h.enough);
     }
 
-enough_is : (x : Extent) (count : ℕ) (t : List ℕ)
+pub enough_is : (x : Extent) (count : ℕ) (t : List ℕ)
     → enough_by (wanted_of x) count (ends x t) ≡ is_enough_by x count t
 enough_is (First n) count t = refl
 enough_is (Between opens closes) count t = refl

@@ -2,11 +2,12 @@
 use Rattle.std.specs.Prelude.{◌≡◌, ◌<◌, ◌≤◌, ℕ, Bool, false, List, []}
 use Rattle.std.specs.Prelude.{◌∷◌, filter, length, nat_lt}
 use Rattle.std.specs.Prelude.{if◌then◌else◌, slice_index_or, Option, Some, None}
-use Rattle.std.specs.List.{list_any}
-use Rattle.hum_record.specs.declared.Kind.TheVariants.{Values as AnyValues}
+use Rattle.std.specs.List.{list_any, position}
+use Rattle.hum_record.specs.declared.Kind.TheVariants.{Values as AnyValues, Interpretation as AnyInterpretation}
 use Rattle.hum_record.specs.declared.SpinedKind.TheVariants.{Interpretation}
 use Rattle.hum_record.specs.Row.{Row, Spined, kind_of, text_of, token_at, width_of}
-use Rattle.hum_path.specs.Spines.{Path, after}
+use Rattle.hum_path.specs.Spines.{Path, after, moves}
+use Rattle.hum_path.specs.Chains.{goes_on}
 use Rattle.hum_context.specs.declared.below.Below.{Below}
 use Rattle.hum_context.specs.declared.below.Below.TheVariants.{Same, Listed}
 use Rattle.hum_context.specs.declared.hearing.Heard.{Heard}
@@ -26,6 +27,11 @@ abbrev pub column_in : Row → Below → ℕ → Option ℕ
 column_in (Spined Interpretation tokens) below c =
     if is_last (slice_index_or tokens c []) then None else place_in below c
 column_in _ below c = Some c
+
+-- Under an interpretation the spines go on at these places.
+abbrev pub LeadsBelow : Path → Row → Below → Type 0
+LeadsBelow path row below = kind_of row ≡ AnyInterpretation → (c : ℕ)
+    → place_in below c ≡ position (goes_on c) (moves path row)
 
 -- whether a column's future is ended at a record's token
 abbrev pub is_last_in : Row → ℕ → Bool

@@ -18,8 +18,6 @@ use Rattle.hum_context.specs.Heard.{wanted_of}
 use Rattle.hum_context.specs.Queue.{Knows}
 use Rattle.hum_context.specs.declared.queued.Queued.{Queued}
 use Rattle.hum_context.specs.Columns.{column_after}
-use Rattle.hum_context.specs.declared.hearing.Heard.{Heard}
-use Rattle.hum_context.specs.declared.hearing.Heard.TheVariants.{Passed, Taken}
 
 -- the bytes of some tokens, with one behind each
 abbrev pub bytes_of : List (List ℕ) → ℕ
@@ -90,11 +88,6 @@ abbrev pub bytes_by : Becoming → ℕ → ℕ
 bytes_by Stays old = old
 bytes_by Null old = 2
 bytes_by (Collects size) old = size
-
--- a token behind others, if it is collected
-abbrev pub text_with : List ℕ → Heard → List ℕ → List ℕ
-text_with text Passed token = text
-text_with text (Taken begins ends) token = add_token text token
 
 -- the new token of a cell was added to those of a record in the making
 pub record Writes (o : Choice) (token : List ℕ) (chain : List (List ℕ))

@@ -8,13 +8,13 @@ ghost use Rattle.hum_record.specs.Making.{Holds, IsMade};
 ghost use Rattle.hum_path.specs.Spines.{Path};
 ghost use Rattle.hum_context.specs.Context.{Choice, all_some, begins, chain, is_collectable, taken, new_tokens};
 ghost use Rattle.hum_context.specs.Heard.{wanted_of};
-ghost use Rattle.hum_context.specs.Queue.{HasToken, Known, Knows};
-ghost use Rattle.hum_context.specs.declared.hearing.Heard.TheVariants.{Passed};
+ghost use Rattle.hum_context.specs.Queue.{HasToken, Knows};
 ghost use Rattle.hum_context.specs.Walking.{AllStand, Stands, Halts, Becomes, IsFew, Weighs, Counts, collected};
-ghost use Rattle.hum_context.specs.Walking.{Decided, bytes_by, bytes_of, text_with, Writes};
+ghost use Rattle.hum_context.specs.Walking.{Decided, bytes_by, bytes_of, Writes};
 
 use crate::hearing::Heard;
 use crate::queued::Queued;
+use crate::stepping::is_enough;
 use crate::text::Text;
 use crate::walk::Walk;
 use hum_record::{Making, Record, Spare, SpinedKind};
@@ -57,7 +57,7 @@ fn started(walks: &[Walk], at: u64, j: usize) -> Walk
     if j < walks.len() {
         let walk = walks[j];
         if at < walk.at {
-            return walk;
+            return walk.by_fields();
         }
     }
     Walk::from(at, j)
@@ -122,6 +122,29 @@ fn enough_at(walks: &[Walk], at: u64, j: usize) -> Option<Becoming>
     None
 }
 
+/// What the token of a cell of the k-th record that waits becomes, from which others are collected.
+#[inline(never)]
+fn becoming_at(
+    held: &VecDeque<Queued>,
+    k: usize,
+    gone: u64,
+    walks: &[Walk],
+    j: usize,
+    wanted: Option<u16>,
+) -> Option<Becoming>
+    requires few { gone + length held.now.items ≤ 4294967295 }
+    requires within { k ≤ length held.now.items }
+    ensures few { IsFew result }
+    ensures becomes { (o : Choice) (path : Path) (rows : List Row)
+        → wanted ≡ wanted_of o.extent → taken o.extent [] ≡ None
+        → Knows o path (drop k held.now.items) rows
+        → AllStand o path (gone + k) rows walks.now
+        → (token : List ℕ) → is_collectable o token ≡ true → begins o.extent token ≡ true
+        → Becomes o token (chain path rows j) result }
+{
+    becoming_by(walk_at(held, k, gone, walks, j, wanted))
+}
+
 /// What the token at place j becomes of the k-th record that waits.
 #[inline(always)]
 fn new_at(
@@ -151,7 +174,7 @@ fn new_at(
             if let Some(known) = enough_at(walks, gone + k as u64, j) {
                 return Some(known);
             }
-            becoming_by(walk_at(held, k, gone, walks, j, wanted))
+            becoming_at(held, k, gone, walks, j, wanted)
         }
     }
 }
@@ -214,49 +237,40 @@ pub(crate) fn weigh(held: &VecDeque<Queued>, k: usize, gone: u64, wanted: Option
     weight_of(size)
 }
 
-/// Adds the token in a column, if it is collected.
-#[inline]
-fn text_with(text: Text, next: &Queued, c: usize) -> Result<Text, AllocError>
-    ensures { IfOk result (λ new. (o : Choice) (path : Path) (row : Row) → Known o path row next.now
-        → new ≡ text_with text (slice_index_or next.now.heard.items c Passed) (token_at row c)) }
-{
-    match next.heard(c) {
-        Heard::Passed => Ok(text),
-        Heard::Taken { begins: _, ends: _ } => {
-            let text = text.with(next.token(c))?;
-            Ok(text)
-        }
-    }
-}
-
 /// The tokens that are collected from a cell of the first record that waits, joined in a text that
 /// is done with.
+#[inline(never)]
 fn gather(
     spare: Text,
     held: &VecDeque<Queued>,
-    gone: u64,
     j: usize,
     wanted: Option<u16>,
 ) -> Result<Text, AllocError>
-    requires few { gone + length held.now.items ≤ 4294967295 }
     ensures { IfOk result (λ text. (o : Choice) (path : Path) (rows : List Row)
         → wanted ≡ wanted_of o.extent → taken o.extent [] ≡ None → Knows o path held.now.items rows
         → (tokens : List (List ℕ)) → taken o.extent (collected o path rows j) ≡ Some tokens
         → (text ≡ join_with_byte 32 tokens) × (text ≢ [])) }
 {
     let mut text = spare.cleared();
-    let mut walk = Walk::from(gone, j);
+    let mut column = j;
+    let mut count: u64 = 0;
     for n in 0..held.len() {
-        if walk.enough {
-            return Ok(text);
-        }
-        let Some(c) = walk.column else {
-            return Ok(text);
-        };
         let next = &held[n];
-        let further = walk.pass(c, next, wanted);
-        text = text_with(text, next, c)?;
-        walk = further;
+        match next.heard(column) {
+            Heard::Taken { begins: _, ends } => {
+                text = text.with(next.token(column))?;
+                count += 1;
+                if is_enough(wanted, count, ends) {
+                    return Ok(text);
+                }
+            }
+            Heard::Passed => {
+                let Some(below) = next.column_below(column) else {
+                    return Ok(text);
+                };
+                column = below;
+            }
+        }
     }
     Ok(text)
 }
@@ -265,14 +279,12 @@ fn gather(
 fn write_token(
     alloc: Global,
     held: &VecDeque<Queued>,
-    gone: u64,
     j: usize,
     wanted: Option<u16>,
     becoming: Becoming,
     text: &mut Text,
     making: &mut Making,
 ) -> Result<(), AllocError>
-    requires few { gone + length held.now.items ≤ 4294967295 }
     requires kind { making.old.builder.kind ≡ Values }
     requires token { HasToken held.now.items j }
     ensures kind { making.new.builder.kind ≡ Values }
@@ -291,7 +303,7 @@ fn write_token(
         Becoming::Null => making.push(b".")?,
         Becoming::Collects(_) => {
             let spare = mem::replace(text, Text::none(alloc));
-            let made = gather(spare, held, gone, j, wanted)?;
+            let made = gather(spare, held, j, wanted)?;
             making.push(made.token())?;
             *text = made;
         }
@@ -326,7 +338,7 @@ pub(crate) fn write(
         let Some(new) = new_at(held, 0, gone, walks, j, wanted) else {
             unreachable!()
         };
-        write_token(alloc, held, gone, j, wanted, new, text, &mut making)?;
+        write_token(alloc, held, j, wanted, new, text, &mut making)?;
     }
     Ok(making.finish())
 }

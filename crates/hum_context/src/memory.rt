@@ -1,13 +1,15 @@
 //! What context remembers of the records that wait.
-ghost use Rattle.std.specs.Prelude.{◌≡◌, ◌+◌, ◌<◌, [], ◌∷◌, List, drop, slice_get, Some, IfOk, OnOk};
+ghost use Rattle.std.specs.Prelude.{◌≡◌, ◌+◌, ◌<◌, ◌≤◌, [], ◌∷◌, List, drop, slice_get, Some, None, IfOk, OnOk};
 ghost use Rattle.std.specs.VecDeque.{deque_len};
 ghost use Rattle.hum_record.specs.Row.{Row};
-ghost use Rattle.hum_path.specs.Spines.{Path, Unopened, after};
+ghost use Rattle.hum_path.specs.Spines.{Path, Unopened, after, width};
+ghost use Rattle.hum_path.specs.Rules.{fault_of};
 ghost use Rattle.hum_context.specs.Options.{choice_of};
-ghost use Rattle.hum_context.specs.Queue.{Known, Knows};
+ghost use Rattle.hum_context.specs.Queue.{Known, Knows, LeadsBelow};
 ghost use Rattle.hum_context.specs.Walking.{AllStand};
 ghost use Rattle.hum_context.specs.declared.queued.Queued.{Queued};
 
+use crate::below::Below;
 use crate::front::{Weight, advance, write};
 use crate::hearing::SpareHeard;
 use crate::held::HeldRecord;
@@ -18,7 +20,7 @@ use crate::sharing::{share, shorten};
 use crate::text::Text;
 use crate::walk::Walk;
 use hum_path::Paths;
-use hum_record::{Record, Spare};
+use hum_record::{Kind, Record, Spare};
 use hum_stage::{Command, LooksAhead, Rule, Verdict};
 use std::alloc::{AllocError, Global};
 use std::collections::VecDeque;
@@ -42,6 +44,27 @@ pub struct Collecting {
     spare: Spare,
     // what was heard of the record that went last
     spare_heard: SpareHeard,
+}
+
+/// Where the spines under a record go, if it may move them. Only an interpretation is followed: under
+/// others each spine stays.
+#[inline]
+fn below_row(alloc: Global, paths: &mut Paths, row: &Record) -> Result<Below, AllocError>
+    requires sound { fault_of paths.old.path row.now ≡ None }
+    requires narrow { width (after paths.old.path row.now) ≤ 4096 }
+    ensures after { OnOk result (paths.new.path ≡ after paths.old.path row.now) }
+    ensures below { IfOk result (LeadsBelow paths.old.path row.now) }
+{
+    match row.kind() {
+        Kind::Interpretation => {
+            let found = paths.follow(row)?;
+            let below = Below::by(alloc, &found)?;
+            Ok(below)
+        }
+        Kind::Values => Ok(Below::Same(0)),
+        Kind::Local => Ok(Below::Same(0)),
+        Kind::Global => Ok(Below::Same(0)),
+    }
 }
 
 impl LooksAhead for Collecting {
@@ -77,12 +100,12 @@ impl LooksAhead for Collecting {
     }
 
     fn put(&mut self, next: Record, held: &mut VecDeque<Queued>) -> Result<(), AllocError> {
-        let found = self.paths.follow(&next)?;
+        let below = below_row(self.alloc, &mut self.paths, &next)?;
         let queued = Queued::new(
             self.alloc,
             &mut self.options,
             next,
-            &found,
+            below,
             &mut self.spare_heard,
         )?;
         held.push_back(queued)?;

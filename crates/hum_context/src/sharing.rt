@@ -56,7 +56,7 @@ fn behind(walk: Walk, kept: &Queued, j: usize, wanted: Option<u16>) -> Walk
         → Has o (after path row) front i result }
 {
     match kept.heard(j) {
-        Heard::Passed => walk,
+        Heard::Passed => walk.by_fields(),
         Heard::Taken { begins: _, ends } => behind_taken(walk, kept.bytes(j), wanted, ends),
     }
 }

@@ -16,7 +16,7 @@ use std::collections::VecDeque;
 
 /// Whether so many tokens are enough, the last of which ends a group or doesn't.
 #[inline]
-fn is_enough(wanted: Option<u16>, count: u64, ends: bool) -> bool
+pub(crate) fn is_enough(wanted: Option<u16>, count: u64, ends: bool) -> bool
     ensures { result ≡ enough_by wanted count ends }
 {
     match wanted {
@@ -45,59 +45,68 @@ impl Walk {
         }
     }
 
-    /// One record more, whose token in its column isn't collected.
+    /// The same, put together anew: what pads its fields isn't moved along with them.
     #[inline(always)]
-    fn pass_by(self, c: usize, next: &Queued) -> Walk
-        requires few { self.at < 4294967295 }
-        ensures at { result.at ≡ self.at + 1 }
-        ensures column { result.column ≡ column_in next.now.row next.now.below c }
-        ensures ended { result.ended ≡ is_last_in next.now.row c }
-        ensures same { (result.count ≡ self.count) × (result.size ≡ self.size) }
-        ensures short { result.enough ≡ false }
+    pub(crate) fn by_fields(self) -> Walk
+        ensures { result ≡ self }
     {
         Walk {
-            at: self.at + 1,
-            column: next.below(c),
+            at: self.at,
+            column: self.column,
             count: self.count,
             size: self.size,
-            enough: false,
-            ended: next.is_last(c),
+            enough: self.enough,
+            ended: self.ended,
         }
+    }
+
+    /// One record more, whose token in its column isn't collected.
+    #[inline(always)]
+    fn pass_by(&mut self, c: usize, next: &Queued)
+        requires few { self.old.at < 4294967295 }
+        ensures at { self.new.at ≡ self.old.at + 1 }
+        ensures column { self.new.column ≡ column_in next.now.row next.now.below c }
+        ensures ended { self.new.ended ≡ is_last_in next.now.row c }
+        ensures same { (self.new.count ≡ self.old.count) × (self.new.size ≡ self.old.size) }
+        ensures short { self.new.enough ≡ false }
+    {
+        self.at += 1;
+        self.column = next.below(c);
+        self.enough = false;
+        self.ended = next.is_last(c);
     }
 
     /// One record more, whose token in its column is collected, and ends a group or doesn't. It is
     /// data, so that the column goes on.
     #[inline(always)]
-    fn collect(self, c: usize, next: &Queued, wanted: Option<u16>, ends: bool) -> Walk
-        requires few { self.at < 4294967295 }
+    fn collect(&mut self, c: usize, next: &Queued, wanted: Option<u16>, ends: bool)
+        requires few { self.old.at < 4294967295 }
         requires taken { slice_index_or next.now.heard.items c Passed ≢ Passed }
-        ensures at { result.at ≡ self.at + 1 }
-        ensures column { result.column ≡ column_in next.now.row next.now.below c }
-        ensures ended { result.ended ≡ is_last_in next.now.row c }
-        ensures count { result.count ≡ self.count + 1 }
-        ensures size { result.size
-            ≡ self.size + (length (slice_index_or (tokens_of next.now.row) c []) + 1) }
-        ensures enough { result.enough ≡ enough_by wanted (self.count + 1) ends }
+        ensures at { self.new.at ≡ self.old.at + 1 }
+        ensures column { self.new.column ≡ column_in next.now.row next.now.below c }
+        ensures ended { self.new.ended ≡ is_last_in next.now.row c }
+        ensures count { self.new.count ≡ self.old.count + 1 }
+        ensures size { self.new.size
+            ≡ self.old.size + (length (slice_index_or (tokens_of next.now.row) c []) + 1) }
+        ensures enough { self.new.enough ≡ enough_by wanted (self.old.count + 1) ends }
     {
-        Walk {
-            at: self.at + 1,
-            column: Some(c),
-            count: self.count + 1,
-            size: self.size + next.bytes(c),
-            enough: is_enough(wanted, self.count + 1, ends),
-            ended: false,
-        }
+        self.at += 1;
+        self.column = Some(c);
+        self.count += 1;
+        self.size += next.bytes(c);
+        self.enough = is_enough(wanted, self.count, ends);
+        self.ended = false;
     }
 
     /// One record more, on which it stands in a column.
     #[inline(always)]
-    pub(crate) fn pass(self, c: usize, next: &Queued, wanted: Option<u16>) -> Walk
-        requires few { self.at < 4294967295 }
-        ensures at { result.at ≡ self.at + 1 }
+    pub(crate) fn pass(&mut self, c: usize, next: &Queued, wanted: Option<u16>)
+        requires few { self.old.at < 4294967295 }
+        ensures at { self.new.at ≡ self.old.at + 1 }
         ensures has { (o : Choice) (path : Path) (rows : List Row) (row : Row) (j : ℕ)
             → wanted ≡ wanted_of o.extent → Known o (path_through path rows) row next.now
-            → self.column ≡ Some c → self.enough ≡ false → Has o path rows j self
-            → Has o path (rows ++ row ∷ []) j result }
+            → self.old.column ≡ Some c → self.old.enough ≡ false → Has o path rows j self.old
+            → Has o path (rows ++ row ∷ []) j self.new }
     {
         match next.heard(c) {
             Heard::Passed => self.pass_by(c, next),
@@ -123,7 +132,7 @@ impl Walk {
     }
 
     // The same, by a look at its records.
-    #[inline]
+    #[inline(always)]
     fn go_further(self, held: &VecDeque<Queued>, gone: u64, wanted: Option<u16>) -> Walk
         requires behind { gone ≤ self.at }
         requires few { gone + length held.now.items ≤ 4294967295 }
@@ -140,7 +149,7 @@ impl Walk {
             let Some(c) = walk.column else {
                 return walk;
             };
-            walk = walk.pass(c, &held[n], wanted);
+            walk.pass(c, &held[n], wanted);
         }
         walk
     }

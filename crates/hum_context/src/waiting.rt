@@ -1,15 +1,12 @@
 //! What is asked of a record that waits.
 ghost use Rattle.std.specs.Prelude.{◌≡◌, ◌≢◌, ◌==◌, ◌+◌, ◌≤◌, ℕ, [], true, length, Some, IfOk, slice_index_or};
-ghost use Rattle.std.specs.List.{position};
-ghost use Rattle.hum_record.specs.declared.Kind.TheVariants.{Interpretation as AnyInterpretation};
 ghost use Rattle.hum_record.specs.declared.SpinedKind.TheVariants.{Values};
-ghost use Rattle.hum_record.specs.Row.{kind_of, token_at, tokens_of};
+ghost use Rattle.hum_record.specs.Row.{token_at, tokens_of};
 ghost use Rattle.hum_record.specs.Spelling.{IsToken};
-ghost use Rattle.hum_path.specs.Chains.{goes_on};
-ghost use Rattle.hum_path.specs.Spines.{Path, moves};
+ghost use Rattle.hum_path.specs.Spines.{Path};
 ghost use Rattle.hum_context.specs.Context.{is_last};
 ghost use Rattle.hum_context.specs.Options.{choice_of};
-ghost use Rattle.hum_context.specs.Queue.{IsStill, Known, column_in, is_last_in, place_in};
+ghost use Rattle.hum_context.specs.Queue.{IsStill, Known, LeadsBelow, column_in, is_last_in};
 ghost use Rattle.hum_context.specs.declared.hearing.Heard.TheVariants.{Passed};
 
 use crate::below::Below;
@@ -17,7 +14,7 @@ use crate::hearing::{Heard, SpareHeard};
 use crate::held::HeldRecord;
 use crate::options::ContextOptions;
 use crate::queued::Queued;
-use hum_path::{Moves, Sign, token_sign};
+use hum_path::{Sign, token_sign};
 use hum_record::{Kind, Record};
 use std::alloc::{AllocError, Global};
 
@@ -34,37 +31,22 @@ fn is_last_at(row: &HeldRecord, c: usize) -> bool
     }
 }
 
-/// Where the spines under a record go, if it may move them.
-fn below_row(alloc: Global, row: &Record, found: &Moves) -> Result<Below, AllocError>
-    requires { length found.now ≤ 4096 }
-    ensures { IfOk result (λ below. kind_of row.now ≡ AnyInterpretation
-        → (c : ℕ) → place_in below c ≡ position (goes_on c) found.now) }
-{
-    match row.kind() {
-        Kind::Interpretation => Below::by(alloc, found),
-        Kind::Values => Ok(Below::Same(0)),
-        Kind::Local => Ok(Below::Same(0)),
-        Kind::Global => Ok(Below::Same(0)),
-    }
-}
-
 impl Queued {
-    /// A record that comes, with what is heard of it, for which there is a list that is done with.
+    /// A record that comes, with where the spines under it go and what is heard of it, for which there
+    /// is a list that is done with.
     pub(crate) fn new(
         alloc: Global,
         options: &mut ContextOptions,
         row: Record,
-        found: &Moves,
+        below: Below,
         spare: &mut SpareHeard,
     ) -> Result<Queued, AllocError>
-        requires { length found.now ≤ 4096 }
         ensures kept { options.new ≡ options.old }
-        ensures known { IfOk result (λ queued. (path : Path) → found.now ≡ moves path row
+        ensures known { IfOk result (λ queued. (path : Path) → LeadsBelow path row below
             → Known (choice_of options.old) path row queued) }
     {
         let _kind = row.kind();
         let heard = options.hear_row(alloc, &row, spare)?;
-        let below = below_row(alloc, &row, found)?;
         let row = HeldRecord::of(row, heard.is_empty());
         Ok(Queued { row, heard, below })
     }
@@ -148,7 +130,7 @@ impl Queued {
     }
 
     /// The same, by what the record is.
-    fn column_below(&self, c: usize) -> Option<usize>
+    pub(crate) fn column_below(&self, c: usize) -> Option<usize>
         ensures { result ≡ column_in self.now.row self.now.below c }
     {
         match self.row.kind() {

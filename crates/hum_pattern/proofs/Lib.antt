@@ -2,3 +2,4 @@ mod Examples
 pub mod OnLiterals
 pub mod Reading
 pub mod Remembered
+mod Barline

@@ -1,5 +1,5 @@
 -- Tokens that are remembered.
-use Rattle.std.proofs.Common.{◌≡◌, refl, sym, ap, ◌∙◌, ℕ, zero, suc, Bool, List, [], ◌∷◌, ◌++◌, set, Option, None, Some, inl, inr, ◌⊎◌}
+use Rattle.std.proofs.Common.{◌≡◌, sym, ◌∙◌, ℕ, zero, suc, List, [], ◌∷◌, ◌++◌, set, None, Some, inl, inr, ◌⊎◌}
 use Rattle.std.specs.Prelude.{slice_get}
 use Rattle.hum_pattern.specs.declared.searched.Searched.{Searched}
 use Rattle.hum_pattern.specs.Searching.{Finds, AllFound}

@@ -6,6 +6,7 @@
 
 ghost use Rattle.std.specs.Prelude.{◌≡◌, IfOk, IfErr, OnOk};
 ghost use Rattle.hum_pattern.specs.Meaning.{IsExpression, IsNone, matched, first_end};
+ghost use Rattle.hum_pattern.specs.Searching.{begins_with, MayBeBarline};
 ghost use Rattle.hum_pattern.specs.declared.PatternFault.TheVariants.{Refused, TooLarge, Memory};
 
 mod searched;
@@ -47,6 +48,27 @@ impl<T: Drop> From<AllocFailed<T>> for PatternFault {
     }
 }
 
+/// The pattern of barlines. Where it is given it is asked of each token of a score.
+const BARLINE: &str = "^=";
+
+/// Whether a text is the pattern of barlines.
+fn is_barline(text: &str) -> bool
+    ensures { MayBeBarline result text.now }
+{
+    text == BARLINE
+}
+
+/// Whether a token begins as a barline does.
+#[inline]
+fn begins_barline(token: &[u8]) -> bool
+    ensures { result ≡ begins_with 61 token.now }
+{
+    match token {
+        [] => false,
+        [byte, ..] => b'=' == *byte,
+    }
+}
+
 /// A regular expression, with what its searches write to.
 ///
 /// What is worked out of its text stays in memory to the program's end, so that each search has the
@@ -57,6 +79,8 @@ pub struct Pattern {
     matcher: Box<Matcher<'static>>,
     // tokens that were searched before
     searched: Vec<Searched>,
+    // it is the pattern of barlines, for which a look at a token's first byte is enough
+    is_barline: bool,
 }
 
 // Written out, so that a caller's proof sees one call and not the drop of each field.
@@ -71,16 +95,17 @@ impl Drop for Pattern {
 }
 
 impl Model for Pattern {
-    ghost use Rattle.std.specs.Prelude.{ℕ, List, box_value};
+    ghost use Rattle.std.specs.Prelude.{◌≡◌, ℕ, List, box_value};
     ghost use Rattle.regex.specs.Bytes.{regex_source, matcher_pattern};
-    ghost use Rattle.hum_pattern.specs.Searching.{SearchesFor, AllFound};
+    ghost use Rattle.hum_pattern.specs.Searching.{SearchesFor, AllFound, MayBeBarline};
 
     ghost Value = { List ℕ };
 
     ghost view = { λ p. regex_source p.regex.now };
 
     ghost invariant = { λ p. SearchesFor (regex_source p.regex.now) (matcher_pattern (box_value p.matcher))
-        × AllFound (regex_source p.regex.now) p.searched.items };
+        × AllFound (regex_source p.regex.now) p.searched.items
+        × MayBeBarline p.is_barline (regex_source p.regex.now) };
 }
 
 impl Pattern {
@@ -101,6 +126,7 @@ impl Pattern {
                     regex,
                     matcher: Box::new(alloc, regex.matcher(alloc)?)?,
                     searched: none_searched(alloc)?,
+                    is_barline: is_barline(text),
                 })
             }
             Err(RegexError::Syntax(_)) => Err(PatternFault::Refused),
@@ -111,7 +137,20 @@ impl Pattern {
     }
 
     /// Whether the pattern has a match anywhere in a token.
+    #[inline]
     pub fn matches(&mut self, token: &[u8]) -> bool
+        ensures found { result ≡ matched self.old token.now }
+        ensures same { self.new ≡ self.old }
+    {
+        if self.is_barline {
+            return begins_barline(token);
+        }
+        self.finds(token)
+    }
+
+    /// The same, by what is remembered of the token, or by a search.
+    #[inline(never)]
+    fn finds(&mut self, token: &[u8]) -> bool
         ensures found { result ≡ matched self.old token.now }
         ensures same { self.new ≡ self.old }
     {

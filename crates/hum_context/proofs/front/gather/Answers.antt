@@ -1,44 +1,69 @@
-use Rattle.std.proofs.Common.{arith, inl}
-use Rattle.hum_context.specs.Memory.{knows_each}
-use Rattle.hum_context.proofs.Gathering.{gathered_more, gathered_all, gathered_few, gathered_end}
+use Rattle.std.proofs.Common.{◌∙◌, sym, arith}
+use Rattle.hum_context.proofs.Gathering.{gathers_take, gathers_pass, gathers_all}
+use Rattle.hum_context.proofs.Gathering.{gathers_stop, gathers_end}
 use Rattle.hum_context.proofs.front.gather.Goals as goal
+use Rattle.hum_context.proofs.front.gather.Goals.{in-Taken+in_ok-text-in-Taken+else-is_enough, in-Passed+in-Some}
 
-pub returns-then-walk : goal.returns-then-walk
-returns-then-walk c o path rows want none knows tokens e =
-    gathered_all o path rows c.args.j c.loop-n.n c.loop-n.walk c.loop-n.text tokens
-    (c.loop-n.invariant.text o path rows want none knows) none e c.if-walk.true
-
-pub returns-in_default : goal.returns-in_default
-returns-in_default c o path rows want none knows tokens e =
-    absurd (gathered_few o path c.args.gone rows c.args.j c.loop-n.n c.loop-n.walk c.loop-n.text tokens
-    (c.loop-n.invariant.text o path rows want none knows) c.loop-n.invariant.at
-    (inl c.in_default.is) e c.if-walk.false)
-
-pub loop-n-preserved : goal.loop-n-preserved
-loop-n-preserved c =
-    let next = c.pass-further.ensures.at in
-    let at = c.loop-n.invariant.at in
+pub returns-then-is_enough : goal.returns-then-is_enough
+returns-then-is_enough c o path rows want none knows tokens e =
     let size = c.args.held.now.ok.0 in
     let end = c.len-n-end.ensures in
     let below = c.loop-n-test.true in
-    record {
-      at = omega (arith, next, at);
-      text = λ o path rows want none knows.
-          gathered_more o path rows c.args.j c.loop-n.n c.in-Some.c c.args.held.now.items
-          c.index-next.result.now c.loop-n.walk c.pass-further.result c.loop-n.text c.in_ok-text.text
-          knows (c.loop-n.invariant.text o path rows want none knows)
-          (omega (arith, size, end, below)) c.index-next.ensures c.in-Some.is
-          (λ p row known. c.in_ok-text.ensures o p row known)
-          (λ front row known h. c.pass-further.ensures.has o path front row c.args.j want known
-          c.in-Some.is c.if-walk.false h);
-    }
+    gathers_all o path rows c.args.j _ c.loop-n.column _ c.in_ok-text-in-Taken.text _ tokens
+    (gathers_take o path rows c.args.j c.loop-n.n c.loop-n.column c.loop-n.count c.loop-n.text
+    c.in_ok-text-in-Taken.text c.args.held.now.items c.index-next.result.now c.args.wanted
+    c.in-Taken.begins c.in-Taken.ends want knows
+    (c.loop-n.invariant.text o path rows want none knows) (omega (arith, size, end, below))
+    c.index-next.ensures (sym c.heard.ensures ∙ c.in-Taken.is)
+    (rw c.token.ensures.token at c.in_ok-text-in-Taken.ensures))
+    (sym c.is_enough.ensures ∙ c.if-is_enough.true) none e
+
+pub returns-in_default : goal.returns-in_default
+returns-in_default c o path rows want none knows tokens e =
+    let size = c.args.held.now.ok.0 in
+    let end = c.len-n-end.ensures in
+    let below = c.loop-n-test.true in
+    absurd (gathers_stop o path rows c.args.j c.loop-n.n c.loop-n.column c.loop-n.count c.loop-n.text
+    c.args.held.now.items c.index-next.result.now tokens knows
+    (c.loop-n.invariant.text o path rows want none knows) (omega (arith, size, end, below))
+    c.index-next.ensures (sym c.heard.ensures ∙ c.in-Passed.is)
+    (sym c.column_below.ensures ∙ c.in_default.is) e)
+
+pub loop-n-preserved : goal.loop-n-preserved
+loop-n-preserved c =
+    let size = c.args.held.now.ok.0 in
+    let end = c.len-n-end.ensures in
+    let below = c.loop-n-test.true in
+    let few = c.loop-n.invariant.few in
+    elim c.match-heard.branch [
+      | in-Taken+in_ok-text-in-Taken+else-is_enough w ↦ let counted = w.count-is in record {
+        few = omega (arith, few, counted);
+        text = λ o path rows want none knows.
+            let more = gathers_take o path rows c.args.j c.loop-n.n c.loop-n.column c.loop-n.count
+            c.loop-n.text w.in_ok-text-in-Taken.text c.args.held.now.items c.index-next.result.now
+            c.args.wanted w.in-Taken.begins w.in-Taken.ends want knows
+            (c.loop-n.invariant.text o path rows want none knows) (omega (arith, size, end, below))
+            c.index-next.ensures (sym c.heard.ensures ∙ w.in-Taken.is)
+            (rw w.token.ensures.token at w.in_ok-text-in-Taken.ensures) in
+            let short = sym w.is_enough.ensures ∙ w.if-is_enough.false in
+            rw (w.text-is, w.column-is, w.count-is) (rw short at more);
+      }
+      | in-Passed+in-Some w ↦ let counted = w.count-is in record {
+        few = omega (arith, few, counted);
+        text = λ o path rows want none knows.
+            rw (w.text-is, w.column-is, w.count-is) (gathers_pass o path rows c.args.j c.loop-n.n
+            c.loop-n.column _ c.loop-n.count c.loop-n.text c.args.held.now.items
+            c.index-next.result.now knows (c.loop-n.invariant.text o path rows want none knows)
+            (omega (arith, size, end, below)) c.index-next.ensures
+            (sym c.heard.ensures ∙ w.in-Passed.is) (sym w.column_below.ensures ∙ w.in-Some.is));
+      }
+    ]
 
 pub returns : goal.returns
 returns c o path rows want none knows tokens e =
-    let each = knows_each o path c.args.held.now.items rows knows in
     let size = c.args.held.now.ok.0 in
     let end = c.len-n-end.ensures in
     let over = c.loop-n-test.false in
-    gathered_end o path c.args.gone rows c.args.j c.loop-n.n c.loop-n.walk c.loop-n.text tokens
-    (c.loop-n.invariant.text o path rows want none knows) c.loop-n.invariant.at
-    (omega (arith, each, size, end, over)) none e
+    absurd (gathers_end o path rows c.args.j c.loop-n.n c.loop-n.column c.loop-n.count c.loop-n.text
+    c.args.held.now.items tokens knows (c.loop-n.invariant.text o path rows want none knows)
+    (omega (arith, size, end, over)) e)

@@ -4,8 +4,8 @@ use Rattle.hum_context.proofs.sharing.behind.Goals as goal
 
 pub returns-in-Passed-clause-has : goal.returns-in-Passed-clause-has
 returns-in-Passed-clause-has c o path row front i want known below h at =
-    shorter_none o path row front c.args.j i c.args.kept.now c.args.walk known below
-    (sym c.heard.ensures ∙ c.in-Passed.is) h
+    rw c.by_fields.ensures (shorter_none o path row front c.args.j i c.args.kept.now c.args.walk known below
+    (sym c.heard.ensures ∙ c.in-Passed.is) h)
 
 pub returns-in-Taken-clause-has : goal.returns-in-Taken-clause-has
 returns-in-Taken-clause-has c o path row front i want known below h at =

@@ -4,8 +4,11 @@ use Rattle.hum_pattern.proofs.Pattern.new.Goals as goal
 pub invariant_of-result : goal.invariant_of-result
 invariant_of-result c =
     let made = c.in-Ok.ensures in
-    rw (c.in_ok-new-in-Ok-2.ensures.ok, c.in_ok-matcher-in-Ok.ensures.pattern, c.leak-regex.ensures.value, c.in_ok-new-in-Ok.ensures.ok, made.source)
-    (searches c.in-Ok.regex c.args.text.now made.source made.config made.read, c.in_ok-none_searched-in-Ok.ensures c.args.text.now)
+    rw (c.in_ok-new-in-Ok-2.ensures.ok, c.in_ok-matcher-in-Ok.ensures.pattern, c.leak-regex.ensures.value, c.in_ok-new-in-Ok.ensures.ok, made.source) (
+      searches c.in-Ok.regex c.args.text.now made.source made.config made.read,
+      c.in_ok-none_searched-in-Ok.ensures c.args.text.now,
+      c.is_barline.ensures,
+    )
 
 pub returns-in_ok-none_searched-in-Ok-clause-sound : goal.returns-in_ok-none_searched-in-Ok-clause-sound
 returns-in_ok-none_searched-in-Ok-clause-sound c =

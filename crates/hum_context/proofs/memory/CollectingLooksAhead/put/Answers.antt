@@ -1,21 +1,19 @@
-use Rattle.std.proofs.Common.{◌∙◌, ◌∷◌, ap, arith, length}
-use Rattle.hum_path.specs.Spines.{Path, Tracked, after, width}
+use Rattle.std.proofs.Common.{◌∙◌, ◌∷◌, ap, arith}
+use Rattle.std.specs.List.{position}
+use Rattle.hum_path.specs.Spines.{Path, after, width}
+use Rattle.hum_path.specs.Chains.{goes_on}
 use Rattle.hum_path.specs.Score.{passed}
 use Rattle.hum_path.proofs.Obeyed.{narrow}
 use Rattle.hum_context.specs.Options.{choice_of}
 use Rattle.hum_context.proofs.Following.{follows_put, few_lines}
-use Rattle.hum_context.proofs.Places.{moves_after}
 use Rattle.hum_context.proofs.memory.CollectingLooksAhead.put.Goals as goal
 
-pub new-requires : goal.new-requires
-new-requires c =
+pub below_row-requires-clause-narrow : goal.below_row-requires-clause-narrow
+below_row-requires-clause-narrow c =
     let m = c.requires in
-    let path = c.args.self.now.paths.path in
     let few = narrow (c.args.next ∷ passed m.past m.rows) m.score in
     let wide = ap (λ (p : Path). width (after p c.args.next)) m.memory.spines in
-    let each = moves_after path c.args.next in
-    let found = ap length c.in_ok-found.ensures.moves in
-    omega (arith, few, wide, each, found)
+    omega (arith, few, wide)
 
 pub returns : goal.returns
 returns c look past rows h sound =
@@ -24,6 +22,7 @@ returns c look past rows h sound =
     c.args.self.now.gone c.args.self.now.walks.items c.args.held.now.items _ look past rows
     c.args.next c.in_ok-queued.queued h
     (few_lines _ _ _ _ _ _ _ _ _ _ _ c.requires.memory c.requires.few h)
-    (ap (λ (t : Tracked). t.path) c.in_ok-found.ensures.after)
-    (λ q e. c.in_ok-queued.ensures.known q (c.in_ok-found.ensures.moves ∙ e))
+    c.in_ok-below.ensures.after
+    (λ q e. c.in_ok-queued.ensures.known q
+    (λ kind n. c.in_ok-below.ensures.below kind n ∙ ap (position (goes_on n)) e))
     c.in_ok-push_back.ensures.items)

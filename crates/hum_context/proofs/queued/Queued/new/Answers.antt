@@ -1,9 +1,11 @@
+use Rattle.std.proofs.Common.{refl}
+use Rattle.hum_path.specs.Spines.{moves}
 use Rattle.hum_context.specs.Options.{choice_of}
 use Rattle.hum_context.proofs.Queues.{known_new}
 use Rattle.hum_context.proofs.queued.Queued.new.Goals as goal
 
 pub returns-clause-known : goal.returns-clause-known
-returns-clause-known c path e =
-    known_new (choice_of c.args.options.now) path c.args.row _ c.args.found.now _
+returns-clause-known c path leads =
+    known_new (choice_of c.args.options.now) path c.args.row _ (moves path c.args.row) _
     c.kind-kind.ensures.lawful c.kind-kind.ensures.at_most c.of-row.ensures c.in_ok-heard.ensures.heard
-    c.in_ok-below.ensures e
+    leads refl

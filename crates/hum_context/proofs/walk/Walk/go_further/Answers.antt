@@ -4,7 +4,7 @@ use Rattle.hum_context.proofs.walk.Walk.go_further.Goals as goal
 
 pub loop-n-preserved : goal.loop-n-preserved
 loop-n-preserved c =
-    let next = c.pass-walk.ensures.at in
+    let next = c.pass.ensures.at in
     let at = c.loop-n.invariant.at in
     let size = c.args.held.now.ok.0 in
     let end = c.len-n-end.ensures in
@@ -13,10 +13,10 @@ loop-n-preserved c =
       at = omega (arith, next, at);
       stands = λ o path k rows j want knows s.
           stands_pass o path c.args.gone k rows j c.loop-n.n c.args.held.now.items
-          c.index.result.now c.loop-n.walk c.pass-walk.result knows
+          c.index.result.now c.loop-n.walk c.pass.new.self knows
           (c.loop-n.invariant.stands o path k rows j want knows s) at
           (omega (arith, size, end, below)) c.index.ensures next
-          (λ front row known h. c.pass-walk.ensures.has o path front row j want known c.in-Some.is
+          (λ front row known h. c.pass.ensures.has o path front row j want known c.in-Some.is
           c.if-walk.false h);
     }
 
