@@ -26,7 +26,6 @@ use std::marker::Model;
 ///
 /// It is served as a stage is, but that it names the source whose record it wants
 /// ([`Assemble::wants`]). It wants until every source has ended, also after a fault of its own.
-#[derive(Drop)]
 pub struct Assemble {
     alloc: Global,
     stage: u8,
@@ -36,6 +35,21 @@ pub struct Assemble {
     // the record that was done with last
     spare: Spare,
     spent: bool,
+}
+
+// Written out, so that a caller's proof sees one call and not the drop of each field.
+impl Drop for Assemble {
+    fn drop(self) {
+        let Assemble {
+            alloc: _,
+            stage: _,
+            sources: _sources,
+            given: _,
+            next: _,
+            spare: _spare,
+            spent: _,
+        } = self;
+    }
 }
 
 impl Model for Assemble {

@@ -222,21 +222,38 @@ fn refuses_what_does_not_fit_one_column(rt: HostRuntime) -> Result<(), Fail> {
 
 #[test]
 fn tells_names_and_separators(rt: HostRuntime) -> Result<(), Fail> {
-    assert!(rt; is_name(b"**kern"));
-    assert!(rt; !is_name(b"**"));
-    assert!(rt; !is_name(b"*kern"));
-    assert!(rt; !is_name(b"**k\tn"));
-    assert!(rt; is_separator(b""));
-    assert!(rt; !is_separator(b"\n"));
-    let alloc = rt.alloc();
-    let options = CleaveOptions::new(
-        b"**a".to_vec(alloc)?,
-        b"**b".to_vec(alloc)?,
-        b"--".to_vec(alloc)?,
-    );
+    let names: [(&'static [u8], bool); 4] = [
+        (b"**kern", true),
+        (b"**", false),
+        (b"*kern", false),
+        (b"**k\tn", false),
+    ];
+    for (text, want) in names {
+        assert_eq!(rt; is_name(text), want);
+    }
+    assert!(rt; is_separator(b"") && !is_separator(b"\n"));
+    Ok(())
+}
+
+fn with_dashes(alloc: Global) -> Result<CleaveOptions, Fail> {
+    let name = b"**a".to_vec(alloc)?;
+    let new_name = b"**b".to_vec(alloc)?;
+    let separator = b"--".to_vec(alloc)?;
+    Ok(CleaveOptions::new(name, new_name, separator))
+}
+
+#[test]
+fn tells_what_it_is_told(rt: HostRuntime) -> Result<(), Fail> {
+    let options = with_dashes(rt.alloc())?;
     assert_eq!(rt; options.new_name(), b"**b".as_slice());
     assert_eq!(rt; options.separator(), b"--".as_slice());
-    let mut stage = Cleave::new(alloc, 2, options);
+    Ok(())
+}
+
+#[test]
+fn wants_its_first_record(rt: HostRuntime) -> Result<(), Fail> {
+    let alloc = rt.alloc();
+    let mut stage = Cleave::new(alloc, 2, with_dashes(alloc)?);
     assert_eq!(rt; stage.state(), State::Wants);
     assert_eq!(rt; stage.held(), 0);
     assert!(rt; stage.take()?.is_none());

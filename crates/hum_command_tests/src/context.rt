@@ -1,87 +1,136 @@
-//! The command context, call by call.
-ghost use Rattle.std.specs.Prelude.{◌≡◌, ◌+◌, ◌≤◌, OnOk};
-ghost use Rattle.hum_context.specs.Fed.{Fed};
+//! The command context, record by record.
+ghost use Rattle.std.specs.Prelude.{◌≤◌};
 
 use crate::scores::read;
 use hum_context::{Context, ContextOptions, Span, TokenCount};
 use hum_path::Paths;
 use hum_pattern::Pattern;
-use hum_record::Record;
 use hum_stage::{Stage, State};
 use std::alloc::Global;
+use std::marker::Model;
 use std::process::Abort;
 use std::test::Fail;
 
-// So many tokens, without those that match a pattern.
-fn so_many(alloc: Global, number: u16, omit: Option<&str>) -> Result<ContextOptions, Fail>
-    requires { (1 ≤ number) × (number ≤ 4096) }
-{
-    let omit = match omit {
-        None => None,
-        Some(text) => Some(Pattern::new(alloc, text)?),
-    };
-    Ok(ContextOptions {
-        span: Span::Number(TokenCount { number }),
-        omit,
-    })
+// A stage that is fed record by record, and the spines of the score so far.
+#[derive(Drop)]
+struct Feeding {
+    alloc: Global,
+    paths: Paths,
+    stage: Context,
+    count: u32,
 }
 
-// Puts a record into a stage that wants one, after so many others.
-fn put(
+impl Model for Feeding {
+    ghost use Rattle.std.specs.Prelude.{⊤};
+    ghost use Rattle.hum_context.specs.Fed.{Fed};
+
+    ghost Value = { ⊤ };
+
+    ghost view = { λ f. tt };
+
+    ghost invariant = { λ f. Fed (⟦<Context as Stage>⟧.stands f.stage) f.paths.path f.count };
+}
+
+impl Feeding {
+    fn new(alloc: Global, options: ContextOptions) -> Feeding {
+        let paths = Paths::new(alloc);
+        let stage = Context::new(alloc, 1, options);
+        Feeding {
+            alloc,
+            paths,
+            stage,
+            count: 0,
+        }
+    }
+
+    // One record more.
+    fn put(self, rt: &impl Abort, text: &[u8]) -> Result<Feeding, Fail> {
+        let row = read(rt, self.alloc, text)?;
+        let Feeding {
+            alloc,
+            mut paths,
+            mut stage,
+            count,
+        } = self;
+        let State::Wants = stage.state() else {
+            panic!(rt; "the stage doesn't want a record")
+        };
+        assert!(rt; count <= 100);
+        paths.step(&row)?;
+        stage.put(row)?;
+        Ok(Feeding {
+            alloc,
+            paths,
+            stage,
+            count: count + 1,
+        })
+    }
+
+    // What is given has this text.
+    fn take(self, rt: &impl Abort, want: &[u8]) -> Result<Feeding, Fail> {
+        let Feeding {
+            alloc,
+            paths,
+            mut stage,
+            count,
+        } = self;
+        let Some(row) = stage.take()? else {
+            panic!(rt; "nothing is given")
+        };
+        assert_eq!(rt; row.text(), want);
+        Ok(Feeding {
+            alloc,
+            paths,
+            stage,
+            count,
+        })
+    }
+}
+
+/// A line that is put, what is given then, and how many records are held behind that.
+type Step = (&'static [u8], &'static [&'static [u8]], usize);
+
+fn check(
     rt: &impl Abort,
-    paths: &mut Paths,
-    stage: &mut Context,
-    count: u32,
-    row: Record,
-) -> Result<(), Fail>
-    requires fed { Fed (⟦<Context as Stage>⟧.stands stage.old) paths.old.path count }
-    requires few { count ≤ 100 }
-    ensures { OnOk result (Fed (⟦<Context as Stage>⟧.stands stage.new) paths.new.path (count + 1)) }
-{
-    let State::Wants = stage.state() else {
-        panic!(rt; "the stage doesn't want a record")
-    };
-    paths.step(&row)?;
-    stage.put(row)?;
+    alloc: Global,
+    options: ContextOptions,
+    steps: &[Step],
+) -> Result<(), Fail> {
+    let mut feeding = Feeding::new(alloc, options);
+    for step in steps {
+        let (line, given, held) = *step;
+        feeding = feeding.put(rt, line)?;
+        for text in given {
+            assert_eq!(rt; feeding.stage.state(), State::Gives);
+            feeding = feeding.take(rt, *text)?;
+        }
+        assert_eq!(rt; feeding.stage.state(), State::Wants);
+        assert_eq!(rt; feeding.stage.held(), held);
+    }
     Ok(())
 }
 
-// Takes a record from a stage that gives one.
-fn take(rt: &impl Abort, stage: &mut Context, path: &Paths, count: u32) -> Result<Record, Fail>
-    requires { Fed (⟦<Context as Stage>⟧.stands stage.old) path.now.path count }
-    ensures { OnOk result (Fed (⟦<Context as Stage>⟧.stands stage.new) path.now.path count) }
+// So many tokens, without those that match a pattern.
+fn so_many(alloc: Global, number: u16, omit: &str) -> Result<ContextOptions, Fail>
+    requires { (1 ≤ number) × (number ≤ 4096) }
 {
-    let Some(row) = stage.take()? else {
-        panic!(rt; "nothing is given")
-    };
-    Ok(row)
+    Ok(ContextOptions {
+        span: Span::Number(TokenCount { number }),
+        omit: Some(Pattern::new(alloc, omit)?),
+    })
 }
 
 #[test]
 fn gives_a_context_once_it_is_decided(rt: HostRuntime) -> Result<(), Fail> {
     let alloc = rt.alloc();
-    let mut paths = Paths::new(alloc);
-    let mut stage = Context::new(alloc, 1, so_many(alloc, 2, Some("^="))?);
-    let row = read(&rt, alloc, b"**x")?;
-    put(&rt, &mut paths, &mut stage, 0, row)?;
-    assert_eq!(rt; take(&rt, &mut stage, &paths, 1)?.width(), 1);
-    let row = read(&rt, alloc, b"a")?;
-    put(&rt, &mut paths, &mut stage, 1, row)?;
-    assert_eq!(rt; stage.state(), State::Wants);
-    assert_eq!(rt; stage.held(), 1);
-    let row = read(&rt, alloc, b"=1")?;
-    put(&rt, &mut paths, &mut stage, 2, row)?;
-    let row = read(&rt, alloc, b".")?;
-    put(&rt, &mut paths, &mut stage, 3, row)?;
-    assert_eq!(rt; stage.held(), 3);
-    let row = read(&rt, alloc, b"b")?;
-    put(&rt, &mut paths, &mut stage, 4, row)?;
-    assert_eq!(rt; stage.state(), State::Gives);
-    assert_eq!(rt; stage.held(), 4);
-    let given = take(&rt, &mut stage, &paths, 5)?;
-    assert_eq!(rt; given.text(), b"a b".as_slice());
-    assert_eq!(rt; stage.held(), 3);
-    Ok(())
+    let steps: [Step; 5] = [
+        (b"**x", &[b"**x"], 0),
+        (b"a", &[], 1),
+        (b"=1", &[], 2),
+        (b".", &[], 3),
+        (b"b", &[b"a b", b"=1", b"."], 1),
+    ];
+    check(&rt, alloc, so_many(alloc, 2, "^=")?, &steps)
 }
 
 // From a token that begins a group through the one that ends it.
@@ -95,33 +144,27 @@ fn groups(alloc: Global) -> Result<ContextOptions, Fail> {
 #[test]
 fn follows_a_group_through_a_split_an_exchange_and_a_join(rt: HostRuntime) -> Result<(), Fail> {
     let alloc = rt.alloc();
-    let mut paths = Paths::new(alloc);
-    let mut stage = Context::new(alloc, 1, groups(alloc)?);
-    let row = read(&rt, alloc, b"**x\t**x")?;
-    put(&rt, &mut paths, &mut stage, 0, row)?;
-    assert_eq!(rt; take(&rt, &mut stage, &paths, 1)?.width(), 2);
-    let row = read(&rt, alloc, b"{a\tb")?;
-    put(&rt, &mut paths, &mut stage, 1, row)?;
-    let row = read(&rt, alloc, b"*^\t*")?;
-    put(&rt, &mut paths, &mut stage, 2, row)?;
-    let row = read(&rt, alloc, b"c\t{d\te")?;
-    put(&rt, &mut paths, &mut stage, 3, row)?;
-    let row = read(&rt, alloc, b"*x\t*x\t*")?;
-    put(&rt, &mut paths, &mut stage, 4, row)?;
-    let row = read(&rt, alloc, b"f\tg\th")?;
-    put(&rt, &mut paths, &mut stage, 5, row)?;
-    let row = read(&rt, alloc, b"*v\t*v\t*")?;
-    put(&rt, &mut paths, &mut stage, 6, row)?;
-    assert_eq!(rt; stage.held(), 6);
-    let row = read(&rt, alloc, b"i}\tj")?;
-    put(&rt, &mut paths, &mut stage, 7, row)?;
-    let given = take(&rt, &mut stage, &paths, 8)?;
-    assert_eq!(rt; given.text(), b"{a c g i}\t.".as_slice());
-    assert_eq!(rt; take(&rt, &mut stage, &paths, 8)?.width(), 2);
-    let given = take(&rt, &mut stage, &paths, 8)?;
-    assert_eq!(rt; given.text(), b".\t{d f i}\t.".as_slice());
-    assert_eq!(rt; take(&rt, &mut stage, &paths, 8)?.width(), 3);
-    let given = take(&rt, &mut stage, &paths, 8)?;
-    assert_eq!(rt; given.text(), b".\t.\t.".as_slice());
-    Ok(())
+    let steps: [Step; 8] = [
+        (b"**x\t**x", &[b"**x\t**x"], 0),
+        (b"{a\tb", &[], 1),
+        (b"*^\t*", &[], 2),
+        (b"c\t{d\te", &[], 3),
+        (b"*x\t*x\t*", &[], 4),
+        (b"f\tg\th", &[], 5),
+        (b"*v\t*v\t*", &[], 6),
+        (
+            b"i}\tj",
+            &[
+                b"{a c g i}\t.",
+                b"*^\t*",
+                b".\t{d f i}\t.",
+                b"*x\t*x\t*",
+                b".\t.\t.",
+                b"*v\t*v\t*",
+                b".\t.",
+            ],
+            0,
+        ),
+    ];
+    check(&rt, alloc, groups(alloc)?, &steps)
 }

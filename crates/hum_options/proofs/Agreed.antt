@@ -1,6 +1,5 @@
 -- Words that give options are answered otherwise by N12 alone.
-use Rattle.std.proofs.Common.{◌≡◌, ℕ, Bool, true, false, List, [], ◌∷◌, Option, None, Some, Ok, Err, ◌⊎◌, inl, inr, refl, sym, subst, ◌∙◌}
-use Rattle.std.specs.Prelude.{MatchBool}
+use Rattle.std.proofs.Common.{◌≡◌, ℕ, Bool, List, [], ◌∷◌, Option, None, Some, Ok, Err, inl, inr, refl, sym, subst, ◌∙◌}
 use Rattle.hum_path.proofs.Cases.{by_bool}
 use Rattle.hum_stage.specs.declared.faults.Command.{Command}
 use Rattle.hum_options.specs.declared.options.CommandOption.{CommandOption}

@@ -14,7 +14,7 @@ use hum_values::{
 use std::alloc::{AllocError, Global};
 
 /// Why a text is no value of a kind.
-#[derive(Clone, Copy, Debug, PartialEq, Eq)]
+#[derive(Clone, Copy)]
 pub(crate) enum ValueError {
     /// It isn't of the kind's grammar.
     Grammar,

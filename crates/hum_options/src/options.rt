@@ -7,7 +7,7 @@ ghost use Rattle.hum_options.specs.Answers.{is_alone};
 use hum_stage::Command;
 
 /// What an option's value is.
-#[derive(Clone, Copy, Debug, PartialEq, Eq)]
+#[derive(Clone, Copy)]
 pub(crate) enum Kind {
     /// the option stands alone
     Alone,
@@ -36,7 +36,7 @@ pub(crate) enum Kind {
 }
 
 /// An option of a command.
-#[derive(Clone, Copy, Debug, PartialEq, Eq)]
+#[derive(Clone, Copy)]
 pub(crate) struct CommandOption {
     pub(crate) letter: u8,
     pub(crate) kind: Kind,
