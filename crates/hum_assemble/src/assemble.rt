@@ -14,10 +14,11 @@ ghost use Rattle.hum_assemble.specs.Meaning.{all_of, output, GivesOneAsItIs};
 ghost use Rattle.hum_assemble.specs.Standing.{Stands, HoldOneEach, state_by, wants_by};
 ghost use Rattle.hum_assemble.specs.Groups.{GivesByGroups, IsTakenByGroups};
 
+use crate::done::Done;
 use crate::places::Next;
 use crate::round::{ahead, give};
 use crate::source_head::SourceHead;
-use hum_record::{Record, Spare};
+use hum_record::Record;
 use hum_stage::{Command, End, Fault, Rule, State};
 use std::alloc::{AllocError, Global};
 use std::marker::Model;
@@ -32,8 +33,8 @@ pub struct Assemble {
     sources: Vec<SourceHead>,
     given: u64,
     next: Next,
-    // the record that was done with last
-    spare: Spare,
+    // records of the sources that were done with
+    done: Done,
     spent: bool,
 }
 
@@ -46,7 +47,7 @@ impl Drop for Assemble {
             sources: _sources,
             given: _,
             next: _,
-            spare: _spare,
+            done: _done,
             spent: _,
         } = self;
     }
@@ -213,7 +214,7 @@ impl Assemble {
             sources: heads,
             given: 0,
             next,
-            spare: Spare::none(alloc),
+            done: Done::with_room(alloc, sources)?,
             spent: false,
         })
     }
@@ -273,11 +274,18 @@ impl Assemble {
             return Ok(None);
         };
         self.spent = true;
-        let row = give(self.alloc, &mut self.sources, place, &mut self.spare)?;
+        let row = give(self.alloc, &mut self.sources, place, &mut self.done)?;
         self.given += 1;
         self.next = ahead(&self.sources, self.given);
         self.spent = false;
         Ok(Some(row))
+    }
+
+    /// Hands out a record that was put and is done with, if there is one: another can be made in it.
+    pub fn done_with(&mut self) -> Option<Record>
+        ensures { self.new ≡ self.old }
+    {
+        self.done.take()
     }
 
     /// What it is ready for: it gives while it has records that are settled, then wants until

@@ -6,6 +6,7 @@
 #![tactic(auto)]
 
 mod assemble;
+mod done;
 mod places;
 mod placing;
 mod round;

@@ -13,6 +13,7 @@ ghost use Rattle.hum_assemble.specs.Merge.{ahead, ahead_of, ahead_at, given_row,
 ghost use Rattle.hum_assemble.specs.Taking.{row_taken, bytes_given, parts_given};
 ghost use Rattle.hum_assemble.specs.Taking.{IsGiving, IsAlone};
 
+use crate::done::Done;
 use crate::places::{Next, Place};
 use crate::source_head::SourceHead;
 use hum_record::{Record, RecordBuilder, Spare, SpinedKind};
@@ -243,9 +244,24 @@ fn push_parts(
     Ok(())
 }
 
+/// A record more is given, and the one before it is done with.
+fn hand_on(given: &mut Option<Record>, row: Record, done: &mut Done)
+    ensures { given.new ≡ Some row }
+{
+    if let Some(before) = given.take() {
+        done.keep(before);
+    }
+    *given = Some(row);
+}
+
 /// Lets the sources go on by the records at this place, and answers the one that was given last.
 /// The others are done with.
-fn go_on(sources: &mut [SourceHead], going: bool, p: Place) -> Result<Option<Record>, AllocError>
+fn go_on(
+    sources: &mut [SourceHead],
+    going: bool,
+    p: Place,
+    done: &mut Done,
+) -> Result<Option<Record>, AllocError>
     ensures moved { OnOk result (sources.new ≡ all_moved true going p sources.old) }
     ensures row { IfOk result (λ o. o ≡ row_taken None true going p sources.old) }
 {
@@ -255,34 +271,48 @@ fn go_on(sources: &mut [SourceHead], going: bool, p: Place) -> Result<Option<Rec
         let taken = source.takes(free, going, p);
         free = still_free(source, free, going, p);
         if let Some(row) = source.go_on(taken, going, p)? {
-            given = Some(row);
+            hand_on(&mut given, row, done);
         }
     }
     Ok(given)
 }
 
 /// Gives the one record that stands at this place.
-fn give_alone(sources: &mut [SourceHead], going: bool, p: Place) -> Result<Record, AllocError>
+fn give_alone(
+    sources: &mut [SourceHead],
+    going: bool,
+    p: Place,
+    done: &mut Done,
+) -> Result<Record, AllocError>
     requires giving { IsGiving going p sources.old }
     requires lawful { AllLawful sources.old }
     requires alone { IsAlone going p sources.old }
     ensures row { IfOk result (λ row. row ≡ made going p sources.old) }
     ensures sources { OnOk result (sources.new ≡ all_moved true going p sources.old) }
 {
-    let Some(row) = go_on(sources, going, p)? else {
+    let Some(row) = go_on(sources, going, p, done)? else {
         unreachable!()
     };
     Ok(row)
 }
 
-/// Gives one record of the records at this place, in the buffers of one that is done with.
+/// The buffers of a record that was done with, if there is one.
+fn spare_of(alloc: Global, done: &mut Done) -> Spare {
+    let mut spare = Spare::none(alloc);
+    if let Some(row) = done.take() {
+        spare.keep(row);
+    }
+    spare
+}
+
+/// Gives one record of the records at this place, in the buffers of one that was done with.
 fn give_side_by_side(
     alloc: Global,
     kind: SpinedKind,
     sources: &mut [SourceHead],
     going: bool,
     p: Place,
-    spare: &mut Spare,
+    done: &mut Done,
 ) -> Result<Record, AllocError>
     requires kind { kind_at p ≡ Some kind }
     requires giving { IsGiving going p sources.old }
@@ -291,11 +321,12 @@ fn give_side_by_side(
     ensures row { IfOk result (λ row. row ≡ made going p sources.old) }
     ensures sources { OnOk result (sources.new ≡ all_moved true going p sources.old) }
 {
-    let mut builder = RecordBuilder::reusing(alloc, kind, spare);
+    let mut spare = spare_of(alloc, done);
+    let mut builder = RecordBuilder::reusing(alloc, kind, &mut spare);
     push_parts(sources, going, p, &mut builder)?;
     let row = builder.finish();
-    if let Some(last) = go_on(sources, going, p)? {
-        spare.keep(last);
+    if let Some(last) = go_on(sources, going, p, done)? {
+        done.keep(last);
     }
     Ok(row)
 }
@@ -306,7 +337,7 @@ fn give_at(
     sources: &mut [SourceHead],
     going: bool,
     p: Place,
-    spare: &mut Spare,
+    done: &mut Done,
 ) -> Result<Record, AllocError>
     requires giving { IsGiving going p sources.old }
     requires lawful { AllLawful sources.old }
@@ -315,12 +346,12 @@ fn give_at(
     ensures sources { OnOk result (sources.new ≡ all_moved true going p sources.old) }
 {
     match p.kind() {
-        None => give_alone(sources, going, p),
+        None => give_alone(sources, going, p, done),
         Some(kind) => {
             if are_few_parts(sources, true, going, p, 1) {
-                give_alone(sources, going, p)
+                give_alone(sources, going, p, done)
             } else {
-                give_side_by_side(alloc, kind, sources, going, p, spare)
+                give_side_by_side(alloc, kind, sources, going, p, done)
             }
         }
     }
@@ -331,7 +362,7 @@ pub fn give(
     alloc: Global,
     sources: &mut [SourceHead],
     p: Place,
-    spare: &mut Spare,
+    done: &mut Done,
 ) -> Result<Record, AllocError>
     requires ahead { (given : ℕ)
         × (ahead (record { sources = sources.old; given = given }) ≡ Next.Gives p) }
@@ -344,6 +375,6 @@ pub fn give(
     ensures lawful { OnOk result (AllLawful sources.new) }
 {
     let going = any_due(sources);
-    let row = give_at(alloc, sources, going, p, spare)?;
+    let row = give_at(alloc, sources, going, p, done)?;
     Ok(row)
 }

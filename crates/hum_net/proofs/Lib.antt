@@ -12,5 +12,7 @@ pub mod Sending
 pub mod Reusing
 pub mod Netting
 pub mod Bounds
+pub mod Flags
+pub mod Leftmost
 pub mod Running
 pub mod Beginning

@@ -1,10 +1,11 @@
 -- A record that goes back to a source changes nothing that a net stands for.
 use Rattle.std.proofs.Common.{◌≡◌, ◌≢◌, ◌∙◌, ℕ, Bool, false, List, [], Option, None, Some, length, refl, sym}
 use Rattle.std.proofs.Common.{ap, subst, ⊎_elim, slice_get, slice_set, length-set}
-use Rattle.std.proofs.lemmas.Bool.{cases_eq}
+use Rattle.std.proofs.lemmas.Bool.{cases_eq, false≢true}
 use Rattle.hum_nodes.specs.At.{At}
 use Rattle.hum_nodes.specs.declared.either.Node.{Node}
-use Rattle.hum_nodes.specs.Nodes.{remaining_of, ended_of, calls_of, failed_of}
+use Rattle.hum_nodes.specs.declared.either.Node.TheVariants as node
+use Rattle.hum_nodes.specs.Nodes.{is_source, remaining_of, ended_of, calls_of, failed_of}
 use Rattle.hum_nodes.specs.Polls.{IsKept, HasRead}
 use Rattle.hum_nodes.proofs.Followed.{read_none}
 use Rattle.hum_net.specs.declared.web.Web.{Web}
@@ -52,6 +53,34 @@ module _ {F W : Type 0} (remaining : F → Option (List ℕ)) (ended : F → Boo
         }))
         (λ (o : i ≢ k). shows_alike nodes (slice_set nodes k after) i (set_other nodes k after i o))
         (cases_eq i k)
+
+  pub shows_more : (a b c : List (Node F W)) (i : ℕ) → ShowsSame remaining ended calls failed a b i
+      → ShowsSame remaining ended calls failed b c i → ShowsSame remaining ended calls failed a c i
+  shows_more a b c i h k = record {
+    remains = k.remains ∙ h.remains;
+    ends = k.ends ∙ h.ends;
+    calls_made = k.calls_made ∙ h.calls_made;
+    mark = k.mark ∙ h.mark;
+  }
+
+  -- a stage that isn't a source shows nothing of a reader
+  silent : {A : Type 0} (f : Node F W → A) → ((v w : W) → f (node.Stage v) ≡ f (node.Stage w))
+      → (before after : Node F W) → is_source before ≡ false → is_source after ≡ false → f after ≡ f before
+  silent f alike (node.Source x) after h k = absurd (false≢true (sym h))
+  silent f alike (node.Stage v) (node.Source x) h k = absurd (false≢true (sym k))
+  silent f alike (node.Stage v) (node.Stage w) h k = alike w v
+
+  pub silent_shows : (nodes : List (Node F W)) (k : ℕ) (before after : Node F W)
+      → slice_get nodes k ≡ Some before → is_source before ≡ false → is_source after ≡ false
+      → (i : ℕ) → ShowsSame remaining ended calls failed nodes (slice_set nodes k after) i
+  silent_shows nodes k before after was h g =
+      reused_shows nodes k before after was (
+        silent (remaining_of remaining) (λ v w. refl) before after h g,
+        silent (ended_of ended) (λ v w. refl) before after h g,
+      ) (
+        silent (calls_of calls) (λ v w. refl) before after h g,
+        silent (failed_of failed) (λ v w. refl) before after h g,
+      )
 
   -- no byte was read
   pub shows_read : (k : ℕ) (old new : List (Node F W)) (i : ℕ)

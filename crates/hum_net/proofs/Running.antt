@@ -16,7 +16,7 @@ use Rattle.hum_turns.specs.declared.result.RunResult.TheVariants as ends
 use Rattle.hum_turns.specs.Plan.{last, KeepsFine}
 use Rattle.hum_turns.specs.Meaning.{IsNumbered, first_fault}
 use Rattle.hum_turns.specs.Failures.{Now, HoldsNow, IsFailure, ended_by, result, result_of, written, is_ready}
-use Rattle.hum_turns.specs.Orders.{Order, upto, some_true, ready_list, chosen, Driven}
+use Rattle.hum_turns.specs.Orders.{Order, upto, some_true, ready_list, chosen, Driven, IsLeftmost}
 use Rattle.hum_turns.proofs.Writing.{every_turn, still}
 use Rattle.std.specs.Prelude.{is_some}
 use Rattle.hum_turns.specs.Counts.{most_in_all}
@@ -35,36 +35,34 @@ use Rattle.hum_net.specs.Nets.{Outcome, WroteFront, WroteAll, IsNet, Tells, HasR
 use Rattle.hum_nodes.specs.declared.either.Node.TheVariants as node
 use Rattle.hum_nodes.specs.Nodes.{StandsAs, remaining_of}
 use Rattle.hum_net.specs.Readers.{or_none}
-use Rattle.std.proofs.Common.{slice_get, ◌≢◌, ◌&&◌, is_none, length-append, length-set, get_or-set_same, get_or-set_other}
+use Rattle.std.proofs.Common.{slice_get, ◌≢◌}
 use Rattle.std.specs.Prelude.{IfSome}
-use Rattle.std.specs.List.{AllByRecursion}
-use Rattle.std.proofs.lemmas.Bool.{cases_eq}
-use Rattle.hum_turns.specs.Plan.{IsPlan}
-use Rattle.hum_turns.specs.Links.{Moment}
-use Rattle.hum_turns.specs.Turns.{State, Gives, Reads, Takes, Ends, state, ready, Step}
-use Rattle.hum_turns.specs.Near.{IsOneOf, LooksAt, touched}
-use Rattle.hum_turns.proofs.Near.{ready_untouched}
+use Rattle.hum_turns.specs.Turns.{state}
+use Rattle.hum_turns.specs.Near.{touched}
 use Rattle.hum_turns.proofs.Against.{meaning_fine}
 use Rattle.hum_turns.specs.Meaning.{plan_meaning}
 use Rattle.hum_nodes.specs.Fine.{fine, IsFine}
 use Rattle.hum_nodes.proofs.Fining.{fine_is}
-use Rattle.hum_turns.proofs.States.{taker, last_next}
-use Rattle.hum_turns.specs.Failures.{Turn}
-use Rattle.hum_net.specs.Scene.{TakesFrom, IsNetPlan, IsActor, moved}
-use Rattle.hum_net.specs.Nets.{Known, asked, AreAmong, GoesTo, IsChanged}
+use Rattle.hum_net.specs.Scene.{TakesFrom, IsActor, moved}
+use Rattle.hum_net.specs.Nets.{Known, asked, AreAmong, GoesTo, IsChanged, Sees, HasPicked}
+use Rattle.hum_net.proofs.Flags.{took, touched_below, as_listed}
+use Rattle.hum_net.proofs.Leftmost.{leftmost_choice, left_as_ready, left_of_first}
 use Rattle.hum_net.proofs.Netting.{is_at, unfailed_now}
 
--- While a run goes on, its flags say who is ready, and what is known of readers is so.
-pub record Listed {F W S : Type 0} (s : Scene) (now : Now Row) (net : Net F W S) : Type 0 where
-  pub flags : result (plan_of s) now ≡ None
-      → net.actors.items ≡ ready_list (plan_of s) s.size now
-  pub known : result (plan_of s) now ≡ None → (t r : ℕ)
+-- While a run goes on, the actor whose turn is next can be told: its flags say who is ready, and what is
+-- known of readers is so, or, where the order is a leftmost one, nobody to the left of one is ready.
+pub record Listed {F W S : Type 0} (leftmost : Bool) (from : ℕ) (s : Scene) (now : Now Row)
+    (net : Net F W S) : Type 0 where
+  pub sees : result (plan_of s) now ≡ None → Sees leftmost from s now net
+  pub within : result (plan_of s) now ≡ None → from ≤ s.count
+  pub known : leftmost ≡ false → result (plan_of s) now ≡ None → (t r : ℕ)
       → slice_get net.readers.items t ≡ Some (Some r) → TakesFrom s.count s.kinds r t
 
 -- What the turns so far have led to, however the bytes go on.
 pub record Ran {F W S O : Type 0} (stands : Node F W → List ℕ → At → Type 0)
     (remaining : F → Option (List ℕ)) (ended : F → Bool) (contents : S → Option (List ℕ))
-    (flushed : S → Bool) (order : Order O) (o p : O) (old new : Net F W S) : Type 0 where
+    (flushed : S → Bool) (order : Order O) (leftmost : Bool) (from : ℕ) (o p : O) (old new : Net F W S)
+    : Type 0 where
   pub reads : ℕ → List ℕ
   pub read : (i : ℕ)
       → HasRead (ended_at ended i old.web.nodes.items) (ended_at ended i new.web.nodes.items)
@@ -73,7 +71,7 @@ pub record Ran {F W S O : Type 0} (stands : Node F W → List ℕ → At → Typ
   pub leads : (start : Option (List ℕ)) (s : Scene) (now : Now Row)
       → AreOver ended new.web.nodes.items s.rests
       → NetAt stands contents flushed start (before_all reads s) old now
-      → (d : Leads stands contents flushed order o p start s now new) × Listed s d.to new
+      → (d : Leads stands contents flushed order o p start s now new) × Listed leftmost from s d.to new
 
 -- flags alone, or readers alone
 pub flags_alone : {F W S : Type 0} (a b : Net F W S) → a ≡ record b { actors = a.actors }
@@ -232,143 +230,11 @@ told_write None (Some Closed) r e = ap is_write e
 told_write None (Some (Broken f)) r e = ap is_write e
 told_write None None r e = absurd (none-some r e)
 
--- The flags, once the two ends of a link were asked again.
-
-length_flags : (f : ℕ → Bool) (n : ℕ) → length (map f (upto n)) ≡ n
-length_flags f zero = refl
-length_flags f (suc n) =
-    let a = length_flags f n in
-    let b = ap length (map-append f (upto n) (n ∷ [])) in
-    let c = length-append (map f (upto n)) (f n ∷ []) in
-    omega (arith, a, b, c)
-
--- two lists of flags that are alike at each place
-same_flags : (xs ys : List Bool) → length xs ≡ length ys
-    → ((j : ℕ) → j < length xs → get_or xs j false ≡ get_or ys j false) → xs ≡ ys
-same_flags [] [] n h = refl
-same_flags [] (y ∷ ys) n h = absurd (omega (arith, n))
-same_flags (x ∷ xs) [] n h = absurd (omega (arith, n))
-same_flags (x ∷ xs) (y ∷ ys) n h =
-    let first : x ≡ y = h 0 (omega arith) in
-    ap (λ b. b ∷ xs) first
-    ∙ ap (λ l. y ∷ l) (same_flags xs ys (omega (arith, n)) (λ j less. h (suc j) (omega (arith, less))))
-
-two_set : (f g : ℕ → Bool) (n k r : ℕ) → ((j : ℕ) → j < n → j ≢ k → j ≢ r → g j ≡ f j)
-    → slice_set (slice_set (map f (upto n)) k (g k)) r (g r) ≡ map g (upto n)
-two_set f g n k r h =
-    let xs = map f (upto n) in
-    let ys = slice_set xs k (g k) in
-    let a = length-set xs k (g k) in
-    let b = length-set ys r (g r) in
-    let c = length_flags f n in
-    let d = length_flags g n in
-    same_flags (slice_set ys r (g r)) (map g (upto n)) (omega (arith, a, b, c, d))
-    (λ j less.
-    let within : j < n = omega (arith, less, a, b, c) in
-    ⊎_elim
-    (λ (is : j ≡ r).
-    let at : r < length ys = omega (arith, is, less, a, b, c) in
-    ap (λ i. get_or (slice_set ys r (g r)) i false) is ∙ get_or-set_same ys r (g r) false at
-    ∙ sym (entry g n r (omega (arith, is, within))) ∙ ap (λ i. get_or (map g (upto n)) i false) (sym is))
-    (λ (o : j ≢ r). get_or-set_other ys r j (g r) false o ∙ ⊎_elim
-    (λ (is : j ≡ k).
-    let at : k < length xs = omega (arith, is, within, c) in
-    ap (λ i. get_or ys i false) is ∙ get_or-set_same xs k (g k) false at
-    ∙ sym (entry g n k (omega (arith, is, within))) ∙ ap (λ i. get_or (map g (upto n)) i false) (sym is))
-    (λ (p : j ≢ k). get_or-set_other xs k j (g k) false p ∙ entry f n j within ∙ sym (h j within p o)
-    ∙ sym (entry g n j within))
-    (cases_eq j k))
-    (cases_eq j r))
-
--- Who takes from a link, and which links there are.
-
-index_all : (P : ℕ → Type 0) (ss : List ℕ) (place t : ℕ) → AllByRecursion P ss
-    → slice_get ss place ≡ Some t → P t
-index_all P [] place t h e = absurd (none-some t e)
-index_all P (x ∷ ss) zero t h e = subst P (same_Some x t e) h.0
-index_all P (x ∷ ss) (suc place) t h e = index_all P ss place t h.1 e
-
-module _ (s : Scene) (ok : IsPlan (plan_of s)) (k link : ℕ) (m : Moment Row) (within : k ≤ s.count)
-    (link_is : link ≡ touched k (state (plan_of s) m k)) where
-  by_state : (st : State) → state (plan_of s) m k ≡ st → link ≡ touched k st → k ≢ link
-      → TakesFrom s.count s.kinds k link
-  by_state Gives e is apart = absurd (apart (sym is))
-  by_state Reads e is apart = absurd (apart (sym is))
-  by_state Ends e is apart = absurd (apart (sym is))
-  by_state (Takes t) e is apart = ⊎_elim
-      (λ w. inl (w.0, (w.1.place, w.1.is_there ∙ ap Some (sym is))))
-      (λ w. let p = w.0 in inr (omega (arith, p, within), is ∙ w.1))
-      (taker (plan_of s) ok m k t e)
-
-  pub took : k ≢ link → TakesFrom s.count s.kinds k link
-  took = by_state (state (plan_of s) m k) refl link_is
-
-  pub touched_within : link ≤ s.count
-  touched_within = ⊎_elim
-      (λ (is : k ≡ link). omega (arith, is, within))
-      (λ (apart : k ≢ link). ⊎_elim
-      (λ t. let b = index_all (λ i. i < k) (s.kinds k).stage.sources t.1.0 link (ok.below k t.0) t.1.1 in
-      omega (arith, b, within))
-      (λ t. let e = t.1 in let top = last_next s.count ok.some in omega (arith, e, top))
-      (took apart))
-      (cases_eq k link)
-
--- Whoever doesn't look at the link that a turn has changed is as ready as before.
-module _ (s : Scene) (plan : IsNetPlan s.count s.kinds s.size) (k link : ℕ) (old new : Now Row)
-    (turn : Turn (plan_of s) s.size text_of k old new) (none : result (plan_of s) new ≡ None)
-    (going : result (plan_of s) old ≡ None)
-    (link_is : link ≡ touched k (state (plan_of s) old.links k)) where
-  moves : Step (plan_of s) s.size k old.links new.links
-  moves = ⊎_elim (λ m. m.step)
-      (λ f. absurd (failed new.failure (new.links (last (plan_of s))).heard f.by f.failure none))
-      turn.turns
-    where
-      failed : (f : Option RunResult) (o : Option End) (by : RunResult) → f ≡ Some by
-          → ended_by f o ≡ None → ⊥
-      failed None o by e n = none-some by e
-      failed (Some x) o by e n = none-some x (sym n)
-
-  below_last : (j t : ℕ) → j < s.count → IsOneOf (s.kinds j).stage.sources t → t + 1 < s.count
-  below_last j t less one =
-      let b = index_all (λ i. i < j) (s.kinds j).stage.sources one.0 t (plan.ok.below j less) one.1 in
-      omega (arith, b, less)
-
-  pub as_ready : (r : ℕ) → TakesFrom s.count s.kinds r link → (j : ℕ) → j < s.count + 1
-      → j ≢ link → j ≢ r
-      → is_ready (plan_of s) s.size new j ≡ is_ready (plan_of s) s.size old j
-  as_ready r takes j within apart other =
-      let top = last_next s.count plan.ok.some in
-      let far : LooksAt (plan_of s) j link → ⊥ = λ looks. ⊎_elim
-      (λ w. ⊎_elim
-      (λ (own : link ≡ j). apart (sym own))
-      (λ (one : IsOneOf (s.kinds j).stage.sources link). ⊎_elim
-      (λ t. other (plan.tree j one.0 r t.1.0 link w.0 t.0 one.1 t.1.1).0)
-      (λ t. let b = below_last j link w.0 one in let e = t.1 in absurd (omega (arith, b, e, top)))
-      takes)
-      w.1)
-      (λ w. ⊎_elim
-      (λ t. let b = below_last r link t.0 t.1 in let e = w.1 in absurd (omega (arith, b, e, top)))
-      (λ t. let p = w.0 in let e = t.0 in absurd (other (omega (arith, p, e, within))))
-      takes)
-      looks in
-      let same = ready_untouched (plan_of s) plan.ok s.size k old.links new.links moves j
-      (subst (λ i. LooksAt (plan_of s) j i → ⊥) link_is far) in
-      ap (λ o. is_none o && ready (plan_of s) s.size new.links j) none
-      ∙ same ∙ sym (ap (λ o. is_none o && ready (plan_of s) s.size old.links j) going)
-
-  pub as_listed : (who : Option ℕ) → IfSome who (λ r. TakesFrom s.count s.kinds r link)
-      → asked (is_ready (plan_of s) s.size new) s.count (ready_list (plan_of s) s.size old) link who
-      ≡ ready_list (plan_of s) s.size new
-  as_listed None t = refl
-  as_listed (Some r) t =
-      two_set (is_ready (plan_of s) s.size old) (is_ready (plan_of s) s.size new) (s.count + 1) link r
-      (as_ready r t)
-
 -- The turns of a run.
 
 module _ {F W S O : Type 0} (stands : Node F W → List ℕ → At → Type 0)
     (remaining : F → Option (List ℕ)) (ended : F → Bool) (contents : S → Option (List ℕ))
-    (flushed : S → Bool) (order : Order O) where
+    (flushed : S → Bool) (order : Order O) (leftmost : Bool) where
   pub ran_none : (o : O) (old new : Net F W S)
       → new ≡ record old { actors = new.actors; readers = new.readers }
       → length new.actors.items ≡ length old.actors.items
@@ -376,7 +242,7 @@ module _ {F W S O : Type 0} (stands : Node F W → List ℕ → At → Type 0)
       → NetAt stands contents flushed start s old now → result (plan_of s) now ≡ None
       → (new.actors.items ≡ ready_list (plan_of s) s.size now)
       × ((t r : ℕ) → slice_get new.readers.items t ≢ Some (Some r)))
-      → Ran stands remaining ended contents flushed order o o old new
+      → Ran stands remaining ended contents flushed order leftmost 0 o o old new
   ran_none o old new same len list = record {
     reads = λ i. [];
     read = λ i.
@@ -393,8 +259,12 @@ module _ {F W S O : Type 0} (stands : Node F W → List ℕ → At → Type 0)
         at = relisted stands contents flushed start s old new now same len h;
       },
       record {
-        flags = λ none. (list start s now h none).0;
-        known = λ none t r e. absurd ((list start s now h none).1 t r e);
+        sees = λ none. record {
+          flags = λ isnt. (list start s now h none).0;
+          left = λ is j less. absurd (omega (arith, less));
+        };
+        within = λ none. omega arith;
+        known = λ isnt none t r e. absurd ((list start s now h none).1 t r e);
       },
     );
   }
@@ -423,15 +293,15 @@ module _ {F W S O : Type 0} (stands : Node F W → List ℕ → At → Type 0)
     at = r.at (λ i. []) (no_rests old);
   }
 
-  -- a moment that the net stands for, with its flags
-  pub record Standing (net : Net F W S) : Type 0 where
+  -- a moment that the net stands for, with what is known of who is ready
+  pub record Standing (from : ℕ) (net : Net F W S) : Type 0 where
     pub running : IsRunning stands contents flushed net
-    pub listed : Listed running.scene running.now net
+    pub listed : Listed leftmost from running.scene running.now net
 
-  pub witness : (o p : O) (old new : Net F W S) → IsNet stands ended contents flushed old
-      → Ran stands remaining ended contents flushed order o p old new
-      → Standing new
-  witness o p old new r ran =
+  pub witness : (from : ℕ) (o p : O) (old new : Net F W S) → IsNet stands ended contents flushed old
+      → Ran stands remaining ended contents flushed order leftmost from o p old new
+      → Standing from new
+  witness from o p old new r ran =
       let s : Scene = record (r.scene (λ i. ran.reads i ++ [])) { rests = λ i. [] } in
       let now = r.now (λ i. ran.reads i ++ []) in
       let d = ran.leads r.start s now (no_rests new)
@@ -442,19 +312,16 @@ module _ {F W S O : Type 0} (stands : Node F W → List ℕ → At → Type 0)
       }
 
   -- one turn more
-  module _ (o p : O) (old net after told : Net F W S) (list : List Bool) (pick k link : ℕ)
-      (who : Option ℕ)
-      (ran : Ran stands remaining ended contents flushed order o p old net)
+  module _ (from k link : ℕ) (o p q : O) (old net after : Net F W S)
+      (ran : Ran stands remaining ended contents flushed order leftmost from o p old net)
       (going : (start : Option (List ℕ)) (s : Scene) (now : Now Row)
       → NetAt stands contents flushed start s net now → result (plan_of s) now ≡ None)
-      (lists : list ≡ net.actors.items) (is : k ≡ chosen list pick)
+      (picked_by : (start : Option (List ℕ)) (s : Scene) (now : Now Row)
+      → NetAt stands contents flushed start s net now → result (plan_of s) now ≡ None
+      → Sees leftmost from s now net → HasPicked order (plan_of s) s.size p q now k)
       (links : (s : Scene) → IsActor stands k net.web s → IsChanged k s after.failure link)
       (turned : HasTurned stands remaining ended contents flushed k net after)
-      (same_actors : after.actors ≡ net.actors) (same_readers : after.readers ≡ net.readers)
-      (same : told ≡ record after { readers = told.readers })
-      (learns : (t r : ℕ) → slice_get told.readers.items t ≡ Some (Some r)
-      → Known after.readers.items k link t r)
-      (tells : IfSome who (λ r. Known after.readers.items k link link r)) where
+      (same_readers : after.readers ≡ net.readers) where
     joined : ℕ → List ℕ
     joined i = ran.reads i ++ turned.reads i
 
@@ -462,11 +329,13 @@ module _ {F W S O : Type 0} (stands : Node F W → List ℕ → At → Type 0)
     record Next (start : Option (List ℕ)) (s : Scene) (now : Now Row) : Type 0 where
       before : Leads stands contents flushed order o p start (before_all turned.reads s) now net
       none : result (plan_of s) before.to ≡ None
-      flags : net.actors.items ≡ ready_list (plan_of s) s.size before.to
+      sees : Sees leftmost from s before.to net
+      picks : HasPicked order (plan_of s) s.size p q before.to k
       within : k ≤ s.count
       goes : GoesTo stands contents flushed start s k before.to after
       link_is : IsChanged k (moved s before.to.links) after.failure link
-      knows : (t r : ℕ) → Known after.readers.items k link t r → TakesFrom s.count s.kinds r t
+      knows : leftmost ≡ false → (t r : ℕ) → Known after.readers.items k link t r
+          → TakesFrom s.count s.kinds r t
 
     next_at : (start : Option (List ℕ)) (s : Scene) (now : Now Row)
         → AreOver ended after.web.nodes.items s.rests
@@ -483,21 +352,24 @@ module _ {F W S O : Type 0} (stands : Node F W → List ℕ → At → Type 0)
         ap (λ l. l ++ s.rests i) t.0 ∙ over i t.1 in
         let d = ran.leads start mid now over_mid before in
         let none = going start mid d.0.to d.0.at in
-        let flags = d.1.flags none in
-        let may = picked stands contents flushed start mid net d.0.to d.0.at list pick k none
-        (lists ∙ flags) is in
+        let sees = d.1.sees none in
+        let picks = picked_by start mid d.0.to d.0.at none sees in
+        let list = ready_list (plan_of s) s.size d.0.to in
+        let may = picked stands contents flushed start mid net d.0.to d.0.at list (order.pick p list) k none
+        refl picks.choice in
         let at = is_at stands contents flushed start mid net d.0.to k d.0.at may.1 in
         let link_is = links (moved mid d.0.to.links) (record { at = at; within = may.0 }) in
         record {
           before = d.0;
           none = none;
-          flags = flags;
+          sees = record { flags = sees.flags; left = sees.left };
+          picks = picks;
           within = may.0;
           goes = turned.turns start s d.0.to over d.0.at may.0 may.1;
           link_is = link_is;
-          knows = λ t r h. ⊎_elim
+          knows = λ isnt t r h. ⊎_elim
               (λ (e : slice_get after.readers.items t ≡ Some (Some r)).
-              d.1.known none t r (ap (λ v. slice_get v.items t) (sym same_readers) ∙ e))
+              d.1.known isnt none t r (ap (λ v. slice_get v.items t) (sym same_readers) ∙ e))
               (λ (e : (t ≡ link) × (r ≡ k) × (k ≢ link)).
               subst (λ i. TakesFrom s.count s.kinds i t) (sym e.1)
               (subst (TakesFrom s.count s.kinds k) (sym e.0)
@@ -506,31 +378,15 @@ module _ {F W S O : Type 0} (stands : Node F W → List ℕ → At → Type 0)
               h;
         }
 
-    reader_known : (o : Option ℕ) (s : Scene)
-        → ((r : ℕ) → Known after.readers.items k link link r → TakesFrom s.count s.kinds r link)
-        → IfSome o (λ r. Known after.readers.items k link link r)
-        → IfSome o (λ r. TakesFrom s.count s.kinds r link)
-    reader_known None s f h = tt
-    reader_known (Some r) s f h = f r h
+    link_below : (start : Option (List ℕ)) (s : Scene) (now : Now Row) → Next start s now → link ≤ k
+    link_below start s now n =
+        ⊎_elim (λ is. touched_below s n.before.at.plan.ok k link n.before.to.links n.within is)
+        (λ own. let is = own.0 in omega (arith, is)) n.link_is
 
-    takers_within : (o : Option ℕ) (s : Scene) → IfSome o (λ r. TakesFrom s.count s.kinds r link)
-        → IfSome o (λ r. r ≤ s.count)
-    takers_within None s h = tt
-    takers_within (Some r) s h = ⊎_elim
-        (λ t. let l = t.0 in omega (arith, l)) (λ t. let e = t.0 in omega (arith, e)) h
-
-    told_at : (start : Option (List ℕ)) (s : Scene) (now : Now Row)
-        → NetAt stands contents flushed start s after now
-        → NetAt stands contents flushed start s told now
-    told_at start s now h =
-        relisted stands contents flushed start s after told now (readers_alone told after same)
-        (ap (λ (n : Net F W S). length n.actors.items) same) h
-
-    link_within : (start : Option (List ℕ)) (s : Scene) (now : Now Row) → (n : Next start s now)
+    link_within : (start : Option (List ℕ)) (s : Scene) (now : Now Row) → Next start s now
         → link ≤ s.count
     link_within start s now n =
-        ⊎_elim (λ is. touched_within s n.before.at.plan.ok k link n.before.to.links n.within is)
-        (λ own. let is = own.0 in let within = n.within in omega (arith, is, within)) n.link_is
+        let below = link_below start s now n in let within = n.within in omega (arith, below, within)
 
     still_joined : (i : ℕ) → ended_at ended i old.web.nodes.items ≡ true → joined i ≡ []
     unfolding joined
@@ -539,91 +395,162 @@ module _ {F W S O : Type 0} (stands : Node F W → List ℕ → At → Type 0)
         let t = (turned.read i).still f.1 in
         ap (λ l. l ++ turned.reads i) f.0 ∙ t.0
 
-    -- who may be asked again
-    pub may_ask : IsNet stands ended contents flushed old → AreAmong stands contents flushed link who told
-    may_ask r =
-        let s : Scene = record (r.scene (λ i. joined i ++ [])) { rests = λ i. [] } in
-        let now = r.now (λ i. joined i ++ []) in
-        let n = next_at r.start s now (no_rests after) (opening_at old joined r still_joined) in
+    -- the order's pick has had its turn
+    leads_more : (start : Option (List ℕ)) (s : Scene) (now : Now Row) → Next start s now
+        → Leads stands contents flushed order o q start s now after
+    leads_more start s now n =
+        let d = n.before in
         record {
-          running = record {
-            start = r.start;
-            scene = s;
-            now = n.goes.to;
-            at = told_at r.start s n.goes.to n.goes.at;
-          };
-          link_within = link_within r.start s now n;
-          reader_within = takers_within who s (reader_known who s (n.knows link) tells);
+          turns = d.turns ++ k ∷ [];
+          to = n.goes.to;
+          driven = subst
+              (λ x. Driven order (plan_of s) s.size text_of o now (d.turns ++ k ∷ []) n.goes.to x)
+              (sym n.picks.next)
+              (driven_more order (plan_of s) s.size text_of d.turns k o p now d.to n.goes.to d.driven
+              n.picks.choice n.goes.turn);
+          at = n.goes.at;
         }
 
-    pub ran_more : (q : O) (new : Net F W S) → pick ≡ order.pick p list → q ≡ order.next p list
-        → new ≡ record told { actors = new.actors }
-        → ((start : Option (List ℕ)) (s : Scene) (now : Now Row)
-        → NetAt stands contents flushed start s told now → result (plan_of s) now ≡ None
-        → link ≤ s.count → IfSome who (λ r. r ≤ s.count)
-        → new.actors.items ≡ asked (is_ready (plan_of s) s.size now) s.count told.actors.items link who)
-        → length new.actors.items ≡ length told.actors.items
-        → Ran stands remaining ended contents flushed order o q old new
-    unfolding joined
-    ran_more q new picks next flagged again len =
-        let nodes : new.web.nodes ≡ after.web.nodes =
-        ap (λ (n : Net F W S). n.web.nodes) flagged ∙ ap (λ (n : Net F W S). n.web.nodes) same in
-        record {
-          reads = λ i. ran.reads i ++ turned.reads i;
-          read = λ i.
-              subst
-              (λ v. HasRead (ended_at ended i old.web.nodes.items) (ended_at ended i v.items)
-              (remaining_at remaining i old.web.nodes.items) (remaining_at remaining i v.items)
-              (ran.reads i ++ turned.reads i))
-              (sym nodes) (read_more _ _ _ _ _ _ _ _ (ran.read i) (turned.read i));
-          leads = λ start s now over h.
-              let n = next_at start s now
-              (subst (λ v. AreOver ended v.items s.rests) nodes over) h in
-              let at_told = told_at start s n.goes.to n.goes.at in
-              let d = n.before in
-              let e : list ≡ ready_list (plan_of s) s.size d.to = lists ∙ n.flags in
-              let choice : k ≡ chosen (ready_list (plan_of s) s.size d.to)
-              (order.pick p (ready_list (plan_of s) s.size d.to)) =
-              is ∙ ap (chosen list) picks ∙ ap (λ l. chosen l (order.pick p l)) e in
-              let known = reader_known who s (n.knows link) tells in (
-                record {
-                  turns = d.turns ++ k ∷ [];
-                  to = n.goes.to;
-                  driven = subst
-                      (λ x. Driven order (plan_of s) s.size text_of o now (d.turns ++ k ∷ []) n.goes.to x)
-                      (sym (next ∙ ap (order.next p) e))
-                      (driven_more order (plan_of s) s.size text_of d.turns k o p now d.to n.goes.to d.driven
-                      choice n.goes.turn);
-                  at = relisted stands contents flushed start s told new n.goes.to
-                      (flags_alone new told flagged) len at_told;
-                },
-                record {
-                  flags = λ none.
-                      again start s n.goes.to at_told none (link_within start s now n)
-                      (takers_within who s known)
-                      ∙ ap
-                      (λ v. asked (is_ready (plan_of s) s.size n.goes.to) s.count v link who)
-                      (ap (λ (m : Net F W S). m.actors.items) same ∙ ap (λ v. v.items) same_actors
-                      ∙ n.flags)
-                      ∙ as_listed s n.goes.at.plan k link d.to n.goes.to n.goes.turn none n.none
-                      (⊎_elim (λ is. is) (λ own. absurd (own.1 (n.goes.at.failure
-                      ∙ unfailed_now stands contents flushed start s after n.goes.to k n.goes.at none)))
-                      n.link_is)
-                      who known;
-                  known = λ none t r h.
-                      n.knows t r (learns t r
-                      (ap (λ (m : Net F W S). slice_get m.readers.items t) (sym flagged) ∙ h));
-                },
-              );
-        }
+    -- while the run goes on, nothing has failed
+    changed_is : (start : Option (List ℕ)) (s : Scene) (now : Now Row) → (n : Next start s now)
+        → result (plan_of s) n.goes.to ≡ None
+        → link ≡ touched k (state (plan_of s) n.before.to.links k)
+    changed_is start s now n none = ⊎_elim (λ is. is)
+        (λ own. absurd (own.1 (n.goes.at.failure
+        ∙ unfailed_now stands contents flushed start s after n.goes.to k n.goes.at none)))
+        n.link_is
+
+    -- A leftmost order goes on from the link.
+    pub ran_left : leftmost ≡ true → IsLeftmost order.pick order.next p
+        → Ran stands remaining ended contents flushed order leftmost link o q old after
+    unfolding joined next_at leads_more
+    ran_left is leans = record {
+      reads = λ i. ran.reads i ++ turned.reads i;
+      read = λ i. read_more _ _ _ _ _ _ _ _ (ran.read i) (turned.read i);
+      leads = λ start s now over h.
+          let n = next_at start s now over h in
+          let first = n.picks.choice ∙ leftmost_choice order s p n.before.to leans in (
+            leads_more start s now n,
+            record {
+              sees = λ none. record {
+                flags = λ isnt. absurd (false≢true (sym isnt ∙ is));
+                left = λ is j less.
+                    let below = link_below start s now n in
+                    left_as_ready s n.goes.at.plan k link n.before.to n.goes.to n.goes.turn none n.none
+                    (changed_is start s now n none) j less (link_within start s now n)
+                    ∙ left_of_first s n.before.to k j n.within first (omega (arith, less, below));
+              };
+              within = λ none. link_within start s now n;
+              known = λ isnt. absurd (false≢true (sym isnt ∙ is));
+            },
+          );
+    }
+
+    -- Of any other the two ends of the link are asked again.
+    module _ (isnt : leftmost ≡ false) (who : Option ℕ) (told : Net F W S)
+        (same : told ≡ record after { readers = told.readers })
+        (learns : (t r : ℕ) → slice_get told.readers.items t ≡ Some (Some r)
+        → Known after.readers.items k link t r)
+        (tells : IfSome who (λ r. Known after.readers.items k link link r)) where
+      reader_known : (o : Option ℕ) (s : Scene)
+          → ((r : ℕ) → Known after.readers.items k link link r → TakesFrom s.count s.kinds r link)
+          → IfSome o (λ r. Known after.readers.items k link link r)
+          → IfSome o (λ r. TakesFrom s.count s.kinds r link)
+      reader_known None s f h = tt
+      reader_known (Some r) s f h = f r h
+
+      takers_within : (o : Option ℕ) (s : Scene) → IfSome o (λ r. TakesFrom s.count s.kinds r link)
+          → IfSome o (λ r. r ≤ s.count)
+      takers_within None s h = tt
+      takers_within (Some r) s h = ⊎_elim
+          (λ t. let l = t.0 in omega (arith, l)) (λ t. let e = t.0 in omega (arith, e)) h
+
+      told_at : (start : Option (List ℕ)) (s : Scene) (now : Now Row)
+          → NetAt stands contents flushed start s after now
+          → NetAt stands contents flushed start s told now
+      told_at start s now h =
+          relisted stands contents flushed start s after told now (readers_alone told after same)
+          (ap (λ (n : Net F W S). length n.actors.items) same) h
+
+      -- who may be asked again
+      pub may_ask : IsNet stands ended contents flushed old
+          → AreAmong stands contents flushed link who told
+      may_ask r =
+          let s : Scene = record (r.scene (λ i. joined i ++ [])) { rests = λ i. [] } in
+          let now = r.now (λ i. joined i ++ []) in
+          let n = next_at r.start s now (no_rests after) (opening_at old joined r still_joined) in
+          record {
+            running = record {
+              start = r.start;
+              scene = s;
+              now = n.goes.to;
+              at = told_at r.start s n.goes.to n.goes.at;
+            };
+            link_within = link_within r.start s now n;
+            reader_within = takers_within who s (reader_known who s (n.knows isnt link) tells);
+          }
+
+      pub ran_more : (new : Net F W S) → after.actors ≡ net.actors
+          → new ≡ record told { actors = new.actors }
+          → ((start : Option (List ℕ)) (s : Scene) (now : Now Row)
+          → NetAt stands contents flushed start s told now → result (plan_of s) now ≡ None
+          → link ≤ s.count → IfSome who (λ r. r ≤ s.count)
+          → new.actors.items ≡ asked (is_ready (plan_of s) s.size now) s.count told.actors.items link who)
+          → length new.actors.items ≡ length told.actors.items
+          → Ran stands remaining ended contents flushed order leftmost link o q old new
+      unfolding joined next_at leads_more
+      ran_more new same_actors flagged again len =
+          let nodes : new.web.nodes ≡ after.web.nodes =
+          ap (λ (n : Net F W S). n.web.nodes) flagged ∙ ap (λ (n : Net F W S). n.web.nodes) same in
+          record {
+            reads = λ i. ran.reads i ++ turned.reads i;
+            read = λ i.
+                subst
+                (λ v. HasRead (ended_at ended i old.web.nodes.items) (ended_at ended i v.items)
+                (remaining_at remaining i old.web.nodes.items) (remaining_at remaining i v.items)
+                (ran.reads i ++ turned.reads i))
+                (sym nodes) (read_more _ _ _ _ _ _ _ _ (ran.read i) (turned.read i));
+            leads = λ start s now over h.
+                let n = next_at start s now
+                (subst (λ v. AreOver ended v.items s.rests) nodes over) h in
+                let l = leads_more start s now n in
+                let at_told = told_at start s l.to l.at in
+                let known = reader_known who s (n.knows isnt link) tells in (
+                  record {
+                    turns = l.turns;
+                    to = l.to;
+                    driven = l.driven;
+                    at = relisted stands contents flushed start s told new l.to
+                        (flags_alone new told flagged) len at_told;
+                  },
+                  record {
+                    sees = λ none. record {
+                      flags = λ is.
+                          again start s n.goes.to at_told none (link_within start s now n)
+                          (takers_within who s known)
+                          ∙ ap
+                          (λ v. asked (is_ready (plan_of s) s.size n.goes.to) s.count v link who)
+                          (ap (λ (m : Net F W S). m.actors.items) same ∙ ap (λ v. v.items) same_actors
+                          ∙ n.sees.flags isnt)
+                          ∙ as_listed s n.goes.at.plan k link n.before.to n.goes.to n.goes.turn none n.none
+                          (changed_is start s now n none) who known;
+                      left = λ is. absurd (false≢true (sym isnt ∙ is));
+                    };
+                    within = λ none. link_within start s now n;
+                    known = λ is none t r h.
+                        n.knows isnt t r (learns t r
+                        (ap (λ (m : Net F W S). slice_get m.readers.items t) (sym flagged) ∙ h));
+                  },
+                );
+          }
 
   -- the run is over
-  pub ran_to : (o p : O) (old new : Net F W S) (by : RunResult)
-      → Ran stands remaining ended contents flushed order o p old new
+  pub ran_to : (from : ℕ) (o p : O) (old new : Net F W S) (by : RunResult)
+      → Ran stands remaining ended contents flushed order leftmost from o p old new
       → ((start : Option (List ℕ)) (s : Scene) (now : Now Row)
       → NetAt stands contents flushed start s new now → result (plan_of s) now ≡ Some by)
       → HasRun stands remaining ended contents flushed order o p old new by
-  ran_to o p old new by ran is = record {
+  ran_to from o p old new by ran is = record {
     reads = ran.reads;
     read = ran.read;
     runs = λ start s now over h.

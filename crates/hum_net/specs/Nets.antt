@@ -1,5 +1,5 @@
 -- What a net stands for: its web, what was written, and how it failed.
-use Rattle.std.specs.Prelude.{◌≡◌, ◌≢◌, ◌⊎◌, ℕ, ◌+◌, ◌<◌, ◌≤◌, Bool, true, List, [], ◌++◌, length}
+use Rattle.std.specs.Prelude.{◌≡◌, ◌≢◌, ◌⊎◌, ℕ, ◌+◌, ◌<◌, ◌≤◌, Bool, true, false, List, [], ◌++◌, length}
 use Rattle.std.specs.Prelude.{Option, Some, None, IfSome, map, slice_get, slice_set}
 use Rattle.std.specs.Io.KnownBytes.{Appends}
 use Rattle.hum_record.specs.Row.{Row, text_of}
@@ -8,9 +8,9 @@ use Rattle.hum_stage.specs.declared.faults.End.TheVariants.{Closed, Broken}
 use Rattle.hum_turns.specs.declared.result.RunResult.{RunResult}
 use Rattle.hum_turns.specs.declared.result.RunResult.TheVariants as ends
 use Rattle.hum_turns.specs.Flow.{Begins}
-use Rattle.hum_turns.specs.Plan.{KeepsFine, last}
+use Rattle.hum_turns.specs.Plan.{Plan, KeepsFine, last}
 use Rattle.hum_turns.specs.Meaning.{plan_meaning, first_fault, IsNumbered}
-use Rattle.hum_turns.specs.Orders.{Order, Driven, upto}
+use Rattle.hum_turns.specs.Orders.{Order, Driven, upto, ready_list, choice}
 use Rattle.hum_turns.specs.Links.{has_some}
 use Rattle.hum_turns.specs.Turns.{Takes, state}
 use Rattle.hum_turns.specs.Near.{touched}
@@ -132,6 +132,28 @@ pub record IsAmong {F W S : Type 0} (stands : Node F W → List ℕ → At → T
     (contents : S → Option (List ℕ)) (flushed : S → Bool) (k : ℕ) (net : Net F W S) : Type 0 where
   pub running : IsRunning stands contents flushed net
   pub within : k ≤ running.scene.count
+
+-- What is known of who is ready, by the flags, or of a leftmost order's run that nobody to the left of
+-- this actor is.
+pub record Sees {F W S : Type 0} (leftmost : Bool) (from : ℕ) (s : Scene) (now : Now Row)
+    (net : Net F W S) : Type 0 where
+  pub flags : leftmost ≡ false → net.actors.items ≡ ready_list (plan_of s) s.size now
+  pub left : leftmost ≡ true → (j : ℕ) → j < from → is_ready (plan_of s) s.size now j ≡ false
+
+-- While the run goes on, an actor is picked by that.
+pub record MayPick {F W S : Type 0} (stands : Node F W → List ℕ → At → Type 0)
+    (contents : S → Option (List ℕ)) (flushed : S → Bool) (leftmost : Bool) (from : ℕ)
+    (net : Net F W S) : Type 0 where
+  pub running : IsRunning stands contents flushed net
+  pub going : result (plan_of running.scene) running.now ≡ None
+  pub sees : Sees leftmost from running.scene running.now net
+  pub within : from ≤ running.scene.count
+
+-- The actor is the order's choice, and the order has gone on by its pick.
+pub record HasPicked {O : Type 0} (order : Order O) (plan : Plan Row) (size : ℕ) (o p : O)
+    (now : Now Row) (actor : ℕ) : Type 0 where
+  pub choice : actor ≡ choice order plan size o now
+  pub next : p ≡ order.next o (ready_list plan size now)
 
 -- The link that a turn of actor k has changed; where it has failed, its own may stand for it.
 abbrev pub IsChanged : ℕ → Scene → Option RunResult → ℕ → Type 0

@@ -1,10 +1,10 @@
 //! A web whose last stage is written.
 ghost use Rattle.std.specs.Prelude.{◌≡◌, ◌≢◌, ◌≤◌, ◌<◌, ◌+◌, ◌||◌, ℕ, List, [], Option, None, Some};
-ghost use Rattle.std.specs.Prelude.{IfSome, IfOk, IfErr, OnErr, length, is_some, false, slice_get, slice_set};
+ghost use Rattle.std.specs.Prelude.{IfSome, IfOk, IfErr, OnErr, length, is_some, true, false, slice_get, slice_set};
 ghost use Rattle.hum_record.specs.Row.{Row, text_of};
 ghost use Rattle.hum_turns.specs.Links.{linked};
 ghost use Rattle.hum_turns.specs.Failures.{Now, IsFirst, MayFail, is_ready, result as ended};
-ghost use Rattle.hum_turns.specs.Orders.{ready_list};
+ghost use Rattle.hum_turns.specs.Orders.{ready_list, first_true, IsLeftmost};
 ghost use Rattle.hum_nodes.specs.Nodes.{StandsAs};
 ghost use Rattle.hum_nodes.specs.Polls.{AsksAtMostOnce, HasStayed};
 ghost use Rattle.hum_net.specs.Readers.{ShowsSame, remaining_at, ended_at, calls_at, failed_at};
@@ -16,6 +16,7 @@ ghost use Rattle.hum_turns.specs.Counts.{most_in_all};
 ghost use Rattle.hum_turns.specs.Holds.{SomeReady};
 ghost use Rattle.hum_net.specs.Nets.{WroteFront, IsGoing, IsStage, IsChanged, AreAmong, Known, asked};
 ghost use Rattle.hum_net.specs.Nets.{IsAmong, NetAt, AreBegun, Tells, HasRun, HasRunOn, IsNet};
+ghost use Rattle.hum_net.specs.Nets.{Sees, MayPick, HasPicked};
 
 use crate::web::Web;
 use hum_links::Next;
@@ -267,6 +268,43 @@ impl<F: Feeds, W: Works, S: Sink> Net<F, W, S> {
         }
     }
 
+    // The leftmost actor that is ready, where nobody to the left of this one is.
+    #[inline(always)]
+    fn leftmost(&self, from: usize) -> usize
+        requires { MayPick (StandsAs F.stands W.stands) S.contents S.flushed true from self.now }
+        ensures { (start : Option (List ℕ)) (s : Scene) (now : Now Row)
+            → NetAt (StandsAs F.stands W.stands) S.contents S.flushed start s self.now now
+            → ended (plan_of s) now ≡ None → Sees true from s now self.now
+            → result ≡ first_true (ready_list (plan_of s) s.size now) }
+    {
+        let mut k = from;
+        while k < self.web.count() && !self.web.ready(k) {
+            k += 1;
+        }
+        k
+    }
+
+    // The actor whose turn is next: the order's pick, by the flags, or the leftmost one that is ready,
+    // where the order picks that and nobody to the left of this one is.
+    #[inline(always)]
+    fn next<O: Order>(&self, order: &mut O, is_leftmost: bool, from: usize) -> usize
+        requires may { MayPick (StandsAs F.stands W.stands) S.contents S.flushed is_leftmost from
+            self.now }
+        requires order { is_leftmost ≡ true → IsLeftmost O.picks O.after order.old }
+        ensures picked { (start : Option (List ℕ)) (s : Scene) (now : Now Row)
+            → NetAt (StandsAs F.stands W.stands) S.contents S.flushed start s self.now now
+            → ended (plan_of s) now ≡ None → Sees is_leftmost from s now self.now
+            → HasPicked (record { pick = O.picks; next = O.after }) (plan_of s) s.size order.old
+            order.new now result }
+        ensures stays { is_leftmost ≡ true → order.new ≡ order.old }
+    {
+        if is_leftmost {
+            return self.leftmost(from);
+        }
+        let pick = order.pick(&self.actors);
+        choose(&self.actors, pick)
+    }
+
     /// Makes the turns that the order picks, to the end of the run.
     pub fn run<O: Order>(&mut self, order: &mut O) -> RunResult
         requires { IsNet (StandsAs F.stands W.stands) F.ended S.contents S.flushed self.old }
@@ -297,16 +335,20 @@ impl<F: Feeds, W: Works, S: Sink> Net<F, W, S> {
             → ended (plan_of s) now ≡ Some by
             → (result ≡ by) × (self.new ≡ self.old) × (order.new ≡ order.old) }
     {
+        let is_leftmost = order.is_leftmost();
         self.prepare();
+        let mut from = 0;
         'turns: loop {
             if self.over() {
                 return self.told();
             }
-            let pick = order.pick(&self.actors);
-            let actor = choose(&self.actors, pick);
-            let link = self.turn(actor);
-            let reader = self.reader(actor, link);
-            self.ask_again(link, reader);
+            let actor = self.next(order, is_leftmost, from);
+            from = self.turn(actor);
+            if is_leftmost {
+                continue 'turns;
+            }
+            let reader = self.reader(actor, from);
+            self.ask_again(from, reader);
         }
     }
 

@@ -28,6 +28,9 @@ pub struct Web<F, W> {
     links: Vec<Link>,
     // the source that had a turn last
     feeder: usize,
+    // whether there are several sources, and the stage that handed a record out last
+    has_several: bool,
+    spender: usize,
 }
 
 impl<F: Feeds, W: Works> Web<F, W> {
@@ -42,13 +45,19 @@ impl<F: Feeds, W: Works> Web<F, W> {
         ensures nodes { IfOk result (λ web. web.nodes ≡ nodes) }
     {
         let mut links = Vec::new(alloc);
-        for _node in &nodes {
+        let mut has_one = false;
+        let mut has_several = false;
+        for node in &nodes {
             links.push(Link::new(alloc, size)?)?;
+            has_several |= has_one && node.is_source();
+            has_one |= node.is_source();
         }
         Ok(Web {
             nodes,
             links,
             feeder: 0,
+            has_several,
+            spender: 0,
         })
     }
 
@@ -101,7 +110,81 @@ impl<F: Feeds, W: Works> Web<F, W> {
         self.links[last].next()
     }
 
-    /// Gives a record back to a source, so that its next one needs no memory of its own.
+    // Gives a record to a source, if it is one, so that its next one needs no memory of its own.
+    fn feed(&mut self, k: usize, row: Record)
+        ensures stands { (s : Scene) → Stands (StandsAs F.stands W.stands) self.old s
+            → Stands (StandsAs F.stands W.stands) self.new s }
+        ensures shows { (k : ℕ) → ShowsSame F.remaining F.ended F.calls F.failed
+            self.old.nodes.items self.new.nodes.items k }
+        ensures count { length self.new.nodes.items ≡ length self.old.nodes.items }
+    {
+        if k < self.nodes.len() && self.nodes[k].is_source() {
+            self.nodes[k].reuse(row);
+        }
+    }
+
+    // A record that a stage was put and is done with, if it isn't a source.
+    fn done_with(&mut self, k: usize) -> Option<Record>
+        ensures stands { (s : Scene) → Stands (StandsAs F.stands W.stands) self.old s
+            → Stands (StandsAs F.stands W.stands) self.new s }
+        ensures shows { (k : ℕ) → ShowsSame F.remaining F.ended F.calls F.failed
+            self.old.nodes.items self.new.nodes.items k }
+        ensures count { length self.new.nodes.items ≡ length self.old.nodes.items }
+    {
+        if k >= self.nodes.len() || self.nodes[k].is_source() {
+            return None;
+        }
+        self.nodes[k].done_with()
+    }
+
+    // The same of the stage that handed one out last; where that has none, of the next the next time.
+    fn spent(&mut self) -> Option<Record>
+        ensures stands { (s : Scene) → Stands (StandsAs F.stands W.stands) self.old s
+            → Stands (StandsAs F.stands W.stands) self.new s }
+        ensures shows { (k : ℕ) → ShowsSame F.remaining F.ended F.calls F.failed
+            self.old.nodes.items self.new.nodes.items k }
+        ensures count { length self.new.nodes.items ≡ length self.old.nodes.items }
+    {
+        let k = self.spender;
+        let row = self.done_with(k);
+        if row.is_none() {
+            self.spender = if k < self.nodes.len() { k + 1 } else { 0 };
+        }
+        row
+    }
+
+    // Gives a source a record that some stage is done with, but for the one that had a turn last.
+    fn feed_other(&mut self, k: usize)
+        ensures stands { (s : Scene) → Stands (StandsAs F.stands W.stands) self.old s
+            → Stands (StandsAs F.stands W.stands) self.new s }
+        ensures shows { (k : ℕ) → ShowsSame F.remaining F.ended F.calls F.failed
+            self.old.nodes.items self.new.nodes.items k }
+        ensures count { length self.new.nodes.items ≡ length self.old.nodes.items }
+    {
+        if k == self.feeder || k >= self.nodes.len() || !self.nodes[k].is_source() {
+            return;
+        }
+        if let Some(row) = self.spent() {
+            self.feed(k, row);
+        }
+    }
+
+    // The same of each source.
+    #[inline(never)]
+    fn feed_others(&mut self)
+        ensures stands { (s : Scene) → Stands (StandsAs F.stands W.stands) self.old s
+            → Stands (StandsAs F.stands W.stands) self.new s }
+        ensures shows { (k : ℕ) → ShowsSame F.remaining F.ended F.calls F.failed
+            self.old.nodes.items self.new.nodes.items k }
+        ensures count { length self.new.nodes.items ≡ length self.old.nodes.items }
+    {
+        for k in 0..self.nodes.len() {
+            self.feed_other(k);
+        }
+    }
+
+    /// Gives a record back to the source that had a turn last, so that its next one needs no memory of
+    /// its own, and where there are several, to the others what assemble is done with.
     pub fn reuse(&mut self, row: Record)
         ensures stands { (s : Scene) → Stands (StandsAs F.stands W.stands) self.old s
             → Stands (StandsAs F.stands W.stands) self.new s }
@@ -109,9 +192,9 @@ impl<F: Feeds, W: Works> Web<F, W> {
             self.old.nodes.items self.new.nodes.items k }
         ensures count { length self.new.nodes.items ≡ length self.old.nodes.items }
     {
-        let k = self.feeder;
-        if k < self.nodes.len() && self.nodes[k].is_source() {
-            self.nodes[k].reuse(row);
+        self.feed(self.feeder, row);
+        if self.has_several {
+            self.feed_others();
         }
     }
 

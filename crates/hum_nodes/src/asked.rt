@@ -80,4 +80,8 @@ impl<W: Works> Works for Asked<W> {
         self.inner.stop(place, end);
         self.kind = self.inner.doing_kind();
     }
+
+    fn done_with(&mut self) -> Option<Record> {
+        self.inner.done_with()
+    }
 }

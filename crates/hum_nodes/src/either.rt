@@ -75,6 +75,20 @@ impl<F: Feeds, W: Works> Node<F, W> {
         }
     }
 
+    /// Has a stage that reads from others hand out a record that was put and is done with, if there is
+    /// one.
+    pub fn done_with(&mut self) -> Option<Record>
+        requires { is_source self.old ≡ false }
+        ensures kind { is_source self.new ≡ false }
+        ensures stands { (rest : List ℕ) (t : At) → StandsAs F.stands W.stands self.old rest t
+            → StandsAs F.stands W.stands self.new rest t }
+    {
+        match self {
+            Node::Source(_) => unreachable!(),
+            Node::Stage(node) => node.done_with(),
+        }
+    }
+
     /// How many records wait inside a stage that reads from others.
     pub fn held(&self) -> usize
         requires { is_source self.now ≡ false }

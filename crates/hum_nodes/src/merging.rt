@@ -77,4 +77,8 @@ impl Works for Merging {
     fn stop(&mut self, place: usize, end: End) {
         self.inner.end(place, end);
     }
+
+    fn done_with(&mut self) -> Option<Record> {
+        self.inner.done_with()
+    }
 }

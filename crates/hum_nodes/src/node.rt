@@ -90,6 +90,13 @@ pub trait Works: Drop {
         requires { MayStop (stands self.old) place end }
         ensures { HasStopped (stands self.old) (stands self.new) place end };
 
+    /// Hands out a record that was put and is done with, if there is one: another can be read into it.
+    fn done_with(&mut self) -> Option<Record>
+        ensures { (t : At) → stands self.old t → stands self.new t }
+    {
+        None
+    }
+
     /// It reads no bytes.
     ghost no_bytes: { (s : Self) (t : At) → stands s t → bytes_of t ≡ 0 };
 }

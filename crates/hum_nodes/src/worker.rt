@@ -78,4 +78,11 @@ impl<S: Stage + Drop> Works for Worker<S> {
             Worker::Merging(stage) => stage.stop(place, end),
         }
     }
+
+    fn done_with(&mut self) -> Option<Record> {
+        match self {
+            Worker::Single(stage) => stage.done_with(),
+            Worker::Merging(stage) => stage.done_with(),
+        }
+    }
 }

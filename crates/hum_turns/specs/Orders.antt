@@ -32,6 +32,12 @@ abbrev pub last_true : List Bool → ℕ
 last_true [] = 0
 last_true (b ∷ bs) = if some_true bs then suc (last_true bs) else 0
 
+-- An order that picks the leftmost actor that is ready, at each moment, and remembers nothing.
+pub record IsLeftmost {O : Type 0} (picks : O → List Bool → ℕ) (after : O → List Bool → O) (o : O)
+    : Type 0 where
+  pub leftmost : (ready : List Bool) → picks o ready ≡ first_true ready
+  pub stays : (ready : List Bool) → after o ready ≡ o
+
 -- A pick that isn't ready counts as the leftmost actor that is.
 abbrev pub chosen : List Bool → ℕ → ℕ
 chosen bs pick = if get_or bs pick false then pick else first_true bs

@@ -1,6 +1,6 @@
 //! Orders of turns.
 ghost use Rattle.std.specs.Prelude.{◌≡◌, ℕ, List, Bool, true, false, get_or};
-ghost use Rattle.hum_turns.specs.Orders.{first_true, last_true, some_true, chosen};
+ghost use Rattle.hum_turns.specs.Orders.{first_true, last_true, some_true, chosen, IsLeftmost};
 
 /// A rule for whose turn is next, which may remember what it has seen.
 ///
@@ -18,6 +18,14 @@ pub trait Order {
         requires { some_true ready.now ≡ true }
         ensures picks { result ≡ picks self.old ready.now }
         ensures after { self.new ≡ after self.old ready.now };
+
+    /// Whether it picks the leftmost actor that is ready, at each moment, and stays as it is. Whoever
+    /// drives a run by it may then look for that actor without it.
+    fn is_leftmost(&self) -> bool
+        ensures { result ≡ true → IsLeftmost picks after self.now }
+    {
+        false
+    }
 }
 
 /// What a pick counts as: itself, or the leftmost actor that is ready. Where none is, it is the
@@ -48,6 +56,10 @@ impl Order for Leftmost {
 
     fn pick(&mut self, ready: &[bool]) -> usize {
         choose(ready, ready.len())
+    }
+
+    fn is_leftmost(&self) -> bool {
+        true
     }
 }
 

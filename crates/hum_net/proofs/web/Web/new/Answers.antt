@@ -25,7 +25,14 @@ returns-clause-stands g c s opening begun =
     let i = c.loop-node.invariant.count in
     let t = c.loop-node-test.false in
     let e = ap length c.deref-node-items.ensures.value in
-    let a = c.loop-node.auto._node-index-end in
+    let a = c.loop-node.auto.node-index-end in
     begins (StandsAs g.F.Feeds.stands g.W.Works.stands) c.args.size
-    (record { nodes = c.args.nodes; links = c.loop-node.links; feeder = 0 }) s opening begun
+    (record {
+      nodes = c.args.nodes;
+      links = c.loop-node.links;
+      feeder = 0;
+      has_several = c.loop-node.has_several;
+      spender = 0;
+    })
+    s opening begun
     (omega (arith, i, t, e, a)) c.loop-node.invariant.each

@@ -6,6 +6,6 @@ use Rattle.hum_net.proofs.web.Web.new.Given as goal
 
 abbrev pub invariant-loop-node : goal.invariant-loop-node
 invariant-loop-node g l = record {
-  count : length l.links.items ≡ l._node-index;
+  count : length l.links.items ≡ l.node-index;
   each : (k : ℕ) (link : Link) → slice_get l.links.items k ≡ Some link → IsLink l.size link fresh;
 }

@@ -1,0 +1,44 @@
+//! Records that were done with.
+use hum_record::Record;
+use std::alloc::{AllocError, Global};
+use std::marker::Model;
+
+/// Records that were done with, for others to be made in: up to so many, and none beyond.
+///
+/// Nothing of what stood in them shows, so that some are like others.
+#[derive(Drop)]
+pub struct Done {
+    rows: Vec<Record>,
+}
+
+impl Model for Done {
+    ghost use Rattle.std.specs.Prelude.{⊤};
+
+    ghost Value = { ⊤ };
+
+    ghost view = { λ d. tt };
+}
+
+impl Done {
+    /// Room for so many, of which there is none yet.
+    ///
+    /// # Errors
+    /// Want of memory.
+    pub fn with_room(alloc: Global, room: usize) -> Result<Done, AllocError> {
+        Ok(Done {
+            rows: Vec::with_capacity(alloc, room)?,
+        })
+    }
+
+    /// Keeps a record, where there is room.
+    pub fn keep(&mut self, row: Record) {
+        if self.rows.len() < self.rows.capacity() {
+            let _kept = self.rows.push(row);
+        }
+    }
+
+    /// Hands one out, if there is one.
+    pub fn take(&mut self) -> Option<Record> {
+        self.rows.pop()
+    }
+}
