@@ -90,6 +90,7 @@ impl Drop for Pattern {
             regex: _,
             matcher: _matcher,
             searched: _searched,
+            is_barline: _,
         } = self;
     }
 }
