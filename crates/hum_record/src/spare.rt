@@ -12,13 +12,22 @@ pub struct Body {
     pub(crate) ends: Vec<u32>,
 }
 
-/// What is left of a record that is done with, if there was one: the next record that is made in
-/// it needs no memory of its own.
+/// How many bodies wait behind the first, and how much text may fit in each of them: what is kept
+/// takes little memory, however long the records are.
+const MOST_OTHERS: usize = 32;
+
+const MOST_TEXT: usize = 4096;
+
+/// What is left of records that are done with: the next that are made in it need no memory of their
+/// own.
 ///
-/// Nothing of what stood in it shows, so one spare is like another.
+/// Nothing of what stood in them shows, so one spare is like another.
 #[derive(Drop)]
 pub struct Spare {
-    body: Option<Box<Body>>,
+    // what is kept and taken again where records come and go one by one
+    first: Option<Box<Body>>,
+    // what is left of others, where several go before the next ones come
+    others: Vec<Box<Body>>,
 }
 
 impl Model for Spare {
@@ -31,26 +40,58 @@ impl Model for Spare {
 
 impl Spare {
     /// No record was done with as yet.
-    pub fn none(_alloc: Global) -> Spare {
-        Spare { body: None }
+    pub fn none(alloc: Global) -> Spare {
+        Spare {
+            first: None,
+            others: Vec::new(alloc),
+        }
     }
 
-    /// Keeps a record that is done with, in place of what was kept.
+    /// Keeps a record that is done with, behind the first one where it is short and not too many are.
     #[inline]
     pub fn keep(&mut self, row: Record) {
-        self.body = Some(row.into_body());
+        let body = row.into_body();
+        if self.first.is_none() {
+            self.first = Some(body);
+        } else {
+            self.keep_behind(body);
+        }
     }
 
-    /// Hands out what is left, which may hold anything.
+    #[inline(never)]
+    fn keep_behind(&mut self, body: Box<Body>) {
+        if self.others.len() < MOST_OTHERS && body.text.capacity() <= MOST_TEXT {
+            // without memory for its place it is let go
+            let _kept = self.others.push(body);
+        }
+    }
+
+    /// Hands out what is left of one, which may hold anything.
     #[inline]
     pub(crate) fn take(&mut self) -> Option<Box<Body>> {
-        self.body.take()
+        match self.first.take() {
+            Some(body) => Some(body),
+            None => self.take_other(),
+        }
     }
 
-    /// Hands out what is left, or where nothing is, new buffers.
+    #[inline(never)]
+    fn take_other(&mut self) -> Option<Box<Body>> {
+        self.others.pop()
+    }
+
+    /// Hands out what is left of one, or where nothing is, new buffers.
     #[inline]
     pub(crate) fn take_or_new(&mut self, alloc: Global) -> Result<Box<Body>, AllocError> {
-        match self.body.take() {
+        match self.first.take() {
+            Some(body) => Ok(body),
+            None => self.other_or_new(alloc),
+        }
+    }
+
+    #[inline(never)]
+    fn other_or_new(&mut self, alloc: Global) -> Result<Box<Body>, AllocError> {
+        match self.others.pop() {
             Some(body) => Ok(body),
             None => new_body(alloc),
         }
