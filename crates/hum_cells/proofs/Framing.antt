@@ -13,7 +13,7 @@ use Rattle.hum_path.specs.Score.{IsOpen, path_after}
 use Rattle.hum_path.proofs.Plain.{sound_width, plain_stays, not_exclusive}
 use Rattle.hum_path.proofs.Obeyed.{opens}
 use Rattle.hum_stage.specs.declared.faults.Rule.{Rule}
-use Rattle.hum_stage.specs.Decided.{in_room, Steps}
+use Rattle.hum_stage.specs.Decided.{Decision, in_room, Steps}
 use Rattle.hum_cells.specs.declared.told.Told.{Told}
 use Rattle.hum_cells.specs.Retelling.{Retelling, is_kern, kern_columns}
 use Rattle.hum_cells.specs.Telling.{Frames, HasTold, Puts, decision}
@@ -37,14 +37,14 @@ kern_stays past (Spined Interpretation tokens) quiets sound =
     ap (map is_kern) (quiet (path_after past) tokens (not-false (all_plain tokens) quiets) sound.1)
 
 -- what was decided was put
-pub stepped : (decide : List Row → Row → Result (List Row) Rule) (past : List Row) (row : Row)
-    (after : (List Row → Row → Result (List Row) Rule) → List Row → Type 0)
+pub stepped : (decide : Decision) (past : List Row) (row : Row)
+    (after : Decision → List Row → Type 0)
     (room : ℕ) (out : List Row) (told : Told) (refused : Option Rule) → decide past row ≡ decision row told → Puts (decision row told) out refused
     → after decide (row ∷ past) → Steps decide past row after room out refused
 stepped decide past row after room out told None is put on = (is ∙ put, on)
 stepped decide past row after room out told (Some rule) is put on = ap (in_room room) (is ∙ put)
 
-module _ (before : Retelling → List Row → Type 0) (path : Path) (kern : List Bool) (decide : List Row → Row → Result (List Row) Rule) (past : List Row)
+module _ (before : Retelling → List Row → Type 0) (path : Path) (kern : List Bool) (decide : Decision) (past : List Row)
     (h : Frames before path kern decide past) where
   pub framed : (between : Retelling → List Row → Type 0) (row : Row) (told : Told) → HasTold before between kern row told → IsOpen (row ∷ past)
       → between h.retelling past × (decide past row ≡ decision row told)

@@ -17,7 +17,7 @@ use Rattle.hum_stage.specs.declared.faults.Command.{Command}
 use Rattle.hum_stage.specs.declared.faults.Rule.{Rule}
 use Rattle.hum_stage.specs.declared.faults.Rule.TheVariants.{L1}
 use Rattle.hum_stage.specs.Meaning.{Meaning}
-use Rattle.hum_stage.specs.Decided.{at_once}
+use Rattle.hum_stage.specs.Decided.{Decision, at_once}
 
 -- what becomes of **kern where it stands in a record
 pub data Heading : Type 0 where
@@ -91,7 +91,7 @@ data_record (Ok tokens) = if_fit (Spined Values tokens ∷ [])
 data_record (Err rule) = Err rule
 
 -- What a record becomes, after the records above it, the newest first.
-abbrev pub retell : Retelling → List Row → Row → Result (List Row) Rule
+abbrev pub retell : Retelling → Decision
 retell retelling past (Comment text) = Ok (Comment text ∷ [])
 retell retelling past (Spined Local tokens) = Ok (Spined Local tokens ∷ [])
 retell retelling past (Spined Interpretation tokens) =

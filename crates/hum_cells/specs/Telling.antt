@@ -9,6 +9,7 @@ use Rattle.hum_path.specs.Spines.{Path, moves}
 use Rattle.hum_path.specs.Score.{IsOpen, path_after}
 use Rattle.hum_path.specs.Chains.{columns, history}
 use Rattle.hum_stage.specs.declared.faults.Rule.{Rule}
+use Rattle.hum_stage.specs.Decided.{Decision}
 use Rattle.hum_cells.specs.declared.retells.Heading.{Heading as Shown}
 use Rattle.hum_cells.specs.declared.retells.Heading.TheVariants.{Renamed as ShownRenamed}
 use Rattle.hum_cells.specs.declared.retells.Heading.TheVariants.{Followed as ShownFollowed}
@@ -66,7 +67,7 @@ ShowsHeading follows heading =
 -- The fields of the frame: it decides by a retelling that its teller follows, has followed the
 -- spines, and knows which of them are under **kern.
 pub record Frames (follows : Retelling → List Row → Type 0) (path : Path) (kern : List Bool)
-    (decide : List Row → Row → Result (List Row) Rule) (past : List Row) : Type 0 where
+    (decide : Decision) (past : List Row) : Type 0 where
   pub retelling : Retelling
   pub command : decide ≡ retell retelling
   pub memory : follows retelling past

@@ -5,12 +5,12 @@ use Rattle.hum_record.specs.declared.SpinedKind.TheVariants.{Local, Interpretati
 use Rattle.hum_record.specs.Row.{Row, Comment, Spined}
 use Rattle.hum_path.specs.Score.{IsOpen}
 use Rattle.hum_stage.specs.declared.faults.Rule.{Rule}
-use Rattle.hum_stage.specs.Decided.{in_room, Steps}
+use Rattle.hum_stage.specs.Decided.{Decision, in_room, Steps}
 use Rattle.hum_columns.specs.Following.{Answers, Memory, Follows, is_interpretation}
 use Rattle.hum_columns.proofs.Taking.{follows_still}
 use Rattle.hum_cleave.specs.Cleave.{Options, text_told, column_command}
 
-module _ (options : Options) {m : Memory} {decide : List Row → Row → Result (List Row) Rule} where
+module _ (options : Options) {m : Memory} {decide : Decision} where
   decided_still : (row : Row) (past : List Row) → Follows (column_command options) m decide past → is_interpretation row ≡ false
       → decide past row ≡ text_told options.separator m.each row
   decided_still (Comment text) past s still = rw s.decides refl

@@ -17,7 +17,7 @@ use Rattle.hum_stage.specs.declared.faults.Rule.{Rule}
 use Rattle.hum_stage.specs.declared.faults.Rule.TheVariants.{C1, C2, L1}
 use Rattle.hum_stage.specs.declared.faults.Command.TheVariants.{Cleave}
 use Rattle.hum_stage.specs.Meaning.{Meaning}
-use Rattle.hum_stage.specs.Decided.{at_once}
+use Rattle.hum_stage.specs.Decided.{Decision, at_once}
 use Rattle.hum_columns.specs.Chosen.{chosen, is_torn, each_piece}
 use Rattle.hum_columns.specs.Deciding.{ColumnCommand, by_columns}
 use Rattle.hum_cleave.specs.Columns.{opening_flags, together}
@@ -112,7 +112,7 @@ column_command options = record {
 }
 
 -- What a record becomes, after those above it, the newest first.
-abbrev pub cleave : Options → List Row → Row → Result (List Row) Rule
+abbrev pub cleave : Options → Decision
 cleave options = by_columns (column_command options)
 
 -- what the stage of this number means

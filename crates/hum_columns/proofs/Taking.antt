@@ -15,7 +15,7 @@ use Rattle.hum_path.proofs.Cases.{by_bool}
 use Rattle.hum_path.proofs.Plain.{sound_width}
 use Rattle.hum_path.proofs.Widths.{text_width}
 use Rattle.hum_stage.specs.declared.faults.Rule.{Rule}
-use Rattle.hum_stage.specs.Decided.{in_room, Steps}
+use Rattle.hum_stage.specs.Decided.{Decision, in_room, Steps}
 use Rattle.hum_columns.specs.Chosen.{flags}
 use Rattle.hum_columns.specs.Deciding.{ColumnCommand, at_path, by_columns}
 use Rattle.hum_columns.specs.Following.{AsWide, moved, Memory, memory, passed, Answers, AnswersInRoom, Follows, is_interpretation}
@@ -57,7 +57,7 @@ from_room (Ok out) room rows None h = by_bool (nat_le (length out) room)
     never h = cc
 
 -- a record that asks nothing of the spines
-module _ {command : ColumnCommand} {m : Memory} {decide : List Row → Row → Result (List Row) Rule} where
+module _ {command : ColumnCommand} {m : Memory} {decide : Decision} where
   pub wide_still : (row : Row) (past : List Row) → Follows command m decide past → IsOpen (row ∷ past)
       → is_interpretation row ≡ false → AsWide m.each row
   wide_still (Comment text) past s score still = tt
@@ -82,7 +82,7 @@ pub sound_next : (row : Row) (path : Path) (past : List Row) → path ≡ path_a
 sound_next row path past spines score = ap (λ (p : Path). fault_of p row) spines ∙ score.1
 
 -- an interpretation
-module _ (command : ColumnCommand) {m : Memory} {decide : List Row → Row → Result (List Row) Rule} where
+module _ (command : ColumnCommand) {m : Memory} {decide : Decision} where
   pub wide_later : (row : Row) (past : List Row) → Follows command m decide past → IsOpen (row ∷ past)
       → row ≡ Spined Interpretation (tokens_of row) → is_closed m.path ≡ false → length m.each ≡ width_of row
   wide_later (Comment text) past s score is off = cc

@@ -6,6 +6,7 @@ use Rattle.hum_record.specs.Row.{Row, Comment, Spined}
 use Rattle.hum_path.specs.Spines.{Path, Unopened, Spines}
 use Rattle.hum_path.specs.Score.{path_after}
 use Rattle.hum_stage.specs.declared.faults.Rule.{Rule}
+use Rattle.hum_stage.specs.Decided.{Decision}
 use Rattle.hum_columns.specs.Chosen.{flags}
 
 -- What such a command says: which opening spines are chosen; what the opening record becomes; and
@@ -23,7 +24,7 @@ at_path Unopened opening later = opening
 at_path (Spines names) opening later = later
 
 -- What a record becomes, after those above it, the newest first.
-abbrev pub by_columns : ColumnCommand → List Row → Row → Result (List Row) Rule
+abbrev pub by_columns : ColumnCommand → Decision
 by_columns command past (Comment text) = Ok (Comment text ∷ [])
 by_columns command past (Spined Interpretation tokens) =
     at_path (path_after past) (command.opening tokens)

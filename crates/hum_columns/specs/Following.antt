@@ -7,7 +7,7 @@ use Rattle.hum_path.specs.declared.moved.Move.{Move}
 use Rattle.hum_path.specs.Spines.{Path, source, moves, after}
 use Rattle.hum_path.specs.Score.{path_after}
 use Rattle.hum_stage.specs.declared.faults.Rule.{Rule}
-use Rattle.hum_stage.specs.Decided.{in_room}
+use Rattle.hum_stage.specs.Decided.{Decision, in_room}
 use Rattle.hum_columns.specs.Chosen.{flags}
 use Rattle.hum_columns.specs.Deciding.{ColumnCommand, by_columns}
 
@@ -29,7 +29,7 @@ passed m row = memory (after m.path row) (moved m.each (moves m.path row))
 
 -- a memory stands for these records
 pub record Follows (command : ColumnCommand) (m : Memory)
-    (decide : List Row → Row → Result (List Row) Rule) (past : List Row) : Type 0 where
+    (decide : Decision) (past : List Row) : Type 0 where
   pub decides : decide ≡ by_columns command
   pub spines : m.path ≡ path_after past
   pub marks : m.each ≡ flags command.choose past

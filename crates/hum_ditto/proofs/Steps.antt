@@ -16,7 +16,7 @@ use Rattle.hum_path.specs.Memories.{remembered, Remember}
 use Rattle.hum_path.proofs.Widths.{columns_width, text_width}
 use Rattle.hum_stage.specs.declared.faults.Rule.{Rule}
 use Rattle.hum_stage.specs.declared.faults.Rule.TheVariants.{L1}
-use Rattle.hum_stage.specs.Decided.{in_room}
+use Rattle.hum_stage.specs.Decided.{Decision, in_room}
 use Rattle.hum_ditto.specs.declared.DittoOptions.{DittoOptions}
 use Rattle.hum_record.specs.Contents.{is_null}
 use Rattle.hum_ditto.specs.Ditto.{all_filled, if_fits}
@@ -32,7 +32,7 @@ told found path past row is spines = rw spines at is
 comment_no_data : Global ≡ AnyValues → ⊥
 comment_no_data e = cc
 
-module _ (options : DittoOptions) (path : Path) (memories : List (Option (List ℕ))) (decide : List Row → Row → Result (List Row) Rule) (past : List Row)
+module _ (options : DittoOptions) (path : Path) (memories : List (Option (List ℕ))) (decide : Decision) (past : List Row)
     (h : Follows options path memories decide past) where
   decided : (tokens : List (List ℕ)) → decide past (Spined Values tokens) ≡ if_fits (Spined Values (all_filled options.parentheses memories tokens))
   decided tokens = rw (h.command, h.remembered, all_remembered options.skip (columns past)) refl

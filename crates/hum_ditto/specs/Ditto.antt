@@ -12,7 +12,7 @@ use Rattle.hum_stage.specs.declared.faults.Rule.{Rule}
 use Rattle.hum_stage.specs.declared.faults.Rule.TheVariants.{L1}
 use Rattle.hum_stage.specs.declared.faults.Command.TheVariants.{Ditto}
 use Rattle.hum_stage.specs.Meaning.{Meaning}
-use Rattle.hum_stage.specs.Decided.{at_once}
+use Rattle.hum_stage.specs.Decided.{Decision, at_once}
 use Rattle.hum_ditto.specs.declared.DittoOptions.{DittoOptions}
 
 -- whether a token has a match of the pattern whose tokens are never repeated, if there is one
@@ -54,7 +54,7 @@ abbrev pub if_fits : Row → Result (List Row) Rule
 if_fits row = if nat_le (length (text_of row)) 1048576 then Ok (row ∷ []) else Err L1
 
 -- What a record becomes, after the records above it, the newest first.
-abbrev pub ditto : DittoOptions → List Row → Row → Result (List Row) Rule
+abbrev pub ditto : DittoOptions → Decision
 ditto options past (Comment text) = Ok (Comment text ∷ [])
 ditto options past (Spined Values tokens) =
     if_fits (Spined Values (new_tokens options past tokens))

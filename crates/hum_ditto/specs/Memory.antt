@@ -6,6 +6,7 @@ use Rattle.hum_path.specs.Spines.{Path}
 use Rattle.hum_path.specs.Score.{path_after}
 use Rattle.hum_path.specs.Memories.{Remember}
 use Rattle.hum_stage.specs.declared.faults.Rule.{Rule}
+use Rattle.hum_stage.specs.Decided.{Decision}
 use Rattle.hum_ditto.specs.declared.DittoOptions.{DittoOptions}
 use Rattle.hum_ditto.specs.Ditto.{may_repeat, ditto}
 
@@ -22,7 +23,7 @@ held_in held token = if held then Some token else None
 
 -- The state decides as the command does, has followed the spines, and remembers each column.
 pub record Follows (options : DittoOptions) (path : Path) (memories : List (Option (List ℕ)))
-    (decide : List Row → Row → Result (List Row) Rule) (past : List Row) : Type 0 where
+    (decide : Decision) (past : List Row) : Type 0 where
   pub command : decide ≡ ditto options
   pub spines : path ≡ path_after past
   pub remembered : Remember (last_seen options.skip) None past memories

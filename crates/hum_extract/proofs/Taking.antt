@@ -15,6 +15,7 @@ use Rattle.hum_path.specs.Rules.{fault_of}
 use Rattle.hum_path.specs.Score.{IsOpen, path_after}
 use Rattle.hum_path.proofs.Plain.{sound_width, plain_stays}
 use Rattle.hum_stage.specs.declared.faults.Rule.{Rule}
+use Rattle.hum_stage.specs.Decided.{Decision}
 use Rattle.hum_spread.specs.Spread.{touches, filled}
 use Rattle.hum_columns.specs.Chosen.{flags, chosen, is_torn, each_piece}
 use Rattle.hum_columns.specs.Deciding.{at_path}
@@ -102,7 +103,7 @@ plain_path (Spines names) tokens some plain sound = refl
 
 -- a record that asks nothing of the spines
 
-module _ (choice : Choice) {m : Memory} {decide : List Row → Row → Result (List Row) Rule} where
+module _ (choice : Choice) {m : Memory} {decide : Decision} where
   -- the marks are as many as the tokens
   pub wide_still : (row : Row) (past : List Row) → Follows (column_command choice) m decide past → IsOpen (row ∷ past)
       → IsTextOf row (text_of row) → steers row ≡ false → AsWide m.each row

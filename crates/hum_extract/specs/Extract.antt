@@ -9,6 +9,7 @@ use Rattle.hum_path.specs.Sign.{sign_of, is_exchange}
 use Rattle.hum_spread.specs.Spread.{Piece, spread, filled}
 use Rattle.hum_stage.specs.declared.faults.Rule.{Rule}
 use Rattle.hum_stage.specs.declared.faults.Rule.TheVariants.{X1, X2, X3}
+use Rattle.hum_stage.specs.Decided.{Decision}
 use Rattle.hum_columns.specs.Chosen.{chosen, differ, is_torn, each_piece}
 use Rattle.hum_columns.specs.Deciding.{ColumnCommand, by_columns}
 use Rattle.hum_extract.specs.Choice.{Choice, misses, opening_flags}
@@ -69,5 +70,5 @@ column_command choice = record {
 }
 
 -- What a record becomes, after those above it, the newest first.
-abbrev pub extract : Choice → List Row → Row → Result (List Row) Rule
+abbrev pub extract : Choice → Decision
 extract choice = by_columns (column_command choice)

@@ -6,7 +6,7 @@ use Rattle.std.proofs.lemmas.Bool.Decides.{nat_tests}
 use Rattle.hum_record.specs.Row.{Row}
 use Rattle.hum_stage.specs.declared.faults.Rule.{Rule}
 use Rattle.hum_stage.specs.Outcome.{settled, refusal}
-use Rattle.hum_stage.specs.Decided.{decisions, limit}
+use Rattle.hum_stage.specs.Decided.{Decision, decisions, limit}
 
 -- what comes of records, each by those before it
 abbrev pub all_made : (List Row → Row → List Row) → List Row → List Row → List Row
@@ -14,7 +14,7 @@ all_made makes past [] = []
 all_made makes past (row ∷ rows) = makes past row ++ all_made makes (row ∷ past) rows
 
 -- records that each become at most one
-pub record IsPlain (decide : List Row → Row → Result (List Row) Rule) (makes : List Row → Row → List Row) : Type 0 where
+pub record IsPlain (decide : Decision) (makes : List Row → Row → List Row) : Type 0 where
   pub is : (past : List Row) (row : Row) → decide past row ≡ Ok (makes past row)
   pub at_most : (past : List Row) (row : Row) → length (makes past row) ≤ 1
 
@@ -22,7 +22,7 @@ pub fits : (m n : ℕ) → m ≤ n → nat_le m n ≡ true
 fits m n h = grind (arith, nat_tests)
 
 -- nothing is refused for want of room
-pub plain_limit : (decide : List Row → Row → Result (List Row) Rule) (makes : List Row → Row → List Row) → IsPlain decide makes
+pub plain_limit : (decide : Decision) (makes : List Row → Row → List Row) → IsPlain decide makes
     → (n line : ℕ) (past rows : List Row) → length rows ≤ n
     → (settled (limit n (decisions decide past rows)) ≡ all_made makes past rows) × (refusal line (limit n (decisions decide past rows)) ≡ None)
 plain_limit decide makes h n line past [] few = (refl, refl)

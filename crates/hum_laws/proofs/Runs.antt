@@ -13,15 +13,11 @@ use Rattle.hum_stage.specs.declared.faults.End.{End}
 use Rattle.hum_stage.specs.declared.faults.End.TheVariants.{Closed, Broken}
 use Rattle.hum_stage.specs.Outcome.{settled, refusal}
 use Rattle.hum_stage.specs.Meaning.{KeepsScore, output, own_fault, end_of, fault_at}
-use Rattle.hum_stage.specs.Decided.{outcome, decisions, limit, at_once}
+use Rattle.hum_stage.specs.Decided.{Decision, outcome, decisions, limit, at_once}
 use Rattle.hum_stage.specs.Laws.{limit_same, decisions_decided}
 use Rattle.hum_stage.proofs.Scores.{path_passed}
 use Rattle.hum_laws.specs.declared.given.Given.{Given}
 use Rattle.hum_laws.specs.Piped.{IsAlone, IsPiped}
-
--- what a command decides of a record
-abbrev pub Decide : Type 0
-Decide = List Row → Row → Result (List Row) Rule
 
 abbrev pub made_by : Result (List Row) Rule → List Row
 made_by (Ok rows) = rows
@@ -32,12 +28,12 @@ Taken (Ok rows) = Unit {0}
 Taken (Err rule) = ⊥
 
 -- what records become, one after another
-abbrev pub out : Decide → List Row → List Row → List Row
+abbrev pub out : Decision → List Row → List Row → List Row
 out decide past [] = []
 out decide past (row ∷ rows) = made_by (decide past row) ++ out decide (row ∷ past) rows
 
 -- and none is refused
-abbrev pub Fine : Decide → List Row → List Row → Type 0
+abbrev pub Fine : Decision → List Row → List Row → Type 0
 Fine decide past [] = Unit {0}
 Fine decide past (row ∷ rows) = Taken (decide past row) × Fine decide (row ∷ past) rows
 
@@ -45,7 +41,7 @@ pub taken : (d : Result (List Row) Rule) → Taken d → d ≡ Ok (made_by d)
 taken (Ok rows) h = refl
 taken (Err rule) h = absurd h
 
-fine_from : (decide : Decide) (line : ℕ) (past rows : List Row) → refusal line (decisions decide past rows) ≡ None
+fine_from : (decide : Decision) (line : ℕ) (past rows : List Row) → refusal line (decisions decide past rows) ≡ None
     → Fine decide past rows × (settled (decisions decide past rows) ≡ out decide past rows)
 fine_from decide line past [] h = (tt, refl)
 fine_from decide line past (row ∷ rows) h = one (decide past row) h (λ e. fine_from decide (line + 1) (row ∷ past) rows e)
@@ -59,11 +55,11 @@ fine_from decide line past (row ∷ rows) h = one (decide past row) h (λ e. fin
     one (Err rule) e more = cc
 
 -- what a stage of such a command gives where it refuses nothing
-pub record RunsTo (decide : Decide) (p rows : List Row) : Type 0 where
+pub record RunsTo (decide : Decision) (p rows : List Row) : Type 0 where
   pub fine : Fine decide [] p
   pub gives : rows ≡ out decide [] p
 
-pub runs_to : (stage : ℕ) (command : Command) (decide : Decide) (p rows : List Row) → rows ≡ output (at_once stage command decide) p
+pub runs_to : (stage : ℕ) (command : Command) (decide : Decision) (p rows : List Row) → rows ≡ output (at_once stage command decide) p
     → own_fault (at_once stage command decide) p ≡ None → RunsTo decide p rows
 runs_to stage command decide p rows is none =
     let sound : refusal 1 (limit 4294967295 (decisions decide [] p)) ≡ None = no_refusal (refusal 1 (limit 4294967295 (decisions decide [] p))) none in
@@ -80,19 +76,19 @@ closed_by Closed None e = (refl, refl)
 closed_by Closed (Some f) e = cc
 closed_by (Broken f) own e = cc
 
-pub alone_runs : (stage : ℕ) (command : Command) (decide : Decide) (p : List Row) (given : Given) → IsAlone (at_once stage command decide) p given
+pub alone_runs : (stage : ℕ) (command : Command) (decide : Decision) (p : List Row) (given : Given) → IsAlone (at_once stage command decide) p given
     → given.end ≡ Closed → RunsTo decide p given.records.items
 alone_runs stage command decide p given h closed =
     runs_to stage command decide p given.records.items h.0 (closed_by Closed (own_fault (at_once stage command decide) p) (sym h.1 ∙ closed)).1
 
 -- the second behind the first, and what stands between them is a score
-pub record RunsBehind (first second : Decide) (p rows : List Row) : Type 0 where
+pub record RunsBehind (first second : Decision) (p rows : List Row) : Type 0 where
   pub one : Fine first [] p
   pub two : Fine second [] (out first [] p)
   pub gives : rows ≡ out second [] (out first [] p)
   pub between : IsScore (out first [] p)
 
-pub piped_runs : (stage next : ℕ) (command other : Command) (first second : Decide) (p : List Row) (given : Given)
+pub piped_runs : (stage next : ℕ) (command other : Command) (first second : Decision) (p : List Row) (given : Given)
     → IsPiped (at_once stage command first) (at_once next other second) p given
     → KeepsScore (at_once stage command first).outcomes → IsScore p → given.end ≡ Closed → RunsBehind first second p given.records.items
 piped_runs stage next command other first second p given h keeps score closed =
@@ -109,13 +105,13 @@ piped_runs stage next command other first second p given h keeps score closed =
     }
 
 -- lists that are put together
-pub out-append : (decide : Decide) (past p q : List Row) → out decide past (p ++ q) ≡ out decide past p ++ out decide (passed past p) q
+pub out-append : (decide : Decision) (past p q : List Row) → out decide past (p ++ q) ≡ out decide past p ++ out decide (passed past p) q
 out-append decide past [] q = refl
 out-append decide past (row ∷ p) q =
     ap (λ (x : List Row). made_by (decide past row) ++ x) (out-append decide (row ∷ past) p q)
     ∙ sym (append_assoc (made_by (decide past row)) (out decide (row ∷ past) p) (out decide (passed (row ∷ past) p) q))
 
-pub fine_parts : (decide : Decide) (past p q : List Row) → Fine decide past (p ++ q) → Fine decide past p × Fine decide (passed past p) q
+pub fine_parts : (decide : Decision) (past p q : List Row) → Fine decide past (p ++ q) → Fine decide past p × Fine decide (passed past p) q
 fine_parts decide past [] q h = (tt, h)
 fine_parts decide past (row ∷ p) q h = let k = fine_parts decide (row ∷ past) p q h.1 in ((h.0, k.0), k.1)
 
@@ -125,13 +121,13 @@ follow_parts path (row ∷ p) q h = let k = follow_parts (after path row) p q h.
 
 -- One record through two commands: what stands between goes on as a score, and comes to what one
 -- command makes of it.
-pub record ComesTo (first second one : Decide) (Holds : List Row → List Row → Type 0) : Type 0 where
+pub record ComesTo (first second one : Decision) (Holds : List Row → List Row → Type 0) : Type 0 where
   pub opening : Holds [] []
   pub step : (past behind made : List Row) (row : Row) → IsOpen (row ∷ past) → IsOpen behind → Holds past behind → first past row ≡ Ok made
       → Follow (path_after behind) made → Fine second behind made
       → (one past row ≡ Ok (out second behind made)) × Holds (row ∷ past) (passed behind made)
 
-comes_from : (first second one : Decide) (Holds : List Row → List Row → Type 0) → ComesTo first second one Holds
+comes_from : (first second one : Decision) (Holds : List Row → List Row → Type 0) → ComesTo first second one Holds
     → (past behind p : List Row) → IsOpen past → Follow (path_after past) p → IsOpen behind → Follow (path_after behind) (out first past p) → Holds past behind
     → Fine first past p → Fine second behind (out first past p) → Fine one past p × (out second behind (out first past p) ≡ out one past p)
 comes_from first second one Holds h past behind [] right follow sound goes holds a b = (tt, refl)
@@ -145,7 +141,7 @@ comes_from first second one Holds h past behind (row ∷ p) right follow sound g
     follow.1 (open_passed behind made sound k.0) (rw (← path_passed behind made) at k.1) s.1 a.1 f.1 in
     (rw s.0 (tt, more.0), out-append second behind made rest ∙ rw s.0 (ap (λ (x : List Row). out second behind made ++ x) more.1))
 
-pub fine_settled : (decide : Decide) (past rows : List Row) → Fine decide past rows → settled (decisions decide past rows) ≡ out decide past rows
+pub fine_settled : (decide : Decision) (past rows : List Row) → Fine decide past rows → settled (decisions decide past rows) ≡ out decide past rows
 fine_settled decide past [] h = refl
 fine_settled decide past (row ∷ rows) h = one (decide past row) h.0 (fine_settled decide (row ∷ past) rows h.1)
   where
@@ -155,21 +151,21 @@ fine_settled decide past (row ∷ rows) h = one (decide past row) h.0 (fine_sett
     one (Ok made) f more = ap (λ (x : List Row). made ++ x) more
     one (Err rule) f more = absurd f
 
-pub comes_to : (first second one : Decide) (Holds : List Row → List Row → Type 0) → ComesTo first second one Holds
+pub comes_to : (first second one : Decision) (Holds : List Row → List Row → Type 0) → ComesTo first second one Holds
     → (p rows : List Row) → IsScore p → RunsBehind first second p rows → rows ≡ settled (decisions one [] p)
 comes_to first second one Holds h p rows score runs =
     let k = comes_from first second one Holds h [] [] p tt score tt runs.between h.opening runs.one runs.two in
     runs.gives ∙ k.1 ∙ sym (fine_settled one [] p k.0)
 
 -- One record through two commands in either order: what stands between goes on as a score both ways.
-pub record Commutes (first second : Decide) (Holds : List Row → List Row → List Row → Type 0) : Type 0 where
+pub record Commutes (first second : Decision) (Holds : List Row → List Row → List Row → Type 0) : Type 0 where
   pub opening : Holds [] [] []
   pub step : (past one other made also : List Row) (row : Row) → IsOpen (row ∷ past) → IsOpen one → IsOpen other → Holds past one other
       → first past row ≡ Ok made → second past row ≡ Ok also → Follow (path_after one) made → Follow (path_after other) also
       → Fine second one made → Fine first other also
       → (out second one made ≡ out first other also) × Holds (row ∷ past) (passed one made) (passed other also)
 
-commutes_from : (first second : Decide) (Holds : List Row → List Row → List Row → Type 0) → Commutes first second Holds
+commutes_from : (first second : Decision) (Holds : List Row → List Row → List Row → Type 0) → Commutes first second Holds
     → (past one other p : List Row) → IsOpen past → Follow (path_after past) p → IsOpen one → Follow (path_after one) (out first past p)
     → IsOpen other → Follow (path_after other) (out second past p) → Holds past one other
     → Fine first past p → Fine second past p → Fine second one (out first past p) → Fine first other (out second past p)
@@ -191,7 +187,7 @@ commutes_from first second Holds h past one other (row ∷ p) right follow sound
     out-append second one made rest ∙ rw (s.0, behind) (sym (out-append first other twin more))
 
 -- In either order they give the same.
-pub commute : (first second : Decide) (Holds : List Row → List Row → List Row → Type 0) → Commutes first second Holds
+pub commute : (first second : Decision) (Holds : List Row → List Row → List Row → Type 0) → Commutes first second Holds
     → (p rows others : List Row) → IsScore p → RunsBehind first second p rows → RunsBehind second first p others → rows ≡ others
 commute first second Holds h p rows others score a b =
     a.gives ∙ commutes_from first second Holds h [] [] [] p tt score tt a.between tt b.between h.opening a.one b.one a.two b.two ∙ sym b.gives

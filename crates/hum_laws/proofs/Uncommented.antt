@@ -17,7 +17,7 @@ use Rattle.hum_stage.specs.declared.faults.Command.TheVariants as name
 use Rattle.hum_stage.specs.declared.faults.End.TheVariants.{Closed}
 use Rattle.hum_stage.specs.Score.{IsScore}
 use Rattle.hum_stage.specs.Meaning.{KeepsScore}
-use Rattle.hum_stage.specs.Decided.{at_once}
+use Rattle.hum_stage.specs.Decided.{Decision, at_once}
 use Rattle.hum_rid.specs.Rid.{rid, meaning as meaning_of_rid}
 use Rattle.hum_spread.specs.Spread.{filled, spread}
 use Rattle.hum_columns.specs.Chosen.{chosen, opening_of, flags}
@@ -38,7 +38,7 @@ use Rattle.hum_commands.specs.Meaning.{meaning, MakesScores}
 use Rattle.hum_laws.specs.declared.given.Given.{Given}
 use Rattle.hum_laws.specs.Piped.{IsPiped}
 use Rattle.hum_laws.specs.Comments.{all_comments, TellsByTokens}
-use Rattle.hum_laws.proofs.Runs.{Decide, made_by, out, Commutes, commute, piped_runs}
+use Rattle.hum_laws.proofs.Runs.{made_by, out, Commutes, commute, piped_runs}
 use Rattle.hum_laws.proofs.Extracted.{either_rows}
 
 -- records without their global comments
@@ -72,7 +72,7 @@ opening_stays (Comment text ∷ past) = opening_stays past
 opening_stays (Spined kind tokens ∷ past) = rw (path_stays past, opening_stays past) refl
 
 -- A command that leaves global comments, and tells other records by those of tokens.
-pub record ByTokens (decide : Decide) : Type 0 where
+pub record ByTokens (decide : Decision) : Type 0 where
   pub comment : (past : List Row) (text : List ℕ) → decide past (Comment text) ≡ Ok (Comment text ∷ [])
   pub same : (past : List Row) (row : Row) → decide (uncommented past) row ≡ decide past row
   pub spined : (past : List Row) (kind : SpinedKind) (tokens : List (List ℕ)) (made : List Row) → decide past (Spined kind tokens) ≡ Ok made
@@ -87,7 +87,7 @@ rid_drops past (Spined Interpretation tokens ∷ rows) = ap (λ (x : List Row). 
     (rid_drops (Spined Interpretation tokens ∷ past) rows)
 rid_drops past (Spined Values tokens ∷ rows) = ap (λ (x : List Row). Spined Values tokens ∷ x) (rid_drops (Spined Values tokens ∷ past) rows)
 
-either_side : (decide : Decide) → ByTokens decide → Commutes (rid all_comments) decide (λ past one other. one ≡ uncommented past)
+either_side : (decide : Decision) → ByTokens decide → Commutes (rid all_comments) decide (λ past one other. one ≡ uncommented past)
 either_side decide h = record {
   opening = refl;
   step = λ past one other made also row right sound goes holds e f follow too fine there. step past one other made also row holds e f;
@@ -241,7 +241,7 @@ notes_by_tokens retelling = record { comment = λ past text. refl; same = same; 
 -- what it means to be told so
 record Telling (options : CommandOptions) : Type 0 where
   command : Command
-  decide : Decide
+  decide : Decision
   is : (stage : ℕ) → meaning stage options ≡ at_once stage command decide
   by_tokens : ByTokens decide
 

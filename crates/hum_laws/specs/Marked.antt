@@ -7,7 +7,7 @@ use Rattle.hum_record.specs.Row.{Row, Comment, Spined}
 use Rattle.hum_path.specs.Chains.{columns}
 use Rattle.hum_stage.specs.declared.faults.Rule.{Rule}
 use Rattle.hum_stage.specs.Outcome.{settled}
-use Rattle.hum_stage.specs.Decided.{decisions}
+use Rattle.hum_stage.specs.Decided.{Decision, decisions}
 use Rattle.hum_cells.specs.Retelling.{Renamed, Followed, headed, is_kern, kern_columns, all_retold}
 
 -- What becomes of kern columns: the name in the place of **kern, if it is another; the tandem
@@ -33,7 +33,7 @@ with_values (Ok tokens) = Ok (Spined Values tokens ∷ [])
 with_values (Err rule) = Err rule
 
 -- What a record becomes, after the records above it, the newest first.
-abbrev pub marked : Marking → List Row → Row → Result (List Row) Rule
+abbrev pub marked : Marking → Decision
 marked marking past (Comment text) = Ok (Comment text ∷ [])
 marked marking past (Spined Local tokens) = Ok (Spined Local tokens ∷ [])
 marked marking past (Spined Interpretation tokens) =

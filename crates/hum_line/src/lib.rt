@@ -58,23 +58,23 @@ impl From<AllocError> for LineFault {
     }
 }
 
+/// An option of one value.
+fn option<'a>(alloc: Global, name: &'a str) -> Arg<'a> {
+    Arg::new(alloc, name).long(name).action(ArgAction::Set)
+}
+
+/// How many records a link is to hold.
+fn link_option<'a>(alloc: Global) -> Arg<'a> {
+    option(alloc, "link").value_parser(clap::value_parser!(u16).range(1..=4096))
+}
+
 /// The arguments of the program.
 fn arguments<'a>(alloc: Global) -> Result<Command<'a>, AllocError> {
-    let link = Arg::new(alloc, "link")
-        .long("link")
-        .action(ArgAction::Set)
-        .value_parser(clap::value_parser!(u16).range(1..=4096));
-    let order = Arg::new(alloc, "order")
-        .long("order")
-        .action(ArgAction::Set);
-    let file = Arg::new(alloc, "PIPELINE").action(ArgAction::Set);
-    Ok(
-        Command::new(alloc, "humpipe")
-            .disable_help_flag(true)
-            .arg(link)?
-            .arg(order)?
-            .arg(file)?,
-    )
+    Command::new(alloc, "humpipe")
+        .disable_help_flag(true)
+        .arg(link_option(alloc))?
+        .arg(option(alloc, "order"))?
+        .arg(Arg::new(alloc, "PIPELINE").action(ArgAction::Set))
 }
 
 /// The order that a word is.

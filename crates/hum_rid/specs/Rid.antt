@@ -9,7 +9,7 @@ use Rattle.hum_path.specs.Sign.{all_plain}
 use Rattle.hum_stage.specs.declared.faults.Rule.{Rule}
 use Rattle.hum_stage.specs.declared.faults.Command.TheVariants.{Rid}
 use Rattle.hum_stage.specs.Meaning.{Meaning}
-use Rattle.hum_stage.specs.Decided.{at_once}
+use Rattle.hum_stage.specs.Decided.{Decision, at_once}
 use Rattle.hum_rid.specs.declared.RidOptions.{RidOptions}
 
 -- each of a record's tokens is this one
@@ -34,7 +34,7 @@ drops options (Spined Values tokens) =
     options.values || (options.null_values && all_are (codes ".") tokens)
 
 -- what a record becomes
-abbrev pub rid : RidOptions → List Row → Row → Result (List Row) Rule
+abbrev pub rid : RidOptions → Decision
 rid options past row = Ok (if drops options row then [] else row ∷ [])
 
 -- what the stage of this number means

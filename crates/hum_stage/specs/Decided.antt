@@ -12,15 +12,19 @@ use Rattle.hum_stage.specs.declared.faults.Rule.TheVariants.{L2}
 use Rattle.hum_stage.specs.Outcome.{Outcome, Becomes, Refused, Undecided}
 use Rattle.hum_stage.specs.Meaning.{Meaning}
 
--- the records that a record becomes, or the rule by which it is refused
+-- What becomes of a record behind those before it, the newest first: the records that it becomes, or
+-- the rule by which it is refused.
+abbrev pub Decision : Type 0
+Decision = List Row → Row → Result (List Row) Rule
+
+-- what that says of the record
 abbrev pub outcome : Result (List Row) Rule → Outcome
 outcome (Ok rows) = Becomes rows
 outcome (Err rule) = Refused rule
 
 -- What a command makes of each record, by what it decides of one after those before it, the newest
 -- first.
-abbrev pub decisions :
-    (List Row → Row → Result (List Row) Rule) → List Row → List Row → List Outcome
+abbrev pub decisions : Decision → List Row → List Row → List Outcome
 decisions decide past [] = []
 decisions decide past (row ∷ rows) = outcome (decide past row) ∷ decisions decide (row ∷ past) rows
 
@@ -39,7 +43,7 @@ in_room room (Ok rows) = if nat_le (length rows) room then Ok rows else Err L2
 in_room room (Err rule) = Err rule
 
 -- what the stage of such a command means
-abbrev pub at_once : ℕ → Command → (List Row → Row → Result (List Row) Rule) → Meaning
+abbrev pub at_once : ℕ → Command → Decision → Meaning
 at_once stage command decide = record {
   stage = stage;
   command = command;
@@ -47,9 +51,9 @@ at_once stage command decide = record {
 }
 
 -- a memory that stands for records may be given one that goes on with them as a score
-pub record MayStep (follows : (List Row → Row → Result (List Row) Rule) → List Row → Type 0)
+pub record MayStep (follows : Decision → List Row → Type 0)
     (row : Row) : Type 0 where
-  pub decide : List Row → Row → Result (List Row) Rule
+  pub decide : Decision
   pub past : List Row
   pub memory : follows decide past
   pub score : IsOpen (row ∷ past)
@@ -57,24 +61,24 @@ pub record MayStep (follows : (List Row → Row → Result (List Row) Rule) → 
 
 -- What one step answered and put out: the records that the record becomes, and the memory goes on;
 -- or the rule by which it is refused.
-abbrev pub Steps : (List Row → Row → Result (List Row) Rule) → List Row → Row
-    → ((List Row → Row → Result (List Row) Rule) → List Row → Type 0) → ℕ → List Row
+abbrev pub Steps : Decision → List Row → Row
+    → (Decision → List Row → Type 0) → ℕ → List Row
     → Option Rule → Type 0
 Steps decide past row follows room rows None =
     (decide past row ≡ Ok rows) × follows decide (row ∷ past)
 Steps decide past row follows room rows (Some rule) = in_room room (decide past row) ≡ Err rule
 
 -- The same for each way of deciding and each past that the memory stood for.
-abbrev pub HasStepped : ((List Row → Row → Result (List Row) Rule) → List Row → Type 0)
-    → ((List Row → Row → Result (List Row) Rule) → List Row → Type 0) → Row → ℕ → List Row
+abbrev pub HasStepped : (Decision → List Row → Type 0)
+    → (Decision → List Row → Type 0) → Row → ℕ → List Row
     → Option Rule → Type 0
 HasStepped before after next room out refused =
-    (decide : List Row → Row → Result (List Row) Rule) (past : List Row)
+    (decide : Decision) (past : List Row)
     → before decide past → IsOpen (next ∷ past) → Steps decide past next after room out refused
 
 -- How a command that decides each record at once keeps scores: after records, those given lead to
 -- spines in some relation to them.
-pub record Keeps (decide : List Row → Row → Result (List Row) Rule)
+pub record Keeps (decide : Decision)
     (Leads : List Row → Path → Type 0) : Type 0 where
   pub opening : Leads [] Unopened
   pub next : (past : List Row) (row : Row) (given : Path) (rows : List Row) → IsOpen (row ∷ past)

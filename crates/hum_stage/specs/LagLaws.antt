@@ -18,7 +18,7 @@ use Rattle.hum_stage.specs.Outcome.{AllDecided, Outcome, Becomes, Refused, Undec
 use Rattle.hum_stage.specs.Score.{IsScore}
 use Rattle.hum_stage.specs.Meaning.{Goes}
 use Rattle.hum_stage.specs.Order.{open_passed, passed-push}
-use Rattle.hum_stage.specs.Decided.{decisions, limit}
+use Rattle.hum_stage.specs.Decided.{Decision, decisions, limit}
 use Rattle.hum_stage.specs.Laws.{decisions_each, decisions_decided}
 use Rattle.hum_stage.specs.Look.{Look, outcome_of, outcome_at, outcomes_from, IsSteady}
 use Rattle.hum_stage.specs.LookLaws.{looks_each, outcome_stays}
@@ -189,7 +189,7 @@ lag_most outcomes p i n h =
     clash true x y = cc
     clash false x y = cc
 
-pub at_once_lags : (decide : List Row → Row → Result (List Row) Rule) (p : List Row)
+pub at_once_lags : (decide : Decision) (p : List Row)
     → LagsAtMost (λ p. limit 4294967295 (decisions decide [] p)) 0 p
 at_once_lags decide p i less =
     lag_most (λ p. limit 4294967295 (decisions decide [] p)) p i 0 (λ _.
@@ -199,7 +199,7 @@ at_once_lags decide p i less =
     limit_decided_at 4294967295 i (decisions decide [] (take (i + 1 + 0) p))
     (decisions_decided decide [] (take (i + 1 + 0) p)) (omega (arith, size, each)))
 
-pub at_once_holds : (decide : List Row → Row → Result (List Row) Rule)
+pub at_once_holds : (decide : Decision)
     → ((p : List Row) → length (limit 4294967295 (decisions decide [] p)) ≡ length p)
     → ((p : List Row) (r : Row) → IsScore (p ++ r ∷ [])
     → Goes (limit 4294967295 (decisions decide [] p)) (limit 4294967295 (decisions decide [] (p ++ r ∷ []))))

@@ -15,7 +15,7 @@ use Rattle.hum_stage.specs.Score.{through}
 use Rattle.hum_stage.specs.Outcome.{Outcome, Becomes, Refused, Undecided, AllDecided}
 use Rattle.hum_stage.specs.Meaning.{Meaning, IsLawful, IsWithinLag, DecidesClosed, Moment}
 use Rattle.hum_stage.specs.Order.{open_score, open_passed}
-use Rattle.hum_stage.specs.Decided.{decisions, limit, at_once}
+use Rattle.hum_stage.specs.Decided.{Decision, decisions, limit, at_once}
 use Rattle.hum_stage.specs.Standing.{Fields, Standing}
 use Rattle.hum_stage.specs.Laws.{decisions_each, decisions_decided, decisions_grow, limit-length}
 use Rattle.hum_stage.specs.Laws.{limit-Goes, settled-limit_le}
@@ -69,7 +69,7 @@ pub looking_decides : (room : ℕ) (look : Look) → IsSteady look
 looking_decides room look steady p closed =
     looks_decide room look [] p steady (open_passed [] p tt closed.0, ends_passed [] p closed.1)
 
-pub at_once_lawful : (stage : ℕ) (command : Command) (decide : List Row → Row → Result (List Row) Rule)
+pub at_once_lawful : (stage : ℕ) (command : Command) (decide : Decision)
     → IsLawful (at_once stage command decide)
 at_once_lawful stage command decide = record {
   each = λ p. limit-length 4294967295 (decisions decide [] p) ∙ decisions_each decide [] p;
@@ -82,7 +82,7 @@ at_once_lawful stage command decide = record {
   limited = λ p few. settled-limit_le 4294967295 (decisions decide [] p);
 }
 
-pub standing_lawful : (follows : (List Row → Row → Result (List Row) Rule) → List Row → Type 0)
+pub standing_lawful : (follows : Decision → List Row → Type 0)
     (x : Fields) (ended : Option End) (spent : Bool) (t : Moment)
     → Standing follows x ended spent t → IsLawful t.meaning
 standing_lawful follows x ended spent t h = rw h.meaning (at_once_lawful x.stage x.command h.decide)
@@ -111,7 +111,7 @@ within_lag n m lawful most = record {
   holds = λ t same score wants. rw same (lawful.holds t.put t.given n (is_some t.ended) score wants (most t.put));
 }
 
-pub at_once_within : (stage : ℕ) (command : Command) (decide : List Row → Row → Result (List Row) Rule)
+pub at_once_within : (stage : ℕ) (command : Command) (decide : Decision)
     → IsWithinLag 0 (at_once stage command decide)
 at_once_within stage command decide =
     within_lag 0 (at_once stage command decide) (at_once_lawful stage command decide) (at_once_lags decide)

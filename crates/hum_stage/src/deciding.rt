@@ -4,7 +4,7 @@ ghost use Rattle.hum_record.specs.Row.{Row};
 ghost use Rattle.hum_stage.specs.declared.faults.Rule.{Rule};
 ghost use Rattle.hum_stage.specs.declared.faults.Command.{Command};
 ghost use Rattle.hum_stage.specs.Meaning.{KeepsScore};
-ghost use Rattle.hum_stage.specs.Decided.{at_once, MayStep, HasStepped};
+ghost use Rattle.hum_stage.specs.Decided.{Decision, at_once, MayStep, HasStepped};
 
 use crate::due::Due;
 use crate::faults::{Command, Rule};
@@ -23,13 +23,13 @@ pub trait Decides {
     ghost command: { Command };
 
     /// What it decides by its options: of the records so far, the newest first, and the next one.
-    ghost decide: { Self.Options → List Row → Row → Result (List Row) Rule };
+    ghost decide: { Self.Options → Decision };
 
     /// Options with which it makes scores of scores.
     ghost keeps: { Self.Options → Type 0 } = { λ _. Unit {0} };
 
     /// It stands for these records, the newest first, of which a command decides in this way.
-    ghost follows: { Self → (List Row → Row → Result (List Row) Rule) → List Row → Type 0 };
+    ghost follows: { Self → Decision → List Row → Type 0 };
 
     /// Which command it is.
     fn command() -> Command

@@ -16,7 +16,7 @@ use Rattle.hum_frac.specs.Ratio.{Ratio}
 use Rattle.hum_frac.specs.Multiples.{is_multiple}
 use Rattle.hum_stage.specs.declared.faults.Rule.{Rule}
 use Rattle.hum_stage.specs.declared.faults.Rule.TheVariants.{K3, B1, B2, F1}
-use Rattle.hum_stage.specs.Decided.{in_room, Steps}
+use Rattle.hum_stage.specs.Decided.{Decision, in_room, Steps}
 use Rattle.hum_timebase.specs.Notes.{timed_in, timed_at, notes_of, has_misread, is_sounding}
 use Rattle.hum_timebase.specs.Ends.{latest, next_end, living_before}
 use Rattle.hum_timebase.specs.Clock.{Clock, clock_after, time_after}
@@ -152,7 +152,7 @@ struck_none notes kept none = rw none refl
 
 -- ---- one step
 
-module _ (pace : Pace) (path : Path) (timed : List Bool) (kept : Kept) (decide : List Row → Row → Result (List Row) Rule) (past : List Row)
+module _ (pace : Pace) (path : Path) (timed : List Bool) (kept : Kept) (decide : Decision) (past : List Row)
     (h : Follows pace path timed kept decide past) where
   pub goes_comment : (row : Row) → kind_of row ≡ Global → (decide past row ≡ Ok (row ∷ [])) × Follows pace path timed kept decide (row ∷ past)
   goes_comment (Comment text) k = (rw h.command refl, record { command = h.command; spines = h.spines; columns = h.columns; clock = h.clock })

@@ -4,7 +4,7 @@ use Rattle.hum_record.specs.Row.{Row}
 use Rattle.hum_path.specs.Spines.{Path}
 use Rattle.hum_path.specs.Score.{path_after}
 use Rattle.hum_stage.specs.declared.faults.Rule.{Rule}
-use Rattle.hum_stage.specs.Decided.{in_room}
+use Rattle.hum_stage.specs.Decided.{Decision, in_room}
 use Rattle.hum_timebase.specs.declared.options.TimebaseOptions.{TimebaseOptions}
 use Rattle.hum_timebase.specs.Notes.{timed_in}
 use Rattle.hum_timebase.specs.Clock.{clock_after}
@@ -17,7 +17,7 @@ pace_of options = record { step = options.step; text = options.text.items }
 
 -- It decides as the command does, has followed the spines, and keeps the ends of what lives there.
 pub record Follows (pace : Pace) (path : Path) (timed : List Bool) (kept : Kept)
-    (decide : List Row → Row → Result (List Row) Rule) (past : List Row) : Type 0 where
+    (decide : Decision) (past : List Row) : Type 0 where
   pub command : decide ≡ timebase pace
   pub spines : path ≡ path_after past
   pub columns : timed ≡ timed_in (path_after past)

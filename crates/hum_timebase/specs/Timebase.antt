@@ -14,7 +14,7 @@ use Rattle.hum_stage.specs.declared.faults.Rule.{Rule}
 use Rattle.hum_stage.specs.declared.faults.Rule.TheVariants.{K3, B1, B2, F1}
 use Rattle.hum_stage.specs.declared.faults.Command.TheVariants.{Timebase}
 use Rattle.hum_stage.specs.Meaning.{Meaning}
-use Rattle.hum_stage.specs.Decided.{at_once}
+use Rattle.hum_stage.specs.Decided.{Decision, at_once}
 use Rattle.hum_timebase.specs.Pairs.{paired}
 use Rattle.hum_record.specs.Contents.{is_null}
 use Rattle.hum_timebase.specs.Notes.{timed_in, is_barline_record, notes_of, has_misread}
@@ -115,7 +115,7 @@ interpretation_rows text tokens =
 
 -- What a record becomes, after the records above it, the newest first: the records that are left
 -- and those that are put between stand at the multiples of the step.
-abbrev pub timebase : Pace → List Row → Row → Result (List Row) Rule
+abbrev pub timebase : Pace → Decision
 timebase pace past (Comment comment) = Ok (Comment comment ∷ [])
 timebase pace past (Spined Interpretation tokens) = interpretation_rows pace.text tokens
 timebase pace past (Spined Values tokens) =
