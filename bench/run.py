@@ -196,22 +196,6 @@ def waiting():
     show(f'200 times * and data of {width} columns, context -n 3', [('humpipe', plan('plan', f'out: read {score} | context -n 3'))])
 
 
-def assembled():
-    """The assembler alone, without the net: the test that merges two sources of a million records, beside `paste` of two such files. The
-    test also makes the records that it puts."""
-    room = os.path.join('crates', 'hum_assemble')
-    binary = os.path.join(room, 'out', 'hum_assemble_tests')
-    title = 'two sources of 1,000,002 records, side by side'
-    if sys.argv[1:] and not any(word in title for word in sys.argv[1:]):
-        return
-    if not os.path.exists(binary):
-        subprocess.run(['rt', 'test'], cwd=room, check=True, stdout=subprocess.DEVNULL, stderr=subprocess.DEVNULL)
-    score = os.path.join(DATA, 'million.krn')
-    with open(score, 'w') as out:
-        out.write('**x\n' + '4c\n' * 1_000_000 + '*-\n')
-    show(title, [('hum_assemble', [binary, 'tests::holds_one_record_of_each_source']), ('paste', ['paste', score, score])])
-
-
 def main():
     os.makedirs(DATA, exist_ok=True)
     os.chdir(TOP)
@@ -220,7 +204,6 @@ def main():
         chain(size)
         tree(size)
     waiting()
-    assembled()
 
 
 main()
