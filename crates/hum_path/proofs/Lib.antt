@@ -7,6 +7,7 @@ pub mod Obeyed
 pub mod Onwards
 pub mod Places
 pub mod Plain
+pub mod Refused
 pub mod Staying
 pub mod Steady
 pub mod Turned

@@ -8,3 +8,4 @@ pub mod Chains
 pub mod Turned
 pub mod Memories
 pub mod Step
+pub mod Asked

@@ -20,11 +20,21 @@ pub enum Move {
 }
 
 /// For each spine after a record, where it comes from.
-#[derive(Debug, Drop)]
 pub struct Moves {
     // a list, or so many spines that stay where they are
     listed: Option<Vec<Move>>,
     width: u16,
+}
+
+// Written out, so that a caller's proof sees one call and not a list that is there or not.
+impl Drop for Moves {
+    #[inline]
+    fn drop(self) {
+        let Moves {
+            listed: _listed,
+            width: _,
+        } = self;
+    }
 }
 
 impl Model for Moves {

@@ -5,10 +5,11 @@ ghost use Rattle.std.specs.List.{list_any, list_all, find};
 ghost use Rattle.hum_record.specs.Spelling.{is_empty};
 ghost use Rattle.hum_record.specs.Row.{tokens_of};
 ghost use Rattle.hum_path.specs.Sign.{sign_of, is_exclusive, is_path_indicator};
-ghost use Rattle.hum_path.specs.Spines.{path_in, texts};
+ghost use Rattle.hum_path.specs.Spines.{Unopened, Spines, exchanges, path_in, texts};
 ghost use Rattle.hum_path.specs.Rules.{has_bare, stays_unnamed, has_unnamed, has_lone_join};
 ghost use Rattle.hum_path.specs.Rules.{mixes_join, has_mixed_join, names_and_steers};
-ghost use Rattle.hum_path.specs.Rules.{breaks_as_text, in_order};
+ghost use Rattle.hum_path.specs.Rules.{breaks, breaks_as_text, in_order};
+ghost use Rattle.hum_path.specs.Asked.{on_signs};
 
 use crate::PathFault;
 use crate::signs::{Sign, token_sign};
@@ -19,23 +20,14 @@ use std::alloc::{AllocError, Global};
 pub(crate) fn signs(alloc: Global, row: &Record) -> Result<Vec<Sign>, AllocError>
     ensures { IfOk result (λ v. v.items ≡ map sign_of (tokens_of row.now)) }
 {
-    let mut signs = Vec::new(alloc);
-    for j in 0..row.width() {
-        signs.push(token_sign(row.token(j)))?;
-    }
-    Ok(signs)
+    row.tokens().map(token_sign).collect(alloc)
 }
 
 /// Whether an exclusive interpretation has no name.
-pub(crate) fn has_bare(row: &Record) -> bool
+fn has_bare(row: &Record) -> bool
     ensures { result ≡ has_bare (tokens_of row.now) }
 {
-    for j in 0..row.width() {
-        if b"**".as_slice() == row.token(j) {
-            return true;
-        }
-    }
-    false
+    row.tokens().any(|token| b"**".as_slice() == token)
 }
 
 fn stays_unnamed(name: &[u8], sign: Sign) -> bool
@@ -45,7 +37,7 @@ fn stays_unnamed(name: &[u8], sign: Sign) -> bool
 }
 
 /// Whether an added spine waits for its exclusive interpretation, and is not given one.
-pub(crate) fn has_unnamed(names: &[Vec<u8>], signs: &[Sign]) -> bool
+fn has_unnamed(names: &[Vec<u8>], signs: &[Sign]) -> bool
     requires { length names.now ≡ length signs.now }
     ensures { result ≡ has_unnamed (texts names.now) signs.now }
 {
@@ -58,7 +50,7 @@ pub(crate) fn has_unnamed(names: &[Vec<u8>], signs: &[Sign]) -> bool
 }
 
 /// Whether a join has none beside it.
-pub(crate) fn has_lone_join(signs: &[Sign]) -> bool
+fn has_lone_join(signs: &[Sign]) -> bool
     ensures { result ≡ has_lone_join false signs.now }
 {
     let mut after_join = false;
@@ -85,7 +77,7 @@ fn mixes_join(names: &[Vec<u8>], signs: &[Sign], j: usize) -> bool
 }
 
 /// Whether joins stand side by side under different exclusive interpretations.
-pub(crate) fn has_mixed_join(names: &[Vec<u8>], signs: &[Sign]) -> bool
+fn has_mixed_join(names: &[Vec<u8>], signs: &[Sign]) -> bool
     requires { length names.now ≡ length signs.now }
     ensures { result ≡ has_mixed_join (texts names.now) signs.now }
 {
@@ -98,14 +90,14 @@ pub(crate) fn has_mixed_join(names: &[Vec<u8>], signs: &[Sign]) -> bool
 }
 
 /// Whether each token is an exclusive interpretation.
-pub(crate) fn all_exclusive(signs: &[Sign]) -> bool
-    ensures { result ≡ list_all is_exclusive signs.now }
+fn all_exclusive(row: &Record) -> bool
+    ensures { result ≡ list_all is_exclusive (map sign_of (tokens_of row.now)) }
 {
-    signs.iter().all(|s| s.is_exclusive())
+    row.tokens().map(token_sign).all(|sign| sign.is_exclusive())
 }
 
 /// Whether an exclusive interpretation stands beside a path indicator.
-pub(crate) fn names_and_steers(signs: &[Sign]) -> bool
+fn names_and_steers(signs: &[Sign]) -> bool
     ensures { result ≡ names_and_steers signs.now }
 {
     any_exclusive(signs) && any_indicator(signs)
@@ -133,6 +125,56 @@ pub(crate) fn has_nameless(names: &[Vec<u8>]) -> bool
         }
     }
     false
+}
+
+/// The first rule that the first interpretation of a score breaks.
+pub(crate) fn opening_fault(row: &Record) -> Option<PathFault>
+    ensures { result ≡ find (breaks Unopened (tokens_of row.now)) in_order }
+{
+    if !all_exclusive(row) {
+        return Some(PathFault::P1);
+    }
+    if has_bare(row) {
+        return Some(PathFault::P10);
+    }
+    if row.width() > 4096 {
+        return Some(PathFault::P9);
+    }
+    None
+}
+
+/// The first rule that an interpretation as wide as the spines breaks by what its tokens ask, given
+/// the places of the exchanged spines.
+pub(crate) fn sign_fault(
+    names: &[Vec<u8>],
+    row: &Record,
+    signs: &[Sign],
+    pair: &[u16],
+) -> Option<PathFault>
+    requires signs { signs.now ≡ map sign_of (tokens_of row.now) }
+    requires pair { pair.now ≡ exchanges 0 signs.now }
+    requires wide { length names.now ≡ length signs.now }
+    ensures { result ≡ find (breaks (Spines (texts names.now)) (tokens_of row.now)) on_signs }
+{
+    if has_unnamed(names, signs) {
+        return Some(PathFault::P6);
+    }
+    if has_bare(row) {
+        return Some(PathFault::P10);
+    }
+    if names_and_steers(signs) {
+        return Some(PathFault::P11);
+    }
+    if has_lone_join(signs) {
+        return Some(PathFault::P3);
+    }
+    if !(pair.len() == 0 || pair.len() == 2) {
+        return Some(PathFault::P4);
+    }
+    if has_mixed_join(names, signs) {
+        return Some(PathFault::P5);
+    }
+    None
 }
 
 /// The first rule that a record breaks which asks nothing of the spines.

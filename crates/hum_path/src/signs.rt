@@ -89,12 +89,7 @@ pub fn token_sign(token: &[u8]) -> Sign
 fn all_plain(row: &Record) -> bool
     ensures { result ≡ all_plain (tokens_of row.now) }
 {
-    for j in 0..row.width() {
-        if !token_sign(row.token(j)).is_plain() {
-            return false;
-        }
-    }
-    true
+    row.tokens().map(token_sign).all(|sign| sign.is_plain())
 }
 
 /// Whether a record has a path indicator or an exclusive interpretation.

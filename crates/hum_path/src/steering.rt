@@ -1,16 +1,19 @@
 //! The spines after an interpretation that asks something of them.
-ghost use Rattle.std.specs.Prelude.{◌≡◌, ◌+◌, ◌<◌, ◌≤◌, [], ◌++◌, false, map, length};
+ghost use Rattle.std.specs.Prelude.{◌≡◌, ◌≢◌, ◌+◌, ◌<◌, ◌≤◌, [], ◌∷◌, ◌++◌, false, map, length};
 ghost use Rattle.std.specs.Prelude.{slice_index_or, IfOk, OnOk};
 ghost use Rattle.hum_record.specs.Row.{tokens_of};
 ghost use Rattle.hum_path.specs.Spines.{exchanges, joins_at_front, partner, heirs, heirs_from};
 ghost use Rattle.hum_path.specs.Spines.{same_upto, renamed, path_in, Unopened, Spines, texts};
+ghost use Rattle.std.specs.List.{find};
+ghost use Rattle.hum_path.specs.declared.PathFault.TheVariants.{P9};
+ghost use Rattle.hum_path.specs.Sign.{sign_of};
+ghost use Rattle.hum_path.specs.Rules.{breaks};
+ghost use Rattle.hum_path.specs.Asked.{IsStepBy};
 ghost use Rattle.hum_path.specs.Step.{IsStep};
 
 use crate::PathFault;
 use crate::moved::Move;
-use crate::rules::{
-    all_exclusive, has_bare, has_lone_join, has_mixed_join, has_unnamed, names_and_steers, signs,
-};
+use crate::rules::{opening_fault, sign_fault, signs};
 use crate::signs::{Sign, token_sign};
 use hum_record::Record;
 use std::alloc::{AllocError, Global};
@@ -181,8 +184,8 @@ fn all_tokens(alloc: Global, row: &Record) -> Result<Vec<Vec<u8>>, AllocError>
     ensures { IfOk result (λ v. texts v.items ≡ tokens_of row.now) }
 {
     let mut names = Vec::new(alloc);
-    for j in 0..row.width() {
-        names.push(Vec::from_slice(alloc, row.token(j))?)?;
+    for token in row.tokens() {
+        names.push(Vec::from_slice(alloc, token)?)?;
     }
     Ok(names)
 }
@@ -191,19 +194,54 @@ fn all_tokens(alloc: Global, row: &Record) -> Result<Vec<Vec<u8>>, AllocError>
 fn open(alloc: Global, row: &Record) -> Result<NextSpines, PathFault>
     ensures { IsStep Unopened (tokens_of row.now) result }
 {
-    let signs = signs(alloc, row)?;
-    if !all_exclusive(&signs) {
-        return Err(PathFault::P1);
-    }
-    if has_bare(row) {
-        return Err(PathFault::P10);
-    }
-    if row.width() > 4096 {
-        return Err(PathFault::P9);
+    if let Some(fault) = opening_fault(row) {
+        return Err(fault);
     }
     let moves = same(alloc, row.width())?;
     let names = all_tokens(alloc, row)?;
     Ok(NextSpines { moves, names })
+}
+
+/// The spines that come of those under the signs, unless there are too many.
+fn spines_under(
+    alloc: Global,
+    names: &[Vec<u8>],
+    row: &Record,
+    signs: &[Sign],
+    pair: &[u16],
+) -> Result<NextSpines, PathFault>
+    requires signs { signs.now ≡ map sign_of (tokens_of row.now) }
+    requires pair { pair.now ≡ exchanges 0 signs.now }
+    requires few { length signs.now ≤ 4096 }
+    ensures { let path = Spines (texts names.now) in
+        IsStepBy (find (breaks path (tokens_of row.now)) (P9 ∷ [])) path (tokens_of row.now) result }
+{
+    let moves = heirs(alloc, pair, signs)?;
+    if moves.len() > 4096 {
+        return Err(PathFault::P9);
+    }
+    let names = all_renamed(alloc, names, row, &moves)?;
+    Ok(NextSpines { moves, names })
+}
+
+/// The spines after a record that is as wide as they are, under its signs.
+fn advance_under(
+    alloc: Global,
+    names: &[Vec<u8>],
+    row: &Record,
+    signs: &[Sign],
+) -> Result<NextSpines, PathFault>
+    requires signs { signs.now ≡ map sign_of (tokens_of row.now) }
+    requires wide { length (tokens_of row.now) ≡ length names.now }
+    requires some { length names.now ≢ 0 }
+    requires few { length names.now ≤ 4096 }
+    ensures { IsStep (Spines (texts names.now)) (tokens_of row.now) result }
+{
+    let pair = exchanges(alloc, signs)?;
+    match sign_fault(names, row, signs, &pair) {
+        Some(fault) => Err(fault),
+        None => spines_under(alloc, names, row, signs, &pair),
+    }
 }
 
 /// The spines after a record, and their exclusive interpretations.
@@ -218,31 +256,7 @@ fn advance(alloc: Global, names: &[Vec<u8>], row: &Record) -> Result<NextSpines,
         return Err(PathFault::P2);
     }
     let signs = signs(alloc, row)?;
-    if has_unnamed(names, &signs) {
-        return Err(PathFault::P6);
-    }
-    if has_bare(row) {
-        return Err(PathFault::P10);
-    }
-    if names_and_steers(&signs) {
-        return Err(PathFault::P11);
-    }
-    if has_lone_join(&signs) {
-        return Err(PathFault::P3);
-    }
-    let pair = exchanges(alloc, &signs)?;
-    if !(pair.len() == 0 || pair.len() == 2) {
-        return Err(PathFault::P4);
-    }
-    if has_mixed_join(names, &signs) {
-        return Err(PathFault::P5);
-    }
-    let moves = heirs(alloc, &pair, &signs)?;
-    if moves.len() > 4096 {
-        return Err(PathFault::P9);
-    }
-    let names = all_renamed(alloc, names, row, &moves)?;
-    Ok(NextSpines { moves, names })
+    advance_under(alloc, names, row, &signs)
 }
 
 /// The spines after an interpretation that asks something of them, or the first rule it breaks.

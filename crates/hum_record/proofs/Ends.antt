@@ -1,6 +1,6 @@
 -- Where tokens end in their text.
 use Rattle.std.proofs.Common.{◌≡◌, ◌≢◌, ℕ, zero, suc, ◌+◌, ◌-◌, ◌<◌, ◌≤◌, Bool, true, false, ◌||◌, List, []}
-use Rattle.std.proofs.Common.{◌∷◌, ◌++◌, length, get_or, refl, sym, ap, subst, ◌∙◌, arith, append_assoc}
+use Rattle.std.proofs.Common.{◌∷◌, ◌++◌, length, get_or, refl, sym, ap, ap₂, subst, ◌∙◌, arith, append_assoc}
 use Rattle.std.proofs.Common.{length-append}
 use Rattle.std.specs.List.{list_any, join_with_byte}
 use Rattle.std.specs.Prelude.{slice_range}
@@ -9,6 +9,7 @@ use Rattle.std.proofs.lemmas.List.{append-nil, drop_at, take_at}
 use Rattle.hum_record.specs.Row.{Row, Comment, Spined, tokens_of, width_of, token_at}
 use Rattle.hum_record.specs.Spelling.{IsTextOf, parts}
 use Rattle.hum_record.specs.Fields.{ends_from, begins_at, row_in, AreFields}
+use Rattle.hum_record.specs.Coming.{tokens_by, LieIn}
 
 pub length-ends_from : (start : ℕ) (ts : List (List ℕ)) → length (ends_from start ts) ≡ length ts
 length-ends_from start [] = refl
@@ -89,6 +90,39 @@ pub part_lies : (text ends : List ℕ) (j : ℕ) → ends ≡ ends_from 0 (parts
 part_lies text ends j cut below =
     let size = parts_count text ends cut in
     token_lies text ends (parts text) j (sym (join_with_byte-slice_split 9 text)) cut (omega (arith, size, below))
+
+-- One token after another
+
+-- what a text's tokens are by their ends
+pub record Come (text : List ℕ) (start : ℕ) (ends : List ℕ) (ts : List (List ℕ)) : Type 0 where
+  pub within : LieIn text start ends
+  pub reads : tokens_by text start ends ≡ ts
+
+come_from : (text front : List ℕ) (start : ℕ) (ts : List (List ℕ)) → length front ≡ start →
+    text ≡ front ++ join_with_byte 9 ts → Come text start (ends_from start ts) ts
+come_from text front start [] at e = record { within = tt; reads = refl }
+come_from text front start (t ∷ []) at e =
+    let lies = first_lies text front t [] start at (e ∙ ap (λ rest. front ++ rest) (sym (append-nil t))) in
+    record { within = (lies.order, lies.within, tt); reads = ap (λ s. s ∷ []) lies.reads }
+come_from text front start (t ∷ u ∷ us) at e =
+    let lies = first_lies text front t (9 ∷ join_with_byte 9 (u ∷ us)) start at e in
+    let next : length (front ++ (t ++ 9 ∷ [])) ≡ start + length t + 1 = omega (arith, at, length-append front (t ++ 9 ∷ []), length-append t (9 ∷ [])) in
+    let same : text ≡ (front ++ (t ++ 9 ∷ [])) ++ join_with_byte 9 (u ∷ us) = e ∙ simp append_assoc in
+    let ih = come_from text (front ++ (t ++ 9 ∷ [])) (start + length t + 1) (u ∷ us) next same in
+    record {
+      within = (lies.order, lies.within, ih.within);
+      reads = ap₂ (λ (s : List ℕ) (rest : List (List ℕ)). s ∷ rest) lies.reads ih.reads;
+    }
+
+row_comes : (row : Row) (text ends : List ℕ) → IsTextOf row text → ends ≡ ends_from 0 (tokens_of row) → Come text 0 ends (tokens_of row)
+row_comes (Comment comment) text ends h cut = rw cut (record { within = tt; reads = refl })
+row_comes (Spined kind tokens) text ends h cut = rw cut (come_from text [] 0 tokens refl h.0)
+
+-- the tokens of a record are those of its text by their ends
+pub tokens_come : (text ends : List ℕ) (row : Row) → AreFields text ends → row_in text ≡ row → Come text 0 ends (tokens_of row)
+tokens_come text ends row fields is =
+    row_comes row text ends (subst (λ (r : Row). IsTextOf r text) is fields.lawful)
+    (fields.cut ∙ ap (λ (r : Row). ends_from 0 (tokens_of r)) is)
 
 -- Where one more token ends
 

@@ -22,7 +22,6 @@ const FIRST_BYTES: usize = 64;
 ///
 /// After a refused growth of memory it is *spent*: each later `push` answers
 /// [`RecordFault::Memory`] again.
-#[derive(Drop)]
 pub struct RecordBuilder {
     alloc: Global,
     text: Vec<u8>,
@@ -31,6 +30,21 @@ pub struct RecordBuilder {
     // what the record will be, once it has a token
     body: Option<Box<Body>>,
     spent: bool,
+}
+
+// Written out, so that a caller's proof sees one call and not the drop of each field.
+impl Drop for RecordBuilder {
+    #[inline]
+    fn drop(self) {
+        let RecordBuilder {
+            alloc: _,
+            text: _text,
+            kind: _,
+            ends: _ends,
+            body: _body,
+            spent: _,
+        } = self;
+    }
 }
 
 impl Model for RecordBuilder {
@@ -122,10 +136,12 @@ impl RecordBuilder {
         ensures { result ≡ Spined self.kind self.tokens }
     {
         let RecordBuilder {
+            alloc: _,
             text,
+            kind: _,
             ends,
             body,
-            ..
+            spent: _,
         } = self;
         let Some(mut body) = body else {
             unreachable!();

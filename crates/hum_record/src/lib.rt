@@ -17,6 +17,7 @@ ghost use Rattle.hum_record.specs.declared.RecordFault.TheVariants.{Memory};
 mod bits;
 mod building;
 mod contents;
+pub mod iter;
 mod making;
 mod reading;
 mod spare;

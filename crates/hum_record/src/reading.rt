@@ -5,6 +5,7 @@ ghost use Rattle.hum_record.specs.Fields.{AreFields, row_in};
 ghost use Rattle.hum_record.specs.Row.{Row, kind_of, row_of, tokens_of, width_of, token_at, text_of};
 ghost use Rattle.hum_record.specs.declared.RecordFault.TheVariants.{Memory};
 
+use crate::iter::Tokens;
 use crate::spare::{Body, Spare, new_body};
 use crate::tokens::{Cut, lawful_kind, push_ends, token_at_end, token_kind};
 use crate::{Kind, RecordFault};
@@ -163,6 +164,14 @@ impl Record {
         ensures lawful { IsTokenOf self.now result.now }
     {
         token_at_end(&self.body.text, &self.body.ends, j)
+    }
+
+    /// The tokens, from the left: one for each spine, and none of a global comment.
+    #[inline]
+    pub fn tokens(&self) -> Tokens<'_>
+        ensures { result ≡ tokens_of self.now }
+    {
+        Tokens::all(&self.body.text, &self.body.ends)
     }
 
     /// The whole text: the tokens, a tab between two.
