@@ -31,6 +31,8 @@ pub struct Web<F, W> {
     // whether there are several sources, and the stage that handed a record out last
     has_several: bool,
     spender: usize,
+    // the stage that took a record last that its source had no use for
+    taker: usize,
 }
 
 impl<F: Feeds, W: Works> Web<F, W> {
@@ -58,6 +60,7 @@ impl<F: Feeds, W: Works> Web<F, W> {
             feeder: 0,
             has_several,
             spender: 0,
+            taker: 0,
         })
     }
 
@@ -110,16 +113,67 @@ impl<F: Feeds, W: Works> Web<F, W> {
         self.links[last].next()
     }
 
-    // Gives a record to a source, if it is one, so that its next one needs no memory of its own.
-    fn feed(&mut self, k: usize, row: Record)
+    // Gives a record that is done with to a stage, and hands out what that has no use for.
+    fn feed(&mut self, k: usize, row: Record) -> Option<Record>
         ensures stands { (s : Scene) → Stands (StandsAs F.stands W.stands) self.old s
             → Stands (StandsAs F.stands W.stands) self.new s }
         ensures shows { (k : ℕ) → ShowsSame F.remaining F.ended F.calls F.failed
             self.old.nodes.items self.new.nodes.items k }
         ensures count { length self.new.nodes.items ≡ length self.old.nodes.items }
     {
-        if k < self.nodes.len() && self.nodes[k].is_source() {
-            self.nodes[k].reuse(row);
+        if k < self.nodes.len() {
+            return self.nodes[k].reuse(row);
+        }
+        Some(row)
+    }
+
+    // Offers a record to the stage that took one last. Where that hands it back, the next is asked the
+    // next time.
+    fn offer(&mut self, row: Record) -> Option<Record>
+        ensures stands { (s : Scene) → Stands (StandsAs F.stands W.stands) self.old s
+            → Stands (StandsAs F.stands W.stands) self.new s }
+        ensures shows { (k : ℕ) → ShowsSame F.remaining F.ended F.calls F.failed
+            self.old.nodes.items self.new.nodes.items k }
+        ensures count { length self.new.nodes.items ≡ length self.old.nodes.items }
+    {
+        let k = self.taker;
+        let back = self.feed(k, row);
+        if back.is_some() {
+            let next = k.saturating_add(1);
+            self.taker = if next < self.nodes.len() { next } else { 0 };
+        }
+        back
+    }
+
+    // The same until one takes it. It happens only where a stage gives more records than it is put.
+    #[inline(never)]
+    fn offer_to_all(&mut self, row: Record)
+        ensures stands { (s : Scene) → Stands (StandsAs F.stands W.stands) self.old s
+            → Stands (StandsAs F.stands W.stands) self.new s }
+        ensures shows { (k : ℕ) → ShowsSame F.remaining F.ended F.calls F.failed
+            self.old.nodes.items self.new.nodes.items k }
+        ensures count { length self.new.nodes.items ≡ length self.old.nodes.items }
+    {
+        let mut left = Some(row);
+        for _ in 0..self.nodes.len() {
+            left = match left {
+                Some(row) => self.offer(row),
+                None => return,
+            };
+        }
+    }
+
+    // Gives a record back to the source that had a turn last, or where that has no use for it, to one
+    // of the stages.
+    fn give_back(&mut self, row: Record)
+        ensures stands { (s : Scene) → Stands (StandsAs F.stands W.stands) self.old s
+            → Stands (StandsAs F.stands W.stands) self.new s }
+        ensures shows { (k : ℕ) → ShowsSame F.remaining F.ended F.calls F.failed
+            self.old.nodes.items self.new.nodes.items k }
+        ensures count { length self.new.nodes.items ≡ length self.old.nodes.items }
+    {
+        if let Some(row) = self.feed(self.feeder, row) {
+            self.offer_to_all(row);
         }
     }
 
@@ -165,7 +219,7 @@ impl<F: Feeds, W: Works> Web<F, W> {
             return;
         }
         if let Some(row) = self.spent() {
-            self.feed(k, row);
+            let _refused = self.feed(k, row);
         }
     }
 
@@ -184,7 +238,8 @@ impl<F: Feeds, W: Works> Web<F, W> {
     }
 
     /// Gives a record back to the source that had a turn last, so that its next one needs no memory of
-    /// its own, and where there are several, to the others what assemble is done with.
+    /// its own, or where that has no use for it, to a stage that has; and where there are several
+    /// sources, to the others what assemble is done with.
     pub fn reuse(&mut self, row: Record)
         ensures stands { (s : Scene) → Stands (StandsAs F.stands W.stands) self.old s
             → Stands (StandsAs F.stands W.stands) self.new s }
@@ -192,7 +247,7 @@ impl<F: Feeds, W: Works> Web<F, W> {
             self.old.nodes.items self.new.nodes.items k }
         ensures count { length self.new.nodes.items ≡ length self.old.nodes.items }
     {
-        self.feed(self.feeder, row);
+        self.give_back(row);
         if self.has_several {
             self.feed_others();
         }

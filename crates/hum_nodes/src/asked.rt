@@ -84,4 +84,10 @@ impl<W: Works> Works for Asked<W> {
     fn done_with(&mut self) -> Option<Record> {
         self.inner.done_with()
     }
+
+    // A record passes here only where its source has no use for it.
+    #[inline(never)]
+    fn reuse(&mut self, row: Record) -> Option<Record> {
+        self.inner.reuse(row)
+    }
 }

@@ -57,10 +57,9 @@ impl<F: Feeds, W: Works> Node<F, W> {
         }
     }
 
-    /// Gives a record back to a source, so that its next one needs no memory of its own.
-    pub fn reuse(&mut self, row: Record)
-        requires { is_source self.old ≡ true }
-        ensures kind { is_source self.new ≡ true }
+    /// Gives a record that is done with to a node, which hands back what it has no use for.
+    pub fn reuse(&mut self, row: Record) -> Option<Record>
+        ensures kind { is_source self.new ≡ is_source self.old }
         ensures stands { (rest : List ℕ) (t : At) → StandsAs F.stands W.stands self.old rest t
             → StandsAs F.stands W.stands self.new rest t }
         ensures bytes { IsKept (remaining_of F.remaining self.old)
@@ -71,7 +70,7 @@ impl<F: Feeds, W: Works> Node<F, W> {
     {
         match self {
             Node::Source(node) => node.reuse(row),
-            Node::Stage(_) => unreachable!(),
+            Node::Stage(node) => node.reuse(row),
         }
     }
 

@@ -97,6 +97,13 @@ pub trait Works: Drop {
         None
     }
 
+    /// Takes a record that is done with, if it can make another in it, and else hands it back.
+    fn reuse(&mut self, row: Record) -> Option<Record>
+        ensures { (t : At) → stands self.old t → stands self.new t }
+    {
+        Some(row)
+    }
+
     /// It reads no bytes.
     ghost no_bytes: { (s : Self) (t : At) → stands s t → bytes_of t ≡ 0 };
 }
@@ -144,8 +151,9 @@ pub trait Feeds: Drop {
         // So each run of polls ends.
         ensures nears { IfOk result (λ polled. Nears polled (left self.old) (left self.new)) };
 
-    /// Takes a record back that was done with, so that the next one needs no memory of its own.
-    fn reuse(&mut self, row: Record)
+    /// Takes a record back that was done with, so that the next one needs no memory of its own. What it
+    /// has no use for it hands back.
+    fn reuse(&mut self, row: Record) -> Option<Record>
         ensures stands { (rest : List ℕ) (t : At) → stands self.old rest t
             → stands self.new rest t }
         ensures bytes { IsKept (remaining self.old) (remaining self.new) (ended self.old)

@@ -55,7 +55,7 @@ impl<R: Source + Drop> Feeds for Reading<R> {
         self.inner.poll()
     }
 
-    fn reuse(&mut self, row: Record) {
-        self.inner.reuse(row);
+    fn reuse(&mut self, row: Record) -> Option<Record> {
+        self.inner.reuse(row)
     }
 }

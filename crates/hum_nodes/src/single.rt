@@ -73,4 +73,8 @@ impl<S: Stage + Drop> Works for Single<S> {
     fn stop(&mut self, _place: usize, end: End) {
         self.inner.end(end);
     }
+
+    fn reuse(&mut self, row: Record) -> Option<Record> {
+        self.inner.reuse(row)
+    }
 }

@@ -85,4 +85,11 @@ impl<S: Stage + Drop> Works for Worker<S> {
             Worker::Merging(stage) => stage.done_with(),
         }
     }
+
+    fn reuse(&mut self, row: Record) -> Option<Record> {
+        match self {
+            Worker::Single(stage) => stage.reuse(row),
+            Worker::Merging(stage) => stage.reuse(row),
+        }
+    }
 }

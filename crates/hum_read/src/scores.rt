@@ -147,11 +147,12 @@ impl<R: Source> ScoreReader<R> {
         }
     }
 
-    /// Takes a record that was done with, so that the next one needs no memory of its own.
-    pub fn reuse(&mut self, row: Record)
+    /// Takes a record that was done with, so that the next one needs no memory of its own. What it has
+    /// no use for it hands back.
+    pub fn reuse(&mut self, row: Record) -> Option<Record>
         ensures { self.new ≡ self.old }
     {
-        self.spare.keep(row);
+        self.spare.offer(row)
     }
 
     /// The last line that was given is refused by a rule, or memory ran out. It happens once, so it

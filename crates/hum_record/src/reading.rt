@@ -122,6 +122,11 @@ impl Record {
         body
     }
 
+    /// How long a text fits into the memory of this one.
+    pub(crate) fn capacity(&self) -> usize {
+        self.body.text.capacity()
+    }
+
     /// A second record that is the same.
     pub fn copy(&self, alloc: Global) -> Result<Record, AllocError>
         ensures { IfOk result (λ r. r ≡ self.now) }
@@ -131,6 +136,21 @@ impl Record {
         Ok(Record {
             body: Box::new(alloc, Body { text, ends })?,
         })
+    }
+
+    /// The same in what is left of a record that is done with. Nothing of that record shows.
+    ///
+    /// # Errors
+    /// Want of memory.
+    pub fn copy_into(&self, alloc: Global, spare: &mut Spare) -> Result<Record, AllocError>
+        ensures { IfOk result (λ r. r ≡ self.now) }
+    {
+        let mut body = spare.take_or_new(alloc)?;
+        body.text.clear();
+        body.text.extend_from_slice(&self.body.text)?;
+        body.ends.clear();
+        body.ends.extend_from_slice(&self.body.ends)?;
+        Ok(Record { body })
     }
 
     /// What the record is.

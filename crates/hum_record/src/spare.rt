@@ -61,20 +61,27 @@ impl Spare {
     /// Keeps a record that is done with, behind the first one where it is short and not too many are.
     #[inline]
     pub fn keep(&mut self, row: Record) {
-        let body = row.into_body();
-        if self.first.is_none() {
-            self.first = Some(body);
-        } else {
-            self.keep_behind(body);
+        let _refused = self.offer(row);
+    }
+
+    /// The same, but what isn't kept is handed back.
+    #[inline]
+    pub fn offer(&mut self, row: Record) -> Option<Record> {
+        if self.first.is_some() {
+            return self.offer_behind(row);
         }
+        self.first = Some(row.into_body());
+        None
     }
 
     #[inline(never)]
-    fn keep_behind(&mut self, body: Box<Body>) {
-        if self.others.len() < MOST_OTHERS && body.text.capacity() <= MOST_TEXT {
-            // without memory for its place it is let go
-            let _kept = self.others.push(body);
+    fn offer_behind(&mut self, row: Record) -> Option<Record> {
+        if self.others.len() >= MOST_OTHERS || row.capacity() > MOST_TEXT {
+            return Some(row);
         }
+        // without memory for its place it is let go
+        let _kept = self.others.push(row.into_body());
+        None
     }
 
     /// Hands out what is left of one, which may hold anything.

@@ -195,4 +195,8 @@ impl<C: Decides> Stage for AtOnce<C> {
     fn held(&self) -> usize {
         if self.due.is_empty() { 0 } else { 1 }
     }
+
+    fn reuse(&mut self, row: Record) -> Option<Record> {
+        self.due.reuse(row)
+    }
 }

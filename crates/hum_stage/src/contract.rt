@@ -58,6 +58,15 @@ pub trait Stage {
     fn held(&self) -> usize
         ensures { ShowsHeld (stands self.now) result };
 
+    /// Takes a record that is done with, if it can make another in it, and else hands it back.
+    fn reuse(&mut self, row: Record) -> Option<Record>
+        ensures stands { (t : Moment) → stands self.old t → stands self.new t }
+        ensures left { left self.new ≡ left self.old }
+        ensures spent { spent self.old → spent self.new }
+    {
+        Some(row)
+    }
+
     /// What is left is all that is settled, less what was given.
     ghost remains: { (s : Self) (t : Moment) → stands s t → left s + t.given ≡ length (all_of t) };
 

@@ -37,6 +37,13 @@ pub trait Due: Drop {
     /// Drops them all.
     fn clear(&mut self)
         ensures { rows self.new ≡ [] };
+
+    /// Takes a record that is done with, if it can make another in it, and else hands it back.
+    fn reuse(&mut self, row: Record) -> Option<Record>
+        ensures { rows self.new ≡ rows self.old }
+    {
+        Some(row)
+    }
 }
 
 impl Due for VecDeque<Record> {

@@ -27,6 +27,8 @@ pub struct Around {
     other: Option<Record>,
     // how many tokens the other has where it is a null record, else 0
     nulls: usize,
+    // what copies are made in
+    spare: Spare,
 }
 
 impl Model for Around {
@@ -41,12 +43,12 @@ impl Model for Around {
     ghost invariant = { λ d. AreDue d.before d.single d.after d.other d.nulls };
 }
 
-fn copy_of(alloc: Global, other: &Option<Record>) -> Result<Record, AllocError>
+fn copy_of(alloc: Global, other: &Option<Record>, spare: &mut Spare) -> Result<Record, AllocError>
     requires { is_some other.now ≡ true }
     ensures { IfOk result (λ row. row ≡ row_in other.now) }
 {
     match other {
-        Some(row) => row.copy(alloc),
+        Some(row) => row.copy_into(alloc, spare),
         None => unreachable!(),
     }
 }
@@ -127,7 +129,6 @@ impl Around {
         row: Record,
         stays: bool,
         after: u64,
-        spare: &mut Spare,
     ) -> Result<(), AllocError>
         requires lawful { IsTextOf row (text_of row) }
         requires kind { kind_of row ≡ AnyValues }
@@ -142,10 +143,10 @@ impl Around {
             &row,
             &mut self.other,
             &mut self.nulls,
-            spare,
+            &mut self.spare,
         )?;
         self.before = before;
-        self.single = kept_if(stays, row, spare);
+        self.single = kept_if(stays, row, &mut self.spare);
         self.after = after;
         Ok(())
     }
@@ -162,12 +163,13 @@ impl Due for Around {
             after: 0,
             other: None,
             nulls: 0,
+            spare: Spare::none(alloc),
         }
     }
 
     fn next(&mut self) -> Result<Option<Record>, AllocError> {
         if self.before > 0 {
-            let row = copy_of(self.alloc, &self.other)?;
+            let row = copy_of(self.alloc, &self.other, &mut self.spare)?;
             self.before -= 1;
             return Ok(Some(row));
         }
@@ -175,7 +177,7 @@ impl Due for Around {
             return Ok(Some(row));
         }
         if self.after > 0 {
-            let row = copy_of(self.alloc, &self.other)?;
+            let row = copy_of(self.alloc, &self.other, &mut self.spare)?;
             self.after -= 1;
             return Ok(Some(row));
         }
@@ -195,5 +197,9 @@ impl Due for Around {
         self.before = 0;
         self.single = None;
         self.after = 0;
+    }
+
+    fn reuse(&mut self, row: Record) -> Option<Record> {
+        self.spare.offer(row)
     }
 }

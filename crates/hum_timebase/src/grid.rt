@@ -23,7 +23,7 @@ use crate::records::{names_some, tb_record};
 use hum_frac::Frac;
 use hum_kern::KernFault;
 use hum_path::Paths;
-use hum_record::{Kind, Record, Spare};
+use hum_record::{Kind, Record};
 use hum_stage::{Command, Decides, Rule};
 use std::alloc::{AllocError, Global};
 
@@ -61,13 +61,7 @@ fn content_by(misread: Option<KernFault>, notes: &[Option<Frac>], row: &Record) 
 
 /// Puts what a timed record becomes where it is due, if there is room for it.
 #[inline(always)]
-fn place(
-    made: Strike,
-    row: Record,
-    room: u64,
-    spare: &mut Spare,
-    out: &mut Around,
-) -> Result<Option<Rule>, AllocError>
+fn place(made: Strike, row: Record, room: u64, out: &mut Around) -> Result<Option<Rule>, AllocError>
     requires lawful { IsTextOf row (text_of row) }
     requires kind { kind_of row ≡ AnyValues }
     requires empty { out.old ≡ [] }
@@ -83,7 +77,7 @@ fn place(
     }
     let before = made.before as u64;
     let after = made.after as u64;
-    out.put_among(before, row, made.stays, after, spare)?;
+    out.put_among(before, row, made.stays, after)?;
     Ok(None)
 }
 
@@ -97,8 +91,6 @@ pub struct Grid {
     clock: Clock,
     // the notes of the record at hand
     notes: Vec<Option<Frac>>,
-    // the record that was dropped last
-    spare: Spare,
 }
 
 impl Grid {
@@ -148,7 +140,6 @@ impl Grid {
         ensures rest { OnOk result (self.new
             ≡ record self.old {
               clock = self.new.clock;
-              spare = self.new.spare;
             }) }
     {
         if misread.is_some() {
@@ -161,7 +152,7 @@ impl Grid {
             return Ok(None);
         }
         match self.clock.strike(self.pace.step(), &self.notes) {
-            Ok(made) => place(made, row, room, &mut self.spare, out),
+            Ok(made) => place(made, row, room, out),
             Err(rule) => Ok(Some(rule)),
         }
     }
@@ -222,7 +213,6 @@ impl Decides for Grid {
             timed: Vec::new(alloc),
             clock: Clock::new(alloc),
             notes: Vec::new(alloc),
-            spare: Spare::none(alloc),
         }
     }
 

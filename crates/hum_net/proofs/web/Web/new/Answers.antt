@@ -33,6 +33,7 @@ returns-clause-stands g c s opening begun =
       feeder = 0;
       has_several = c.loop-node.has_several;
       spender = 0;
+      taker = 0;
     })
     s opening begun
     (omega (arith, i, t, e, a)) c.loop-node.invariant.each
