@@ -1,6 +1,7 @@
 pub mod Row
 pub mod Spelling
 pub mod Fields
+pub mod Lines
 pub mod Cutting
 pub mod Plain
 pub mod Building

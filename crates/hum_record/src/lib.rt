@@ -17,6 +17,7 @@ ghost use Rattle.hum_record.specs.declared.RecordFault.TheVariants.{Memory};
 mod bits;
 mod building;
 mod contents;
+mod line;
 mod making;
 mod reading;
 mod spare;
@@ -24,6 +25,7 @@ mod tokens;
 
 pub use building::RecordBuilder;
 pub use contents::{is_barline, is_data, is_filled, is_null};
+pub use line::RecordLine;
 pub use making::Making;
 pub use reading::Record;
 pub use spare::Spare;
