@@ -61,8 +61,8 @@ impl<F: Feeds, W: Works, S: Sink> Net<F, W, S> {
         ensures readers { self.new.readers ≡ self.old.readers }
     {
         match self.web.take_out() {
-            Next::Record(row) => match write_record(&mut self.sink, &row) {
-                Ok(()) => self.web.reuse(row),
+            Next::Record(row) => match write_record(&mut self.sink, row) {
+                Ok(row) => self.web.reuse(row),
                 Err(_) => self.failure = Some(RunResult::Write),
             },
             Next::End(_) => match self.sink.flush() {

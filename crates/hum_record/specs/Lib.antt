@@ -2,6 +2,7 @@ pub mod Row
 pub mod Spelling
 pub mod Fields
 pub mod Coming
+pub mod Lines
 pub mod Cutting
 pub mod Plain
 pub mod Building

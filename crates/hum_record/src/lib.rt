@@ -18,6 +18,7 @@ mod bits;
 mod building;
 mod contents;
 pub mod iter;
+mod line;
 mod making;
 mod reading;
 mod spare;
@@ -25,6 +26,7 @@ mod tokens;
 
 pub use building::RecordBuilder;
 pub use contents::{is_barline, is_data, is_filled, is_null};
+pub use line::RecordLine;
 pub use making::Making;
 pub use reading::Record;
 pub use spare::Spare;

@@ -117,7 +117,10 @@ impl Record {
     }
 
     /// What is left of a record that is done with.
-    pub(crate) fn into_body(self) -> Box<Body> {
+    pub(crate) fn into_body(self) -> Box<Body>
+        ensures fields { AreFields result.value.text.items result.value.ends.items }
+        ensures text { self ≡ row_in result.value.text.items }
+    {
         let Record { body } = self;
         body
     }

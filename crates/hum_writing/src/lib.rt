@@ -34,12 +34,35 @@ pub fn write_all<W: Sink>(sink: &mut W, text: &[u8]) -> Result<(), WriteFailed>
     Ok(())
 }
 
-/// Writes a record's text and LF.
+/// Writes a record's text and LF, at once where its buffer has room for both, and hands the record
+/// back.
 ///
 /// # Errors
 /// As [`write_all`]'s.
 #[inline(always)]
-pub fn write_record<W: Sink>(sink: &mut W, row: &Record) -> Result<(), WriteFailed>
+pub fn write_record<W: Sink>(sink: &mut W, row: Record) -> Result<Record, WriteFailed>
+    ensures ok { OnOk result (Appends (W.contents sink.old) (W.contents sink.new)
+        (text_of row ++ 10 ∷ [])) }
+    ensures err { OnErr result (WroteFront (W.contents sink.old) (W.contents sink.new)
+        (text_of row ++ 10 ∷ [])) }
+    ensures sound { OnOk result (W.failed sink.new ≡ W.failed sink.old) }
+    ensures failed { OnErr result (W.failed sink.new ≡ true) }
+{
+    match row.into_line() {
+        Ok(line) => {
+            write_all(sink, line.text())?;
+            Ok(line.into_record())
+        }
+        Err(row) => {
+            write_parts(sink, &row)?;
+            Ok(row)
+        }
+    }
+}
+
+/// Writes a record's text, and then LF.
+#[inline(never)]
+fn write_parts<W: Sink>(sink: &mut W, row: &Record) -> Result<(), WriteFailed>
     ensures ok { OnOk result (Appends (W.contents sink.old) (W.contents sink.new)
         (text_of row.now ++ 10 ∷ [])) }
     ensures err { OnErr result (WroteFront (W.contents sink.old) (W.contents sink.new)

@@ -1,5 +1,5 @@
 use Rattle.hum_writing.proofs.Appending.{front_first, err-of, last-err}
-use Rattle.hum_writing.proofs.write_record.Goals as goal
+use Rattle.hum_writing.proofs.write_parts.Goals as goal
 
 pub returns-in_err-write_all-clause-err : goal.returns-in_err-write_all-clause-err
 returns-in_err-write_all-clause-err g c =
