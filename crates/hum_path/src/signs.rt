@@ -9,7 +9,7 @@ use hum_record::{Kind, Record};
 
 /// What a token of an interpretation asks of the spines (Humdrum Toolkit: Reference Manual,
 /// syntax).
-#[derive(Clone, Copy, Debug, PartialEq, Eq)]
+#[derive(Clone, Copy)]
 pub enum Sign {
     /// `*^`: two spines
     Split,

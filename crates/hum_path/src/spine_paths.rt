@@ -19,7 +19,7 @@ use std::alloc::{AllocError, Global};
 use std::marker::Model;
 
 /// The spines of a score, record by record.
-#[derive(Debug, Drop)]
+#[derive(Drop)]
 pub struct Paths {
     alloc: Global,
     opened: bool,

@@ -47,7 +47,7 @@ pub enum Kind {
 }
 
 /// What the tokens of a spined record are. All of them are of this one kind.
-#[derive(Clone, Copy, Debug, PartialEq, Eq)]
+#[derive(Clone, Copy, PartialEq, Eq)]
 pub enum SpinedKind {
     /// Local comments: each token begins with `!`, and none with `!!`.
     Local,

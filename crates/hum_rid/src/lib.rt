@@ -45,12 +45,7 @@ fn all_are(row: &Record, token: &[u8]) -> bool
 fn none_differs(row: &Record, token: &[u8]) -> bool
     ensures { result ≡ list_all (bytes_eq token.now) (tokens_of row.now) }
 {
-    for j in 0..row.width() {
-        if token != row.token(j) {
-            return false;
-        }
-    }
-    true
+    row.tokens().all(|other| token == other)
 }
 
 impl RidOptions {

@@ -17,7 +17,7 @@ use hum_pattern::Pattern;
 use hum_record::{Kind, Record, is_null};
 
 /// What a record begins.
-#[derive(Clone, Copy, Debug, PartialEq, Eq)]
+#[derive(Clone, Copy, PartialEq, Eq)]
 pub(crate) enum Mark {
     /// Nothing: it lies in the passage of the nearest marker above.
     Inside,
@@ -39,8 +39,8 @@ fn any_passes(pattern: &mut Pattern, row: &Record) -> bool
     ensures found { result ≡ list_any (passes (matched pattern.old)) (tokens_of row.now) }
     ensures kept { pattern.new ≡ pattern.old }
 {
-    for j in 0..row.width() {
-        if passes(pattern, row.token(j)) {
+    for token in row.tokens() {
+        if passes(pattern, token) {
             return true;
         }
     }
@@ -140,8 +140,8 @@ fn first_by_number(pattern: &mut Pattern, row: &Record) -> Mark
         (find (passes (has_match (first_end pattern.old))) (tokens_of row.now)) }
     ensures kept { pattern.new ≡ pattern.old }
 {
-    for j in 0..row.width() {
-        let mark = mark_by_number(pattern, row.token(j));
+    for token in row.tokens() {
+        let mark = mark_by_number(pattern, token);
         if mark != Mark::Inside {
             return mark;
         }
@@ -174,8 +174,7 @@ fn mark_of_label(name: &[u8], label: &[u8]) -> Mark
 fn first_label(name: &[u8], row: &Record) -> Mark
     ensures { result ≡ labelled name.now (find is_label (tokens_of row.now)) }
 {
-    for j in 0..row.width() {
-        let token = row.token(j);
+    for token in row.tokens() {
         if is_label(token) {
             return mark_of_label(name, token);
         }

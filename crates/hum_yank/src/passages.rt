@@ -10,7 +10,7 @@ use crate::options::Markers;
 use hum_record::Record;
 
 /// What is remembered of passages.
-#[derive(Clone, Copy, Debug, PartialEq, Eq)]
+#[derive(Clone, Copy)]
 pub(crate) struct Passages {
     // the number of the nearest marker's passage
     number: Option<u32>,
