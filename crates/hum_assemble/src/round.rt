@@ -16,18 +16,10 @@ ghost use Rattle.hum_assemble.specs.Taking.{IsGiving, IsAlone};
 use crate::done::Done;
 use crate::places::{Next, Place};
 use crate::source_head::SourceHead;
-use hum_record::{Record, RecordBuilder, Spare, SpinedKind};
-use hum_stage::Rule;
+use hum_path::MOST_SPINES;
+use hum_record::{MOST_BYTES, Record, RecordBuilder, Spare, SpinedKind};
+use hum_stage::{MOST_RECORDS, Rule};
 use std::alloc::{AllocError, Global};
-
-/// The most spines that may stand side by side.
-const MOST_SPINES: usize = 4096;
-
-/// The most bytes that a record may have.
-const MOST_BYTES: usize = 1_048_576;
-
-/// How many records a stage may give.
-const MOST_RECORDS: u64 = 4_294_967_295;
 
 /// Whether a round goes on.
 fn any_due(sources: &[SourceHead]) -> bool

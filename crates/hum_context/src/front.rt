@@ -17,13 +17,13 @@ use crate::queued::Queued;
 use crate::stepping::is_enough;
 use crate::text::Text;
 use crate::walk::Walk;
-use hum_record::{Making, Record, Spare, SpinedKind};
+use hum_record::{MOST_BYTES, Making, Record, Spare, SpinedKind};
 use std::alloc::{AllocError, Global};
 use std::collections::VecDeque;
 use std::mem;
 
 // the most bytes of a record, and one more, since a tab is counted behind each token
-const MOST: u64 = 1_048_577;
+const MOST: u64 = MOST_BYTES as u64 + 1;
 
 /// What a token becomes, once that is known.
 pub(crate) enum Becoming {

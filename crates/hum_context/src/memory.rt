@@ -21,7 +21,7 @@ use crate::text::Text;
 use crate::walk::Walk;
 use hum_path::Paths;
 use hum_record::{Kind, Record, Spare};
-use hum_stage::{Command, LooksAhead, Rule, Verdict};
+use hum_stage::{Command, LooksAhead, MOST_RECORDS, Rule, Verdict};
 use std::alloc::{AllocError, Global};
 use std::collections::VecDeque;
 use std::mem;
@@ -144,7 +144,7 @@ impl LooksAhead for Collecting {
 
     fn lasting(&self, held: &VecDeque<Queued>) -> usize {
         // no more come
-        if held.len() > 4_294_967_295 {
+        if held.len() as u64 > MOST_RECORDS {
             return 0;
         }
         lasting(held, 0, self.options.span.wanted())

@@ -24,6 +24,9 @@ pub use spine_paths::Paths;
 use std::alloc::{AllocError, AllocFailed};
 use thiserror::Error;
 
+/// How many spines a record may have.
+pub const MOST_SPINES: usize = 4096;
+
 /// Which path rule a record breaks, or that memory ran out.
 #[derive(Clone, Copy, Debug, PartialEq, Eq, Error)]
 pub enum PathFault {

@@ -11,8 +11,8 @@ ghost use Rattle.hum_path.specs.Rules.{mixes_join, has_mixed_join, names_and_ste
 ghost use Rattle.hum_path.specs.Rules.{breaks, breaks_as_text, in_order};
 ghost use Rattle.hum_path.specs.Asked.{on_signs};
 
-use crate::PathFault;
 use crate::signs::{Sign, token_sign};
+use crate::{MOST_SPINES, PathFault};
 use hum_record::Record;
 use std::alloc::{AllocError, Global};
 
@@ -137,7 +137,7 @@ pub(crate) fn opening_fault(row: &Record) -> Option<PathFault>
     if has_bare(row) {
         return Some(PathFault::P10);
     }
-    if row.width() > 4096 {
+    if row.width() > MOST_SPINES {
         return Some(PathFault::P9);
     }
     None

@@ -11,10 +11,10 @@ ghost use Rattle.hum_path.specs.Rules.{breaks};
 ghost use Rattle.hum_path.specs.Asked.{IsStepBy};
 ghost use Rattle.hum_path.specs.Step.{IsStep};
 
-use crate::PathFault;
 use crate::moved::Move;
 use crate::rules::{opening_fault, sign_fault, signs};
 use crate::signs::{Sign, token_sign};
+use crate::{MOST_SPINES, PathFault};
 use hum_record::Record;
 use std::alloc::{AllocError, Global};
 
@@ -217,7 +217,7 @@ fn spines_under(
         IsStepBy (find (breaks path (tokens_of row.now)) (P9 ∷ [])) path (tokens_of row.now) result }
 {
     let moves = heirs(alloc, pair, signs)?;
-    if moves.len() > 4096 {
+    if moves.len() > MOST_SPINES {
         return Err(PathFault::P9);
     }
     let names = all_renamed(alloc, names, row, &moves)?;

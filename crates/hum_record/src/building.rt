@@ -7,13 +7,10 @@ ghost use Rattle.hum_record.specs.declared.RecordFault.TheVariants.{L1, Memory};
 
 use crate::reading::Record;
 use crate::spare::{Body, Spare, new_body};
-use crate::{RecordFault, SpinedKind};
+use crate::{MOST_BYTES, RecordFault, SpinedKind};
 use std::alloc::{AllocError, Global};
 use std::marker::Model;
 use std::mem;
-
-/// The most bytes that a record's text may have.
-const MOST_BYTES: usize = 1_048_576;
 
 /// The bytes that are asked for with the first token, so that few records grow again.
 const FIRST_BYTES: usize = 64;

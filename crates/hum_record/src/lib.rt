@@ -33,6 +33,9 @@ pub use spare::Spare;
 use std::alloc::{AllocError, AllocFailed};
 use thiserror::Error;
 
+/// How many bytes the text of a record may have.
+pub const MOST_BYTES: usize = 1_048_576;
+
 /// What a record is.
 #[derive(Clone, Copy, Debug, PartialEq, Eq)]
 pub enum Kind {

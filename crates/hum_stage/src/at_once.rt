@@ -5,15 +5,13 @@ ghost use Rattle.hum_stage.specs.declared.faults.State.TheVariants.{Done};
 ghost use Rattle.hum_stage.specs.Decided.{at_once};
 ghost use Rattle.hum_stage.specs.Standing.{Standing};
 
+use crate::MOST_RECORDS;
 use crate::contract::Stage;
 use crate::deciding::Decides;
 use crate::due::Due;
 use crate::faults::{Command, End, Fault, Readiness, Rule, State};
 use hum_record::Record;
 use std::alloc::{AllocError, Global};
-
-// how many records a stage may give
-const LIMIT: u64 = 4_294_967_295;
 
 /// A command that decides each record at once, as a stage.
 pub struct AtOnce<C: Decides> {
@@ -143,7 +141,7 @@ impl<C: Decides> Stage for AtOnce<C> {
         if self.fault.is_some() {
             return Ok(());
         }
-        let room = LIMIT - self.total;
+        let room = MOST_RECORDS - self.total;
         self.spent = true;
         let refused = self.memory.step(next, room, &mut self.due)?;
         self.spent = false;

@@ -20,6 +20,9 @@ mod looks_ahead;
 mod runs;
 mod settling;
 
+/// How many records a score may have, and a stage may give.
+pub const MOST_RECORDS: u64 = 4_294_967_295;
+
 pub use at_once::AtOnce;
 pub use contract::Stage;
 pub use deciding::Decides;
