@@ -200,4 +200,12 @@ impl Stage for CommandStage {
     fn held(&self) -> usize {
         each!(self, stage => stage.held())
     }
+
+    // Timebase alone gives more records than it is put.
+    fn reuse(&mut self, row: Record) -> Option<Record> {
+        match self {
+            CommandStage::Timebase(stage) => stage.reuse(row),
+            _ => Some(row),
+        }
+    }
 }
