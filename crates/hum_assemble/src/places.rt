@@ -7,7 +7,7 @@ use hum_record::SpinedKind;
 use hum_stage::Rule;
 
 /// Where a source's next record stands, in the order in which the sources' records are given.
-#[derive(Clone, Copy, Debug, PartialEq, Eq)]
+#[derive(Clone, Copy)]
 pub enum Place {
     /// Within a unit: a global comment before the record that begins added spines.
     Aside,
@@ -36,7 +36,7 @@ pub enum Place {
 }
 
 /// What can be done next.
-#[derive(Clone, Copy, Debug, PartialEq, Eq)]
+#[derive(Clone, Copy)]
 pub enum Next {
     /// Records at this place are given.
     Gives(Place),

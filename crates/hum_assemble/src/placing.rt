@@ -19,12 +19,9 @@ use hum_record::{Kind, Record};
 fn all_end(row: &Record) -> bool
     ensures { result ≡ list_all is_end (map sign_of (tokens_of row.now)) }
 {
-    for j in 0..row.width() {
-        if token_sign(row.token(j)) != Sign::End {
-            return false;
-        }
-    }
-    true
+    row.tokens()
+        .map(|token| token_sign(token))
+        .all(|sign| matches!(sign, Sign::End))
 }
 
 /// Whether an added spine waits for its exclusive interpretation.
@@ -133,8 +130,8 @@ fn spread(row: &Record) -> usize
 {
     let mut count = 0usize;
     let mut after_join = false;
-    for j in 0..row.width() {
-        let sign = token_sign(row.token(j));
+    for token in row.tokens() {
+        let sign = token_sign(token);
         count += heirs_count(after_join, sign);
         after_join = sign.is_join();
     }

@@ -297,7 +297,28 @@ fn spare_of(alloc: Global, done: &mut Done) -> Spare {
     spare
 }
 
-/// Gives one record of the records at this place, in the buffers of one that was done with.
+/// The one record of the records at this place, in the buffers of one that was done with.
+fn side_by_side(
+    alloc: Global,
+    kind: SpinedKind,
+    sources: &[SourceHead],
+    going: bool,
+    p: Place,
+    done: &mut Done,
+) -> Result<Record, AllocError>
+    requires kind { kind_at p ≡ Some kind }
+    requires giving { IsGiving going p sources.now }
+    requires lawful { AllLawful sources.now }
+    requires fits { length (text_of (made going p sources.now)) ≤ 1048576 }
+    ensures { IfOk result (λ row. row ≡ made going p sources.now) }
+{
+    let mut spare = spare_of(alloc, done);
+    let mut builder = RecordBuilder::reusing(alloc, kind, &mut spare);
+    push_parts(sources, going, p, &mut builder)?;
+    Ok(builder.finish())
+}
+
+/// Gives that record: those that it is made of are done with.
 fn give_side_by_side(
     alloc: Global,
     kind: SpinedKind,
@@ -313,10 +334,7 @@ fn give_side_by_side(
     ensures row { IfOk result (λ row. row ≡ made going p sources.old) }
     ensures sources { OnOk result (sources.new ≡ all_moved true going p sources.old) }
 {
-    let mut spare = spare_of(alloc, done);
-    let mut builder = RecordBuilder::reusing(alloc, kind, &mut spare);
-    push_parts(sources, going, p, &mut builder)?;
-    let row = builder.finish();
+    let row = side_by_side(alloc, kind, sources, going, p, done)?;
     if let Some(last) = go_on(sources, going, p, done)? {
         done.keep(last);
     }

@@ -5,7 +5,7 @@ ghost use Rattle.hum_record.specs.Row.{Row, kind_of, text_of};
 ghost use Rattle.hum_path.specs.Spines.{exclusives};
 ghost use Rattle.hum_path.specs.Score.{IsOpen, path_after};
 ghost use Rattle.hum_cells.specs.Retelling.{is_kern, kern_columns, retell};
-ghost use Rattle.hum_cells.specs.Telling.{MayTell, HasTold, Puts, decision};
+ghost use Rattle.hum_cells.specs.Telling.{MayTell, HasTold};
 
 use crate::heading::{has_kern, is_kern, with_heading};
 use crate::retells::{Heading, Retells};
@@ -31,28 +31,6 @@ pub struct Cells<T> {
     text: Vec<u8>,
     // the record that gave way to another last
     spare: Spare,
-}
-
-/// Puts what was decided of a record. One that gives way to another is done with.
-fn put(row: Record, told: Told, spare: &mut Spare, out: &mut UpToTwo) -> Option<Rule>
-    ensures { Puts (decision row told) out.new result }
-{
-    match told {
-        Told::Same => {
-            out.put(row);
-            None
-        }
-        Told::Other(made) => {
-            out.put(made);
-            spare.keep(row);
-            None
-        }
-        Told::With(behind) => {
-            out.put_both(row, behind);
-            None
-        }
-        Told::Refused(rule) => Some(rule),
-    }
 }
 
 /// Marks the spines that are under `**kern`.
@@ -177,7 +155,7 @@ impl<T: Retells> Decides for Cells<T> {
         )?;
         self.teller.follow(&next, &found)?;
         mark_after(&next, &self.paths, &mut self.kern)?;
-        let refused = put(next, told, &mut self.spare, out);
+        let refused = told.put(next, &mut self.spare, out);
         Ok(refused)
     }
 }

@@ -25,12 +25,7 @@ pub(crate) fn is_kern(token: &[u8]) -> bool
 pub(crate) fn has_kern(row: &Record) -> bool
     ensures { result ≡ list_any is_kern (tokens_of row.now) }
 {
-    for j in 0..row.width() {
-        if is_kern(row.token(j)) {
-            return true;
-        }
-    }
-    false
+    row.tokens().any(|token| is_kern(token))
 }
 
 /// What stands in a token's place under a heading.

@@ -15,7 +15,7 @@ use hum_stage::{Command, Rule};
 use std::alloc::{AllocError, Global};
 
 /// What becomes of `**kern` where it stands in a record.
-#[derive(Clone, Copy, Debug)]
+#[derive(Clone, Copy)]
 pub enum Heading<'t> {
     /// This exclusive interpretation stands in its place.
     Renamed(&'t [u8]),

@@ -33,11 +33,7 @@ fn is_interpretation(row: &Record) -> bool
 fn opening_marks(alloc: Global, name: &[u8], row: &Record) -> Result<Vec<bool>, AllocError>
     ensures { IfOk result (λ marks. marks.items ≡ opening_flags name.now (tokens_of row.now)) }
 {
-    let mut marks = Vec::new(alloc);
-    for j in 0..row.width() {
-        marks.push(name == row.token(j))?;
-    }
-    Ok(marks)
+    row.tokens().map(|token| name == token).collect(alloc)
 }
 
 /// What the opening record becomes, and which columns are cleaved.

@@ -36,7 +36,7 @@ pub(crate) enum Becoming {
 }
 
 /// What is known of a record's new tokens.
-#[derive(Clone, Copy, Debug, PartialEq, Eq)]
+#[derive(Clone, Copy)]
 pub(crate) enum Weight {
     /// One isn't known yet.
     Undecided,

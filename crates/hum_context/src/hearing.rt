@@ -15,7 +15,7 @@ use std::alloc::{AllocError, Global};
 use std::marker::Model;
 
 /// What is heard of a token.
-#[derive(Clone, Copy, Debug, PartialEq, Eq)]
+#[derive(Clone, Copy, PartialEq, Eq)]
 pub(crate) enum Heard {
     /// It isn't collected.
     Passed,
@@ -149,12 +149,12 @@ impl ContextOptions {
         ensures kept { self.new ≡ self.old }
     {
         let mut any = false;
-        for j in 0..row.width() {
-            let token = self.hear(row.token(j));
-            if token != Heard::Passed {
+        for token in row.tokens() {
+            let one = self.hear(token);
+            if one != Heard::Passed {
                 any = true;
             }
-            heard.push(token)?;
+            heard.push(one)?;
         }
         Ok(any)
     }

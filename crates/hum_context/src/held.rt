@@ -9,7 +9,7 @@ ghost use Rattle.hum_record.specs.Row.{Row, kind_of, row_of, text_of, token_at, 
 ghost use Rattle.hum_record.specs.Spelling.{IsTextOf, IsTokenOf};
 ghost use Rattle.hum_context.specs.Held.{nulls};
 
-use hum_record::{Kind, Record, RecordBuilder, RecordFault, SpinedKind};
+use hum_record::{Kind, Record, RecordBuilder, RecordFault, SpinedKind, is_null};
 use hum_stage::IntoRecord;
 use std::alloc::{AllocError, Global};
 use std::marker::Model;
@@ -26,9 +26,15 @@ enum Holding {
 
 /// A record that waits or is due. A wide one of null tokens, of which nothing is collected, is held by
 /// how many they are.
-#[derive(Drop)]
 pub struct HeldRecord {
     holding: Holding,
+}
+
+// Written out, so that a caller's proof sees one call and not both ways to hold a record.
+impl Drop for HeldRecord {
+    fn drop(self) {
+        let HeldRecord { holding: _holding } = self;
+    }
 }
 
 impl Model for HeldRecord {
@@ -46,12 +52,7 @@ impl Model for HeldRecord {
 fn all_null(row: &Record) -> bool
     ensures { result ≡ list_all is_null (tokens_of row.now) }
 {
-    for j in 0..row.width() {
-        if b".".as_slice() != row.token(j) {
-            return false;
-        }
-    }
-    true
+    row.tokens().all(|token| is_null(token))
 }
 
 /// Whether a record is data, and null.
@@ -151,7 +152,8 @@ impl HeldRecord {
     pub(crate) fn whole(self) -> Option<Record>
         ensures { (row : Row) → result ≡ Some row → self ≡ row }
     {
-        match self.holding {
+        let HeldRecord { holding } = self;
+        match holding {
             Holding::Whole(row) => Some(row),
             Holding::Nulls(_) => None,
         }
@@ -172,7 +174,8 @@ impl IntoRecord for HeldRecord {
     ghost becomes = { λ s. s };
 
     fn into_record(self, alloc: Global) -> Result<Record, AllocError> {
-        match self.holding {
+        let HeldRecord { holding } = self;
+        match holding {
             Holding::Whole(row) => Ok(row),
             Holding::Nulls(width) => made_of_nulls(alloc, width),
         }

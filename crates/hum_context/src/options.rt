@@ -4,7 +4,7 @@ ghost use Rattle.std.specs.Prelude.{◌≤◌};
 use hum_pattern::Pattern;
 
 /// A number of tokens, from 1 to 4,096.
-#[derive(Clone, Copy, Debug, PartialEq, Eq)]
+#[derive(Clone, Copy)]
 pub struct TokenCount {
     /// The number.
     pub number: u16,

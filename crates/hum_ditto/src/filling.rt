@@ -20,12 +20,7 @@ use std::alloc::{AllocError, Global};
 fn has_null(row: &Record) -> bool
     ensures { result ≡ list_any is_null (tokens_of row.now) }
 {
-    for j in 0..row.width() {
-        if is_null(row.token(j)) {
-            return true;
-        }
-    }
-    false
+    row.tokens().any(|token| is_null(token))
 }
 
 /// Whether a record is data with a null token.

@@ -22,7 +22,7 @@ use std::alloc::Global;
 use std::marker::Model;
 
 /// What a poll gives.
-#[derive(Debug, Drop)]
+#[derive(Drop)]
 pub enum Step {
     /// The next record.
     Record(Record),

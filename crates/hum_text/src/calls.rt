@@ -59,7 +59,7 @@ pub trait Sink {
 }
 
 /// Any reader or writer of std, with what is shown of the calls on it.
-#[derive(Debug, Drop)]
+#[derive(Drop)]
 pub struct Marked<T> {
     inner: T,
     calls: u64,

@@ -35,7 +35,7 @@ pub enum TextFault {
 }
 
 /// How large a text may be.
-#[derive(Debug, Clone, Copy, PartialEq, Eq)]
+#[derive(Clone, Copy)]
 pub struct Limits {
     /// The bytes of a line, its line end not counted.
     pub line: u32,

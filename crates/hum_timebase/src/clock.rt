@@ -58,7 +58,7 @@ fn time_after(last: Option<Frac>, ends: &[Option<Frac>]) -> Option<Frac>
 
 /// What a timed record becomes: so many null records, itself if its time is on the grid, and so
 /// many null records.
-#[derive(Clone, Copy, Debug, PartialEq, Eq)]
+#[derive(Clone, Copy)]
 pub(crate) struct Strike {
     pub(crate) before: u128,
     pub(crate) stays: bool,

@@ -1,12 +1,13 @@
 //! What each record becomes.
-ghost use Rattle.std.specs.Prelude.{◌≡◌, ◌+◌, [], Ok, Err, Some, None, ℕ};
-ghost use Rattle.std.specs.Prelude.{IfOk, OnOk, is_some, if◌then◌else◌, List, Bool};
+ghost use Rattle.std.specs.Prelude.{◌≡◌, ◌+◌, [], ◌∷◌, Ok, Err, Some, None, ℕ};
+ghost use Rattle.std.specs.Prelude.{IfOk, OnOk, is_some, if◌then◌else◌, List, Bool, Result};
 ghost use Rattle.std.specs.List.{list_any};
-ghost use Rattle.hum_record.specs.Row.{kind_of, tokens_of, text_of};
+ghost use Rattle.hum_record.specs.Row.{Row, kind_of, tokens_of, text_of};
 ghost use Rattle.hum_record.specs.Spelling.{IsTextOf};
 ghost use Rattle.hum_record.specs.declared.Kind.TheVariants.{Interpretation as AnyInterpretation};
 ghost use Rattle.hum_record.specs.declared.Kind.TheVariants.{Values as AnyValues};
 ghost use Rattle.hum_path.specs.Spines.{after};
+ghost use Rattle.hum_stage.specs.declared.faults.Rule.{Rule};
 ghost use Rattle.hum_stage.specs.Decided.{MayStep, HasStepped};
 ghost use Rattle.hum_timebase.specs.Timebase.{timebase, around};
 ghost use Rattle.hum_timebase.specs.Following.{Follows, Answers, pace_of};
@@ -94,6 +95,28 @@ pub struct Grid {
 }
 
 impl Grid {
+    /// Follows the spines through an interpretation.
+    fn follow(&mut self, row: &Record) -> Result<(), AllocError>
+        requires kind { kind_of row.now ≡ AnyInterpretation }
+        requires score { MayStep
+            (Follows self.old.pace self.old.paths.path self.old.timed.items self.old.clock)
+            row.now }
+        ensures spines { OnOk result
+            ((decide : List Row → Row → Result (List Row) Rule) (past : List Row)
+            → Follows self.old.pace self.old.paths.path self.old.timed.items self.old.clock
+            decide past
+            → Follows self.new.pace self.new.paths.path self.new.timed.items self.new.clock
+            decide (row.now ∷ past)) }
+        ensures pace { self.new.pace ≡ self.old.pace }
+    {
+        let own = timed_at(self.alloc, &self.paths, row)?;
+        let found = self.paths.follow(row)?;
+        self.clock.rest(&own);
+        self.clock.lead(self.alloc, &found)?;
+        self.timed = timed_in(self.alloc, &self.paths)?;
+        Ok(())
+    }
+
     /// Takes an interpretation.
     fn interpret(&mut self, row: Record, out: &mut Around) -> Result<Option<Rule>, AllocError>
         requires kind { kind_of row ≡ AnyInterpretation }
@@ -105,11 +128,7 @@ impl Grid {
             (Follows self.new.pace self.new.paths.path self.new.timed.items self.new.clock)
             row room out.new refused) }
     {
-        let own = timed_at(self.alloc, &self.paths, &row)?;
-        let found = self.paths.follow(&row)?;
-        self.clock.rest(&own);
-        self.clock.lead(self.alloc, &found)?;
-        self.timed = timed_in(self.alloc, &self.paths)?;
+        self.follow(&row)?;
         if !names_some(&row) {
             out.put(row);
             return Ok(None);

@@ -70,7 +70,7 @@ fn is_sounding(token: &[u8]) -> bool
 }
 
 /// What a data record holds.
-#[derive(Clone, Copy, Debug, PartialEq, Eq)]
+#[derive(Clone, Copy)]
 pub(crate) enum Content {
     /// null tokens alone
     Nulls,

@@ -15,7 +15,7 @@ use itoa::Buffer;
 use std::alloc::AllocError;
 
 /// What each part of a token gives.
-#[derive(Clone, Copy, Debug, PartialEq, Eq)]
+#[derive(Clone, Copy)]
 pub(crate) enum Giving {
     /// Its semitones above middle c, and `r` for a rest. Where `ties_left_out` is set, notes that
     /// go on or end a tie give nothing.

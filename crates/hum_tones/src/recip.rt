@@ -9,7 +9,7 @@ use hum_stage::{Command, Rule};
 use std::alloc::{AllocError, Global};
 
 /// The command takes no options.
-#[derive(Clone, Copy, Debug, PartialEq, Eq)]
+#[derive(Clone, Copy)]
 pub struct RecipOptions;
 
 /// What recip makes of tokens.

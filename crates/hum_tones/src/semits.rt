@@ -9,7 +9,7 @@ use hum_stage::{Command, Rule};
 use std::alloc::{AllocError, Global};
 
 /// Which notes give their semitones.
-#[derive(Clone, Copy, Debug, PartialEq, Eq)]
+#[derive(Clone, Copy)]
 pub struct SemitsOptions {
     /// `-t`: those that go on or end a tie give nothing
     pub ties_left_out: bool,

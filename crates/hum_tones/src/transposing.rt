@@ -13,7 +13,7 @@ use hum_stage::Rule;
 use std::alloc::AllocError;
 
 /// How far pitches go.
-#[derive(Clone, Copy, Debug, PartialEq, Eq)]
+#[derive(Clone, Copy)]
 pub struct Transposition {
     /// Diatonic steps, -49 to 49: up, or down where they are negative.
     pub steps: i32,
