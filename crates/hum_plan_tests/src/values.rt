@@ -8,39 +8,43 @@ use hum_values::{
 use hum_yank::YankRange;
 use std::alloc::Global;
 use std::process::Abort;
-use std::test::Fail;
+
+/// Texts, each with the largest number that may stand there, and the number that it is.
+const NUMBERS: &[(&[u8], u64, Option<u64>)] = &[
+    (b"0", 5, Some(0)),
+    (b"4096", 4096, Some(4096)),
+    (b"4097", 4096, None),
+    (b"18446744073709551615", u64::MAX, Some(u64::MAX)),
+    (b"18446744073709551616", u64::MAX, None),
+    (b"99999999999999999999999999999999999999999", u64::MAX, None),
+    (b"", 5, None),
+    (b"00", 5, None),
+    (b"07", 9, None),
+    (b"1a", 99, None),
+    (b"+1", 99, None),
+];
 
 #[test]
 fn numbers(rt: HostRuntime) {
-    let rows: [(&'static [u8], u64, Option<u64>); 11] = [
-        (b"0", 5, Some(0)),
-        (b"4096", 4096, Some(4096)),
-        (b"4097", 4096, None),
-        (b"18446744073709551615", u64::MAX, Some(u64::MAX)),
-        (b"18446744073709551616", u64::MAX, None),
-        (b"99999999999999999999999999999999999999999", u64::MAX, None),
-        (b"", 5, None),
-        (b"00", 5, None),
-        (b"07", 9, None),
-        (b"1a", 99, None),
-        (b"+1", 99, None),
-    ];
-    for (text, most, want) in rows {
+    for row in NUMBERS {
+        let (text, most, want) = *row;
         assert_eq!(rt; number(text, most), want, "{text:?}");
     }
 }
 
+const COUNTS: &[(&[u8], Option<u16>)] = &[
+    (b"1", Some(1)),
+    (b"12", Some(12)),
+    (b"4096", Some(4096)),
+    (b"0", None),
+    (b"4097", None),
+    (b"-1", None),
+];
+
 #[test]
 fn counts(rt: HostRuntime) {
-    let rows: [(&'static [u8], Option<u16>); 6] = [
-        (b"1", Some(1)),
-        (b"12", Some(12)),
-        (b"4096", Some(4096)),
-        (b"0", None),
-        (b"4097", None),
-        (b"-1", None),
-    ];
-    for (text, want) in rows {
+    for row in COUNTS {
+        let (text, want) = *row;
         let number = match count(text) {
             Some(count) => Some(count.number),
             None => None,
@@ -49,196 +53,213 @@ fn counts(rt: HostRuntime) {
     }
 }
 
+/// Texts, each with the largest number that may stand there under either sign, and the number that
+/// it is.
+const SIGNED_NUMBERS: &[(&[u8], u8, Option<i32>)] = &[
+    (b"1", 49, Some(1)),
+    (b"+49", 49, Some(49)),
+    (b"-49", 49, Some(-49)),
+    (b"-84", 84, Some(-84)),
+    (b"-255", 255, Some(-255)),
+    (b"-0", 49, Some(0)),
+    (b"50", 49, None),
+    (b"-50", 49, None),
+    (b"+", 49, None),
+    (b"", 49, None),
+    (b"--1", 49, None),
+    (b"+-1", 49, None),
+    (b"-07", 49, None),
+];
+
 #[test]
 fn signed_numbers(rt: HostRuntime) {
-    let rows: [(&'static [u8], u8, Option<i32>); 13] = [
-        (b"1", 49, Some(1)),
-        (b"+49", 49, Some(49)),
-        (b"-49", 49, Some(-49)),
-        (b"-84", 84, Some(-84)),
-        (b"-255", 255, Some(-255)),
-        (b"-0", 49, Some(0)),
-        (b"50", 49, None),
-        (b"-50", 49, None),
-        (b"+", 49, None),
-        (b"", 49, None),
-        (b"--1", 49, None),
-        (b"+-1", 49, None),
-        (b"-07", 49, None),
-    ];
-    for (text, most, want) in rows {
+    for row in SIGNED_NUMBERS {
+        let (text, most, want) = *row;
         assert_eq!(rt; signed_number(text, most), want, "{text:?}");
     }
 }
 
-fn fields(first: u16, last: u16) -> FieldRange {
-    FieldRange {
-        first: Field::Number(first),
-        last: Field::Number(last),
-    }
-}
+const LAST: FieldRange = FieldRange {
+    first: Field::Last,
+    last: Field::Last,
+};
 
-fn has_fields(alloc: Global, text: &[u8], want: &[FieldRange]) -> Result<bool, Fail> {
-    Ok(match field_ranges(alloc, text)? {
-        Some(ranges) => ranges.as_slice() == want,
-        None => false,
-    })
+const FROM_TWO: FieldRange = FieldRange {
+    first: Field::Number(2),
+    last: Field::Last,
+};
+
+const FIRST: FieldRange = FieldRange {
+    first: Field::Number(1),
+    last: Field::Number(1),
+};
+
+const THIRD: FieldRange = FieldRange {
+    first: Field::Number(3),
+    last: Field::Number(3),
+};
+
+const FROM_FOUR: FieldRange = FieldRange {
+    first: Field::Number(4),
+    last: Field::Number(4096),
+};
+
+const FIELDS: &[(&[u8], &[FieldRange])] = &[
+    (b"1", &[FIRST]),
+    (b"$", &[LAST]),
+    (b"2-$", &[FROM_TWO]),
+    (b"4-4096,2-$,3,$", &[FROM_FOUR, FROM_TWO, THIRD, LAST]),
+];
+
+fn fields(rt: &impl Abort, alloc: Global, text: &[u8]) -> Option<Vec<FieldRange>> {
+    field_ranges(alloc, text).expect(rt, "memory")
 }
 
 #[test]
-fn lists_of_fields(rt: HostRuntime) -> Result<(), Fail> {
-    let last = FieldRange {
-        first: Field::Last,
-        last: Field::Last,
-    };
-    let onward = FieldRange {
-        first: Field::Number(2),
-        last: Field::Last,
-    };
-    assert!(rt; has_fields(rt.alloc(), b"1", &[fields(1, 1)])?);
-    assert!(rt; has_fields(rt.alloc(), b"$", &[last])?);
-    assert!(rt; has_fields(rt.alloc(), b"2-$", &[onward])?);
-    assert!(rt;
-        has_fields(
-            rt.alloc(),
-            b"4-4096,2-$,3,$",
-            &[fields(4, 4096), onward, fields(3, 3), last]
-        )?
-    );
-    Ok(())
+fn lists_of_fields(rt: HostRuntime) {
+    for row in FIELDS {
+        let (text, want) = *row;
+        let found = fields(&rt, rt.alloc(), text).expect(&rt, "fields");
+        assert_eq!(rt; found.as_slice(), want, "{text:?}");
+    }
+}
+
+const NO_FIELDS: &[&[u8]] = &[
+    b"", b",", b"0", b"01", b"4097", b"2-1", b"$-1", b"$-$", b"1-$-1", b"1-2-3", b"1,,2", b"1,",
+    b"-", b"a",
+];
+
+#[test]
+fn no_lists_of_fields(rt: HostRuntime) {
+    for text in NO_FIELDS {
+        assert!(rt; fields(&rt, rt.alloc(), *text).is_none(), "{text:?}");
+    }
+}
+
+fn passages(rt: &impl Abort, alloc: Global, text: &[u8]) -> Option<Vec<YankRange>> {
+    passage_ranges(alloc, text).expect(rt, "memory")
+}
+
+const PASSAGES: &[(&[u8], &[YankRange])] = &[
+    (b"0", &[YankRange::Through { first: 0, last: 0 }]),
+    (
+        b"3-4294967295",
+        &[YankRange::Through {
+            first: 3,
+            last: 4_294_967_295,
+        }],
+    ),
+    (b"2-$", &[YankRange::Onward { first: 2 }]),
+    (
+        b"0-$-3",
+        &[YankRange::ToEnd {
+            first: 0,
+            before: 3,
+        }],
+    ),
+    (b"$", &[YankRange::FromEnd { from: 0, to: 0 }]),
+    (b"$-7", &[YankRange::FromEnd { from: 7, to: 7 }]),
+    (b"$-2-$", &[YankRange::FromEnd { from: 2, to: 0 }]),
+    (b"$-2-$-1", &[YankRange::FromEnd { from: 2, to: 1 }]),
+    (
+        b"1,$,1",
+        &[
+            YankRange::Through { first: 1, last: 1 },
+            YankRange::FromEnd { from: 0, to: 0 },
+            YankRange::Through { first: 1, last: 1 },
+        ],
+    ),
+];
+
+#[test]
+fn lists_of_passages(rt: HostRuntime) {
+    for row in PASSAGES {
+        let (text, want) = *row;
+        let found = passages(&rt, rt.alloc(), text).expect(&rt, "passages");
+        assert_eq!(rt; found.as_slice(), want, "{text:?}");
+    }
+}
+
+const NO_PASSAGES: &[&[u8]] = &[
+    b"",
+    b"1,",
+    b"5-3",
+    b"4294967296",
+    b"012",
+    b"$-0",
+    b"$-01",
+    b"1-$-0",
+    b"$-1-$-2",
+    b"$-$",
+    b"$-$-1",
+    b"$-1-2",
+    b"$-0-$",
+    b"1--$",
+    b"$-3-$-3-",
+    b"$-",
+    b"1-2-3",
+    b"$a",
+];
+
+#[test]
+fn no_lists_of_passages(rt: HostRuntime) {
+    for text in NO_PASSAGES {
+        assert!(rt; passages(&rt, rt.alloc(), *text).is_none(), "{text:?}");
+    }
+}
+
+fn names_in(rt: &impl Abort, alloc: Global, text: &[u8]) -> Option<Vec<Vec<u8>>> {
+    names(alloc, text).expect(rt, "memory")
+}
+
+const NAMES: &[(&[u8], &[&[u8]])] = &[
+    (b"**kern", &[b"**kern"]),
+    (b"**a,**b c,***", &[b"**a", b"**b c", b"***"]),
+];
+
+const NO_NAMES: &[&[u8]] = &[
+    b"", b"**", b"*a", b"kern", b"**a,b", b"**a,", b"**a\tb", b"**a\r",
+];
+
+#[test]
+fn lists_of_names(rt: HostRuntime) {
+    for row in NAMES {
+        let (text, want) = *row;
+        let found = names_in(&rt, rt.alloc(), text).expect(&rt, "names");
+        assert_eq!(rt; found.len(), want.len(), "{text:?}");
+        for (name, want) in found.iter().zip(want) {
+            assert_eq!(rt; name.as_slice(), *want, "{text:?}");
+        }
+    }
 }
 
 #[test]
-fn no_lists_of_fields(rt: HostRuntime) -> Result<(), Fail> {
-    let texts: [&'static [u8]; 14] = [
-        b"", b",", b"0", b"01", b"4097", b"2-1", b"$-1", b"$-$", b"1-$-1", b"1-2-3", b"1,,2",
-        b"1,", b"-", b"a",
-    ];
-    for text in texts {
-        assert!(rt; field_ranges(rt.alloc(), text)?.is_none(), "{text:?}");
+fn no_lists_of_names(rt: HostRuntime) {
+    for text in NO_NAMES {
+        assert!(rt; names_in(&rt, rt.alloc(), *text).is_none(), "{text:?}");
     }
-    Ok(())
 }
 
 // So many times an item, with commas between.
-fn repeated(alloc: Global, item: &[u8], times: usize) -> Result<Vec<u8>, Fail> {
-    let mut text = Vec::new(alloc);
-    text.extend_from_slice(item)?;
+fn repeated(rt: &impl Abort, alloc: Global, item: &[u8], times: usize) -> Vec<u8> {
+    let mut text = item.to_vec(alloc).expect(rt, "memory");
     for _ in 1..times {
-        text.push(b',')?;
-        text.extend_from_slice(item)?;
+        text.push(b',').expect(rt, "memory");
+        text.extend_from_slice(item).expect(rt, "memory");
     }
-    Ok(text)
+    text
 }
 
 #[test]
-fn at_most_64_items(rt: HostRuntime) -> Result<(), Fail> {
+fn at_most_64_items(rt: HostRuntime) {
     let alloc = rt.alloc();
-    for times in [64usize, 65] {
-        let few = times == 64;
-        let numbers = repeated(alloc, b"7", times)?;
-        assert_eq!(rt; field_ranges(alloc, &numbers)?.is_some(), few);
-        assert_eq!(rt; passage_ranges(alloc, &numbers)?.is_some(), few);
-        assert_eq!(rt;
-            names(alloc, &repeated(alloc, b"**a", times)?)?.is_some(),
-            few
-        );
+    for (times, few) in [(64usize, true), (65, false)] {
+        let sevens = repeated(&rt, alloc, b"7", times);
+        assert_eq!(rt; fields(&rt, alloc, &sevens).is_some(), few);
+        assert_eq!(rt; passages(&rt, alloc, &sevens).is_some(), few);
+        let alike = repeated(&rt, alloc, b"**a", times);
+        assert_eq!(rt; names_in(&rt, alloc, &alike).is_some(), few);
     }
-    Ok(())
-}
-
-fn has_passages(alloc: Global, text: &[u8], want: &[YankRange]) -> Result<bool, Fail> {
-    Ok(match passage_ranges(alloc, text)? {
-        Some(ranges) => ranges.as_slice() == want,
-        None => false,
-    })
-}
-
-#[test]
-fn lists_of_passages(rt: HostRuntime) -> Result<(), Fail> {
-    let rows: [(&'static [u8], YankRange); 8] = [
-        (b"0", YankRange::Through { first: 0, last: 0 }),
-        (
-            b"3-4294967295",
-            YankRange::Through {
-                first: 3,
-                last: 4_294_967_295,
-            },
-        ),
-        (b"2-$", YankRange::Onward { first: 2 }),
-        (
-            b"0-$-3",
-            YankRange::ToEnd {
-                first: 0,
-                before: 3,
-            },
-        ),
-        (b"$", YankRange::FromEnd { from: 0, to: 0 }),
-        (b"$-7", YankRange::FromEnd { from: 7, to: 7 }),
-        (b"$-2-$", YankRange::FromEnd { from: 2, to: 0 }),
-        (b"$-2-$-1", YankRange::FromEnd { from: 2, to: 1 }),
-    ];
-    for (text, want) in rows {
-        assert!(rt; has_passages(rt.alloc(), text, &[want])?, "{text:?}");
-    }
-    let first = YankRange::Through { first: 1, last: 1 };
-    let last = YankRange::FromEnd { from: 0, to: 0 };
-    assert!(rt; has_passages(rt.alloc(), b"1,$,1", &[first, last, first])?);
-    Ok(())
-}
-
-#[test]
-fn no_lists_of_passages(rt: HostRuntime) -> Result<(), Fail> {
-    let texts: [&'static [u8]; 18] = [
-        b"",
-        b"1,",
-        b"5-3",
-        b"4294967296",
-        b"012",
-        b"$-0",
-        b"$-01",
-        b"1-$-0",
-        b"$-1-$-2",
-        b"$-$",
-        b"$-$-1",
-        b"$-1-2",
-        b"$-0-$",
-        b"1--$",
-        b"$-3-$-3-",
-        b"$-",
-        b"1-2-3",
-        b"$a",
-    ];
-    for text in texts {
-        assert!(rt; passage_ranges(rt.alloc(), text)?.is_none(), "{text:?}");
-    }
-    Ok(())
-}
-
-fn has_names(alloc: Global, text: &[u8], want: &[&[u8]]) -> Result<bool, Fail> {
-    let Some(found) = names(alloc, text)? else {
-        return Ok(false);
-    };
-    Ok(
-        found.len() == want.len()
-            && found
-                .iter()
-                .zip(want)
-                .all(|(name, want)| name.as_slice() == *want),
-    )
-}
-
-#[test]
-fn lists_of_names(rt: HostRuntime) -> Result<(), Fail> {
-    assert!(rt; has_names(rt.alloc(), b"**kern", &[b"**kern"])?);
-    assert!(rt; has_names(rt.alloc(), b"**a,**b c,***", &[b"**a", b"**b c", b"***"])?);
-    let texts: [&'static [u8]; 8] = [
-        b"", b"**", b"*a", b"kern", b"**a,b", b"**a,", b"**a\tb", b"**a\r",
-    ];
-    for text in texts {
-        assert!(rt; names(rt.alloc(), text)?.is_none(), "{text:?}");
-    }
-    Ok(())
 }
 
 #[test]
@@ -249,21 +270,22 @@ fn labels_and_separators(rt: HostRuntime) {
     assert!(rt; is_name(b"**a,b") && !is_name(b"**"));
 }
 
-fn has_step(alloc: Global, text: &[u8], want: Frac) -> Result<bool, Fail> {
-    Ok(match step(alloc, text)? {
-        Some(options) => options.step == want && options.text.as_slice() == text,
-        None => false,
-    })
+fn check_step(rt: &impl Abort, alloc: Global, text: &[u8], want: Frac) {
+    let options = step(alloc, text).expect(rt, "memory").expect(rt, "a step");
+    assert_eq!(rt; options.step, want, "{text:?}");
+    assert_eq!(rt; options.text.as_slice(), text);
 }
 
+const NO_STEPS: &[&[u8]] = &[b"", b"3%", b"16c", b"r", b"4097", b"016"];
+
 #[test]
-fn steps(rt: HostRuntime) -> Result<(), Fail> {
-    assert!(rt; has_step(rt.alloc(), b"16", Frac::new(1, 16))?);
-    assert!(rt; has_step(rt.alloc(), b"4.", Frac::new(3, 8))?);
-    assert!(rt; has_step(rt.alloc(), b"3%2", Frac::new(2, 3))?);
-    let texts: [&'static [u8]; 6] = [b"", b"3%", b"16c", b"r", b"4097", b"016"];
-    for text in texts {
-        assert!(rt; step(rt.alloc(), text)?.is_none(), "{text:?}");
+fn steps(rt: HostRuntime) {
+    let alloc = rt.alloc();
+    check_step(&rt, alloc, b"16", Frac::new(1, 16));
+    check_step(&rt, alloc, b"4.", Frac::new(3, 8));
+    check_step(&rt, alloc, b"3%2", Frac::new(2, 3));
+    for text in NO_STEPS {
+        let found = step(alloc, *text).expect(&rt, "memory");
+        assert!(rt; found.is_none(), "{text:?}");
     }
-    Ok(())
 }

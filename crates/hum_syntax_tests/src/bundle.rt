@@ -1,56 +1,58 @@
 //! Bundles by hand, and their parts.
 use hum_bundle::{is_too_large, plan_part, score};
-use std::test::Fail;
+
+/// Bundles and their plans.
+const PLANS: &[(&[u8], &[u8])] = &[
+    (b"", b""),
+    (b"out: read a", b"out: read a"),
+    (b"out: read a\n--- a\n!!x\n", b"out: read a\n"),
+    (b"--- a\nout: read a\n", b""),
+    (
+        b"# --- b\nout: read a\r\n--- a",
+        b"# --- b\nout: read a\r\n",
+    ),
+    (b"---\n--- ", b"---\n"),
+    (b" --- a\n---a\n--- a\n", b" --- a\n---a\n"),
+];
 
 #[test]
 fn plans(rt: HostRuntime) {
-    for (bundle, plan) in [
-        (b"".as_slice(), b"".as_slice()),
-        (b"out: read a", b"out: read a"),
-        (b"out: read a\n--- a\n!!x\n", b"out: read a\n"),
-        (b"--- a\nout: read a\n", b""),
-        (
-            b"# --- b\nout: read a\r\n--- a",
-            b"# --- b\nout: read a\r\n",
-        ),
-        (b"---\n--- ", b"---\n"),
-        (b" --- a\n---a\n--- a\n", b" --- a\n---a\n"),
-    ] {
+    for row in PLANS {
+        let (bundle, plan) = *row;
         assert_eq!(rt; plan_part(bundle), plan, "{bundle:?}");
     }
 }
 
+/// Bundles, each with a name and the score of that name, if there is one.
+const SCORES: &[(&[u8], &str, Option<&[u8]>)] = &[
+    (b"p\n--- a\n!!x\n**kern", "a", Some(b"!!x\n**kern")),
+    (b"p\n--- a\r\n!!x\r\n--- b\n", "a", Some(b"!!x\r\n")),
+    (b"p\n--- a\n1\n--- a\n2\n", "a", Some(b"1\n")),
+    (b"p\n--- a\n1\n--- b\n2\n--- c", "b", Some(b"2\n")),
+    (b"p\n--- a\n1\n--- b\n2\n--- c", "c", Some(b"")),
+    (b"p\n--- a b\n1", "a b", Some(b"1")),
+    (b"p\n--- a\n--- b\n1\n", "a", Some(b"")),
+    (b"p\n--- \n1\n", "", Some(b"1\n")),
+    (b"p\n--- a\r\r\n1\n", "a\r", Some(b"1\n")),
+    (b"p\n--- a \n1\n", "a", None),
+    (b"p\n --- a\n1\n", "a", None),
+    (b"p\n---  a\n1\n", "a", None),
+    (b"a\n", "a", None),
+    (b"", "", None),
+];
+
 #[test]
 fn scores(rt: HostRuntime) {
-    for (bundle, name, found) in [
-        (
-            b"p\n--- a\n!!x\n**kern".as_slice(),
-            "a",
-            Some(b"!!x\n**kern".as_slice()),
-        ),
-        (b"p\n--- a\r\n!!x\r\n--- b\n", "a", Some(b"!!x\r\n")),
-        (b"p\n--- a\n1\n--- a\n2\n", "a", Some(b"1\n")),
-        (b"p\n--- a\n1\n--- b\n2\n--- c", "b", Some(b"2\n")),
-        (b"p\n--- a\n1\n--- b\n2\n--- c", "c", Some(b"")),
-        (b"p\n--- a b\n1", "a b", Some(b"1")),
-        (b"p\n--- a\n--- b\n1\n", "a", Some(b"")),
-        (b"p\n--- \n1\n", "", Some(b"1\n")),
-        (b"p\n--- a\r\r\n1\n", "a\r", Some(b"1\n")),
-        (b"p\n--- a \n1\n", "a", None),
-        (b"p\n --- a\n1\n", "a", None),
-        (b"p\n---  a\n1\n", "a", None),
-        (b"a\n", "a", None),
-        (b"", "", None),
-    ] {
+    for row in SCORES {
+        let (bundle, name, found) = *row;
         assert_eq!(rt; score(bundle, name), found, "{bundle:?}");
     }
 }
 
 #[test]
-fn sizes(rt: HostRuntime) -> Result<(), Fail> {
-    let most = vec![in rt.alloc(); b'a'; 67_108_864]?;
-    assert!(rt; !is_too_large(most.as_slice()));
-    let more = vec![in rt.alloc(); b'a'; 67_108_865]?;
-    assert!(rt; is_too_large(more.as_slice()));
-    Ok(())
+fn sizes(rt: HostRuntime) {
+    for (size, too_large) in [(67_108_864usize, false), (67_108_865, true)] {
+        let bundle = vec![in rt.alloc(); b'a'; size].expect(&rt, "memory");
+        assert_eq!(rt; is_too_large(&bundle), too_large, "{size}");
+    }
 }

@@ -2,307 +2,302 @@
 use hum_frac::Frac;
 use hum_kern::{KernFault, Length, Note, read_duration, read_note, read_recip};
 use hum_pitch::{Pitch, write_pitch};
-use std::alloc::AllocError;
 use std::process::Abort;
 
 /// A text, its value as a numerator and a denominator, and where the duration stands in it.
 type Row = (&'static [u8], u32, u32, usize, usize);
 
-fn check_duration(rt: &impl Abort, row: Row) {
-    let (text, top, bottom, start, end) = row;
-    assert!(rt; bottom > 0);
-    let value = Some(Frac::new(top as u64, bottom as u64));
-    let want = Length { value, start, end };
-    assert_eq!(rt; read_duration(text), Ok(want), "{text:?}");
+fn check_durations(rt: &impl Abort, rows: &[Row]) {
+    for row in rows {
+        let (text, top, bottom, start, end) = *row;
+        assert!(rt; bottom > 0);
+        let value = Some(Frac::new(top as u64, bottom as u64));
+        let want = Length { value, start, end };
+        assert_eq!(rt; read_duration(text), Ok(want), "{text:?}");
+    }
 }
+
+const PLAIN: &[Row] = &[
+    (b"4c", 1, 4, 0, 1),
+    (b"[4.c", 3, 8, 1, 3),
+    (b"16.c]", 3, 32, 0, 3),
+    (b"2.G--", 3, 4, 0, 2),
+    (b"12r", 1, 12, 0, 2),
+    (b"4096", 1, 4096, 0, 4),
+    // 1/4 + 1/8 + 1/16 + .. + 1/256
+    (b"4......", 127, 256, 0, 7),
+    (b"0", 2, 1, 0, 1),
+    (b"(0.c", 3, 1, 1, 3),
+    (b"00c", 4, 1, 0, 2),
+    // 4 + 2 + 1
+    (b"00..", 7, 1, 0, 4),
+    (b"000e", 8, 1, 0, 3),
+    // The second digits are no part of the first run.
+    (b"c4d8", 1, 4, 1, 2),
+    (b".4", 1, 4, 1, 2),
+];
 
 #[test]
 fn plain_durations(rt: HostRuntime) {
-    let rows: [Row; 14] = [
-        (b"4c", 1, 4, 0, 1),
-        (b"[4.c", 3, 8, 1, 3),
-        (b"16.c]", 3, 32, 0, 3),
-        (b"2.G--", 3, 4, 0, 2),
-        (b"12r", 1, 12, 0, 2),
-        (b"4096", 1, 4096, 0, 4),
-        // 1/4 + 1/8 + 1/16 + .. + 1/256
-        (b"4......", 127, 256, 0, 7),
-        (b"0", 2, 1, 0, 1),
-        (b"(0.c", 3, 1, 1, 3),
-        (b"00c", 4, 1, 0, 2),
-        // 4 + 2 + 1
-        (b"00..", 7, 1, 0, 4),
-        (b"000e", 8, 1, 0, 3),
-        // The second digits are no part of the first run.
-        (b"c4d8", 1, 4, 1, 2),
-        (b".4", 1, 4, 1, 2),
-    ];
-    for row in rows {
-        check_duration(&rt, row);
-    }
+    check_durations(&rt, PLAIN);
 }
+
+const QUOTIENTS: &[Row] = &[
+    (b"3%2d", 2, 3, 0, 3),
+    (b"3%4c", 4, 3, 0, 3),
+    // 2/3 + 1/3
+    (b"3%2.f", 1, 1, 0, 4),
+    // 3/5 + 3/10 + 3/20
+    (b"{5%3..f", 21, 20, 1, 6),
+    (b"4096%4096", 1, 1, 0, 9),
+    (b"1%4096", 4096, 1, 0, 6),
+    (b"10%20", 2, 1, 0, 5),
+    // A percent sign behind the dots is no part of the duration, nor is one before the digits.
+    (b"4.%2", 3, 8, 0, 2),
+    (b"3%2.%5", 1, 1, 0, 4),
+    (b"%2", 1, 2, 1, 2),
+];
 
 #[test]
 fn quotients(rt: HostRuntime) {
-    let rows: [Row; 10] = [
-        (b"3%2d", 2, 3, 0, 3),
-        (b"3%4c", 4, 3, 0, 3),
-        // 2/3 + 1/3
-        (b"3%2.f", 1, 1, 0, 4),
-        // 3/5 + 3/10 + 3/20
-        (b"{5%3..f", 21, 20, 1, 6),
-        (b"4096%4096", 1, 1, 0, 9),
-        (b"1%4096", 4096, 1, 0, 6),
-        (b"10%20", 2, 1, 0, 5),
-        // A percent sign behind the dots is no part of the duration, nor is one before the digits.
-        (b"4.%2", 3, 8, 0, 2),
-        (b"3%2.%5", 1, 1, 0, 4),
-        (b"%2", 1, 2, 1, 2),
-    ];
-    for row in rows {
-        check_duration(&rt, row);
-    }
+    check_durations(&rt, QUOTIENTS);
 }
 
-fn check_without(rt: &impl Abort, text: &[u8]) {
-    let nothing = Length {
-        value: None,
-        start: 0,
-        end: 0,
-    };
-    assert_eq!(rt; read_duration(text), Ok(nothing), "{text:?}");
-    assert_eq!(rt; read_recip(text), Err(KernFault::K3), "{text:?}");
-}
+const WITHOUT: &[&[u8]] = &[b"", b"r", b"cc#", b".", b"8ddq", b"4Q", b"04q", b"%"];
+
+const NOTHING: Length = Length {
+    value: None,
+    start: 0,
+    end: 0,
+};
 
 #[test]
 fn without_a_duration(rt: HostRuntime) {
-    let texts: [&'static [u8]; 8] = [b"", b"r", b"cc#", b".", b"8ddq", b"4Q", b"04q", b"%"];
-    for text in texts {
-        check_without(&rt, text);
+    for text in WITHOUT {
+        assert_eq!(rt; read_duration(*text), Ok(NOTHING), "{text:?}");
+        assert_eq!(rt; read_recip(*text), Err(KernFault::K3), "{text:?}");
     }
 }
 
+const REFUSED: &[&[u8]] = &[
+    b"0000c",
+    b"04",
+    b"01c",
+    b"4097",
+    b"99999999999999999999999999999999",
+    b"4.......",
+    b"0%2c",
+    b"00%2c",
+    b"3%c",
+    b"3%",
+    b"3%%2",
+    b"3%.2",
+    b"3%0c",
+    b"3%02c",
+    b"03%2",
+    b"3%2%2c",
+    b"3%2%",
+    b"4097%2c",
+    b"3%4097c",
+    b"3%2.......",
+];
+
 #[test]
 fn refused(rt: HostRuntime) {
-    let texts: [&'static [u8]; 20] = [
-        b"0000c",
-        b"04",
-        b"01c",
-        b"4097",
-        b"99999999999999999999999999999999",
-        b"4.......",
-        b"0%2c",
-        b"00%2c",
-        b"3%c",
-        b"3%",
-        b"3%%2",
-        b"3%.2",
-        b"3%0c",
-        b"3%02c",
-        b"03%2",
-        b"3%2%2c",
-        b"3%2%",
-        b"4097%2c",
-        b"3%4097c",
-        b"3%2.......",
-    ];
-    for text in texts {
-        assert_eq!(rt; read_duration(text), Err(KernFault::K3), "{text:?}");
-        assert_eq!(rt; read_recip(text), Err(KernFault::K3), "{text:?}");
+    for text in REFUSED {
+        assert_eq!(rt; read_duration(*text), Err(KernFault::K3), "{text:?}");
+        assert_eq!(rt; read_recip(*text), Err(KernFault::K3), "{text:?}");
     }
 }
+
+/// Texts that are no duration, though each has one.
+const BESIDE: &[&[u8]] = &[b"4c", b" 4", b"4 ", b"4 8", b".4", b"4.%2", b"%2"];
 
 #[test]
 fn durations_and_nothing_else(rt: HostRuntime) {
     assert_eq!(rt; read_recip(b"16"), Ok(Frac::new(1, 16)));
     assert_eq!(rt; read_recip(b"3%2."), Ok(Frac::new(1, 1)));
     assert_eq!(rt; read_recip(b"00"), Ok(Frac::new(4, 1)));
-    let texts: [&'static [u8]; 7] = [b"4c", b" 4", b"4 ", b"4 8", b".4", b"4.%2", b"%2"];
-    for text in texts {
-        assert_eq!(rt; read_recip(text), Err(KernFault::K3), "{text:?}");
+    for text in BESIDE {
+        assert_eq!(rt; read_recip(*text), Err(KernFault::K3), "{text:?}");
+    }
+}
+
+fn pitch(rt: &impl Abort, step: u8, octave: i8, alteration: i8) -> Pitch {
+    assert!(rt; step < 7 && octave >= -4 && octave <= 11 && alteration >= -7 && alteration <= 7);
+    Pitch {
+        step,
+        octave,
+        alteration,
+    }
+}
+
+// A note of this pitch, which stands there, without a mark.
+fn plain_note(pitch: Pitch, start: usize, end: usize) -> Note {
+    Note {
+        pitch: Some(pitch),
+        start,
+        end,
+        rest: false,
+        grace: false,
+        continued: false,
     }
 }
 
 /// A text, where its pitch stands, and the pitch's step, octave and alteration.
 type Pitched = (&'static [u8], usize, usize, u8, i8, i8);
 
-fn check_pitch(rt: &impl Abort, row: Pitched) {
-    let (text, start, end, step, octave, alteration) = row;
-    assert!(rt; step < 7 && octave >= -4 && octave <= 11 && alteration >= -7 && alteration <= 7);
-    let note = match read_note(text) {
-        Ok(note) => note,
-        Err(fault) => panic!(rt; "{text:?} is refused: {fault:?}"),
-    };
-    let pitch = Pitch {
-        step,
-        octave,
-        alteration,
-    };
-    assert_eq!(rt; note.pitch, Some(pitch), "{text:?}");
-    assert_eq!(rt; (note.start, note.end), (start, end), "{text:?}");
-    assert!(rt; !note.rest && !note.grace && !note.continued, "{text:?}");
-}
+const PITCHES: &[Pitched] = &[
+    // middle c, and its octaves up to the eighth and down to the eighth
+    (b"c", 0, 1, 0, 4, 0),
+    (b"cc", 0, 2, 0, 5, 0),
+    (b"4ccccc", 1, 6, 0, 8, 0),
+    (b"cccccccc", 0, 8, 0, 11, 0),
+    (b"C", 0, 1, 0, 3, 0),
+    (b"CC", 0, 2, 0, 2, 0),
+    (b"CCCCCCCC", 0, 8, 0, -4, 0),
+    (b"bbbbbbbb", 0, 8, 6, 11, 0),
+    (b"BBBBBBBB", 0, 8, 6, -4, 0),
+    // the piano's lowest and highest keys, and the a of 440 hertz
+    (b"AAAA", 0, 4, 5, 0, 0),
+    (b"8ccccc", 1, 6, 0, 8, 0),
+    (b"2a", 1, 2, 5, 4, 0),
+    // each letter
+    (b"d", 0, 1, 1, 4, 0),
+    (b"e", 0, 1, 2, 4, 0),
+    (b"f", 0, 1, 3, 4, 0),
+    (b"g", 0, 1, 4, 4, 0),
+    (b"b", 0, 1, 6, 4, 0),
+    (b"DD", 0, 2, 1, 2, 0),
+    (b"EE", 0, 2, 2, 2, 0),
+    (b"FF", 0, 2, 3, 2, 0),
+    (b"GG", 0, 2, 4, 2, 0),
+    (b"BB", 0, 2, 6, 2, 0),
+    // sharps, flats and naturals
+    (b"4dd#", 1, 4, 1, 5, 1),
+    (b"2.G--L", 2, 5, 4, 3, -2),
+    (b"16f###J", 2, 6, 3, 4, 3),
+    (b"C-", 0, 2, 0, 3, -1),
+    (b"[4c-", 2, 4, 0, 4, -1),
+    (b"8bb#", 1, 4, 6, 5, 1),
+    (b"e#######", 0, 8, 2, 4, 7),
+    (b"F-------", 0, 8, 3, 3, -7),
+    (b"4cn", 1, 3, 0, 4, 0),
+    (b"8BBnnn", 1, 6, 6, 2, 0),
+    (b"cnnnnnnn", 0, 8, 0, 4, 0),
+    // signs elsewhere are no part of the pitch, nor are other letters
+    (b"4c4#", 1, 2, 0, 4, 0),
+    (b"#4a-X", 2, 4, 5, 4, -1),
+    (b"(4.e-/LLjz~)", 3, 5, 2, 4, -1),
+];
 
 #[test]
 fn pitches(rt: HostRuntime) {
-    let rows: [Pitched; 36] = [
-        // middle c, and its octaves up to the eighth and down to the eighth
-        (b"c", 0, 1, 0, 4, 0),
-        (b"cc", 0, 2, 0, 5, 0),
-        (b"4ccccc", 1, 6, 0, 8, 0),
-        (b"cccccccc", 0, 8, 0, 11, 0),
-        (b"C", 0, 1, 0, 3, 0),
-        (b"CC", 0, 2, 0, 2, 0),
-        (b"CCCCCCCC", 0, 8, 0, -4, 0),
-        (b"bbbbbbbb", 0, 8, 6, 11, 0),
-        (b"BBBBBBBB", 0, 8, 6, -4, 0),
-        // the piano's lowest and highest keys, and the a of 440 hertz
-        (b"AAAA", 0, 4, 5, 0, 0),
-        (b"8ccccc", 1, 6, 0, 8, 0),
-        (b"2a", 1, 2, 5, 4, 0),
-        // each letter
-        (b"d", 0, 1, 1, 4, 0),
-        (b"e", 0, 1, 2, 4, 0),
-        (b"f", 0, 1, 3, 4, 0),
-        (b"g", 0, 1, 4, 4, 0),
-        (b"b", 0, 1, 6, 4, 0),
-        (b"DD", 0, 2, 1, 2, 0),
-        (b"EE", 0, 2, 2, 2, 0),
-        (b"FF", 0, 2, 3, 2, 0),
-        (b"GG", 0, 2, 4, 2, 0),
-        (b"BB", 0, 2, 6, 2, 0),
-        // sharps, flats and naturals
-        (b"4dd#", 1, 4, 1, 5, 1),
-        (b"2.G--L", 2, 5, 4, 3, -2),
-        (b"16f###J", 2, 6, 3, 4, 3),
-        (b"C-", 0, 2, 0, 3, -1),
-        (b"[4c-", 2, 4, 0, 4, -1),
-        (b"8bb#", 1, 4, 6, 5, 1),
-        (b"e#######", 0, 8, 2, 4, 7),
-        (b"F-------", 0, 8, 3, 3, -7),
-        (b"4cn", 1, 3, 0, 4, 0),
-        (b"8BBnnn", 1, 6, 6, 2, 0),
-        (b"cnnnnnnn", 0, 8, 0, 4, 0),
-        // signs elsewhere are no part of the pitch, nor are other letters
-        (b"4c4#", 1, 2, 0, 4, 0),
-        (b"#4a-X", 2, 4, 5, 4, -1),
-        (b"(4.e-/LLjz~)", 3, 5, 2, 4, -1),
-    ];
-    for row in rows {
-        check_pitch(&rt, row);
+    for row in PITCHES {
+        let (text, start, end, step, octave, alteration) = *row;
+        let pitch = pitch(&rt, step, octave, alteration);
+        assert_eq!(rt;
+            read_note(text),
+            Ok(plain_note(pitch, start, end)),
+            "{text:?}"
+        );
     }
 }
 
+const REFUSED_BY_K1: &[&[u8]] = &[
+    b"cd",
+    b"c4c",
+    b"cC",
+    b"ccdcc",
+    b"c#c",
+    b"4gg#-",
+    b"4c-n",
+    b"an#",
+    b"c##-#",
+    b"ee-4q_e",
+    // two runs or different signs come before what is too long
+    b"ccccccccc4d",
+    b"ccccccccc#-",
+    b"c########-",
+    b"c4ccccccccc",
+];
+
+const REFUSED_BY_K2: &[&[u8]] = &[
+    b"ccccccccc",
+    b"4AAAAAAAAA",
+    b"c########",
+    b"c--------",
+    b"cnnnnnnnn",
+    b"bbbbbbbbb#########_",
+];
+
 #[test]
 fn pitches_refused(rt: HostRuntime) {
-    let texts: [&'static [u8]; 14] = [
-        b"cd",
-        b"c4c",
-        b"cC",
-        b"ccdcc",
-        b"c#c",
-        b"4gg#-",
-        b"4c-n",
-        b"an#",
-        b"c##-#",
-        b"ee-4q_e",
-        // two runs or different signs come before what is too long
-        b"ccccccccc4d",
-        b"ccccccccc#-",
-        b"c########-",
-        b"c4ccccccccc",
-    ];
-    for text in texts {
-        assert_eq!(rt; read_note(text), Err(KernFault::K1), "{text:?}");
+    for text in REFUSED_BY_K1 {
+        assert_eq!(rt; read_note(*text), Err(KernFault::K1), "{text:?}");
     }
-    let texts: [&'static [u8]; 6] = [
-        b"ccccccccc",
-        b"4AAAAAAAAA",
-        b"c########",
-        b"c--------",
-        b"cnnnnnnnn",
-        b"bbbbbbbbb#########_",
-    ];
-    for text in texts {
-        assert_eq!(rt; read_note(text), Err(KernFault::K2), "{text:?}");
+    for text in REFUSED_BY_K2 {
+        assert_eq!(rt; read_note(*text), Err(KernFault::K2), "{text:?}");
     }
 }
 
 /// A text, and whether it is a rest, a grace note and the rest of a tie.
 type Marked = (&'static [u8], bool, bool, bool);
 
-fn check_marks(rt: &impl Abort, row: Marked, pitched: bool) {
-    let (text, rest, grace, continued) = row;
-    let note = match read_note(text) {
-        Ok(note) => note,
-        Err(fault) => panic!(rt; "{text:?} is refused: {fault:?}"),
-    };
-    assert_eq!(rt;
-        (note.rest, note.grace, note.continued),
-        (rest, grace, continued),
-        "{text:?}"
-    );
-    assert_eq!(rt; note.pitch.is_some(), pitched, "{text:?}");
-    assert!(rt; pitched || note.start == 0 && note.end == 0, "{text:?}");
+fn check_marks(rt: &impl Abort, rows: &[Marked], pitched: bool) {
+    for row in rows {
+        let (text, rest, grace, continued) = *row;
+        let note = read_note(text).expect(rt, "a note");
+        let found = (note.rest, note.grace, note.continued, note.pitch.is_some());
+        assert_eq!(rt; found, (rest, grace, continued, pitched), "{text:?}");
+        assert!(rt; pitched || note.start == 0 && note.end == 0, "{text:?}");
+    }
 }
+
+const PITCHED: &[Marked] = &[
+    (b"4c", false, false, false),
+    (b"8ddq", false, true, false),
+    (b"cQ", false, true, false),
+    (b"[4c", false, false, false),
+    (b"4c_", false, false, true),
+    (b"4c]", false, false, true),
+    (b"Qd]", false, true, true),
+    (b"q_e-", false, true, true),
+    (b"4.cR", false, false, false),
+];
+
+const UNPITCHED: &[Marked] = &[
+    (b"", false, false, false),
+    (b".", false, false, false),
+    (b"4", false, false, false),
+    (b"4#", false, false, false),
+    (b"(", false, false, false),
+    (b"q]", false, true, true),
+    (b"4r", true, false, false),
+    (b"r", true, false, false),
+    (b"ccr", true, false, false),
+    // a rest is read for no pitch
+    (b"cdr", true, false, false),
+    (b"rccccccccc#-", true, false, false),
+    (b"rq", true, true, false),
+    (b"_r]", true, false, true),
+];
 
 #[test]
 fn marks(rt: HostRuntime) {
-    let rows: [Marked; 9] = [
-        (b"4c", false, false, false),
-        (b"8ddq", false, true, false),
-        (b"cQ", false, true, false),
-        (b"[4c", false, false, false),
-        (b"4c_", false, false, true),
-        (b"4c]", false, false, true),
-        (b"Qd]", false, true, true),
-        (b"q_e-", false, true, true),
-        (b"4.cR", false, false, false),
-    ];
-    for row in rows {
-        check_marks(&rt, row, true);
-    }
-    let rows: [Marked; 13] = [
-        (b"", false, false, false),
-        (b".", false, false, false),
-        (b"4", false, false, false),
-        (b"4#", false, false, false),
-        (b"(", false, false, false),
-        (b"q]", false, true, true),
-        (b"4r", true, false, false),
-        (b"r", true, false, false),
-        (b"ccr", true, false, false),
-        // a rest is read for no pitch
-        (b"cdr", true, false, false),
-        (b"rccccccccc#-", true, false, false),
-        (b"rq", true, true, false),
-        (b"_r]", true, false, true),
-    ];
-    for row in rows {
-        check_marks(&rt, row, false);
-    }
+    check_marks(&rt, PITCHED, true);
+    check_marks(&rt, UNPITCHED, false);
 }
 
+/// Steps, octaves and alterations.
+const WRITTEN: &[(u8, i8, i8)] = &[(0, 4, 0), (6, 11, 7), (0, -4, -7), (3, 3, 2), (5, 0, -1)];
+
 #[test]
-fn written_pitches_are_read(rt: HostRuntime) -> Result<(), AllocError> {
-    let alloc = rt.alloc();
-    for row in [(0, 4, 0), (6, 11, 7), (0, -4, -7), (3, 3, 2), (5, 0, -1)] {
-        let (step, octave, alteration) = row;
-        let pitch = Pitch {
-            step,
-            octave,
-            alteration,
-        };
-        let text = write_pitch(alloc, pitch)?;
-        let note = Note {
-            pitch: Some(pitch),
-            start: 0,
-            end: text.len(),
-            rest: false,
-            grace: false,
-            continued: false,
-        };
-        assert_eq!(rt; read_note(&text), Ok(note));
+fn written_pitches_are_read(rt: HostRuntime) {
+    for row in WRITTEN {
+        let (step, octave, alteration) = *row;
+        let pitch = pitch(&rt, step, octave, alteration);
+        let text = write_pitch(rt.alloc(), pitch).expect(&rt, "memory");
+        assert_eq!(rt; read_note(&text), Ok(plain_note(pitch, 0, text.len())));
     }
-    Ok(())
 }

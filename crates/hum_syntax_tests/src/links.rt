@@ -1,74 +1,57 @@
 //! Links of a net by hand.
-ghost use Rattle.std.specs.Prelude.{◌≡◌};
-ghost use Rattle.hum_record.specs.Spelling.{has_byte};
-
+use crate::record::read;
 use hum_links::{Link, Next};
-use hum_record::Record;
 use hum_stage::End;
 use std::alloc::Global;
 use std::process::Abort;
-use std::test::Fail;
 
-fn has_line_feed(text: &[u8]) -> bool
-    ensures { result ≡ has_byte 10 text.now }
-{
-    text.contains(&b'\n')
+fn push(rt: &impl Abort, alloc: Global, link: &mut Link, text: &[u8]) {
+    assert!(rt; link.has_room());
+    link.push(read(rt, alloc, text));
 }
 
-fn read(rt: &impl Abort, alloc: Global, text: &[u8]) -> Result<Record, Fail> {
-    assert!(rt; text.len() <= 1_048_576 && !has_line_feed(text));
-    Ok(Record::parse(alloc, text.to_vec(alloc)?)?)
-}
-
-// The text that comes next, `end` for the end and nothing for nothing.
-fn next_text(alloc: Global, link: &mut Link) -> Result<Vec<u8>, Fail> {
+// Takes what comes next: a record of this text, `end` for the end and nothing for nothing.
+fn check_next(rt: &impl Abort, link: &mut Link, want: &[u8]) {
     match link.next() {
-        Next::Record(record) => Ok(record.text().to_vec(alloc)?),
-        Next::End(_) => Ok(b"end".as_slice().to_vec(alloc)?),
-        Next::Nothing => Ok(Vec::new(alloc)),
+        Next::Record(record) => assert_eq!(rt; record.text(), want),
+        Next::End(_) => assert_eq!(rt; b"end".as_slice(), want),
+        Next::Nothing => assert!(rt; want.is_empty()),
     }
 }
 
 #[test]
-fn records_come_in_their_order_then_the_end(rt: HostRuntime) -> Result<(), Fail> {
+fn records_come_in_their_order_then_the_end(rt: HostRuntime) {
     let alloc = rt.alloc();
-    let mut link = Link::new(alloc, 2)?;
+    let mut link = Link::new(alloc, 2).expect(&rt, "memory");
     assert!(rt; !link.has_some() && link.is_unset());
-    assert!(rt; link.has_room());
-    link.push(read(&rt, alloc, b"!!a".as_slice())?);
-    assert!(rt; link.has_room());
-    link.push(read(&rt, alloc, b"!!b".as_slice())?);
+    push(&rt, alloc, &mut link, b"!!a");
+    push(&rt, alloc, &mut link, b"!!b");
     assert!(rt; !link.has_room() && link.len() == 2);
     link.end(End::Closed);
     assert!(rt; !link.is_unset() && link.heard().is_none());
-    assert_eq!(rt; next_text(alloc, &mut link)?.as_slice(), b"!!a".as_slice());
+    check_next(&rt, &mut link, b"!!a");
     assert!(rt; link.has_room() && link.len() == 1);
-    assert_eq!(rt; next_text(alloc, &mut link)?.as_slice(), b"!!b".as_slice());
+    check_next(&rt, &mut link, b"!!b");
     assert!(rt; link.has_some() && link.heard().is_none());
-    assert_eq!(rt; next_text(alloc, &mut link)?.as_slice(), b"end".as_slice());
+    check_next(&rt, &mut link, b"end");
     assert!(rt; !link.has_some());
     assert_eq!(rt; link.heard(), Some(End::Closed));
-    Ok(())
 }
 
 #[test]
-fn an_empty_link_gives_nothing(rt: HostRuntime) -> Result<(), Fail> {
-    let alloc = rt.alloc();
-    let mut link = Link::new(alloc, 1)?;
-    assert_eq!(rt; next_text(alloc, &mut link)?.len(), 0);
+fn an_empty_link_gives_nothing(rt: HostRuntime) {
+    let mut link = Link::new(rt.alloc(), 1).expect(&rt, "memory");
+    check_next(&rt, &mut link, b"");
     assert!(rt; link.heard().is_none() && link.len() == 0);
-    Ok(())
 }
 
 #[test]
-fn a_ring_goes_round(rt: HostRuntime) -> Result<(), Fail> {
+fn a_ring_goes_round(rt: HostRuntime) {
     let alloc = rt.alloc();
-    let mut link = Link::new(alloc, 1)?;
+    let mut link = Link::new(alloc, 1).expect(&rt, "memory");
     for _ in 0..5 {
-        assert!(rt; link.has_room());
-        link.push(read(&rt, alloc, b"!!a".as_slice())?);
+        push(&rt, alloc, &mut link, b"!!a");
         assert!(rt; !link.has_room());
-        assert_eq!(rt; next_text(alloc, &mut link)?.as_slice(), b"!!a".as_slice());
+        check_next(&rt, &mut link, b"!!a");
     }
-    Ok(())
 }

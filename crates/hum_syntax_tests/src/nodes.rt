@@ -5,7 +5,6 @@ use hum_stage::End;
 use hum_text::calls::{Marked, Source};
 use std::io;
 use std::io::{Error, ErrorKind, Read};
-use std::test::Fail;
 
 // What was given, as text.
 fn shown(polled: &Step) -> &[u8] {
@@ -26,27 +25,29 @@ fn give_back<R: Source + Drop>(node: &mut Reading<R>, polled: Step) {
     }
 }
 
-#[test]
-fn a_score_is_read(rt: HostRuntime) -> Result<(), Fail> {
-    let source = Marked::new(b"**x\n*-".as_slice());
-    let mut node = Reading::new(rt.alloc(), 1, source);
-    for text in [b"nothing".as_slice(), b"**x", b"*-", b"closed", b"closed"] {
-        let polled = node.poll()?;
-        assert_eq!(rt; shown(&polled), text);
-        give_back(&mut node, polled);
-    }
-    Ok(())
-}
+const CLOSED: &[&[u8]] = &[b"nothing", b"**x", b"*-", b"closed", b"closed"];
 
 #[test]
-fn a_broken_score_is_read(rt: HostRuntime) -> Result<(), Fail> {
+fn a_score_is_read(rt: HostRuntime) {
+    let source = Marked::new(b"**x\n*-".as_slice());
+    let mut node = Reading::new(rt.alloc(), 1, source);
+    for text in CLOSED {
+        let polled = node.poll().expect(&rt, "a step");
+        assert_eq!(rt; shown(&polled), *text);
+        give_back(&mut node, polled);
+    }
+}
+
+const BROKEN: &[&[u8]] = &[b"nothing", b"**x", b"broken", b"broken"];
+
+#[test]
+fn a_broken_score_is_read(rt: HostRuntime) {
     let source = Marked::new(b"**x\n\n*-\n".as_slice());
     let mut node = Reading::new(rt.alloc(), 1, source);
-    for text in [b"nothing".as_slice(), b"**x", b"broken", b"broken"] {
-        let polled = node.poll()?;
-        assert_eq!(rt; shown(&polled), text);
+    for text in BROKEN {
+        let polled = node.poll().expect(&rt, "a step");
+        assert_eq!(rt; shown(&polled), *text);
     }
-    Ok(())
 }
 
 // Fails at its first read.
@@ -60,24 +61,18 @@ impl Read for Failing {
 }
 
 #[test]
-fn a_failed_read_is_told_again(rt: HostRuntime) -> Result<(), Fail> {
+fn a_failed_read_is_told_again(rt: HostRuntime) {
     let mut node = Reading::new(rt.alloc(), 1, Marked::new(Failing));
     for _ in 0..2 {
-        let told = match node.poll() {
-            Err(error) => Some(error),
-            Ok(_) => None,
-        };
-        assert_eq!(rt; told, Some(ReadError::Read));
+        assert_eq!(rt; node.poll().err(), Some(ReadError::Read));
     }
-    Ok(())
 }
 
 #[test]
-fn several_scores_are_wanted_from_the_left(rt: HostRuntime) -> Result<(), Fail> {
-    let from = vec![in rt.alloc(); 3usize, 5]?;
-    let mut node = Merging::new(rt.alloc(), 6, from)?;
+fn several_scores_are_wanted_from_the_left(rt: HostRuntime) {
+    let from = vec![in rt.alloc(); 3usize, 5].expect(&rt, "memory");
+    let mut node = Merging::new(rt.alloc(), 6, from).expect(&rt, "memory");
     assert_eq!(rt; node.doing(), Doing::Wants(0));
     assert_eq!(rt; node.held(), 0);
-    assert!(rt; node.take()?.is_none());
-    Ok(())
+    assert!(rt; node.take().expect(&rt, "memory").is_none());
 }

@@ -1,34 +1,14 @@
 //! Spines of small scores, by hand: where they come from, and each rule broken once.
-ghost use Rattle.std.specs.Prelude.{◌≡◌, ◌≤◌, [], false, length};
-ghost use Rattle.hum_record.specs.Spelling.{has_byte};
+ghost use Rattle.std.specs.Prelude.{◌≡◌, ◌≤◌, [], length};
 
+use crate::record::read;
 use hum_path::{Carried, ColumnMemory, Move, Moves, Origins, PathFault, Paths};
 use hum_record::{Record, RecordBuilder, SpinedKind};
 use std::alloc::{AllocError, Global};
 use std::marker::Model;
 use std::process::Abort;
-use std::test::Fail;
 
-fn step(alloc: Global, paths: &mut Paths, text: &[u8]) -> Result<Result<Moves, PathFault>, Fail>
-    requires at_most { length text.now ≤ 1048576 }
-    requires one_line { has_byte 10 text.now ≡ false }
-{
-    let row = Record::parse(alloc, text.to_vec(alloc)?)?;
-    Ok(paths.step(&row))
-}
-
-// Takes a record that breaks no rule.
-fn check_moves(
-    rt: &impl Abort,
-    alloc: Global,
-    paths: &mut Paths,
-    text: &[u8],
-    want: &[Move],
-) -> Result<(), Fail>
-    requires at_most { length text.now ≤ 1048576 }
-    requires one_line { has_byte 10 text.now ≡ false }
-{
-    let found = step(alloc, paths, text)??;
+fn check_moves(rt: &impl Abort, found: &Moves, want: &[Move]) {
     assert_eq!(rt; found.len(), want.len());
     assert_eq!(rt; found.is_empty(), want.is_empty());
     for (i, from) in want.iter().enumerate() {
@@ -39,24 +19,6 @@ fn check_moves(
     if let Some(listed) = found.as_listed() {
         assert_eq!(rt; listed, want);
     }
-    Ok(())
-}
-
-// Takes a record that breaks a rule: the spines stay.
-fn check_refused(
-    rt: &impl Abort,
-    alloc: Global,
-    paths: &mut Paths,
-    text: &[u8],
-    want: PathFault,
-) -> Result<(), Fail>
-    requires at_most { length text.now ≤ 1048576 }
-    requires one_line { has_byte 10 text.now ≡ false }
-{
-    let width = paths.width();
-    assert_eq!(rt; step(alloc, paths, text)?.err(), Some(want));
-    assert_eq!(rt; paths.width(), width);
-    Ok(())
 }
 
 fn check_names(rt: &impl Abort, paths: &Paths, want: &[&'static [u8]]) {
@@ -68,111 +30,139 @@ fn check_names(rt: &impl Abort, paths: &Paths, want: &[&'static [u8]]) {
     }
 }
 
-#[test]
-fn follows_spines(rt: HostRuntime) -> Result<(), Fail> {
-    let alloc = rt.alloc();
-    let mut paths = Paths::new(alloc);
-    assert!(rt; paths.is_closed());
-    let two = [Move::Same(0), Move::Same(1)];
-    let three = [Move::Same(0), Move::Same(1), Move::Same(2)];
-    check_moves(&rt, alloc, &mut paths, b"!!title", &[])?;
-    check_moves(&rt, alloc, &mut paths, b"**x\t**y", &two)?;
-    check_moves(
-        &rt,
-        alloc,
-        &mut paths,
-        b"*x\t*x",
-        &[Move::Same(1), Move::Same(0)],
-    )?;
-    check_names(&rt, &paths, &[b"**y", b"**x"]);
-    let split = [Move::Left(0), Move::Right(0), Move::Same(1)];
-    check_moves(&rt, alloc, &mut paths, b"*^\t*", &split)?;
-    check_moves(&rt, alloc, &mut paths, b"1\t2\t3", &three)?;
-    check_moves(&rt, alloc, &mut paths, b"*\t*clefG2\t*", &three)?;
-    check_moves(
-        &rt,
-        alloc,
-        &mut paths,
-        b"*v\t*v\t*",
-        &[Move::Join(0, 1), Move::Same(2)],
-    )?;
-    let added = [Move::Same(0), Move::Added(0), Move::Same(1)];
-    check_moves(&rt, alloc, &mut paths, b"*+\t*", &added)?;
-    check_names(&rt, &paths, &[b"**y", b"", b"**x"]);
-    check_moves(&rt, alloc, &mut paths, b"*\t**z\t*", &three)?;
-    check_names(&rt, &paths, &[b"**y", b"**z", b"**x"]);
-    assert_eq!(rt; paths.close(), Err(PathFault::P8));
-    check_moves(&rt, alloc, &mut paths, b"*-\t*-\t*-", &[])?;
-    assert!(rt; paths.is_closed());
-    assert_eq!(rt; paths.close(), Ok(()));
-    Ok(())
+/// A record, where the spines after it come from or the rule that it breaks, and the names of the
+/// spines then. What breaks a rule leaves them as they were.
+type Row = (
+    &'static [u8],
+    Result<&'static [Move], PathFault>,
+    &'static [&'static [u8]],
+);
+
+fn check_steps(rt: &impl Abort, alloc: Global, paths: &mut Paths, rows: &[Row]) {
+    for row in rows {
+        let (text, want, names) = *row;
+        let found = paths.step(&read(rt, alloc, text));
+        match want {
+            Ok(moves) => check_moves(rt, &found.expect(rt, "moves"), moves),
+            Err(fault) => assert_eq!(rt; found.err(), Some(fault), "{text:?}"),
+        }
+        check_names(rt, paths, names);
+    }
 }
 
+const TWO: &[Move] = &[Move::Same(0), Move::Same(1)];
+
+const THREE: &[Move] = &[Move::Same(0), Move::Same(1), Move::Same(2)];
+
+const FOLLOWED: &[Row] = &[
+    (b"!!title", Ok(&[]), &[]),
+    (b"**x\t**y", Ok(TWO), &[b"**x", b"**y"]),
+    (
+        b"*x\t*x",
+        Ok(&[Move::Same(1), Move::Same(0)]),
+        &[b"**y", b"**x"],
+    ),
+    (
+        b"*^\t*",
+        Ok(&[Move::Left(0), Move::Right(0), Move::Same(1)]),
+        &[b"**y", b"**y", b"**x"],
+    ),
+    (b"1\t2\t3", Ok(THREE), &[b"**y", b"**y", b"**x"]),
+    (b"*\t*clefG2\t*", Ok(THREE), &[b"**y", b"**y", b"**x"]),
+    (
+        b"*v\t*v\t*",
+        Ok(&[Move::Join(0, 1), Move::Same(2)]),
+        &[b"**y", b"**x"],
+    ),
+    (
+        b"*+\t*",
+        Ok(&[Move::Same(0), Move::Added(0), Move::Same(1)]),
+        &[b"**y", b"", b"**x"],
+    ),
+    (b"*\t**z\t*", Ok(THREE), &[b"**y", b"**z", b"**x"]),
+];
+
+const ENDED: &[Row] = &[(b"*-\t*-\t*-", Ok(&[]), &[])];
+
 #[test]
-fn refuses_what_breaks_a_rule(rt: HostRuntime) -> Result<(), Fail> {
+fn follows_spines(rt: HostRuntime) {
     let alloc = rt.alloc();
     let mut paths = Paths::new(alloc);
-    check_refused(&rt, alloc, &mut paths, b"4c", PathFault::P1)?;
-    check_refused(&rt, alloc, &mut paths, b"**x\t*", PathFault::P1)?;
-    check_refused(&rt, alloc, &mut paths, b"**x\t**", PathFault::P10)?;
-    let three = [Move::Same(0), Move::Same(1), Move::Same(2)];
-    check_moves(&rt, alloc, &mut paths, b"**x\t**x\t**y", &three)?;
-    check_refused(&rt, alloc, &mut paths, b"1\t2", PathFault::P2)?;
-    check_refused(&rt, alloc, &mut paths, b"*v\t*\t*", PathFault::P3)?;
-    check_refused(&rt, alloc, &mut paths, b"*\t*\t*x", PathFault::P4)?;
-    check_refused(&rt, alloc, &mut paths, b"*\t*v\t*v", PathFault::P5)?;
-    check_refused(&rt, alloc, &mut paths, b"*\t**\t*", PathFault::P10)?;
-    check_refused(&rt, alloc, &mut paths, b"**x\t*^\t*", PathFault::P11)?;
-    check_names(&rt, &paths, &[b"**x", b"**x", b"**y"]);
-    let added = [Move::Same(0), Move::Added(0)];
-    check_moves(&rt, alloc, &mut paths, b"*+\t*-\t*-", &added)?;
-    check_refused(&rt, alloc, &mut paths, b"1\t2", PathFault::P6)?;
-    check_refused(&rt, alloc, &mut paths, b"*\t*", PathFault::P6)?;
-    check_moves(
-        &rt,
-        alloc,
-        &mut paths,
-        b"*\t**z",
-        &[Move::Same(0), Move::Same(1)],
-    )?;
-    check_moves(&rt, alloc, &mut paths, b"*-\t*-", &[])?;
-    check_refused(&rt, alloc, &mut paths, b"1", PathFault::P7)?;
-    check_refused(&rt, alloc, &mut paths, b"*", PathFault::P7)?;
-    Ok(())
+    assert!(rt; paths.is_closed());
+    check_steps(&rt, alloc, &mut paths, FOLLOWED);
+    assert_eq!(rt; paths.close(), Err(PathFault::P8));
+    check_steps(&rt, alloc, &mut paths, ENDED);
+    assert!(rt; paths.is_closed());
+    assert_eq!(rt; paths.close(), Ok(()));
+}
+
+const REFUSED: &[Row] = &[
+    (b"4c", Err(PathFault::P1), &[]),
+    (b"**x\t*", Err(PathFault::P1), &[]),
+    (b"**x\t**", Err(PathFault::P10), &[]),
+    (b"**x\t**x\t**y", Ok(THREE), &[b"**x", b"**x", b"**y"]),
+    (b"1\t2", Err(PathFault::P2), &[b"**x", b"**x", b"**y"]),
+    (b"*v\t*\t*", Err(PathFault::P3), &[b"**x", b"**x", b"**y"]),
+    (b"*\t*\t*x", Err(PathFault::P4), &[b"**x", b"**x", b"**y"]),
+    (b"*\t*v\t*v", Err(PathFault::P5), &[b"**x", b"**x", b"**y"]),
+    (b"*\t**\t*", Err(PathFault::P10), &[b"**x", b"**x", b"**y"]),
+    (
+        b"**x\t*^\t*",
+        Err(PathFault::P11),
+        &[b"**x", b"**x", b"**y"],
+    ),
+    (
+        b"*+\t*-\t*-",
+        Ok(&[Move::Same(0), Move::Added(0)]),
+        &[b"**x", b""],
+    ),
+    (b"1\t2", Err(PathFault::P6), &[b"**x", b""]),
+    (b"*\t*", Err(PathFault::P6), &[b"**x", b""]),
+    (b"*\t**z", Ok(TWO), &[b"**x", b"**z"]),
+    (b"*-\t*-", Ok(&[]), &[]),
+    (b"1", Err(PathFault::P7), &[]),
+    (b"*", Err(PathFault::P7), &[]),
+];
+
+#[test]
+fn refuses_what_breaks_a_rule(rt: HostRuntime) {
+    let alloc = rt.alloc();
+    let mut paths = Paths::new(alloc);
+    check_steps(&rt, alloc, &mut paths, REFUSED);
 }
 
 // A record that splits so many spines, and at least one.
-fn splits(alloc: Global, width: usize) -> Result<Record, Fail> {
+fn splits(rt: &impl Abort, alloc: Global, width: usize) -> Record {
     let mut builder = RecordBuilder::new(alloc, SpinedKind::Interpretation);
-    builder.push(b"*^")?;
+    builder.push(b"*^").expect(rt, "a token");
     for _ in 1..width {
-        builder.push(b"*^")?;
+        builder.push(b"*^").expect(rt, "a token");
     }
-    Ok(builder.finish())
+    builder.finish()
 }
 
+const OPENED: &[Row] = &[(b"**x", Ok(&[Move::Same(0)]), &[b"**x"])];
+
 #[test]
-fn refuses_more_than_4096_spines(rt: HostRuntime) -> Result<(), Fail> {
+fn refuses_more_than_4096_spines(rt: HostRuntime) {
     let alloc = rt.alloc();
     let mut paths = Paths::new(alloc);
-    check_moves(&rt, alloc, &mut paths, b"**x", &[Move::Same(0)])?;
+    check_steps(&rt, alloc, &mut paths, OPENED);
     for _ in 0..12 {
-        let row = splits(alloc, paths.width())?;
-        paths.step(&row)?;
+        let row = splits(&rt, alloc, paths.width());
+        paths.step(&row).expect(&rt, "moves");
     }
     assert_eq!(rt; paths.width(), 4096);
-    let row = splits(alloc, 4096)?;
+    let row = splits(&rt, alloc, 4096);
     assert_eq!(rt; paths.step(&row).err(), Some(PathFault::P9));
     assert_eq!(rt; paths.width(), 4096);
-    Ok(())
 }
 
 #[test]
-fn prints_its_faults(rt: HostRuntime) -> Result<(), Fail> {
+fn prints_its_faults(rt: HostRuntime) {
     let alloc = rt.alloc();
-    let text = format!(in alloc; "{} {}", PathFault::P10, PathFault::Memory)?;
+    let text = format!(in alloc; "{} {}", PathFault::P10, PathFault::Memory).expect(&rt, "memory");
     assert_eq!(rt; text.as_str(), "P10 out of memory");
-    Ok(())
 }
 
 /// The nearest cell above.
@@ -237,29 +227,8 @@ fn check_origins(rt: &impl Abort, origins: &Origins, want: &[u16]) {
     }
 }
 
-// Takes a record, and compares the nearest cell above each spine after it, and its opening spine.
-fn check_memories(
-    rt: &impl Abort,
-    alloc: Global,
-    spines: (&mut Paths, &mut Carried<Nearest>, &mut Origins),
-    text: &[u8],
-    nearest: &[&'static [u8]],
-    opening: &[u16],
-) -> Result<(), Fail>
-    requires at_most { length text.now ≤ 1048576 }
-    requires one_line { has_byte 10 text.now ≡ false }
-{
-    let (paths, carried, origins) = spines;
-    let row = Record::parse(alloc, text.to_vec(alloc)?)?;
-    let found = paths.step(&row)?;
-    carried.follow(&mut (), &row, &found)?;
-    origins.follow(&row, &found)?;
-    check_nearest(rt, carried, nearest);
-    check_origins(rt, origins, opening);
-    Ok(())
-}
-
-const REMEMBERED: [(&[u8], &[&[u8]], &[u16]); 9] = [
+/// A record, the nearest cell above each spine after it, and its opening spine.
+const REMEMBERED: &[(&[u8], &[&[u8]], &[u16])] = &[
     (b"!!c", &[], &[]),
     (b"**x\t**y", &[b"**x", b"**y"], &[0, 1]),
     (b"*x\t*x", &[b"*x", b"*x"], &[1, 0]),
@@ -272,14 +241,18 @@ const REMEMBERED: [(&[u8], &[&[u8]], &[u16]); 9] = [
 ];
 
 #[test]
-fn remembers_columns(rt: HostRuntime) -> Result<(), Fail> {
+fn remembers_columns(rt: HostRuntime) {
     let alloc = rt.alloc();
     let mut paths = Paths::new(alloc);
     let mut carried = Carried::new(alloc);
     let mut origins = Origins::new(alloc);
-    for (text, nearest, opening) in REMEMBERED {
-        let spines = (&mut paths, &mut carried, &mut origins);
-        check_memories(&rt, alloc, spines, text, nearest, opening)?;
+    for line in REMEMBERED {
+        let (text, nearest, opening) = *line;
+        let row = read(&rt, alloc, text);
+        let found = paths.step(&row).expect(&rt, "moves");
+        carried.follow(&mut (), &row, &found).expect(&rt, "memory");
+        origins.follow(&row, &found).expect(&rt, "memory");
+        check_nearest(&rt, &carried, nearest);
+        check_origins(&rt, &origins, opening);
     }
-    Ok(())
 }

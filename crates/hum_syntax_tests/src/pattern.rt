@@ -1,64 +1,66 @@
 //! Patterns and tokens, by hand.
-ghost use Rattle.std.specs.Prelude.{◌≡◌, ◌≤◌, length};
-
 use hum_pattern::{Pattern, PatternFault};
 use std::alloc::Global;
 use std::process::Abort;
-use std::test::Fail;
 
-// Tries a pattern on a token that it matches and on one that it doesn't.
-fn check_matches(
-    rt: &impl Abort,
-    alloc: Global,
-    text: &str,
-    matched: &[u8],
-    other: &[u8],
-) -> Result<(), Fail> {
-    let mut pattern = Pattern::new(alloc, text)?;
-    assert!(rt; pattern.matches(matched));
-    assert!(rt; !pattern.matches(other));
-    assert!(rt; pattern.matches(matched));
-    Ok(())
+fn pattern(rt: &impl Abort, alloc: Global, text: &str) -> Pattern {
+    Pattern::new(alloc, text).expect(rt, "a pattern")
 }
 
-#[test]
-fn matches_anywhere_in_a_token(rt: HostRuntime) -> Result<(), Fail> {
-    let alloc = rt.alloc();
-    check_matches(&rt, alloc, "^=", b"=1", b"a=")?;
-    check_matches(&rt, alloc, "a|b", b"cb", b"c")?;
-    check_matches(&rt, alloc, "[0-9]+$", b"a12", b"12a")?;
+/// Patterns, each with a token that it matches and one that it doesn't.
+const MATCHED: &[(&str, &[u8], &[u8])] = &[
+    ("^=", b"=1", b"a="),
+    ("a|b", b"cb", b"c"),
+    ("[0-9]+$", b"a12", b"12a"),
     // bytes that are no text
-    check_matches(&rt, alloc, "(?-u:\\xff)", b"a\xff", b"a\xfe")
+    ("(?-u:\\xff)", b"a\xff", b"a\xfe"),
+];
+
+#[test]
+fn matches_anywhere_in_a_token(rt: HostRuntime) {
+    for row in MATCHED {
+        let (text, matched, other) = *row;
+        let mut pattern = pattern(&rt, rt.alloc(), text);
+        assert!(rt; pattern.matches(matched), "{text}");
+        assert!(rt; !pattern.matches(other), "{text}");
+        assert!(rt; pattern.matches(matched), "{text}");
+    }
 }
 
-fn end_of_first(alloc: Global, text: &str, token: &[u8]) -> Result<Option<usize>, Fail> {
-    let mut pattern = Pattern::new(alloc, text)?;
-    Ok(pattern.end_of_first(token))
+/// Patterns, tokens, and where the first match ends.
+const ENDS: &[(&str, &[u8], Option<usize>)] = &[
+    ("=", b"==12", Some(1)),
+    ("b+", b"abbcbbb", Some(3)),
+    ("a|ab", b"cab", Some(2)),
+    ("^b", b"ab", None),
+];
+
+#[test]
+fn ends_where_the_first_match_ends(rt: HostRuntime) {
+    for row in ENDS {
+        let (text, token, end) = *row;
+        let mut pattern = pattern(&rt, rt.alloc(), text);
+        assert_eq!(rt; pattern.end_of_first(token), end, "{text}");
+    }
+}
+
+const REFUSED: &[(&str, PatternFault)] = &[
+    ("(", PatternFault::Refused),
+    ("a{9,1}", PatternFault::Refused),
+    ("(?-u:.{1000000}){1000}", PatternFault::TooLarge),
+];
+
+#[test]
+fn refuses_what_is_no_expression(rt: HostRuntime) {
+    for row in REFUSED {
+        let (text, fault) = *row;
+        let found = Pattern::new(rt.alloc(), text).err();
+        assert_eq!(rt; found, Some(fault), "{text}");
+    }
 }
 
 #[test]
-fn ends_where_the_first_match_ends(rt: HostRuntime) -> Result<(), Fail> {
-    let alloc = rt.alloc();
-    assert_eq!(rt; end_of_first(alloc, "=", b"==12")?, Some(1));
-    assert_eq!(rt; end_of_first(alloc, "b+", b"abbcbbb")?, Some(3));
-    assert_eq!(rt; end_of_first(alloc, "a|ab", b"cab")?, Some(2));
-    assert_eq!(rt; end_of_first(alloc, "^b", b"ab")?, None);
-    Ok(())
-}
-
-#[test]
-fn refuses_what_is_no_expression(rt: HostRuntime) -> Result<(), Fail> {
-    let alloc = rt.alloc();
-    assert_eq!(rt; Pattern::new(alloc, "(").err(), Some(PatternFault::Refused));
-    assert_eq!(rt;
-        Pattern::new(alloc, "a{9,1}").err(),
-        Some(PatternFault::Refused)
-    );
-    assert_eq!(rt;
-        Pattern::new(alloc, "(?-u:.{1000000}){1000}").err(),
-        Some(PatternFault::TooLarge)
-    );
-    let text = format!(in alloc; "{}", PatternFault::Refused)?;
+fn prints_its_faults(rt: HostRuntime) {
+    let text = format!(in rt.alloc(); "{}", PatternFault::Refused).expect(&rt, "memory");
     assert_eq!(rt; text.as_str(), "the text is no regular expression");
-    Ok(())
 }

@@ -6,7 +6,6 @@ use std::alloc::Global;
 use std::io;
 use std::io::{Error, ErrorKind, Read};
 use std::process::Abort;
-use std::test::Fail;
 
 // Gives a text in pieces of this size. The read after so many good ones fails, and no other does.
 #[derive(Drop)]
@@ -31,37 +30,49 @@ impl Read for Pieces {
     }
 }
 
-// What a reading gave: the texts of its records, with LF after each, and why it stopped.
-#[derive(Debug, Drop)]
-struct Reading {
-    texts: Vec<u8>,
-    stop: Result<End, ReadError>,
+// Why a score stops, if this was answered.
+fn stop_of(polled: Result<Step, ReadError>) -> Option<Result<End, ReadError>> {
+    match polled {
+        Ok(Step::End(end)) => Some(Ok(end)),
+        Ok(_) => None,
+        Err(error) => Some(Err(error)),
+    }
 }
 
-// Reads as stage 3 to the end or an error, and polls once more, which has to answer the same.
-fn read_all(rt: &impl Abort, alloc: Global, source: Pieces) -> Result<Reading, Fail> {
-    let mut reader = ScoreReader::new(alloc, 3, Marked::new(source));
+// Reads to the end or an error: the texts of the records, with LF after each, and why it stops.
+fn read_all(
+    rt: &impl Abort,
+    alloc: Global,
+    reader: &mut ScoreReader<Marked<Pieces>>,
+) -> (Vec<u8>, Result<End, ReadError>) {
     let mut texts = Vec::new(alloc);
     for _ in 0..1_000 {
-        let stop = match reader.poll() {
+        match reader.poll() {
             Ok(Step::Record(record)) => {
-                texts.extend_from_slice(record.text())?;
-                texts.push(b'\n')?;
-                continue;
+                texts.extend_from_slice(record.text()).expect(rt, "memory");
+                texts.push(b'\n').expect(rt, "memory");
             }
-            Ok(Step::More) => continue,
-            Ok(Step::End(end)) => Ok(end),
-            Err(error) => Err(error),
-        };
-        let again = match reader.poll() {
-            Ok(Step::End(end)) => Some(Ok(end)),
-            Ok(_) => None,
-            Err(error) => Some(Err(error)),
-        };
-        assert_eq!(rt; again, Some(stop));
-        return Ok(Reading { texts, stop });
+            Ok(Step::More) => {}
+            Ok(Step::End(end)) => return (texts, Ok(end)),
+            Err(error) => return (texts, Err(error)),
+        }
     }
-    Err(Fail::from("no end"))
+    panic!(rt; "no end")
+}
+
+// Read as stage 3 the source gives these texts and stops so. Polled once more it answers the same.
+fn check_read(
+    rt: &impl Abort,
+    alloc: Global,
+    source: Pieces,
+    want: &[u8],
+    stop: Result<End, ReadError>,
+) {
+    let mut reader = ScoreReader::new(alloc, 3, Marked::new(source));
+    let (texts, found) = read_all(rt, alloc, &mut reader);
+    assert_eq!(rt; texts.as_slice(), want);
+    assert_eq!(rt; found, stop);
+    assert_eq!(rt; stop_of(reader.poll()), Some(stop));
 }
 
 fn end_of(fault: Option<(u64, Rule)>) -> End {
@@ -76,72 +87,76 @@ fn end_of(fault: Option<(u64, Rule)>) -> End {
     }
 }
 
+/// The text of a score, its records with LF behind each, and the line and the rule that breaks it.
+type Row = (&'static [u8], &'static [u8], Option<(u64, Rule)>);
+
+const SCORES: &[Row] = &[
+    (b"", b"", None),
+    (b"!!x\n!!!COM:\tBach", b"!!x\n!!!COM:\tBach\n", None),
+    (b"**kern\n4c\n*-\n", b"**kern\n4c\n*-\n", None),
+    (b"**kern\r\n4c\r\n*-", b"**kern\n4c\n*-\n", None),
+    (b"**x\n*-\n!!y\r", b"**x\n*-\n!!y\n", None),
+    (
+        b"**kern\r\n*k[]\r\n4e\r\n4B-\r\n8bb\r\n*-",
+        b"**kern\n*k[]\n4e\n4B-\n8bb\n*-\n",
+        None,
+    ),
+    (b"4c\n", b"", Some((1, Rule::P1))),
+    (b"**x\n1\t2\n", b"**x\n", Some((2, Rule::P2))),
+    (b"**x\t**y\n*v\t*\n", b"**x\t**y\n", Some((2, Rule::P3))),
+    (b"**x\t**y\n*x\t*\n", b"**x\t**y\n", Some((2, Rule::P4))),
+    (b"**x\t**y\n*v\t*v\n", b"**x\t**y\n", Some((2, Rule::P5))),
+    (b"**x\n*+\n*\t*\n", b"**x\n*+\n", Some((3, Rule::P6))),
+    (b"**x\n*-\n1\n", b"**x\n*-\n", Some((3, Rule::P7))),
+    (b"**kern\n4c\n", b"**kern\n4c\n", Some((3, Rule::P8))),
+    (b"**kern\n4c", b"**kern\n4c\n", Some((3, Rule::P8))),
+    (b"**x\n**\n*-\n", b"**x\n", Some((2, Rule::P10))),
+    (b"**x\t**y\n**z\t*-\n", b"**x\t**y\n", Some((2, Rule::P11))),
+    (b"**x\n\n*-\n", b"**x\n", Some((2, Rule::S1))),
+    (b"**x\n*-\n\r", b"**x\n*-\n", Some((3, Rule::S1))),
+    (b"**x\t**y\n1\t\t2\n", b"**x\t**y\n", Some((2, Rule::S4))),
+    (b"**x\t**y\n1\t*\n", b"**x\t**y\n", Some((2, Rule::S5))),
+    (b"**x\t**y\n!a\t!!b\n", b"**x\t**y\n", Some((2, Rule::S6))),
+    (b"**x\n1\r\r\n*-\n", b"**x\n", Some((2, Rule::S8))),
+    (b"4c\t\n\n", b"", Some((1, Rule::S4))),
+];
+
 #[test]
-fn scores_in_pieces(rt: HostRuntime) -> Result<(), Fail> {
-    let cases: [(&'static [u8], &'static [u8], Option<(u64, Rule)>); 24] = [
-        (b"", b"", None),
-        (b"!!x\n!!!COM:\tBach", b"!!x\n!!!COM:\tBach\n", None),
-        (b"**kern\n4c\n*-\n", b"**kern\n4c\n*-\n", None),
-        (b"**kern\r\n4c\r\n*-", b"**kern\n4c\n*-\n", None),
-        (b"**x\n*-\n!!y\r", b"**x\n*-\n!!y\n", None),
-        (
-            b"**kern\r\n*k[]\r\n4e\r\n4B-\r\n8bb\r\n*-",
-            b"**kern\n*k[]\n4e\n4B-\n8bb\n*-\n",
-            None,
-        ),
-        (b"4c\n", b"", Some((1, Rule::P1))),
-        (b"**x\n1\t2\n", b"**x\n", Some((2, Rule::P2))),
-        (b"**x\t**y\n*v\t*\n", b"**x\t**y\n", Some((2, Rule::P3))),
-        (b"**x\t**y\n*x\t*\n", b"**x\t**y\n", Some((2, Rule::P4))),
-        (b"**x\t**y\n*v\t*v\n", b"**x\t**y\n", Some((2, Rule::P5))),
-        (b"**x\n*+\n*\t*\n", b"**x\n*+\n", Some((3, Rule::P6))),
-        (b"**x\n*-\n1\n", b"**x\n*-\n", Some((3, Rule::P7))),
-        (b"**kern\n4c\n", b"**kern\n4c\n", Some((3, Rule::P8))),
-        (b"**kern\n4c", b"**kern\n4c\n", Some((3, Rule::P8))),
-        (b"**x\n**\n*-\n", b"**x\n", Some((2, Rule::P10))),
-        (b"**x\t**y\n**z\t*-\n", b"**x\t**y\n", Some((2, Rule::P11))),
-        (b"**x\n\n*-\n", b"**x\n", Some((2, Rule::S1))),
-        (b"**x\n*-\n\r", b"**x\n*-\n", Some((3, Rule::S1))),
-        (b"**x\t**y\n1\t\t2\n", b"**x\t**y\n", Some((2, Rule::S4))),
-        (b"**x\t**y\n1\t*\n", b"**x\t**y\n", Some((2, Rule::S5))),
-        (b"**x\t**y\n!a\t!!b\n", b"**x\t**y\n", Some((2, Rule::S6))),
-        (b"**x\n1\r\r\n*-\n", b"**x\n", Some((2, Rule::S8))),
-        (b"4c\t\n\n", b"", Some((1, Rule::S4))),
-    ];
-    for (text, texts, fault) in cases {
-        for size in [1usize, 2, 7] {
+fn scores_in_pieces(rt: HostRuntime) {
+    for size in [1usize, 2, 7] {
+        for row in SCORES {
+            let (text, texts, fault) = *row;
             let good = usize::MAX;
-            let reading = read_all(&rt, rt.alloc(), Pieces { text, size, good })?;
-            assert_eq!(rt; reading.texts.as_slice(), texts, "{text:?} by {size}");
-            assert_eq!(rt; reading.stop, Ok(end_of(fault)), "{text:?} by {size}");
+            let source = Pieces { text, size, good };
+            check_read(&rt, rt.alloc(), source, texts, Ok(end_of(fault)));
         }
     }
-    Ok(())
 }
 
+/// The size of the pieces, how many reads are good, and what was read before one failed.
+const FAILED: &[(usize, usize, &[u8])] = &[
+    (1, 0, b""),
+    (2, 3, b"**x\n1\n"),
+    (7, 2, b"**x\n1\n2\n*-\n"),
+];
+
 #[test]
-fn a_read_fails(rt: HostRuntime) -> Result<(), Fail> {
+fn a_read_fails(rt: HostRuntime) {
     let text = b"**x\n1\n2\n*-\n";
-    for (size, good, texts) in [
-        (1usize, 0usize, b"".as_slice()),
-        (2, 3, b"**x\n1\n".as_slice()),
-        (7, 2, b"**x\n1\n2\n*-\n".as_slice()),
-    ] {
-        let reading = read_all(&rt, rt.alloc(), Pieces { text, size, good })?;
-        assert_eq!(rt; reading.texts.as_slice(), texts, "by {size}");
-        assert_eq!(rt; reading.stop, Err(ReadError::Read), "by {size}");
+    for row in FAILED {
+        let (size, good, texts) = *row;
+        let source = Pieces { text, size, good };
+        check_read(&rt, rt.alloc(), source, texts, Err(ReadError::Read));
     }
-    Ok(())
 }
 
 #[test]
-fn errors_print(rt: HostRuntime) -> Result<(), Fail> {
+fn errors_print(rt: HostRuntime) {
     for (error, text) in [
         (ReadError::Read, "read failed"),
         (ReadError::Memory, "out of memory"),
     ] {
-        let printed = format!(in rt.alloc(); "{error}")?;
+        let printed = format!(in rt.alloc(); "{error}").expect(&rt, "memory");
         assert_eq!(rt; printed.as_str(), text);
     }
-    Ok(())
 }

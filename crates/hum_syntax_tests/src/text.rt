@@ -5,7 +5,7 @@ use hum_text::{Limits, TextFault};
 use std::alloc::Global;
 use std::io;
 use std::io::{Error, ErrorKind, Read, Write};
-use std::test::Fail;
+use std::process::Abort;
 
 // Gives a text in pieces of this size, and is interrupted once, after `good` reads. A read that
 // asks for no byte, or for more than may be asked for, fails.
@@ -80,7 +80,7 @@ impl Write for Room {
 }
 
 // What a reading to the end gave.
-#[derive(Debug, Drop)]
+#[derive(Drop)]
 struct Reading {
     // the lines, with LF after each
     lines: Vec<u8>,
@@ -91,139 +91,137 @@ struct Reading {
 }
 
 // Reads to the end or a fault, and polls once more, which has to answer the same.
-fn read_all<R: Source + Drop>(alloc: Global, source: R, limits: Limits) -> Result<Reading, Fail> {
+fn read_all<R: Source + Drop>(
+    rt: &impl Abort,
+    alloc: Global,
+    source: R,
+    limits: Limits,
+) -> Reading {
     let mut reader = LineReader::new(alloc, source, limits);
-    let mut reading = Reading {
-        lines: Vec::new(alloc),
-        reads: 0,
-        fault: None,
-    };
+    let mut lines = Vec::new(alloc);
+    let mut reads = 0usize;
     for _ in 0..10_000 {
-        match reader.poll() {
+        let polled = reader.poll();
+        match polled {
             Ok(Step::Line) => {
-                reading.lines.extend_from_slice(reader.line())?;
-                reading.lines.push(b'\n')?;
+                lines.extend_from_slice(reader.line()).expect(rt, "memory");
+                lines.push(b'\n').expect(rt, "memory");
             }
-            Ok(Step::More) => reading.reads = reading.reads.saturating_add(1),
-            Ok(Step::End) => {
-                if let Ok(Step::End) = reader.poll() {
-                    return Ok(reading);
-                }
-            }
-            Err(fault) => {
-                if reader.poll().err() == Some(fault) {
-                    reading.fault = Some(fault);
-                    return Ok(reading);
-                }
+            Ok(Step::More) => reads = reads.saturating_add(1),
+            Ok(Step::End) | Err(_) => {
+                assert_eq!(rt; reader.poll(), polled);
+                let fault = polled.err();
+                return Reading {
+                    lines,
+                    reads,
+                    fault,
+                };
             }
         }
     }
-    reading.fault = None;
-    reading.reads = usize::MAX;
-    Ok(reading)
+    panic!(rt; "no end")
 }
 
-fn limits(line: u32, records: u64, bytes: u64) -> Limits {
-    Limits {
-        line,
-        records,
-        bytes,
-    }
-}
+const SMALL: Limits = Limits {
+    line: 4,
+    records: 9,
+    bytes: 10,
+};
+
+const TWO_RECORDS: Limits = Limits {
+    records: 2,
+    ..SMALL
+};
+
+const NO_RECORD: Limits = Limits {
+    records: 0,
+    ..SMALL
+};
+
+/// A text, its limits, its lines with LF behind each, and the fault that ends them.
+type Row = (&'static [u8], Limits, &'static [u8], Option<TextFault>);
+
+const TEXTS: &[Row] = &[
+    (b"", SMALL, b"", None),
+    (b"ab\ncd", SMALL, b"ab\ncd\n", None),
+    (b"a\r\nb", SMALL, b"a\nb\n", None),
+    (b"a\r\nb\r", SMALL, b"a\nb\n", None),
+    (b"abcd\r\n", SMALL, b"abcd\n", None),
+    (b"abcd\r", SMALL, b"abcd\n", None),
+    (b"\n", NO_RECORD, b"", Some(TextFault::S1)),
+    (b"a\n\nb", SMALL, b"a\n", Some(TextFault::S1)),
+    (b"a\n\r\n", SMALL, b"a\n", Some(TextFault::S1)),
+    (b"a\n\r", SMALL, b"a\n", Some(TextFault::S1)),
+    (b"abcde", SMALL, b"", Some(TextFault::S2)),
+    (b"abcd\re", SMALL, b"", Some(TextFault::S2)),
+    (b"ab\ncd\ne", TWO_RECORDS, b"ab\ncd\n", Some(TextFault::S3)),
+    (
+        b"abc\ndef\nghi",
+        TWO_RECORDS,
+        b"abc\ndef\n",
+        Some(TextFault::S3),
+    ),
+    (b"abc\ndef\nghi", SMALL, b"abc\ndef\n", Some(TextFault::S7)),
+];
 
 #[test]
-fn texts_in_pieces(rt: HostRuntime) -> Result<(), Fail> {
-    let small = limits(4, 9, 10);
-    let cases: [(&'static [u8], Limits, &'static [u8], Option<TextFault>); 15] = [
-        (b"", small, b"", None),
-        (b"ab\ncd", small, b"ab\ncd\n", None),
-        (b"a\r\nb", small, b"a\nb\n", None),
-        (b"a\r\nb\r", small, b"a\nb\n", None),
-        (b"abcd\r\n", small, b"abcd\n", None),
-        (b"abcd\r", small, b"abcd\n", None),
-        (b"\n", limits(4, 0, 10), b"", Some(TextFault::S1)),
-        (b"a\n\nb", small, b"a\n", Some(TextFault::S1)),
-        (b"a\n\r\n", small, b"a\n", Some(TextFault::S1)),
-        (b"a\n\r", small, b"a\n", Some(TextFault::S1)),
-        (b"abcde", small, b"", Some(TextFault::S2)),
-        (b"abcd\re", small, b"", Some(TextFault::S2)),
-        (
-            b"ab\ncd\ne",
-            limits(4, 2, 10),
-            b"ab\ncd\n",
-            Some(TextFault::S3),
-        ),
-        (
-            b"abc\ndef\nghi",
-            limits(4, 2, 10),
-            b"abc\ndef\n",
-            Some(TextFault::S3),
-        ),
-        (b"abc\ndef\nghi", small, b"abc\ndef\n", Some(TextFault::S7)),
-    ];
-    for (text, limits, lines, fault) in cases {
-        for size in 1..=12usize {
+fn texts_in_pieces(rt: HostRuntime) {
+    for size in 1..=12usize {
+        for row in TEXTS {
+            let (text, limits, lines, fault) = *row;
             let good = usize::MAX;
             let source = Marked::new(Pieces { text, size, good });
-            let reading = read_all(rt.alloc(), source, limits)?;
+            let reading = read_all(&rt, rt.alloc(), source, limits);
             assert_eq!(rt; reading.lines.as_slice(), lines, "{text:?} by {size}");
             assert_eq!(rt; reading.fault, fault, "{text:?} by {size}");
         }
     }
-    Ok(())
 }
 
 #[test]
-fn a_score_with_cr_byte_by_byte(rt: HostRuntime) -> Result<(), Fail> {
+fn a_score_with_cr_byte_by_byte(rt: HostRuntime) {
     let source = Marked::new(Pieces {
         text: b"**kern\r\n*k[]\r\n4e\r\n4B-\r\n8bb\r\n*-",
         size: 1,
         good: usize::MAX,
     });
-    let reading = read_all(rt.alloc(), source, Limits::standard())?;
-    assert_eq!(rt;
-        reading.lines.as_slice(),
-        b"**kern\n*k[]\n4e\n4B-\n8bb\n*-\n".as_slice()
-    );
+    let reading = read_all(&rt, rt.alloc(), source, Limits::standard());
+    let lines = b"**kern\n*k[]\n4e\n4B-\n8bb\n*-\n";
+    assert_eq!(rt; reading.lines.as_slice(), lines.as_slice());
     assert_eq!(rt; reading.reads, 30);
     assert_eq!(rt; reading.fault, None);
-    Ok(())
 }
 
 #[test]
-fn the_longest_line(rt: HostRuntime) -> Result<(), Fail> {
+fn the_longest_line(rt: HostRuntime) {
     for (letters, lines, fault) in [
         (1_048_576usize, 1_048_577usize, None),
         (1_048_577, 0, Some(TextFault::S2)),
     ] {
-        let source = Marked::new(Letters {
-            letters,
-            line_end: b"\r\n",
-        });
-        let reading = read_all(rt.alloc(), source, Limits::standard())?;
+        let line_end = b"\r\n";
+        let source = Marked::new(Letters { letters, line_end });
+        let reading = read_all(&rt, rt.alloc(), source, Limits::standard());
         assert_eq!(rt; reading.lines.len(), lines, "{letters}");
         assert_eq!(rt; reading.fault, fault, "{letters}");
         assert_eq!(rt; reading.reads, 17, "{letters}");
     }
-    Ok(())
 }
 
 #[test]
-fn a_read_fails(rt: HostRuntime) -> Result<(), Fail> {
+fn a_read_fails(rt: HostRuntime) {
     let source = Marked::new(Pieces {
         text: b"ab\ncd\nef\n",
         size: 2,
         good: 3,
     });
-    let reading = read_all(rt.alloc(), source, Limits::standard())?;
+    let reading = read_all(&rt, rt.alloc(), source, Limits::standard());
     assert_eq!(rt; reading.lines.as_slice(), b"ab\ncd\n".as_slice());
     assert_eq!(rt; reading.reads, 3);
     assert_eq!(rt; reading.fault, Some(TextFault::Read));
-    Ok(())
 }
 
 #[test]
-fn marks(rt: HostRuntime) -> Result<(), Fail> {
+fn a_failed_read_is_marked(rt: HostRuntime) {
     let mut source = Marked::new(Pieces {
         text: b"ab",
         size: 1,
@@ -231,13 +229,15 @@ fn marks(rt: HostRuntime) -> Result<(), Fail> {
     });
     let mut buf = [0u8; 4];
     for (calls, failed) in [(1u64, false), (2, true), (3, true)] {
-        let result = source.read(&mut buf);
-        assert_eq!(rt; result.is_err(), calls == 2);
+        assert_eq!(rt; source.read(&mut buf).is_err(), calls == 2);
         assert_eq!(rt; source.calls(), calls);
         assert_eq!(rt; source.failed(), failed, "after {calls}");
     }
     assert_eq!(rt; source.into_inner().text, b"".as_slice());
+}
 
+#[test]
+fn a_failed_write_is_marked(rt: HostRuntime) {
     let mut sink = Marked::new(Room { room: 3 });
     let _ = sink.write(b"ab");
     let _ = sink.flush();
@@ -250,11 +250,10 @@ fn marks(rt: HostRuntime) -> Result<(), Fail> {
     let mut flushed = Marked::new(Room { room: 0 });
     let _ = flushed.flush();
     assert!(rt; flushed.failed());
-    Ok(())
 }
 
 #[test]
-fn faults_print(rt: HostRuntime) -> Result<(), Fail> {
+fn faults_print(rt: HostRuntime) {
     for (fault, text) in [
         (TextFault::S1, "S1"),
         (TextFault::S2, "S2"),
@@ -263,8 +262,7 @@ fn faults_print(rt: HostRuntime) -> Result<(), Fail> {
         (TextFault::Read, "read failed"),
         (TextFault::Memory, "out of memory"),
     ] {
-        let printed = format!(in rt.alloc(); "{fault}")?;
+        let printed = format!(in rt.alloc(); "{fault}").expect(&rt, "memory");
         assert_eq!(rt; printed.as_str(), text);
     }
-    Ok(())
 }

@@ -35,12 +35,16 @@ fn failures_are_no_faults(rt: HostRuntime) {
 #[test]
 fn a_pick_that_is_not_ready_counts_as_the_leftmost(rt: HostRuntime) {
     let ready = [false, true, false, true];
-    assert_eq!(rt; choose(&ready, 3), 3);
-    assert_eq!(rt; choose(&ready, 1), 1);
-    assert_eq!(rt; choose(&ready, 0), 1);
-    assert_eq!(rt; choose(&ready, 2), 1);
-    assert_eq!(rt; choose(&ready, 4), 1);
-    assert_eq!(rt; choose(&ready, usize::MAX), 1);
+    for (pick, chosen) in [
+        (3usize, 3usize),
+        (1, 1),
+        (0, 1),
+        (2, 1),
+        (4, 1),
+        (usize::MAX, 1),
+    ] {
+        assert_eq!(rt; choose(&ready, pick), chosen, "{pick}");
+    }
 }
 
 #[test]
