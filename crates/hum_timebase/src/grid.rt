@@ -1,14 +1,13 @@
 //! What each record becomes.
 ghost use Rattle.std.specs.Prelude.{◌≡◌, ◌+◌, [], ◌∷◌, Ok, Err, Some, None, ℕ};
-ghost use Rattle.std.specs.Prelude.{IfOk, OnOk, is_some, if◌then◌else◌, List, Bool, Result};
+ghost use Rattle.std.specs.Prelude.{IfOk, OnOk, is_some, if◌then◌else◌, List, Bool};
 ghost use Rattle.std.specs.List.{list_any};
 ghost use Rattle.hum_record.specs.Row.{Row, kind_of, tokens_of, text_of};
 ghost use Rattle.hum_record.specs.Spelling.{IsTextOf};
 ghost use Rattle.hum_record.specs.declared.Kind.TheVariants.{Interpretation as AnyInterpretation};
 ghost use Rattle.hum_record.specs.declared.Kind.TheVariants.{Values as AnyValues};
 ghost use Rattle.hum_path.specs.Spines.{after};
-ghost use Rattle.hum_stage.specs.declared.faults.Rule.{Rule};
-ghost use Rattle.hum_stage.specs.Decided.{MayStep, HasStepped};
+ghost use Rattle.hum_stage.specs.Decided.{Decision, MayStep, HasStepped};
 ghost use Rattle.hum_timebase.specs.Timebase.{timebase, around};
 ghost use Rattle.hum_timebase.specs.Following.{Follows, Answers, pace_of};
 ghost use Rattle.hum_timebase.specs.Notes.{notes_of};
@@ -102,7 +101,7 @@ impl Grid {
             (Follows self.old.pace self.old.paths.path self.old.timed.items self.old.clock)
             row.now }
         ensures spines { OnOk result
-            ((decide : List Row → Row → Result (List Row) Rule) (past : List Row)
+            ((decide : Decision) (past : List Row)
             → Follows self.old.pace self.old.paths.path self.old.timed.items self.old.clock
             decide past
             → Follows self.new.pace self.new.paths.path self.new.timed.items self.new.clock
