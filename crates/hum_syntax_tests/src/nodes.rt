@@ -5,6 +5,7 @@ use hum_stage::End;
 use hum_text::calls::{Marked, Source};
 use std::io;
 use std::io::{Error, ErrorKind, Read};
+use std::process::Abort;
 
 // What was given, as text.
 fn shown(polled: &Step) -> &[u8] {
@@ -16,12 +17,10 @@ fn shown(polled: &Step) -> &[u8] {
     }
 }
 
-// Gives back what was given.
-fn give_back<R: Source + Drop>(node: &mut Reading<R>, polled: Step) {
-    match polled {
-        Step::Record(row) => node.reuse(row),
-        Step::More => {}
-        Step::End(_) => {}
+// Gives back what was given, which the reader keeps.
+fn give_back<R: Source + Drop>(rt: &impl Abort, node: &mut Reading<R>, polled: Step) {
+    if let Step::Record(row) = polled {
+        assert!(rt; node.reuse(row).is_none());
     }
 }
 
@@ -34,7 +33,7 @@ fn a_score_is_read(rt: HostRuntime) {
     for text in CLOSED {
         let polled = node.poll().expect(&rt, "a step");
         assert_eq!(rt; shown(&polled), *text);
-        give_back(&mut node, polled);
+        give_back(&rt, &mut node, polled);
     }
 }
 

@@ -40,13 +40,34 @@ fn check_record(rt: &impl Abort, record: &Record, row: &Row) {
     }
 }
 
-// Each text is read as the record of its row, and so is a copy of it.
+// What comes back of a record that is made a line.
+fn through_line(rt: &impl Abort, record: Record) -> Record {
+    let width = record.width();
+    match record.into_line() {
+        Ok(line) => {
+            assert_eq!(rt; line.text().last(), Some(&b'\n'));
+            line.into_record()
+        }
+        Err(record) => {
+            assert_eq!(rt; record.width(), width);
+            record
+        }
+    }
+}
+
+// Each text is read as the record of its row, and so are copies of it, one in what is left of the
+// one before it, and what comes back of it as a line.
 fn check_read(rt: &impl Abort, alloc: Global, rows: &[Row]) {
+    let mut spare = Spare::none(alloc);
     for row in rows {
         let record = read(rt, alloc, row.0);
         check_record(rt, &record, row);
         let copy = record.copy(alloc).expect(rt, "memory");
         check_record(rt, &copy, row);
+        let other = copy.copy_into(alloc, &mut spare).expect(rt, "memory");
+        check_record(rt, &other, row);
+        spare.keep(other);
+        check_record(rt, &through_line(rt, record), row);
     }
 }
 
