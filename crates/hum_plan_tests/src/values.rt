@@ -120,7 +120,7 @@ fn lists_of_fields(rt: HostRuntime) {
     for row in FIELDS {
         let (text, want) = *row;
         let found = fields(&rt, rt.alloc(), text).expect(&rt, "fields");
-        assert_eq!(rt; found.as_slice(), want, "{text:?}");
+        assert!(rt; found.as_slice() == want, "{text:?}");
     }
 }
 
@@ -176,7 +176,7 @@ fn lists_of_passages(rt: HostRuntime) {
     for row in PASSAGES {
         let (text, want) = *row;
         let found = passages(&rt, rt.alloc(), text).expect(&rt, "passages");
-        assert_eq!(rt; found.as_slice(), want, "{text:?}");
+        assert!(rt; found.as_slice() == want, "{text:?}");
     }
 }
 
