@@ -8,12 +8,20 @@
 #   make docs       runs what the README and docs/ print, with the program
 #   make lint       the man page, the scripts and the grammar, as far as there are programs that read them
 #
-# The first build proves every crate that the program is made of, JOBS of them side by side, and tells each one that is
-# proved. Later ones prove what has changed. What the prover says of each function is in crates/humpipe/out/log. The laws
-# and the crates of tests, which the program doesn't need, are proved by make test.
+# The first build proves every crate that the program is made of, and tells each one that is proved. Later ones prove what
+# has changed. What the prover says of each function is in crates/humpipe/out/log. The laws and the crates of tests, which
+# the program doesn't need, are proved by make test.
+#
+# The build works on JOBS crates at once, twice as many as there are processors: some wait for those that they stand on.
+# The gate makes LANES checks at once, one to a processor. Both stay within the memory, in kilobytes: 2 GB a crate that
+# is worked on or waits, 4 GB a check.
 
 PREFIX ?= /usr/local
-JOBS ?= $(shell nproc)
+memory = $(shell awk '$$1 == "MemAvailable:" { print $$2 }' /proc/meminfo)
+at_most = $(shell awk -v most=$(1) -v each=$(2) -v memory=$(memory) \
+	'BEGIN { n = int(memory / each); print n < 1 ? 1 : n < most ? n : most }')
+JOBS ?= $(call at_most,$(shell echo $$((2 * $$(nproc)))),2000000)
+LANES ?= $(call at_most,$(shell nproc),4000000)
 
 log = crates/humpipe/out/log
 # how many crates the program is made of: each line of crates.txt names those that a crate uses, which stand above it
@@ -64,7 +72,7 @@ demo: humpipe
 
 # The examples run with the program that is there; DOCS=no leaves them out.
 test: lint
-	rt ci
+	RT_JOBS=$(LANES) rt ci
 	@program=$$(ls humpipe crates/humpipe/out/humpipe 2>/dev/null | head -n 1); \
 	if test "$(DOCS)" = no; then :; \
 	elif test -n "$$program"; then python3 docs/check.py "$$program"; \
