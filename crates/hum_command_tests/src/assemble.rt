@@ -3,7 +3,7 @@ ghost use Rattle.std.specs.Prelude.{◌≡◌, true};
 ghost use Rattle.hum_path.specs.Rules.{is_closed};
 ghost use Rattle.hum_stage.specs.declared.faults.End.TheVariants.{Closed};
 
-use crate::scores::read;
+use crate::scores::{push_record, read, record_of};
 use hum_assemble::Assemble;
 use hum_path::Paths;
 use hum_record::Record;
@@ -11,12 +11,10 @@ use hum_stage::{Command, End, Fault, Rule, State};
 use std::alloc::Global;
 use std::marker::Model;
 use std::process::Abort;
-use std::test::Fail;
 
 // An assembler as stage 3, and the spines of each source. It is served by what it wants.
 #[derive(Drop)]
 struct Service {
-    alloc: Global,
     inner: Assemble,
     paths: Vec<Paths>,
     puts: u64,
@@ -44,26 +42,23 @@ fn may_end(paths: &Paths, end: End) -> bool
 }
 
 impl Service {
-    fn new(rt: &impl Abort, alloc: Global, sources: usize) -> Result<Service, Fail> {
+    fn new(rt: &impl Abort, alloc: Global, sources: usize) -> Service {
         assert!(rt; sources <= 15);
-        let inner = Assemble::new(alloc, 3, sources)?;
+        let inner = Assemble::new(alloc, 3, sources).expect(rt, "memory");
         let mut paths = Vec::new(alloc);
         for _ in 0..sources {
-            paths.push(Paths::new(alloc))?;
+            paths.push(Paths::new(alloc)).expect(rt, "memory");
         }
-        Ok(Service {
-            alloc,
+        Service {
             inner,
             paths,
             puts: 0,
-        })
+        }
     }
 
     // One record more of the source that is wanted.
-    fn put(self, rt: &impl Abort, text: &[u8]) -> Result<Service, Fail> {
-        let next = read(rt, self.alloc, text)?;
+    fn put(self, rt: &impl Abort, next: Record) -> Service {
         let Service {
-            alloc,
             mut inner,
             mut paths,
             puts,
@@ -73,20 +68,18 @@ impl Service {
         };
         assert!(rt; source < paths.len());
         assert!(rt; puts < 4_294_967_295);
-        paths[source].step(&next)?;
-        inner.put(source, next)?;
-        Ok(Service {
-            alloc,
+        paths[source].step(&next).expect(rt, "moves");
+        inner.put(source, next).expect(rt, "memory");
+        Service {
             inner,
             paths,
             puts: puts + 1,
-        })
+        }
     }
 
     // The end of the source that is wanted: closed only where no spine is open.
     fn end(self, rt: &impl Abort, end: End) -> Service {
         let Service {
-            alloc,
             mut inner,
             paths,
             puts,
@@ -99,120 +92,109 @@ impl Service {
             panic!(rt; "a spine is open")
         }
         inner.end(source, end);
-        Service {
-            alloc,
-            inner,
-            paths,
-            puts,
-        }
+        Service { inner, paths, puts }
     }
 
     // What is given.
-    fn take(self, rt: &impl Abort) -> Result<(Service, Record), Fail> {
+    fn take(self, rt: &impl Abort) -> (Service, Record) {
         let Service {
-            alloc,
             mut inner,
             paths,
             puts,
         } = self;
-        let Some(row) = inner.take()? else {
+        let Some(row) = inner.take().expect(rt, "memory") else {
             panic!(rt; "nothing is given")
         };
-        let service = Service {
-            alloc,
-            inner,
-            paths,
-            puts,
-        };
-        Ok((service, row))
+        (Service { inner, paths, puts }, row)
     }
 }
 
-// The lines of a source, and how it ends.
-#[derive(Clone, Copy)]
-struct Source {
-    lines: &'static [&'static [u8]],
-    end: End,
-}
+/// The stage that ends in an open spine, and the line, if one does.
+type Cut = Option<(u8, u64)>;
 
-fn closed(lines: &'static [&'static [u8]]) -> Source {
-    Source {
-        lines,
-        end: End::Closed,
+fn end_of(cut: Cut) -> End {
+    match cut {
+        None => End::Closed,
+        Some((stage, line)) => End::Broken(Fault {
+            stage,
+            command: Command::Read,
+            line,
+            rule: Rule::P8,
+        }),
     }
 }
 
-// the end of a source in which a spine is open
-fn cut(stage: u8, line: u64) -> End {
-    End::Broken(Fault {
-        stage,
-        command: Command::Read,
-        line,
-        rule: Rule::P8,
-    })
-}
+/// The records of a source, and how it ends.
+type Source = (&'static str, Cut);
 
-fn broken(stage: u8, line: u64, lines: &'static [&'static [u8]]) -> Source {
-    Source {
-        lines,
-        end: cut(stage, line),
-    }
-}
-
-// A record of one token, whose width was doubled so many times.
-fn wide(alloc: Global, token: &[u8], times: usize) -> Result<Vec<u8>, Fail> {
-    let mut text = token.to_vec(alloc)?;
-    for _ in 0..times {
-        let half = text.as_slice().to_vec(alloc)?;
-        text.push(b'\t')?;
-        text.extend_from_slice(&half)?;
-    }
-    Ok(text)
-}
-
-// What the sources hold: these lines, so many splits of all spines that are then joined, or a
+// What the sources hold: these records, so many splits of all spines that are then joined, or a
 // million data records.
 #[derive(Clone, Copy)]
-enum Sources<'a> {
-    Listed(&'a [Source]),
+enum Sources {
+    Listed(&'static [Source]),
     Doubled(usize),
     Million,
 }
 
-// The line of this place in a source whose spines are split so many times.
-fn doubled(alloc: Global, splits: usize, place: usize) -> Result<Option<Vec<u8>>, Fail> {
+// The record of this place in a text, if it has so many.
+fn listed(rt: &impl Abort, alloc: Global, text: &str, place: usize) -> Option<Record> {
+    if text.is_empty() {
+        return None;
+    }
+    for (i, record) in text.split(" / ").enumerate() {
+        if i == place {
+            return Some(record_of(rt, alloc, record));
+        }
+    }
+    None
+}
+
+// A record of one token, whose width was doubled so many times.
+fn wide(rt: &impl Abort, alloc: Global, token: &[u8], times: usize) -> Record {
+    let mut text = token.to_vec(alloc).expect(rt, "memory");
+    for _ in 0..times {
+        let half = text.as_slice().to_vec(alloc).expect(rt, "memory");
+        text.push(b'\t').expect(rt, "memory");
+        text.extend_from_slice(&half).expect(rt, "memory");
+    }
+    read(rt, alloc, &text)
+}
+
+// The record of this place in a source whose spines are split so many times.
+fn doubled(rt: &impl Abort, alloc: Global, splits: usize, place: usize) -> Option<Record> {
     if place == 0 {
-        return Ok(Some(b"**x".to_vec(alloc)?));
+        return Some(read(rt, alloc, b"**x"));
     }
     if place <= splits {
-        return Ok(Some(wide(alloc, b"*^", place - 1)?));
+        return Some(wide(rt, alloc, b"*^", place - 1));
     }
     match place - splits {
-        1 => Ok(Some(wide(alloc, b"*v", splits)?)),
-        2 => Ok(Some(b"*-".to_vec(alloc)?)),
-        _ => Ok(None),
+        1 => Some(wide(rt, alloc, b"*v", splits)),
+        2 => Some(read(rt, alloc, b"*-")),
+        _ => None,
     }
 }
 
-impl<'a> Sources<'a> {
-    // The line of this place in a source; none at its end.
-    fn line(self, alloc: Global, source: usize, place: usize) -> Result<Option<Vec<u8>>, Fail> {
-        let line: Option<&'static [u8]> = match self {
-            Sources::Doubled(splits) => return doubled(alloc, splits, place),
+// The record of this place in a source of a million data records.
+fn long(rt: &impl Abort, alloc: Global, place: usize) -> Option<Record> {
+    match place {
+        0 => Some(read(rt, alloc, b"**x")),
+        1..=1_000_000 => Some(read(rt, alloc, b"4c")),
+        1_000_001 => Some(read(rt, alloc, b"*-")),
+        _ => None,
+    }
+}
+
+impl Sources {
+    // The record of this place in a source; none at its end.
+    fn record(self, rt: &impl Abort, alloc: Global, source: usize, place: usize) -> Option<Record> {
+        match self {
             Sources::Listed(sources) => match sources.get(source) {
-                Some(source) => source.lines.get(place).copied(),
+                Some(source) => listed(rt, alloc, source.0, place),
                 None => None,
             },
-            Sources::Million => match place {
-                0 => Some(b"**x"),
-                1..=1_000_000 => Some(b"4c"),
-                1_000_001 => Some(b"*-"),
-                _ => None,
-            },
-        };
-        match line {
-            Some(line) => Ok(Some(line.to_vec(alloc)?)),
-            None => Ok(None),
+            Sources::Doubled(splits) => doubled(rt, alloc, splits, place),
+            Sources::Million => long(rt, alloc, place),
         }
     }
 
@@ -220,21 +202,29 @@ impl<'a> Sources<'a> {
     fn end(self, source: usize) -> End {
         match self {
             Sources::Listed(sources) => match sources.get(source) {
-                Some(source) => source.end,
+                Some(source) => end_of(source.1),
                 None => End::Closed,
             },
             _ => End::Closed,
         }
     }
+
+    // Keeps the text of what is given, where it is short.
+    fn keep(self, rt: &impl Abort, alloc: Global, text: &mut String, row: &Record) {
+        if let Sources::Listed(_) = self {
+            push_record(rt, alloc, text, row);
+        }
+    }
 }
 
-// Serves the source that is wanted, of each of which so many lines were put.
+// Serves the source that is wanted, of each of which so many records were put.
 fn fed(
     service: Service,
     rt: &impl Abort,
-    sources: Sources<'_>,
+    alloc: Global,
+    sources: Sources,
     places: &mut Vec<usize>,
-) -> Result<Service, Fail> {
+) -> Service {
     let Some(source) = service.inner.wants() else {
         panic!(rt; "no source is wanted")
     };
@@ -242,282 +232,201 @@ fn fed(
     let place = places[source];
     assert!(rt; place < 4_000_000);
     places[source] = place + 1;
-    match sources.line(service.alloc, source, place)? {
-        Some(line) => service.put(rt, &line),
-        None => Ok(service.end(rt, sources.end(source))),
+    match sources.record(rt, alloc, source, place) {
+        Some(record) => service.put(rt, record),
+        None => service.end(rt, sources.end(source)),
     }
 }
 
-// Serves so many sources by what is wanted: what is given is what is wanted of it, if anything.
-// How many records are given, and the end.
+// Serves so many sources by what is wanted: how many records are given, and the end. The text of
+// what is given is kept where the sources are short.
 fn served(
     rt: &impl Abort,
     alloc: Global,
-    sources: Sources<'_>,
+    sources: Sources,
     count: usize,
-    want: &[&'static [u8]],
-) -> Result<(usize, End), Fail> {
-    let mut service = Service::new(rt, alloc, count)?;
-    let mut places = vec![in alloc; 0usize; count]?;
+    text: &mut String,
+) -> (usize, End) {
+    let mut service = Service::new(rt, alloc, count);
+    let mut places = vec![in alloc; 0usize; count].expect(rt, "memory");
     let mut given = 0usize;
     for _ in 0..4_000_000 {
         assert!(rt; service.inner.held() <= count);
         match service.inner.state() {
             State::Gives => {
-                let (next, row) = service.take(rt)?;
+                let (next, row) = service.take(rt);
                 service = next;
-                if let Some(text) = want.get(given) {
-                    assert_eq!(rt; row.text(), *text);
-                }
+                sources.keep(rt, alloc, text, &row);
                 assert!(rt; given < 4_000_000);
                 given += 1;
             }
-            State::Wants => service = fed(service, rt, sources, &mut places)?,
-            State::Done(end) => return Ok((given, end)),
+            State::Wants => service = fed(service, rt, alloc, sources, &mut places),
+            State::Done(end) => return (given, end),
         }
     }
-    Err(Fail::new("it isn't done"))
+    panic!(rt; "it isn't done")
 }
 
-// Of these sources those lines are given, and this is the end.
-fn check(
-    rt: &impl Abort,
-    alloc: Global,
-    sources: &[Source],
-    want: &[&'static [u8]],
-    ending: End,
-) -> Result<(), Fail> {
-    let (given, end) = served(rt, alloc, Sources::Listed(sources), sources.len(), want)?;
-    assert_eq!(rt; given, want.len());
-    assert_eq!(rt; end, ending);
-    Ok(())
+/// What is shown, sources, what is given of them, and how that ends.
+type Row = (&'static str, &'static [Source], &'static str, Cut);
+
+fn check_all(rt: &impl Abort, alloc: Global, rows: &[Row]) {
+    for row in rows {
+        let (name, sources, want, cut) = *row;
+        let mut text = String::new(alloc);
+        let (_, end) = served(
+            rt,
+            alloc,
+            Sources::Listed(sources),
+            sources.len(),
+            &mut text,
+        );
+        assert_eq!(rt; (text.as_str(), end), (want, end_of(cut)), "{name}");
+    }
 }
 
-#[test]
-fn fifteen_sources(rt: HostRuntime) -> Result<(), Fail> {
-    let alloc = rt.alloc();
-    let source = closed(&[b"**x", b"1", b"*-"]);
-    let last = closed(&[b"**y", b"!a", b"2", b"*-"]);
-    check(
-        &rt,
-        alloc,
-        &[
-            source, source, source, source, source, source, source, source, source, source, source,
-            source, source, source, last,
-        ],
-        &[
-            b"**x\t**x\t**x\t**x\t**x\t**x\t**x\t**x\t**x\t**x\t**x\t**x\t**x\t**x\t**y",
-            b"!\t!\t!\t!\t!\t!\t!\t!\t!\t!\t!\t!\t!\t!\t!a",
-            b"1\t1\t1\t1\t1\t1\t1\t1\t1\t1\t1\t1\t1\t1\t2",
-            b"*-\t*-\t*-\t*-\t*-\t*-\t*-\t*-\t*-\t*-\t*-\t*-\t*-\t*-\t*-",
-        ],
-        End::Closed,
-    )?;
-    Ok(())
-}
+const X: Source = ("**x / 1 / *-", None);
 
-#[test]
-fn splits_of_two_sources_stand_apart(rt: HostRuntime) -> Result<(), Fail> {
-    let alloc = rt.alloc();
-    check(
-        &rt,
-        alloc,
-        &[
-            closed(&[b"**x", b"*^", b"1\t2", b"*v\t*v", b"*-"]),
-            closed(&[b"**y", b"*^", b"7\t8", b"*v\t*v", b"9", b"*-"]),
-        ],
-        &[
-            b"**x\t**y",
-            b"*^\t*",
-            b"*\t*\t*^",
-            b"1\t2\t7\t8",
-            b"*v\t*v\t*\t*",
-            b"*\t*v\t*v",
-            b".\t9",
-            b"*-\t*-",
-        ],
-        End::Closed,
-    )?;
-    check(
-        &rt,
-        alloc,
-        &[
-            closed(&[b"**x", b"1", b"*^", b"2\t3", b"*v\t*v", b"*-"]),
-            closed(&[b"**y", b"*^", b"7\t8", b"*v\t*v", b"9", b"10", b"*-"]),
-        ],
-        &[
-            b"**x\t**y",
-            b"*\t*^",
-            b"1\t7\t8",
-            b"*^\t*\t*",
-            b"*\t*\t*v\t*v",
-            b"2\t3\t9",
-            b"*v\t*v\t*",
-            b".\t10",
-            b"*-\t*-",
-        ],
-        End::Closed,
-    )?;
-    Ok(())
-}
+const Y: Source = ("**y / !a / 2 / *-", None);
 
-#[test]
-fn a_broken_source_ends_what_is_given(rt: HostRuntime) -> Result<(), Fail> {
-    let alloc = rt.alloc();
-    check(
-        &rt,
-        alloc,
+const SPLIT: Source = ("**x / *^ / 1 & 2 / *v & *v / *-", None);
+
+const CLOSED: &[Row] = &[
+    (
+        "fifteen sources",
+        &[X, X, X, X, X, X, X, X, X, X, X, X, X, X, Y],
+        "**x & **x & **x & **x & **x & **x & **x & **x & **x & **x & **x & **x & **x & **x & **y \
+         / ! & ! & ! & ! & ! & ! & ! & ! & ! & ! & ! & ! & ! & ! & !a \
+         / 1 & 1 & 1 & 1 & 1 & 1 & 1 & 1 & 1 & 1 & 1 & 1 & 1 & 1 & 2 \
+         / *- & *- & *- & *- & *- & *- & *- & *- & *- & *- & *- & *- & *- & *- & *-",
+        None,
+    ),
+    (
+        "splits of two sources stand apart",
+        &[SPLIT, ("**y / *^ / 7 & 8 / *v & *v / 9 / *-", None)],
+        "**x & **y / *^ & * / * & * & *^ / 1 & 2 & 7 & 8 / *v & *v & * & * / * & *v & *v \
+         / . & 9 / *- & *-",
+        None,
+    ),
+    (
+        "a join before a later split",
         &[
-            closed(&[b"**x", b"1", b"2", b"*-"]),
-            broken(2, 3, &[b"**y", b"7"]),
+            ("**x / 1 / *^ / 2 & 3 / *v & *v / *-", None),
+            ("**y / *^ / 7 & 8 / *v & *v / 9 / 10 / *-", None),
         ],
-        &[b"**x\t**y", b"1\t7"],
-        cut(2, 3),
-    )?;
-    check(
-        &rt,
-        alloc,
+        "**x & **y / * & *^ / 1 & 7 & 8 / *^ & * & * / * & * & *v & *v / 2 & 3 & 9 \
+         / *v & *v & * / . & 10 / *- & *-",
+        None,
+    ),
+    (
+        "an added spine keeps its unit together",
         &[
-            broken(1, 3, &[b"**x", b"1"]),
-            closed(&[b"**y", b"7", b"*-"]),
+            ("**x / 1 / *+ / !!in / * & **x / 2 & 3 / *- & *-", None),
+            ("**y / !!y / 7 / !!z / *clef / 8 / *-", None),
         ],
-        &[b"**x\t**y", b"1\t7"],
-        cut(1, 3),
-    )?;
-    check(
-        &rt,
-        alloc,
-        &[broken(2, 3, &[b"**x", b"1"]), broken(1, 2, &[b"**y"])],
-        &[b"**x\t**y"],
-        cut(1, 2),
-    )?;
-    check(
-        &rt,
-        alloc,
+        "**x & **y / !!y / 1 & 7 / !!z / *+ & * / !!in / * & **x & * / * & * & *clef \
+         / 2 & 3 & 8 / *- & *- & *-",
+        None,
+    ),
+    (
+        "each kind is filled by its null token",
         &[
-            broken(1, 3, &[b"**x", b"*+"]),
-            closed(&[b"**y", b"1", b"*-"]),
+            ("**x & **x / !a & !b / *I & * / 1 & 2 / *- & *-", None),
+            ("**y / 7 / *-", None),
+            ("**z / *J / !c / *-", None),
         ],
-        &[b"**x\t**y", b"*+\t*"],
-        cut(1, 3),
-    )?;
-    Ok(())
-}
+        "**x & **x & **y & **z / !a & !b & ! & ! / * & * & * & *J / ! & ! & ! & !c \
+         / *I & * & * & * / 1 & 2 & 7 & . / *- & *- & *- & *-",
+        None,
+    ),
+    (
+        "fronts and tails go in turn",
+        &[
+            ("!!a / **x / 1 / *- / !!b / !!c", None),
+            ("!!d / !!e / **y / *- / !!f", None),
+        ],
+        "!!a / !!d / !!e / **x & **y / 1 & . / *- & *- / !!b / !!f / !!c",
+        None,
+    ),
+    (
+        "a source without spines",
+        &[("!!a", None), ("!!b / **y / *-", None)],
+        "!!a / !!b / **y / *-",
+        None,
+    ),
+    (
+        "sources without records",
+        &[("", None), ("", None)],
+        "",
+        None,
+    ),
+    (
+        "one source",
+        &[("**x & **y / 1 & 2 / *- & * / 3 / *-", None)],
+        "**x & **y / 1 & 2 / *- & * / 3 / *-",
+        None,
+    ),
+];
 
 #[test]
-fn an_added_spine_keeps_its_unit_together(rt: HostRuntime) -> Result<(), Fail> {
-    let alloc = rt.alloc();
-    check(
-        &rt,
-        alloc,
-        &[
-            closed(&[b"**x", b"1", b"*+", b"!!in", b"*\t**x", b"2\t3", b"*-\t*-"]),
-            closed(&[b"**y", b"!!y", b"7", b"!!z", b"*clef", b"8", b"*-"]),
-        ],
-        &[
-            b"**x\t**y",
-            b"!!y",
-            b"1\t7",
-            b"!!z",
-            b"*+\t*",
-            b"!!in",
-            b"*\t**x\t*",
-            b"*\t*\t*clef",
-            b"2\t3\t8",
-            b"*-\t*-\t*-",
-        ],
-        End::Closed,
-    )?;
-    Ok(())
+fn sources_side_by_side(rt: HostRuntime) {
+    check_all(&rt, rt.alloc(), CLOSED);
 }
 
-#[test]
-fn each_kind_is_filled_by_its_null_token(rt: HostRuntime) -> Result<(), Fail> {
-    let alloc = rt.alloc();
-    check(
-        &rt,
-        alloc,
-        &[
-            closed(&[b"**x\t**x", b"!a\t!b", b"*I\t*", b"1\t2", b"*-\t*-"]),
-            closed(&[b"**y", b"7", b"*-"]),
-            closed(&[b"**z", b"*J", b"!c", b"*-"]),
-        ],
-        &[
-            b"**x\t**x\t**y\t**z",
-            b"!a\t!b\t!\t!",
-            b"*\t*\t*\t*J",
-            b"!\t!\t!\t!c",
-            b"*I\t*\t*\t*",
-            b"1\t2\t7\t.",
-            b"*-\t*-\t*-\t*-",
-        ],
-        End::Closed,
-    )?;
-    Ok(())
-}
+const BROKEN: &[Row] = &[
+    (
+        "the second source",
+        &[("**x / 1 / 2 / *-", None), ("**y / 7", Some((2, 3)))],
+        "**x & **y / 1 & 7",
+        Some((2, 3)),
+    ),
+    (
+        "the first source",
+        &[("**x / 1", Some((1, 3))), ("**y / 7 / *-", None)],
+        "**x & **y / 1 & 7",
+        Some((1, 3)),
+    ),
+    (
+        "both, one later than the other",
+        &[("**x / 1", Some((2, 3))), ("**y", Some((1, 2)))],
+        "**x & **y",
+        Some((1, 2)),
+    ),
+    (
+        "behind an added spine",
+        &[("**x / *+", Some((1, 3))), ("**y / 1 / *-", None)],
+        "**x & **y / *+ & *",
+        Some((1, 3)),
+    ),
+];
 
 #[test]
-fn fronts_and_tails_go_in_turn(rt: HostRuntime) -> Result<(), Fail> {
-    let alloc = rt.alloc();
-    check(
-        &rt,
-        alloc,
-        &[
-            closed(&[b"!!a", b"**x", b"1", b"*-", b"!!b", b"!!c"]),
-            closed(&[b"!!d", b"!!e", b"**y", b"*-", b"!!f"]),
-        ],
-        &[
-            b"!!a",
-            b"!!d",
-            b"!!e",
-            b"**x\t**y",
-            b"1\t.",
-            b"*-\t*-",
-            b"!!b",
-            b"!!f",
-            b"!!c",
-        ],
-        End::Closed,
-    )?;
-    check(
-        &rt,
-        alloc,
-        &[closed(&[b"!!a"]), closed(&[b"!!b", b"**y", b"*-"])],
-        &[b"!!a", b"!!b", b"**y", b"*-"],
-        End::Closed,
-    )?;
-    check(&rt, alloc, &[closed(&[]), closed(&[])], &[], End::Closed)?;
-    check(
-        &rt,
-        alloc,
-        &[closed(&[b"**x\t**y", b"1\t2", b"*-\t*", b"3", b"*-"])],
-        &[b"**x\t**y", b"1\t2", b"*-\t*", b"3", b"*-"],
-        End::Closed,
-    )?;
-    Ok(())
+fn a_broken_source_ends_what_is_given(rt: HostRuntime) {
+    check_all(&rt, rt.alloc(), BROKEN);
 }
 
-#[test]
-fn more_than_4096_spines_are_refused(rt: HostRuntime) -> Result<(), Fail> {
-    let alloc = rt.alloc();
-    let refused = End::Broken(Fault {
-        stage: 3,
-        command: Command::Assemble,
-        line: 24,
-        rule: Rule::A1,
-    });
-    let (given, end) = served(&rt, alloc, Sources::Doubled(12), 2, &[])?;
-    assert!(rt; given == 23 && end == refused);
-    let (given, end) = served(&rt, alloc, Sources::Doubled(11), 2, &[])?;
-    assert!(rt; given == 26 && end == End::Closed);
-    Ok(())
-}
+const TOO_WIDE: End = End::Broken(Fault {
+    stage: 3,
+    command: Command::Assemble,
+    line: 24,
+    rule: Rule::A1,
+});
 
-// Two sources of a million data records: one record of each is held at most.
+/// Two sources, how many records are given of them, and the end.
+const LONG: &[(Sources, usize, End)] = &[
+    // more than 4096 spines, and as many
+    (Sources::Doubled(12), 23, TOO_WIDE),
+    (Sources::Doubled(11), 26, End::Closed),
+    // one record of each is held at most
+    (Sources::Million, 1_000_002, End::Closed),
+];
+
 #[test]
-fn holds_one_record_of_each_source(rt: HostRuntime) -> Result<(), Fail> {
-    let alloc = rt.alloc();
-    let (given, end) = served(&rt, alloc, Sources::Million, 2, &[])?;
-    assert!(rt; given == 1_000_002 && end == End::Closed);
-    Ok(())
+fn wide_and_long_sources(rt: HostRuntime) {
+    for row in LONG {
+        let (sources, count, end) = *row;
+        let mut text = String::new(rt.alloc());
+        let found = served(&rt, rt.alloc(), sources, 2, &mut text);
+        assert_eq!(rt; found, (count, end));
+    }
 }

@@ -4,8 +4,8 @@ ghost use Rattle.std.specs.Prelude.{◌≡◌, ◌≤◌, ◌<◌, ◌++◌, IfO
 ghost use Rattle.hum_record.specs.declared.SpinedKind.TheVariants.{Values};
 ghost use Rattle.hum_record.specs.Spelling.{IsToken, has_byte};
 
-use crate::checks::{self, check_texts, given_first};
-use crate::scores::{Score, read, score_of};
+use crate::checks::{Case, check, check_first, end_of};
+use crate::scores::{Score, record_of};
 use hum_cells::{CellStage, Heading, Retells};
 use hum_path::{Carried, ColumnMemory, Moves};
 use hum_record::{Record, RecordBuilder, SpinedKind};
@@ -13,7 +13,6 @@ use hum_stage::{Command, End, Rule, whole};
 use std::alloc::{AllocError, Global};
 use std::marker::Model;
 use std::process::Abort;
-use std::test::Fail;
 
 // An x before each token; one with a question mark is refused, and else one with an asterisk.
 #[derive(Drop)]
@@ -189,7 +188,7 @@ impl Retells for Pursues {
 }
 
 // A token of one letter, so many times.
-fn long_token(alloc: Global, letter: u8, len: usize) -> Result<Vec<u8>, Fail>
+fn long_token(alloc: Global, letter: u8, len: usize) -> Result<Vec<u8>, AllocError>
     requires { (97 ≤ letter) × (0 < len) }
     ensures { IfOk result (λ token. IsToken Values token.items) }
 {
@@ -197,151 +196,87 @@ fn long_token(alloc: Global, letter: u8, len: usize) -> Result<Vec<u8>, Fail>
 }
 
 // A data record of two tokens.
-fn pair(alloc: Global, left: &[u8], right: &[u8]) -> Result<Record, Fail>
+fn pair(rt: &impl Abort, alloc: Global, left: &[u8], right: &[u8]) -> Record
     requires left { IsToken Values left.now }
     requires right { IsToken Values right.now }
 {
     let mut builder = RecordBuilder::new(alloc, SpinedKind::Values);
-    builder.push(left)?;
-    builder.push(right)?;
-    Ok(builder.finish())
-}
-
-// Puts a closed score through a command, as stage 2.
-fn run<T: Retells<Options = bool>>(
-    rt: &impl Abort,
-    alloc: Global,
-    score: Score,
-) -> Result<(Vec<Record>, End), Fail> {
-    let records = score.closed(rt)?;
-    let stage: CellStage<T> = CellStage::new(alloc, 2, true);
-    Ok(whole(alloc, stage, records, End::Closed)?)
-}
-
-// Of these lines a command gives those, and it ends so.
-fn check<T: Retells<Options = bool>>(
-    rt: &impl Abort,
-    alloc: Global,
-    lines: &[&'static [u8]],
-    want: &[&'static [u8]],
-    ending: End,
-) -> Result<(), Fail> {
-    let score = score_of(rt, alloc, lines)?;
-    let (given, end) = run::<T>(rt, alloc, score)?;
-    assert_eq!(rt; end, ending);
-    check_texts(rt, &given, want);
-    Ok(())
-}
-
-fn broken(line: u64, rule: Rule) -> End {
-    checks::broken(Command::Semits, line, rule)
-}
-
-#[test]
-fn tells_kern_columns(rt: HostRuntime) -> Result<(), Fail> {
-    let alloc = rt.alloc();
-    let put: [&'static [u8]; 11] = [
-        b"**kern\t**b",
-        b"c\td",
-        b".\te",
-        b"=2\t=2",
-        b"!!f",
-        b"!\t!g",
-        b"*x\t*x",
-        b"h?\ti",
-        b"*\t*+",
-        b"*\t*\t**kern",
-        b"*-\t*-\t*-",
-    ];
-    let want: [&'static [u8]; 11] = [
-        b"**x\t**b",
-        b"xc\td",
-        b".\te",
-        b"=2\t=2",
-        b"!!f",
-        b"!\t!g",
-        b"*x\t*x",
-        b"h?\txi",
-        b"*\t*+",
-        b"*\t*\t**x",
-        b"*-\t*-\t*-",
-    ];
-    check::<Marks>(&rt, alloc, &put, &want, End::Closed)
-}
-
-#[test]
-fn follows_kern_and_the_cells_above(rt: HostRuntime) -> Result<(), Fail> {
-    let alloc = rt.alloc();
-    let put: [&'static [u8]; 8] = [
-        b"**b\t**kern",
-        b"c\td",
-        b"e\tf",
-        b"**kern\t*",
-        b"g\t.",
-        b"*x\t*x",
-        b"h\ti",
-        b"*-\t*-",
-    ];
-    let want: [&'static [u8]; 10] = [
-        b"**b\t**kern",
-        b"*\t*y",
-        b"c\td",
-        b"e\txf",
-        b"**kern\t*",
-        b"*y\t*",
-        b"g\t.",
-        b"*x\t*x",
-        b"h\ti",
-        b"*-\t*-",
-    ];
-    check::<Pursues>(&rt, alloc, &put, &want, End::Closed)
-}
-
-#[test]
-fn the_leftmost_refused_token_decides(rt: HostRuntime) -> Result<(), Fail> {
-    let alloc = rt.alloc();
-    let put: [&'static [u8]; 3] = [b"**kern\t**kern", b"a*\tb?", b"*-\t*-"];
-    let want: [&'static [u8]; 1] = [b"**x\t**x"];
-    check::<Marks>(&rt, alloc, &put, &want, broken(2, Rule::K2))
-}
-
-// The score whose data record has these two tokens is refused there by this rule.
-fn check_refused(
-    rt: &impl Abort,
-    alloc: Global,
-    left: &[u8],
-    right: &[u8],
-    rule: Rule,
-) -> Result<(), Fail>
-    requires left { IsToken Values left.now }
-    requires right { IsToken Values right.now }
-{
-    let score = Score::new(alloc)
-        .with(read(rt, alloc, b"**kern\t**kern")?)?
-        .with(pair(alloc, left, right)?)?
-        .with(read(rt, alloc, b"*-\t*-")?)?;
-    let (given, end) = run::<Marks>(rt, alloc, score)?;
-    assert_eq!(rt; end, broken(2, rule));
-    assert_eq!(rt; given.len(), 1);
-    Ok(())
-}
-
-#[test]
-fn refuses_a_record_that_would_be_too_long(rt: HostRuntime) -> Result<(), Fail> {
-    let alloc = rt.alloc();
-    let token = long_token(alloc, b'a', 524_287)?;
-    check_refused(&rt, alloc, &token, &token, Rule::L1)?;
-    check_refused(&rt, alloc, &token, b"b?", Rule::K1)
+    builder.push(left).expect(rt, "a token");
+    builder.push(right).expect(rt, "a token");
+    builder.finish()
 }
 
 // How a command names its stage.
 type MarksStage = CellStage<Marks>;
 
+type PursuesStage = CellStage<Pursues>;
+
+/// What becomes of scores where tokens of **kern are marked.
+const MARKED: &[Case] = &[
+    (
+        "columns that are **kern",
+        "**kern & **b / c & d / . & e / =2 & =2 / !!f / ! & !g / *x & *x / h? & i / * & *+ \
+         / * & * & **kern / *- & *- & *-",
+        "**x & **b / xc & d / . & e / =2 & =2 / !!f / ! & !g / *x & *x / h? & xi / * & *+ \
+         / * & * & **x / *- & *- & *-",
+        None,
+    ),
+    (
+        "the leftmost token that is refused decides",
+        "**kern & **kern / a* & b? / *- & *-",
+        "**x & **x",
+        Some((2, Rule::K2)),
+    ),
+];
+
 #[test]
-fn gives_each_record_at_once(rt: HostRuntime) -> Result<(), Fail> {
+fn tells_kern_columns(rt: HostRuntime) {
+    for case in MARKED {
+        let stage = MarksStage::new(rt.alloc(), 2, true);
+        check(&rt, rt.alloc(), stage, Command::Semits, *case);
+    }
+}
+
+const PURSUED: Case = (
+    "columns that become **kern",
+    "**b & **kern / c & d / e & f / **kern & * / g & . / *x & *x / h & i / *- & *-",
+    "**b & **kern / * & *y / c & d / e & xf / **kern & * / *y & * / g & . / *x & *x / h & i \
+     / *- & *-",
+    None,
+);
+
+#[test]
+fn follows_kern_and_the_cells_above(rt: HostRuntime) {
+    let stage = PursuesStage::new(rt.alloc(), 2, true);
+    check(&rt, rt.alloc(), stage, Command::Mint, PURSUED);
+}
+
+// The score whose data record has these two tokens is refused there by this rule.
+fn check_refused(rt: &impl Abort, alloc: Global, left: &[u8], right: &[u8], rule: Rule)
+    requires left { IsToken Values left.now }
+    requires right { IsToken Values right.now }
+{
+    let records = Score::new(alloc)
+        .with(rt, record_of(rt, alloc, "**kern & **kern"))
+        .with(rt, pair(rt, alloc, left, right))
+        .with(rt, record_of(rt, alloc, "*- & *-"))
+        .closed(rt);
+    let stage = MarksStage::new(alloc, 2, true);
+    let (given, end) = whole(alloc, stage, records, End::Closed).expect(rt, "memory");
+    let want = end_of(Command::Semits, Some((2, rule)));
+    assert_eq!(rt; (given.len(), end), (1, want));
+}
+
+#[test]
+fn refuses_a_record_that_would_be_too_long(rt: HostRuntime) {
     let alloc = rt.alloc();
-    let stage = MarksStage::new(alloc, 1, true);
-    let given = given_first(&rt, alloc, stage, b"**kern\t**b")?;
-    assert_eq!(rt; given.map(|record| record.width()), Some(2));
-    Ok(())
+    let token = long_token(alloc, b'a', 524_287).expect(&rt, "memory");
+    check_refused(&rt, alloc, &token, &token, Rule::L1);
+    check_refused(&rt, alloc, &token, b"b?", Rule::K1);
+}
+
+#[test]
+fn gives_each_record_at_once(rt: HostRuntime) {
+    let stage = MarksStage::new(rt.alloc(), 1, true);
+    check_first(&rt, rt.alloc(), stage, "**kern & **b", Some(2));
 }

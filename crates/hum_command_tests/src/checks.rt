@@ -1,98 +1,92 @@
 //! What a command gives of a score, and how it ends.
 ghost use Rattle.hum_stage.specs.Meaning.{Meaning, opening};
 
-use crate::scores::{Score, read, score_of};
-use hum_commands::{CommandOptions, CommandStage};
+use crate::scores::{record_of, score_of, text_of};
 use hum_path::Paths;
-use hum_record::Record;
 use hum_stage::{Command, End, Fault, Rule, Stage, State, whole};
 use std::alloc::Global;
 use std::process::Abort;
-use std::test::Fail;
 
-/// How the command ends as stage 2, where it refuses this line by this rule.
-pub(crate) fn broken(command: Command, line: u64, rule: Rule) -> End {
-    End::Broken(Fault {
-        stage: 2,
-        command,
-        line,
-        rule,
-    })
-}
+/// The line that is refused and the rule, if any is.
+pub(crate) type Refused = Option<(u64, Rule)>;
 
-/// Puts a closed score through the command, as stage 2.
-pub(crate) fn run(
-    rt: &impl Abort,
-    alloc: Global,
-    options: CommandOptions,
-    score: Score,
-) -> Result<(Vec<Record>, End), Fail> {
-    let records = score.closed(rt)?;
-    let stage = CommandStage::new(alloc, 2, options);
-    Ok(whole(alloc, stage, records, End::Closed)?)
-}
+/// What is shown, a score, what is given of it, and what is refused.
+pub(crate) type Case = (&'static str, &'static str, &'static str, Refused);
 
-/// These are the records' texts.
-pub(crate) fn check_texts(rt: &impl Abort, given: &[Record], want: &[&'static [u8]]) {
-    assert_eq!(rt; given.len(), want.len());
-    for (record, text) in given.iter().zip(want) {
-        assert_eq!(rt; record.text(), *text);
+/// How a command ends as stage 2.
+pub(crate) fn end_of(command: Command, refused: Refused) -> End {
+    match refused {
+        None => End::Closed,
+        Some((line, rule)) => End::Broken(Fault {
+            stage: 2,
+            command,
+            line,
+            rule,
+        }),
     }
 }
 
-/// Of these lines the command gives those, and it ends so.
-pub(crate) fn check(
+/// Puts a score into a command that is stage 2 and was given none.
+pub(crate) fn check<S: Stage + Drop>(
     rt: &impl Abort,
     alloc: Global,
-    options: CommandOptions,
-    lines: &[&'static [u8]],
-    want: &[&'static [u8]],
-    ending: End,
-) -> Result<(), Fail> {
-    let score = score_of(rt, alloc, lines)?;
-    let (given, end) = run(rt, alloc, options, score)?;
-    assert_eq!(rt; end, ending);
-    check_texts(rt, &given, want);
-    Ok(())
+    stage: S,
+    command: Command,
+    case: Case,
+)
+    requires { (m : Meaning) × S.stands stage (opening m) }
+{
+    let (name, put, want, refused) = case;
+    let records = score_of(rt, alloc, put).closed(rt);
+    let (given, end) = whole(alloc, stage, records, End::Closed).expect(rt, "memory");
+    let text = text_of(rt, alloc, &given);
+    assert_eq!(rt;
+        (text.as_str(), end),
+        (want, end_of(command, refused)),
+        "{name}"
+    );
 }
 
-// Puts a line into a stage that was given none.
-fn put_first<S: Stage>(
-    rt: &impl Abort,
-    alloc: Global,
-    stage: &mut S,
-    text: &[u8],
-) -> Result<(), Fail>
+// Puts a record into a stage that was given none.
+fn put_first<S: Stage>(rt: &impl Abort, alloc: Global, stage: &mut S, text: &str)
     requires { (m : Meaning) × S.stands stage.old (opening m) }
 {
-    let row = read(rt, alloc, text)?;
+    let row = record_of(rt, alloc, text);
     let mut paths = Paths::new(alloc);
-    paths.step(&row)?;
+    paths.step(&row).expect(rt, "moves");
     let State::Wants = stage.state() else {
         panic!(rt; "the stage doesn't want a record")
     };
     assert_eq!(rt; stage.held(), 0);
-    stage.put(row)?;
-    Ok(())
+    stage.put(row).expect(rt, "memory");
 }
 
-/// Puts a line into a stage that was given none: the record that it gives at once, if any, is all
-/// that it holds.
-pub(crate) fn given_first<S: Stage + Drop>(
+// The width of what is given, if anything.
+fn taken<S: Stage>(rt: &impl Abort, stage: &mut S) -> Option<usize> {
+    match stage.take().expect(rt, "memory") {
+        Some(record) => Some(record.width()),
+        None => None,
+    }
+}
+
+/// Puts a record into a stage that was given none: a record of this width that it gives at once, if
+/// any, is all that it holds.
+pub(crate) fn check_first<S: Stage + Drop>(
     rt: &impl Abort,
     alloc: Global,
     mut stage: S,
-    text: &[u8],
-) -> Result<Option<Record>, Fail>
+    text: &str,
+    width: Option<usize>,
+)
     requires { (m : Meaning) × S.stands stage (opening m) }
 {
-    put_first(rt, alloc, &mut stage, text)?;
+    put_first(rt, alloc, &mut stage, text);
     let gives = stage.state() == State::Gives;
-    assert_eq!(rt; stage.held(), if gives { 1 } else { 0 });
-    let given = stage.take()?;
-    assert_eq!(rt; given.is_some(), gives);
-    assert_eq!(rt; stage.state(), State::Wants);
-    assert_eq!(rt; stage.held(), 0);
-    assert!(rt; stage.take()?.is_none());
-    Ok(given)
+    assert_eq!(rt;
+        (gives, stage.held()),
+        (width.is_some(), if gives { 1 } else { 0 })
+    );
+    assert_eq!(rt; taken(rt, &mut stage), width);
+    assert_eq!(rt; (stage.state(), stage.held()), (State::Wants, 0));
+    assert_eq!(rt; taken(rt, &mut stage), None);
 }

@@ -1,70 +1,67 @@
 //! Chosen columns of a small score, followed by hand.
-use crate::scores::read;
+use crate::scores::record_of;
 use hum_columns::{ChosenColumns, Marks, is_torn, write_pieces};
 use hum_path::Paths;
+use hum_record::Record;
 use hum_spread::Piece;
 use hum_stage::Rule;
 use std::alloc::Global;
 use std::collections::VecDeque;
-use std::test::Fail;
+use std::process::Abort;
 
-fn marks(alloc: Global, each: &[bool]) -> Result<Marks, Fail> {
-    Ok(Marks::new(each.to_vec(alloc)?))
+fn marks(rt: &impl Abort, alloc: Global, each: &[bool]) -> Marks {
+    Marks::new(each.to_vec(alloc).expect(rt, "memory"))
 }
 
 #[test]
-fn tells_some_and_all(rt: HostRuntime) -> Result<(), Fail> {
-    let alloc = rt.alloc();
-    let one = marks(alloc, &[false, true])?;
+fn tells_some_and_all(rt: HostRuntime) {
+    let one = marks(&rt, rt.alloc(), &[false, true]);
     assert!(rt; one.some() && !one.all());
-    let none = Marks::none(alloc);
+    let none = Marks::none(rt.alloc());
     assert!(rt; !none.some() && none.all());
-    Ok(())
 }
 
 #[test]
-fn goes_on_with_splits_and_added_spines(rt: HostRuntime) -> Result<(), Fail> {
+fn goes_on_with_splits_and_added_spines(rt: HostRuntime) {
     let alloc = rt.alloc();
     let mut columns = ChosenColumns::none(alloc);
     assert!(rt; columns.is_unopened());
     let mut paths = Paths::new(alloc);
-    let opening = read(&rt, alloc, b"**a\t**b")?;
-    paths.step(&opening)?;
-    columns.open(&opening, marks(alloc, &[false, true])?)?;
+    let opening = record_of(&rt, alloc, "**a & **b");
+    paths.step(&opening).expect(&rt, "moves");
+    let chosen = marks(&rt, alloc, &[false, true]);
+    columns.open(&opening, chosen).expect(&rt, "memory");
     assert!(rt; !columns.is_unopened());
-    let moves = read(&rt, alloc, b"*^\t*+")?;
-    paths.step(&moves)?;
-    columns.pass(alloc, &moves)?;
-    assert_eq!(rt;
-        columns.marks().each(),
-        [false, false, true, true].as_slice()
-    );
-    Ok(())
+    let moves = record_of(&rt, alloc, "*^ & *+");
+    paths.step(&moves).expect(&rt, "moves");
+    columns.pass(alloc, &moves).expect(&rt, "memory");
+    let want = [false, false, true, true];
+    assert_eq!(rt; columns.marks().each(), want.as_slice());
 }
 
 #[test]
-fn finds_torn_joins(rt: HostRuntime) -> Result<(), Fail> {
-    let alloc = rt.alloc();
-    let row = read(&rt, alloc, b"*v\t*v\t*")?;
+fn finds_torn_joins(rt: HostRuntime) {
+    let row = record_of(&rt, rt.alloc(), "*v & *v & *");
     assert!(rt; row.width() == 3);
     assert!(rt; is_torn(&[true, false, false], &row));
     assert!(rt; !is_torn(&[true, true, false], &row));
-    Ok(())
 }
 
-#[test]
-fn answers_l2_where_there_is_no_room(rt: HostRuntime) -> Result<(), Fail> {
-    let alloc = rt.alloc();
+// Two joins side by side, in so much room: what is answered, and how many records are written.
+fn written(rt: &impl Abort, alloc: Global, room: u64) -> (Option<Rule>, usize) {
     let pieces = [
         Piece::new(true, b"*v"),
         Piece::new(false, b"*v"),
         Piece::new(true, b"*v"),
         Piece::new(false, b"*v"),
     ];
-    let mut out = VecDeque::new(alloc);
-    assert_eq!(rt; write_pieces(alloc, &pieces, 1, &mut out)?, Some(Rule::L2));
-    assert!(rt; out.is_empty());
-    assert_eq!(rt; write_pieces(alloc, &pieces, 2, &mut out)?, None);
-    assert_eq!(rt; out.len(), 2);
-    Ok(())
+    let mut out: VecDeque<Record> = VecDeque::new(alloc);
+    let answer = write_pieces(alloc, &pieces, room, &mut out).expect(rt, "memory");
+    (answer, out.len())
+}
+
+#[test]
+fn answers_l2_where_there_is_no_room(rt: HostRuntime) {
+    assert_eq!(rt; written(&rt, rt.alloc(), 1), (Some(Rule::L2), 0));
+    assert_eq!(rt; written(&rt, rt.alloc(), 2), (None, 2));
 }

@@ -1,20 +1,17 @@
 //! The command context, record by record.
-ghost use Rattle.std.specs.Prelude.{◌≤◌};
-
-use crate::scores::read;
+use crate::scores::record_of;
 use hum_context::{Context, ContextOptions, Span, TokenCount};
 use hum_path::Paths;
 use hum_pattern::Pattern;
+use hum_record::Record;
 use hum_stage::{Stage, State};
 use std::alloc::Global;
 use std::marker::Model;
 use std::process::Abort;
-use std::test::Fail;
 
 // A stage that is fed record by record, and the spines of the score so far.
 #[derive(Drop)]
 struct Feeding {
-    alloc: Global,
     paths: Paths,
     stage: Context,
     count: u32,
@@ -36,7 +33,6 @@ impl Feeding {
         let paths = Paths::new(alloc);
         let stage = Context::new(alloc, 1, options);
         Feeding {
-            alloc,
             paths,
             stage,
             count: 0,
@@ -44,10 +40,8 @@ impl Feeding {
     }
 
     // One record more.
-    fn put(self, rt: &impl Abort, text: &[u8]) -> Result<Feeding, Fail> {
-        let row = read(rt, self.alloc, text)?;
+    fn put(self, rt: &impl Abort, row: Record) -> Feeding {
         let Feeding {
-            alloc,
             mut paths,
             mut stage,
             count,
@@ -56,115 +50,114 @@ impl Feeding {
             panic!(rt; "the stage doesn't want a record")
         };
         assert!(rt; count <= 100);
-        paths.step(&row)?;
-        stage.put(row)?;
-        Ok(Feeding {
-            alloc,
+        paths.step(&row).expect(rt, "moves");
+        stage.put(row).expect(rt, "memory");
+        Feeding {
             paths,
             stage,
             count: count + 1,
-        })
+        }
     }
 
-    // What is given has this text.
-    fn take(self, rt: &impl Abort, want: &[u8]) -> Result<Feeding, Fail> {
+    // What is given is this record.
+    fn take(self, rt: &impl Abort, want: &Record) -> Feeding {
         let Feeding {
-            alloc,
             paths,
             mut stage,
             count,
         } = self;
-        let Some(row) = stage.take()? else {
+        let State::Gives = stage.state() else {
+            panic!(rt; "the stage gives nothing")
+        };
+        let Some(row) = stage.take().expect(rt, "memory") else {
             panic!(rt; "nothing is given")
         };
-        assert_eq!(rt; row.text(), want);
-        Ok(Feeding {
-            alloc,
+        assert_eq!(rt; row.text(), want.text());
+        Feeding {
             paths,
             stage,
             count,
-        })
+        }
     }
 }
 
-/// A line that is put, what is given then, and how many records are held behind that.
-type Step = (&'static [u8], &'static [&'static [u8]], usize);
+/// A record that is put, what is given then, and how many records are held behind that.
+type Step = (&'static str, &'static [&'static str], usize);
 
-fn check(
-    rt: &impl Abort,
-    alloc: Global,
-    options: ContextOptions,
-    steps: &[Step],
-) -> Result<(), Fail> {
+fn follow(feeding: Feeding, rt: &impl Abort, alloc: Global, step: Step) -> Feeding {
+    let (text, given, held) = step;
+    let mut feeding = feeding.put(rt, record_of(rt, alloc, text));
+    for text in given {
+        feeding = feeding.take(rt, &record_of(rt, alloc, *text));
+    }
+    assert_eq!(rt;
+        (feeding.stage.state(), feeding.stage.held()),
+        (State::Wants, held),
+        "{text}"
+    );
+    feeding
+}
+
+fn check(rt: &impl Abort, alloc: Global, options: ContextOptions, steps: &[Step]) {
     let mut feeding = Feeding::new(alloc, options);
     for step in steps {
-        let (line, given, held) = *step;
-        feeding = feeding.put(rt, line)?;
-        for text in given {
-            assert_eq!(rt; feeding.stage.state(), State::Gives);
-            feeding = feeding.take(rt, *text)?;
-        }
-        assert_eq!(rt; feeding.stage.state(), State::Wants);
-        assert_eq!(rt; feeding.stage.held(), held);
+        feeding = follow(feeding, rt, alloc, *step);
     }
-    Ok(())
 }
 
-// So many tokens, without those that match a pattern.
-fn so_many(alloc: Global, number: u16, omit: &str) -> Result<ContextOptions, Fail>
-    requires { (1 ≤ number) × (number ≤ 4096) }
-{
-    Ok(ContextOptions {
-        span: Span::Number(TokenCount { number }),
-        omit: Some(Pattern::new(alloc, omit)?),
-    })
+fn pattern(rt: &impl Abort, alloc: Global, text: &str) -> Pattern {
+    Pattern::new(alloc, text).expect(rt, "a pattern")
 }
 
+const DECIDED: &[Step] = &[
+    ("**x", &["**x"], 0),
+    ("a", &[], 1),
+    ("=1", &[], 2),
+    (".", &[], 3),
+    ("b", &["a b", "=1", "."], 1),
+];
+
+// Two tokens, without those that begin with an equals sign.
 #[test]
-fn gives_a_context_once_it_is_decided(rt: HostRuntime) -> Result<(), Fail> {
-    let alloc = rt.alloc();
-    let steps: [Step; 5] = [
-        (b"**x", &[b"**x"], 0),
-        (b"a", &[], 1),
-        (b"=1", &[], 2),
-        (b".", &[], 3),
-        (b"b", &[b"a b", b"=1", b"."], 1),
-    ];
-    check(&rt, alloc, so_many(alloc, 2, "^=")?, &steps)
+fn gives_a_context_once_it_is_decided(rt: HostRuntime) {
+    let options = ContextOptions {
+        span: Span::Number(TokenCount { number: 2 }),
+        omit: Some(pattern(&rt, rt.alloc(), "^=")),
+    };
+    check(&rt, rt.alloc(), options, DECIDED);
 }
+
+const MOVED: &[Step] = &[
+    ("**x & **x", &["**x & **x"], 0),
+    ("{a & b", &[], 1),
+    ("*^ & *", &[], 2),
+    ("c & {d & e", &[], 3),
+    ("*x & *x & *", &[], 4),
+    ("f & g & h", &[], 5),
+    ("*v & *v & *", &[], 6),
+    (
+        "i} & j",
+        &[
+            "{a c g i} & .",
+            "*^ & *",
+            ". & {d f i} & .",
+            "*x & *x & *",
+            ". & . & .",
+            "*v & *v & *",
+            ". & .",
+        ],
+        0,
+    ),
+];
 
 // From a token that begins a group through the one that ends it.
-fn groups(alloc: Global) -> Result<ContextOptions, Fail> {
-    Ok(ContextOptions {
-        span: Span::Phrase(Pattern::new(alloc, r"\{")?, Pattern::new(alloc, r"\}")?),
-        omit: None,
-    })
-}
-
 #[test]
-fn follows_a_group_through_a_split_an_exchange_and_a_join(rt: HostRuntime) -> Result<(), Fail> {
-    let alloc = rt.alloc();
-    let steps: [Step; 8] = [
-        (b"**x\t**x", &[b"**x\t**x"], 0),
-        (b"{a\tb", &[], 1),
-        (b"*^\t*", &[], 2),
-        (b"c\t{d\te", &[], 3),
-        (b"*x\t*x\t*", &[], 4),
-        (b"f\tg\th", &[], 5),
-        (b"*v\t*v\t*", &[], 6),
-        (
-            b"i}\tj",
-            &[
-                b"{a c g i}\t.",
-                b"*^\t*",
-                b".\t{d f i}\t.",
-                b"*x\t*x\t*",
-                b".\t.\t.",
-                b"*v\t*v\t*",
-                b".\t.",
-            ],
-            0,
-        ),
-    ];
-    check(&rt, alloc, groups(alloc)?, &steps)
+fn follows_a_group_through_a_split_an_exchange_and_a_join(rt: HostRuntime) {
+    let begins = pattern(&rt, rt.alloc(), r"\{");
+    let ends = pattern(&rt, rt.alloc(), r"\}");
+    let options = ContextOptions {
+        span: Span::Phrase(begins, ends),
+        omit: None,
+    };
+    check(&rt, rt.alloc(), options, MOVED);
 }

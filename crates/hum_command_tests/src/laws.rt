@@ -6,8 +6,7 @@ ghost use Rattle.hum_extract.specs.Choice.{Fields, Number};
 ghost use Rattle.hum_extract.specs.Written.{choice_of};
 ghost use Rattle.hum_stage.specs.Score.{IsClosed};
 
-use crate::checks::check_texts;
-use crate::scores::score_of;
+use crate::scores::{push_record, score_of, text_of};
 use hum_commands::CommandOptions;
 use hum_ditto::DittoOptions;
 use hum_extract::{Choice, Field, FieldRange};
@@ -20,56 +19,49 @@ use hum_record::Record;
 use hum_rid::RidOptions;
 use hum_stage::End;
 use hum_tones::{SemitsOptions, Transposition};
-use std::alloc::Global;
+use std::alloc::{AllocError, Global};
 use std::process::Abort;
-use std::test::Fail;
 
 // A small song.
-fn song(rt: &impl Abort, alloc: Global) -> Result<Vec<Record>, Fail>
-    ensures closed { IfOk result (λ records. IsClosed records.items) }
-    ensures few { IfOk result (λ records. length records.items ≤ 4294967295) }
+fn song(rt: &impl Abort, alloc: Global) -> Vec<Record>
+    ensures closed { IsClosed result.items }
+    ensures few { length result.items ≤ 4294967295 }
 {
-    let lines: [&'static [u8]; 7] = [
-        b"!!song",
-        b"**kern\t**text",
-        b"4cn\tla",
-        b".\t.",
-        b"8dL 8f#\tlo",
-        b"8e-J\t.",
-        b"*-\t*-",
-    ];
-    score_of(rt, alloc, &lines)?.closed(rt)
+    let score = "!!song / **kern & **text / 4cn & la / . & . / 8dL 8f# & lo / 8e-J & . / *- & *-";
+    score_of(rt, alloc, score).closed(rt)
 }
 
-// It ended well, and these are its lines.
-fn has(rt: &impl Abort, given: Given, want: &[&'static [u8]]) {
-    assert_eq!(rt; given.end, End::Closed);
-    check_texts(rt, &given.records, want);
+// It ended well, and this is its text.
+fn has(rt: &impl Abort, alloc: Global, given: Given, want: &str) {
+    let text = text_of(rt, alloc, &given.records);
+    assert_eq!(rt; (text.as_str(), given.end), (want, End::Closed));
 }
 
 // The same of both.
-fn both_have(rt: &impl Abort, both: (Given, Given), want: &[&'static [u8]]) {
-    has(rt, both.0, want);
-    has(rt, both.1, want);
+fn both_have(rt: &impl Abort, alloc: Global, both: (Given, Given), want: &str) {
+    has(rt, alloc, both.0, want);
+    has(rt, alloc, both.1, want);
 }
 
-/// The place of a line, and its text.
-type Line = (usize, &'static [u8]);
+/// The place of a record, and its text.
+type Line = (usize, &'static str);
 
-// It ended well, and the lines of these places are these.
-fn has_lines(rt: &impl Abort, given: Given, lines: &[Line]) {
+// It ended well, and the records of these places are these.
+fn has_lines(rt: &impl Abort, alloc: Global, given: Given, lines: &[Line]) {
     assert_eq!(rt; given.end, End::Closed);
     for line in lines {
-        let (place, text) = *line;
+        let (place, want) = *line;
         assert!(rt; place < given.records.len());
-        assert_eq!(rt; given.records[place].text(), text);
+        let mut text = String::new(alloc);
+        push_record(rt, alloc, &mut text, &given.records[place]);
+        assert_eq!(rt; text.as_str(), want);
     }
 }
 
-// The same of both, each with its lines.
-fn have_lines(rt: &impl Abort, both: (Given, Given), first: &[Line], last: &[Line]) {
-    has_lines(rt, both.0, first);
-    has_lines(rt, both.1, last);
+// The same of both, each with its records.
+fn have_lines(rt: &impl Abort, alloc: Global, both: (Given, Given), first: &[Line], last: &[Line]) {
+    has_lines(rt, alloc, both.0, first);
+    has_lines(rt, alloc, both.1, last);
 }
 
 fn plain() -> DittoOptions
@@ -81,7 +73,7 @@ fn plain() -> DittoOptions
     }
 }
 
-fn named(alloc: Global) -> Result<Vec<Vec<u8>>, Fail>
+fn named(alloc: Global) -> Result<Vec<Vec<u8>>, AllocError>
     ensures { IfOk result (λ names. texts names.items ≡ codes "**text" ∷ []) }
 {
     let mut names = Vec::new(alloc);
@@ -89,7 +81,7 @@ fn named(alloc: Global) -> Result<Vec<Vec<u8>>, Fail>
     Ok(names)
 }
 
-fn second(alloc: Global) -> Result<Choice, Fail>
+fn second(alloc: Global) -> Result<Choice, AllocError>
     ensures { IfOk result (λ choice. choice_of choice
         ≡ Fields (record { first = Number 2; last = Number 2 } ∷ [])) }
 {
@@ -117,126 +109,115 @@ fn letters(global_comments: bool, null_values: bool) -> RidOptions
     }
 }
 
-const FILLED: [&'static [u8]; 6] = [
-    b"**kern\t**text",
-    b"4cn\tla",
-    b"4cn\tla",
-    b"8dL 8f#\tlo",
-    b"8e-J\tlo",
-    b"*-\t*-",
-];
-
-// The words alone, each null token filled.
-fn filled_words(rt: &impl Abort, alloc: Global, records: &[Record]) -> Result<(), Fail>
-    requires closed { IsClosed records.now }
-    requires few { length records.now ≤ 4294967295 }
-{
-    let choices = (second(alloc)?, second(alloc)?);
-    let both = extract_ditto(alloc, records, choices, (plain(), plain()))?;
-    let want: [&'static [u8]; 7] = [b"!!song", b"**text", b"la", b"la", b"lo", b"lo", b"*-"];
-    both_have(rt, both, &want);
-    Ok(())
+#[test]
+fn filled_words(rt: HostRuntime) {
+    let alloc = rt.alloc();
+    let records = song(&rt, alloc);
+    let one = second(alloc).expect(&rt, "memory");
+    let other = second(alloc).expect(&rt, "memory");
+    let both = extract_ditto(alloc, &records, (one, other), (plain(), plain()));
+    let want = "!!song / **text / la / la / lo / lo / *-";
+    both_have(&rt, alloc, both.expect(&rt, "memory"), want);
 }
 
+const FILLED: &[Line] = &[(5, "8e-J & lo")];
+
 #[test]
-fn columns_and_null_tokens(rt: HostRuntime) -> Result<(), Fail> {
+fn filled_null_tokens(rt: HostRuntime) {
     let alloc = rt.alloc();
-    let records = song(&rt, alloc)?;
-    filled_words(&rt, alloc, &records)?;
-    let filled: [Line; 1] = [(5, b"8e-J\tlo")];
-    let both = ditto_twice(alloc, &records, plain(), plain())?;
-    have_lines(&rt, both, &filled, &filled);
+    let records = song(&rt, alloc);
+    let both = ditto_twice(alloc, &records, plain(), plain()).expect(&rt, "memory");
+    have_lines(&rt, alloc, both, FILLED, FILLED);
     let ditto = CommandOptions::Ditto(plain());
     let alike = CommandOptions::Ditto(plain());
-    let both = comments_aside(alloc, &records, ditto, alike)?;
-    both_have(&rt, both, &FILLED);
-    Ok(())
+    let both = comments_aside(alloc, &records, ditto, alike).expect(&rt, "memory");
+    let want = "**kern & **text / 4cn & la / 4cn & la / 8dL 8f# & lo / 8e-J & lo / *- & *-";
+    both_have(&rt, alloc, both, want);
 }
 
-// The words alone.
-fn words(rt: &impl Abort, alloc: Global, records: &[Record]) -> Result<(), Fail>
-    requires closed { IsClosed records.now }
-    requires few { length records.now ≤ 4294967295 }
-{
-    let both = names_twice(alloc, records, named(alloc)?, named(alloc)?)?;
-    let want: [&'static [u8]; 7] = [b"!!song", b"**text", b"la", b".", b"lo", b".", b"*-"];
-    both_have(rt, both, &want);
-    Ok(())
+const CHORD: &[Line] = &[(4, "8dL 8f# & lo")];
+
+const ENDED: &[Line] = &[(6, "*- & *-")];
+
+#[test]
+fn what_leaves_a_score_as_it_is(rt: HostRuntime) {
+    let alloc = rt.alloc();
+    let records = song(&rt, alloc);
+    let given = all_fields(alloc, &records).expect(&rt, "memory");
+    has_lines(&rt, alloc, given, CHORD);
+    let given = all_lines(alloc, &records).expect(&rt, "memory");
+    has_lines(&rt, alloc, given, ENDED);
+    let given = context_of_one(alloc, &records, None).expect(&rt, "memory");
+    has_lines(&rt, alloc, given, CHORD);
 }
 
 #[test]
-fn what_leaves_a_score_as_it_is(rt: HostRuntime) -> Result<(), Fail> {
+fn words_alone(rt: HostRuntime) {
     let alloc = rt.alloc();
-    let records = song(&rt, alloc)?;
-    let chord: [Line; 1] = [(4, b"8dL 8f#\tlo")];
-    has_lines(&rt, all_fields(alloc, &records)?, &chord);
-    has_lines(&rt, all_lines(alloc, &records)?, &[(6, b"*-\t*-")]);
-    has_lines(&rt, context_of_one(alloc, &records, None)?, &chord);
-    words(&rt, alloc, &records)
+    let records = song(&rt, alloc);
+    let one = named(alloc).expect(&rt, "memory");
+    let other = named(alloc).expect(&rt, "memory");
+    let both = names_twice(alloc, &records, one, other).expect(&rt, "memory");
+    let want = "!!song / **text / la / . / lo / . / *-";
+    both_have(&rt, alloc, both, want);
 }
 
 #[test]
-fn letters_of_rid(rt: HostRuntime) -> Result<(), Fail> {
+fn letters_of_rid(rt: HostRuntime) {
     let alloc = rt.alloc();
-    let records = song(&rt, alloc)?;
-    let want: [&'static [u8]; 5] = [
-        b"**kern\t**text",
-        b"4cn\tla",
-        b"8dL 8f#\tlo",
-        b"8e-J\t.",
-        b"*-\t*-",
-    ];
-    let both = rid_by_letters(alloc, &records, letters(true, false), letters(false, true))?;
-    both_have(&rt, both, &want);
-    let both = rid_twice(alloc, &records, letters(true, true))?;
-    both_have(&rt, both, &want);
-    Ok(())
+    let records = song(&rt, alloc);
+    let want = "**kern & **text / 4cn & la / 8dL 8f# & lo / 8e-J & . / *- & *-";
+    let some = letters(true, false);
+    let more = letters(false, true);
+    let both = rid_by_letters(alloc, &records, some, more).expect(&rt, "memory");
+    both_have(&rt, alloc, both, want);
+    let both = rid_twice(alloc, &records, letters(true, true)).expect(&rt, "memory");
+    both_have(&rt, alloc, both, want);
 }
 
+/// A major second.
 const UP: Transposition = Transposition {
     steps: 1,
     semitones: 2,
 };
 
-// A major second up, once and twice, and back.
-fn transposed(rt: &impl Abort, alloc: Global, records: &[Record]) -> Result<(), Fail>
-    requires closed { IsClosed records.now }
-    requires few { length records.now ≤ 4294967295 }
-{
-    let want: [&'static [u8]; 9] = [
-        b"!!song",
-        b"**kern\t**text",
-        b"*Trd-1c-2\t*",
-        b"*Trd1c2\t*",
-        b"4c\tla",
-        b".\t.",
-        b"8dL 8f#\tlo",
-        b"8e-J\t.",
-        b"*-\t*-",
-    ];
-    has(rt, there_and_back(alloc, records, UP)?, &want);
-    let both = transpositions_add_up(alloc, records, UP, UP)?;
-    let last: [Line; 2] = [(2, b"*Trd2c4\t*"), (3, b"4e\tla")];
-    have_lines(rt, both, &[(4, b"4e\tla")], &last);
-    Ok(())
-}
+const ONCE_AND_ONCE_MORE: &[Line] = &[(4, "4e & la")];
+
+const TWICE: &[Line] = &[(2, "*Trd2c4 & *"), (3, "4e & la")];
 
 #[test]
-fn notes_that_move(rt: HostRuntime) -> Result<(), Fail> {
+fn up_and_back_and_up_twice(rt: HostRuntime) {
     let alloc = rt.alloc();
-    let records = song(&rt, alloc)?;
-    transposed(&rt, alloc, &records)?;
+    let records = song(&rt, alloc);
+    let given = there_and_back(alloc, &records, UP).expect(&rt, "memory");
+    let want = "!!song / **kern & **text / *Trd-1c-2 & * / *Trd1c2 & * / 4c & la / . & . \
+         / 8dL 8f# & lo / 8e-J & . / *- & *-";
+    has(&rt, alloc, given, want);
+    let both = transpositions_add_up(alloc, &records, UP, UP).expect(&rt, "memory");
+    have_lines(&rt, alloc, both, ONCE_AND_ONCE_MORE, TWICE);
+}
+
+const RAISED: &[Line] = &[(5, "4 8 & lo")];
+
+const TOLD: &[Line] = &[(4, "2 6 & lo")];
+
+const RAISED_DURATIONS: &[Line] = &[(2, "*Trd1c2 & *"), (5, "8 8 & lo")];
+
+const DURATIONS: &[Line] = &[(4, "8 8 & lo")];
+
+#[test]
+fn notes_that_move(rt: HostRuntime) {
+    let alloc = rt.alloc();
+    let records = song(&rt, alloc);
     let options = SemitsOptions {
         ties_left_out: false,
     };
-    let moved: [Line; 1] = [(4, b"2 6\tlo")];
-    let both = semits_shifted(alloc, &records, UP, options)?;
-    have_lines(&rt, both, &[(5, b"4 8\tlo")], &moved);
-    let both = durations_stay(alloc, &records, UP)?;
-    let first: [Line; 2] = [(2, b"*Trd1c2\t*"), (5, b"8 8\tlo")];
-    have_lines(&rt, both, &first, &[(4, b"8 8\tlo")]);
+    let both = semits_shifted(alloc, &records, UP, options).expect(&rt, "memory");
+    have_lines(&rt, alloc, both, RAISED, TOLD);
+    let both = durations_stay(alloc, &records, UP).expect(&rt, "memory");
+    have_lines(&rt, alloc, both, RAISED_DURATIONS, DURATIONS);
     let told = CommandOptions::Semits(options);
-    let both = told_once(alloc, &records, told, CommandOptions::Trans(UP))?;
-    have_lines(&rt, both, &moved, &moved);
-    Ok(())
+    let moved = CommandOptions::Trans(UP);
+    let both = told_once(alloc, &records, told, moved).expect(&rt, "memory");
+    have_lines(&rt, alloc, both, TOLD, TOLD);
 }

@@ -1,12 +1,8 @@
 //! The command rid: a small score, by hand.
-use crate::checks::{self, given_first};
+use crate::checks::{check, check_first};
 use hum_commands::{CommandOptions, CommandStage};
-use hum_record::Record;
 use hum_rid::RidOptions;
-use hum_stage::End;
-use std::alloc::Global;
-use std::process::Abort;
-use std::test::Fail;
+use hum_stage::Command;
 
 const NONE: RidOptions = RidOptions {
     global_comments: false,
@@ -20,61 +16,49 @@ const NONE: RidOptions = RidOptions {
     null_values: false,
 };
 
-// What is left of a small score.
-fn check(
-    rt: &impl Abort,
-    alloc: Global,
-    options: RidOptions,
-    want: &[&'static [u8]],
-) -> Result<(), Fail> {
-    let lines: [&'static [u8]; 8] = [
-        b"!!x", b"**kern", b"*clefG2", b"*", b"!a", b".", b"4c", b"*-",
-    ];
-    let options = CommandOptions::Rid(options);
-    checks::check(rt, alloc, options, &lines, want, End::Closed)
+const TID: RidOptions = RidOptions {
+    tandems: true,
+    null_interpretations: true,
+    null_values: true,
+    ..NONE
+};
+
+const GLID: RidOptions = RidOptions {
+    global_comments: true,
+    local_comments: true,
+    interpretations: true,
+    null_values: true,
+    ..NONE
+};
+
+const INTERPRETATIONS: RidOptions = RidOptions {
+    interpretations: true,
+    ..NONE
+};
+
+const SCORE: &str = "!!x / **kern / *clefG2 / * / !a / . / 4c / *-";
+
+/// Letters, and what they leave of the score.
+const LEFT: &[(&str, RidOptions, &str)] = &[
+    ("-Tid", TID, "!!x / **kern / !a / 4c / *-"),
+    ("-GLId", GLID, "4c"),
+];
+
+#[test]
+fn drops_by_letters(rt: HostRuntime) {
+    for row in LEFT {
+        let (letters, options, want) = *row;
+        let stage = CommandStage::new(rt.alloc(), 2, CommandOptions::Rid(options));
+        let case = (letters, SCORE, want, None);
+        check(&rt, rt.alloc(), stage, Command::Rid, case);
+    }
 }
 
 #[test]
-fn drops_by_letters(rt: HostRuntime) -> Result<(), Fail> {
+fn gives_each_record_at_once(rt: HostRuntime) {
     let alloc = rt.alloc();
-    let tid = RidOptions {
-        tandems: true,
-        null_interpretations: true,
-        null_values: true,
-        ..NONE
-    };
-    let left: [&'static [u8]; 5] = [b"!!x", b"**kern", b"!a", b"4c", b"*-"];
-    check(&rt, alloc, tid, &left)?;
-    let glid = RidOptions {
-        global_comments: true,
-        local_comments: true,
-        interpretations: true,
-        null_values: true,
-        ..NONE
-    };
-    check(&rt, alloc, glid, &[b"4c"])?;
-    Ok(())
-}
-
-fn first(
-    rt: &impl Abort,
-    alloc: Global,
-    options: RidOptions,
-    text: &[u8],
-) -> Result<Option<Record>, Fail> {
-    let stage = CommandStage::new(alloc, 1, CommandOptions::Rid(options));
-    given_first(rt, alloc, stage, text)
-}
-
-#[test]
-fn gives_each_record_at_once(rt: HostRuntime) -> Result<(), Fail> {
-    let alloc = rt.alloc();
-    let given = first(&rt, alloc, NONE, b"**kern\t**dynam")?;
-    assert_eq!(rt; given.map(|r| r.width()), Some(2));
-    let all = RidOptions {
-        interpretations: true,
-        ..NONE
-    };
-    assert!(rt; first(&rt, alloc, all, b"**kern")?.is_none());
-    Ok(())
+    let all = CommandStage::new(alloc, 1, CommandOptions::Rid(NONE));
+    check_first(&rt, alloc, all, "**kern & **dynam", Some(2));
+    let others = CommandStage::new(alloc, 1, CommandOptions::Rid(INTERPRETATIONS));
+    check_first(&rt, alloc, others, "**kern", None);
 }

@@ -1,5 +1,6 @@
-//! Scores of lines: their records, with the proof that they are scores.
-ghost use Rattle.std.specs.Prelude.{◌≡◌, ◌≤◌, length, IfOk};
+//! Scores as tables have them, with ` / ` between two records and ` & ` between two tokens: their
+//! records, with the proof that they are scores.
+ghost use Rattle.std.specs.Prelude.{◌≡◌, ◌≤◌, length};
 ghost use Rattle.hum_record.specs.Spelling.{has_byte};
 ghost use Rattle.hum_stage.specs.Score.{IsClosed};
 
@@ -8,7 +9,6 @@ use hum_record::Record;
 use std::alloc::Global;
 use std::marker::Model;
 use std::process::Abort;
-use std::test::Fail;
 
 /// The records of a score so far, and its spines.
 #[derive(Drop)]
@@ -40,25 +40,25 @@ impl Score {
     }
 
     /// The score with one record more.
-    pub(crate) fn with(self, row: Record) -> Result<Score, Fail> {
+    pub(crate) fn with(self, rt: &impl Abort, row: Record) -> Score {
         let Score {
             mut paths,
             mut records,
         } = self;
-        paths.step(&row)?;
-        records.push(row)?;
-        Ok(Score { paths, records })
+        paths.step(&row).expect(rt, "moves");
+        records.push(row).expect(rt, "memory");
+        Score { paths, records }
     }
 
     /// Its records, all spines of which have ended.
-    pub(crate) fn closed(self, rt: &impl Abort) -> Result<Vec<Record>, Fail>
-        ensures closed { IfOk result (λ records. IsClosed records.items) }
-        ensures few { IfOk result (λ records. length records.items ≤ 4294967295) }
+    pub(crate) fn closed(self, rt: &impl Abort) -> Vec<Record>
+        ensures closed { IsClosed result.items }
+        ensures few { length result.items ≤ 4294967295 }
     {
         let Score { paths, records } = self;
         assert!(rt; paths.is_closed());
         assert!(rt; records.len() < 100_000);
-        Ok(records)
+        records
     }
 }
 
@@ -69,20 +69,41 @@ fn has_line_feed(text: &[u8]) -> bool
 }
 
 /// The record of a line.
-pub(crate) fn read(rt: &impl Abort, alloc: Global, text: &[u8]) -> Result<Record, Fail> {
-    assert!(rt; text.len() <= 1_048_576 && !has_line_feed(text));
-    Ok(Record::parse(alloc, text.to_vec(alloc)?)?)
+pub(crate) fn read(rt: &impl Abort, alloc: Global, line: &[u8]) -> Record {
+    assert!(rt; line.len() <= 1_048_576 && !has_line_feed(line));
+    Record::parse(alloc, line.to_vec(alloc).expect(rt, "memory")).expect(rt, "a record")
 }
 
-/// The score of these lines.
-pub(crate) fn score_of(
-    rt: &impl Abort,
-    alloc: Global,
-    lines: &[&'static [u8]],
-) -> Result<Score, Fail> {
+/// The record of a text.
+pub(crate) fn record_of(rt: &impl Abort, alloc: Global, text: &str) -> Record {
+    let line = text.replace(alloc, " & ", "\t").expect(rt, "memory");
+    read(rt, alloc, line.as_bytes())
+}
+
+/// The score of a text.
+pub(crate) fn score_of(rt: &impl Abort, alloc: Global, text: &str) -> Score {
     let mut score = Score::new(alloc);
-    for text in lines {
-        score = score.with(read(rt, alloc, *text)?)?;
+    for record in text.split(" / ") {
+        score = score.with(rt, record_of(rt, alloc, record));
     }
-    Ok(score)
+    score
+}
+
+/// Writes a record behind a text.
+pub(crate) fn push_record(rt: &impl Abort, alloc: Global, text: &mut String, record: &Record) {
+    if !text.is_empty() {
+        text.push_str(" / ").expect(rt, "memory");
+    }
+    let line = str::from_utf8(record.text()).expect(rt, "UTF-8");
+    let tokens = line.replace(alloc, "\t", " & ").expect(rt, "memory");
+    text.push_str(&tokens).expect(rt, "memory");
+}
+
+/// The text of records.
+pub(crate) fn text_of(rt: &impl Abort, alloc: Global, records: &[Record]) -> String {
+    let mut text = String::new(alloc);
+    for record in records {
+        push_record(rt, alloc, &mut text, record);
+    }
+    text
 }

@@ -1,28 +1,25 @@
 //! The command yank, call by call.
-use crate::checks::given_first;
+use crate::checks::check_first;
 use hum_commands::{CommandOptions, CommandStage};
 use hum_pattern::Pattern;
 use hum_yank::{Markers, YankOptions, YankRange};
 use std::alloc::Global;
-use std::test::Fail;
+use std::process::Abort;
 
-fn from_end(from: u32, to: u32) -> YankRange {
-    YankRange::FromEnd { from, to }
-}
-
-fn begins(alloc: Global, pattern: &str, ranges: &[YankRange]) -> Result<YankOptions, Fail> {
-    Ok(YankOptions {
-        markers: Markers::Occurrences(Pattern::new(alloc, pattern)?, None),
-        ranges: ranges.to_vec(alloc)?,
-    })
+// The last passage, each of which begins at this.
+fn last_one(rt: &impl Abort, alloc: Global, pattern: &str) -> YankOptions {
+    let begins = Pattern::new(alloc, pattern).expect(rt, "a pattern");
+    let last = [YankRange::FromEnd { from: 0, to: 0 }];
+    YankOptions {
+        markers: Markers::Occurrences(begins, None),
+        ranges: last.to_vec(alloc).expect(rt, "memory"),
+    }
 }
 
 #[test]
-fn gives_at_once_what_is_decided(rt: HostRuntime) -> Result<(), Fail> {
+fn gives_at_once_what_is_decided(rt: HostRuntime) {
     let alloc = rt.alloc();
-    let options = begins(alloc, "^a", &[from_end(0, 0)])?;
+    let options = last_one(&rt, alloc, "^a");
     let stage = CommandStage::new(alloc, 1, CommandOptions::Yank(options));
-    let given = given_first(&rt, alloc, stage, b"**x\t**y")?;
-    assert_eq!(rt; given.map(|record| record.width()), Some(2));
-    Ok(())
+    check_first(&rt, alloc, stage, "**x & **y", Some(2));
 }

@@ -21,9 +21,8 @@ use Rattle.hum_context.specs.Context.{Choice, taken, context, all_some, data_of,
 use Rattle.hum_context.specs.Columns.{path_through}
 use Rattle.hum_context.specs.Memory.{Follows, follows_each}
 use Rattle.hum_context.specs.Queue.{Known, Knows}
-use Rattle.hum_context.specs.declared.front.Weight.TheVariants.{Fits}
 use Rattle.hum_context.specs.Heard.{wanted_of}
-use Rattle.hum_context.specs.Walking.{AllStand, Decided, Stands, Weighs, bytes_of}
+use Rattle.hum_context.specs.Walking.{AllStand, AreKnown, Decided, Stands}
 use Rattle.hum_context.proofs.Growth.{path_passed}
 use Rattle.hum_context.proofs.Queues.{knows_push}
 use Rattle.hum_context.proofs.Weighing.{data_row, kept_at}
@@ -175,10 +174,6 @@ pub decided_by : (o : Choice) (past : List Row) (row : Row) (rows : List Row) (n
 decided_by o past row rows new d is e f = ap (λ (r : Row). context o past r rows) is
     ∙ (ap data_of e ∙ ap (λ (x : Result (List Row) Rule). Some x) f)
 
-pub same_new : (x : Option (List (List ℕ))) (new old : List (List ℕ)) → x ≡ Some new → x ≡ Some old
-    → old ≡ new
-same_new x new old a b = let e = sym b ∙ a in cc
-
 -- a token at least is wanted
 pub wanted : (span : Span) → taken (extent_of span) [] ≡ None
 wanted (Number n) = let some = n.within.0 in let k : nat_le n.number 0 ≡ false = grind (arith, nat_tests, some)
@@ -203,13 +198,8 @@ front_of : {X : Type 0} (held : List X) (rows : List Row) → length held ≡ le
 front_of held [] e some = absurd (omega (arith, e, some))
 front_of held (row ∷ rest) e some = (row, rest, refl)
 
--- The first that waits is decided, and its new tokens fit into a record.
-pub record Fitting (wanted : Option ℕ) (gone : ℕ) (held : List Queued) (walks : List Walk)
-    : Type 0 where
-  pub decided : Decided wanted gone held walks
-  pub fits : bytes_of decided.new ≤ 1048577
-
-pub fitting : (o : Choice) (number : Option ℕ) (path : Path) (gone : ℕ) (walks new : List Walk)
+-- The first that waits is decided.
+pub deciding : (o : Choice) (number : Option ℕ) (path : Path) (gone : ℕ) (walks new : List Walk)
     (held : List Queued) (look : Look) (past rows : List Row) (kept : Queued)
     → number ≡ wanted_of o.extent → Follows o path gone walks held look past rows
     → 0 < length held → kept ≡ get_or held 0 kept → (length kept.heard.items == 0) ≡ false
@@ -217,9 +207,9 @@ pub fitting : (o : Choice) (number : Option ℕ) (path : Path) (gone : ℕ) (wal
     → AllStand o p gone rs new)
     → ((p : Path) (tokens : List (List ℕ)) (rs : List Row)
     → Knows o p held (Spined Values tokens ∷ rs) → AllStand o p gone (Spined Values tokens ∷ rs) walks
-    → Weighs (all_some (new_tokens o p (Spined Values tokens) rs 0 tokens)) Fits)
-    → Fitting number gone held new
-fitting o number path gone walks new held look past rows kept want h some at loud stands weighs =
+    → AreKnown (all_some (new_tokens o p (Spined Values tokens) rs 0 tokens)) true)
+    → Decided number gone held new
+deciding o number path gone walks new held look past rows kept want h some at loud stands known_are =
     let f = front_of held rows (follows_each o path gone walks held look past rows h) some in
     let m = rw f.2 at h in
     let known = first_known o path gone walks held look past f.0 f.1 kept m some at in
@@ -228,19 +218,16 @@ fitting o number path gone walks new held look past rows kept want h some at lou
     let stand = subst (λ (r : Row). AllStand o (path_after past) gone (r ∷ f.1) new) is
     (stands (path_after past) (f.0 ∷ f.1) m.waits m.stand) in
     let before = subst (λ (r : Row). AllStand o (path_after past) gone (r ∷ f.1) walks) is m.stand in
-    let fits = weighs (path_after past) (tokens_of f.0) f.1 knows before in
+    let are = known_are (path_after past) (tokens_of f.0) f.1 knows before in
     record {
-      decided = record {
-        o = o;
-        path = path_after past;
-        tokens = tokens_of f.0;
-        rows = f.1;
-        new = fits.0;
-        want = want;
-        some_wanted = m.some_wanted;
-        knows = knows;
-        stand = stand;
-        are = fits.1;
-      };
-      fits = fits.2;
+      o = o;
+      path = path_after past;
+      tokens = tokens_of f.0;
+      rows = f.1;
+      new = are.0;
+      want = want;
+      some_wanted = m.some_wanted;
+      knows = knows;
+      stand = stand;
+      are = are.1;
     }

@@ -112,7 +112,7 @@ ended_none path (Spined kind tokens ∷ rows) c e =
     (sym (ap (list_any is_last) (chain_step path kind tokens rows c)) ∙ e)
 
 -- Enough tokens stay enough.
-with_more : {X : Type 0} (x : X) (o : Option (List X)) (ys : List X)
+pub with_more : {X : Type 0} (x : X) (o : Option (List X)) (ys : List X)
     → option_map (λ more. x ∷ more) o ≡ Some ys → (zs : List X) × (o ≡ Some zs) × (ys ≡ x ∷ zs)
 with_more x None ys e = cc
 with_more x (Some zs) ys e = (zs, refl, cc)
@@ -144,7 +144,7 @@ taken_stays (First n) xs zs ys e = first_stays n xs zs ys (nat_le n (length xs))
 taken_stays (Between opens ends) xs zs ys e = through_stays ends xs zs ys e
 
 -- With one more they are all of them, or still too few.
-more_none : {X : Type 0} (x : X) (o : Option (List X)) → option_map (λ more. x ∷ more) o ≡ None
+pub more_none : {X : Type 0} (x : X) (o : Option (List X)) → option_map (λ more. x ∷ more) o ≡ None
     → o ≡ None
 more_none x None e = refl
 more_none x (Some zs) e = cc

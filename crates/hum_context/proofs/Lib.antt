@@ -8,6 +8,7 @@ pub mod Places
 pub mod Tokens
 pub mod Long
 pub mod Feeding
+pub mod Measured
 pub mod Passing
 pub mod Queues
 pub mod Weighing

@@ -1,6 +1,6 @@
 -- A walk goes through one record more.
 use Rattle.std.proofs.Common.{◌≡◌, ◌≢◌, ◌∙◌, refl, sym, ap, ℕ, ◌+◌, Bool, true, false}
-use Rattle.std.proofs.Common.{◌||◌, List, [], ◌∷◌, ◌++◌, length, filter, append-nil, length-append}
+use Rattle.std.proofs.Common.{◌||◌, List, [], ◌∷◌, ◌++◌, length, filter, append-nil, length-append, ◌≤◌}
 use Rattle.std.proofs.Common.{arith, cond, get_or, Option, Some, None, inl, inr, ◌⊎◌, subst}
 use Rattle.std.specs.Option.{option_and_then}
 use Rattle.std.specs.List.{list_any, join_with_byte}
@@ -26,6 +26,7 @@ use Rattle.hum_context.specs.declared.front.Becoming.{Becoming}
 use Rattle.hum_context.specs.declared.front.Becoming.TheVariants.{Collects}
 use Rattle.hum_context.proofs.Growth.{chain_step, chain_push, column_push, ended_none, taken_next}
 use Rattle.hum_context.proofs.Growth.{taken_stays, is_enough_by}
+use Rattle.hum_context.proofs.Measured.{longer_taken}
 use Rattle.hum_context.proofs.Tokens.{taken_is}
 
 pub bytes_append : (xs ys : List (List ℕ)) → bytes_of (xs ++ ys) ≡ bytes_of xs + bytes_of ys
@@ -34,13 +35,12 @@ bytes_append (x ∷ xs) ys = let ih = bytes_append xs ys in omega (arith, ih)
 
 -- at the beginning
 pub has_none : (o : Choice) (path : Path) (j : ℕ) (walk : Walk) → taken o.extent [] ≡ None
-    → walk.column ≡ Some j → (walk.count ≡ 0) × (walk.size ≡ 0)
+    → walk.column ≡ Some j → walk.count ≡ 0
     → (walk.enough ≡ false) × (walk.ended ≡ false) → Has o path [] j walk
 has_none o path j walk none column zero fresh = record {
   column = column;
   ended = fresh.1;
-  count = zero.0;
-  size = zero.1;
+  count = zero;
   enough = rw fresh.0 none;
 }
 
@@ -121,9 +121,9 @@ pub pass_none : (o : Choice) (path : Path) (rows : List Row) (row : Row) (j c : 
     (walk new : Walk) → Known o (path_through path rows) row kept → walk.column ≡ Some c
     → walk.enough ≡ false → Has o path rows j walk
     → get_or kept.heard.items c Passed ≡ Passed → new.column ≡ column_in kept.row kept.below c
-    → new.ended ≡ is_last_in kept.row c → new.count ≡ walk.count → new.size ≡ walk.size
+    → new.ended ≡ is_last_in kept.row c → new.count ≡ walk.count
     → new.enough ≡ false → Has o path (rows ++ row ∷ []) j new
-pass_none o path rows row j c kept walk new known at short h heard column ended count size enough =
+pass_none o path rows row j c kept walk new known at short h heard column ended count enough =
     let none : heard_under o row c ≡ Passed = sym (known.heard c) ∙ heard in
     let g = grown_by o path rows row j c kept walk known at h in
     let same : collected o path (rows ++ row ∷ []) j ≡ collected o path rows j = g.collected
@@ -133,7 +133,6 @@ pass_none o path rows row j c kept walk new known at short h heard column ended 
       column = column ∙ (known.below c ∙ sym g.column);
       ended = ended ∙ (known.last c ∙ sym g.ended);
       count = count ∙ (h.count ∙ ap length (sym same));
-      size = size ∙ (h.size ∙ ap bytes_of (sym same));
       enough = rw (same, enough) (rw short at h.enough);
     }
 
@@ -156,10 +155,9 @@ pub pass_one : (o : Choice) (path : Path) (rows : List Row) (row : Row) (j c : �
     → walk.enough ≡ false → Has o path rows j walk
     → get_or kept.heard.items c Passed ≡ Taken b e → new.column ≡ column_in kept.row kept.below c
     → new.ended ≡ is_last_in kept.row c → new.count ≡ walk.count + 1
-    → new.size ≡ walk.size + (length (token_at kept.row c) + 1)
     → new.enough ≡ enough_by wanted (walk.count + 1) e → Has o path (rows ++ row ∷ []) j new
 pass_one o path rows row j c kept walk new wanted b e want known at short h heard column ended count
-    size enough =
+    enough =
     let one : heard_under o row c ≡ Taken b e = sym (known.heard c) ∙ heard in
     let token = token_at row c in
     let got = collected o path rows j in
@@ -168,10 +166,7 @@ pass_one o path rows row j c kept walk new wanted b e want known at short h hear
     let more : collected o path (rows ++ row ∷ []) j ≡ got ++ token ∷ [] = g.collected
     ∙ ap (λ (x : Heard). got ++ heard_token x token) one in
     let sum = length-append got (token ∷ []) in
-    let bytes = bytes_append got (token ∷ []) in
     let was = h.count in
-    let had = h.size in
-    let long = ap (λ (r : Row). length (token_at r c)) known.is in
     let last : new.enough ≡ is_enough_by o.extent (length got + 1) token = enough
     ∙ (ap (λ (w : Option ℕ). enough_by w (walk.count + 1) e) want
     ∙ (ap (λ (n : ℕ). enough_by (wanted_of o.extent) (n + 1) e) was
@@ -181,7 +176,6 @@ pass_one o path rows row j c kept walk new wanted b e want known at short h hear
       column = column ∙ (known.below c ∙ sym g.column);
       ended = ended ∙ (known.last c ∙ sym g.ended);
       count = rw more (omega (arith, count, was, sum));
-      size = rw more (omega (arith, size, had, bytes, long));
       enough = rw (more, last) (taken_next o.extent got token (rw short at h.enough));
     }
 
@@ -197,6 +191,20 @@ enough_taken o path rows front rest j split e =
     ∙ filter-append (is_collectable o) (chain path front j) more) in
     ap (taken o.extent) got ∙ taken_stays o.extent (collected o path front j)
     (filter (is_collectable o) more) (collected o path front j) e
+
+-- those that aren't enough are a part of them
+pub taken_longer : (o : Choice) (path : Path) (rows front rest : List Row) (j : ℕ)
+    (tokens : List (List ℕ)) → rows ≡ front ++ rest → taken o.extent (collected o path front j) ≡ None
+    → taken o.extent (collected o path rows j) ≡ Some tokens
+    → bytes_of (collected o path front j) ≤ bytes_of tokens
+taken_longer o path rows front rest j tokens split few e =
+    let more = chain_on (path_through path front) rest (column_after path front j) in
+    let got : collected o path rows j ≡ collected o path front j ++ filter (is_collectable o) more =
+    ap (λ (xs : List Row). collected o path xs j) split
+    ∙ (ap (filter (is_collectable o)) (chain_more path front rest j)
+    ∙ filter-append (is_collectable o) (chain path front j) more) in
+    longer_taken o.extent (collected o path front j) (filter (is_collectable o) more) tokens few
+    (sym (ap (taken o.extent) got) ∙ e)
 
 -- A walk that halts without enough tokens has gone through the whole chain.
 pub whole : (o : Choice) (path : Path) (first : ℕ) (rows : List Row) (j : ℕ) (walk : Walk)
@@ -256,20 +264,6 @@ decided o path first rows j walk h = by walk.enough refl
       ← h.stands.has.ended,
     ) (ending walk.ended)
 
--- Tokens that are enough, of so many bytes, are joined.
-pub joined : (ts : List (List ℕ)) (t : List ℕ)
-    → length (join_with_byte 32 (t ∷ ts)) + 1 ≡ bytes_of (t ∷ ts)
-joined [] t = omega arith
-joined (u ∷ us) t =
-    let ih = joined us u in
-    let sum = length-append t (32 ∷ join_with_byte 32 (u ∷ us)) in
-    omega (arith, ih, sum)
-
-pub size_is : (x : Extent) (ts : List (List ℕ)) → taken x [] ≡ None → taken x ts ≡ Some ts
-    → length (join_with_byte 32 ts) + 1 ≡ bytes_of ts
-size_is x [] none e = let k = sym none ∙ e in cc
-size_is x (t ∷ ts) none e = joined ts t
-
 -- what becomes of a token from which others are collected
 token_is : (o : Choice) (token : List ℕ) (chain : List (List ℕ)) → is_collectable o token ≡ true
     → begins o.extent token ≡ true
@@ -292,7 +286,6 @@ pub new_enough : (o : Choice) (path : Path) (first : ℕ) (rows : List Row) (j :
     → begins o.extent token ≡ true → walk.enough ≡ true
     → (tokens : List (List ℕ)) × (taken o.extent (collected o path rows j) ≡ Some tokens)
     × (new_token o token (chain path rows j) ≡ Some (join_with_byte 32 tokens))
-    × (length (join_with_byte 32 tokens) + 1 ≡ walk.size)
 new_enough o path first rows j walk token none h a b e =
     let front = h.stands.front in
     let got = collected o path front j in
@@ -300,17 +293,16 @@ new_enough o path first rows j walk token none h a b e =
       got,
       enough_taken o path rows front h.stands.rest j h.stands.split here,
       rw e at (new_by o path first rows j walk token h a b),
-      size_is o.extent got none here ∙ sym h.stands.has.size,
     )
 
 -- the same by a walk that has gone through some of the records
 pub enough_becomes : (o : Choice) (path : Path) (first : ℕ) (rows : List Row) (j : ℕ) (walk : Walk)
     (becoming : Becoming) (token : List ℕ) → taken o.extent [] ≡ None → Stands o path first rows j walk
-    → walk.enough ≡ true → ◌≡◌ {A = Option Becoming} (Some (Collects walk.size)) (Some becoming)
+    → walk.enough ≡ true → ◌≡◌ {A = Option Becoming} (Some Collects) (Some becoming)
     → is_collectable o token ≡ true → begins o.extent token ≡ true
     → Becomes o token (chain path rows j) (Some becoming)
 enough_becomes o path first rows j walk becoming token none h enough is a b =
-    let same : Collects walk.size ≡ becoming = cc in
+    let same : Collects ≡ becoming = cc in
     subst (λ (x : Becoming). Becomes o token (chain path rows j) (Some x)) same
     (new_enough o path first rows j walk token none (record { stands = h; halts = inl enough }) a b enough)
 

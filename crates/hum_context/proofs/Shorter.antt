@@ -21,7 +21,7 @@ use Rattle.hum_context.specs.Context.{chain, through}
 use Rattle.hum_context.specs.Columns.{column_below, column_after, under}
 use Rattle.hum_context.specs.Heard.{heard_under, ends, wanted_of}
 use Rattle.hum_context.specs.Queue.{IsStill, Known, column_in, heard_token}
-use Rattle.hum_context.specs.Walking.{AllStand, Has, IsWithout, Shortens, Stands, collected, bytes_of}
+use Rattle.hum_context.specs.Walking.{AllStand, Has, IsWithout, Shortens, Stands, collected}
 use Rattle.hum_context.proofs.Growth.{chain_push}
 use Rattle.hum_context.proofs.Passing.{chain_more, chain_on, open_end, heard_data}
 use Rattle.hum_context.proofs.Tokens.{taken_is}
@@ -72,7 +72,6 @@ shorter_none o path row front j i kept walk known below heard h =
       column = h.column ∙ s.column;
       ended = h.ended ∙ s.ended;
       count = h.count ∙ ap length s.collected;
-      size = h.size ∙ ap bytes_of s.collected;
       enough = rw s.collected at h.enough;
     }
 
@@ -114,48 +113,43 @@ through_less : (closes : List ℕ → Bool) (t : List ℕ) (ts : List (List ℕ)
     → through closes ts ≡ cond enough (Some ts) None
 through_less closes t ts enough w e = map_less t ts enough (through closes ts) (rw w at e)
 
-enough_less : (x : Extent) (wanted : Option ℕ) (e : Bool) (bytes : ℕ) (t : List ℕ)
+enough_less : (x : Extent) (wanted : Option ℕ) (e : Bool) (t : List ℕ)
     (ts : List (List ℕ)) (walk new : Walk) → wanted ≡ wanted_of x → ends x t ≡ e
-    → Shortens wanted e bytes walk new → 0 < new.at
+    → Shortens wanted e walk new → 0 < new.at
     → taken x (t ∷ ts) ≡ cond walk.enough (Some (t ∷ ts)) None
-    → (b : Bool) × (taken x ts ≡ cond new.enough (Some ts) None) × IsWithout bytes b walk new
-enough_less (First n) (Some m) e bytes t ts walk new want is short at h =
+    → (b : Bool) × (taken x ts ≡ cond new.enough (Some ts) None) × IsWithout b walk new
+enough_less (First n) (Some m) e t ts walk new want is short at h =
     (false, rw short.enough_is (first_less n t ts walk.enough h), short)
-enough_less (First n) None e bytes t ts walk new want is short at h = cc
-enough_less (Between opens closes) (Some m) e bytes t ts walk new want is short at h = cc
-enough_less (Between opens closes) None true bytes t ts walk new want is short at h =
+enough_less (First n) None e t ts walk new want is short at h = cc
+enough_less (Between opens closes) (Some m) e t ts walk new want is short at h = cc
+enough_less (Between opens closes) None true t ts walk new want is short at h =
     absurd (omega (arith, short, at))
-enough_less (Between opens closes) None false bytes t ts walk new want is short at h =
+enough_less (Between opens closes) None false t ts walk new want is short at h =
     (walk.enough, rw short.enough_is (through_less closes t ts walk.enough is h), short)
 
 -- where it is
 pub shorter_one : (o : Choice) (path : Path) (row : Row) (front : List Row) (j i : ℕ)
-    (kept : Queued) (walk new : Walk) (wanted : Option ℕ) (b e : Bool) (bytes : ℕ)
+    (kept : Queued) (walk new : Walk) (wanted : Option ℕ) (b e : Bool)
     → wanted ≡ wanted_of o.extent → Known o path row kept → column_below path row j ≡ Some i
-    → get_or kept.heard.items j Passed ≡ Taken b e → bytes ≡ length (token_at kept.row j) + 1
-    → Has o path (row ∷ front) j walk → Shortens wanted e bytes walk new → 0 < new.at
+    → get_or kept.heard.items j Passed ≡ Taken b e
+    → Has o path (row ∷ front) j walk → Shortens wanted e walk new → 0 < new.at
     → Has o (after path row) front i new
-shorter_one o path row front j i kept walk new wanted b e bytes want known below heard size h short
-    at =
+shorter_one o path row front j i kept walk new wanted b e want known below heard h short at =
     let one : heard_under o row j ≡ Taken b e = sym (known.heard j) ∙ heard in
     let token = token_at row j in
     let got = collected o (after path row) front i in
     let s = split_at o path row front j i (Taken b e) below (known.collected j
     ∙ ap (λ (x : Heard). heard_token x token) one) in
     let is = taken_is o token b e (heard_data o row j b e one) in
-    let less = enough_less o.extent wanted e bytes token got walk new want is.2 short at
+    let less = enough_less o.extent wanted e token got walk new want is.2 short at
     (rw s.collected at h.enough) in
     let w = less.2 in
-    let long = ap (λ (r : Row). length (token_at r j)) known.is in
     let count = w.count in
     let was = h.count ∙ ap length s.collected in
-    let had = h.size ∙ ap bytes_of s.collected in
-    let now = w.size in
     record {
       column = w.column ∙ (h.column ∙ s.column);
       ended = w.ended ∙ (h.ended ∙ s.ended);
       count = omega (arith, count, was);
-      size = omega (arith, now, had, size, long);
       enough = less.1;
     }
 

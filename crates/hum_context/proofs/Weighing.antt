@@ -8,6 +8,7 @@ use Rattle.std.specs.List.{join_with_byte}
 use Rattle.std.proofs.lemmas.Bool.Decides.{nat_tests}
 use Rattle.std.proofs.lemmas.List.{drop_all}
 use lib.Chars.{codes}
+use Rattle.hum_record.specs.Building.{spelled}
 use Rattle.hum_record.specs.declared.Kind.TheVariants.{Values as AnyValues}
 use Rattle.hum_record.specs.declared.SpinedKind.TheVariants.{Local, Interpretation, Values}
 use Rattle.hum_record.specs.Row.{Row, Comment, Spined, kind_of, text_of, tokens_of}
@@ -22,7 +23,7 @@ use Rattle.hum_context.specs.Context.{Choice, all_some, push_front, chain, new_t
 use Rattle.hum_context.specs.Context.{if_fits, context, is_collectable, begins}
 use Rattle.hum_context.specs.Heard.{heard_of}
 use Rattle.hum_context.specs.Queue.{Known, Knows}
-use Rattle.hum_context.specs.Walking.{Becomes, Counts, IsFew, bytes_by, bytes_of}
+use Rattle.hum_context.specs.Walking.{Becomes, Counts, bytes_of}
 use Rattle.hum_context.proofs.Tokens.{passed_none, taken_is}
 use Rattle.hum_context.proofs.Passing.{bytes_append}
 use Rattle.hum_context.proofs.Queues.{knows_at, drop_get, drop_below}
@@ -85,19 +86,12 @@ sofar_all o path row rows tokens j made h over = h.is
     (all_some (new_tokens o path row rows j ts))) (drop_all j tokens over)
     ∙ ap (λ (ts : List (List ℕ)). Some ts) (append-nil made))
 
--- The bytes of a new token.
-pub bytes_some : (o : Choice) (token : List ℕ) (chain : List (List ℕ)) (new : Becoming) (old : ℕ)
-    → Becomes o token chain (Some new) → old ≡ length token + 1
-    → (text : List ℕ) × (new_token o token chain ≡ Some text) × (length text + 1 ≡ bytes_by new old)
-bytes_some o token chain Stays old h e = (token, h, sym e)
-bytes_some o token chain Null old h e = (codes ".", h, refl)
-bytes_some o token chain (Collects size) old h e = (join_with_byte 32 h.0, h.2, h.3)
-
-pub bytes_few : (new : Becoming) (old : ℕ) → IsFew (Some new) → old ≤ 1048577
-    → bytes_by new old ≤ 9007199254740992
-bytes_few Stays old h few = omega (arith, few)
-bytes_few Null old h few = omega arith
-bytes_few (Collects size) old h few = h
+-- a new token that is known
+pub becomes_some : (o : Choice) (token : List ℕ) (chain : List (List ℕ)) (new : Becoming)
+    → Becomes o token chain (Some new) → (text : List ℕ) × (new_token o token chain ≡ Some text)
+becomes_some o token chain Stays h = (token, h)
+becomes_some o token chain Null h = (codes ".", h)
+becomes_some o token chain Collects h = (join_with_byte 32 h.0, h.2)
 
 pub counts_more : (made : List (List ℕ)) (text : List ℕ) (more size : ℕ) → length text + 1 ≡ more
     → Counts size (bytes_of made + more) → Counts size (bytes_of (made ++ text ∷ []))
@@ -144,6 +138,15 @@ fits_is (t ∷ ts) h =
     let k = bytes_joined ts t in
     let e : nat_le (length (join_with_byte 9 (t ∷ ts))) 1048576 ≡ true = grind (arith, nat_tests, k, h)
     in rw e refl
+
+-- the same by the text of a record
+pub bytes_fit : (ts : List (List ℕ)) → length (spelled ts) ≤ 1048576 → bytes_of ts ≤ 1048577
+bytes_fit [] h = omega arith
+bytes_fit (t ∷ ts) h = let k = bytes_joined ts t in omega (arith, k, h)
+
+pub bytes_long : (ts : List (List ℕ)) → 1048576 < length (spelled ts) → 1048577 < bytes_of ts
+bytes_long [] h = absurd (omega (arith, h))
+bytes_long (t ∷ ts) h = let k = bytes_joined ts t in omega (arith, k, h)
 
 pub long_is : (ts : List (List ℕ)) → 1048577 < bytes_of ts → if_fits (Spined Values ts) ≡ Err L1
 long_is [] h = absurd (omega (arith, h))

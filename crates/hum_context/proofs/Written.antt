@@ -1,6 +1,6 @@
 -- A record whose new tokens are written, one by one.
-use Rattle.std.proofs.Common.{◌≡◌, ◌≢◌, refl, ℕ, ◌+◌, ◌<◌, ◌≤◌, Bool, List, [], ◌∷◌, ◌++◌}
-use Rattle.std.proofs.Common.{length, length-append, get_or, arith}
+use Rattle.std.proofs.Common.{◌≡◌, ◌≢◌, ◌∙◌, refl, ℕ, ◌+◌, ◌<◌, ◌≤◌, Bool, true, false, List, [], ◌∷◌, ◌++◌}
+use Rattle.std.proofs.Common.{length, length-append, get_or, arith, inl, inr, ◌⊎◌, subst}
 use Rattle.hum_record.specs.Building.{Draft, spelled}
 use Rattle.hum_record.specs.Making.{Holds}
 use Rattle.hum_record.specs.declared.SpinedKind.TheVariants.{Values}
@@ -10,8 +10,8 @@ use Rattle.hum_path.specs.Spines.{Path}
 use Rattle.hum_context.specs.declared.queued.Queued.{Queued}
 use Rattle.hum_context.specs.Context.{Choice, chain}
 use Rattle.hum_context.specs.Queue.{HasToken, Knows}
-use Rattle.hum_context.specs.Walking.{Writes, bytes_of}
-use Rattle.hum_context.proofs.Weighing.{Sofar, sofar_none, sofar_more, bytes_joined}
+use Rattle.hum_context.specs.Walking.{Writes}
+use Rattle.hum_context.proofs.Weighing.{Sofar, sofar_none, sofar_more}
 
 -- so many new tokens were written
 pub record Written (o : Choice) (path : Path) (tokens : List (List ℕ)) (rows : List Row) (j : ℕ)
@@ -63,6 +63,37 @@ pub first_token : (o : Choice) (path : Path) (held : List Queued) (tokens : List
 first_token o path [] tokens rows j h below = absurd h
 first_token o path (kept ∷ held) tokens rows j h below = rw h.0.is (refl, below)
 
-pub short : (ts : List (List ℕ)) → bytes_of ts ≤ 1048577 → 1048576 < length (spelled ts) → ⊥
-short [] h over = omega (arith, over)
-short (t ∷ ts) h over = let joined = bytes_joined ts t in omega (arith, joined, h, over)
+-- A token is no longer than the text of its record.
+last_long : (made : List (List ℕ)) (t : List ℕ) → length t ≤ length (spelled (made ++ t ∷ []))
+last_long [] t = omega arith
+last_long (m ∷ []) t = let sum = length-append m (9 ∷ t) in omega (arith, sum)
+last_long (m ∷ u ∷ us) t =
+    let sum = length-append m (9 ∷ spelled ((u ∷ us) ++ t ∷ [])) in
+    let ih = last_long (u ∷ us) t in
+    omega (arith, sum, ih)
+
+-- where a token alone is too long, another such serves
+holds_long : (draft : Draft) (long : Bool) (made : List (List ℕ)) (token new : List ℕ)
+    → 1048576 < length token → 1048576 < length new → Holds Values draft long (made ++ token ∷ [])
+    → Holds Values draft long (made ++ new ∷ [])
+holds_long draft true made token new a b h = record {
+  of_kind = h.of_kind;
+  sound = λ e. cc;
+  held = λ e. cc;
+  fits = λ e. cc;
+  over = λ e. let more = last_long made new in omega (arith, more, b);
+}
+holds_long draft false made token new a b h =
+    let fits = h.fits refl in
+    let more = last_long made token in
+    absurd (omega (arith, fits, more, a))
+
+-- a text that was joined, or the front of one that is too long
+pub joined_added : (draft : Draft) (long : Bool) (made : List (List ℕ)) (text token new : List ℕ)
+    → (text ≡ new) ⊎ ((1048576 < length text) × (1048576 < length new)) → token ≡ text
+    → Holds Values draft long (made ++ token ∷ []) → Holds Values draft long (made ++ new ∷ [])
+joined_added draft long made text token new (inl same) e h =
+    subst (λ (t : List ℕ). Holds Values draft long (made ++ t ∷ [])) (e ∙ same) h
+joined_added draft long made text token new (inr over) e h =
+    holds_long draft long made text new over.0 over.1
+    (subst (λ (t : List ℕ). Holds Values draft long (made ++ t ∷ [])) e h)

@@ -1,5 +1,5 @@
 -- What a walk down a spine has come to.
-use Rattle.std.specs.Prelude.{◌≡◌, ◌⊎◌, ℕ, ◌+◌, ◌-◌, ◌<◌, ◌≤◌, Bool, true, false}
+use Rattle.std.specs.Prelude.{◌≡◌, ◌≢◌, ◌⊎◌, ℕ, ◌+◌, ◌-◌, ◌<◌, ◌≤◌, Bool, true, false}
 use Rattle.std.specs.Prelude.{List, [], ◌∷◌, ◌++◌, filter, length}
 use Rattle.std.specs.Prelude.{if◌then◌else◌, slice_get, Option, Some, None}
 use Rattle.std.specs.List.{list_any, join_with_byte}
@@ -38,7 +38,6 @@ pub record Has (o : Choice) (path : Path) (rows : List Row) (j : ℕ) (walk : Wa
   pub column : walk.column ≡ column_after path rows j
   pub ended : walk.ended ≡ list_any is_last (chain path rows j)
   pub count : walk.count ≡ length (collected o path rows j)
-  pub size : walk.size ≡ bytes_of (collected o path rows j)
   pub enough : taken o.extent (collected o path rows j)
       ≡ (if walk.enough then Some (collected o path rows j) else None)
 
@@ -68,10 +67,24 @@ abbrev pub Becomes : Choice → List ℕ → List (List ℕ) → Option Becoming
 Becomes o token chain None = new_token o token chain ≡ None
 Becomes o token chain (Some Stays) = new_token o token chain ≡ Some token
 Becomes o token chain (Some Null) = new_token o token chain ≡ Some (codes ".")
-Becomes o token chain (Some (Collects size)) =
+Becomes o token chain (Some Collects) =
     (tokens : List (List ℕ)) × (taken o.extent (filter (is_collectable o) chain) ≡ Some tokens)
     × (new_token o token chain ≡ Some (join_with_byte 32 tokens))
-    × (length (join_with_byte 32 tokens) + 1 ≡ size)
+
+-- the bytes of the new token that a token becomes, and one more
+abbrev pub Takes : Choice → List ℕ → List (List ℕ) → ℕ → Type 0
+Takes o token chain bytes =
+    (text : List ℕ) × (new_token o token chain ≡ Some text) × (length text + 1 ≡ bytes)
+
+-- the text of some tokens, joined by spaces, or the front of one that no record holds
+abbrev pub IsJoined : List ℕ → List (List ℕ) → Type 0
+IsJoined text tokens = (text ≢ []) × ((text ≡ join_with_byte 32 tokens)
+    ⊎ ((1048576 < length text) × (1048576 < length (join_with_byte 32 tokens))))
+
+-- whether some new tokens are known
+abbrev pub AreKnown : Option (List (List ℕ)) → Bool → Type 0
+AreKnown new false = new ≡ None
+AreKnown new true = (tokens : List (List ℕ)) × (new ≡ Some tokens)
 
 -- whether some new tokens are known, and fit into a record
 abbrev pub Weighs : Option (List (List ℕ)) → Weight → Type 0
@@ -82,12 +95,6 @@ Weighs new Fits = (tokens : List (List ℕ)) × (new ≡ Some tokens) × (bytes_
 -- so many bytes, or both are too many
 abbrev pub Counts : ℕ → ℕ → Type 0
 Counts size bytes = (bytes ≡ size) ⊎ ((1048577 < size) × (1048577 < bytes))
-
--- how many bytes a new token has, and one more, by those of the old one
-abbrev pub bytes_by : Becoming → ℕ → ℕ
-bytes_by Stays old = old
-bytes_by Null old = 2
-bytes_by (Collects size) old = size
 
 -- the new token of a cell was added to those of a record in the making
 pub record Writes (o : Choice) (token : List ℕ) (chain : List (List ℕ))
@@ -110,20 +117,14 @@ pub record Decided (wanted : Option ℕ) (gone : ℕ) (held : List Queued) (walk
   pub stand : AllStand o path gone (Spined Values tokens ∷ rows) walks
   pub are : all_some (new_tokens o path (Spined Values tokens) rows 0 tokens) ≡ Some new
 
-abbrev pub IsFew : Option Becoming → Type 0
-IsFew (Some (Collects size)) = size ≤ 9007199254740992
-IsFew _ = Unit {0}
-
-pub record IsWithout (bytes : ℕ) (enough : Bool) (before after : Walk) : Type 0 where
+pub record IsWithout (enough : Bool) (before after : Walk) : Type 0 where
   pub column : after.column ≡ before.column
   pub ended : after.ended ≡ before.ended
   pub count : after.count ≡ before.count - 1
-  pub size : after.size ≡ before.size - bytes
   pub enough_is : after.enough ≡ enough
 
--- A walk whose first token is taken away, which is collected and of so many bytes with one behind
--- it; one that ended with it stands nowhere.
-abbrev pub Shortens : Option ℕ → Bool → ℕ → Walk → Walk → Type 0
-Shortens (Some n) ends bytes before after = IsWithout bytes false before after
-Shortens None true bytes before after = after.at ≡ 0
-Shortens None false bytes before after = IsWithout bytes before.enough before after
+-- A walk whose first token is taken away, which is collected; one that ended with it stands nowhere.
+abbrev pub Shortens : Option ℕ → Bool → Walk → Walk → Type 0
+Shortens (Some n) ends before after = IsWithout false before after
+Shortens None true before after = after.at ≡ 0
+Shortens None false before after = IsWithout before.enough before after

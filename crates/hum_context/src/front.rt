@@ -1,7 +1,6 @@
 //! What a record that waits becomes, by those behind it.
 ghost use Rattle.std.specs.Prelude.{◌≡◌, ◌≢◌, ◌<◌, ◌≤◌, ◌+◌, ◌^◌, ◌∷◌, ◌++◌, ℕ, List, [], length, drop, false, true, slice_index_or};
 ghost use Rattle.std.specs.Prelude.{Some, None, IfOk, OnOk};
-ghost use Rattle.std.specs.List.{join_with_byte};
 ghost use Rattle.hum_record.specs.declared.SpinedKind.TheVariants.{Values};
 ghost use Rattle.hum_record.specs.Row.{Row, Spined, token_at, tokens_of};
 ghost use Rattle.hum_record.specs.Making.{Holds, IsMade};
@@ -9,10 +8,11 @@ ghost use Rattle.hum_path.specs.Spines.{Path};
 ghost use Rattle.hum_context.specs.Context.{Choice, all_some, begins, chain, is_collectable, taken, new_tokens};
 ghost use Rattle.hum_context.specs.Heard.{wanted_of};
 ghost use Rattle.hum_context.specs.Queue.{HasToken, Knows};
-ghost use Rattle.hum_context.specs.Walking.{AllStand, Stands, Halts, Becomes, IsFew, Weighs, Counts, collected};
-ghost use Rattle.hum_context.specs.Walking.{Decided, bytes_by, bytes_of, Writes};
+ghost use Rattle.hum_context.specs.Walking.{AllStand, AreKnown, Becomes, Counts, Decided, Halts, IsJoined};
+ghost use Rattle.hum_context.specs.Walking.{Stands, Takes, Weighs, Writes, bytes_of, collected};
 
 use crate::hearing::Heard;
+use crate::measuring::measure;
 use crate::queued::Queued;
 use crate::stepping::is_enough;
 use crate::text::Text;
@@ -20,19 +20,19 @@ use crate::walk::Walk;
 use hum_record::{MOST_BYTES, Making, Record, Spare, SpinedKind};
 use std::alloc::{AllocError, Global};
 use std::collections::VecDeque;
-use std::mem;
 
 // the most bytes of a record, and one more, since a tab is counted behind each token
 const MOST: u64 = MOST_BYTES as u64 + 1;
 
 /// What a token becomes, once that is known.
+#[derive(Clone, Copy)]
 pub(crate) enum Becoming {
     /// It stays as it is.
     Stays,
     /// It becomes null.
     Null,
-    /// It becomes those that are collected, which have so many bytes, with one behind each.
-    Collects(u64),
+    /// It becomes those that are collected.
+    Collects,
 }
 
 /// What is known of a record's new tokens.
@@ -85,15 +85,14 @@ fn walk_at(
 /// What the token of a cell becomes from which others are collected, by the walk from it.
 #[inline]
 fn becoming_by(walk: Walk) -> Option<Becoming>
-    ensures few { IsFew result }
-    ensures becomes { (o : Choice) (path : Path) (first : ℕ) (rows : List Row) (j : ℕ)
+    ensures { (o : Choice) (path : Path) (first : ℕ) (rows : List Row) (j : ℕ)
         → taken o.extent [] ≡ None
         → Halts o path first rows j walk
         → (token : List ℕ) → is_collectable o token ≡ true → begins o.extent token ≡ true
         → Becomes o token (chain path rows j) result }
 {
     if walk.enough {
-        return Some(Becoming::Collects(walk.size));
+        return Some(Becoming::Collects);
     }
     if walk.ended {
         return Some(Becoming::Null);
@@ -106,8 +105,7 @@ fn becoming_by(walk: Walk) -> Option<Becoming>
 #[inline]
 fn enough_at(walks: &[Walk], at: u64, j: usize) -> Option<Becoming>
     requires { at ≤ 4294967295 }
-    ensures few { IsFew result }
-    ensures becomes { (o : Choice) (path : Path) (rows : List Row) → taken o.extent [] ≡ None
+    ensures { (o : Choice) (path : Path) (rows : List Row) → taken o.extent [] ≡ None
         → AllStand o path at rows walks.now → (becoming : Becoming) → result ≡ Some becoming
         → (token : List ℕ) → is_collectable o token ≡ true → begins o.extent token ≡ true
         → Becomes o token (chain path rows j) (Some becoming) }
@@ -117,7 +115,7 @@ fn enough_at(walks: &[Walk], at: u64, j: usize) -> Option<Becoming>
     }
     let walk = walks[j];
     if at < walk.at && walk.enough {
-        return Some(Becoming::Collects(walk.size));
+        return Some(Becoming::Collects);
     }
     None
 }
@@ -134,8 +132,7 @@ fn becoming_at(
 ) -> Option<Becoming>
     requires few { gone + length held.now.items ≤ 4294967295 }
     requires within { k ≤ length held.now.items }
-    ensures few { IsFew result }
-    ensures becomes { (o : Choice) (path : Path) (rows : List Row)
+    ensures { (o : Choice) (path : Path) (rows : List Row)
         → wanted ≡ wanted_of o.extent → taken o.extent [] ≡ None
         → Knows o path (drop k held.now.items) rows
         → AllStand o path (gone + k) rows walks.now
@@ -157,8 +154,7 @@ fn new_at(
 ) -> Option<Becoming>
     requires few { gone + length held.now.items ≤ 4294967295 }
     requires within { k < length held.now.items }
-    ensures few { IsFew result }
-    ensures becomes { (o : Choice) (path : Path) (tokens : List (List ℕ)) (rows : List Row)
+    ensures { (o : Choice) (path : Path) (tokens : List (List ℕ)) (rows : List Row)
         → wanted ≡ wanted_of o.extent → taken o.extent [] ≡ None
         → Knows o path (drop k held.now.items) (Spined Values tokens ∷ rows)
         → AllStand o path (gone + k) (Spined Values tokens ∷ rows) walks.now
@@ -179,18 +175,29 @@ fn new_at(
     }
 }
 
-/// How many bytes the new token in a column has, and one more.
-#[inline]
-fn new_bytes(becoming: Becoming, kept: &Queued, j: usize) -> u64
-    requires { IsFew (Some becoming) }
-    ensures bytes { result
-        ≡ bytes_by becoming (length (slice_index_or (tokens_of kept.now.row) j []) + 1) }
+/// How many bytes the new token has of a cell of the k-th record that waits, and one more.
+fn new_bytes(
+    held: &VecDeque<Queued>,
+    k: usize,
+    j: usize,
+    wanted: Option<u16>,
+    becoming: Becoming,
+) -> u64
+    requires few { length held.now.items ≤ 4294967295 }
+    requires within { k < length held.now.items }
+    ensures bytes { (o : Choice) (path : Path) (tokens : List (List ℕ)) (rows : List Row)
+        → wanted ≡ wanted_of o.extent → taken o.extent [] ≡ None
+        → Knows o path (drop k held.now.items) (Spined Values tokens ∷ rows)
+        → Becomes o (token_at (Spined Values tokens) j)
+        (chain path (Spined Values tokens ∷ rows) j) (Some becoming)
+        → Takes o (token_at (Spined Values tokens) j)
+        (chain path (Spined Values tokens ∷ rows) j) result }
     ensures few { result ≤ 2 ^ 53 }
 {
     match becoming {
-        Becoming::Stays => kept.bytes(j),
+        Becoming::Stays => held[k].bytes(j),
         Becoming::Null => 2,
-        Becoming::Collects(size) => size,
+        Becoming::Collects => measure(held, k, j, wanted),
     }
 }
 
@@ -232,52 +239,54 @@ pub(crate) fn weigh(held: &VecDeque<Queued>, k: usize, gone: u64, wanted: Option
         let Some(new) = new_at(held, k, gone, unknown, j, wanted) else {
             return Weight::Undecided;
         };
-        size = plus(size, new_bytes(new, kept, j));
+        size = plus(size, new_bytes(held, k, j, wanted, new));
     }
     weight_of(size)
 }
 
-/// The tokens that are collected from a cell of the first record that waits, joined in a text that
-/// is done with.
+/// The text becomes the tokens that are collected from a cell of the first record that waits, until
+/// they are more than a record holds.
 #[inline(never)]
 fn gather(
-    spare: Text,
+    text: &mut Text,
     held: &VecDeque<Queued>,
     j: usize,
     wanted: Option<u16>,
-) -> Result<Text, AllocError>
-    ensures { IfOk result (λ text. (o : Choice) (path : Path) (rows : List Row)
+) -> Result<(), AllocError>
+    ensures { OnOk result ((o : Choice) (path : Path) (rows : List Row)
         → wanted ≡ wanted_of o.extent → taken o.extent [] ≡ None → Knows o path held.now.items rows
         → (tokens : List (List ℕ)) → taken o.extent (collected o path rows j) ≡ Some tokens
-        → (text ≡ join_with_byte 32 tokens) × (text ≢ [])) }
+        → IsJoined text.new tokens) }
 {
-    let mut text = spare.cleared();
+    text.clear();
     let mut column = j;
     let mut count: u64 = 0;
     for n in 0..held.len() {
         let next = &held[n];
         match next.heard(column) {
             Heard::Taken { begins: _, ends } => {
-                text = text.with(next.token(column))?;
+                text.add(next.token(column))?;
                 count += 1;
                 if is_enough(wanted, count, ends) {
-                    return Ok(text);
+                    return Ok(());
+                }
+                if text.is_long() {
+                    return Ok(());
                 }
             }
             Heard::Passed => {
                 let Some(below) = next.column_below(column) else {
-                    return Ok(text);
+                    return Ok(());
                 };
                 column = below;
             }
         }
     }
-    Ok(text)
+    Ok(())
 }
 
 /// Writes the new token of a cell of the first record that waits.
 fn write_token(
-    alloc: Global,
     held: &VecDeque<Queued>,
     j: usize,
     wanted: Option<u16>,
@@ -301,11 +310,9 @@ fn write_token(
     match becoming {
         Becoming::Stays => making.push(held[0].row.token(j))?,
         Becoming::Null => making.push(b".")?,
-        Becoming::Collects(_) => {
-            let spare = mem::replace(text, Text::none(alloc));
-            let made = gather(spare, held, j, wanted)?;
-            making.push(made.token())?;
-            *text = made;
+        Becoming::Collects => {
+            gather(text, held, j, wanted)?;
+            making.push(text.token())?;
         }
     }
     Ok(())
@@ -338,7 +345,7 @@ pub(crate) fn write(
         let Some(new) = new_at(held, 0, gone, walks, j, wanted) else {
             unreachable!()
         };
-        write_token(alloc, held, j, wanted, new, text, &mut making)?;
+        write_token(held, j, wanted, new, text, &mut making)?;
     }
     Ok(making.finish())
 }
@@ -369,7 +376,6 @@ fn advance_walk(
     requires few { gone + length held.now.items ≤ 4294967295 }
     requires within { j < length walks.old.items }
     ensures wide { length walks.new.items ≡ length walks.old.items }
-    ensures few { IsFew result }
     ensures stand { (o : Choice) (path : Path) (rows : List Row)
         → wanted ≡ wanted_of o.extent → taken o.extent [] ≡ None → Knows o path held.now.items rows
         → AllStand o path gone rows walks.old.items → AllStand o path gone rows walks.new.items }
@@ -397,7 +403,6 @@ fn advance_at(
     requires some { 0 < length held.now.items }
     requires within { j < length walks.old.items }
     ensures wide { length walks.new.items ≡ length walks.old.items }
-    ensures few { IsFew result }
     ensures stand { (o : Choice) (path : Path) (rows : List Row)
         → wanted ≡ wanted_of o.extent → taken o.extent [] ≡ None → Knows o path held.now.items rows
         → AllStand o path gone rows walks.old.items → AllStand o path gone rows walks.new.items }
@@ -422,34 +427,32 @@ fn advance_at(
     }
 }
 
-/// What is known of the new tokens of the first record that waits. The walks from it go on, to the
+/// Whether the new tokens of the first record that waits are known. The walks from it go on, to the
 /// first that isn't decided.
 pub(crate) fn advance(
     held: &VecDeque<Queued>,
     gone: u64,
     walks: &mut Vec<Walk>,
     wanted: Option<u16>,
-) -> Result<Weight, AllocError>
+) -> Result<bool, AllocError>
     requires few { gone + length held.now.items ≤ 4294967295 }
     requires within { 0 < length held.now.items }
     ensures stand { OnOk result ((o : Choice) (path : Path) (rows : List Row)
         → wanted ≡ wanted_of o.extent → taken o.extent [] ≡ None → Knows o path held.now.items rows
         → AllStand o path gone rows walks.old.items → AllStand o path gone rows walks.new.items) }
-    ensures weighs { IfOk result (λ weight. (o : Choice) (path : Path) (tokens : List (List ℕ))
+    ensures known { IfOk result (λ known. (o : Choice) (path : Path) (tokens : List (List ℕ))
         (rows : List Row) → wanted ≡ wanted_of o.extent → taken o.extent [] ≡ None
         → Knows o path held.now.items (Spined Values tokens ∷ rows)
         → AllStand o path gone (Spined Values tokens ∷ rows) walks.old.items
-        → Weighs (all_some (new_tokens o path (Spined Values tokens) rows 0 tokens)) weight) }
+        → AreKnown (all_some (new_tokens o path (Spined Values tokens) rows 0 tokens)) known) }
 {
     let kept = &held[0];
     let width = kept.row.width();
     widen(walks, gone, width)?;
-    let mut size: u64 = 0;
     for j in 0..width {
-        let Some(new) = advance_at(held, gone, walks, j, wanted) else {
-            return Ok(Weight::Undecided);
+        let Some(_new) = advance_at(held, gone, walks, j, wanted) else {
+            return Ok(false);
         };
-        size = plus(size, new_bytes(new, kept, j));
     }
-    Ok(weight_of(size))
+    Ok(true)
 }

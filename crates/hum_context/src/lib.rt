@@ -11,6 +11,7 @@ mod front;
 mod hearing;
 mod held;
 mod lasting;
+mod measuring;
 mod memory;
 mod options;
 mod queued;

@@ -10,7 +10,7 @@ ghost use Rattle.hum_context.specs.Walking.{AllStand};
 ghost use Rattle.hum_context.specs.declared.queued.Queued.{Queued};
 
 use crate::below::Below;
-use crate::front::{Weight, advance, write};
+use crate::front::{advance, write};
 use crate::hearing::SpareHeard;
 use crate::held::HeldRecord;
 use crate::lasting::lasting;
@@ -118,28 +118,25 @@ impl LooksAhead for Collecting {
             return Ok(Verdict::Gives(Some(row)));
         }
         let wanted = self.options.span.wanted();
-        let weight = advance(held, self.gone, &mut self.walks, wanted)?;
-        match weight {
-            Weight::Undecided => Ok(Verdict::Waits),
-            Weight::Long => Ok(Verdict::Refuses(Rule::L1)),
-            Weight::Fits => {
-                let Some(made) = write(
-                    self.alloc,
-                    held,
-                    self.gone,
-                    &self.walks,
-                    wanted,
-                    &mut self.text,
-                    &mut self.spare,
-                )?
-                else {
-                    unreachable!()
-                };
-                let row = self.let_go(held)?;
-                self.keep(row);
-                Ok(Verdict::Gives(Some(HeldRecord::from(made))))
-            }
+        let known = advance(held, self.gone, &mut self.walks, wanted)?;
+        if !known {
+            return Ok(Verdict::Waits);
         }
+        let Some(made) = write(
+            self.alloc,
+            held,
+            self.gone,
+            &self.walks,
+            wanted,
+            &mut self.text,
+            &mut self.spare,
+        )?
+        else {
+            return Ok(Verdict::Refuses(Rule::L1));
+        };
+        let row = self.let_go(held)?;
+        self.keep(row);
+        Ok(Verdict::Gives(Some(HeldRecord::from(made))))
     }
 
     fn lasting(&self, held: &VecDeque<Queued>) -> usize {

@@ -13,18 +13,17 @@ use crate::queued::Queued;
 use crate::walk::Walk;
 use std::alloc::AllocError;
 
-/// A walk whose first token, of so many bytes with one behind it, is taken away.
-fn without(walk: Walk, bytes: u64, enough: bool) -> Walk
+/// A walk whose first token is taken away.
+fn without(walk: Walk, enough: bool) -> Walk
     ensures at { result.at ≡ walk.at }
     ensures column { (result.column ≡ walk.column) × (result.ended ≡ walk.ended) }
-    ensures less { (result.count ≡ walk.count - 1) × (result.size ≡ walk.size - bytes) }
+    ensures less { result.count ≡ walk.count - 1 }
     ensures enough { result.enough ≡ enough }
 {
     Walk {
         at: walk.at,
         column: walk.column,
         count: walk.count.saturating_sub(1),
-        size: walk.size.saturating_sub(bytes),
         enough,
         ended: walk.ended,
     }
@@ -32,17 +31,17 @@ fn without(walk: Walk, bytes: u64, enough: bool) -> Walk
 
 /// The same of a token that is collected, which ends a group or doesn't; a walk that ended with it
 /// is made anew.
-fn behind_taken(walk: Walk, bytes: u64, wanted: Option<u16>, ends: bool) -> Walk
+fn behind_taken(walk: Walk, wanted: Option<u16>, ends: bool) -> Walk
     ensures at { (result.at ≡ walk.at) ⊎ (result.at ≡ 0) }
-    ensures has { Shortens wanted ends bytes walk result }
+    ensures has { Shortens wanted ends walk result }
 {
     match wanted {
-        Some(_) => without(walk, bytes, false),
+        Some(_) => without(walk, false),
         None => {
             if ends {
                 return Walk::from(0, 0);
             }
-            without(walk, bytes, walk.enough)
+            without(walk, walk.enough)
         }
     }
 }
@@ -57,7 +56,7 @@ fn behind(walk: Walk, kept: &Queued, j: usize, wanted: Option<u16>) -> Walk
 {
     match kept.heard(j) {
         Heard::Passed => walk.by_fields(),
-        Heard::Taken { begins: _, ends } => behind_taken(walk, kept.bytes(j), wanted, ends),
+        Heard::Taken { begins: _, ends } => behind_taken(walk, wanted, ends),
     }
 }
 

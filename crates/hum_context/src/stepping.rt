@@ -1,6 +1,6 @@
 //! Walks down a spine, through the records that wait.
-ghost use Rattle.std.specs.Prelude.{◌≡◌, ◌≢◌, ◌+◌, ◌≤◌, ◌<◌, ◌*◌, ℕ, List, [], ◌∷◌, ◌++◌, length, drop, false, Some, None, slice_index_or};
-ghost use Rattle.hum_record.specs.Row.{Row, tokens_of};
+ghost use Rattle.std.specs.Prelude.{◌≡◌, ◌≢◌, ◌+◌, ◌≤◌, ◌<◌, ℕ, List, [], ◌∷◌, ◌++◌, length, drop, false, Some, None, slice_index_or};
+ghost use Rattle.hum_record.specs.Row.{Row};
 ghost use Rattle.hum_path.specs.Spines.{Path};
 ghost use Rattle.hum_context.specs.Context.{Choice};
 ghost use Rattle.hum_context.specs.Columns.{path_through};
@@ -32,14 +32,13 @@ impl Walk {
         requires { at ≤ 4294967295 }
         ensures at { result.at ≡ at }
         ensures column { result.column ≡ Some column }
-        ensures none { (result.count ≡ 0) × (result.size ≡ 0) }
+        ensures none { result.count ≡ 0 }
         ensures open { (result.enough ≡ false) × (result.ended ≡ false) }
     {
         Walk {
             at,
             column: Some(column),
             count: 0,
-            size: 0,
             enough: false,
             ended: false,
         }
@@ -54,7 +53,6 @@ impl Walk {
             at: self.at,
             column: self.column,
             count: self.count,
-            size: self.size,
             enough: self.enough,
             ended: self.ended,
         }
@@ -67,7 +65,7 @@ impl Walk {
         ensures at { self.new.at ≡ self.old.at + 1 }
         ensures column { self.new.column ≡ column_in next.now.row next.now.below c }
         ensures ended { self.new.ended ≡ is_last_in next.now.row c }
-        ensures same { (self.new.count ≡ self.old.count) × (self.new.size ≡ self.old.size) }
+        ensures same { self.new.count ≡ self.old.count }
         ensures short { self.new.enough ≡ false }
     {
         self.at += 1;
@@ -86,14 +84,11 @@ impl Walk {
         ensures column { self.new.column ≡ column_in next.now.row next.now.below c }
         ensures ended { self.new.ended ≡ is_last_in next.now.row c }
         ensures count { self.new.count ≡ self.old.count + 1 }
-        ensures size { self.new.size
-            ≡ self.old.size + (length (slice_index_or (tokens_of next.now.row) c []) + 1) }
         ensures enough { self.new.enough ≡ enough_by wanted (self.old.count + 1) ends }
     {
         self.at += 1;
         self.column = Some(c);
         self.count += 1;
-        self.size += next.bytes(c);
         self.enough = is_enough(wanted, self.count, ends);
         self.ended = false;
     }

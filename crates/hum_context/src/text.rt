@@ -1,9 +1,10 @@
 //! The text of a new token, as far as it is collected.
-ghost use Rattle.std.specs.Prelude.{◌≡◌, ◌≢◌, [], IfOk};
+ghost use Rattle.std.specs.Prelude.{◌≡◌, ◌≢◌, [], OnOk, length, nat_lt};
 ghost use Rattle.hum_record.specs.Spelling.{IsToken};
 ghost use Rattle.hum_record.specs.declared.SpinedKind.TheVariants.{Values};
 ghost use Rattle.hum_context.specs.Walking.{add_token};
 
+use hum_record::MOST_BYTES;
 use std::alloc::{AllocError, Global};
 use std::marker::Model;
 
@@ -25,6 +26,17 @@ impl Model for Text {
     ghost invariant = { λ t. t.bytes.items ≢ [] → IsToken Values t.bytes.items };
 }
 
+/// A token behind those so far, and a space before it if there are any.
+#[inline]
+fn add_bytes(bytes: &mut Vec<u8>, token: &[u8]) -> Result<(), AllocError>
+    ensures { OnOk result (bytes.new.items ≡ add_token bytes.old.items token.now) }
+{
+    if !bytes.is_empty() {
+        bytes.push(b' ')?;
+    }
+    bytes.extend_from_slice(token)
+}
+
 impl Text {
     /// There are none.
     pub(crate) fn none(alloc: Global) -> Text
@@ -36,28 +48,34 @@ impl Text {
     }
 
     /// There are none any more.
-    pub(crate) fn cleared(self) -> Text
-        ensures { result ≡ [] }
+    #[inline]
+    pub(crate) fn clear(&mut self)
+        ensures { self.new ≡ [] }
     {
-        let Text { bytes } = self;
-        let mut bytes = bytes;
-        bytes.clear();
-        Text { bytes }
+        self.bytes.clear();
     }
 
     /// A token behind those so far.
     #[inline]
-    pub(crate) fn with(self, token: &[u8]) -> Result<Text, AllocError>
+    pub(crate) fn add(&mut self, token: &[u8]) -> Result<(), AllocError>
         requires { IsToken Values token.now }
-        ensures { IfOk result (λ t. t ≡ add_token self token.now) }
+        ensures { OnOk result (self.new ≡ add_token self.old token.now) }
     {
-        let Text { bytes } = self;
-        let mut bytes = bytes;
-        if !bytes.is_empty() {
-            bytes.push(b' ')?;
+        match add_bytes(&mut self.bytes, token) {
+            Ok(()) => Ok(()),
+            Err(_) => {
+                self.bytes.truncate(0);
+                Err(AllocError)
+            }
         }
-        bytes.extend_from_slice(token)?;
-        Ok(Text { bytes })
+    }
+
+    /// Whether they make more than a record holds.
+    #[inline]
+    pub(crate) fn is_long(&self) -> bool
+        ensures { result ≡ nat_lt 1048576 (length self.now) }
+    {
+        self.bytes.len() > MOST_BYTES
     }
 
     /// The token that they make, joined; a null token where there are none.

@@ -1,5 +1,5 @@
 //! What a walk down a spine has come to.
-ghost use Rattle.std.specs.Prelude.{◌≤◌, ◌*◌};
+ghost use Rattle.std.specs.Prelude.{◌≤◌};
 
 /// What a walk from a cell down its spine has come to.
 #[derive(Clone, Copy)]
@@ -10,11 +10,9 @@ pub(crate) struct Walk {
     pub(crate) column: Option<usize>,
     /// How many tokens are collected.
     pub(crate) count: u64,
-    /// Their bytes, with one behind each.
-    pub(crate) size: u64,
     /// Whether they are enough.
     pub(crate) enough: bool,
     /// Whether the future is ended.
     pub(crate) ended: bool,
-    pub ghost within: { (at ≤ 4294967295) × (count ≤ at) × (size ≤ 1048577 * at) },
+    pub ghost within: { (at ≤ 4294967295) × (count ≤ at) },
 }

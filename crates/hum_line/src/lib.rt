@@ -65,7 +65,7 @@ fn option<'a>(alloc: Global, name: &'a str) -> Arg<'a> {
 
 /// How many records a link is to hold.
 fn link_option<'a>(alloc: Global) -> Arg<'a> {
-    option(alloc, "link").value_parser(clap::value_parser!(u16).range(1..=4096))
+    option(alloc, "link").value_parser(clap::value_parser!(u16).range(1..=i64::from(LARGEST_LINK)))
 }
 
 /// The arguments of the program.

@@ -1,5 +1,6 @@
 -- What a net stands for: its web, what was written, and how it failed.
-use Rattle.std.specs.Prelude.{◌≡◌, ◌≢◌, ◌⊎◌, ℕ, ◌+◌, ◌<◌, ◌≤◌, Bool, true, false, List, [], ◌++◌, length}
+use Rattle.std.specs.Prelude.{◌≡◌, ◌≢◌, ◌⊎◌, ℕ, ◌+◌, ◌<◌, ◌≤◌}
+use Rattle.std.specs.Prelude.{Bool, true, false, List, [], ◌++◌, length}
 use Rattle.std.specs.Prelude.{Option, Some, None, IfSome, map, slice_get, slice_set}
 use Rattle.std.specs.Io.KnownBytes.{Appends}
 use Rattle.hum_record.specs.Row.{Row, text_of}

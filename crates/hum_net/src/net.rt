@@ -45,6 +45,7 @@ impl<F: Feeds, W: Works, S: Sink> Net<F, W, S> {
     // fields, at each turn.
 
     // The sink's turn.
+    #[inline(never)]
     fn sink_turn(&mut self)
         requires none { self.old.failure ≡ None }
         requires may { Somewhere (IsAt (StandsAs F.stands W.stands) self.old.web) }
@@ -74,6 +75,7 @@ impl<F: Feeds, W: Works, S: Sink> Net<F, W, S> {
     }
 
     // A stage's turn, and the link that it has changed; its own, where it failed.
+    #[inline(always)]
     fn stage_turn(&mut self, k: usize) -> usize
         requires none { self.old.failure ≡ None }
         requires may { Somewhere (MayTurnFew (StandsAs F.stands W.stands) k self.old.web) }
@@ -306,6 +308,8 @@ impl<F: Feeds, W: Works, S: Sink> Net<F, W, S> {
     }
 
     /// Makes the turns that the order picks, to the end of the run.
+    // All that a stage's turn calls stands in this loop, and the loop in no caller's.
+    #[inline(never)]
     pub fn run<O: Order>(&mut self, order: &mut O) -> RunResult
         requires { IsNet (StandsAs F.stands W.stands) F.ended S.contents S.flushed self.old }
         // Whatever bytes the sources have, and however they go on: the turns are those that the
@@ -492,6 +496,7 @@ impl<F: Feeds, W: Works, S: Sink> Net<F, W, S> {
     }
 
     /// Whether the run has ended. Until then some actor is ready.
+    #[inline(always)]
     pub fn over(&self) -> bool
         requires { IsRunning (StandsAs F.stands W.stands) S.contents S.flushed self.now }
         ensures progress { (start : Option (List ℕ)) (s : Scene) (now : Now Row)

@@ -1,16 +1,18 @@
 //! Nodes and their links.
-ghost use Rattle.std.specs.Prelude.{◌≡◌, ◌≢◌, ◌≤◌, ℕ, true, false, slice_index, slice_get, length, IfOk, OnOk, OnErr, Err, ◌||◌};
+ghost use Rattle.std.specs.Prelude.{◌≡◌, ◌≢◌, ◌≤◌, ◌<◌, ◌⊎◌, ℕ, true, false, slice_index, slice_get, length, IfOk, OnOk, OnErr, Err, ◌||◌};
 ghost use Rattle.hum_turns.specs.Turns.{Gives, Takes, Ends, state, can, ready};
 ghost use Rattle.hum_turns.specs.Plan.{last};
 ghost use Rattle.hum_turns.specs.Near.{touched};
 ghost use Rattle.hum_turns.specs.Links.{has_some, linked, IsOpening};
 ghost use Rattle.hum_nodes.specs.Nodes.{StandsAs};
+ghost use Rattle.hum_nodes.specs.At.{doing_of, kind_of};
 ghost use Rattle.hum_nodes.specs.declared.node.Doing.TheVariants as does;
+ghost use Rattle.hum_nodes.specs.declared.node.DoingKind.TheVariants as kinds;
 ghost use Rattle.hum_links.specs.Links.{next_of};
 ghost use Rattle.hum_net.specs.Scene.{Scene, plan_of, Somewhere, IsAt, IsActor, MayTurn, MayAct};
 ghost use Rattle.hum_net.specs.Scene.{IsKind, Keeps, KeepsOthers, Fed, Done, IsAbout};
 ghost use Rattle.hum_net.specs.Scene.{IsAboutKind};
-ghost use Rattle.hum_net.specs.Scene.{IsBegun, Stands, HasStage, held_of};
+ghost use Rattle.hum_net.specs.Scene.{IsBegun, Stands, HasStage, held_of, at_of};
 ghost use Rattle.hum_net.specs.Readers.{ShowsSame, remaining_at, ended_at, calls_at, failed_at};
 ghost use Rattle.hum_nodes.specs.Polls.{AsksAtMostOnce, HasStayed, is_failed_read};
 
@@ -72,6 +74,7 @@ impl<F: Feeds, W: Works> Web<F, W> {
     }
 
     // A turn of a source, which changes its own link.
+    #[inline(always)]
     fn poll(&mut self, k: usize) -> Result<usize, ReadError>
         requires turn { Somewhere (MayTurn (StandsAs F.stands W.stands) k self.old) }
         requires source { IsKind true k self.old }
@@ -254,6 +257,7 @@ impl<F: Feeds, W: Works> Web<F, W> {
     }
 
     // A stage gives a record onto its link.
+    #[inline(always)]
     fn give(&mut self, k: usize) -> Result<(), AllocError>
         requires may { Somewhere (MayAct (StandsAs F.stands W.stands) k does.Gives self.old) }
         requires stage { IsKind false k self.old }
@@ -279,7 +283,28 @@ impl<F: Feeds, W: Works> Web<F, W> {
         self.links[k].end(end);
     }
 
+    // A stage that neither gives nor wants sets its end. It happens once, so the end has no place where
+    // each record passes.
+    #[inline(never)]
+    fn close(&mut self, k: usize)
+        requires turn { Somewhere (MayTurn (StandsAs F.stands W.stands) k self.old) }
+        requires stage { IsKind false k self.old }
+        requires done { (s : Scene) → IsAt (StandsAs F.stands W.stands) self.old s → k < s.count
+            → (kind_of (doing_of (at_of s.kinds s.links k)) ≡ kinds.Done)
+            ⊎ (kind_of (doing_of (at_of s.kinds s.links k)) ≡ kinds.Reads) }
+        ensures done { (s : Scene) → MayTurn (StandsAs F.stands W.stands) k self.old s
+            → Done (StandsAs F.stands W.stands) k (state (plan_of s) s.links k) self.new s }
+        ensures link { (s : Scene) → IsActor (StandsAs F.stands W.stands) k self.old s
+            → k ≡ touched k (state (plan_of s) s.links k) }
+        ensures nodes { Keeps k self.old self.new }
+    {
+        if let Doing::Done(end) = self.nodes[k].doing() {
+            self.finish(k, end);
+        }
+    }
+
     // A stage takes from the link of its source at a place, whose number it answers.
+    #[inline(always)]
     fn pass(&mut self, k: usize, place: usize) -> Result<usize, AllocError>
         requires may { Somewhere (MayAct (StandsAs F.stands W.stands) k (does.Wants place)
             self.old) }
@@ -304,6 +329,7 @@ impl<F: Feeds, W: Works> Web<F, W> {
 
     // The turn of a stage that isn't a source, and the link that it has changed: the one that it
     // took from, or its own.
+    #[inline(always)]
     fn act(&mut self, k: usize) -> Result<usize, AllocError>
         requires turn { Somewhere (MayTurn (StandsAs F.stands W.stands) k self.old) }
         requires stage { IsKind false k self.old }
@@ -318,11 +344,7 @@ impl<F: Feeds, W: Works> Web<F, W> {
             DoingKind::Wants(place) => return self.pass(k, place),
             DoingKind::Gives => self.give(k)?,
             // it reads nothing
-            DoingKind::Done | DoingKind::Reads => {
-                if let Doing::Done(end) = self.nodes[k].doing() {
-                    self.finish(k, end);
-                }
-            }
+            DoingKind::Done | DoingKind::Reads => self.close(k),
         }
         Ok(k)
     }
@@ -332,6 +354,7 @@ impl<F: Feeds, W: Works> Web<F, W> {
     ///
     /// # Errors
     /// A failed read of a source, and want of memory.
+    #[inline(always)]
     pub fn turn(&mut self, k: usize) -> Result<usize, ReadError>
         requires { Somewhere (MayTurn (StandsAs F.stands W.stands) k self.old) }
         ensures turned { OnOk result
@@ -361,6 +384,7 @@ impl<F: Feeds, W: Works> Web<F, W> {
     }
 
     // Whether a stage that isn't a source can do this.
+    #[inline(always)]
     fn can(&self, k: usize, kind: DoingKind) -> bool
         requires about { Somewhere (IsAboutKind (StandsAs F.stands W.stands) k kind self.now) }
         requires stage { IsKind false k self.now }
@@ -378,6 +402,7 @@ impl<F: Feeds, W: Works> Web<F, W> {
     }
 
     /// Whether an actor is ready: a stage, or the sink, whose number is that of the stages.
+    #[inline(always)]
     pub fn ready(&self, k: usize) -> bool
         requires { Somewhere (IsActor (StandsAs F.stands W.stands) k self.now) }
         ensures { (s : Scene) → IsActor (StandsAs F.stands W.stands) k self.now s

@@ -23,6 +23,7 @@ pub enum Node<F, W> {
 
 impl<F: Feeds, W: Works> Node<F, W> {
     /// Whether it reads bytes.
+    #[inline(always)]
     pub fn is_source(&self) -> bool
         ensures { result ≡ is_source self.now }
     {
@@ -33,6 +34,7 @@ impl<F: Feeds, W: Works> Node<F, W> {
     }
 
     /// A turn of a source.
+    #[inline(always)]
     pub fn poll(&mut self) -> Result<Step, ReadError>
         requires { is_source self.old ≡ true }
         ensures kind { is_source self.new ≡ true }
@@ -113,6 +115,7 @@ impl<F: Feeds, W: Works> Node<F, W> {
     }
 
     /// The same without the end.
+    #[inline(always)]
     pub fn doing_kind(&self) -> DoingKind
         requires { is_source self.now ≡ false }
         ensures { (rest : List ℕ) (t : At) → StandsAs F.stands W.stands self.now rest t
@@ -128,6 +131,7 @@ impl<F: Feeds, W: Works> Node<F, W> {
     ///
     /// # Errors
     /// Want of memory.
+    #[inline(always)]
     pub fn take(&mut self) -> Result<Option<Record>, AllocError>
         requires { is_source self.old ≡ false }
         ensures kind { is_source self.new ≡ false }
@@ -145,6 +149,7 @@ impl<F: Feeds, W: Works> Node<F, W> {
     ///
     /// # Errors
     /// Want of memory.
+    #[inline(always)]
     pub fn put(&mut self, place: usize, next: Record) -> Result<(), AllocError>
         requires kind { is_source self.old ≡ false }
         requires may { MayPut (StandsAs F.stands W.stands self.old []) place next }
@@ -175,6 +180,7 @@ impl<F: Feeds, W: Works> Node<F, W> {
     }
 
     /// The number, from 0, of the stage that it reads from at this place.
+    #[inline(always)]
     pub fn source(&self, place: usize) -> usize
         requires kind { is_source self.now ≡ false }
         requires place { MayDo (StandsAs F.stands W.stands self.now [])

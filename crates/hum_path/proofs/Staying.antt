@@ -1,5 +1,5 @@
 -- A record that asks nothing of the spines leaves them as they are, and is refused as a text is.
-use Rattle.std.proofs.Common.{◌≡◌, ◌≢◌, ◌∙◌, refl, sym, ap, ℕ, ◌+◌, ◌≤◌, nat_lt, Bool}
+use Rattle.std.proofs.Common.{◌≡◌, ◌≢◌, ◌∙◌, refl, sym, ap, ℕ, ◌+◌, ◌≤◌, ◌<◌, nat_lt, Bool, not}
 use Rattle.std.proofs.Common.{true, false, ◌&&◌, ◌==◌, List, [], ◌∷◌, length, map, None}
 use Rattle.std.proofs.Common.{Some, inl, inr, arith, subst}
 use Rattle.std.specs.List.{list_any, list_all, find}
@@ -11,7 +11,7 @@ use Rattle.std.proofs.lemmas.List.{length-map}
 use lib.Chars.{codes}
 use Rattle.std.specs.declared.vec.Vec.{Vec}
 use Rattle.std.specs.declared.alloc.Global.{Global}
-use Rattle.hum_record.specs.declared.Kind.TheVariants.{Global as AnyGlobal}
+use Rattle.hum_record.specs.declared.Kind.TheVariants.{Global as AnyGlobal, Values as AnyValues}
 use Rattle.hum_record.specs.declared.SpinedKind.TheVariants.{Local, Interpretation, Values}
 use Rattle.hum_record.specs.declared.SpinedKind.{SpinedKind}
 use Rattle.hum_record.specs.Spelling.{is_empty, IsTextOf}
@@ -208,3 +208,34 @@ pub width_in : (opened waits : Bool) (names : List (Vec ℕ Global)) → IsTidy 
     → width (path_in opened (texts names)) ≡ length names
 width_in true waits names tidy = length-map names (λ v. v.items)
 width_in false waits names tidy = ap length (sym (tidy.unopened refl))
+
+-- Data that has a token for each spine, of which none waits, breaks no rule: as it has a token, the spines are open.
+some_tokens : (ts : List (List ℕ)) → ts ≢ [] → 0 < length ts
+some_tokens [] h = absurd (h refl)
+some_tokens (t ∷ ts) h = omega arith
+
+not_none : (n : ℕ) → 0 < n → (n == 0) ≡ false
+not_none n h = grind (arith, nat_tests)
+
+as_many : (a b : ℕ) → a ≡ b → not (a == b) ≡ false
+as_many a b h = grind (arith, nat_tests)
+
+pub data_fits : (opened waits : Bool) (names : List (Vec ℕ Global)) (row : Row) → IsTidy opened waits names → kind_of row ≡ AnyValues
+    → IsTextOf row (text_of row) → length (tokens_of row) ≡ length names → waits ≡ false
+    → find (breaks_as_text (path_in opened (texts names)) (tokens_of row)) in_order ≡ None
+data_fits opened waits names (Comment text) tidy h lawful wide ready = let z = h in cc
+data_fits opened waits names (Spined Local tokens) tidy h lawful wide ready = let z = h in cc
+data_fits opened waits names (Spined Interpretation tokens) tidy h lawful wide ready = let z = h in cc
+data_fits false waits names (Spined Values tokens) tidy h lawful wide ready =
+    let some = some_tokens tokens lawful.1 in
+    let none : length names ≡ 0 = ap length (tidy.unopened refl) in
+    absurd (omega (arith, some, none, wide))
+data_fits true waits names (Spined Values tokens) tidy h lawful wide ready =
+    let size : length (texts names) ≡ length names = length-map names (λ v. v.items) in
+    let some = some_tokens tokens lawful.1 in
+    rw (
+      not_none (length (texts names)) (omega (arith, some, size, wide)),
+      as_many (length tokens) (length (texts names)) (wide ∙ sym size),
+      sym tidy.waiting ∙ ready,
+    )
+    refl

@@ -18,6 +18,16 @@ use hum_record::{Kind, Record};
 use std::alloc::{AllocError, Global};
 use std::marker::Model;
 
+/// Whether there is a token for each spine, and no spine waits for its exclusive interpretation. Where
+/// there is a token, the spines are open then.
+#[inline]
+fn fits(waits: bool, spines: usize, tokens: usize) -> bool
+    ensures ready { result ≡ true → waits ≡ false }
+    ensures width { result ≡ true → tokens ≡ spines }
+{
+    tokens == spines && !waits
+}
+
 /// The spines of a score, record by record.
 #[derive(Drop)]
 pub struct Paths {
@@ -100,7 +110,7 @@ impl Paths {
         ensures same { result ≡ true → after self.now.path row.now ≡ self.now.path }
     {
         match row.kind() {
-            Kind::Values => text_fault(self.opened, self.waits, &self.names, row).is_none(),
+            Kind::Values => fits(self.waits, self.names.len(), row.width()),
             _ => false,
         }
     }

@@ -4,6 +4,7 @@ pub mod Parts
 pub mod Ends
 pub mod Places
 pub mod Plain
+pub mod Short
 pub mod Cuts
 pub mod Laws
 pub mod Drafts

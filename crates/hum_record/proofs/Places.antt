@@ -7,7 +7,7 @@ use mir.Val.{bool_byte}
 use lib.Pow.{pow_mono}
 use Rattle.std.specs.Prelude.{◌==◌}
 use Rattle.std.specs.List.{prefix_len}
-use Rattle.std.specs.Simd.Lanes.{chunk}
+use Rattle.std.specs.Simd.Lanes.{chunk, mask_l}
 use Rattle.std.specs.Int.Count.{count_trailing_zeros}
 use Rattle.std.specs.Int.Bits.{bit_and}
 use Rattle.std.proofs.lemmas.Nat.{and_mask}
@@ -31,15 +31,22 @@ moved_down b (x ∷ xs) (suc k) =
     ∙ ap (λ n. n / 2 ^ k) (lowest (x == b) (bits_of b xs)) ∙ moved_down b xs k
 
 -- the bits of the first bytes, and of the rest
-pub in_two : (b : ℕ) (xs : List ℕ) (k : ℕ) → k ≤ length xs → bits_of b xs ≡ bits_of b (take k xs) + bits_of b (drop k xs) * 2 ^ k
-in_two b xs zero le = omega arith
-in_two b [] (suc k) le = absurd (omega arith)
-in_two b (x ∷ xs) (suc k) le =
-    let rest = bits_of b (drop k xs) in
-    ap (λ n. cond (x == b) 1 0 + 2 * n) (in_two b xs k (omega arith)) ∙ by (cond (x == b) 1 0) (bits_of b (take k xs)) rest (2 ^ k) (2 ^ suc k) (two-pow-succ k)
+in_two_by : (p : ℕ → Bool) (xs : List ℕ) (k : ℕ) → k ≤ length xs → mask_l (map p xs) ≡ mask_l (map p (take k xs)) + mask_l (map p (drop k xs)) * 2 ^ k
+in_two_by p xs zero le = omega arith
+in_two_by p [] (suc k) le = absurd (omega arith)
+in_two_by p (x ∷ xs) (suc k) le =
+    let rest = mask_l (map p (drop k xs)) in
+    ap (λ n. cond (p x) 1 0 + 2 * n) (in_two_by p xs k (omega arith))
+    ∙ by (cond (p x) 1 0) (mask_l (map p (take k xs))) rest (2 ^ k) (2 ^ suc k) (two-pow-succ k)
   where
     by : (c t r p q : ℕ) → q ≡ p + p → c + 2 * (t + r * p) ≡ (c + 2 * t) + r * q
     by c t r p q e = rw e (grind arith)
+
+pub in_two : (b : ℕ) (xs : List ℕ) (k : ℕ) → k ≤ length xs → bits_of b xs ≡ bits_of b (take k xs) + bits_of b (drop k xs) * 2 ^ k
+in_two b xs k le = in_two_by (λ x. x == b) xs k le
+
+mask_below : (p : ℕ → Bool) (xs : List ℕ) → mask_l (map p xs) < 2 ^ length xs
+mask_below p xs = subst (λ n. mask_l (map p xs) < 2 ^ n) (length-map xs p) (mask_l-lt (map p xs))
 
 pub bits_below : (b : ℕ) (xs : List ℕ) → bits_of b xs < 2 ^ length xs
 bits_below b xs = subst (λ n. bits_of b xs < 2 ^ n) (length-map xs (λ x. x == b)) (mask_l-lt (map (λ x. x == b) xs))
@@ -202,18 +209,23 @@ front_of_front (suc k) (suc m) [] h = refl
 front_of_front (suc k) (suc m) (z ∷ zs) h = ap (λ (ys : List ℕ). z ∷ ys) (front_of_front k m zs (omega arith))
 
 -- the bits of the first bytes are the low ones of those of more bytes
+pub mask_front : (p : ℕ → Bool) (xs : List ℕ) (n bits : ℕ) → n ≤ 32 → 32 ≤ length xs → bits ≡ mask_l (map p (chunk 0 32 xs))
+    → bit_and bits (2 ^ n - 1) ≡ mask_l (map p (take n xs))
+mask_front p xs n bits few room is =
+    let ys = take 32 xs in
+    let mask : List ℕ → ℕ = λ zs. mask_l (map p zs) in
+    let size : length ys ≡ 32 = take_count 32 xs room in
+    let two : mask ys ≡ mask (take n ys) + mask (drop n ys) * 2 ^ n = in_two_by p ys n (omega (arith, size, few)) in
+    let below : mask (take n ys) < 2 ^ n =
+    subst (λ k. mask (take n ys) < 2 ^ k) (take_count n ys (omega (arith, size, few))) (mask_below p (take n ys)) in
+    and_mask bits n ∙ ap (λ m. m % 2 ^ n) (is ∙ two)
+    ∙ add-mul-mod_self_right (mask (take n ys)) (mask (drop n ys)) (2 ^ n)
+    ∙ mod-eq_of_lt below
+    ∙ ap mask (front_of_front n 32 xs few)
+
 pub bits_front : (b : ℕ) (xs : List ℕ) (n bits : ℕ) → n ≤ 32 → 32 ≤ length xs → bits ≡ bits_of b (chunk 0 32 xs)
     → bit_and bits (2 ^ n - 1) ≡ bits_of b (take n xs)
-bits_front b xs n bits few room is =
-    let ys = take 32 xs in
-    let size : length ys ≡ 32 = take_count 32 xs room in
-    let two : bits_of b ys ≡ bits_of b (take n ys) + bits_of b (drop n ys) * 2 ^ n = in_two b ys n (omega (arith, size, few)) in
-    let below : bits_of b (take n ys) < 2 ^ n =
-    subst (λ k. bits_of b (take n ys) < 2 ^ k) (take_count n ys (omega (arith, size, few))) (bits_below b (take n ys)) in
-    and_mask bits n ∙ ap (λ m. m % 2 ^ n) (is ∙ two)
-    ∙ add-mul-mod_self_right (bits_of b (take n ys)) (bits_of b (drop n ys)) (2 ^ n)
-    ∙ mod-eq_of_lt below
-    ∙ ap (bits_of b) (front_of_front n 32 xs few)
+bits_front b xs n bits few room is = mask_front (λ x. x == b) xs n bits few room is
 
 pub one_moved : (n : ℕ) → n ≤ 32 → 1 * 2 ^ n % 18446744073709551616 ≡ 2 ^ n
 one_moved n few =

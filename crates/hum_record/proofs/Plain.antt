@@ -202,7 +202,7 @@ not_false : (b : Bool) → not b ≡ false → b ≡ true
 not_false true h = refl
 not_false false h = let z = h in cc
 
-none_set : (n : ℕ) → not (n == 0) ≡ false → n ≡ 0
+pub none_set : (n : ℕ) → not (n == 0) ≡ false → n ≡ 0
 none_set n h = eqb-true n 0 (not_false (n == 0) h)
 
 pub byte_few : (b : Bool) → bool_byte b ≤ 1

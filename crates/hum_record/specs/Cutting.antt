@@ -1,5 +1,5 @@
 -- Where the tokens of a text end.
-use Rattle.std.specs.Prelude.{◌≡◌, ◌==◌, ◌+◌, ℕ, true, false, List, [], ◌∷◌, map}
+use Rattle.std.specs.Prelude.{◌≡◌, ◌==◌, ◌+◌, ◌/◌, ◌%◌, ℕ, zero, suc, true, false, List, [], ◌∷◌, map}
 use Rattle.std.specs.Prelude.{Ok, if◌then◌else◌}
 use Rattle.std.specs.Simd.Lanes.{mask_l}
 use Rattle.hum_record.specs.declared.SpinedKind.TheVariants.{Values}
@@ -17,6 +17,12 @@ tabs_from start (byte ∷ text) =
 -- the number whose bit k says whether byte k of a text is this one
 abbrev pub bits_of : ℕ → List ℕ → ℕ
 bits_of byte text = mask_l (map (λ x. x == byte) text)
+
+-- base + i for each bit i that is set, of the k lowest ones of a number
+unfoldable pub set_places : ℕ → ℕ → ℕ → List ℕ
+set_places zero base n = []
+set_places (suc k) base n =
+    if n % 2 == 1 then base ∷ set_places k (base + 1) (n / 2) else set_places k (base + 1) (n / 2)
 
 -- what a text was found to be, and where its tokens end
 abbrev pub IsCut : List ℕ → List ℕ → Cut → Type 0

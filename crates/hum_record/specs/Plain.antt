@@ -1,5 +1,8 @@
 -- Texts of plain data: no token is empty, and none begins with the mark of another kind.
-use Rattle.std.specs.Prelude.{◌==◌, ◌&&◌, ◌||◌, ℕ, Bool, false, List, [], ◌∷◌}
+use Rattle.std.specs.Prelude.{◌≡◌, ◌==◌, ◌&&◌, ◌||◌, ℕ, Bool, false, List, [], ◌∷◌, ◌++◌, Ok}
+use Rattle.hum_record.specs.declared.SpinedKind.TheVariants.{Values}
+use Rattle.hum_record.specs.Spelling.{has_byte, is_comment, kind_of_tokens, parts}
+use Rattle.hum_record.specs.Cutting.{bits_of}
 
 -- a byte with which no token of data begins: a tab, since then it is empty, `!` and `*`
 abbrev pub is_mark : ℕ → Bool
@@ -14,3 +17,14 @@ has_mark head (byte ∷ text) = (head && is_mark byte) || has_mark (byte == 9) t
 abbrev pub head_after : Bool → List ℕ → Bool
 head_after head [] = head
 head_after head (byte ∷ text) = head_after (byte == 9) text
+
+-- a byte that seldom stands in data: `!`, `*` and CR
+abbrev pub is_rare : ℕ → Bool
+is_rare byte = (byte == 33 || byte == 42) || byte == 13
+
+-- A text is plain data, and these bits say where its tokens end, as if a tab stood behind it.
+pub record IsPlain (text : List ℕ) (ends : ℕ) : Type 0 where
+  pub unbroken : has_byte 13 text ≡ false
+  pub spined : is_comment text ≡ false
+  pub lawful : kind_of_tokens (parts text) ≡ Ok Values
+  pub bits : ends ≡ bits_of 9 (text ++ 9 ∷ [])

@@ -30,7 +30,7 @@ fn bits_of_16(text: &[u8], at: usize, byte: u8) -> u64
 
 /// The same in thirty-two.
 #[inline(always)]
-fn bits_of_32(text: &[u8], at: usize, byte: u8) -> u64
+pub fn bits_of_32(text: &[u8], at: usize, byte: u8) -> u64
     requires { at + 32 ≤ length text.now }
     ensures { result ≡ bits_of byte (chunk at 32 text.now) }
 {

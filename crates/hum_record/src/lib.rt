@@ -20,6 +20,7 @@ mod contents;
 pub mod iter;
 mod line;
 mod making;
+mod near;
 mod reading;
 mod spare;
 mod tokens;

@@ -2,19 +2,18 @@
 ghost use Rattle.std.specs.Prelude.{◌≡◌, ◌≢◌, ◌<◌, ◌≤◌, false, Ok, IfOk, IfErr, OnOk, MatchResult, length, take};
 ghost use Rattle.hum_record.specs.Spelling.{IsTokenOf, IsTextOf, has_byte, is_comment, reading, Gives, Fails, Breaks};
 ghost use Rattle.hum_record.specs.Fields.{AreFields, row_in};
+ghost use Rattle.hum_record.specs.Plain.{IsPlain};
 ghost use Rattle.hum_record.specs.Row.{Row, kind_of, row_of, tokens_of, width_of, token_at, text_of};
 ghost use Rattle.hum_record.specs.declared.RecordFault.TheVariants.{Memory};
 
 use crate::iter::Tokens;
+use crate::near::{NEAR, copy_near, plain_ends, put_plain_ends};
 use crate::spare::{Body, Spare, new_body};
 use crate::tokens::{Cut, lawful_kind, push_ends, token_at_end, token_kind};
 use crate::{Kind, RecordFault};
 use memchr::memchr;
 use std::alloc::{AllocError, Global};
 use std::marker::Model;
-
-/// How many bytes of a line are moved at once: most lines are shorter.
-const FEW: usize = 32;
 
 /// One record: a global comment, or a token of one kind for each spine.
 ///
@@ -102,9 +101,51 @@ impl Record {
         requires one_line { has_byte 10 (take len held.now) ≡ false }
         ensures { Gives result (reading (take len held.now)) }
     {
+        if len <= NEAR && held.len() >= NEAR {
+            if let Some(ends) = plain_ends(held, len) {
+                return Self::of_plain(alloc, spare, held, len, ends);
+            }
+        }
+        Self::of_any(alloc, spare, held, len)
+    }
+
+    /// The same of plain data in a short line, by the bits of where its tokens end.
+    #[inline]
+    fn of_plain(
+        alloc: Global,
+        spare: &mut Spare,
+        held: &[u8],
+        len: usize,
+        ends: u64,
+    ) -> Result<Record, RecordFault>
+        requires filled { 32 ≤ length held.now }
+        requires short { len ≤ 32 }
+        requires one_line { has_byte 10 (take len held.now) ≡ false }
+        requires plain { IsPlain (take len held.now) ends }
+        ensures { Gives result (reading (take len held.now)) }
+    {
+        let mut body = spare.take_or_new(alloc)?;
+        put_plain_ends(&mut body.ends, held, len, ends)?;
+        copy_near(&mut body.text, held, len)?;
+        Ok(Record { body })
+    }
+
+    /// The same of any text.
+    #[inline(never)]
+    fn of_any(
+        alloc: Global,
+        spare: &mut Spare,
+        held: &[u8],
+        len: usize,
+    ) -> Result<Record, RecordFault>
+        requires within { len ≤ length held.now }
+        requires at_most { length (take len held.now) ≤ 1048576 }
+        requires one_line { has_byte 10 (take len held.now) ≡ false }
+        ensures { Gives result (reading (take len held.now)) }
+    {
         let mut body = spare.take_or_new(alloc)?;
         cut(&mut body.ends, held, len)?;
-        copy_front(&mut body.text, held, len)?;
+        replace_text(&mut body.text, &held[..len])?;
         Ok(Record { body })
     }
 
@@ -134,11 +175,7 @@ impl Record {
     pub fn copy(&self, alloc: Global) -> Result<Record, AllocError>
         ensures { IfOk result (λ r. r ≡ self.now) }
     {
-        let text = self.body.text.to_vec(alloc)?;
-        let ends = self.body.ends.to_vec(alloc)?;
-        Ok(Record {
-            body: Box::new(alloc, Body { text, ends })?,
-        })
+        self.copy_into(alloc, &mut Spare::none(alloc))
     }
 
     /// The same in what is left of a record that is done with. Nothing of that record shows.
@@ -212,7 +249,6 @@ impl Record {
 
 /// Finds where each token of a line ends, into a list that may hold anything, or the first rule that
 /// the line breaks. The line is the first `len` bytes of what is held.
-#[inline]
 fn cut(ends: &mut Vec<u32>, held: &[u8], len: usize) -> Result<(), RecordFault>
     requires within { len ≤ length held.now }
     requires at_most { length (take len held.now) ≤ 1048576 }
@@ -239,20 +275,12 @@ fn cut(ends: &mut Vec<u32>, held: &[u8], len: usize) -> Result<(), RecordFault>
     Ok(())
 }
 
-/// Puts the first `len` bytes of what is held into a list that may hold anything: most often with
-/// others behind them that are taken off again, since so many bytes are moved without a call.
-#[inline]
-fn copy_front(text: &mut Vec<u8>, held: &[u8], len: usize) -> Result<(), AllocError>
-    requires { len ≤ length held.now }
-    ensures { OnOk result (text.new.items ≡ take len held.now) }
+/// Puts a line into a list that may hold anything.
+fn replace_text(text: &mut Vec<u8>, line: &[u8]) -> Result<(), AllocError>
+    ensures { OnOk result (text.new.items ≡ line.now) }
 {
     text.clear();
-    if len <= FEW && held.len() >= FEW {
-        text.extend_from_slice(&held[..FEW])?;
-        text.truncate(len);
-        return Ok(());
-    }
-    text.extend_from_slice(&held[..len])
+    text.extend_from_slice(line)
 }
 
 /// Whether a carriage return stands in a text.

@@ -11,11 +11,9 @@ ghost use Rattle.hum_record.specs.Cutting.{bits_of};
 ghost use Rattle.hum_record.specs.Plain.{has_mark, head_after};
 
 use crate::bits::{bits_of, bits_within, holds};
+use crate::near::NEAR;
 use crate::{RecordFault, SpinedKind};
 use std::alloc::AllocError;
-
-/// How many bytes are searched for tabs in one go.
-const BLOCK: usize = 32;
 
 /// The kind that a token's first byte shows.
 #[inline]
@@ -88,7 +86,7 @@ pub fn push_ends(ends: &mut Vec<u32>, held: &[u8], len: usize) -> Result<Cut, Al
     requires empty { ends.old.items ≡ [] }
     ensures { IfOk result (λ cut. IsCut (take len held.now) ends.new.items cut) }
 {
-    if len <= BLOCK && held.len() >= BLOCK {
+    if len <= NEAR && held.len() >= NEAR {
         push_near_ends(ends, held, len)
     } else {
         push_all_ends(ends, &held[..len])
@@ -140,7 +138,7 @@ fn push_all_ends(ends: &mut Vec<u32>, text: &[u8]) -> Result<Cut, AllocError>
     let mut start = 0;
     let mut rest = text;
     while !rest.is_empty() {
-        let (block, tail) = rest.split_at(rest.len().min(BLOCK));
+        let (block, tail) = rest.split_at(rest.len().min(NEAR));
         let tabs = bits_of(block, b'\t');
         push_tabs(block, tabs, start as u32, ends)?;
         has_return |= holds(block, b'\r');

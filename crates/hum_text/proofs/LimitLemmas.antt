@@ -1,11 +1,11 @@
 -- A line that is handed out is within the limits and holds no LF.
 use Rattle.std.proofs.Common.{◌≡◌, ℕ, zero, suc, ◌+◌, ◌-◌, ◌<◌, ◌≤◌, Bool, true, false, ◌&&◌, ◌==◌, nat_lt}
-use Rattle.std.proofs.Common.{List, [], ◌∷◌, length, get_or, take, refl, ap, sym, ◌∙◌, subst, arith, None, Some}
+use Rattle.std.proofs.Common.{List, [], ◌∷◌, ◌++◌, length, length-append, get_or, take, refl, ap, sym, ◌∙◌, subst, arith, None, Some}
 use Rattle.std.proofs.Common.{inl, inr, length-take}
 use Rattle.std.specs.List.{list_any}
-use Rattle.std.proofs.lemmas.Bool.{cases_Bool, eqb-true, or_from, or_parts}
+use Rattle.std.proofs.lemmas.Bool.{cases_Bool, cases_lt, eqb-true, or_from, or_parts}
 use Rattle.std.proofs.lemmas.Bool.Decides.{nat_tests}
-use Rattle.std.proofs.lemmas.List.{get_or-take}
+use Rattle.std.proofs.lemmas.List.{get_or-take, get_or_append_left, take_all, take_at, take-append-le}
 use Rattle.std.proofs.Math.Seq.{take-length}
 use Rattle.memchr.specs.Find.{IsFirstByte, is_byte}
 use Rattle.hum_text.specs.declared.Limits.{Limits}
@@ -77,3 +77,59 @@ whole-free block k first = any-without (take k block) (free-any (take k block) (
 
 pub last-free : (block : List ℕ) → IsFirstByte (is_byte 10) block None → list_any (λ b. b == lf) (without_cr block) ≡ false
 last-free block unended = any-without block (free-any block (none-free block unended))
+
+-- a piece without its CR
+without-less : (p : List ℕ) → length (without_cr p) ≤ length p
+without-less p = elim (cases_Bool (ends_in_cr p)) as (λ _. length (without_cr p) ≤ length p)
+    [ inl is ↦ rw is (omega (arith, length-take (length p - 1) p)) | inr isnt ↦ rw isnt (omega arith) ]
+
+without-one : (p : List ℕ) → length p ≤ length (without_cr p) + 1
+without-one p = elim (cases_Bool (ends_in_cr p)) as (λ _. length p ≤ length (without_cr p) + 1)
+    [ inl is ↦ rw is (omega (arith, length-take (length p - 1) p)) | inr isnt ↦ rw isnt (omega arith) ]
+
+-- a front of it isn't longer
+without-front : (k : ℕ) (p : List ℕ) → k < length p → length (without_cr (take (k + 1) p)) ≤ length (without_cr p)
+without-front k p h = elim (cases_lt (k + 1) (length p)) as (λ _. length (without_cr (take (k + 1) p)) ≤ length (without_cr p)) [
+  | inl below ↦
+      let less = without-less (take (k + 1) p) in
+      let one = without-one p in
+      omega (arith, less, one, below, length-take (k + 1) p)
+  | inr all ↦ rw (take_all (k + 1) p all) (omega arith)
+]
+
+not-over : (a b : ℕ) → b ≤ a → nat_lt a b ≡ false
+not-over a b h = grind (arith, nat_tests)
+
+some-left : (n : ℕ) → 0 < n → (n == 0) ≡ false
+some-left n h = grind (arith, nat_tests)
+
+no-rule : (l : Limits) (n : ℕ) (piece : List ℕ) (ended : Bool) (size : ℕ) → (ended && length (without_cr piece) == 0) ≡ false
+    → length (without_cr piece) ≤ l.line → n ≤ l.records → size ≤ l.bytes → rule_in l n piece ended size ≡ None
+no-rule l n piece ended size some fits records bytes =
+    rw (some, not-over l.line (length (without_cr piece)) fits, not-over l.records n records, not-over l.bytes size bytes) refl
+
+-- a line that LF ends breaks no rule where its length, its number and its end are within the limits
+pub line-lawful : (l : Limits) (n t : ℕ) (piece : List ℕ) → NoLf piece → 0 < length (without_cr piece) → length (without_cr piece) ≤ l.line
+    → n ≤ l.records → t + (length piece + 1) ≤ l.bytes → IsLawful l n t (piece ++ 10 ∷ [])
+line-lawful l n t piece free some fits records bytes k h =
+    let size : length (piece ++ 10 ∷ []) ≡ length piece + 1 = omega (arith, length-append piece (10 ∷ [])) in
+    elim (cases_lt k (length piece)) as (λ _. rule_of_line l n t (piece ++ 10 ∷ []) k ≡ None) [
+      | inl below ↦
+          let same : get_or (piece ++ 10 ∷ []) k 0 ≡ get_or piece k 0 = get_or_append_left piece (10 ∷ []) 0 k below in
+          let other : (get_or (piece ++ 10 ∷ []) k 0 == 10) ≡ false = not-ten _ (λ is. free k below (sym same ∙ is)) in
+          let front : take (k + 1) (piece ++ 10 ∷ []) ≡ take (k + 1) piece = take-append-le (k + 1) piece (10 ∷ []) (omega (arith, below)) in
+          let less = without-front k piece below in
+          rw (other, front) (no-rule l n (take (k + 1) piece) false (t + (k + 1)) refl (omega (arith, less, fits)) records (omega (arith, below, bytes)))
+      | inr from ↦
+          let at : k ≡ length piece = omega (arith, from, h, size) in
+          let ten : (get_or (piece ++ 10 ∷ []) k 0 == 10) ≡ true = ap (λ (m : ℕ). get_or (piece ++ 10 ∷ []) m 0 == 10) at ∙ last piece in
+          let front : take k (piece ++ 10 ∷ []) ≡ piece = take_at piece (10 ∷ []) k (sym at) in
+          rw (ten, front) (no-rule l n piece true (t + (k + 1)) (some-left (length (without_cr piece)) some) fits records (omega (arith, at, bytes)))
+    ]
+  where
+    last : (xs : List ℕ) → (get_or (xs ++ 10 ∷ []) (length xs) 0 == 10) ≡ true
+    last [] = refl
+    last (x ∷ xs) = last xs
+
+    not-ten : (b : ℕ) → (b ≡ 10 → ⊥) → (b == 10) ≡ false
+    not-ten b h = elim (cases_Bool (b == 10)) as (λ _. (b == 10) ≡ false) [ inl is ↦ absurd (h (eqb-true b 10 is)) | inr isnt ↦ isnt ]

@@ -28,6 +28,13 @@ pub first-free : (block : List ℕ) (k : ℕ) → IsFirstByte (is_byte 10) block
     → get_or block j 0 ≡ 10 → ⊥
 first-free block k first j low is = first.0.before j (omega arith) low (eq-eqb _ 10 is)
 
+-- the line before the first LF, and that LF
+pub to-line : (block : List ℕ) (k : ℕ) → IsFirstByte (is_byte 10) block (Some k) → take k block ++ 10 ∷ [] ≡ take (k + 1) block
+to-line block k first =
+    let high : k < length block = first.0.high in
+    let ten : get_or block k 0 ≡ 10 = eqb-true _ 10 first.1 in
+    ap (λ (b : ℕ). take k block ++ b ∷ []) (sym ten) ∙ sym (take_more block k 0 high)
+
 nil-of : (xs : List ℕ) → length xs ≡ 0 → xs ≡ []
 nil-of [] h = refl
 nil-of (x ∷ xs) h = absurd (omega arith)
@@ -56,8 +63,7 @@ module _ (l : Limits) (all : List ℕ) (gs : List (List ℕ)) (block rest : List
   stands-line st k first none =
       let high : k < length block = first.0.high in
       let ten : get_or block k 0 ≡ 10 = eqb-true _ 10 first.1 in
-      let held : take (k + 1) block ≡ take k block ++ 10 ∷ [] =
-      take_more block k 0 high ∙ ap (λ (b : ℕ). take k block ++ b ∷ []) ten in
+      let held : take (k + 1) block ≡ take k block ++ 10 ∷ [] = sym (to-line block k first) in
       let at : block ++ rest ≡ take k block ++ 10 ∷ (drop (k + 1) block ++ rest) =
       ap (λ (zs : List ℕ). zs ++ rest) (sym (take-append-drop k block)
       ∙ ap (λ (zs : List ℕ). take k block ++ zs) (drop_more block k 0 high

@@ -1,6 +1,6 @@
 //! The bytes that were read and not yet handed out, and the line that was handed out last.
 ghost use Rattle.std.specs.Prelude.{◌≡◌, ◌≢◌, ℕ, ◌+◌, ◌-◌, ◌<◌, ◌≤◌, List, [], ◌++◌, length};
-ghost use Rattle.std.specs.Prelude.{take, drop, vec_len, IfOk, IfErr, OnOk, OnErr};
+ghost use Rattle.std.specs.Prelude.{take, drop, vec_len, Some, IfSome, IfOk, IfErr, OnOk, OnErr};
 ghost use Rattle.std.specs.Prelude.{slice_range, ◌⊎◌, is_err, false, true};
 ghost use Rattle.std.specs.Io.KnownBytes.{Consumes, IsAtEnd, Keeps};
 ghost use Rattle.memchr.specs.Find.{IsFirstByte, is_byte};
@@ -9,7 +9,8 @@ ghost use Rattle.hum_text.specs.Calls.{IsCalled};
 
 use crate::TextFault;
 use crate::calls::{LARGEST_READ, Source};
-use crate::near::first_lf;
+use crate::near::near_lf;
+use memchr::memchr;
 use std::alloc::{AllocError, Global};
 use std::io;
 use std::marker::Model;
@@ -83,22 +84,30 @@ impl Block {
         &self.bytes[self.start..self.end]
     }
 
-    /// Where the first LF stands. No byte is searched twice.
+    /// Where the first LF stands, if it is among the next few bytes.
     #[inline]
+    pub fn near_line_end(&self) -> Option<usize>
+        ensures { IfSome result (λ k. IsFirstByte (is_byte lf) self.now.pending (Some k)) }
+    {
+        let from = self.scanned;
+        match near_lf(&self.bytes[from..self.end]) {
+            None => None,
+            Some(k) => Some(from - self.start + k),
+        }
+    }
+
+    /// Where the first LF stands. What was searched in vain isn't searched again.
     pub fn find_line_end(&mut self) -> Option<usize>
         ensures found { IsFirstByte (is_byte lf) self.old.pending result }
         ensures same { self.new ≡ self.old }
     {
         let from = self.scanned;
-        match first_lf(&self.bytes[from..self.end]) {
+        match memchr(b'\n', &self.bytes[from..self.end]) {
             None => {
                 self.scanned = self.end;
                 None
             }
-            Some(k) => {
-                self.scanned = from + k;
-                Some(from - self.start + k)
-            }
+            Some(k) => Some(from - self.start + k),
         }
     }
 
@@ -116,6 +125,25 @@ impl Block {
         self.line_end = self.start + len;
         self.start += size;
         self.scanned = self.scanned.max(self.start);
+    }
+
+    /// Hands out the first `len` bytes as a line, and drops all up to place `k`, where the first LF
+    /// stands.
+    #[inline]
+    pub fn hand_out_line(&mut self, k: usize, len: usize)
+        requires order { len ≤ k }
+        requires within { k < length self.old.pending }
+        ensures { self.new ≡ record {
+          line = take len self.old.pending;
+          pending = drop (k + 1) self.old.pending;
+        } }
+    {
+        let start = self.start;
+        let next = start + k + 1;
+        self.line_start = start;
+        self.line_end = start + len;
+        self.start = next;
+        self.scanned = next;
     }
 
     /// Makes one read, and takes what it gives to the end. The line is gone.

@@ -1,10 +1,9 @@
 //! The first LF of some bytes.
-ghost use Rattle.std.specs.Prelude.{◌≡◌, ◌≤◌, length, map};
+ghost use Rattle.std.specs.Prelude.{◌≡◌, ◌≤◌, length, map, Some, IfSome};
 ghost use Rattle.std.specs.Simd.Lanes.{chunk, mask_l};
 ghost use Rattle.memchr.specs.Find.{IsFirstByte, is_byte};
 ghost use Rattle.hum_text.specs.Text.{lf};
 
-use memchr::memchr;
 use std::simd::prelude::*;
 
 /// How many bytes are looked at at once: most lines are shorter.
@@ -21,16 +20,17 @@ fn near_bits(bytes: &[u8]) -> u64
         .to_bitmask()
 }
 
-/// Where the first LF stands.
+/// Where the first LF stands, if it is among the first 32 bytes and as many are there.
 #[inline]
-pub fn first_lf(bytes: &[u8]) -> Option<usize>
-    ensures { IsFirstByte (is_byte lf) bytes.now result }
+pub fn near_lf(bytes: &[u8]) -> Option<usize>
+    ensures { IfSome result (λ k. IsFirstByte (is_byte lf) bytes.now (Some k)) }
 {
-    if bytes.len() >= NEAR {
-        let near = near_bits(bytes);
-        if near != 0 {
-            return Some(near.trailing_zeros() as usize);
-        }
+    if bytes.len() < NEAR {
+        return None;
     }
-    memchr(b'\n', bytes)
+    let near = near_bits(bytes);
+    if near == 0 {
+        return None;
+    }
+    Some(near.trailing_zeros() as usize)
 }

@@ -9,7 +9,7 @@ ghost use Rattle.hum_text.specs.Text.{lf, without_cr, IsLawful, BreaksFirst};
 
 use crate::block::Block;
 use crate::calls::{LARGEST_READ, Source};
-use crate::rules::{first_fault, strip_cr};
+use crate::rules::{first_fault, sound_len, strip_cr};
 use crate::{Limits, TextFault};
 use std::alloc::Global;
 use std::marker::Model;
@@ -161,9 +161,58 @@ impl<R: Source> LineReader<R> {
         first_fault(&self.limits, self.given, self.taken, held)
     }
 
+    // Hands out what stands in front of the LF at `k` as a line, of which `len` bytes are left without
+    // a CR at its end, and drops it and that LF.
+    #[inline]
+    fn hand_out_line(&mut self, k: usize, len: usize)
+        requires within { k < length self.old.pending }
+        requires len { len ≡ length (without_cr (take k self.old.pending)) }
+        requires records { self.old.given < self.old.limits.records }
+        requires bytes { self.old.taken + (k + 1) ≤ self.old.limits.bytes }
+        ensures { self.new ≡ record self.old {
+          line = without_cr (take k self.old.pending);
+          pending = drop (k + 1) self.old.pending;
+          given = self.old.given + 1;
+          taken = self.old.taken + (k + 1);
+        } }
+    {
+        self.block.hand_out_line(k, len);
+        self.given += 1;
+        self.taken += k as u64 + 1;
+    }
+
     // The line whose LF is at `k`, or the first fault in it.
     #[inline]
     fn whole_line(&mut self, k: usize) -> Result<Step, TextFault>
+        requires sound { self.old.fault ≡ None }
+        requires first { IsFirstByte (is_byte lf) self.old.pending (Some k) }
+        ensures within { IfOk result
+            (λ step. KeepsLimits self.old.limits step self.new.line self.new.given) }
+        ensures gives { GivesNext self.old result self.new }
+        ensures unread { IsUnread self.old self.new }
+        ensures not_more { result ≢ Ok Step.More }
+        ensures not_read { result ≢ Err TextFault.Read }
+        ensures sound { OnOk result (self.new.fault ≡ None) }
+        ensures err { IfErr result (Fails self.old self.new) }
+        ensures nears { IfOk result
+            (λ step. Nears step (left_to_do self.old) (left_to_do self.new)) }
+        ensures limits { self.new.limits ≡ self.old.limits }
+        ensures taken { self.new.taken ≤ self.new.limits.bytes }
+        ensures not_end { result ≢ Ok Step.End }
+    {
+        let piece = &self.block.pending()[..k];
+        match sound_len(&self.limits, self.given, self.taken, piece) {
+            Some(len) => {
+                self.hand_out_line(k, len);
+                Ok(Step::Line)
+            }
+            None => self.check_line(k),
+        }
+    }
+
+    // The same where a fault is looked for.
+    #[inline(never)]
+    fn check_line(&mut self, k: usize) -> Result<Step, TextFault>
         requires sound { self.old.fault ≡ None }
         requires first { IsFirstByte (is_byte lf) self.old.pending (Some k) }
         ensures within { IfOk result
@@ -266,6 +315,41 @@ impl<R: Source> LineReader<R> {
         }
     }
 
+    // The same where no LF is near.
+    #[inline(never)]
+    fn poll_far(&mut self) -> Result<Step, TextFault>
+        requires sound { self.old.fault ≡ None }
+        ensures gives { GivesNext self.old result self.new }
+        ensures reads_not { ¬ NeedsRead self.old → IsUnread self.old self.new }
+        ensures reads_once { NeedsRead self.old
+            → ReadsOnce R.calls R.failed self.old result self.new }
+        ensures more { result ≡ Ok Step.More → IsFed self.old self.new }
+        ensures unfed { result ≢ Ok Step.More → bytes_read self.old self.new ≡ [] }
+        ensures asked { length (bytes_read self.old self.new) ≤ LARGEST_READ }
+        ensures consumes { Consumes (R.remaining self.old.source) (R.remaining self.new.source)
+            (bytes_read self.old self.new) }
+        ensures at_end { self.new.ended ≡ true
+            → (self.old.ended ≡ true) ⊎ IsAtEnd (R.remaining self.new.source) }
+        ensures failed { result ≡ Err TextFault.Read
+            → (self.old.fault ≡ Some TextFault.Read) ⊎ (R.failed self.new.source ≡ true) }
+        ensures within { IfOk result
+            (λ step. KeepsLimits self.old.limits step self.new.line self.new.given) }
+        ensures end { result ≡ Ok Step.End → IsOver self.new }
+        ensures over { IsOver self.old → (result ≡ Ok Step.End) × (self.new ≡ self.old) }
+        ensures sound { OnOk result (self.new.fault ≡ None) }
+        ensures err { IfErr result (Fails self.old self.new) }
+        ensures nears { IfOk result
+            (λ step. Nears step (left_to_do self.old) (left_to_do self.new)) }
+        ensures limits { self.new.limits ≡ self.old.limits }
+        ensures taken { self.new.taken ≤ self.new.limits.bytes }
+    {
+        match self.block.find_line_end() {
+            Some(k) => self.whole_line(k),
+            None if self.ended => self.last_line(),
+            None => self.read_on(),
+        }
+    }
+
     /// The next step. A line or a fault that was read is given without a read, and no poll reads
     /// twice. After a fault it gives that fault again, and after the end the end.
     #[inline]
@@ -307,10 +391,9 @@ impl<R: Source> LineReader<R> {
         if let Some(fault) = self.fault {
             return Err(fault);
         }
-        match self.block.find_line_end() {
+        match self.block.near_line_end() {
             Some(k) => self.whole_line(k),
-            None if self.ended => self.last_line(),
-            None => self.read_on(),
+            None => self.poll_far(),
         }
     }
 }

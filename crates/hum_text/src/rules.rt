@@ -1,6 +1,6 @@
 //! The rules that a text may break, line by line.
 ghost use Rattle.std.specs.Prelude.{◌≡◌, ◌≢◌, ℕ, ◌+◌, ◌-◌, ◌<◌, ◌≤◌, Bool, true, false};
-ghost use Rattle.std.specs.Prelude.{length, take, IfSome, IfNone, IsTrue, Some, None};
+ghost use Rattle.std.specs.Prelude.{length, take, IfSome, IfNone, IsTrue, Some, None, ◌++◌, ◌∷◌, []};
 ghost use Rattle.std.specs.Prelude.{slice_index};
 ghost use Rattle.hum_text.specs.Text.{lf, rule_in, rule_of_line, without_cr, ends_in_cr};
 ghost use Rattle.hum_text.specs.Text.{IsLawful, BreaksFirst};
@@ -70,6 +70,28 @@ fn is_sound(limits: &Limits, given: u64, taken: u64, held: &[u8]) -> bool
                 && held.len() as u64 <= limits.bytes.saturating_sub(taken)
         }
     }
+}
+
+/// How long the text is of a line that LF ends, if no byte of it breaks a rule: the piece is what
+/// stands in front of that LF.
+#[inline]
+pub fn sound_len(limits: &Limits, given: u64, taken: u64, piece: &[u8]) -> Option<usize>
+    requires within { taken ≤ limits.now.bytes }
+    requires one_line { (k : ℕ) → k < length piece.now → slice_index piece.now k ≢ lf }
+    ensures lawful { IfSome result
+        (λ _. IsLawful limits.now (given + 1) taken (piece.now ++ lf ∷ [])) }
+    ensures len { IfSome result (λ len. len ≡ length (without_cr piece.now)) }
+    ensures records { IfSome result (λ _. given < limits.now.records) }
+    ensures bytes { IfSome result (λ _. taken + (length piece.now + 1) ≤ limits.now.bytes) }
+{
+    let len = strip_cr(piece).len();
+    if len == 0 || len > limits.line as usize {
+        return None;
+    }
+    if given >= limits.records || piece.len() as u64 >= limits.bytes - taken {
+        return None;
+    }
+    Some(len)
 }
 
 // The rule that byte k of the line breaks.

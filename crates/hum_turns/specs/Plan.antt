@@ -1,5 +1,6 @@
 -- Stages that are known by what they give for what they were given, and plans of them.
-use Rattle.std.specs.Prelude.{◌≡◌, ℕ, pred, ◌+◌, ◌<◌, ◌≤◌, Bool, true, if◌then◌else◌, nat_lt, List}
+use Rattle.std.specs.Prelude.{◌≡◌, ℕ, pred, ◌+◌, ◌<◌, ◌≤◌}
+use Rattle.std.specs.Prelude.{Bool, true, if◌then◌else◌, nat_lt, List}
 use Rattle.std.specs.Prelude.{[], ◌∷◌, length, Some, None, slice_get}
 use Rattle.std.specs.List.{AllByRecursion}
 use Rattle.std.specs.Option.{unwrap_or}

@@ -1,7 +1,7 @@
 //! Writing records.
 #![tactic(auto)]
 
-ghost use Rattle.std.specs.Prelude.{◌≡◌, ◌++◌, ◌∷◌, [], true, OnOk, OnErr};
+ghost use Rattle.std.specs.Prelude.{◌≡◌, ◌++◌, ◌∷◌, [], true, IfOk, OnOk, OnErr};
 ghost use Rattle.std.specs.Io.KnownBytes.{Appends};
 ghost use Rattle.hum_record.specs.Row.{text_of};
 ghost use Rattle.hum_writing.specs.Writing.{WroteFront};
@@ -47,6 +47,7 @@ pub fn write_record<W: Sink>(sink: &mut W, row: Record) -> Result<Record, WriteF
         (text_of row ++ 10 ∷ [])) }
     ensures sound { OnOk result (W.failed sink.new ≡ W.failed sink.old) }
     ensures failed { OnErr result (W.failed sink.new ≡ true) }
+    ensures back { IfOk result (λ back. back ≡ row) }
 {
     match row.into_line() {
         Ok(line) => {

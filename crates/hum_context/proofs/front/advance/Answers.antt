@@ -1,10 +1,8 @@
-use Rattle.std.proofs.Common.{◌∙◌, sym, ap, arith, length, ◌∷◌, [], ◌++◌, ◌+◌}
+use Rattle.std.proofs.Common.{ap, arith, length, ◌∷◌, [], ◌++◌}
 use Rattle.hum_record.specs.declared.SpinedKind.TheVariants.{Values}
 use Rattle.hum_record.specs.Row.{Row, Spined, token_at, tokens_of}
 use Rattle.hum_context.specs.Context.{chain}
-use Rattle.hum_context.specs.Walking.{bytes_of}
-use Rattle.hum_context.proofs.Weighing.{bytes_some, sofar_more, sofar_stops, sofar_all, counts_more}
-use Rattle.hum_context.proofs.Weighing.{kept_at}
+use Rattle.hum_context.proofs.Weighing.{becomes_some, sofar_more, sofar_stops, sofar_all, kept_at}
 use Rattle.hum_context.proofs.front.advance.Goals as goal
 
 pub loop-j-preserved : goal.loop-j-preserved
@@ -13,27 +11,23 @@ loop-j-preserved c =
     let wide = c.loop-j.invariant.wide in
     record {
       wide = omega (arith, same, wide);
-      few = c.plus-size.ensures.few c.loop-j.invariant.few;
       stand = λ o path rows want none knows h.
           c.advance_at.ensures.stand o path rows want none knows
           (c.loop-j.invariant.stand o path rows want none knows h);
-      weighs = λ o path tokens rows want none knows stand.
-          let w = c.loop-j.invariant.weighs o path tokens rows want none knows stand in
+      known = λ o path tokens rows want none knows stand.
+          let w = c.loop-j.invariant.known o path tokens rows want none knows stand in
           let here = c.loop-j.invariant.stand o path (Spined Values tokens ∷ rows) want none knows stand in
           let known = kept_at o path c.args.held.now.items 0 (Spined Values tokens) rows
           c.index-kept.result.now knows c.requires.within c.index-kept.ensures in
           let columns = ap (λ (r : Row). length (tokens_of r)) known.is in
           let test = c.loop-j-test.true in
           let end = c.width-width.ensures in
-          let b = bytes_some o (token_at (Spined Values tokens) c.loop-j.j)
-          (chain path (Spined Values tokens ∷ rows) c.loop-j.j) c.in-Some.new _
-          (rw c.in-Some.is at (c.advance_at.ensures.becomes o path tokens rows want none knows here))
-          (ap (λ (r : Row). length (token_at r c.loop-j.j) + 1) known.is) in (
+          let b = becomes_some o (token_at (Spined Values tokens) c.loop-j.j)
+          (chain path (Spined Values tokens ∷ rows) c.loop-j.j) c.in-Some._new
+          (rw c.in-Some.is at (c.advance_at.ensures.becomes o path tokens rows want none knows here)) in (
             w.0 ++ b.0 ∷ [],
             sofar_more o path (Spined Values tokens) rows tokens c.loop-j.j w.0 b.0 w.1
                 (omega (arith, columns, test, end)) b.1,
-            counts_more w.0 b.0 _ _ (b.2 ∙ sym c.new_bytes.ensures.bytes)
-                (c.plus-size.ensures.counts (bytes_of w.0) w.2),
           );
     }
 
@@ -42,9 +36,9 @@ returns-in_default-clause-stand c o path rows want none knows h =
     c.advance_at.ensures.stand o path rows want none knows
     (c.loop-j.invariant.stand o path rows want none knows h)
 
-pub returns-in_default-clause-weighs : goal.returns-in_default-clause-weighs
-returns-in_default-clause-weighs c o path tokens rows want none knows stand =
-    let w = c.loop-j.invariant.weighs o path tokens rows want none knows stand in
+pub returns-in_default-clause-known : goal.returns-in_default-clause-known
+returns-in_default-clause-known c o path tokens rows want none knows stand =
+    let w = c.loop-j.invariant.known o path tokens rows want none knows stand in
     let here = c.loop-j.invariant.stand o path (Spined Values tokens ∷ rows) want none knows stand in
     let known = kept_at o path c.args.held.now.items 0 (Spined Values tokens) rows
     c.index-kept.result.now knows c.requires.within c.index-kept.ensures in
@@ -55,13 +49,15 @@ returns-in_default-clause-weighs c o path tokens rows want none knows stand =
     (omega (arith, columns, test, end))
     (rw c.in_default.is at (c.advance_at.ensures.becomes o path tokens rows want none knows here))
 
-pub returns-clause-weighs : goal.returns-clause-weighs
-returns-clause-weighs c o path tokens rows want none knows stand =
-    let w = c.loop-j.invariant.weighs o path tokens rows want none knows stand in
+pub returns-clause-known : goal.returns-clause-known
+returns-clause-known c o path tokens rows want none knows stand =
+    let w = c.loop-j.invariant.known o path tokens rows want none knows stand in
     let known = kept_at o path c.args.held.now.items 0 (Spined Values tokens) rows
     c.index-kept.result.now knows c.requires.within c.index-kept.ensures in
     let columns = ap (λ (r : Row). length (tokens_of r)) known.is in
     let over = c.loop-j-test.false in
-    let end = c.width-width.ensures in
-    rw (sofar_all o path (Spined Values tokens) rows tokens c.loop-j.j w.0 w.1
-    (omega (arith, columns, over, end))) (c.weight_of.ensures w.0 w.2)
+    let end = c.width-width.ensures in (
+      w.0,
+      sofar_all o path (Spined Values tokens) rows tokens c.loop-j.j w.0 w.1
+          (omega (arith, columns, over, end)),
+    )

@@ -10,5 +10,5 @@ returns-in-Some-clause-becomes c o path tokens rows want none knows stand =
     c.index.result.now knows c.requires.some c.index.ensures in
     let is = open_is o path tokens c.index.result.now c.args.j c.in-Taken.begins c.in-Taken.ends known
     (sym c.heard.ensures ∙ c.in-Taken.is) c.if-not-begins.false in
-    c.enough_at.ensures.becomes o path (Spined Values tokens ∷ rows) none (rw c.deref.ensures.value stand) c.in-Some.known c.in-Some.is
+    c.enough_at.ensures o path (Spined Values tokens ∷ rows) none (rw c.deref.ensures.value stand) c.in-Some.known c.in-Some.is
     (token_at (Spined Values tokens) c.args.j) is.0 is.1

@@ -12,5 +12,5 @@ returns-clause-stand c o path rows want none knows h =
 pub returns-clause-becomes : goal.returns-clause-becomes
 returns-clause-becomes c o path rows want none knows h token a b =
     let zero : c.args.gone + 0 ≡ c.args.gone = omega arith in
-    c.becoming_by.ensures.becomes o path (c.args.gone + 0) rows c.args.j none
+    c.becoming_by.ensures o path (c.args.gone + 0) rows c.args.j none
     (c.walk_at-walk.ensures o path rows want none knows (rw (c.deref.ensures.value, zero) h)) token a b

@@ -4,8 +4,8 @@ use Rattle.hum_context.proofs.Standing.{get_there}
 use Rattle.hum_context.proofs.Passing.{enough_becomes}
 use Rattle.hum_context.proofs.front.enough_at.Goals as goal
 
-pub returns-then-walk-clause-becomes : goal.returns-then-walk-clause-becomes
-returns-then-walk-clause-becomes c o path rows none h becoming is token a b =
+pub returns-then-walk : goal.returns-then-walk
+returns-then-walk c o path rows none h becoming is token a b =
     let within = c.if-j-walks.false in
     enough_becomes o path c.args.at rows c.args.j c.index-walks-j.result becoming token none
     (h c.args.j c.index-walks-j.result (get_there c.args.walks.now c.args.j

@@ -4,11 +4,11 @@ use Rattle.hum_record.specs.Row.{Spined, token_at}
 use Rattle.hum_context.proofs.Weighing.{kept_at, open_is}
 use Rattle.hum_context.proofs.front.new_at.Goals as goal
 
-pub returns-in-Some-clause-becomes : goal.returns-in-Some-clause-becomes
-returns-in-Some-clause-becomes c o path tokens rows want none knows stand =
+pub returns-in-Some : goal.returns-in-Some
+returns-in-Some c o path tokens rows want none knows stand =
     let known = kept_at o path c.args.held.now.items c.args.k (Spined Values tokens) rows
     c.index.result.now knows c.requires.within c.index.ensures in
     let is = open_is o path tokens c.index.result.now c.args.j c.in-Taken.begins c.in-Taken.ends known
     (sym c.heard.ensures ∙ c.in-Taken.is) c.if-not-begins.false in
-    c.enough_at.ensures.becomes o path (Spined Values tokens ∷ rows) none stand c.in-Some.known c.in-Some.is
+    c.enough_at.ensures o path (Spined Values tokens ∷ rows) none stand c.in-Some.known c.in-Some.is
     (token_at (Spined Values tokens) c.args.j) is.0 is.1

@@ -1,10 +1,9 @@
-use Rattle.std.proofs.Common.{◌∙◌, sym, ap, refl, arith, length, ◌∷◌, [], ◌++◌, ◌+◌}
+use Rattle.std.proofs.Common.{ap, refl, arith, length, ◌∷◌, [], ◌++◌}
 use Rattle.hum_record.specs.declared.SpinedKind.TheVariants.{Values}
-use Rattle.hum_record.specs.Row.{Row, Spined, token_at, tokens_of}
-use Rattle.hum_context.specs.Context.{chain}
+use Rattle.hum_record.specs.Row.{Row, Spined, tokens_of}
 use Rattle.hum_context.specs.Walking.{bytes_of}
 use Rattle.hum_context.proofs.Following.{none_stand}
-use Rattle.hum_context.proofs.Weighing.{bytes_some, sofar_more, sofar_stops, sofar_all, counts_more}
+use Rattle.hum_context.proofs.Weighing.{sofar_more, sofar_stops, sofar_all, counts_more}
 use Rattle.hum_context.proofs.Weighing.{kept_at}
 use Rattle.hum_context.proofs.front.weigh.Goals as goal
 
@@ -18,15 +17,13 @@ loop-j-preserved c = record {
       let wide = ap (λ (r : Row). length (tokens_of r)) known.is in
       let test = c.loop-j-test.true in
       let end = c.width-j-end.ensures in
-      let b = bytes_some o (token_at (Spined Values tokens) c.loop-j.j)
-      (chain path (Spined Values tokens ∷ rows) c.loop-j.j) c.in-Some.new _
-      (rw c.in-Some.is at (c.new_at.ensures.becomes o path tokens rows want none knows
-      (none_stand o _ _ _ _ refl)))
-      (ap (λ (r : Row). length (token_at r c.loop-j.j) + 1) known.is) in (
+      let b = c.new_bytes.ensures.bytes o path tokens rows want none knows
+      (rw c.in-Some.is at (c.new_at.ensures o path tokens rows want none knows
+      (none_stand o _ _ _ _ refl))) in (
         w.0 ++ b.0 ∷ [],
         sofar_more o path (Spined Values tokens) rows tokens c.loop-j.j w.0 b.0 w.1
             (omega (arith, wide, test, end)) b.1,
-        counts_more w.0 b.0 _ _ (b.2 ∙ sym c.new_bytes.ensures.bytes) (c.plus-size.ensures.counts (bytes_of w.0) w.2),
+        counts_more w.0 b.0 _ _ b.2 (c.plus-size.ensures.counts (bytes_of w.0) w.2),
       );
 }
 
@@ -40,7 +37,7 @@ returns-in_default c o path tokens rows want none knows =
     let end = c.width-j-end.ensures in
     sofar_stops o path (Spined Values tokens) rows tokens c.loop-j.j w.0 w.1
     (omega (arith, wide, test, end))
-    (rw c.in_default.is at (c.new_at.ensures.becomes o path tokens rows want none knows
+    (rw c.in_default.is at (c.new_at.ensures o path tokens rows want none knows
     (none_stand o _ _ _ _ refl)))
 
 pub returns : goal.returns

@@ -24,7 +24,7 @@ unreachable-requires c =
     let zero : c.args.gone + 0 ≡ c.args.gone = omega arith in
     let none = sofar_stops d.o d.path (Spined Values d.tokens) d.rows d.tokens c.loop-j.j s.made s.sofar
     (omega (arith, wide, test, end))
-    (rw c.in_default.is at (c.new_at.ensures.becomes d.o d.path d.tokens d.rows d.want d.some_wanted
+    (rw c.in_default.is at (c.new_at.ensures d.o d.path d.tokens d.rows d.want d.some_wanted
     d.knows (rw zero d.stand))) in
     let are = sym none ∙ d.are in cc
 
@@ -51,7 +51,7 @@ loop-j-preserved c = record {
       let zero : c.args.gone + 0 ≡ c.args.gone = omega arith in
       written_more o path tokens rows c.loop-j.j _ _ _ _ s (omega (arith, wide, test, end))
       (c.in_ok-write_token.ensures.written o path tokens rows want none knows
-      (rw c.in-Some.is at (c.new_at.ensures.becomes o path tokens rows want none knows
+      (rw c.in-Some.is at (c.new_at.ensures o path tokens rows want none knows
       (rw zero stand))));
 }
 

@@ -10,5 +10,5 @@ returns-in-Passed-clause-has c o path row front i want known below h at =
 pub returns-in-Taken-clause-has : goal.returns-in-Taken-clause-has
 returns-in-Taken-clause-has c o path row front i want known below h at =
     shorter_one o path row front c.args.j i c.args.kept.now c.args.walk _ c.args.wanted
-    c.in-Taken.begins c.in-Taken.ends c.bytes.result want known below
-    (sym c.heard.ensures ∙ c.in-Taken.is) c.bytes.ensures.bytes h c.behind_taken.ensures.has at
+    c.in-Taken.begins c.in-Taken.ends want known below
+    (sym c.heard.ensures ∙ c.in-Taken.is) h c.behind_taken.ensures.has at

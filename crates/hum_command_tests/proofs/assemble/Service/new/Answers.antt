@@ -8,6 +8,6 @@ invariant_of-result g c =
     let e : c.loop.counter ≡ c.args.sources = omega arith in
     record {
       at = empty_moment 3 c.args.sources;
-      stands = c.in_ok-inner.ensures.stands;
+      stands = rw c.expect-inner.ensures at c.new.ensures.stands;
       followed = none_followed c.args.sources c.loop.paths.items (rw e at c.loop.invariant);
     }

@@ -10,17 +10,21 @@ put-requires g c =
     let s = c.self.invariant in
     let w = c.in-Some.ensures.wanted s.at s.stands in
     let l = c.self.inside.paths.ok.0 in
-    inr (may_put _ _ c.self.inside.puts c.in-Some.source _ c.in_ok-next.next s w
-    (omega (arith, l)) c.index_mut.ensures.value c.in_ok-step.ensures.sound (omega arith))
+    let sound = rw c.expect.ensures at c.step.ensures.sound in
+    inr (may_put _ _ c.self.inside.puts c.in-Some.source _ c.args.next s w
+    (omega (arith, l)) c.index_mut.ensures.value sound (omega arith))
 
 pub invariant_of-result : goal.invariant_of-result
 invariant_of-result g c =
     let s = c.self.invariant in
     let w = c.in-Some.ensures.wanted s.at s.stands in
+    let sound = rw c.expect.ensures at c.step.ensures.sound in
+    let moved = rw c.expect.ensures at c.step.ensures.after in
+    let changed = rw c.expect-2.ensures at c.put.ensures.ok in
     record {
-      at = after c.in-Some.source (More c.in_ok-next.next) s.at;
-      stands = c.in_ok-put.ensures.ok s.at s.stands (sym w);
+      at = after c.in-Some.source (More c.args.next) s.at;
+      stands = changed s.at s.stands (sym w);
       followed = followed_put c.self.inside.puts c.in-Some.source _ s.at.inputs _ _
-          c.in_ok-next.next s.followed c.index_mut.ensures.value c.in_ok-step.ensures.sound
-          (ap (λ (t : Tracked). t.path) c.in_ok-step.ensures.after);
+          c.args.next s.followed c.index_mut.ensures.value sound
+          (ap (λ (t : Tracked). t.path) moved);
     }

@@ -1,13 +1,12 @@
-use Rattle.std.proofs.Common.{◌∙◌, sym, refl, slice_index, ⊎_elim}
+use Rattle.std.proofs.Common.{◌∙◌, refl, slice_index, inl, inr, ⊎_elim}
 use Rattle.hum_nodes.specs.declared.node.Doing.TheVariants as does
 use Rattle.hum_nodes.specs.Nodes.{StandsAs}
 use Rattle.hum_turns.specs.Turns.{Takes}
-use Rattle.hum_net.specs.Scene.{at_of}
-use Rattle.hum_net.proofs.Doings.{gives_of, reads_of, wants_of, done_of}
+use Rattle.hum_net.proofs.Doings.{gives_of, wants_of}
 use Rattle.hum_net.proofs.Feeding.{node_at}
-use Rattle.hum_net.proofs.Polling.{state_gives, state_takes, state_ends}
-use Rattle.hum_net.proofs.Readying.{touched_gives, touched_takes, touched_ends}
-use Rattle.hum_net.proofs.Stepping.{about_to, may_do, here_too, has_done, never_reads, when_ok, if_ok}
+use Rattle.hum_net.proofs.Polling.{state_gives, state_takes}
+use Rattle.hum_net.proofs.Readying.{touched_gives, touched_takes}
+use Rattle.hum_net.proofs.Stepping.{about_to, may_do, here_too, has_done, when_ok, if_ok}
 use Rattle.hum_net.proofs.Turning.{about_kind}
 use Rattle.hum_net.proofs.web.Web.act.Goals as goal
 
@@ -110,95 +109,14 @@ returns-in_ok-give-in-Gives-clause-link g c s actor =
     is c.doing_kind.ensures does.Gives (λ h. gives_of _ (h ∙ c.in-Gives.is)) in
     touched_gives stands k web _ s about refl
 
-pub doing-requires : goal.doing-requires
-doing-requires g c =
-    let s = c.requires.turn.scene in
-    let turn = c.requires.turn.holds in
+pub close-requires-clause-done : goal.close-requires-clause-done
+close-requires-clause-done g c s at less =
     let web = c.args.self.now in
     let k = c.args.k in
     let feeds = g.F.Feeds.stands in
     let works = g.W.Works.stands in
-    let stands = StandsAs feeds works in
-    let node = c.index-in-Done.result.now in
-    c.requires.stage node (node_at stands k web s node turn.less turn.at.stand c.index-in-Done.ensures)
-
-pub finish-requires : goal.finish-requires
-finish-requires g c =
-    let s = c.requires.turn.scene in
-    let turn = c.requires.turn.holds in
-    let web = c.args.self.now in
-    let k = c.args.k in
-    let feeds = g.F.Feeds.stands in
-    let works = g.W.Works.stands in
-    let stands = StandsAs feeds works in
     let node = c.index.result.now in
-    let there = node_at stands k web s node turn.less turn.at.stand c.index.ensures in
-    let is = c.requires.stage node there in
-    let then = c.index-in-Done.result.now in
-    let again = node_at stands k web s then turn.less turn.at.stand c.index-in-Done.ensures in
-    let told = c.doing.ensures (s.rests k) (at_of s.kinds s.links k) (turn.at.stand.nodes k then again) in
-    let may = may_do feeds works k web c.doing_kind.result s node g.met.W.Works.no_bytes turn.at turn.less there
-    is c.doing_kind.ensures (does.Done c.in-Done-doing.end) (λ h. sym told ∙ c.in-Done-doing.is) turn.ready in
-    record { scene = s; holds = may }
-
-pub returns-in-Done-doing-clause-done : goal.returns-in-Done-doing-clause-done
-returns-in-Done-doing-clause-done g c s turn =
-    let web = c.args.self.now in
-    let k = c.args.k in
-    let feeds = g.F.Feeds.stands in
-    let works = g.W.Works.stands in
-    let stands = StandsAs feeds works in
-    let node = c.index.result.now in
-    let there = node_at stands k web s node turn.less turn.at.stand c.index.ensures in
-    let is = c.requires.stage node there in
-    let then = c.index-in-Done.result.now in
-    let again = node_at stands k web s then turn.less turn.at.stand c.index-in-Done.ensures in
-    let told = c.doing.ensures (s.rests k) (at_of s.kinds s.links k) (turn.at.stand.nodes k then again) in
-    let may = may_do feeds works k web c.doing_kind.result s node g.met.W.Works.no_bytes turn.at turn.less there
-    is c.doing_kind.ensures (does.Done c.in-Done-doing.end) (λ h. sym told ∙ c.in-Done-doing.is) turn.ready in
-    has_done stands k web c.finish.new.self _ s may _
-    (state_ends s s.links k c.in-Done-doing.end may.less may.does) (c.finish.ensures.ended s may)
-
-pub returns-in-Done-doing-clause-link : goal.returns-in-Done-doing-clause-link
-returns-in-Done-doing-clause-link g c s actor =
-    let web = c.args.self.now in
-    let k = c.args.k in
-    let feeds = g.F.Feeds.stands in
-    let works = g.W.Works.stands in
-    let stands = StandsAs feeds works in
-    let node = c.index.result.now in
-    let here = here_too k _ c.requires.turn.scene.count s.count c.requires.turn.holds.less
-    c.requires.turn.holds.at.stand.count actor.at.stand.count in
-    let there = node_at stands k web s node here actor.at.stand c.index.ensures in
-    let is = c.requires.stage node there in
-    let then = c.index-in-Done.result.now in
-    let again = node_at stands k web s then here actor.at.stand c.index-in-Done.ensures in
-    let told = c.doing.ensures (s.rests k) (at_of s.kinds s.links k) (actor.at.stand.nodes k then again) in
-    let about = about_to feeds works k web c.doing_kind.result s node g.met.W.Works.no_bytes actor.at here there
-    is c.doing_kind.ensures (does.Done c.in-Done-doing.end) (λ h. sym told ∙ c.in-Done-doing.is) in
-    touched_ends stands k web _ s about c.in-Done-doing.end refl
-
-pub returns-in_default : goal.returns-in_default
-returns-in_default g c =
-    let s = c.requires.turn.scene in
-    let turn = c.requires.turn.holds in
-    let web = c.args.self.now in
-    let k = c.args.k in
-    let feeds = g.F.Feeds.stands in
-    let works = g.W.Works.stands in
-    let stands = StandsAs feeds works in
-    let node = c.index.result.now in
-    let there = node_at stands k web s node turn.less turn.at.stand c.index.ensures in
-    let isnt = c.requires.stage node there in
-    let then = c.index-in-Done.result.now in
-    let again = node_at stands k web s then turn.less turn.at.stand c.index-in-Done.ensures in
-    let told = c.doing.ensures (s.rests k) (at_of s.kinds s.links k) (turn.at.stand.nodes k then again) in
-    let a = about_kind feeds works k web c.doing_kind.result s node g.met.W.Works.no_bytes turn.at turn.less
-    there isnt c.doing_kind.ensures in
-    ⊎_elim
-    (λ is. let end = done_of _ (a.does ∙ is) in absurd (c.in_default.not-Done end.0 (told ∙ end.1)))
-    (λ is.
-    let may = may_do feeds works k web c.doing_kind.result s node g.met.W.Works.no_bytes turn.at turn.less there
-    isnt c.doing_kind.ensures does.Reads (λ h. reads_of _ (h ∙ is)) turn.ready in
-    absurd (never_reads stands k web web _ s may may.does))
-    c.in-Done.is
+    let there = node_at (StandsAs feeds works) k web s node less at.stand c.index.ensures in
+    let a = about_kind feeds works k web c.doing_kind.result s node g.met.W.Works.no_bytes at less there
+    (c.requires.stage node there) c.doing_kind.ensures in
+    ⊎_elim (λ is. inl (a.does ∙ is)) (λ is. inr (a.does ∙ is)) c.in-Done.is

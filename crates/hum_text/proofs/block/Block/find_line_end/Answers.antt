@@ -1,13 +1,9 @@
-use Rattle.hum_text.proofs.WindowLemmas.{none-IsWindow, first-IsWindow, all-none, first-window}
+use Rattle.hum_text.proofs.WindowLemmas.{none-IsWindow, all-none, first-window}
 use Rattle.hum_text.proofs.block.Block.find_line_end.Goals as goal
 
 pub invariant_of-self : goal.invariant_of-self
 invariant_of-self c =
     (none-IsWindow _ _ _ _ c.self.invariant.0 (rw c.deref.ensures.value at c.in-None.ensures), c.self.invariant.1)
-
-pub invariant_of-self-in-Some : goal.invariant_of-self-in-Some
-invariant_of-self-in-Some c =
-    (first-IsWindow _ _ _ _ _ c.self.invariant.0 (rw c.deref.ensures.value at c.in-Some.ensures), c.self.invariant.1)
 
 pub returns-in-None-clause-found : goal.returns-in-None-clause-found
 returns-in-None-clause-found c =

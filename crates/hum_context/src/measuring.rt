@@ -1,0 +1,48 @@
+//! How much text is collected.
+ghost use Rattle.std.specs.Prelude.{◌≡◌, ◌<◌, ◌≤◌, ◌^◌, ℕ, List, [], length, drop, Some, None};
+ghost use Rattle.hum_record.specs.Row.{Row};
+ghost use Rattle.hum_path.specs.Spines.{Path};
+ghost use Rattle.hum_context.specs.Context.{Choice, taken};
+ghost use Rattle.hum_context.specs.Heard.{wanted_of};
+ghost use Rattle.hum_context.specs.Queue.{Knows};
+ghost use Rattle.hum_context.specs.Walking.{bytes_of, collected};
+
+use crate::hearing::Heard;
+use crate::queued::Queued;
+use crate::stepping::is_enough;
+use std::collections::VecDeque;
+
+/// How many bytes the tokens have that are collected from a cell of the k-th record that waits, with
+/// one behind each, where they are enough.
+pub(crate) fn measure(held: &VecDeque<Queued>, k: usize, j: usize, wanted: Option<u16>) -> u64
+    requires few { length held.now.items ≤ 4294967295 }
+    requires within { k < length held.now.items }
+    ensures few { result ≤ 2 ^ 53 }
+    ensures size { (o : Choice) (path : Path) (rows : List Row) → wanted ≡ wanted_of o.extent
+        → taken o.extent [] ≡ None → Knows o path (drop k held.now.items) rows
+        → (tokens : List (List ℕ)) → taken o.extent (collected o path rows j) ≡ Some tokens
+        → result ≡ bytes_of tokens }
+{
+    let mut size: u64 = 0;
+    let mut column = j;
+    let mut count: u64 = 0;
+    for n in 0..held.len() - k {
+        let next = &held[k + n];
+        match next.heard(column) {
+            Heard::Taken { begins: _, ends } => {
+                size += next.bytes(column);
+                count += 1;
+                if is_enough(wanted, count, ends) {
+                    return size;
+                }
+            }
+            Heard::Passed => {
+                let Some(below) = next.column_below(column) else {
+                    return size;
+                };
+                column = below;
+            }
+        }
+    }
+    size
+}

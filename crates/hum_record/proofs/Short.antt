@@ -1,0 +1,272 @@
+-- Short lines of plain data, by the bits of their bytes.
+use Rattle.std.proofs.Common.{◌≡◌, ◌∙◌, refl, sym, ap, ap₂, ℕ, suc, zero, ◌+◌, ◌*◌, ◌-◌, ◌/◌, ◌%◌, ◌≤◌, ◌<◌, ◌^◌, min, Bool, true, false, not, ◌||◌}
+use Rattle.std.proofs.Common.{List, [], ◌∷◌, ◌++◌, map, length, take, cond, eqb, Ok, arith, append_assoc, length-append}
+use Rattle.std.proofs.Common.{mod-lt, zero-lt-suc, pow-suc, add-zero}
+use Rattle.std.specs.Prelude.{◌==◌, if◌then◌else◌, Result, OnOk, Err}
+use Rattle.std.specs.Simd.Lanes.{chunk, mask_l, top}
+use Rattle.std.proofs.lemmas.Simd.{mask_l-mod}
+use Rattle.std.proofs.lemmas.List.{length-map, append-nil, take_all}
+use Rattle.std.proofs.lemmas.Bool.{eqb-true, eq-eqb, and_parts}
+use lib.Bits.{bit_and, bit_or, and_step, and_self, and_zero_r}
+use lib.Count.{count_trailing_zeros, under, ones, ones_step}
+use lib.Pow.{pow_mono}
+use native.Mathlib.Nat.{two-pow-succ}
+use Rattle.hum_record.specs.declared.SpinedKind.TheVariants.{Values}
+use Rattle.hum_record.specs.Spelling.{has_byte, is_comment, reading}
+use Rattle.hum_record.specs.Fields.{AreFields, row_in}
+use Rattle.hum_record.specs.Cutting.{bits_of, set_places, tabs_from}
+use Rattle.hum_record.specs.Plain.{is_rare, has_mark, head_after, IsPlain}
+use Rattle.hum_record.proofs.Laws.{spined_fields, reads_row, reads_spined}
+use Rattle.hum_record.proofs.Cuts.{tabs_append, ends_tabs}
+use Rattle.hum_record.proofs.Places.{any_bit, take_count, one_moved, bits_front, mask_front, bits_below}
+use Rattle.hum_record.proofs.Plain.{mark_append, no_marks, plain_data, or_left, or_right, none_set}
+
+-- The places of bits
+
+bit_cases : (P : ℕ → Type 0) → P 0 → P 1 → (x : ℕ) → x < 2 → P x
+bit_cases P p q zero h = p
+bit_cases P p q (suc zero) h = q
+bit_cases P p q (suc (suc r)) h = absurd (omega (arith, h))
+
+pub no_places : (k b : ℕ) → set_places k b 0 ≡ []
+unfolding set_places
+no_places zero b = refl
+no_places (suc k) b = no_places k (b + 1)
+
+abbrev turn : ℕ → ℕ → ℕ → ℕ → List ℕ
+turn k b r t = if r == 1 then b ∷ set_places k (b + 1) t else set_places k (b + 1) t
+
+abbrev Goal : ℕ → ℕ → ℕ → Type 0
+Goal k b x = turn k b (x % 2) (x / 2) ≡ (b + under (x % 2) (count_trailing_zeros k (x / 2))) ∷ turn k b (bit_and x (x - 1) % 2) (bit_and x (x - 1) / 2)
+
+-- the lowest bit is the first place, and the others are left
+pub lowest : (k b x : ℕ) → 0 < x → x < 2 ^ k → set_places k b x ≡ (b + count_trailing_zeros k x) ∷ set_places k b (bit_and x (x - 1))
+unfolding set_places count_trailing_zeros
+lowest zero b x some h = let no : ⊥ = omega arith in absurd no
+lowest (suc k) b x some h =
+    bit_cases (λ r. x % 2 ≡ r → Goal k b x)
+    (even (λ p. lowest k (b + 1) (x / 2) p (omega (arith, pow-suc 2 k))))
+    odd (x % 2) (mod-lt x (zero-lt-suc 1)) refl
+  where
+    odd : x % 2 ≡ 1 → Goal k b x
+    odd e =
+        let y = bit_and x (x - 1) in
+        let half : (x - 1) / 2 ≡ x / 2 = omega arith in
+        let low : min (x % 2) ((x - 1) % 2) ≡ 0 = omega arith in
+        let is : y ≡ x / 2 * 2 + 0 = and_step x (x - 1) ∙ ap₂ (λ u v. u * 2 + v) (ap (bit_and (x / 2)) half ∙ and_self (x / 2)) low in
+        let p : y % 2 ≡ 0 = omega arith in
+        let q : y / 2 ≡ x / 2 = omega arith in
+        ap (λ r. turn k b r (x / 2)) e
+        ∙ ap₂ (λ u v. u ∷ v)
+        (sym (ap (λ r. b + under r (count_trailing_zeros k (x / 2))) e ∙ add-zero b)) (sym (ap₂ (turn k b) p q))
+
+    even : (0 < x / 2 → set_places k (b + 1) (x / 2)
+        ≡ (b + 1 + count_trailing_zeros k (x / 2)) ∷ set_places k (b + 1) (bit_and (x / 2) (x / 2 - 1)))
+        → x % 2 ≡ 0 → Goal k b x
+    even below e =
+        let y = bit_and x (x - 1) in
+        let half : (x - 1) / 2 ≡ x / 2 - 1 = omega arith in
+        let low : min (x % 2) ((x - 1) % 2) ≡ 0 = omega arith in
+        let z = bit_and (x / 2) (x / 2 - 1) in
+        let is : y ≡ z * 2 + 0 = and_step x (x - 1) ∙ ap₂ (λ u v. u * 2 + v) (ap (bit_and (x / 2)) half) low in
+        let p : y % 2 ≡ 0 = omega arith in
+        let q : y / 2 ≡ z = omega arith in
+        let t = count_trailing_zeros k (x / 2) in
+        let place : b + 1 + t ≡ b + suc t = omega arith in
+        ap (λ r. turn k b r (x / 2)) e ∙ below (omega arith)
+        ∙ ap₂ (λ u v. u ∷ v) (place ∙ sym (ap (λ r. b + under r t) e)) (sym (ap₂ (turn k b) p q))
+
+-- one place more in a list
+pub next_place : (front all : List ℕ) (x : ℕ) → 0 < x → x < 2 ^ 64 → front ++ set_places 64 0 x ≡ all
+    → (front ++ count_trailing_zeros 64 x ∷ []) ++ set_places 64 0 (bit_and x (x - 1)) ≡ all
+next_place front all x some fits e =
+    let place : 0 + count_trailing_zeros 64 x ≡ count_trailing_zeros 64 x = omega arith in
+    append_assoc front (count_trailing_zeros 64 x ∷ []) (set_places 64 0 (bit_and x (x - 1)))
+    ∙ ap (λ ys. front ++ ys) (ap (λ n. n ∷ set_places 64 0 (bit_and x (x - 1))) (sym place) ∙ sym (lowest 64 0 x some fits))
+    ∙ e
+
+-- there are as many places as bits
+pub count_places : (k b x : ℕ) → x < 2 ^ k → length (set_places k b x) ≡ ones x
+unfolding set_places ones
+count_places zero b x h = let e : 0 ≡ x = omega (arith, h) in ap ones e
+count_places (suc k) b x h =
+    let rest = set_places k (b + 1) (x / 2) in
+    bit_cases (λ r. length (if r == 1 then b ∷ rest else rest) ≡ r + length rest) (omega arith) (omega arith) (x % 2) (mod-lt x (zero-lt-suc 1))
+    ∙ ap (λ n. x % 2 + n) (count_places k (b + 1) (x / 2) (omega (arith, pow-suc 2 k))) ∙ sym (ones_step x)
+
+-- where a bit is left there is room for its place
+pub room_left : (places all : List ℕ) (j x : ℕ) → 0 < x → x < 2 ^ 64 → j ≤ length places → length places ≡ length all
+    → take j places ++ set_places 64 0 x ≡ all → j < length places
+room_left places all j x some fits within size e =
+    let front = take_count j places within in
+    let later : length (set_places 64 0 x) ≡ suc (length (set_places 64 0 (bit_and x (x - 1)))) = ap length (lowest 64 0 x some fits) in
+    let whole : length (take j places) + length (set_places 64 0 x) ≡ length all = sym (length-append (take j places) (set_places 64 0 x)) ∙ ap length e in
+    omega (arith, front, later, whole, size)
+
+-- where none is left all places are put
+pub all_put : (places all : List ℕ) (j x : ℕ) → x ≡ 0 → j ≤ length places → length places ≡ length all
+    → take j places ++ set_places 64 0 x ≡ all → places ≡ all
+all_put places all j x none within size e =
+    let front : take j places ≡ all =
+    sym (append-nil (take j places)) ∙ ap (λ ys. take j places ++ ys) (sym (ap (set_places 64 0) none ∙ no_places 64 0)) ∙ e in
+    let count = take_count j places within in
+    let whole : length (take j places) ≡ length all = ap length front in
+    sym (take_all j places (omega (arith, count, whole, size))) ∙ front
+
+one_step : (k b n m : ℕ) (t : Bool) → n ≡ cond t 1 0 + 2 * m → set_places (suc k) b n ≡ (if t then b ∷ set_places k (b + 1) m else set_places k (b + 1) m)
+unfolding set_places
+one_step k b n m true e =
+    let low : n % 2 ≡ 1 = omega (arith, e) in
+    let half : n / 2 ≡ m = omega (arith, e) in
+    rw (low, half) refl
+one_step k b n m false e =
+    let low : n % 2 ≡ 0 = omega (arith, e) in
+    let half : n / 2 ≡ m = omega (arith, e) in
+    rw (low, half) refl
+
+-- the places of the bits of tabs are those of the tabs
+pub set_tabs : (k b : ℕ) (xs : List ℕ) → length xs ≤ k → set_places k b (bits_of 9 xs) ≡ tabs_from b xs
+set_tabs k b [] h = no_places k b
+set_tabs zero b (x ∷ xs) h = absurd (omega (arith, h))
+set_tabs (suc k) b (x ∷ xs) h =
+    one_step k b (bits_of 9 (x ∷ xs)) (bits_of 9 xs) (x == 9) refl
+    ∙ ap (λ ts. if x == 9 then b ∷ ts else ts) (set_tabs k (b + 1) xs (omega (arith, h)))
+
+-- a tab behind a text is one bit more
+pub tab_behind : (xs : List ℕ) → bits_of 9 xs + 2 ^ length xs ≡ bits_of 9 (xs ++ 9 ∷ [])
+tab_behind [] = refl
+tab_behind (x ∷ xs) =
+    by (cond (x == 9) 1 0) (bits_of 9 xs) (2 ^ length xs) (2 ^ suc (length xs)) (two-pow-succ (length xs))
+    ∙ ap (λ n. cond (x == 9) 1 0 + 2 * n) (tab_behind xs)
+  where
+    by : (c t p q : ℕ) → q ≡ p + p → (c + 2 * t) + q ≡ c + 2 * (t + p)
+    by c t p q e = omega (arith, e)
+
+-- the same from the bits of more bytes
+pub ends_at : (held : List ℕ) (len bits : ℕ) → len ≤ 32 → 32 ≤ length held → bits ≡ bits_of 9 (chunk 0 32 held)
+    → bit_and bits (1 * 2 ^ len % 18446744073709551616 - 1) + 1 * 2 ^ len % 18446744073709551616 ≡ bits_of 9 (take len held ++ 9 ∷ [])
+ends_at held len bits short filled is =
+    let text = take len held in
+    let size : length text ≡ len = take_count len held (omega (arith, short, filled)) in
+    rw (one_moved len short) (ap (λ n. n + 2 ^ len) (bits_front 9 held len bits short filled is)
+    ∙ ap (λ n. bits_of 9 text + 2 ^ n) (sym size) ∙ tab_behind text)
+
+pub ends_few : (held : List ℕ) (len : ℕ) → len ≤ 32 → 32 ≤ length held → bits_of 9 (take len held ++ 9 ∷ []) < 8589934592
+ends_few held len short filled =
+    let xs = take len held ++ 9 ∷ [] in
+    let size : length xs ≡ len + 1 = omega (arith, length-append (take len held) (9 ∷ []), take_count len held (omega (arith, short, filled))) in
+    let below : length xs ≤ 33 = omega (arith, size, short) in
+    let most : 2 ^ length xs ≤ 2 ^ 33 = pow_mono below in
+    omega (arith, bits_below 9 xs, most)
+
+-- Bytes that seldom stand in data
+
+pub rare_at : (held : List ℕ) (len bits : ℕ) → len ≤ 32 → 32 ≤ length held → bits ≡ mask_l (map is_rare (chunk 0 32 held))
+    → bit_and bits (1 * 2 ^ len % 18446744073709551616 - 1) ≡ mask_l (map is_rare (take len held))
+rare_at held len bits short filled is = rw (one_moved len short) (mask_front is_rare held len bits short filled is)
+
+abbrev pub hit : ℕ → ℕ → ℕ
+hit a b = cond (eqb a b) 255 0
+
+abbrev pub rare_lane : ℕ → ℕ
+rare_lane x = bit_or (bit_or (hit x 33) (hit x 42)) (hit x 13)
+
+one_lane : (a b c : Bool) → top 7 (bit_or (bit_or (cond a 255 0) (cond b 255 0)) (cond c 255 0)) ≡ ((a || b) || c)
+one_lane true true true = refl
+one_lane true true false = refl
+one_lane true false true = refl
+one_lane true false false = refl
+one_lane false true true = refl
+one_lane false true false = refl
+one_lane false false true = refl
+one_lane false false false = refl
+
+each_lane : (v : List ℕ) → map (top 7) (map rare_lane v) ≡ map is_rare v
+each_lane [] = refl
+each_lane (x ∷ xs) = ap₂ (λ (a : Bool) (b : List Bool). a ∷ b) (one_lane (x == 33) (x == 42) (x == 13)) (each_lane xs)
+
+pub rare_mask : (v z : List ℕ) → length v ≤ 64 → z ≡ map rare_lane v → mask_l (map (top 7) z) % 2 ^ 64 ≡ mask_l (map is_rare v)
+rare_mask v z short e =
+    ap (λ (l : List Bool). mask_l l % 2 ^ 64) (ap (map (top 7)) e ∙ each_lane v)
+    ∙ mask_l-mod (map is_rare v) 64 (omega (arith, length-map v is_rare, short))
+
+-- no bit is set of a byte
+record NoneRare (xs : List ℕ) : Type 0 where
+  bangs : bits_of 33 xs ≡ 0
+  stars : bits_of 42 xs ≡ 0
+  returns : bits_of 13 xs ≡ 0
+
+not_set : (t : Bool) (n : ℕ) → cond t 1 0 + 2 * n ≡ 0 → (t ≡ false) × (n ≡ 0)
+not_set true n h = absurd (omega (arith, h))
+not_set false n h = (refl, omega (arith, h))
+
+unset : (t : Bool) (n : ℕ) → t ≡ false → n ≡ 0 → cond t 1 0 + 2 * n ≡ 0
+unset true n e z = let w = e in cc
+unset false n e z = omega (arith, z)
+
+none_rare : (xs : List ℕ) → mask_l (map is_rare xs) ≡ 0 → NoneRare xs
+none_rare [] h = record { bangs = refl; stars = refl; returns = refl }
+none_rare (x ∷ xs) h =
+    let here = not_set (is_rare x) (mask_l (map is_rare xs)) h in
+    let rest = none_rare xs here.1 in
+    let front = or_left (x == 33 || x == 42) (x == 13) here.0 in
+    record {
+      bangs = unset (x == 33) (bits_of 33 xs) (or_left (x == 33) (x == 42) front) rest.bangs;
+      stars = unset (x == 42) (bits_of 42 xs) (or_right (x == 33) (x == 42) front) rest.stars;
+      returns = unset (x == 13) (bits_of 13 xs) (or_right (x == 33 || x == 42) (x == 13) here.0) rest.returns;
+    }
+
+unset_behind : (b : ℕ) (xs : List ℕ) → (9 == b) ≡ false → bits_of b xs ≡ 0 → bits_of b (xs ++ 9 ∷ []) ≡ 0
+unset_behind b [] other h = unset (9 == b) 0 other refl
+unset_behind b (x ∷ xs) other h =
+    let here = not_set (x == b) (bits_of b xs) h in
+    unset (x == b) (bits_of b (xs ++ 9 ∷ [])) here.0 (unset_behind b xs other here.1)
+
+not_true : (b : Bool) → (b ≡ true → ⊥) → b ≡ false
+not_true true h = absurd (h refl)
+not_true false h = refl
+
+no_bang : (xs : List ℕ) → bits_of 33 xs ≡ 0 → is_comment xs ≡ false
+no_bang [] h = refl
+no_bang (x ∷ xs) h =
+    let other = (not_set (x == 33) (bits_of 33 xs) h).0 in
+    not_true (is_comment (x ∷ xs)) (λ yes.
+    let is : (x == 33) ≡ true = eq-eqb x 33 (sym (eqb-true 33 x (and_parts _ _ yes).0)) in cc)
+
+no_head : (h : Bool) → has_mark h (9 ∷ []) ≡ false → h ≡ false
+no_head true e = let w = e in cc
+no_head false e = refl
+
+-- Plain data, by the bits of where its tokens end
+
+pub plain_by_bits : (text : List ℕ) (ends rare : ℕ) → ends ≡ bits_of 9 (text ++ 9 ∷ []) → rare ≡ mask_l (map is_rare text)
+    → (not (bit_and (1 + 2 * ends) ends == 0) || not (rare == 0)) ≡ false → IsPlain text ends
+plain_by_bits text ends rare is_ends is_rare_bits free =
+    let xs = text ++ 9 ∷ [] in
+    let heads = mask_l (true ∷ map (λ x. x == 9) xs) in
+    let none = none_rare text (sym is_rare_bits ∙ none_set rare (or_right _ _ free)) in
+    let apart : bit_and heads (bits_of 9 xs) ≡ 0 = ap (λ n. bit_and (1 + 2 * n) n) (sym is_ends) ∙ none_set _ (or_left _ _ free) in
+    let bangs : bit_and heads (bits_of 33 xs) ≡ 0 = ap (bit_and heads) (unset_behind 33 text refl none.bangs) ∙ and_zero_r heads in
+    let stars : bit_and heads (bits_of 42 xs) ≡ 0 = ap (bit_and heads) (unset_behind 42 text refl none.stars) ∙ and_zero_r heads in
+    let clear : (has_mark true text || has_mark (head_after true text) (9 ∷ [])) ≡ false =
+    sym (mark_append true text (9 ∷ [])) ∙ no_marks true xs apart bangs stars in
+    record {
+      unbroken = sym (any_bit 13 text) ∙ ap (λ n. not (n == 0)) none.returns;
+      spined = no_bang text none.bangs;
+      lawful = plain_data text (or_left _ _ clear) (no_head (head_after true text) (or_right _ _ clear));
+      bits = is_ends;
+    }
+
+pub plain_fields : (text all : List ℕ) (ends : ℕ) → length text ≤ 32 → has_byte 10 text ≡ false
+    → IsPlain text ends → all ≡ set_places 64 0 ends → AreFields text all
+plain_fields text all ends few line plain is =
+    let size : length (text ++ 9 ∷ []) ≤ 64 = omega (arith, length-append text (9 ∷ []), few) in
+    spined_fields text all Values (omega (arith, few)) line plain.unbroken plain.spined plain.lawful
+    (is ∙ ap (set_places 64 0) plain.bits ∙ set_tabs 64 0 (text ++ 9 ∷ []) size ∙ tabs_append 0 text (9 ∷ []) ∙ sym (ends_tabs 0 text))
+
+pub plain_reads : (text : List ℕ) (ends : ℕ) → IsPlain text ends → reading text ≡ Ok (row_in text)
+plain_reads text ends plain = reads_row text _ (reads_spined text Values plain.unbroken plain.spined plain.lawful)
+
+pub on_ok : {A E B C : Type 0} (r : Result A E) → (B → C) → OnOk r B → OnOk r C
+on_ok (Ok x) f h = f h
+on_ok (Err e) f h = tt
