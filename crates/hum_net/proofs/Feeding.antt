@@ -82,6 +82,13 @@ module _ {F W : Type 0} (stands : Node F W → List ℕ → At → Type 0) (k : 
       → node ≡ get_or web.nodes.items k node → slice_get web.nodes.items k ≡ Some node
   node_at node less st e = let n = st.count in nth web.nodes.items k node (omega arith) e
 
+  pub node_of : k < s.count → Stands stands web s
+      → (node : Node F W) × (slice_get web.nodes.items k ≡ Some node)
+  node_of less st =
+      let n = st.count in
+      ⊎_elim (λ f. (f.0, f.2)) (λ past. let p = past.0 in absurd (omega arith))
+      (slice_get_cases web.nodes.items k).1
+
   pub link_at : (link : port.Link) → k < s.count → Stands stands web s
       → link ≡ get_or web.links.items k link → slice_get web.links.items k ≡ Some link
   link_at link less st e = let n = st.as_many in nth web.links.items k link (omega arith) e

@@ -1,7 +1,7 @@
 -- A turn of a net.
 use Rattle.std.proofs.Common.{◌≡◌, ◌∙◌, ℕ, ◌<◌, ◌≤◌, Bool, true, false, List, [], ◌∷◌, ◌++◌, length}
 use Rattle.std.proofs.Common.{if◌then◌else◌, nat_eq, Option, Some, None, is_none, ◌&&◌, refl, sym, ap, subst, ⊎_elim, inl, inr, arith}
-use Rattle.std.proofs.Common.{append-nil, length-append, slice_get, lt-ltb, eq-eqb, ne_eqb, ◌≢◌, ◌||◌, ◌+◌}
+use Rattle.std.proofs.Common.{append-nil, length-append, slice_get, lt-ltb, eq-eqb, ne_eqb, ◌≢◌, ◌||◌, ◌+◌, pred}
 use Rattle.std.proofs.lemmas.Bool.{and_parts, and_from, false≢true}
 use Rattle.std.proofs.lemmas.Option.{none-some, slice_get_cases}
 use Rattle.std.specs.Io.KnownBytes.{Appends}
@@ -17,14 +17,14 @@ use Rattle.hum_turns.specs.Failures.{Now, ended_by, MayFail, Turn, is_ready}
 use Rattle.hum_turns.specs.Failures.{result}
 use Rattle.hum_turns.proofs.Writing.{walk_going, walk_more}
 use Rattle.hum_turns.proofs.Near.{step_taken, step_heard, step_does, ready_sink}
-use Rattle.hum_turns.proofs.States.{sink_state}
+use Rattle.hum_turns.proofs.States.{sink_state, last_less}
 use Rattle.hum_nodes.specs.At.{At}
 use Rattle.hum_nodes.specs.declared.either.Node.{Node}
 use Rattle.hum_nodes.specs.Nodes.{StandsAs}
 use Rattle.hum_net.specs.declared.web.Web.{Web}
 use Rattle.hum_net.specs.declared.net.Net.{Net}
 use Rattle.hum_net.specs.Scene.{Scene, plan_of, moved, before, before_all, only, at_of, Stands, IsAt}
-use Rattle.hum_net.specs.Scene.{MayTurn, IsKind, KeepsOthers, Fed}
+use Rattle.hum_net.specs.Scene.{MayTurn, IsActor, IsKind, KeepsOthers, Fed}
 use Rattle.hum_net.proofs.Reusing.{shows_read}
 use Rattle.hum_net.specs.Readers.{ShowsSame, remaining_at, ended_at, failed_at, or_none, is_read_of}
 use Rattle.hum_net.specs.Nets.{NetAt, GoesTo, HasTurned, SinkWent, MayWrite}
@@ -33,7 +33,7 @@ use Rattle.hum_nodes.specs.Nodes.{ended_of, remaining_of}
 use Rattle.hum_nodes.proofs.Followed.{read_once, read_none, read_stayed}
 use Rattle.std.proofs.Math.Path.{fun_ext}
 use Rattle.std.proofs.lemmas.Bool.{cases_eq}
-use Rattle.hum_net.proofs.Feeding.{source_bytes}
+use Rattle.hum_net.proofs.Feeding.{source_bytes, link_of}
 use Rattle.hum_writing.proofs.Appending.{appends_none, appends_trans}
 
 pub source_here : {F W : Type 0} (feeds : F → List ℕ → At → Type 0) (works : W → At → Type 0) (k : ℕ)
@@ -56,6 +56,10 @@ unfailed : (f : Option RunResult) (o : Option End) → is_none (ended_by f o) �
 unfailed None None e = (refl, refl)
 unfailed None (Some x) e = absurd (false≢true e)
 unfailed (Some x) o e = absurd (false≢true e)
+
+some_ended : (o : Option End) → is_some o ≡ is_some (ended_by None o)
+some_ended None = refl
+some_ended (Some e) = refl
 
 -- While no failure has ended the run.
 module _ {F W S : Type 0} (stands : Node F W → List ℕ → At → Type 0)
@@ -150,15 +154,16 @@ module _ {F W S : Type 0} (stands : Node F W → List ℕ → At → Type 0)
       (may_turn stands contents flushed start (before_all (only k read) s) old now k h r less)
 
   -- a turn that moves
-  pub goes : (new : Net F W S) (to : Moment Row) (sent : List ℕ)
+  pub goes : (new : Net F W S) (to : Moment Row) (sent : List ℕ) (is_over : Bool)
       → Step (plan_of s) s.size k now.links to → Stands stands new.web (moved s to)
       → Appends (contents old.sink) (contents new.sink) sent
       → text text_of (to (last (plan_of s))).taken
       ≡ text text_of (now.links (last (plan_of s))).taken ++ sent
       → ((e : End) → (to (last (plan_of s))).heard ≡ Some e → flushed new.sink ≡ true)
+      → is_over ≡ is_some (to (last (plan_of s))).heard
       → new.failure ≡ None → new.turns ≡ old.turns + 1 → new.actors ≡ old.actors
-      → GoesTo stands contents flushed start s k now new
-  goes new to sent step st appends taken over none more list =
+      → GoesTo stands contents flushed start s k now new is_over
+  goes new to sent is_over step st appends taken over tells none more list =
       let next : Now Row = record { links = to; part = []; failure = None } in
       let t : Turn (plan_of s) s.size text_of k now next = record {
         is_ready = r;
@@ -189,15 +194,17 @@ module _ {F W S : Type 0} (stands : Node F W → List ℕ → At → Type 0)
               h.written appends);
           is_flushed = λ e none. over e;
         };
+        tells = tells ∙ some_ended (to (last (plan_of s))).heard;
       }
 
   -- a turn that fails
-  pub fails : (new : Net F W S) (by : RunResult) (part : List ℕ) → k ≤ s.count
+  pub fails : (new : Net F W S) (by : RunResult) (part : List ℕ) (is_over : Bool) → k ≤ s.count
       → MayFail (plan_of s) k text_of now.links by part
       → Appends (contents old.sink) (contents new.sink) part
+      → is_over ≡ true
       → new.failure ≡ Some by → new.turns ≡ old.turns + 1 → new.actors ≡ old.actors
-      → GoesTo stands contents flushed start s k now new
-  fails new by part within may appends failure more list =
+      → GoesTo stands contents flushed start s k now new is_over
+  fails new by part is_over within may appends tells failure more list =
       let next : Now Row = record { links = now.links; part = part; failure = Some by } in
       let t : Turn (plan_of s) s.size text_of k now next = record {
         is_ready = r;
@@ -233,6 +240,7 @@ module _ {F W S : Type 0} (stands : Node F W → List ℕ → At → Type 0)
               h.written appends);
           is_flushed = λ e none. absurd (none-some by (sym none));
         };
+        tells = tells;
       }
 
 nothing_more : {F W : Type 0} (stands : Node F W → List ℕ → At → Type 0) (k : ℕ) (web : Web F W)
@@ -294,9 +302,9 @@ fed_read stands tells over k old new f =
 
 module _ {F W S : Type 0} (stands : Node F W → List ℕ → At → Type 0)
     (tells : F → Option (List ℕ)) (over : F → Bool) (contents : S → Option (List ℕ))
-    (flushed : S → Bool) (k : ℕ) (old new : Net F W S) where
+    (flushed : S → Bool) (k : ℕ) (old new : Net F W S) (is_over : Bool) where
   pub stage_turned : (result : Option RunResult)
-      → (k ≡ length old.web.nodes.items → ⊥)
+      → is_over ≡ is_some result → (k ≡ length old.web.nodes.items → ⊥)
       → (result ≡ None → Fed stands tells over k old.web new.web)
       → IfSome result (λ by. (s : Scene) → MayTurn stands k old.web s
       → MayFail (plan_of s) k text_of s.links by [])
@@ -306,8 +314,8 @@ module _ {F W S : Type 0} (stands : Node F W → List ℕ → At → Type 0)
       → KeepsOthers k old.web new.web
       → new.sink ≡ old.sink → new.failure ≡ result → new.turns ≡ old.turns + 1
       → new.actors ≡ old.actors
-      → HasTurned stands tells over contents flushed k old new
-  stage_turned None other fed failed stays others sink failure more list =
+      → HasTurned stands tells over contents flushed k old new is_over
+  stage_turned None told other fed failed stays others sink failure more list =
       let f = fed refl in
       record {
         reads = only k f.read;
@@ -321,17 +329,18 @@ module _ {F W S : Type 0} (stands : Node F W → List ℕ → At → Type 0)
             let t = f.turns (moved s now.links)
             (λ e. last_all (ap (or_none false (ended_of over)) f.is ∙ e))
             (may_before stands contents flushed start s old now k f.read h r less) in
-            goes stands contents flushed start s old now k f.read h r new t.new [] t.step t.stand
+            let quiet : (t.new (last (plan_of s))).heard ≡ None =
+            step_heard (plan_of s) h.plan.ok s.size k less now.links t.new t.step
+            ∙ unheard stands contents flushed start (before_all (only k f.read) s) old now k h r in
+            goes stands contents flushed start s old now k f.read h r new t.new [] is_over t.step t.stand
             (subst (λ x. Appends (contents old.sink) (contents x) []) (sym sink)
             (appends_none (contents old.sink)))
             (ap (text text_of) (step_taken (plan_of s) h.plan.ok s.size k less now.links t.new t.step)
             ∙ sym (append-nil _))
-            (λ e heard. absurd (none-some e
-            (sym (unheard stands contents flushed start (before_all (only k f.read) s) old now k h r)
-            ∙ sym (step_heard (plan_of s) h.plan.ok s.size k less now.links t.new t.step) ∙ heard)))
+            (λ e heard. absurd (none-some e (sym quiet ∙ heard))) (told ∙ sym (ap is_some quiet))
             failure more list;
       }
-  stage_turned (Some by) other fed failed stays others sink failure more list = record {
+  stage_turned (Some by) told other fed failed stays others sink failure more list = record {
     reads = only k [];
     others = only_else k [];
     read = read_by tells over k old.web.nodes.items new.web.nodes.items others []
@@ -339,21 +348,21 @@ module _ {F W S : Type 0} (stands : Node F W → List ℕ → At → Type 0)
     turns = λ start s now over_all h within r.
         let at = is_at stands contents flushed start (before_all (only k []) s) old now k h r in
         let less = below_count k (length old.web.nodes.items) s.count within at.stand.count other in
-        fails stands contents flushed start s old now k [] h r new by [] within
+        fails stands contents flushed start s old now k [] h r new by [] is_over within
         (failed (moved (before_all (only k []) s) now.links)
         (may_turn stands contents flushed start (before_all (only k []) s) old now k h r less))
         (subst (λ x. Appends (contents old.sink) (contents x) []) (sym sink)
         (appends_none (contents old.sink)))
-        failure more list;
+        told failure more list;
   }
 
   pub sink_turned : (calls : F → ℕ) (failed : F → Bool) (result : Option RunResult) → k ≡ length old.web.nodes.items
       → ((s : Scene) → MayWrite stands old.web s
-      → SinkWent stands result (contents old.sink) (contents new.sink) (flushed new.sink) new.web s)
+      → SinkWent stands result (contents old.sink) (contents new.sink) (flushed new.sink) is_over new.web s)
       → ((i : ℕ)
       → ShowsSame tells over calls failed old.web.nodes.items new.web.nodes.items i)
       → new.failure ≡ result → new.turns ≡ old.turns + 1 → new.actors ≡ old.actors
-      → HasTurned stands tells over contents flushed k old new
+      → HasTurned stands tells over contents flushed k old new is_over
   sink_turned calls failed None here went shows failure more list = record {
     reads = only k [];
     others = only_else k [];
@@ -367,11 +376,11 @@ module _ {F W S : Type 0} (stands : Node F W → List ℕ → At → Type 0)
           at = at;
           some = sym (ready_sink (plan_of s) s.size k now.links (omega (arith, is))) ∙ go;
         }) in
-        goes stands contents flushed start s old now k [] h r new t.done.new t.sent
+        goes stands contents flushed start s old now k [] h r new t.done.new t.sent is_over
         (step_does (plan_of s) s.size k (Takes (last (plan_of s))) now.links t.done.new
         (omega (arith, is)) go (sink_state (plan_of s) now.links k (omega (arith, is))) (λ e. cc)
         t.done.does)
-        (nothing_more stands k new.web s t.done.new t.done.stand) t.appends t.taken t.over failure
+        (nothing_more stands k new.web s t.done.new t.done.stand) t.appends t.taken t.over t.tells failure
         more list;
   }
   sink_turned calls failed (Some by) here went shows failure more list = record {
@@ -387,9 +396,9 @@ module _ {F W S : Type 0} (stands : Node F W → List ℕ → At → Type 0)
           at = at;
           some = sym (ready_sink (plan_of s) s.size k now.links (omega (arith, is))) ∙ go;
         }) in
-        fails stands contents flushed start s old now k [] h r new by t.part within
-        (subst (λ i. MayFail (plan_of s) i text_of now.links by t.part) (sym is) t.may) t.appends
-        failure more list;
+        fails stands contents flushed start s old now k [] h r new by t.0.part is_over within
+        (subst (λ i. MayFail (plan_of s) i text_of now.links by t.0.part) (sym is) t.0.may) t.0.appends
+        t.1 failure more list;
   }
 
 pub or_false : (b : Bool) → b ≡ (b || false)
@@ -427,6 +436,35 @@ pub has_told : {A : Type 0} {b : Bool} (o : Option A) (r : A) → b ≡ is_some 
 has_told None r e t f = absurd (false≢true (sym e ∙ t))
 has_told (Some x) r e t f = ap Some (sym (f x refl))
 
+-- A net tells by itself whether its run is over, whatever it stands for.
+module _ {F W S : Type 0} (stands : Node F W → List ℕ → At → Type 0)
+    (contents : S → Option (List ℕ)) (flushed : S → Bool) (net : Net F W S)
+    (start other : Option (List ℕ)) (s t : Scene) (now one : Now Row)
+    (h : NetAt stands contents flushed start s net now)
+    (i : NetAt stands contents flushed other t net one) where
+  heard_alike : net.failure ≡ None
+      → (now.links (last (plan_of s))).heard ≡ (one.links (last (plan_of t))).heard
+  heard_alike none =
+      let a = h.going (sym h.failure ∙ none) in
+      let b = i.going (sym i.failure ∙ none) in
+      let l = link_of stands (last (plan_of s)) net.web (moved s now.links) (last_less s.count h.plan.ok.some) a in
+      let same : last (plan_of s) ≡ last (plan_of t) = ap pred (sym a.count ∙ b.count) in
+      sym (a.links (last (plan_of s)) l.0 l.1).heard
+      ∙ (b.links (last (plan_of t)) l.0 (ap (slice_get net.web.links.items) (sym same) ∙ l.1)).heard
+
+  by_failure : (f : Option RunResult) → net.failure ≡ f
+      → result (plan_of s) now ≡ result (plan_of t) one
+  by_failure None e =
+      ap (λ f. ended_by f (now.links (last (plan_of s))).heard) (sym h.failure ∙ e)
+      ∙ ap (ended_by None) (heard_alike e)
+      ∙ ap (λ f. ended_by f (one.links (last (plan_of t))).heard) (sym (sym i.failure ∙ e))
+  by_failure (Some x) e =
+      ap (λ f. ended_by f (now.links (last (plan_of s))).heard) (sym h.failure ∙ e)
+      ∙ ap (λ f. ended_by f (one.links (last (plan_of t))).heard) (sym (sym i.failure ∙ e))
+
+  pub ends_alike : result (plan_of s) now ≡ result (plan_of t) one
+  ends_alike = by_failure net.failure refl
+
 none_failed : (f : Option RunResult) (o : Option End) → ended_by f o ≡ None → f ≡ None
 none_failed None o e = refl
 none_failed (Some x) o e = absurd (none-some x (sym e))
@@ -447,6 +485,19 @@ module _ {F W S : Type 0} (stands : Node F W → List ℕ → At → Type 0)
       → b ≡ ready (plan_of s) s.size now.links k → b ≡ is_ready (plan_of s) s.size now k
   ready_going o b is e r =
       r ∙ ap (λ x. is_none x && ready (plan_of s) s.size now.links k) (sym (sym is ∙ e))
+
+  -- as the web sees it
+  pub actor_now : result (plan_of s) now ≡ None → k ≤ s.count → IsActor stands k net.web (moved s now.links)
+  actor_now none within = record {
+    at = running stands contents flushed start s net now h (unfailed_now none);
+    within = within;
+  }
+
+  pub ready_by : (b : Bool) → result (plan_of s) now ≡ None → k ≤ s.count
+      → ((t : Scene) → IsActor stands k net.web t → b ≡ ready (plan_of t) t.size t.links k)
+      → b ≡ is_ready (plan_of s) s.size now k
+  ready_by b none within tells =
+      ready_going None b (sym none) refl (tells (moved s now.links) (actor_now none within))
 
   pub ready_over : (o : Option RunResult) (x : RunResult) → o ≡ result (plan_of s) now
       → o ≡ Some x → false ≡ is_ready (plan_of s) s.size now k

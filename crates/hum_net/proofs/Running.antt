@@ -2,7 +2,7 @@
 use Rattle.std.proofs.Common.{◌≡◌, ◌∙◌, ℕ, ◌+◌, ◌<◌, ◌≤◌, Bool, true, false, List, [], ◌∷◌, ◌++◌}
 use Rattle.std.proofs.Common.{map, length, take, Option, Some, None, refl, sym, ap, subst, arith, ◌⊎◌}
 use Rattle.std.proofs.Common.{inl, inr, ⊎_elim, append_assoc, add-one, slice_set, get_or, zero, suc, Vec, Global}
-use Rattle.std.proofs.lemmas.Bool.{false≢true}
+use Rattle.std.proofs.lemmas.Bool.{false≢true, cases_Bool, cases_lt, cases_eq, and_from}
 use Rattle.std.proofs.Math.Path.{fun_ext}
 use Rattle.std.proofs.Math.Seq.{take-suc-set}
 use Rattle.std.proofs.lemmas.List.{map-append}
@@ -18,7 +18,7 @@ use Rattle.hum_turns.specs.Meaning.{IsNumbered, first_fault}
 use Rattle.hum_turns.specs.Failures.{Now, HoldsNow, IsFailure, ended_by, result, result_of, written, is_ready}
 use Rattle.hum_turns.specs.Orders.{Order, upto, some_true, ready_list, chosen, Driven, IsLeftmost}
 use Rattle.hum_turns.proofs.Writing.{every_turn, still}
-use Rattle.std.specs.Prelude.{is_some}
+use Rattle.std.specs.Prelude.{is_some, is_none}
 use Rattle.hum_turns.specs.Counts.{most_in_all}
 use Rattle.hum_turns.specs.Holds.{SomeReady}
 use Rattle.hum_turns.proofs.Picking.{going_on, goes_on, driven_more, entry}
@@ -44,15 +44,17 @@ use Rattle.hum_turns.specs.Meaning.{plan_meaning}
 use Rattle.hum_nodes.specs.Fine.{fine, IsFine}
 use Rattle.hum_nodes.proofs.Fining.{fine_is}
 use Rattle.hum_net.specs.Scene.{TakesFrom, IsActor, moved}
-use Rattle.hum_net.specs.Nets.{Known, asked, AreAmong, GoesTo, IsChanged, Sees, HasPicked}
+use Rattle.hum_net.specs.Nets.{Known, asked, AreAmong, GoesTo, IsChanged, Sees, HasPicked, MayAsk}
 use Rattle.hum_net.proofs.Flags.{took, touched_below, as_listed}
-use Rattle.hum_net.proofs.Leftmost.{leftmost_choice, left_as_ready, left_of_first}
-use Rattle.hum_net.proofs.Netting.{is_at, unfailed_now}
+use Rattle.hum_net.proofs.Leftmost.{leftmost_is, leftmost_choice, left_as_ready, left_of_first}
+use Rattle.hum_net.proofs.Netting.{is_at, unfailed_now, ends_alike, not_over}
 
--- While a run goes on, the actor whose turn is next can be told: its flags say who is ready, and what is
--- known of readers is so, or, where the order is a leftmost one, nobody to the left of one is ready.
-pub record Listed {F W S : Type 0} (leftmost : Bool) (from : ℕ) (s : Scene) (now : Now Row)
-    (net : Net F W S) : Type 0 where
+-- It is known whether the run is over. While it goes on, the actor whose turn is next can be told: its
+-- flags say who is ready, and what is known of readers is so, or, where the order is a leftmost one,
+-- nobody to the left of one is ready.
+pub record Listed {F W S : Type 0} (leftmost : Bool) (from : ℕ) (is_over : Bool) (s : Scene)
+    (now : Now Row) (net : Net F W S) : Type 0 where
+  pub tells : is_over ≡ is_some (result (plan_of s) now)
   pub sees : result (plan_of s) now ≡ None → Sees leftmost from s now net
   pub within : result (plan_of s) now ≡ None → from ≤ s.count
   pub known : leftmost ≡ false → result (plan_of s) now ≡ None → (t r : ℕ)
@@ -61,8 +63,8 @@ pub record Listed {F W S : Type 0} (leftmost : Bool) (from : ℕ) (s : Scene) (n
 -- What the turns so far have led to, however the bytes go on.
 pub record Ran {F W S O : Type 0} (stands : Node F W → List ℕ → At → Type 0)
     (remaining : F → Option (List ℕ)) (ended : F → Bool) (contents : S → Option (List ℕ))
-    (flushed : S → Bool) (order : Order O) (leftmost : Bool) (from : ℕ) (o p : O) (old new : Net F W S)
-    : Type 0 where
+    (flushed : S → Bool) (order : Order O) (leftmost : Bool) (from : ℕ) (is_over : Bool) (o p : O)
+    (old new : Net F W S) : Type 0 where
   pub reads : ℕ → List ℕ
   pub read : (i : ℕ)
       → HasRead (ended_at ended i old.web.nodes.items) (ended_at ended i new.web.nodes.items)
@@ -71,7 +73,7 @@ pub record Ran {F W S O : Type 0} (stands : Node F W → List ℕ → At → Typ
   pub leads : (start : Option (List ℕ)) (s : Scene) (now : Now Row)
       → AreOver ended new.web.nodes.items s.rests
       → NetAt stands contents flushed start (before_all reads s) old now
-      → (d : Leads stands contents flushed order o p start s now new) × Listed leftmost from s d.to new
+      → (d : Leads stands contents flushed order o p start s now new) × Listed leftmost from is_over s d.to new
 
 -- flags alone, or readers alone
 pub flags_alone : {F W S : Type 0} (a b : Net F W S) → a ≡ record b { actors = a.actors }
@@ -156,6 +158,23 @@ module _ {F W S : Type 0} (stands : Node F W → List ℕ → At → Type 0)
       let n = going_on (plan_of s) s.size now now.failure (now.links (last (plan_of s))).heard none in
       (holds_at.holds n.0).1.progress (ap is_some n.1)
 
+  -- nobody up to an actor is ready, so it isn't the last
+  pub goes_past : (k : ℕ) → result (plan_of s) now ≡ None → k ≤ s.count
+      → ((j : ℕ) → j < k → is_ready (plan_of s) s.size now j ≡ false)
+      → is_ready (plan_of s) s.size now k ≡ false → k < s.count
+  goes_past k none within left isnt =
+      let some = some_actor none in
+      let actor = some.actor in
+      let below = some.within in
+      let is : is_ready (plan_of s) s.size now actor ≡ true = and_from _ _ (ap is_none none) some.is_ready in
+      ⊎_elim
+      (λ less. absurd (false≢true (sym (left actor less) ∙ is)))
+      (λ more. ⊎_elim
+      (λ (here : actor ≡ k). absurd (false≢true (sym isnt ∙ ap (is_ready (plan_of s) s.size now) (sym here) ∙ is)))
+      (λ (other : actor ≢ k). omega (arith, more, other, below))
+      (cases_eq actor k))
+      (cases_lt actor k)
+
   pub turns_at_most : now.failure ≡ None → length h.turns ≤ most_in_all (plan_of s) now.links
   turns_at_most none = (holds_at.holds none).1.all
 
@@ -235,15 +254,17 @@ told_write None None r e = absurd (none-some r e)
 module _ {F W S O : Type 0} (stands : Node F W → List ℕ → At → Type 0)
     (remaining : F → Option (List ℕ)) (ended : F → Bool) (contents : S → Option (List ℕ))
     (flushed : S → Bool) (order : Order O) (leftmost : Bool) where
-  pub ran_none : (o : O) (old new : Net F W S)
+  pub ran_none : (is_over : Bool) (o : O) (old new : Net F W S)
+      → ((start : Option (List ℕ)) (s : Scene) (now : Now Row)
+      → NetAt stands contents flushed start s new now → is_over ≡ is_some (result (plan_of s) now))
       → new ≡ record old { actors = new.actors; readers = new.readers }
       → length new.actors.items ≡ length old.actors.items
       → ((start : Option (List ℕ)) (s : Scene) (now : Now Row)
       → NetAt stands contents flushed start s old now → result (plan_of s) now ≡ None
       → (new.actors.items ≡ ready_list (plan_of s) s.size now)
       × ((t r : ℕ) → slice_get new.readers.items t ≢ Some (Some r)))
-      → Ran stands remaining ended contents flushed order leftmost 0 o o old new
-  ran_none o old new same len list = record {
+      → Ran stands remaining ended contents flushed order leftmost 0 is_over o o old new
+  ran_none is_over o old new tells same len list = record {
     reads = λ i. [];
     read = λ i.
         subst
@@ -259,6 +280,7 @@ module _ {F W S O : Type 0} (stands : Node F W → List ℕ → At → Type 0)
         at = relisted stands contents flushed start s old new now same len h;
       },
       record {
+        tells = tells start s now (relisted stands contents flushed start s old new now same len h);
         sees = λ none. record {
           flags = λ isnt. (list start s now h none).0;
           left = λ is j less. absurd (omega (arith, less));
@@ -294,14 +316,15 @@ module _ {F W S O : Type 0} (stands : Node F W → List ℕ → At → Type 0)
   }
 
   -- a moment that the net stands for, with what is known of who is ready
-  pub record Standing (from : ℕ) (net : Net F W S) : Type 0 where
+  pub record Standing (from : ℕ) (is_over : Bool) (net : Net F W S) : Type 0 where
     pub running : IsRunning stands contents flushed net
-    pub listed : Listed leftmost from running.scene running.now net
+    pub listed : Listed leftmost from is_over running.scene running.now net
 
-  pub witness : (from : ℕ) (o p : O) (old new : Net F W S) → IsNet stands ended contents flushed old
-      → Ran stands remaining ended contents flushed order leftmost from o p old new
-      → Standing from new
-  witness from o p old new r ran =
+  pub witness : (from : ℕ) (is_over : Bool) (o p : O) (old new : Net F W S)
+      → IsNet stands ended contents flushed old
+      → Ran stands remaining ended contents flushed order leftmost from is_over o p old new
+      → Standing from is_over new
+  witness from is_over o p old new r ran =
       let s : Scene = record (r.scene (λ i. ran.reads i ++ [])) { rests = λ i. [] } in
       let now = r.now (λ i. ran.reads i ++ []) in
       let d = ran.leads r.start s now (no_rests new)
@@ -311,16 +334,143 @@ module _ {F W S O : Type 0} (stands : Node F W → List ℕ → At → Type 0)
         listed = d.1;
       }
 
+  -- whatever the net stands for
+  pub told_all : (from : ℕ) (is_over : Bool) (o p : O) (old new : Net F W S)
+      → IsNet stands ended contents flushed old
+      → Ran stands remaining ended contents flushed order leftmost from is_over o p old new
+      → (start : Option (List ℕ)) (s : Scene) (now : Now Row)
+      → NetAt stands contents flushed start s new now → is_over ≡ is_some (result (plan_of s) now)
+  told_all from is_over o p old new r ran start s now h =
+      let st = witness from is_over o p old new r ran in
+      let w = st.running in
+      st.listed.tells
+      ∙ ap is_some (ends_alike stands contents flushed new w.start start w.scene s w.now now w.at h)
+
+  -- The actor that is asked next: the order's pick, or of a leftmost order this one.
+  module _ (from k : ℕ) (p q : O) (net : Net F W S)
+      (here : leftmost ≡ true → (k ≡ from) × (q ≡ p) × IsLeftmost order.pick order.next p)
+      (picked_by : (leftmost ≡ false → (start : Option (List ℕ)) (s : Scene) (now : Now Row)
+      → NetAt stands contents flushed start s net now → result (plan_of s) now ≡ None
+      → Sees false from s now net → HasPicked order (plan_of s) s.size p q now k)) where
+    chosen_now : leftmost ≡ false → (start : Option (List ℕ)) (s : Scene) (now : Now Row)
+        → NetAt stands contents flushed start s net now → result (plan_of s) now ≡ None
+        → Sees leftmost from s now net → (k ≤ s.count) × (is_ready (plan_of s) s.size now k ≡ true)
+    chosen_now isnt start s now h none sees =
+        let picks = picked_by isnt start s now h none (subst (λ b. Sees b from s now net) isnt sees) in
+        let list = ready_list (plan_of s) s.size now in
+        picked stands contents flushed start s net now h list (order.pick p list) k none refl picks.choice
+
+    pub may_ask_next : (is_over : Bool) (st : Standing from is_over net)
+        → result (plan_of st.running.scene) st.running.now ≡ None → MayAsk stands contents flushed k net
+    may_ask_next is_over st none =
+        let w = st.running in
+        record {
+          running = w;
+          going = none;
+          within = ⊎_elim
+              (λ is. subst (λ i. i ≤ w.scene.count) (sym (here is).0) (st.listed.within none))
+              (λ isnt. (chosen_now isnt w.start w.scene w.now w.at none (st.listed.sees none)).0)
+              (cases_Bool leftmost);
+        }
+
+    -- it is ready, so it is the order's choice
+    pub picks : ((start : Option (List ℕ)) (s : Scene) (now : Now Row)
+        → NetAt stands contents flushed start s net now → result (plan_of s) now ≡ None → k ≤ s.count
+        → is_ready (plan_of s) s.size now k ≡ true)
+        → (start : Option (List ℕ)) (s : Scene) (now : Now Row)
+        → NetAt stands contents flushed start s net now → result (plan_of s) now ≡ None → from ≤ s.count
+        → Sees leftmost from s now net → HasPicked order (plan_of s) s.size p q now k
+    picks is_ready_now start s now h none within sees = ⊎_elim
+        (λ is.
+        let at = here is in
+        let within_here : k ≤ s.count = subst (λ i. i ≤ s.count) (sym at.0) within in
+        record {
+          choice = leftmost_is s now k within_here (is_ready_now start s now h none within_here)
+              (λ j less. sees.left is j (subst (λ i. j < i) at.0 less))
+              ∙ sym (leftmost_choice order s p now at.2);
+          next = at.1 ∙ sym (at.2.stays (ready_list (plan_of s) s.size now));
+        })
+        (λ isnt. picked_by isnt start s now h none (subst (λ b. Sees b from s now net) isnt sees))
+        (cases_Bool leftmost)
+
+    -- It isn't ready, so the order is a leftmost one, and nobody to the left of the next one is.
+    module _ (is_over : Bool) (o : O) (old : Net F W S)
+        (unready : (start : Option (List ℕ)) (s : Scene) (now : Now Row)
+        → NetAt stands contents flushed start s net now → result (plan_of s) now ≡ None → k ≤ s.count
+        → is_ready (plan_of s) s.size now k ≡ false)
+        (ran : Ran stands remaining ended contents flushed order leftmost from is_over o p old net) where
+      ran_behind : leftmost ≡ true
+          → Ran stands remaining ended contents flushed order leftmost (k + 1) is_over o q old net
+      ran_behind is =
+          let at = here is in
+          record {
+            reads = ran.reads;
+            read = ran.read;
+            leads = λ start s now over h.
+                let d = ran.leads start s now over h in
+                let l = d.0 in
+                let within : result (plan_of s) l.to ≡ None → k ≤ s.count =
+                λ none. subst (λ i. i ≤ s.count) (sym at.0) (d.1.within none) in
+                let left : result (plan_of s) l.to ≡ None → (j : ℕ) → j < k
+                → is_ready (plan_of s) s.size l.to j ≡ false =
+                λ none j less. (d.1.sees none).left is j (subst (λ i. j < i) at.0 less) in (
+                  record {
+                    turns = l.turns;
+                    to = l.to;
+                    driven = subst (λ x. Driven order (plan_of s) s.size text_of o now l.turns l.to x)
+                        (sym at.1) l.driven;
+                    at = l.at;
+                  },
+                  record {
+                    tells = d.1.tells;
+                    sees = λ none. record {
+                      flags = λ isnt. absurd (false≢true (sym isnt ∙ is));
+                      left = λ yes j less. ⊎_elim
+                          (λ lower. left none j lower)
+                          (λ upper.
+                          let same : j ≡ k = omega (arith, upper, less) in
+                          ap (is_ready (plan_of s) s.size l.to) same
+                          ∙ unready start s l.to l.at none (within none))
+                          (cases_lt j k);
+                    };
+                    within = λ none.
+                        let past = goes_past stands contents flushed start s net l.to l.at k none (within none)
+                        (left none) (unready start s l.to l.at none (within none)) in
+                        omega (arith, past);
+                    known = λ isnt. absurd (false≢true (sym isnt ∙ is));
+                  },
+                );
+          }
+
+      asked_last : IsNet stands ended contents flushed old → is_over ≡ false → leftmost ≡ false → ⊥
+      asked_last r goes isnt =
+          let st = witness from is_over o p old net r ran in
+          let w = st.running in
+          let none = not_over _ st.listed.tells goes in
+          let ready = chosen_now isnt w.start w.scene w.now w.at none (st.listed.sees none) in
+          false≢true (sym (unready w.start w.scene w.now w.at none ready.0) ∙ ready.1)
+
+      pub is_leftmost_one : IsNet stands ended contents flushed old → is_over ≡ false → leftmost ≡ true
+      is_leftmost_one r goes = ⊎_elim (λ is. is) (λ isnt. absurd (asked_last r goes isnt)) (cases_Bool leftmost)
+
+      pub ran_past : (new : Net F W S) → new ≡ net → IsNet stands ended contents flushed old
+          → is_over ≡ false
+          → Ran stands remaining ended contents flushed order leftmost (k + 1) is_over o q old new
+      ran_past new same r goes =
+          subst
+          (λ n. Ran stands remaining ended contents flushed order leftmost (k + 1) is_over o q old n)
+          (sym same) (ran_behind (is_leftmost_one r goes))
+
   -- one turn more
-  module _ (from k link : ℕ) (o p q : O) (old net after : Net F W S)
-      (ran : Ran stands remaining ended contents flushed order leftmost from o p old net)
+  module _ (from k link : ℕ) (was is_over : Bool) (o p q : O) (old net after : Net F W S)
+      (ran : Ran stands remaining ended contents flushed order leftmost from was o p old net)
       (going : (start : Option (List ℕ)) (s : Scene) (now : Now Row)
       → NetAt stands contents flushed start s net now → result (plan_of s) now ≡ None)
       (picked_by : (start : Option (List ℕ)) (s : Scene) (now : Now Row)
       → NetAt stands contents flushed start s net now → result (plan_of s) now ≡ None
-      → Sees leftmost from s now net → HasPicked order (plan_of s) s.size p q now k)
+      → from ≤ s.count → Sees leftmost from s now net → HasPicked order (plan_of s) s.size p q now k)
       (links : (s : Scene) → IsActor stands k net.web s → IsChanged k s after.failure link)
-      (turned : HasTurned stands remaining ended contents flushed k net after)
+      (turned : HasTurned stands remaining ended contents flushed k net after is_over)
       (same_readers : after.readers ≡ net.readers) where
     joined : ℕ → List ℕ
     joined i = ran.reads i ++ turned.reads i
@@ -332,7 +482,7 @@ module _ {F W S O : Type 0} (stands : Node F W → List ℕ → At → Type 0)
       sees : Sees leftmost from s before.to net
       picks : HasPicked order (plan_of s) s.size p q before.to k
       within : k ≤ s.count
-      goes : GoesTo stands contents flushed start s k before.to after
+      goes : GoesTo stands contents flushed start s k before.to after is_over
       link_is : IsChanged k (moved s before.to.links) after.failure link
       knows : leftmost ≡ false → (t r : ℕ) → Known after.readers.items k link t r
           → TakesFrom s.count s.kinds r t
@@ -353,7 +503,7 @@ module _ {F W S O : Type 0} (stands : Node F W → List ℕ → At → Type 0)
         let d = ran.leads start mid now over_mid before in
         let none = going start mid d.0.to d.0.at in
         let sees = d.1.sees none in
-        let picks = picked_by start mid d.0.to d.0.at none sees in
+        let picks = picked_by start mid d.0.to d.0.at none (d.1.within none) sees in
         let list = ready_list (plan_of s) s.size d.0.to in
         let may = picked stands contents flushed start mid net d.0.to d.0.at list (order.pick p list) k none
         refl picks.choice in
@@ -422,7 +572,7 @@ module _ {F W S O : Type 0} (stands : Node F W → List ℕ → At → Type 0)
 
     -- A leftmost order goes on from the link.
     pub ran_left : leftmost ≡ true → IsLeftmost order.pick order.next p
-        → Ran stands remaining ended contents flushed order leftmost link o q old after
+        → Ran stands remaining ended contents flushed order leftmost link is_over o q old after
     unfolding joined next_at leads_more
     ran_left is leans = record {
       reads = λ i. ran.reads i ++ turned.reads i;
@@ -432,6 +582,7 @@ module _ {F W S O : Type 0} (stands : Node F W → List ℕ → At → Type 0)
           let first = n.picks.choice ∙ leftmost_choice order s p n.before.to leans in (
             leads_more start s now n,
             record {
+              tells = n.goes.tells;
               sees = λ none. record {
                 flags = λ isnt. absurd (false≢true (sym isnt ∙ is));
                 left = λ is j less.
@@ -497,7 +648,7 @@ module _ {F W S O : Type 0} (stands : Node F W → List ℕ → At → Type 0)
           → link ≤ s.count → IfSome who (λ r. r ≤ s.count)
           → new.actors.items ≡ asked (is_ready (plan_of s) s.size now) s.count told.actors.items link who)
           → length new.actors.items ≡ length told.actors.items
-          → Ran stands remaining ended contents flushed order leftmost link o q old new
+          → Ran stands remaining ended contents flushed order leftmost link is_over o q old new
       unfolding joined next_at leads_more
       ran_more new same_actors flagged again len =
           let nodes : new.web.nodes ≡ after.web.nodes =
@@ -524,6 +675,7 @@ module _ {F W S O : Type 0} (stands : Node F W → List ℕ → At → Type 0)
                         (flags_alone new told flagged) len at_told;
                   },
                   record {
+                    tells = n.goes.tells;
                     sees = λ none. record {
                       flags = λ is.
                           again start s n.goes.to at_told none (link_within start s now n)
@@ -545,12 +697,12 @@ module _ {F W S O : Type 0} (stands : Node F W → List ℕ → At → Type 0)
           }
 
   -- the run is over
-  pub ran_to : (from : ℕ) (o p : O) (old new : Net F W S) (by : RunResult)
-      → Ran stands remaining ended contents flushed order leftmost from o p old new
+  pub ran_to : (from : ℕ) (is_over : Bool) (o p : O) (old new : Net F W S) (by : RunResult)
+      → Ran stands remaining ended contents flushed order leftmost from is_over o p old new
       → ((start : Option (List ℕ)) (s : Scene) (now : Now Row)
       → NetAt stands contents flushed start s new now → result (plan_of s) now ≡ Some by)
       → HasRun stands remaining ended contents flushed order o p old new by
-  ran_to from o p old new by ran is = record {
+  ran_to from is_over o p old new by ran is = record {
     reads = ran.reads;
     read = ran.read;
     runs = λ start s now over h.

@@ -1,5 +1,6 @@
 -- What the sink writes.
-use Rattle.std.proofs.Common.{◌≡◌, ◌∙◌, ℕ, List, [], ◌∷◌, ◌++◌, Option, Some, None, refl, sym, ap, subst, append-nil, true, Bool, is_none}
+use Rattle.std.proofs.Common.{◌≡◌, ◌∙◌, ℕ, List, [], ◌∷◌, ◌++◌, Option, Some, None, refl, sym, ap, subst, append-nil, true, false}
+use Rattle.std.proofs.Common.{Bool, is_none, is_some}
 use Rattle.std.proofs.lemmas.Bool.{and_parts, false≢true}
 use Rattle.std.proofs.lemmas.Option.{none-some, same_Some}
 use Rattle.std.specs.Io.KnownBytes.{Appends}
@@ -44,20 +45,23 @@ not_heard l some = none_by l.heard (and_parts _ _ some).0
     none_by (Some x) e = absurd (false≢true e)
 
 module _ {F W : Type 0} (stands : Node F W → List ℕ → At → Type 0) (web : Web F W) (s : Scene)
-    (old new : Option (List ℕ)) (flushed : Bool) where
+    (old new : Option (List ℕ)) (flushed is_over : Bool) where
   abbrev l : Link Row
   l = s.links (last (plan_of s))
 
   -- where no failure has come
-  pub went : (failure : Option RunResult) → failure ≡ None → Sent stands old new flushed web s
-      → SinkWent stands failure old new flushed web s
-  went failure none sent = subst (λ f. SinkWent stands f old new flushed web s) (sym none) sent
+  pub went : (failure : Option RunResult) → failure ≡ None → Sent stands old new flushed is_over web s
+      → SinkWent stands failure old new flushed is_over web s
+  went failure none sent = subst (λ f. SinkWent stands f old new flushed is_over web s) (sym none) sent
 
   pub sent_record : (answer : Next) (x : Row)
       → Done stands s.count (Takes (last (plan_of s))) web s → answer ≡ next_of l.waiting l.mark
-      → answer ≡ next.Record x → l.heard ≡ None → Appends old new (text_of x ++ 10 ∷ []) → Sent stands old new flushed web s
-  sent_record answer x d told is none a =
+      → answer ≡ next.Record x → l.heard ≡ None → Appends old new (text_of x ++ 10 ∷ []) → is_over ≡ false
+      → Sent stands old new flushed is_over web s
+  sent_record answer x d told is none a goes =
       let v = next_record l l.waiting x (sym is ∙ told) in
+      let still : (d.new (last (plan_of s))).heard ≡ None =
+      ap (λ (j : Link Row). j.heard) d.does.here ∙ ap (λ (f : Flow Row). f.end) v ∙ none in
       record {
         done = d;
         sent = text_of x ++ 10 ∷ [];
@@ -66,14 +70,15 @@ module _ {F W : Type 0} (stands : Node F W → List ℕ → At → Type 0) (web 
             ∙ ap (λ (f : Flow Row). text text_of f.items) v
             ∙ text_append text_of l.taken (x ∷ [])
             ∙ ap (λ t. text text_of l.taken ++ t) (append-nil (text_of x ++ 10 ∷ []));
-        over = λ e h. absurd (none-some e
-            (sym none ∙ sym (ap (λ (j : Link Row). j.heard) d.does.here ∙ ap (λ (f : Flow Row). f.end) v) ∙ h));
+        over = λ e h. absurd (none-some e (sym still ∙ h));
+        tells = goes ∙ sym (ap is_some still);
       }
 
   pub sent_end : (answer : Next) (e : End)
       → Done stands s.count (Takes (last (plan_of s))) web s → answer ≡ next_of l.waiting l.mark
-      → answer ≡ next.End e → Appends old new [] → flushed ≡ true → Sent stands old new flushed web s
-  sent_end answer e d told is a done =
+      → answer ≡ next.End e → Appends old new [] → flushed ≡ true → is_over ≡ true
+      → Sent stands old new flushed is_over web s
+  sent_end answer e d told is a done ends =
       let v = next_end l l.waiting e (sym is ∙ told) in
       record {
         done = d;
@@ -83,6 +88,8 @@ module _ {F W : Type 0} (stands : Node F W → List ℕ → At → Type 0) (web 
             ∙ ap (λ (f : Flow Row). text text_of f.items) v
             ∙ sym (append-nil (text text_of l.taken));
         over = λ e h. done;
+        tells = ends
+            ∙ sym (ap is_some (ap (λ (j : Link Row). j.heard) d.does.here ∙ ap (λ (f : Flow Row). f.end) v));
       }
 
   pub sent_part : (answer : Next) (x : Row) → answer ≡ next_of l.waiting l.mark

@@ -1,5 +1,5 @@
 -- The turn of a stage that isn't a source, by the kind of what it does next.
-use Rattle.std.proofs.Common.{◌≡◌, ◌∙◌, ℕ, ◌<◌, true, false, List, Result, Ok, Err, Some, sym, subst, slice_get, arith, nat_lt}
+use Rattle.std.proofs.Common.{◌≡◌, ◌∙◌, ℕ, ◌<◌, true, false, List, Result, Ok, Err, sym, subst, arith, nat_lt}
 use Rattle.std.proofs.Common.{ap, le-ltb}
 use Rattle.std.proofs.lemmas.Bool.{cond-false}
 use Rattle.std.specs.Prelude.{OnOk, IfOk}
@@ -10,30 +10,24 @@ use Rattle.hum_turns.proofs.States.{reads_bytes}
 use Rattle.hum_nodes.specs.declared.node.Doing.{Doing}
 use Rattle.hum_nodes.specs.declared.node.Doing.TheVariants as does
 use Rattle.hum_nodes.specs.declared.node.DoingKind.{DoingKind}
-use Rattle.hum_nodes.specs.At.{At, doing_of, kind_of, bytes_of}
+use Rattle.hum_nodes.specs.At.{At, doing_of, kind_of}
 use Rattle.hum_nodes.specs.declared.either.Node.{Node}
-use Rattle.hum_nodes.specs.Nodes.{is_source, StandsAs}
 use Rattle.hum_net.specs.declared.web.Web.{Web}
-use Rattle.hum_net.specs.Scene.{Scene, plan_of, at_of, IsAt, MayAct, IsAbout, Done}
+use Rattle.hum_net.specs.Scene.{Scene, plan_of, at_of, MayAct, IsAbout, IsAboutKind, Done}
 use Rattle.hum_net.proofs.Polling.{state_reads}
-use Rattle.hum_net.proofs.Turning.{about_kind, acting}
+use Rattle.hum_net.proofs.Turning.{acting}
 
-module _ {F W : Type 0} (feeds : F → List ℕ → At → Type 0) (works : W → At → Type 0) (k : ℕ)
-    (web : Web F W) (kind : DoingKind) (s : Scene) (node : Node F W)
-    (law : (w : W) (t : At) → works w t → bytes_of t ≡ 0) (at : IsAt (StandsAs feeds works) web s)
-    (less : k < s.count) (there : slice_get web.nodes.items k ≡ Some node) (is : is_source node ≡ false)
-    (tells : (rest : List ℕ) (t : At) → StandsAs feeds works node rest t → kind ≡ kind_of (doing_of t)) where
-  pub about_to : (doing : Doing)
+module _ {F W : Type 0} (stands : Node F W → List ℕ → At → Type 0) (k : ℕ) (web : Web F W)
+    (kind : DoingKind) (s : Scene) (a : IsAboutKind stands k kind web s) where
+  pub about_by : (doing : Doing)
       → (kind_of (doing_of (at_of s.kinds s.links k)) ≡ kind → doing_of (at_of s.kinds s.links k) ≡ doing)
-      → IsAbout (StandsAs feeds works) k doing web s
-  about_to doing find =
-      let a = about_kind feeds works k web kind s node law at less there is tells in
-      record { at = a.at; less = a.less; bytes = a.bytes; does = find a.does }
+      → IsAbout stands k doing web s
+  about_by doing find = record { at = a.at; less = a.less; bytes = a.bytes; does = find a.does }
 
-  pub may_do : (doing : Doing)
+  pub may_by : (doing : Doing)
       → (kind_of (doing_of (at_of s.kinds s.links k)) ≡ kind → doing_of (at_of s.kinds s.links k) ≡ doing)
-      → ready (plan_of s) s.size s.links k ≡ true → MayAct (StandsAs feeds works) k doing web s
-  may_do doing find = acting (StandsAs feeds works) k web doing s (about_to doing find)
+      → ready (plan_of s) s.size s.links k ≡ true → MayAct stands k doing web s
+  may_by doing find = acting stands k web doing s (about_by doing find)
 
 module _ {F W : Type 0} (stands : Node F W → List ℕ → At → Type 0) (k : ℕ) (old new : Web F W)
     (doing : Doing) (s : Scene) (may : MayAct stands k doing old s) where

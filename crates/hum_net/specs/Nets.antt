@@ -1,7 +1,7 @@
 -- What a net stands for: its web, what was written, and how it failed.
 use Rattle.std.specs.Prelude.{◌≡◌, ◌≢◌, ◌⊎◌, ℕ, ◌+◌, ◌<◌, ◌≤◌}
-use Rattle.std.specs.Prelude.{Bool, true, false, List, [], ◌++◌, length}
-use Rattle.std.specs.Prelude.{Option, Some, None, IfSome, map, slice_get, slice_set}
+use Rattle.std.specs.Prelude.{Bool, true, false, ◌||◌, List, [], ◌++◌, length}
+use Rattle.std.specs.Prelude.{Option, Some, None, IfSome, is_some, map, slice_get, slice_set}
 use Rattle.std.specs.Io.KnownBytes.{Appends}
 use Rattle.hum_record.specs.Row.{Row, text_of}
 use Rattle.hum_stage.specs.declared.faults.End.{End}
@@ -25,19 +25,22 @@ use Rattle.hum_nodes.specs.declared.either.Node.{Node}
 use Rattle.hum_nodes.specs.declared.either.Node.TheVariants.{Source}
 use Rattle.hum_net.specs.declared.web.Web.{Web}
 use Rattle.hum_net.specs.declared.net.Net.{Net}
-use Rattle.hum_net.specs.Readers.{ended_at, remaining_at}
+use Rattle.hum_net.specs.declared.net.Turned.{Turned}
+use Rattle.hum_net.specs.Readers.{ended_at, remaining_at, failed_at, is_read_of, is_write}
 use Rattle.hum_net.specs.Scene.{Scene, plan_of, moved, before_all, Stands, IsAt, IsNetPlan, IsBegun, Done}
-use Rattle.hum_net.specs.Scene.{MayTurn}
+use Rattle.hum_net.specs.Scene.{MayTurn, IsActor}
 
--- The sink has taken what came next, and has written the text of that; behind the end it was flushed.
+-- The sink has taken what came next, and has written the text of that; behind the end it was flushed,
+-- and the run is over.
 pub record Sent {F W : Type 0} (stands : Node F W → List ℕ → At → Type 0) (old new : Option (List ℕ))
-    (flushed : Bool) (web : Web F W) (s : Scene) : Type 0 where
+    (flushed is_over : Bool) (web : Web F W) (s : Scene) : Type 0 where
   pub done : Done stands s.count (Takes (last (plan_of s))) web s
   pub sent : List ℕ
   pub appends : Appends old new sent
   pub taken : text text_of (done.new (last (plan_of s))).taken
       ≡ text text_of (s.links (last (plan_of s))).taken ++ sent
   pub over : (e : End) → (done.new (last (plan_of s))).heard ≡ Some e → flushed ≡ true
+  pub tells : is_over ≡ is_some (done.new (last (plan_of s))).heard
 
 -- An actor has failed, and has written this much.
 pub record Failed (k : ℕ) (by : RunResult) (old new : Option (List ℕ)) (s : Scene) : Type 0 where
@@ -46,9 +49,10 @@ pub record Failed (k : ℕ) (by : RunResult) (old new : Option (List ℕ)) (s : 
   pub appends : Appends old new part
 
 abbrev pub SinkWent : {F W : Type 0} → (Node F W → List ℕ → At → Type 0) → Option RunResult
-    → Option (List ℕ) → Option (List ℕ) → Bool → Web F W → Scene → Type 0
-SinkWent stands None old new flushed web s = Sent stands old new flushed web s
-SinkWent stands (Some by) old new flushed web s = Failed s.count by old new s
+    → Option (List ℕ) → Option (List ℕ) → Bool → Bool → Web F W → Scene → Type 0
+SinkWent stands None old new flushed is_over web s = Sent stands old new flushed is_over web s
+SinkWent stands (Some by) old new flushed is_over web s =
+    Failed s.count by old new s × (is_over ≡ true)
 
 -- the sink is ready
 pub record MayWrite {F W : Type 0} (stands : Node F W → List ℕ → At → Type 0) (web : Web F W)
@@ -94,20 +98,21 @@ pub record MayGo {F W S : Type 0} (stands : Node F W → List ℕ → At → Typ
   pub within : k ≤ scene.count
   pub ready : is_ready (plan_of scene) scene.size now k ≡ true
 
--- a turn, and what the net stands for after it
+-- a turn, what the net stands for after it, and whether the run is over then
 pub record GoesTo {F W S : Type 0} (stands : Node F W → List ℕ → At → Type 0)
     (contents : S → Option (List ℕ)) (flushed : S → Bool) (start : Option (List ℕ)) (s : Scene)
-    (k : ℕ) (now : Now Row) (net : Net F W S) : Type 0 where
+    (k : ℕ) (now : Now Row) (net : Net F W S) (is_over : Bool) : Type 0 where
   pub to : Now Row
   pub turn : Turn (plan_of s) s.size text_of k now to
   pub at : NetAt stands contents flushed start s net to
+  pub tells : is_over ≡ is_some (result (plan_of s) to)
 
 -- The actor has had its turn: a source has read these bytes, no other source any. However they go
--- on, the plan that the net stood for goes on by one turn of this actor.
+-- on, the plan that the net stood for goes on by one turn of this actor, and is over or isn't.
 pub record HasTurned {F W S : Type 0} (stands : Node F W → List ℕ → At → Type 0)
     (remaining : F → Option (List ℕ)) (ended : F → Bool)
     (contents : S → Option (List ℕ)) (flushed : S → Bool) (k : ℕ) (old new : Net F W S)
-    : Type 0 where
+    (is_over : Bool) : Type 0 where
   pub reads : ℕ → List ℕ
   pub others : (i : ℕ) → i ≢ k → reads i ≡ []
   pub read : (i : ℕ)
@@ -118,7 +123,7 @@ pub record HasTurned {F W S : Type 0} (stands : Node F W → List ℕ → At →
       → AreOver ended new.web.nodes.items s.rests
       → NetAt stands contents flushed start (before_all reads s) old now → k ≤ s.count
       → is_ready (plan_of s) s.size now k ≡ true
-      → GoesTo stands contents flushed start s k now new
+      → GoesTo stands contents flushed start s k now new is_over
 
 -- it stands for some moment
 pub record IsRunning {F W S : Type 0} (stands : Node F W → List ℕ → At → Type 0)
@@ -150,6 +155,13 @@ pub record MayPick {F W S : Type 0} (stands : Node F W → List ℕ → At → T
   pub sees : Sees leftmost from running.scene running.now net
   pub within : from ≤ running.scene.count
 
+-- While the run goes on, this actor may be asked.
+pub record MayAsk {F W S : Type 0} (stands : Node F W → List ℕ → At → Type 0)
+    (contents : S → Option (List ℕ)) (flushed : S → Bool) (k : ℕ) (net : Net F W S) : Type 0 where
+  pub running : IsRunning stands contents flushed net
+  pub going : result (plan_of running.scene) running.now ≡ None
+  pub within : k ≤ running.scene.count
+
 -- The actor is the order's choice, and the order has gone on by its pick.
 pub record HasPicked {O : Type 0} (order : Order O) (plan : Plan Row) (size : ℕ) (o p : O)
     (now : Now Row) (actor : ℕ) : Type 0 where
@@ -160,6 +172,20 @@ pub record HasPicked {O : Type 0} (order : Order O) (plan : Plan Row) (size : �
 abbrev pub IsChanged : ℕ → Scene → Option RunResult → ℕ → Type 0
 IsChanged k s failure link =
     (link ≡ touched k (state (plan_of s) s.links k)) ⊎ ((link ≡ k) × (failure ≢ None))
+
+-- The actor has had its turn, which tells what it has come to. A failed read or write ends the run
+-- exactly where a call has failed, and nothing else of the net has changed.
+pub record HasGone {F W S : Type 0} (stands : Node F W → List ℕ → At → Type 0)
+    (remaining : F → Option (List ℕ)) (ended failed : F → Bool) (contents : S → Option (List ℕ))
+    (flushed broken : S → Bool) (k : ℕ) (old new : Net F W S) (answer : Turned) : Type 0 where
+  pub turned : HasTurned stands remaining ended contents flushed k old new answer.is_over
+  pub link : (s : Scene) → IsActor stands k old.web s → IsChanged k s new.failure answer.link
+  pub reads : (i : ℕ) → failed_at failed i new.web.nodes.items
+      ≡ (failed_at failed i old.web.nodes.items || is_read_of i new.failure)
+  pub writes : broken new.sink ≡ (broken old.sink || is_write new.failure)
+  pub turns : new.turns ≡ old.turns + 1
+  pub actors : new.actors ≡ old.actors
+  pub readers : new.readers ≡ old.readers
 
 -- Actor r is known to take from the link of stage t: it was learnt before, or this actor has just
 -- done so.

@@ -1,7 +1,7 @@
 -- What nodes and links stand for.
 use Rattle.std.specs.Prelude.{◌≡◌, ◌≢◌, ◌⊎◌, ℕ, ◌+◌, ◌<◌, ◌≤◌, Bool, true, false}
 use Rattle.std.specs.Prelude.{if◌then◌else◌, nat_eq, nat_lt, List, [], ◌++◌}
-use Rattle.std.specs.Prelude.{length, map, Option, Some, slice_get}
+use Rattle.std.specs.Prelude.{length, map, Option, Some, None, slice_get}
 use Rattle.std.specs.Io.KnownBytes.{Consumes, IsAtEnd}
 use Rattle.hum_record.specs.Row.{Row}
 use Rattle.hum_stage.specs.Meaning.{Meaning, IsWithinLag}
@@ -218,6 +218,14 @@ pub record IsAboutKind {F W : Type 0} (stands : Node F W → List ℕ → At →
   pub less : k < s.count
   pub bytes : (s.kinds k).stage.bytes ≡ 0
   pub does : kind_of (doing_of (at_of s.kinds s.links k)) ≡ kind
+
+-- What stage k does next, where it isn't a source. Of another actor nothing is said.
+abbrev pub IsDoing : {F W : Type 0} → (Node F W → List ℕ → At → Type 0) → ℕ → Web F W
+    → Option DoingKind → Type 0
+IsDoing stands k web None = IsKind true k web
+IsDoing stands k web (Some kind) =
+    IsKind false k web
+    × ((s : Scene) → IsAt stands web s → k < s.count → IsAboutKind stands k kind web s)
 
 -- Stage k has read these bytes, and the turn is what follows from them however they go on. A stage
 -- that isn't a source reads none.

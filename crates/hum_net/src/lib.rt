@@ -8,5 +8,5 @@
 mod net;
 mod web;
 
-pub use net::Net;
+pub use net::{Net, Turned};
 pub use web::Web;

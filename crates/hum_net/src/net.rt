@@ -4,23 +4,23 @@ ghost use Rattle.std.specs.Prelude.{IfSome, IfOk, IfErr, OnErr, length, is_some,
 ghost use Rattle.hum_record.specs.Row.{Row, text_of};
 ghost use Rattle.hum_turns.specs.Links.{linked};
 ghost use Rattle.hum_turns.specs.Failures.{Now, IsFirst, MayFail, is_ready, result as ended};
-ghost use Rattle.hum_turns.specs.Orders.{ready_list, first_true, IsLeftmost};
+ghost use Rattle.hum_turns.specs.Orders.{ready_list};
 ghost use Rattle.hum_nodes.specs.Nodes.{StandsAs};
 ghost use Rattle.hum_nodes.specs.Polls.{AsksAtMostOnce, HasStayed};
 ghost use Rattle.hum_net.specs.Readers.{ShowsSame, remaining_at, ended_at, calls_at, failed_at};
 ghost use Rattle.hum_net.specs.Readers.{is_read_of, is_write};
 ghost use Rattle.hum_net.specs.Scene.{Scene, plan_of, Somewhere, IsActor, IsAt, IsNetPlan, IsBegun, MayTurn};
-ghost use Rattle.hum_net.specs.Scene.{KeepsOthers, Fed, held_of, HoldsFew};
+ghost use Rattle.hum_net.specs.Scene.{KeepsOthers, Fed, held_of, HoldsFew, IsDoing};
 ghost use Rattle.hum_net.specs.Nets.{MayWrite, SinkWent, MayTurnFew, MayGo, HasTurned, IsRunning};
 ghost use Rattle.hum_turns.specs.Counts.{most_in_all};
 ghost use Rattle.hum_turns.specs.Holds.{SomeReady};
 ghost use Rattle.hum_net.specs.Nets.{WroteFront, IsGoing, IsStage, IsChanged, AreAmong, Known, asked};
 ghost use Rattle.hum_net.specs.Nets.{IsAmong, NetAt, AreBegun, Tells, HasRun, HasRunOn, IsNet};
-ghost use Rattle.hum_net.specs.Nets.{Sees, MayPick, HasPicked};
+ghost use Rattle.hum_net.specs.Nets.{Sees, MayPick, HasPicked, MayAsk, HasGone};
 
 use crate::web::Web;
 use hum_links::Next;
-use hum_nodes::{Feeds, Node, Works};
+use hum_nodes::{DoingKind, Feeds, Node, Works};
 use hum_read::ReadError;
 use hum_text::calls::Sink;
 use hum_turns::{Order, RunResult, choose};
@@ -40,18 +40,27 @@ pub struct Net<F, W, S> {
     readers: Vec<Option<usize>>,
 }
 
+/// What a turn has come to.
+#[derive(Clone, Copy, Debug, Drop, PartialEq, Eq)]
+pub struct Turned {
+    /// The link that it has changed; its own, where the actor has failed.
+    pub link: usize,
+    /// Whether the run is over.
+    pub is_over: bool,
+}
+
 impl<F: Feeds, W: Works, S: Sink> Net<F, W, S> {
     // Both tell in place how they failed: an answer would be taken to pieces as small as a fault's
     // fields, at each turn.
 
-    // The sink's turn.
+    // The sink's turn, and whether the run is over.
     #[inline(never)]
-    fn sink_turn(&mut self)
+    fn sink_turn(&mut self) -> bool
         requires none { self.old.failure ≡ None }
         requires may { Somewhere (IsAt (StandsAs F.stands W.stands) self.old.web) }
         ensures went { (s : Scene) → MayWrite (StandsAs F.stands W.stands) self.old.web s
             → SinkWent (StandsAs F.stands W.stands) self.new.failure (S.contents self.old.sink)
-            (S.contents self.new.sink) (S.flushed self.new.sink) self.new.web s }
+            (S.contents self.new.sink) (S.flushed self.new.sink) result self.new.web s }
         ensures marked { S.failed self.new.sink
             ≡ (S.failed self.old.sink || is_write self.new.failure) }
         ensures unread { (k : ℕ) → is_read_of k self.new.failure ≡ false }
@@ -63,7 +72,10 @@ impl<F: Feeds, W: Works, S: Sink> Net<F, W, S> {
     {
         match self.web.take_out() {
             Next::Record(row) => match write_record(&mut self.sink, row) {
-                Ok(row) => self.web.reuse(row),
+                Ok(row) => {
+                    self.web.reuse(row);
+                    return false;
+                }
                 Err(_) => self.failure = Some(RunResult::Write),
             },
             Next::End(_) => match self.sink.flush() {
@@ -72,17 +84,20 @@ impl<F: Feeds, W: Works, S: Sink> Net<F, W, S> {
             },
             Next::Nothing => {}
         }
+        true
     }
 
-    // A stage's turn, and the link that it has changed; its own, where it failed.
+    // A stage's turn, where it does this next.
     #[inline(always)]
-    fn stage_turn(&mut self, k: usize) -> usize
+    fn stage_turn(&mut self, k: usize, doing: Option<DoingKind>) -> Turned
         requires none { self.old.failure ≡ None }
         requires may { Somewhere (MayTurnFew (StandsAs F.stands W.stands) k self.old.web) }
+        requires doing { IsDoing (StandsAs F.stands W.stands) k self.old.web doing }
         ensures fed { self.new.failure ≡ None → Fed (StandsAs F.stands W.stands) F.remaining F.ended k
             self.old.web self.new.web }
         ensures link { (s : Scene) → IsActor (StandsAs F.stands W.stands) k self.old.web s
-            → IsChanged k s self.new.failure result }
+            → IsChanged k s self.new.failure result.link }
+        ensures over { result.is_over ≡ is_some self.new.failure }
         ensures failed { IfSome self.new.failure (λ by. (s : Scene)
             → MayTurn (StandsAs F.stands W.stands) k self.old.web s
             → MayFail (plan_of s) k text_of s.links by []) }
@@ -105,12 +120,20 @@ impl<F: Feeds, W: Works, S: Sink> Net<F, W, S> {
         ensures actors { self.new.actors ≡ self.old.actors }
         ensures readers { self.new.readers ≡ self.old.readers }
     {
-        match self.web.turn(k) {
-            Ok(link) => return link,
+        match self.web.turn(k, doing) {
+            Ok(link) => {
+                return Turned {
+                    link,
+                    is_over: false,
+                };
+            }
             Err(ReadError::Read) => self.failure = Some(RunResult::Read((k + 1) as u8)),
             Err(ReadError::Memory) => self.failure = Some(RunResult::Memory),
         }
-        k
+        Turned {
+            link: k,
+            is_over: true,
+        }
     }
 
     /// A net of nodes that were asked nothing yet, with links of this size, from 1 to 4,096.
@@ -270,38 +293,22 @@ impl<F: Feeds, W: Works, S: Sink> Net<F, W, S> {
         }
     }
 
-    // The leftmost actor that is ready, where nobody to the left of this one is.
-    #[inline(always)]
-    fn leftmost(&self, from: usize) -> usize
-        requires { MayPick (StandsAs F.stands W.stands) S.contents S.flushed true from self.now }
-        ensures { (start : Option (List ℕ)) (s : Scene) (now : Now Row)
-            → NetAt (StandsAs F.stands W.stands) S.contents S.flushed start s self.now now
-            → ended (plan_of s) now ≡ None → Sees true from s now self.now
-            → result ≡ first_true (ready_list (plan_of s) s.size now) }
-    {
-        let mut k = from;
-        while k < self.web.count() && !self.web.ready(k) {
-            k += 1;
-        }
-        k
-    }
-
-    // The actor whose turn is next: the order's pick, by the flags, or the leftmost one that is ready,
-    // where the order picks that and nobody to the left of this one is.
+    // The actor that is asked next: the order's pick, by the flags, or of a leftmost order this one, to
+    // the left of which nobody is ready.
     #[inline(always)]
     fn next<O: Order>(&self, order: &mut O, is_leftmost: bool, from: usize) -> usize
-        requires may { MayPick (StandsAs F.stands W.stands) S.contents S.flushed is_leftmost from
+        requires { MayPick (StandsAs F.stands W.stands) S.contents S.flushed is_leftmost from
             self.now }
-        requires order { is_leftmost ≡ true → IsLeftmost O.picks O.after order.old }
-        ensures picked { (start : Option (List ℕ)) (s : Scene) (now : Now Row)
+        ensures from { is_leftmost ≡ true → result ≡ from }
+        ensures stays { is_leftmost ≡ true → order.new ≡ order.old }
+        ensures picked { is_leftmost ≡ false → (start : Option (List ℕ)) (s : Scene) (now : Now Row)
             → NetAt (StandsAs F.stands W.stands) S.contents S.flushed start s self.now now
-            → ended (plan_of s) now ≡ None → Sees is_leftmost from s now self.now
+            → ended (plan_of s) now ≡ None → Sees false from s now self.now
             → HasPicked (record { pick = O.picks; next = O.after }) (plan_of s) s.size order.old
             order.new now result }
-        ensures stays { is_leftmost ≡ true → order.new ≡ order.old }
     {
         if is_leftmost {
-            return self.leftmost(from);
+            return from;
         }
         let pick = order.pick(&self.actors);
         choose(&self.actors, pick)
@@ -342,12 +349,18 @@ impl<F: Feeds, W: Works, S: Sink> Net<F, W, S> {
         let is_leftmost = order.is_leftmost();
         self.prepare();
         let mut from = 0;
+        let mut is_over = self.over();
         'turns: loop {
-            if self.over() {
+            if is_over {
                 return self.told();
             }
             let actor = self.next(order, is_leftmost, from);
-            from = self.turn(actor);
+            let Some(turned) = self.turn_if_ready(actor) else {
+                from = actor + 1;
+                continue 'turns;
+            };
+            from = turned.link;
+            is_over = turned.is_over;
             if is_leftmost {
                 continue 'turns;
             }
@@ -356,16 +369,41 @@ impl<F: Feeds, W: Works, S: Sink> Net<F, W, S> {
         }
     }
 
-    /// One turn of an actor that is ready: a stage by its number, from 0, or the sink by the number
-    /// of stages. It answers the link that the turn has changed.
+    // A turn of this actor, if it is ready. What it does next is asked once for both.
     #[inline(always)]
-    pub fn turn(&mut self, k: usize) -> usize
-        requires { MayGo (StandsAs F.stands W.stands) S.contents S.flushed k self.old }
+    fn turn_if_ready(&mut self, k: usize) -> Option<Turned>
+        requires { MayAsk (StandsAs F.stands W.stands) S.contents S.flushed k self.old }
+        ensures ready { (start : Option (List ℕ)) (s : Scene) (now : Now Row)
+            → NetAt (StandsAs F.stands W.stands) S.contents S.flushed start s self.old now
+            → ended (plan_of s) now ≡ None → k ≤ s.count
+            → is_some result ≡ is_ready (plan_of s) s.size now k }
+        ensures gone { IfSome result (HasGone (StandsAs F.stands W.stands) F.remaining F.ended
+            F.failed S.contents S.flushed S.failed k self.old self.new) }
+        ensures same { result ≡ None → self.new ≡ self.old }
+    {
+        let doing = self.web.doing(k);
+        if self.web.may_go(k, doing) {
+            return Some(self.turn(k, doing));
+        }
+        None
+    }
+
+    /// What an actor does next, if it is a stage that isn't a source.
+    pub fn doing(&self, k: usize) -> Option<DoingKind>
+        ensures { IsDoing (StandsAs F.stands W.stands) k self.now.web result }
+    {
+        self.web.doing(k)
+    }
+
+    /// One turn of an actor that is ready and does this next: a stage by its number, from 0, or the
+    /// sink by the number of stages.
+    #[inline(always)]
+    pub fn turn(&mut self, k: usize, doing: Option<DoingKind>) -> Turned
+        requires may { MayGo (StandsAs F.stands W.stands) S.contents S.flushed k self.old }
+        requires doing { IsDoing (StandsAs F.stands W.stands) k self.old.web doing }
         // It is one turn of this actor.
-        ensures turned { HasTurned (StandsAs F.stands W.stands) F.remaining F.ended S.contents
-            S.flushed k self.old self.new }
-        ensures link { (s : Scene) → IsActor (StandsAs F.stands W.stands) k self.old.web s
-            → IsChanged k s self.new.failure result }
+        ensures gone { HasGone (StandsAs F.stands W.stands) F.remaining F.ended F.failed
+            S.contents S.flushed S.failed k self.old self.new result }
 
         // It makes at most one call on the actor's reader, and none on another's.
         ensures others { (i : ℕ) → i ≢ k → ShowsSame F.remaining F.ended F.calls F.failed
@@ -374,24 +412,17 @@ impl<F: Feeds, W: Works, S: Sink> Net<F, W, S> {
             (failed_at F.failed k self.old.web.nodes.items)
             (calls_at F.calls k self.new.web.nodes.items)
             (failed_at F.failed k self.new.web.nodes.items) }
-
-        // The run ends by a failed read or write exactly where a call has failed.
-        ensures reads { (i : ℕ) → failed_at F.failed i self.new.web.nodes.items
-            ≡ (failed_at F.failed i self.old.web.nodes.items || is_read_of i self.new.failure) }
-        ensures writes { S.failed self.new.sink
-            ≡ (S.failed self.old.sink || is_write self.new.failure) }
-        ensures turns { self.new.turns ≡ self.old.turns + 1 }
-        ensures actors { self.new.actors ≡ self.old.actors }
-        ensures readers { self.new.readers ≡ self.old.readers }
     {
-        self.turns += 1;
         if k == self.web.count() {
-            let link = self.web.last();
-            self.sink_turn();
-            link
-        } else {
-            self.stage_turn(k)
+            self.turns += 1;
+            return Turned {
+                link: self.web.last(),
+                is_over: self.sink_turn(),
+            };
         }
+        let turned = self.stage_turn(k, doing);
+        self.turns += 1;
+        turned
     }
 
     /// How the run ended, once it has.

@@ -1,5 +1,6 @@
 //! Nodes and their links.
-ghost use Rattle.std.specs.Prelude.{◌≡◌, ◌≢◌, ◌≤◌, ◌<◌, ◌⊎◌, ℕ, true, false, slice_index, slice_get, length, IfOk, OnOk, OnErr, Err, ◌||◌};
+ghost use Rattle.std.specs.Prelude.{◌≡◌, ◌≢◌, ◌≤◌, ◌<◌, ◌⊎◌, ℕ, true, false, slice_index, slice_get, length};
+ghost use Rattle.std.specs.Prelude.{IfOk, OnOk, OnErr, Err, Some, ◌||◌};
 ghost use Rattle.hum_turns.specs.Turns.{Gives, Takes, Ends, state, can, ready};
 ghost use Rattle.hum_turns.specs.Plan.{last};
 ghost use Rattle.hum_turns.specs.Near.{touched};
@@ -11,7 +12,7 @@ ghost use Rattle.hum_nodes.specs.declared.node.DoingKind.TheVariants as kinds;
 ghost use Rattle.hum_links.specs.Links.{next_of};
 ghost use Rattle.hum_net.specs.Scene.{Scene, plan_of, Somewhere, IsAt, IsActor, MayTurn, MayAct};
 ghost use Rattle.hum_net.specs.Scene.{IsKind, Keeps, KeepsOthers, Fed, Done, IsAbout};
-ghost use Rattle.hum_net.specs.Scene.{IsAboutKind};
+ghost use Rattle.hum_net.specs.Scene.{IsAboutKind, IsDoing};
 ghost use Rattle.hum_net.specs.Scene.{IsBegun, Stands, HasStage, held_of, at_of};
 ghost use Rattle.hum_net.specs.Readers.{ShowsSame, remaining_at, ended_at, calls_at, failed_at};
 ghost use Rattle.hum_nodes.specs.Polls.{AsksAtMostOnce, HasStayed, is_failed_read};
@@ -28,7 +29,7 @@ use std::alloc::{AllocError, Global};
 pub struct Web<F, W> {
     nodes: Vec<Node<F, W>>,
     links: Vec<Link>,
-    // the source that had a turn last
+    // the source that gave a record last
     feeder: usize,
     // whether there are several sources, and the stage that handed a record out last
     has_several: bool,
@@ -92,10 +93,12 @@ impl<F: Feeds, W: Works> Web<F, W> {
             (remaining_at F.remaining k self.old.nodes.items)
             (remaining_at F.remaining k self.new.nodes.items)) }
     {
-        self.feeder = k;
         match self.nodes[k].poll() {
             Err(error) => return Err(error),
-            Ok(Step::Record(row)) => self.links[k].push(row),
+            Ok(Step::Record(row)) => {
+                self.feeder = k;
+                self.links[k].push(row);
+            }
             Ok(Step::End(end)) => self.links[k].end(end),
             Ok(Step::More) => {}
         }
@@ -166,7 +169,7 @@ impl<F: Feeds, W: Works> Web<F, W> {
         }
     }
 
-    // Gives a record back to the source that had a turn last, or where that has no use for it, to one
+    // Gives a record back to the source that gave one last, or where that has no use for it, to one
     // of the stages.
     fn give_back(&mut self, row: Record)
         ensures stands { (s : Scene) → Stands (StandsAs F.stands W.stands) self.old s
@@ -210,7 +213,7 @@ impl<F: Feeds, W: Works> Web<F, W> {
         row
     }
 
-    // Gives a source a record that some stage is done with, but for the one that had a turn last.
+    // Gives a source a record that some stage is done with, but for the one that gave one last.
     fn feed_other(&mut self, k: usize)
         ensures stands { (s : Scene) → Stands (StandsAs F.stands W.stands) self.old s
             → Stands (StandsAs F.stands W.stands) self.new s }
@@ -240,7 +243,7 @@ impl<F: Feeds, W: Works> Web<F, W> {
         }
     }
 
-    /// Gives a record back to the source that had a turn last, so that its next one needs no memory of
+    /// Gives a record back to the source that gave one last, so that its next one needs no memory of
     /// its own, or where that has no use for it, to a stage that has; and where there are several
     /// sources, to the others what assemble is done with.
     pub fn reuse(&mut self, row: Record)
@@ -283,15 +286,13 @@ impl<F: Feeds, W: Works> Web<F, W> {
         self.links[k].end(end);
     }
 
-    // A stage that neither gives nor wants sets its end. It happens once, so the end has no place where
+    // A stage that has done all sets its end: it never reads. It happens once, so the end has no place where
     // each record passes.
     #[inline(never)]
     fn close(&mut self, k: usize)
         requires turn { Somewhere (MayTurn (StandsAs F.stands W.stands) k self.old) }
-        requires stage { IsKind false k self.old }
-        requires done { (s : Scene) → IsAt (StandsAs F.stands W.stands) self.old s → k < s.count
-            → (kind_of (doing_of (at_of s.kinds s.links k)) ≡ kinds.Done)
-            ⊎ (kind_of (doing_of (at_of s.kinds s.links k)) ≡ kinds.Reads) }
+        requires done { IsDoing (StandsAs F.stands W.stands) k self.old (Some kinds.Done)
+            ⊎ IsDoing (StandsAs F.stands W.stands) k self.old (Some kinds.Reads) }
         ensures done { (s : Scene) → MayTurn (StandsAs F.stands W.stands) k self.old s
             → Done (StandsAs F.stands W.stands) k (state (plan_of s) s.links k) self.new s }
         ensures link { (s : Scene) → IsActor (StandsAs F.stands W.stands) k self.old s
@@ -327,12 +328,12 @@ impl<F: Feeds, W: Works> Web<F, W> {
         Ok(source)
     }
 
-    // The turn of a stage that isn't a source, and the link that it has changed: the one that it
-    // took from, or its own.
+    // The turn of a stage that isn't a source and does this next, and the link that it has changed: the
+    // one that it took from, or its own.
     #[inline(always)]
-    fn act(&mut self, k: usize) -> Result<usize, AllocError>
+    fn act(&mut self, k: usize, kind: DoingKind) -> Result<usize, AllocError>
         requires turn { Somewhere (MayTurn (StandsAs F.stands W.stands) k self.old) }
-        requires stage { IsKind false k self.old }
+        requires doing { IsDoing (StandsAs F.stands W.stands) k self.old (Some kind) }
         ensures done { OnOk result ((s : Scene) → MayTurn (StandsAs F.stands W.stands) k self.old s
             → Done (StandsAs F.stands W.stands) k (state (plan_of s) s.links k) self.new s) }
         ensures link { IfOk result (λ link. (s : Scene)
@@ -340,23 +341,24 @@ impl<F: Feeds, W: Works> Web<F, W> {
             → link ≡ touched k (state (plan_of s) s.links k)) }
         ensures nodes { Keeps k self.old self.new }
     {
-        match self.nodes[k].doing_kind() {
+        match kind {
             DoingKind::Wants(place) => return self.pass(k, place),
             DoingKind::Gives => self.give(k)?,
-            // it reads nothing
+            // it never reads; of three arms two compares are made, of four a table
             DoingKind::Done | DoingKind::Reads => self.close(k),
         }
         Ok(k)
     }
 
-    /// A turn of a stage that is ready, and the link that it has changed: the one that it took from,
-    /// or its own.
+    /// A turn of a stage that is ready and does this next, and the link that it has changed: the one that
+    /// it took from, or its own.
     ///
     /// # Errors
     /// A failed read of a source, and want of memory.
     #[inline(always)]
-    pub fn turn(&mut self, k: usize) -> Result<usize, ReadError>
-        requires { Somewhere (MayTurn (StandsAs F.stands W.stands) k self.old) }
+    pub fn turn(&mut self, k: usize, doing: Option<DoingKind>) -> Result<usize, ReadError>
+        requires turn { Somewhere (MayTurn (StandsAs F.stands W.stands) k self.old) }
+        requires doing { IsDoing (StandsAs F.stands W.stands) k self.old doing }
         ensures turned { OnOk result
             (Fed (StandsAs F.stands W.stands) F.remaining F.ended k self.old self.new) }
         ensures link { IfOk result (λ link. (s : Scene)
@@ -374,13 +376,25 @@ impl<F: Feeds, W: Works> Web<F, W> {
             (remaining_at F.remaining k self.old.nodes.items)
             (remaining_at F.remaining k self.new.nodes.items)) }
     {
-        if self.nodes[k].is_source() {
-            return self.poll(k);
+        match doing {
+            None => self.poll(k),
+            Some(kind) => match self.act(k, kind) {
+                Ok(link) => Ok(link),
+                Err(_) => Err(ReadError::Memory),
+            },
         }
-        match self.act(k) {
-            Ok(link) => Ok(link),
-            Err(_) => Err(ReadError::Memory),
+    }
+
+    /// What a stage does next that isn't a source. Of a source and of the sink nothing is said: they do the
+    /// same at each turn.
+    #[inline(always)]
+    pub fn doing(&self, k: usize) -> Option<DoingKind>
+        ensures { IsDoing (StandsAs F.stands W.stands) k self.now result }
+    {
+        if k >= self.nodes.len() || self.nodes[k].is_source() {
+            return None;
         }
+        Some(self.nodes[k].doing_kind())
     }
 
     // Whether a stage that isn't a source can do this.
@@ -401,21 +415,32 @@ impl<F: Feeds, W: Works> Web<F, W> {
         }
     }
 
-    /// Whether an actor is ready: a stage, or the sink, whose number is that of the stages.
+    /// Whether an actor is ready that does this next: a stage, or the sink, whose number is that of the
+    /// stages.
     #[inline(always)]
-    pub fn ready(&self, k: usize) -> bool
-        requires { Somewhere (IsActor (StandsAs F.stands W.stands) k self.now) }
+    pub fn may_go(&self, k: usize, doing: Option<DoingKind>) -> bool
+        requires actor { Somewhere (IsActor (StandsAs F.stands W.stands) k self.now) }
+        requires doing { IsDoing (StandsAs F.stands W.stands) k self.now doing }
         ensures { (s : Scene) → IsActor (StandsAs F.stands W.stands) k self.now s
             → result ≡ ready (plan_of s) s.size s.links k }
     {
         if k == self.nodes.len() {
             return self.links[k - 1].has_some();
         }
-        if self.nodes[k].is_source() {
-            return self.links[k].is_unset() && self.links[k].has_room();
+        match doing {
+            Some(kind) => self.can(k, kind),
+            None => self.links[k].is_unset() && self.links[k].has_room(),
         }
-        let kind = self.nodes[k].doing_kind();
-        self.can(k, kind)
+    }
+
+    /// Whether an actor is ready.
+    pub fn ready(&self, k: usize) -> bool
+        requires { Somewhere (IsActor (StandsAs F.stands W.stands) k self.now) }
+        ensures { (s : Scene) → IsActor (StandsAs F.stands W.stands) k self.now s
+            → result ≡ ready (plan_of s) s.size s.links k }
+    {
+        let doing = self.doing(k);
+        self.may_go(k, doing)
     }
 
     /// The number of the last stage, whose link the sink takes from.

@@ -1,14 +1,16 @@
-use Rattle.std.proofs.Common.{◌∙◌, refl, slice_index, inl, inr, ⊎_elim}
+use Rattle.std.proofs.Common.{◌∙◌, refl, slice_index, subst, Some, inl, inr, ⊎_elim}
 use Rattle.hum_nodes.specs.declared.node.Doing.TheVariants as does
 use Rattle.hum_nodes.specs.Nodes.{StandsAs}
 use Rattle.hum_turns.specs.Turns.{Takes}
+use Rattle.hum_net.specs.Scene.{IsDoing}
 use Rattle.hum_net.proofs.Doings.{gives_of, wants_of}
-use Rattle.hum_net.proofs.Feeding.{node_at}
 use Rattle.hum_net.proofs.Polling.{state_gives, state_takes}
 use Rattle.hum_net.proofs.Readying.{touched_gives, touched_takes}
-use Rattle.hum_net.proofs.Stepping.{about_to, may_do, here_too, has_done, when_ok, if_ok}
-use Rattle.hum_net.proofs.Turning.{about_kind}
+use Rattle.hum_net.proofs.Stepping.{about_by, may_by, here_too, has_done, when_ok, if_ok}
 use Rattle.hum_net.proofs.web.Web.act.Goals as goal
+
+pub pass-requires-clause-stage : goal.pass-requires-clause-stage
+pass-requires-clause-stage g c = c.requires.doing.0
 
 pub pass-requires-clause-may : goal.pass-requires-clause-may
 pass-requires-clause-may g c =
@@ -16,30 +18,22 @@ pass-requires-clause-may g c =
     let turn = c.requires.turn.holds in
     let web = c.args.self.now in
     let k = c.args.k in
-    let feeds = g.F.Feeds.stands in
-    let works = g.W.Works.stands in
-    let stands = StandsAs feeds works in
-    let node = c.index.result.now in
-    let there = node_at stands k web s node turn.less turn.at.stand c.index.ensures in
-    let is = c.requires.stage node there in
-    let may = may_do feeds works k web c.doing_kind.result s node g.met.W.Works.no_bytes turn.at turn.less there
-    is c.doing_kind.ensures (does.Wants c.in-Wants.place) (λ h. wants_of _ _ (h ∙ c.in-Wants.is)) turn.ready in
+    let stands = StandsAs g.F.Feeds.stands g.W.Works.stands in
+    let a = c.requires.doing.1 s turn.at turn.less in
+    let may = may_by stands k web c.args.kind s a (does.Wants c.in-Wants.place)
+    (λ h. wants_of _ _ (h ∙ c.in-Wants.is)) turn.ready in
     record { scene = s; holds = may }
 
 pub returns-in-Wants-clause-done : goal.returns-in-Wants-clause-done
 returns-in-Wants-clause-done g c =
     let web = c.args.self.now in
     let k = c.args.k in
-    let feeds = g.F.Feeds.stands in
-    let works = g.W.Works.stands in
-    let stands = StandsAs feeds works in
-    let node = c.index.result.now in
+    let stands = StandsAs g.F.Feeds.stands g.W.Works.stands in
     when_ok _ _ c.pass.result c.pass.ensures.passed
     (λ passed s turn.
-    let there = node_at stands k web s node turn.less turn.at.stand c.index.ensures in
-    let is = c.requires.stage node there in
-    let may = may_do feeds works k web c.doing_kind.result s node g.met.W.Works.no_bytes turn.at turn.less there
-    is c.doing_kind.ensures (does.Wants c.in-Wants.place) (λ h. wants_of _ _ (h ∙ c.in-Wants.is)) turn.ready in
+    let a = c.requires.doing.1 s turn.at turn.less in
+    let may = may_by stands k web c.args.kind s a (does.Wants c.in-Wants.place)
+    (λ h. wants_of _ _ (h ∙ c.in-Wants.is)) turn.ready in
     has_done stands k web c.pass.new.self _ s may (Takes (slice_index (s.kinds k).stage.sources c.in-Wants.place))
     (state_takes s s.links k c.in-Wants.place may.less may.does) (passed s may))
 
@@ -47,20 +41,19 @@ pub returns-in-Wants-clause-link : goal.returns-in-Wants-clause-link
 returns-in-Wants-clause-link g c =
     let web = c.args.self.now in
     let k = c.args.k in
-    let feeds = g.F.Feeds.stands in
-    let works = g.W.Works.stands in
-    let stands = StandsAs feeds works in
-    let node = c.index.result.now in
+    let stands = StandsAs g.F.Feeds.stands g.W.Works.stands in
     if_ok _ _ c.pass.result c.pass.ensures.source
     (λ link from s actor.
     let here = here_too k _ c.requires.turn.scene.count s.count c.requires.turn.holds.less
     c.requires.turn.holds.at.stand.count actor.at.stand.count in
-    let there = node_at stands k web s node here actor.at.stand c.index.ensures in
-    let is = c.requires.stage node there in
-    let about = about_to feeds works k web c.doing_kind.result s node g.met.W.Works.no_bytes actor.at here there
-    is c.doing_kind.ensures (does.Wants c.in-Wants.place) (λ h. wants_of _ _ (h ∙ c.in-Wants.is)) in
+    let a = c.requires.doing.1 s actor.at here in
+    let about = about_by stands k web c.args.kind s a (does.Wants c.in-Wants.place)
+    (λ h. wants_of _ _ (h ∙ c.in-Wants.is)) in
     touched_takes stands k web _ s about c.in-Wants.place link refl
     (from s about))
+
+pub give-requires-clause-stage : goal.give-requires-clause-stage
+give-requires-clause-stage g c = c.requires.doing.0
 
 pub give-requires-clause-may : goal.give-requires-clause-may
 give-requires-clause-may g c =
@@ -68,28 +61,18 @@ give-requires-clause-may g c =
     let turn = c.requires.turn.holds in
     let web = c.args.self.now in
     let k = c.args.k in
-    let feeds = g.F.Feeds.stands in
-    let works = g.W.Works.stands in
-    let stands = StandsAs feeds works in
-    let node = c.index.result.now in
-    let there = node_at stands k web s node turn.less turn.at.stand c.index.ensures in
-    let is = c.requires.stage node there in
-    let may = may_do feeds works k web c.doing_kind.result s node g.met.W.Works.no_bytes turn.at turn.less there
-    is c.doing_kind.ensures does.Gives (λ h. gives_of _ (h ∙ c.in-Gives.is)) turn.ready in
+    let stands = StandsAs g.F.Feeds.stands g.W.Works.stands in
+    let a = c.requires.doing.1 s turn.at turn.less in
+    let may = may_by stands k web c.args.kind s a does.Gives (λ h. gives_of _ (h ∙ c.in-Gives.is)) turn.ready in
     record { scene = s; holds = may }
 
 pub returns-in_ok-give-in-Gives-clause-done : goal.returns-in_ok-give-in-Gives-clause-done
 returns-in_ok-give-in-Gives-clause-done g c s turn =
     let web = c.args.self.now in
     let k = c.args.k in
-    let feeds = g.F.Feeds.stands in
-    let works = g.W.Works.stands in
-    let stands = StandsAs feeds works in
-    let node = c.index.result.now in
-    let there = node_at stands k web s node turn.less turn.at.stand c.index.ensures in
-    let is = c.requires.stage node there in
-    let may = may_do feeds works k web c.doing_kind.result s node g.met.W.Works.no_bytes turn.at turn.less there
-    is c.doing_kind.ensures does.Gives (λ h. gives_of _ (h ∙ c.in-Gives.is)) turn.ready in
+    let stands = StandsAs g.F.Feeds.stands g.W.Works.stands in
+    let a = c.requires.doing.1 s turn.at turn.less in
+    let may = may_by stands k web c.args.kind s a does.Gives (λ h. gives_of _ (h ∙ c.in-Gives.is)) turn.ready in
     has_done stands k web c.give.new.self _ s may _ (state_gives s s.links k may.less may.does)
     (c.in_ok-give-in-Gives.ensures.given s may)
 
@@ -97,26 +80,19 @@ pub returns-in_ok-give-in-Gives-clause-link : goal.returns-in_ok-give-in-Gives-c
 returns-in_ok-give-in-Gives-clause-link g c s actor =
     let web = c.args.self.now in
     let k = c.args.k in
-    let feeds = g.F.Feeds.stands in
-    let works = g.W.Works.stands in
-    let stands = StandsAs feeds works in
-    let node = c.index.result.now in
+    let stands = StandsAs g.F.Feeds.stands g.W.Works.stands in
     let here = here_too k _ c.requires.turn.scene.count s.count c.requires.turn.holds.less
     c.requires.turn.holds.at.stand.count actor.at.stand.count in
-    let there = node_at stands k web s node here actor.at.stand c.index.ensures in
-    let is = c.requires.stage node there in
-    let about = about_to feeds works k web c.doing_kind.result s node g.met.W.Works.no_bytes actor.at here there
-    is c.doing_kind.ensures does.Gives (λ h. gives_of _ (h ∙ c.in-Gives.is)) in
-    touched_gives stands k web _ s about refl
+    let a = c.requires.doing.1 s actor.at here in
+    touched_gives stands k web _ s
+    (about_by stands k web c.args.kind s a does.Gives (λ h. gives_of _ (h ∙ c.in-Gives.is))) refl
 
 pub close-requires-clause-done : goal.close-requires-clause-done
-close-requires-clause-done g c s at less =
+close-requires-clause-done g c =
     let web = c.args.self.now in
     let k = c.args.k in
-    let feeds = g.F.Feeds.stands in
-    let works = g.W.Works.stands in
-    let node = c.index.result.now in
-    let there = node_at (StandsAs feeds works) k web s node less at.stand c.index.ensures in
-    let a = about_kind feeds works k web c.doing_kind.result s node g.met.W.Works.no_bytes at less there
-    (c.requires.stage node there) c.doing_kind.ensures in
-    ⊎_elim (λ is. inl (a.does ∙ is)) (λ is. inr (a.does ∙ is)) c.in-Done.is
+    let stands = StandsAs g.F.Feeds.stands g.W.Works.stands in
+    ⊎_elim
+    (λ is. inl (subst (λ d. IsDoing stands k web (Some d)) is c.requires.doing))
+    (λ is. inr (subst (λ d. IsDoing stands k web (Some d)) is c.requires.doing))
+    c.in-Done.is
