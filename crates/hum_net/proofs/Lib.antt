@@ -15,4 +15,5 @@ pub mod Bounds
 pub mod Flags
 pub mod Leftmost
 pub mod Running
+pub mod Telling
 pub mod Beginning

@@ -12,7 +12,8 @@ use Rattle.hum_net.proofs.Bounds.{turns_few, reads_few}
 use Rattle.hum_net.proofs.Netting.{not_over, has_told, or_false, still_going, none_of}
 use Rattle.hum_net.proofs.Running.{relisted, told_read, told_write, ran_none, first_running}
 use Rattle.hum_net.proofs.Running.{picks, may_ask_next, is_leftmost_one, ran_past}
-use Rattle.hum_net.proofs.Running.{witness, told_all, may_ask, ran_left, ran_more, ran_to, run_on}
+use Rattle.hum_net.proofs.Running.{witness, told_all, may_ask, ran_left, ran_more, ran_to}
+use Rattle.hum_net.proofs.Telling.{run_on}
 use Rattle.hum_net.proofs.net.Net.run.Goals as goal
 
 pub prepare-requires : goal.prepare-requires
