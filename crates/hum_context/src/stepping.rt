@@ -1,5 +1,6 @@
 //! Walks down a spine, through the records that wait.
-ghost use Rattle.std.specs.Prelude.{◌≡◌, ◌≢◌, ◌+◌, ◌≤◌, ◌<◌, ℕ, List, [], ◌∷◌, ◌++◌, length, drop, false, Some, None, slice_index_or};
+ghost use Rattle.std.specs.Prelude.{◌≡◌, ◌≢◌, ◌+◌, ◌≤◌, ◌<◌, ℕ, List, [], ◌∷◌, ◌++◌, length, drop};
+ghost use Rattle.std.specs.Prelude.{false, Some, None, slice_index_or};
 ghost use Rattle.hum_record.specs.Row.{Row};
 ghost use Rattle.hum_path.specs.Spines.{Path};
 ghost use Rattle.hum_context.specs.Context.{Choice};

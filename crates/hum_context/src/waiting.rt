@@ -1,5 +1,6 @@
 //! What is asked of a record that waits.
-ghost use Rattle.std.specs.Prelude.{◌≡◌, ◌≢◌, ◌==◌, ◌+◌, ◌≤◌, ℕ, [], true, length, Some, IfOk, slice_index_or};
+ghost use Rattle.std.specs.Prelude.{◌≡◌, ◌≢◌, ◌==◌, ◌+◌, ◌≤◌, ℕ, [], true, length, Some, IfOk};
+ghost use Rattle.std.specs.Prelude.{slice_index_or};
 ghost use Rattle.hum_record.specs.declared.SpinedKind.TheVariants.{Values};
 ghost use Rattle.hum_record.specs.Row.{token_at, tokens_of};
 ghost use Rattle.hum_record.specs.Spelling.{IsToken};

@@ -1,5 +1,6 @@
 -- Multiples of a fraction that is above 0.
-use Rattle.std.specs.Prelude.{ℕ, ◌+◌, ◌-◌, ◌*◌, ◌/◌, ◌%◌, ◌<◌, ◌≤◌, ◌↔◌, ◌==◌, Bool}
+use Rattle.std.specs.Prelude.{ℕ, ◌+◌, ◌-◌, ◌*◌, ◌/◌, ◌%◌, ◌<◌, ◌≤◌, ◌↔◌}
+use Rattle.std.specs.Prelude.{◌==◌, Bool}
 use Rattle.hum_frac.specs.Ratio.{Ratio, IsSame, IsBefore}
 
 -- k times t

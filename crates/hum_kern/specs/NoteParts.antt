@@ -1,5 +1,6 @@
 -- The parts of a subtoken round its pitch as maximal runs, and what it says by them.
-use Rattle.std.specs.Prelude.{◌≡◌, ℕ, ◌+◌, ◌-◌, false, List, [], ◌∷◌, ◌++◌, length, take, drop}
+use Rattle.std.specs.Prelude.{◌≡◌, ℕ, ◌+◌, ◌-◌, false, List, [], ◌∷◌, ◌++◌, length}
+use Rattle.std.specs.Prelude.{take, drop}
 use Rattle.std.specs.Prelude.{Some, Result, Ok, IfSome}
 use Rattle.std.specs.List.{list_any}
 use Rattle.hum_pitch.specs.Given.{spelled}

@@ -1,6 +1,7 @@
 //! A web whose last stage is written.
 ghost use Rattle.std.specs.Prelude.{◌≡◌, ◌≢◌, ◌≤◌, ◌<◌, ◌+◌, ◌||◌, ℕ, List, [], Option, None, Some};
-ghost use Rattle.std.specs.Prelude.{IfSome, IfOk, IfErr, OnErr, length, is_some, true, false, slice_get, slice_set};
+ghost use Rattle.std.specs.Prelude.{IfSome, IfOk, IfErr, OnErr, length, is_some, true, false};
+ghost use Rattle.std.specs.Prelude.{slice_get, slice_set};
 ghost use Rattle.hum_record.specs.Row.{Row, text_of};
 ghost use Rattle.hum_turns.specs.Links.{linked};
 ghost use Rattle.hum_turns.specs.Failures.{Now, IsFirst, MayFail, is_ready, result as ended};

@@ -1,5 +1,6 @@
 -- A score that is read as a stage of a plan.
-use Rattle.std.specs.Prelude.{◌≡◌, ℕ, ◌+◌, ◌≤◌, Bool, true, ◌||◌, nat_lt, if◌then◌else◌, List, [], ◌++◌}
+use Rattle.std.specs.Prelude.{◌≡◌, ℕ, ◌+◌, ◌≤◌, Bool, true, ◌||◌, nat_lt}
+use Rattle.std.specs.Prelude.{if◌then◌else◌, List, [], ◌++◌}
 use Rattle.std.proofs.Common.{sym, subst, arith, ◌<◌}
 use Rattle.std.specs.Prelude.{length, take, Option, None, Some, is_some, Result, Ok, Err}
 use Rattle.hum_record.specs.Row.{Row}

@@ -1,5 +1,6 @@
 //! The stages of a plan as nodes of a net.
-ghost use Rattle.std.specs.Prelude.{◌≡◌, ◌≤◌, ◌<◌, ◌+◌, ℕ, pred, List, ◌∷◌, ◌++◌, [], map, length, IfOk, OnOk};
+ghost use Rattle.std.specs.Prelude.{◌≡◌, ◌≤◌, ◌<◌, ◌+◌, ℕ, pred, List, ◌∷◌, ◌++◌, [], map, length};
+ghost use Rattle.std.specs.Prelude.{IfOk, OnOk};
 ghost use Rattle.hum_stage.specs.Meaning.{Meaning, opening, IsLawful};
 ghost use Rattle.hum_nodes.specs.At.{fresh};
 ghost use Rattle.hum_nodes.specs.Nodes.{StandsAs};
@@ -10,7 +11,8 @@ ghost use Rattle.hum_plan.specs.Stages.{IsTree, Takes};
 ghost use Rattle.hum_plan.specs.Seen.{stages_of};
 ghost use Rattle.hum_pipeline.specs.Commands.{means};
 ghost use Rattle.hum_pipeline.specs.Parts.{first_of, IsSoundBy};
-ghost use Rattle.hum_pipeline.specs.Nodes.{AllFrom, Fits, Tells, AreTold, AreNarrow, HasAdded, reads_by, reads_of};
+ghost use Rattle.hum_pipeline.specs.Nodes.{AllFrom, Fits, Tells, AreTold, AreNarrow, HasAdded};
+ghost use Rattle.hum_pipeline.specs.Nodes.{reads_by, reads_of};
 ghost use Rattle.hum_plan.specs.declared.stages.PlanStage.{PlanStage};
 
 use hum_commands::{CommandOptions, CommandStage};

@@ -1,5 +1,6 @@
 -- A reader of scores: what it shows, what it has read, and what a poll gives.
-use Rattle.std.specs.Prelude.{◌≡◌, ℕ, ◌<◌, ◌⊎◌, Bool, false, true, List, [], ◌∷◌, ◌++◌, length}
+use Rattle.std.specs.Prelude.{◌≡◌, ℕ, ◌<◌, ◌⊎◌, Bool, false, true, List, [], ◌∷◌}
+use Rattle.std.specs.Prelude.{◌++◌, length}
 use Rattle.std.specs.Prelude.{Option, None, Some, Result, Ok, Err}
 use Rattle.hum_text.specs.declared.TextFault.{TextFault}
 use Rattle.hum_text.specs.Calls.{IsCalled}

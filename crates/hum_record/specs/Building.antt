@@ -1,7 +1,9 @@
 -- A record in the making.
-use Rattle.std.specs.Prelude.{◌≡◌, ◌≢◌, ℕ, ◌≤◌, Bool, false, true, List, [], ◌∷◌, length}
+use Rattle.std.specs.Prelude.{◌≡◌, ℕ, ◌≤◌, Bool, false, List, [], ◌∷◌, length}
+use Rattle.std.specs.Prelude.{Option, None, Some, Box}
 use Rattle.std.specs.List.{join_with_byte, AllByRecursion}
 use Rattle.hum_record.specs.declared.SpinedKind.{SpinedKind}
+use Rattle.hum_record.specs.declared.spare.Body.{Body}
 use Rattle.hum_record.specs.Spelling.{IsToken, parts}
 use Rattle.hum_record.specs.Fields.{ends_from}
 
@@ -36,10 +38,15 @@ pub record IsDraft (kind : SpinedKind) (text ends : List ℕ) : Type 0 where
   pub cut : ends ≡ ends_from 0 (tokens_in text ends)
   pub at_most : length text ≤ 1048576
 
+-- the text and the ends in a body, none where there is none
+abbrev pub text_in : {Z : Type 0} → Option (Box Body Z) → List ℕ
+text_in None = []
+text_in (Some body) = body.value.text.items
+
+abbrev pub ends_in : {Z : Type 0} → Option (Box Body Z) → List ℕ
+ends_in None = []
+ends_in (Some body) = body.value.ends.items
+
 -- nothing is known after want of memory
 abbrev pub IsDraftUnless : Bool → SpinedKind → List ℕ → List ℕ → Type 0
 IsDraftUnless spent kind text ends = spent ≡ false → IsDraft kind text ends
-
--- a record with tokens has the body that it will stand in, unless memory ran out
-abbrev pub HasBody : Bool → List ℕ → Bool → Type 0
-HasBody spent ends has = spent ≡ false → ends ≢ [] → has ≡ true

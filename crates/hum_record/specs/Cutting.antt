@@ -1,5 +1,6 @@
 -- Where the tokens of a text end.
-use Rattle.std.specs.Prelude.{◌≡◌, ◌==◌, ◌+◌, ◌/◌, ◌%◌, ℕ, zero, suc, true, false, List, [], ◌∷◌, map}
+use Rattle.std.specs.Prelude.{◌≡◌, ◌==◌, ◌+◌, ◌/◌, ◌%◌, ℕ, zero, suc, true, false}
+use Rattle.std.specs.Prelude.{List, [], ◌∷◌, map}
 use Rattle.std.specs.Prelude.{Ok, if◌then◌else◌}
 use Rattle.std.specs.Simd.Lanes.{mask_l}
 use Rattle.hum_record.specs.declared.SpinedKind.TheVariants.{Values}

@@ -1,8 +1,9 @@
 //! A record in the making.
-ghost use Rattle.std.specs.Prelude.{◌≡◌, ◌≢◌, ℕ, ◌+◌, ◌<◌, ◌≤◌, ◌^◌, [], ◌∷◌, ◌++◌, false, nat_le, length, IsTrue, Err, OnOk, IfErr};
-ghost use Rattle.std.specs.Prelude.{is_some, true};
+ghost use Rattle.std.specs.Prelude.{◌≡◌, ◌≢◌, ℕ, ◌+◌, ◌<◌, ◌≤◌, ◌^◌, [], ◌∷◌, ◌++◌, false, nat_le};
+ghost use Rattle.std.specs.Prelude.{length, IsTrue, Err, OnOk, IfErr};
+ghost use Rattle.std.specs.Prelude.{is_some, true, IfOk, if◌then◌else◌};
 ghost use Rattle.hum_record.specs.Spelling.{IsToken};
-ghost use Rattle.hum_record.specs.Building.{tab_between};
+ghost use Rattle.hum_record.specs.Building.{tab_between, text_in, ends_in};
 ghost use Rattle.hum_record.specs.declared.RecordFault.TheVariants.{L1, Memory};
 
 use crate::reading::Record;
@@ -10,7 +11,6 @@ use crate::spare::{Body, Spare, new_body};
 use crate::{MOST_BYTES, RecordFault, SpinedKind};
 use std::alloc::{AllocError, Global};
 use std::marker::Model;
-use std::mem;
 
 /// The bytes that are asked for with the first token, so that few records grow again.
 const FIRST_BYTES: usize = 64;
@@ -21,10 +21,8 @@ const FIRST_BYTES: usize = 64;
 /// [`RecordFault::Memory`] again.
 pub struct RecordBuilder {
     alloc: Global,
-    text: Vec<u8>,
     kind: SpinedKind,
-    ends: Vec<u32>,
-    // what the record will be, once it has a token
+    // what the record will be: there with the first token, and before it where buffers are used again
     body: Option<Box<Body>>,
     spent: bool,
 }
@@ -35,9 +33,7 @@ impl Drop for RecordBuilder {
     fn drop(self) {
         let RecordBuilder {
             alloc: _,
-            text: _text,
             kind: _,
-            ends: _ends,
             body: _body,
             spent: _,
         } = self;
@@ -49,13 +45,11 @@ impl Model for RecordBuilder {
 
     ghost Value = { Draft };
 
-    ghost use Rattle.std.specs.Prelude.{is_some};
-    ghost use Rattle.hum_record.specs.Building.{draft_of, IsDraftUnless, HasBody};
+    ghost use Rattle.hum_record.specs.Building.{draft_of, text_in, ends_in, IsDraftUnless};
 
-    ghost view = { λ b. draft_of b.kind b.text.items b.ends.items b.spent };
+    ghost view = { λ b. draft_of b.kind (text_in b.body) (ends_in b.body) b.spent };
 
-    ghost invariant = { λ b. IsDraftUnless b.spent b.kind b.text.items b.ends.items
-        × HasBody b.spent b.ends.items (is_some b.body) };
+    ghost invariant = { λ b. IsDraftUnless b.spent b.kind (text_in b.body) (ends_in b.body) };
 }
 
 impl RecordBuilder {
@@ -75,12 +69,10 @@ impl RecordBuilder {
         ensures { result ≡ record { kind = kind; tokens = []; spent = false } }
     {
         let mut body = spare.take();
-        let (text, ends) = emptied(alloc, &mut body);
+        empty(&mut body);
         RecordBuilder {
             alloc,
-            text,
             kind,
-            ends,
             body,
             spent: false,
         }
@@ -108,17 +100,9 @@ impl RecordBuilder {
         if self.spent {
             return Err(RecordFault::Memory);
         }
-        if !has_room(&self.text, &self.ends, token) {
-            return Err(RecordFault::L1);
-        }
-        match add(
-            self.alloc,
-            &mut self.body,
-            &mut self.text,
-            &mut self.ends,
-            token,
-        ) {
-            Ok(()) => Ok(()),
+        match add(self.alloc, &mut self.body, token) {
+            Ok(true) => Ok(()),
+            Ok(false) => Err(RecordFault::L1),
             Err(_) => {
                 self.spent = true;
                 Err(RecordFault::Memory)
@@ -134,35 +118,27 @@ impl RecordBuilder {
     {
         let RecordBuilder {
             alloc: _,
-            text,
             kind: _,
-            ends,
             body,
             spent: _,
         } = self;
-        let Some(mut body) = body else {
+        let Some(body) = body else {
             unreachable!();
         };
-        *body = Body { text, ends };
         Record::of_body(body)
     }
 }
 
-/// The buffers of a text and of where its tokens end, empty, those of a body where there is one.
+/// Leaves nothing of what stands in a body, where there is one, but its memory.
 #[inline]
-fn emptied(alloc: Global, body: &mut Option<Box<Body>>) -> (Vec<u8>, Vec<u32>)
-    ensures text { result.0.items ≡ [] }
-    ensures ends { result.1.items ≡ [] }
-    ensures body { is_some body.new ≡ is_some body.old }
+fn empty(body: &mut Option<Box<Body>>)
+    ensures text { text_in body.new ≡ [] }
+    ensures ends { ends_in body.new ≡ [] }
 {
-    let Some(body) = body else {
-        return (Vec::new(alloc), Vec::new(alloc));
-    };
-    let mut text = mem::replace(&mut body.text, Vec::new(alloc));
-    let mut ends = mem::replace(&mut body.ends, Vec::new(alloc));
-    text.clear();
-    ends.clear();
-    (text, ends)
+    if let Some(body) = body {
+        body.text.clear();
+        body.ends.clear();
+    }
 }
 
 /// Whether a token may still be added.
@@ -179,25 +155,45 @@ fn has_room(text: &[u8], ends: &[u32], token: &[u8]) -> bool
     text.len() + between + token.len() <= MOST_BYTES
 }
 
-/// Adds a token behind the others, and sees to a body for the record.
+/// Makes an empty body where there is none.
 #[inline]
-fn add(
-    alloc: Global,
-    body: &mut Option<Box<Body>>,
-    text: &mut Vec<u8>,
-    ends: &mut Vec<u32>,
-    token: &[u8],
-) -> Result<(), AllocError>
-    requires { length text.old.items + length token.now < 2 ^ 31 }
-    ensures text { OnOk result
-        (text.new.items ≡ text.old.items ++ (tab_between ends.old.items ++ token.now)) }
-    ensures ends { OnOk result (ends.new.items ≡ ends.old.items ++ length text.new.items ∷ []) }
-    ensures body { OnOk result (is_some body.new ≡ true) }
+fn provide(alloc: Global, body: &mut Option<Box<Body>>) -> Result<(), AllocError>
+    ensures text { OnOk result (text_in body.new ≡ text_in body.old) }
+    ensures ends { OnOk result (ends_in body.new ≡ ends_in body.old) }
+    ensures there { OnOk result (is_some body.new ≡ true) }
 {
     if body.is_none() {
         *body = Some(new_body(alloc)?);
     }
-    append(text, ends, token)
+    Ok(())
+}
+
+/// Adds a token behind the others, in a body that is made where there is none as yet; or answers that
+/// it doesn't fit.
+#[inline]
+fn add(alloc: Global, body: &mut Option<Box<Body>>, token: &[u8]) -> Result<bool, AllocError>
+    requires { length (text_in body.old) ≤ 1048576 }
+    ensures fits { IfOk result (λ fits. fits
+        ≡ nat_le (length (text_in body.old) + length (tab_between (ends_in body.old))
+        + length token.now) 1048576) }
+    ensures text { IfOk result (λ fits. text_in body.new
+        ≡ (if fits then text_in body.old ++ (tab_between (ends_in body.old) ++ token.now)
+        else text_in body.old)) }
+    ensures ends { IfOk result (λ fits. ends_in body.new
+        ≡ (if fits then ends_in body.old ++ length (text_in body.new) ∷ []
+        else ends_in body.old)) }
+    ensures there { OnOk result (is_some body.new ≡ true) }
+{
+    provide(alloc, body)?;
+    let Some(body) = body else {
+        unreachable!();
+    };
+    let Body { text, ends } = &mut **body;
+    if !has_room(text, ends, token) {
+        return Ok(false);
+    }
+    append(text, ends, token)?;
+    Ok(true)
 }
 
 /// Adds a token behind the others, and a tab before it if there are any.

@@ -1,6 +1,8 @@
 //! A record, and how a line is read as one.
-ghost use Rattle.std.specs.Prelude.{◌≡◌, ◌≢◌, ◌<◌, ◌≤◌, false, Ok, IfOk, IfErr, OnOk, MatchResult, length, take};
-ghost use Rattle.hum_record.specs.Spelling.{IsTokenOf, IsTextOf, has_byte, is_comment, reading, Gives, Fails, Breaks};
+ghost use Rattle.std.specs.Prelude.{◌≡◌, ◌≢◌, ◌<◌, ◌≤◌, false, Ok, IfOk, IfErr, OnOk, MatchResult};
+ghost use Rattle.std.specs.Prelude.{length, take};
+ghost use Rattle.hum_record.specs.Spelling.{IsTokenOf, IsTextOf, has_byte, is_comment, reading};
+ghost use Rattle.hum_record.specs.Spelling.{Gives, Fails, Breaks};
 ghost use Rattle.hum_record.specs.Fields.{AreFields, row_in};
 ghost use Rattle.hum_record.specs.Plain.{IsPlain};
 ghost use Rattle.hum_record.specs.Row.{Row, kind_of, row_of, tokens_of, width_of, token_at, text_of};

@@ -118,7 +118,10 @@ impl Spare {
 
 /// Empty buffers.
 #[inline(never)]
-pub(crate) fn new_body(alloc: Global) -> Result<Box<Body>, AllocError> {
+pub(crate) fn new_body(alloc: Global) -> Result<Box<Body>, AllocError>
+    ensures text { IfOk result (λ body. body.value.text.items ≡ []) }
+    ensures ends { IfOk result (λ body. body.value.ends.items ≡ []) }
+{
     let text = Vec::new(alloc);
     let ends = Vec::new(alloc);
     Ok(Box::new(alloc, Body { text, ends })?)

@@ -1,5 +1,6 @@
 -- What is held is at most the greatest lag and one more.
-use Rattle.std.proofs.Common.{◌≡◌, ◌∙◌, refl, sym, ap, ℕ, zero, suc, ◌+◌, ◌-◌, ◌<◌, ◌≤◌, ◌⊎◌}
+use Rattle.std.proofs.Common.{◌≡◌, ◌∙◌, refl, sym, ap, ℕ, zero, suc, ◌+◌, ◌-◌, ◌<◌}
+use Rattle.std.proofs.Common.{◌≤◌, ◌⊎◌}
 use Rattle.std.proofs.Common.{inl, inr, arith, Bool, true, false, not, cond, List, [], ◌∷◌, ◌++◌}
 use Rattle.std.proofs.Common.{take, drop, length, get_or, append_assoc, append-nil, length-append}
 use Rattle.std.proofs.Common.{subst}

@@ -1,5 +1,6 @@
 -- What a stage means, over whole lists.
-use Rattle.std.specs.Prelude.{◌≡◌, ℕ, ◌+◌, ◌<◌, ◌≤◌, nat_lt, List, [], ◌∷◌, ◌++◌, length}
+use Rattle.std.specs.Prelude.{◌≡◌, ℕ, ◌+◌, ◌<◌, ◌≤◌, nat_lt, List, [], ◌∷◌}
+use Rattle.std.specs.Prelude.{◌++◌, length}
 use Rattle.std.specs.Prelude.{if◌then◌else◌, Option, Some, None, is_some, drop}
 use Rattle.std.specs.Prelude.{MatchOption, slice_get}
 use Rattle.hum_stage.specs.declared.faults.Rule.{Rule}

@@ -1,5 +1,6 @@
 -- Links, and what has come of a plan at a moment.
-use Rattle.std.specs.Prelude.{◌≡◌, ℕ, ◌-◌, ◌<◌, ◌≤◌, Bool, ◌&&◌, ◌||◌, nat_lt, List, [], ◌++◌, map}
+use Rattle.std.specs.Prelude.{◌≡◌, ℕ, ◌-◌, ◌<◌, ◌≤◌, Bool, ◌&&◌, ◌||◌, nat_lt}
+use Rattle.std.specs.Prelude.{List, [], ◌++◌, map}
 use Rattle.std.specs.Prelude.{length, Option, None, is_some, is_none}
 use Rattle.hum_stage.specs.declared.faults.End.{End}
 use Rattle.hum_turns.specs.Flow.{Flow}

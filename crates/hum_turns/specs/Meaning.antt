@@ -1,5 +1,6 @@
 -- What a plan means, with no word of turns: each stage over the whole meanings of its sources.
-use Rattle.std.specs.Prelude.{◌≡◌, true, ℕ, zero, suc, ◌+◌, ◌<◌, if◌then◌else◌, nat_eq, [], map, Some}
+use Rattle.std.specs.Prelude.{◌≡◌, true, ℕ, zero, suc, ◌+◌, ◌<◌, if◌then◌else◌, nat_eq}
+use Rattle.std.specs.Prelude.{[], map, Some}
 use Rattle.std.specs.Prelude.{slice_get}
 use Rattle.hum_stage.specs.declared.faults.End.{End}
 use Rattle.hum_stage.specs.declared.faults.End.TheVariants.{Closed, Broken}

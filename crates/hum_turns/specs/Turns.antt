@@ -1,6 +1,7 @@
 -- Turns: which actors are ready, and what one turn of one actor does. Actor k is stage k, and the
 -- actor behind the last stage is the sink.
-use Rattle.std.specs.Prelude.{◌≡◌, ◌≢◌, ◌⊎◌, ℕ, ◌<◌, ◌≤◌, Bool, true, ◌&&◌, if◌then◌else◌, nat_lt, List}
+use Rattle.std.specs.Prelude.{◌≡◌, ◌≢◌, ◌⊎◌, ℕ, ◌<◌, ◌≤◌, Bool, true, ◌&&◌}
+use Rattle.std.specs.Prelude.{if◌then◌else◌, nat_lt, List}
 use Rattle.std.specs.Prelude.{[], ◌∷◌, ◌++◌, length, Some, is_none, slice_get, slice_index}
 use Rattle.hum_turns.specs.Flow.{Flow}
 use Rattle.hum_turns.specs.Plan.{Want, Bytes, Source, Nothing, Stage, Plan, last, end_of}
