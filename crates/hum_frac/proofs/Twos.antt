@@ -3,10 +3,11 @@ use Rattle.std.proofs.Common.{◌≡◌, ℕ, zero, suc, ◌+◌, ◌-◌, ◌*�
 use mathlib.Core.Logic.{◌⊎◌, inl, inr}
 use Rattle.std.specs.Int.{◌∣◌}
 use Rattle.std.specs.Int.Count.{count_trailing_zeros, under, trailing_of_zero}
+use Rattle.std.specs.Int.Bits.{bit_and}
 use Rattle.std.proofs.lemmas.Nat.{trailing_le}
 use Rattle.std.proofs.lemmas.Bool.Decides.{leb_tells}
 use Rattle.std.proofs.lemmas.Nat.Gcd.{same_from_IsGcd}
-use Rattle.std.proofs.lemmas.Nat.{shl-shr, pow-add, pow_pos}
+use Rattle.std.proofs.lemmas.Nat.{shl-shr, pow-add, pow_pos, and_mask}
 use native.Mathlib.Nat.{mul_assoc, add-mul, one-mul, zero-mul, div-mul_cancel, dvd-mul_left, mul-div-mul_right}
 use Rattle.std.proofs.Math.Nat.{dvd-mul_left_of_dvd, mul_left_comm, div-div-eq-div-mul, pow-succ'}
 use Rattle.hum_frac.specs.Gcd.{gcd}
@@ -179,3 +180,16 @@ gcd_odd_part x b odd = elim (halves x) [
 
 pub gcd_one : (x : ℕ) → gcd x 1 ≡ 1
 gcd_one x = gcd-step x 1 (omega arith) ∙ ap (gcd 1) (omega arith) ∙ gcd-zero 1
+
+-- a number that is 1 without the zeros at its end is a power of 2
+pub one_bit : (b : ℕ) → b / 2 ^ count_trailing_zeros 64 b ≡ 1 → 2 ^ count_trailing_zeros 64 b ≡ b
+one_bit b one =
+    let t = count_trailing_zeros 64 b in
+    sym (one-mul (2 ^ t)) ∙ ap (λ (q : ℕ). q * 2 ^ t) (sym one) ∙ zeros_off 64 b
+
+pub divided_by_bit : (a b : ℕ) → b / 2 ^ count_trailing_zeros 64 b ≡ 1 → a / 2 ^ count_trailing_zeros 64 b ≡ a / b
+divided_by_bit a b one = ap (λ (d : ℕ). a / d) (one_bit b one)
+
+pub masked_by_bit : (a b : ℕ) → b / 2 ^ count_trailing_zeros 64 b ≡ 1 → bit_and a (b - 1) ≡ a % b
+masked_by_bit a b one =
+    subst (λ (d : ℕ). bit_and a (d - 1) ≡ a % d) (one_bit b one) (and_mask a (count_trailing_zeros 64 b))

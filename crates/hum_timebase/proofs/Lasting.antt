@@ -2,7 +2,7 @@
 use Rattle.std.proofs.Common.{◌≡◌, ℕ, suc, ◌+◌, ◌*◌, ◌<◌, List, [], ◌∷◌, ◌++◌, map, Option, None, Some, Bool, true, false, refl, sym, ap, ◌∙◌, arith}
 use Rattle.std.specs.Prelude.{if◌then◌else◌, ◌&&◌}
 use Rattle.std.specs.Prelude.{is_some}
-use Rattle.std.specs.List.{list_any}
+use Rattle.std.specs.List.{list_any, list_all}
 use mathlib.Core.Logic.{◌⊎◌, inl, inr}
 use Rattle.std.proofs.lemmas.Bool.Decides.{leb_tells}
 use native.Mathlib.Nat.{mul-pos}
@@ -272,3 +272,16 @@ all_sound (Spined Values tokens ∷ past) =
     ticked_sound clock (time_of clock.last notes (map latest before)) notes before
     (time_of_positive clock.last notes (map latest before) (all_positive before h))
     (notes_positive timed tokens) h
+
+-- ---- columns that are timed
+
+all_before : (timed : List Bool) (ends : List (Option Ratio)) → list_all (λ flag. flag) timed ≡ true → ends_before timed ends ≡ ends
+all_before [] ends h = refl
+all_before (true ∷ timed) [] h = refl
+all_before (true ∷ timed) (end ∷ ends) h = ap (λ more. end ∷ more) (all_before timed ends h)
+all_before (false ∷ timed) ends h = cc
+
+-- where all columns are timed no end is dropped
+pub all_rested : (timed : List Bool) (kept : Kept) → list_all (λ flag. flag) timed ≡ true → rested timed kept ≡ kept
+all_rested timed kept h =
+    ap (λ (ends : List (Option Ratio)). record { last = kept.last; next = kept.next; ends = ends }) (all_before timed kept.ends h)

@@ -1,9 +1,11 @@
 //! The time of each record.
 ghost use Rattle.std.specs.Prelude.{◌≡◌, ◌+◌, ◌<◌, ◌^◌, IfOk, OnOk, IfErr, Ok, Err, None, []};
+ghost use Rattle.hum_frac.specs.Multiples.{is_multiple};
 ghost use Rattle.hum_timebase.specs.Clock.{time_after};
 ghost use Rattle.hum_timebase.specs.Timebase.{multiples_from, count_before, count_after};
 
 use crate::ends::{drop_untimed, ends_by, has_clash, next_end, sound};
+use crate::timed::Timed;
 use hum_frac::Frac;
 use hum_path::Moves;
 use hum_stage::Rule;
@@ -35,14 +37,16 @@ fn count_before(step: Frac, end: Option<Frac>, time: Frac) -> u128
     }
 }
 
-/// How many between the time and the least end after it.
-fn count_after(step: Frac, time: Frac, end: Option<Frac>) -> u128
+/// Whether a time is on the grid, and how many of its places are between the time and the least end
+/// after it.
+fn grid_after(step: Frac, time: Frac, end: Option<Frac>) -> (bool, u128)
     requires { 0 < step.top }
-    ensures { result ≡ count_after step time end }
+    ensures stays { result.0 ≡ is_multiple time step }
+    ensures after { result.1 ≡ count_after step time end }
 {
     match end {
-        None => 0,
-        Some(end) => time.multiples_between(end, step),
+        None => (time.is_multiple(step), 0),
+        Some(end) => time.multiples_to(end, step),
     }
 }
 
@@ -101,10 +105,13 @@ impl Clock {
     }
 
     /// Takes a record whose cells stand in these columns, but for its notes.
-    pub(crate) fn rest(&mut self, timed: &[bool])
+    pub(crate) fn rest(&mut self, timed: &Timed)
         ensures { self.new ≡ rested timed.now self.old }
     {
-        let dropped = drop_untimed(timed, &mut self.ends);
+        if timed.all() {
+            return;
+        }
+        let dropped = drop_untimed(timed.each(), &mut self.ends);
         self.is_settled &= !dropped;
     }
 
@@ -155,10 +162,11 @@ impl Clock {
         self.last = Some(time);
         self.next = next_end(time, &self.ends);
         self.is_settled = true;
+        let (stays, after) = grid_after(step, time, self.next);
         Ok(Strike {
             before,
-            stays: time.is_multiple(step),
-            after: count_after(step, time, self.next),
+            stays,
+            after,
         })
     }
 }

@@ -23,24 +23,16 @@ fn later(a: Option<Frac>, b: Option<Frac>) -> Option<Frac>
     }
 }
 
-/// The sooner.
-fn sooner(a: Option<Frac>, b: Option<Frac>) -> Option<Frac>
-    ensures { result ≡ sooner a b }
-{
-    match (a, b) {
-        (Some(x), Some(y)) => { if y.is_before(x) { Some(y) } else { Some(x) } }
-        (Some(x), None) => Some(x),
-        (None, other) => other,
-    }
-}
-
-/// An end, if it is after a time.
-fn beyond(time: Frac, end: Option<Frac>) -> Option<Frac>
-    ensures { result ≡ beyond time end }
+/// The sooner of two ends, the first of which counts only if it is after a time.
+fn sooner_beyond(time: Frac, end: Option<Frac>, least: Option<Frac>) -> Option<Frac>
+    ensures { result ≡ sooner (beyond time end) least }
 {
     match end {
-        Some(end) if time.is_before(end) => Some(end),
-        _ => None,
+        Some(end) if time.is_before(end) => match least {
+            Some(least) if least.is_before(end) => Some(least),
+            _ => Some(end),
+        },
+        _ => least,
     }
 }
 
@@ -49,10 +41,10 @@ pub(crate) fn next_end(time: Frac, ends: &[Option<Frac>]) -> Option<Frac>
     ensures { result ≡ next_end time ends.now }
 {
     let mut least = None;
-    let mut j = ends.len();
-    while j > 0 {
-        j -= 1;
-        least = sooner(beyond(time, ends[j]), least);
+    let mut left = ends;
+    while let [front @ .., end] = left {
+        least = sooner_beyond(time, *end, least);
+        left = front;
     }
     least
 }

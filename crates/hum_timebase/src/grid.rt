@@ -20,18 +20,13 @@ use crate::due::Around;
 use crate::notes::{Content, content_of, read_notes, timed_at, timed_in};
 use crate::pace::Pace;
 use crate::records::{names_some, tb_record};
+use crate::timed::Timed;
 use hum_frac::Frac;
 use hum_kern::KernFault;
 use hum_path::Paths;
 use hum_record::{Kind, Record};
 use hum_stage::{Command, Decides, Rule};
 use std::alloc::{AllocError, Global};
-
-fn has_true(flags: &[bool]) -> bool
-    ensures { result ≡ list_any (λ flag. flag) flags.now }
-{
-    flags.iter().any(|flag| *flag)
-}
 
 fn has_note(notes: &[Option<Frac>]) -> bool
     ensures { result ≡ list_any is_some notes.now }
@@ -87,7 +82,7 @@ pub struct Grid {
     alloc: Global,
     pace: Pace,
     paths: Paths,
-    timed: Vec<bool>,
+    timed: Timed,
     clock: Clock,
     // the notes of the record at hand
     notes: Vec<Option<Frac>>,
@@ -98,13 +93,13 @@ impl Grid {
     fn follow(&mut self, row: &Record) -> Result<(), AllocError>
         requires kind { kind_of row.now ≡ AnyInterpretation }
         requires score { MayStep
-            (Follows self.old.pace self.old.paths.path self.old.timed.items self.old.clock)
+            (Follows self.old.pace self.old.paths.path self.old.timed self.old.clock)
             row.now }
         ensures spines { OnOk result
             ((decide : Decision) (past : List Row)
-            → Follows self.old.pace self.old.paths.path self.old.timed.items self.old.clock
+            → Follows self.old.pace self.old.paths.path self.old.timed self.old.clock
             decide past
-            → Follows self.new.pace self.new.paths.path self.new.timed.items self.new.clock
+            → Follows self.new.pace self.new.paths.path self.new.timed self.new.clock
             decide (row.now ∷ past)) }
         ensures pace { self.new.pace ≡ self.old.pace }
     {
@@ -120,11 +115,11 @@ impl Grid {
     fn interpret(&mut self, row: Record, out: &mut Around) -> Result<Option<Rule>, AllocError>
         requires kind { kind_of row ≡ AnyInterpretation }
         requires score { MayStep
-            (Follows self.old.pace self.old.paths.path self.old.timed.items self.old.clock) row }
+            (Follows self.old.pace self.old.paths.path self.old.timed self.old.clock) row }
         requires empty { out.old ≡ [] }
         ensures { IfOk result (λ refused. (room : ℕ) → HasStepped
-            (Follows self.old.pace self.old.paths.path self.old.timed.items self.old.clock)
-            (Follows self.new.pace self.new.paths.path self.new.timed.items self.new.clock)
+            (Follows self.old.pace self.old.paths.path self.old.timed self.old.clock)
+            (Follows self.new.pace self.new.paths.path self.new.timed self.new.clock)
             row room out.new refused) }
     {
         self.follow(&row)?;
@@ -149,12 +144,12 @@ impl Grid {
         requires lawful { IsTextOf row (text_of row) }
         requires kind { kind_of row ≡ AnyValues }
         requires empty { out.old ≡ [] }
-        requires read { Read self.old.timed.items (tokens_of row) self.old.notes.items misread }
+        requires read { Read self.old.timed (tokens_of row) self.old.notes.items misread }
         ensures decided { IfOk result (Answers (sounding_rows self.old.pace.step self.old.clock
-            self.old.timed.items (tokens_of row)) room out.new) }
+            self.old.timed (tokens_of row)) room out.new) }
         ensures clock { IfOk result (λ refused. refused ≡ None →
             self.new.clock
-            ≡ struck (notes_of self.old.timed.items (tokens_of row)) self.old.clock) }
+            ≡ struck (notes_of self.old.timed (tokens_of row)) self.old.clock) }
         ensures rest { OnOk result (self.new
             ≡ record self.old {
               clock = self.new.clock;
@@ -163,7 +158,7 @@ impl Grid {
         if misread.is_some() {
             return Ok(Some(Rule::K3));
         }
-        if !has_true(&self.timed) {
+        if !self.timed.some() {
             return Ok(Some(Rule::B1));
         }
         if !has_note(&self.notes) {
@@ -186,12 +181,12 @@ impl Grid {
         requires kind { kind_of row ≡ AnyValues }
         requires empty { out.old ≡ [] }
         ensures { IfOk result (HasStepped
-            (Follows self.old.pace self.old.paths.path self.old.timed.items self.old.clock)
-            (Follows self.new.pace self.new.paths.path self.new.timed.items self.new.clock)
+            (Follows self.old.pace self.old.paths.path self.old.timed self.old.clock)
+            (Follows self.new.pace self.new.paths.path self.new.timed self.new.clock)
             row room out.new) }
     {
         self.clock.rest(&self.timed);
-        let misread = read_notes(&self.timed, &row, &mut self.notes)?;
+        let misread = read_notes(self.timed.each(), &row, &mut self.notes)?;
         match content_by(misread, &self.notes, &row) {
             Content::Nulls => Ok(None),
             Content::Barlines => {
@@ -217,7 +212,7 @@ impl Decides for Grid {
 
     ghost decide = { λ options. timebase (pace_of options) };
 
-    ghost follows = { λ s. Follows s.pace s.paths.path s.timed.items s.clock };
+    ghost follows = { λ s. Follows s.pace s.paths.path s.timed s.clock };
 
     fn command() -> Command {
         Command::Timebase
@@ -228,7 +223,7 @@ impl Decides for Grid {
             alloc,
             pace: Pace::new(options),
             paths: Paths::new(alloc),
-            timed: Vec::new(alloc),
+            timed: Timed::none(alloc),
             clock: Clock::new(alloc),
             notes: Vec::new(alloc),
         }

@@ -16,6 +16,7 @@ mod notes;
 mod options;
 mod pace;
 mod records;
+mod timed;
 
 pub use grid::Grid;
 use hum_stage::AtOnce;

@@ -13,6 +13,7 @@ ghost use Rattle.hum_timebase.specs.Notes.{subtokens, first_duration, note_of, n
 ghost use Rattle.hum_timebase.specs.Notes.{is_misread, has_misread};
 ghost use Rattle.hum_timebase.specs.Reading.{content_of, rest_parts, is_part, Read};
 
+use crate::timed::Timed;
 use hum_frac::Frac;
 use hum_kern::{KernFault, read_duration};
 use hum_path::{Paths, token_sign};
@@ -27,14 +28,14 @@ fn is_timed(name: &[u8]) -> bool
 }
 
 /// Which spines are timed.
-pub(crate) fn timed_in(alloc: Global, paths: &Paths) -> Result<Vec<bool>, AllocError>
-    ensures { IfOk result (λ timed. timed.items ≡ timed_in paths.now.path) }
+pub(crate) fn timed_in(alloc: Global, paths: &Paths) -> Result<Timed, AllocError>
+    ensures { IfOk result (λ timed. timed ≡ timed_in paths.now.path) }
 {
     let mut timed = Vec::new(alloc);
     for j in 0..paths.width() {
         timed.push(is_timed(paths.exclusive(j)))?;
     }
-    Ok(timed)
+    Ok(Timed::new(timed))
 }
 
 /// The exclusive interpretation that the token in a column stands under.
@@ -51,15 +52,14 @@ fn own_name<'a>(paths: &'a Paths, token: &'a [u8], j: usize) -> &'a [u8]
 }
 
 /// Which cells of an interpretation stand in timed columns.
-pub(crate) fn timed_at(alloc: Global, paths: &Paths, row: &Record) -> Result<Vec<bool>, AllocError>
-    ensures { IfOk result (λ timed. timed.items
-        ≡ timed_at paths.now.path (tokens_of row.now)) }
+pub(crate) fn timed_at(alloc: Global, paths: &Paths, row: &Record) -> Result<Timed, AllocError>
+    ensures { IfOk result (λ timed. timed ≡ timed_at paths.now.path (tokens_of row.now)) }
 {
     let mut timed = Vec::new(alloc);
     for j in 0..row.width() {
         timed.push(is_timed(own_name(paths, row.token(j), j)))?;
     }
-    Ok(timed)
+    Ok(Timed::new(timed))
 }
 
 /// Whether a token is neither null nor a barline.

@@ -1,26 +1,26 @@
 use Rattle.std.proofs.Common.{◌∙◌, sym, ap}
-use Rattle.hum_timebase.specs.Kept.{rested}
 use Rattle.hum_timebase.proofs.Striking.{goes_nulls, goes_barlines, sounds_on}
 use Rattle.hum_timebase.proofs.grid.Grid.value.Goals as goal
 
 pub returns-in-Nulls : goal.returns-in-Nulls
 returns-in-Nulls c = λ decide past h sound.
     let step = goes_nulls _ _ _ _ decide past h c.args.row c.rest.new.self c.requires.kind
-    (sym c.content_by.ensures ∙ c.in-Nulls.is) (c.rest.ensures
-    ∙ ap (λ flags. rested flags c.args.self.now.clock) c.deref.ensures.value) in
+    (sym c.content_by.ensures ∙ c.in-Nulls.is) c.rest.ensures in
     rw c.requires.empty step
 
 pub returns-in-Barlines : goal.returns-in-Barlines
 returns-in-Barlines c = λ decide past h sound.
     let step = goes_barlines _ _ _ _ decide past h c.args.row c.rest.new.self c.requires.kind
-    (sym c.content_by.ensures ∙ c.in-Barlines.is) (c.rest.ensures
-    ∙ ap (λ flags. rested flags c.args.self.now.clock) c.deref.ensures.value) in
+    (sym c.content_by.ensures ∙ c.in-Barlines.is) c.rest.ensures in
     rw c.put.ensures step
 
 pub returns-in_ok-refused-in-Sounds : goal.returns-in_ok-refused-in-Sounds
 returns-in_ok-refused-in-Sounds c = λ decide past h sound.
     let rest = c.in_ok-refused-in-Sounds.ensures.rest in
     sounds_on _ _ _ _ decide past h c.args.row c.rest.new.self c.sound.new.self.clock _ _ _ c.args.room c.sound.new.out c.in_ok-refused-in-Sounds.refused
-    c.requires.kind (sym c.content_by.ensures ∙ c.in-Sounds.is) (c.rest.ensures ∙ ap (λ flags. rested flags c.args.self.now.clock) c.deref.ensures.value)
-    (ap (λ s. s.pace) rest) (ap (λ s. s.paths.path) rest) (ap (λ s. s.timed.items) rest)
+    c.requires.kind (sym c.content_by.ensures ∙ c.in-Sounds.is) c.rest.ensures
+    (ap (λ s. s.pace) rest) (ap (λ s. s.paths.path) rest) (ap (λ s. s.timed) rest)
     c.in_ok-refused-in-Sounds.ensures.decided c.in_ok-refused-in-Sounds.ensures.clock
+
+pub content_by-requires : goal.content_by-requires
+content_by-requires c = (c.each.result.now, rw c.deref.ensures.value c.in_ok-misread.ensures)

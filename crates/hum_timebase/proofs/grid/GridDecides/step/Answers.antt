@@ -1,11 +1,9 @@
-use Rattle.std.proofs.Common.{◌∙◌, sym, ap}
-use Rattle.hum_timebase.specs.Kept.{rested}
+use Rattle.std.proofs.Common.{◌∙◌, sym}
 use Rattle.hum_timebase.proofs.Striking.{goes_local}
 use Rattle.hum_timebase.proofs.grid.GridDecides.step.Goals as goal
 
 pub returns-in-Local : goal.returns-in-Local
 returns-in-Local c = λ decide past h sound.
     let step = goes_local _ _ _ _ decide past h c.args.next c.rest.new.self (sym c.kind.ensures.kind
-    ∙ c.in-Local.is) (c.rest.ensures ∙ ap (λ flags. rested flags c.args.self.now.clock)
-    c.deref.ensures.value) in
+    ∙ c.in-Local.is) c.rest.ensures in
     rw c.put-in-Local.ensures step
