@@ -26,8 +26,12 @@ abbrev signs : List ℕ → List ℕ → Row
 signs a b = Spined Interpretation (a ∷ b ∷ [])
 
 -- null tokens, barlines, comments, interpretations and other columns stay
-told : given marked (signs (codes "**kern") (codes "**b") ∷ two (codes "c") (codes "d") ∷ two (codes ".") (codes "e") ∷ two (codes "=2") (codes "=2") ∷ Comment (codes "!!f") ∷ Spined Local (codes "!" ∷ codes "!g" ∷ []) ∷ signs (codes "*h") (codes "*") ∷ two (codes "i") (codes "?") ∷ signs (codes "*-") (codes "*-") ∷ [])
-    ≡ signs (codes "**x") (codes "**b") ∷ two (codes "xc") (codes "d") ∷ two (codes ".") (codes "e") ∷ two (codes "=2") (codes "=2") ∷ Comment (codes "!!f") ∷ Spined Local (codes "!" ∷ codes "!g" ∷ []) ∷ signs (codes "*h") (codes "*") ∷ two (codes "xi") (codes "?") ∷ signs (codes "*-") (codes "*-") ∷ []
+told : given marked (signs (codes "**kern") (codes "**b") ∷ two (codes "c") (codes "d") ∷ two (codes ".") (codes "e")
+    ∷ two (codes "=2") (codes "=2") ∷ Comment (codes "!!f") ∷ Spined Local (codes "!" ∷ codes "!g" ∷ [])
+    ∷ signs (codes "*h") (codes "*") ∷ two (codes "i") (codes "?") ∷ signs (codes "*-") (codes "*-") ∷ [])
+    ≡ signs (codes "**x") (codes "**b") ∷ two (codes "xc") (codes "d") ∷ two (codes ".") (codes "e")
+    ∷ two (codes "=2") (codes "=2") ∷ Comment (codes "!!f") ∷ Spined Local (codes "!" ∷ codes "!g" ∷ [])
+    ∷ signs (codes "*h") (codes "*") ∷ two (codes "xi") (codes "?") ∷ signs (codes "*-") (codes "*-") ∷ []
 told = refl
 
 -- **kern may come later
@@ -50,6 +54,10 @@ leftmost : refusal 1 (decisions (retell marked) [] (signs (codes "**kern") (code
 leftmost = refl
 
 -- a record with **kern is followed by another, and the cells above are seen
-followed : given pursued (signs (codes "**b") (codes "**kern") ∷ two (codes "c") (codes "d") ∷ two (codes "e") (codes "f") ∷ signs (codes "*") (codes "*g") ∷ two (codes "h") (codes "i") ∷ signs (codes "**kern") (codes "*") ∷ two (codes "j") (codes ".") ∷ two (codes "k") (codes "l") ∷ [])
-    ≡ signs (codes "**b") (codes "**kern") ∷ signs (codes "*") (codes "*y") ∷ two (codes "c") (codes "d") ∷ two (codes "e") (codes "xf") ∷ signs (codes "*") (codes "*g") ∷ two (codes "h") (codes "i") ∷ signs (codes "**kern") (codes "*") ∷ signs (codes "*y") (codes "*") ∷ two (codes "j") (codes ".") ∷ two (codes "xk") (codes "xl") ∷ []
+followed : given pursued (signs (codes "**b") (codes "**kern") ∷ two (codes "c") (codes "d") ∷ two (codes "e") (codes "f")
+    ∷ signs (codes "*") (codes "*g") ∷ two (codes "h") (codes "i")
+    ∷ signs (codes "**kern") (codes "*") ∷ two (codes "j") (codes ".") ∷ two (codes "k") (codes "l") ∷ [])
+    ≡ signs (codes "**b") (codes "**kern") ∷ signs (codes "*") (codes "*y") ∷ two (codes "c") (codes "d") ∷ two (codes "e") (codes "xf")
+    ∷ signs (codes "*") (codes "*g") ∷ two (codes "h") (codes "i")
+    ∷ signs (codes "**kern") (codes "*") ∷ signs (codes "*y") (codes "*") ∷ two (codes "j") (codes ".") ∷ two (codes "xk") (codes "xl") ∷ []
 followed = refl

@@ -1,11 +1,11 @@
 -- Tokens of a data record, told one by one.
-use Rattle.std.proofs.Common.{◌≡◌, ◌∙◌, refl, sym, ap, ℕ, ◌+◌, ◌<◌, ◌≤◌, Bool, true, false, ◌&&◌, ◌||◌, List, [], ◌∷◌, ◌++◌}
+use Rattle.std.proofs.Common.{◌≡◌, ◌∙◌, refl, sym, ap, ℕ, ◌+◌, ◌<◌, ◌≤◌, Bool, true, false, ◌&&◌, List, [], ◌∷◌, ◌++◌}
 use Rattle.std.proofs.Common.{length-append, length, drop, get_or, arith, add-one, drop-cons, append_assoc, append-nil}
 use Rattle.std.specs.Prelude.{None, Result, Ok, Err, nat_lt}
 use Rattle.std.proofs.lemmas.List.{drop_all, length-map}
 use Rattle.std.proofs.lemmas.Bool.{or_parts}
 use Rattle.std.proofs.lemmas.Bool.Decides.{nat_tests}
-use Rattle.hum_record.specs.declared.Kind.TheVariants.{Values as AnyValues, Local as AnyLocal, Global}
+use Rattle.hum_record.specs.declared.Kind.TheVariants.{Values as AnyValues, Global}
 use Rattle.hum_record.specs.declared.SpinedKind.TheVariants.{Local, Interpretation, Values}
 use Rattle.hum_record.specs.Row.{Row, Comment, Spined, kind_of, tokens_of, width_of, text_of}
 use Rattle.hum_record.specs.Building.{Draft, spelled}
@@ -18,12 +18,6 @@ use Rattle.hum_stage.specs.declared.faults.Rule.TheVariants.{L1}
 use Rattle.hum_record.specs.Making.{Holds}
 use Rattle.hum_cells.specs.Telling.{Pushes}
 use Rattle.hum_cells.specs.Retelling.{Retelling, is_kern, kern_columns, is_told, any_told, retold, beside, all_retold, if_fit, data_record, retell}
-
--- one token further
-pub any_more : (kerns : List Bool) (tokens : List (List ℕ)) (j : ℕ) → j < length kerns → j < length tokens
-    → any_told (drop j kerns) (drop j tokens)
-    ≡ ((get_or kerns j false && is_told (get_or tokens j [])) || any_told (drop (j + 1) kerns) (drop (j + 1) tokens))
-any_more kerns tokens j a b = rw (add-one, drop-cons kerns j false a, drop-cons tokens j [] b) refl
 
 pub none_told : (kerns : List Bool) (tokens : List (List ℕ)) (j : ℕ) → length tokens ≤ j
     → any_told (drop j kerns) (drop j tokens) ≡ false
@@ -107,19 +101,6 @@ module _ (becomes : List (List ℕ) → List ℕ → Result (List ℕ) Rule) (ke
   pub done_all : length tokens ≤ j → (d : Done becomes kerns columns tokens j draft long) → all_retold becomes kerns columns tokens ≡ Ok d.done
   done_all past d = sym d.whole ∙ (ap (behind d.done) (none_left becomes kerns columns tokens j past) ∙ ap Ok (append-nil d.done))
 
-pub begins : (becomes : List (List ℕ) → List ℕ → Result (List ℕ) Rule) (kerns : List Bool) (columns : List (List (List ℕ))) (tokens : List (List ℕ))
-    (draft : Draft) (long : Bool) → Holds Values draft long [] → Done becomes kerns columns tokens 0 draft long
-begins becomes kerns columns tokens draft long h = record {
-  done = [];
-  size = refl;
-  whole = none (all_retold becomes kerns columns tokens);
-  holds = h;
-}
-  where
-    none : (r : Result (List (List ℕ)) Rule) → behind [] r ≡ r
-    none (Ok tokens) = refl
-    none (Err rule) = refl
-
 comment_no_data : Global ≡ AnyValues → ⊥
 comment_no_data e = cc
 
@@ -168,15 +149,3 @@ same_data retelling past (Spined Local tokens) k within h = absurd cc
 same_data retelling past (Spined Interpretation tokens) k within h = absurd cc
 same_data retelling past (Spined Values tokens) k within h =
     rw (nothing_told retelling.becomes (kern_columns past) (columns past) tokens h) (fits tokens within)
-
-pub same_local : (retelling : Retelling) (past : List Row) (row : Row) → kind_of row ≡ AnyLocal → retell retelling past row ≡ Ok (row ∷ [])
-same_local retelling past (Comment text) k = refl
-same_local retelling past (Spined Local tokens) k = refl
-same_local retelling past (Spined Interpretation tokens) k = absurd cc
-same_local retelling past (Spined Values tokens) k = absurd cc
-
-pub same_comment : (retelling : Retelling) (past : List Row) (row : Row) → kind_of row ≡ Global → retell retelling past row ≡ Ok (row ∷ [])
-same_comment retelling past (Comment text) k = refl
-same_comment retelling past (Spined Local tokens) k = refl
-same_comment retelling past (Spined Interpretation tokens) k = absurd cc
-same_comment retelling past (Spined Values tokens) k = absurd cc

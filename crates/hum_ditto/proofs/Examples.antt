@@ -34,8 +34,10 @@ abbrev signs : List ℕ → List ℕ → Row
 signs a b = Spined Interpretation (a ∷ b ∷ [])
 
 -- the token above, past comments, null tokens and interpretations; none above stays null
-nearest : given plain (sign (codes "**x") ∷ one (codes ".") ∷ one (codes "a") ∷ Spined Local (codes "!b" ∷ []) ∷ sign (codes "*c") ∷ one (codes ".") ∷ Comment (codes "!!d") ∷ one (codes ".") ∷ sign (codes "*-") ∷ [])
-    ≡ sign (codes "**x") ∷ one (codes ".") ∷ one (codes "a") ∷ Spined Local (codes "!b" ∷ []) ∷ sign (codes "*c") ∷ one (codes "a") ∷ Comment (codes "!!d") ∷ one (codes "a") ∷ sign (codes "*-") ∷ []
+nearest : given plain (sign (codes "**x") ∷ one (codes ".") ∷ one (codes "a") ∷ Spined Local (codes "!b" ∷ []) ∷ sign (codes "*c")
+    ∷ one (codes ".") ∷ Comment (codes "!!d") ∷ one (codes ".") ∷ sign (codes "*-") ∷ [])
+    ≡ sign (codes "**x") ∷ one (codes ".") ∷ one (codes "a") ∷ Spined Local (codes "!b" ∷ []) ∷ sign (codes "*c")
+    ∷ one (codes "a") ∷ Comment (codes "!!d") ∷ one (codes "a") ∷ sign (codes "*-") ∷ []
 nearest = refl
 
 -- bar lines are repeated too
@@ -54,12 +56,16 @@ renamed : given plain (sign (codes "**x") ∷ one (codes "a") ∷ sign (codes "*
     ≡ sign (codes "**x") ∷ one (codes "a") ∷ sign (codes "**y") ∷ one (codes ".") ∷ one (codes "b") ∷ one (codes "b") ∷ []
 renamed = refl
 
-exchanged : given plain (signs (codes "**x") (codes "**y") ∷ two (codes "a") (codes "b") ∷ signs (codes "*x") (codes "*x") ∷ two (codes ".") (codes ".") ∷ signs (codes "*-") (codes "*-") ∷ [])
-    ≡ signs (codes "**x") (codes "**y") ∷ two (codes "a") (codes "b") ∷ signs (codes "*x") (codes "*x") ∷ two (codes "b") (codes "a") ∷ signs (codes "*-") (codes "*-") ∷ []
+exchanged : given plain (signs (codes "**x") (codes "**y") ∷ two (codes "a") (codes "b") ∷ signs (codes "*x") (codes "*x")
+    ∷ two (codes ".") (codes ".") ∷ signs (codes "*-") (codes "*-") ∷ [])
+    ≡ signs (codes "**x") (codes "**y") ∷ two (codes "a") (codes "b") ∷ signs (codes "*x") (codes "*x")
+    ∷ two (codes "b") (codes "a") ∷ signs (codes "*-") (codes "*-") ∷ []
 exchanged = refl
 
-added : given in_parentheses (sign (codes "**x") ∷ one (codes "a") ∷ sign (codes "*+") ∷ signs (codes "*") (codes "**x") ∷ two (codes ".") (codes ".") ∷ signs (codes "*-") (codes "*-") ∷ [])
-    ≡ sign (codes "**x") ∷ one (codes "a") ∷ sign (codes "*+") ∷ signs (codes "*") (codes "**x") ∷ two (codes "(a)") (codes ".") ∷ signs (codes "*-") (codes "*-") ∷ []
+added : given in_parentheses (sign (codes "**x") ∷ one (codes "a") ∷ sign (codes "*+") ∷ signs (codes "*") (codes "**x")
+    ∷ two (codes ".") (codes ".") ∷ signs (codes "*-") (codes "*-") ∷ [])
+    ≡ sign (codes "**x") ∷ one (codes "a") ∷ sign (codes "*+") ∷ signs (codes "*") (codes "**x")
+    ∷ two (codes "(a)") (codes ".") ∷ signs (codes "*-") (codes "*-") ∷ []
 added = refl
 
 split : given plain (sign (codes "**x") ∷ one (codes "a") ∷ sign (codes "*^") ∷ two (codes ".") (codes ".") ∷ signs (codes "*-") (codes "*-") ∷ [])
@@ -67,6 +73,8 @@ split : given plain (sign (codes "**x") ∷ one (codes "a") ∷ sign (codes "*^"
 split = refl
 
 -- a join goes on from its leftmost spine
-joined : given plain (signs (codes "**x") (codes "**x") ∷ two (codes "a") (codes "b") ∷ signs (codes "*v") (codes "*v") ∷ one (codes ".") ∷ sign (codes "*-") ∷ [])
-    ≡ signs (codes "**x") (codes "**x") ∷ two (codes "a") (codes "b") ∷ signs (codes "*v") (codes "*v") ∷ one (codes "a") ∷ sign (codes "*-") ∷ []
+joined : given plain (signs (codes "**x") (codes "**x") ∷ two (codes "a") (codes "b") ∷ signs (codes "*v") (codes "*v")
+    ∷ one (codes ".") ∷ sign (codes "*-") ∷ [])
+    ≡ signs (codes "**x") (codes "**x") ∷ two (codes "a") (codes "b") ∷ signs (codes "*v") (codes "*v")
+    ∷ one (codes "a") ∷ sign (codes "*-") ∷ []
 joined = refl

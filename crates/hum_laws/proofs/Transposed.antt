@@ -50,7 +50,8 @@ pub semits_moved : (n m : ℤ) (options : SemitsOptions) (p : List Row) (given :
     → KeepsScore (moved_by 1 n m).outcomes → IsScore p → given.end ≡ Closed
     → given.records.items ≡ semitones_under (trans_sign n m ∷ []) m options.ties_left_out p
 semits_moved n m options p given h keeps score closed =
-    marks (Renamed (codes "**semits")) (trans_sign n m) (λ above. transposed n m) (retold (semits_of options.ties_left_out)) (λ above. retold (semits_higher m options.ties_left_out))
+    marks (Renamed (codes "**semits")) (trans_sign n m) (λ above. transposed n m) (retold (semits_of options.ties_left_out))
+    (λ above. retold (semits_higher m options.ties_left_out))
     (behind_trans n m (semits_of options.ties_left_out) (semits_higher m options.ties_left_out)
     (λ part text e. sym (shifted options.ties_left_out n m part text e)))
     p given.records.items score (piped_runs 1 2 Trans Semits (retell (trans n m)) (retell (semits options)) p given h keeps score closed)

@@ -187,7 +187,8 @@ shifted ties n m part text e = go (note part) refl e
         moved n m part found o ≡ Ok (Some text) → semits_of ties text ≡ Ok (higher_reading m ties found)
     there found read None is e =
         let same : part ≡ text = cc in
-        ap (semits_of ties) (sym same) ∙ ap (by_reading ties) read ∙ ap (λ (o : Option Spelled). Ok (if found.rest then Some (codes "r") else of_pitch (ties && found.continued) o)) is
+        ap (semits_of ties) (sym same) ∙ ap (by_reading ties) read
+        ∙ ap (λ (o : Option Spelled). Ok (if found.rest then Some (codes "r") else of_pitch (ties && found.continued) o)) is
         ∙ ap (λ (o : Option Spelled). Ok (if found.rest then Some (codes "r") else higher_pitch m (ties && found.continued) o)) (sym is)
     there found read (Some p) is e = shifted_there ties n m part text found p (sym read) is (away n m p) refl e
 

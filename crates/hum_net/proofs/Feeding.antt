@@ -1,5 +1,5 @@
 -- A turn of a source of a web.
-use Rattle.std.proofs.Common.{◌≡◌, ◌≢◌, ◌∙◌, ℕ, ◌<◌, Bool, true, false, ◌||◌, List, ◌++◌, length, Option, Some, None, refl}
+use Rattle.std.proofs.Common.{◌≡◌, ◌∙◌, ℕ, ◌<◌, Bool, true, false, ◌||◌, List, ◌++◌, length, Option, Some, None, refl}
 use Rattle.std.proofs.Common.{sym, ap, subst, arith, slice_get, slice_set, get_or, length-set, eq-eqb, ne_eqb}
 use Rattle.std.proofs.Common.{nat_lt, is_none, ⊎_elim}
 use Rattle.std.proofs.lemmas.Option.{slice_get_cases}
@@ -143,9 +143,6 @@ module _ {F W : Type 0} (tells : F → Option (List ℕ)) (over : F → Bool) (c
     (was : slice_get nodes k ≡ Some node) where
   new : List (Node F W)
   new = slice_set nodes k after
-
-  pub polled_others : (i : ℕ) → i ≢ k → slice_get (slice_set nodes k after) i ≡ slice_get nodes i
-  polled_others i o = set_other nodes k after i o
 
   pub polled_marks : (b : Bool) → failed_of failed after ≡ (failed_of failed node || b)
       → failed_at failed k (slice_set nodes k after) ≡ (failed_at failed k nodes || b)

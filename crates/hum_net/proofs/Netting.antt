@@ -82,11 +82,6 @@ module _ {F W S : Type 0} (stands : Node F W → List ℕ → At → Type 0)
   pub going_at : net.failure ≡ None → IsAt stands net.web (moved s now.links)
   going_at e = running (sym h.failure ∙ e)
 
-  pub failed_result : (by : RunResult) → net.failure ≡ Some by
-      → Some by ≡ ended_by now.failure (now.links (last (plan_of s))).heard
-  failed_result by e =
-      ap (λ f. ended_by f (now.links (last (plan_of s))).heard) (sym (sym h.failure ∙ e))
-
   pub heard_result : (o : Option End) (r : Option RunResult) → net.failure ≡ None
       → o ≡ (now.links (last (plan_of s))).heard → r ≡ ended_by None o
       → r ≡ ended_by now.failure (now.links (last (plan_of s))).heard

@@ -72,9 +72,6 @@ module _ {F W : Type 0} (stands : Node F W → List ℕ → At → Type 0) (k : 
   pub touched_gives : doing ≡ does.Gives → k ≡ touched k (state (plan_of s) s.links k)
   touched_gives is = sym (ap (touched k) (state_gives s s.links k a.less (a.does ∙ is)))
 
-  pub touched_reads : doing ≡ does.Reads → k ≡ touched k (state (plan_of s) s.links k)
-  touched_reads is = sym (ap (touched k) (state_reads s s.links k a.less (a.does ∙ is)))
-
   pub touched_ends : (end : End) → doing ≡ does.Done end
       → k ≡ touched k (state (plan_of s) s.links k)
   touched_ends end is = sym (ap (touched k) (state_ends s s.links k end a.less (a.does ∙ is)))

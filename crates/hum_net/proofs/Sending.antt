@@ -2,17 +2,16 @@
 use Rattle.std.proofs.Common.{◌≡◌, ◌∙◌, ℕ, List, [], ◌∷◌, ◌++◌, Option, Some, None, refl, sym, ap, subst, append-nil, true, false}
 use Rattle.std.proofs.Common.{Bool, is_none, is_some}
 use Rattle.std.proofs.lemmas.Bool.{and_parts, false≢true}
-use Rattle.std.proofs.lemmas.Option.{none-some, same_Some}
+use Rattle.std.proofs.lemmas.Option.{none-some}
 use Rattle.std.specs.Io.KnownBytes.{Appends}
 use Rattle.hum_record.specs.Row.{Row, text_of}
 use Rattle.hum_stage.specs.declared.faults.End.{End}
 use Rattle.hum_turns.specs.declared.result.RunResult.{RunResult}
-use Rattle.hum_turns.specs.declared.result.RunResult.TheVariants as ends
-use Rattle.hum_turns.specs.Flow.{Flow, Begins}
+use Rattle.hum_turns.specs.Flow.{Flow}
 use Rattle.hum_turns.specs.Plan.{last}
 use Rattle.hum_turns.specs.Links.{Link, has_some}
 use Rattle.hum_turns.specs.Turns.{Takes}
-use Rattle.hum_turns.specs.Text.{text, next_text}
+use Rattle.hum_turns.specs.Text.{text}
 use Rattle.hum_turns.proofs.Writing.{text_append}
 use Rattle.hum_nodes.specs.At.{At}
 use Rattle.hum_nodes.specs.declared.either.Node.{Node}
@@ -21,21 +20,8 @@ use Rattle.hum_links.specs.declared.link.Next.TheVariants as next
 use Rattle.hum_links.specs.Links.{next_of}
 use Rattle.hum_net.specs.declared.web.Web.{Web}
 use Rattle.hum_net.specs.Scene.{Scene, plan_of, Done}
-use Rattle.hum_net.specs.Nets.{Sent, SinkWent, Failed}
-use Rattle.hum_writing.specs.Writing.{WroteFront}
-use Rattle.hum_net.proofs.Taking.{next_record, next_end, next_nothing}
-
-row_of : Next → Option Row
-row_of (next.Record x) = Some x
-row_of (next.End e) = None
-row_of next.Nothing = None
-
-next_line : (ws : List Row) (o : Option End) (x : Row) → next.Record x ≡ next_of ws o
-    → next_text text_of ws ≡ text_of x ++ 10 ∷ []
-unfolding row_of
-next_line (y ∷ ws) o x h = ap (λ (r : Row). text_of r ++ 10 ∷ []) (sym (same_Some x y (ap row_of h)))
-next_line [] None x h = absurd (none-some x (sym (ap row_of h)))
-next_line [] (Some e) x h = absurd (none-some x (sym (ap row_of h)))
+use Rattle.hum_net.specs.Nets.{Sent, SinkWent}
+use Rattle.hum_net.proofs.Taking.{next_record, next_end}
 
 pub not_heard : (l : Link Row) → has_some l ≡ true → l.heard ≡ None
 not_heard l some = none_by l.heard (and_parts _ _ some).0
@@ -91,16 +77,3 @@ module _ {F W : Type 0} (stands : Node F W → List ℕ → At → Type 0) (web 
         tells = ends
             ∙ sym (ap is_some (ap (λ (j : Link Row). j.heard) d.does.here ∙ ap (λ (f : Flow Row). f.end) v));
       }
-
-  pub sent_part : (answer : Next) (x : Row) → answer ≡ next_of l.waiting l.mark
-      → answer ≡ next.Record x → WroteFront old new (text_of x ++ 10 ∷ [])
-      → Failed s.count ends.Write old new s
-  sent_part answer x told is f = record {
-    part = f.bytes;
-    may = (refl, subst (Begins f.bytes) (sym (next_line l.waiting l.mark x (sym is ∙ told))) f.front);
-    appends = f.appends;
-  }
-
-  pub sent_nothing : (answer : Next) → has_some l ≡ true → answer ≡ next_of l.waiting l.mark
-      → answer ≡ next.Nothing → ⊥
-  sent_nothing answer some told is = next_nothing l l.waiting refl (sym is ∙ told) some

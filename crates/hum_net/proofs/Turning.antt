@@ -116,21 +116,6 @@ module _ {F W : Type 0} (stands : Node F W → List ℕ → At → Type 0) (k : 
       }
 
 module _ {F W : Type 0} (feeds : F → List ℕ → At → Type 0) (works : W → At → Type 0) (k : ℕ) where
-  pub about : (web : Web F W) (doing : Doing) (s : Scene) (node : Node F W)
-      → ((w : W) (t : At) → works w t → bytes_of t ≡ 0)
-      → IsAt (StandsAs feeds works) web s → k < s.count
-      → slice_get web.nodes.items k ≡ Some node → is_source node ≡ false
-      → ((rest : List ℕ) (t : At) → StandsAs feeds works node rest t → doing ≡ doing_of t)
-      → IsAbout (StandsAs feeds works) k doing web s
-  about web doing s node law at less there kind tells =
-      let h = at.stand.nodes k node there in
-      record {
-        at = at;
-        less = less;
-        bytes = stage_bytes feeds works law node (s.rests k) (at_of s.kinds s.links k) kind h;
-        does = sym (tells (s.rests k) (at_of s.kinds s.links k) h);
-      }
-
   pub about_kind : (web : Web F W) (kind : DoingKind) (s : Scene) (node : Node F W)
       → ((w : W) (t : At) → works w t → bytes_of t ≡ 0)
       → IsAt (StandsAs feeds works) web s → k < s.count

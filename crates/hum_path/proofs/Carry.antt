@@ -6,10 +6,8 @@ use Rattle.std.specs.List.{AllByRecursion}
 use Rattle.std.proofs.lemmas.List.{drop_all, take_all, take-append-drop}
 use Rattle.std.proofs.Math.ListN.{get_or-map}
 use Rattle.hum_record.specs.declared.Kind.TheVariants.{Global, Interpretation as AnyInterpretation}
-use Rattle.hum_record.specs.declared.SpinedKind.{SpinedKind}
 use Rattle.hum_record.specs.declared.SpinedKind.TheVariants.{Local, Interpretation, Values}
 use Rattle.hum_record.specs.Row.{Row, Comment, Spined, kind_of, tokens_of}
-use Rattle.hum_record.specs.Spelling.{IsToken, IsTokenOf}
 use Rattle.hum_path.specs.declared.moved.Move.{Move}
 use Rattle.hum_path.specs.declared.moved.Move.TheVariants.{Same, Left, Right, Join as Joined, Added}
 use Rattle.hum_path.specs.Spines.{moves, moves_at, source, same_upto}
@@ -17,11 +15,6 @@ use Rattle.hum_path.specs.Score.{path_after}
 use Rattle.hum_path.specs.Chains.{chain_of, columns, longer}
 use Rattle.hum_path.specs.Memories.{remembered, memory_of, seen_each, Remember}
 use Rattle.hum_path.specs.Step.{ComeFrom}
-
--- a token of a record is one of some kind
-pub of_some_kind : (row : Row) (token : List ℕ) → IsTokenOf row token → (kind : SpinedKind) × IsToken kind token
-of_some_kind (Comment text) token h = absurd h
-of_some_kind (Spined kind tokens) token h = (kind, h)
 
 -- one more of a list that is mapped
 pub map_more : {X Y : Type 0} (f : X → Y) (ys : List Y) (xs : List X) (i : ℕ) (x : X)

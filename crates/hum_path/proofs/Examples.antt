@@ -36,7 +36,8 @@ history7 = refl
 names7 : path_after past7 ≡ Spines (codes "**y" ∷ codes "**x" ∷ [])
 names7 = refl
 
-moves11 : moves (Spines (codes "**a" ∷ codes "**b" ∷ codes "**c" ∷ [])) (Spined Interpretation (codes "*x" ∷ codes "*" ∷ codes "*x" ∷ [])) ≡ Same 2 ∷ Same 1 ∷ Same 0 ∷ []
+moves11 : moves (Spines (codes "**a" ∷ codes "**b" ∷ codes "**c" ∷ [])) (Spined Interpretation (codes "*x" ∷ codes "*" ∷ codes "*x" ∷ []))
+    ≡ Same 2 ∷ Same 1 ∷ Same 0 ∷ []
 moves11 = refl
 
 fault26 : score_fault [] (Spined Interpretation (codes "**x" ∷ codes "**y" ∷ []) ∷ Spined Interpretation (codes "*v" ∷ codes "*" ∷ []) ∷ []) ≡ Some (2, P3)
@@ -48,26 +49,35 @@ fault26b = refl
 fault26c : score_fault [] (Spined Interpretation (codes "**x" ∷ []) ∷ Spined Values (codes "1" ∷ codes "2" ∷ []) ∷ []) ≡ Some (2, P2)
 fault26c = refl
 
-fault26d : score_fault [] (Spined Interpretation (codes "**x" ∷ []) ∷ Spined Interpretation (codes "*+" ∷ []) ∷ Spined Interpretation (codes "*" ∷ codes "*" ∷ []) ∷ []) ≡ Some (3, P6)
+fault26d : score_fault [] (Spined Interpretation (codes "**x" ∷ []) ∷ Spined Interpretation (codes "*+" ∷ [])
+    ∷ Spined Interpretation (codes "*" ∷ codes "*" ∷ []) ∷ []) ≡ Some (3, P6)
 fault26d = refl
 
-fault26e : score_fault [] (Spined Interpretation (codes "**x" ∷ []) ∷ Spined Interpretation (codes "*-" ∷ []) ∷ Spined Values (codes "1" ∷ []) ∷ []) ≡ Some (3, P7)
+fault26e : score_fault [] (Spined Interpretation (codes "**x" ∷ []) ∷ Spined Interpretation (codes "*-" ∷ [])
+    ∷ Spined Values (codes "1" ∷ []) ∷ []) ≡ Some (3, P7)
 fault26e = refl
 
 fault26f : score_fault [] (Spined Values (codes "4c" ∷ []) ∷ []) ≡ Some (1, P1)
 fault26f = refl
 
-joined : moves (Spines (codes "**x" ∷ codes "**x" ∷ codes "**x" ∷ codes "**y" ∷ [])) (Spined Interpretation (codes "*v" ∷ codes "*v" ∷ codes "*^" ∷ codes "*+" ∷ [])) ≡ Joined 0 1 ∷ Left 2 ∷ Right 2 ∷ Same 3 ∷ Added 3 ∷ []
+joined : moves (Spines (codes "**x" ∷ codes "**x" ∷ codes "**x" ∷ codes "**y" ∷ []))
+    (Spined Interpretation (codes "*v" ∷ codes "*v" ∷ codes "*^" ∷ codes "*+" ∷ []))
+    ≡ Joined 0 1 ∷ Left 2 ∷ Right 2 ∷ Same 3 ∷ Added 3 ∷ []
 joined = refl
 
 origins7 : origins past7 ≡ 1 ∷ 0 ∷ []
 origins7 = refl
 
--- **x, a, *+, * **x, a b
-origins_added : origins (Spined Values (codes "a" ∷ codes "b" ∷ []) ∷ Spined Interpretation (codes "*" ∷ codes "**x" ∷ []) ∷ Spined Interpretation (codes "*+" ∷ []) ∷ Spined Interpretation (codes "**x" ∷ []) ∷ []) ≡ 0 ∷ 0 ∷ []
+-- **x, *+, * **x, a b
+abbrev past_added : List Row
+past_added =
+    Spined Values (codes "a" ∷ codes "b" ∷ []) ∷ Spined Interpretation (codes "*" ∷ codes "**x" ∷ [])
+    ∷ Spined Interpretation (codes "*+" ∷ []) ∷ Spined Interpretation (codes "**x" ∷ []) ∷ []
+
+origins_added : origins past_added ≡ 0 ∷ 0 ∷ []
 origins_added = refl
 
-history_added : history (Spined Values (codes "a" ∷ codes "b" ∷ []) ∷ Spined Interpretation (codes "*" ∷ codes "**x" ∷ []) ∷ Spined Interpretation (codes "*+" ∷ []) ∷ Spined Interpretation (codes "**x" ∷ []) ∷ []) 1 ≡ codes "b" ∷ codes "**x" ∷ []
+history_added : history past_added 1 ≡ codes "b" ∷ codes "**x" ∷ []
 history_added = refl
 
 -- **x **y, *^ *, b c d, *v *v *, e f, *- *-
@@ -106,5 +116,6 @@ reach_whole : reach (history past7 0) ≡ history past7 0
 reach_whole = refl
 
 -- **x **y, *+ *, * **z *: the added spine's origin is that of the spine to its left
-origins_between : origins (Spined Interpretation (codes "*" ∷ codes "**z" ∷ codes "*" ∷ []) ∷ Spined Interpretation (codes "*+" ∷ codes "*" ∷ []) ∷ Spined Interpretation (codes "**x" ∷ codes "**y" ∷ []) ∷ []) ≡ 0 ∷ 0 ∷ 1 ∷ []
+origins_between : origins (Spined Interpretation (codes "*" ∷ codes "**z" ∷ codes "*" ∷ [])
+    ∷ Spined Interpretation (codes "*+" ∷ codes "*" ∷ []) ∷ Spined Interpretation (codes "**x" ∷ codes "**y" ∷ []) ∷ []) ≡ 0 ∷ 0 ∷ 1 ∷ []
 origins_between = refl

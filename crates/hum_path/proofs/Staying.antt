@@ -170,12 +170,6 @@ pub record Stays (path : Path) (row : Row) : Type 0 where
   pub all_stay : moves path row ≡ same_upto 0 (width path)
   pub sources : ComeFrom row (same_upto 0 (width path))
 
-pub comment_stays : (path : Path) (row : Row) → kind_of row ≡ AnyGlobal → Stays path row
-comment_stays path (Comment text) is = record { sound = refl; path_stays = refl; all_stay = refl; sources = tt }
-comment_stays path (Spined Local tokens) is = cc
-comment_stays path (Spined Interpretation tokens) is = cc
-comment_stays path (Spined Values tokens) is = cc
-
 text_stays : (kind : SpinedKind) (path : Path) (tokens : List (List ℕ))
     → fault_of path (Spined kind tokens) ≡ None → length tokens ≡ width path
     → (after path (Spined kind tokens) ≡ path) → (moves path (Spined kind tokens) ≡ same_upto 0 (width path))

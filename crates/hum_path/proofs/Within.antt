@@ -1,7 +1,6 @@
 -- Each spine comes from a spine under a token.
 use Rattle.std.proofs.Common.{◌≡◌, ℕ, zero, suc, ◌+◌, ◌<◌, ◌≤◌, Bool, true, false, List, [], ◌∷◌}
-use Rattle.std.proofs.Common.{◌++◌, length, map, arith, inl, inr, ◌==◌, Some, slice_get, subst}
-use Rattle.std.proofs.lemmas.Option.{same_Some}
+use Rattle.std.proofs.Common.{◌++◌, length, map, arith, inl, inr, ◌==◌}
 use Rattle.std.proofs.lemmas.List.{length-map}
 use Rattle.std.specs.List.{AllByRecursion}
 use Rattle.std.proofs.lemmas.Bool.{cases_Bool}
@@ -64,12 +63,6 @@ moves_below (Spines names) tokens =
     let signs = map sign_of tokens in
     let size : length signs ≡ length tokens = length-map tokens sign_of in
     all_below (length tokens) 0 (exchanges 0 signs) false signs (exchanged_below (length tokens) 0 signs (omega (arith, size))) (omega (arith, size))
-
--- at a place
-pub from_at : (n : ℕ) (ms : List Move) (i : ℕ) (m : Move) → From n ms → slice_get ms i ≡ Some m → source m < n
-from_at n [] i m h e = cc
-from_at n (k ∷ ms) zero m h e = subst (λ (x : Move). source x < n) (same_Some k m e) h.0
-from_at n (k ∷ ms) (suc i) m h e = from_at n ms i m h.1 e
 
 -- under a record that asks something of the spines
 pub steered_below : (path : Path) (row : Row) → steers row ≡ true → ComeFrom row (moves_at path (tokens_of row))

@@ -27,7 +27,9 @@ stars_plain : (tokens : List (List ℕ)) → list_all (bytes_eq (codes "*")) tok
 stars_plain [] h = refl
 stars_plain (t ∷ ts) h =
     let both = and_parts (bytes_eq (codes "*") t) (list_all (bytes_eq (codes "*")) ts) h in
-    and_from (is_plain (sign_of t)) (all_plain ts) (subst (λ (x : List ℕ). is_plain (sign_of x) ≡ true) ((bytes_eq-Decides (codes "*") t).0 both.0) refl) (stars_plain ts both.1)
+    and_from (is_plain (sign_of t)) (all_plain ts)
+    (subst (λ (x : List ℕ). is_plain (sign_of x) ≡ true) ((bytes_eq-Decides (codes "*") t).0 both.0) refl)
+    (stars_plain ts both.1)
 
 nothing : (i n t : Bool) → (i && (n && false)) || (t && (false && true)) ≡ true → ⊥
 nothing false n false h = cc

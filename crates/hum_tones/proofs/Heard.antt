@@ -25,10 +25,6 @@ pub record HeardSoFar (parts : List (List ℕ)) (n : ℕ) (kept : Kept) : Type 0
   pub is : hearing kept ≡ heard done
   pub rest : readings_of parts ≡ onto done (readings_of (drop n parts))
 
-onto_nothing : (r : Result (List Reading) Rule) → r ≡ onto [] r
-onto_nothing (Ok readings) = refl
-onto_nothing (Err rule) = refl
-
 onto_one_more : (done : List Reading) (reading : Reading) (r : Result (List Reading) Rule) →
     onto done (with_reading (Ok reading) r) ≡ onto (done ++ reading ∷ []) r
 onto_one_more done reading (Ok readings) = ap (λ all. Ok all) (sym (append_assoc done (reading ∷ []) readings))
@@ -66,9 +62,6 @@ heard_one_more done reading =
   where
     made : Option Tone → Bool → Heard
     made t b = record { tone = t; rest = b }
-
-pub nothing_yet : (parts : List (List ℕ)) (kept : Kept) → hearing kept ≡ heard [] → HeardSoFar parts 0 kept
-nothing_yet parts kept is = record { done = []; is = is; rest = onto_nothing (readings_of parts) }
 
 module _ (parts : List (List ℕ)) (n : ℕ) (kept : Kept) (h : HeardSoFar parts n kept) where
   -- the next part

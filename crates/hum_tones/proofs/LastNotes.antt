@@ -27,10 +27,13 @@ others false false false false true = refl
 others false false false false false = refl
 
 exclusive_by_text : (token : List ℕ) → is_exclusive (sign_of token) ≡ starts_with nat_eq token (codes "**")
-exclusive_by_text token = elim (cases_Bool (starts_with nat_eq token (codes "**"))) as (λ _. is_exclusive (sign_of token) ≡ starts_with nat_eq token (codes "**")) [
-  | inl is ↦ rw is refl
-  | inr isnt ↦ rw isnt (others (bytes_eq token (codes "*^")) (bytes_eq token (codes "*v")) (bytes_eq token (codes "*x")) (bytes_eq token (codes "*+")) (bytes_eq token (codes "*-")))
-]
+exclusive_by_text token = elim (cases_Bool (starts_with nat_eq token (codes "**")))
+    as (λ _. is_exclusive (sign_of token) ≡ starts_with nat_eq token (codes "**")) [
+      | inl is ↦ rw is refl
+      | inr isnt ↦ rw isnt
+          (others (bytes_eq token (codes "*^")) (bytes_eq token (codes "*v")) (bytes_eq token (codes "*x"))
+          (bytes_eq token (codes "*+")) (bytes_eq token (codes "*-")))
+    ]
 
 no_data : (comment star : Bool) → star ≡ true → same_kind (if comment then Local else if star then Interpretation else Values) Values ≡ false
 no_data true star h = refl

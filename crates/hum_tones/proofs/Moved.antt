@@ -6,7 +6,7 @@ use lib.Chars.{codes}
 use Rattle.hum_stage.specs.declared.faults.Rule.{Rule}
 use Rattle.hum_tones.specs.Subtokens.{with_first, given_by, joined, if_given}
 use Rattle.hum_tones.specs.Trans.{HasMoved}
-use Rattle.hum_tones.proofs.SoFar.{spaced, onto, onto_nothing, onto_one_more, spaced_one_more}
+use Rattle.hum_tones.proofs.SoFar.{spaced, onto, onto_one_more, spaced_one_more}
 use Rattle.hum_tones.proofs.Joined.{fronts, spaced_joined}
 
 -- so many parts have been written
@@ -14,9 +14,6 @@ pub record MovedSoFar (gives : List ℕ → Result (Option (List ℕ)) Rule) (pa
   pub done : List (List ℕ)
   pub made : text ≡ spaced done
   pub rest : given_by gives parts ≡ onto done (given_by gives (drop n parts))
-
-pub nothing_moved : (gives : List ℕ → Result (Option (List ℕ)) Rule) (parts : List (List ℕ)) → MovedSoFar gives parts 0 []
-nothing_moved gives parts = record { done = []; made = refl; rest = onto_nothing (given_by gives parts) }
 
 module _ (gives : List ℕ → Result (Option (List ℕ)) Rule) (parts : List (List ℕ)) (n : ℕ) (text : List ℕ) (h : MovedSoFar gives parts n text) where
   split : (part : List ℕ) → n < length parts → part ≡ get_or parts n part

@@ -1,5 +1,5 @@
 -- What becomes of a part whose pitch is transposed.
-use Rattle.std.proofs.Common.{◌≡◌, refl, sym, ap, ◌∙◌, ℕ, ℤ, pos, negsuc, ◌≤◌, ◌<◌, true, false, List, ◌++◌, take, drop, arith, Option, None, Some, inl, inr}
+use Rattle.std.proofs.Common.{◌≡◌, refl, sym, ap, ◌∙◌, ℕ, ℤ, pos, negsuc, ◌≤◌, ◌<◌, true, false, List, ◌++◌, take, drop, arith, Option, Some, inl, inr}
 use Rattle.std.specs.Prelude.{Ok, Err, option_map, nat_le}
 use Rattle.std.proofs.lemmas.Int.{ints}
 use Rattle.std.proofs.Common.{append_assoc}
@@ -52,10 +52,6 @@ with_pitch : (n m : ℤ) (part : List ℕ) (found : Note) (pitch : Pitch) → Ok
     found.pitch ≡ Some pitch → transposed_part n m part ≡ put part (reading found)
     (if_spelled (away n m (spelled pitch)))
 with_pitch n m part found pitch read there =
-    ap (moved_as_read n m part) (sym read) ∙ ap (λ (o : Option Pitch). moved n m part (reading found) (option_map spelled o)) there
-
-pub without_pitch : (n m : ℤ) (part : List ℕ) (found : Note) → Ok (reading found) ≡ note part → found.pitch ≡ None → transposed_part n m part ≡ Ok (Some part)
-without_pitch n m part found read there =
     ap (moved_as_read n m part) (sym read) ∙ ap (λ (o : Option Pitch). moved n m part (reading found) (option_map spelled o)) there
 
 pub too_many_signs : (n m : ℤ) (part : List ℕ) (found : Note) (pitch : Pitch) → Ok (reading found) ≡ note part →

@@ -94,7 +94,8 @@ number_piece (negsuc n) fits =
 -- the semitones of a part
 pub adds_semitones : (ties : Bool) (part : List ℕ) (reading : Reading) (pitch : Spelled) (before after : List ℕ)
     → Ok reading ≡ note part → reading.rest ≡ false → reading.pitch ≡ Some pitch
-    → (ties && reading.continued) ≡ false → mag (semitones pitch) < 2 ^ 63 → after ≡ before ++ (signed_decimal (semitones pitch) ++ codes " ") → HasAdded (semits_of ties part) before after None
+    → (ties && reading.continued) ≡ false → mag (semitones pitch) < 2 ^ 63
+    → after ≡ before ++ (signed_decimal (semitones pitch) ++ codes " ") → HasAdded (semits_of ties part) before after None
 adds_semitones ties part reading pitch before after is no_rest some kept fits made =
     rw (← is) (rw no_rest (rw some (rw kept (made, number_piece (semitones pitch) fits))))
 

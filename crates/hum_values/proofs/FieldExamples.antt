@@ -1,5 +1,5 @@
 -- Lists of fields, worked by the definitions.
-use Rattle.std.proofs.Common.{◌≡◌, ℕ, List, [], ◌∷◌, Option, None, Some, refl, replicate, lit<, lit≤}
+use Rattle.std.proofs.Common.{◌≡◌, ℕ, List, [], ◌∷◌, ◌++◌, Option, None, Some, refl, replicate, lit<, lit≤}
 use Rattle.std.specs.Fmt.{digits}
 use lib.Chars.{codes}
 use Rattle.hum_extract.specs.declared.choice.FieldRange.{FieldRange}
@@ -105,11 +105,14 @@ two_dollars = refl
 blank_behind_comma : fields (codes "1, 2") ≡ None
 blank_behind_comma = refl
 
+abbrev thirty_two : List ℕ
+thirty_two = codes "1,1,1,1,1,1,1,1,1,1,1,1,1,1,1,1,1,1,1,1,1,1,1,1,1,1,1,1,1,1,1,1"
+
 -- 64 items are a list, 65 aren't.
-sixty_four : fields (codes "1,1,1,1,1,1,1,1,1,1,1,1,1,1,1,1,1,1,1,1,1,1,1,1,1,1,1,1,1,1,1,1,1,1,1,1,1,1,1,1,1,1,1,1,1,1,1,1,1,1,1,1,1,1,1,1,1,1,1,1,1,1,1,1") ≡ Some (replicate 64 (through 1 1))
+sixty_four : fields (thirty_two ++ (codes "," ++ thirty_two)) ≡ Some (replicate 64 (through 1 1))
 sixty_four = refl
 
-sixty_five : fields (codes "1,1,1,1,1,1,1,1,1,1,1,1,1,1,1,1,1,1,1,1,1,1,1,1,1,1,1,1,1,1,1,1,1,1,1,1,1,1,1,1,1,1,1,1,1,1,1,1,1,1,1,1,1,1,1,1,1,1,1,1,1,1,1,1,1") ≡ None
+sixty_five : fields (thirty_two ++ (codes "," ++ (thirty_two ++ codes ",1"))) ≡ None
 sixty_five = refl
 
 -- What a text spells, by the rules.

@@ -1,5 +1,5 @@
 -- What is appended in parts.
-use Rattle.std.proofs.Common.{◌≡◌, ◌∙◌, ℕ, List, [], ◌++◌, Option, Some, None, refl, sym, ap, subst, append_assoc, append-nil, take, drop}
+use Rattle.std.proofs.Common.{◌∙◌, ℕ, List, [], ◌++◌, Option, Some, None, sym, ap, append_assoc, append-nil, take, drop}
 use Rattle.std.specs.Io.KnownBytes.{Appends, Keeps}
 use Rattle.std.specs.Prelude.{Result, Ok, Err, OnErr}
 use Rattle.std.proofs.lemmas.List.{take-append-drop}
@@ -20,9 +20,6 @@ keeps_appends None b h = tt
 keeps_appends (Some a) None h = absurd h
 keeps_appends (Some a) (Some b) h = h ∙ sym (append-nil a)
 
-pub wrote_none : (a : Option (List ℕ)) (text : List ℕ) → Wrote a a text text
-wrote_none a text = record { bytes = []; sum = refl; appends = appends_none a }
-
 pub wrote_more : (a b c : Option (List ℕ)) (text rest : List ℕ) (n : ℕ) → Wrote a b text rest → Appends b c (take n rest) → Wrote a c text (drop n rest)
 wrote_more a b c text rest n w h =
     record {
@@ -30,13 +27,6 @@ wrote_more a b c text rest n w h =
       sum = append_assoc w.bytes (take n rest) (drop n rest) ∙ ap (λ l. w.bytes ++ l) (take-append-drop n rest) ∙ w.sum;
       appends = appends_trans a b c w.bytes (take n rest) w.appends h;
     }
-
-pub wrote_all : (a b : Option (List ℕ)) (text rest : List ℕ) → Wrote a b text rest → rest ≡ [] → Appends a b text
-wrote_all a b text rest w e = subst (Appends a b) (sym (append-nil w.bytes) ∙ ap (λ l. w.bytes ++ l) (sym e) ∙ w.sum) w.appends
-
-pub wrote_front : (a b c : Option (List ℕ)) (text rest : List ℕ) → Wrote a b text rest → Appends b c [] → WroteFront a c text
-wrote_front a b c text rest w h =
-    record { bytes = w.bytes; front = (rest, w.sum); appends = subst (Appends a c) (append-nil w.bytes) (appends_trans a b c w.bytes [] w.appends h) }
 
 pub front_first : (a b : Option (List ℕ)) (x y : List ℕ) → WroteFront a b x → WroteFront a b (x ++ y)
 front_first a b x y f = record {

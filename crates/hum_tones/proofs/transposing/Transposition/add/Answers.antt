@@ -19,7 +19,8 @@ pub returns-in_ok-push-in-Ok-there : goal.returns-in_ok-push-in-Ok-there
 returns-in_ok-push-in-Ok-there c =
     rw (put_there c.args.self.steps c.args.self.semitones c.args.part.now c.in-Ok.note c.in-Some.pitch
     c.in-Ok-there.there c.in-Ok.ensures.read c.in-Some.is c.in-Ok-there.ensures)
-    (in_order c.args.text.now.items (take c.in-Ok.note.start c.args.part.now) (spelling (spelled c.in-Ok-there.there)) (drop c.in-Ok.note.end c.args.part.now) (codes " ") _ _ _ _
+    (in_order c.args.text.now.items (take c.in-Ok.note.start c.args.part.now) (spelling (spelled c.in-Ok-there.there))
+    (drop c.in-Ok.note.end c.args.part.now) (codes " ") _ _ _ _
     c.in_ok-extend_from_slice-in-Ok-there.ensures.items c.in_ok-push_pitch-in-Ok-there.ensures
     (c.in_ok-extend_from_slice-in-Ok-there-2.ensures.items
     ∙ ap (λ (l : List ℕ). c.push_pitch.new.text.items ++ l) c.split_at.ensures.back)
