@@ -124,8 +124,8 @@ def tasks(score, steady):
     """Each command with the score that it reads and the programs beside it."""
     return [
         ('rid -G', score, [('grep -v', ['grep', '-v', '^!!', score]), ('mawk', ['mawk', '!/^!!/', score])] + rust('filter', score)),
-        ('extract -f 1,3', score, [('cut', ['cut', '-f', '1,3', score]), ('mawk', ['mawk', EXTRACT, score])] + rust('extract', score)),
-        ('ditto', score, [('mawk', ['mawk', DITTO, score])] + rust('ditto', score)),
+        ('extract -f 1,3', score, [('cut', ['cut', '-f', '1,3', score]), ('mawk', ['mawk', EXTRACT, score])] + rust('extract', score) + rust('extract_bytes', score)),
+        ('ditto', score, [('mawk', ['mawk', DITTO, score])] + rust('ditto', score) + rust('ditto_bytes', score)),
         ('semits -x', score, [awk('semits', score)] + rust('semits', score) + rust('semits_bytes', score)),
         ('trans -d 1 -c 2', score, [awk('trans', score)]),
         ('recip', score, [awk('recip', score)]),
