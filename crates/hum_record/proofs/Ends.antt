@@ -1,8 +1,8 @@
 -- Where tokens end in their text.
-use Rattle.std.proofs.Common.{◌≡◌, ◌≢◌, ℕ, zero, suc, ◌+◌, ◌-◌, ◌<◌, ◌≤◌, Bool, true, false, ◌||◌, List, []}
+use Rattle.std.proofs.Common.{◌≡◌, ◌≢◌, ℕ, zero, suc, ◌+◌, ◌-◌, ◌<◌, ◌≤◌, List, []}
 use Rattle.std.proofs.Common.{◌∷◌, ◌++◌, length, get_or, refl, sym, ap, ap₂, subst, ◌∙◌, arith, append_assoc}
 use Rattle.std.proofs.Common.{length-append}
-use Rattle.std.specs.List.{list_any, join_with_byte}
+use Rattle.std.specs.List.{join_with_byte}
 use Rattle.std.specs.Prelude.{slice_range}
 use Rattle.std.proofs.lemmas.List.Splits.{join_with_byte-slice_split}
 use Rattle.std.proofs.lemmas.List.{append-nil, drop_at, take_at}
@@ -14,21 +14,6 @@ use Rattle.hum_record.specs.Coming.{tokens_by, LieIn}
 pub length-ends_from : (start : ℕ) (ts : List (List ℕ)) → length (ends_from start ts) ≡ length ts
 length-ends_from start [] = refl
 length-ends_from start (t ∷ ts) = let ih = length-ends_from (start + length t + 1) ts in omega (arith, ih)
-
--- one token more
-pub ends_more : (ends all : List ℕ) (start : ℕ) (t : List ℕ) (more ts : List (List ℕ)) → ts ≡ t ∷ more →
-    ends ++ ends_from start ts ≡ all → (ends ++ (start + length t) ∷ []) ++ ends_from (start + length t + 1)
-    more ≡ all
-ends_more ends all start t more ts cut e = append_assoc ends ((start + length t) ∷ [])
-    (ends_from (start + length t + 1) more)
-    ∙ (let step : ends_from start ts ≡ (start + length t) ∷ ends_from (start + length t + 1) more =
-    ap (ends_from start) cut in rw (← step) e)
-
--- a test of the tokens so far and of the rest, one token on
-pub any_more : (p : List ℕ → Bool) (so_far all : Bool) (t : List ℕ) (more ts : List (List ℕ)) → ts ≡ t ∷ more →
-    (so_far || list_any p ts) ≡ all → ((so_far || p t) || list_any p more) ≡ all
-any_more p true all t more ts cut e = e
-any_more p false all t more ts cut e = sym (ap (list_any p) cut) ∙ e
 
 -- where a token lies in its text
 pub record Lies (text t : List ℕ) (from to : ℕ) : Type 0 where

@@ -42,11 +42,6 @@ same_kind_refl Local = refl
 same_kind_refl Interpretation = refl
 same_kind_refl Values = refl
 
--- each fails the test
-each : (p : List ℕ → Bool) (P : List ℕ → Type 0) → ((t : List ℕ) → p t ≡ false → P t) → (ts : List (List ℕ)) → list_any p ts ≡ false → AllByRecursion P ts
-each p P f [] h = tt
-each p P f (t ∷ ts) h = let both = or_parts (p t) (list_any p ts) h in (f t both.0, each p P f ts both.1)
-
 free_onto : (b x : ℕ) (ts : List (List ℕ)) → (x == b) ≡ false → AllByRecursion (λ t. has_byte b t ≡ false) ts →
     AllByRecursion (λ t. has_byte b t ≡ false) (onto_first x ts)
 free_onto b x [] e h = (or_from _ _ e refl, tt)
@@ -216,23 +211,8 @@ only text (Spined k (t ∷ ts)) h =
 
 -- What a function that reads keeps and answers
 
-pub fails : {A : Type 0} (fault : RecordFault) (read : Result A RecordFault) → read ≡ Err fault → Fails fault read
-fails S4 read h = h
-fails S5 read h = h
-fails S6 read h = h
-fails S8 read h = h
-fails L1 read h = h
-fails Memory read h = tt
-
-pub reads_comment : (text : List ℕ) → has_byte 13 text ≡ false → is_comment text ≡ true → reading text ≡ Ok (Comment text)
-reads_comment text line comment = rw (line, comment) refl
-
 reads : (text : List ℕ) → has_byte 13 text ≡ false → is_comment text ≡ false → reading text ≡ spined (kind_of_tokens (parts text)) (parts text)
 reads text line comment = rw (line, comment) refl
-
-pub reads_fault : (text : List ℕ) (fault : RecordFault) → has_byte 13 text ≡ false → is_comment text ≡ false →
-    kind_of_tokens (parts text) ≡ Err fault → Fails fault (reading text)
-reads_fault text fault line comment h = fails fault _ (reads text line comment ∙ rw h refl)
 
 pub reads_spined : (text : List ℕ) (k : SpinedKind) → has_byte 13 text ≡ false → is_comment text ≡ false →
     kind_of_tokens (parts text) ≡ Ok k → reading text ≡ Ok (Spined k (parts text))
@@ -264,9 +244,6 @@ read_fields text ends row fits line h e =
       lawful = subst (λ (r : Row). IsTextOf r text) (sym is) (found text row fits line h);
       cut = e ∙ ap (λ (r : Row). ends_from 0 (tokens_of r)) (sym is);
     }
-
-pub comment_fields : (text : List ℕ) → length text ≤ 1048576 → has_byte 10 text ≡ false → has_byte 13 text ≡ false → is_comment text ≡ true → AreFields text []
-comment_fields text fits line return comment = read_fields text [] (Comment text) fits line (reads_comment text return comment) refl
 
 pub spined_fields : (text ends : List ℕ) (k : SpinedKind) → length text ≤ 1048576 → has_byte 10 text ≡ false →
     has_byte 13 text ≡ false → is_comment text ≡ false → kind_of_tokens (parts text) ≡ Ok k →

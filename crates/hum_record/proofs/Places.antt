@@ -1,9 +1,8 @@
 -- Bits that say where a byte stands.
 use Rattle.std.proofs.Common.{◌≡◌, ◌∙◌, refl, sym, ap, ap₂, subst, ℕ, zero, suc, ◌+◌, ◌-◌, ◌*◌, ◌/◌, ◌%◌, ◌^◌}
 use Rattle.std.proofs.Common.{◌<◌, ◌≤◌, Bool, true, false, not, ◌||◌, cond, List, [], ◌∷◌, ◌++◌}
-use Rattle.std.proofs.Common.{length, take, drop, map, arith, append_assoc, length-drop, take_all, add-one, drop-cons, get_or}
+use Rattle.std.proofs.Common.{length, take, drop, map, arith, append_assoc, length-drop, take_all}
 use Rattle.std.proofs.lemmas.List.{append-nil, drop-drop, length-map}
-use mir.Val.{bool_byte}
 use lib.Pow.{pow_mono}
 use Rattle.std.specs.Prelude.{◌==◌}
 use Rattle.std.specs.List.{prefix_len}
@@ -80,20 +79,6 @@ any_bit b (x ∷ xs) = by (x == b) (bits_of b xs) (any_bit b xs)
     by false zero e = e
     by false (suc n) e = grind (arith, nat_tests, e)
 
--- one byte more in front
-pub bits_onto : (b : ℕ) (xs : List ℕ) (i : ℕ) → i < length xs → 2 * bits_of b (drop (i + 1) xs) + bool_byte (get_or xs i 0 == b) ≡ bits_of b (drop i xs)
-bits_onto b xs i below = by (get_or xs i 0 == b) refl
-  where
-    by : (t : Bool) → (get_or xs i 0 == b) ≡ t → 2 * bits_of b (drop (i + 1) xs) + bool_byte t ≡ bits_of b (drop i xs)
-    by true w =
-        let whole : bits_of b (drop i xs) ≡ 1 + 2 * bits_of b (drop (i + 1) xs) =
-        ap (bits_of b) (drop-cons xs i 0 below) ∙ ap₂ (λ t n. cond t 1 0 + 2 * bits_of b (drop n xs)) w (sym (add-one i)) in
-        omega (arith, whole)
-    by false w =
-        let whole : bits_of b (drop i xs) ≡ 0 + 2 * bits_of b (drop (i + 1) xs) =
-        ap (bits_of b) (drop-cons xs i 0 below) ∙ ap₂ (λ t n. cond t 1 0 + 2 * bits_of b (drop n xs)) w (sym (add-one i)) in
-        omega (arith, whole)
-
 abbrev before_tab : List ℕ → ℕ
 before_tab = prefix_len (λ x. not (x == 9))
 
@@ -162,9 +147,6 @@ next_tab block start at rest ends all short later some p =
             ∙ p.places;
       });
     }
-
-pub pending_all : (block : List ℕ) (start : ℕ) (ends : List ℕ) → Pending block start start (bits_of 9 block) ends (ends ++ tabs_from start block)
-pending_all block start ends = record { left = block; place = refl; bits = refl; places = refl }
 
 -- no tab is left
 no_tabs : (at : ℕ) (xs : List ℕ) → bits_of 9 xs ≡ 0 → tabs_from at xs ≡ []

@@ -73,10 +73,6 @@ no_marks head xs tabs bangs stars = free_heads head xs (λ i at.
     map_or (λ x. x == 9) (λ x. x == 33 || x == 42) xs i
     ∙ rw (tab, map_or (λ x. x == 33) (λ x. x == 42) xs i, bang, star) refl)
 
--- the heads of a block as a number
-pub heads_bits : (head : Bool) (xs : List ℕ) → cond head 1 0 + 2 * bits_of 9 xs ≡ mask_l (head ∷ map (λ x. x == 9) xs)
-heads_bits head xs = refl
-
 -- a token that is none of data
 abbrev pub is_odd : List ℕ → Bool
 is_odd [] = true
