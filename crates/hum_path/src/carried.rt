@@ -60,6 +60,7 @@ impl<M: ColumnMemory> Model for Carried<M> {
 }
 
 /// A memory sees the token in a column.
+#[inline(always)]
 fn see_token<M: ColumnMemory>(
     memory: &mut M,
     rule: &mut M::Rule,
