@@ -1,7 +1,7 @@
 -- The pattern of barlines is a look at the first byte.
 use Rattle.std.proofs.Common.{◌≡◌, ◌∙◌, refl, sym, ap, ℕ, zero, suc, ◌+◌, ◌-◌, ◌≤◌, ◌<◌, ◌==◌, ◌&&◌, Bool, true, false}
 use Rattle.std.proofs.Common.{List, [], ◌∷◌, length, Option, None, Some, is_some, arith, codes}
-use Rattle.std.specs.Prelude.{slice_get}
+use Rattle.std.specs.Prelude.{slice_get, option_map, if◌then◌else◌}
 use Rattle.std.proofs.lemmas.Bool.Decides.{nat_tests}
 use Rattle.regex.specs.Patterns.{in_ranges}
 use Rattle.regex_hir.specs.Text.{is_some_and, has_bytes_at, byte_before}
@@ -9,7 +9,7 @@ use Rattle.regex_hir.specs.Re.{Re, accept, attempt, alt, byte_in, cat, empty, li
 use Rattle.regex_hir.specs.Find.{first_from}
 use Rattle.regex_hir.specs.Looks.{holds, holds_between}
 use Rattle.regex_hir.specs.declared.look.Look.TheVariants.{Start}
-use Rattle.hum_pattern.specs.Meaning.{expression, matched}
+use Rattle.hum_pattern.specs.Meaning.{expression, matched, first_end}
 use Rattle.hum_pattern.specs.Searching.{begins_with}
 use Rattle.hum_pattern.proofs.OnLiterals.{patterns_on_literals}
 
@@ -72,3 +72,24 @@ barline_found (b ∷ bs) =
     let size : length (b ∷ bs) + 1 - 0 ≡ suc (length (b ∷ bs)) = omega arith in
     at_front b bs (61 == b) (is_front b bs)
     ∙ ap (λ (n : ℕ). is_some (first_from (attempt (b ∷ bs) barline accept) n 0)) (sym size)
+
+nothing : {A B : Type 0} (f : A → B) (o : Option A) → is_some o ≡ false → option_map f o ≡ None
+nothing f None h = refl
+nothing f (Some x) h = cc
+
+front_end : (b : ℕ) (bs : List ℕ) (x : Bool) → has_bytes_at (b ∷ bs) 0 (61 ∷ []) ≡ x
+    → (if x then Some 1 else None)
+    ≡ option_map (λ m. m.trace.end) (first_from (attempt (b ∷ bs) barline accept) (suc (length (b ∷ bs))) 0)
+unfolding first_from attempt holds holds_between byte_before in_ranges
+front_end b bs true e = rw e refl
+front_end b bs false e =
+    let none = none_from (b ∷ bs) (length (b ∷ bs)) 0 (omega arith) in rw e (sym (nothing _ _ none))
+
+-- and it ends behind that byte
+pub barline_end : (token : List ℕ) → (if begins_with 61 token then Some 1 else None) ≡ first_end (codes "^=") token
+unfolding patterns_on_literals
+barline_end [] = refl
+barline_end (b ∷ bs) =
+    let size : length (b ∷ bs) + 1 - 0 ≡ suc (length (b ∷ bs)) = omega arith in
+    front_end b bs (61 == b) (is_front b bs)
+    ∙ ap (λ (n : ℕ). option_map (λ m. m.trace.end) (first_from (attempt (b ∷ bs) barline accept) n 0)) (sym size)

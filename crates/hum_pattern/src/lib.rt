@@ -4,7 +4,7 @@
 //! and it matches a token where it has a match anywhere in the token's bytes.
 #![tactic(auto)]
 
-ghost use Rattle.std.specs.Prelude.{◌≡◌, IfOk, IfErr, OnOk};
+ghost use Rattle.std.specs.Prelude.{◌≡◌, IfOk, IfErr, OnOk, Some, None, if◌then◌else◌};
 ghost use Rattle.hum_pattern.specs.Meaning.{IsExpression, IsNone, matched, first_end};
 ghost use Rattle.hum_pattern.specs.Searching.{begins_with, MayBeBarline};
 ghost use Rattle.hum_pattern.specs.declared.PatternFault.TheVariants.{Refused, TooLarge, Memory};
@@ -67,6 +67,14 @@ fn begins_barline(token: &[u8]) -> bool
         [] => false,
         [byte, ..] => b'=' == *byte,
     }
+}
+
+/// Where that beginning ends, if there is one.
+#[inline]
+fn barline_end(token: &[u8]) -> Option<usize>
+    ensures { result ≡ (if begins_with 61 token.now then Some 1 else None) }
+{
+    if begins_barline(token) { Some(1) } else { None }
 }
 
 /// A regular expression, with what its searches write to.
@@ -168,6 +176,9 @@ impl Pattern {
         ensures found { result ≡ first_end self.old token.now }
         ensures same { self.new ≡ self.old }
     {
+        if self.is_barline {
+            return barline_end(token);
+        }
         self.matcher.shortest_match(token)
     }
 }

@@ -1,6 +1,12 @@
 use Rattle.std.proofs.Common.{◌∙◌}
+use Rattle.hum_pattern.proofs.Barline.{barline_end}
 use Rattle.hum_pattern.proofs.Reading.{same_end}
 use Rattle.hum_pattern.proofs.Pattern.end_of_first.Goals as goal
+
+pub returns-then-self-clause-found : goal.returns-then-self-clause-found
+returns-then-self-clause-found c =
+    rw (← c.self.view_is, c.self.invariant.2 c.if-self.true)
+    (c.barline_end.ensures ∙ barline_end c.args.token.now)
 
 pub returns-clause-found : goal.returns-clause-found
 returns-clause-found c =
