@@ -85,6 +85,10 @@ impl ColumnMemory for LastSeen {
     }
 
     fn see(&mut self, skip: &mut Option<Pattern>, token: &[u8]) -> Result<(), AllocError> {
+        // most cells are null, and change nothing
+        if is_null(token) {
+            return Ok(());
+        }
         if may_repeat(skip, token) {
             self.held = false;
             self.token.clear();
