@@ -52,9 +52,6 @@ idle_due : (k : ℕ) (ss : List Source) → AllIdle k ss → any_due ss ≡ fals
 idle_due k [] h = refl
 idle_due k (s ∷ ss) h = rw (h.0.idle, idle_due k ss h.1) refl
 
-pub not_due : (k : ℕ) (ss : List Source) → AllIdle k ss → any_due ss ≡ false
-not_due k ss h = idle_due k ss h
-
 pub idle_see : (k : ℕ) (ss : List Source) → AllIdle k ss → AllSee false k ss
 idle_see k [] h = tt
 idle_see k (s ∷ ss) h = (h.0.sees, idle_see k ss h.1)

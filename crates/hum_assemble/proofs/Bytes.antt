@@ -1,5 +1,5 @@
 -- How many bytes a record has, and how many spines stand behind one.
-use Rattle.std.proofs.Common.{◌≡◌, ◌∙◌, refl, sym, ap, ℕ, zero, suc, ◌+◌, ◌-◌, ◌*◌, ◌≤◌, ◌<◌}
+use Rattle.std.proofs.Common.{◌≡◌, ◌∙◌, refl, sym, ap, ℕ, zero, suc, ◌+◌, ◌*◌}
 use Rattle.std.proofs.Common.{Bool, true, false, List, [], ◌∷◌, ◌++◌, length, length-append}
 use Rattle.std.proofs.Common.{arith, map, replicate}
 use Rattle.std.specs.Prelude.{nat_lt, Option, None, Some}
@@ -50,12 +50,6 @@ pub room_text : (row : Row) → (kind_of row ≡ Global → ⊥) → IsTextOf ro
 room_text (Comment text) n h = absurd (n refl)
 room_text (Spined kind []) n h = absurd (h.1 refl)
 room_text (Spined kind (x ∷ xs)) n h = room_join x xs
-
-pub lt_more : (left w n : ℕ) → left < w → true ≡ nat_lt left (w + n)
-lt_more left w n h = grind (arith, nat_tests)
-
-pub lt_less : (left w n : ℕ) → w ≤ left → nat_lt (left - w) n ≡ nat_lt left (w + n)
-lt_less left w n h = grind (arith, nat_tests)
 
 heirs_length : (pair : List ℕ) (j : ℕ) (b : Bool) (sign : Sign) (signs : List Sign)
     → length (heirs pair j b sign signs) ≡ heirs_count b sign
@@ -117,13 +111,3 @@ pub too_long : (going : Bool) (p : Place) (ss : List Source) (o : Bool) (kind : 
 too_long going p ss o kind n e =
     made_long going p ss (kind_at p) o (some_not_none (kind_at p) kind n)
     (e ∙ ap (nat_lt 1048577) (bytes_room true going p ss))
-
-comment_long : (going : Bool) (p : Place) (ss : List Source) (k : Option SpinedKind) → k ≡ None
-    → length (comment_given going p ss)
-    ≡ length (text_of (row_of_kind k (comment_given going p ss) (tokens_given true going p ss)))
-comment_long going p ss None e = refl
-comment_long going p ss (Some kind) e = cc
-
-pub comment_text : (going : Bool) (p : Place) (ss : List Source) → kind_at p ≡ None
-    → length (comment_given going p ss) ≡ length (text_of (made going p ss))
-comment_text going p ss e = comment_long going p ss (kind_at p) e

@@ -15,7 +15,7 @@ use Rattle.hum_assemble.specs.declared.places.Next as next
 use Rattle.hum_assemble.specs.declared.places.Next.TheVariants.{Gives, Refused, Wants}
 use Rattle.hum_assemble.specs.declared.places.Next.TheVariants.{Over as NothingMore}
 use Rattle.hum_assemble.specs.Source.{Source}
-use Rattle.hum_assemble.specs.Head.{AreLawful, AllLawful}
+use Rattle.hum_assemble.specs.Head.{AllLawful}
 use Rattle.hum_assemble.specs.Change.{IsOpenInput}
 use Rattle.hum_assemble.specs.Source.{untouched}
 use Rattle.hum_assemble.specs.Standing.{IsTold, state_by}
@@ -199,11 +199,6 @@ pub with_spent : (stage : ℕ) (kept : Merge) (spent : Bool) (t : Moment) → sp
     → Standing stage kept false t → Standing stage kept spent t
 with_spent stage kept spent t e h = rw e h
 
-pub kept_ahead : (result a : next.Next) (now items : List Source) (given : ℕ)
-    → result ≡ ahead (record { sources = now; given = given }) → now ≡ items → result ≡ a
-    → ahead (record { sources = items; given = given }) ≡ a
-kept_ahead result a now items given e f g = ap (λ (ss : List Source). ahead (record { sources = ss; given = given })) (sym f) ∙ (sym e ∙ g)
-
 pub within_ahead : (ss : List Source) (given k : ℕ)
     → ahead (record { sources = ss; given = given }) ≡ Wants k → k < length ss
 within_ahead ss given k e = waits_within k ss (waits_at (record { sources = ss; given = given }) k e)
@@ -295,31 +290,7 @@ pub not_spent_end : (stage : ℕ) (kept : Merge) (spent : Bool) (j : ℕ) (e : e
 not_spent_end stage kept spent j e f (inl t) = cc
 not_spent_end stage kept spent j e f (inr m) = m
 
-pub not_alive : (stage : ℕ) (kept : Merge) (spent : Bool) (t : Moment) → spent ≡ true
-    → Standing stage kept spent t → ⊥
-not_alive stage kept spent t e h = let a = h.alive in cc
-
--- What is kept with an assembler.
-pub lawful_set : (k : ℕ) (ss : List Source) (s : Source) → AllLawful ss
-    → AreLawful s.path s.coming → AllLawful (set ss k s)
-lawful_set k [] s l h = tt
-lawful_set zero (x ∷ ss) s l h = (h, l.1)
-lawful_set (suc k) (x ∷ ss) s l h = (l.0, lawful_set k ss s l.1 h)
-
-pub lawful_get : (k : ℕ) (ss : List Source) (s : Source) → AllLawful ss → k < length ss
-    → s ≡ get_or ss k s → AreLawful s.path s.coming
-lawful_get k [] s l h e = absurd (omega (arith, h))
-lawful_get zero (x ∷ ss) s l h e = rw e l.0
-lawful_get (suc k) (x ∷ ss) s l h e = lawful_get k ss s l.1 (omega (arith, h)) e
-
-pub lawful_put : (s s' : Source) (row : Row) → s' ≡ record s { coming = row ∷ [] }
-    → AreLawful s.path (row ∷ []) → AreLawful s'.path s'.coming
-lawful_put s s' row e h = rw e h
-
-pub lawful_end : (s s' : Source) (e : end.End) → s' ≡ record s { ended = Some e }
-    → AreLawful s.path s.coming → AreLawful s'.path s'.coming
-lawful_end s s' e f h = rw f h
-
+-- What a new assembler keeps is lawful.
 pub lawful_new : (n : ℕ) → AllLawful (replicate n (untouched None []))
 lawful_new zero = tt
 lawful_new (suc n) = (tt, lawful_new n)

@@ -8,8 +8,7 @@ use Rattle.hum_path.specs.declared.signs.Sign.TheVariants.{Plain}
 use Rattle.hum_path.specs.Sign.{is_join}
 use Rattle.hum_path.specs.Rules.{has_lone_join, first_is}
 use Rattle.hum_path.specs.Rules.{has_mixed_join}
-use Rattle.hum_path.specs.Spines.{exchanges, joins_at_front}
-use Rattle.hum_assemble.specs.Spread.{spread}
+use Rattle.hum_path.specs.Spines.{exchanges}
 
 abbrev pub plains : ℕ → List Sign
 plains n = replicate n Plain
@@ -24,11 +23,6 @@ pub exchanges_left : (n j : ℕ) (signs : List Sign)
     → exchanges j (plains n ++ signs) ≡ exchanges (j + n) signs
 exchanges_left zero j signs = ap (λ (k : ℕ). exchanges k signs) (omega arith)
 exchanges_left (suc n) j signs = exchanges_left n (j + 1) signs ∙ ap (λ (k : ℕ). exchanges k signs) (omega arith)
-
-pub spread_left : (n : ℕ) (signs : List Sign)
-    → spread false (plains n ++ signs) ≡ n + spread false signs
-spread_left zero signs = omega arith
-spread_left (suc n) signs = let e = spread_left n signs in omega (arith, e)
 
 pub mixed_left : (others names : List (List ℕ)) (signs : List Sign)
     → has_mixed_join (others ++ names)
@@ -68,23 +62,7 @@ pub exchanges_right : (j : ℕ) (signs : List Sign) (m : ℕ)
 exchanges_right j [] m = exchanges_plains j m
 exchanges_right j (s ∷ signs) m = rw (exchanges_right (j + 1) signs m) refl
 
-pub spread_plains : (b : Bool) (m : ℕ) → spread b (plains m) ≡ m
-spread_plains b zero = refl
-spread_plains b (suc m) = let e = spread_plains false m in omega (arith, e)
-
-pub spread_right : (b : Bool) (signs : List Sign) (m : ℕ)
-    → spread b (signs ++ plains m) ≡ spread b signs + m
-spread_right b [] m = let e = spread_plains b m in omega (arith, e)
-spread_right b (s ∷ signs) m = let e = spread_right (is_join s) signs m in omega (arith, e)
-
 pub any_plains : (test : Sign → Bool) (m : ℕ) → test Plain ≡ false
     → list_any test (plains m) ≡ false
 any_plains test zero h = refl
 any_plains test (suc m) h = rw (h, any_plains test m h) refl
-
--- the spines that begin with a join stay as many
-pub joins_right : (signs : List Sign) (m : ℕ)
-    → joins_at_front (signs ++ plains m) ≡ joins_at_front signs
-joins_right [] zero = refl
-joins_right [] (suc m) = refl
-joins_right (s ∷ signs) m = rw (joins_right signs m) refl

@@ -114,9 +114,6 @@ pub comment_stays : (path : Path) (row : Row) → None ≡ spined_of row → aft
 comment_stays path (Comment text) e = refl
 comment_stays path (Spined kind tokens) e = cc
 
-pub quiet_comment : (p : Place) → kind_at p ≡ None → IsQuiet p
-quiet_comment p k = λ s t e. comment_stays s.path t.row (sym k ∙ t.kind)
-
 text_stays : (path : Path) (row : Row) (kind : SpinedKind) → Some kind ≡ spined_of row
     → (kind ≡ Interpretation → ⊥) → after path row ≡ path
 text_stays path (Comment text) kind e n = cc

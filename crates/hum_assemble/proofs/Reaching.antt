@@ -48,11 +48,6 @@ reaches_kept (suc n) j change m s i r =
     let k = given_kept j change m r.0 i r.1 in
     (r.0, gives_kept j change m r.0 i r.1, rw k.0 (reaches_kept n j change (given_on r.0 m) s (open_on j m r.0 i) r.2))
 
-pub reaches_open : (n j : ℕ) (m s : Merge) → IsOpenAt j m.sources → Reaches n m s
-    → IsOpenAt j s.sources
-reaches_open zero j m s i r = rw r at i
-reaches_open (suc n) j m s i r = reaches_open n j (given_on r.0 m) s (open_on j m r.0 i) r.2
-
 pub reaches_ended : (n : ℕ) (m s : Merge) → Reaches n m s
     → map (λ x. x.ended) s.sources ≡ map (λ x. x.ended) m.sources
 reaches_ended zero m s r = ap (λ (x : Merge). map (λ y. y.ended) x.sources) (sym r)

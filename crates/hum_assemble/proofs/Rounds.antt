@@ -3,12 +3,11 @@ use Rattle.std.proofs.Common.{◌≡◌, ◌∙◌, refl, sym, ap, ℕ, zero, su
 use Rattle.std.proofs.Common.{true, false, ◌&&◌, ◌||◌, cond, List, [], ◌∷◌, ◌++◌, length, arith}
 use Rattle.std.proofs.Common.{length-append, replicate}
 use Rattle.std.specs.Prelude.{nat_le, None, Some}
-use Rattle.std.specs.List.{list_any, AllByRecursion}
+use Rattle.std.specs.List.{AllByRecursion}
 use Rattle.std.proofs.lemmas.Bool.Decides.{nat_tests}
 use Rattle.hum_record.specs.declared.SpinedKind.{SpinedKind}
 use Rattle.hum_record.specs.declared.SpinedKind.TheVariants.{Local, Interpretation, Values}
 use Rattle.hum_record.specs.Row.{Row, Comment, Spined, tokens_of}
-use Rattle.hum_record.specs.Spelling.{is_empty}
 use Rattle.hum_path.specs.Rules.{fault_of}
 use Rattle.hum_path.specs.Spines.{Path, Unopened, Spines, exclusives, width, after}
 use Rattle.hum_path.proofs.Plain.{sound_width}
@@ -19,12 +18,12 @@ use Rattle.hum_assemble.specs.Source.{Source, is_inside}
 use Rattle.hum_assemble.specs.Head.{is_opened}
 use Rattle.hum_assemble.specs.Places.{rank, kind_at, null_at, is_shared, is_over, earlier}
 use Rattle.hum_assemble.specs.Round.{place_at, takes, still_free, earliest, any_due}
-use Rattle.hum_assemble.specs.Merge.{moved, all_moved, part_given, tokens_given}
+use Rattle.hum_assemble.specs.Merge.{all_moved, part_given, tokens_given}
 use Rattle.hum_assemble.specs.Merge.{tokens_of_first, spines}
 use Rattle.hum_assemble.specs.Taking.{is_at}
 use Rattle.hum_assemble.proofs.Fitting.{spined_of}
 use Rattle.hum_assemble.proofs.Moving.{AllKnown}
-use Rattle.hum_assemble.proofs.Sides.{IsSound, Shows, Takes, taker, taken_path, moved_sound, not_inside}
+use Rattle.hum_assemble.proofs.Sides.{IsSound, Shows, Takes, taker, moved_sound, not_inside}
 
 abbrev pub AllSound : List Source → Type 0
 AllSound = AllByRecursion IsSound
@@ -88,16 +87,6 @@ names_spines (s ∷ ss) =
     let l = length-append (exclusives s.path) (names_of ss) in
     omega (arith, e, l)
 
-any_append : (xs ys : List (List ℕ)) → list_any is_empty xs ≡ false → list_any is_empty ys ≡ false
-    → list_any is_empty (xs ++ ys) ≡ false
-any_append [] ys h k = k
-any_append (x ∷ xs) ys h k =
-    let b = or_false (is_empty x) (list_any is_empty xs) h in rw b.0 (any_append xs ys b.1 k)
-
-pub all_named : (ss : List Source) → NoneInside ss → list_any is_empty (names_of ss) ≡ false
-all_named [] n = refl
-all_named (s ∷ ss) n = any_append (exclusives s.path) (names_of ss) n.0 (all_named ss n.1)
-
 -- A source has spines, or has ended without any.
 abbrev pub IsSettled : Source → Type 0
 IsSettled s = (is_opened s.path ≡ true) ⊎ ((s.coming ≡ []) × (s.ended ≡ Some Closed))
@@ -156,24 +145,6 @@ all_wide free going p (s ∷ ss) kind o k i e =
     (tokens_given (still_free free going p s) going p ss) in
     omega (arith, a, b, l, m)
 
--- Where no record that is given changes spines, none change.
+-- A place at which no record that is given changes spines.
 abbrev pub IsQuiet : Place → Type 0
 IsQuiet p = (s : Source) (t : Takes p s) → IsSettled s → after s.path t.row ≡ s.path
-
-moved_path : (free going : Bool) (p : Place) (s : Source) → is_over p ≡ false → IsQuiet p
-    → IsSound s
-    → IsSettled s → (moved (takes free going p s) going p s).path ≡ s.path
-moved_path free going p s o q i e =
-    (elim (takes free going p s) as (λ b. takes free going p s ≡ b → (moved b going p s).path ≡ s.path) [
-      | true ↦ λ h. let t = taken_by free going p s o i h in taken_path going p s t ∙ q s t e
-      | false ↦ λ h. refl
-    ]) refl
-
-pub quiet_names : (free going : Bool) (p : Place) (ss : List Source) → is_over p ≡ false → IsQuiet p
-    → AllSound ss → AllSettled ss → names_of (all_moved free going p ss) ≡ names_of ss
-quiet_names free going p [] o q i e = refl
-quiet_names free going p (s ∷ ss) o q i e =
-    rw (
-      moved_path free going p s o q i.0 e.0,
-      quiet_names (still_free free going p s) going p ss o q i.1 e.1,
-    ) refl

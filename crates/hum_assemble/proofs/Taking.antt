@@ -162,13 +162,6 @@ no_nulls p zero token h = refl
 no_nulls p (suc w) token h =
     let n : suc w ≡ 0 = grind (arith, nat_tests, h) in absurd (omega (arith, n))
 
-or_false : (a b : Bool) → (a || b) ≡ false → (a ≡ false) × (b ≡ false)
-or_false true b h = cc
-or_false false b h = (refl, h)
-
-le_zero : (n : ℕ) → nat_le n 0 ≡ true → n ≡ 0
-le_zero n h = grind (arith, nat_tests)
-
 part_zero : (b : Bool) (n : ℕ) → cond b 1 0 + n ≡ 0 → (b ≡ false) × (n ≡ 0)
 part_zero true n h = absurd (omega (arith, h))
 part_zero false n h = (refl, omega (arith, h))

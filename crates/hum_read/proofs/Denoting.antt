@@ -2,12 +2,10 @@
 use Rattle.std.proofs.Common.{◌≡◌, ℕ, zero, suc, ◌+◌, ◌-◌, ◌<◌, ◌≤◌, Bool, true, false}
 use Rattle.std.proofs.Common.{List, [], ◌∷◌, ◌++◌, length, take, cond, Option, None, Some, Result, Ok, Err}
 use Rattle.std.proofs.Common.{refl, ap, sym, ◌∙◌, subst, arith, append_assoc, append-nil, length-append}
-use Rattle.std.proofs.lemmas.Bool.{false≢true}
 use Rattle.hum_text.specs.declared.TextFault.{TextFault}
 use Rattle.hum_text.specs.Text.{lines, fault_of}
 use Rattle.hum_text.specs.Reading.{Reader, Holds}
 use Rattle.hum_text.proofs.ReadingLemmas.{given-front}
-use Rattle.hum_text.proofs.TextLemmas.{stands-new}
 use Rattle.hum_text.proofs.FrontLemmas.{given-before}
 use Rattle.hum_record.specs.declared.RecordFault.{RecordFault}
 use Rattle.hum_record.specs.Row.{Row}
@@ -23,7 +21,7 @@ use Rattle.hum_stage.specs.Score.{through, Follow, IsScore}
 use Rattle.hum_stage.proofs.Scores.{through-append}
 use Rattle.hum_read.specs.Denoted.{read_after, on_spines, unless, onward, denoted, up_to, standard}
 use Rattle.hum_read.specs.Denoted.{score_of, end_at, broken_at, closed, ending, text_rule}
-use Rattle.hum_read.specs.Reading.{Scores, IsFresh, HasRead, AreRead, ahead, Denotes}
+use Rattle.hum_read.specs.Reading.{Scores, HasRead, AreRead, ahead, Denotes}
 
 -- one line more is read as a record
 pub read-more : (given : List (List ℕ)) (rows : List Row) (line : List ℕ) (row : Row) → AreRead given rows
@@ -180,16 +178,3 @@ pub front-rows : {R : Type 0} (v : Scores R) (all : List ℕ) (rows : List Row) 
 front-rows v all rows rest h =
     let front = given-rows v all rows rest h in
     ((denoted (through Unopened rows) (length rows) front.0 (fault_of standard all)).rows, ap (λ s. s.rows) front.1)
-
--- A reader of which nothing was read has given nothing, and all is to come.
-pub fresh-reads : {R : Type 0} (v : Scores R) → IsFresh v → (all : List ℕ) → HasRead v all [] all
-fresh-reads v fresh all = record {
-  limits = ap (λ l. l.limits) fresh.lines;
-  given = [];
-  holds = subst (λ (l : Reader _). Holds l all [] all) (sym fresh.lines)
-      (record { stands = stands-new standard all; done = λ e. absurd (false≢true e) });
-  read = λ more broken. refl;
-  score = tt;
-  path = ap (λ s. s.path) fresh.spines;
-  as_many = refl;
-}

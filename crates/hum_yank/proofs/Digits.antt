@@ -8,7 +8,7 @@ use Rattle.hum_record.specs.Contents.{is_null}
 use Rattle.hum_record.specs.declared.SpinedKind.TheVariants.{Local, Interpretation, Values}
 use Rattle.hum_record.specs.Row.{Row, Comment, Spined}
 use Rattle.std.proofs.lemmas.Bool.{or_from}
-use Rattle.hum_yank.specs.Passages.{value_of, number_of, at_most, has_value, passes, is_digit}
+use Rattle.hum_yank.specs.Passages.{value_of, at_most, has_value, passes, is_digit}
 
 -- more digits make it no less
 pub value_grows : (n : ℕ) (digits : List ℕ) → n ≤ value_of n digits
@@ -22,11 +22,6 @@ too_great n total digits over is =
     let grows = value_grows n digits in
     let test : nat_le total 4294967295 ≡ false = grind (arith, nat_tests, over, is, grows) in
     rw test refl
-
-pub number_is : (digits : List ℕ) → (digits ≡ [] → ⊥) → number_of digits ≡ at_most
-    (value_of 0 digits)
-number_is [] h = absurd (h refl)
-number_is (digit ∷ digits) h = refl
 
 none_any : (tokens : List (List ℕ)) → list_any (passes (λ t. false)) tokens ≡ false
 none_any [] = refl

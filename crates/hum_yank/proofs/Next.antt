@@ -1,5 +1,5 @@
 -- What is remembered of passages, after one record more.
-use Rattle.std.proofs.Common.{◌≡◌, ◌∙◌, refl, sym, ap, ℕ, suc, add-one, ◌+◌, ◌≤◌, Bool, true, false}
+use Rattle.std.proofs.Common.{◌≡◌, ◌∙◌, refl, sym, ap, ℕ, suc, add-one, ◌≤◌, Bool, true, false}
 use Rattle.std.proofs.Common.{◌||◌, List, [], ◌∷◌, length, filter, cond, arith, Option, None, Some}
 use Rattle.std.specs.Prelude.{is_some}
 use Rattle.std.specs.List.{list_any, find}
@@ -32,14 +32,6 @@ first_has test (Spined Values tokens) = find_any (passes test) tokens
 all_counted : (seen : List Row) → counted Lines seen ≡ length seen
 all_counted [] = refl
 all_counted (row ∷ past) = ap suc (all_counted past)
-
-one_counted : (form : Form) (row : Row) (past : List Row) → is_counted form row ≡ true → counted
-    form (row ∷ past) ≡ counted form past + 1
-one_counted form row past e = rw (e, add-one) refl
-
-none_counted : (form : Form) (row : Row) (past : List Row) → is_counted form row ≡ false → counted
-    form (row ∷ past) ≡ counted form past
-none_counted form row past e = rw e refl
 
 or_false : (b : Bool) → (b || false) ≡ b
 or_false true = refl

@@ -189,10 +189,6 @@ closed_then (Spines (name ∷ names)) kind tokens opened c e =
     let l : true ≡ false = cc in
     cc
 
-last_is : (form : Form) (closed : Bool) (seen : List Row) → closed ≡ false → cond closed
-    (last_of form (to_spined seen)) (last_of form seen) ≡ last_of form seen
-last_is form closed seen e = rw e refl
-
 -- What is decided of a number, by the records so far, stays with one more.
 pub seen_stays : (o : Choice) (seen : List Row) (next : Row) (x : ℕ) (d : Bool) → IsOpened
     (path_after seen) → IsOpen (next ∷ seen) → chosen_by o seen x ≡ Some d
