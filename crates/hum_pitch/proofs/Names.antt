@@ -1,5 +1,5 @@
 -- The bytes of an interval's name before its size.
-use Rattle.std.proofs.Common.{◌≡◌, ℕ, zero, suc, ℤ, ◌<◌, Bool, true, false, List, [], ◌∷◌, ◌++◌, arith}
+use Rattle.std.proofs.Common.{ℕ, zero, suc, ℤ, ◌<◌, Bool, true, false, List, [], ◌∷◌, ◌++◌, arith}
 use Rattle.std.specs.Prelude.{replicate, cond}
 use Rattle.std.specs.List.{AllByRecursion}
 use Rattle.hum_pitch.specs.declared.intervals.Direction.{Direction}

@@ -1,7 +1,7 @@
 -- What is written is read as the same pitch.
 use Rattle.std.proofs.Common.{◌≡◌, ◌==◌, ◌+◌, ◌<◌, ℕ, zero, suc, ℤ, pos, negsuc, ◌+ℤ◌, ◌-ℤ◌, true, false, List}
 use Rattle.std.proofs.Common.{◌++◌, Option, Some, length, drop, refl, ap, ◌∙◌, arith, ◌<ℤ◌, eq-eqb}
-use Rattle.std.specs.Prelude.{replicate, slice_index, IfOk, Result, Ok, Err}
+use Rattle.std.specs.Prelude.{replicate, slice_index}
 use Rattle.std.proofs.lemmas.List.{length-replicate}
 use Rattle.std.proofs.lemmas.Int.{ints}
 use Rattle.hum_pitch.specs.Pitch.{Spelled}
@@ -107,8 +107,3 @@ read_at p (negsuc k) h e =
 -- Whatever its octave and its alteration.
 pub read_again : (p : Spelled) → p.step < 7 → read_pitch (spelling p) ≡ Some p
 read_again p h = read_at p (p.octave -ℤ pos 4) h (omega (arith, ints))
-
-pub text_read_again : {A E : Type 0} (items : A → List ℕ) (p : Spelled) (r : Result A E) → p.step < 7
-    → IfOk r (λ text. items text ≡ spelling p) → IfOk r (λ text. read_pitch (items text) ≡ Some p)
-text_read_again items p (Ok text) h written = ap read_pitch written ∙ read_again p h
-text_read_again items p (Err _) h written = tt

@@ -1,6 +1,6 @@
 -- Steps and semitones.
-use Rattle.std.proofs.Common.{◌≡◌, ◌≤◌, ◌<◌, ℕ, ℤ, pos, negsuc, ◌+ℤ◌, ◌-ℤ◌, ◌*ℤ◌, zero, suc, lit≤, arith, ap, refl, subst, FitsSigned, to_z, of_z, w8, w32, ◌∙◌}
-use Rattle.std.proofs.lemmas.Int.{ints, to_z-of_z}
+use Rattle.std.proofs.Common.{◌≡◌, ◌≤◌, ◌<◌, ℕ, ℤ, pos, negsuc, ◌+ℤ◌, ◌-ℤ◌, ◌*ℤ◌, zero, suc, lit≤, arith, ap, refl, FitsSigned, to_z, of_z, w32, ◌∙◌}
+use Rattle.std.proofs.lemmas.Int.{ints}
 use Rattle.hum_pitch.specs.Pitch.{Spelled, natural, natural_at, semitones, step_number, away, IsAway, IsWithin}
 
 pub natural_le : (k : ℕ) → natural k ≤ 11
@@ -80,18 +80,6 @@ away_only n m p q h =
     altered n m q.alteration (semitones q -ℤ q.alteration) p q.step q.octave h.step h.steps
     (omega (arith, ints)) (omega (arith, ints, h.width)) in
     same_note q (away n m p) same_step same_octave same_alteration
-
--- A number of eight bits, widened and narrowed.
-pub narrowed : (z : ℤ) → IsWithin (negsuc 126) z (pos 127) → to_z w8 (of_z w8 (to_z w32 (of_z w32 z))) ≡ z
-narrowed z h = omega (arith, ints)
-
--- What holds of two numbers as they are handed to a function holds of the numbers.
-pub as_passed : (P : ℤ → ℤ → Type 0) (n m : ℤ) → FitsSigned w32 n → FitsSigned w32 m
-    → P (to_z w32 (of_z w32 n)) (to_z w32 (of_z w32 m)) → P n m
-as_passed P n m f g h =
-    let by_second : ℤ → Type 0 = λ k. P n k in
-    let by_first : ℤ → Type 0 = λ k. P k (to_z w32 (of_z w32 m)) in
-    subst by_second (to_z-of_z w32 m g) (subst by_first (to_z-of_z w32 n f) h)
 
 pub less_is : (x y a b : ℤ) → IsWithin (negsuc 999) x (pos 999) → IsWithin (negsuc 999) y (pos 999) → x ≡ a → y ≡ b
     → to_z w32 (of_z w32 (to_z w32 (of_z w32 x) -ℤ to_z w32 (of_z w32 y))) ≡ a -ℤ b

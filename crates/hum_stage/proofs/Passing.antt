@@ -7,12 +7,10 @@ use Rattle.std.proofs.Common.{inl, inr}
 use Rattle.std.proofs.lemmas.Bool.{cases_Bool}
 use Rattle.std.proofs.lemmas.Bool.Decides.{nat_tests}
 use Rattle.std.specs.Option.{option_map, option_to_list}
-use Rattle.std.proofs.lemmas.List.{nil_from_length}
 use Rattle.hum_record.specs.Row.{Row}
 use Rattle.hum_path.specs.Score.{passed}
-use Rattle.hum_stage.specs.declared.faults.Rule.{Rule}
 use Rattle.hum_stage.specs.Order.{passed-push}
-use Rattle.hum_stage.specs.declared.looks_ahead.Verdict.TheVariants.{Waits, Gives, Refuses}
+use Rattle.hum_stage.specs.declared.looks_ahead.Verdict.TheVariants.{Waits, Gives}
 use Rattle.hum_stage.specs.Look.{Look}
 use Rattle.hum_stage.specs.Dues.{due_rows}
 use Rattle.hum_stage.specs.Settles.{Settles, AllGiven, SettlesAll, Passing}
@@ -85,50 +83,6 @@ passing_waits row_of look past rows follows follows' before after h some verdict
           memory = v.1;
         }
 
-pub passing_refused : {D : Type 0} (row_of : D → Row) (look : Look) (past rows : List Row) (follows follows' : List Row → List Row
-    → Type 0) (before after : List (Option Row)) (rule : Rule)
-    → (h : Passing look past rows follows before after) → 0 < length h.rest
-    → ((past : List Row) (row : Row) (rows : List Row) → follows past (row ∷ rows)
-    → Settles row_of look past row rows follows' (Refuses rule))
-    → SettlesAll look past rows follows' before after (Some rule)
-passing_refused row_of look past rows follows follows' before after rule h some verdict =
-    on h.rest h.split h.given h.memory some
-  where
-    on : (rest : List Row) → rows ≡ h.front ++ rest → AllGiven look past h.front rest h.outs
-        → follows (passed past h.front) rest → 0 < length rest
-        → SettlesAll look past rows follows' before after (Some rule)
-    on [] split given memory some = absurd (omega (arith, some))
-    on (row ∷ rest) split given memory some =
-        let v = verdict (passed past h.front) row rest memory in
-        record {
-          front = h.front;
-          rest = row ∷ rest;
-          outs = h.outs;
-          split = split;
-          given =
-              given;
-          due = h.due;
-          stops = v;
-          memory = tt;
-        }
-
-pub passing_empty : (look : Look) (past rows : List Row) (follows : List Row → List Row
-    → Type 0) (before after : List (Option Row)) → (h : Passing look past rows follows before after)
-    → length h.rest ≡ 0 → SettlesAll look past rows follows before after None
-passing_empty look past rows follows before after h none =
-    let e = nil_from_length h.rest none in
-    record {
-      front = h.front;
-      rest = h.rest;
-      outs = h.outs;
-      split = h.split;
-      given = h.given;
-      due =
-          h.due;
-      stops = rw e tt;
-      memory = h.memory;
-    }
-
 pub passing_none : (look : Look) (past rows : List Row) (follows : List Row → List Row
     → Type 0) (before after : List (Option Row)) → after ≡ before → follows past rows
     → Passing look past rows follows before after
@@ -160,11 +114,4 @@ pub filled : (size count rest : ℕ) (b : Bool) → size ≡ count → count ≡
 filled size count rest b s e t h = elim (cases_Bool (size == 0)) as (λ _. 0 < rest) [
   | inl w ↦ let k : b ≡ true = t ∙ w in cc
   | inr w ↦ grind (arith, nat_tests, w, s, e)
-]
-
-pub emptied : (size count rest : ℕ) (b : Bool) → size ≡ count → count ≡ rest → b ≡ (size == 0)
-    → b ≡ true → rest ≡ 0
-emptied size count rest b s e t h = elim (cases_Bool (size == 0)) as (λ _. rest ≡ 0) [
-  | inl w ↦ grind (arith, nat_tests, w, s, e)
-  | inr w ↦ let k : b ≡ false = t ∙ w in cc
 ]

@@ -1,9 +1,8 @@
 -- What a reader stands for, from step to step.
 use Rattle.std.proofs.Common.{◌≡◌, ◌≢◌, ℕ, zero, suc, ◌+◌, ◌<◌, ◌≤◌, true, false, List, [], ◌∷◌, ◌++◌}
-use Rattle.std.proofs.Common.{length, get_or, take, drop, refl, ap, sym, ◌∙◌, subst, arith, Option, None}
+use Rattle.std.proofs.Common.{length, get_or, take, drop, refl, ap, sym, ◌∙◌, subst, arith, None}
 use Rattle.std.proofs.Common.{Some, Result, Ok, Err, append_assoc, length-take}
-use Rattle.std.proofs.Common.{◌==◌, ◌⊎◌, inl, inr}
-use Rattle.std.specs.Io.KnownBytes.{Consumes, IsAtEnd}
+use Rattle.std.proofs.Common.{◌==◌}
 use Rattle.std.proofs.lemmas.Bool.{eqb-true, eq-eqb}
 use Rattle.std.proofs.lemmas.List.{take_more, drop_more, get_or-take, append-nil, take-append-drop}
 use Rattle.std.proofs.Math.Seq.{drop-length, take-length}
@@ -14,8 +13,8 @@ use Rattle.hum_text.specs.declared.TextFault.TheVariants.{S1}
 use Rattle.hum_text.specs.declared.reader.Step.{Step}
 use Rattle.hum_text.specs.declared.reader.Step.TheVariants.{Line}
 use Rattle.hum_text.specs.Text.{lines, without_cr, rule_of_line, fault_of, IsOfText, IsLawful, BreaksFirst}
-use Rattle.hum_text.specs.Reading.{Reader, Stands, Holds, Gives, GivesNext, HasGiven, bytes_read}
-use Rattle.hum_text.specs.Reading.{NeedsRead, IsUnread, IsOver}
+use Rattle.hum_text.specs.Reading.{Reader, Stands, Holds, Gives, GivesNext, bytes_read}
+use Rattle.hum_text.specs.Reading.{NeedsRead}
 use Rattle.hum_text.proofs.PieceLemmas.{NoLf}
 use Rattle.hum_text.proofs.TextLemmas.{step-line, step-fault, step-last, step-end-fault, step-end}
 
@@ -78,13 +77,6 @@ module _ (l : Limits) (all : List ℕ) (gs : List (List ℕ)) (block rest : List
       (λ j h is. first-free block k first j (omega arith) (sym (get_or-take k block j 0 (omega arith)) ∙ is))
       (subst L held none))
 
-  -- what a read gives is added
-  pub stands-more : (bs : List ℕ) → Stands l all gs (block ++ (bs ++ rest)) n t
-      → Stands l all gs ((block ++ bs) ++ rest) n t
-  stands-more bs st =
-      let S : List ℕ → Type 0 = λ zs. Stands l all gs zs n t in
-      subst S (sym (append_assoc block bs rest)) st
-
   -- the last line, which no LF ends, is given
   pub stands-last : Stands l all gs (block ++ rest) n t → rest ≡ [] → IsFirstByte (is_byte 10) block None
       → 0 < length (without_cr block)
@@ -131,10 +123,6 @@ drop-all [] zero h = refl
 drop-all [] (suc n) h = refl
 drop-all (x ∷ xs) zero h = absurd (omega arith)
 drop-all (x ∷ xs) (suc n) h = drop-all xs n (omega arith)
-
-pub drop-front : (xs ys : List ℕ) → drop (length xs) (xs ++ ys) ≡ ys
-drop-front [] ys = refl
-drop-front (x ∷ xs) ys = drop-front xs ys
 
 pub length-drop_le : (n : ℕ) (xs : List ℕ) → length (drop n xs) ≤ length xs
 length-drop_le zero xs = omega arith
@@ -265,60 +253,3 @@ pub none-left : {R : Type 0} (v : Reader R) (all : List ℕ) (gs : List (List �
     → (lines all ≡ gs) × (fault_of v.limits all ≡ None)
 none-left v all gs rest h is-end none =
     stands-end v.limits all gs v.pending rest v.given v.taken h.stands (h.done is-end) none
-
--- At the end all lines were given, and the text has no fault.
-pub over-given : {R : Type 0} (v : Reader R) (all : List ℕ) (given : List (List ℕ)) (rest : List ℕ)
-    → Holds v all given rest → IsOver v
-    → (lines all ≡ given) × (fault_of v.limits all ≡ None)
-over-given v all given rest h over = none-left v all given rest h over.ended (ap length over.handed_out)
-
--- A reader that has ended reads nothing.
-pub ended-unread : {R : Type 0} (old new : Reader R) → ((NeedsRead old → ⊥) → IsUnread old new) → old.ended ≡ true
-    → IsUnread old new
-ended-unread old new unread is = unread (λ needs. let going : old.ended ≡ false = needs.going in cc)
-
--- What a poll gives, of the bytes read so far, however the input goes on.
-pub next-given : {R : Type 0} (old new : Reader R) (result : Result Step TextFault)
-    (seen : List ℕ) (given : List (List ℕ))
-    → HasGiven old seen given → (old.ended ≡ true → IsUnread old new) → GivesNext old result new
-    → (rest : List ℕ) → (new.ended ≡ true → rest ≡ [])
-    → Gives old.limits ((seen ++ bytes_read old new) ++ rest) given result new.line
-    (λ after. Holds new ((seen ++ bytes_read old new) ++ rest) after rest)
-next-given old new result seen given has unread gives rest end =
-    let quiet : old.ended ≡ true → bytes_read old new ++ rest ≡ [] = λ is.
-    ap (λ (zs : List ℕ). zs ++ rest) (unread is).2 ∙ end ((unread is).1 ∙ is) in
-    let H : List ℕ → Type 0 = λ zs. Holds old zs given (bytes_read old new ++ rest) in
-    gives ((seen ++ bytes_read old new) ++ rest) given rest
-    (subst H (sym (append_assoc seen (bytes_read old new) rest)) (has (bytes_read old new ++ rest) quiet)) end
-
--- what a source that tells its bytes has left after a read
-consumed : (rest bs : List ℕ) (known known' : Option (List ℕ)) → known ≡ Some rest → Consumes known known' bs
-    → (left : List ℕ) × (known' ≡ Some left) × (rest ≡ bs ++ left)
-consumed rest bs None known' is takes = cc
-consumed rest bs (Some xs) None is takes = absurd takes
-consumed rest bs (Some xs) (Some ys) is takes = (ys, refl, cc)
-
-at-its-end : (known : Option (List ℕ)) (left : List ℕ) → known ≡ Some left → IsAtEnd known → left ≡ []
-at-its-end None left is end = cc
-at-its-end (Some xs) left is end = cc
-
-second-nil : (xs ys : List ℕ) → xs ++ ys ≡ [] → ys ≡ []
-second-nil [] ys is = is
-second-nil (x ∷ xs) ys is = cc
-
--- What a poll gives of all the bytes, where the source tells what it has left of them.
-pub known-given : {R : Type 0} (remaining : R → Option (List ℕ)) (old new : Reader R) (result : Result Step TextFault)
-    (all : List ℕ) (given : List (List ℕ)) (rest : List ℕ)
-    → remaining old.source ≡ Some rest → Holds old all given rest
-    → Consumes (remaining old.source) (remaining new.source) (bytes_read old new)
-    → (new.ended ≡ true → (old.ended ≡ true) ⊎ IsAtEnd (remaining new.source)) → GivesNext old result new
-    → (left : List ℕ) × (remaining new.source ≡ Some left)
-    × Gives old.limits all given result new.line (λ after. Holds new all after left)
-known-given {R} remaining old new result all given rest tells h takes end gives =
-    let found = consumed rest (bytes_read old new) (remaining old.source) (remaining new.source) tells takes in
-    let H : List ℕ → Type 0 = λ zs. Holds old all given zs in
-    let done : new.ended ≡ true → found.0 ≡ [] = λ is. elim (end is) [
-      | inl before ↦ second-nil (bytes_read old new) found.0 (sym found.2 ∙ h.done before)
-      | inr now ↦ at-its-end (remaining new.source) found.0 found.1 now
-    ] in
-    (found.0, found.1, gives all given found.0 (subst H found.2 h) done)

@@ -85,12 +85,6 @@ none-IsWindow xs s m e w none =
     IsWindow-searched xs s m e (length (slice_range xs m e)) e w (omega (arith, count, w.middle))
     (omega (arith, count, w.middle)) none
 
-pub first-IsWindow : (xs : List ℕ) (s m e k : ℕ) → IsWindow xs s m e
-    → IsFirstByte (is_byte 10) (slice_range xs m e) (Some k) → IsWindow xs s (m + k) e
-first-IsWindow xs s m e k w found =
-    let high : k < length (slice_range xs m e) = found.0.high in
-    IsWindow-searched xs s m e k (m + k) w (omega (arith, length-window xs m e w.high, w.middle)) refl found.0.before
-
 pub first-window : (xs : List ℕ) (s m e k : ℕ) → IsWindow xs s m e
     → IsFirstByte (is_byte 10) (slice_range xs m e) (Some k)
     → IsFirstByte (is_byte 10) (slice_range xs s e) (Some (m - s + k))

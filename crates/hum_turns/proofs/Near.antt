@@ -1,19 +1,18 @@
 -- What is near a turn, and what code that makes a turn has to show.
-use Rattle.std.proofs.Common.{◌≡◌, ◌≢◌, ℕ, zero, suc, ◌<◌, ◌≤◌, inl, inr, true, ◌&&◌, List, [], ◌∷◌}
-use Rattle.std.proofs.Common.{◌++◌, map, slice_get, slice_index, Some, is_none, refl, sym, ap, ◌∙◌}
+use Rattle.std.proofs.Common.{◌≡◌, ◌≢◌, ℕ, suc, ◌<◌, ◌≤◌, inl, inr, true, ◌&&◌, List, [], ◌∷◌}
+use Rattle.std.proofs.Common.{map, slice_get, Some, is_none, refl, sym, ap, ◌∙◌}
 use Rattle.std.proofs.Common.{subst, ⊎_elim, arith, le-ltb, lt-ltb}
 use Rattle.std.proofs.lemmas.Bool.{cases_eq, cases_lt, cases_Bool, and_from, and_left, cond-true}
 use Rattle.std.proofs.lemmas.Bool.{cond-false}
-use Rattle.std.proofs.lemmas.Option.{none-some, same_Some}
+use Rattle.std.proofs.lemmas.Option.{none-some}
 use Rattle.hum_turns.specs.Flow.{Flow}
 use Rattle.hum_turns.specs.Plan.{Plan, last, IsPlan}
 use Rattle.hum_turns.specs.Links.{Link, view, has_room, has_some, Moment, inputs}
 use Rattle.hum_turns.specs.Turns.{State, Gives, Reads, Takes, Ends, stage_state, state, can}
-use Rattle.hum_turns.specs.Turns.{is_source, ready, Becomes, Does, HasRead, Turns, Step, Run}
+use Rattle.hum_turns.specs.Turns.{is_source, ready, Becomes, Does, HasRead, Turns, Step}
 use Rattle.hum_turns.specs.Near.{IsOneOf, LooksAt, touched, EveryTurnIsNear}
 use Rattle.hum_turns.proofs.States.{state_is, sink_state, gives_less, reads_less, ends_less, wanted}
 use Rattle.hum_turns.proofs.States.{last_next, taker, source_less, reads_source}
-use Rattle.std.proofs.Math.Path.{fun_ext}
 
 -- What an actor doesn't look at it leaves alone.
 
@@ -55,11 +54,6 @@ inputs_same old new [] h = refl
 inputs_same old new (s ∷ ss) h =
     ap (λ (l : Link _). view l ∷ map (λ s. view (new s)) ss) (h s (0, refl))
     ∙ ap (λ l. view (old s) ∷ l) (inputs_same old new ss (λ t p. h t (suc p.0, p.1)))
-
-index_is : (ss : List ℕ) (j : ℕ) (s : ℕ) → slice_get ss j ≡ Some s → slice_index ss j ≡ s
-index_is [] j s h = absurd (none-some s h)
-index_is (t ∷ ss) zero s h = same_Some t s h
-index_is (t ∷ ss) (suc j) s h = index_is ss j s h
 
 module _ {R : Type 0} (plan : Plan R) (ok : IsPlan plan) (size j : ℕ) (old new : Moment R)
     (same : (i : ℕ) → LooksAt plan j i → new i ≡ old i) where
@@ -157,15 +151,6 @@ module _ {R : Type 0} (plan : Plan R) (size k : ℕ) where
     turns = subst (λ t. Turns plan k t old new) (sym e)
         (record { between = between; reads = r; does = inr d });
   }
-
--- a run with a turn more
-pub run_more : {R : Type 0} (plan : Plan R) (size : ℕ) (ks : List ℕ) (k : ℕ)
-    (old between new : Moment R) → Run plan size old ks between → Step plan size k between new
-    → Run plan size old (ks ++ k ∷ []) new
-run_more plan size [] k old between new run step =
-    (new, subst (λ o. Step plan size k o new) (fun_ext run) step, λ i. refl)
-run_more plan size (j ∷ ks) k old between new run step =
-    (run.0, run.1, run_more plan size ks k run.0 between new run.2 step)
 
 -- A turn of a stage takes nothing from the last link, and hears no end there.
 module _ {R : Type 0} (plan : Plan R) (ok : IsPlan plan) (size k : ℕ) (less : k < plan.count) where

@@ -1,12 +1,12 @@
 -- The last byte of a text.
-use Rattle.std.proofs.Common.{◌≡◌, ◌≢◌, ℕ, ◌-◌, ◌<◌, ◌&&◌, Bool, true, false, suc}
+use Rattle.std.proofs.Common.{◌≡◌, ◌≢◌, ℕ, ◌-◌, ◌<◌, Bool, true, false, suc}
 use Rattle.std.proofs.Common.{List, [], ◌∷◌, ◌++◌, length, take, get_or, Some, None, refl, ap, arith}
 use Rattle.std.proofs.Common.{length-append}
 use Rattle.std.proofs.Math.Seq.{take-append_seam, get_or-append_seam}
 use Rattle.std.proofs.lemmas.Bool.{eqb-true}
 use Rattle.std.specs.Prelude.{if◌then◌else◌, slice_index, ◌==◌}
 use Rattle.hum_words.specs.Branches.{without_cr}
-use Rattle.hum_words.specs.Names.{is_name, front_of, name_in}
+use Rattle.hum_words.specs.Names.{is_name, name_in}
 
 -- behind a front and a byte, the front and that byte are found
 pub front_is : (xs : List ℕ) (b : ℕ) → take (length (xs ++ b ∷ []) - 1) (xs ++ b ∷ []) ≡ xs
@@ -44,18 +44,6 @@ no_cr line none = go (slice_index line (length line - 1) == 13) refl
     go true e =
         let last : (front : List ℕ) × (line ≡ front ++ 13 ∷ [])
         = ends_in line 13 (omega arith) (eqb-true _ _ e) in
-        absurd (none last.0 last.1)
-
--- no name is in a word that no colon ends
-pub no_colon : (word : List ℕ) → ((front : List ℕ) → word ≢ front ++ 58 ∷ []) → name_in word ≡ None
-no_colon word none = go (slice_index word (length word - 1) == 58) refl
-  where
-    go : (v : Bool) → (slice_index word (length word - 1) == 58) ≡ v
-        → (if v && is_name (front_of word) then Some (front_of word) else None) ≡ None
-    go false e = refl
-    go true e =
-        let last : (front : List ℕ) × (word ≡ front ++ 58 ∷ [])
-        = ends_in word 58 (omega arith) (eqb-true _ _ e) in
         absurd (none last.0 last.1)
 
 -- the name in a word that a colon ends is the front, if that is a name
