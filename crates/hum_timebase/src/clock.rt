@@ -2,9 +2,11 @@
 ghost use Rattle.std.specs.Prelude.{◌≡◌, ◌+◌, ◌<◌, ◌^◌, IfOk, OnOk, IfErr, Ok, Err, None, []};
 ghost use Rattle.hum_frac.specs.Multiples.{is_multiple};
 ghost use Rattle.hum_timebase.specs.Clock.{time_after};
+ghost use Rattle.hum_timebase.specs.Placed.{OfColumns};
 ghost use Rattle.hum_timebase.specs.Timebase.{multiples_from, count_before, count_after};
 
 use crate::ends::{drop_untimed, ends_by, has_clash, next_end, sound};
+use crate::notes::NoteAt;
 use crate::timed::Timed;
 use hum_frac::Frac;
 use hum_path::Moves;
@@ -141,12 +143,14 @@ impl Clock {
     /// # Errors
     /// B2 where the notes before it don't end at its time, or a note's own column goes on; F1 where
     /// a note's end doesn't fit.
-    pub(crate) fn strike(&mut self, step: Frac, notes: &[Option<Frac>]) -> Result<Strike, Rule>
+    pub(crate) fn strike(&mut self, step: Frac, notes: &[NoteAt]) -> Result<Strike, Rule>
         requires { 0 < step.top }
-        ensures made { IfOk result (λ made. strike step self.old notes.now ≡ Ok made) }
-        ensures refused { IfErr result (λ rule. strike step self.old notes.now ≡ Err rule) }
-        ensures after { OnOk result (self.new
-            ≡ kept_at (time_after self.old.last self.old.ends) notes.now self.old) }
+        ensures made { IfOk result (λ made. OfColumns notes.now
+            (λ columns. strike step self.old columns ≡ Ok made)) }
+        ensures refused { IfErr result (λ rule. OfColumns notes.now
+            (λ columns. strike step self.old columns ≡ Err rule)) }
+        ensures after { OnOk result (OfColumns notes.now (λ columns. self.new
+            ≡ kept_at (time_after self.old.last self.old.ends) columns self.old)) }
     {
         let Some(time) = self.time() else {
             return Err(Rule::B2);
