@@ -128,6 +128,15 @@ sounds_by tokens never = go (list_any is_sounding tokens) refl
     go true e = rw e refl
     go false e = absurd (never e)
 
+-- no tokens have no notes
+pub none_noted : (timed : List Bool) → notes_of timed [] ≡ []
+none_noted [] = refl
+none_noted (timed ∷ more) = refl
+
+pub none_misread : (timed : List Bool) → has_misread timed [] ≡ false
+none_misread [] = refl
+none_misread (timed ∷ more) = refl
+
 -- what was read tells that a token sounds
 pub sounds_misread : (timed : List Bool) (tokens : List (List ℕ)) (notes : List NoteAt) (misread : Option KernFault) →
     Read timed tokens notes misread → is_some misread ≡ true → content_of tokens ≡ Sounds

@@ -1,5 +1,5 @@
 //! The time of each record.
-ghost use Rattle.std.specs.Prelude.{◌≡◌, ◌+◌, ◌<◌, ◌^◌, IfOk, OnOk, IfErr, Ok, Err, None, []};
+ghost use Rattle.std.specs.Prelude.{◌≡◌, ◌+◌, ◌<◌, ◌^◌, IfOk, OnOk, IfErr, Ok, Err, None, Some, []};
 ghost use Rattle.hum_frac.specs.Multiples.{is_multiple};
 ghost use Rattle.hum_timebase.specs.Clock.{time_after};
 ghost use Rattle.hum_timebase.specs.Placed.{OfColumns};
@@ -138,6 +138,19 @@ impl Clock {
         }
     }
 
+    /// How many null records stand before a timed record of this time. Where it comes at the least end
+    /// after the last one, there are none.
+    fn count_before(&self, step: Frac, time: Frac) -> u128
+        requires positive { 0 < step.top }
+        requires time { time_after self.now.last self.now.ends ≡ Some time }
+        ensures { result ≡ count_before step self.now.next time }
+    {
+        if self.is_settled {
+            return 0;
+        }
+        count_before(step, self.next, time)
+    }
+
     /// Takes the notes of a timed record, and says what it becomes.
     ///
     /// # Errors
@@ -158,11 +171,11 @@ impl Clock {
         if has_clash(time, notes, &self.ends) {
             return Err(Rule::B2);
         }
+        let before = self.count_before(step, time);
         self.is_settled = false;
         if sound(time, notes, &mut self.ends).is_err() {
             return Err(Rule::F1);
         }
-        let before = count_before(step, self.next, time);
         self.last = Some(time);
         self.next = next_end(time, &self.ends);
         self.is_settled = true;

@@ -29,12 +29,18 @@ fn later(a: Option<Frac>, b: Option<Frac>) -> Option<Frac>
 fn sooner_beyond(time: Frac, end: Option<Frac>, least: Option<Frac>) -> Option<Frac>
     ensures { result ≡ sooner (beyond time end) least }
 {
-    match end {
-        Some(end) if time.is_before(end) => match least {
-            Some(least) if least.is_before(end) => Some(least),
-            _ => Some(end),
-        },
-        _ => least,
+    let Some(end) = end else {
+        return least;
+    };
+    match least {
+        Some(least) if least.is_before(end) => Some(least),
+        _ => {
+            if time.is_before(end) {
+                Some(end)
+            } else {
+                least
+            }
+        }
     }
 }
 

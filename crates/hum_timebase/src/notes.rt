@@ -188,10 +188,24 @@ pub(crate) fn read_notes(
     ensures { IfOk result (Read timed.now (tokens_of row.now) notes.new.items) }
 {
     notes.clear();
-    for j in 0..timed.len().min(row.width()) {
-        match note(timed[j], row.token(j)) {
+    let mut columns = timed;
+    let mut column = 0;
+    for token in row.tokens() {
+        let [timed, behind @ ..] = columns else {
+            return Ok(None);
+        };
+        let here = column;
+        columns = behind;
+        column += 1;
+        if is_null(token) {
+            continue;
+        }
+        match note(*timed, token) {
             Ok(None) => {}
-            Ok(Some(lasting)) => notes.push(NoteAt { column: j, lasting })?,
+            Ok(Some(lasting)) => notes.push(NoteAt {
+                column: here,
+                lasting,
+            })?,
             Err(fault) => return Ok(Some(fault)),
         }
     }
