@@ -138,8 +138,8 @@ impl Clock {
         }
     }
 
-    /// How many null records stand before a timed record of this time. Where it comes at the least end
-    /// after the last one, there are none.
+    /// How many null records stand before a timed record of this time: none where it comes at the
+    /// least end after the last one.
     fn count_before(&self, step: Frac, time: Frac) -> u128
         requires positive { 0 < step.top }
         requires time { time_after self.now.last self.now.ends ≡ Some time }

@@ -1,6 +1,6 @@
 //! Ends of notes, one for each column.
-ghost use Rattle.std.specs.Prelude.{◌≡◌, ℕ, true, false, not, length, map, None, Some, IfOk, OnErr, OnOk};
-ghost use Rattle.std.specs.Prelude.{slice_index_or, slice_set};
+ghost use Rattle.std.specs.Prelude.{◌≡◌, ℕ, true, false, not, length, map, None, Some};
+ghost use Rattle.std.specs.Prelude.{IfOk, OnErr, OnOk, slice_index_or, slice_set};
 ghost use Rattle.std.specs.List.{list_any};
 ghost use Rattle.hum_frac.specs.Ratio.{Ratio, plus};
 ghost use Rattle.hum_timebase.specs.Ends.{later, sooner, beyond, next_end};
