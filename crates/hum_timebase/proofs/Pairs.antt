@@ -14,7 +14,7 @@ paired-end f (suc n) [] ys h = absurd (omega arith)
 paired-end f (suc n) (x ∷ xs) [] h = absurd (omega arith)
 paired-end f (suc n) (x ∷ xs) (y ∷ ys) h = paired-end f n xs ys (omega arith)
 
-over_none : {A B : Type 0} (f : A → B → B) (xs : List A) → over f xs [] ≡ []
+pub over_none : {A B : Type 0} (f : A → B → B) (xs : List A) → over f xs [] ≡ []
 over_none f [] = refl
 over_none f (x ∷ xs) = refl
 
@@ -37,7 +37,7 @@ over_next f xs ys zs all j x d made none p ex m e h =
     let same : f (get_or xs j d) (get_or ys j none) ≡ made = ap (λ a. f a (get_or ys j none)) (sym ex) ∙ sym m in
     rw (add-one, e, ← same) (over_more f xs ys j d none p ∙ h)
 
-whole : {B : Type 0} (k : ℕ) (zs : List B) → take k zs ++ drop k zs ≡ zs
+pub whole : {B : Type 0} (k : ℕ) (zs : List B) → take k zs ++ drop k zs ≡ zs
 whole zero zs = refl
 whole (suc k) [] = refl
 whole (suc k) (z ∷ zs) = ap (λ xs. z ∷ xs) (whole k zs)

@@ -5,10 +5,11 @@ use Rattle.std.specs.Prelude.{◌&&◌, ◌||◌, not, is_some, if◌then◌else
 use Rattle.std.specs.List.{list_any, list_all}
 use Rattle.std.proofs.lemmas.Bool.{or_parts}
 use Rattle.hum_record.specs.Contents.{is_null, is_barline}
-use Rattle.hum_frac.specs.Ratio.{Ratio}
 use Rattle.hum_kern.specs.declared.KernFault.{KernFault}
 use Rattle.hum_timebase.specs.Notes.{is_timed, own_name, own_names, is_sounding, note_of, notes_of, is_misread, has_misread}
+use Rattle.hum_timebase.specs.Placed.{OfColumns}
 use Rattle.hum_timebase.specs.Reading.{content_of, Read}
+use Rattle.hum_timebase.specs.declared.notes.NoteAt.{NoteAt}
 use Rattle.hum_timebase.specs.declared.notes.Content.TheVariants.{Nulls, Barlines, Sounds}
 
 own-none : (tokens : List (List ℕ)) (j : ℕ) → j < length tokens
@@ -127,14 +128,27 @@ sounds_by tokens never = go (list_any is_sounding tokens) refl
     go true e = rw e refl
     go false e = absurd (never e)
 
+-- no tokens have no notes
+pub none_noted : (timed : List Bool) → notes_of timed [] ≡ []
+none_noted [] = refl
+none_noted (timed ∷ more) = refl
+
+pub none_misread : (timed : List Bool) → has_misread timed [] ≡ false
+none_misread [] = refl
+none_misread (timed ∷ more) = refl
+
 -- what was read tells that a token sounds
-pub sounds_misread : (timed : List Bool) (tokens : List (List ℕ)) (notes : List (Option Ratio)) (misread : Option KernFault) →
+pub sounds_misread : (timed : List Bool) (tokens : List (List ℕ)) (notes : List NoteAt) (misread : Option KernFault) →
     Read timed tokens notes misread → is_some misread ≡ true → content_of tokens ≡ Sounds
 sounds_misread timed tokens notes (Some fault) read some = sounds_by tokens (λ none. let free = no_misread timed tokens none in cc)
 sounds_misread timed tokens notes None read some = cc
 
-pub sounds_noted : (timed : List Bool) (tokens : List (List ℕ)) (notes : List (Option Ratio)) (misread : Option KernFault) →
-    Read timed tokens notes misread → is_some misread ≡ false → list_any is_some notes ≡ true → content_of tokens ≡ Sounds
-sounds_noted timed tokens notes (Some fault) read none some = cc
-sounds_noted timed tokens notes None read none some =
-    sounds_by tokens (λ silent. let free = no_notes timed tokens silent in let is = rw read.1 at some in cc)
+pub sounds_noted : (timed : List Bool) (tokens : List (List ℕ)) (notes : List NoteAt) (misread : Option KernFault) (has : Bool) →
+    Read timed tokens notes misread → is_some misread ≡ false → OfColumns notes (λ columns. has ≡ list_any is_some columns) → has ≡ true
+    → content_of tokens ≡ Sounds
+sounds_noted timed tokens notes (Some fault) has read none is some = cc
+sounds_noted timed tokens notes None has read none is some =
+    sounds_by tokens (λ silent.
+    let free = no_notes timed tokens silent in
+    let noted = is (notes_of timed tokens) read.1 in
+    cc)

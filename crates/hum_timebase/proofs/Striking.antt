@@ -1,6 +1,6 @@
 -- What a record becomes, by the ends that are kept.
-use Rattle.std.proofs.Common.{◌≡◌, ◌∙◌, ℕ, zero, suc, ◌+◌, ◌<◌, List, [], ◌∷◌, map, length, drop, get_or}
-use Rattle.std.proofs.Common.{replicate, refl, sym, ap, arith, add-one, length-append, min, Bool, true, false}
+use Rattle.std.proofs.Common.{◌≡◌, ◌∙◌, ℕ, ◌+◌, ◌<◌, List, [], ◌∷◌, map, length}
+use Rattle.std.proofs.Common.{replicate, refl, sym, ap, arith, length-append, min, Bool, true, false}
 use Rattle.std.proofs.Common.{Option, None, Some, Result, Ok, Err}
 use Rattle.std.specs.Prelude.{not, is_some, if◌then◌else◌}
 use Rattle.std.specs.Option.{option_to_list}
@@ -29,17 +29,6 @@ use Rattle.hum_timebase.specs.Reading.{content_of}
 use Rattle.hum_timebase.specs.declared.notes.Content.TheVariants.{Nulls, Barlines, Sounds}
 use Rattle.hum_timebase.proofs.Reading.{nulls_alone, sounds_some, no_notes, content_sounds, content_barlines, content_nulls}
 use Rattle.hum_timebase.proofs.Lasting.{latest-before, latest-at, kept-rested, kept-moved, kept-tick, all_sound}
-
--- one note more whose end fits
-long_drop : (time : Ratio) (notes : List (Option Ratio)) (j : ℕ) (own other : Option Ratio) → j < length notes → own ≡ get_or notes j other
-    → is_too_long time own ≡ false → list_any (is_too_long time) (drop (suc j) notes) ≡ list_any (is_too_long time) (drop j notes)
-long_drop time [] j own other below is fits = absurd (omega arith)
-long_drop time (first ∷ notes) zero own other below is fits = let short = rw is at fits in rw short refl
-long_drop time (first ∷ notes) (suc j) own other below is fits = long_drop time notes j own other (omega arith) is fits
-
-pub long_more : (time : Ratio) (notes : List (Option Ratio)) (j : ℕ) (own : Option Ratio) (all : Bool) → j < length notes → own ≡ get_or notes j own
-    → is_too_long time own ≡ false → list_any (is_too_long time) (drop j notes) ≡ all → list_any (is_too_long time) (drop (j + 1) notes) ≡ all
-long_more time notes j own all below is fits h = rw add-one (long_drop time notes j own own below is fits ∙ h)
 
 -- ---- what is put where it is due
 

@@ -1,5 +1,6 @@
 pub mod Pairs
 pub mod Notes
+pub mod Placed
 pub mod Ends
 pub mod Clock
 pub mod Timebase

@@ -2,12 +2,13 @@
 use Rattle.std.specs.Prelude.{◌≡◌, ℕ, ◌==◌, Bool, true, false, not, List, [], ◌∷◌}
 use Rattle.std.specs.Prelude.{Option, None, Some, if◌then◌else◌}
 use Rattle.std.specs.List.{list_any}
-use Rattle.hum_frac.specs.Ratio.{Ratio}
 use Rattle.hum_kern.specs.declared.KernFault.{KernFault}
 use Rattle.hum_timebase.specs.declared.notes.Content.{Content}
+use Rattle.hum_timebase.specs.declared.notes.NoteAt.{NoteAt}
 use Rattle.hum_timebase.specs.declared.notes.Content.TheVariants.{Nulls, Barlines, Sounds}
 use Rattle.hum_record.specs.Contents.{is_barline}
 use Rattle.hum_timebase.specs.Notes.{is_sounding, subtokens, notes_of, has_misread}
+use Rattle.hum_timebase.specs.Placed.{placed}
 
 abbrev pub content_of : List (List ℕ) → Content
 content_of tokens =
@@ -25,7 +26,7 @@ rest_parts [] = []
 rest_parts (space ∷ bytes) = subtokens bytes
 
 -- all durations were read, and these are the notes; or one was refused
-abbrev pub Read : List Bool → List (List ℕ) → List (Option Ratio) → Option KernFault → Type 0
+abbrev pub Read : List Bool → List (List ℕ) → List NoteAt → Option KernFault → Type 0
 Read timed tokens notes None =
-    (has_misread timed tokens ≡ false) × (notes ≡ notes_of timed tokens)
+    (has_misread timed tokens ≡ false) × (notes ≡ placed 0 (notes_of timed tokens))
 Read timed tokens notes (Some fault) = has_misread timed tokens ≡ true

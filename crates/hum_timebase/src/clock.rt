@@ -1,10 +1,12 @@
 //! The time of each record.
-ghost use Rattle.std.specs.Prelude.{◌≡◌, ◌+◌, ◌<◌, ◌^◌, IfOk, OnOk, IfErr, Ok, Err, None, []};
+ghost use Rattle.std.specs.Prelude.{◌≡◌, ◌+◌, ◌<◌, ◌^◌, IfOk, OnOk, IfErr, Ok, Err, None, Some, []};
 ghost use Rattle.hum_frac.specs.Multiples.{is_multiple};
 ghost use Rattle.hum_timebase.specs.Clock.{time_after};
+ghost use Rattle.hum_timebase.specs.Placed.{OfColumns};
 ghost use Rattle.hum_timebase.specs.Timebase.{multiples_from, count_before, count_after};
 
 use crate::ends::{drop_untimed, ends_by, has_clash, next_end, sound};
+use crate::notes::NoteAt;
 use crate::timed::Timed;
 use hum_frac::Frac;
 use hum_path::Moves;
@@ -136,17 +138,32 @@ impl Clock {
         }
     }
 
+    /// How many null records stand before a timed record of this time: none where it comes at the
+    /// least end after the last one.
+    fn count_before(&self, step: Frac, time: Frac) -> u128
+        requires positive { 0 < step.top }
+        requires time { time_after self.now.last self.now.ends ≡ Some time }
+        ensures { result ≡ count_before step self.now.next time }
+    {
+        if self.is_settled {
+            return 0;
+        }
+        count_before(step, self.next, time)
+    }
+
     /// Takes the notes of a timed record, and says what it becomes.
     ///
     /// # Errors
     /// B2 where the notes before it don't end at its time, or a note's own column goes on; F1 where
     /// a note's end doesn't fit.
-    pub(crate) fn strike(&mut self, step: Frac, notes: &[Option<Frac>]) -> Result<Strike, Rule>
+    pub(crate) fn strike(&mut self, step: Frac, notes: &[NoteAt]) -> Result<Strike, Rule>
         requires { 0 < step.top }
-        ensures made { IfOk result (λ made. strike step self.old notes.now ≡ Ok made) }
-        ensures refused { IfErr result (λ rule. strike step self.old notes.now ≡ Err rule) }
-        ensures after { OnOk result (self.new
-            ≡ kept_at (time_after self.old.last self.old.ends) notes.now self.old) }
+        ensures made { IfOk result (λ made. OfColumns notes.now
+            (λ columns. strike step self.old columns ≡ Ok made)) }
+        ensures refused { IfErr result (λ rule. OfColumns notes.now
+            (λ columns. strike step self.old columns ≡ Err rule)) }
+        ensures after { OnOk result (OfColumns notes.now (λ columns. self.new
+            ≡ kept_at (time_after self.old.last self.old.ends) columns self.old)) }
     {
         let Some(time) = self.time() else {
             return Err(Rule::B2);
@@ -154,11 +171,11 @@ impl Clock {
         if has_clash(time, notes, &self.ends) {
             return Err(Rule::B2);
         }
+        let before = self.count_before(step, time);
         self.is_settled = false;
         if sound(time, notes, &mut self.ends).is_err() {
             return Err(Rule::F1);
         }
-        let before = count_before(step, self.next, time);
         self.last = Some(time);
         self.next = next_end(time, &self.ends);
         self.is_settled = true;

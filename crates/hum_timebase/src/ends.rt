@@ -1,13 +1,15 @@
 //! Ends of notes, one for each column.
-ghost use Rattle.std.specs.Prelude.{◌≡◌, ℕ, true, false, not, length, map, None, IfOk, OnErr, OnOk};
-ghost use Rattle.std.specs.Prelude.{slice_index_or, slice_set};
+ghost use Rattle.std.specs.Prelude.{◌≡◌, ℕ, true, false, not, length, map, None, Some};
+ghost use Rattle.std.specs.Prelude.{IfOk, OnErr, OnOk, slice_index_or, slice_set};
 ghost use Rattle.std.specs.List.{list_any};
-ghost use Rattle.hum_frac.specs.Ratio.{Ratio};
+ghost use Rattle.hum_frac.specs.Ratio.{Ratio, plus};
 ghost use Rattle.hum_timebase.specs.Ends.{later, sooner, beyond, next_end};
-ghost use Rattle.hum_timebase.specs.Kept.{end_if_timed, ends_before, own_end, ends_after, end_by};
+ghost use Rattle.hum_timebase.specs.Kept.{end_if_timed, ends_before, ends_after, end_by};
+ghost use Rattle.hum_timebase.specs.Placed.{OfColumns};
 ghost use Rattle.hum_timebase.specs.Spans.{low_of, high_of};
 ghost use Rattle.hum_timebase.specs.Timebase.{clash, clashes, is_too_long};
 
+use crate::notes::NoteAt;
 use hum_frac::{Frac, FracFault};
 use hum_path::{Move, Moves};
 use std::alloc::{AllocError, Global};
@@ -27,12 +29,18 @@ fn later(a: Option<Frac>, b: Option<Frac>) -> Option<Frac>
 fn sooner_beyond(time: Frac, end: Option<Frac>, least: Option<Frac>) -> Option<Frac>
     ensures { result ≡ sooner (beyond time end) least }
 {
-    match end {
-        Some(end) if time.is_before(end) => match least {
-            Some(least) if least.is_before(end) => Some(least),
-            _ => Some(end),
-        },
-        _ => least,
+    let Some(end) = end else {
+        return least;
+    };
+    match least {
+        Some(least) if least.is_before(end) => Some(least),
+        _ => {
+            if time.is_before(end) {
+                Some(end)
+            } else {
+                least
+            }
+        }
     }
 }
 
@@ -141,70 +149,65 @@ pub(crate) fn ends_by(
 }
 
 /// Whether a note stands in a column whose end is after the time.
-fn is_clash(time: Frac, note: Option<Frac>, end: Option<Frac>) -> bool
-    ensures { result ≡ clash time note end }
+fn is_clash(time: Frac, note: NoteAt, ends: &[Option<Frac>]) -> bool
+    ensures { result
+        ≡ clash time (Some note.lasting) (slice_index_or ends.now note.column None) }
 {
-    match (note, end) {
-        (Some(_), Some(end)) => time.is_before(end),
-        (Some(_), None) => false,
-        (None, _) => false,
+    match end_at(ends, note.column) {
+        Some(end) => time.is_before(end),
+        None => false,
     }
 }
 
 /// The same of some note.
-pub(crate) fn has_clash(time: Frac, notes: &[Option<Frac>], ends: &[Option<Frac>]) -> bool
-    ensures { result ≡ clashes time notes.now ends.now }
+pub(crate) fn has_clash(time: Frac, notes: &[NoteAt], ends: &[Option<Frac>]) -> bool
+    ensures { OfColumns notes.now (λ columns. result ≡ clashes time columns ends.now) }
 {
-    for j in 0..notes.len().min(ends.len()) {
-        if is_clash(time, notes[j], ends[j]) {
+    for note in notes {
+        if is_clash(time, *note, ends) {
             return true;
         }
     }
     false
 }
 
-/// The end after a cell is that of its own note, where it has one.
+/// The end after the cell of a note is that of the note.
 ///
 /// # Errors
 /// F1 where that doesn't fit.
-fn sound_at(
-    time: Frac,
-    note: Option<Frac>,
-    ends: &mut [Option<Frac>],
-    j: usize,
-) -> Result<(), FracFault>
+fn sound_at(time: Frac, note: NoteAt, ends: &mut [Option<Frac>]) -> Result<(), FracFault>
     ensures end { OnOk result (ends.new
-        ≡ slice_set ends.old j (own_end time note (slice_index_or ends.old j None))) }
-    ensures fits { OnOk result (is_too_long time note ≡ false) }
-    ensures refused { OnErr result (is_too_long time note ≡ true) }
+        ≡ slice_set ends.old note.column (Some (plus time note.lasting))) }
+    ensures fits { OnOk result (is_too_long time (Some note.lasting) ≡ false) }
+    ensures refused { OnErr result (is_too_long time (Some note.lasting) ≡ true) }
 {
-    match note {
-        None => Ok(()),
-        Some(lasting) => match time.add(lasting) {
-            Ok(sum) => {
-                put_end(ends, j, Some(sum));
-                Ok(())
-            }
-            Err(fault) => Err(fault),
-        },
+    match time.add(note.lasting) {
+        Ok(sum) => {
+            put_end(ends, note.column, Some(sum));
+            Ok(())
+        }
+        Err(fault) => Err(fault),
     }
 }
 
-/// The same of all cells.
+/// The same of all notes.
 ///
 /// # Errors
 /// F1 where a note's end doesn't fit.
 pub(crate) fn sound(
     time: Frac,
-    notes: &[Option<Frac>],
+    notes: &[NoteAt],
     ends: &mut [Option<Frac>],
 ) -> Result<(), FracFault>
-    ensures ends { OnOk result (ends.new ≡ ends_after time notes.now ends.old) }
-    ensures fits { OnOk result (list_any (is_too_long time) notes.now ≡ false) }
-    ensures refused { OnErr result (list_any (is_too_long time) notes.now ≡ true) }
+    ensures ends { OnOk result (OfColumns notes.now
+        (λ columns. ends.new ≡ ends_after time columns ends.old)) }
+    ensures fits { OnOk result (OfColumns notes.now
+        (λ columns. list_any (is_too_long time) columns ≡ false)) }
+    ensures refused { OnErr result (OfColumns notes.now
+        (λ columns. list_any (is_too_long time) columns ≡ true)) }
 {
-    for j in 0..notes.len() {
-        sound_at(time, notes[j], ends, j)?;
+    for note in notes {
+        sound_at(time, *note, ends)?;
     }
     Ok(())
 }

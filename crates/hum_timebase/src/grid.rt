@@ -11,27 +11,27 @@ ghost use Rattle.hum_stage.specs.Decided.{Decision, MayStep, HasStepped};
 ghost use Rattle.hum_timebase.specs.Timebase.{timebase, around};
 ghost use Rattle.hum_timebase.specs.Following.{Follows, Answers, pace_of};
 ghost use Rattle.hum_timebase.specs.Notes.{notes_of};
+ghost use Rattle.hum_timebase.specs.Placed.{OfColumns};
 ghost use Rattle.hum_timebase.specs.Reading.{content_of, Read};
 ghost use Rattle.hum_timebase.specs.Kept.{sounding_rows, struck};
 
 use crate::TimebaseOptions;
 use crate::clock::{Clock, Strike};
 use crate::due::Around;
-use crate::notes::{Content, content_of, read_notes, timed_at, timed_in};
+use crate::notes::{Content, NoteAt, content_of, read_notes, timed_at, timed_in};
 use crate::pace::Pace;
 use crate::records::{names_some, tb_record};
 use crate::timed::Timed;
-use hum_frac::Frac;
 use hum_kern::KernFault;
 use hum_path::Paths;
 use hum_record::{Kind, Record};
 use hum_stage::{Command, Decides, Rule};
 use std::alloc::{AllocError, Global};
 
-fn has_note(notes: &[Option<Frac>]) -> bool
-    ensures { result ≡ list_any is_some notes.now }
+fn has_note(notes: &[NoteAt]) -> bool
+    ensures { OfColumns notes.now (λ columns. result ≡ list_any is_some columns) }
 {
-    notes.iter().any(|note| note.is_some())
+    !notes.is_empty()
 }
 
 fn single(stays: bool) -> u128
@@ -41,7 +41,7 @@ fn single(stays: bool) -> u128
 }
 
 /// What a data record holds, by what was read of it: most often that tells.
-fn content_by(misread: Option<KernFault>, notes: &[Option<Frac>], row: &Record) -> Content
+fn content_by(misread: Option<KernFault>, notes: &[NoteAt], row: &Record) -> Content
     requires { (timed : List Bool) × Read timed (tokens_of row.now) notes.now misread }
     ensures { result ≡ content_of (tokens_of row.now) }
 {
@@ -85,7 +85,7 @@ pub struct Grid {
     timed: Timed,
     clock: Clock,
     // the notes of the record at hand
-    notes: Vec<Option<Frac>>,
+    notes: Vec<NoteAt>,
 }
 
 impl Grid {

@@ -20,6 +20,13 @@ use hum_path::{Paths, token_sign};
 use hum_record::{Record, is_barline, is_null};
 use std::alloc::{AllocError, Global};
 
+/// A note of a record: the column that it stands in, and its duration in whole notes.
+#[derive(Clone, Copy)]
+pub(crate) struct NoteAt {
+    pub(crate) column: usize,
+    pub(crate) lasting: Frac,
+}
+
 /// Whether columns under an exclusive interpretation are timed.
 fn is_timed(name: &[u8]) -> bool
     ensures { result ≡ is_timed name.now }
@@ -176,14 +183,29 @@ fn note(timed: bool, token: &[u8]) -> Result<Option<Frac>, KernFault>
 pub(crate) fn read_notes(
     timed: &[bool],
     row: &Record,
-    notes: &mut Vec<Option<Frac>>,
+    notes: &mut Vec<NoteAt>,
 ) -> Result<Option<KernFault>, AllocError>
     ensures { IfOk result (Read timed.now (tokens_of row.now) notes.new.items) }
 {
     notes.clear();
-    for j in 0..timed.len().min(row.width()) {
-        match note(timed[j], row.token(j)) {
-            Ok(value) => notes.push(value)?,
+    let mut columns = timed;
+    let mut column = 0;
+    for token in row.tokens() {
+        let [timed, behind @ ..] = columns else {
+            return Ok(None);
+        };
+        let here = column;
+        columns = behind;
+        column += 1;
+        if is_null(token) {
+            continue;
+        }
+        match note(*timed, token) {
+            Ok(None) => {}
+            Ok(Some(lasting)) => notes.push(NoteAt {
+                column: here,
+                lasting,
+            })?,
             Err(fault) => return Ok(Some(fault)),
         }
     }

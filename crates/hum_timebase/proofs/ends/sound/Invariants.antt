@@ -1,11 +1,10 @@
-use Rattle.std.proofs.Common.{◌≡◌, ◌++◌, take, drop}
+use Rattle.std.proofs.Common.{◌≡◌, drop}
 use Rattle.std.specs.List.{list_any}
-use Rattle.hum_timebase.specs.Kept.{ends_after}
-use Rattle.hum_timebase.specs.Timebase.{is_too_long}
+use Rattle.hum_timebase.proofs.Placed.{long_of, sounded}
 use Rattle.hum_timebase.proofs.ends.sound.Given as goal
 
-abbrev pub invariant-loop-j : goal.invariant-loop-j
-invariant-loop-j l = record {
-  ends : take l.j l.ends ++ ends_after l.time (drop l.j l.notes) (drop l.j l.ends) ≡ ends_after l.time l.notes l.initial.ends;
-  long : list_any (is_too_long l.time) (drop l.j l.notes) ≡ list_any (is_too_long l.time) l.notes;
+abbrev pub invariant-loop-note : goal.invariant-loop-note
+invariant-loop-note l = record {
+  ends : sounded l.time (drop l.note-index l.notes) l.ends ≡ sounded l.time l.notes l.initial.ends;
+  long : list_any (long_of l.time) (drop l.note-index l.notes) ≡ list_any (long_of l.time) l.notes;
 }

@@ -6,5 +6,5 @@ pub returns-then-is_some : goal.returns-then-is_some
 returns-then-is_some c = sym (sounds_misread c.requires.0 _ _ _ c.requires.1 (sym c.is_some.ensures ∙ c.if-is_some.true))
 
 pub returns-then-has_note : goal.returns-then-has_note
-returns-then-has_note c = sym (sounds_noted c.requires.0 _ _ _ c.requires.1 (sym c.is_some.ensures ∙ c.if-is_some.false)
-    (sym c.has_note.ensures ∙ c.if-has_note.true))
+returns-then-has_note c = sym (sounds_noted c.requires.0 _ _ _ _ c.requires.1 (sym c.is_some.ensures ∙ c.if-is_some.false)
+    c.has_note.ensures c.if-has_note.true)
