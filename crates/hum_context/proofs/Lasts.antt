@@ -46,15 +46,6 @@ pub record Sound (o : Choice) (past rows : List Row) (k : ℕ) : Type 0 where
   pub long : length front ≡ k
   pub is : lasting (context o) past rows ≡ k + lasting (context o) (passed past front) rest
 
-pub sound_none : (o : Choice) (past rows : List Row) → Sound o past rows 0
-sound_none o past rows = record {
-  front = [];
-  rest = rows;
-  split = refl;
-  long = refl;
-  is = omega arith;
-}
-
 -- the k-th record, with those behind it
 pub record Here (o : Choice) (past rows : List Row) (k : ℕ) (held : List Queued) : Type 0 where
   pub before : List Row

@@ -6,7 +6,6 @@ pub mod Steady
 pub mod Nulls
 pub mod Places
 pub mod Tokens
-pub mod Long
 pub mod Feeding
 pub mod Measured
 pub mod Passing

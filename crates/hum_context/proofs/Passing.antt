@@ -33,17 +33,6 @@ pub bytes_append : (xs ys : List (List ℕ)) → bytes_of (xs ++ ys) ≡ bytes_o
 bytes_append [] ys = omega arith
 bytes_append (x ∷ xs) ys = let ih = bytes_append xs ys in omega (arith, ih)
 
--- at the beginning
-pub has_none : (o : Choice) (path : Path) (j : ℕ) (walk : Walk) → taken o.extent [] ≡ None
-    → walk.column ≡ Some j → walk.count ≡ 0
-    → (walk.enough ≡ false) × (walk.ended ≡ false) → Has o path [] j walk
-has_none o path j walk none column zero fresh = record {
-  column = column;
-  ended = fresh.1;
-  count = zero;
-  enough = rw fresh.0 none;
-}
-
 -- the chain behind one that leads to a column
 abbrev pub chain_on : Path → List Row → Option ℕ → List (List ℕ)
 chain_on path rows None = []

@@ -1,6 +1,6 @@
 -- The spine that goes on from a place.
-use Rattle.std.proofs.Common.{◌≡◌, ◌∙◌, refl, sym, ap, ℕ, zero, suc, ◌+◌, ◌<◌, ◌≤◌, Bool, true, false}
-use Rattle.std.proofs.Common.{◌&&◌, List, [], ◌∷◌, ◌++◌, length, drop, get_or, set, cond, Option, None, Some, arith}
+use Rattle.std.proofs.Common.{◌≡◌, ◌∙◌, refl, sym, ap, ℕ, zero, suc, ◌+◌, ◌<◌, Bool, true, false}
+use Rattle.std.proofs.Common.{◌&&◌, List, length, drop, get_or, cond, Option, None, Some, arith}
 use Rattle.std.proofs.Common.{add-one, drop-cons}
 use Rattle.std.specs.Prelude.{nat_le, nat_lt, ◌==◌}
 use Rattle.std.specs.List.{position, position_from}
@@ -12,67 +12,6 @@ use Rattle.hum_path.specs.Spines.{Path, after, moves, same_upto, width}
 use Rattle.hum_path.proofs.Steady.{same_upto_length}
 use Rattle.hum_path.proofs.Widths.{moves_width}
 use Rattle.hum_path.specs.Chains.{goes_on}
-
--- one place more, where none goes on
-pub one_more : (xs : List (Option ℕ)) (c : ℕ) → get_or (xs ++ None ∷ []) c None ≡ get_or xs c None
-one_more [] zero = refl
-one_more [] (suc c) = refl
-one_more (x ∷ xs) zero = refl
-one_more (x ∷ xs) (suc c) = one_more xs c
-
--- a place that is set
-pub set_one : (xs : List (Option ℕ)) (j c : ℕ) (x : Option ℕ) → j < length xs
-    → get_or (set xs j x) c None ≡ cond (j == c) x (get_or xs c None)
-set_one [] j c x h = absurd (omega (arith, h))
-set_one (y ∷ ys) zero zero x h = refl
-set_one (y ∷ ys) zero (suc c) x h = let no : (0 == suc c) ≡ false = grind (arith, nat_tests) in
-    rw no refl
-set_one (y ∷ ys) (suc j) zero x h = let no : (suc j == 0) ≡ false = grind (arith, nat_tests) in
-    rw no refl
-set_one (y ∷ ys) (suc j) (suc c) x h =
-    let same : (suc j == suc c) ≡ (j == c) = grind (arith, nat_tests) in
-    rw same (set_one ys j c x (omega (arith, h)))
-
--- those up to a place, and one more
-pub mark_step : (first last j c : ℕ) (place old : Option ℕ) → first ≤ j → j ≤ last
-    → cond (j == c) place (cond (nat_le first c && (nat_lt c j && nat_le c last)) place old)
-    ≡ cond (nat_le first c && (nat_lt c (j + 1) && nat_le c last)) place old
-mark_step first last j c place old from within = by (j == c) refl
-  where
-    by : (b : Bool) → (j == c) ≡ b
-        → cond b place (cond (nat_le first c && (nat_lt c j && nat_le c last)) place old)
-        ≡ cond (nat_le first c && (nat_lt c (j + 1) && nat_le c last)) place old
-    by true e =
-        let a : nat_le first c ≡ true = grind (arith, nat_tests, e, from) in
-        let b : nat_lt c (j + 1) ≡ true = grind (arith, nat_tests, e) in
-        let d : nat_le c last ≡ true = grind (arith, nat_tests, e, within) in
-        rw (a, b, d) refl
-    by false e =
-        let b : nat_lt c (j + 1) ≡ nat_lt c j = grind (arith, nat_tests, e) in
-        rw b refl
-
-pub mark_none : (first last c : ℕ) (place old : Option ℕ)
-    → old ≡ cond (nat_le first c && (nat_lt c first && nat_le c last)) place old
-mark_none first last c place old = by (nat_le first c) refl
-  where
-    by : (b : Bool) → nat_le first c ≡ b → old ≡ cond (b && (nat_lt c first && nat_le c last)) place old
-    by true e = let no : nat_lt c first ≡ false = grind (arith, nat_tests, e) in rw no refl
-    by false e = refl
-
-pub mark_end : (first last j c : ℕ) (place old : Option ℕ) → last + 1 ≤ j
-    → cond (nat_le first c && (nat_lt c j && nat_le c last)) place old
-    ≡ cond (nat_le first c && nat_le c last) place old
-mark_end first last j c place old over = by (nat_le c last) refl
-  where
-    both : (a b : Bool) → (a && (b && false)) ≡ (a && false)
-    both true true = refl
-    both true false = refl
-    both false b = refl
-
-    by : (b : Bool) → nat_le c last ≡ b
-        → cond (nat_le first c && (nat_lt c j && b)) place old ≡ cond (nat_le first c && b) place old
-    by true e = let yes : nat_lt c j ≡ true = grind (arith, nat_tests, e, over) in rw yes refl
-    by false e = ap (λ (b : Bool). cond b place old) (both (nat_le first c) (nat_lt c j))
 
 -- from the last move to the first
 pub position_step : {X : Type 0} (p : X → Bool) (xs : List X) (i : ℕ) (d : X) → i < length xs

@@ -8,7 +8,7 @@ use Rattle.hum_record.specs.declared.SpinedKind.{SpinedKind}
 use Rattle.hum_record.specs.declared.SpinedKind.TheVariants.{Local, Interpretation, Values}
 use Rattle.hum_record.specs.Row.{Row, Comment, Spined, kind_of, text_of, tokens_of}
 use Rattle.hum_record.specs.declared.Kind.TheVariants.{Values as AnyValues}
-use Rattle.hum_record.specs.Spelling.{IsToken, IsTextOf, kind_of_token}
+use Rattle.hum_record.specs.Spelling.{IsToken, kind_of_token}
 use Rattle.hum_context.specs.declared.hearing.Heard.TheVariants.{Passed, Taken}
 use Rattle.hum_context.specs.Context.{Choice, is_data, is_collectable, is_last, begins}
 use Rattle.hum_context.specs.Heard.{heard_of, heard_under, is_taken, ends}
@@ -55,9 +55,6 @@ no_star_data t (inr h) = star_no_data t h.of_kind
 pub no_data : (o : Choice) (t : List ℕ) → is_data t ≡ false → is_collectable o t ≡ false
 no_data o t e = rw e refl
 
-heard_none : (o : Choice) (t : List ℕ) → is_collectable o t ≡ false → heard_of o t ≡ Passed
-heard_none o t e = rw e refl
-
 pub passed_none : (o : Choice) (t : List ℕ) → heard_of o t ≡ Passed → is_collectable o t ≡ false
 passed_none o t e = by (is_collectable o t) e
   where
@@ -102,25 +99,7 @@ bang_no_last (b ∷ bs) e = let k : nat_eq b 33 ≡ true = by (nat_eq b 33) (nat
     by false true k = cc
     by false false k = cc
 
--- a text of tokens has a byte for each
-long_enough : (kind : SpinedKind) (tokens : List (List ℕ)) → AllByRecursion (IsToken kind) tokens
-    → length tokens ≤ length (join_with_byte 9 tokens)
-long_enough kind [] h = omega arith
-long_enough kind ([] ∷ ts) h = absurd (h.0.filled refl)
-long_enough kind ((b ∷ bs) ∷ []) h = omega arith
-long_enough kind ((b ∷ bs) ∷ t ∷ ts) h =
-    let ih = long_enough kind (t ∷ ts) h.1 in
-    let sum = length-append (b ∷ bs) (9 ∷ join_with_byte 9 (t ∷ ts)) in
-    omega (arith, ih, sum)
-
-pub row_width : (row : Row) (words : List ℕ) → IsTextOf row words → length (tokens_of row) ≤ 1048576
-row_width (Comment text) words h = omega arith
-row_width (Spined kind tokens) words h =
-    let k = long_enough kind tokens h.2 in
-    let e = ap length h.0 in
-    let most = h.3 in
-    omega (arith, k, e, most)
-
+-- a token is no longer than the text of its record
 pub token_short : (row : Row) (c : ℕ) → length (text_of row) ≤ 1048576
     → length (get_or (tokens_of row) c []) + 1 ≤ 1048577
 token_short (Comment text) c h = omega arith

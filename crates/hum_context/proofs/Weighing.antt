@@ -1,7 +1,7 @@
 -- New tokens of a record, one by one.
 use Rattle.std.proofs.Common.{◌≡◌, ◌∙◌, refl, sym, ap, ℕ, suc, ◌+◌, ◌<◌, ◌≤◌, Bool, true, false}
 use Rattle.std.proofs.Common.{List, [], ◌∷◌, ◌++◌, length, drop, get_or, append_assoc, append-nil}
-use Rattle.std.proofs.Common.{length-append, arith, add-one, drop-cons, Option, Some, None, inl, inr}
+use Rattle.std.proofs.Common.{length-append, arith, add-one, drop-cons, Option, Some, None}
 use Rattle.std.specs.Prelude.{nat_le, Ok, Err}
 use Rattle.std.specs.Option.{option_map}
 use Rattle.std.specs.List.{join_with_byte}
@@ -100,14 +100,6 @@ counts_more made text more size e h =
     let same : bytes_of made + more ≡ bytes_of (made ++ text ∷ []) = omega (arith, sum, e) in
     rw same at h
 
-pub counts_long : (size bytes : ℕ) → Counts size bytes → 1048577 < size → 1048577 < bytes
-counts_long size bytes (inl e) h = omega (arith, e, h)
-counts_long size bytes (inr k) h = k.1
-
-pub counts_fit : (size bytes : ℕ) → Counts size bytes → size ≤ 1048577 → bytes ≤ 1048577
-counts_fit size bytes (inl e) h = omega (arith, e, h)
-counts_fit size bytes (inr k) h = let over = k.0 in absurd (omega (arith, over, h))
-
 -- what is kept of the k-th record
 pub kept_at : (o : Choice) (path : Path) (held : List Queued) (k : ℕ) (row : Row) (rows : List Row)
     (kept : Queued) → Knows o path (drop k held) (row ∷ rows) → k < length held
@@ -184,21 +176,6 @@ data_row (Spined Interpretation tokens) k = cc
 data_row (Spined Values tokens) k = refl
 
 -- what was heard of a token
-pub passed_is : (o : Choice) (path : Path) (tokens : List (List ℕ)) (kept : Queued) (j : ℕ)
-    (chain : List (List ℕ)) → Known o path (Spined Values tokens) kept
-    → get_or kept.heard.items j Passed ≡ Passed
-    → new_token o (get_or tokens j []) chain ≡ Some (get_or tokens j [])
-passed_is o path tokens kept j chain h e =
-    rw (passed_none o (get_or tokens j []) (sym (h.heard j) ∙ e)) refl
-
-pub shut_is : (o : Choice) (path : Path) (tokens : List (List ℕ)) (kept : Queued) (j : ℕ)
-    (chain : List (List ℕ)) (b e : Bool) → Known o path (Spined Values tokens) kept
-    → get_or kept.heard.items j Passed ≡ Taken b e → b ≡ false
-    → new_token o (get_or tokens j []) chain ≡ Some (codes ".")
-shut_is o path tokens kept j chain b e h w shut =
-    let is = taken_is o (get_or tokens j []) b e (sym (h.heard j) ∙ w) in
-    rw (is.0, is.1, shut) refl
-
 pub open_is : (o : Choice) (path : Path) (tokens : List (List ℕ)) (kept : Queued) (j : ℕ) (b e : Bool)
     → Known o path (Spined Values tokens) kept → get_or kept.heard.items j Passed ≡ Taken b e → b ≡ true
     → (is_collectable o (get_or tokens j []) ≡ true) × (begins o.extent (get_or tokens j []) ≡ true)

@@ -1,13 +1,11 @@
 -- What a poll of a reader is, as a turn of a node.
 use Rattle.std.proofs.Common.{◌≡◌, ◌∙◌, refl, sym, ap, subst, ℕ, ◌+◌, ◌≤◌, ◌<◌}
 use Rattle.std.proofs.Common.{Bool, true, false, ◌||◌, if◌then◌else◌, List, [], ◌∷◌, ◌++◌}
-use Rattle.std.proofs.Common.{length, take, arith, Option, Some, None, Result}
+use Rattle.std.proofs.Common.{length, take, arith, Result}
 use Rattle.std.proofs.Common.{append_assoc, append-nil, length-append, lt-ltb}
 use Rattle.std.proofs.Common.{le-ltb}
 use Rattle.std.specs.Prelude.{is_some}
-use Rattle.std.specs.Io.KnownBytes.{Consumes, IsAtEnd}
 use Rattle.std.proofs.lemmas.Bool.{false≢true, cond-true}
-use Rattle.std.proofs.lemmas.Option.{none-some, same_Some}
 use Rattle.hum_record.specs.Row.{Row}
 use Rattle.hum_text.specs.Reading.{NeedsRead, IsUnread, bytes_read}
 use Rattle.hum_read.specs.declared.ReadError.{ReadError}
@@ -134,22 +132,6 @@ must_read d Needs Unread needs unread not = reads_is d (by (is_reads d) refl)
     by true e = e
     by false e =
         absurd (not (unread (λ n. false≢true (sym e ∙ ap is_reads (needs n)))))
-
--- The bytes that a source tells.
-
-known : (rest bs : List ℕ) (a b : Option (List ℕ)) → a ≡ Some rest → Consumes a b bs
-    → (left : List ℕ) × (b ≡ Some left) × (rest ≡ bs ++ left)
-known rest bs None b e h = absurd (none-some rest e)
-known rest bs (Some xs) None e h = absurd h
-known rest bs (Some xs) (Some ys) e h = (ys, refl, sym (same_Some xs rest e) ∙ h)
-
-none_left : (a : Option (List ℕ)) (left : List ℕ) → a ≡ Some left → IsAtEnd a → left ≡ []
-none_left None left e h = absurd (none-some left e)
-none_left (Some xs) left e h = sym (same_Some xs left e) ∙ h
-
-second_nil : (xs ys : List ℕ) → xs ++ ys ≡ [] → ys ≡ []
-second_nil [] ys h = h
-second_nil (x ∷ xs) ys h = let z = ap length h in absurd (omega (arith, z))
 
 -- What a poll has made of the bytes.
 pub record Moved {R : Type 0} (v w : Scores R)

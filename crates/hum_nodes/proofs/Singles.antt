@@ -19,15 +19,6 @@ use Rattle.hum_nodes.specs.At.{Kind, At, doing_by, doing_of, change_at, MayChang
 use Rattle.hum_nodes.specs.Single.{want_by, own_end, single, IsSingle}
 use Rattle.hum_nodes.proofs.Fining.{fine_is}
 
--- what it stands for, from the stage
-abbrev pub stood : ℕ → Moment → At
-stood from m = record {
-  kind = single from m.meaning;
-  inputs = record { items = m.put; end = m.ended } ∷ [];
-  read = 0;
-  given = m.given;
-}
-
 pub doing_for : State → Doing
 doing_for state.Gives = Gives
 doing_for state.Wants = Wants 0
