@@ -99,19 +99,6 @@ module _ (test : List ℕ → Bool) (other : List ℕ) (fs : List Bool) (ts : Li
       → leftmost test other (chosen (drop (j + 1) fs) (drop (j + 1) ts)) ≡ leftmost test other (chosen (drop j fs) (drop j ts))
   left_passes on out = rw add-one (rw (chosen_at fs ts j [] h e, on) (rw out refl))
 
-  pub left_found : get_or fs j false ≡ true → test (get_or ts j []) ≡ false
-      → leftmost test other (chosen (drop j fs) (drop j ts)) ≡ get_or ts j []
-  left_found on out = rw (chosen_at fs ts j [] h e, on) (rw out refl)
-
-module _ (p : List ℕ → Bool) (fs : List Bool) (ts : List (List ℕ)) (j : ℕ) (h : j < length fs) (e : length fs ≡ length ts) where
-  pub any_skips_token : get_or fs j false ≡ false
-      → list_any p (chosen (drop (j + 1) fs) (drop (j + 1) ts)) ≡ list_any p (chosen (drop j fs) (drop j ts))
-  any_skips_token off = rw add-one (rw (chosen_at fs ts j [] h e, off) refl)
-
-  pub any_fails_token : get_or fs j false ≡ true → p (get_or ts j []) ≡ false
-      → list_any p (chosen (drop (j + 1) fs) (drop (j + 1) ts)) ≡ list_any p (chosen (drop j fs) (drop j ts))
-  any_fails_token on fails = rw add-one (rw (chosen_at fs ts j [] h e, on) (rw fails refl))
-
 chosen_nothing : {X : Type 0} (fs : List Bool) (xs : List X) (j : ℕ) → length fs ≤ j → chosen (drop j fs) (drop j xs) ≡ []
 chosen_nothing fs xs j h = rw (drop_all j fs h) refl
 
@@ -127,18 +114,6 @@ pub none_taken : (text so : List ℕ) (fs : List Bool) (ts : List (List ℕ)) (j
     → so_far text so (taken_from fs ts j) ≡ data_of text (chosen fs ts) → codes "." ≡ data_of text (chosen fs ts)
 none_taken text [] fs ts j h none e = rw (chosen_nothing fs ts j h) at e
 none_taken text (b ∷ bs) fs ts j h none e = cc
-
-pub front_length : (j : ℕ) (fs : List Bool) (ts : List (List ℕ)) → length fs ≡ length ts → length (take j fs) ≡ length (take j ts)
-front_length zero fs ts e = refl
-front_length (suc j) [] [] e = refl
-front_length (suc j) [] (t ∷ ts) e = absurd (omega (arith, e))
-front_length (suc j) (f ∷ fs) [] e = absurd (omega (arith, e))
-front_length (suc j) (f ∷ fs) (t ∷ ts) e = ap suc (front_length j fs ts (omega (arith, e)))
-
-pub front_short : (j : ℕ) (fs : List Bool) → length (take j fs) ≤ j
-front_short zero fs = omega arith
-front_short (suc j) [] = omega arith
-front_short (suc j) (f ∷ fs) = let ih = front_short j fs in omega (arith, ih)
 
 -- what stands to the left of the next place
 pub front_passes : (fs : List Bool) (ts : List (List ℕ)) (j : ℕ) → j < length fs → length fs ≡ length ts → get_or fs j false ≡ false

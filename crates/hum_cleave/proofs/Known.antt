@@ -31,32 +31,6 @@ Puts old new token =
     (k : Bor (List ℕ)) → list_any (λ q. bytes_eq k.now q.now) new
     ≡ cond (bytes_eq token.now k.now) true (list_any (λ q. bytes_eq k.now q.now) old)
 
-pub tells_barline : (old new : List (Bor (List ℕ))) (token : Bor (List ℕ)) (is_new : Bool)
-    → Puts old new token → is_new ≡ not (list_any (λ q. bytes_eq token.now q.now) old)
-    → is_null token.now ≡ false → is_barline token.now ≡ true
-    → Tells (map (λ k. k.now) old) (map (λ k. k.now) new) token.now (not is_new)
-tells_barline old new token is_new puts is filled bar before knows = (
-  answer (list_any (λ q. bytes_eq token.now q.now) old) (any_seen token.now old ∙ knows token.now bar) is,
-  λ t at.
-      let k : Bor (List ℕ) = record { ref_ptr = token.ref_ptr; now = t } in
-      sym (any_seen t new) ∙ puts k ∙ rw (bytes_eq_sym token.now t)
-      (one_more (bytes_eq t token.now) (list_any (λ q. bytes_eq t q.now) old) (list_any (bytes_eq t) before) (any_seen t old ∙ knows t at))
-      ∙ sym (list_any-append (bytes_eq t) before (token.now ∷ [])),
-)
-  where
-    answer : (known : Bool) → known ≡ list_any (bytes_eq token.now) before → is_new ≡ not known
-        → not is_new ≡ is_left_out before token.now
-    answer true h e = rw (filled, bar, e) h
-    answer false h e = rw (filled, bar, e) h
-
--- the first barline
-pub tells_first : (token : List ℕ) → is_null token ≡ false → is_barline token ≡ true
-    → Tells [] (token ∷ []) token false
-tells_first token filled bar before knows = (
-  rw (filled, bar) (knows token bar),
-  λ t at. rw (list_any-append (bytes_eq t) before (token ∷ []), ← knows t at) refl,
-)
-
 again : (same rest : Bool) → (same || rest) ≡ ((same || rest) || (same || false))
 again true rest = refl
 again false rest = sym (or_comm rest false)

@@ -1,6 +1,5 @@
 -- One record more that asks nothing of the spines.
 use Rattle.std.proofs.Common.{◌≡◌, ◌∙◌, ap, refl, ℕ, false, List, ◌∷◌, Option, None, Some}
-use Rattle.std.specs.Prelude.{Result}
 use Rattle.hum_record.specs.declared.SpinedKind.TheVariants.{Local, Interpretation, Values}
 use Rattle.hum_record.specs.Row.{Row, Comment, Spined}
 use Rattle.hum_path.specs.Score.{IsOpen}

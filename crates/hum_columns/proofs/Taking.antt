@@ -77,10 +77,6 @@ module _ {command : ColumnCommand} {m : Memory} {decide : Decision} where
       record { decides = s.decides; spines = s.spines; marks = s.marks ∙ rw (text_opening _ tokens _ score.1) refl }
   follows_still (Spined Interpretation tokens) past s score still = cc
 
--- no path rule is broken
-pub sound_next : (row : Row) (path : Path) (past : List Row) → path ≡ path_after past → IsOpen (row ∷ past) → fault_of path row ≡ None
-sound_next row path past spines score = ap (λ (p : Path). fault_of p row) spines ∙ score.1
-
 -- an interpretation
 module _ (command : ColumnCommand) {m : Memory} {decide : Decision} where
   pub wide_later : (row : Row) (past : List Row) → Follows command m decide past → IsOpen (row ∷ past)

@@ -43,11 +43,6 @@ pub between_ends : (inside : Bool) (fs : List Bool) (ts : List (List ℕ)) (j : 
     → between_from inside (drop j fs) (map sign_of (drop j ts)) ≡ false
 between_ends inside fs ts j h e is exchanges = between_at inside fs ts j h e ∙ rw (is, exchanges) refl
 
-pub between_found : (inside : Bool) (fs : List Bool) (ts : List (List ℕ)) (j : ℕ) → j < length fs → length fs ≡ length ts
-    → inside ≡ true → is_exchange (sign_of (get_or ts j [])) ≡ false → get_or fs j false ≡ true
-    → between_from inside (drop j fs) (map sign_of (drop j ts)) ≡ true
-between_found inside fs ts j h e is exchanges mark = between_at inside fs ts j h e ∙ rw (is, exchanges, mark) refl
-
 pub between_inside : (inside : Bool) (fs : List Bool) (ts : List (List ℕ)) (j : ℕ) → j < length fs → length fs ≡ length ts
     → inside ≡ true → is_exchange (sign_of (get_or ts j [])) ≡ false → get_or fs j false ≡ false
     → between_from (inside || is_exchange (sign_of (get_or ts j []))) (drop (j + 1) fs) (map sign_of (drop (j + 1) ts))

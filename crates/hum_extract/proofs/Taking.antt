@@ -1,7 +1,7 @@
 -- One record more of a score.
 use Rattle.std.proofs.Common.{◌≡◌, ◌≢◌, ◌∙◌, refl, sym, ap, ℕ, suc, ◌+◌, Bool, true, false, not}
 use Rattle.std.proofs.Common.{List, [], ◌∷◌, length, map, None}
-use Rattle.std.specs.Prelude.{Result, Ok}
+use Rattle.std.specs.Prelude.{Ok}
 use Rattle.std.specs.List.{list_all}
 use Rattle.std.proofs.lemmas.Bool.{and_parts}
 use Rattle.hum_record.specs.declared.SpinedKind.TheVariants.{Local, Interpretation, Values}
@@ -14,7 +14,6 @@ use Rattle.hum_path.specs.Spines.{Path, Unopened, Spines, width, after}
 use Rattle.hum_path.specs.Rules.{fault_of}
 use Rattle.hum_path.specs.Score.{IsOpen, path_after}
 use Rattle.hum_path.proofs.Plain.{sound_width, plain_stays}
-use Rattle.hum_stage.specs.declared.faults.Rule.{Rule}
 use Rattle.hum_stage.specs.Decided.{Decision}
 use Rattle.hum_spread.specs.Spread.{touches, filled}
 use Rattle.hum_columns.specs.Chosen.{flags, chosen, is_torn, each_piece}

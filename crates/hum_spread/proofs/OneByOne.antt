@@ -253,15 +253,6 @@ passed_join first front ps i n p h e same begins done =
     ∙ ap first_done (ap (λ (rest : List Piece). behind front rest) (sym (here ps i p h e)) ∙ same)
     ∙ done_behind first ps
 
-pub passed_token : (first front : List (List ℕ)) (ps : List Piece) (i : ℕ) (p : Piece) → i < length ps → p ≡ get_or ps i p
-    → behind front (drop i ps) ≡ behind first ps → p.begins ≡ false
-    → behind (front ++ p.token ∷ []) (drop (i + 1) ps) ≡ behind first ps
-passed_token first front ps i p h e same begins =
-    behind_push front p.token (drop (i + 1) ps)
-    ∙ ap (λ (b : Bool). behind front (piece b p.token ∷ drop (i + 1) ps)) (sym begins)
-    ∙ ap (λ (rest : List Piece). behind front rest) (sym (here ps i p h e))
-    ∙ same
-
 pub passed_all : (first front : List (List ℕ)) (ps : List Piece) (i : ℕ) → length ps ≤ i
     → behind front (drop i ps) ≡ behind first ps → behind front (drop (length ps) ps) ≡ behind first (first_done ps)
 passed_all first front ps i h same =
