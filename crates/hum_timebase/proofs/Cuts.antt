@@ -1,10 +1,9 @@
 -- Subtokens, one after another.
-use Rattle.std.proofs.Common.{◌≡◌, ℕ, List, [], ◌∷◌, take, drop, Option, None, Some, Bool, true, false, refl, ap, add-one}
+use Rattle.std.proofs.Common.{◌≡◌, ℕ, List, [], ◌∷◌, take, drop, Bool, true, false, refl, ap, add-one}
 use Rattle.std.specs.Prelude.{◌==◌}
 use Rattle.std.specs.List.{onto_first}
-use Rattle.hum_frac.specs.Ratio.{Ratio}
 use Rattle.hum_kern.specs.Runs.{run}
-use Rattle.hum_timebase.specs.Notes.{subtokens, or_else}
+use Rattle.hum_timebase.specs.Notes.{subtokens}
 use Rattle.hum_timebase.specs.Reading.{is_part, rest_parts}
 
 cut_in : (b : ℕ) (bytes : List ℕ) (space : Bool) → (b == 32) ≡ space
@@ -16,7 +15,3 @@ cut_in b bytes false e h = rw (e, add-one) (ap (onto_first b) h)
 pub cut-first : (bytes : List ℕ) → subtokens bytes ≡ take (run is_part bytes) bytes ∷ rest_parts (drop (run is_part bytes) bytes)
 cut-first [] = refl
 cut-first (b ∷ bytes) = cut_in b bytes (b == 32) refl (cut-first bytes)
-
-pub or_else_assoc : (a b c : Option Ratio) → or_else (or_else a b) c ≡ or_else a (or_else b c)
-or_else_assoc None b c = refl
-or_else_assoc (Some a) b c = refl

@@ -1,18 +1,8 @@
 -- Two lists, side by side.
-use Rattle.std.proofs.Common.{◌≡◌, ◌∙◌, ℕ, zero, suc, ◌+◌, ◌<◌, ◌≤◌, min, List, [], ◌∷◌, ◌++◌, length, take, drop, get_or, refl, sym, ap, arith, add-one}
+use Rattle.std.proofs.Common.{◌≡◌, ◌∙◌, ℕ, zero, suc, ◌+◌, ◌<◌, ◌≤◌, List, [], ◌∷◌, ◌++◌, length, take, drop, get_or, refl, sym, ap, arith, add-one}
 use Rattle.std.specs.Prelude.{slice_set}
 use Rattle.std.proofs.lemmas.List.{drop_all}
-use Rattle.hum_timebase.specs.Pairs.{paired, over}
-
--- nothing is left of the shorter list
-pub paired-end : {A B C : Type 0} (f : A → B → C) (n : ℕ) (xs : List A) (ys : List B)
-    → n ≡ min (length xs) (length ys) → paired f (drop n xs) (drop n ys) ≡ []
-paired-end f zero [] ys h = refl
-paired-end f zero (x ∷ xs) [] h = refl
-paired-end f zero (x ∷ xs) (y ∷ ys) h = absurd (omega arith)
-paired-end f (suc n) [] ys h = absurd (omega arith)
-paired-end f (suc n) (x ∷ xs) [] h = absurd (omega arith)
-paired-end f (suc n) (x ∷ xs) (y ∷ ys) h = paired-end f n xs ys (omega arith)
+use Rattle.hum_timebase.specs.Pairs.{over}
 
 pub over_none : {A B : Type 0} (f : A → B → B) (xs : List A) → over f xs [] ≡ []
 over_none f [] = refl

@@ -8,15 +8,9 @@ use Rattle.hum_frac.specs.Ratio.{Ratio}
 use Rattle.hum_path.specs.declared.moved.Move.{Move}
 use Rattle.hum_path.specs.declared.moved.Move.TheVariants.{Same, Left, Right, Join as Joined, Added}
 use Rattle.hum_path.specs.Chains.{goes_on}
-use Rattle.hum_timebase.specs.Ends.{later, sooner, beyond, next_end}
+use Rattle.hum_timebase.specs.Ends.{later}
 use Rattle.hum_timebase.specs.Kept.{end_by}
 use Rattle.hum_timebase.specs.Spans.{low_of, high_of}
-
-pub next-drop : (time : Ratio) (ends : List (Option Ratio)) (i : ℕ) → i < length ends →
-    next_end time (drop i ends) ≡ sooner (beyond time (get_or ends i None)) (next_end time (drop (i + 1) ends))
-next-drop time ends i h = ap (next_end time) (drop-cons ends i None h)
-    ∙ ap (λ (k : ℕ). sooner (beyond time (get_or ends i None)) (next_end time (drop k ends))) {x = suc i}
-    {y = i + 1} (omega arith)
 
 goes_within : (j : ℕ) (move : Move) → low_of move ≤ j → j < high_of move → goes_on j move ≡ true
 goes_within j (Same i) p q = grind (arith, nat_tests)

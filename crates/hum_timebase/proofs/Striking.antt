@@ -3,7 +3,6 @@ use Rattle.std.proofs.Common.{◌≡◌, ◌∙◌, ℕ, ◌+◌, ◌<◌, List,
 use Rattle.std.proofs.Common.{replicate, refl, sym, ap, arith, length-append, min, Bool, true, false}
 use Rattle.std.proofs.Common.{Option, None, Some, Result, Ok, Err}
 use Rattle.std.specs.Prelude.{not, is_some, if◌then◌else◌}
-use Rattle.std.specs.Option.{option_to_list}
 use Rattle.std.specs.List.{list_any}
 use Rattle.std.proofs.lemmas.List.{length-replicate}
 use Rattle.hum_record.specs.declared.Kind.TheVariants.{Global, Local as AnyLocal, Values as AnyValues, Interpretation as AnyInterpretation}
@@ -57,10 +56,6 @@ place_rows before after stays (Comment text) null k is = absurd (comment_no_data
 place_rows before after stays (Spined Local tokens) null k is = absurd cc
 place_rows before after stays (Spined Interpretation tokens) null k is = absurd cc
 place_rows before after stays (Spined Values tokens) null k is = placed before after stays tokens null is
-
-pub single_length : (stays : Bool) (row : Row) → length (option_to_list (if stays then Some row else None)) ≡ (if stays then 1 else 0)
-single_length true row = refl
-single_length false row = refl
 
 pub around_length : (before after : ℕ) (stays : Bool) (tokens : List (List ℕ)) →
     length (around before stays after tokens) ≡ before + (if stays then 1 else 0) + after
@@ -143,12 +138,6 @@ struck_none notes kept none = rw none refl
 
 module _ (pace : Pace) (path : Path) (timed : List Bool) (kept : Kept) (decide : Decision) (past : List Row)
     (h : Follows pace path timed kept decide past) where
-  pub goes_comment : (row : Row) → kind_of row ≡ Global → (decide past row ≡ Ok (row ∷ [])) × Follows pace path timed kept decide (row ∷ past)
-  goes_comment (Comment text) k = (rw h.command refl, record { command = h.command; spines = h.spines; columns = h.columns; clock = h.clock })
-  goes_comment (Spined Local tokens) k = absurd cc
-  goes_comment (Spined Interpretation tokens) k = absurd cc
-  goes_comment (Spined Values tokens) k = absurd cc
-
   pub goes_local : (row : Row) (kept' : Kept) → kind_of row ≡ AnyLocal → kept' ≡ rested timed kept
       → (decide past row ≡ Ok (row ∷ [])) × Follows pace path timed kept' decide (row ∷ past)
   goes_local (Comment text) kept' k is = absurd cc
