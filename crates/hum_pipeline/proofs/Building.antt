@@ -1,7 +1,6 @@
 -- Nodes, one after another.
-use Rattle.std.proofs.Common.{◌≡◌, ◌∙◌, refl, sym, ap, subst, ℕ, suc, ◌+◌, ◌≤◌, Bool, true, false, List, [], ◌∷◌, ◌++◌, length, arith}
-use Rattle.std.proofs.Common.{append_assoc, length-append}
-use Rattle.std.proofs.lemmas.List.{append-nil}
+use Rattle.std.proofs.Common.{◌≡◌, ◌∙◌, refl, sym, subst, ℕ, suc, ◌+◌, true, List, [], ◌∷◌, ◌++◌, length, arith}
+use Rattle.std.proofs.Common.{length-append}
 use Rattle.hum_plan.specs.declared.stages.PlanStage.{PlanStage}
 use Rattle.hum_pipeline.specs.Nodes.{AllFrom, AreNarrow, HasAdded, reads_of}
 
@@ -38,33 +37,6 @@ pub record Built (made : List PlanStage → Type 0)
   pub told : (bytes : ℕ → List ℕ) → old bytes [] → now bytes front
   pub readers : reads_of rest ≡ left
   pub narrow : AreNarrow rest
-
-narrow_rest : (old new : List PlanStage) (stage : PlanStage) → old ≡ stage ∷ new → AreNarrow old → AreNarrow new
-narrow_rest old new stage e h = (subst AreNarrow e h).1
-
-pub built_more : (made_old made : List PlanStage → Type 0)
-    (first told_old told : (ℕ → List ℕ) → List PlanStage → Type 0) (left_old left : ℕ) (all old new : List PlanStage)
-    → Built made_old first told_old left_old all old → HasAdded made_old made told_old told old new true
-    → reads_of new ≡ left → Built made first told left all new
-built_more made_old made first told_old told left_old left all old new b h readers = record {
-  front = b.front ++ h.0 ∷ [];
-  split = b.split ∙ ap (λ (x : List PlanStage). b.front ++ x) h.1 ∙ sym (append_assoc b.front (h.0 ∷ []) new);
-  made_front = h.2 b.front b.made_front;
-  told = λ bytes t. h.3 bytes b.front b.made_front (b.told bytes t);
-  readers = readers;
-  narrow = narrow_rest old new h.0 h.1 b.narrow;
-}
-
--- where none is left, all were made
-pub built_all : (made_old made : List PlanStage → Type 0)
-    (first told_old told : (ℕ → List ℕ) → List PlanStage → Type 0) (left_old : ℕ) (all old new : List PlanStage)
-    → Built made_old first told_old left_old all old → HasAdded made_old made told_old told old new false
-    → made all × ((bytes : ℕ → List ℕ) → first bytes [] → told bytes all)
-built_all made_old made first told_old told left_old all old new b h =
-    let whole : b.front ≡ all = sym (append-nil b.front) ∙ ap (λ (x : List PlanStage). b.front ++ x) (sym h.0) ∙ sym b.split in (
-      subst made whole (h.2 b.front b.made_front),
-      λ bytes t. subst (told bytes) whole (h.3 bytes b.front (b.told bytes t)),
-    )
 
 -- a node more is made, of the stage that is next
 pub added : {N : Type 0} (Holds : ℕ → PlanStage → N → Type 0) (Tell : (ℕ → List ℕ) → ℕ → PlanStage → N → Type 0)

@@ -1,7 +1,7 @@
 -- Readers for a plan's stages, one after another.
-use Rattle.std.proofs.Common.{◌≡◌, ◌∙◌, refl, sym, ap, subst, ℕ, zero, suc, ◌+◌, ◌<◌, ◌≤◌, Bool, true, false, arith}
-use Rattle.std.proofs.Common.{List, [], ◌∷◌, ◌++◌, length, drop, append_assoc, append-nil, add_assoc}
-use Rattle.std.specs.Prelude.{Option, Some, None, slice_get, is_none, if◌then◌else◌, string_bytes}
+use Rattle.std.proofs.Common.{◌≡◌, ◌∙◌, refl, sym, ap, subst, ℕ, zero, suc, ◌+◌, ◌≤◌, Bool, true, false, arith}
+use Rattle.std.proofs.Common.{List, [], ◌∷◌, ◌++◌, length, drop, append_assoc, append-nil}
+use Rattle.std.specs.Prelude.{Option, Some, None, slice_get, is_none, if◌then◌else◌}
 use Rattle.std.proofs.Common.{Bor}
 use Rattle.std.proofs.lemmas.Option.{same_Some}
 use Rattle.hum_text.specs.Calls.{Calls}
@@ -9,13 +9,13 @@ use Rattle.std.proofs.lemmas.List.{drop_all, length-append}
 use Rattle.hum_plan.specs.declared.stages.Options.{Options}
 use Rattle.hum_plan.specs.declared.stages.Options.TheVariants as told
 use Rattle.hum_plan.specs.declared.stages.PlanStage.{PlanStage}
-use Rattle.hum_plan.specs.Seen.{stages_of, stage_of, options_of}
+use Rattle.hum_plan.specs.Seen.{stages_of, options_of}
 use Rattle.hum_pipeline.specs.Nodes.{reads_by, reads_of, ToldBy, AreTold}
 use Rattle.hum_pipeline.specs.declared.outcome.Outcome.{Outcome}
 use Rattle.hum_pipeline.specs.declared.outcome.Outcome.TheVariants as outcome
-use Rattle.hum_pipeline.specs.Bundles.{score_by, bytes_by, or_empty, first_lacking, AddsReader, Adds, LacksHere}
-use Rattle.hum_pipeline.specs.Bundles.{LacksNow, IsRefusal, Comes, ComesOfBundle, MayLackMemory, HasRunPlan}
-use Rattle.hum_pipeline.specs.Bundles.{LacksScore, is_failed_write}
+use Rattle.hum_pipeline.specs.Bundles.{score_by, bytes_by, or_empty, first_lacking, Adds, LacksHere}
+use Rattle.hum_pipeline.specs.Bundles.{LacksNow, IsRefusal, Comes, ComesOfBundle}
+use Rattle.hum_pipeline.specs.Bundles.{is_failed_write}
 use Rattle.hum_net.specs.Readers.{is_write}
 use Rattle.std.specs.Prelude.{◌||◌}
 use Rattle.std.proofs.Math.Bool.{or-false}
@@ -23,7 +23,7 @@ use Rattle.hum_plan.specs.Stages.{Stage}
 use Rattle.hum_plan.specs.Grammar.{IsPlanOf}
 use Rattle.hum_turns.specs.declared.result.RunResult.{RunResult}
 use Rattle.hum_pipeline.specs.Runs.{HasWritten}
-use Rattle.std.proofs.Common.{inl, inr}
+use Rattle.std.proofs.Common.{inl}
 
 -- What is left of some stages from stage k on.
 pub rest_of : (stages : List PlanStage) (k : ℕ) (stage : PlanStage) → Some stage ≡ slice_get stages k → drop k stages ≡ stage ∷ drop (suc k) stages
@@ -152,24 +152,7 @@ filled_next remaining score stages k stage old new filled here adds =
     let next : suc k ≡ k + 1 = omega arith in
     subst (λ n. Filled remaining score stages n new) next (filled_more remaining score stages k stage old new filled here adds)
 
--- What a text that is refused comes to.
-pub refusal_comes : (text : List ℕ) (score : List ℕ → Option (List ℕ)) (old : Option (List ℕ)) (flushed : Bool)
-    (outcome : Outcome) → IsRefusal text outcome → Comes text score old old flushed outcome
-refusal_comes text score old flushed (outcome.Run end) h = inr (subst (MayLackMemory old old) (sym h) refl)
-refusal_comes text score old flushed (outcome.Plan fault) h = h
-refusal_comes text score old flushed (outcome.NoScore number) h = absurd h
-refusal_comes text score old flushed outcome.TooLarge h = absurd h
-
--- What a plan that lacks a score comes to.
-pub lack_comes : (text : List ℕ) (score : List ℕ → Option (List ℕ)) (old : Option (List ℕ)) (flushed : Bool)
-    (stages : List Stage) → IsPlanOf text stages → (outcome : Outcome) → LacksNow score stages outcome →
-    Comes text score old old flushed outcome
-lack_comes text score old flushed stages plan (outcome.Run end) h = inr (subst (MayLackMemory old old) (sym h) refl)
-lack_comes text score old flushed stages plan (outcome.Plan fault) h = absurd h
-lack_comes text score old flushed stages plan (outcome.NoScore number) h = record { stages = stages; plan = plan; first = h }
-lack_comes text score old flushed stages plan outcome.TooLarge h = absurd h
-
--- the same for a bundle that isn't too large
+-- What a text comes to, a bundle of it that isn't too large comes to.
 pub bundle_comes : (too_large : Bool) (text : List ℕ) (score : List ℕ → Option (List ℕ))
     (old new : Option (List ℕ)) (flushed : Bool) (outcome : Outcome) → too_large ≡ false →
     Comes text score old new flushed outcome → ComesOfBundle too_large text score old new flushed outcome

@@ -1,6 +1,5 @@
 -- A command means what its options mean in the plan's text.
-use Rattle.std.proofs.Common.{◌≡◌, refl, sym, ap, subst, ℕ, Bool, false, List}
-use Rattle.std.specs.Prelude.{Option}
+use Rattle.std.proofs.Common.{◌≡◌, refl, ap, subst, ℕ, false}
 use Rattle.hum_stage.specs.Meaning.{Meaning, IsLawful, KeepsScore}
 use Rattle.hum_stage.specs.Look.{looking}
 use Rattle.hum_stage.specs.declared.faults.Command.TheVariants as name
@@ -10,7 +9,6 @@ use Rattle.hum_context.specs.Context.{Extent, context}
 use Rattle.hum_context.specs.Options as context
 use Rattle.hum_yank.specs.declared.options.Markers.{Markers}
 use Rattle.hum_yank.specs.declared.options.Markers.TheVariants as markers
-use Rattle.hum_yank.specs.declared.options.YankRange.{YankRange}
 use Rattle.hum_yank.specs.Passages.{Form}
 use Rattle.hum_yank.specs.Yank.{yank}
 use Rattle.hum_yank.specs.Options as yank

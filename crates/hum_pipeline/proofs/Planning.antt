@@ -1,20 +1,18 @@
 -- The stages of a plan are what a net asks for.
-use Rattle.std.proofs.Common.{◌≡◌, refl, sym, ap, subst, ℕ, zero, suc, pred, ◌+◌, ◌<◌, ◌≤◌, List, [], ◌∷◌}
-use Rattle.std.proofs.Common.{◌++◌, length, map, arith}
+use Rattle.std.proofs.Common.{◌≡◌, refl, ℕ, ◌+◌, ◌<◌, ◌≤◌, List, [], ◌∷◌}
+use Rattle.std.proofs.Common.{length, arith}
 use Rattle.std.proofs.lemmas.List.{append-nil}
-use Rattle.std.specs.Prelude.{Option, Some, None, slice_get}
 use Rattle.hum_record.specs.Row.{Row}
-use Rattle.hum_stage.specs.Meaning.{Meaning, output}
 use Rattle.hum_turns.specs.Flow.{Flow, so_far, AllFine}
-use Rattle.hum_turns.specs.Plan.{Stage, KeepsFine, AreInputs}
-use Rattle.hum_nodes.specs.At.{Kind, IsLimited}
+use Rattle.hum_turns.specs.Plan.{Stage, KeepsFine}
+use Rattle.hum_nodes.specs.At.{IsLimited}
 use Rattle.hum_nodes.specs.Fine.{fine}
 use Rattle.hum_nodes.specs.Single.{items_of}
 use Rattle.hum_nodes.proofs.Fining.{fine_is}
 use Rattle.hum_nodes.proofs.MergingLaws as merging
 use Rattle.hum_nodes.proofs.ReadingLaws as reading
 use Rattle.hum_net.specs.Scene.{IsNetPlan, IsTreeBy}
-use Rattle.hum_trees.specs.Trees.{Part, Reads, Through, Beside, kind_of, kind_at, part_at, sources_of, IsPart, IsReadAt, IsTree}
+use Rattle.hum_trees.specs.Trees.{Part, Reads, Through, Beside, kind_of, kind_at, part_at, sources_of, IsPart, IsTree}
 use Rattle.hum_trees.proofs.Planning.{is_plan}
 use Rattle.hum_plan.specs.Stages as plan
 use Rattle.hum_pipeline.specs.Parts.{parts_of, AreSoundFrom}

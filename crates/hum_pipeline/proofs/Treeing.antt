@@ -1,7 +1,7 @@
 -- The stages of a plan are a tree of parts.
-use Rattle.std.proofs.Common.{◌≡◌, refl, sym, ap, subst, ℕ, zero, suc, pred, ◌+◌, ◌<◌, ◌≤◌, Bool, true, false}
-use Rattle.std.proofs.Common.{List, [], ◌∷◌, ◌++◌, length, map, arith, cond, ◌⊎◌, inl, inr}
-use Rattle.std.specs.Prelude.{◌==◌, Option, Some, None, slice_get, count_by, option_map}
+use Rattle.std.proofs.Common.{◌≡◌, refl, ap, subst, ℕ, zero, suc, pred, ◌+◌, ◌<◌, ◌≤◌, Bool, true, false}
+use Rattle.std.proofs.Common.{List, [], ◌∷◌, ◌++◌, length, map, arith, cond}
+use Rattle.std.specs.Prelude.{◌==◌, Some, slice_get, option_map}
 use Rattle.std.specs.List.{AllByRecursion}
 use Rattle.std.proofs.lemmas.Option.{slice_get-map}
 use Rattle.std.proofs.lemmas.Bool.Decides.{nat_tests}
@@ -16,7 +16,7 @@ use Rattle.hum_plan.specs.Stages.{Stage, Options, Read, Assemble, Takes, MayHave
 use Rattle.hum_plan.specs.Stages.{all_sources, times}
 use Rattle.hum_plan.specs.Stages as plan
 use Rattle.hum_plan.specs.Seen.{stages_of, stage_of, options_of}
-use Rattle.hum_trees.specs.Trees.{Part, part_at, kind_of, kind_at, sources_of, IsPart, IsRead, IsReadAt, IsTree}
+use Rattle.hum_trees.specs.Trees.{part_at, kind_of, kind_at, sources_of, IsPart, IsRead, IsReadAt, IsTree}
 use Rattle.hum_pipeline.specs.Nodes.{AreNarrow}
 use Rattle.hum_pipeline.specs.Commands.{means}
 use Rattle.hum_pipeline.specs.Parts.{part_by, part_of, parts_from, parts_of, first_of, IsSoundBy, AreSoundFrom, AllGiveScores}
@@ -162,12 +162,6 @@ within : {A : Type 0} (xs : List A) (k : ℕ) (x : A) → slice_get xs k ≡ Som
 within [] k x e = cc
 within (y ∷ xs) zero x e = omega arith
 within (y ∷ xs) (suc k) x e = let ih = within xs k x e in omega arith
-
-all_at : {A : Type 0} (P : A → Type 0) (xs : List A) (k : ℕ) (x : A) → AllByRecursion P xs
-    → slice_get xs k ≡ Some x → P x
-all_at P [] k x h e = cc
-all_at P (y ∷ xs) zero x h e = let same : y ≡ x = cc in subst P same h.0
-all_at P (y ∷ xs) (suc k) x h e = all_at P xs k x h.1 e
 
 -- Parts of stages.
 

@@ -1,4 +1,4 @@
-use Rattle.std.proofs.Common.{◌≡◌, ℕ, List, None, sym, subst, inl, inr}
+use Rattle.std.proofs.Common.{◌≡◌, ℕ, List, None, sym, subst, inl}
 use Rattle.hum_bundle.specs.Parts.{score_of}
 use Rattle.hum_plan.specs.declared.stages.PlanStage.{PlanStage}
 use Rattle.hum_plan.specs.Seen.{stages_of}

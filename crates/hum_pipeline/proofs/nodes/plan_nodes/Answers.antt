@@ -1,6 +1,3 @@
-use Rattle.std.proofs.Common.{◌≡◌, subst, List}
-use Rattle.hum_plan.specs.declared.stages.PlanStage.{PlanStage}
-use Rattle.hum_pipeline.specs.Nodes.{AllFrom}
 use Rattle.hum_pipeline.proofs.nodes.plan_nodes.Goals as goal
 
 pub returns-in-Ok-clause-told : goal.returns-in-Ok-clause-told

@@ -1,4 +1,4 @@
-use Rattle.std.proofs.Common.{◌∙◌, ap, sym, Some, length, arith, ◌+◌}
+use Rattle.std.proofs.Common.{◌∙◌, ap, sym, Some, arith, ◌+◌}
 use Rattle.std.proofs.lemmas.Option.{slice_get-get_or}
 use Rattle.hum_pipeline.proofs.Bundling.{counted_next, counted_all}
 use Rattle.hum_pipeline.proofs.running.reads.Goals as goal

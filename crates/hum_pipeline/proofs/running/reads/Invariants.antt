@@ -1,4 +1,4 @@
-use Rattle.std.proofs.Common.{◌≡◌, ◌+◌, ◌≤◌, length, drop}
+use Rattle.std.proofs.Common.{◌≡◌, ◌+◌, ◌≤◌, drop}
 use Rattle.hum_pipeline.specs.Nodes.{reads_of}
 use Rattle.hum_pipeline.proofs.running.reads.Given as goal
 

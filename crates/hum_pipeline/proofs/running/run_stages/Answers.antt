@@ -1,4 +1,4 @@
-use Rattle.std.proofs.Common.{◌≡◌, ◌<◌, sym, subst, ℕ, List, arith}
+use Rattle.std.proofs.Common.{◌<◌, arith}
 use Rattle.hum_pipeline.proofs.Going.{scene_of, first_now, is_first, all_tell, all_begun, net_at}
 use Rattle.hum_pipeline.proofs.Going.{has_written, is_valid, nothing_written, nothing_picked, lawful_tree, few_nodes}
 use Rattle.hum_plan.specs.Seen.{stages_of}

@@ -1,4 +1,4 @@
-use Rattle.std.proofs.Common.{◌≡◌, ◌∙◌, sym, ap, ◌∷◌, ◌++◌, [], length, arith}
+use Rattle.std.proofs.Common.{◌∙◌, sym, ap, ◌∷◌, ◌++◌, [], length, arith}
 use Rattle.hum_pipeline.specs.Nodes.{AreTold}
 use Rattle.hum_pipeline.proofs.Building.{added, all_length}
 use Rattle.hum_pipeline.proofs.nodes.BuilderBuilds.add.Goals as goal
