@@ -12,9 +12,9 @@
 # has changed. What the prover says of each function is in crates/humpipe/out/log. The laws and the crates of tests, which
 # the program doesn't need, are proved by make test.
 #
-# The build works on JOBS crates at once, twice as many as there are processors: some wait for those that they stand on.
-# The gate makes LANES checks at once, one to a processor. Both stay within the memory, in kilobytes: 2 GB a crate that
-# is worked on or waits, 4 GB a check.
+# Where the build works on crates side by side it works on JOBS, twice as many as there are processors: some wait for those
+# that they stand on. The gate makes LANES checks at once, one to a processor. Both stay within the memory, in kilobytes:
+# 2 GB a crate that is worked on or waits, 4 GB a check.
 
 PREFIX ?= /usr/local
 memory = $(shell awk '$$1 == "MemAvailable:" { print $$2 }' /proc/meminfo)
@@ -33,16 +33,19 @@ files = $(shell find crates -name out -prune -o -name must-fail -prune -o -type 
 
 all: humpipe
 
-# Reads the log as it grows: tells each crate that is proved, and ends with the status that the last line bears.
-# All lines of a crate stand behind its name, and there are none where it was proved before.
+# Reads the log as it grows: tells each crate that is proved, once, and ends with the status that the last line bears.
+# Behind the name of a crate that was proved before there are no lines.
 define progress
-proved=0; last=; \
-tell() { proved=$$((proved + 1)); echo "$$proved of $(crates) crates proved: $$1"; }; \
+proved=0; told=' '; last=; \
+tell() { \
+	case "$$told" in *" $$1 "*) return ;; esac; \
+	told="$$told$$1 "; proved=$$((proved + 1)); echo "$$proved of $(crates) crates proved: $$1"; \
+}; \
 while IFS= read -r line; do \
 	case "$$last|$$line" in '== '*'|== '*) tell "$${last#== }" ;; esac; \
 	case "$$line" in \
 	'== ended '*) exit "$${line##* }" ;; \
-	'== '*) crate=$${line#== } ;; \
+	'crate '*) crate=$${line#crate }; crate=$${crate%%:*} ;; \
 	logic=proved*) tell "$$crate" ;; \
 	'rt: waiting '*) echo "$$line" ;; \
 	esac; \
@@ -58,9 +61,18 @@ grep -v '^== \|^statements \|^library \|^logic\|^crate \|^checked \|^axioms \|^s
 echo "not built: the whole log is $(log)"
 endef
 
+# A crate that all others wait for is proved by itself, with as many processors as it can use; those of the commands, and
+# those of the net, are proved side by side.
+define prove
+alone() { for crate; do echo "== $$crate"; (cd crates/$$crate && rt lib) || return; done; }; \
+together() { (cd crates/$$1 && rt all check --jobs $(JOBS)); }; \
+alone hum_record hum_path hum_stage && together hum_commands && together hum_trees && \
+alone hum_words hum_values hum_options hum_plan hum_bundle hum_pipeline hum_line && together humpipe
+endef
+
 humpipe: crates.txt $(files)
 	@mkdir -p $(dir $(log))
-	@{ (cd crates/humpipe && rt all check --jobs $(JOBS)) 2>&1; echo "== ended $$?"; } | tee $(log) | { $(progress); } || { $(failure); exit 1; }
+	@{ $(prove); echo "== ended $$?"; } 2>&1 | tee $(log) | { $(progress); } || { $(failure); exit 1; }
 	@cd crates/humpipe && rt run <stdin >out/run.log 2>&1 || { cat out/run.log; exit 1; }
 	@cp -f crates/humpipe/out/humpipe humpipe
 

@@ -1,6 +1,6 @@
 -- The frame goes on from record to record.
 use Rattle.std.proofs.Common.{◌≡◌, ◌∙◌, refl, sym, ap, ℕ, true, false, List, [], ◌∷◌, map}
-use Rattle.std.specs.Prelude.{None, Result}
+use Rattle.std.specs.Prelude.{None}
 use Rattle.std.specs.List.{list_all, find}
 use Rattle.std.proofs.lemmas.Bool.{and_parts, not-false, false≢true}
 use Rattle.hum_record.specs.declared.SpinedKind.TheVariants.{Local, Interpretation, Values}

@@ -34,6 +34,7 @@ pub struct Cells<T> {
 }
 
 /// Marks the spines that are under `**kern`.
+#[inline(never)]
 fn mark_kern(paths: &Paths, kern: &mut Vec<bool>) -> Result<(), AllocError>
     ensures { OnOk result (kern.new.items ≡ map is_kern (exclusives paths.now.path)) }
 {
@@ -46,6 +47,7 @@ fn mark_kern(paths: &Paths, kern: &mut Vec<bool>) -> Result<(), AllocError>
 
 /// Marks the spines after a record that are under `**kern`: anew only where it asks something of
 /// the spines.
+#[inline]
 fn mark_after(row: &Record, paths: &Paths, kern: &mut Vec<bool>) -> Result<(), AllocError>
     ensures { OnOk result ((past : List Row) → kern.old.items ≡ kern_columns past
         → paths.now.path ≡ path_after (row.now ∷ past) → IsOpen (row.now ∷ past)

@@ -12,7 +12,8 @@ ghost use Rattle.hum_cleave.specs.Cleave.{is_name, opened, cleave, column_comman
 use crate::merging::merge;
 use crate::options::CleaveOptions;
 use crate::records::{Buffers, give, give_text, opening_record};
-use hum_columns::{ChosenColumns, Marks};
+use hum_columns::ChosenColumns;
+use hum_path::Marks;
 use hum_record::{Kind, Record};
 use hum_stage::{Command, Decides, Rule};
 use std::alloc::{AllocError, Global};

@@ -12,7 +12,7 @@ ghost use Rattle.hum_cleave.specs.Cleave.{fits_in_token, is_name, one_record, te
 ghost use Rattle.hum_record.specs.Making.{IsMade};
 
 use crate::tokens::{gather, leftmost_comment};
-use hum_columns::Marks;
+use hum_path::Marks;
 use hum_record::{Kind, Making, Record, Spare, SpinedKind};
 use hum_stage::Rule;
 use std::alloc::{AllocError, Global};

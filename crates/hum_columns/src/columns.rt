@@ -6,8 +6,8 @@ ghost use Rattle.hum_path.specs.Rules.{fault_of, is_closed};
 ghost use Rattle.hum_path.specs.Step.{ComeFrom};
 ghost use Rattle.hum_columns.specs.Following.{memory, passed};
 
-use crate::marks::Marks;
-use hum_path::Paths;
+use crate::marks::moved;
+use hum_path::{Marks, Paths};
 use hum_record::Record;
 use std::alloc::{AllocError, Global};
 use std::marker::Model;
@@ -75,7 +75,7 @@ impl ChosenColumns {
         ensures sources { OnOk result (ComeFrom row.now (moves self.old.path row.now)) }
     {
         let found = self.paths.follow(row)?;
-        self.marks = self.marks.moved(alloc, &found)?;
+        self.marks = moved(alloc, &self.marks, &found)?;
         Ok(())
     }
 }

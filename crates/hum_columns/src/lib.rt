@@ -20,7 +20,6 @@ pub use columns::ChosenColumns;
 use hum_record::Record;
 use hum_spread::{Piece, spread};
 use hum_stage::Rule;
-pub use marks::Marks;
 use std::alloc::{AllocError, Global};
 use std::collections::VecDeque;
 pub use torn::is_torn;

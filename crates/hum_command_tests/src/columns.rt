@@ -1,7 +1,7 @@
 //! Chosen columns of a small score, followed by hand.
 use crate::scores::record_of;
-use hum_columns::{ChosenColumns, Marks, is_torn, write_pieces};
-use hum_path::Paths;
+use hum_columns::{ChosenColumns, is_torn, write_pieces};
+use hum_path::{Marks, Paths};
 use hum_record::Record;
 use hum_spread::Piece;
 use hum_stage::Rule;

@@ -8,7 +8,7 @@ ghost use Rattle.std.specs.Str.{bytes_eq};
 ghost use Rattle.hum_path.specs.Spines.{texts};
 ghost use Rattle.hum_extract.specs.Written.{field_of, range_of, choice_of};
 
-use hum_columns::Marks;
+use hum_path::Marks;
 use hum_record::Record;
 use std::alloc::{AllocError, Global};
 

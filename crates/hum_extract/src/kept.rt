@@ -8,7 +8,7 @@ ghost use Rattle.hum_columns.specs.Chosen.{chosen};
 ghost use Rattle.hum_columns.specs.Following.{AsWide};
 ghost use Rattle.hum_extract.specs.Kept.{IsSpined, kept};
 
-use hum_columns::Marks;
+use hum_path::Marks;
 use hum_record::{Kind, Record, RecordBuilder, Spare, SpinedKind};
 use hum_spread::push_fitting;
 use std::alloc::{AllocError, Global};

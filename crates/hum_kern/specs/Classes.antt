@@ -14,6 +14,10 @@ is_dot b = b == 46
 abbrev pub is_grace_sign : ℕ → Bool
 is_grace_sign b = b == 113 || b == 81
 
+-- what makes a token more than one plain subtoken: a space, or the sign of a grace note
+abbrev pub is_divider : ℕ → Bool
+is_divider b = b == 32 || is_grace_sign b
+
 -- r, the sign of a rest
 abbrev pub is_rest_sign : ℕ → Bool
 is_rest_sign b = b == 114

@@ -1,7 +1,7 @@
 -- A record that asks nothing of the spines leaves them as they are, and is refused as a text is.
 use Rattle.std.proofs.Common.{◌≡◌, ◌≢◌, ◌∙◌, refl, sym, ap, ℕ, ◌+◌, ◌≤◌, ◌<◌, nat_lt, Bool, not}
 use Rattle.std.proofs.Common.{true, false, ◌&&◌, ◌==◌, List, [], ◌∷◌, length, map, None}
-use Rattle.std.proofs.Common.{Some, inl, inr, arith, subst}
+use Rattle.std.proofs.Common.{Some, Ok, inl, inr, arith, subst}
 use Rattle.std.specs.List.{list_any, list_all, find}
 use Rattle.std.specs.Str.{bytes_eq}
 use Rattle.std.proofs.lemmas.Bool.{cases_Bool, and_parts, or_from, not-false}
@@ -12,6 +12,7 @@ use lib.Chars.{codes}
 use Rattle.std.specs.declared.vec.Vec.{Vec}
 use Rattle.std.specs.declared.alloc.Global.{Global}
 use Rattle.hum_record.specs.declared.Kind.TheVariants.{Global as AnyGlobal, Values as AnyValues}
+use Rattle.hum_record.specs.declared.Kind.TheVariants.{Interpretation as AnyInterpretation}
 use Rattle.hum_record.specs.declared.SpinedKind.TheVariants.{Local, Interpretation, Values}
 use Rattle.hum_record.specs.declared.SpinedKind.{SpinedKind}
 use Rattle.hum_record.specs.Spelling.{is_empty, IsTextOf}
@@ -25,7 +26,7 @@ use Rattle.hum_path.specs.Spines.{same_upto, after, path_in, texts}
 use Rattle.hum_path.specs.Rules.{breaks, breaks_as_text, in_order, fault_of, has_bare, has_unnamed}
 use Rattle.hum_path.specs.Rules.{has_lone_join, has_mixed_join}
 use Rattle.hum_path.specs.Rules.{mixes_join}
-use Rattle.hum_path.specs.Step.{ComeFrom, IsTidy}
+use Rattle.hum_path.specs.Step.{ComeFrom, IsStay, IsTidy}
 use Rattle.hum_path.proofs.Plain.{sound_width, plain_moves, plain_stays, not_exclusive}
 use Rattle.hum_path.proofs.Steady.{same_upto_length}
 use Rattle.hum_path.proofs.Widths.{text_width}
@@ -196,6 +197,18 @@ quiet_stays path (Spined Interpretation tokens) quiet spined lawful few =
       λ sound. let p =
           plain_after path tokens plain lawful.1 sound in text_stays Interpretation path tokens sound p.2 p.0 p.1,
     )
+
+-- A record that is no interpretation and breaks no rule leaves the spines as they are.
+pub unsteered : (path : Path) (row : Row) → (kind_of row ≡ AnyInterpretation → ⊥) → fault_of path row ≡ None
+    → IsStay path row (Ok (same_upto 0 (width path)))
+unsteered path (Comment text) other sound = (refl, refl, refl, tt)
+unsteered path (Spined Local tokens) other sound =
+    let stays = text_stays Local path tokens sound (text_width path tokens sound) refl refl in
+    (stays.sound, refl, refl, stays.sources)
+unsteered path (Spined Values tokens) other sound =
+    let stays = text_stays Values path tokens sound (text_width path tokens sound) refl refl in
+    (stays.sound, refl, refl, stays.sources)
+unsteered path (Spined Interpretation tokens) other sound = absurd (other refl)
 
 -- the fields show the width
 pub width_in : (opened waits : Bool) (names : List (Vec ℕ Global)) → IsTidy opened waits names

@@ -9,6 +9,7 @@ ghost use Rattle.hum_path.specs.declared.PathFault.TheVariants.{Memory};
 
 mod carried;
 pub mod laws;
+mod marks;
 mod moved;
 mod origins;
 mod rules;
@@ -17,6 +18,7 @@ mod spine_paths;
 mod steering;
 
 pub use carried::{Carried, ColumnMemory};
+pub use marks::Marks;
 pub use moved::{Move, Moves};
 pub use origins::Origins;
 pub use signs::{Sign, steers, token_sign};

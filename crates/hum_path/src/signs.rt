@@ -86,6 +86,7 @@ pub fn token_sign(token: &[u8]) -> Sign
 }
 
 /// Whether each token of an interpretation asks nothing of the spines.
+#[inline(never)]
 fn all_plain(row: &Record) -> bool
     ensures { result ≡ all_plain (tokens_of row.now) }
 {
@@ -93,6 +94,7 @@ fn all_plain(row: &Record) -> bool
 }
 
 /// Whether a record has a path indicator or an exclusive interpretation.
+#[inline]
 pub fn steers(row: &Record) -> bool
     ensures { result ≡ steers row.now }
 {

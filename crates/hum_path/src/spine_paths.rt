@@ -162,6 +162,26 @@ impl Paths {
         ensures spent { IfErr result (λ _. IsTrue self.new.spent) }
         ensures again { IsTrue self.old.spent → result ≡ Err alloc_error }
     {
+        if self.spent {
+            return Err(AllocError);
+        }
+        match row.kind() {
+            Kind::Interpretation => self.follow_interpretation(row),
+            _ => Ok(Moves::kept(self.names.len() as u16)),
+        }
+    }
+
+    /// The same of an interpretation.
+    #[inline(never)]
+    fn follow_interpretation(&mut self, row: &Record) -> Result<Moves, AllocError>
+        requires { fault_of self.old.path row.now ≡ None }
+        ensures moves { IfOk result (λ found. found ≡ moves self.old.path row.now) }
+        ensures after { OnOk result
+            (self.new ≡ record self.old { path = after self.old.path row.now }) }
+        ensures sources { IfOk result (ComeFrom row.now) }
+        ensures spent { IfErr result (λ _. IsTrue self.new.spent) }
+        ensures again { IsTrue self.old.spent → result ≡ Err alloc_error }
+    {
         match self.step(row) {
             Ok(found) => Ok(found),
             Err(PathFault::Memory) => Err(AllocError),

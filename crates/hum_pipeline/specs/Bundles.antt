@@ -1,11 +1,10 @@
 -- What comes of a plan's text with scores by their names.
-use Rattle.std.specs.Prelude.{◌≡◌, ℕ, zero, suc, Bool, true, false, ◌&&◌, if◌then◌else◌, is_none}
-use Rattle.std.specs.Prelude.{List, [], ◌∷◌, ◌++◌, Option, None, Some, Result, Ok, Err, ◌⊎◌}
+use Rattle.std.specs.Prelude.{◌≡◌, ℕ, zero, suc, Bool, true, false, if◌then◌else◌, is_none}
+use Rattle.std.specs.Prelude.{List, [], ◌∷◌, ◌++◌, Option, None, Some, Err, ◌⊎◌}
 use Rattle.hum_turns.specs.declared.result.RunResult.{RunResult}
 use Rattle.hum_turns.specs.declared.result.RunResult.TheVariants as ends
 use Rattle.hum_turns.specs.Orders.{Order}
 use Rattle.hum_net.specs.Readers.{is_write}
-use Rattle.hum_plan.specs.declared.faults.PlanFault.{PlanFault}
 use Rattle.hum_plan.specs.Stages.{Stage, Options, Read, Assemble, Takes}
 use Rattle.hum_plan.specs.Grammar.{IsPlanOf}
 use Rattle.hum_plan.specs.Answers.{PlanAnswer}
@@ -51,8 +50,8 @@ pub record HasPickedPlan {O : Type 0} (order : Order O) (text : List ℕ)
   pub plan : IsPlanOf text stages
   pub picked : HasPicked order (bytes_by score stages) stages link old new
 
-abbrev pub MayHavePicked : {O : Type 0} → Order O → List ℕ → (List ℕ → Option (List ℕ)) → ℕ → O → O
-    → Type 0
+abbrev pub MayHavePicked : {O : Type 0} → Order O → List ℕ → (List ℕ → Option (List ℕ)) → ℕ
+    → O → O → Type 0
 MayHavePicked order text score link old new =
     HasPickedPlan order text score link old new ⊎ (new ≡ old)
 

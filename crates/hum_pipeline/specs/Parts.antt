@@ -1,5 +1,5 @@
 -- What the stages of a plan read from and do.
-use Rattle.std.specs.Prelude.{◌≡◌, ℕ, zero, suc, pred, ◌+◌, false, List, [], ◌∷◌, map}
+use Rattle.std.specs.Prelude.{◌≡◌, ℕ, suc, pred, ◌+◌, false, List, [], ◌∷◌, map}
 use Rattle.hum_stage.specs.Meaning.{IsLawful, KeepsScore}
 use Rattle.hum_plan.specs.Stages.{Stage, Options, Read, Assemble, Takes}
 use Rattle.hum_plan.specs.Stages.{IsStage, drops_interpretations}

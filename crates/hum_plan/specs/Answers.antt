@@ -149,7 +149,8 @@ with_command line outline command (Ok options) =
 with_command line outline command (Err found) = Err (in_line line found)
 
 -- A command that is word n, with the words behind it.
-abbrev pub Begins : ℕ → Bool → Outline → Command → ℕ → List Word → Opening → Outcome Outline → Type 0
+abbrev pub Begins : ℕ → Bool → Outline → Command → ℕ → List Word → Opening → Outcome Outline
+    → Type 0
 Begins line is_last outline command n words opening.Read answer =
     answer ≡ with_read outline (name_read line n words)
 Begins line is_last outline command n words opening.Assemble answer = answer ≡

@@ -19,7 +19,8 @@ use Rattle.hum_stage.specs.Look.{Look, outcome_of, outcome_at, outcomes_from, Is
 
 -- What is decided with some records behind stays with one more.
 decided_stays : (room n m : ℕ) (old new : Option (Result (List Row) Rule))
-    → ((d : Result (List Row) Rule) → old ≡ Some d → new ≡ Some d) → (room ≤ n → new ≡ old) → n ≤ m
+    → ((d : Result (List Row) Rule) → old ≡ Some d → new ≡ Some d)
+    → (room ≤ n → new ≡ old) → n ≤ m
     → (outcome_of room n old ≡ Undecided → ⊥) → outcome_of room m new ≡ outcome_of room n old
 decided_stays room n m (Some d) new h k l u = rw (h d refl) refl
 decided_stays room n m None new h k l u = elim (cases_Bool (nat_le room n)) as

@@ -64,11 +64,6 @@ pub record Holds {R : Type 0} (v : Reader R) (all : List ℕ) (given : List (Lis
   pub stands : Stands v.limits all given (v.pending ++ rest) v.given v.taken
   pub done : v.ended ≡ true → rest ≡ []
 
--- Of the bytes read so far the reader has given these lines, however the input goes on.
-abbrev pub HasGiven : {R : Type 0} → Reader R → List ℕ → List (List ℕ) → Type 0
-HasGiven v seen given =
-    (rest : List ℕ) → (v.ended ≡ true → rest ≡ []) → Holds v (seen ++ rest) given rest
-
 -- the bytes that a poll read: they stand behind those that were pending
 abbrev pub bytes_read : {R : Type 0} → Reader R → Reader R → List ℕ
 bytes_read old new = appended_bytes old.pending new.pending

@@ -7,9 +7,8 @@ ghost use Rattle.hum_timebase.specs.Timebase.{multiples_from, count_before, coun
 
 use crate::ends::{drop_untimed, ends_by, has_clash, next_end, sound};
 use crate::notes::NoteAt;
-use crate::timed::Timed;
 use hum_frac::Frac;
-use hum_path::Moves;
+use hum_path::{Marks, Moves};
 use hum_stage::Rule;
 use std::alloc::{AllocError, Global};
 use std::marker::Model;
@@ -107,7 +106,7 @@ impl Clock {
     }
 
     /// Takes a record whose cells stand in these columns, but for its notes.
-    pub(crate) fn rest(&mut self, timed: &Timed)
+    pub(crate) fn rest(&mut self, timed: &Marks)
         ensures { self.new ≡ rested timed.now self.old }
     {
         if timed.all() {

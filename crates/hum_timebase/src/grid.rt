@@ -21,9 +21,8 @@ use crate::due::Around;
 use crate::notes::{Content, NoteAt, content_of, read_notes, timed_at, timed_in};
 use crate::pace::Pace;
 use crate::records::{names_some, tb_record};
-use crate::timed::Timed;
 use hum_kern::KernFault;
-use hum_path::Paths;
+use hum_path::{Marks, Paths};
 use hum_record::{Kind, Record};
 use hum_stage::{Command, Decides, Rule};
 use std::alloc::{AllocError, Global};
@@ -82,7 +81,7 @@ pub struct Grid {
     alloc: Global,
     pace: Pace,
     paths: Paths,
-    timed: Timed,
+    timed: Marks,
     clock: Clock,
     // the notes of the record at hand
     notes: Vec<NoteAt>,
@@ -223,7 +222,7 @@ impl Decides for Grid {
             alloc,
             pace: Pace::new(options),
             paths: Paths::new(alloc),
-            timed: Timed::none(alloc),
+            timed: Marks::none(alloc),
             clock: Clock::new(alloc),
             notes: Vec::new(alloc),
         }

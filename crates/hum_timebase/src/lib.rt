@@ -16,7 +16,6 @@ mod notes;
 mod options;
 mod pace;
 mod records;
-mod timed;
 
 pub use grid::Grid;
 use hum_stage::AtOnce;

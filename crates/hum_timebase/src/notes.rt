@@ -13,10 +13,9 @@ ghost use Rattle.hum_timebase.specs.Notes.{subtokens, first_duration, note_of, n
 ghost use Rattle.hum_timebase.specs.Notes.{is_misread, has_misread};
 ghost use Rattle.hum_timebase.specs.Reading.{content_of, rest_parts, is_part, Read};
 
-use crate::timed::Timed;
 use hum_frac::Frac;
-use hum_kern::{KernFault, read_duration};
-use hum_path::{Paths, token_sign};
+use hum_kern::{KernFault, Length, read_duration, read_leading};
+use hum_path::{Marks, Paths, token_sign};
 use hum_record::{Record, is_barline, is_null};
 use std::alloc::{AllocError, Global};
 
@@ -35,14 +34,14 @@ fn is_timed(name: &[u8]) -> bool
 }
 
 /// Which spines are timed.
-pub(crate) fn timed_in(alloc: Global, paths: &Paths) -> Result<Timed, AllocError>
+pub(crate) fn timed_in(alloc: Global, paths: &Paths) -> Result<Marks, AllocError>
     ensures { IfOk result (λ timed. timed ≡ timed_in paths.now.path) }
 {
     let mut timed = Vec::new(alloc);
     for j in 0..paths.width() {
         timed.push(is_timed(paths.exclusive(j)))?;
     }
-    Ok(Timed::new(timed))
+    Ok(Marks::new(timed))
 }
 
 /// The exclusive interpretation that the token in a column stands under.
@@ -59,14 +58,14 @@ fn own_name<'a>(paths: &'a Paths, token: &'a [u8], j: usize) -> &'a [u8]
 }
 
 /// Which cells of an interpretation stand in timed columns.
-pub(crate) fn timed_at(alloc: Global, paths: &Paths, row: &Record) -> Result<Timed, AllocError>
+pub(crate) fn timed_at(alloc: Global, paths: &Paths, row: &Record) -> Result<Marks, AllocError>
     ensures { IfOk result (λ timed. timed ≡ timed_at paths.now.path (tokens_of row.now)) }
 {
     let mut timed = Vec::new(alloc);
     for j in 0..row.width() {
         timed.push(is_timed(own_name(paths, row.token(j), j)))?;
     }
-    Ok(Timed::new(timed))
+    Ok(Marks::new(timed))
 }
 
 /// Whether a token is neither null nor a barline.
@@ -126,14 +125,14 @@ fn cut(text: &[u8]) -> (&[u8], &[u8])
     text.split_at(first_space(text))
 }
 
-/// The duration of a subtoken.
+/// The value of a duration that was read.
 #[inline(always)]
-fn part_duration(part: &[u8]) -> Result<Option<Frac>, KernFault>
-    ensures value { IfOk result (λ value. value ≡ value_in (duration part.now)) }
-    ensures read { OnOk result (is_refused (duration part.now) ≡ false) }
-    ensures refused { OnErr result (is_refused (duration part.now) ≡ true) }
+fn value_in(read: Result<Length, KernFault>) -> Result<Option<Frac>, KernFault>
+    ensures value { IfOk result (λ value. value ≡ value_in read) }
+    ensures read { OnOk result (is_refused read ≡ false) }
+    ensures refused { OnErr result (is_refused read ≡ true) }
 {
-    match read_duration(part) {
+    match read {
         Ok(found) => Ok(found.value),
         Err(fault) => Err(fault),
     }
@@ -143,6 +142,7 @@ fn part_duration(part: &[u8]) -> Result<Option<Frac>, KernFault>
 ///
 /// # Errors
 /// K3 where one of them is refused.
+#[inline(always)]
 fn first_duration(token: &[u8]) -> Result<Option<Frac>, KernFault>
     ensures value { IfOk result (λ value. value ≡ first_duration (subtokens token.now)) }
     ensures read { OnOk result
@@ -150,11 +150,26 @@ fn first_duration(token: &[u8]) -> Result<Option<Frac>, KernFault>
     ensures refused { OnErr result
         (list_any (λ part. is_refused (duration part)) (subtokens token.now) ≡ true) }
 {
+    match read_leading(token) {
+        Some(read) => value_in(read),
+        None => first_of_parts(token),
+    }
+}
+
+/// The same by one subtoken after another.
+#[inline(never)]
+fn first_of_parts(token: &[u8]) -> Result<Option<Frac>, KernFault>
+    ensures value { IfOk result (λ value. value ≡ first_duration (subtokens token.now)) }
+    ensures read { OnOk result
+        (list_any (λ part. is_refused (duration part)) (subtokens token.now) ≡ false) }
+    ensures refused { OnErr result
+        (list_any (λ part. is_refused (duration part)) (subtokens token.now) ≡ true) }
+{
     let (part, mut left) = cut(token);
-    let mut found = part_duration(part)?;
+    let mut found = value_in(read_duration(part))?;
     while let [_, more @ ..] = left {
         let (part, behind) = cut(more);
-        let value = part_duration(part)?;
+        let value = value_in(read_duration(part))?;
         if found.is_none() {
             found = value;
         }

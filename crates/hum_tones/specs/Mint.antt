@@ -1,9 +1,8 @@
 -- What the command mint makes of a token: the interval from the note before.
-use Rattle.std.specs.Prelude.{ℕ, Bool, true, false, not, ◌&&◌, ◌||◌, ◌-ℤ◌, nat_eq}
+use Rattle.std.specs.Prelude.{ℕ, Bool, true, false, not, ◌&&◌, ◌||◌, ◌-ℤ◌}
 use Rattle.std.specs.Prelude.{List, [], ◌∷◌, ◌++◌, Option, None, Some, Result, Ok, Err}
 use Rattle.std.specs.Prelude.{if◌then◌else◌}
 use Rattle.std.specs.List.{list_any, find}
-use Rattle.std.specs.Str.{bytes_eq}
 use lib.Chars.{codes}
 use Rattle.hum_record.specs.Contents.{is_filled, is_barline}
 use Rattle.hum_path.specs.Chains.{reach}

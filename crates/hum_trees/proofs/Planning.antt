@@ -1,14 +1,13 @@
 -- Trees of stages are plans.
-use Rattle.std.proofs.Common.{◌≡◌, refl, sym, ap, subst, ℕ, zero, suc, ◌+◌, ◌<◌, List, [], ◌∷◌, length, arith}
+use Rattle.std.proofs.Common.{◌≡◌, refl, subst, ℕ, zero, suc, ◌+◌, ◌<◌, List, [], ◌∷◌, length, arith}
 use Rattle.std.specs.Prelude.{Option, Some, None, slice_get}
 use Rattle.std.specs.List.{AllByRecursion}
 use Rattle.hum_record.specs.Row.{Row}
-use Rattle.hum_stage.specs.declared.faults.End.{End}
-use Rattle.hum_stage.specs.declared.faults.End.TheVariants.{Closed, Broken}
+use Rattle.hum_stage.specs.declared.faults.End.TheVariants.{Broken}
 use Rattle.hum_stage.specs.declared.faults.Fault.{Fault}
 use Rattle.hum_stage.specs.declared.faults.Rule.{Rule}
 use Rattle.hum_stage.specs.declared.faults.Command.{Command}
-use Rattle.hum_stage.specs.Meaning.{Meaning, fault_at, own_fault}
+use Rattle.hum_stage.specs.Meaning.{fault_at}
 use Rattle.hum_turns.specs.Flow.{Flow}
 use Rattle.hum_turns.specs.Plan as turns
 use Rattle.hum_turns.specs.Meaning as whole

@@ -3,7 +3,7 @@ use Rattle.std.specs.List.{list_any}
 use Rattle.hum_kern.specs.Duration.{duration, is_refused}
 use Rattle.hum_timebase.specs.Notes.{subtokens, first_duration, or_else}
 use Rattle.hum_timebase.specs.Reading.{rest_parts}
-use Rattle.hum_timebase.proofs.notes.first_duration.Given as goal
+use Rattle.hum_timebase.proofs.notes.first_of_parts.Given as goal
 
 abbrev pub invariant-loop-left : goal.invariant-loop-left
 invariant-loop-left l = record {

@@ -1,0 +1,77 @@
+-- Tokens that are one subtoken and begin with their digits.
+use Rattle.std.proofs.Common.{◌≡◌, ℕ, ◌+◌, ◌==◌, Bool, true, false, List, [], ◌∷◌, length, take, drop, refl, sym, ap, ◌∙◌, arith}
+use Rattle.std.proofs.Common.{add-one, rules}
+use Rattle.std.specs.List.{list_any}
+use Rattle.hum_kern.specs.declared.runs.Class.TheVariants.{Digit, Other}
+use Rattle.hum_kern.specs.Runs.{run, front, behind}
+use Rattle.hum_kern.specs.Classes.{is_in, is_digit, is_grace_sign, is_divider}
+use Rattle.hum_kern.specs.Duration.{spelling, spelling_of, is_empty, said, said_of, duration}
+use Rattle.hum_kern.specs.Subtokens.{subtokens}
+
+-- No space stands in it, nor the sign of a grace note.
+pub record IsPlain (bytes : List ℕ) : Type 0 where
+  pub graceless : list_any is_grace_sign bytes ≡ false
+  pub alone : subtokens bytes ≡ bytes ∷ []
+
+more_plain : (b : ℕ) (bytes : List ℕ) → (b == 32) ≡ false → is_grace_sign b ≡ false → IsPlain bytes → IsPlain (b ∷ bytes)
+more_plain b bytes space grace more = record {
+  graceless = rw (grace, more.graceless) refl;
+  alone = rw (space, more.alone) refl;
+}
+
+undivided : (bytes : List ℕ) → list_any is_divider bytes ≡ false → IsPlain bytes
+undivided [] none = record { graceless = refl; alone = refl }
+undivided (b ∷ bytes) none = go (undivided bytes) (b == 32) refl (is_grace_sign b) refl
+  where
+    go : (list_any is_divider bytes ≡ false → IsPlain bytes) → (s : Bool) → (b == 32) ≡ s → (g : Bool)
+        → is_grace_sign b ≡ g → IsPlain (b ∷ bytes)
+    go more true e g f = absurd (search rules)
+    go more false e true f = absurd (search rules)
+    go more false e false f = more_plain b bytes e f (more (search rules))
+
+-- a digit is neither
+digit_plain : (b : ℕ) → is_digit b ≡ true → ((b == 32) ≡ false) × (is_grace_sign b ≡ false)
+digit_plain b digit = (grind (arith, digit), grind (arith, digit))
+
+behind_more : (b : ℕ) (bytes : List ℕ) → is_digit b ≡ true
+    → behind (is_in Digit) (b ∷ bytes) ≡ behind (is_in Digit) bytes
+behind_more b bytes e = rw (e, add-one) refl
+
+-- nor has it what stands in front of the digits' end
+pub leading_plain : (bytes : List ℕ) → list_any is_divider (behind (is_in Digit) bytes) ≡ false → IsPlain bytes
+leading_plain [] none = record { graceless = refl; alone = refl }
+leading_plain (b ∷ bytes) none = go (leading_plain bytes) (is_digit b) refl
+  where
+    go : (list_any is_divider (behind (is_in Digit) bytes) ≡ false → IsPlain bytes) → (t : Bool)
+        → is_digit b ≡ t → IsPlain (b ∷ bytes)
+    go more true e =
+        let plain = digit_plain b e in
+        more_plain b bytes plain.0 plain.1 (more (ap (list_any is_divider) (sym (behind_more b bytes e)) ∙ none))
+    go more false e = undivided (b ∷ bytes) (search rules)
+
+-- What begins with digits has nothing before them.
+begins : (bytes : List ℕ) → is_empty (front (is_in Digit) bytes) ≡ false → run (is_in Other) bytes ≡ 0
+begins [] some = refl
+begins (b ∷ bytes) some = go (is_digit b) refl
+  where
+    go : (t : Bool) → is_digit b ≡ t → run (is_in Other) (b ∷ bytes) ≡ 0
+    go true e = rw e refl
+    go false e = absurd (search rules)
+
+leading_spelling : (bytes : List ℕ) → is_empty (front (is_in Digit) bytes) ≡ false
+    → spelling_of bytes ≡ spelling [] (front (is_in Digit) bytes) (behind (is_in Digit) bytes)
+leading_spelling bytes some =
+    ap (λ (n : ℕ). spelling (take n bytes) (front (is_in Digit) (drop n bytes)) (behind (is_in Digit) (drop n bytes)))
+    (begins bytes some)
+
+pub leading_duration : (bytes : List ℕ) → is_empty (front (is_in Digit) bytes) ≡ false
+    → list_any is_divider (behind (is_in Digit) bytes) ≡ false
+    → said (spelling [] (front (is_in Digit) bytes) (behind (is_in Digit) bytes)) ≡ duration bytes
+leading_duration bytes some none =
+    let parts = spelling [] (front (is_in Digit) bytes) (behind (is_in Digit) bytes) in
+    let told : said_of bytes parts ≡ said parts = rw ((leading_plain bytes none).graceless, some) refl in
+    sym told ∙ sym (ap (said_of bytes) (leading_spelling bytes some))
+
+pub not_empty : (bytes : List ℕ) → (length bytes == 0) ≡ false → is_empty bytes ≡ false
+not_empty [] some = absurd (search rules)
+not_empty (b ∷ bytes) some = refl
