@@ -1,7 +1,6 @@
 //! Short lines of plain data, all of whose bytes are looked at in one go.
 ghost use Rattle.std.specs.Prelude.{◌≡◌, ◌≢◌, ◌≤◌, ◌++◌, length, map, take, Ok, OnOk, IfSome, false};
 ghost use Rattle.std.specs.Simd.Lanes.{chunk, mask_l};
-ghost use Rattle.std.specs.Vec.{vec_len};
 ghost use Rattle.hum_record.specs.Cutting.{set_places};
 ghost use Rattle.hum_record.specs.Fields.{AreFields, row_in};
 ghost use Rattle.hum_record.specs.Plain.{is_rare, IsPlain};
@@ -61,31 +60,28 @@ fn overwrite(places: &mut [u32], bits: u64)
     }
 }
 
-/// Gives a list another length.
-#[inline(never)]
-fn resize(places: &mut Vec<u32>, count: usize) -> Result<(), AllocError>
-    ensures { OnOk result (vec_len places.new ≡ count) }
-{
-    places.resize(count, 0)
-}
-
-/// Gives a list a length, which it most often has already.
-#[inline]
-fn fit(places: &mut Vec<u32>, count: usize) -> Result<(), AllocError>
-    ensures { OnOk result (vec_len places.new ≡ count) }
-{
-    if places.len() == count {
-        return Ok(());
-    }
-    resize(places, count)
-}
-
 /// Makes a list that may hold anything the places of bits.
+#[inline(never)]
+fn replace_places(places: &mut Vec<u32>, bits: u64) -> Result<(), AllocError>
+    ensures { OnOk result (places.new.items ≡ set_places 64 0 bits) }
+{
+    places.clear();
+    let mut rest = bits;
+    while rest != 0 {
+        places.push(rest.trailing_zeros())?;
+        rest &= rest - 1;
+    }
+    Ok(())
+}
+
+/// The same where it most often has as many places as before.
 #[inline]
 fn put_places(places: &mut Vec<u32>, bits: u64) -> Result<(), AllocError>
     ensures { OnOk result (places.new.items ≡ set_places 64 0 bits) }
 {
-    fit(places, bits.count_ones() as usize)?;
+    if places.len() != bits.count_ones() as usize {
+        return replace_places(places, bits);
+    }
     overwrite(places, bits);
     Ok(())
 }
