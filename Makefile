@@ -66,8 +66,8 @@ endef
 define prove
 alone() { for crate; do echo "== $$crate"; (cd crates/$$crate && rt lib) || return; done; }; \
 together() { (cd crates/$$1 && rt all check --jobs $(JOBS)); }; \
-alone hum_record hum_path hum_stage && together hum_commands && together hum_trees && \
-alone hum_words hum_values hum_options hum_plan hum_bundle hum_pipeline hum_line && together humpipe
+alone hum_record hum_path hum_stage && together hum_commands && together hum_net && \
+alone hum_trees hum_words hum_values hum_options hum_plan hum_bundle hum_pipeline hum_line && together humpipe
 endef
 
 humpipe: crates.txt $(files)
