@@ -8,7 +8,7 @@ use Rattle.std.proofs.lemmas.Bool.{and_parts, or_parts, or_from, eqb-true}
 use lib.Chars.{codes}
 use Rattle.hum_record.specs.declared.SpinedKind.{SpinedKind}
 use Rattle.hum_record.specs.declared.SpinedKind.TheVariants.{Local, Interpretation, Values}
-use Rattle.hum_record.specs.Row.{Row, Comment, Spined, tokens_of, text_of}
+use Rattle.hum_record.specs.Row.{Row, Comment, Spined, tokens_of, text_of, chosen}
 use Rattle.hum_record.specs.Spelling.{IsToken, IsTokenOf, IsTextOf, has_byte, is_comment, kind_of_token}
 use Rattle.hum_record.specs.Building.{spelled}
 use Rattle.hum_path.specs.Sign.{sign_of, is_join}
@@ -19,7 +19,7 @@ use Rattle.hum_spread.specs.Writing.{Fit}
 use Rattle.hum_spread.proofs.Spreading.{marks}
 use Rattle.hum_spread.proofs.Weights.{weight, no_longer}
 use Rattle.hum_spread.proofs.OneByOne.{Lawful, null_lawful}
-use Rattle.hum_columns.specs.Chosen.{chosen, others}
+use Rattle.hum_columns.specs.Chosen.{others}
 use Rattle.hum_cleave.specs.Columns.{together}
 use Rattle.hum_cleave.specs.Tokens.{leftmost, comment_of, is_silent, interpretation_of, is_left_out, taken, following, joined, data_of}
 use Rattle.hum_columns.specs.Chosen.{each_piece}

@@ -10,7 +10,7 @@ use Rattle.std.proofs.lemmas.Bool.Decides.{nat_tests}
 use Rattle.std.proofs.lemmas.List.{length-map}
 use Rattle.hum_record.specs.declared.SpinedKind.{SpinedKind}
 use Rattle.hum_record.specs.declared.SpinedKind.TheVariants.{Interpretation}
-use Rattle.hum_record.specs.Row.{Row, Spined}
+use Rattle.hum_record.specs.Row.{Row, Spined, chosen}
 use Rattle.hum_record.specs.Building.{spelled}
 use Rattle.hum_record.specs.Spelling.{is_empty}
 use Rattle.hum_path.specs.Sign.{sign_of, is_exclusive}
@@ -22,7 +22,7 @@ use Rattle.hum_stage.specs.declared.faults.Rule.{Rule}
 use Rattle.hum_stage.specs.declared.faults.Rule.TheVariants.{L1}
 use Rattle.hum_stage.specs.Meaning.{KeepsScore}
 use Rattle.hum_stage.specs.Decided.{decisions, limit}
-use Rattle.hum_columns.specs.Chosen.{chosen, others}
+use Rattle.hum_columns.specs.Chosen.{others}
 use Rattle.hum_columns.proofs.KeepsScores.{Reach, Selects, text_reaches, text_parts, opening_reaches, columns_keep}
 use Rattle.hum_cleave.specs.Columns.{opening_flags, together}
 use Rattle.hum_cleave.specs.Cleave.{Options, is_name, fits_in_token, one_record, one_of, opened, cleave, column_command}

@@ -17,7 +17,7 @@ use Rattle.hum_path.proofs.Onwards.{names_onward, swapped_length, each_length, b
 use Rattle.hum_path.proofs.Obeyed.{Obeys}
 use Rattle.hum_path.proofs.Cases.{by_bool}
 use Rattle.hum_record.specs.declared.SpinedKind.TheVariants.{Interpretation}
-use Rattle.hum_record.specs.Row.{Row}
+use Rattle.hum_record.specs.Row.{Row, chosen}
 use Rattle.hum_stage.specs.declared.faults.Rule.{Rule}
 use Rattle.hum_stage.specs.declared.faults.Rule.TheVariants.{C1, C2}
 use Rattle.hum_spread.specs.Spread.{spread, filled}
@@ -27,7 +27,7 @@ use Rattle.hum_spread.proofs.Leading.{spread_leads}
 use Rattle.hum_columns.proofs.ChosenLists.{chosen_none, chosen_map}
 use Rattle.hum_columns.proofs.TornJoins.{torn_start}
 use Rattle.hum_columns.proofs.Flags.{flags_after}
-use Rattle.hum_columns.specs.Chosen.{chosen, others}
+use Rattle.hum_columns.specs.Chosen.{others}
 use Rattle.hum_cleave.specs.Columns.{together}
 use Rattle.hum_cleave.specs.Tokens.{interpretation_of}
 use Rattle.hum_columns.specs.Chosen.{is_torn}

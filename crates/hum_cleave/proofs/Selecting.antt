@@ -11,7 +11,8 @@ use Rattle.hum_path.proofs.Cases.{by_bool}
 use Rattle.hum_path.proofs.Onwards.{begins_length}
 use Rattle.hum_columns.proofs.ChosenLists.{chosen_length, chosen_fewer, chosen_none, chosen_each}
 use Rattle.hum_columns.proofs.ChosenOnward.{others_onward}
-use Rattle.hum_columns.specs.Chosen.{chosen, others}
+use Rattle.hum_record.specs.Row.{chosen}
+use Rattle.hum_columns.specs.Chosen.{others}
 use Rattle.hum_cleave.specs.Columns.{together}
 use Rattle.hum_columns.specs.Chosen.{is_torn}
 use Rattle.hum_cleave.specs.Cleave.{is_end}

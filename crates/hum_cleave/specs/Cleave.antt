@@ -6,7 +6,7 @@ use Rattle.std.specs.Str.{bytes_eq}
 use lib.Chars.{codes}
 use Rattle.hum_record.specs.declared.SpinedKind.{SpinedKind}
 use Rattle.hum_record.specs.declared.SpinedKind.TheVariants.{Local, Interpretation, Values}
-use Rattle.hum_record.specs.Row.{Row, Comment, Spined}
+use Rattle.hum_record.specs.Row.{Row, Comment, Spined, chosen}
 use Rattle.hum_record.specs.Building.{spelled}
 use Rattle.hum_record.specs.Spelling.{has_byte}
 use Rattle.hum_path.specs.declared.signs.Sign.{Sign}
@@ -18,7 +18,7 @@ use Rattle.hum_stage.specs.declared.faults.Rule.TheVariants.{C1, C2, L1}
 use Rattle.hum_stage.specs.declared.faults.Command.TheVariants.{Cleave}
 use Rattle.hum_stage.specs.Meaning.{Meaning}
 use Rattle.hum_stage.specs.Decided.{Decision, at_once}
-use Rattle.hum_columns.specs.Chosen.{chosen, is_torn, each_piece}
+use Rattle.hum_columns.specs.Chosen.{is_torn, each_piece}
 use Rattle.hum_columns.specs.Deciding.{ColumnCommand, by_columns}
 use Rattle.hum_cleave.specs.Columns.{opening_flags, together}
 use Rattle.hum_cleave.specs.Tokens.{comment_of, interpretation_of, data_of}

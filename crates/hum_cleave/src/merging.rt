@@ -1,12 +1,12 @@
 //! Interpretations whose cleaved columns become one.
 ghost use Rattle.std.specs.Prelude.{◌≡◌, [], false, length, map, IfOk};
 ghost use Rattle.std.specs.List.{list_any, list_all};
-ghost use Rattle.hum_record.specs.Row.{Spined, tokens_of, width_of, text_of};
+ghost use Rattle.hum_record.specs.Row.{Spined, tokens_of, width_of, text_of, chosen};
 ghost use Rattle.hum_record.specs.declared.SpinedKind.TheVariants.{Interpretation};
 ghost use Rattle.hum_record.specs.Spelling.{IsTextOf};
 ghost use Rattle.hum_path.specs.Sign.{sign_of, is_exclusive};
 ghost use Rattle.hum_spread.specs.Spread.{piece};
-ghost use Rattle.hum_columns.specs.Chosen.{chosen, each_piece};
+ghost use Rattle.hum_columns.specs.Chosen.{each_piece};
 ghost use Rattle.hum_columns.specs.Following.{AnswersInRoom};
 ghost use Rattle.hum_cleave.specs.Columns.{together};
 ghost use Rattle.hum_cleave.specs.Cleave.{is_moved, is_end, ends_apart, is_entangled, merged};

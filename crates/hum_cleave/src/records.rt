@@ -2,9 +2,8 @@
 ghost use Rattle.std.specs.Prelude.{◌≡◌, ℕ, List, [], true, false, length, IfOk};
 ghost use Rattle.hum_record.specs.declared.SpinedKind.{SpinedKind};
 ghost use Rattle.hum_record.specs.declared.SpinedKind.TheVariants.{Local, Interpretation, Values};
-ghost use Rattle.hum_record.specs.Row.{Spined, tokens_of, width_of, text_of};
+ghost use Rattle.hum_record.specs.Row.{Spined, tokens_of, width_of, text_of, chosen};
 ghost use Rattle.hum_record.specs.Spelling.{IsToken, IsTextOf};
-ghost use Rattle.hum_columns.specs.Chosen.{chosen};
 ghost use Rattle.hum_columns.specs.Following.{AsWide, Answers, is_interpretation};
 ghost use Rattle.hum_cleave.specs.Columns.{together};
 ghost use Rattle.hum_cleave.specs.Tokens.{comment_of, data_of};

@@ -3,7 +3,8 @@ use Rattle.std.proofs.Common.{◌≡◌, ◌∙◌, refl, ap, Bool, true, false,
 use Rattle.hum_path.specs.declared.signs.Sign.{Sign}
 use Rattle.hum_path.specs.declared.signs.Sign.TheVariants.{Split, Join, Exchange, Add, End, Exclusive, Plain}
 use Rattle.hum_path.specs.Onward.{onward_one, onward}
-use Rattle.hum_columns.specs.Chosen.{chosen, others}
+use Rattle.hum_record.specs.Row.{chosen}
+use Rattle.hum_columns.specs.Chosen.{others}
 
 -- A column's children are chosen with it.
 pub chosen_onward : {X : Type 0} (added : X → X) (fs begins : List Bool) (signs : List Sign) (xs : List X) → length begins ≡ length signs

@@ -1,7 +1,7 @@
 -- Columns that are chosen by the opening spines that they come from.
 use Rattle.std.specs.Prelude.{ℕ, Bool, true, false, not, ◌&&◌, ◌||◌}
 use Rattle.std.specs.Prelude.{List, [], ◌∷◌, map, slice_index_or}
-use Rattle.hum_record.specs.Row.{Row, Comment, Spined}
+use Rattle.hum_record.specs.Row.{Row, Comment, Spined, chosen}
 use Rattle.hum_path.specs.declared.signs.Sign.{Sign}
 use Rattle.hum_path.specs.Sign.{sign_of, is_join}
 use Rattle.hum_path.specs.Spines.{Path, Unopened, Spines}
@@ -24,14 +24,7 @@ abbrev pub flags : (List (List ℕ) → List Bool) → List Row → List Bool
 flags choose past =
     map (λ origin. slice_index_or (choose (opening_of past)) origin false) (origins past)
 
--- what stands in the chosen columns
-abbrev pub chosen : {X : Type 0} → List Bool → List X → List X
-chosen [] xs = []
-chosen (flag ∷ flags) [] = []
-chosen (true ∷ flags) (x ∷ xs) = x ∷ chosen flags xs
-chosen (false ∷ flags) (x ∷ xs) = chosen flags xs
-
--- what stands in the others
+-- what stands in the columns that aren't chosen
 abbrev pub others : {X : Type 0} → List Bool → List X → List X
 others flags xs = chosen (map not flags) xs
 

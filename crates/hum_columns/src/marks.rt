@@ -21,7 +21,7 @@ fn mark_at(marks: &[bool], from: Move) -> bool
 ///
 /// # Errors
 /// Want of memory.
-pub fn moved(alloc: Global, marks: &Marks, found: &Moves) -> Result<Marks, AllocError>
+pub(crate) fn moved(alloc: Global, marks: &Marks, found: &Moves) -> Result<Marks, AllocError>
     ensures { IfOk result (λ next. next ≡ moved marks.now found.now) }
 {
     let flags = marks.each();

@@ -1,15 +1,13 @@
--- What is chosen of a list.
-use Rattle.std.proofs.Common.{◌≡◌, ◌≢◌, ◌∙◌, refl, sym, ap, ℕ, suc, ◌+◌, ◌<◌, ◌≤◌, Bool, true, false}
-use Rattle.std.proofs.Common.{List, [], ◌∷◌, ◌++◌, length, drop, get_or, arith, add-one, append_assoc, append-nil}
+-- What is chosen of a list, and what is kept of a record.
+use Rattle.std.proofs.Common.{◌≡◌, ◌≢◌, refl, sym, ap, ℕ, Bool, true, false, List, [], ◌∷◌, length, arith}
 use Rattle.std.specs.List.{list_any, list_all}
-use Rattle.std.proofs.lemmas.List.{drop_all}
 use Rattle.hum_record.specs.declared.SpinedKind.{SpinedKind}
-use Rattle.hum_record.specs.Row.{Row, Spined, tokens_of}
+use Rattle.hum_record.specs.Row.{Row, Comment, Spined, width_of, text_of, chosen, with_chosen}
+use Rattle.hum_record.specs.Spelling.{IsTextOf}
+use Rattle.hum_record.proofs.Left.{chosen_filled}
 use Rattle.hum_spread.specs.Spread.{filled}
-use Rattle.hum_record.specs.Building.{spelled}
-use Rattle.hum_spread.proofs.Weights.{weight, front_fits}
-use Rattle.hum_columns.specs.Chosen.{chosen}
-use Rattle.hum_columns.proofs.ChosenLists.{chosen_at}
+use Rattle.hum_columns.specs.Following.{AsWide}
+use Rattle.hum_extract.specs.Kept.{kept}
 
 pub chosen_whole : {X : Type 0} (fs : List Bool) (xs : List X) → list_all (λ b. b) fs ≡ true
     → length fs ≡ length xs → chosen fs xs ≡ xs
@@ -25,54 +23,37 @@ chosen_nothing (f ∷ fs) [] h = refl
 chosen_nothing (true ∷ fs) (x ∷ xs) h = cc
 chosen_nothing (false ∷ fs) (x ∷ xs) h = chosen_nothing fs xs h
 
-pub chosen_some : {X : Type 0} (fs : List Bool) (xs : List X) → list_any (λ b. b) fs ≡ true
-    → length fs ≡ length xs → chosen fs xs ≢ []
-chosen_some [] xs h e is = cc
-chosen_some (f ∷ fs) [] h e is = absurd (omega (arith, e))
-chosen_some (true ∷ fs) (x ∷ xs) h e is = cc
-chosen_some (false ∷ fs) (x ∷ xs) h e is = chosen_some fs xs h (omega (arith, e)) is
-
-pub chosen_weight : (fs : List Bool) (ts : List (List ℕ)) → weight (chosen fs ts) ≤ weight ts
-chosen_weight [] ts = omega arith
-chosen_weight (f ∷ fs) [] = omega arith
-chosen_weight (true ∷ fs) (t ∷ ts) = let ih = chosen_weight fs ts in omega (arith, ih)
-chosen_weight (false ∷ fs) (t ∷ ts) = let ih = chosen_weight fs ts in omega (arith, ih)
-
 pub filled_one : (kind : SpinedKind) (ts : List (List ℕ)) → ts ≢ [] → filled kind (ts ∷ []) ≡ Spined kind ts ∷ []
 filled_one kind [] some = absurd (some refl)
 filled_one kind (t ∷ ts) some = refl
 
--- at a place
-pub takes_one : (fs : List Bool) (ts made : List (List ℕ)) (j : ℕ) → j < length fs → length fs ≡ length ts
-    → get_or fs j false ≡ true
-    → (made ++ get_or ts j [] ∷ []) ++ chosen (drop (j + 1) fs) (drop (j + 1) ts) ≡ made ++ chosen (drop j fs) (drop j ts)
-takes_one fs ts made j h e is = rw (append_assoc, chosen_at fs ts j [] h e, is, add-one) refl
+-- What is kept of a record
 
-pub skips_one : (fs : List Bool) (ts made : List (List ℕ)) (j : ℕ) → j < length fs → length fs ≡ length ts
-    → get_or fs j false ≡ false
-    → made ++ chosen (drop (j + 1) fs) (drop (j + 1) ts) ≡ made ++ chosen (drop j fs) (drop j ts)
-skips_one fs ts made j h e is = rw (chosen_at fs ts j [] h e, is, add-one) refl
+-- all of it
+pub all_kept : (fs : List Bool) (row : Row) → IsTextOf row (text_of row) → AsWide fs row → list_all (λ b. b) fs ≡ true
+    → row ∷ [] ≡ kept fs row
+all_kept fs (Comment text) is wide h = refl
+all_kept fs (Spined kind tokens) is wide h =
+    rw (chosen_whole fs tokens h wide) (sym (filled_one kind tokens is.1))
 
--- a chosen token fits
-pub one_fits : (fs : List Bool) (ts made : List (List ℕ)) (j : ℕ) → j < length fs → length fs ≡ length ts
-    → get_or fs j false ≡ true → made ++ chosen (drop j fs) (drop j ts) ≡ chosen fs ts → length (spelled ts) ≤ 1048576
-    → length (spelled (made ++ get_or ts j [] ∷ [])) ≤ 1048576
-one_fits fs ts made j h e is list fits =
-    let all : made ++ (get_or ts j [] ∷ chosen (drop (suc j) fs) (drop (suc j) ts)) ≡ chosen fs ts = rw (chosen_at fs ts j [] h e, is) at list in
-    front_fits 1048576 made (get_or ts j []) (chosen (drop (suc j) fs) (drop (suc j) ts)) ts (rw all (chosen_weight fs ts)) fits
+-- a comment has no tokens
+pub none_chosen : (fs : List Bool) (row : Row) → IsTextOf row (text_of row) → width_of row ≡ 0 → row ∷ [] ≡ kept fs row
+none_chosen fs (Comment text) is none = refl
+none_chosen fs (Spined kind []) is none = absurd (is.1 refl)
+none_chosen fs (Spined kind (t ∷ ts)) is none = absurd (omega (arith, none))
 
--- all were passed
-pub all_passed : (fs : List Bool) (ts made : List (List ℕ)) (j : ℕ) → length fs ≤ j
-    → made ++ chosen (drop j fs) (drop j ts) ≡ chosen fs ts → made ≡ chosen fs ts
-all_passed fs ts made j h list = sym (append-nil made) ∙ rw (drop_all j fs h) at list
+-- nothing of it
+pub none_kept : (fs : List Bool) (row : Row) → width_of row ≢ 0 → list_any (λ b. b) fs ≡ false → [] ≡ kept fs row
+none_kept fs (Comment text) some h = absurd (some refl)
+none_kept fs (Spined kind tokens) some h = rw (chosen_nothing fs tokens h) refl
 
--- a record of which all is chosen
-pub all_kept : (kind : SpinedKind) (fs : List Bool) (row : Row) → row ≡ Spined kind (tokens_of row) → tokens_of row ≢ []
-    → list_all (λ b. b) fs ≡ true → length fs ≡ length (tokens_of row) → row ∷ [] ≡ filled kind (chosen fs (tokens_of row) ∷ [])
-all_kept kind fs row is some h e =
-    rw (chosen_whole fs (tokens_of row) h e) (ap (λ (r : Row). r ∷ []) is ∙ sym (filled_one kind (tokens_of row) some))
+-- some of it
+pub some_kept : (fs : List Bool) (row : Row) → width_of row ≢ 0 → AsWide fs row → list_any (λ b. b) fs ≡ true
+    → with_chosen fs row ∷ [] ≡ kept fs row
+some_kept fs (Comment text) some wide h = absurd (some refl)
+some_kept fs (Spined kind tokens) some wide h =
+    sym (filled_one kind (chosen fs tokens) (chosen_filled fs tokens wide h))
 
--- one of which nothing is
-pub none_kept : (kind : SpinedKind) (fs : List Bool) (row : Row) (out : List Row) → list_any (λ b. b) fs ≡ false
-    → out ≡ out ++ filled kind (chosen fs (tokens_of row) ∷ [])
-none_kept kind fs row out h = rw (chosen_nothing fs (tokens_of row) h) (sym (append-nil out))
+pub width_marks : (fs : List Bool) (row : Row) → width_of row ≢ 0 → AsWide fs row → length fs ≡ width_of row
+width_marks fs (Comment text) some wide = absurd (some refl)
+width_marks fs (Spined kind tokens) some wide = wide

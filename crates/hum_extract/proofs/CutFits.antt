@@ -5,7 +5,7 @@ use Rattle.std.specs.List.{AllByRecursion}
 use lib.Chars.{codes}
 use Rattle.hum_record.specs.declared.SpinedKind.TheVariants.{Interpretation}
 use Rattle.hum_record.specs.declared.SpinedKind.{SpinedKind}
-use Rattle.hum_record.specs.Row.{Row, Comment, Spined, tokens_of, text_of}
+use Rattle.hum_record.specs.Row.{Row, Comment, Spined, tokens_of, text_of, chosen}
 use Rattle.hum_record.specs.Spelling.{IsToken, IsTextOf}
 use Rattle.hum_record.specs.Building.{spelled}
 use Rattle.hum_path.specs.Sign.{sign_of, is_join, is_exchange}
@@ -13,7 +13,7 @@ use Rattle.hum_spread.specs.Spread.{Piece, tokens_in}
 use Rattle.hum_spread.specs.Writing.{Fit}
 use Rattle.hum_spread.proofs.Weights.{weight, no_longer}
 use Rattle.hum_spread.proofs.OneByOne.{Lawful, null_lawful}
-use Rattle.hum_columns.specs.Chosen.{chosen, each_piece}
+use Rattle.hum_columns.specs.Chosen.{each_piece}
 use Rattle.hum_extract.specs.Extract.{softened, pieces}
 
 filled_length : (token : List ℕ) → token ≢ [] → 1 ≤ length token

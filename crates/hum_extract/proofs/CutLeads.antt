@@ -18,14 +18,14 @@ use Rattle.hum_path.proofs.Onwards.{names_onward, swapped_none, swapped_length, 
 use Rattle.hum_path.proofs.Obeyed.{Obeys}
 use Rattle.hum_path.proofs.Cases.{by_bool}
 use Rattle.hum_record.specs.declared.SpinedKind.TheVariants.{Interpretation}
-use Rattle.hum_record.specs.Row.{Row}
+use Rattle.hum_record.specs.Row.{Row, chosen}
 use Rattle.hum_stage.specs.declared.faults.Rule.{Rule}
 use Rattle.hum_stage.specs.declared.faults.Rule.TheVariants.{X1, X3}
 use Rattle.hum_spread.specs.Spread.{Piece, tokens_in, spread, filled}
 use Rattle.hum_spread.proofs.Spreading.{marks, signs_in}
 use Rattle.hum_spread.proofs.Fitting.{Fits, come_to}
 use Rattle.hum_spread.proofs.Leading.{spread_leads}
-use Rattle.hum_columns.specs.Chosen.{chosen, is_torn}
+use Rattle.hum_columns.specs.Chosen.{is_torn}
 use Rattle.hum_columns.proofs.ChosenLists.{chosen_fewer, chosen_none, chosen_map, chosen_each}
 use Rattle.hum_columns.proofs.ChosenOnward.{chosen_onward}
 use Rattle.hum_columns.proofs.ChosenJoins.{chosen_tokens, chosen_marks, chosen_formed}

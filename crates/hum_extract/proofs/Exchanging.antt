@@ -12,7 +12,8 @@ use Rattle.hum_path.specs.Rules.{is_pair_or_none}
 use Rattle.hum_path.specs.Onward.{beginnings, at_next, put_next, swapped}
 use Rattle.hum_path.proofs.Onwards.{swapped_none}
 use Rattle.hum_path.proofs.Cases.{by_bool}
-use Rattle.hum_columns.specs.Chosen.{chosen, differ}
+use Rattle.hum_record.specs.Row.{chosen}
+use Rattle.hum_columns.specs.Chosen.{differ}
 use Rattle.hum_extract.specs.Extract.{exchanged_flags, is_lone, chosen_before, chosen_between}
 
 -- as many flags as exchanged columns

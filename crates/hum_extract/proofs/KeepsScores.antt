@@ -7,7 +7,7 @@ use lib.Chars.{codes}
 use Rattle.std.proofs.lemmas.Bool.{and_parts, and_from, or_parts, not-false, false≢true}
 use Rattle.hum_record.specs.declared.SpinedKind.{SpinedKind}
 use Rattle.hum_record.specs.declared.SpinedKind.TheVariants.{Interpretation}
-use Rattle.hum_record.specs.Row.{Row, Spined}
+use Rattle.hum_record.specs.Row.{Row, Spined, chosen}
 use Rattle.hum_record.specs.Spelling.{is_empty}
 use Rattle.hum_path.specs.Sign.{sign_of, is_exclusive}
 use Rattle.hum_path.specs.Spines.{Unopened, Spines}
@@ -19,7 +19,6 @@ use Rattle.hum_stage.specs.declared.faults.Rule.{Rule}
 use Rattle.hum_stage.specs.declared.faults.Rule.TheVariants.{X2}
 use Rattle.hum_stage.specs.Meaning.{KeepsScore}
 use Rattle.hum_stage.specs.Decided.{decisions, limit}
-use Rattle.hum_columns.specs.Chosen.{chosen}
 use Rattle.hum_columns.proofs.ChosenLists.{chosen_length, chosen_fewer, chosen_none}
 use Rattle.hum_columns.proofs.KeepsScores.{Reach, Selects, text_reaches, text_parts, opening_reaches, columns_keep}
 use Rattle.hum_extract.specs.Choice.{Choice, opening_flags, misses, names_beyond}

@@ -5,7 +5,7 @@ use Rattle.std.specs.Prelude.{Ok}
 use Rattle.std.specs.List.{list_all}
 use Rattle.std.proofs.lemmas.Bool.{and_parts}
 use Rattle.hum_record.specs.declared.SpinedKind.TheVariants.{Local, Interpretation, Values}
-use Rattle.hum_record.specs.Row.{Row, Comment, Spined, tokens_of, text_of}
+use Rattle.hum_record.specs.Row.{Row, Comment, Spined, tokens_of, text_of, chosen}
 use Rattle.hum_record.specs.Spelling.{IsTextOf}
 use Rattle.hum_path.specs.declared.signs.Sign.{Sign}
 use Rattle.hum_path.specs.declared.signs.Sign.TheVariants.{Split, Join, Exchange, Add, End, Exclusive, Plain}
@@ -16,7 +16,7 @@ use Rattle.hum_path.specs.Score.{IsOpen, path_after}
 use Rattle.hum_path.proofs.Plain.{sound_width, plain_stays}
 use Rattle.hum_stage.specs.Decided.{Decision}
 use Rattle.hum_spread.specs.Spread.{touches, filled}
-use Rattle.hum_columns.specs.Chosen.{flags, chosen, is_torn, each_piece}
+use Rattle.hum_columns.specs.Chosen.{flags, is_torn, each_piece}
 use Rattle.hum_columns.specs.Deciding.{at_path}
 use Rattle.hum_columns.specs.Following.{AsWide, Memory, Follows}
 use Rattle.hum_columns.proofs.ChosenJoins.{chosen_tokens}

@@ -3,14 +3,14 @@ use Rattle.std.specs.Prelude.{ℕ, Bool, false, ◌&&◌, ◌||◌, if◌then◌
 use Rattle.std.specs.Prelude.{List, [], ◌∷◌, map, Result, Ok, Err}
 use lib.Chars.{codes}
 use Rattle.hum_record.specs.declared.SpinedKind.TheVariants.{Interpretation}
-use Rattle.hum_record.specs.Row.{Row}
+use Rattle.hum_record.specs.Row.{Row, chosen}
 use Rattle.hum_path.specs.declared.signs.Sign.{Sign}
 use Rattle.hum_path.specs.Sign.{sign_of, is_exchange}
 use Rattle.hum_spread.specs.Spread.{Piece, spread, filled}
 use Rattle.hum_stage.specs.declared.faults.Rule.{Rule}
 use Rattle.hum_stage.specs.declared.faults.Rule.TheVariants.{X1, X2, X3}
 use Rattle.hum_stage.specs.Decided.{Decision}
-use Rattle.hum_columns.specs.Chosen.{chosen, differ, is_torn, each_piece}
+use Rattle.hum_columns.specs.Chosen.{differ, is_torn, each_piece}
 use Rattle.hum_columns.specs.Deciding.{ColumnCommand, by_columns}
 use Rattle.hum_extract.specs.Choice.{Choice, misses, opening_flags}
 

@@ -16,7 +16,7 @@ use crate::cutting::cut;
 use crate::kept::keep;
 use hum_columns::ChosenColumns;
 use hum_path::steers;
-use hum_record::{Kind, Record, Spare};
+use hum_record::{Kind, Record};
 use hum_stage::{Command, Decides, Rule};
 use std::alloc::{AllocError, Global};
 use std::collections::VecDeque;
@@ -41,6 +41,7 @@ fn open(
     out: &mut VecDeque<Record>,
 ) -> Result<Option<Rule>, AllocError>
     requires kind { row ≡ Spined Interpretation (tokens_of row) }
+    requires lawful { IsTextOf row (text_of row) }
     requires sound { fault_of columns.old.path row ≡ None }
     requires empty { out.old.items ≡ [] }
     ensures decided { IfOk result (λ refused. (room : ℕ)
@@ -53,7 +54,7 @@ fn open(
         None => Ok(Some(Rule::X2)),
         Some(marks) => {
             columns.open(&row, marks)?;
-            keep(alloc, columns.marks(), row, &mut Spare::none(alloc), out)?;
+            keep(columns.marks(), row, out)?;
             Ok(None)
         }
     }
@@ -65,8 +66,6 @@ pub struct Columns {
     alloc: Global,
     choice: Choice,
     columns: ChosenColumns,
-    // the record that gave way to another last
-    spare: Spare,
 }
 
 impl Decides for Columns {
@@ -92,7 +91,6 @@ impl Decides for Columns {
             alloc,
             choice,
             columns: ChosenColumns::none(alloc),
-            spare: Spare::none(alloc),
         }
     }
 
@@ -103,7 +101,7 @@ impl Decides for Columns {
         out: &mut VecDeque<Record>,
     ) -> Result<Option<Rule>, AllocError> {
         if !asks(&next) {
-            keep(self.alloc, self.columns.marks(), next, &mut self.spare, out)?;
+            keep(self.columns.marks(), next, out)?;
             return Ok(None);
         }
         if self.columns.is_unopened() {

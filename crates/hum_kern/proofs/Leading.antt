@@ -1,12 +1,12 @@
 -- Tokens that are one subtoken and begin with their digits.
-use Rattle.std.proofs.Common.{◌≡◌, ℕ, ◌+◌, ◌==◌, Bool, true, false, List, [], ◌∷◌, length, take, drop, refl, sym, ap, ◌∙◌, arith}
-use Rattle.std.proofs.Common.{add-one, rules}
+use Rattle.std.proofs.Common.{◌≡◌, ℕ, ◌==◌, Bool, true, false, List, [], ◌∷◌, length, take, drop, refl, sym, ap, ◌∙◌, arith}
+use Rattle.std.proofs.Common.{add-one, rules, not, ◌&&◌}
 use Rattle.std.specs.List.{list_any}
 use Rattle.hum_kern.specs.declared.runs.Class.TheVariants.{Digit, Other}
 use Rattle.hum_kern.specs.Runs.{run, front, behind}
 use Rattle.hum_kern.specs.Classes.{is_in, is_digit, is_grace_sign, is_divider}
 use Rattle.hum_kern.specs.Duration.{spelling, spelling_of, is_empty, said, said_of, duration}
-use Rattle.hum_kern.specs.Subtokens.{subtokens}
+use Rattle.hum_kern.specs.Subtokens.{subtokens, leads}
 
 -- No space stands in it, nor the sign of a grace note.
 pub record IsPlain (bytes : List ℕ) : Type 0 where
@@ -71,6 +71,35 @@ leading_duration bytes some none =
     let parts = spelling [] (front (is_in Digit) bytes) (behind (is_in Digit) bytes) in
     let told : said_of bytes parts ≡ said parts = rw ((leading_plain bytes none).graceless, some) refl in
     sym told ∙ sym (ap (said_of bytes) (leading_spelling bytes some))
+
+-- Which these are
+
+any_behind : (bytes : List ℕ) → list_any is_divider (behind (is_in Digit) bytes) ≡ list_any is_divider bytes
+any_behind [] = refl
+any_behind (b ∷ bytes) = go (any_behind bytes) (is_digit b) refl
+  where
+    go : list_any is_divider (behind (is_in Digit) bytes) ≡ list_any is_divider bytes → (t : Bool) → is_digit b ≡ t
+        → list_any is_divider (behind (is_in Digit) (b ∷ bytes)) ≡ list_any is_divider (b ∷ bytes)
+    go more true e =
+        let plain = digit_plain b e in
+        ap (list_any is_divider) (behind_more b bytes e) ∙ more ∙ rw (plain.0, plain.1) refl
+    go more false e = rw e refl
+
+leads_first : (b : ℕ) (bytes : List ℕ) (t : Bool) → is_digit b ≡ t
+    → leads (b ∷ bytes) ≡ (not (is_empty (front (is_in Digit) (b ∷ bytes))) && not (list_any is_divider (b ∷ bytes)))
+leads_first b bytes true e = let plain = digit_plain b e in rw (e, plain.0, plain.1, add-one) refl
+leads_first b bytes false e = rw e refl
+
+pub leads_by : (bytes : List ℕ) → leads bytes
+    ≡ (not (is_empty (front (is_in Digit) bytes)) && not (list_any is_divider (behind (is_in Digit) bytes)))
+leads_by [] = refl
+leads_by (b ∷ bytes) =
+    leads_first b bytes (is_digit b) refl
+    ∙ ap (λ d. not (is_empty (front (is_in Digit) (b ∷ bytes))) && not d) (sym (any_behind (b ∷ bytes)))
+
+pub empty_is : (bytes : List ℕ) → (length bytes == 0) ≡ is_empty bytes
+empty_is [] = refl
+empty_is (b ∷ bytes) = search rules
 
 pub not_empty : (bytes : List ℕ) → (length bytes == 0) ≡ false → is_empty bytes ≡ false
 not_empty [] some = absurd (search rules)

@@ -8,7 +8,7 @@ use Rattle.std.proofs.lemmas.List.{length-map, drop_all}
 use Rattle.std.proofs.lemmas.Simd.{map-map}
 use Rattle.hum_record.specs.declared.SpinedKind.{SpinedKind}
 use Rattle.hum_record.specs.declared.SpinedKind.TheVariants.{Local, Interpretation, Values}
-use Rattle.hum_record.specs.Row.{Row, Comment, Spined}
+use Rattle.hum_record.specs.Row.{Row, Comment, Spined, chosen}
 use Rattle.hum_path.specs.Sign.{sign_of, is_exchange}
 use Rattle.hum_path.specs.Spines.{Path, Unopened, Spines, width, after, names_after, same_upto}
 use Rattle.hum_path.specs.Rules.{breaks, breaks_as_text, in_order}
@@ -25,7 +25,7 @@ use Rattle.hum_stage.specs.Score.{Follow}
 use Rattle.hum_stage.proofs.Scores.{path_passed}
 use Rattle.hum_spread.specs.Spread.{filled, spread, tokens_in}
 use Rattle.hum_spread.proofs.Spreading.{marks, formed_length}
-use Rattle.hum_columns.specs.Chosen.{chosen, is_torn, opening_of, flags}
+use Rattle.hum_columns.specs.Chosen.{is_torn, opening_of, flags}
 use Rattle.hum_columns.specs.Deciding.{at_path}
 use Rattle.hum_columns.proofs.ChosenLists.{chosen_length, chosen_map}
 use Rattle.hum_columns.proofs.ChosenJoins.{chosen_tokens, chosen_marks}

@@ -5,7 +5,7 @@ use Rattle.std.specs.List.{find}
 use Rattle.std.proofs.lemmas.List.{length-map}
 use Rattle.hum_record.specs.declared.SpinedKind.{SpinedKind}
 use Rattle.hum_record.specs.declared.SpinedKind.TheVariants.{Local, Interpretation, Values}
-use Rattle.hum_record.specs.Row.{Row, Comment, Spined, text_of}
+use Rattle.hum_record.specs.Row.{Row, Comment, Spined, text_of, chosen}
 use Rattle.hum_path.specs.Sign.{sign_of}
 use Rattle.hum_path.specs.Spines.{Path, Unopened, Spines, after}
 use Rattle.hum_path.specs.Rules.{breaks_as_text, in_order}
@@ -19,7 +19,7 @@ use Rattle.hum_stage.specs.declared.faults.End.TheVariants.{Closed}
 use Rattle.hum_stage.specs.Score.{IsScore}
 use Rattle.hum_stage.specs.Meaning.{KeepsScore}
 use Rattle.hum_spread.specs.Spread.{filled, spread}
-use Rattle.hum_columns.specs.Chosen.{chosen, is_torn, opening_if, opening_of, flags}
+use Rattle.hum_columns.specs.Chosen.{is_torn, opening_if, opening_of, flags}
 use Rattle.hum_columns.specs.Deciding.{at_path}
 use Rattle.hum_extract.specs.declared.choice.Choice.{Choice as WrittenChoice}
 use Rattle.hum_extract.specs.Choice.{Choice, opening_flags, misses}

@@ -5,7 +5,7 @@ use Rattle.std.specs.List.{list_any, find}
 use Rattle.std.specs.Str.{bytes_eq}
 use Rattle.std.proofs.lemmas.Bool.{or_parts, not-false}
 use Rattle.hum_record.specs.declared.SpinedKind.TheVariants.{Local, Interpretation, Values}
-use Rattle.hum_record.specs.Row.{Row, Comment, Spined}
+use Rattle.hum_record.specs.Row.{Row, Comment, Spined, chosen}
 use Rattle.hum_path.specs.Spines.{Path, Unopened}
 use Rattle.hum_path.specs.Rules.{breaks_as_text, in_order}
 use Rattle.hum_path.specs.Score.{path_after}
@@ -18,11 +18,12 @@ use Rattle.hum_stage.specs.Score.{Follow, IsScore}
 use Rattle.hum_stage.specs.Meaning.{KeepsScore}
 use Rattle.hum_stage.specs.Decided.{at_once}
 use Rattle.hum_spread.specs.Spread.{filled}
-use Rattle.hum_columns.specs.Chosen.{chosen, flags}
+use Rattle.hum_columns.specs.Chosen.{flags}
 use Rattle.hum_columns.specs.Deciding.{at_path}
 use Rattle.hum_extract.specs.Choice.{Names, each_chosen, opening_flags, misses, names_beyond}
 use Rattle.hum_extract.specs.Extract.{cut, opened, extract}
-use Rattle.hum_extract.proofs.ChosenTokens.{chosen_some, filled_one}
+use Rattle.hum_record.proofs.Left.{chosen_filled}
+use Rattle.hum_extract.proofs.ChosenTokens.{filled_one}
 use Rattle.hum_extract.proofs.Taking.{opening_length}
 use Rattle.hum_laws.specs.declared.given.Given.{Given}
 use Rattle.hum_laws.specs.Piped.{IsAlone, IsPiped}
@@ -65,7 +66,7 @@ module _ (names : List (List ℕ)) where
       go false missed e =
           let any = not-false _ (or_parts (names_beyond (Names names) (length tokens))
           (not (list_any (λ b. b) (opening_flags (Names names) tokens))) missed).1 in
-          let some = chosen_some (opening_flags (Names names) tokens) tokens any (opening_length (Names names) tokens) in
+          let some = chosen_filled (opening_flags (Names names) tokens) tokens (opening_length (Names names) tokens) any in
           let one : Spined Interpretation us ∷ [] ≡ rows = sym (filled_one Interpretation us some) ∙ cc in
           let first : Some us ≡ Some ts = rw (← one) at is in
           let same : us ≡ ts = cc in

@@ -4,7 +4,7 @@ use Rattle.std.specs.Prelude.{nat_le, nat_lt, length, Result, Ok, Err}
 use Rattle.std.specs.List.{list_any}
 use Rattle.hum_record.specs.declared.SpinedKind.{SpinedKind}
 use Rattle.hum_record.specs.declared.SpinedKind.TheVariants.{Local, Interpretation, Values}
-use Rattle.hum_record.specs.Row.{Row, Comment, Spined, text_of}
+use Rattle.hum_record.specs.Row.{Row, Comment, Spined, text_of, chosen}
 use Rattle.hum_record.specs.Building.{spelled}
 use Rattle.hum_path.specs.Sign.{sign_of, is_exclusive}
 use Rattle.hum_path.specs.Spines.{Path, Unopened, Spines, after}
@@ -20,7 +20,7 @@ use Rattle.hum_stage.specs.Meaning.{KeepsScore}
 use Rattle.hum_stage.specs.Decided.{Decision, at_once}
 use Rattle.hum_rid.specs.Rid.{rid, meaning as meaning_of_rid}
 use Rattle.hum_spread.specs.Spread.{filled, spread}
-use Rattle.hum_columns.specs.Chosen.{chosen, opening_of, flags}
+use Rattle.hum_columns.specs.Chosen.{opening_of, flags}
 use Rattle.hum_columns.specs.Deciding.{ColumnCommand, at_path, by_columns}
 use Rattle.hum_extract.specs.Written.{choice_of}
 use Rattle.hum_extract.specs.Choice.{Choice, opening_flags}

@@ -7,7 +7,7 @@ use Rattle.std.proofs.lemmas.Bool.{and_parts, and_from, or_parts, or_from, false
 use Rattle.std.proofs.lemmas.Bool.Decides.{nat_tests}
 use Rattle.hum_record.specs.declared.SpinedKind.{SpinedKind}
 use Rattle.hum_record.specs.declared.SpinedKind.TheVariants.{Local, Interpretation, Values}
-use Rattle.hum_record.specs.Row.{Row, Comment, Spined}
+use Rattle.hum_record.specs.Row.{Row, Comment, Spined, chosen}
 use Rattle.hum_path.specs.declared.signs.Sign.{Sign}
 use Rattle.hum_path.specs.declared.signs.Sign.TheVariants.{Split, Join, Exchange, Add, End, Exclusive, Plain}
 use Rattle.hum_path.specs.Sign.{sign_of, is_join, is_exchange}
@@ -24,7 +24,7 @@ use Rattle.hum_stage.specs.declared.faults.Rule.{Rule}
 use Rattle.hum_stage.specs.declared.faults.Rule.TheVariants.{X2}
 use Rattle.hum_stage.specs.Score.{Follow, IsScore}
 use Rattle.hum_spread.specs.Spread.{touches, filled}
-use Rattle.hum_columns.specs.Chosen.{chosen, is_torn, each_piece, opening_of, flags}
+use Rattle.hum_columns.specs.Chosen.{is_torn, each_piece, opening_of, flags}
 use Rattle.hum_columns.specs.Deciding.{at_path}
 use Rattle.hum_columns.proofs.ChosenJoins.{each_tokens}
 use Rattle.hum_columns.proofs.Flags.{flags_width, flags_open, flags_after, flags_onward, text_opening}

@@ -2,6 +2,10 @@
 //!
 //! [`Paths`] follows a score record by record and refuses the first record that breaks a path rule
 //! (Humdrum Toolkit: Reference Manual, syntax; the rules and their codes are in `docs/SYNTAX.md`).
+//!
+//! [`Moves`] says where each spine after a record comes from; [`Carried`] and [`Origins`] take along
+//! what is remembered of each spine and the opening spine that it comes from, and [`Marks`] tells for
+//! each column whether it is marked.
 #![tactic(auto)]
 
 ghost use Rattle.std.specs.Prelude.{◌≡◌};

@@ -10,7 +10,7 @@ use Rattle.hum_record.specs.Building.{spelled, tab_between, tokens_in, IsDraft}
 use Rattle.hum_record.proofs.Ends.{ends_push}
 use Rattle.hum_record.proofs.Laws.{parts_join, parts_filled, only, row_read}
 
-spelled_push : (ts : List (List ℕ)) (t : List ℕ) → ts ≢ [] → spelled (ts ++ t ∷ []) ≡ spelled ts ++ (9 ∷ t)
+pub spelled_push : (ts : List (List ℕ)) (t : List ℕ) → ts ≢ [] → spelled (ts ++ t ∷ []) ≡ spelled ts ++ (9 ∷ t)
 spelled_push [] t filled = absurd (filled refl)
 spelled_push (x ∷ []) t filled = refl
 spelled_push (x ∷ y ∷ ts) t filled = ap (λ rest. x ++ (9 ∷ rest)) (spelled_push (y ∷ ts) t (λ e. cc)) ∙ sym (append_assoc x (9 ∷ spelled (y ∷ ts)) (9 ∷ t))
@@ -25,7 +25,7 @@ lawful_push k [] t h is = (is, tt)
 lawful_push k (x ∷ ts) t h is = (h.0, lawful_push k ts t h.1 is)
 
 -- lawful tokens are the parts of their text
-again : (k : SpinedKind) (ts : List (List ℕ)) → ts ≢ [] → AllByRecursion (IsToken k) ts → parts (spelled ts) ≡ ts
+pub again : (k : SpinedKind) (ts : List (List ℕ)) → ts ≢ [] → AllByRecursion (IsToken k) ts → parts (spelled ts) ≡ ts
 again k [] filled h = absurd (filled refl)
 again k (t ∷ ts) filled h = parts_join k t ts h
 

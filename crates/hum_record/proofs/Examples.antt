@@ -1,9 +1,9 @@
 -- Small texts, read by the definitions.
-use Rattle.std.proofs.Common.{◌≡◌, [], ◌∷◌, ◌++◌, Ok, Err, refl}
+use Rattle.std.proofs.Common.{◌≡◌, [], ◌∷◌, ◌++◌, true, false, Ok, Err, refl}
 use lib.Chars.{codes}
 use Rattle.hum_record.specs.declared.SpinedKind.TheVariants.{Values}
 use Rattle.hum_record.specs.declared.RecordFault.TheVariants.{S4, S5, S6, S8}
-use Rattle.hum_record.specs.Row.{Comment, Spined, text_of}
+use Rattle.hum_record.specs.Row.{Comment, Spined, text_of, with_chosen}
 use Rattle.hum_record.specs.Spelling.{reading}
 
 two_tokens : reading (codes "4c" ++ 9 ∷ codes "2e") ≡ Ok (Spined Values (codes "4c" ∷ codes "2e" ∷ []))
@@ -11,6 +11,10 @@ two_tokens = refl
 
 its_text : text_of (Spined Values (codes "4c" ∷ codes "2e" ∷ [])) ≡ codes "4c" ++ 9 ∷ codes "2e"
 its_text = refl
+
+first_and_last : with_chosen (true ∷ false ∷ true ∷ []) (Spined Values (codes "4c" ∷ codes "2e" ∷ codes "." ∷ []))
+    ≡ Spined Values (codes "4c" ∷ codes "." ∷ [])
+first_and_last = refl
 
 comment : reading (codes "!!x" ++ 9 ∷ []) ≡ Ok (Comment (codes "!!x" ++ 9 ∷ []))
 comment = refl

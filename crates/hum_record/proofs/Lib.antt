@@ -9,3 +9,4 @@ pub mod Cuts
 pub mod Laws
 pub mod Drafts
 pub mod TooLong
+pub mod Left

@@ -1,5 +1,5 @@
 -- Records as a reader sees them, and their texts.
-use Rattle.std.specs.Prelude.{ℕ, List, [], length, slice_index_or}
+use Rattle.std.specs.Prelude.{ℕ, Bool, true, false, List, [], ◌∷◌, length, slice_index_or}
 use Rattle.std.specs.List.{join_with_byte}
 use Rattle.hum_record.specs.declared.Kind.{Kind}
 use Rattle.hum_record.specs.declared.Kind.TheVariants.{Global, Local as AnyLocal}
@@ -44,3 +44,15 @@ row_of Global text tokens = Comment text
 row_of AnyLocal text tokens = Spined Local tokens
 row_of AnyInterpretation text tokens = Spined Interpretation tokens
 row_of AnyValues text tokens = Spined Values tokens
+
+-- what stands at the chosen places of a list
+abbrev pub chosen : {X : Type 0} → List Bool → List X → List X
+chosen [] xs = []
+chosen (flag ∷ flags) [] = []
+chosen (true ∷ flags) (x ∷ xs) = x ∷ chosen flags xs
+chosen (false ∷ flags) (x ∷ xs) = chosen flags xs
+
+-- a record with its chosen tokens alone
+abbrev pub with_chosen : List Bool → Row → Row
+with_chosen flags (Comment text) = Comment text
+with_chosen flags (Spined kind tokens) = Spined kind (chosen flags tokens)

@@ -6,8 +6,8 @@
 //! neither). The rules are those of the Humdrum Toolkit's reference manual, in its chapter on the
 //! syntax (<https://www.humdrum.org/guide/ch05/>).
 //!
-//! [`Record::parse`] reads a line, and [`RecordBuilder`] makes a record token by token; [`Making`] does
-//! so where the record may grow too long.
+//! [`Record::parse`] reads a line, and [`Record::retain`] leaves some of its tokens alone;
+//! [`RecordBuilder`] makes a record token by token; [`Making`] does so where it may grow too long.
 #![tactic(auto)]
 
 ghost use Rattle.std.specs.Prelude.{◌≡◌};
@@ -18,6 +18,7 @@ mod bits;
 mod building;
 mod contents;
 pub mod iter;
+mod leaving;
 mod line;
 mod making;
 mod near;

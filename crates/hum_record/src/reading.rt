@@ -1,14 +1,17 @@
 //! A record, and how a line is read as one.
-ghost use Rattle.std.specs.Prelude.{◌≡◌, ◌≢◌, ◌<◌, ◌≤◌, false, Ok, IfOk, IfErr, OnOk, MatchResult};
+ghost use Rattle.std.specs.Prelude.{◌≡◌, ◌≢◌, ◌<◌, ◌≤◌, true, false, Ok, IfOk, IfErr, OnOk, MatchResult};
 ghost use Rattle.std.specs.Prelude.{length, take};
 ghost use Rattle.hum_record.specs.Spelling.{IsTokenOf, IsTextOf, has_byte, is_comment, reading};
 ghost use Rattle.hum_record.specs.Spelling.{Gives, Fails, Breaks};
 ghost use Rattle.hum_record.specs.Fields.{AreFields, row_in};
 ghost use Rattle.hum_record.specs.Plain.{IsPlain};
 ghost use Rattle.hum_record.specs.Row.{Row, kind_of, row_of, tokens_of, width_of, token_at, text_of};
+ghost use Rattle.hum_record.specs.Row.{with_chosen};
+ghost use Rattle.std.specs.List.{list_any};
 ghost use Rattle.hum_record.specs.declared.RecordFault.TheVariants.{Memory};
 
 use crate::iter::Tokens;
+use crate::leaving::leave;
 use crate::near::{NEAR, copy_near, plain_ends, put_plain_ends};
 use crate::spare::{Body, Spare, new_body};
 use crate::tokens::{Cut, lawful_kind, push_ends, token_at_end, token_kind};
@@ -193,6 +196,17 @@ impl Record {
         body.ends.clear();
         body.ends.extend_from_slice(&self.body.ends)?;
         Ok(Record { body })
+    }
+
+    /// Drops the tokens that aren't marked, at least one of which is, in the record's own memory.
+    #[inline]
+    pub fn retain(&mut self, marks: &[bool])
+        requires as_wide { length marks.now ≡ width_of self.old }
+        requires some { list_any (λ b. b) marks.now ≡ true }
+        ensures { self.new ≡ with_chosen marks.now self.old }
+    {
+        let Body { text, ends } = &mut *self.body;
+        leave(text, ends, marks);
     }
 
     /// What the record is.

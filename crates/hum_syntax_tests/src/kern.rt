@@ -1,6 +1,6 @@
 //! Notes and durations worked by hand.
 use hum_frac::Frac;
-use hum_kern::{KernFault, Length, Note, read_duration, read_note, read_recip};
+use hum_kern::{KernFault, Length, Note, read_duration, read_leading, read_note, read_recip};
 use hum_pitch::{Pitch, write_pitch};
 use std::process::Abort;
 
@@ -40,6 +40,34 @@ const PLAIN: &[Row] = &[
 #[test]
 fn plain_durations(rt: HostRuntime) {
     check_durations(&rt, PLAIN);
+}
+
+/// Tokens, and whether each begins with a digit and is one subtoken without the sign of a grace note.
+const LEADING: &[(&[u8], bool)] = &[
+    (b"4c", true),
+    (b"16.c]", true),
+    (b"3%2d", true),
+    (b"0", true),
+    (b"4097c", true),
+    (b"[4c", false),
+    (b"c4", false),
+    (b"r", false),
+    (b"4cq", false),
+    (b"4c 4e", false),
+    (b"4c ", false),
+];
+
+#[test]
+fn leading_durations(rt: HostRuntime) {
+    for row in LEADING {
+        let (token, leads) = *row;
+        let want = if leads {
+            Some(read_duration(token))
+        } else {
+            None
+        };
+        assert_eq!(rt; read_leading(token), want, "{token:?}");
+    }
 }
 
 const QUOTIENTS: &[Row] = &[

@@ -85,6 +85,38 @@ fn reads_each_kind(rt: HostRuntime) {
     check_read(&rt, rt.alloc(), EACH_KIND);
 }
 
+/// A text, which of its tokens are marked, and the text of these alone.
+type Marked = (&'static [u8], &'static [bool], &'static [u8]);
+
+const MARKED: &[Marked] = &[
+    (b"4c\t2e\t1g", &[true, false, true], b"4c\t1g"),
+    (b"4c\t2e\t1g", &[false, true, true], b"2e\t1g"),
+    (b"4c\t16.e]\t.", &[false, true, false], b"16.e]"),
+    (b"4c\t2e\t.", &[false, false, true], b"."),
+    (b"4c\t2e", &[true, true], b"4c\t2e"),
+    (b"*^\t*\t*-", &[true, false, true], b"*^\t*-"),
+    (b"!a\t!", &[false, true], b"!"),
+];
+
+#[test]
+fn retains_marked_tokens(rt: HostRuntime) {
+    let alloc = rt.alloc();
+    for row in MARKED {
+        let (text, marks, left) = *row;
+        let mut record = read(&rt, alloc, text);
+        assert!(rt; marks.len() == record.width() && marks.iter().any(|mark| *mark));
+        record.retain(marks);
+        assert_eq!(rt; record.text(), left);
+        let again = read(&rt, alloc, left);
+        assert_eq!(rt; record.width(), again.width(), "{text:?}");
+        for j in 0..record.width() {
+            if j < again.width() {
+                assert_eq!(rt; record.token(j), again.token(j), "token {j}");
+            }
+        }
+    }
+}
+
 const MANY_TOKENS: &[Row] = &[(
     b"1\t22\t333\t4\t55\t6\t7\t88\t9\t10",
     Kind::Values,

@@ -1,8 +1,7 @@
 use Rattle.std.proofs.Common.{◌≡◌, drop, map}
 use Rattle.std.specs.List.{list_any}
-use Rattle.hum_record.specs.Row.{tokens_of}
+use Rattle.hum_record.specs.Row.{tokens_of, chosen}
 use Rattle.hum_path.specs.Sign.{sign_of}
-use Rattle.hum_columns.specs.Chosen.{chosen}
 use Rattle.hum_cleave.specs.Cleave.{is_end}
 use Rattle.hum_cleave.proofs.merging.has_end.Given as goal
 

@@ -7,8 +7,8 @@ use Rattle.hum_extract.specs.Written.{choice_of}
 use Rattle.hum_extract.proofs.Taking.{opening_length}
 use Rattle.hum_extract.proofs.columns.open.Goals as goal
 
-pub keep-requires : goal.keep-requires
-keep-requires c =
+pub keep-requires-clause-as_wide : goal.keep-requires-clause-as_wide
+keep-requires-clause-as_wide c =
     let choice = choice_of c.args.choice.now in
     let found = rw c.in-Some.is at c.in_ok-marks.ensures in
     let opened = c.in_ok-open-in-Some.ensures in

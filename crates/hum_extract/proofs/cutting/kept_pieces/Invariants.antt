@@ -1,6 +1,6 @@
 use Rattle.std.proofs.Common.{◌≡◌, ◌++◌, drop, map}
-use Rattle.hum_record.specs.Row.{tokens_of}
-use Rattle.hum_columns.specs.Chosen.{chosen, each_piece}
+use Rattle.hum_record.specs.Row.{tokens_of, chosen}
+use Rattle.hum_columns.specs.Chosen.{each_piece}
 use Rattle.hum_extract.specs.Extract.{pieces, softened}
 use Rattle.hum_extract.proofs.cutting.kept_pieces.Given as goal
 

@@ -1,14 +1,17 @@
-use Rattle.std.proofs.Common.{◌≡◌, ◌∙◌, sym, ap, false, ℕ, List, []}
+use Rattle.std.proofs.Common.{◌≡◌, ◌∙◌, sym, ap, refl, true, false, not, ℕ, List, []}
 use Rattle.std.specs.List.{list_any}
 use Rattle.hum_kern.specs.declared.runs.Class.TheVariants.{Digit}
 use Rattle.hum_kern.specs.Classes.{is_in, is_divider}
 use Rattle.hum_kern.specs.Duration.{is_empty, said, spelling}
 use Rattle.hum_kern.specs.Runs.{front, behind}
-use Rattle.hum_kern.proofs.Leading.{leading_plain, leading_duration, not_empty}
+use Rattle.hum_kern.proofs.Leading.{leading_plain, leading_duration, leads_by, empty_is, not_empty}
+use Rattle.std.proofs.lemmas.Bool.{and_right}
 use Rattle.hum_kern.proofs.duration.read_leading.Goals as goal
+use Rattle.hum_kern.proofs.duration.read_leading.Goals.{then-is_empty-via-then-is_empty}
+use Rattle.hum_kern.proofs.duration.read_leading.Goals.{then-is_empty-via-else-is_empty+then-has_divider}
 
-pub returns : goal.returns
-returns c =
+pub returns-clause-read : goal.returns-clause-read
+returns-clause-read c =
     let token = c.args.token.now in
     let digits = c.split_run.ensures.front in
     let rest = c.split_run.ensures.behind in
@@ -22,3 +25,27 @@ returns c =
           ∙ leading_duration token some none,
       (leading_plain token none).alone,
     )
+
+pub returns-clause-which : goal.returns-clause-which
+returns-clause-which c =
+    let token = c.args.token.now in
+    let some : is_empty (front (is_in Digit) token) ≡ false =
+    ap is_empty (sym c.split_run.ensures.front) ∙ not_empty c.split_run.result.0.now (sym c.is_empty.ensures ∙ c.if-is_empty.false) in
+    let none : list_any is_divider (behind (is_in Digit) token) ≡ false =
+    ap (list_any is_divider) (sym c.split_run.ensures.behind) ∙ sym c.has_divider.ensures ∙ c.if-has_divider.false in
+    rw (leads_by token, some, none) refl
+
+pub returns-then-is_empty-clause-which : goal.returns-then-is_empty-clause-which
+returns-then-is_empty-clause-which c =
+    let token = c.args.token.now in
+    sym (leads_by token ∙ elim c.then-is_empty.branch [
+      | then-is_empty-via-then-is_empty w ↦
+          let none : is_empty (front (is_in Digit) token) ≡ true =
+          ap is_empty (sym c.split_run.ensures.front) ∙ sym (empty_is c.split_run.result.0.now)
+          ∙ sym c.is_empty.ensures ∙ w.if-is_empty.true in
+          rw none refl
+      | then-is_empty-via-else-is_empty+then-has_divider w ↦
+          let some : list_any is_divider (behind (is_in Digit) token) ≡ true =
+          ap (list_any is_divider) (sym c.split_run.ensures.behind) ∙ sym w.has_divider.ensures ∙ w.if-has_divider.true in
+          rw some (and_right (not (is_empty (front (is_in Digit) token))) false refl)
+    ])

@@ -12,8 +12,8 @@ use Rattle.hum_extract.specs.Written.{choice_of}
 use Rattle.hum_extract.proofs.Taking.{wide_still, gives_still, follows_still, steered_kind, opening_length}
 use Rattle.hum_extract.proofs.columns.ColumnsDecides.step.Goals as goal
 
-pub keep-requires : goal.keep-requires
-keep-requires c =
+pub keep-requires-clause-as_wide : goal.keep-requires-clause-as_wide
+keep-requires-clause-as_wide c =
     let still : steers c.args.next ≡ false = sym c.asks.ensures.asks ∙ c.if-not-asks.true in
     let at = c.requires.score in
     rw c.marks.ensures (wide_still (choice_of c.args.self.now.choice) c.args.next at.past at.memory at.score c.asks.ensures.lawful still)
