@@ -42,7 +42,7 @@ pub fn leave(text: &mut Vec<u8>, ends: &mut Vec<u32>, marks: &[bool])
     // how much is left so far: bytes, and tokens
     let mut len = 0;
     let mut count = 0;
-    // where the next token begins, and has stood from the first on
+    // where the next token begins
     let mut begin = 0;
     for (j, mark) in marks.iter().enumerate() {
         let end = ends[j] as usize;

@@ -198,7 +198,7 @@ impl Record {
         Ok(Record { body })
     }
 
-    /// Drops the tokens that aren't marked, at least one of which is, in the record's own memory.
+    /// Leaves the marked tokens alone, at least one of which there is, in the record's own memory.
     #[inline]
     pub fn retain(&mut self, marks: &[bool])
         requires as_wide { length marks.now ≡ width_of self.old }
