@@ -49,12 +49,22 @@ const LEADING: &[(&[u8], bool)] = &[
     (b"3%2d", true),
     (b"0", true),
     (b"4097c", true),
+    (b"1", true),
+    (b"99", true),
+    (b"100r", true),
+    (b"16.", true),
+    (b"16%3c", true),
+    (b"16/", true),
+    (b"08", true),
     (b"[4c", false),
     (b"c4", false),
     (b"r", false),
     (b"4cq", false),
     (b"4c 4e", false),
     (b"4c ", false),
+    (b"16Q", false),
+    (b"16 16", false),
+    (b"4;c q", false),
 ];
 
 #[test]
