@@ -1,6 +1,6 @@
 //! Ends of notes, one for each column.
-ghost use Rattle.std.specs.Prelude.{◌≡◌, ℕ, true, false, not, length, map, None, Some};
-ghost use Rattle.std.specs.Prelude.{IfOk, OnErr, OnOk, slice_index_or, slice_set};
+ghost use Rattle.std.specs.Prelude.{◌≡◌, ◌++◌, ℕ, true, false, not, length, map, None, Some};
+ghost use Rattle.std.specs.Prelude.{List, Option, IfOk, OnErr, OnOk, slice_index_or, slice_set};
 ghost use Rattle.std.specs.List.{list_any};
 ghost use Rattle.hum_frac.specs.Ratio.{Ratio, plus};
 ghost use Rattle.hum_timebase.specs.Ends.{later, sooner, beyond, next_end};
@@ -25,36 +25,53 @@ fn later(a: Option<Frac>, b: Option<Frac>) -> Option<Frac>
     }
 }
 
-/// The sooner of two ends, the first of which counts only if it is after a time.
-fn sooner_beyond(time: Frac, end: Option<Frac>, least: Option<Frac>) -> Option<Frac>
-    ensures { result ≡ sooner (beyond time end) least }
+/// An end, if it is after a time.
+fn beyond(time: Frac, end: Option<Frac>) -> Option<Frac>
+    ensures { result ≡ beyond time end }
 {
-    let Some(end) = end else {
-        return least;
-    };
-    match least {
-        Some(least) if least.is_before(end) => Some(least),
-        _ => {
-            if time.is_before(end) {
-                Some(end)
-            } else {
-                least
-            }
-        }
+    match end {
+        Some(end) if time.is_before(end) => Some(end),
+        _ => None,
     }
 }
 
-/// The least of some ends that is after a time.
-pub(crate) fn next_end(time: Frac, ends: &[Option<Frac>]) -> Option<Frac>
-    ensures { result ≡ next_end time ends.now }
+/// The sooner of two ends, the first of which counts only if it is after a time.
+fn sooner_beyond(time: Frac, end: Option<Frac>, least: Frac) -> Frac
+    ensures { Some result ≡ sooner (beyond time end) (Some least) }
 {
-    let mut least = None;
+    match end {
+        Some(end) if !least.is_before(end) && time.is_before(end) => end,
+        _ => least,
+    }
+}
+
+/// The least of some ends that is after a time, where that of the ends behind them is known.
+fn least_end(time: Frac, known: Frac, ends: &[Option<Frac>]) -> Frac
+    ensures { (behind : List (Option Ratio)) → next_end time behind ≡ Some known
+        → next_end time (ends.now ++ behind) ≡ Some result }
+{
+    let mut least = known;
     let mut left = ends;
     while let [front @ .., end] = left {
         least = sooner_beyond(time, *end, least);
         left = front;
     }
     least
+}
+
+/// The least of some ends that is after a time. Once there is one, none is asked any more whether there
+/// was one behind it.
+pub(crate) fn next_end(time: Frac, ends: &[Option<Frac>]) -> Option<Frac>
+    ensures { result ≡ next_end time ends.now }
+{
+    let mut left = ends;
+    while let [front @ .., end] = left {
+        left = front;
+        if let Some(end) = beyond(time, *end) {
+            return Some(least_end(time, end, left));
+        }
+    }
+    None
 }
 
 /// The end at a place, if there is one.
