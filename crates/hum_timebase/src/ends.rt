@@ -165,13 +165,13 @@ pub(crate) fn ends_by(
     Ok(next)
 }
 
-/// Whether a note stands in a column whose end is after the time.
+/// Whether a note stands in a column whose end is after the time. Most often it is the time.
 fn is_clash(time: Frac, note: NoteAt, ends: &[Option<Frac>]) -> bool
     ensures { result
         ≡ clash time (Some note.lasting) (slice_index_or ends.now note.column None) }
 {
     match end_at(ends, note.column) {
-        Some(end) => time.is_before(end),
+        Some(end) => end != time && time.is_before(end),
         None => false,
     }
 }
