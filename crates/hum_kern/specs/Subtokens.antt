@@ -1,10 +1,8 @@
 -- The parts of a token that are read each by itself.
-use Rattle.std.specs.Prelude.{◌≡◌, ℕ, ◌==◌, nat_lt, Bool, true, false, not, ◌&&◌, List, [], ◌∷◌}
-use Rattle.std.specs.Prelude.{Some, Ok}
+use Rattle.std.specs.Prelude.{◌≡◌, ℕ, ◌==◌, nat_lt, Bool, true, false, not, ◌&&◌, List, [], ◌∷◌, Some}
 use Rattle.std.specs.List.{slice_split, list_any}
-use Rattle.hum_frac.specs.Ratio.{reduced}
-use Rattle.hum_kern.specs.declared.Length.{Length}
-use Rattle.hum_kern.specs.Duration.{duration}
+use Rattle.hum_frac.specs.Ratio.{Ratio, reduced}
+use Rattle.hum_kern.specs.Duration.{duration, value_in, is_refused}
 use Rattle.hum_kern.specs.Classes.{is_digit, is_divider}
 
 -- a token's parts between single spaces; a part may be empty
@@ -21,16 +19,12 @@ abbrev pub ends_plainly : List ℕ → Bool
 ends_plainly [] = true
 ends_plainly (b ∷ bytes) = nat_lt 57 b && not (list_any is_divider (b ∷ bytes))
 
--- a part of a whole note, told by so many digits at the front
-abbrev pub short_length : ℕ → ℕ → Length
-short_length number digits = record {
-  value = Some (reduced (record { top = 1; bottom = number }));
-  start = 0;
-  end = digits;
-}
+abbrev pub part_of_whole : ℕ → Ratio
+part_of_whole number = reduced (record { top = 1; bottom = number })
 
 -- A token leads, and this is its duration.
-pub record IsLed (token : List ℕ) (found : Length) : Type 0 where
-  pub read : duration token ≡ Ok found
+pub record IsLed (token : List ℕ) (lasting : Ratio) : Type 0 where
+  pub value : value_in (duration token) ≡ Some lasting
+  pub read : is_refused (duration token) ≡ false
   pub alone : subtokens token ≡ token ∷ []
   pub leads : leads token ≡ true

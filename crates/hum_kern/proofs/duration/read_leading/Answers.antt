@@ -6,9 +6,9 @@ use Rattle.hum_kern.specs.Duration.{is_empty, said, spelling}
 use Rattle.hum_kern.specs.Runs.{front, behind}
 use Rattle.hum_kern.proofs.Leading.{leading_plain, leading_duration, leads_by, empty_is, not_empty}
 use Rattle.std.proofs.lemmas.Bool.{and_right}
-use Rattle.hum_kern.proofs.duration.read_any_leading.Goals as goal
-use Rattle.hum_kern.proofs.duration.read_any_leading.Goals.{then-is_empty-via-then-is_empty}
-use Rattle.hum_kern.proofs.duration.read_any_leading.Goals.{then-is_empty-via-else-is_empty+then-has_divider}
+use Rattle.hum_kern.proofs.duration.read_leading.Goals as goal
+use Rattle.hum_kern.proofs.duration.read_leading.Goals.{then-is_empty-via-then-is_empty}
+use Rattle.hum_kern.proofs.duration.read_leading.Goals.{then-is_empty-via-else-is_empty+then-has_divider}
 
 pub returns-clause-read : goal.returns-clause-read
 returns-clause-read c =
