@@ -1,6 +1,6 @@
 //! Timed columns, and the notes in their cells.
 ghost use Rattle.std.specs.Prelude.{◌≡◌, ◌∷◌, ◌++◌, ◌≤◌, ◌<◌, [], length, true, false};
-ghost use Rattle.std.specs.Prelude.{IfOk, OnOk, OnErr, IsTrue, slice_index_or, map};
+ghost use Rattle.std.specs.Prelude.{IfOk, OnOk, OnErr, IfSome, IsTrue, slice_index_or, map};
 ghost use Rattle.std.specs.List.{list_any};
 ghost use Rattle.hum_record.specs.Row.{tokens_of};
 ghost use Rattle.hum_record.specs.Contents.{is_null, is_barline};
@@ -12,9 +12,10 @@ ghost use Rattle.hum_timebase.specs.Notes.{is_sounding};
 ghost use Rattle.hum_timebase.specs.Notes.{subtokens, first_duration, note_of, notes_of};
 ghost use Rattle.hum_timebase.specs.Notes.{is_misread, has_misread};
 ghost use Rattle.hum_timebase.specs.Reading.{content_of, rest_parts, is_part, Read};
+ghost use Rattle.hum_timebase.specs.Reading.{IsNote};
 
 use hum_frac::Frac;
-use hum_kern::{KernFault, Length, read_duration, read_leading};
+use hum_kern::{KernFault, Length, leading_part, read_duration, read_leading};
 use hum_path::{Marks, Paths, token_sign};
 use hum_record::{Record, is_barline, is_null};
 use std::alloc::{AllocError, Global};
@@ -178,10 +179,19 @@ fn first_of_parts(token: &[u8]) -> Result<Option<Frac>, KernFault>
     Ok(found)
 }
 
-/// The note of a data token.
+/// The note of a token in a timed column whose duration one or two digits at its front tell, as those of most
+/// do; of others nothing is said.
+fn plain_note(timed: bool, token: &[u8]) -> Option<Frac>
+    ensures { IfSome result (IsNote timed token.now) }
+{
+    if timed { leading_part(token) } else { None }
+}
+
+/// The note of any data token.
 ///
 /// # Errors
 /// K3 where a duration of it is refused.
+#[inline(never)]
 fn note(timed: bool, token: &[u8]) -> Result<Option<Frac>, KernFault>
     ensures value { IfOk result (λ value. value ≡ note_of timed token.now) }
     ensures read { OnOk result (is_misread timed token.now ≡ false) }
@@ -192,6 +202,15 @@ fn note(timed: bool, token: &[u8]) -> Result<Option<Frac>, KernFault>
     } else {
         Ok(None)
     }
+}
+
+/// One note more.
+fn put_note(notes: &mut Vec<NoteAt>, column: usize, lasting: Frac) -> Result<(), AllocError>
+    ensures { OnOk result (notes.new.items ≡ notes.old.items
+        ++ record { column = column; lasting = lasting } ∷ []) }
+{
+    notes.push(NoteAt { column, lasting })?;
+    Ok(())
 }
 
 /// Reads the notes of a data record's tokens; or answers a fault, K3, where a duration is refused.
@@ -215,12 +234,13 @@ pub(crate) fn read_notes(
         if is_null(token) {
             continue;
         }
+        if let Some(lasting) = plain_note(*timed, token) {
+            put_note(notes, here, lasting)?;
+            continue;
+        }
         match note(*timed, token) {
             Ok(None) => {}
-            Ok(Some(lasting)) => notes.push(NoteAt {
-                column: here,
-                lasting,
-            })?,
+            Ok(Some(lasting)) => put_note(notes, here, lasting)?,
             Err(fault) => return Ok(Some(fault)),
         }
     }
