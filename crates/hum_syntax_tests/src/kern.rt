@@ -1,6 +1,8 @@
 //! Notes and durations worked by hand.
 use hum_frac::Frac;
-use hum_kern::{KernFault, Length, Note, read_duration, read_leading, read_note, read_recip};
+use hum_kern::{
+    KernFault, Length, Note, leading_part, read_duration, read_leading, read_note, read_recip,
+};
 use hum_pitch::{Pitch, write_pitch};
 use std::process::Abort;
 
@@ -77,6 +79,38 @@ fn leading_durations(rt: HostRuntime) {
             None
         };
         assert_eq!(rt; read_leading(token), want, "{token:?}");
+    }
+}
+
+// whether one or two digits at the front alone tell the duration
+const SHORT: &[(&[u8], bool)] = &[
+    (b"4c", true),
+    (b"1", true),
+    (b"16[", true),
+    (b"99r", true),
+    (b"2GG#;", true),
+    (b"", false),
+    (b"0c", false),
+    (b"08", false),
+    (b"100", false),
+    (b"16.c", false),
+    (b"8%3", false),
+    (b"4/", false),
+    (b"[4c", false),
+    (b"16Q", false),
+    (b"4cq", false),
+    (b"4c 4e", false),
+];
+
+#[test]
+fn leading_parts(rt: HostRuntime) {
+    for row in SHORT {
+        let (token, tells) = *row;
+        let want = match read_duration(token) {
+            Ok(found) if tells => found.value,
+            _ => None,
+        };
+        assert_eq!(rt; leading_part(token), want, "{token:?}");
     }
 }
 
