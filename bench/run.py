@@ -167,6 +167,15 @@ def chain(size):
     ])
 
 
+def stages(size):
+    """What a further stage costs that lets all pass, with its link: the same command once, and several times in a row."""
+    score = made_score(size)
+    show(f'{size} MB, rid -G in a row', [
+        (f'{count} in a row' if count > 1 else 'once', plan(f'row{count}', f'out: read {score}' + ' | rid -G' * count))
+        for count in (1, 2, 5, 9)
+    ])
+
+
 def tree(size):
     """A column of each of four scores, side by side."""
     score = made_score(size)
@@ -202,6 +211,7 @@ def main():
     for size in SIZES:
         commands(size)
         chain(size)
+        stages(size)
         tree(size)
     waiting()
 

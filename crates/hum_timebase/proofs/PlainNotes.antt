@@ -26,8 +26,7 @@ note_is token lasting led =
     let note : note_of true token ≡ first_duration (subtokens token) = rw sounding refl in
     let first : first_duration (token ∷ []) ≡ Some lasting = rw led.value refl in
     let misread : is_misread true token ≡ list_any (λ part. is_refused (duration part)) (subtokens token) = rw sounding refl in
-    let refused : list_any (λ part. is_refused (duration part)) (token ∷ []) ≡ false = rw led.read refl in
-    (
+    let refused : list_any (λ part. is_refused (duration part)) (token ∷ []) ≡ false = rw led.read refl in (
       note ∙ ap first_duration led.alone ∙ first,
       misread ∙ ap (list_any (λ part. is_refused (duration part))) led.alone ∙ refused,
     )
