@@ -1,6 +1,6 @@
 -- The parts of a token that are read each by itself.
-use Rattle.std.specs.Prelude.{◌≡◌, ℕ, ◌==◌, nat_lt, nat_le, Bool, true, false, not, ◌&&◌, List, [], ◌∷◌, Some}
-use Rattle.std.specs.Prelude.{if◌then◌else◌}
+use Rattle.std.specs.Prelude.{◌≡◌, ℕ, ◌==◌, nat_lt, nat_le, Bool, true, false, not, ◌&&◌}
+use Rattle.std.specs.Prelude.{List, [], ◌∷◌, Some, if◌then◌else◌}
 use Rattle.std.specs.List.{slice_split, list_any}
 use Rattle.hum_frac.specs.Ratio.{Ratio, reduced}
 use Rattle.hum_kern.specs.Duration.{duration, value_in, is_refused}
@@ -15,7 +15,8 @@ abbrev pub leads : List ℕ → Bool
 leads [] = false
 leads (b ∷ bytes) = is_digit b && not (list_any is_divider bytes)
 
--- what leaves it to the digits in front of it to tell a duration
+-- what leaves it to the digits in front of it to tell a duration: nothing, or a byte above the digits
+-- first, and no divider
 abbrev pub ends_plainly : List ℕ → Bool
 ends_plainly [] = true
 ends_plainly (b ∷ bytes) = nat_lt 57 b && not (list_any is_divider (b ∷ bytes))
@@ -25,11 +26,12 @@ abbrev pub ends_shortly : List ℕ → Bool
 ends_shortly [] = true
 ends_shortly (b ∷ bytes) = if is_digit b then ends_plainly bytes else ends_plainly (b ∷ bytes)
 
--- whether one or two digits at the front of a token tell its duration, the first of them no zero
+-- whether a token begins with one or two digits, the first of them no zero, and ends plainly
 abbrev pub leads_shortly : List ℕ → Bool
 leads_shortly [] = false
 leads_shortly (b ∷ bytes) = (nat_lt 48 b && nat_le b 57) && ends_shortly bytes
 
+-- one divided by a number, in lowest terms
 abbrev pub part_of_whole : ℕ → Ratio
 part_of_whole number = reduced (record { top = 1; bottom = number })
 
