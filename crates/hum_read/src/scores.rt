@@ -223,10 +223,18 @@ impl<R: Source> ScoreReader<R> {
         }
     }
 
-    /// The next record, or none where there is nothing yet or it has stopped: `told` answers which,
-    /// so that the answer of a poll is made in one place but for a record.
+    /// Why nothing more comes, once it has stopped: the end, or a failed read or want of memory.
     #[inline]
-    fn next(&mut self) -> Option<Record>
+    pub fn stopped(&self) -> Option<Result<End, ReadError>>
+        ensures { result ≡ self.now.stopped }
+    {
+        self.stopped
+    }
+
+    /// The next record, or none where there is nothing yet or it has stopped: [`ScoreReader::stopped`]
+    /// tells which. The answer of [`ScoreReader::poll`] is made of both.
+    #[inline(never)]
+    pub fn next(&mut self) -> Option<Record>
         ensures gives { self.old.stopped ≡ None
             → GivesNext self.old (given_by result self.new.stopped) self.new }
         ensures stops { self.new.stopped ≡ stop_of (given_by result self.new.stopped) }
