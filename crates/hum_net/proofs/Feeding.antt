@@ -2,7 +2,7 @@
 use Rattle.std.proofs.Common.{◌≡◌, ◌∙◌, ℕ, ◌<◌, Bool, true, false, ◌||◌, List, ◌++◌, length, Option, Some, None, refl}
 use Rattle.std.proofs.Common.{sym, ap, subst, arith, slice_get, slice_set, get_or, length-set, eq-eqb, ne_eqb}
 use Rattle.std.proofs.Common.{nat_lt, is_none, ⊎_elim}
-use Rattle.std.proofs.lemmas.Option.{slice_get_cases}
+use Rattle.std.proofs.lemmas.Option.{slice_get_cases, slice_get_within, same_Some}
 use Rattle.std.proofs.lemmas.Bool.{cond-true, cond-false, and_parts, false≢true}
 use Rattle.hum_turns.specs.Links.{has_room}
 use Rattle.hum_turns.proofs.Near.{ready_reader}
@@ -73,6 +73,15 @@ module _ {F W : Type 0} (feeds : F → List ℕ → At → Type 0) (works : W �
           };
         };
   }
+
+-- What was just put lies there.
+pub still_here : {N : Type 0} (nodes : List N) (k : ℕ) (node after x : N)
+    → slice_get nodes k ≡ Some node → x ≡ get_or (slice_set nodes k after) k x → x ≡ after
+still_here nodes k node after x was e =
+    let n = slice_get_within nodes k node was in
+    let len = length-set nodes k after in
+    same_Some x after
+    (sym (nth (slice_set nodes k after) k x (omega (arith, n, len)) e) ∙ set_here nodes k after node was)
 
 -- What lies where an actor has its turn.
 

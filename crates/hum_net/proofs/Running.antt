@@ -567,6 +567,27 @@ module _ {F W S O : Type 0} (stands : Node F W → List ℕ → At → Type 0)
         ∙ unfailed_now stands contents flushed start s after n.goes.to k n.goes.at none)))
         n.link_is
 
+    -- The run is over.
+    pub ran_over : is_over ≡ true
+        → Ran stands remaining ended contents flushed order leftmost link is_over o q old after
+    unfolding joined next_at leads_more
+    ran_over is = record {
+      reads = λ i. ran.reads i ++ turned.reads i;
+      read = λ i. read_more _ _ _ _ _ _ _ _ (ran.read i) (turned.read i);
+      leads = λ start s now over h.
+          let n = next_at start s now over h in
+          let ends : (A : Type 0) → result (plan_of s) n.goes.to ≡ None → A =
+          λ A none. absurd (false≢true (sym (n.goes.tells ∙ ap is_some none) ∙ is)) in (
+            leads_more start s now n,
+            record {
+              tells = n.goes.tells;
+              sees = ends _;
+              within = ends _;
+              known = λ isnt. ends _;
+            },
+          );
+    }
+
     -- A leftmost order goes on from the link.
     pub ran_left : leftmost ≡ true → IsLeftmost order.pick order.next p
         → Ran stands remaining ended contents flushed order leftmost link is_over o q old after

@@ -349,19 +349,20 @@ impl<F: Feeds, W: Works, S: Sink> Net<F, W, S> {
     {
         let is_leftmost = order.is_leftmost();
         self.prepare();
+        if self.over() {
+            return self.told();
+        }
         let mut from = 0;
-        let mut is_over = self.over();
         'turns: loop {
-            if is_over {
-                return self.told();
-            }
             let actor = self.next(order, is_leftmost, from);
             let Some(turned) = self.turn_if_ready(actor) else {
                 from = actor + 1;
                 continue 'turns;
             };
+            if turned.is_over {
+                return self.told();
+            }
             from = turned.link;
-            is_over = turned.is_over;
             if is_leftmost {
                 continue 'turns;
             }

@@ -19,7 +19,7 @@ ghost use Rattle.hum_nodes.specs.Polls.{AsksAtMostOnce, HasStayed, is_failed_rea
 
 use hum_links::{Link, Next};
 use hum_nodes::{Doing, DoingKind, Feeds, Node, Works};
-use hum_read::{ReadError, Step};
+use hum_read::ReadError;
 use hum_record::Record;
 use hum_stage::End;
 use std::alloc::{AllocError, Global};
@@ -93,14 +93,16 @@ impl<F: Feeds, W: Works> Web<F, W> {
             (remaining_at F.remaining k self.old.nodes.items)
             (remaining_at F.remaining k self.new.nodes.items)) }
     {
-        match self.nodes[k].poll() {
-            Err(error) => return Err(error),
-            Ok(Step::Record(row)) => {
+        match self.nodes[k].next() {
+            Some(row) => {
                 self.feeder = k;
                 self.links[k].push(row);
             }
-            Ok(Step::End(end)) => self.links[k].end(end),
-            Ok(Step::More) => {}
+            None => match self.nodes[k].stopped() {
+                Some(Ok(end)) => self.links[k].end(end),
+                Some(Err(error)) => return Err(error),
+                None => {}
+            },
         }
         Ok(k)
     }

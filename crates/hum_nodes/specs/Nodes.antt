@@ -1,5 +1,7 @@
 -- What a node of either kind stands for.
-use Rattle.std.specs.Prelude.{◌≡◌, ℕ, Bool, true, false, List, Option, None}
+use Rattle.std.specs.Prelude.{◌≡◌, ℕ, Bool, true, false, List, Option, None, Result}
+use Rattle.hum_stage.specs.declared.faults.End.{End}
+use Rattle.hum_read.specs.declared.ReadError.{ReadError}
 use Rattle.hum_nodes.specs.At.{At}
 use Rattle.hum_nodes.specs.declared.either.Node.{Node}
 use Rattle.hum_nodes.specs.declared.either.Node.TheVariants.{Source, Stage}
@@ -29,6 +31,11 @@ calls_of calls (Stage w) = 0
 abbrev pub failed_of : {F W : Type 0} → (F → Bool) → Node F W → Bool
 failed_of failed (Source f) = failed f
 failed_of failed (Stage w) = false
+
+abbrev pub stopped_of : {F W : Type 0} → (F → Option (Result End ReadError)) → Node F W
+    → Option (Result End ReadError)
+stopped_of stopped (Source f) = stopped f
+stopped_of stopped (Stage w) = None
 
 abbrev pub left_of : {F W : Type 0} → (F → ℕ) → Node F W → ℕ
 left_of left (Source f) = left f

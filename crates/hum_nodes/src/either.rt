@@ -6,10 +6,11 @@ ghost use Rattle.std.specs.Prelude.{OnErr, ◌||◌};
 ghost use Rattle.hum_nodes.specs.Polls.{HasPolled, HasStayed, AsksAtMostOnce, Nears, IsKept};
 ghost use Rattle.hum_nodes.specs.Polls.{is_failed_read};
 ghost use Rattle.hum_nodes.specs.Nodes.{is_source, StandsAs, remaining_of, ended_of};
-ghost use Rattle.hum_nodes.specs.Nodes.{calls_of, failed_of, left_of};
+ghost use Rattle.hum_nodes.specs.Nodes.{calls_of, failed_of, left_of, stopped_of};
+ghost use Rattle.hum_read.specs.Steps.{given_by};
 
 use crate::node::{Doing, DoingKind, Feeds, Works};
-use hum_read::{ReadError, Step};
+use hum_read::ReadError;
 use hum_record::Record;
 use hum_stage::End;
 use std::alloc::AllocError;
@@ -33,28 +34,39 @@ impl<F: Feeds, W: Works> Node<F, W> {
         }
     }
 
-    /// A turn of a source.
+    /// A turn of a source: its next record, or none where there is nothing yet or it has stopped.
     #[inline(always)]
-    pub fn poll(&mut self) -> Result<Step, ReadError>
+    pub fn next(&mut self) -> Option<Record>
         requires { is_source self.old ≡ true }
         ensures kind { is_source self.new ≡ true }
-        ensures polled { IfOk result (HasPolled (StandsAs F.stands W.stands self.old)
-            (StandsAs F.stands W.stands self.new) (ended_of F.ended self.old)
-            (ended_of F.ended self.new) (remaining_of F.remaining self.old)
-            (remaining_of F.remaining self.new)) }
+        ensures polled { IfOk (given_by result (stopped_of F.stopped self.new))
+            (HasPolled (StandsAs F.stands W.stands self.old) (StandsAs F.stands W.stands self.new)
+            (ended_of F.ended self.old) (ended_of F.ended self.new)
+            (remaining_of F.remaining self.old) (remaining_of F.remaining self.new)) }
         ensures once { AsksAtMostOnce (calls_of F.calls self.old) (failed_of F.failed self.old)
             (calls_of F.calls self.new) (failed_of F.failed self.new) }
         ensures marks { (rest : List ℕ) (t : At) → StandsAs F.stands W.stands self.old rest t
-            → failed_of F.failed self.new
-            ≡ (failed_of F.failed self.old || is_failed_read result) }
-        ensures stays { OnErr result (HasStayed (ended_of F.ended self.old)
-            (ended_of F.ended self.new) (remaining_of F.remaining self.old)
-            (remaining_of F.remaining self.new)) }
-        ensures nears { IfOk result
+            → failed_of F.failed self.new ≡ (failed_of F.failed self.old
+            || is_failed_read (given_by result (stopped_of F.stopped self.new))) }
+        ensures stays { OnErr (given_by result (stopped_of F.stopped self.new))
+            (HasStayed (ended_of F.ended self.old) (ended_of F.ended self.new)
+            (remaining_of F.remaining self.old) (remaining_of F.remaining self.new)) }
+        ensures nears { IfOk (given_by result (stopped_of F.stopped self.new))
             (λ polled. Nears polled (left_of F.left self.old) (left_of F.left self.new)) }
     {
         match self {
-            Node::Source(node) => node.poll(),
+            Node::Source(node) => node.next(),
+            Node::Stage(_) => unreachable!(),
+        }
+    }
+
+    /// Why a source has stopped, once it has.
+    pub fn stopped(&self) -> Option<Result<End, ReadError>>
+        requires { is_source self.now ≡ true }
+        ensures { result ≡ stopped_of F.stopped self.now }
+    {
+        match self {
+            Node::Source(node) => node.stopped(),
             Node::Stage(_) => unreachable!(),
         }
     }

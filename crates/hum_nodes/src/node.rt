@@ -1,12 +1,16 @@
 //! The contracts of nodes.
 ghost use Rattle.std.specs.Prelude.{◌≡◌, ℕ, ◌<◌, List, Option, Bool, length, slice_index, IfOk};
+ghost use Rattle.std.specs.Prelude.{Result};
+ghost use Rattle.hum_stage.specs.declared.faults.End.{End};
+ghost use Rattle.hum_read.specs.declared.ReadError.{ReadError};
+ghost use Rattle.hum_read.specs.Steps.{given_by};
 ghost use Rattle.std.specs.Prelude.{OnOk, OnErr, ◌≤◌, ◌||◌};
 ghost use Rattle.hum_nodes.specs.At.{At, MayDo, sources_of, bytes_of, doing_of, holds_of, HasTaken};
 ghost use Rattle.hum_nodes.specs.At.{MayPut, MayStop, HasPut, HasStopped, kind_of};
 ghost use Rattle.hum_nodes.specs.Polls.{HasPolled, AsksAtMostOnce, Nears, IsKept};
 ghost use Rattle.hum_nodes.specs.Polls.{HasStayed, is_failed_read, most_bytes};
 
-use hum_read::{ReadError, Step};
+use hum_read::ReadError;
 use hum_record::Record;
 use hum_stage::End;
 use std::alloc::AllocError;
@@ -128,28 +132,35 @@ pub trait Feeds: Drop {
     /// How much it can still do.
     ghost left: { Self → ℕ };
 
-    /// A turn: where nothing is settled that it hasn't given, it makes one read.
-    ///
-    /// # Errors
-    /// A failed read, and want of memory.
-    fn poll(&mut self) -> Result<Step, ReadError>
-        ensures polled { IfOk result (HasPolled (stands self.old) (stands self.new)
-            (ended self.old) (ended self.new) (remaining self.old) (remaining self.new)) }
+    /// Why it has stopped, once it has: its end, or a failed read or want of memory.
+    ghost stopped: { Self → Option (Result End ReadError) };
+
+    /// A turn: where nothing is settled that it hasn't given, it makes one read. It gives the next
+    /// record, or none where there is nothing yet or it has stopped.
+    fn next(&mut self) -> Option<Record>
+        ensures polled { IfOk (given_by result (stopped self.new))
+            (HasPolled (stands self.old) (stands self.new) (ended self.old) (ended self.new)
+            (remaining self.old) (remaining self.new)) }
 
         // It makes one call on its reader, or none.
         ensures once { AsksAtMostOnce (calls self.old) (failed self.old) (calls self.new)
             (failed self.new) }
 
         // It tells of a failed read exactly where a call failed.
-        ensures marks { (rest : List ℕ) (t : At) → stands self.old rest t
-            → failed self.new ≡ (failed self.old || is_failed_read result) }
+        ensures marks { (rest : List ℕ) (t : At) → stands self.old rest t → failed self.new
+            ≡ (failed self.old || is_failed_read (given_by result (stopped self.new))) }
 
-        // A poll that fails reads no byte.
-        ensures stays { OnErr result (HasStayed (ended self.old) (ended self.new)
-            (remaining self.old) (remaining self.new)) }
+        // A turn that fails reads no byte.
+        ensures stays { OnErr (given_by result (stopped self.new)) (HasStayed (ended self.old)
+            (ended self.new) (remaining self.old) (remaining self.new)) }
 
-        // So each run of polls ends.
-        ensures nears { IfOk result (λ polled. Nears polled (left self.old) (left self.new)) };
+        // So each run of turns ends.
+        ensures nears { IfOk (given_by result (stopped self.new))
+            (λ polled. Nears polled (left self.old) (left self.new)) };
+
+    /// Why it has stopped, once it has: its end, or a failed read or want of memory.
+    fn stopped(&self) -> Option<Result<End, ReadError>>
+        ensures { result ≡ stopped self.now };
 
     /// Takes a record back that was done with, so that the next one needs no memory of its own. What it
     /// has no use for it hands back.

@@ -5,8 +5,9 @@ ghost use Rattle.hum_nodes.specs.At.{fresh};
 ghost use Rattle.hum_nodes.specs.Reading.{IsReading, reading};
 
 use crate::node::Feeds;
-use hum_read::{ReadError, ScoreReader, Step};
+use hum_read::{ReadError, ScoreReader};
 use hum_record::Record;
+use hum_stage::End;
 use hum_text::calls::Source;
 use std::alloc::Global;
 
@@ -47,12 +48,19 @@ impl<R: Source + Drop> Feeds for Reading<R> {
 
     ghost left = { λ r. left_to_do r.inner.lines };
 
+    ghost stopped = { λ r. r.inner.stopped };
+
     ghost some_bytes = { λ r rest t h. some_read r.inner rest t h };
 
     ghost few_bytes = { λ r rest t h. h.few };
 
-    fn poll(&mut self) -> Result<Step, ReadError> {
-        self.inner.poll()
+    #[inline(always)]
+    fn next(&mut self) -> Option<Record> {
+        self.inner.next()
+    }
+
+    fn stopped(&self) -> Option<Result<End, ReadError>> {
+        self.inner.stopped()
     }
 
     fn reuse(&mut self, row: Record) -> Option<Record> {

@@ -1,4 +1,4 @@
-use Rattle.std.proofs.Common.{◌≡◌, ◌||◌, ℕ, ◌+◌, ◌-◌, ◌*◌, true, List, Option, None, Some}
+use Rattle.std.proofs.Common.{◌≡◌, ◌||◌, ℕ, ◌+◌, ◌-◌, ◌*◌, true, false, List, Option, None, Some}
 use Rattle.hum_turns.specs.Orders.{IsLeftmost}
 use Rattle.hum_record.specs.Row.{Row}
 use Rattle.hum_turns.specs.declared.result.RunResult.{RunResult}
@@ -14,7 +14,7 @@ abbrev pub invariant-turns : goal.invariant-turns
 invariant-turns g l = record {
   ran : Ran (StandsAs g.F.Feeds.stands g.W.Works.stands) g.F.Feeds.remaining g.F.Feeds.ended
       g.S.Sink.contents g.S.Sink.flushed (record { pick = g.O.Order.picks; next = g.O.Order.after })
-      l.is_leftmost l.from l.is_over l.fn.order l.order l.fn.self l.self;
+      l.is_leftmost l.from false l.fn.order l.order l.fn.self l.self;
   leans : l.is_leftmost ≡ true → IsLeftmost g.O.Order.picks g.O.Order.after l.order;
   reads : l.fn.self.failure ≡ None → (i : ℕ) → failed_at g.F.Feeds.failed i l.self.web.nodes.items
       ≡ (failed_at g.F.Feeds.failed i l.fn.self.web.nodes.items || is_read_of i l.self.failure);

@@ -1,9 +1,9 @@
-use Rattle.std.proofs.Common.{refl, subst}
-use Rattle.hum_nodes.specs.Nodes.{StandsAs, ended_of, remaining_of}
-use Rattle.hum_nodes.specs.Polls.{HasPolled}
+use Rattle.std.proofs.Common.{◌∙◌, Some, refl, sym, ap}
 use Rattle.hum_read.specs.declared.scores.Step.TheVariants as polled
+use Rattle.hum_nodes.specs.Nodes.{StandsAs, is_source, stopped_of}
 use Rattle.hum_net.specs.Scene.{at_of}
-use Rattle.hum_net.proofs.Feeding.{polled_marks, polled_calls, polled_stays}
+use Rattle.hum_net.proofs.Moving.{set_other}
+use Rattle.hum_net.proofs.Feeding.{still_here, polled_marks, polled_calls, polled_stays}
 use Rattle.hum_net.proofs.Feeding.{fed, node_at, link_at, source_room, source_bytes, link_of}
 use Rattle.hum_net.proofs.web.Web.poll.Goals as goal
 
@@ -12,180 +12,201 @@ push-requires g c =
     let s = c.requires.turn.scene in
     let may = c.requires.turn.holds in
     let web = c.args.self.now in
+    let node = c.index_mut.result.now in
     let stands = StandsAs g.F.Feeds.stands g.W.Works.stands in
-    let n = node_at stands c.args.k web s c.index_mut.result.now may.less may.at.stand
-    c.index_mut.ensures.value in
-    let l = link_at stands c.args.k web s c.index_mut-in-Ok-Record.result.now may.less may.at.stand
-    c.index_mut-in-Ok-Record.ensures.value in
+    let at = node_at stands c.args.k web s node may.less may.at.stand c.index_mut.ensures.value in
+    let link = c.index_mut-in-Some.result.now in
     record {
-      room = source_room stands c.args.k web s c.index_mut.result.now
-          c.index_mut-in-Ok-Record.result.now may
-          (λ t rest h. source_bytes g.F.Feeds.stands g.W.Works.stands g.met.F.Feeds.some_bytes
-          c.index_mut.result.now rest t
-          (c.requires.source c.index_mut.result.now n) h)
-          n l;
+      room = source_room stands c.args.k web s node link may
+          (λ t rest h. source_bytes g.F.Feeds.stands g.W.Works.stands g.met.F.Feeds.some_bytes node rest t
+          (c.requires.source node at) h)
+          at (link_at stands c.args.k web s link may.less may.at.stand c.index_mut-in-Some.ensures.value);
     }
 
-pub returns-in-Ok-Record-clause-fed : goal.returns-in-Ok-Record-clause-fed
-returns-in-Ok-Record-clause-fed g c =
+pub returns-in-Some-clause-fed : goal.returns-in-Some-clause-fed
+returns-in-Some-clause-fed g c =
     let s = c.requires.turn.scene in
     let may = c.requires.turn.holds in
     let web = c.args.self.now in
     let node = c.index_mut.result.now in
-    let link = c.index_mut-in-Ok-Record.result.now in
     let stands = StandsAs g.F.Feeds.stands g.W.Works.stands in
-    fed g.F.Feeds.stands g.W.Works.stands g.F.Feeds.remaining g.F.Feeds.ended c.args.k web _ node
-    c.poll.new.self link c.push.new.self
-    (node_at stands c.args.k web s node may.less may.at.stand c.index_mut.ensures.value)
-    (link_at stands c.args.k web s link may.less may.at.stand c.index_mut-in-Ok-Record.ensures.value)
-    (polled.Record c.in-Ok-Record.row)
-    (subst (HasPolled (stands node) (stands c.poll.new.self) (ended_of g.F.Feeds.ended node)
-    (ended_of g.F.Feeds.ended c.poll.new.self) (remaining_of g.F.Feeds.remaining node)
-    (remaining_of g.F.Feeds.remaining c.poll.new.self))
-    c.in-Ok-Record.field-0-is c.in-Ok-Record.ensures.polled)
-    c.push.ensures.pushed refl refl
+    let at = node_at stands c.args.k web s node may.less may.at.stand c.index_mut.ensures.value in
+    let after = c.next.new.self in
+    let link = c.index_mut-in-Some.result.now in
+    let has = rw c.in-Some.is at c.next.ensures.polled in
+    fed g.F.Feeds.stands g.W.Works.stands g.F.Feeds.remaining g.F.Feeds.ended c.args.k web _ node after
+    link c.push.new.self at
+    (link_at stands c.args.k web s link may.less may.at.stand c.index_mut-in-Some.ensures.value)
+    (polled.Record c.in-Some.row) has c.push.ensures.pushed refl refl
 
-pub returns-in-Ok-End-clause-fed : goal.returns-in-Ok-End-clause-fed
-returns-in-Ok-End-clause-fed g c =
+pub returns-in-Some-clause-marks : goal.returns-in-Some-clause-marks
+returns-in-Some-clause-marks g c =
     let s = c.requires.turn.scene in
     let may = c.requires.turn.holds in
     let web = c.args.self.now in
     let node = c.index_mut.result.now in
-    let link = c.index_mut-in-Ok-End.result.now in
     let stands = StandsAs g.F.Feeds.stands g.W.Works.stands in
-    fed g.F.Feeds.stands g.W.Works.stands g.F.Feeds.remaining g.F.Feeds.ended c.args.k web _ node
-    c.poll.new.self link c.end.new.self
-    (node_at stands c.args.k web s node may.less may.at.stand c.index_mut.ensures.value)
-    (link_at stands c.args.k web s link may.less may.at.stand c.index_mut-in-Ok-End.ensures.value)
-    (polled.End c.in-Ok-End.end)
-    (subst (HasPolled (stands node) (stands c.poll.new.self) (ended_of g.F.Feeds.ended node)
-    (ended_of g.F.Feeds.ended c.poll.new.self) (remaining_of g.F.Feeds.remaining node)
-    (remaining_of g.F.Feeds.remaining c.poll.new.self))
-    c.in-Ok-End.field-0-is c.in-Ok-End.ensures.polled)
-    c.end.ensures refl refl
+    let at = node_at stands c.args.k web s node may.less may.at.stand c.index_mut.ensures.value in
+    polled_marks g.F.Feeds.remaining g.F.Feeds.ended g.F.Feeds.calls g.F.Feeds.failed c.args.k
+    web.nodes.items node c.next.new.self at _
+    (rw c.in-Some.is at (c.next.ensures.marks (s.rests c.args.k) (at_of s.kinds s.links c.args.k)
+    (may.at.stand.nodes c.args.k node at)))
 
-pub returns-in-Ok-More-clause-fed : goal.returns-in-Ok-More-clause-fed
-returns-in-Ok-More-clause-fed g c =
+pub returns-in-Some-clause-calls : goal.returns-in-Some-clause-calls
+returns-in-Some-clause-calls g c =
     let s = c.requires.turn.scene in
     let may = c.requires.turn.holds in
     let web = c.args.self.now in
     let node = c.index_mut.result.now in
     let stands = StandsAs g.F.Feeds.stands g.W.Works.stands in
+    let at = node_at stands c.args.k web s node may.less may.at.stand c.index_mut.ensures.value in
+    polled_calls g.F.Feeds.remaining g.F.Feeds.ended g.F.Feeds.calls g.F.Feeds.failed c.args.k
+    web.nodes.items node c.next.new.self at c.next.ensures.once
+
+pub returns-in-Some-clause-others : goal.returns-in-Some-clause-others
+returns-in-Some-clause-others g c i o = set_other c.args.self.now.nodes.items c.args.k c.next.new.self i o
+
+pub stopped-requires : goal.stopped-requires
+stopped-requires g c =
+    let s = c.requires.turn.scene in
+    let may = c.requires.turn.holds in
+    let web = c.args.self.now in
+    let node = c.index_mut.result.now in
+    let stands = StandsAs g.F.Feeds.stands g.W.Works.stands in
+    let at = node_at stands c.args.k web s node may.less may.at.stand c.index_mut.ensures.value in
+    let here = still_here web.nodes.items c.args.k node c.next.new.self c.index.result.now at c.index.ensures in
+    ap is_source here ∙ c.next.ensures.kind
+
+pub returns-in-Some-Ok-clause-fed : goal.returns-in-Some-Ok-clause-fed
+returns-in-Some-Ok-clause-fed g c =
+    let s = c.requires.turn.scene in
+    let may = c.requires.turn.holds in
+    let web = c.args.self.now in
+    let node = c.index_mut.result.now in
+    let stands = StandsAs g.F.Feeds.stands g.W.Works.stands in
+    let at = node_at stands c.args.k web s node may.less may.at.stand c.index_mut.ensures.value in
+    let here = still_here web.nodes.items c.args.k node c.next.new.self c.index.result.now at c.index.ensures in
+    let told = sym (c.stopped.ensures ∙ ap (stopped_of g.F.Feeds.stopped) here) ∙ c.in-Some-Ok.is
+    ∙ ap Some c.in-Some-Ok.field-0-is in
+    let link = c.index_mut-in-Some-Ok.result.now in
+    fed g.F.Feeds.stands g.W.Works.stands g.F.Feeds.remaining g.F.Feeds.ended c.args.k web _ node c.next.new.self
+    link c.end.new.self at
+    (link_at stands c.args.k web s link may.less may.at.stand c.index_mut-in-Some-Ok.ensures.value)
+    (polled.End c.in-Some-Ok.end) (rw (c.in-None.is, told) at c.next.ensures.polled) c.end.ensures refl refl
+
+pub returns-in-Some-Ok-clause-others : goal.returns-in-Some-Ok-clause-others
+returns-in-Some-Ok-clause-others g c i o = set_other c.args.self.now.nodes.items c.args.k c.next.new.self i o
+
+pub returns-in-Some-Ok-clause-marks : goal.returns-in-Some-Ok-clause-marks
+returns-in-Some-Ok-clause-marks g c =
+    let s = c.requires.turn.scene in
+    let may = c.requires.turn.holds in
+    let web = c.args.self.now in
+    let node = c.index_mut.result.now in
+    let stands = StandsAs g.F.Feeds.stands g.W.Works.stands in
+    let at = node_at stands c.args.k web s node may.less may.at.stand c.index_mut.ensures.value in
+    let here = still_here web.nodes.items c.args.k node c.next.new.self c.index.result.now at c.index.ensures in
+    let told = sym (c.stopped.ensures ∙ ap (stopped_of g.F.Feeds.stopped) here) ∙ c.in-Some-Ok.is
+    ∙ ap Some c.in-Some-Ok.field-0-is in
+    polled_marks g.F.Feeds.remaining g.F.Feeds.ended g.F.Feeds.calls g.F.Feeds.failed c.args.k
+    web.nodes.items node c.next.new.self at _
+    (rw (c.in-None.is, told) at (c.next.ensures.marks (s.rests c.args.k) (at_of s.kinds s.links c.args.k)
+    (may.at.stand.nodes c.args.k node at)))
+
+pub returns-in-Some-Ok-clause-calls : goal.returns-in-Some-Ok-clause-calls
+returns-in-Some-Ok-clause-calls g c =
+    let s = c.requires.turn.scene in
+    let may = c.requires.turn.holds in
+    let web = c.args.self.now in
+    let node = c.index_mut.result.now in
+    let stands = StandsAs g.F.Feeds.stands g.W.Works.stands in
+    let at = node_at stands c.args.k web s node may.less may.at.stand c.index_mut.ensures.value in
+    polled_calls g.F.Feeds.remaining g.F.Feeds.ended g.F.Feeds.calls g.F.Feeds.failed c.args.k
+    web.nodes.items node c.next.new.self at c.next.ensures.once
+
+pub returns-in-None-stopped-clause-fed : goal.returns-in-None-stopped-clause-fed
+returns-in-None-stopped-clause-fed g c =
+    let s = c.requires.turn.scene in
+    let may = c.requires.turn.holds in
+    let web = c.args.self.now in
+    let node = c.index_mut.result.now in
+    let stands = StandsAs g.F.Feeds.stands g.W.Works.stands in
+    let at = node_at stands c.args.k web s node may.less may.at.stand c.index_mut.ensures.value in
+    let here = still_here web.nodes.items c.args.k node c.next.new.self c.index.result.now at c.index.ensures in
+    let told = sym (c.stopped.ensures ∙ ap (stopped_of g.F.Feeds.stopped) here) ∙ c.in-None-stopped.is in
     let link = link_of stands c.args.k web s may.less may.at.stand in
-    fed g.F.Feeds.stands g.W.Works.stands g.F.Feeds.remaining g.F.Feeds.ended c.args.k web _ node
-    c.poll.new.self link.0 link.0
-    (node_at stands c.args.k web s node may.less may.at.stand c.index_mut.ensures.value)
-    link.1
-    polled.More
-    (subst (HasPolled (stands node) (stands c.poll.new.self) (ended_of g.F.Feeds.ended node)
-    (ended_of g.F.Feeds.ended c.poll.new.self) (remaining_of g.F.Feeds.remaining node)
-    (remaining_of g.F.Feeds.remaining c.poll.new.self))
-    c.in-Ok-More.field-0-is c.in-Ok-More.ensures.polled)
-    tt refl refl
+    fed g.F.Feeds.stands g.W.Works.stands g.F.Feeds.remaining g.F.Feeds.ended c.args.k web _ node c.next.new.self
+    link.0 link.0 at link.1 polled.More (rw (c.in-None.is, told) at c.next.ensures.polled) tt refl refl
 
-pub returns-in-Ok-Record-clause-marks : goal.returns-in-Ok-Record-clause-marks
-returns-in-Ok-Record-clause-marks g c =
+pub returns-in-None-stopped-clause-others : goal.returns-in-None-stopped-clause-others
+returns-in-None-stopped-clause-others g c i o = set_other c.args.self.now.nodes.items c.args.k c.next.new.self i o
+
+pub returns-in-None-stopped-clause-marks : goal.returns-in-None-stopped-clause-marks
+returns-in-None-stopped-clause-marks g c =
     let s = c.requires.turn.scene in
     let may = c.requires.turn.holds in
     let web = c.args.self.now in
     let node = c.index_mut.result.now in
-    let at = node_at (StandsAs g.F.Feeds.stands g.W.Works.stands) c.args.k web s node may.less may.at.stand
-    c.index_mut.ensures.value in
+    let stands = StandsAs g.F.Feeds.stands g.W.Works.stands in
+    let at = node_at stands c.args.k web s node may.less may.at.stand c.index_mut.ensures.value in
+    let here = still_here web.nodes.items c.args.k node c.next.new.self c.index.result.now at c.index.ensures in
+    let told = sym (c.stopped.ensures ∙ ap (stopped_of g.F.Feeds.stopped) here) ∙ c.in-None-stopped.is in
     polled_marks g.F.Feeds.remaining g.F.Feeds.ended g.F.Feeds.calls g.F.Feeds.failed c.args.k
-    web.nodes.items node c.poll.new.self at _
-    (c.in-Ok-Record.ensures.marks (s.rests c.args.k) (at_of s.kinds s.links c.args.k)
-    (may.at.stand.nodes c.args.k node at))
+    web.nodes.items node c.next.new.self at _
+    (rw (c.in-None.is, told) at (c.next.ensures.marks (s.rests c.args.k) (at_of s.kinds s.links c.args.k)
+    (may.at.stand.nodes c.args.k node at)))
 
-pub returns-in-Ok-Record-clause-calls : goal.returns-in-Ok-Record-clause-calls
-returns-in-Ok-Record-clause-calls g c =
+pub returns-in-None-stopped-clause-calls : goal.returns-in-None-stopped-clause-calls
+returns-in-None-stopped-clause-calls g c =
     let s = c.requires.turn.scene in
     let may = c.requires.turn.holds in
     let web = c.args.self.now in
     let node = c.index_mut.result.now in
-    let at = node_at (StandsAs g.F.Feeds.stands g.W.Works.stands) c.args.k web s node may.less may.at.stand
-    c.index_mut.ensures.value in
+    let stands = StandsAs g.F.Feeds.stands g.W.Works.stands in
+    let at = node_at stands c.args.k web s node may.less may.at.stand c.index_mut.ensures.value in
     polled_calls g.F.Feeds.remaining g.F.Feeds.ended g.F.Feeds.calls g.F.Feeds.failed c.args.k
-    web.nodes.items node c.poll.new.self at c.in-Ok-Record.ensures.once
+    web.nodes.items node c.next.new.self at c.next.ensures.once
 
-pub returns-in-Ok-End-clause-marks : goal.returns-in-Ok-End-clause-marks
-returns-in-Ok-End-clause-marks g c =
+pub returns-in-Some-Err-clause-others : goal.returns-in-Some-Err-clause-others
+returns-in-Some-Err-clause-others g c i o = set_other c.args.self.now.nodes.items c.args.k c.next.new.self i o
+
+pub returns-in-Some-Err-clause-marks : goal.returns-in-Some-Err-clause-marks
+returns-in-Some-Err-clause-marks g c =
     let s = c.requires.turn.scene in
     let may = c.requires.turn.holds in
     let web = c.args.self.now in
     let node = c.index_mut.result.now in
-    let at = node_at (StandsAs g.F.Feeds.stands g.W.Works.stands) c.args.k web s node may.less may.at.stand
-    c.index_mut.ensures.value in
+    let stands = StandsAs g.F.Feeds.stands g.W.Works.stands in
+    let at = node_at stands c.args.k web s node may.less may.at.stand c.index_mut.ensures.value in
+    let here = still_here web.nodes.items c.args.k node c.next.new.self c.index.result.now at c.index.ensures in
+    let told = sym (c.stopped.ensures ∙ ap (stopped_of g.F.Feeds.stopped) here) ∙ c.in-Some-Err.is
+    ∙ ap Some c.in-Some-Err.field-0-is in
     polled_marks g.F.Feeds.remaining g.F.Feeds.ended g.F.Feeds.calls g.F.Feeds.failed c.args.k
-    web.nodes.items node c.poll.new.self at _
-    (c.in-Ok-End.ensures.marks (s.rests c.args.k) (at_of s.kinds s.links c.args.k)
-    (may.at.stand.nodes c.args.k node at))
+    web.nodes.items node c.next.new.self at _
+    (rw (c.in-None.is, told) at (c.next.ensures.marks (s.rests c.args.k) (at_of s.kinds s.links c.args.k)
+    (may.at.stand.nodes c.args.k node at)))
 
-pub returns-in-Ok-End-clause-calls : goal.returns-in-Ok-End-clause-calls
-returns-in-Ok-End-clause-calls g c =
+pub returns-in-Some-Err-clause-calls : goal.returns-in-Some-Err-clause-calls
+returns-in-Some-Err-clause-calls g c =
     let s = c.requires.turn.scene in
     let may = c.requires.turn.holds in
     let web = c.args.self.now in
     let node = c.index_mut.result.now in
-    let at = node_at (StandsAs g.F.Feeds.stands g.W.Works.stands) c.args.k web s node may.less may.at.stand
-    c.index_mut.ensures.value in
+    let stands = StandsAs g.F.Feeds.stands g.W.Works.stands in
+    let at = node_at stands c.args.k web s node may.less may.at.stand c.index_mut.ensures.value in
     polled_calls g.F.Feeds.remaining g.F.Feeds.ended g.F.Feeds.calls g.F.Feeds.failed c.args.k
-    web.nodes.items node c.poll.new.self at c.in-Ok-End.ensures.once
+    web.nodes.items node c.next.new.self at c.next.ensures.once
 
-pub returns-in-Ok-More-clause-marks : goal.returns-in-Ok-More-clause-marks
-returns-in-Ok-More-clause-marks g c =
+pub returns-in-Some-Err-clause-stays : goal.returns-in-Some-Err-clause-stays
+returns-in-Some-Err-clause-stays g c =
     let s = c.requires.turn.scene in
     let may = c.requires.turn.holds in
     let web = c.args.self.now in
     let node = c.index_mut.result.now in
-    let at = node_at (StandsAs g.F.Feeds.stands g.W.Works.stands) c.args.k web s node may.less may.at.stand
-    c.index_mut.ensures.value in
-    polled_marks g.F.Feeds.remaining g.F.Feeds.ended g.F.Feeds.calls g.F.Feeds.failed c.args.k
-    web.nodes.items node c.poll.new.self at _
-    (c.in-Ok-More.ensures.marks (s.rests c.args.k) (at_of s.kinds s.links c.args.k)
-    (may.at.stand.nodes c.args.k node at))
-
-pub returns-in-Ok-More-clause-calls : goal.returns-in-Ok-More-clause-calls
-returns-in-Ok-More-clause-calls g c =
-    let s = c.requires.turn.scene in
-    let may = c.requires.turn.holds in
-    let web = c.args.self.now in
-    let node = c.index_mut.result.now in
-    let at = node_at (StandsAs g.F.Feeds.stands g.W.Works.stands) c.args.k web s node may.less may.at.stand
-    c.index_mut.ensures.value in
-    polled_calls g.F.Feeds.remaining g.F.Feeds.ended g.F.Feeds.calls g.F.Feeds.failed c.args.k
-    web.nodes.items node c.poll.new.self at c.in-Ok-More.ensures.once
-
-pub returns-in-Err-clause-marks : goal.returns-in-Err-clause-marks
-returns-in-Err-clause-marks g c =
-    let s = c.requires.turn.scene in
-    let may = c.requires.turn.holds in
-    let web = c.args.self.now in
-    let node = c.index_mut.result.now in
-    let at = node_at (StandsAs g.F.Feeds.stands g.W.Works.stands) c.args.k web s node may.less may.at.stand
-    c.index_mut.ensures.value in
-    polled_marks g.F.Feeds.remaining g.F.Feeds.ended g.F.Feeds.calls g.F.Feeds.failed c.args.k
-    web.nodes.items node c.poll.new.self at _
-    (c.in-Err.ensures.marks (s.rests c.args.k) (at_of s.kinds s.links c.args.k)
-    (may.at.stand.nodes c.args.k node at))
-
-pub returns-in-Err-clause-calls : goal.returns-in-Err-clause-calls
-returns-in-Err-clause-calls g c =
-    let s = c.requires.turn.scene in
-    let may = c.requires.turn.holds in
-    let web = c.args.self.now in
-    let node = c.index_mut.result.now in
-    let at = node_at (StandsAs g.F.Feeds.stands g.W.Works.stands) c.args.k web s node may.less may.at.stand
-    c.index_mut.ensures.value in
-    polled_calls g.F.Feeds.remaining g.F.Feeds.ended g.F.Feeds.calls g.F.Feeds.failed c.args.k
-    web.nodes.items node c.poll.new.self at c.in-Err.ensures.once
-
-pub returns-in-Err-clause-stays : goal.returns-in-Err-clause-stays
-returns-in-Err-clause-stays g c =
-    let s = c.requires.turn.scene in
-    let may = c.requires.turn.holds in
-    let web = c.args.self.now in
-    let node = c.index_mut.result.now in
-    let at = node_at (StandsAs g.F.Feeds.stands g.W.Works.stands) c.args.k web s node may.less may.at.stand
-    c.index_mut.ensures.value in
+    let stands = StandsAs g.F.Feeds.stands g.W.Works.stands in
+    let at = node_at stands c.args.k web s node may.less may.at.stand c.index_mut.ensures.value in
+    let here = still_here web.nodes.items c.args.k node c.next.new.self c.index.result.now at c.index.ensures in
+    let told = sym (c.stopped.ensures ∙ ap (stopped_of g.F.Feeds.stopped) here) ∙ c.in-Some-Err.is
+    ∙ ap Some c.in-Some-Err.field-0-is in
     polled_stays g.F.Feeds.remaining g.F.Feeds.ended g.F.Feeds.calls g.F.Feeds.failed c.args.k
-    web.nodes.items node c.poll.new.self at c.in-Err.ensures.stays
+    web.nodes.items node c.next.new.self at (rw (c.in-None.is, told) at c.next.ensures.stays)

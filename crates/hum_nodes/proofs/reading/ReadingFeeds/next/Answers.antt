@@ -5,12 +5,13 @@ use Rattle.std.specs.Io.KnownBytes.{Consumes}
 use Rattle.hum_read.specs.declared.ReadError.{ReadError}
 use Rattle.hum_read.specs.declared.scores.Step.{Step}
 use Rattle.hum_read.specs.declared.scores.Step.TheVariants as step
+use Rattle.hum_read.specs.Steps.{given_by}
 use Rattle.hum_text.specs.Reading.{Reader, NeedsRead, IsUnread, bytes_read}
 use Rattle.hum_nodes.specs.Polls.{HasPolled, HasStayed}
 use Rattle.hum_nodes.specs.Reading.{IsReading}
 use Rattle.hum_nodes.proofs.Asks.{asks_once, marked}
 use Rattle.hum_nodes.proofs.Turns.{poll_record, poll_more, poll_end}
-use Rattle.hum_nodes.proofs.reading.ReadingFeeds.poll.Goals as goal
+use Rattle.hum_nodes.proofs.reading.ReadingFeeds.next.Goals as goal
 
 -- behind the end of the bytes no read is made
 stays_ended : {R : Type 0} (v w : Reader R) → ((NeedsRead v → ⊥) → IsUnread v w)
@@ -19,17 +20,17 @@ stays_ended v w unread e =
     let u = unread (λ n. false≢true (sym n.going ∙ e)) in (u.2, u.1 ∙ e)
 
 pub returns-clause-stays : goal.returns-clause-stays
-returns-clause-stays g c = by c.poll.result refl
+returns-clause-stays g c = by (given_by c.next.result c.next.new.self.stopped) refl
   where
-    by : (r : Result Step ReadError) → c.poll.result ≡ r
-        → OnErr r (HasStayed c.args.self.now.inner.lines.ended c.poll.new.self.lines.ended
+    by : (r : Result Step ReadError) → given_by c.next.result c.next.new.self.stopped ≡ r
+        → OnErr r (HasStayed c.args.self.now.inner.lines.ended c.next.new.self.lines.ended
         (g.R.Source.remaining c.args.self.now.inner.lines.source)
-        (g.R.Source.remaining c.poll.new.self.lines.source))
+        (g.R.Source.remaining c.next.new.self.lines.source))
     by (Ok x) is = tt
     by (Err x) is =
-        let e = c.poll.ensures in
+        let e = c.next.ensures in
         let v = c.args.self.now.inner in
-        let w = c.poll.new.self in
+        let w = c.next.new.self in
         let none = e.unfed (λ more. let m = sym is ∙ more in cc) in
         record {
           consumes = subst
@@ -40,20 +41,20 @@ returns-clause-stays g c = by c.poll.result refl
         }
 
 pub returns-clause-polled : goal.returns-clause-polled
-returns-clause-polled g c = by c.poll.result refl
+returns-clause-polled g c = by (given_by c.next.result c.next.new.self.stopped) refl
   where
     Polled : Result Step ReadError → Type 0
-    Polled r = IfOk r (HasPolled (IsReading c.args.self.now.inner) (IsReading c.poll.new.self)
-        c.args.self.now.inner.lines.ended c.poll.new.self.lines.ended
+    Polled r = IfOk r (HasPolled (IsReading c.args.self.now.inner) (IsReading c.next.new.self)
+        c.args.self.now.inner.lines.ended c.next.new.self.lines.ended
         (g.R.Source.remaining c.args.self.now.inner.lines.source)
-        (g.R.Source.remaining c.poll.new.self.lines.source))
+        (g.R.Source.remaining c.next.new.self.lines.source))
 
-    by : (r : Result Step ReadError) → c.poll.result ≡ r → Polled r
+    by : (r : Result Step ReadError) → given_by c.next.result c.next.new.self.stopped ≡ r → Polled r
     by (Err x) is = tt
     by (Ok (step.Record row)) is =
-        let e = c.poll.ensures in
+        let e = c.next.ensures in
         let v = c.args.self.now.inner in
-        let w = c.poll.new.self in
+        let w = c.next.new.self in
         record {
           read = bytes_read v.lines w.lines;
           consumes = e.consumes;
@@ -64,9 +65,9 @@ returns-clause-polled g c = by c.poll.result refl
               (rw is at e.stops) (rw is at e.again) (e.unfed (λ more. let m = sym is ∙ more in cc));
         }
     by (Ok step.More) is =
-        let e = c.poll.ensures in
+        let e = c.next.ensures in
         let v = c.args.self.now.inner in
-        let w = c.poll.new.self in
+        let w = c.next.new.self in
         record {
           read = bytes_read v.lines w.lines;
           consumes = e.consumes;
@@ -77,9 +78,9 @@ returns-clause-polled g c = by c.poll.result refl
               (rw is at e.nears) (rw is at e.again) (e.more is) e.taken e.asked;
         }
     by (Ok (step.End end)) is =
-        let e = c.poll.ensures in
+        let e = c.next.ensures in
         let v = c.args.self.now.inner in
-        let w = c.poll.new.self in
+        let w = c.next.new.self in
         record {
           read = bytes_read v.lines w.lines;
           consumes = e.consumes;
@@ -93,11 +94,11 @@ returns-clause-polled g c = by c.poll.result refl
 pub returns-clause-once : goal.returns-clause-once
 returns-clause-once g c =
     asks_once g.R.Source.calls g.R.Source.failed c.args.self.now.inner.lines
-    c.poll.new.self.lines c.poll.ensures.unread c.poll.ensures.once
+    c.next.new.self.lines c.next.ensures.unread c.next.ensures.once
 
 pub returns-clause-marks : goal.returns-clause-marks
 returns-clause-marks g c rest t a =
-    marked g.R.Source.calls g.R.Source.failed c.args.self.now.inner c.poll.new.self rest t _ a
+    marked g.R.Source.calls g.R.Source.failed c.args.self.now.inner c.next.new.self rest t _ a
     (asks_once g.R.Source.calls g.R.Source.failed c.args.self.now.inner.lines
-    c.poll.new.self.lines c.poll.ensures.unread c.poll.ensures.once)
-    c.poll.ensures.failed c.poll.ensures.marked
+    c.next.new.self.lines c.next.ensures.unread c.next.ensures.once)
+    c.next.ensures.failed c.next.ensures.marked
