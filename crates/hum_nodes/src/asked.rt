@@ -8,7 +8,7 @@ use hum_stage::End;
 use std::alloc::AllocError;
 
 /// A stage that reads from others, and what it does next, learnt once after each of its calls: a net
-/// asks more often than a stage moves.
+/// asks more often than a stage moves, and some have to look for the answer.
 pub struct Asked<W: Works> {
     inner: W,
     kind: DoingKind,

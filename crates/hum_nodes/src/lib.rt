@@ -5,7 +5,7 @@
 //! - [`Single`] is a stage of one input as a node.
 //! - [`Merging`] is the command assemble as a node of several inputs.
 //! - [`Worker`] is one of the two.
-//! - [`Asked`] is a stage that keeps what it does next, so that a net may ask at each turn.
+//! - [`Asked`] is a stage that keeps what it does next: of assemble a net would ask each source.
 //! - [`Reading`] is the command read as a node that reads bytes.
 //! - [`what_is_fine`] and the functions beside it are the laws that a plan asks of its stages.
 #![tactic(auto)]

@@ -1,6 +1,7 @@
 //! A stage that reads from others: of one input, or assemble.
 ghost use Rattle.hum_nodes.specs.Workers.{StandsBy, no_bytes_by};
 
+use crate::asked::Asked;
 use crate::merging::Merging;
 use crate::node::{Doing, DoingKind, Works};
 use crate::single::Single;
@@ -13,17 +14,17 @@ use std::alloc::AllocError;
 pub enum Worker<S> {
     /// A stage of one input.
     Single(Single<S>),
-    /// The command assemble.
-    Merging(Merging),
+    /// The command assemble, which keeps what it does next.
+    Merging(Asked<Merging>),
 }
 
 impl<S: Stage + Drop> Works for Worker<S> {
     ghost use Rattle.std.proofs.Common.{ap};
 
-    ghost stands = { StandsBy ⟦<Single<S> as Works>⟧.stands ⟦<Merging as Works>⟧.stands };
+    ghost stands = { StandsBy ⟦<Single<S> as Works>⟧.stands ⟦<Asked<Merging> as Works>⟧.stands };
 
-    ghost no_bytes = { no_bytes_by ⟦<Single<S> as Works>⟧.stands ⟦<Merging as Works>⟧.stands
-        (λ s t h. ap (λ k. k.stage.bytes) h.kind) (λ m t h. ap (λ k. k.stage.bytes) h.kind) };
+    ghost no_bytes = { no_bytes_by ⟦<Single<S> as Works>⟧.stands ⟦<Asked<Merging> as Works>⟧.stands
+        (λ s t h. ap (λ k. k.stage.bytes) h.kind) (λ m t h. ap (λ k. k.stage.bytes) h.0.kind) };
 
     #[inline(always)]
     fn source(&self, place: usize) -> usize {

@@ -24,7 +24,7 @@ use std::alloc::{AllocError, Global};
 use std::collections::VecDeque;
 
 /// A stage of others as a node.
-pub type StageNode = Asked<Worker<CommandStage>>;
+pub type StageNode = Worker<CommandStage>;
 
 /// A stage of a plan as a node: a score that is read, or a stage of others.
 pub type PlanNode<R> = Node<Reading<R>, StageNode>;
@@ -63,24 +63,24 @@ fn is_lawful<S: Stage>(stage: &S)
 
 /// The node of a command.
 fn command_node(alloc: Global, number: u8, sources: &[u8], options: CommandOptions) -> StageNode
-    ensures stands { ⟦<Asked<Worker<CommandStage>> as Works>⟧.stands result
+    ensures stands { ⟦<Worker<CommandStage> as Works>⟧.stands result
         (fresh (single (first_of sources.now) (means number (options_of options)))) }
     ensures sound { IsSoundBy number (Takes (options_of options)) }
 {
     let stage = CommandStage::new(alloc, number, options);
     is_lawful(&stage);
-    Asked::new(Worker::Single(Single::new(stage, first_from_zero(sources))))
+    Worker::Single(Single::new(stage, first_from_zero(sources)))
 }
 
 /// The node of assemble.
 fn merging_node(alloc: Global, number: u8, sources: &[u8]) -> Result<StageNode, AllocError>
     requires { length sources.now ≤ 15 }
-    ensures { IfOk result (λ node. ⟦<Asked<Worker<CommandStage>> as Works>⟧.stands node
+    ensures { IfOk result (λ node. ⟦<Worker<CommandStage> as Works>⟧.stands node
         (fresh (merging number (map pred sources.now)))) }
 {
     let from = all_from_zero(alloc, sources)?;
     let node = Merging::new(alloc, number, from)?;
-    Ok(Asked::new(Worker::Merging(node)))
+    Ok(Worker::Merging(Asked::new(node)))
 }
 
 /// What makes the nodes of a plan's stages, one after another.
@@ -128,7 +128,7 @@ impl<R: Source + Drop> Builder<R> {
         ensures nodes { self.new.nodes ≡ self.old.nodes }
         ensures stages { self.new.stages ≡ self.old.stages }
         ensures fits { IfOk result (Fits (StandsAs ⟦<Reading<R> as Feeds>⟧.stands
-            ⟦<Asked<Worker<CommandStage>> as Works>⟧.stands) k stage) }
+            ⟦<Worker<CommandStage> as Works>⟧.stands) k stage) }
         ensures told { IfOk result (λ made. (bytes : ℕ → List ℕ) (stages : List PlanStage)
             → AreTold R.remaining bytes k (stage ∷ stages) self.old.readers.items
             → Tells ⟦<Reading<R> as Feeds>⟧.remaining ⟦<Reading<R> as Feeds>⟧.ended bytes k stage made
@@ -159,7 +159,7 @@ impl<R: Source + Drop> Builder<R> {
 
 impl<R: Source + Drop> Builds for Builder<R> {
     ghost made = { λ s front. AllFrom (Fits (StandsAs ⟦<Reading<R> as Feeds>⟧.stands
-        ⟦<Asked<Worker<CommandStage>> as Works>⟧.stands)) 0 front s.nodes.items };
+        ⟦<Worker<CommandStage> as Works>⟧.stands)) 0 front s.nodes.items };
 
     ghost told = { λ s bytes front. AllFrom (Tells ⟦<Reading<R> as Feeds>⟧.remaining
         ⟦<Reading<R> as Feeds>⟧.ended bytes) 0 front s.nodes.items
@@ -205,7 +205,7 @@ pub(crate) fn plan_nodes<R: Source + Drop>(
     requires tree { IsTree (stages_of stages.items) }
     requires readers { reads_of stages.items ≡ length readers.items }
     ensures fits { IfOk result (λ nodes. AllFrom (Fits (StandsAs ⟦<Reading<R> as Feeds>⟧.stands
-        ⟦<Asked<Worker<CommandStage>> as Works>⟧.stands)) 0 stages.items nodes.items) }
+        ⟦<Worker<CommandStage> as Works>⟧.stands)) 0 stages.items nodes.items) }
     ensures told { IfOk result (λ nodes. (bytes : ℕ → List ℕ)
         → AreTold R.remaining bytes 0 stages.items readers.items
         → AllFrom (Tells ⟦<Reading<R> as Feeds>⟧.remaining ⟦<Reading<R> as Feeds>⟧.ended bytes) 0
