@@ -1,25 +1,29 @@
 //! Nodes of a net by hand, call after call.
 use hum_nodes::{Doing, Feeds, Merging, Reading, Works};
-use hum_read::{ReadError, Step};
+use hum_read::ReadError;
+use hum_record::Record;
 use hum_stage::End;
 use hum_text::calls::{Marked, Source};
 use std::io;
 use std::io::{Error, ErrorKind, Read};
 use std::process::Abort;
 
-// What was given, as text.
-fn shown(polled: &Step) -> &[u8] {
-    match polled {
-        Step::Record(record) => record.text(),
-        Step::More => b"nothing",
-        Step::End(End::Closed) => b"closed",
-        Step::End(End::Broken(_)) => b"broken",
+// What a turn has given, as text.
+fn shown<'a, R: Source + Drop>(node: &Reading<R>, next: &'a Option<Record>) -> &'a [u8] {
+    match next {
+        Some(record) => record.text(),
+        None => match node.stopped() {
+            None => b"nothing",
+            Some(Ok(End::Closed)) => b"closed",
+            Some(Ok(End::Broken(_))) => b"broken",
+            Some(Err(_)) => b"failed",
+        },
     }
 }
 
 // Gives back what was given, which the reader keeps.
-fn give_back<R: Source + Drop>(rt: &impl Abort, node: &mut Reading<R>, polled: Step) {
-    if let Step::Record(row) = polled {
+fn give_back<R: Source + Drop>(rt: &impl Abort, node: &mut Reading<R>, next: Option<Record>) {
+    if let Some(row) = next {
         assert!(rt; node.reuse(row).is_none());
     }
 }
@@ -31,9 +35,9 @@ fn a_score_is_read(rt: HostRuntime) {
     let source = Marked::new(b"**x\n*-".as_slice());
     let mut node = Reading::new(rt.alloc(), 1, source);
     for text in CLOSED {
-        let polled = node.poll().expect(&rt, "a step");
-        assert_eq!(rt; shown(&polled), *text);
-        give_back(&rt, &mut node, polled);
+        let next = node.next();
+        assert_eq!(rt; shown(&node, &next), *text);
+        give_back(&rt, &mut node, next);
     }
 }
 
@@ -44,8 +48,8 @@ fn a_broken_score_is_read(rt: HostRuntime) {
     let source = Marked::new(b"**x\n\n*-\n".as_slice());
     let mut node = Reading::new(rt.alloc(), 1, source);
     for text in BROKEN {
-        let polled = node.poll().expect(&rt, "a step");
-        assert_eq!(rt; shown(&polled), *text);
+        let next = node.next();
+        assert_eq!(rt; shown(&node, &next), *text);
     }
 }
 
@@ -63,7 +67,8 @@ impl Read for Failing {
 fn a_failed_read_is_told_again(rt: HostRuntime) {
     let mut node = Reading::new(rt.alloc(), 1, Marked::new(Failing));
     for _ in 0..2 {
-        assert_eq!(rt; node.poll().err(), Some(ReadError::Read));
+        assert!(rt; node.next().is_none());
+        assert_eq!(rt; node.stopped(), Some(Err(ReadError::Read)));
     }
 }
 
