@@ -5,6 +5,7 @@
 //! does it.
 #![tactic(auto)]
 
+mod asking;
 mod options;
 mod stages;
 

@@ -1,7 +1,11 @@
 //! The stages of commands.
-ghost use Rattle.hum_stage.specs.Meaning.{opening, KeepsScore, IsWithinLag};
+ghost use Rattle.std.specs.Prelude.{◌≡◌, ℕ, ◌+◌, length};
+ghost use Rattle.hum_stage.specs.Meaning.{Moment, opening, all_of, IsLawful};
+ghost use Rattle.hum_stage.specs.Meaning.{KeepsScore, IsWithinLag};
+ghost use Rattle.hum_commands.specs.Asking.{Knows};
 ghost use Rattle.hum_commands.specs.Meaning.{meaning, MakesScores, most_lag};
 
+use crate::asking::Asks;
 use crate::options::CommandOptions;
 use hum_cleave::Cleave;
 use hum_context::Context;
@@ -15,8 +19,15 @@ use hum_tones::{Mint, Recip, Semits, Trans};
 use hum_yank::Yank;
 use std::alloc::{AllocError, Global};
 
-/// The stage of a command of one input.
-pub enum CommandStage {
+/// The stage of a command of one input, and what it is ready for, learnt once after each of its
+/// calls.
+pub struct CommandStage {
+    stage: AnyStage,
+    readiness: Readiness,
+}
+
+/// The stage of one of the commands.
+enum AnyStage {
     Rid(Rid),
     Extract(Extract),
     Ditto(Ditto),
@@ -34,17 +45,17 @@ pub enum CommandStage {
 macro_rules! each {
     ($all:expr, $stage:ident => $call:expr) => {
         match $all {
-            CommandStage::Rid($stage) => $call,
-            CommandStage::Extract($stage) => $call,
-            CommandStage::Ditto($stage) => $call,
-            CommandStage::Timebase($stage) => $call,
-            CommandStage::Context($stage) => $call,
-            CommandStage::Trans($stage) => $call,
-            CommandStage::Semits($stage) => $call,
-            CommandStage::Mint($stage) => $call,
-            CommandStage::Recip($stage) => $call,
-            CommandStage::Yank($stage) => $call,
-            CommandStage::Cleave($stage) => $call,
+            AnyStage::Rid($stage) => $call,
+            AnyStage::Extract($stage) => $call,
+            AnyStage::Ditto($stage) => $call,
+            AnyStage::Timebase($stage) => $call,
+            AnyStage::Context($stage) => $call,
+            AnyStage::Trans($stage) => $call,
+            AnyStage::Semits($stage) => $call,
+            AnyStage::Mint($stage) => $call,
+            AnyStage::Recip($stage) => $call,
+            AnyStage::Yank($stage) => $call,
+            AnyStage::Cleave($stage) => $call,
         }
     };
 }
@@ -52,60 +63,32 @@ macro_rules! each {
 // Written out, so that a caller's proof sees one call and not the drop of each command's stage.
 impl Drop for CommandStage {
     fn drop(self) {
-        each!(self, _stage => {})
+        let CommandStage {
+            stage,
+            readiness: _,
+        } = self;
+        each!(stage, _stage => {})
     }
 }
 
-impl CommandStage {
-    /// The stage of this number, from 1, that is told to do so.
-    pub fn new(alloc: Global, number: u8, options: CommandOptions) -> CommandStage
-        // It stands for what the options say, with nothing put yet.
-        ensures stands { ⟦<CommandStage as Stage>⟧.stands result
-            (opening (meaning number options)) }
+/// What a state stands for, as [`Stage`] says it.
+trait StandsFor {
+    ghost stands: { Self → Moment → Type 0 };
 
-        // Of scores it makes scores.
-        ensures keeps { MakesScores options → KeepsScore (meaning number options).outcomes }
+    ghost left: { Self → ℕ };
 
-        // What it holds of records that were put when it wanted them: one at most, or 65,537.
-        ensures within { IsWithinLag (most_lag options) (meaning number options) }
-    {
-        match options {
-            CommandOptions::Rid(options) => CommandStage::Rid(Rid::new(alloc, number, options)),
-            CommandOptions::Extract(options) => CommandStage::Extract(Extract::new(
-                alloc, number, options,
-            )),
-            CommandOptions::Ditto(options) => CommandStage::Ditto(Ditto::new(
-                alloc, number, options,
-            )),
-            CommandOptions::Timebase(options) => CommandStage::Timebase(Timebase::new(
-                alloc, number, options,
-            )),
-            CommandOptions::Context(options) => CommandStage::Context(Context::new(
-                alloc, number, options,
-            )),
-            CommandOptions::Trans(options) => CommandStage::Trans(Trans::new(
-                alloc, number, options,
-            )),
-            CommandOptions::Semits(options) => CommandStage::Semits(Semits::new(
-                alloc, number, options,
-            )),
-            CommandOptions::Mint(options) => CommandStage::Mint(Mint::new(alloc, number, options)),
-            CommandOptions::Recip(options) => CommandStage::Recip(Recip::new(
-                alloc, number, options,
-            )),
-            CommandOptions::Yank(options) => CommandStage::Yank(Yank::new(alloc, number, options)),
-            CommandOptions::Cleave(options) => CommandStage::Cleave(Cleave::new(
-                alloc, number, options,
-            )),
-        }
-    }
+    ghost spent: { Self → Type 0 };
+
+    ghost remains: { (s : Self) (t : Moment) → stands s t → left s + t.given ≡ length (all_of t) };
+
+    ghost lawful: { (s : Self) (t : Moment) → stands s t → IsLawful t.meaning };
 }
 
-impl Stage for CommandStage {
+impl StandsFor for AnyStage {
     ghost use Rattle.hum_stage.specs.Laws.{standing_remains};
     ghost use Rattle.hum_stage.specs.LookLaws.{lags_remains};
     ghost use Rattle.hum_stage.specs.Lawful.{standing_lawful, lags_lawful};
-    ghost use Rattle.hum_commands.specs.declared.stages.CommandStage.TheVariants as stage;
+    ghost use Rattle.hum_commands.specs.declared.stages.AnyStage.TheVariants as stage;
 
     ghost stands = { elim [
       | stage.Rid s ↦ ⟦<Rid as Stage>⟧.stands s
@@ -176,35 +159,105 @@ impl Stage for CommandStage {
       | stage.Yank s ↦ λ t h. lags_lawful _ _ _ _ _ t h
       | stage.Cleave s ↦ λ t h. standing_lawful _ _ _ _ t h
     ] };
+}
+
+impl AnyStage {
+    /// The stage of this number, from 1, that is told to do so.
+    fn new(alloc: Global, number: u8, options: CommandOptions) -> AnyStage
+        ensures stands { ⟦<AnyStage as StandsFor>⟧.stands result
+            (opening (meaning number options)) }
+        ensures keeps { MakesScores options → KeepsScore (meaning number options).outcomes }
+        ensures within { IsWithinLag (most_lag options) (meaning number options) }
+    {
+        match options {
+            CommandOptions::Rid(options) => AnyStage::Rid(Rid::new(alloc, number, options)),
+            CommandOptions::Extract(options) => AnyStage::Extract(Extract::new(
+                alloc, number, options,
+            )),
+            CommandOptions::Ditto(options) => AnyStage::Ditto(Ditto::new(alloc, number, options)),
+            CommandOptions::Timebase(options) => AnyStage::Timebase(Timebase::new(
+                alloc, number, options,
+            )),
+            CommandOptions::Context(options) => AnyStage::Context(Context::new(
+                alloc, number, options,
+            )),
+            CommandOptions::Trans(options) => AnyStage::Trans(Trans::new(alloc, number, options)),
+            CommandOptions::Semits(options) => AnyStage::Semits(Semits::new(
+                alloc, number, options,
+            )),
+            CommandOptions::Mint(options) => AnyStage::Mint(Mint::new(alloc, number, options)),
+            CommandOptions::Recip(options) => AnyStage::Recip(Recip::new(alloc, number, options)),
+            CommandOptions::Yank(options) => AnyStage::Yank(Yank::new(alloc, number, options)),
+            CommandOptions::Cleave(options) => AnyStage::Cleave(Cleave::new(
+                alloc, number, options,
+            )),
+        }
+    }
+}
+
+impl CommandStage {
+    /// The stage of this number, from 1, that is told to do so.
+    pub fn new(alloc: Global, number: u8, options: CommandOptions) -> CommandStage
+        // It stands for what the options say, with nothing put yet.
+        ensures stands { ⟦<CommandStage as Stage>⟧.stands result
+            (opening (meaning number options)) }
+
+        // Of scores it makes scores.
+        ensures keeps { MakesScores options → KeepsScore (meaning number options).outcomes }
+
+        // What it holds of records that were put when it wanted them: one at most, or 65,537.
+        ensures within { IsWithinLag (most_lag options) (meaning number options) }
+    {
+        CommandStage {
+            stage: AnyStage::new(alloc, number, options),
+            readiness: Readiness::Wants,
+        }
+    }
+}
+
+impl Stage for CommandStage {
+    ghost stands = { λ s. Knows (⟦<AnyStage as StandsFor>⟧.stands s.stage) s.readiness };
+
+    ghost left = { λ s. ⟦<AnyStage as StandsFor>⟧.left s.stage };
+
+    ghost spent = { λ s. ⟦<AnyStage as StandsFor>⟧.spent s.stage };
+
+    ghost remains = { λ s t h. ⟦<AnyStage as StandsFor>⟧.remains s.stage t h.0 };
+
+    ghost lawful = { λ s t h. ⟦<AnyStage as StandsFor>⟧.lawful s.stage t h.0 };
 
     fn put(&mut self, next: Record) -> Result<(), AllocError> {
-        each!(self, stage => stage.put(next))
+        let CommandStage { stage, readiness } = self;
+        each!(stage, stage => stage.put_and_ask(readiness, next))
     }
 
     fn end(&mut self, end: End) {
-        each!(self, stage => stage.end(end))
+        let CommandStage { stage, readiness } = self;
+        each!(stage, stage => stage.end_and_ask(readiness, end))
     }
 
     fn take(&mut self) -> Result<Option<Record>, AllocError> {
-        each!(self, stage => stage.take())
+        let CommandStage { stage, readiness } = self;
+        each!(stage, stage => stage.take_and_ask(readiness))
     }
 
     fn state(&self) -> State {
-        each!(self, stage => stage.state())
+        each!(&self.stage, stage => stage.state())
     }
 
+    #[inline(always)]
     fn readiness(&self) -> Readiness {
-        each!(self, stage => stage.readiness())
+        self.readiness
     }
 
     fn held(&self) -> usize {
-        each!(self, stage => stage.held())
+        each!(&self.stage, stage => stage.held())
     }
 
     // Timebase alone gives more records than it is put.
     fn reuse(&mut self, row: Record) -> Option<Record> {
-        match self {
-            CommandStage::Timebase(stage) => stage.reuse(row),
+        match &mut self.stage {
+            AnyStage::Timebase(stage) => stage.reuse(row),
             _ => Some(row),
         }
     }
