@@ -9,6 +9,7 @@ ghost use Rattle.hum_text.specs.Text.{lf, without_cr, IsLawful, BreaksFirst};
 
 use crate::block::Block;
 use crate::calls::{LARGEST_READ, Source};
+use crate::near::near_lf;
 use crate::rules::{first_fault, sound_len, strip_cr};
 use crate::{Limits, TextFault};
 use std::alloc::Global;
@@ -71,6 +72,7 @@ impl<R: Source> LineReader<R> {
     ghost use Rattle.hum_text.specs.Reading.{opening, Holds, GivesNext, bytes_read};
     ghost use Rattle.hum_text.specs.Reading.{NeedsRead, ReadsOnce, IsUnread, IsFed};
     ghost use Rattle.hum_text.specs.Reading.{IsOver, KeepsLimits, Fails, left_to_do, Nears};
+    ghost use Rattle.hum_text.specs.Reading.{GivesLine};
 
     /// The reader of a source of which nothing was read yet.
     pub fn new(alloc: Global, source: R, limits: Limits) -> LineReader<R>
@@ -181,6 +183,24 @@ impl<R: Source> LineReader<R> {
         self.taken += k as u64 + 1;
     }
 
+    // Hands out the line whose LF is at `k`, if it breaks no rule, and tells whether it did.
+    #[inline]
+    fn sound_line(&mut self, k: usize) -> bool
+        requires sound { self.old.fault ≡ None }
+        requires first { IsFirstByte (is_byte lf) self.old.pending (Some k) }
+        ensures line { result ≡ true → GivesLine self.old self.new }
+        ensures same { result ≡ false → self.new ≡ self.old }
+    {
+        let piece = &self.block.pending()[..k];
+        match sound_len(&self.limits, self.given, self.taken, piece) {
+            Some(len) => {
+                self.hand_out_line(k, len);
+                true
+            }
+            None => false,
+        }
+    }
+
     // The line whose LF is at `k`, or the first fault in it.
     #[inline]
     fn whole_line(&mut self, k: usize) -> Result<Step, TextFault>
@@ -200,14 +220,10 @@ impl<R: Source> LineReader<R> {
         ensures taken { self.new.taken ≤ self.new.limits.bytes }
         ensures not_end { result ≢ Ok Step.End }
     {
-        let piece = &self.block.pending()[..k];
-        match sound_len(&self.limits, self.given, self.taken, piece) {
-            Some(len) => {
-                self.hand_out_line(k, len);
-                Ok(Step::Line)
-            }
-            None => self.check_line(k),
+        if self.sound_line(k) {
+            return Ok(Step::Line);
         }
+        self.check_line(k)
     }
 
     // The same where a fault is looked for.
@@ -350,6 +366,20 @@ impl<R: Source> LineReader<R> {
         }
     }
 
+    /// Hands out the next line, if it ends near and breaks no rule, and tells whether it did. Where it
+    /// didn't, nothing has changed.
+    #[inline]
+    pub fn near_line(&mut self) -> bool
+        requires sound { self.old.fault ≡ None }
+        ensures line { result ≡ true → GivesLine self.old self.new }
+        ensures same { result ≡ false → self.new ≡ self.old }
+    {
+        match near_lf(self.block.pending()) {
+            Some(k) => self.sound_line(k),
+            None => false,
+        }
+    }
+
     /// The next step. A line or a fault that was read is given without a read, and no poll reads
     /// twice. After a fault it gives that fault again, and after the end the end.
     #[inline]
@@ -391,9 +421,9 @@ impl<R: Source> LineReader<R> {
         if let Some(fault) = self.fault {
             return Err(fault);
         }
-        match self.block.near_line_end() {
-            Some(k) => self.whole_line(k),
-            None => self.poll_far(),
+        if self.near_line() {
+            return Ok(Step::Line);
         }
+        self.poll_far()
     }
 }
