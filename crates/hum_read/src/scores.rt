@@ -181,7 +181,7 @@ impl<R: Source> ScoreReader<R> {
     }
 
     /// The record of the line that was just read, or none where it is refused.
-    #[inline]
+    #[inline(always)]
     fn read_line(&mut self) -> Option<Record>
         requires going { self.old.stopped ≡ None }
         requires short { length self.old.lines.line ≤ 1048576 }
