@@ -270,7 +270,7 @@ impl<R: Source> ScoreReader<R> {
         if self.stopped.is_some() {
             return None;
         }
-        if self.lines.near_line() {
+        if self.lines.next_line() {
             return self.read_line();
         }
         self.next_far()

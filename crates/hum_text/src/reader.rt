@@ -202,31 +202,6 @@ impl<R: Source> LineReader<R> {
     }
 
     // The line whose LF is at `k`, or the first fault in it.
-    #[inline]
-    fn whole_line(&mut self, k: usize) -> Result<Step, TextFault>
-        requires sound { self.old.fault ≡ None }
-        requires first { IsFirstByte (is_byte lf) self.old.pending (Some k) }
-        ensures within { IfOk result
-            (λ step. KeepsLimits self.old.limits step self.new.line self.new.given) }
-        ensures gives { GivesNext self.old result self.new }
-        ensures unread { IsUnread self.old self.new }
-        ensures not_more { result ≢ Ok Step.More }
-        ensures not_read { result ≢ Err TextFault.Read }
-        ensures sound { OnOk result (self.new.fault ≡ None) }
-        ensures err { IfErr result (Fails self.old self.new) }
-        ensures nears { IfOk result
-            (λ step. Nears step (left_to_do self.old) (left_to_do self.new)) }
-        ensures limits { self.new.limits ≡ self.old.limits }
-        ensures taken { self.new.taken ≤ self.new.limits.bytes }
-        ensures not_end { result ≢ Ok Step.End }
-    {
-        if self.sound_line(k) {
-            return Ok(Step::Line);
-        }
-        self.check_line(k)
-    }
-
-    // The same where a fault is looked for.
     #[inline(never)]
     fn check_line(&mut self, k: usize) -> Result<Step, TextFault>
         requires sound { self.old.fault ≡ None }
@@ -331,7 +306,7 @@ impl<R: Source> LineReader<R> {
         }
     }
 
-    // The same where no LF is near.
+    // What a poll gives, whatever is pending.
     #[inline(never)]
     fn poll_far(&mut self) -> Result<Step, TextFault>
         requires sound { self.old.fault ≡ None }
@@ -360,24 +335,37 @@ impl<R: Source> LineReader<R> {
         ensures taken { self.new.taken ≤ self.new.limits.bytes }
     {
         match self.block.find_line_end() {
-            Some(k) => self.whole_line(k),
+            Some(k) => self.check_line(k),
             None if self.ended => self.last_line(),
             None => self.read_on(),
         }
     }
 
-    /// Hands out the next line, if it ends near and breaks no rule, and tells whether it did. Where it
-    /// didn't, nothing has changed.
+    /// Hands out the next line, if it was read to its end and breaks no rule, and tells whether it
+    /// did. Where it didn't, nothing has changed.
     #[inline]
-    pub fn near_line(&mut self) -> bool
+    pub fn next_line(&mut self) -> bool
         requires sound { self.old.fault ≡ None }
         ensures line { result ≡ true → GivesLine self.old self.new }
         ensures same { result ≡ false → self.new ≡ self.old }
     {
         match near_lf(self.block.pending()) {
             Some(k) => self.sound_line(k),
-            None => false,
+            None => self.far_line(),
         }
+    }
+
+    // The same where no LF is near.
+    #[inline(never)]
+    fn far_line(&mut self) -> bool
+        requires sound { self.old.fault ≡ None }
+        ensures line { result ≡ true → GivesLine self.old self.new }
+        ensures same { result ≡ false → self.new ≡ self.old }
+    {
+        let Some(k) = self.block.find_line_end() else {
+            return false;
+        };
+        self.sound_line(k)
     }
 
     /// The next step. A line or a fault that was read is given without a read, and no poll reads
@@ -421,7 +409,7 @@ impl<R: Source> LineReader<R> {
         if let Some(fault) = self.fault {
             return Err(fault);
         }
-        if self.near_line() {
+        if self.next_line() {
             return Ok(Step::Line);
         }
         self.poll_far()
