@@ -91,6 +91,6 @@ fn write_parts<W: Sink>(sink: &mut W, row: &Record) -> Result<(), WriteFailed>
     ensures sound { OnOk result (W.failed sink.new ≡ W.failed sink.old) }
     ensures failed { OnErr result (W.failed sink.new ≡ true) }
 {
-    write_on(sink, row.text())?;
-    write_on(sink, b"\n")
+    write_all(sink, row.text())?;
+    write_all(sink, b"\n")
 }
