@@ -181,7 +181,7 @@ impl<R: Source> ScoreReader<R> {
     }
 
     /// The record of the line that was just read, or none where it is refused.
-    #[inline]
+    #[inline(always)]
     fn read_line(&mut self) -> Option<Record>
         requires going { self.old.stopped ≡ None }
         requires short { length self.old.lines.line ≤ 1048576 }
@@ -270,6 +270,43 @@ impl<R: Source> ScoreReader<R> {
         if self.stopped.is_some() {
             return None;
         }
+        if self.lines.next_line() {
+            return self.read_line();
+        }
+        self.next_far()
+    }
+
+    // The same where it has not stopped, by a poll of the lines.
+    #[inline(never)]
+    fn next_far(&mut self) -> Option<Record>
+        requires going { self.old.stopped ≡ None }
+        ensures gives { GivesNext self.old (given_by result self.new.stopped) self.new }
+        ensures stops { self.new.stopped ≡ stop_of (given_by result self.new.stopped) }
+        ensures stage { self.new.stage ≡ self.old.stage }
+        ensures unread { ¬ NeedsRead self.old.lines → IsUnread self.old.lines self.new.lines }
+        ensures once { NeedsRead self.old.lines
+            → IsCalledAtMostOnce R.calls R.failed
+            self.old.lines.source self.new.lines.source }
+        ensures due { IsDue self.old → ReadsOnce R.calls R.failed self.old
+            (given_by result self.new.stopped) self.new }
+        ensures more { given_by result self.new.stopped ≡ Ok Step.More
+            → IsFed self.old.lines self.new.lines }
+        ensures unfed { given_by result self.new.stopped ≢ Ok Step.More
+            → bytes_read self.old.lines self.new.lines ≡ [] }
+        ensures asked { length (bytes_read self.old.lines self.new.lines) ≤ LARGEST_READ }
+        ensures consumes { Consumes (R.remaining self.old.lines.source)
+            (R.remaining self.new.lines.source) (bytes_read self.old.lines self.new.lines) }
+        ensures at_end { self.new.lines.ended ≡ true
+            → (self.old.lines.ended ≡ true) ⊎ IsAtEnd (R.remaining self.new.lines.source) }
+        ensures failed { given_by result self.new.stopped ≡ Err ReadError.Read
+            → R.failed self.new.lines.source ≡ true }
+        ensures marked { R.failed self.new.lines.source ≡ true
+            → (R.failed self.old.lines.source ≡ true)
+            ⊎ (given_by result self.new.stopped ≡ Err ReadError.Read) }
+        ensures taken { self.new.lines.taken ≤ self.new.lines.limits.bytes }
+        ensures nears { IfOk (given_by result self.new.stopped) (λ step.
+            Nears step (left_to_do self.old.lines) (left_to_do self.new.lines)) }
+    {
         match self.lines.poll() {
             Ok(lines::Step::Line) => self.read_line(),
             Ok(lines::Step::More) => None,

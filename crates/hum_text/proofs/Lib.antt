@@ -5,4 +5,5 @@ pub mod TextLemmas
 pub mod ReadingLemmas
 pub mod LimitLemmas
 pub mod FrontLemmas
+pub mod GivenLine
 pub mod NearLemmas

@@ -156,3 +156,15 @@ abbrev pub Nears : Step → ℕ → ℕ → Type 0
 Nears End old new = Unit {0}
 Nears More old new = new < old
 Nears Line old new = new < old
+
+-- The next line was handed out. Its LF was pending, so no read was needed, and none was made.
+pub record GivesLine {R : Type 0} (old new : Reader R) : Type 0 where
+  pub gives : GivesNext old (Ok Line) new
+  pub within : KeepsLimits old.limits Line new.line new.given
+  pub needless : ¬ NeedsRead old
+  pub going : ¬ IsOver old
+  pub unread : IsUnread old new
+  pub sound : new.fault ≡ None
+  pub nears : Nears Line (left_to_do old) (left_to_do new)
+  pub limits : new.limits ≡ old.limits
+  pub taken : new.taken ≤ new.limits.bytes

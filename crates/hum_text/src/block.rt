@@ -9,7 +9,6 @@ ghost use Rattle.hum_text.specs.Calls.{IsCalled};
 
 use crate::TextFault;
 use crate::calls::{LARGEST_READ, Source};
-use crate::near::near_lf;
 use memchr::memchr;
 use std::alloc::{AllocError, Global};
 use std::io;
@@ -82,18 +81,6 @@ impl Block {
         ensures { result.now ≡ self.now.pending }
     {
         &self.bytes[self.start..self.end]
-    }
-
-    /// Where the first LF stands, if it is among the next few bytes.
-    #[inline]
-    pub fn near_line_end(&self) -> Option<usize>
-        ensures { IfSome result (λ k. IsFirstByte (is_byte lf) self.now.pending (Some k)) }
-    {
-        let from = self.scanned;
-        match near_lf(&self.bytes[from..self.end]) {
-            None => None,
-            Some(k) => Some(from - self.start + k),
-        }
     }
 
     /// Where the first LF stands. What was searched in vain isn't searched again.

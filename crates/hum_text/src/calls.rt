@@ -93,7 +93,20 @@ impl<T> Marked<T> {
         }
     }
 
+    // Counts a call that didn't fail and was no flush.
+    #[inline]
+    fn count(&mut self)
+        ensures { self.new ≡ record self.old {
+          calls = counted self.old.calls;
+          flushed = false;
+        } }
+    {
+        self.calls = self.calls.saturating_add(1);
+        self.flushed = false;
+    }
+
     // Counts a call, and marks whether it failed, and whether it was a flush that didn't.
+    #[inline(never)]
     fn note(&mut self, failed: bool, flushed: bool)
         ensures { self.new ≡ record self.old {
           calls = counted self.old.calls;
@@ -164,9 +177,13 @@ impl<T: Write> Sink for Marked<T> {
 
     ghost flushed = { λ m. m.flushed };
 
+    #[inline(always)]
     fn write(&mut self, buf: &[u8]) -> io::Result<usize> {
         let result = self.inner.write(buf);
-        self.note(!matches!(&result, Ok(1..)), false);
+        match &result {
+            Ok(1..) => self.count(),
+            _ => self.note(true, false),
+        }
         result
     }
 

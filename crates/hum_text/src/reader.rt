@@ -9,6 +9,7 @@ ghost use Rattle.hum_text.specs.Text.{lf, without_cr, IsLawful, BreaksFirst};
 
 use crate::block::Block;
 use crate::calls::{LARGEST_READ, Source};
+use crate::near::near_lf;
 use crate::rules::{first_fault, sound_len, strip_cr};
 use crate::{Limits, TextFault};
 use std::alloc::Global;
@@ -71,6 +72,7 @@ impl<R: Source> LineReader<R> {
     ghost use Rattle.hum_text.specs.Reading.{opening, Holds, GivesNext, bytes_read};
     ghost use Rattle.hum_text.specs.Reading.{NeedsRead, ReadsOnce, IsUnread, IsFed};
     ghost use Rattle.hum_text.specs.Reading.{IsOver, KeepsLimits, Fails, left_to_do, Nears};
+    ghost use Rattle.hum_text.specs.Reading.{GivesLine};
 
     /// The reader of a source of which nothing was read yet.
     pub fn new(alloc: Global, source: R, limits: Limits) -> LineReader<R>
@@ -181,36 +183,25 @@ impl<R: Source> LineReader<R> {
         self.taken += k as u64 + 1;
     }
 
-    // The line whose LF is at `k`, or the first fault in it.
+    // Hands out the line whose LF is at `k`, if it breaks no rule, and tells whether it did.
     #[inline]
-    fn whole_line(&mut self, k: usize) -> Result<Step, TextFault>
+    fn sound_line(&mut self, k: usize) -> bool
         requires sound { self.old.fault ≡ None }
         requires first { IsFirstByte (is_byte lf) self.old.pending (Some k) }
-        ensures within { IfOk result
-            (λ step. KeepsLimits self.old.limits step self.new.line self.new.given) }
-        ensures gives { GivesNext self.old result self.new }
-        ensures unread { IsUnread self.old self.new }
-        ensures not_more { result ≢ Ok Step.More }
-        ensures not_read { result ≢ Err TextFault.Read }
-        ensures sound { OnOk result (self.new.fault ≡ None) }
-        ensures err { IfErr result (Fails self.old self.new) }
-        ensures nears { IfOk result
-            (λ step. Nears step (left_to_do self.old) (left_to_do self.new)) }
-        ensures limits { self.new.limits ≡ self.old.limits }
-        ensures taken { self.new.taken ≤ self.new.limits.bytes }
-        ensures not_end { result ≢ Ok Step.End }
+        ensures line { result ≡ true → GivesLine self.old self.new }
+        ensures same { result ≡ false → self.new ≡ self.old }
     {
         let piece = &self.block.pending()[..k];
         match sound_len(&self.limits, self.given, self.taken, piece) {
             Some(len) => {
                 self.hand_out_line(k, len);
-                Ok(Step::Line)
+                true
             }
-            None => self.check_line(k),
+            None => false,
         }
     }
 
-    // The same where a fault is looked for.
+    // The line whose LF is at `k`, or the first fault in it.
     #[inline(never)]
     fn check_line(&mut self, k: usize) -> Result<Step, TextFault>
         requires sound { self.old.fault ≡ None }
@@ -315,7 +306,7 @@ impl<R: Source> LineReader<R> {
         }
     }
 
-    // The same where no LF is near.
+    // What a poll gives, whatever is pending.
     #[inline(never)]
     fn poll_far(&mut self) -> Result<Step, TextFault>
         requires sound { self.old.fault ≡ None }
@@ -344,10 +335,37 @@ impl<R: Source> LineReader<R> {
         ensures taken { self.new.taken ≤ self.new.limits.bytes }
     {
         match self.block.find_line_end() {
-            Some(k) => self.whole_line(k),
+            Some(k) => self.check_line(k),
             None if self.ended => self.last_line(),
             None => self.read_on(),
         }
+    }
+
+    /// Hands out the next line, if it was read to its end and breaks no rule, and tells whether it
+    /// did. Where it didn't, nothing has changed.
+    #[inline]
+    pub fn next_line(&mut self) -> bool
+        requires sound { self.old.fault ≡ None }
+        ensures line { result ≡ true → GivesLine self.old self.new }
+        ensures same { result ≡ false → self.new ≡ self.old }
+    {
+        match near_lf(self.block.pending()) {
+            Some(k) => self.sound_line(k),
+            None => self.far_line(),
+        }
+    }
+
+    // The same where no LF is near.
+    #[inline(never)]
+    fn far_line(&mut self) -> bool
+        requires sound { self.old.fault ≡ None }
+        ensures line { result ≡ true → GivesLine self.old self.new }
+        ensures same { result ≡ false → self.new ≡ self.old }
+    {
+        let Some(k) = self.block.find_line_end() else {
+            return false;
+        };
+        self.sound_line(k)
     }
 
     /// The next step. A line or a fault that was read is given without a read, and no poll reads
@@ -391,9 +409,9 @@ impl<R: Source> LineReader<R> {
         if let Some(fault) = self.fault {
             return Err(fault);
         }
-        match self.block.near_line_end() {
-            Some(k) => self.whole_line(k),
-            None => self.poll_far(),
+        if self.next_line() {
+            return Ok(Step::Line);
         }
+        self.poll_far()
     }
 }

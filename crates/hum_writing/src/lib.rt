@@ -17,7 +17,27 @@ pub struct WriteFailed;
 ///
 /// # Errors
 /// A write that fails, or that takes no byte. A front of the text was written then.
+#[inline(always)]
 pub fn write_all<W: Sink>(sink: &mut W, text: &[u8]) -> Result<(), WriteFailed>
+    ensures ok { OnOk result (Appends (W.contents sink.old) (W.contents sink.new) text.now) }
+    ensures err { OnErr result (WroteFront (W.contents sink.old) (W.contents sink.new) text.now) }
+    ensures sound { OnOk result (W.failed sink.new ≡ W.failed sink.old) }
+    ensures failed { OnErr result (W.failed sink.new ≡ true) }
+{
+    if text.is_empty() {
+        return Ok(());
+    }
+    match sink.write(text) {
+        Ok(n) if n == text.len() => Ok(()),
+        Ok(0) => Err(WriteFailed),
+        Ok(n) => write_on(sink, &text[n..]),
+        Err(_) => Err(WriteFailed),
+    }
+}
+
+/// The same where one write may not be enough.
+#[inline(never)]
+fn write_on<W: Sink>(sink: &mut W, text: &[u8]) -> Result<(), WriteFailed>
     ensures ok { OnOk result (Appends (W.contents sink.old) (W.contents sink.new) text.now) }
     ensures err { OnErr result (WroteFront (W.contents sink.old) (W.contents sink.new) text.now) }
     ensures sound { OnOk result (W.failed sink.new ≡ W.failed sink.old) }

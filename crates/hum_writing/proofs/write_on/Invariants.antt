@@ -1,6 +1,6 @@
 use Rattle.std.proofs.Common.{◌≡◌, length}
 use Rattle.hum_writing.specs.Writing.{Wrote}
-use Rattle.hum_writing.proofs.write_all.Given as goal
+use Rattle.hum_writing.proofs.write_on.Given as goal
 
 abbrev pub invariant-loop-rest : goal.invariant-loop-rest
 invariant-loop-rest g l = record {

@@ -3,7 +3,7 @@ use Rattle.std.specs.Bool.{◌==◌}
 use Rattle.std.proofs.lemmas.List.{take_all}
 use Rattle.hum_writing.specs.Writing.{Wrote}
 use Rattle.hum_writing.proofs.Appending.{wrote_more}
-use Rattle.hum_writing.proofs.write_all.Goals as goal
+use Rattle.hum_writing.proofs.write_on.Goals as goal
 
 -- a write that took bytes sets no mark
 no_mark : (f : Bool) (n : ℕ) → (n ≡ 0 → ⊥) → (f || (n == 0)) ≡ f
