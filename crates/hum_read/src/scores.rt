@@ -5,7 +5,6 @@ ghost use Rattle.hum_path.specs.Spines.{after};
 ghost use Rattle.hum_path.specs.Rules.{fault_of, Refuses};
 ghost use Rattle.std.specs.Io.KnownBytes.{Consumes, IsAtEnd};
 ghost use Rattle.hum_read.specs.Denoted.{end_at};
-ghost use Rattle.hum_read.specs.Reading.{answer_of};
 ghost use Rattle.hum_read.specs.Steps.{stop_by};
 ghost use Rattle.hum_record.specs.Spelling.{has_byte};
 ghost use Rattle.hum_text.specs.Reading.{NeedsRead, IsUnread, IsFed, bytes_read, left_to_do};
@@ -21,12 +20,13 @@ use hum_text::{Limits, TextFault, reader as lines};
 use std::alloc::Global;
 use std::marker::Model;
 
-/// What a poll gives.
+/// What a turn of a reader comes to, by what [`ScoreReader::next`] and [`ScoreReader::stopped`] answer:
+/// the contracts speak of it.
 #[derive(Drop)]
 pub enum Step {
     /// The next record.
     Record(Record),
-    /// Nothing yet: the poll has made a read, which gave bytes.
+    /// Nothing yet: the turn has made a read, which gave bytes.
     More,
     /// Nothing more: every record was given, or a rule is broken.
     End(End),
@@ -54,17 +54,6 @@ fn stop(stage: u8, given: u64, fault: TextFault) -> Result<End, ReadError>
         Some(rule) => Ok(broken(stage, given + 1, rule)),
         None if fault == TextFault::Read => Err(ReadError::Read),
         None => Err(ReadError::Memory),
-    }
-}
-
-/// What a reader answers that has stopped.
-#[inline(never)]
-fn answer(why: Result<End, ReadError>) -> Result<Step, ReadError>
-    ensures { result ≡ answer_of why }
-{
-    match why {
-        Ok(end) => Ok(Step::End(end)),
-        Err(error) => Err(error),
     }
 }
 
@@ -169,17 +158,6 @@ impl<R: Source> ScoreReader<R> {
         });
     }
 
-    /// What it answers that has given no record.
-    #[inline(never)]
-    fn told(&self) -> Result<Step, ReadError>
-        ensures { result ≡ given_by None self.now.stopped }
-    {
-        match self.stopped {
-            Some(why) => answer(why),
-            None => Ok(Step::More),
-        }
-    }
-
     /// The record of the line that was just read, or none where it is refused.
     #[inline(always)]
     fn read_line(&mut self) -> Option<Record>
@@ -232,15 +210,22 @@ impl<R: Source> ScoreReader<R> {
     }
 
     /// The next record, or none where there is nothing yet or it has stopped: [`ScoreReader::stopped`]
-    /// tells which. The answer of [`ScoreReader::poll`] is made of both.
+    /// tells which. Once it has stopped each later call gives none.
+    // Inlined, or with an end and an error in its answer, that would be taken to pieces as small as a
+    // fault's fields.
     #[inline(never)]
     pub fn next(&mut self) -> Option<Record>
+        // What is given depends on the bytes read so far alone, however the input goes on.
         ensures gives { self.old.stopped ≡ None
             → GivesNext self.old (given_by result self.new.stopped) self.new }
+
+        // An end and an error last.
         ensures stops { self.new.stopped ≡ stop_of (given_by result self.new.stopped) }
         ensures again { IfSome self.old.stopped
             (λ s. (given_by result self.new.stopped ≡ answer_of s) × (self.new ≡ self.old)) }
         ensures stage { self.new.stage ≡ self.old.stage }
+
+        // It reads where it has to, and then once.
         ensures unread { ¬ NeedsRead self.old.lines → IsUnread self.old.lines self.new.lines }
         ensures once { NeedsRead self.old.lines
             → IsCalledAtMostOnce R.calls R.failed
@@ -256,14 +241,20 @@ impl<R: Source> ScoreReader<R> {
             (R.remaining self.new.lines.source) (bytes_read self.old.lines self.new.lines) }
         ensures at_end { self.new.lines.ended ≡ true
             → (self.old.lines.ended ≡ true) ⊎ IsAtEnd (R.remaining self.new.lines.source) }
+
+        // It tells of a failed read exactly where this turn's read failed.
         ensures failed { given_by result self.new.stopped ≡ Err ReadError.Read
             → (self.old.stopped ≡ Some (Err ReadError.Read))
             ⊎ (R.failed self.new.lines.source ≡ true) }
         ensures marked { R.failed self.new.lines.source ≡ true
             → (R.failed self.old.lines.source ≡ true)
             ⊎ (given_by result self.new.stopped ≡ Err ReadError.Read) }
+
+        // What was handed out is within the limits.
         ensures taken { self.old.stopped ≡ None
             → self.new.lines.taken ≤ self.new.lines.limits.bytes }
+
+        // So each run of turns ends.
         ensures nears { IfOk (given_by result self.new.stopped) (λ step.
             Nears step (left_to_do self.old.lines) (left_to_do self.new.lines)) }
     {
@@ -320,57 +311,6 @@ impl<R: Source> ScoreReader<R> {
                 self.stopped = Some(why);
                 None
             }
-        }
-    }
-
-    /// The next step.
-    ///
-    /// # Errors
-    /// A failed read, and want of memory, which each later poll answers again.
-    // Inlined, its answer would be taken to pieces as small as a fault's fields.
-    #[inline(never)]
-    pub fn poll(&mut self) -> Result<Step, ReadError>
-        // What is given depends on the bytes read so far alone, however the input goes on.
-        ensures gives { self.old.stopped ≡ None → GivesNext self.old result self.new }
-
-        // An end and an error last.
-        ensures stops { self.new.stopped ≡ stop_of result }
-        ensures again { IfSome self.old.stopped
-            (λ s. (result ≡ answer_of s) × (self.new ≡ self.old)) }
-        ensures stage { self.new.stage ≡ self.old.stage }
-
-        // It reads where it has to, and then once.
-        ensures unread { ¬ NeedsRead self.old.lines → IsUnread self.old.lines self.new.lines }
-        ensures once { NeedsRead self.old.lines
-            → IsCalledAtMostOnce R.calls R.failed
-            self.old.lines.source self.new.lines.source }
-        ensures due { IsDue self.old → ReadsOnce R.calls R.failed self.old result self.new }
-        ensures more { result ≡ Ok Step.More → IsFed self.old.lines self.new.lines }
-        ensures unfed { result ≢ Ok Step.More → bytes_read self.old.lines self.new.lines ≡ [] }
-        ensures asked { length (bytes_read self.old.lines self.new.lines) ≤ LARGEST_READ }
-        ensures consumes { Consumes (R.remaining self.old.lines.source)
-            (R.remaining self.new.lines.source) (bytes_read self.old.lines self.new.lines) }
-        ensures at_end { self.new.lines.ended ≡ true
-            → (self.old.lines.ended ≡ true) ⊎ IsAtEnd (R.remaining self.new.lines.source) }
-
-        // It tells of a failed read exactly where this poll's read failed.
-        ensures failed { result ≡ Err ReadError.Read
-            → (self.old.stopped ≡ Some (Err ReadError.Read))
-            ⊎ (R.failed self.new.lines.source ≡ true) }
-        ensures marked { R.failed self.new.lines.source ≡ true
-            → (R.failed self.old.lines.source ≡ true) ⊎ (result ≡ Err ReadError.Read) }
-
-        // What was handed out is within the limits.
-        ensures taken { self.old.stopped ≡ None
-            → self.new.lines.taken ≤ self.new.lines.limits.bytes }
-
-        // So each run of polls ends.
-        ensures nears { IfOk result (λ step.
-            Nears step (left_to_do self.old.lines) (left_to_do self.new.lines)) }
-    {
-        match self.next() {
-            Some(record) => Ok(Step::Record(record)),
-            None => self.told(),
         }
     }
 }

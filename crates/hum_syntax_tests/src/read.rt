@@ -1,5 +1,5 @@
 //! Scores read in pieces of several sizes, and from a source that fails.
-use hum_read::{ReadError, ScoreReader, Step};
+use hum_read::{ReadError, ScoreReader};
 use hum_stage::{Command, End, Fault, Rule};
 use hum_text::calls::Marked;
 use std::alloc::Global;
@@ -30,15 +30,6 @@ impl Read for Pieces {
     }
 }
 
-// Why a score stops, if this was answered.
-fn stop_of(polled: Result<Step, ReadError>) -> Option<Result<End, ReadError>> {
-    match polled {
-        Ok(Step::End(end)) => Some(Ok(end)),
-        Ok(_) => None,
-        Err(error) => Some(Err(error)),
-    }
-}
-
 // Reads to the end or an error: the texts of the records, with LF after each, and why it stops.
 fn read_all(
     rt: &impl Abort,
@@ -47,20 +38,18 @@ fn read_all(
 ) -> (Vec<u8>, Result<End, ReadError>) {
     let mut texts = Vec::new(alloc);
     for _ in 0..1_000 {
-        match reader.poll() {
-            Ok(Step::Record(record)) => {
-                texts.extend_from_slice(record.text()).expect(rt, "memory");
-                texts.push(b'\n').expect(rt, "memory");
-            }
-            Ok(Step::More) => {}
-            Ok(Step::End(end)) => return (texts, Ok(end)),
-            Err(error) => return (texts, Err(error)),
+        if let Some(record) = reader.next() {
+            texts.extend_from_slice(record.text()).expect(rt, "memory");
+            texts.push(b'\n').expect(rt, "memory");
+        }
+        if let Some(stop) = reader.stopped() {
+            return (texts, stop);
         }
     }
     panic!(rt; "no end")
 }
 
-// Read as stage 3 the source gives these texts and stops so. Polled once more it answers the same.
+// Read as stage 3 the source gives these texts and stops so. Asked once more it answers the same.
 fn check_read(
     rt: &impl Abort,
     alloc: Global,
@@ -72,7 +61,8 @@ fn check_read(
     let (texts, found) = read_all(rt, alloc, &mut reader);
     assert_eq!(rt; texts.as_slice(), want);
     assert_eq!(rt; found, stop);
-    assert_eq!(rt; stop_of(reader.poll()), Some(stop));
+    assert!(rt; reader.next().is_none());
+    assert_eq!(rt; reader.stopped(), Some(stop));
 }
 
 fn end_of(fault: Option<(u64, Rule)>) -> End {
