@@ -4,7 +4,7 @@ use Rattle.hum_pipeline.proofs.nodes.command_node.Goals as goal
 
 pub returns-clause-stands : goal.returns-clause-stands
 returns-clause-stands c =
-    let stands = c.new-2.ensures _ (c.new.ensures (meaning c.args.number c.args.options) c.new-stage.ensures.stands) in
+    let stands = c.new.ensures (meaning c.args.number c.args.options) c.new-stage.ensures.stands in
     rw (← means_is c.args.number c.args.options, ← c.first_from_zero.ensures) stands
 
 pub returns-clause-sound : goal.returns-clause-sound
