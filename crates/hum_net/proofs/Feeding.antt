@@ -9,8 +9,7 @@ use Rattle.hum_turns.proofs.Near.{ready_reader}
 use Rattle.hum_nodes.specs.At.{At}
 use Rattle.hum_nodes.specs.declared.either.Node.{Node}
 use Rattle.hum_nodes.specs.declared.either.Node.TheVariants as node
-use Rattle.hum_read.specs.declared.scores.Step.{Step as Polled}
-use Rattle.hum_read.specs.declared.scores.Step.TheVariants as polled
+use Rattle.hum_read.specs.Reading.{Polled, Gave, ReadOn, Ended}
 use Rattle.hum_nodes.specs.Nodes.{is_source, StandsAs, remaining_of, ended_of, calls_of, failed_of}
 use Rattle.hum_nodes.specs.Polls.{HasPolled, HasStayed, AsksAtMostOnce}
 use Rattle.hum_net.specs.Readers.{or_none, remaining_at, ended_at, calls_at, failed_at}
@@ -24,9 +23,9 @@ use Rattle.hum_net.proofs.Polling.{LinkGoes, links_by, polls}
 
 as_many : (p : Polled) (links : List port.Link) (k : ℕ) (after : port.Link)
     → length (links_by p links k after) ≡ length links
-as_many (polled.Record row) links k after = length-set links k after
-as_many polled.More links k after = refl
-as_many (polled.End e) links k after = length-set links k after
+as_many (Gave row) links k after = length-set links k after
+as_many ReadOn links k after = refl
+as_many (Ended e) links k after = length-set links k after
 
 module _ {F W : Type 0} (feeds : F → List ℕ → At → Type 0) (works : W → At → Type 0)
     (tells : F → Option (List ℕ)) (over : F → Bool) (k : ℕ) (old new : Web F W)

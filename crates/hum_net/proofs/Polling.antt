@@ -14,8 +14,7 @@ use Rattle.hum_turns.proofs.States.{state_is}
 use Rattle.hum_turns.proofs.Near.{step_does, step_reads}
 use Rattle.hum_nodes.specs.declared.node.Doing.{Doing}
 use Rattle.hum_nodes.specs.declared.node.Doing.TheVariants as does
-use Rattle.hum_read.specs.declared.scores.Step.{Step as Polled}
-use Rattle.hum_read.specs.declared.scores.Step.TheVariants as polled
+use Rattle.hum_read.specs.Reading.{Polled, Gave, ReadOn, Ended}
 use Rattle.hum_nodes.specs.At.{At, doing_by, doing_of, output_of, read_to}
 use Rattle.hum_nodes.specs.Polls.{GoesOn, PollsBy, Polls}
 use Rattle.hum_links.specs.declared.link.Link as port
@@ -122,9 +121,9 @@ gives_less false w e h = absurd (false≢true h)
 
 -- A poll goes on by what has settled: the link of the source has this record more, or its end.
 abbrev pub Linked : ℕ → Moment Row → ℕ → Polled → port.Link → Type 0
-Linked size m k (polled.Record row) after = IsLink size after (pushed (m k) row)
-Linked size m k polled.More after = IsLink size after (m k)
-Linked size m k (polled.End e) after = IsLink size after (record (m k) { mark = Some e })
+Linked size m k (Gave row) after = IsLink size after (pushed (m k) row)
+Linked size m k ReadOn after = IsLink size after (m k)
+Linked size m k (Ended e) after = IsLink size after (record (m k) { mark = Some e })
 
 module _ {N : Type 0} (stands : N → List ℕ → At → Type 0) (s : Scene) (k : ℕ) (m : Moment Row)
     (nodes : List N) (links : List port.Link) (others : OthersStand stands s k m nodes)
@@ -132,7 +131,7 @@ module _ {N : Type 0} (stands : N → List ℕ → At → Type 0) (s : Scene) (k
   goes_on : (p : Polled) → GoesOn (at_of s.kinds m k) p (stands node (s.rests k))
       → Linked s.size m k p after
       → Did stands s k (state (plan_of s) m k) m (slice_set nodes k node) (slice_set links k after)
-  goes_on (polled.Record row) h l =
+  goes_on (Gave row) h l =
       let t = at_of s.kinds m k in
       let n = slice_get_within (output_of t) t.given row h.0 in
       let st = (s.kinds k).stage in
@@ -141,22 +140,22 @@ module _ {N : Type 0} (stands : N → List ℕ → At → Type 0) (s : Scene) (k
       subst (λ d. Did stands s k d m (slice_set nodes k node) (slice_set links k after))
       (sym (state_gives s m k less doing))
       (did_give stands s k m nodes links others hl node after row h.0 h.1 l)
-  goes_on polled.More h l = absurd h
-  goes_on (polled.End e) h l =
+  goes_on ReadOn h l = absurd h
+  goes_on (Ended e) h l =
       subst (λ d. Did stands s k d m (slice_set nodes k node) (slice_set links k after))
       (sym (state_ends s m k e less h.0))
       (did_end stands s k m nodes links others hl node after e (done_end s m k e h.0) h.1 l)
 
 -- what a poll has made of the link of its source, and of all links
 abbrev pub LinkGoes : Polled → port.Link → port.Link → Type 0
-LinkGoes (polled.Record row) link after = Goes link after (λ l. pushed l row)
-LinkGoes polled.More link after = Unit {0}
-LinkGoes (polled.End e) link after = Goes link after (ended e)
+LinkGoes (Gave row) link after = Goes link after (λ l. pushed l row)
+LinkGoes ReadOn link after = Unit {0}
+LinkGoes (Ended e) link after = Goes link after (ended e)
 
 abbrev pub links_by : Polled → List port.Link → ℕ → port.Link → List port.Link
-links_by (polled.Record row) links k after = slice_set links k after
-links_by polled.More links k after = links
-links_by (polled.End e) links k after = slice_set links k after
+links_by (Gave row) links k after = slice_set links k after
+links_by ReadOn links k after = links
+links_by (Ended e) links k after = slice_set links k after
 
 -- An actor has had a turn.
 pub record Turned {N : Type 0} (stands : N → List ℕ → At → Type 0) (s : Scene) (k : ℕ)
@@ -173,12 +172,12 @@ module _ {N : Type 0} (stands : N → List ℕ → At → Type 0) (s : Scene) (k
       → LinksStand s.size m links
       → GoesOn (at_of s.kinds m k) p (stands node (s.rests k)) → LinkGoes p link after
       → Did stands s k (state (plan_of s) m k) m (slice_set nodes k node) (links_by p links k after)
-  moves_on (polled.Record row) m others hl h l =
-      goes_on stands s k m nodes links others hl less node after (polled.Record row) h
+  moves_on (Gave row) m others hl h l =
+      goes_on stands s k m nodes links others hl less node after (Gave row) h
       (l s.size (m k) (hl k link at_link))
-  moves_on polled.More m others hl h l = absurd h
-  moves_on (polled.End e) m others hl h l =
-      goes_on stands s k m nodes links others hl less node after (polled.End e) h
+  moves_on ReadOn m others hl h l = absurd h
+  moves_on (Ended e) m others hl h l =
+      goes_on stands s k m nodes links others hl less node after (Ended e) h
       (l s.size (m k) (hl k link at_link))
 
   module _ (others : OthersStand stands s k s.links nodes) (hl : LinksStand s.size s.links links)
@@ -248,12 +247,12 @@ module _ {N : Type 0} (stands : N → List ℕ → At → Type 0) (s : Scene) (k
         }
 
     only_nothing : (p : Polled) (n : ℕ) → (s.links k).read < n → n ≤ (s.kinds k).stage.bytes
-        → doing_of (at_of s.kinds s.links k) ≡ does.Reads → p ≡ polled.More
+        → doing_of (at_of s.kinds s.links k) ≡ does.Reads → p ≡ ReadOn
         → stands node (s.rests k) (read_to n (at_of s.kinds s.links k))
         → Turned stands s k (slice_set nodes k node) (links_by p links k after)
-    only_nothing (polled.Record row) n more within e h st = cc
-    only_nothing polled.More n more within e h st = reads_only n more within e st
-    only_nothing (polled.End f) n more within e h st = cc
+    only_nothing (Gave row) n more within e h st = cc
+    only_nothing ReadOn n more within e h st = reads_only n more within e st
+    only_nothing (Ended f) n more within e h st = cc
 
     by_doing : (p : Polled) (d : Doing) → doing_of (at_of s.kinds s.links k) ≡ d
         → PollsBy d (at_of s.kinds s.links k) p (stands node (s.rests k)) → LinkGoes p link after

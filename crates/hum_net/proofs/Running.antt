@@ -642,9 +642,9 @@ module _ {F W S O : Type 0} (stands : Node F W → List ℕ → At → Type 0)
           (ap (λ (n : Net F W S). length n.actors.items) same) h
 
       -- who may be asked again
-      pub may_ask : IsNet stands ended contents flushed old
+      pub may_ask : IsNet stands ended contents flushed old → is_over ≡ false
           → AreAmong stands contents flushed link who told
-      may_ask r =
+      may_ask r not_yet =
           let s : Scene = record (r.scene (λ i. joined i ++ [])) { rests = λ i. [] } in
           let now = r.now (λ i. joined i ++ []) in
           let n = next_at r.start s now (no_rests after) (opening_at old joined r still_joined) in
@@ -655,6 +655,8 @@ module _ {F W S O : Type 0} (stands : Node F W → List ℕ → At → Type 0)
               now = n.goes.to;
               at = told_at r.start s n.goes.to n.goes.at;
             };
+            going = unfailed_now stands contents flushed r.start s after n.goes.to 0 n.goes.at
+                (not_over _ n.goes.tells not_yet);
             link_within = link_within r.start s now n;
             reader_within = takers_within who s (reader_known who s (n.knows isnt link) tells);
           }

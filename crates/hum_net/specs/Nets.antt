@@ -199,11 +199,12 @@ asked is_ready count flags link None = map is_ready (upto (count + 1))
 asked is_ready count flags link (Some reader) =
     slice_set (slice_set flags link (is_ready link)) reader (is_ready reader)
 
--- two of its actors
+-- two of its actors, while no failure has ended the run
 pub record AreAmong {F W S : Type 0} (stands : Node F W → List ℕ → At → Type 0)
     (contents : S → Option (List ℕ)) (flushed : S → Bool) (link : ℕ) (reader : Option ℕ)
     (net : Net F W S) : Type 0 where
   pub running : IsRunning stands contents flushed net
+  pub going : running.now.failure ≡ None
   pub link_within : link ≤ running.scene.count
   pub reader_within : IfSome reader (λ r. r ≤ running.scene.count)
 

@@ -234,8 +234,7 @@ impl<F: Feeds, W: Works, S: Sink> Net<F, W, S> {
         self.actors[k] = is;
     }
 
-    // Sets the flags of the two ends of a link, or all of them where its reader isn't known. A run
-    // that is over needs none.
+    // Sets the flags of the two ends of a link, or all of them where its reader isn't known.
     fn ask_again(&mut self, link: usize, reader: Option<usize>)
         requires { AreAmong (StandsAs F.stands W.stands) S.contents S.flushed link reader self.old }
         ensures same { self.new ≡ record self.old { actors = self.new.actors } }
@@ -246,9 +245,6 @@ impl<F: Feeds, W: Works, S: Sink> Net<F, W, S> {
             → link ≤ s.count → IfSome reader (λ r. r ≤ s.count) → self.new.actors.items
             ≡ asked (is_ready (plan_of s) s.size now) s.count self.old.actors.items link reader }
     {
-        if self.failure.is_some() {
-            return;
-        }
         match reader {
             Some(reader) => {
                 self.ask(link);

@@ -9,7 +9,7 @@ use Rattle.std.proofs.lemmas.Option.{none-some}
 use Rattle.hum_stage.specs.declared.faults.End.{End}
 use Rattle.hum_read.specs.declared.ReadError.{ReadError}
 use Rattle.hum_read.specs.declared.ReadError.TheVariants as error
-use Rattle.hum_read.specs.declared.scores.Step.{Step}
+use Rattle.hum_read.specs.Reading.{Polled}
 use Rattle.hum_read.specs.Reading.{Scores}
 use Rattle.hum_nodes.specs.At.{At}
 use Rattle.hum_nodes.specs.Reading.{HasGiven, IsReading, StandsBy}
@@ -98,7 +98,7 @@ by_mark {S} (Err error.Memory) false true stays only tells = elim (only refl) [
 
 -- A poll of what stands for something tells of a failed read exactly where its own failed.
 pub marked : {R : Type 0} (calls : R → ℕ) (failed : R → Bool) (v w : Scores R) (rest : List ℕ) (t : At)
-    (r : Result Step ReadError) → IsReading v rest t
+    (r : Result Polled ReadError) → IsReading v rest t
     → AsksAtMostOnce (calls v.lines.source) (failed v.lines.source) (calls w.lines.source)
     (failed w.lines.source)
     → (r ≡ Err error.Read

@@ -9,7 +9,7 @@ use Rattle.std.proofs.lemmas.Bool.{false≢true, cond-true}
 use Rattle.hum_record.specs.Row.{Row}
 use Rattle.hum_text.specs.Reading.{NeedsRead, IsUnread, bytes_read}
 use Rattle.hum_read.specs.declared.ReadError.{ReadError}
-use Rattle.hum_read.specs.declared.scores.Step.{Step}
+use Rattle.hum_read.specs.Reading.{Polled}
 use Rattle.hum_read.specs.Denoted.{Score, score_of, end_at}
 use Rattle.hum_read.specs.Reading.{Scores, HasRead, GivesNext, Gives}
 use Rattle.hum_read.proofs.Denoting.{front-rows}
@@ -135,7 +135,7 @@ must_read d Needs Unread needs unread not = reads_is d (by (is_reads d) refl)
 
 -- What a poll has made of the bytes.
 pub record Moved {R : Type 0} (v w : Scores R)
-    (result : Result Step ReadError) (all rest : List ℕ) (t : At) (h : HasGiven v all rest t)
+    (result : Result Polled ReadError) (all rest : List ℕ) (t : At) (h : HasGiven v all rest t)
     (left : List ℕ) : Type 0 where
   pub split : rest ≡ bytes_read v.lines w.lines ++ left
   pub over : w.lines.ended ≡ true → left ≡ []
@@ -146,7 +146,7 @@ pub record Moved {R : Type 0} (v w : Scores R)
       (λ after. HasRead w ((h.seen ++ bytes_read v.lines w.lines) ++ more) after more)
 
 pub moved : {R : Type 0} (v w : Scores R)
-    (result : Result Step ReadError) (all rest : List ℕ) (t : At) (h : HasGiven v all rest t)
+    (result : Result Polled ReadError) (all rest : List ℕ) (t : At) (h : HasGiven v all rest t)
     (left : List ℕ) → rest ≡ bytes_read v.lines w.lines ++ left → (w.lines.ended ≡ true → left ≡ [])
     → GivesNext v result w
     → ((NeedsRead v.lines → ⊥) → IsUnread v.lines w.lines)

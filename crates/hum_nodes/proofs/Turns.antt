@@ -11,8 +11,7 @@ use Rattle.hum_text.specs.Text.{pieces, IsAtStart}
 use Rattle.hum_text.specs.Reading.{Reader, NeedsRead, IsUnread, IsFed, bytes_read, left_to_do}
 use Rattle.hum_text.proofs.PieceLemmas.{pieces-append, pieces-some}
 use Rattle.hum_read.specs.declared.ReadError.{ReadError}
-use Rattle.hum_read.specs.declared.scores.Step.{Step}
-use Rattle.hum_read.specs.declared.scores.Step.TheVariants as step
+use Rattle.hum_read.specs.Reading.{Polled, Gave, ReadOn, Ended}
 use Rattle.hum_read.specs.Denoted.{Score, score_of, end_at}
 use Rattle.hum_read.specs.Reading.{Scores, IsFresh, HasRead, GivesNext, Gives, Denotes, answer_of}
 use Rattle.hum_turns.specs.Flow.{Begins}
@@ -192,7 +191,7 @@ upto_few false seen h = omega (arith, h)
 
 -- The bytes and their end, before and after.
 module _ {R : Type 0} (v w : Scores R)
-    (result : Result Step ReadError) (all rest : List ℕ) (t : At) (h : HasGiven v all rest t)
+    (result : Result Polled ReadError) (all rest : List ℕ) (t : At) (h : HasGiven v all rest t)
     (left : List ℕ) (m : Moved v w result all rest t h left) where
   abbrev seen : List ℕ
   seen = h.seen ++ bytes_read v.lines w.lines
@@ -236,10 +235,10 @@ module _ {R : Type 0} (v w : Scores R)
       omega (arith, n, z, f)
 
   -- A turn reads where something was read, and else it does what it was about to do.
-  turn : (p : Step) (after : At → Type 0) → t.kind ≡ reading v.stage all → t.inputs ≡ []
+  turn : (p : Polled) (after : At → Type 0) → t.kind ≡ reading v.stage all → t.inputs ≡ []
       → ((NeedsRead v.lines → ⊥) → IsUnread v.lines w.lines)
       → GoesOn (read_to (upto w.lines.ended seen) t) p after
-      ⊎ ((p ≡ step.More) × after (read_to (upto w.lines.ended seen) t))
+      ⊎ ((p ≡ ReadOn) × after (read_to (upto w.lines.ended seen) t))
       → (t.read ≡ upto w.lines.ended seen → Polls t p after)
       → Polls t p after
   turn p after kind inputs unread goes still =
@@ -259,7 +258,7 @@ module _ {R : Type 0} (v w : Scores R)
       ]
 
   -- the same, as what was about to be done
-  still_goes : (p : Step) (after : At → Type 0) (d : Doing) → doing_of t ≡ d
+  still_goes : (p : Polled) (after : At → Type 0) (d : Doing) → doing_of t ≡ d
       → (GoesOn t p after → PollsBy d t p after)
       → GoesOn (read_to (upto w.lines.ended seen) t) p after
       → t.read ≡ upto w.lines.ended seen → Polls t p after
@@ -268,10 +267,10 @@ module _ {R : Type 0} (v w : Scores R)
       (by (subst (λ r. GoesOn (read_to r t) p after) (sym e) goes))
 
   -- a record
-  record_turn : (row : Row) → result ≡ Ok (step.Record row) → t.kind ≡ reading v.stage all
+  record_turn : (row : Row) → result ≡ Ok (Gave row) → t.kind ≡ reading v.stage all
       → t.inputs ≡ [] → ((NeedsRead v.lines → ⊥) → IsUnread v.lines w.lines)
       → w.stopped ≡ None → w.stage ≡ v.stage → bytes_read v.lines w.lines ≡ []
-      → Polls t (step.Record row) (IsReading w left)
+      → Polls t (Gave row) (IsReading w left)
   record_turn row is kind inputs unread stopped stage unfed =
       let r = upto w.lines.ended seen in
       let has : (more : List ℕ) → (w.lines.ended ≡ true → more ≡ [])
@@ -311,9 +310,9 @@ module _ {R : Type 0} (v w : Scores R)
             });
       } in
       let low = at.1 in
-      turn (step.Record row) (IsReading w left) kind inputs unread (inl (next, stands))
+      turn (Gave row) (IsReading w left) kind inputs unread (inl (next, stands))
       (λ e.
-      still_goes (step.Record row) (IsReading w left) does.Gives
+      still_goes (Gave row) (IsReading w left) does.Gives
       (doing_is v.stage all t kind inputs ∙ ap (λ r. doing_at v.stage all r t.given) e
       ∙ gives_at v.stage all r t.given (omega (arith, given, low)))
       (λ g. g) (next, stands) e)
@@ -357,10 +356,10 @@ module _ {R : Type 0} (v w : Scores R)
       still_going true f = absurd (false≢true (sym is ∙ (m.stays f).1 ∙ f))
       still_going false f = f
 
-  end_turn : (e : End) → result ≡ Ok (step.End e) → t.kind ≡ reading v.stage all
+  end_turn : (e : End) → result ≡ Ok (Ended e) → t.kind ≡ reading v.stage all
       → t.inputs ≡ [] → ((NeedsRead v.lines → ⊥) → IsUnread v.lines w.lines)
       → w.stopped ≡ Some (Ok e) → w.stage ≡ v.stage → bytes_read v.lines w.lines ≡ []
-      → Polls t (step.End e) (IsReading w left)
+      → Polls t (Ended e) (IsReading w left)
   end_turn e is kind inputs unread stopped stage unfed =
       let r = upto w.lines.ended seen in
       let done : doing_of (read_to r t) ≡ does.Done e =
@@ -379,19 +378,19 @@ module _ {R : Type 0} (v w : Scores R)
         stands = subst (λ o. StandsBy o (HasGiven w all left (read_to r t)) (read_to r t))
             (sym stopped) done;
       } in
-      turn (step.End e) (IsReading w left) kind inputs unread (inl (done, stands))
+      turn (Ended e) (IsReading w left) kind inputs unread (inl (done, stands))
       (λ f.
-      still_goes (step.End e) (IsReading w left) (does.Done e)
+      still_goes (Ended e) (IsReading w left) (does.Done e)
       (subst (λ r. doing_of (read_to r t) ≡ does.Done e) (sym f) done)
       (λ g. g) (done, stands) f)
 
   -- nothing yet
-  more_turn : result ≡ Ok step.More → t.kind ≡ reading v.stage all
+  more_turn : result ≡ Ok ReadOn → t.kind ≡ reading v.stage all
       → t.inputs ≡ [] → ((NeedsRead v.lines → ⊥) → IsUnread v.lines w.lines)
       → left_to_do w.lines < left_to_do v.lines
       → w.stopped ≡ None → w.stage ≡ v.stage → IsFed v.lines w.lines
       → w.lines.taken ≤ w.lines.limits.bytes → length (bytes_read v.lines w.lines) ≤ 65536
-      → Polls t step.More (IsReading w left)
+      → Polls t ReadOn (IsReading w left)
   more_turn is kind inputs unread nears stopped stage fed within asked =
       let r = upto w.lines.ended seen in
       let has : (more : List ℕ) → (w.lines.ended ≡ true → more ≡ [])
@@ -420,7 +419,7 @@ module _ {R : Type 0} (v w : Scores R)
               given = h.given;
             });
       } in
-      turn step.More (IsReading w left) kind inputs unread (inr (refl, stands))
+      turn ReadOn (IsReading w left) kind inputs unread (inr (refl, stands))
       (λ e.
       absurd (never_still v w h.seen (bytes_read v.lines w.lines) h.rows refl
       (no_bytes v.lines.ended w.lines.ended refl refl (sym h.read ∙ e))
@@ -442,10 +441,10 @@ module _ {R : Type 0} (v w : Scores R)
 -- The polls of a reader that may have stopped.
 
 end_not_record : (row : Row) (e : End)
-    → ◌≡◌ {A = Result Step ReadError} (Ok (step.Record row)) (Ok (step.End e)) → ⊥
+    → ◌≡◌ {A = Result Polled ReadError} (Ok (Gave row)) (Ok (Ended e)) → ⊥
 end_not_record row e h = cc
 
-end_not_more : (e : End) → ◌≡◌ {A = Result Step ReadError} (Ok step.More) (Ok (step.End e)) → ⊥
+end_not_more : (e : End) → ◌≡◌ {A = Result Polled ReadError} (Ok ReadOn) (Ok (Ended e)) → ⊥
 end_not_more e h = cc
 
 module _ {R : Type 0} (v w : Scores R) (t : At)
@@ -453,69 +452,69 @@ module _ {R : Type 0} (v w : Scores R) (t : At)
     (stage : w.stage ≡ v.stage)
     (unread : (NeedsRead v.lines → ⊥) → IsUnread v.lines w.lines)
     (over : w.lines.ended ≡ true → left ≡ []) where
-  made : (result : Result Step ReadError) → GivesNext v result w
+  made : (result : Result Polled ReadError) → GivesNext v result w
       → (h : HasGiven v a.all (bytes_read v.lines w.lines ++ left) t)
       → Moved v w result a.all (bytes_read v.lines w.lines ++ left) t h left
   made result gives h =
       moved v w result a.all (bytes_read v.lines w.lines ++ left) t h left refl over gives unread
 
-  pub poll_record : (row : Row) → (v.stopped ≡ None → GivesNext v (Ok (step.Record row)) w)
+  pub poll_record : (row : Row) → (v.stopped ≡ None → GivesNext v (Ok (Gave row)) w)
       → w.stopped ≡ None
-      → IfSome v.stopped (λ s. (Ok (step.Record row) ≡ answer_of s) × (w ≡ v))
+      → IfSome v.stopped (λ s. (Ok (Gave row) ≡ answer_of s) × (w ≡ v))
       → bytes_read v.lines w.lines ≡ []
-      → Polls t (step.Record row) (IsReading w left)
+      → Polls t (Gave row) (IsReading w left)
   poll_record row gives stops again unfed = by v.stopped refl a.stands again
     where
       by : (o : Option (Result End ReadError)) → v.stopped ≡ o
           → StandsBy o (HasGiven v a.all (bytes_read v.lines w.lines ++ left) t) t
-          → IfSome o (λ s. (Ok (step.Record row) ≡ answer_of s) × (w ≡ v))
-          → Polls t (step.Record row) (IsReading w left)
+          → IfSome o (λ s. (Ok (Gave row) ≡ answer_of s) × (w ≡ v))
+          → Polls t (Gave row) (IsReading w left)
       by None e h x =
-          record_turn v w (Ok (step.Record row)) a.all (bytes_read v.lines w.lines ++ left) t h left (made _ (gives e) h) row
+          record_turn v w (Ok (Gave row)) a.all (bytes_read v.lines w.lines ++ left) t h left (made _ (gives e) h) row
           refl a.kind a.inputs unread stops stage unfed
       by (Some (Ok end)) e h x = absurd (end_not_record row end x.0)
       by (Some (Err error)) e h x = absurd h
 
-  pub poll_more : (v.stopped ≡ None → GivesNext v (Ok step.More) w) → w.stopped ≡ None
+  pub poll_more : (v.stopped ≡ None → GivesNext v (Ok ReadOn) w) → w.stopped ≡ None
       → left_to_do w.lines < left_to_do v.lines
-      → IfSome v.stopped (λ s. (Ok step.More ≡ answer_of s) × (w ≡ v))
+      → IfSome v.stopped (λ s. (Ok ReadOn ≡ answer_of s) × (w ≡ v))
       → IsFed v.lines w.lines
       → (v.stopped ≡ None → w.lines.taken ≤ w.lines.limits.bytes)
       → length (bytes_read v.lines w.lines) ≤ 65536
-      → Polls t step.More (IsReading w left)
+      → Polls t ReadOn (IsReading w left)
   poll_more gives stops nears again fed within asked = by v.stopped refl a.stands again
     where
       by : (o : Option (Result End ReadError)) → v.stopped ≡ o
           → StandsBy o (HasGiven v a.all (bytes_read v.lines w.lines ++ left) t) t
-          → IfSome o (λ s. (Ok step.More ≡ answer_of s) × (w ≡ v))
-          → Polls t step.More (IsReading w left)
+          → IfSome o (λ s. (Ok ReadOn ≡ answer_of s) × (w ≡ v))
+          → Polls t ReadOn (IsReading w left)
       by None e h x =
-          more_turn v w (Ok step.More) a.all (bytes_read v.lines w.lines ++ left) t h left (made _ (gives e) h) refl a.kind
+          more_turn v w (Ok ReadOn) a.all (bytes_read v.lines w.lines ++ left) t h left (made _ (gives e) h) refl a.kind
           a.inputs unread nears stops stage fed (within e) asked
       by (Some (Ok end)) e h x = absurd (end_not_more end x.0)
       by (Some (Err error)) e h x = absurd h
 
-  pub poll_end : (end : End) → (v.stopped ≡ None → GivesNext v (Ok (step.End end)) w)
+  pub poll_end : (end : End) → (v.stopped ≡ None → GivesNext v (Ok (Ended end)) w)
       → w.stopped ≡ Some (Ok end)
-      → IfSome v.stopped (λ s. (Ok (step.End end) ≡ answer_of s) × (w ≡ v))
+      → IfSome v.stopped (λ s. (Ok (Ended end) ≡ answer_of s) × (w ≡ v))
       → bytes_read v.lines w.lines ≡ []
-      → Polls t (step.End end) (IsReading w left)
+      → Polls t (Ended end) (IsReading w left)
   poll_end end gives stops again unfed = by v.stopped refl a.stands again
     where
       same_end : (e : End)
-          → ◌≡◌ {A = Result Step ReadError} (Ok (step.End end)) (Ok (step.End e)) → e ≡ end
+          → ◌≡◌ {A = Result Polled ReadError} (Ok (Ended end)) (Ok (Ended e)) → e ≡ end
       same_end e h = cc
 
       by : (o : Option (Result End ReadError)) → v.stopped ≡ o
           → StandsBy o (HasGiven v a.all (bytes_read v.lines w.lines ++ left) t) t
-          → IfSome o (λ s. (Ok (step.End end) ≡ answer_of s) × (w ≡ v))
-          → Polls t (step.End end) (IsReading w left)
+          → IfSome o (λ s. (Ok (Ended end) ≡ answer_of s) × (w ≡ v))
+          → Polls t (Ended end) (IsReading w left)
       by None e h x =
-          end_turn v w (Ok (step.End end)) a.all (bytes_read v.lines w.lines ++ left) t h left (made _ (gives e) h) end
+          end_turn v w (Ok (Ended end)) a.all (bytes_read v.lines w.lines ++ left) t h left (made _ (gives e) h) end
           refl a.kind a.inputs unread stops stage unfed
       by (Some (Ok told)) e h x =
           let d : doing_of t ≡ does.Done end = h ∙ ap does.Done (same_end told x.0) in
-          subst (λ d. PollsBy d t (step.End end) (IsReading w left)) (sym d) (
+          subst (λ d. PollsBy d t (Ended end) (IsReading w left)) (sym d) (
             d,
             record {
               all = a.all;

@@ -8,16 +8,15 @@ use Rattle.std.specs.Io.KnownBytes.{Consumes, IsAtEnd}
 use Rattle.hum_text.specs.Calls.{counted}
 use Rattle.hum_nodes.specs.declared.node.Doing.{Doing}
 use Rattle.hum_nodes.specs.declared.node.Doing.TheVariants as does
-use Rattle.hum_read.specs.declared.scores.Step.{Step as Polled}
-use Rattle.hum_read.specs.declared.scores.Step.TheVariants as step
+use Rattle.hum_read.specs.Reading.{Polled, Gave, ReadOn, Ended}
 use Rattle.hum_nodes.specs.At.{At, bytes_of, doing_of, output_of, after_take, read_to}
 
 -- Without a read it gives the next record that is settled, or tells its end.
 abbrev pub GoesOn : At → Polled → (At → Type 0) → Type 0
-GoesOn t (step.Record row) after =
+GoesOn t (Gave row) after =
     (slice_get (output_of t) t.given ≡ Some row) × after (after_take t)
-GoesOn t step.More after = ⊥
-GoesOn t (step.End end) after = (doing_of t ≡ does.Done end) × after t
+GoesOn t ReadOn after = ⊥
+GoesOn t (Ended end) after = (doing_of t ≡ does.Done end) × after t
 
 -- It reads one byte or more, or their end. Then it goes on by what has settled, or it leaves that
 -- to the next poll.
@@ -26,7 +25,7 @@ pub record Reads (t : At) (polled : Polled) (after : At → Type 0) : Type 0 whe
   pub more : t.read < upto
   pub within : upto ≤ bytes_of t
   pub goes : GoesOn (read_to upto t) polled after
-      ⊎ ((polled ≡ step.More) × after (read_to upto t))
+      ⊎ ((polled ≡ ReadOn) × after (read_to upto t))
 
 abbrev pub PollsBy : Doing → At → Polled → (At → Type 0) → Type 0
 PollsBy does.Reads t polled after = Reads t polled after
@@ -86,9 +85,9 @@ is_failed_read (Err error.Memory) = false
 
 -- the end, or nearer to it
 abbrev pub Nears : Polled → ℕ → ℕ → Type 0
-Nears (step.Record row) old new = new < old
-Nears step.More old new = new < old
-Nears (step.End end) old new = Unit {0}
+Nears (Gave row) old new = new < old
+Nears ReadOn old new = new < old
+Nears (Ended end) old new = Unit {0}
 
 -- two things are as they were
 abbrev pub IsKept : {A B : Type 0} → A → A → B → B → Type 0

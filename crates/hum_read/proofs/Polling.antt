@@ -21,7 +21,7 @@ use Rattle.hum_stage.specs.declared.faults.End.TheVariants.{Closed}
 use Rattle.hum_stage.specs.Score.{through}
 use Rattle.hum_stage.proofs.Scores.{through-append, Follow-append}
 use Rattle.hum_read.specs.declared.ReadError.{ReadError}
-use Rattle.hum_read.specs.declared.scores.Step.{Step}
+use Rattle.hum_read.specs.Reading.{Polled}
 use Rattle.hum_read.specs.Denoted.{read_after, on_spines, unless, standard, score_of, end_at, broken_at}
 use Rattle.hum_read.specs.Denoted.{text_rule, record_rule, path_rule}
 use Rattle.hum_read.specs.Reading.{Scores, HasRead, ahead, Denotes, Gives, answer_of}
@@ -30,14 +30,14 @@ use Rattle.hum_read.proofs.Denoting.{read-more, refused-next, broken-next, ended
 
 -- The line that was just given is refused by this rule, or memory ran out.
 gives-refused : {R : Type 0} (v : Scores R) (all : List ℕ) (rows : List Row) (rest : List ℕ)
-    (rule : Option Rule) (result : Result Step ReadError) (After : List Row → Type 0)
+    (rule : Option Rule) (result : Result Polled ReadError) (After : List Row → Type 0)
     → result ≡ answer_of (refusal v.stage v.lines.given rule) → HasLine v all rows rest
     → read_after (through Unopened rows) v.lines.line ≡ Err rule → Gives v.stage all rows result After
 gives-refused v all rows rest None result After told h is =
-    let G : Result Step ReadError → Type 0 = λ r. Gives v.stage all rows r After in
+    let G : Result Polled ReadError → Type 0 = λ r. Gives v.stage all rows r After in
     subst G (sym told) tt
 gives-refused v all rows rest (Some rule) result After told h is =
-    let G : Result Step ReadError → Type 0 = λ r. Gives v.stage all rows r After in
+    let G : Result Polled ReadError → Type 0 = λ r. Gives v.stage all rows r After in
     let count : v.lines.given ≡ length rows + 1 =
     (let n = h.holds.stands.number in let m = length-append h.given (v.lines.line ∷ []) in
     let k = h.as_many in omega (arith, n, m, k)) in
@@ -75,15 +75,15 @@ step-refused of_path.Memory broken h = inl refl
 
 -- memory ran out
 gives-memory : (stage given : ℕ) (all : List ℕ) (rows : List Row) (rule : Option Rule)
-    (result : Result Step ReadError) (After : List Row → Type 0)
+    (result : Result Polled ReadError) (After : List Row → Type 0)
     → result ≡ answer_of (refusal stage given rule) → rule ≡ None → Gives stage all rows result After
 gives-memory stage given all rows rule result After told none =
-    let G : Result Step ReadError → Type 0 = λ r. Gives stage all rows r After in
+    let G : Result Polled ReadError → Type 0 = λ r. Gives stage all rows r After in
     subst G (sym (told ∙ ap (λ (r : Option Rule). answer_of (refusal stage given r)) none)) tt
 
 -- The text of the line is refused.
 pub text-refused : {R : Type 0} (v : Scores R) (fault : RecordFault)
-    (result : Result Step ReadError) (all : List ℕ) (rows : List Row) (rest : List ℕ) (After : List Row → Type 0)
+    (result : Result Polled ReadError) (all : List ℕ) (rows : List Row) (rest : List ℕ) (After : List Row → Type 0)
     → Fails fault (reading v.lines.line) → result ≡ answer_of (refusal v.stage v.lines.given (record_rule fault))
     → HasLine v all rows rest → Gives v.stage all rows result After
 text-refused v fault result all rows rest After fails told h =
@@ -95,7 +95,7 @@ text-refused v fault result all rows rest After fails told h =
 
 -- The record of the line breaks a rule of the spines.
 pub record-refused : {R : Type 0} (v : Scores R) (row : Row) (fault : PathFault)
-    (result : Result Step ReadError) (all : List ℕ) (rows : List Row) (rest : List ℕ) (After : List Row → Type 0)
+    (result : Result Polled ReadError) (all : List ℕ) (rows : List Row) (rest : List ℕ) (After : List Row → Type 0)
     → reading v.lines.line ≡ Ok row → Refuses fault (path_fault_of v.spines.path row)
     → result ≡ answer_of (refusal v.stage v.lines.given (path_rule fault))
     → HasLine v all rows rest → Gives v.stage all rows result After
@@ -135,13 +135,13 @@ record-given v w row all rows rest read sound lines path few h =
     )
 
 -- the text is broken in the next line, or nothing more can be read
-text-broken : (stage : ℕ) (f : TextFault) (result : Result Step ReadError) (given : ℕ) (all : List ℕ)
+text-broken : (stage : ℕ) (f : TextFault) (result : Result Polled ReadError) (given : ℕ) (all : List ℕ)
     (rows : List Row) (After : List Row → Type 0)
     → result ≡ answer_of (stop_by stage given f) → given ≡ length rows
     → (IsOfText f → score_of all ≡ ahead rows (broken_at (length rows + 1) (text_rule f)))
     → Gives stage all rows result After
 text-broken stage f result given all rows After told count is =
-    let G : Result Step ReadError → Type 0 = λ r. Gives stage all rows r After in
+    let G : Result Polled ReadError → Type 0 = λ r. Gives stage all rows r After in
     subst G (sym told) (by_fault f is)
   where
     line : (rule : Rule) → end_at stage (Some (given + 1, rule)) ≡ end_at stage (Some (length rows + 1, rule))
@@ -219,7 +219,7 @@ has-read v w all rows read rest h limits path holds = record {
 
 -- The first fault of the text is in the next line.
 pub text-stopped : {R : Type 0} (v : Scores R) (all : List ℕ) (rows : List Row) (read : List ℕ) (f : TextFault)
-    (result : Result Step ReadError) (given : ℕ) (After : List Row → Type 0)
+    (result : Result Polled ReadError) (given : ℕ) (After : List Row → Type 0)
     → (h : HasRead v all rows read) → given ≡ v.lines.given → result ≡ answer_of (stop_by v.stage given f)
     → (IsOfText f → fault_of v.lines.limits all ≡ Some (length h.given + 1, f))
     → Gives v.stage all rows result After

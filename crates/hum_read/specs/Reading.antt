@@ -12,8 +12,6 @@ use Rattle.hum_stage.specs.declared.faults.End.TheVariants.{Closed}
 use Rattle.hum_stage.specs.Score.{through, IsScore, IsClosed}
 use Rattle.hum_read.specs.declared.ReadError.{ReadError}
 use Rattle.hum_read.specs.declared.ReadError.TheVariants as error
-use Rattle.hum_read.specs.declared.scores.Step.{Step}
-use Rattle.hum_read.specs.declared.scores.Step.TheVariants as step
 use Rattle.hum_read.specs.Denoted.{Score, denoted, standard, score_of, end_at}
 
 -- A reader of scores, as contracts see it: the number of its stage, its lines, the spines after the
@@ -23,6 +21,13 @@ pub record Scores (R : Type 0) : Type 0 where
   pub lines : Reader R
   pub spines : Tracked
   pub stopped : Option (Result End ReadError)
+
+-- What a poll of the reader comes to: the next record; nothing yet, since it has made a read, which
+-- gave bytes; or the end, since every record was given or a rule is broken.
+pub data Polled : Type 0 where
+  Gave : Row → Polled
+  ReadOn : Polled
+  Ended : End → Polled
 
 -- Nothing was read yet.
 pub record IsFresh {R : Type 0} (v : Scores R) : Type 0 where
@@ -62,15 +67,15 @@ pub record Denotes (stage : ℕ) (all : List ℕ) (rows : List Row) (end : End) 
 
 -- What a poll gave after these records: the next record; nothing; the end, and they are all; or an
 -- error, which says nothing of the bytes. `After` holds of the records that were given then.
-abbrev pub Gives : ℕ → List ℕ → List Row → Result Step ReadError → (List Row → Type 0) → Type 0
-Gives stage all rows (Ok (step.Record row)) After =
+abbrev pub Gives : ℕ → List ℕ → List Row → Result Polled ReadError → (List Row → Type 0) → Type 0
+Gives stage all rows (Ok (Gave row)) After =
     After (rows ++ row ∷ []) × (length rows < standard.records)
-Gives stage all rows (Ok step.More) After = After rows
-Gives stage all rows (Ok (step.End end)) After = Denotes stage all rows end
+Gives stage all rows (Ok ReadOn) After = After rows
+Gives stage all rows (Ok (Ended end)) After = Denotes stage all rows end
 Gives stage all rows (Err error) After = Unit {0}
 
 -- However the input goes on after what the poll read, the poll gave what comes next there.
-abbrev pub GivesNext : {R : Type 0} → Scores R → Result Step ReadError → Scores R → Type 0
+abbrev pub GivesNext : {R : Type 0} → Scores R → Result Polled ReadError → Scores R → Type 0
 GivesNext old result new =
     (all : List ℕ) (rows : List Row) (rest : List ℕ)
     → HasRead old all rows (bytes_read old.lines new.lines ++ rest)
@@ -78,15 +83,15 @@ GivesNext old result new =
     → Gives old.stage all rows result (λ after. HasRead new all after rest)
 
 -- how a poll that answers this leaves the reader: an end and an error last
-abbrev pub stop_of : Result Step ReadError → Option (Result End ReadError)
-stop_of (Ok (step.Record row)) = None
-stop_of (Ok step.More) = None
-stop_of (Ok (step.End end)) = Some (Ok end)
+abbrev pub stop_of : Result Polled ReadError → Option (Result End ReadError)
+stop_of (Ok (Gave row)) = None
+stop_of (Ok ReadOn) = None
+stop_of (Ok (Ended end)) = Some (Ok end)
 stop_of (Err error) = Some (Err error)
 
 -- what a reader answers that has stopped
-abbrev pub answer_of : Result End ReadError → Result Step ReadError
-answer_of (Ok end) = Ok (step.End end)
+abbrev pub answer_of : Result End ReadError → Result Polled ReadError
+answer_of (Ok end) = Ok (Ended end)
 answer_of (Err error) = Err error
 
 -- at most one call was made
@@ -101,19 +106,19 @@ pub record IsDue {R : Type 0} (v : Scores R) : Type 0 where
 
 -- What a poll made of the read that was due. It gave bytes, or it failed, or it gave none and so the
 -- end is marked. Where memory ran out, it was before the read or after the end.
-abbrev pub ReadsOnce : {R : Type 0} → (R → ℕ) → (R → Bool) → Scores R → Result Step ReadError
+abbrev pub ReadsOnce : {R : Type 0} → (R → ℕ) → (R → Bool) → Scores R → Result Polled ReadError
     → Scores R → Type 0
-ReadsOnce calls failed old (Ok step.More) new = IsRead calls failed old.lines new.lines false false
+ReadsOnce calls failed old (Ok ReadOn) new = IsRead calls failed old.lines new.lines false false
 ReadsOnce calls failed old (Err error.Read) new = IsRead calls failed old.lines new.lines true false
 ReadsOnce calls failed old (Err error.Memory) new =
     IsUnread old.lines new.lines ⊎ IsRead calls failed old.lines new.lines false true
-ReadsOnce calls failed old (Ok (step.Record row)) new =
+ReadsOnce calls failed old (Ok (Gave row)) new =
     IsRead calls failed old.lines new.lines false true
-ReadsOnce calls failed old (Ok (step.End end)) new =
+ReadsOnce calls failed old (Ok (Ended end)) new =
     IsRead calls failed old.lines new.lines false true
 
 -- the end, or nearer to it
-abbrev pub Nears : Step → ℕ → ℕ → Type 0
-Nears (step.Record row) old new = new < old
-Nears step.More old new = new < old
-Nears (step.End end) old new = Unit {0}
+abbrev pub Nears : Polled → ℕ → ℕ → Type 0
+Nears (Gave row) old new = new < old
+Nears ReadOn old new = new < old
+Nears (Ended end) old new = Unit {0}

@@ -13,10 +13,9 @@ use Rattle.hum_stage.specs.declared.faults.Rule.{Rule}
 use Rattle.hum_stage.specs.declared.faults.Rule.TheVariants.{S1, S2, S3, S7}
 use Rattle.hum_read.specs.declared.ReadError.{ReadError}
 use Rattle.hum_read.specs.declared.ReadError.TheVariants.{Read, Memory}
-use Rattle.hum_read.specs.declared.scores.Step.{Step}
-use Rattle.hum_read.specs.declared.scores.Step.TheVariants as step
 use Rattle.hum_read.specs.Denoted.{standard, end_at}
-use Rattle.hum_read.specs.Reading.{Scores, HasRead, AreRead, Gives, answer_of}
+use Rattle.hum_read.specs.Reading.{Scores, Polled, Gave, ReadOn}
+use Rattle.hum_read.specs.Reading.{HasRead, AreRead, Gives, answer_of}
 
 -- a reader that goes on has met no fault
 pub record IsTidy {R : Type 0} (lines : Reader R) (stopped : Option (Result End ReadError))
@@ -37,7 +36,7 @@ pub record HasLine {R : Type 0} (v : Scores R) (all : List ℕ) (rows : List Row
   pub as_many : length given ≡ length rows
 
 -- the line that was just given is read
-abbrev pub ReadsLine : {R : Type 0} → Scores R → Result Step ReadError → Scores R → Type 0
+abbrev pub ReadsLine : {R : Type 0} → Scores R → Result Polled ReadError → Scores R → Type 0
 ReadsLine old result new =
     (all : List ℕ) (rows : List Row) (rest : List ℕ)
     → HasLine old all rows rest
@@ -56,10 +55,10 @@ refusal stage line None = Err Memory
 refusal stage line (Some rule) = Ok (end_at stage (Some (line, rule)))
 
 -- what a reader answers that has given a record, or none since it has stopped
-abbrev pub given_by : Option Row → Option (Result End ReadError) → Result Step ReadError
-given_by (Some row) stopped = Ok (step.Record row)
+abbrev pub given_by : Option Row → Option (Result End ReadError) → Result Polled ReadError
+given_by (Some row) stopped = Ok (Gave row)
 given_by None (Some why) = answer_of why
-given_by None None = Ok step.More
+given_by None None = Ok ReadOn
 
 -- why it stops after so many lines, by a fault of the next
 abbrev pub stop_by : ℕ → ℕ → TextFault → Result End ReadError

@@ -9,7 +9,7 @@ pub mod laws;
 mod rules;
 mod scores;
 
-pub use scores::{ScoreReader, Step};
+pub use scores::ScoreReader;
 use thiserror::Error;
 
 /// Why nothing more can be read. It is no fault of the score.

@@ -20,18 +20,6 @@ use hum_text::{Limits, TextFault, reader as lines};
 use std::alloc::Global;
 use std::marker::Model;
 
-/// What a turn of a reader comes to, by what [`ScoreReader::next`] and [`ScoreReader::stopped`] answer:
-/// the contracts speak of it.
-#[derive(Drop)]
-pub enum Step {
-    /// The next record.
-    Record(Record),
-    /// Nothing yet: the turn has made a read, which gave bytes.
-    More,
-    /// Nothing more: every record was given, or a rule is broken.
-    End(End),
-}
-
 /// The end of a score that breaks a rule in this line.
 fn broken(stage: u8, line: u64, rule: Rule) -> End
     ensures { result ≡ end_at stage (Some (line, rule)) }
@@ -116,7 +104,7 @@ impl<R: Source> ScoreReader<R> {
     ghost use Rattle.hum_record.specs.Row.{Row};
     ghost use Rattle.hum_read.specs.Reading.{IsFresh, HasRead, GivesNext, Denotes};
     ghost use Rattle.hum_read.specs.Reading.{IsCalledAtMostOnce, IsDue, ReadsOnce, Nears};
-    ghost use Rattle.hum_read.specs.Reading.{stop_of, answer_of};
+    ghost use Rattle.hum_read.specs.Reading.{ReadOn, stop_of, answer_of};
     ghost use Rattle.hum_read.specs.Steps.{ReadsLine, IsWholeText, refusal, given_by};
 
     /// The reader of a source of which nothing was read yet, as the stage of this number, from 1.
@@ -169,7 +157,7 @@ impl<R: Source> ScoreReader<R> {
         ensures lines { self.new.lines ≡ self.old.lines }
         ensures stage { self.new.stage ≡ self.old.stage }
         ensures stops { self.new.stopped ≡ stop_of (given_by result self.new.stopped) }
-        ensures told { given_by result self.new.stopped ≢ Ok Step.More }
+        ensures told { given_by result self.new.stopped ≢ Ok ReadOn }
         ensures not_read { given_by result self.new.stopped ≢ Err ReadError.Read }
     {
         let (held, len) = self.lines.from_line();
@@ -232,9 +220,9 @@ impl<R: Source> ScoreReader<R> {
             self.old.lines.source self.new.lines.source }
         ensures due { IsDue self.old → ReadsOnce R.calls R.failed self.old
             (given_by result self.new.stopped) self.new }
-        ensures more { given_by result self.new.stopped ≡ Ok Step.More
+        ensures more { given_by result self.new.stopped ≡ Ok ReadOn
             → IsFed self.old.lines self.new.lines }
-        ensures unfed { given_by result self.new.stopped ≢ Ok Step.More
+        ensures unfed { given_by result self.new.stopped ≢ Ok ReadOn
             → bytes_read self.old.lines self.new.lines ≡ [] }
         ensures asked { length (bytes_read self.old.lines self.new.lines) ≤ LARGEST_READ }
         ensures consumes { Consumes (R.remaining self.old.lines.source)
@@ -280,9 +268,9 @@ impl<R: Source> ScoreReader<R> {
             self.old.lines.source self.new.lines.source }
         ensures due { IsDue self.old → ReadsOnce R.calls R.failed self.old
             (given_by result self.new.stopped) self.new }
-        ensures more { given_by result self.new.stopped ≡ Ok Step.More
+        ensures more { given_by result self.new.stopped ≡ Ok ReadOn
             → IsFed self.old.lines self.new.lines }
-        ensures unfed { given_by result self.new.stopped ≢ Ok Step.More
+        ensures unfed { given_by result self.new.stopped ≢ Ok ReadOn
             → bytes_read self.old.lines self.new.lines ≡ [] }
         ensures asked { length (bytes_read self.old.lines self.new.lines) ≤ LARGEST_READ }
         ensures consumes { Consumes (R.remaining self.old.lines.source)

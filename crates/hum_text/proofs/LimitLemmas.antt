@@ -13,18 +13,38 @@ use Rattle.hum_text.specs.Text.{lf, without_cr, ends_in_cr, rule_in, rule_of_lin
 use Rattle.hum_text.proofs.PieceLemmas.{NoLf}
 use Rattle.hum_text.proofs.ReadingLemmas.{none-free, first-free}
 
--- where no rule breaks, the piece is no longer than a line may be
-short : (l : Limits) (n : ℕ) (piece : List ℕ) (ended : Bool) (size : ℕ) → rule_in l n piece ended size ≡ None → length (without_cr piece) ≤ l.line
-short l n piece ended size none = elim (cases_Bool (ended && length (without_cr piece) == 0)) as (λ _. length (without_cr piece) ≤ l.line) [
+-- What a piece is in which no rule breaks: not empty where it has ended, and within the three limits.
+pub record Fits (l : Limits) (n : ℕ) (piece : List ℕ) (ended : Bool) (size : ℕ) : Type 0 where
+  pub filled : ended ≡ true → 0 < length (without_cr piece)
+  pub short : length (without_cr piece) ≤ l.line
+  pub number : n ≤ l.records
+  pub end : size ≤ l.bytes
+
+fits : (l : Limits) (n : ℕ) (piece : List ℕ) (ended : Bool) (size : ℕ) → rule_in l n piece ended size ≡ None → Fits l n piece ended size
+fits l n piece ended size none = elim (cases_Bool (ended && length (without_cr piece) == 0)) as (λ _. Fits l n piece ended size) [
   | inl empty ↦ let z = rw empty at none in absurd (some-none z)
-  | inr filled ↦ elim (cases_Bool (nat_lt l.line (length (without_cr piece)))) as (λ _. length (without_cr piece) ≤ l.line) [
+  | inr filled ↦ elim (cases_Bool (nat_lt l.line (length (without_cr piece)))) as (λ _. Fits l n piece ended size) [
     | inl long ↦ let z = rw (filled, long) at none in absurd (some-none z)
-    | inr fits ↦ grind (arith, nat_tests)
+    | inr short ↦ elim (cases_Bool (nat_lt l.records n)) as (λ _. Fits l n piece ended size) [
+      | inl many ↦ let z = rw (filled, short, many) at none in absurd (some-none z)
+      | inr number ↦ elim (cases_Bool (nat_lt l.bytes size)) as (λ _. Fits l n piece ended size) [
+        | inl large ↦ let z = rw (filled, short, number, large) at none in absurd (some-none z)
+        | inr end ↦ record {
+          filled = λ is. let some = rw is at filled in some-left some;
+          short = grind (arith, nat_tests);
+          number = grind (arith, nat_tests);
+          end = grind (arith, nat_tests);
+        }
+      ]
+    ]
   ]
 ]
   where
     some-none : {A : Type 0} {x : A} → Some x ≡ None → ⊥
     some-none e = cc
+
+    some-left : {m : ℕ} → (m == 0) ≡ false → 0 < m
+    some-left h = grind (arith, nat_tests)
 
 -- the line whose LF is at k
 pub whole-short : (l : Limits) (n t : ℕ) (block : List ℕ) (k : ℕ) → IsFirstByte (is_byte 10) block (Some k) →
@@ -34,7 +54,7 @@ whole-short l n t block k first lawful =
     let ten : get_or (take (k + 1) block) k 0 ≡ 10 = get_or-take (k + 1) block k 0 (omega arith) ∙ eqb-true _ 10 first.1 in
     let here : rule_of_line l n t (take (k + 1) block) k ≡ None = lawful k (simp length-take (omega arith)) in
     let front : take k (take (k + 1) block) ≡ take k block = take-take k 1 block in
-    subst (λ (q : List ℕ). length (without_cr q) ≤ l.line) front (short l n (take k (take (k + 1) block)) true (t + (k + 1)) (rw ten at here))
+    subst (λ (q : List ℕ). length (without_cr q) ≤ l.line) front (fits l n (take k (take (k + 1) block)) true (t + (k + 1)) (rw ten at here)).short
   where
     take-take : (k m : ℕ) (xs : List ℕ) → take k (take (k + m) xs) ≡ take k xs
     take-take zero m xs = refl
@@ -51,7 +71,7 @@ last-short l n t block some unended lawful =
     [ inl is ↦ absurd (none-free block unended k (omega arith) (eqb-true _ 10 is)) | inr isnt ↦ isnt ] in
     let here : rule_of_line l n t block k ≡ None = lawful k (omega arith) in
     let all : take (k + 1) block ≡ block = ap (λ (n : ℕ). take n block) (omega arith) ∙ take-length block in
-    subst (λ (q : List ℕ). length (without_cr q) ≤ l.line) all (short l n (take (k + 1) block) false (t + (k + 1)) (rw not_ten at here))
+    subst (λ (q : List ℕ). length (without_cr q) ≤ l.line) all (fits l n (take (k + 1) block) false (t + (k + 1)) (rw not_ten at here)).short
 
 -- no byte is LF
 free-any : (q : List ℕ) → NoLf q → list_any (λ b. b == lf) q ≡ false
@@ -108,6 +128,18 @@ no-rule : (l : Limits) (n : ℕ) (piece : List ℕ) (ended : Bool) (size : ℕ) 
 no-rule l n piece ended size some fits records bytes =
     rw (some, not-over l.line (length (without_cr piece)) fits, not-over l.records n records, not-over l.bytes size bytes) refl
 
+last-ten : (xs : List ℕ) → (get_or (xs ++ 10 ∷ []) (length xs) 0 == 10) ≡ true
+last-ten [] = refl
+last-ten (x ∷ xs) = last-ten xs
+
+-- a line that LF ends and that breaks no rule is within the limits
+pub lawful-line : (l : Limits) (n t : ℕ) (piece : List ℕ) → IsLawful l n t (piece ++ 10 ∷ []) → Fits l n piece true (t + (length piece + 1))
+lawful-line l n t piece lawful =
+    let size : length (piece ++ 10 ∷ []) ≡ length piece + 1 = omega (arith, length-append piece (10 ∷ [])) in
+    let here : rule_of_line l n t (piece ++ 10 ∷ []) (length piece) ≡ None = lawful (length piece) (omega (arith, size)) in
+    let front : take (length piece) (piece ++ 10 ∷ []) ≡ piece = take_at piece (10 ∷ []) (length piece) refl in
+    fits l n piece true (t + (length piece + 1)) (rw (last-ten piece, front) at here)
+
 -- a line that LF ends breaks no rule where its length, its number and its end are within the limits
 pub line-lawful : (l : Limits) (n t : ℕ) (piece : List ℕ) → NoLf piece → 0 < length (without_cr piece) → length (without_cr piece) ≤ l.line
     → n ≤ l.records → t + (length piece + 1) ≤ l.bytes → IsLawful l n t (piece ++ 10 ∷ [])
@@ -122,14 +154,10 @@ line-lawful l n t piece free some fits records bytes k h =
           rw (other, front) (no-rule l n (take (k + 1) piece) false (t + (k + 1)) refl (omega (arith, less, fits)) records (omega (arith, below, bytes)))
       | inr from ↦
           let at : k ≡ length piece = omega (arith, from, h, size) in
-          let ten : (get_or (piece ++ 10 ∷ []) k 0 == 10) ≡ true = ap (λ (m : ℕ). get_or (piece ++ 10 ∷ []) m 0 == 10) at ∙ last piece in
+          let ten : (get_or (piece ++ 10 ∷ []) k 0 == 10) ≡ true = ap (λ (m : ℕ). get_or (piece ++ 10 ∷ []) m 0 == 10) at ∙ last-ten piece in
           let front : take k (piece ++ 10 ∷ []) ≡ piece = take_at piece (10 ∷ []) k (sym at) in
           rw (ten, front) (no-rule l n piece true (t + (k + 1)) (some-left (length (without_cr piece)) some) fits records (omega (arith, at, bytes)))
     ]
   where
-    last : (xs : List ℕ) → (get_or (xs ++ 10 ∷ []) (length xs) 0 == 10) ≡ true
-    last [] = refl
-    last (x ∷ xs) = last xs
-
     not-ten : (b : ℕ) → (b ≡ 10 → ⊥) → (b == 10) ≡ false
     not-ten b h = elim (cases_Bool (b == 10)) as (λ _. (b == 10) ≡ false) [ inl is ↦ absurd (h (eqb-true b 10 is)) | inr isnt ↦ isnt ]

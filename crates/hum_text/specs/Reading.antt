@@ -1,10 +1,11 @@
 -- What a reader of lines shows, what it stands for, and what a poll does.
 use Rattle.std.specs.Prelude.{◌≡◌, ◌≢◌, ℕ, ◌+◌, ◌-◌, ◌*◌, ◌<◌, ◌≤◌}
 use Rattle.std.specs.Prelude.{◌==◌, ◌⊎◌, Bool, true, false}
-use Rattle.std.specs.Prelude.{List, [], ◌∷◌, ◌++◌, length, slice_index}
+use Rattle.std.specs.Prelude.{List, [], ◌∷◌, ◌++◌, length, take, slice_index}
 use Rattle.std.specs.Prelude.{Option, None, Some, Result, Ok, Err}
 use Rattle.std.specs.Io.{appended_bytes}
 use Rattle.std.specs.List.{list_any}
+use Rattle.memchr.specs.Find.{IsFirstByte, is_byte}
 use Rattle.hum_text.specs.declared.Limits.{Limits}
 use Rattle.hum_text.specs.declared.TextFault.{TextFault}
 use Rattle.hum_text.specs.declared.TextFault.TheVariants.{Read, Memory}
@@ -156,6 +157,12 @@ abbrev pub Nears : Step → ℕ → ℕ → Type 0
 Nears End old new = Unit {0}
 Nears More old new = new < old
 Nears Line old new = new < old
+
+-- The next line is there: its LF is pending, and no byte up to it breaks a rule.
+pub record HasNextLine {R : Type 0} (v : Reader R) : Type 0 where
+  pub place : ℕ
+  pub first : IsFirstByte (is_byte lf) v.pending (Some place)
+  pub lawful : IsLawful v.limits (v.given + 1) v.taken (take (place + 1) v.pending)
 
 -- The next line was handed out. Its LF was pending, so no read was needed, and none was made.
 pub record GivesLine {R : Type 0} (old new : Reader R) : Type 0 where

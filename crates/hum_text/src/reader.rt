@@ -72,7 +72,7 @@ impl<R: Source> LineReader<R> {
     ghost use Rattle.hum_text.specs.Reading.{opening, Holds, GivesNext, bytes_read};
     ghost use Rattle.hum_text.specs.Reading.{NeedsRead, ReadsOnce, IsUnread, IsFed};
     ghost use Rattle.hum_text.specs.Reading.{IsOver, KeepsLimits, Fails, left_to_do, Nears};
-    ghost use Rattle.hum_text.specs.Reading.{GivesLine};
+    ghost use Rattle.hum_text.specs.Reading.{HasNextLine, GivesLine};
 
     /// The reader of a source of which nothing was read yet.
     pub fn new(alloc: Global, source: R, limits: Limits) -> LineReader<R>
@@ -189,6 +189,7 @@ impl<R: Source> LineReader<R> {
         requires sound { self.old.fault ≡ None }
         requires first { IsFirstByte (is_byte lf) self.old.pending (Some k) }
         ensures line { result ≡ true → GivesLine self.old self.new }
+        ensures none { result ≡ false → ¬ HasNextLine self.old }
         ensures same { result ≡ false → self.new ≡ self.old }
     {
         let piece = &self.block.pending()[..k];
@@ -347,6 +348,7 @@ impl<R: Source> LineReader<R> {
     pub fn next_line(&mut self) -> bool
         requires sound { self.old.fault ≡ None }
         ensures line { result ≡ true → GivesLine self.old self.new }
+        ensures none { result ≡ false → ¬ HasNextLine self.old }
         ensures same { result ≡ false → self.new ≡ self.old }
     {
         match near_lf(self.block.pending()) {
@@ -360,6 +362,7 @@ impl<R: Source> LineReader<R> {
     fn far_line(&mut self) -> bool
         requires sound { self.old.fault ≡ None }
         ensures line { result ≡ true → GivesLine self.old self.new }
+        ensures none { result ≡ false → ¬ HasNextLine self.old }
         ensures same { result ≡ false → self.new ≡ self.old }
     {
         let Some(k) = self.block.find_line_end() else {

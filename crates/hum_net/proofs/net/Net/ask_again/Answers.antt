@@ -1,27 +1,18 @@
-use Rattle.std.proofs.Common.{◌∙◌, ◌≤◌, sym, ap, subst, slice_set, is_some}
+use Rattle.std.proofs.Common.{◌∙◌, ◌≤◌, sym, ap, subst, slice_set}
 use Rattle.std.specs.Prelude.{IfSome}
-use Rattle.std.proofs.lemmas.Bool.{false≢true}
 use Rattle.hum_turns.specs.Failures.{is_ready}
 use Rattle.hum_nodes.specs.Nodes.{StandsAs}
 use Rattle.hum_net.specs.Scene.{plan_of}
 use Rattle.hum_net.specs.Nets.{asked}
-use Rattle.hum_net.proofs.Netting.{not_over, unfailed_now}
 use Rattle.hum_net.proofs.Running.{flags_alone, relisted}
 use Rattle.hum_net.proofs.net.Net.ask_again.Goals as goal
-
--- A run that has failed doesn't go on.
-pub returns-then-is_some-clause-list : goal.returns-then-is_some-clause-list
-returns-then-is_some-clause-list g c start s now h none link_within reader_within =
-    let unfailed = h.failure ∙ unfailed_now (StandsAs g.F.Feeds.stands g.W.Works.stands)
-    g.S.Sink.contents g.S.Sink.flushed start s c.args.self.now now 0 h none in
-    absurd (false≢true (sym (c.is_some.ensures ∙ ap is_some unfailed) ∙ c.if-is_some.true))
 
 pub ask-requires : goal.ask-requires
 ask-requires g c =
     let r = c.requires.running in
     record {
       running = r;
-      going = sym r.at.failure ∙ not_over _ c.is_some.ensures c.if-is_some.false;
+      going = c.requires.going;
       within = c.requires.link_within;
     }
 
@@ -37,7 +28,7 @@ ask-requires-in-Some g c =
             r.start r.scene c.args.self.now c.ask.new.self r.now
             (flags_alone c.ask.new.self c.args.self.now c.ask.ensures.same) c.ask.ensures.len r.at;
       };
-      going = sym r.at.failure ∙ not_over _ c.is_some.ensures c.if-is_some.false;
+      going = c.requires.going;
       within = subst (λ o. IfSome o (λ i. i ≤ r.scene.count)) c.in-Some.is c.requires.reader_within;
     }
 

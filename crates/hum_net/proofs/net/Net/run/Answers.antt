@@ -309,6 +309,7 @@ ask_again-requires g c =
     c.in-Some.ensures.gone.link c.in-Some.ensures.gone.turned
     c.in-Some.ensures.gone.readers c.if-is_leftmost.false c.reader-reader.result c.reader-reader.new.self
     c.reader-reader.ensures.same c.reader-reader.ensures.learns c.reader-reader.ensures.tells c.requires
+    c.if-turned.false
 
 pub turns-smaller-then-is_leftmost : goal.turns-smaller-then-is_leftmost
 turns-smaller-then-is_leftmost g c =

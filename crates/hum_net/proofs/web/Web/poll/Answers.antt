@@ -1,5 +1,5 @@
 use Rattle.std.proofs.Common.{◌∙◌, Some, refl, sym, ap}
-use Rattle.hum_read.specs.declared.scores.Step.TheVariants as polled
+use Rattle.hum_read.specs.Reading.{Gave, ReadOn, Ended}
 use Rattle.hum_nodes.specs.Nodes.{StandsAs, is_source, stopped_of}
 use Rattle.hum_net.specs.Scene.{at_of}
 use Rattle.hum_net.proofs.Moving.{set_other}
@@ -37,7 +37,7 @@ returns-in-Some-clause-fed g c =
     fed g.F.Feeds.stands g.W.Works.stands g.F.Feeds.remaining g.F.Feeds.ended c.args.k web _ node after
     link c.push.new.self at
     (link_at stands c.args.k web s link may.less may.at.stand c.index_mut-in-Some.ensures.value)
-    (polled.Record c.in-Some.row) has c.push.ensures.pushed refl refl
+    (Gave c.in-Some.row) has c.push.ensures.pushed refl refl
 
 pub returns-in-Some-clause-marks : goal.returns-in-Some-clause-marks
 returns-in-Some-clause-marks g c =
@@ -92,7 +92,7 @@ returns-in-Some-Ok-clause-fed g c =
     fed g.F.Feeds.stands g.W.Works.stands g.F.Feeds.remaining g.F.Feeds.ended c.args.k web _ node c.next.new.self
     link c.end.new.self at
     (link_at stands c.args.k web s link may.less may.at.stand c.index_mut-in-Some-Ok.ensures.value)
-    (polled.End c.in-Some-Ok.end) (rw (c.in-None.is, told) at c.next.ensures.polled) c.end.ensures refl refl
+    (Ended c.in-Some-Ok.end) (rw (c.in-None.is, told) at c.next.ensures.polled) c.end.ensures refl refl
 
 pub returns-in-Some-Ok-clause-others : goal.returns-in-Some-Ok-clause-others
 returns-in-Some-Ok-clause-others g c i o = set_other c.args.self.now.nodes.items c.args.k c.next.new.self i o
@@ -136,7 +136,7 @@ returns-in-None-stopped-clause-fed g c =
     let told = sym (c.stopped.ensures ∙ ap (stopped_of g.F.Feeds.stopped) here) ∙ c.in-None-stopped.is in
     let link = link_of stands c.args.k web s may.less may.at.stand in
     fed g.F.Feeds.stands g.W.Works.stands g.F.Feeds.remaining g.F.Feeds.ended c.args.k web _ node c.next.new.self
-    link.0 link.0 at link.1 polled.More (rw (c.in-None.is, told) at c.next.ensures.polled) tt refl refl
+    link.0 link.0 at link.1 ReadOn (rw (c.in-None.is, told) at c.next.ensures.polled) tt refl refl
 
 pub returns-in-None-stopped-clause-others : goal.returns-in-None-stopped-clause-others
 returns-in-None-stopped-clause-others g c i o = set_other c.args.self.now.nodes.items c.args.k c.next.new.self i o

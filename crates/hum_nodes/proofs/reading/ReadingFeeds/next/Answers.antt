@@ -3,8 +3,7 @@ use Rattle.std.specs.Prelude.{IfOk, OnErr}
 use Rattle.std.proofs.lemmas.Bool.{false≢true}
 use Rattle.std.specs.Io.KnownBytes.{Consumes}
 use Rattle.hum_read.specs.declared.ReadError.{ReadError}
-use Rattle.hum_read.specs.declared.scores.Step.{Step}
-use Rattle.hum_read.specs.declared.scores.Step.TheVariants as step
+use Rattle.hum_read.specs.Reading.{Polled, Gave, ReadOn, Ended}
 use Rattle.hum_read.specs.Steps.{given_by}
 use Rattle.hum_text.specs.Reading.{Reader, NeedsRead, IsUnread, bytes_read}
 use Rattle.hum_nodes.specs.Polls.{HasPolled, HasStayed}
@@ -22,7 +21,7 @@ stays_ended v w unread e =
 pub returns-clause-stays : goal.returns-clause-stays
 returns-clause-stays g c = by (given_by c.next.result c.next.new.self.stopped) refl
   where
-    by : (r : Result Step ReadError) → given_by c.next.result c.next.new.self.stopped ≡ r
+    by : (r : Result Polled ReadError) → given_by c.next.result c.next.new.self.stopped ≡ r
         → OnErr r (HasStayed c.args.self.now.inner.lines.ended c.next.new.self.lines.ended
         (g.R.Source.remaining c.args.self.now.inner.lines.source)
         (g.R.Source.remaining c.next.new.self.lines.source))
@@ -43,15 +42,15 @@ returns-clause-stays g c = by (given_by c.next.result c.next.new.self.stopped) r
 pub returns-clause-polled : goal.returns-clause-polled
 returns-clause-polled g c = by (given_by c.next.result c.next.new.self.stopped) refl
   where
-    Polled : Result Step ReadError → Type 0
-    Polled r = IfOk r (HasPolled (IsReading c.args.self.now.inner) (IsReading c.next.new.self)
+    Goes : Result Polled ReadError → Type 0
+    Goes r = IfOk r (HasPolled (IsReading c.args.self.now.inner) (IsReading c.next.new.self)
         c.args.self.now.inner.lines.ended c.next.new.self.lines.ended
         (g.R.Source.remaining c.args.self.now.inner.lines.source)
         (g.R.Source.remaining c.next.new.self.lines.source))
 
-    by : (r : Result Step ReadError) → given_by c.next.result c.next.new.self.stopped ≡ r → Polled r
+    by : (r : Result Polled ReadError) → given_by c.next.result c.next.new.self.stopped ≡ r → Goes r
     by (Err x) is = tt
-    by (Ok (step.Record row)) is =
+    by (Ok (Gave row)) is =
         let e = c.next.ensures in
         let v = c.args.self.now.inner in
         let w = c.next.new.self in
@@ -64,7 +63,7 @@ returns-clause-polled g c = by (given_by c.next.result c.next.new.self.stopped) 
               poll_record v w t rest a e.stage e.unread over row (rw is at e.gives)
               (rw is at e.stops) (rw is at e.again) (e.unfed (λ more. let m = sym is ∙ more in cc));
         }
-    by (Ok step.More) is =
+    by (Ok ReadOn) is =
         let e = c.next.ensures in
         let v = c.args.self.now.inner in
         let w = c.next.new.self in
@@ -77,7 +76,7 @@ returns-clause-polled g c = by (given_by c.next.result c.next.new.self.stopped) 
               poll_more v w t rest a e.stage e.unread over (rw is at e.gives) (rw is at e.stops)
               (rw is at e.nears) (rw is at e.again) (e.more is) e.taken e.asked;
         }
-    by (Ok (step.End end)) is =
+    by (Ok (Ended end)) is =
         let e = c.next.ensures in
         let v = c.args.self.now.inner in
         let w = c.next.new.self in
