@@ -1,5 +1,5 @@
 #!/bin/sh
-# corpus.sh PLAN SCORES RESULTS [JOBS]: runs a plan over every *.krn below the folder SCORES, JOBS at a time.
+# corpus.sh PLAN SCORES RESULTS [JOBS]: runs a plan over every *.krn below the folder SCORES, in lots of 64, JOBS lots at a time.
 #
 # The plan reads /dev/stdin. What it makes of SCORES/a/b.krn is RESULTS/a/b.krn. RESULTS/table.tsv has a line for each score: its name, the
 # status, and of what was refused the stage, the line and the rule. Status 1 if a score was refused, 2 if the plan is.
