@@ -256,10 +256,11 @@ def anchors(path):
 
 def codes_told():
     """The codes that the program can tell, by its sources."""
-    found = {f'N{k}' for k in range(1, 13)}
-    for path in glob.glob(os.path.join(TOP, 'crates', 'hum_stage', 'src', '*.rt')):
-        with open(path, encoding='utf-8') as source:
-            found |= set(re.findall(r'#\[error\("([A-Z]{1,2}[0-9]{1,2})"\)\]', source.read()))
+    found = set()
+    for crate in 'hum_stage', 'hum_plan':
+        with open(os.path.join(TOP, 'crates', crate, 'src', 'faults.rt'), encoding='utf-8') as source:
+            found |= set(re.findall(r'Rule::\w+ => "([A-Z]{1,2}[0-9]{1,2})"', source.read()))
+    assert found, 'no codes in the sources'
     return sorted(found)
 
 

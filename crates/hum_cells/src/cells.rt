@@ -29,7 +29,7 @@ pub struct Cells<T> {
     kern: Vec<bool>,
     // where the text of a new token is made
     text: Vec<u8>,
-    // the record that gave way to another last
+    // what is left of records that gave way to others
     spare: Spare,
 }
 

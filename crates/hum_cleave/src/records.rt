@@ -18,7 +18,7 @@ use std::alloc::{AllocError, Global};
 use std::collections::VecDeque;
 use std::marker::Model;
 
-/// Where a joined token is made, and the record that gave way to another last.
+/// Where a joined token is made, and what is left of records that gave way to others.
 ///
 /// Nothing of what stands in them shows.
 #[derive(Drop)]

@@ -41,9 +41,9 @@ pub struct Collecting {
     next: Vec<Walk>,
     // where a new token is made
     text: Text,
-    // the record that gave way to another last
+    // what is left of records that gave way to others
     spare: Spare,
-    // what was heard of the record that went last
+    // lists of what was heard of records that are gone
     spare_heard: SpareHeard,
 }
 

@@ -34,7 +34,7 @@ pub struct Repeats {
     carried: Carried<LastSeen>,
     // where a token is written in parentheses
     shown: Vec<u8>,
-    // the record that gave way to another last
+    // what is left of records that gave way to others
     spare: Spare,
 }
 

@@ -174,7 +174,7 @@ impl<F: Feeds, W: Works, S: Sink> Net<F, W, S> {
         }
     }
 
-    // Sets a flag for each actor that is ready.
+    // Sets the flag of each actor: whether it is ready.
     fn mark(&mut self)
         requires { IsRunning (StandsAs F.stands W.stands) S.contents S.flushed self.old }
         ensures same { self.new ≡ record self.old { actors = self.new.actors } }

@@ -1,7 +1,8 @@
 //! Nodes: what a net knows of its stages, and the calls that move them.
 //!
-//! - [`Works`] is the contract: a node stands for a stage of a plan (hum_turns), what that has had
-//!   of its inputs, the bytes that it has read and how many records it has given.
+//! - [`Node`] is a stage of a plan (hum_turns): one that reads bytes, whose contract is [`Feeds`], or
+//!   one that reads from others, whose contract is [`Works`]. It stands for what the stage has had of
+//!   its inputs or read of its bytes, and how many records it has given.
 //! - [`Single`] is a stage of one input as a node.
 //! - [`Merging`] is the command assemble as a node of several inputs.
 //! - [`Worker`] is one of the two.

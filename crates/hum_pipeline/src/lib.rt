@@ -1,7 +1,8 @@
 //! Pipelines: plans of commands as nets of their stages.
 //!
-//! [`run_stages`] runs the stages of a plan over the scores that readers give. What it writes is what
-//! the stages mean, whatever the cutting into reads, the order of turns and the size of links.
+//! [`run_stages`] runs the stages of a plan over the scores that readers give, [`run_bundle`] a plan's
+//! text over the scores that stand behind it. What is written is what the stages mean, whatever the
+//! cutting into reads, the order of turns and the size of links.
 #![tactic(auto)]
 
 mod bundles;

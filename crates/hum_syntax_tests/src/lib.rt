@@ -1,4 +1,5 @@
-//! Tests of the libraries below the commands: lines, records, spines, numbers, notes, nodes and links.
+//! Tests of the libraries that know no command: lines and words, records and spines, patterns, numbers,
+//! pitches and notes, turns, nodes and links, bundles and the command line.
 //!
 //! They call what any crate may call, and stand in a crate of their own: so no library is proved once more
 //! with its tests.

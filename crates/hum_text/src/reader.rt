@@ -90,8 +90,8 @@ impl<R: Source> LineReader<R> {
         }
     }
 
-    /// The line that the last poll gave, without its line end; where it gave none, what this shows
-    /// is of no use.
+    /// The line that the last call gave, by [`LineReader::poll`] or [`LineReader::next_line`], without
+    /// its line end; where it gave none, what this shows is of no use.
     #[inline]
     pub fn line(&self) -> &[u8]
         ensures { result.now ≡ self.now.line }

@@ -19,6 +19,7 @@
 //! - when the sink has heard the last stage's end, it has had the plan's whole list (`whole`);
 //! - the end that it heard is the fault of the lowest-numbered stage that refuses, the one met
 //!   where the stages are evaluated one after another ([`whose_fault`]);
+//! - where each stage makes scores of scores, what the plan means is one ([`every_meaning_is_fine`]);
 //! - a failed read, a failed write or want of memory may end a run at any turn: what was written
 //!   is still a front of the plan's text, for every way in which the inputs may go on
 //!   ([`every_turn`]: `front`);

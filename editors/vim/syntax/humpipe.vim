@@ -8,7 +8,7 @@ syntax case match
 
 " a plan: comments, the branch in front of the colon, commands behind it and behind bars
 syntax match humpipeComment /^[ \t]*#.*$/
-syntax match humpipeName /^[ \t]*\zs[a-z][a-zA-Z0-9_]\{0,31}:\ze\%([ \t|]\|$\)/ nextgroup=humpipeCommand,humpipeUnknown skipwhite
+syntax match humpipeName /^[ \t]*\zs[a-z][a-z0-9_]\{0,31}:\ze\%([ \t|]\|$\)/ nextgroup=humpipeCommand,humpipeUnknown skipwhite
 syntax match humpipeBar /|/ nextgroup=humpipeCommand,humpipeUnknown skipwhite
 syntax match humpipeUnknown /[^ \t|']\+/ contained
 syntax match humpipeCommand contained
