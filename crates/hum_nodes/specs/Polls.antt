@@ -83,12 +83,6 @@ is_failed_read (Ok x) = false
 is_failed_read (Err error.Read) = true
 is_failed_read (Err error.Memory) = false
 
--- the end, or nearer to it
-abbrev pub Nears : Polled → ℕ → ℕ → Type 0
-Nears (Gave row) old new = new < old
-Nears ReadOn old new = new < old
-Nears (Ended end) old new = Unit {0}
-
 -- two things are as they were
 abbrev pub IsKept : {A B : Type 0} → A → A → B → B → Type 0
 IsKept a b c d = (b ≡ a) × (d ≡ c)

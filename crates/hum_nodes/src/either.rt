@@ -3,10 +3,11 @@ ghost use Rattle.std.specs.Prelude.{◌≡◌, ℕ, ◌<◌, List, [], true, fal
 ghost use Rattle.hum_nodes.specs.At.{At, MayDo, sources_of, bytes_of, doing_of, holds_of, HasTaken};
 ghost use Rattle.hum_nodes.specs.At.{MayPut, MayStop, HasPut, HasStopped, kind_of};
 ghost use Rattle.std.specs.Prelude.{OnErr, ◌||◌};
-ghost use Rattle.hum_nodes.specs.Polls.{HasPolled, HasStayed, AsksAtMostOnce, Nears, IsKept};
+ghost use Rattle.hum_nodes.specs.Polls.{HasPolled, HasStayed, AsksAtMostOnce, IsKept};
 ghost use Rattle.hum_nodes.specs.Polls.{is_failed_read};
 ghost use Rattle.hum_nodes.specs.Nodes.{is_source, StandsAs, remaining_of, ended_of};
 ghost use Rattle.hum_nodes.specs.Nodes.{calls_of, failed_of, left_of, stopped_of};
+ghost use Rattle.hum_read.specs.Reading.{Nears};
 ghost use Rattle.hum_read.specs.Steps.{given_by};
 
 use crate::node::{Doing, DoingKind, Feeds, Works};

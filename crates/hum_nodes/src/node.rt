@@ -3,11 +3,12 @@ ghost use Rattle.std.specs.Prelude.{◌≡◌, ℕ, ◌<◌, List, Option, Bool,
 ghost use Rattle.std.specs.Prelude.{Result};
 ghost use Rattle.hum_stage.specs.declared.faults.End.{End};
 ghost use Rattle.hum_read.specs.declared.ReadError.{ReadError};
+ghost use Rattle.hum_read.specs.Reading.{Nears};
 ghost use Rattle.hum_read.specs.Steps.{given_by};
 ghost use Rattle.std.specs.Prelude.{OnOk, OnErr, ◌≤◌, ◌||◌};
 ghost use Rattle.hum_nodes.specs.At.{At, MayDo, sources_of, bytes_of, doing_of, holds_of, HasTaken};
 ghost use Rattle.hum_nodes.specs.At.{MayPut, MayStop, HasPut, HasStopped, kind_of};
-ghost use Rattle.hum_nodes.specs.Polls.{HasPolled, AsksAtMostOnce, Nears, IsKept};
+ghost use Rattle.hum_nodes.specs.Polls.{HasPolled, AsksAtMostOnce, IsKept};
 ghost use Rattle.hum_nodes.specs.Polls.{HasStayed, is_failed_read, most_bytes};
 
 use hum_read::ReadError;
