@@ -1,6 +1,6 @@
 //! Stages that tell what they are ready for after each of their calls.
 ghost use Rattle.std.specs.Prelude.{◌⊎◌, IfOk, OnOk, OnErr, IsErr};
-ghost use Rattle.hum_stage.specs.Meaning.{MayPut, MayEnd, HasPut, HasEnded, HasTaken};
+ghost use Rattle.hum_stage.specs.Meaning.{MayPut, MayEnd, HasPut, HasEnded, HasTaken, LeavesFewer};
 ghost use Rattle.hum_commands.specs.Asking.{Knows};
 
 use hum_record::Record;
@@ -40,6 +40,8 @@ pub trait Asks: Stage {
     fn take_and_ask(&mut self, readiness: &mut Readiness) -> Result<Option<Record>, AllocError>
         ensures ok { IfOk result (HasTaken (Knows (Self.stands self.old) readiness.old)
             (Knows (Self.stands self.new) readiness.new)) }
+        ensures fewer { IfOk result
+            (λ taken. LeavesFewer taken (Self.left self.old) (Self.left self.new)) }
         ensures err { OnErr result (Self.spent self.new) }
         ensures stays_spent { Self.spent self.old → IsErr result }
     {

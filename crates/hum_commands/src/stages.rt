@@ -1,5 +1,5 @@
 //! The stages of commands.
-ghost use Rattle.std.specs.Prelude.{◌≡◌, ℕ, ◌+◌, length};
+ghost use Rattle.std.specs.Prelude.{◌≡◌, ℕ, ◌≤◌, length};
 ghost use Rattle.hum_stage.specs.Meaning.{Moment, opening, all_of, IsLawful};
 ghost use Rattle.hum_stage.specs.Meaning.{KeepsScore, IsWithinLag};
 ghost use Rattle.hum_commands.specs.Asking.{Knows};
@@ -79,14 +79,14 @@ trait StandsFor {
 
     ghost spent: { Self → Type 0 };
 
-    ghost remains: { (s : Self) (t : Moment) → stands s t → left s + t.given ≡ length (all_of t) };
+    ghost within: { (s : Self) (t : Moment) → stands s t → t.given ≤ length (all_of t) };
 
     ghost lawful: { (s : Self) (t : Moment) → stands s t → IsLawful t.meaning };
 }
 
 impl StandsFor for AnyStage {
-    ghost use Rattle.hum_stage.specs.Laws.{standing_remains};
-    ghost use Rattle.hum_stage.specs.LookLaws.{lags_remains};
+    ghost use Rattle.hum_stage.specs.Laws.{standing_within};
+    ghost use Rattle.hum_stage.specs.LookLaws.{lags_within};
     ghost use Rattle.hum_stage.specs.Lawful.{standing_lawful, lags_lawful};
     ghost use Rattle.hum_commands.specs.declared.stages.AnyStage.TheVariants as stage;
 
@@ -132,18 +132,18 @@ impl StandsFor for AnyStage {
       | stage.Cleave s ↦ ⟦<Cleave as Stage>⟧.spent s
     ] };
 
-    ghost remains = { elim [
-      | stage.Rid s ↦ λ t h. standing_remains _ _ _ _ t h
-      | stage.Extract s ↦ λ t h. standing_remains _ _ _ _ t h
-      | stage.Ditto s ↦ λ t h. standing_remains _ _ _ _ t h
-      | stage.Timebase s ↦ λ t h. standing_remains _ _ _ _ t h
-      | stage.Context s ↦ λ t h. lags_remains _ _ _ _ _ t h
-      | stage.Trans s ↦ λ t h. standing_remains _ _ _ _ t h
-      | stage.Semits s ↦ λ t h. standing_remains _ _ _ _ t h
-      | stage.Mint s ↦ λ t h. standing_remains _ _ _ _ t h
-      | stage.Recip s ↦ λ t h. standing_remains _ _ _ _ t h
-      | stage.Yank s ↦ λ t h. lags_remains _ _ _ _ _ t h
-      | stage.Cleave s ↦ λ t h. standing_remains _ _ _ _ t h
+    ghost within = { elim [
+      | stage.Rid s ↦ λ t h. standing_within _ _ _ _ t h
+      | stage.Extract s ↦ λ t h. standing_within _ _ _ _ t h
+      | stage.Ditto s ↦ λ t h. standing_within _ _ _ _ t h
+      | stage.Timebase s ↦ λ t h. standing_within _ _ _ _ t h
+      | stage.Context s ↦ λ t h. lags_within _ _ _ _ _ t h
+      | stage.Trans s ↦ λ t h. standing_within _ _ _ _ t h
+      | stage.Semits s ↦ λ t h. standing_within _ _ _ _ t h
+      | stage.Mint s ↦ λ t h. standing_within _ _ _ _ t h
+      | stage.Recip s ↦ λ t h. standing_within _ _ _ _ t h
+      | stage.Yank s ↦ λ t h. lags_within _ _ _ _ _ t h
+      | stage.Cleave s ↦ λ t h. standing_within _ _ _ _ t h
     ] };
 
     ghost lawful = { elim [
@@ -222,7 +222,7 @@ impl Stage for CommandStage {
 
     ghost spent = { λ s. ⟦<AnyStage as StandsFor>⟧.spent s.stage };
 
-    ghost remains = { λ s t h. ⟦<AnyStage as StandsFor>⟧.remains s.stage t h.0 };
+    ghost within = { λ s t h. ⟦<AnyStage as StandsFor>⟧.within s.stage t h.0 };
 
     ghost lawful = { λ s t h. ⟦<AnyStage as StandsFor>⟧.lawful s.stage t h.0 };
 

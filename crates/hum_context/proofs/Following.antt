@@ -1,6 +1,6 @@
 -- What is remembered goes on.
 use Rattle.std.proofs.Common.{◌≡◌, ◌∙◌, ◌≢◌, refl, sym, ap, ℕ, suc, ◌+◌, ◌≤◌, ◌<◌, true, false}
-use Rattle.std.proofs.Common.{List, [], ◌∷◌, ◌++◌, length, drop, get_or, length-append, append_assoc, subst}
+use Rattle.std.proofs.Common.{List, [], ◌∷◌, ◌++◌, length, drop, get_or, length-append, append_assoc}
 use Rattle.std.proofs.Common.{arith, Option, Some, None}
 use Rattle.std.specs.Prelude.{Result, nat_le, slice_get, ◌==◌}
 use Rattle.std.proofs.lemmas.Bool.Decides.{nat_tests}
@@ -20,9 +20,8 @@ use Rattle.hum_context.specs.Options.{extent_of, choice_of}
 use Rattle.hum_context.specs.Context.{Choice, taken, context, all_some, data_of, if_fits, new_tokens}
 use Rattle.hum_context.specs.Columns.{path_through}
 use Rattle.hum_context.specs.Memory.{Follows, follows_each}
-use Rattle.hum_context.specs.Queue.{Known, Knows}
-use Rattle.hum_context.specs.Heard.{wanted_of}
-use Rattle.hum_context.specs.Walking.{AllStand, AreKnown, Decided, Stands}
+use Rattle.hum_context.specs.Queue.{IsData, Known, Knows}
+use Rattle.hum_context.specs.Walking.{AllStand, Stands}
 use Rattle.hum_context.proofs.Growth.{path_passed}
 use Rattle.hum_context.proofs.Queues.{knows_push}
 use Rattle.hum_context.proofs.Weighing.{data_row, kept_at}
@@ -193,41 +192,8 @@ begins options path gone walks p none zero = record {
   few = omega arith;
 }
 
-front_of : {X : Type 0} (held : List X) (rows : List Row) → length held ≡ length rows
-    → 0 < length held → (row : Row) × (rest : List Row) × (rows ≡ row ∷ rest)
-front_of held [] e some = absurd (omega (arith, e, some))
-front_of held (row ∷ rest) e some = (row, rest, refl)
-
--- The first that waits is decided.
-pub deciding : (o : Choice) (number : Option ℕ) (path : Path) (gone : ℕ) (walks new : List Walk)
-    (held : List Queued) (look : Look) (past rows : List Row) (kept : Queued)
-    → number ≡ wanted_of o.extent → Follows o path gone walks held look past rows
-    → 0 < length held → kept ≡ get_or held 0 kept → (length kept.heard.items == 0) ≡ false
-    → ((p : Path) (rs : List Row) → Knows o p held rs → AllStand o p gone rs walks
-    → AllStand o p gone rs new)
-    → ((p : Path) (tokens : List (List ℕ)) (rs : List Row)
-    → Knows o p held (Spined Values tokens ∷ rs) → AllStand o p gone (Spined Values tokens ∷ rs) walks
-    → AreKnown (all_some (new_tokens o p (Spined Values tokens) rs 0 tokens)) true)
-    → Decided number gone held new
-deciding o number path gone walks new held look past rows kept want h some at loud stands known_are =
-    let f = front_of held rows (follows_each o path gone walks held look past rows h) some in
-    let m = rw f.2 at h in
-    let known = first_known o path gone walks held look past f.0 f.1 kept m some at in
-    let is = first_data o (path_after past) f.0 kept known loud in
-    let knows = subst (λ (r : Row). Knows o (path_after past) held (r ∷ f.1)) is m.waits in
-    let stand = subst (λ (r : Row). AllStand o (path_after past) gone (r ∷ f.1) new) is
-    (stands (path_after past) (f.0 ∷ f.1) m.waits m.stand) in
-    let before = subst (λ (r : Row). AllStand o (path_after past) gone (r ∷ f.1) walks) is m.stand in
-    let are = known_are (path_after past) (tokens_of f.0) f.1 knows before in
-    record {
-      o = o;
-      path = path_after past;
-      tokens = tokens_of f.0;
-      rows = f.1;
-      new = are.0;
-      want = want;
-      some_wanted = m.some_wanted;
-      knows = knows;
-      stand = stand;
-      are = are.1;
-    }
+-- Where something is heard of the first that waits, it is data.
+pub first_is_data : (held : List Queued) (kept : Queued) → kept ≡ get_or held 0 kept → 0 < length held
+    → (length kept.heard.items == 0) ≡ false → IsData held
+first_is_data [] kept e some loud = absurd (omega (arith, some))
+first_is_data (q ∷ held) kept e some loud = rw e at (kept.valued (some_heard kept.heard.items loud))

@@ -4,12 +4,13 @@ use Rattle.std.proofs.Common.{length, length-append, get_or, arith, inl, inr, �
 use Rattle.hum_record.specs.Building.{Draft, spelled}
 use Rattle.hum_record.specs.Making.{Holds}
 use Rattle.hum_record.specs.declared.SpinedKind.TheVariants.{Values}
-use Rattle.hum_record.specs.Row.{Row, Spined}
+use Rattle.hum_record.specs.declared.Kind.TheVariants.{Values as AnyValues}
+use Rattle.hum_record.specs.Row.{Row, Comment, Spined, kind_of, text_of, width_of}
 use Rattle.hum_record.specs.Spelling.{IsTextOf}
 use Rattle.hum_path.specs.Spines.{Path}
 use Rattle.hum_context.specs.declared.queued.Queued.{Queued}
 use Rattle.hum_context.specs.Context.{Choice, chain}
-use Rattle.hum_context.specs.Queue.{HasToken, Knows}
+use Rattle.hum_context.specs.Queue.{HasToken, IsData}
 use Rattle.hum_context.specs.Walking.{Writes}
 use Rattle.hum_context.proofs.Weighing.{Sofar, sofar_none, sofar_more}
 
@@ -47,21 +48,27 @@ written_more o path tokens rows j draft draft' long long' h below x =
       many = omega (arith, many, sum);
     }
 
--- a record has a token
-pub some_token : (row : Row) (tokens : List (List ℕ)) (text : List ℕ) → row ≡ Spined Values tokens
-    → IsTextOf row text → tokens ≢ []
-some_token row tokens text e h = (rw e at h).1
+pub first_token : (held : List Queued) (kept : Queued) (j : ℕ) → kept ≡ get_or held 0 kept
+    → IsData held → j < width_of kept.row → HasToken held j
+first_token [] kept j e h below = absurd h
+first_token (q ∷ held) kept j e h below = (h, rw e at below)
 
-pub no_tokens : (made tokens : List (List ℕ)) → length tokens ≤ length made → tokens ≢ [] → made ≢ []
-no_tokens made [] e some = λ k. some refl
-no_tokens [] (t ∷ ts) e some = λ k. absurd (omega (arith, e))
-no_tokens (m ∷ ms) (t ∷ ts) e some = λ k. cc
+-- the kind of the first
+pub first_kind : (held : List Queued) (kept : Queued) → kept ≡ get_or held 0 kept → IsData held
+    → kind_of kept.row ≡ AnyValues
+first_kind [] kept e h = absurd h
+first_kind (q ∷ held) kept e h = rw e h
 
-pub first_token : (o : Choice) (path : Path) (held : List Queued) (tokens : List (List ℕ))
-    (rows : List Row) (j : ℕ) → Knows o path held (Spined Values tokens ∷ rows) → j < length tokens
-    → HasToken held j
-first_token o path [] tokens rows j h below = absurd h
-first_token o path (kept ∷ held) tokens rows j h below = rw h.0.is (refl, below)
+-- data has a token
+pub data_width : (row : Row) → kind_of row ≡ AnyValues → IsTextOf row (text_of row)
+    → 0 < width_of row
+data_width (Comment text) e h = cc
+data_width (Spined kind []) e h = absurd (h.1 refl)
+data_width (Spined kind (t ∷ tokens)) e h = omega arith
+
+pub some_made : (made : List (List ℕ)) → 0 < length made → made ≢ []
+some_made [] h = absurd (omega (arith, h))
+some_made (m ∷ made) h = λ k. cc
 
 -- A token is no longer than the text of its record.
 last_long : (made : List (List ℕ)) (t : List ℕ) → length t ≤ length (spelled (made ++ t ∷ []))

@@ -43,7 +43,12 @@ abbrev pub heard_token : Heard → List ℕ → List (List ℕ)
 heard_token Passed token = []
 heard_token (Taken begins ends) token = token ∷ []
 
--- the first record that waits is data, with a token at place j
+-- the first record that waits is data
+abbrev pub IsData : List Queued → Type 0
+IsData [] = ⊥
+IsData (kept ∷ held) = kind_of kept.row ≡ AnyValues
+
+-- and has a token at place j
 abbrev pub HasToken : List Queued → ℕ → Type 0
 HasToken [] j = ⊥
 HasToken (kept ∷ held) j = (kind_of kept.row ≡ AnyValues) × (j < width_of kept.row)

@@ -5,19 +5,15 @@ use Rattle.std.specs.Prelude.{List, [], ◌∷◌, ◌++◌, filter, length}
 use Rattle.std.specs.Prelude.{if◌then◌else◌, slice_get, Option, Some, None}
 use Rattle.std.specs.List.{list_any, join_with_byte}
 use lib.Chars.{codes}
-use Rattle.hum_record.specs.declared.SpinedKind.TheVariants.{Values}
-use Rattle.hum_record.specs.Row.{Row, Spined}
+use Rattle.hum_record.specs.Row.{Row}
 use Rattle.hum_path.specs.Spines.{Path}
 use Rattle.hum_context.specs.declared.walk.Walk.{Walk}
 use Rattle.hum_context.specs.declared.front.Becoming.{Becoming}
 use Rattle.hum_context.specs.declared.front.Becoming.TheVariants.{Stays, Null, Collects}
 use Rattle.hum_context.specs.declared.front.Weight.{Weight}
 use Rattle.hum_context.specs.declared.front.Weight.TheVariants.{Undecided, Long, Fits}
-use Rattle.hum_context.specs.Context.{Choice, all_some, is_collectable, is_last, taken, chain}
-use Rattle.hum_context.specs.Context.{new_token, new_tokens}
-use Rattle.hum_context.specs.Heard.{wanted_of}
-use Rattle.hum_context.specs.Queue.{Knows}
-use Rattle.hum_context.specs.declared.queued.Queued.{Queued}
+use Rattle.hum_context.specs.Context.{Choice, is_collectable, is_last, taken, chain}
+use Rattle.hum_context.specs.Context.{new_token}
 use Rattle.hum_context.specs.Columns.{column_after}
 
 -- the bytes of some tokens, with one behind each
@@ -104,19 +100,10 @@ pub record Writes (o : Choice) (token : List ℕ) (chain : List (List ℕ))
   pub is : new_token o token chain ≡ Some new
   pub added : (made : List (List ℕ)) → before made → after (made ++ new ∷ [])
 
--- The first record that waits is data that is known, and so is each of its new tokens.
-pub record Decided (wanted : Option ℕ) (gone : ℕ) (held : List Queued) (walks : List Walk)
-    : Type 0 where
-  pub o : Choice
-  pub path : Path
-  pub tokens : List (List ℕ)
-  pub rows : List Row
-  pub new : List (List ℕ)
-  pub want : wanted ≡ wanted_of o.extent
-  pub some_wanted : taken o.extent [] ≡ None
-  pub knows : Knows o path held (Spined Values tokens ∷ rows)
-  pub stand : AllStand o path gone (Spined Values tokens ∷ rows) walks
-  pub are : all_some (new_tokens o path (Spined Values tokens) rows 0 tokens) ≡ Some new
+-- some token was added to them
+abbrev pub HasGrown : (List (List ℕ) → Type 0) → (List (List ℕ) → Type 0) → Type 0
+HasGrown before after =
+    (made : List (List ℕ)) → before made → (new : List ℕ) × after (made ++ new ∷ [])
 
 pub record IsWithout (enough : Bool) (before after : Walk) : Type 0 where
   pub column : after.column ≡ before.column

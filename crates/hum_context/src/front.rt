@@ -9,8 +9,8 @@ ghost use Rattle.hum_path.specs.Spines.{Path};
 ghost use Rattle.hum_context.specs.Context.{Choice, all_some, begins, chain, is_collectable, taken};
 ghost use Rattle.hum_context.specs.Context.{new_tokens};
 ghost use Rattle.hum_context.specs.Heard.{wanted_of};
-ghost use Rattle.hum_context.specs.Queue.{HasToken, Knows};
-ghost use Rattle.hum_context.specs.Walking.{AllStand, AreKnown, Becomes, Counts, Decided, Halts, IsJoined};
+ghost use Rattle.hum_context.specs.Queue.{HasToken, IsData, Knows};
+ghost use Rattle.hum_context.specs.Walking.{AllStand, AreKnown, Becomes, Counts, Halts, HasGrown, IsJoined};
 ghost use Rattle.hum_context.specs.Walking.{Stands, Takes, Weighs, Writes, bytes_of, collected};
 
 use crate::hearing::Heard;
@@ -299,6 +299,8 @@ fn write_token(
     requires kind { making.old.builder.kind ≡ Values }
     requires token { HasToken held.now.items j }
     ensures kind { making.new.builder.kind ≡ Values }
+    ensures grown { OnOk result (HasGrown (Holds Values making.old.builder making.old.is_long)
+        (Holds Values making.new.builder making.new.is_long)) }
     ensures written { OnOk result ((o : Choice) (path : Path) (tokens : List (List ℕ))
         (rows : List Row) → wanted ≡ wanted_of o.extent → taken o.extent [] ≡ None
         → Knows o path held.now.items (Spined Values tokens ∷ rows)
@@ -320,7 +322,8 @@ fn write_token(
     Ok(())
 }
 
-/// The record that the first becomes that waits, unless its new tokens are too long for one.
+/// The record that the first becomes that waits, where each of its new tokens is known, unless they are
+/// too long for one.
 pub(crate) fn write(
     alloc: Global,
     held: &VecDeque<Queued>,
@@ -332,20 +335,20 @@ pub(crate) fn write(
 ) -> Result<Option<Record>, AllocError>
     requires few { gone + length held.now.items ≤ 4294967295 }
     requires within { 0 < length held.now.items }
-    requires decided { Decided wanted gone held.now.items walks.now }
-    ensures { IfOk result (λ made. (o : Choice) (path : Path) (tokens : List (List ℕ))
+    requires data { IsData held.now.items }
+    ensures { IfOk result (λ made. (o : Choice) (path : Path) (tokens new : List (List ℕ))
         (rows : List Row) → wanted ≡ wanted_of o.extent → taken o.extent [] ≡ None
         → Knows o path held.now.items (Spined Values tokens ∷ rows)
         → AllStand o path gone (Spined Values tokens ∷ rows) walks.now
-        → (new : List (List ℕ)) × IsMade Values new made
-        × (all_some (new_tokens o path (Spined Values tokens) rows 0 tokens) ≡ Some new)) }
+        → all_some (new_tokens o path (Spined Values tokens) rows 0 tokens) ≡ Some new
+        → IsMade Values new made) }
 {
     let row = &held[0].row;
     let _kind = row.kind();
     let mut making = Making::new(alloc, SpinedKind::Values, spare);
     for j in 0..row.width() {
         let Some(new) = new_at(held, 0, gone, walks, j, wanted) else {
-            unreachable!()
+            return Ok(None);
         };
         write_token(held, j, wanted, new, text, &mut making)?;
     }

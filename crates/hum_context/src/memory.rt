@@ -114,6 +114,10 @@ impl LooksAhead for Collecting {
     }
 
     fn settle(&mut self, held: &mut VecDeque<Queued>) -> Result<Verdict<HeldRecord>, AllocError> {
+        // no more come
+        if self.gone.saturating_add(held.len() as u64) > MOST_RECORDS {
+            return Ok(Verdict::Waits);
+        }
         if held[0].is_quiet() {
             let row = self.let_go(held)?;
             return Ok(Verdict::Gives(Some(row)));

@@ -1,10 +1,10 @@
--- Records after the fault, records given, and what is held.
+-- Records after the fault, the record that is due, and what is held.
 use Rattle.std.proofs.Common.{◌≡◌, ◌∙◌, refl, sym, ap, ℕ, ◌+◌, ◌≤◌, true}
-use Rattle.std.proofs.Common.{false, List, [], ◌∷◌, ◌++◌, map, length, append_assoc}
-use Rattle.std.proofs.Common.{length-append, arith, Option, Some, None, slice_get}
+use Rattle.std.proofs.Common.{false, List, [], ◌∷◌, ◌++◌, map, length, append_assoc, append-nil}
+use Rattle.std.proofs.Common.{arith, Option, Some, None, slice_get}
 use Rattle.std.specs.Prelude.{nat_le, Result, Ok, Err}
 use Rattle.std.proofs.lemmas.Bool.Decides.{nat_tests}
-use Rattle.std.proofs.lemmas.List.{length_push}
+use Rattle.std.proofs.lemmas.List.{length_push, map-append}
 use Rattle.std.proofs.lemmas.Option.{none-some}
 use Rattle.hum_record.specs.Row.{Row}
 use Rattle.hum_path.specs.Score.{passed, IsOpen}
@@ -15,11 +15,10 @@ use Rattle.hum_stage.specs.Outcome.{Outcome, Becomes, Refused, Undecided, refusa
 use Rattle.hum_stage.specs.Outcome.{held_of}
 use Rattle.hum_stage.specs.Meaning.{fault_at, Goes}
 use Rattle.hum_stage.specs.Look.{Look, IsSteady, outcomes_from, outcome_of}
-use Rattle.hum_stage.specs.LookLaws.{looks_grow, settled_at, flat-append}
+use Rattle.hum_stage.specs.LookLaws.{looks_grow, settled_at}
 use Rattle.hum_stage.specs.Settles.{lasting, or_stop}
-use Rattle.hum_stage.specs.Lagging.{becomes, flat, trimmed, Stops, Lagged, LagsAt}
-use Rattle.hum_stage.proofs.Fronts.{within_room, refusal_behind, held_behind, trimmed_tidy}
-use Rattle.hum_stage.proofs.Fronts.{trimmed_split}
+use Rattle.hum_stage.specs.Lagging.{becomes, flat, listed, Stops, Lagged, LagsAt, lined_lagged}
+use Rattle.hum_stage.proofs.Fronts.{within_room, refusal_behind, held_rest, held_behind}
 
 -- a fault stands at the front of the rest
 faulted : (stage : ℕ) (command : Command) (line : ℕ) (rest : List Outcome) (k : Fault) → Stops rest
@@ -39,105 +38,101 @@ goes_on (o ∷ outs) rule tail [] h = absurd h
 goes_on (o ∷ outs) rule tail (n ∷ ns) h = let ih = goes_on outs rule tail ns h.1 in
     (ih.0, rw (h.0, ← ih.1) refl)
 
-abbrev pub dropped_lagged : Lagged → Lagged
-dropped_lagged x = record {
-  stage = x.stage;
-  command = x.command;
-  line = x.line + 1;
-  first =
-      x.first;
-  due = x.due;
-  fault = x.fault;
-}
+-- where there is a fault, none is due
+fault_empty : (due : Option Row) (fault : Option Fault) (k : Fault) → fault ≡ Some k
+    → ((row : Row) → due ≡ Some row → fault ≡ None) → due ≡ None
+fault_empty None fault k e sound = refl
+fault_empty (Some row) fault k e sound = absurd (none-some k (sym (sound row refl) ∙ e))
+
+-- the outcomes behind a fault
+record Broken (room : ℕ) (look : Look) (follows : List Row → List Row → Type 0) (x : Lagged)
+    (put : List Row) (given : ℕ) (h : LagsAt room look follows x put given) : Type 0 where
+  empty : x.due ≡ None
+  rule : Rule
+  tail : List Outcome
+  rest : h.rest ≡ Refused rule ∷ tail
+  outcomes : outcomes_from room look [] put ≡ map becomes h.gone ++ Refused rule ∷ tail
+
+broken : (room : ℕ) (look : Look) (follows : List Row → List Row → Type 0) (x : Lagged)
+    (put : List Row) (given : ℕ) (k : Fault) → (h : LagsAt room look follows x put given)
+    → x.fault ≡ Some k → Broken room look follows x put given h
+broken room look follows x put given k h e =
+    let empty = fault_empty x.due x.fault k e h.sound in
+    let all : outcomes_from room look [] put ≡ map becomes h.gone ++ h.rest =
+    h.outcomes ∙ ap (λ (xs : List (Option Row)). map becomes xs ++ h.rest)
+    (ap (λ (o : Option Row). h.gone ++ listed o) empty ∙ append-nil h.gone) in
+    let at_rest : fault_at x.stage x.command (refusal (1 + length h.gone) h.rest) ≡ Some k =
+    ap (λ (r : Option (ℕ × Rule)). fault_at x.stage x.command r)
+    (sym (refusal_behind 1 h.gone h.rest) ∙ ap (refusal 1) (sym all))
+    ∙ (sym (h.fault empty) ∙ e) in
+    let f = faulted x.stage x.command (1 + length h.gone) h.rest k (h.stopped empty) at_rest in
+    record {
+      empty = empty;
+      rule = f.0;
+      tail = f.1;
+      rest = f.2;
+      outcomes = all ∙ ap (λ (os : List Outcome). map becomes h.gone ++ os) f.2;
+    }
 
 -- A record that comes after the fault.
 pub put_dropped : (room : ℕ) (look : Look) (follows follows' : List Row → List Row
     → Type 0) (x : Lagged) (put : List Row) (next : Row) (given : ℕ) (k : Fault) → IsSteady look
     → IsOpen (next ∷ passed [] put) → LagsAt room look follows x put given → x.fault ≡ Some k
-    → LagsAt room look follows' (dropped_lagged x) (put ++ next ∷ []) given
-put_dropped room look follows follows' x put next given k steady score h broken =
-    let at_rest = ap (λ (r : Option (ℕ × Rule)). fault_at x.stage x.command r)
-    (sym (refusal_behind 1 (h.gone ++ x.due) h.rest) ∙ ap (refusal 1) (sym h.outcomes))
-    ∙ (sym h.fault ∙ broken) in
-    let f = faulted x.stage x.command (1 + length (h.gone ++ x.due)) h.rest k h.stopped at_rest in
-    let old : outcomes_from room look [] put ≡ map becomes (h.gone ++ x.due) ++ Refused f.0 ∷ f.1 =
-    h.outcomes ∙ ap (λ (os : List Outcome). map becomes (h.gone ++ x.due) ++ os) f.2 in
-    let goes = rw old at (looks_grow room look [] put next steady score) in
-    let new = goes_on (h.gone ++ x.due) f.0 f.1 (outcomes_from room look [] (put ++ next ∷ [])) goes
-    in
+    → LagsAt room look follows' (lined_lagged x) (put ++ next ∷ []) given
+put_dropped room look follows follows' x put next given k steady score h e =
+    let b = broken room look follows x put given k h e in
+    let goes = rw b.outcomes at (looks_grow room look [] put next steady score) in
+    let new = goes_on h.gone b.rule b.tail (outcomes_from room look [] (put ++ next ∷ [])) goes in
     let line = h.line in
-    let same : refusal 1 (outcomes_from room look [] (put ++ next ∷ [])) ≡ refusal 1
-    (outcomes_from room look [] put) =
-    ap (refusal 1) new.1 ∙ (refusal_behind 1 (h.gone ++ x.due) (Refused f.0 ∷ new.0)
-    ∙ (sym (refusal_behind 1 (h.gone ++ x.due) (Refused f.0 ∷ f.1))
-    ∙ sym (ap (refusal 1) old))) in
+    let same : refusal 1 (outcomes_from room look [] (put ++ next ∷ []))
+    ≡ refusal 1 (outcomes_from room look [] put) =
+    ap (refusal 1) new.1 ∙ (refusal_behind 1 h.gone (Refused b.rule ∷ new.0)
+    ∙ (sym (refusal_behind 1 h.gone (Refused b.rule ∷ b.tail)) ∙ sym (ap (refusal 1) b.outcomes))) in
     record {
       line = rw length_push (omega (arith, line));
       gone = h.gone;
-      rest = Refused f.0 ∷ new.0;
-      outcomes = new.1;
+      rest = Refused b.rule ∷ new.0;
+      outcomes = new.1 ∙ ap (λ (xs : List (Option Row)). map becomes xs ++ Refused b.rule ∷ new.0)
+          (sym (ap (λ (o : Option Row). h.gone ++ listed o) b.empty ∙ append-nil h.gone));
       counted = h.counted;
-      tidy = h.tidy;
-      stopped = tt;
-      fault = h.fault ∙ ap (λ (r : Option (ℕ × Rule)). fault_at x.stage x.command r) (sym same);
-      ahead = λ e. absurd (none-some k (sym e ∙ broken));
+      stopped = λ _. tt;
+      fault = λ d. h.fault d
+          ∙ ap (λ (r : Option (ℕ × Rule)). fault_at x.stage x.command r) (sym same);
+      sound = h.sound;
+      ahead = λ n. absurd (none-some k (sym n ∙ e));
     }
 
 there : (xs ys : List Row) (q : Row) → slice_get (xs ++ q ∷ ys) (length xs) ≡ Some q
 there [] ys q = refl
 there (x ∷ xs) ys q = there xs ys q
 
-abbrev pub taken_lagged : Lagged → List (Option Row) → Lagged
-taken_lagged x due = record {
-  stage = x.stage;
-  command = x.command;
-  line = x.line;
-  first =
-      x.first;
-  due = due;
-  fault = x.fault;
-}
-
--- One record is taken.
-pub at_taken : (room : ℕ) (look : Look) (follows : List Row → List Row
-    → Type 0) (x : Lagged) (put : List Row) (given : ℕ) (q : Row) (due : List (Option Row))
-    → (h : LagsAt room look follows x put given) → x.due ≡ Some q ∷ due
-    → (Some q ≡ slice_get (settled (outcomes_from room look [] put)) given) × LagsAt room look
-    follows (taken_lagged x (trimmed due)) put (given + 1)
-at_taken room look follows x put given q due h e =
-    let n = trimmed_split due in
-    let same : (h.gone ++ Some q ∷ n.0) ++ trimmed due ≡ h.gone ++ x.due = append_assoc h.gone
-    (Some q ∷ n.0) (trimmed due) ∙ ap (λ (xs : List (Option Row)). h.gone ++ xs)
-    (ap (λ (xs : List (Option Row)). Some q ∷ xs) (sym n.1) ∙ sym e) in
-    let all : settled (outcomes_from room look [] put) ≡ flat h.gone ++ q ∷ flat due =
+-- The record that is due is the next that is settled.
+pub due_next : (room : ℕ) (look : Look) (follows : List Row → List Row → Type 0) (x : Lagged)
+    (put : List Row) (given : ℕ) (q : Row) → (h : LagsAt room look follows x put given)
+    → x.due ≡ Some q → Some q ≡ slice_get (settled (outcomes_from room look [] put)) given
+due_next room look follows x put given q h e =
+    let all : settled (outcomes_from room look [] put) ≡ flat h.gone ++ q ∷ settled h.rest =
     settled_at room look follows x put given h
-    ∙ ap (λ (xs : List (Option Row)). flat h.gone ++ flat xs) e in
-    let count = h.counted in
-    let sum = length-append (flat h.gone) (q ∷ []) in (
-      rw (all, count) (sym (there (flat h.gone) (flat due) q)),
-      record {
-        line = h.line;
-        gone = h.gone ++ Some q ∷ n.0;
-        rest = h.rest;
-        outcomes = h.outcomes ∙ ap (λ (xs : List (Option Row)). map becomes xs ++ h.rest)
-            (sym same);
-        counted = rw (flat-append h.gone (Some q ∷ n.0), n.2) (omega (arith, count, sum));
-        tidy = trimmed_tidy due;
-        stopped = h.stopped;
-        fault = h.fault;
-        ahead = λ ok. let a = h.ahead ok in record {
-          front = a.front;
-          waits = a.waits;
-          split = a.split;
-          counted = a.counted ∙ ap length (sym same);
-          at_line = a.at_line ∙ ap (λ (xs : List (Option Row)). length xs + 1) (sym same);
-          memory = a.memory;
-          few = a.few;
-          stops = a.stops;
-          outcomes = a.outcomes;
-        };
-      },
-    )
+    ∙ ap (λ (o : Option Row). flat h.gone ++ (flat (listed o) ++ settled h.rest)) e in
+    rw (all, h.counted) (sym (there (flat h.gone) (settled h.rest) q))
+
+settled_rest : (rest : List Outcome) → Stops rest → settled rest ≡ []
+settled_rest [] h = refl
+settled_rest (Becomes rows ∷ os) h = absurd h
+settled_rest (Refused rule ∷ os) h = refl
+settled_rest (Undecided ∷ os) h = refl
+
+-- Where none is due, all that is settled was given.
+pub none_next : (room : ℕ) (look : Look) (follows : List Row → List Row → Type 0) (x : Lagged)
+    (put : List Row) (given : ℕ) → (h : LagsAt room look follows x put given)
+    → x.due ≡ None → length (settled (outcomes_from room look [] put)) ≡ given
+none_next room look follows x put given h e =
+    let all : settled (outcomes_from room look [] put) ≡ flat h.gone =
+    settled_at room look follows x put given h
+    ∙ (ap (λ (o : Option Row). flat h.gone ++ (flat (listed o) ++ settled h.rest)) e
+    ∙ (ap (λ (xs : List Row). flat h.gone ++ xs) (settled_rest h.rest (h.stopped e))
+    ∙ append-nil (flat h.gone))) in
+    ap length all ∙ sym h.counted
 
 -- how many wait before a refused one
 lasting_is : (room : ℕ) (look : Look) (past rows : List Row) → length rows ≤ room
@@ -163,36 +158,59 @@ ended_none (Becomes rows ∷ os) h = absurd h
 ended_none (Refused rule ∷ os) h = refl
 ended_none (Undecided ∷ os) h = refl
 
+-- how many are held of those that are due
+abbrev pub count_due : Option Row → ℕ
+count_due None = 0
+count_due (Some row) = 1
+
 -- What is held: what is due, and those that wait, up to one that will be refused; none of these
 -- after an end.
 pub held_ended : (room : ℕ) (look : Look) (follows : List Row → List Row
     → Type 0) (x : Lagged) (put : List Row) (given : ℕ) → LagsAt room look follows x put given
-    → held_of given true (outcomes_from room look [] put) ≡ length x.due
-held_ended room look follows x put given h = rw (h.outcomes, h.counted)
-    (held_behind true h.gone x.due h.rest h.stopped h.tidy ∙ (let k = ended_none h.rest h.stopped in
-    omega (arith, k)))
+    → x.due ≡ None → held_of given true (outcomes_from room look [] put) ≡ 0
+held_ended room look follows x put given h e =
+    let all : outcomes_from room look [] put ≡ map becomes h.gone ++ h.rest =
+    h.outcomes ∙ ap (λ (xs : List (Option Row)). map becomes xs ++ h.rest)
+    (ap (λ (o : Option Row). h.gone ++ listed o) e ∙ append-nil h.gone) in
+    rw (all, h.counted) (held_behind true h.gone h.rest 0
+    (held_rest 0 true h.rest (h.stopped e) ∙ ended_none h.rest (h.stopped e)))
 
 pub held_waiting : (room : ℕ) (look : Look) (follows : List Row → List Row
     → Type 0) (x : Lagged) (put : List Row) (given : ℕ) → (h : LagsAt room look follows x put given)
     → (ok : x.fault ≡ None)
-    → held_of given false (outcomes_from room look [] put) ≡ length x.due + lasting look
+    → held_of given false (outcomes_from room look [] put) ≡ count_due x.due + lasting look
     (passed [] (h.ahead ok).front) (h.ahead ok).waits
 held_waiting room look follows x put given h ok =
     let a = h.ahead ok in
     let k : waiting false h.rest ≡ lasting look (passed [] a.front) a.waits =
     ap (waiting false) a.outcomes ∙ lasting_is room look (passed [] a.front) a.waits a.few in
-    rw (h.outcomes, h.counted) (held_behind false h.gone x.due h.rest h.stopped h.tidy
-    ∙ ap (λ (n : ℕ). length x.due + n) k)
+    rw (← k, h.counted) (by_due x.due h.outcomes h.stopped)
+  where
+    by_due : (due : Option Row)
+        → outcomes_from room look [] put ≡ map becomes (h.gone ++ listed due) ++ h.rest
+        → (due ≡ None → Stops h.rest)
+        → held_of (length (flat h.gone)) false (outcomes_from room look [] put)
+        ≡ count_due due + waiting false h.rest
+    by_due None os stops =
+        let all : outcomes_from room look [] put ≡ map becomes h.gone ++ h.rest =
+        os ∙ ap (λ (xs : List (Option Row)). map becomes xs ++ h.rest) (append-nil h.gone) in
+        rw all (held_behind false h.gone h.rest (0 + waiting false h.rest)
+        (held_rest 0 false h.rest (stops refl) ∙ omega arith))
+    by_due (Some row) os stops =
+        let all : outcomes_from room look [] put
+        ≡ map becomes h.gone ++ Becomes (row ∷ []) ∷ h.rest =
+        os ∙ rw (map-append becomes h.gone (Some row ∷ []))
+        (append_assoc (map becomes h.gone) (Becomes (row ∷ []) ∷ []) h.rest) in
+        rw all (held_behind false h.gone (Becomes (row ∷ []) ∷ h.rest) (1 + waiting false h.rest)
+        (omega arith))
 
 pub held_faulted : (room : ℕ) (look : Look) (follows : List Row → List Row
     → Type 0) (x : Lagged) (put : List Row) (given : ℕ) (k : Fault)
     → (h : LagsAt room look follows x put given) → x.fault ≡ Some k
-    → held_of given false (outcomes_from room look [] put) ≡ length x.due
-held_faulted room look follows x put given k h broken =
-    let at_rest = ap (λ (r : Option (ℕ × Rule)). fault_at x.stage x.command r)
-    (sym (refusal_behind 1 (h.gone ++ x.due) h.rest) ∙ ap (refusal 1) (sym h.outcomes))
-    ∙ (sym h.fault ∙ broken) in
-    let f = faulted x.stage x.command (1 + length (h.gone ++ x.due)) h.rest k h.stopped at_rest in
-    let none : waiting false h.rest ≡ 0 = ap (waiting false) f.2 in
-    rw (h.outcomes, h.counted) (held_behind false h.gone x.due h.rest h.stopped h.tidy
-    ∙ omega (arith, none))
+    → held_of given false (outcomes_from room look [] put) ≡ 0
+held_faulted room look follows x put given k h e =
+    let b = broken room look follows x put given k h e in
+    let at : given ≡ length (flat h.gone) = h.counted in
+    ap (λ (os : List Outcome). held_of given false os) b.outcomes
+    ∙ (ap (λ (g : ℕ). held_of g false (map becomes h.gone ++ Refused b.rule ∷ b.tail)) at
+    ∙ held_behind false h.gone (Refused b.rule ∷ b.tail) 0 refl)

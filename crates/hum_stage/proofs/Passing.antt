@@ -1,112 +1,201 @@
 -- Letting records go, one by one.
-use Rattle.std.proofs.Common.{◌≡◌, ◌∙◌, refl, sym, ap, ℕ, ◌<◌, List, [], ◌∷◌, ◌++◌}
-use Rattle.std.proofs.lemmas.List.{map-append, length-map}
-use Rattle.std.proofs.Common.{length, append_assoc, append-nil, arith, Option, Some, None}
-use Rattle.std.specs.Prelude.{Ok, Bool, true, false, ◌==◌}
+use Rattle.std.proofs.Common.{◌≡◌, ◌∙◌, refl, sym, ap, ℕ, ◌+◌, ◌<◌, ◌≤◌, List, [], ◌∷◌, ◌++◌}
+use Rattle.std.proofs.Common.{length, length-append, append_assoc, arith, Some, None}
+use Rattle.std.proofs.lemmas.List.{map-append}
+use Rattle.std.specs.Prelude.{nat_le, Ok, Err, Bool, true, false, ◌==◌}
 use Rattle.std.proofs.Common.{inl, inr}
 use Rattle.std.proofs.lemmas.Bool.{cases_Bool}
 use Rattle.std.proofs.lemmas.Bool.Decides.{nat_tests}
-use Rattle.std.specs.Option.{option_map, option_to_list}
 use Rattle.hum_record.specs.Row.{Row}
 use Rattle.hum_path.specs.Score.{passed}
 use Rattle.hum_stage.specs.Order.{passed-push}
-use Rattle.hum_stage.specs.declared.looks_ahead.Verdict.TheVariants.{Waits, Gives}
-use Rattle.hum_stage.specs.Look.{Look}
-use Rattle.hum_stage.specs.Dues.{due_rows}
-use Rattle.hum_stage.specs.Settles.{Settles, AllGiven, SettlesAll, Passing}
+use Rattle.hum_stage.specs.declared.faults.Rule.{Rule}
+use Rattle.hum_stage.specs.declared.faults.Rule.TheVariants.{H1}
+use Rattle.hum_stage.specs.declared.looks_ahead.Verdict.TheVariants.{Waits, Gives, Refuses}
+use Rattle.hum_stage.specs.Outcome.{Becomes}
+use Rattle.hum_stage.specs.Look.{Look, outcome_at, outcomes_from}
+use Rattle.hum_stage.specs.Settles.{Settles, Drops, NextIs, nothing}
+use Rattle.hum_stage.proofs.Fronts.{within_room}
 
-given_push : (look : Look) (past front rest : List Row) (row : Row) (outs : List (Option Row))
-    (o : Option Row) → AllGiven look past front (row ∷ rest) outs
-    → look (passed past front) row rest ≡ Some (Ok (option_to_list o))
-    → AllGiven look past (front ++ row ∷ []) rest (outs ++ o ∷ [])
-given_push look past [] rest row [] o h e = (e, tt)
-given_push look past [] rest row (x ∷ outs) o h e = absurd h
-given_push look past (r ∷ front) rest row [] o h e = absurd h
-given_push look past (r ∷ front) rest row (x ∷ outs) o h e = (
-  rw (append_assoc front (row ∷ []) rest) h.0,
-  given_push look (r ∷ past) front rest row outs o
-      h.1 e,
-)
+pub drops_none : (room : ℕ) (look : Look) (past rows : List Row)
+    (follows : List Row → List Row → Type 0) → follows past rows → Drops room look past rows follows
+drops_none room look past rows follows h =
+    record { dropped = []; rest = rows; split = refl; outcomes = refl; behind = h }
 
--- the first that waits is given
-pub passing_given : {D : Type 0} (row_of : D → Row) (look : Look) (past rows : List Row)
-    (follows follows' : List Row → List Row → Type 0) (before after after' : List (Option Row))
-    (held : Option D) → (h : Passing look past rows follows before after) → 0 < length h.rest
-    → ((past : List Row) (row : Row) (rows : List Row) → follows past (row ∷ rows)
-    → Settles row_of look past row rows follows' (Gives held))
-    → after' ≡ after ++ option_map row_of held ∷ []
-    → Passing look past rows follows' before after'
-passing_given row_of look past rows follows follows' before after after' held h some verdict pushed =
-    on h.rest h.split h.given h.memory some
-  where
-    on : (rest : List Row) → rows ≡ h.front ++ rest → AllGiven look past h.front rest h.outs
-        → follows (passed past h.front) rest → 0 < length rest
-        → Passing look past rows follows' before after'
-    on [] split given memory some = absurd (omega (arith, some))
-    on (row ∷ rest) split given memory some =
-        let v = verdict (passed past h.front) row rest memory in
-        record {
-          front = h.front ++ row ∷ [];
-          rest = rest;
-          outs = h.outs ++ option_map row_of held ∷ [];
-          split = rw (append_assoc h.front (row ∷ []) rest) split;
-          given = given_push look past h.front rest row h.outs (option_map row_of held) given v.0;
-          due = pushed ∙ (ap (λ (xs : List (Option Row)). xs ++ option_map row_of held ∷ []) h.due
-              ∙ append_assoc before h.outs (option_map row_of held ∷ []));
-          memory = rw (passed-push past h.front row) v.1;
-        }
+-- how many are left
+rest_few : (n : ℕ) (rows dropped rest : List Row) → rows ≡ dropped ++ rest → length rows ≤ n
+    → length rest ≤ n
+rest_few n rows dropped rest split few =
+    let cut = ap length split in
+    let sum = length-append dropped rest in
+    omega (arith, cut, sum, few)
 
-pub passing_waits : {D : Type 0} (row_of : D → Row) (look : Look) (past rows : List Row) (follows follows' : List Row → List Row
-    → Type 0) (before after : List (Option Row)) → (h : Passing look past rows follows before after)
-    → 0 < length h.rest
-    → ((past : List Row) (row : Row) (rows : List Row) → follows past (row ∷ rows)
-    → Settles row_of look past row rows follows' Waits)
-    → SettlesAll look past rows follows' before after None
-passing_waits row_of look past rows follows follows' before after h some verdict =
-    on h.rest h.split h.given h.memory some
-  where
-    on : (rest : List Row) → rows ≡ h.front ++ rest → AllGiven look past h.front rest h.outs
-        → follows (passed past h.front) rest → 0 < length rest
-        → SettlesAll look past rows follows' before after None
-    on [] split given memory some = absurd (omega (arith, some))
-    on (row ∷ rest) split given memory some =
-        let v = verdict (passed past h.front) row rest memory in
-        record {
-          front = h.front;
-          rest = row ∷ rest;
-          outs = h.outs;
-          split = split;
-          given =
-              given;
-          due = h.due;
-          stops = v.0;
-          memory = v.1;
-        }
-
-pub passing_none : (look : Look) (past rows : List Row) (follows : List Row → List Row
-    → Type 0) (before after : List (Option Row)) → after ≡ before → follows past rows
-    → Passing look past rows follows before after
-passing_none look past rows follows before after e h = record {
-  front = [];
-  rest = rows;
-  outs =
-      [];
-  split = refl;
-  given = tt;
-  due = e ∙ sym (append-nil before);
-  memory = h;
+-- the first that waits, by what is said of it
+pub drops_next : (room : ℕ) (look : Look) (past rows : List Row)
+    (follows then : List Row → List Row → Type 0) → (h : Drops room look past rows follows)
+    → ((past rest : List Row) → follows past rest → length rest ≤ length h.rest → then past rest)
+    → Drops room look past rows then
+drops_next room look past rows follows then h on = record {
+  dropped = h.dropped;
+  rest = h.rest;
+  split = h.split;
+  outcomes = h.outcomes;
+  behind = on (passed past h.dropped) h.rest h.behind (omega arith);
 }
 
--- one more is held of
-pub due_pushed : {D : Type 0} (row_of : D → Row) (held new : List (Option D)) (o : Option D)
-    → new ≡ held ++ o ∷ [] → due_rows row_of new ≡ due_rows row_of held ++ option_map row_of o ∷ []
-due_pushed row_of held new o e =
-    ap (due_rows row_of) e ∙ map-append (option_map row_of) held (o ∷ [])
+-- what a verdict says of the first that waits, with no more behind it than there is room for
+waits_next : {D : Type 0} (row_of : D → Row) (room : ℕ) (look : Look)
+    (follows follows' : List Row → List Row → Type 0) (n : ℕ)
+    → ((past : List Row) (row : Row) (rows : List Row) → follows past (row ∷ rows)
+    → Settles row_of look past row rows follows' Waits)
+    → (past rest : List Row) → follows past rest → 0 < length rest → length rest ≤ room
+    → NextIs room look past rest follows' n (Ok None)
+waits_next row_of room look follows follows' n verdict past [] h some few = absurd (omega (arith, some))
+waits_next row_of room look follows follows' n verdict past (row ∷ rows) h some few =
+    let v = verdict past row rows h in
+    let k : nat_le room (length rows) ≡ false = grind (arith, nat_tests, few) in
+    (rw (within_room room look past row rows (omega (arith, few)), v.0, k) refl, v.1)
 
--- as many are due as are held of
-pub due_count : {D : Type 0} (row_of : D → Row) (held : List (Option D)) (n : ℕ) → n ≡ length held
-    → n ≡ length (due_rows row_of held)
-due_count row_of held n e = e ∙ sym (length-map held (option_map row_of))
+full_next : {D : Type 0} (row_of : D → Row) (room : ℕ) (look : Look)
+    (follows follows' follows'' : List Row → List Row → Type 0) (n : ℕ)
+    → ((past : List Row) (row : Row) (rows : List Row) → follows past (row ∷ rows)
+    → Settles row_of look past row rows follows' Waits)
+    → (past rest : List Row) → follows past rest → length rest ≡ room + 1 → n ≡ length rest
+    → NextIs room look past rest follows'' n (Err H1)
+full_next row_of room look follows follows' follows'' n verdict past [] h full count =
+    absurd (omega (arith, full))
+full_next row_of room look follows follows' follows'' n verdict past (row ∷ rows) h full count =
+    let v = verdict past row rows h in
+    let k : nat_le room (length rows) ≡ true = grind (arith, nat_tests, full) in
+    (rw (within_room room look past row rows (omega (arith, full)), v.0, k) refl, omega (arith, count))
+
+gives_next : {D : Type 0} (row_of : D → Row) (room : ℕ) (look : Look)
+    (follows follows' : List Row → List Row → Type 0) (n : ℕ) (due : D)
+    → ((past : List Row) (row : Row) (rows : List Row) → follows past (row ∷ rows)
+    → Settles row_of look past row rows follows' (Gives (Some due)))
+    → (past rest : List Row) → follows past rest → 0 < length rest → length rest ≤ room + 1
+    → NextIs room look past rest follows' n (Ok (Some (row_of due)))
+gives_next row_of room look follows follows' n due verdict past [] h some few =
+    absurd (omega (arith, some))
+gives_next row_of room look follows follows' n due verdict past (row ∷ rows) h some few =
+    let v = verdict past row rows h in
+    (rw (within_room room look past row rows (omega (arith, few)), v.0) refl, v.1)
+
+refused_next : {D : Type 0} (row_of : D → Row) (room : ℕ) (look : Look)
+    (follows follows' follows'' : List Row → List Row → Type 0) (n : ℕ) (rule : Rule)
+    → ((past : List Row) (row : Row) (rows : List Row) → follows past (row ∷ rows)
+    → Settles row_of look past row rows follows' (Refuses rule))
+    → (past rest : List Row) → follows past rest → 0 < length rest → length rest ≤ room + 1
+    → n ≡ length rest → NextIs room look past rest follows'' n (Err rule)
+refused_next row_of room look follows follows' follows'' n rule verdict past [] h some few count =
+    absurd (omega (arith, some))
+refused_next row_of room look follows follows' follows'' n rule verdict past (row ∷ rows) h some few
+    count =
+    let v = verdict past row rows h in
+    (rw (within_room room look past row rows (omega (arith, few)), v) refl, omega (arith, count))
+
+-- one more is dropped
+pub drops_more : {D : Type 0} (row_of : D → Row) (room : ℕ) (look : Look) (past rows : List Row)
+    (follows follows' : List Row → List Row → Type 0) → Drops room look past rows follows
+    → length rows ≤ room + 1
+    → ((past rest : List Row) → follows past rest → 0 < length rest)
+    → ((past : List Row) (row : Row) (rows : List Row) → follows past (row ∷ rows)
+    → Settles row_of look past row rows follows' (Gives None))
+    → Drops room look past rows follows'
+drops_more row_of room look past rows follows follows' h few some verdict =
+    on h.dropped h.rest h.split h.outcomes h.behind
+  where
+    on : (dropped rest : List Row) → rows ≡ dropped ++ rest
+        → outcomes_from room look past rows
+        ≡ nothing dropped ++ outcomes_from room look (passed past dropped) rest
+        → follows (passed past dropped) rest → Drops room look past rows follows'
+    on dropped [] split outcomes behind =
+        let k = some (passed past dropped) [] behind in absurd (omega (arith, k))
+    on dropped (row ∷ rest) split outcomes behind =
+        let v = verdict (passed past dropped) row rest behind in
+        let l = rest_few (room + 1) rows dropped (row ∷ rest) split few in
+        let o : outcome_at room look (passed past dropped) row rest ≡ Becomes [] =
+        rw (within_room room look (passed past dropped) row rest (omega (arith, l)), v.0) refl in
+        record {
+          dropped = dropped ++ row ∷ [];
+          rest = rest;
+          split = rw (append_assoc dropped (row ∷ []) rest) split;
+          outcomes = outcomes ∙ rw (
+            o,
+            passed-push past dropped row,
+            map-append (λ (r : Row). Becomes []) dropped (row ∷ []),
+          ) (sym (append_assoc (nothing dropped) (Becomes [] ∷ []) (outcomes_from room look
+              (row ∷ passed past dropped) rest)));
+          behind = rw (passed-push past dropped row) v.1;
+        }
+
+-- The same of the loop: where something waits, and as many as are counted.
+
+pub drops_waits : {D : Type 0} (row_of : D → Row) (room : ℕ) (look : Look) (past rows : List Row)
+    (follows follows' : List Row → List Row → Type 0) (n : ℕ)
+    → Drops room look past rows follows
+    → ((past rest : List Row) → follows past rest → n ≡ length rest) → 0 < n → n ≤ room
+    → ((past : List Row) (row : Row) (rows : List Row) → follows past (row ∷ rows)
+    → Settles row_of look past row rows follows' Waits)
+    → Drops room look past rows (λ past rest. NextIs room look past rest follows' n (Ok None))
+drops_waits row_of room look past rows follows follows' n h each some few verdict =
+    drops_next room look past rows follows _ h
+    (λ past rest k l. let c = each past rest k in
+    waits_next row_of room look follows follows' n verdict past rest k (omega (arith, c, some))
+    (omega (arith, c, few)))
+
+pub drops_full : {D : Type 0} (row_of : D → Row) (room : ℕ) (look : Look) (past rows : List Row)
+    (follows follows' follows'' : List Row → List Row → Type 0) (n : ℕ)
+    → (h : Drops room look past rows follows) → length rows ≤ room + 1
+    → ((past rest : List Row) → follows past rest → n ≡ length rest) → room < n
+    → ((past : List Row) (row : Row) (rows : List Row) → follows past (row ∷ rows)
+    → Settles row_of look past row rows follows' Waits)
+    → Drops room look past rows (λ past rest. NextIs room look past rest follows'' n (Err H1))
+drops_full row_of room look past rows follows follows' follows'' n h few each many verdict =
+    let most = rest_few (room + 1) rows h.dropped h.rest h.split few in
+    drops_next room look past rows follows _ h
+    (λ past rest k l. let c = each past rest k in
+    full_next row_of room look follows follows' follows'' n verdict past rest k
+    (omega (arith, c, many, l, most)) c)
+
+pub drops_gives : {D : Type 0} (row_of : D → Row) (room : ℕ) (look : Look) (past rows : List Row)
+    (follows follows' : List Row → List Row → Type 0) (n : ℕ) (due : D)
+    → (h : Drops room look past rows follows) → length rows ≤ room + 1
+    → ((past rest : List Row) → follows past rest → 0 < length rest)
+    → ((past : List Row) (row : Row) (rows : List Row) → follows past (row ∷ rows)
+    → Settles row_of look past row rows follows' (Gives (Some due)))
+    → Drops room look past rows (λ past rest. NextIs room look past rest follows' n (Ok (Some (row_of due))))
+drops_gives row_of room look past rows follows follows' n due h few some verdict =
+    let most = rest_few (room + 1) rows h.dropped h.rest h.split few in
+    drops_next room look past rows follows _ h
+    (λ past rest k l. gives_next row_of room look follows follows' n due verdict past rest k
+    (some past rest k) (omega (arith, l, most)))
+
+pub drops_refuses : {D : Type 0} (row_of : D → Row) (room : ℕ) (look : Look) (past rows : List Row)
+    (follows follows' follows'' : List Row → List Row → Type 0) (n : ℕ) (rule : Rule)
+    → (h : Drops room look past rows follows) → length rows ≤ room + 1
+    → ((past rest : List Row) → follows past rest → n ≡ length rest) → 0 < n
+    → ((past : List Row) (row : Row) (rows : List Row) → follows past (row ∷ rows)
+    → Settles row_of look past row rows follows' (Refuses rule))
+    → Drops room look past rows (λ past rest. NextIs room look past rest follows'' n (Err rule))
+drops_refuses row_of room look past rows follows follows' follows'' n rule h few each some verdict =
+    let most = rest_few (room + 1) rows h.dropped h.rest h.split few in
+    drops_next room look past rows follows _ h
+    (λ past rest k l. let c = each past rest k in
+    refused_next row_of room look follows follows' follows'' n rule verdict past rest k
+    (omega (arith, c, some)) (omega (arith, l, most)) c)
+
+-- where none waits
+pub drops_empty : (room : ℕ) (look : Look) (past rows : List Row)
+    (follows : List Row → List Row → Type 0) (n m : ℕ) → Drops room look past rows follows
+    → ((past rest : List Row) → follows past rest → m ≡ length rest) → m ≡ 0
+    → Drops room look past rows (λ past rest. NextIs room look past rest follows n (Ok None))
+drops_empty room look past rows follows n m h each none =
+    drops_next room look past rows follows _ h (λ past rest k l. on past rest k)
+  where
+    on : (past rest : List Row) → follows past rest → NextIs room look past rest follows n (Ok None)
+    on past [] k = k
+    on past (row ∷ rest) k = let c = each past (row ∷ rest) k in absurd (omega (arith, c, none))
 
 -- what waits is there
 pub filled : (size count rest : ℕ) (b : Bool) → size ≡ count → count ≡ rest → b ≡ (size == 0)

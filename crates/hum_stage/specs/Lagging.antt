@@ -1,5 +1,5 @@
 -- What the fields of a stage whose records wait stand for.
-use Rattle.std.specs.Prelude.{◌≡◌, ℕ, ◌+◌, ◌≤◌, Bool, false}
+use Rattle.std.specs.Prelude.{◌≡◌, ℕ, ◌+◌, ◌-◌, ◌≤◌, Bool, false}
 use Rattle.std.specs.Prelude.{List, [], ◌∷◌, ◌++◌, map, length}
 use Rattle.std.specs.Prelude.{Option, Some, None}
 use Rattle.std.specs.Option.{option_to_list}
@@ -7,11 +7,11 @@ use Rattle.hum_record.specs.Row.{Row}
 use Rattle.hum_path.specs.Score.{passed}
 use Rattle.hum_stage.specs.declared.faults.Command.{Command}
 use Rattle.hum_stage.specs.declared.faults.Fault.{Fault}
+use Rattle.hum_stage.specs.declared.faults.Rule.{Rule}
 use Rattle.hum_stage.specs.declared.faults.End.{End}
 use Rattle.hum_stage.specs.Outcome.{Outcome, Becomes, Refused, Undecided, refusal}
 use Rattle.hum_stage.specs.Meaning.{Moment, fault_at}
 use Rattle.hum_stage.specs.Look.{Look, outcomes_from, looking, IsSteady}
-use Rattle.hum_stage.specs.Settles.{StopsAt}
 
 -- a record that is given, or dropped
 abbrev pub becomes : Option Row → Outcome
@@ -21,16 +21,10 @@ abbrev pub flat : List (Option Row) → List Row
 flat [] = []
 flat (o ∷ outs) = option_to_list o ++ flat outs
 
--- without what is dropped at the front
-abbrev pub trimmed : List (Option Row) → List (Option Row)
-trimmed [] = []
-trimmed (None ∷ outs) = trimmed outs
-trimmed (Some row ∷ outs) = Some row ∷ outs
-
-abbrev pub IsTrimmed : List (Option Row) → Type 0
-IsTrimmed [] = Unit {0}
-IsTrimmed (None ∷ outs) = ⊥
-IsTrimmed (Some row ∷ outs) = Unit {0}
+-- a record that is due is one that was decided
+abbrev pub listed : Option Row → List (Option Row)
+listed None = []
+listed (Some row) = Some row ∷ []
 
 -- none is left, or the first is undecided or refused
 abbrev pub Stops : List Outcome → Type 0
@@ -43,35 +37,34 @@ pub record Lagged : Type 0 where
   pub stage : ℕ
   pub command : Command
   pub line : ℕ
-  -- the line of the first record that isn't decided
-  pub first : ℕ
-  pub due : List (Option Row)
+  -- the next that is given
+  pub due : Option Row
   pub fault : Option Fault
 
--- The records that were decided, and those that wait.
+-- The records that became something or nothing, of which there are so many, and those that wait.
 pub record Ahead (room : ℕ) (look : Look) (follows : List Row → List Row
-    → Type 0) (put : List Row) (first count : ℕ) (rest : List Outcome) : Type 0 where
+    → Type 0) (put : List Row) (count : ℕ) (rest : List Outcome) : Type 0 where
   pub front : List Row
   pub waits : List Row
   pub split : put ≡ front ++ waits
   pub counted : length front ≡ count
-  pub at_line : first ≡ count + 1
   pub memory : follows (passed [] front) waits
   pub few : length waits ≤ room
-  pub stops : StopsAt look (passed [] front) waits None
   pub outcomes : rest ≡ outcomes_from room look (passed [] front) waits
 
+-- Those behind the one that is due are looked at once it is taken. Where none is due, none is settled.
 pub record LagsAt (room : ℕ) (look : Look) (follows : List Row → List Row
     → Type 0) (x : Lagged) (put : List Row) (given : ℕ) : Type 0 where
   pub line : x.line ≡ length put
   pub gone : List (Option Row)
   pub rest : List Outcome
-  pub outcomes : outcomes_from room look [] put ≡ map becomes (gone ++ x.due) ++ rest
+  pub outcomes : outcomes_from room look [] put ≡ map becomes (gone ++ listed x.due) ++ rest
   pub counted : given ≡ length (flat gone)
-  pub tidy : IsTrimmed x.due
-  pub stopped : Stops rest
-  pub fault : x.fault ≡ fault_at x.stage x.command (refusal 1 (outcomes_from room look [] put))
-  pub ahead : x.fault ≡ None → Ahead room look follows put x.first (length (gone ++ x.due)) rest
+  pub stopped : x.due ≡ None → Stops rest
+  pub fault : x.due ≡ None
+      → x.fault ≡ fault_at x.stage x.command (refusal 1 (outcomes_from room look [] put))
+  pub sound : (row : Row) → x.due ≡ Some row → x.fault ≡ None
+  pub ahead : x.fault ≡ None → Ahead room look follows put (length (gone ++ listed x.due)) rest
 
 pub record Lags (room : ℕ) (follows : Look → List Row → List Row
     → Type 0) (x : Lagged) (ended : Option End) (spent : Bool) (t : Moment) : Type 0 where
@@ -80,4 +73,36 @@ pub record Lags (room : ℕ) (follows : Look → List Row → List Row
   pub meaning : t.meaning ≡ looking room x.stage x.command look
   pub alive : spent ≡ false
   pub ending : ended ≡ t.ended
+  -- an end comes where none is due
+  pub rests : (end : End) → ended ≡ Some end → x.due ≡ None
   pub at : LagsAt room look (follows look) x t.put t.given
+
+-- The record that is due is another, or none.
+abbrev pub due_lagged : Lagged → Option Row → Lagged
+due_lagged x due =
+    record { stage = x.stage; command = x.command; line = x.line; due = due; fault = x.fault }
+
+-- The first of n records that wait is refused: behind it stand those with the last n - 1 lines.
+abbrev pub refused_lagged : Lagged → ℕ → Rule → Lagged
+refused_lagged x n rule = record {
+  stage = x.stage;
+  command = x.command;
+  line = x.line;
+  due = x.due;
+  fault = Some (record {
+    stage = x.stage;
+    command = x.command;
+    line = x.line - (n - 1);
+    rule = rule;
+  });
+}
+
+-- a record more was put
+abbrev pub lined_lagged : Lagged → Lagged
+lined_lagged x = record {
+  stage = x.stage;
+  command = x.command;
+  line = x.line + 1;
+  due = x.due;
+  fault = x.fault;
+}

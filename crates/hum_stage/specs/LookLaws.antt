@@ -1,7 +1,7 @@
 -- What holds of all commands that look ahead.
 use Rattle.std.proofs.Common.{◌≡◌, ◌∙◌, refl, sym, ap, ℕ, suc, ◌+◌, ◌≤◌, Bool, true}
 use Rattle.std.proofs.Common.{false, List, [], ◌∷◌, ◌++◌, map, take, length, append_assoc}
-use Rattle.std.proofs.Common.{append-nil, length-append, arith, cond, inl, inr}
+use Rattle.std.proofs.Common.{length-append, arith, cond, inl, inr}
 use Rattle.std.specs.Prelude.{nat_le, Option, Some, None, Result, Ok, Err}
 use Rattle.std.proofs.lemmas.Bool.{cases_Bool}
 use Rattle.std.proofs.lemmas.Bool.Decides.{nat_tests}
@@ -13,7 +13,7 @@ use Rattle.hum_stage.specs.declared.faults.Rule.TheVariants.{H1}
 use Rattle.hum_stage.specs.Outcome.{Outcome, Becomes, Refused, Undecided, settled}
 use Rattle.hum_stage.specs.Meaning.{Goes, Moment, all_of}
 use Rattle.hum_stage.specs.declared.faults.End.{End}
-use Rattle.hum_stage.specs.Lagging.{becomes, flat, Stops, Lagged, LagsAt, Lags}
+use Rattle.hum_stage.specs.Lagging.{becomes, flat, listed, Stops, Lagged, LagsAt, Lags}
 use Rattle.std.specs.Option.{option_to_list}
 use Rattle.hum_stage.specs.Look.{Look, outcome_of, outcome_at, outcomes_from, IsSteady}
 
@@ -127,17 +127,17 @@ flat-append (Some x ∷ xs) ys = ap (λ (zs : List Row). x ∷ zs) (flat-append 
 -- all that is settled
 pub settled_at : (room : ℕ) (look : Look) (follows : List Row → List Row
     → Type 0) (x : Lagged) (put : List Row) (given : ℕ) → (h : LagsAt room look follows x put given)
-    → settled (outcomes_from room look [] put) ≡ flat h.gone ++ flat x.due
+    → settled (outcomes_from room look [] put) ≡ flat h.gone ++ (flat (listed x.due) ++ settled h.rest)
 settled_at room look follows x put given h = ap settled h.outcomes
-    ∙ (settled_behind (h.gone ++ x.due) h.rest
-    ∙ (ap (λ (xs : List Row). flat (h.gone ++ x.due) ++ xs) (settled_rest h.rest h.stopped)
-    ∙ (append-nil (flat (h.gone ++ x.due)) ∙ flat-append h.gone x.due)))
+    ∙ (settled_behind (h.gone ++ listed x.due) h.rest
+    ∙ (ap (λ (xs : List Row). xs ++ settled h.rest) (flat-append h.gone (listed x.due))
+    ∙ append_assoc (flat h.gone) (flat (listed x.due)) (settled h.rest)))
 
-pub lags_remains : (room : ℕ) (follows : Look → List Row → List Row
+pub lags_within : (room : ℕ) (follows : Look → List Row → List Row
     → Type 0) (x : Lagged) (ended : Option End) (spent : Bool) (t : Moment)
-    → Lags room follows x ended spent t → length (flat x.due) + t.given ≡ length (all_of t)
-lags_remains room follows x ended spent t h =
+    → Lags room follows x ended spent t → t.given ≤ length (all_of t)
+lags_within room follows x ended spent t h =
     let all = ap length (settled_at room h.look (follows h.look) x t.put t.given h.at) in
-    let sum = length-append (flat h.at.gone) (flat x.due) in
+    let sum = length-append (flat h.at.gone) (flat (listed x.due) ++ settled h.at.rest) in
     let count = h.at.counted in
     rw h.meaning (omega (arith, all, sum, count))

@@ -128,6 +128,11 @@ HasTaken before after taken =
     → (taken ≡ slice_get (all_of t) t.given)
     × MatchOption taken (after t) (λ _. after (after_take t))
 
+-- with a record that was taken, fewer are left
+abbrev pub LeavesFewer : Option Row → ℕ → ℕ → Type 0
+LeavesFewer None before after = Unit {0}
+LeavesFewer (Some row) before after = after < before
+
 abbrev pub ShowsState : (Moment → Type 0) → State → Type 0
 ShowsState stands state = (t : Moment) → stands t → state ≡ state_of t
 

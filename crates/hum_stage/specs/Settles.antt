@@ -1,5 +1,5 @@
 -- What becomes of records that wait.
-use Rattle.std.specs.Prelude.{◌≡◌, ℕ, ◌+◌, ◌<◌, ◌≤◌, List, [], ◌∷◌, ◌++◌, length}
+use Rattle.std.specs.Prelude.{◌≡◌, ℕ, ◌+◌, ◌<◌, ◌≤◌, List, [], ◌∷◌, ◌++◌, map, length}
 use Rattle.std.specs.Prelude.{Option, Some, None, Result, Ok, Err}
 use Rattle.std.specs.Option.{option_map, option_to_list}
 use Rattle.hum_record.specs.Row.{Row}
@@ -7,7 +7,8 @@ use Rattle.hum_path.specs.Score.{IsOpen, passed}
 use Rattle.hum_stage.specs.declared.faults.Rule.{Rule}
 use Rattle.hum_stage.specs.declared.looks_ahead.Verdict.{Verdict}
 use Rattle.hum_stage.specs.declared.looks_ahead.Verdict.TheVariants.{Waits, Gives, Refuses}
-use Rattle.hum_stage.specs.Look.{Look}
+use Rattle.hum_stage.specs.Outcome.{Outcome, Becomes, Refused, Undecided}
+use Rattle.hum_stage.specs.Look.{Look, outcome_at, outcomes_from}
 
 -- What a memory follows: a command, the records before those that wait, the newest first, and
 -- those that wait, in their order.
@@ -30,13 +31,6 @@ abbrev pub HasWaited : Follows → Follows → Row → Type 0
 HasWaited before after next =
     (look : Look) (past rows : List Row) → before look past rows → IsOpen (next ∷ passed past rows)
     → after look past (rows ++ next ∷ [])
-
--- a memory that follows something
-pub record MaySettle (follows : Follows) : Type 0 where
-  pub look : Look
-  pub past : List Row
-  pub rows : List Row
-  pub memory : follows look past rows
 
 -- The first of those that wait is undecided, or it is given and gone, or it is refused. What is
 -- given is held in some way.
@@ -74,59 +68,58 @@ abbrev pub Lasts : Follows → ℕ → Type 0
 Lasts follows n = (look : Look) (past rows : List Row) → follows look past rows
     → n ≡ lasting look past rows
 
--- each of some records is given, as these tell, with the rest behind them
-abbrev pub AllGiven : Look → List Row → List Row → List Row → List (Option Row) → Type 0
-AllGiven look past [] rest [] = Unit {0}
-AllGiven look past [] rest (o ∷ outs) = ⊥
-AllGiven look past (row ∷ rows) rest [] = ⊥
-AllGiven look past (row ∷ rows) rest (o ∷ outs) =
-    (look past row (rows ++ rest) ≡ Some (Ok (option_to_list o)))
-    × AllGiven look (row ∷ past) rows rest outs
+-- What comes next of those that wait, behind those that are dropped: none, since none is left or the
+-- first is undecided; a record that is due, which the first becomes; or the rule by which it is
+-- refused, with as many waiting as there are.
+abbrev pub NextIs : ℕ → Look → List Row → List Row → (List Row → List Row → Type 0) → ℕ
+    → Result (Option Row) Rule → Type 0
+NextIs room look past [] follows n (Ok None) = follows past []
+NextIs room look past [] follows n (Ok (Some due)) = ⊥
+NextIs room look past [] follows n (Err rule) = ⊥
+NextIs room look past (row ∷ rows) follows n (Ok None) =
+    (outcome_at room look past row rows ≡ Undecided) × follows past (row ∷ rows)
+NextIs room look past (row ∷ rows) follows n (Ok (Some due)) =
+    (outcome_at room look past row rows ≡ Becomes (due ∷ [])) × follows (row ∷ past) rows
+NextIs room look past (row ∷ rows) follows n (Err rule) =
+    (outcome_at room look past row rows ≡ Refused rule) × (n ≡ length rows + 1)
 
--- where it stops: no record is left or the first is undecided, or the first is refused
-abbrev pub StopsAt : Look → List Row → List Row → Option Rule → Type 0
-StopsAt look past [] None = Unit {0}
-StopsAt look past [] (Some rule) = ⊥
-StopsAt look past (row ∷ rows) None = look past row rows ≡ None
-StopsAt look past (row ∷ rows) (Some rule) = look past row rows ≡ Some (Err rule)
+-- each of these becomes none
+abbrev pub nothing : List Row → List Outcome
+nothing dropped = map (λ _. Becomes []) dropped
 
--- what memory stands for, unless a record was refused
-abbrev pub Unless : Option Rule → Type 0 → Type 0
-Unless None follows = follows
-Unless (Some rule) follows = Unit {0}
-
--- So many records that wait are let go.
-pub record SettlesAll (look : Look) (past rows : List Row)
-    (follows : List Row → List Row → Type 0) (before after : List (Option Row))
-    (stop : Option Rule) : Type 0 where
-  pub front : List Row
+-- The first of some records that wait are dropped.
+pub record Drops (room : ℕ) (look : Look) (past rows : List Row)
+    (then : List Row → List Row → Type 0) : Type 0 where
+  pub dropped : List Row
   pub rest : List Row
-  pub outs : List (Option Row)
-  pub split : rows ≡ front ++ rest
-  pub given : AllGiven look past front rest outs
-  pub due : after ≡ before ++ outs
-  pub stops : StopsAt look (passed past front) rest stop
-  pub memory : Unless stop (follows (passed past front) rest)
+  pub split : rows ≡ dropped ++ rest
+  pub outcomes : outcomes_from room look past rows
+      ≡ nothing dropped ++ outcomes_from room look (passed past dropped) rest
+  pub behind : then (passed past dropped) rest
 
--- So many have been let go so far.
-pub record Passing (look : Look) (past rows : List Row)
-    (follows : List Row → List Row → Type 0) (before after : List (Option Row)) : Type 0 where
-  pub front : List Row
-  pub rest : List Row
-  pub outs : List (Option Row)
-  pub split : rows ≡ front ++ rest
-  pub given : AllGiven look past front rest outs
-  pub due : after ≡ before ++ outs
-  pub memory : follows (passed past front) rest
+-- So the memory goes from one record that becomes one to the next, with at most one more waiting than
+-- there is room for.
+abbrev pub HasSettledNext : ℕ → Follows → Follows → ℕ → Result (Option Row) Rule → Type 0
+HasSettledNext room before after n next =
+    (look : Look) (past rows : List Row) → before look past rows → length rows ≤ room + 1
+    → Drops room look past rows (λ past rest. NextIs room look past rest (after look) n next)
 
--- The same for whatever a memory followed.
-abbrev pub HasSettledAll : Follows → Follows → List (Option Row) → List (Option Row) → Option Rule
-    → Type 0
-HasSettledAll before after old new stop =
-    (look : Look) (past rows : List Row) → before look past rows
-    → SettlesAll look past rows (after look) old new stop
+-- and so far it has let only records go that are dropped
+abbrev pub HasDropped : ℕ → Follows → Follows → Type 0
+HasDropped room before after =
+    (look : Look) (past rows : List Row) → before look past rows → length rows ≤ room + 1
+    → Drops room look past rows (after look)
 
-abbrev pub HasPassed : Follows → Follows → List (Option Row) → List (Option Row) → Type 0
-HasPassed before after old new =
-    (look : Look) (past rows : List Row) → before look past rows
-    → Passing look past rows (after look) old new
+-- a record of which something is held, or the rule
+abbrev pub next_of : {D : Type 0} → (D → Row) → Result (Option D) Rule → Result (Option Row) Rule
+next_of row (Ok held) = Ok (option_map row held)
+next_of row (Err rule) = Err rule
+
+-- how many records wait or are due, where so many wait
+abbrev pub with_due : {D : Type 0} → Option D → ℕ → ℕ
+with_due None n = n
+with_due (Some due) n = n + 1
+
+abbrev pub with_next : {D : Type 0} → Result (Option D) Rule → ℕ → ℕ
+with_next (Ok due) n = with_due due n
+with_next (Err rule) n = n

@@ -126,10 +126,10 @@ impl<C: Decides> Stage for AtOnce<C> {
 
     ghost spent = { λ s. s.spent ≡ true };
 
-    ghost use Rattle.hum_stage.specs.Laws.{standing_remains};
+    ghost use Rattle.hum_stage.specs.Laws.{standing_within};
     ghost use Rattle.hum_stage.specs.Lawful.{standing_lawful};
 
-    ghost remains = { λ s t h. standing_remains _ _ _ _ t h };
+    ghost within = { λ s t h. standing_within _ _ _ _ t h };
 
     ghost lawful = { λ s t h. standing_lawful _ _ _ _ t h };
 

@@ -4,9 +4,9 @@
 //! of what is settled were given, and the end once it came. Each call is one step from moment to
 //! moment, so whatever calls were made, what a stage has given is a front of what its command makes
 //! of its whole input, and it is all of it once the stage is done.
-ghost use Rattle.std.specs.Prelude.{◌≡◌, ℕ, ◌+◌, ◌⊎◌, length, IfOk, OnOk, OnErr, IsErr};
+ghost use Rattle.std.specs.Prelude.{◌≡◌, ℕ, ◌≤◌, ◌⊎◌, length, IfOk, OnOk, OnErr, IsErr};
 ghost use Rattle.hum_stage.specs.Meaning.{Moment, IsLawful, MayPut, MayEnd, all_of};
-ghost use Rattle.hum_stage.specs.Meaning.{HasPut, HasEnded, HasTaken, ShowsHeld};
+ghost use Rattle.hum_stage.specs.Meaning.{HasPut, HasEnded, HasTaken, LeavesFewer, ShowsHeld};
 ghost use Rattle.hum_stage.specs.Meaning.{ShowsState, ShowsReadiness};
 
 use crate::faults::{End, Readiness, State};
@@ -20,7 +20,7 @@ pub trait Stage {
     /// What a state stands for.
     ghost stands: { Self → Moment → Type 0 };
 
-    /// How many records it can give before it wants one.
+    /// How many records it can give at most before it wants one.
     ghost left: { Self → ℕ };
 
     /// Memory was wanted, and each call that takes memory fails.
@@ -42,6 +42,7 @@ pub trait Stage {
     /// The next record that is settled, if there is one.
     fn take(&mut self) -> Result<Option<Record>, AllocError>
         ensures ok { IfOk result (HasTaken (stands self.old) (stands self.new)) }
+        ensures fewer { IfOk result (λ taken. LeavesFewer taken (left self.old) (left self.new)) }
         ensures err { OnErr result (spent self.new) }
         ensures stays_spent { spent self.old → IsErr result };
 
@@ -67,8 +68,8 @@ pub trait Stage {
         Some(row)
     }
 
-    /// What is left is all that is settled, less what was given.
-    ghost remains: { (s : Self) (t : Moment) → stands s t → left s + t.given ≡ length (all_of t) };
+    /// No more was given than is settled.
+    ghost within: { (s : Self) (t : Moment) → stands s t → t.given ≤ length (all_of t) };
 
     /// The command keeps what it has settled, and decides of each record by itself.
     ghost lawful: { (s : Self) (t : Moment) → stands s t → IsLawful t.meaning };

@@ -1,26 +1,25 @@
 //! The stage round a command whose records wait for later ones.
-ghost use Rattle.std.specs.Prelude.{◌≡◌, ◌+◌, true, length, [], List, IfOk};
+ghost use Rattle.std.specs.Prelude.{◌≡◌, ◌-◌, true};
 ghost use Rattle.std.specs.Option.{option_map};
+ghost use Rattle.std.specs.VecDeque.{deque_len};
 ghost use Rattle.hum_stage.specs.Meaning.{Moment, opening, resting_state};
-ghost use Rattle.hum_stage.specs.Dues.{due_rows};
 ghost use Rattle.hum_stage.specs.Look.{looking};
-ghost use Rattle.hum_stage.specs.Lagging.{Lags, flat};
+ghost use Rattle.hum_stage.specs.Lagging.{Lags};
+ghost use Rattle.hum_stage.specs.Settles.{with_due};
 
 use crate::contract::Stage;
 use crate::faults::{Command, End, Fault, Readiness, Rule, State};
 use crate::into_record::IntoRecord;
 use crate::looks_ahead::LooksAhead;
-use crate::settling::{settle_all, trim};
+use crate::settling::settle_next;
 use hum_record::Record;
 use std::alloc::{AllocError, Global};
 use std::collections::VecDeque;
 
-// how many records behind it a record may wait for
-const ROOM: usize = 65_536;
-
 /// A command whose records wait for later ones, as a stage.
 ///
-/// What a record costs doesn't grow with how many wait. A record that is still undecided with 65,536
+/// What a record costs doesn't grow with how many wait. At most one is made that isn't taken yet:
+/// those behind it go on waiting, decided or not. A record that is still undecided with 65,536
 /// behind it is refused by H1, at its own line. Those that are undecided when the input ends are
 /// never given.
 pub struct Lagging<C: LooksAhead> {
@@ -29,9 +28,8 @@ pub struct Lagging<C: LooksAhead> {
     stage: u8,
     command: Command,
     line: u64,
-    first: u64,
     waiting: VecDeque<C::Held>,
-    due: VecDeque<Option<C::Due>>,
+    due: Option<C::Due>,
     fault: Option<Fault>,
     ended: Option<End>,
     spent: bool,
@@ -46,7 +44,6 @@ impl<C: LooksAhead + Drop> Drop for Lagging<C> {
             stage: _,
             command: _,
             line: _,
-            first: _,
             waiting: _waiting,
             due: _due,
             fault: _,
@@ -80,9 +77,8 @@ impl<C: LooksAhead> Lagging<C> {
             stage,
             command: C::command(),
             line: 0,
-            first: 1,
             waiting: VecDeque::new(alloc),
-            due: VecDeque::new(alloc),
+            due: None,
             fault: None,
             ended: None,
             spent: false,
@@ -91,21 +87,24 @@ impl<C: LooksAhead> Lagging<C> {
 
     /// Breaks a rule at the first record that waits; none waits any more.
     fn refuse(&mut self, rule: Rule)
-        ensures { self.new ≡ record self.old {
+        ensures fault { self.new ≡ record self.old {
           waiting = self.new.waiting;
           fault = Some (record {
             stage = self.old.stage;
             command = self.old.command;
-            line = self.old.first;
+            line = self.old.line - (deque_len self.old.waiting - 1);
             rule = rule;
           });
         } }
+        ensures none { deque_len self.new.waiting ≡ 0 }
     {
+        // Each that waits has a line of its own, so that the difference isn't cut short.
+        let behind = self.waiting.len().saturating_sub(1) as u64;
         self.waiting.clear();
         self.fault = Some(Fault {
             stage: self.stage,
             command: self.command,
-            line: self.first,
+            line: self.line.saturating_sub(behind),
             rule,
         });
     }
@@ -125,37 +124,23 @@ fn resting(ended: Option<End>, own: Option<Fault>) -> State
     }
 }
 
-/// The record of which this is held, if there is one.
-fn taken<D: IntoRecord>(held: Option<D>, alloc: Global) -> Result<Option<Record>, AllocError>
-    ensures { IfOk result (λ row. row ≡ option_map D.becomes held) }
-{
-    match held {
-        None => Ok(None),
-        Some(held) => {
-            let row = held.into_record(alloc)?;
-            Ok(Some(row))
-        }
-    }
-}
-
 impl<C: LooksAhead> Stage for Lagging<C> {
     ghost stands = { λ s t. Lags 65536 (C.follows s.memory s.waiting.items) (record {
       stage = s.stage;
       command = s.command;
       line = s.line;
-      first = s.first;
-      due = due_rows C.Due.becomes s.due.items;
+      due = option_map C.Due.becomes s.due;
       fault = s.fault;
     }) s.ended s.spent t };
 
-    ghost left = { λ s. length (flat (due_rows C.Due.becomes s.due.items)) };
+    ghost left = { λ s. with_due s.due (deque_len s.waiting) };
 
     ghost spent = { λ s. s.spent ≡ true };
 
-    ghost use Rattle.hum_stage.specs.LookLaws.{lags_remains};
+    ghost use Rattle.hum_stage.specs.LookLaws.{lags_within};
     ghost use Rattle.hum_stage.specs.Lawful.{lags_lawful};
 
-    ghost remains = { λ s t h. lags_remains _ _ _ _ _ t h };
+    ghost within = { λ s t h. lags_within _ _ _ _ _ t h };
 
     ghost lawful = { λ s t h. lags_lawful _ _ _ _ _ t h };
 
@@ -169,16 +154,11 @@ impl<C: LooksAhead> Stage for Lagging<C> {
         }
         self.spent = true;
         self.memory.put(next, &mut self.waiting)?;
-        let stop = settle_all(&mut self.memory, &mut self.waiting, &mut self.due)?;
+        let next = settle_next(&mut self.memory, &mut self.waiting)?;
         self.spent = false;
-        self.first += self.due.len() as u64;
-        trim(&mut self.due);
-        if let Some(rule) = stop {
-            self.refuse(rule);
-            return Ok(());
-        }
-        if self.waiting.len() > ROOM {
-            self.refuse(Rule::H1);
+        match next {
+            Ok(due) => self.due = due,
+            Err(rule) => self.refuse(rule),
         }
         Ok(())
     }
@@ -191,23 +171,24 @@ impl<C: LooksAhead> Stage for Lagging<C> {
         if self.spent {
             return Err(AllocError);
         }
-        let next = self.due.pop_front();
-        trim(&mut self.due);
+        let Some(due) = self.due.take() else {
+            return Ok(None);
+        };
+        self.spent = true;
+        let row = due.into_record(self.alloc)?;
+        let next = settle_next(&mut self.memory, &mut self.waiting)?;
+        self.spent = false;
         match next {
-            None => Ok(None),
-            Some(becomes) => {
-                self.spent = true;
-                let row = taken(becomes, self.alloc)?;
-                self.spent = false;
-                Ok(row)
-            }
+            Ok(due) => self.due = due,
+            Err(rule) => self.refuse(rule),
         }
+        Ok(Some(row))
     }
 
     // Inlined, its answer would be taken to pieces as small as a fault's fields.
     #[inline(never)]
     fn state(&self) -> State {
-        if !self.due.is_empty() {
+        if self.due.is_some() {
             return State::Gives;
         }
         resting(self.ended, self.fault)
@@ -215,22 +196,24 @@ impl<C: LooksAhead> Stage for Lagging<C> {
 
     fn readiness(&self) -> Readiness {
         match self.ended {
-            _ if !self.due.is_empty() => Readiness::Gives,
+            _ if self.due.is_some() => Readiness::Gives,
             None => Readiness::Wants,
             Some(_) => Readiness::Done,
         }
     }
 
     fn held(&self) -> usize {
-        let due = self.due.len();
         if self.ended.is_some() {
-            return due;
+            return 0;
         }
         if self.fault.is_some() {
-            return due;
+            return 0;
         }
-        // Each that waits has a line of its own, so that the sum isn't cut short.
-        let _line = self.line;
-        due.saturating_add(self.memory.lasting(&self.waiting))
+        let lasting = self.memory.lasting(&self.waiting);
+        if self.due.is_some() {
+            // No more wait than there is room for, so that the sum isn't cut short.
+            return lasting.saturating_add(1);
+        }
+        lasting
     }
 }

@@ -5,8 +5,7 @@ ghost use Rattle.hum_record.specs.Row.{Row};
 ghost use Rattle.hum_stage.specs.declared.faults.Command.{Command};
 ghost use Rattle.hum_stage.specs.Meaning.{KeepsScore};
 ghost use Rattle.hum_stage.specs.Look.{Look, IsSteady, looking};
-ghost use Rattle.hum_stage.specs.Settles.{MayWait, HasWaited, MaySettle};
-ghost use Rattle.hum_stage.specs.Settles.{HasSettled, Lasts, left_by};
+ghost use Rattle.hum_stage.specs.Settles.{MayWait, HasWaited, HasSettled, Lasts, left_by};
 
 use crate::faults::{Command, Rule};
 use crate::into_record::IntoRecord;
@@ -74,7 +73,6 @@ pub trait LooksAhead {
     /// the queue.
     fn settle(&mut self, held: &mut VecDeque<Self::Held>) -> Result<Verdict<Self::Due>, AllocError>
         requires filled { 0 < deque_len held.old }
-        requires memory { MaySettle (follows self.old held.old.items) }
         ensures fewer { IfOk result (λ v. deque_len held.old ≡ left_by v (deque_len held.new)) }
         ensures settles { IfOk result (HasSettled Self.Due.becomes
             (follows self.old held.old.items) (follows self.new held.new.items)) };

@@ -1,43 +1,41 @@
 //! Letting records go that waited.
-ghost use Rattle.std.specs.Prelude.{◌≡◌, IfOk};
-ghost use Rattle.hum_stage.specs.Settles.{MaySettle, HasSettledAll};
-ghost use Rattle.hum_stage.specs.Dues.{due_rows};
-ghost use Rattle.hum_stage.specs.Lagging.{trimmed};
+ghost use Rattle.std.specs.Prelude.{◌≤◌, IfOk};
+ghost use Rattle.std.specs.VecDeque.{deque_len};
+ghost use Rattle.hum_stage.specs.Settles.{HasSettledNext, next_of, with_next};
 
+use crate::ROOM;
 use crate::faults::Rule;
 use crate::into_record::IntoRecord;
 use crate::looks_ahead::{LooksAhead, Verdict};
 use std::alloc::AllocError;
 use std::collections::VecDeque;
 
-/// Lets records that wait go while the first is decided, and answers the rule by which one is
-/// refused. What becomes of each is put behind what is due.
-pub fn settle_all<C: LooksAhead>(
+/// Lets records that wait go up to the first that becomes one, which it answers, while the first is
+/// decided; or the rule by which the first is refused, which is H1 where it is undecided with
+/// too many behind it.
+pub fn settle_next<C: LooksAhead>(
     memory: &mut C,
     waiting: &mut VecDeque<C::Held>,
-    due: &mut VecDeque<Option<C::Due>>,
-) -> Result<Option<Rule>, AllocError>
-    requires { MaySettle (C.follows memory.old waiting.old.items) }
-    ensures { IfOk result (HasSettledAll (C.follows memory.old waiting.old.items)
-        (C.follows memory.new waiting.new.items)
-        (due_rows C.Due.becomes due.old.items) (due_rows C.Due.becomes due.new.items)) }
+) -> Result<Result<Option<C::Due>, Rule>, AllocError>
+    ensures fewer { IfOk result (λ next. with_next next (deque_len waiting.new)
+        ≤ deque_len waiting.old) }
+    ensures settles { IfOk result (λ next. HasSettledNext 65536
+        (C.follows memory.old waiting.old.items) (C.follows memory.new waiting.new.items)
+        (deque_len waiting.new) (next_of C.Due.becomes next)) }
 {
     while !waiting.is_empty() {
         match memory.settle(waiting) {
             Err(_) => return Err(AllocError),
-            Ok(Verdict::Waits) => return Ok(None),
-            Ok(Verdict::Gives(becomes)) => due.push_back(becomes)?,
-            Ok(Verdict::Refuses(rule)) => return Ok(Some(rule)),
+            Ok(Verdict::Waits) => {
+                if waiting.len() > ROOM {
+                    return Ok(Err(Rule::H1));
+                }
+                return Ok(Ok(None));
+            }
+            Ok(Verdict::Gives(None)) => {}
+            Ok(Verdict::Gives(Some(due))) => return Ok(Ok(Some(due))),
+            Ok(Verdict::Refuses(rule)) => return Ok(Err(rule)),
         }
     }
-    Ok(None)
-}
-
-/// Drops the records at the front of what is due that became none.
-pub fn trim<D: IntoRecord>(due: &mut VecDeque<Option<D>>)
-    ensures { due_rows D.becomes due.new.items ≡ trimmed (due_rows D.becomes due.old.items) }
-{
-    while let Some(None) = due.front() {
-        due.pop_front();
-    }
+    Ok(Ok(None))
 }

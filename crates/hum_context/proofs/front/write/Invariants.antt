@@ -1,4 +1,5 @@
-use Rattle.std.proofs.Common.{◌≡◌, ℕ, List, [], ◌∷◌, None}
+use Rattle.std.proofs.Common.{◌≡◌, ℕ, List, [], ◌∷◌, None, length}
+use Rattle.hum_record.specs.Making.{Holds}
 use Rattle.hum_record.specs.declared.SpinedKind.TheVariants.{Values}
 use Rattle.hum_record.specs.Row.{Row, Spined}
 use Rattle.hum_path.specs.Spines.{Path}
@@ -12,6 +13,8 @@ use Rattle.hum_context.proofs.front.write.Given as goal
 abbrev pub invariant-loop-j : goal.invariant-loop-j
 invariant-loop-j l = record {
   kind : l.making.builder.kind ≡ Values;
+  held : (made : List (List ℕ)) × Holds Values l.making.builder l.making.is_long made
+      × (length made ≡ l.j);
   made : (o : Choice) (path : Path) (tokens : List (List ℕ)) (rows : List Row)
       → l.wanted ≡ wanted_of o.extent → taken o.extent [] ≡ None
       → Knows o path l.held.items (Spined Values tokens ∷ rows)

@@ -1,3 +1,4 @@
+use lib.Chars.{codes}
 use Rattle.std.proofs.Common.{◌∷◌}
 use Rattle.std.specs.List.{join_with_byte}
 use Rattle.hum_record.specs.declared.SpinedKind.TheVariants.{Values}
@@ -17,3 +18,11 @@ returns-in_ok-push-in-Collects-clause-written c o path tokens rows want none kno
       added = λ made h. joined_added _ _ made _ _ (join_with_byte 32 b.0) text.1 token
           (c.in_ok-push-in-Collects.ensures.pushed Values made h);
     }
+
+pub returns-in_ok-push-in-Null-clause-grown : goal.returns-in_ok-push-in-Null-clause-grown
+returns-in_ok-push-in-Null-clause-grown c made h =
+    (codes ".", c.in_ok-push-in-Null.ensures.pushed Values made h)
+
+pub returns-in_ok-push-in-Collects-clause-grown : goal.returns-in_ok-push-in-Collects-clause-grown
+returns-in_ok-push-in-Collects-clause-grown c made h =
+    (c.token-in-Collects.result.now, c.in_ok-push-in-Collects.ensures.pushed Values made h)

@@ -9,7 +9,7 @@ use Rattle.hum_context.specs.Queue.{Knows}
 use Rattle.hum_context.specs.Walking.{AllStand}
 use Rattle.hum_context.proofs.Weighing.{quiet_stays, fits_is, long_is, bytes_fit, bytes_long}
 use Rattle.hum_context.proofs.Following.{few_held, first_known, first_data, none_heard, get_first}
-use Rattle.hum_context.proofs.Following.{deciding, follows_on, follows_walks, undecided, decided_by}
+use Rattle.hum_context.proofs.Following.{first_is_data, follows_on, follows_walks, undecided, decided_by}
 use Rattle.hum_context.proofs.memory.CollectingLooksAhead.settle.Goals as goal
 
 pub returns-then-is_quiet-clause-settles : goal.returns-then-is_quiet-clause-settles
@@ -31,11 +31,15 @@ returns-then-is_quiet-clause-settles c look past row rows h =
           (e.stand (path_after past) row rows h.waits h.stand),
     )
 
-pub advance-requires-clause-few : goal.advance-requires-clause-few
-advance-requires-clause-few c = few_held _ _ _ _ _ _ _ _ c.requires.memory.memory
-
-pub write-requires-clause-few : goal.write-requires-clause-few
-write-requires-clause-few c = few_held _ _ _ _ _ _ _ _ c.requires.memory.memory
+pub returns-then-saturating_add-gt-MOST_RECORDS-clause-settles :
+    goal.returns-then-saturating_add-gt-MOST_RECORDS-clause-settles
+returns-then-saturating_add-gt-MOST_RECORDS-clause-settles c look past row rows h =
+    let few = few_held _ _ _ _ _ look past (row ∷ rows) h in
+    let size = c.args.held.now.ok.0 in
+    let len = c.len.ensures in
+    let sum = c.saturating_add.ensures in
+    let over = c.if-saturating_add-gt-MOST_RECORDS.true in
+    absurd (omega (arith, few, size, len, sum, over))
 
 pub returns-then-not-known-clause-settles : goal.returns-then-not-known-clause-settles
 returns-then-not-known-clause-settles c look past row rows h =
@@ -74,11 +78,15 @@ returns-in_default-clause-settles c look past row rows h =
     let stands =
     subst (λ (r : Row). AllStand o path c.args.self.now.gone (r ∷ rows) c.advance.new.walks.items) is
     stand in
-    let new = rw c.in_default.is at
-    (c.in_ok-made.ensures o path (tokens_of row) rows want h.some_wanted knows
-    (rw c.deref.ensures.value stands)) in
+    let are = rw c.if-not-known.false at (c.in_ok-known.ensures.known o path (tokens_of row) rows want
+    h.some_wanted knows
+    (subst (λ (r : Row). AllStand o path c.args.self.now.gone (r ∷ rows) c.args.self.now.walks.items) is
+    h.stand)) in
+    let long = rw c.in_default.is at
+    (c.in_ok-made.ensures o path (tokens_of row) are.0 rows want h.some_wanted knows
+    (rw c.deref.ensures.value stands) are.1) in
     ap (λ l. l past row rows) h.command
-    ∙ decided_by o past row rows new.0 (Err L1) is new.2 (long_is new.0 (bytes_long new.0 new.1))
+    ∙ decided_by o past row rows are.0 (Err L1) is are.1 (long_is are.0 (bytes_long are.0 long))
 
 pub returns-clause-settles : goal.returns-clause-settles
 returns-clause-settles c look past row rows h =
@@ -96,28 +104,25 @@ returns-clause-settles c look past row rows h =
     let stands =
     subst (λ (r : Row). AllStand o path c.args.self.now.gone (r ∷ rows) c.advance.new.walks.items) is
     stand in
-    let new = rw c.in-Some.is at
-    (c.in_ok-made.ensures o path (tokens_of row) rows want h.some_wanted knows
-    (rw c.deref.ensures.value stands)) in
+    let are = rw c.if-not-known.false at (c.in_ok-known.ensures.known o path (tokens_of row) rows want
+    h.some_wanted knows
+    (subst (λ (r : Row). AllStand o path c.args.self.now.gone (r ∷ rows) c.args.self.now.walks.items) is
+    h.stand)) in
+    let made = rw c.in-Some.is at
+    (c.in_ok-made.ensures o path (tokens_of row) are.0 rows want h.some_wanted knows
+    (rw c.deref.ensures.value stands) are.1) in
     let e = c.in_ok-row-2.ensures in
-    rw (c.keep.ensures, e.kept, c.from.ensures, new.1.0) (
+    rw (c.keep.ensures, e.kept, c.from.ensures, made.0) (
       ap (λ l. l past row rows) h.command
-          ∙ decided_by o past row rows new.0 (Ok (Spined Values new.0 ∷ [])) is new.2
-          (fits_is new.0 (bytes_fit new.0 new.1.1)),
+          ∙ decided_by o past row rows are.0 (Ok (Spined Values are.0 ∷ [])) is are.1
+          (fits_is are.0 (bytes_fit are.0 made.1)),
       follows_on o _ _ _ _ _ _ _ look past row rows h e.gone e.held
           (e.stand path row rows h.waits stand),
     )
 
-pub write-requires-clause-decided : goal.write-requires-clause-decided
-write-requires-clause-decided c =
-    let m = c.requires.memory in
-    let o = choice_of c.args.self.now.options in
+pub write-requires-clause-data : goal.write-requires-clause-data
+write-requires-clause-data c =
     let size = c.args.held.now.ok.0 in
     let some = c.requires.filled in
-    let want = c.wanted-wanted.ensures in
-    let none = m.memory.some_wanted in
-    let d = deciding o _ _ _ _ _ _ m.look m.past m.rows c.index.result.now want m.memory
-    (omega (arith, size, some)) c.index.ensures (sym c.is_quiet.ensures ∙ c.if-is_quiet.false)
-    (λ p rs k s. c.in_ok-known.ensures.stand o p rs want none k s)
-    (λ p tokens rs k s. rw c.if-not-known.false at (c.in_ok-known.ensures.known o p tokens rs want none k s)) in
-    rw c.deref.ensures.value d
+    first_is_data c.args.held.now.items c.index.result.now c.index.ensures (omega (arith, size, some))
+    (sym c.is_quiet.ensures ∙ c.if-is_quiet.false)

@@ -1,14 +1,11 @@
-use Rattle.std.proofs.Common.{ap}
-use Rattle.hum_stage.specs.Dues.{due_rows}
 use Rattle.hum_stage.specs.Lawful.{looking_within, looking_decides}
 use Rattle.hum_stage.proofs.Lags.{new_lags}
 use Rattle.hum_stage.proofs.lagging.Lagging.new.Goals as goal
 
 pub returns-clause-stands : goal.returns-clause-stands
 returns-clause-stands g c = rw (c.command.ensures, c.new.ensures.items)
-    (new_lags 65536 (g.C.LooksAhead.follows c.begin.result _) c.args.stage _ (g.C.LooksAhead.look c.args.options)
-    (due_rows g.C.Due.IntoRecord.becomes c.new-2.result.items) c.begin.ensures.steady
-    c.begin.ensures.follows (ap (due_rows g.C.Due.IntoRecord.becomes) c.new-2.ensures.items))
+    (new_lags 65536 (g.C.LooksAhead.follows c.begin.result _) c.args.stage _
+    (g.C.LooksAhead.look c.args.options) c.begin.ensures.steady c.begin.ensures.follows)
 
 pub returns-clause-keeps : goal.returns-clause-keeps
 returns-clause-keeps g c = c.begin.ensures.keeps

@@ -1,20 +1,27 @@
-use Rattle.std.proofs.Common.{ap}
+use Rattle.std.proofs.Common.{◌∙◌, sym, ap}
 use Rattle.std.specs.Option.{option_map}
-use Rattle.hum_stage.specs.Dues.{due_rows}
-use Rattle.hum_stage.proofs.Lags.{lags_taken, lags_untaken, due_none}
+use Rattle.hum_stage.proofs.Lags.{lags_none, lags_take, lags_take_refused}
 use Rattle.hum_stage.proofs.lagging.LaggingStage.take.Goals as goal
+use Rattle.hum_stage.proofs.lagging.LaggingStage.take.Goals.{in-Ok+in-Some-1, in-Ok+in-None-1, in-Err}
 
-pub returns-in-None-clause-ok : goal.returns-in-None-clause-ok
-returns-in-None-clause-ok g c = λ t h. lags_untaken _ _ _ _ _ t
-    (due_rows g.C.Due.IntoRecord.becomes c.pop_front-next.new.self.items) _ h
-    (ap (due_rows g.C.Due.IntoRecord.becomes) (rw c.in-None.is at c.pop_front-next.ensures.items))
-    (ap (due_rows g.C.Due.IntoRecord.becomes)
-    (due_none _ _ _ _ c.args.self.now.due.ok.0 c.in-None.is c.pop_front-next.ensures.cases))
-    c.trim.ensures
+pub returns-in_default-clause-ok : goal.returns-in_default-clause-ok
+returns-in_default-clause-ok g c t h =
+    let none = sym c.take.ensures.value ∙ c.in_default.is in (
+      lags_none 65536 _ _ _ _ t h (ap (option_map g.C.Due.IntoRecord.becomes) none),
+      rw (c.take.ensures.after ∙ sym none) h,
+    )
 
-pub returns-in_ok-row-in-Some-clause-ok : goal.returns-in_ok-row-in-Some-clause-ok
-returns-in_ok-row-in-Some-clause-ok g c = λ t h. rw c.in_ok-row-in-Some.ensures
-    (rw c.if-self.false at (lags_taken _ _ _ _ _ t
-    (option_map g.C.Due.IntoRecord.becomes c.in-Some.becomes)
-    (due_rows g.C.Due.IntoRecord.becomes c.pop_front-next.new.self.items) _ h
-    (ap (due_rows g.C.Due.IntoRecord.becomes) c.in-Some.ensures.items) c.trim.ensures))
+pub returns-clause-ok : goal.returns-clause-ok
+returns-clause-ok g c t h =
+    let due = ap (option_map g.C.Due.IntoRecord.becomes) (sym c.take.ensures.value ∙ c.in-Some.is) in
+    elim c.match-next.branch [
+      | in-Ok+in-Some-1 w ↦ rw (w.self-is, c.in_ok-row.ensures) (lags_take 65536 _ _ _ _ _ t _ _
+          (option_map g.C.Due.IntoRecord.becomes w.in-Ok.due) h due
+          (rw w.in-Ok.is at c.in_ok-next.ensures.settles))
+      | in-Ok+in-None-1 w ↦ rw (w.self-is, c.in_ok-row.ensures) (lags_take 65536 _ _ _ _ _ t _ _
+          (option_map g.C.Due.IntoRecord.becomes w.in-Ok.due) h due
+          (rw w.in-Ok.is at c.in_ok-next.ensures.settles))
+      | in-Err w ↦ rw (w.self-is, w.refuse.ensures.fault, c.in_ok-row.ensures, c.take.ensures.after)
+          (lags_take_refused 65536 _ _ _ _ _ _ t _ _ w.in-Err.rule h due
+          (rw w.in-Err.is at c.in_ok-next.ensures.settles))
+    ]

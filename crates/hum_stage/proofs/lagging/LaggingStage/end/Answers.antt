@@ -1,0 +1,5 @@
+use Rattle.hum_stage.proofs.Lags.{lags_end}
+use Rattle.hum_stage.proofs.lagging.LaggingStage.end.Goals as goal
+
+pub returns-clause-ended : goal.returns-clause-ended
+returns-clause-ended g c t h going = lags_end 65536 _ _ _ _ t c.args.end c.requires h
