@@ -17,7 +17,8 @@ use Rattle.hum_stage.specs.Meaning.{fault_at, Goes}
 use Rattle.hum_stage.specs.Look.{Look, IsSteady, outcomes_from, outcome_of}
 use Rattle.hum_stage.specs.LookLaws.{looks_grow, settled_at}
 use Rattle.hum_stage.specs.Settles.{lasting, or_stop}
-use Rattle.hum_stage.specs.Lagging.{becomes, flat, listed, Stops, Lagged, LagsAt, lined_lagged}
+use Rattle.hum_stage.specs.Lagging.{becomes, flat, listed, Stops, Lagged, LagsAt}
+use Rattle.hum_stage.proofs.Putting.{lined_lagged}
 use Rattle.hum_stage.proofs.Fronts.{within_room, refusal_behind, held_rest, held_behind}
 
 -- a fault stands at the front of the rest

@@ -23,8 +23,9 @@ use Rattle.hum_stage.specs.Order.{open_score}
 use Rattle.hum_stage.specs.Look.{Look, IsSteady, outcomes_from, looking}
 use Rattle.hum_stage.specs.Settles.{MayWait, HasWaited, HasSettledNext, lasting, or_stop}
 use Rattle.hum_stage.proofs.Scores.{passed_length}
-use Rattle.hum_stage.specs.Lagging.{Lagged, Lags, due_lagged, refused_lagged, lined_lagged}
+use Rattle.hum_stage.specs.Lagging.{Lagged, Lags}
 use Rattle.hum_stage.proofs.Putting.{passed-append, put_parted, take_parted, drops_due, drops_refused}
+use Rattle.hum_stage.proofs.Putting.{due_lagged, refused_lagged, lined_lagged}
 use Rattle.hum_stage.proofs.Giving.{put_dropped, due_next, none_next, count_due, held_ended}
 use Rattle.hum_stage.proofs.Giving.{held_waiting, held_faulted}
 

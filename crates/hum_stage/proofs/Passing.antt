@@ -14,8 +14,14 @@ use Rattle.hum_stage.specs.declared.faults.Rule.TheVariants.{H1}
 use Rattle.hum_stage.specs.declared.looks_ahead.Verdict.TheVariants.{Waits, Gives, Refuses}
 use Rattle.hum_stage.specs.Outcome.{Becomes}
 use Rattle.hum_stage.specs.Look.{Look, outcome_at, outcomes_from}
-use Rattle.hum_stage.specs.Settles.{Settles, Drops, NextIs, nothing}
+use Rattle.hum_stage.specs.Settles.{Follows, Settles, Drops, NextIs, nothing}
 use Rattle.hum_stage.proofs.Fronts.{within_room}
+
+-- So far the memory has let only records go that are dropped.
+abbrev pub HasDropped : ℕ → Follows → Follows → Type 0
+HasDropped room before after =
+    (look : Look) (past rows : List Row) → before look past rows → length rows ≤ room + 1
+    → Drops room look past rows (after look)
 
 pub drops_none : (room : ℕ) (look : Look) (past rows : List Row)
     (follows : List Row → List Row → Type 0) → follows past rows → Drops room look past rows follows

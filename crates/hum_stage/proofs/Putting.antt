@@ -17,14 +17,43 @@ use Rattle.hum_stage.specs.Look.{Look, IsSteady, outcome_of, outcomes_from}
 use Rattle.hum_stage.specs.LookLaws.{flat-append}
 use Rattle.hum_stage.specs.Settles.{Drops, NextIs, nothing}
 use Rattle.hum_stage.specs.Lagging.{becomes, flat, listed, Lagged, LagsAt}
-use Rattle.hum_stage.specs.Lagging.{due_lagged, refused_lagged}
 use Rattle.hum_stage.proofs.Fronts.{front_stays, refusal_behind}
 
 pub passed-append : (past xs ys : List Row) → passed past (xs ++ ys) ≡ passed (passed past xs) ys
 passed-append past [] ys = refl
 passed-append past (x ∷ xs) ys = passed-append (x ∷ past) xs ys
 
--- The records put so far: those of which it is known what they became, and those that wait, of which
+-- The record that is due is another, or none.
+abbrev pub due_lagged : Lagged → Option Row → Lagged
+due_lagged x due =
+    record { stage = x.stage; command = x.command; line = x.line; due = due; fault = x.fault }
+
+-- The first of n records that wait is refused: behind it stand those with the last n - 1 lines.
+abbrev pub refused_lagged : Lagged → ℕ → Rule → Lagged
+refused_lagged x n rule = record {
+  stage = x.stage;
+  command = x.command;
+  line = x.line;
+  due = x.due;
+  fault = Some (record {
+    stage = x.stage;
+    command = x.command;
+    line = x.line - (n - 1);
+    rule = rule;
+  });
+}
+
+-- a record more was put
+abbrev pub lined_lagged : Lagged → Lagged
+lined_lagged x = record {
+  stage = x.stage;
+  command = x.command;
+  line = x.line + 1;
+  due = x.due;
+  fault = x.fault;
+}
+
+-- The records put so far: those of which it is known what they became, and those that wait: at most
 -- one more than there is room for.
 pub record Parted (room : ℕ) (look : Look) (put : List Row) (given : ℕ) (gone : List (Option Row))
     (front waits : List Row) : Type 0 where

@@ -1,5 +1,5 @@
 -- What the fields of a stage whose records wait stand for.
-use Rattle.std.specs.Prelude.{◌≡◌, ℕ, ◌+◌, ◌-◌, ◌≤◌, Bool, false}
+use Rattle.std.specs.Prelude.{◌≡◌, ℕ, ◌≤◌, Bool, false}
 use Rattle.std.specs.Prelude.{List, [], ◌∷◌, ◌++◌, map, length}
 use Rattle.std.specs.Prelude.{Option, Some, None}
 use Rattle.std.specs.Option.{option_to_list}
@@ -7,7 +7,6 @@ use Rattle.hum_record.specs.Row.{Row}
 use Rattle.hum_path.specs.Score.{passed}
 use Rattle.hum_stage.specs.declared.faults.Command.{Command}
 use Rattle.hum_stage.specs.declared.faults.Fault.{Fault}
-use Rattle.hum_stage.specs.declared.faults.Rule.{Rule}
 use Rattle.hum_stage.specs.declared.faults.End.{End}
 use Rattle.hum_stage.specs.Outcome.{Outcome, Becomes, Refused, Undecided, refusal}
 use Rattle.hum_stage.specs.Meaning.{Moment, fault_at}
@@ -76,33 +75,3 @@ pub record Lags (room : ℕ) (follows : Look → List Row → List Row
   -- an end comes where none is due
   pub rests : (end : End) → ended ≡ Some end → x.due ≡ None
   pub at : LagsAt room look (follows look) x t.put t.given
-
--- The record that is due is another, or none.
-abbrev pub due_lagged : Lagged → Option Row → Lagged
-due_lagged x due =
-    record { stage = x.stage; command = x.command; line = x.line; due = due; fault = x.fault }
-
--- The first of n records that wait is refused: behind it stand those with the last n - 1 lines.
-abbrev pub refused_lagged : Lagged → ℕ → Rule → Lagged
-refused_lagged x n rule = record {
-  stage = x.stage;
-  command = x.command;
-  line = x.line;
-  due = x.due;
-  fault = Some (record {
-    stage = x.stage;
-    command = x.command;
-    line = x.line - (n - 1);
-    rule = rule;
-  });
-}
-
--- a record more was put
-abbrev pub lined_lagged : Lagged → Lagged
-lined_lagged x = record {
-  stage = x.stage;
-  command = x.command;
-  line = x.line + 1;
-  due = x.due;
-  fault = x.fault;
-}

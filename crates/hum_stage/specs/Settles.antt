@@ -104,12 +104,6 @@ HasSettledNext room before after n next =
     (look : Look) (past rows : List Row) → before look past rows → length rows ≤ room + 1
     → Drops room look past rows (λ past rest. NextIs room look past rest (after look) n next)
 
--- and so far it has let only records go that are dropped
-abbrev pub HasDropped : ℕ → Follows → Follows → Type 0
-HasDropped room before after =
-    (look : Look) (past rows : List Row) → before look past rows → length rows ≤ room + 1
-    → Drops room look past rows (after look)
-
 -- a record of which something is held, or the rule
 abbrev pub next_of : {D : Type 0} → (D → Row) → Result (Option D) Rule → Result (Option Row) Rule
 next_of row (Ok held) = Ok (option_map row held)

@@ -1,6 +1,6 @@
 use Rattle.std.proofs.Common.{◌≤◌}
 use Rattle.std.specs.VecDeque.{deque_len}
-use Rattle.hum_stage.specs.Settles.{HasDropped}
+use Rattle.hum_stage.proofs.Passing.{HasDropped}
 use Rattle.hum_stage.proofs.settling.settle_next.Given as goal
 
 abbrev pub invariant-loop-memory : goal.invariant-loop-memory
