@@ -197,6 +197,10 @@ def waiting():
         with open(score, 'w') as out:
             out.write('**x\n' + 'a\n' * lines + '*-\n')
         show(f'{lines} lines of a, context -b a -e b', [('humpipe', plan('plan', f'out: read {score} | context -b a -e b'))])
+    score = os.path.join(DATA, 'closed.krn')
+    with open(score, 'w') as out:
+        out.write('**x\n' + 'a\n' * 16_000 + 'b\n*-\n')
+    show('16000 lines of a and one of b, context -b a -e b', [('humpipe', plan('plan', f'out: read {score} | context -b a -e b'))])
     width = 4_000
     score = os.path.join(DATA, 'wide.krn')
     with open(score, 'w') as out:
