@@ -1,4 +1,4 @@
-//! A record that waits or is due, or what it takes to make it again.
+//! A record that waits, or what it takes to make it again.
 ghost use Rattle.std.specs.Prelude.{◌≡◌, ◌<◌, ◌≤◌, ◌++◌, ◌∷◌, [], true, length, Some, IfOk, OnOk};
 ghost use Rattle.std.specs.List.{list_all};
 ghost use lib.Chars.{codes};
@@ -10,7 +10,6 @@ ghost use Rattle.hum_record.specs.Spelling.{IsTextOf, IsTokenOf};
 ghost use Rattle.hum_context.specs.Held.{nulls};
 
 use hum_record::{Kind, Record, RecordBuilder, RecordFault, SpinedKind, is_null};
-use hum_stage::IntoRecord;
 use std::alloc::{AllocError, Global};
 use std::marker::Model;
 
@@ -24,8 +23,8 @@ enum Holding {
     Nulls(usize),
 }
 
-/// A record that waits or is due. A wide one of null tokens, of which nothing is collected, is held by
-/// how many they are.
+/// A record that waits. A wide one of null tokens, of which nothing is collected, is held by how many
+/// they are.
 pub struct HeldRecord {
     holding: Holding,
 }
@@ -158,22 +157,14 @@ impl HeldRecord {
             Holding::Nulls(_) => None,
         }
     }
-}
 
-impl From<Record> for HeldRecord {
-    ghost from_gives = { λ row held. held ≡ row };
-
-    fn from(row: Record) -> HeldRecord {
-        HeldRecord {
-            holding: Holding::Whole(row),
-        }
-    }
-}
-
-impl IntoRecord for HeldRecord {
-    ghost becomes = { λ s. s };
-
-    fn into_record(self, alloc: Global) -> Result<Record, AllocError> {
+    /// The record itself, made if it wasn't held.
+    ///
+    /// # Errors
+    /// Want of memory.
+    pub(crate) fn into_record(self, alloc: Global) -> Result<Record, AllocError>
+        ensures { IfOk result (λ row. row ≡ self) }
+    {
         let HeldRecord { holding } = self;
         match holding {
             Holding::Whole(row) => Ok(row),

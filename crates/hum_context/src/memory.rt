@@ -73,8 +73,6 @@ impl LooksAhead for Collecting {
 
     type Held = Queued;
 
-    type Due = HeldRecord;
-
     ghost use Rattle.hum_stage.specs.declared.faults.Command.TheVariants.{Context};
     ghost use Rattle.hum_context.specs.Context.{context};
     ghost use Rattle.hum_context.specs.Options.{choice_of};
@@ -113,14 +111,14 @@ impl LooksAhead for Collecting {
         Ok(())
     }
 
-    fn settle(&mut self, held: &mut VecDeque<Queued>) -> Result<Verdict<HeldRecord>, AllocError> {
+    fn settle(&mut self, held: &mut VecDeque<Queued>) -> Result<Verdict, AllocError> {
         // no more come
         if self.gone.saturating_add(held.len() as u64) > MOST_RECORDS {
             return Ok(Verdict::Waits);
         }
         if held[0].is_quiet() {
             let row = self.let_go(held)?;
-            return Ok(Verdict::Gives(Some(row)));
+            return Ok(Verdict::Gives(Some(row.into_record(self.alloc)?)));
         }
         let wanted = self.options.span.wanted();
         let known = advance(held, self.gone, &mut self.walks, wanted)?;
@@ -141,7 +139,7 @@ impl LooksAhead for Collecting {
         };
         let row = self.let_go(held)?;
         self.keep(row);
-        Ok(Verdict::Gives(Some(HeldRecord::from(made))))
+        Ok(Verdict::Gives(Some(made)))
     }
 
     fn lasting(&self, held: &VecDeque<Queued>) -> usize {

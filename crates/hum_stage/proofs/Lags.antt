@@ -7,7 +7,6 @@ use Rattle.std.specs.Prelude.{is_some, Result, Ok, Err, nat_lt, ◌||◌}
 use Rattle.std.proofs.lemmas.Bool.Decides.{nat_tests}
 use Rattle.std.proofs.lemmas.List.{length_push}
 use Rattle.std.proofs.lemmas.Option.{none-some, slice_get_past, slice_get_within}
-use Rattle.std.specs.Option.{option_map}
 use Rattle.hum_record.specs.Row.{Row}
 use Rattle.hum_path.specs.Score.{passed}
 use Rattle.hum_stage.specs.declared.faults.Command.{Command}
@@ -349,13 +348,11 @@ held_few room follows x ended spent t n h e count =
     let few = a.few in
     omega (arith, k, l, few)
 
--- what is due, by what is held of it
-pub due_none : {D : Type 0} (row_of : D → Row) (due : Option D) → is_some due ≡ false
-    → option_map row_of due ≡ None
-due_none row_of None e = refl
-due_none row_of (Some due) e = cc
+-- what is due, by whether something is
+pub due_none : (due : Option Row) → is_some due ≡ false → due ≡ None
+due_none None e = refl
+due_none (Some row) e = cc
 
-pub due_some : {D : Type 0} (row_of : D → Row) (due : Option D) → is_some due ≡ true
-    → (row : Row) × (option_map row_of due ≡ Some row)
-due_some row_of None e = cc
-due_some row_of (Some due) e = (row_of due, refl)
+pub due_some : (due : Option Row) → is_some due ≡ true → (row : Row) × (due ≡ Some row)
+due_some None e = cc
+due_some (Some row) e = (row, refl)

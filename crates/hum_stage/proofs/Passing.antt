@@ -50,65 +50,65 @@ drops_next room look past rows follows then h on = record {
 }
 
 -- what a verdict says of the first that waits, with no more behind it than there is room for
-waits_next : {D : Type 0} (row_of : D → Row) (room : ℕ) (look : Look)
+waits_next : (room : ℕ) (look : Look)
     (follows follows' : List Row → List Row → Type 0) (n : ℕ)
     → ((past : List Row) (row : Row) (rows : List Row) → follows past (row ∷ rows)
-    → Settles row_of look past row rows follows' Waits)
+    → Settles look past row rows follows' Waits)
     → (past rest : List Row) → follows past rest → 0 < length rest → length rest ≤ room
     → NextIs room look past rest follows' n (Ok None)
-waits_next row_of room look follows follows' n verdict past [] h some few = absurd (omega (arith, some))
-waits_next row_of room look follows follows' n verdict past (row ∷ rows) h some few =
+waits_next room look follows follows' n verdict past [] h some few = absurd (omega (arith, some))
+waits_next room look follows follows' n verdict past (row ∷ rows) h some few =
     let v = verdict past row rows h in
     let k : nat_le room (length rows) ≡ false = grind (arith, nat_tests, few) in
     (rw (within_room room look past row rows (omega (arith, few)), v.0, k) refl, v.1)
 
-full_next : {D : Type 0} (row_of : D → Row) (room : ℕ) (look : Look)
+full_next : (room : ℕ) (look : Look)
     (follows follows' follows'' : List Row → List Row → Type 0) (n : ℕ)
     → ((past : List Row) (row : Row) (rows : List Row) → follows past (row ∷ rows)
-    → Settles row_of look past row rows follows' Waits)
+    → Settles look past row rows follows' Waits)
     → (past rest : List Row) → follows past rest → length rest ≡ room + 1 → n ≡ length rest
     → NextIs room look past rest follows'' n (Err H1)
-full_next row_of room look follows follows' follows'' n verdict past [] h full count =
+full_next room look follows follows' follows'' n verdict past [] h full count =
     absurd (omega (arith, full))
-full_next row_of room look follows follows' follows'' n verdict past (row ∷ rows) h full count =
+full_next room look follows follows' follows'' n verdict past (row ∷ rows) h full count =
     let v = verdict past row rows h in
     let k : nat_le room (length rows) ≡ true = grind (arith, nat_tests, full) in
     (rw (within_room room look past row rows (omega (arith, full)), v.0, k) refl, omega (arith, count))
 
-gives_next : {D : Type 0} (row_of : D → Row) (room : ℕ) (look : Look)
-    (follows follows' : List Row → List Row → Type 0) (n : ℕ) (due : D)
+gives_next : (room : ℕ) (look : Look)
+    (follows follows' : List Row → List Row → Type 0) (n : ℕ) (due : Row)
     → ((past : List Row) (row : Row) (rows : List Row) → follows past (row ∷ rows)
-    → Settles row_of look past row rows follows' (Gives (Some due)))
+    → Settles look past row rows follows' (Gives (Some due)))
     → (past rest : List Row) → follows past rest → 0 < length rest → length rest ≤ room + 1
-    → NextIs room look past rest follows' n (Ok (Some (row_of due)))
-gives_next row_of room look follows follows' n due verdict past [] h some few =
+    → NextIs room look past rest follows' n (Ok (Some due))
+gives_next room look follows follows' n due verdict past [] h some few =
     absurd (omega (arith, some))
-gives_next row_of room look follows follows' n due verdict past (row ∷ rows) h some few =
+gives_next room look follows follows' n due verdict past (row ∷ rows) h some few =
     let v = verdict past row rows h in
     (rw (within_room room look past row rows (omega (arith, few)), v.0) refl, v.1)
 
-refused_next : {D : Type 0} (row_of : D → Row) (room : ℕ) (look : Look)
+refused_next : (room : ℕ) (look : Look)
     (follows follows' follows'' : List Row → List Row → Type 0) (n : ℕ) (rule : Rule)
     → ((past : List Row) (row : Row) (rows : List Row) → follows past (row ∷ rows)
-    → Settles row_of look past row rows follows' (Refuses rule))
+    → Settles look past row rows follows' (Refuses rule))
     → (past rest : List Row) → follows past rest → 0 < length rest → length rest ≤ room + 1
     → n ≡ length rest → NextIs room look past rest follows'' n (Err rule)
-refused_next row_of room look follows follows' follows'' n rule verdict past [] h some few count =
+refused_next room look follows follows' follows'' n rule verdict past [] h some few count =
     absurd (omega (arith, some))
-refused_next row_of room look follows follows' follows'' n rule verdict past (row ∷ rows) h some few
+refused_next room look follows follows' follows'' n rule verdict past (row ∷ rows) h some few
     count =
     let v = verdict past row rows h in
     (rw (within_room room look past row rows (omega (arith, few)), v) refl, omega (arith, count))
 
 -- one more is dropped
-pub drops_more : {D : Type 0} (row_of : D → Row) (room : ℕ) (look : Look) (past rows : List Row)
+pub drops_more : (room : ℕ) (look : Look) (past rows : List Row)
     (follows follows' : List Row → List Row → Type 0) → Drops room look past rows follows
     → length rows ≤ room + 1
     → ((past rest : List Row) → follows past rest → 0 < length rest)
     → ((past : List Row) (row : Row) (rows : List Row) → follows past (row ∷ rows)
-    → Settles row_of look past row rows follows' (Gives None))
+    → Settles look past row rows follows' (Gives None))
     → Drops room look past rows follows'
-drops_more row_of room look past rows follows follows' h few some verdict =
+drops_more room look past rows follows follows' h few some verdict =
     on h.dropped h.rest h.split h.outcomes h.behind
   where
     on : (dropped rest : List Row) → rows ≡ dropped ++ rest
@@ -137,58 +137,58 @@ drops_more row_of room look past rows follows follows' h few some verdict =
 
 -- The same of the loop: where something waits, and as many as are counted.
 
-pub drops_waits : {D : Type 0} (row_of : D → Row) (room : ℕ) (look : Look) (past rows : List Row)
+pub drops_waits : (room : ℕ) (look : Look) (past rows : List Row)
     (follows follows' : List Row → List Row → Type 0) (n : ℕ)
     → Drops room look past rows follows
     → ((past rest : List Row) → follows past rest → n ≡ length rest) → 0 < n → n ≤ room
     → ((past : List Row) (row : Row) (rows : List Row) → follows past (row ∷ rows)
-    → Settles row_of look past row rows follows' Waits)
+    → Settles look past row rows follows' Waits)
     → Drops room look past rows (λ past rest. NextIs room look past rest follows' n (Ok None))
-drops_waits row_of room look past rows follows follows' n h each some few verdict =
+drops_waits room look past rows follows follows' n h each some few verdict =
     drops_next room look past rows follows _ h
     (λ past rest k l. let c = each past rest k in
-    waits_next row_of room look follows follows' n verdict past rest k (omega (arith, c, some))
+    waits_next room look follows follows' n verdict past rest k (omega (arith, c, some))
     (omega (arith, c, few)))
 
-pub drops_full : {D : Type 0} (row_of : D → Row) (room : ℕ) (look : Look) (past rows : List Row)
+pub drops_full : (room : ℕ) (look : Look) (past rows : List Row)
     (follows follows' follows'' : List Row → List Row → Type 0) (n : ℕ)
     → (h : Drops room look past rows follows) → length rows ≤ room + 1
     → ((past rest : List Row) → follows past rest → n ≡ length rest) → room < n
     → ((past : List Row) (row : Row) (rows : List Row) → follows past (row ∷ rows)
-    → Settles row_of look past row rows follows' Waits)
+    → Settles look past row rows follows' Waits)
     → Drops room look past rows (λ past rest. NextIs room look past rest follows'' n (Err H1))
-drops_full row_of room look past rows follows follows' follows'' n h few each many verdict =
+drops_full room look past rows follows follows' follows'' n h few each many verdict =
     let most = rest_few (room + 1) rows h.dropped h.rest h.split few in
     drops_next room look past rows follows _ h
     (λ past rest k l. let c = each past rest k in
-    full_next row_of room look follows follows' follows'' n verdict past rest k
+    full_next room look follows follows' follows'' n verdict past rest k
     (omega (arith, c, many, l, most)) c)
 
-pub drops_gives : {D : Type 0} (row_of : D → Row) (room : ℕ) (look : Look) (past rows : List Row)
-    (follows follows' : List Row → List Row → Type 0) (n : ℕ) (due : D)
+pub drops_gives : (room : ℕ) (look : Look) (past rows : List Row)
+    (follows follows' : List Row → List Row → Type 0) (n : ℕ) (due : Row)
     → (h : Drops room look past rows follows) → length rows ≤ room + 1
     → ((past rest : List Row) → follows past rest → 0 < length rest)
     → ((past : List Row) (row : Row) (rows : List Row) → follows past (row ∷ rows)
-    → Settles row_of look past row rows follows' (Gives (Some due)))
-    → Drops room look past rows (λ past rest. NextIs room look past rest follows' n (Ok (Some (row_of due))))
-drops_gives row_of room look past rows follows follows' n due h few some verdict =
+    → Settles look past row rows follows' (Gives (Some due)))
+    → Drops room look past rows (λ past rest. NextIs room look past rest follows' n (Ok (Some due)))
+drops_gives room look past rows follows follows' n due h few some verdict =
     let most = rest_few (room + 1) rows h.dropped h.rest h.split few in
     drops_next room look past rows follows _ h
-    (λ past rest k l. gives_next row_of room look follows follows' n due verdict past rest k
+    (λ past rest k l. gives_next room look follows follows' n due verdict past rest k
     (some past rest k) (omega (arith, l, most)))
 
-pub drops_refuses : {D : Type 0} (row_of : D → Row) (room : ℕ) (look : Look) (past rows : List Row)
+pub drops_refuses : (room : ℕ) (look : Look) (past rows : List Row)
     (follows follows' follows'' : List Row → List Row → Type 0) (n : ℕ) (rule : Rule)
     → (h : Drops room look past rows follows) → length rows ≤ room + 1
     → ((past rest : List Row) → follows past rest → n ≡ length rest) → 0 < n
     → ((past : List Row) (row : Row) (rows : List Row) → follows past (row ∷ rows)
-    → Settles row_of look past row rows follows' (Refuses rule))
+    → Settles look past row rows follows' (Refuses rule))
     → Drops room look past rows (λ past rest. NextIs room look past rest follows'' n (Err rule))
-drops_refuses row_of room look past rows follows follows' follows'' n rule h few each some verdict =
+drops_refuses room look past rows follows follows' follows'' n rule h few each some verdict =
     let most = rest_few (room + 1) rows h.dropped h.rest h.split few in
     drops_next room look past rows follows _ h
     (λ past rest k l. let c = each past rest k in
-    refused_next row_of room look follows follows' follows'' n rule verdict past rest k
+    refused_next room look follows follows' follows'' n rule verdict past rest k
     (omega (arith, c, some)) (omega (arith, l, most)) c)
 
 -- where none waits

@@ -1,7 +1,7 @@
 -- What becomes of records that wait.
 use Rattle.std.specs.Prelude.{◌≡◌, ℕ, ◌+◌, ◌<◌, ◌≤◌, List, [], ◌∷◌, ◌++◌, map, length}
 use Rattle.std.specs.Prelude.{Option, Some, None, Result, Ok, Err}
-use Rattle.std.specs.Option.{option_map, option_to_list}
+use Rattle.std.specs.Option.{option_to_list}
 use Rattle.hum_record.specs.Row.{Row}
 use Rattle.hum_path.specs.Score.{IsOpen, passed}
 use Rattle.hum_stage.specs.declared.faults.Rule.{Rule}
@@ -32,24 +32,23 @@ HasWaited before after next =
     (look : Look) (past rows : List Row) → before look past rows → IsOpen (next ∷ passed past rows)
     → after look past (rows ++ next ∷ [])
 
--- The first of those that wait is undecided, or it is given and gone, or it is refused. What is
--- given is held in some way.
-abbrev pub Settles : {D : Type 0} → (D → Row) → Look → List Row → Row → List Row
-    → (List Row → List Row → Type 0) → Verdict D → Type 0
-Settles row_of look past row rows follows Waits =
+-- The first of those that wait is undecided, or it is given and gone, or it is refused.
+abbrev pub Settles : Look → List Row → Row → List Row → (List Row → List Row → Type 0) → Verdict
+    → Type 0
+Settles look past row rows follows Waits =
     (look past row rows ≡ None) × follows past (row ∷ rows)
-Settles row_of look past row rows follows (Gives held) =
-    (look past row rows ≡ Some (Ok (option_to_list (option_map row_of held))))
+Settles look past row rows follows (Gives given) =
+    (look past row rows ≡ Some (Ok (option_to_list given)))
     × follows (row ∷ past) rows
-Settles row_of look past row rows follows (Refuses rule) = look past row rows ≡ Some (Err rule)
+Settles look past row rows follows (Refuses rule) = look past row rows ≡ Some (Err rule)
 
-abbrev pub HasSettled : {D : Type 0} → (D → Row) → Follows → Follows → Verdict D → Type 0
-HasSettled row_of before after verdict =
+abbrev pub HasSettled : Follows → Follows → Verdict → Type 0
+HasSettled before after verdict =
     (look : Look) (past : List Row) (row : Row) (rows : List Row) → before look past (row ∷ rows)
-    → Settles row_of look past row rows (after look) verdict
+    → Settles look past row rows (after look) verdict
 
 -- how many waited before a verdict that left so many
-abbrev pub left_by : {D : Type 0} → Verdict D → ℕ → ℕ
+abbrev pub left_by : Verdict → ℕ → ℕ
 left_by Waits n = n
 left_by (Gives o) n = n + 1
 left_by (Refuses rule) n = n
@@ -104,16 +103,11 @@ HasSettledNext room before after n next =
     (look : Look) (past rows : List Row) → before look past rows → length rows ≤ room + 1
     → Drops room look past rows (λ past rest. NextIs room look past rest (after look) n next)
 
--- a record of which something is held, or the rule
-abbrev pub next_of : {D : Type 0} → (D → Row) → Result (Option D) Rule → Result (Option Row) Rule
-next_of row (Ok held) = Ok (option_map row held)
-next_of row (Err rule) = Err rule
-
 -- how many records wait or are due, where so many wait
-abbrev pub with_due : {D : Type 0} → Option D → ℕ → ℕ
+abbrev pub with_due : Option Row → ℕ → ℕ
 with_due None n = n
 with_due (Some due) n = n + 1
 
-abbrev pub with_next : {D : Type 0} → Result (Option D) Rule → ℕ → ℕ
+abbrev pub with_next : Result (Option Row) Rule → ℕ → ℕ
 with_next (Ok due) n = with_due due n
 with_next (Err rule) n = n

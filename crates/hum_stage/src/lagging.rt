@@ -1,6 +1,5 @@
 //! The stage round a command whose records wait for later ones.
 ghost use Rattle.std.specs.Prelude.{◌≡◌, ◌-◌, true};
-ghost use Rattle.std.specs.Option.{option_map};
 ghost use Rattle.std.specs.VecDeque.{deque_len};
 ghost use Rattle.hum_stage.specs.Meaning.{Moment, opening, resting_state};
 ghost use Rattle.hum_stage.specs.Look.{looking};
@@ -9,7 +8,6 @@ ghost use Rattle.hum_stage.specs.Settles.{with_due};
 
 use crate::contract::Stage;
 use crate::faults::{Command, End, Fault, Readiness, Rule, State};
-use crate::into_record::IntoRecord;
 use crate::looks_ahead::LooksAhead;
 use crate::settling::settle_next;
 use hum_record::Record;
@@ -23,13 +21,12 @@ use std::collections::VecDeque;
 /// behind it is refused by H1, at its own line. Those that are undecided when the input ends are
 /// never given.
 pub struct Lagging<C: LooksAhead> {
-    alloc: Global,
     memory: C,
     stage: u8,
     command: Command,
     line: u64,
     waiting: VecDeque<C::Held>,
-    due: Option<C::Due>,
+    due: Option<Record>,
     fault: Option<Fault>,
     ended: Option<End>,
     spent: bool,
@@ -39,7 +36,6 @@ pub struct Lagging<C: LooksAhead> {
 impl<C: LooksAhead + Drop> Drop for Lagging<C> {
     fn drop(self) {
         let Lagging {
-            alloc: _,
             memory: _memory,
             stage: _,
             command: _,
@@ -72,7 +68,6 @@ impl<C: LooksAhead> Lagging<C> {
         ensures within { IsWithinLag 65536 (looking 65536 stage C.command (C.look options)) }
     {
         Lagging {
-            alloc,
             memory: C::begin(alloc, options),
             stage,
             command: C::command(),
@@ -129,7 +124,7 @@ impl<C: LooksAhead> Stage for Lagging<C> {
       stage = s.stage;
       command = s.command;
       line = s.line;
-      due = option_map C.Due.becomes s.due;
+      due = s.due;
       fault = s.fault;
     }) s.ended s.spent t };
 
@@ -171,11 +166,10 @@ impl<C: LooksAhead> Stage for Lagging<C> {
         if self.spent {
             return Err(AllocError);
         }
-        let Some(due) = self.due.take() else {
+        let Some(row) = self.due.take() else {
             return Ok(None);
         };
         self.spent = true;
-        let row = due.into_record(self.alloc)?;
         let next = settle_next(&mut self.memory, &mut self.waiting)?;
         self.spent = false;
         match next {

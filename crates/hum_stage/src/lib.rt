@@ -5,7 +5,7 @@
 //! - [`Decides`] is a command that decides each record at once, and [`AtOnce`] the stage round it;
 //!   [`Due`] is what holds the records that it is to give.
 //! - [`LooksAhead`] is a command that decides a record by some of those behind it, and [`Lagging`] the
-//!   stage round it; [`IntoRecord`] is what is held of a record that is due.
+//!   stage round it.
 //! - [`whole`] runs a list through a stage.
 #![tactic(auto)]
 
@@ -14,7 +14,6 @@ mod contract;
 mod deciding;
 mod due;
 mod faults;
-mod into_record;
 mod lagging;
 mod looks_ahead;
 mod runs;
@@ -31,7 +30,6 @@ pub use contract::Stage;
 pub use deciding::Decides;
 pub use due::{Due, UpToTwo};
 pub use faults::{Command, End, Fault, Readiness, Rule, State};
-pub use into_record::IntoRecord;
 pub use lagging::Lagging;
 pub use looks_ahead::{LooksAhead, Verdict};
 pub use runs::{drain, whole};

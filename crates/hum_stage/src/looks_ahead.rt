@@ -8,17 +8,16 @@ ghost use Rattle.hum_stage.specs.Look.{Look, IsSteady, looking};
 ghost use Rattle.hum_stage.specs.Settles.{MayWait, HasWaited, HasSettled, Lasts, left_by};
 
 use crate::faults::{Command, Rule};
-use crate::into_record::IntoRecord;
 use hum_record::Record;
 use std::alloc::{AllocError, Global};
 use std::collections::VecDeque;
 
 /// What becomes of the first record that waits.
-pub enum Verdict<D> {
+pub enum Verdict {
     /// It is undecided.
     Waits,
     /// It is decided: it becomes this record, or none.
-    Gives(Option<D>),
+    Gives(Option<Record>),
     /// It is refused by this rule.
     Refuses(Rule),
 }
@@ -34,9 +33,6 @@ pub trait LooksAhead {
 
     /// What is kept of a record that waits.
     type Held: Drop;
-
-    /// What is held of a record that is decided, until it is taken.
-    type Due: IntoRecord;
 
     /// Which command it is.
     ghost command: { Command };
@@ -71,10 +67,10 @@ pub trait LooksAhead {
 
     /// Lets the first record that waits go, if it is decided. What is kept of it is then gone from
     /// the queue.
-    fn settle(&mut self, held: &mut VecDeque<Self::Held>) -> Result<Verdict<Self::Due>, AllocError>
+    fn settle(&mut self, held: &mut VecDeque<Self::Held>) -> Result<Verdict, AllocError>
         requires filled { 0 < deque_len held.old }
         ensures fewer { IfOk result (λ v. deque_len held.old ≡ left_by v (deque_len held.new)) }
-        ensures settles { IfOk result (HasSettled Self.Due.becomes
+        ensures settles { IfOk result (HasSettled
             (follows self.old held.old.items) (follows self.new held.new.items)) };
 
     /// How many of those that wait stand before the first that is known to be refused.

@@ -1,12 +1,12 @@
 //! Letting records go that waited.
 ghost use Rattle.std.specs.Prelude.{◌≤◌, IfOk};
 ghost use Rattle.std.specs.VecDeque.{deque_len};
-ghost use Rattle.hum_stage.specs.Settles.{HasSettledNext, next_of, with_next};
+ghost use Rattle.hum_stage.specs.Settles.{HasSettledNext, with_next};
 
 use crate::ROOM;
 use crate::faults::Rule;
-use crate::into_record::IntoRecord;
 use crate::looks_ahead::{LooksAhead, Verdict};
+use hum_record::Record;
 use std::alloc::AllocError;
 use std::collections::VecDeque;
 
@@ -16,12 +16,12 @@ use std::collections::VecDeque;
 pub fn settle_next<C: LooksAhead>(
     memory: &mut C,
     waiting: &mut VecDeque<C::Held>,
-) -> Result<Result<Option<C::Due>, Rule>, AllocError>
+) -> Result<Result<Option<Record>, Rule>, AllocError>
     ensures fewer { IfOk result (λ next. with_next next (deque_len waiting.new)
         ≤ deque_len waiting.old) }
     ensures settles { IfOk result (λ next. HasSettledNext 65536
         (C.follows memory.old waiting.old.items) (C.follows memory.new waiting.new.items)
-        (deque_len waiting.new) (next_of C.Due.becomes next)) }
+        (deque_len waiting.new) next) }
 {
     while !waiting.is_empty() {
         match memory.settle(waiting) {

@@ -41,8 +41,6 @@ impl LooksAhead for Memory {
 
     type Held = Held;
 
-    type Due = Record;
-
     ghost use Rattle.hum_stage.specs.declared.faults.Command.TheVariants.{Yank};
     ghost use Rattle.hum_yank.specs.Yank.{yank};
     ghost use Rattle.hum_yank.specs.Options.{choice_of};
@@ -87,7 +85,7 @@ impl LooksAhead for Memory {
         Ok(())
     }
 
-    fn settle(&mut self, held: &mut VecDeque<Held>) -> Result<Verdict<Record>, AllocError> {
+    fn settle(&mut self, held: &mut VecDeque<Held>) -> Result<Verdict, AllocError> {
         let closed = self.paths.is_closed();
         let Some(first) = held.front() else {
             return Ok(Verdict::Waits)

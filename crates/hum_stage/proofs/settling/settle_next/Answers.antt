@@ -10,7 +10,7 @@ loop-memory-init g c = (omega arith, λ look past rows h few. drops_none 65536 l
 pub returns-then-len-gt-ROOM-clause-settles : goal.returns-then-len-gt-ROOM-clause-settles
 returns-then-len-gt-ROOM-clause-settles g c look past rows h few =
     let fewer = rw c.in-Ok-Waits.field-0-is at c.in-Ok-Waits.ensures.fewer in
-    drops_full g.C.Due.IntoRecord.becomes 65536 look past rows _
+    drops_full 65536 look past rows _
     (g.C.LooksAhead.follows c.settle.new.self c.settle.new.held.items look) _ _
     (c.loop-memory.invariant.1 look past rows h few) few
     (λ past rest k. sym fewer ∙ (c.loop-memory.waiting.ok.0
@@ -22,7 +22,7 @@ returns-then-len-gt-ROOM-clause-settles g c look past rows h few =
 pub returns-in-Ok-Waits-clause-settles : goal.returns-in-Ok-Waits-clause-settles
 returns-in-Ok-Waits-clause-settles g c look past rows h few =
     let fewer = rw c.in-Ok-Waits.field-0-is at c.in-Ok-Waits.ensures.fewer in
-    drops_waits g.C.Due.IntoRecord.becomes 65536 look past rows _ _ _
+    drops_waits 65536 look past rows _ _ _
     (c.loop-memory.invariant.1 look past rows h few)
     (λ past rest k. sym fewer ∙ (c.loop-memory.waiting.ok.0
     ∙ g.met.C.LooksAhead.each c.loop-memory.memory c.loop-memory.waiting.items look past rest k))
@@ -36,7 +36,7 @@ loop-memory-preserved g c =
     let fewer = rw c.in-Ok-Gives-None.field-0-is at c.in-Ok-Gives-None.ensures.fewer in
     let before = c.loop-memory.invariant.0 in (
       omega (arith, fewer, before),
-      λ look past rows h few. drops_more g.C.Due.IntoRecord.becomes 65536 look past rows _ _
+      λ look past rows h few. drops_more 65536 look past rows _ _
           (c.loop-memory.invariant.1 look past rows h few) few
           (λ past rest k. filled _ _ _ _ c.loop-memory.waiting.ok.0
           (g.met.C.LooksAhead.each c.loop-memory.memory c.loop-memory.waiting.items look past rest k)
@@ -47,7 +47,7 @@ loop-memory-preserved g c =
 
 pub returns-in-Ok-Gives-Some-clause-settles : goal.returns-in-Ok-Gives-Some-clause-settles
 returns-in-Ok-Gives-Some-clause-settles g c look past rows h few =
-    drops_gives g.C.Due.IntoRecord.becomes 65536 look past rows _ _ _ c.in-Ok-Gives-Some.due
+    drops_gives 65536 look past rows _ _ _ c.in-Ok-Gives-Some.due
     (c.loop-memory.invariant.1 look past rows h few) few
     (λ past rest k. filled _ _ _ _ c.loop-memory.waiting.ok.0
     (g.met.C.LooksAhead.each c.loop-memory.memory c.loop-memory.waiting.items look past rest k)
@@ -58,7 +58,7 @@ returns-in-Ok-Gives-Some-clause-settles g c look past rows h few =
 pub returns-in-Ok-Refuses-clause-settles : goal.returns-in-Ok-Refuses-clause-settles
 returns-in-Ok-Refuses-clause-settles g c look past rows h few =
     let fewer = rw c.in-Ok-Refuses.field-0-is at c.in-Ok-Refuses.ensures.fewer in
-    drops_refuses g.C.Due.IntoRecord.becomes 65536 look past rows _
+    drops_refuses 65536 look past rows _
     (g.C.LooksAhead.follows c.settle.new.self c.settle.new.held.items look) _ _ c.in-Ok-Refuses.rule
     (c.loop-memory.invariant.1 look past rows h few) few
     (λ past rest k. sym fewer ∙ (c.loop-memory.waiting.ok.0

@@ -23,7 +23,7 @@ returns-then-is_quiet-clause-settles c look past row rows h =
     let given : c.in_ok-row.row ≡ row =
     e.row c.index.result.now (get_first _ c.index.result.now c.index.ensures (omega (arith, size, some)))
     ∙ known.is in
-    rw (e.kept, given) (
+    rw (e.kept, c.in_ok-into_record.ensures ∙ given) (
       ap (λ l. l past row rows) h.command
           ∙ quiet_stays o past row rows c.index.result.now known
           (none_heard _ (sym c.is_quiet.ensures ∙ c.if-is_quiet.true)),
@@ -112,7 +112,7 @@ returns-clause-settles c look past row rows h =
     (c.in_ok-made.ensures o path (tokens_of row) are.0 rows want h.some_wanted knows
     (rw c.deref.ensures.value stands) are.1) in
     let e = c.in_ok-row-2.ensures in
-    rw (c.keep.ensures, e.kept, c.from.ensures, made.0) (
+    rw (c.keep.ensures, e.kept, made.0) (
       ap (λ l. l past row rows) h.command
           ∙ decided_by o past row rows are.0 (Ok (Spined Values are.0 ∷ [])) is are.1
           (fits_is are.0 (bytes_fit are.0 made.1)),

@@ -14,7 +14,7 @@ returns-then-is_some-2 g c t h = sym (held_stopped _ _ _ _ _ t h
 
 pub returns-then-is_some-3 : goal.returns-then-is_some-3
 returns-then-is_some-3 g c t h =
-    let some = due_some g.C.Due.IntoRecord.becomes c.args.self.now.due
+    let some = due_some c.args.self.now.due
     (sym c.is_some-3.ensures ∙ c.if-is_some-3.true) in
     let fault = sym c.is_some-2.ensures ∙ c.if-is_some-2.false in
     let all = held_open _ _ _ _ _ t c.lasting-lasting.result h
@@ -26,7 +26,7 @@ returns-then-is_some-3 g c t h =
 
 pub returns : goal.returns
 returns g c t h =
-    let none = due_none g.C.Due.IntoRecord.becomes c.args.self.now.due
+    let none = due_none c.args.self.now.due
     (sym c.is_some-3.ensures ∙ c.if-is_some-3.false) in
     let all = held_open _ _ _ _ _ t c.lasting-lasting.result h
     (sym c.is_some.ensures ∙ c.if-is_some.false) (sym c.is_some-2.ensures ∙ c.if-is_some-2.false)

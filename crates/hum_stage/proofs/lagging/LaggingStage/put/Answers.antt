@@ -1,5 +1,4 @@
 use Rattle.std.proofs.Common.{◌∙◌, sym}
-use Rattle.std.specs.Option.{option_map}
 use Rattle.hum_stage.proofs.Moves.{no_fault}
 use Rattle.hum_stage.proofs.Lags.{may_wait, lags_dropped, put_empty, lags_put, lags_put_refused}
 use Rattle.hum_stage.proofs.lagging.LaggingStage.put.Goals as goal
@@ -15,7 +14,7 @@ put-requires g c =
 
 pub returns-in-Ok-clause-ok : goal.returns-in-Ok-clause-ok
 returns-in-Ok-clause-ok g c t h going score =
-    lags_put 65536 _ _ _ _ _ _ t c.args.next _ (option_map g.C.Due.IntoRecord.becomes c.in-Ok.due) h
+    lags_put 65536 _ _ _ _ _ _ t c.args.next _ c.in-Ok.due h
     going score (put_empty _ _ _ _ _ c.args.next c.if-self.false c.requires)
     (no_fault _ (sym c.is_some.ensures ∙ c.if-is_some.false)) c.in_ok-put.ensures
     (rw c.in-Ok.is at c.in_ok-next.ensures.settles)

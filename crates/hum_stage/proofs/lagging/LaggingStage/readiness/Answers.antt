@@ -5,20 +5,20 @@ use Rattle.hum_stage.proofs.lagging.LaggingStage.readiness.Goals as goal
 
 pub returns-then-is_some : goal.returns-then-is_some
 returns-then-is_some g c t h =
-    let due = due_some g.C.Due.IntoRecord.becomes c.args.self.now.due
+    let due = due_some c.args.self.now.due
     (sym c.is_some.ensures ∙ c.if-is_some.true) in
     ap readiness_by (sym (lags_gives _ _ _ _ _ t due.0 h due.1))
 
 pub returns-in-None : goal.returns-in-None
 returns-in-None g c t h =
-    let none = due_none g.C.Due.IntoRecord.becomes c.args.self.now.due
+    let none = due_none c.args.self.now.due
     (sym c.is_some.ensures ∙ c.if-is_some.false) in
     sym (ap readiness_by (lags_rests _ _ _ _ _ t h none
     ∙ ap (resting_state c.args.self.now.fault) c.in-None.is))
 
 pub returns-in-Some : goal.returns-in-Some
 returns-in-Some g c t h =
-    let none = due_none g.C.Due.IntoRecord.becomes c.args.self.now.due
+    let none = due_none c.args.self.now.due
     (sym c.is_some.ensures ∙ c.if-is_some.false) in
     sym (ap readiness_by (lags_rests _ _ _ _ _ t h none
     ∙ ap (resting_state c.args.self.now.fault) c.in-Some.is))
