@@ -20,7 +20,7 @@ use Rattle.hum_context.specs.Options.{extent_of, choice_of}
 use Rattle.hum_context.specs.Context.{Choice, taken, context, all_some, data_of, if_fits, new_tokens}
 use Rattle.hum_context.specs.Columns.{path_through}
 use Rattle.hum_context.specs.Memory.{Follows, follows_each}
-use Rattle.hum_context.specs.Queue.{IsData, Known, Knows}
+use Rattle.hum_context.specs.Queue.{FirstIsData, Known, Knows}
 use Rattle.hum_context.specs.Walking.{AllStand, Stands}
 use Rattle.hum_context.proofs.Growth.{path_passed}
 use Rattle.hum_context.proofs.Queues.{knows_push}
@@ -194,6 +194,6 @@ begins options path gone walks p none zero = record {
 
 -- Where something is heard of the first that waits, it is data.
 pub first_is_data : (held : List Queued) (kept : Queued) → kept ≡ get_or held 0 kept → 0 < length held
-    → (length kept.heard.items == 0) ≡ false → IsData held
+    → (length kept.heard.items == 0) ≡ false → FirstIsData held
 first_is_data [] kept e some loud = absurd (omega (arith, some))
 first_is_data (q ∷ held) kept e some loud = rw e at (kept.valued (some_heard kept.heard.items loud))

@@ -10,7 +10,7 @@ use Rattle.hum_record.specs.Spelling.{IsTextOf}
 use Rattle.hum_path.specs.Spines.{Path}
 use Rattle.hum_context.specs.declared.queued.Queued.{Queued}
 use Rattle.hum_context.specs.Context.{Choice, chain}
-use Rattle.hum_context.specs.Queue.{HasToken, IsData}
+use Rattle.hum_context.specs.Queue.{HasToken, FirstIsData}
 use Rattle.hum_context.specs.Walking.{Writes}
 use Rattle.hum_context.proofs.Weighing.{Sofar, sofar_none, sofar_more}
 
@@ -49,12 +49,12 @@ written_more o path tokens rows j draft draft' long long' h below x =
     }
 
 pub first_token : (held : List Queued) (kept : Queued) (j : ℕ) → kept ≡ get_or held 0 kept
-    → IsData held → j < width_of kept.row → HasToken held j
+    → FirstIsData held → j < width_of kept.row → HasToken held j
 first_token [] kept j e h below = absurd h
 first_token (q ∷ held) kept j e h below = (h, rw e at below)
 
 -- the kind of the first
-pub first_kind : (held : List Queued) (kept : Queued) → kept ≡ get_or held 0 kept → IsData held
+pub first_kind : (held : List Queued) (kept : Queued) → kept ≡ get_or held 0 kept → FirstIsData held
     → kind_of kept.row ≡ AnyValues
 first_kind [] kept e h = absurd h
 first_kind (q ∷ held) kept e h = rw e h

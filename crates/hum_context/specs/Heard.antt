@@ -31,11 +31,6 @@ abbrev pub is_taken : Heard → Bool
 is_taken Passed = false
 is_taken (Taken begins ends) = true
 
--- whether others are collected from a token
-abbrev pub begins_in : Heard → Bool
-begins_in Passed = false
-begins_in (Taken begins ends) = begins
-
 -- what is heard of a record's token in a column: only data is collected
 abbrev pub heard_under : Choice → Row → ℕ → Heard
 heard_under o (Spined Values tokens) c = heard_of o (slice_index_or tokens c [])

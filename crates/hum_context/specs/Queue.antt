@@ -44,14 +44,14 @@ heard_token Passed token = []
 heard_token (Taken begins ends) token = token ∷ []
 
 -- the first record that waits is data
-abbrev pub IsData : List Queued → Type 0
-IsData [] = ⊥
-IsData (kept ∷ held) = kind_of kept.row ≡ AnyValues
+abbrev pub FirstIsData : List Queued → Type 0
+FirstIsData [] = ⊥
+FirstIsData (kept ∷ held) = kind_of kept.row ≡ AnyValues
 
 -- and has a token at place j
 abbrev pub HasToken : List Queued → ℕ → Type 0
 HasToken [] j = ⊥
-HasToken (kept ∷ held) j = (kind_of kept.row ≡ AnyValues) × (j < width_of kept.row)
+HasToken (kept ∷ held) j = FirstIsData (kept ∷ held) × (j < width_of kept.row)
 
 -- What is kept of a record is what it is, what is heard of its tokens, where the spines under it go
 -- and which of them end there.

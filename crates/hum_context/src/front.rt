@@ -9,7 +9,7 @@ ghost use Rattle.hum_path.specs.Spines.{Path};
 ghost use Rattle.hum_context.specs.Context.{Choice, all_some, begins, chain, is_collectable, taken};
 ghost use Rattle.hum_context.specs.Context.{new_tokens};
 ghost use Rattle.hum_context.specs.Heard.{wanted_of};
-ghost use Rattle.hum_context.specs.Queue.{HasToken, IsData, Knows};
+ghost use Rattle.hum_context.specs.Queue.{HasToken, FirstIsData, Knows};
 ghost use Rattle.hum_context.specs.Walking.{AllStand, AreKnown, Becomes, Counts, Halts, HasGrown, IsJoined};
 ghost use Rattle.hum_context.specs.Walking.{Stands, Takes, Weighs, Writes, bytes_of, collected};
 
@@ -322,8 +322,8 @@ fn write_token(
     Ok(())
 }
 
-/// The record that the first becomes that waits, where each of its new tokens is known, unless they are
-/// too long for one.
+/// The record that the first that waits becomes. None where one of its new tokens isn't known, or they
+/// are too long for one record.
 pub(crate) fn write(
     alloc: Global,
     held: &VecDeque<Queued>,
@@ -335,7 +335,7 @@ pub(crate) fn write(
 ) -> Result<Option<Record>, AllocError>
     requires few { gone + length held.now.items ≤ 4294967295 }
     requires within { 0 < length held.now.items }
-    requires data { IsData held.now.items }
+    requires data { FirstIsData held.now.items }
     ensures { IfOk result (λ made. (o : Choice) (path : Path) (tokens new : List (List ℕ))
         (rows : List Row) → wanted ≡ wanted_of o.extent → taken o.extent [] ≡ None
         → Knows o path held.now.items (Spined Values tokens ∷ rows)

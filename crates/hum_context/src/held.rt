@@ -23,8 +23,8 @@ enum Holding {
     Nulls(usize),
 }
 
-/// A record that waits. A wide one of null tokens, of which nothing is collected, is held by how many
-/// they are.
+/// A record that waits. A wide one of null tokens, of which nothing is collected, is held by their
+/// number.
 pub struct HeldRecord {
     holding: Holding,
 }

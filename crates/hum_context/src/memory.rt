@@ -112,7 +112,7 @@ impl LooksAhead for Collecting {
     }
 
     fn settle(&mut self, held: &mut VecDeque<Queued>) -> Result<Verdict, AllocError> {
-        // no more come
+        // no score has more records
         if self.gone.saturating_add(held.len() as u64) > MOST_RECORDS {
             return Ok(Verdict::Waits);
         }
@@ -143,7 +143,7 @@ impl LooksAhead for Collecting {
     }
 
     fn lasting(&self, held: &VecDeque<Queued>) -> usize {
-        // no more come
+        // no score has more records
         if held.len() as u64 > MOST_RECORDS {
             return 0;
         }

@@ -16,7 +16,7 @@ use Rattle.hum_stage.specs.Outcome.{held_of}
 use Rattle.hum_stage.specs.Meaning.{fault_at, Goes}
 use Rattle.hum_stage.specs.Look.{Look, IsSteady, outcomes_from, outcome_of}
 use Rattle.hum_stage.specs.LookLaws.{looks_grow, settled_at}
-use Rattle.hum_stage.specs.Settles.{lasting, or_stop}
+use Rattle.hum_stage.specs.Settles.{lasting, or_stop, with_due}
 use Rattle.hum_stage.specs.Lagging.{becomes, flat, listed, Stops, Lagged, LagsAt}
 use Rattle.hum_stage.proofs.Putting.{lined_lagged}
 use Rattle.hum_stage.proofs.Fronts.{within_room, refusal_behind, held_rest, held_behind}
@@ -58,7 +58,7 @@ broken : (room : ℕ) (look : Look) (follows : List Row → List Row → Type 0)
     (put : List Row) (given : ℕ) (k : Fault) → (h : LagsAt room look follows x put given)
     → x.fault ≡ Some k → Broken room look follows x put given h
 broken room look follows x put given k h e =
-    let empty = fault_empty x.due x.fault k e h.sound in
+    let empty = fault_empty x.due x.fault k e h.faultless in
     let all : outcomes_from room look [] put ≡ map becomes h.gone ++ h.rest =
     h.outcomes ∙ ap (λ (xs : List (Option Row)). map becomes xs ++ h.rest)
     (ap (λ (o : Option Row). h.gone ++ listed o) empty ∙ append-nil h.gone) in
@@ -99,7 +99,7 @@ put_dropped room look follows follows' x put next given k steady score h e =
       stopped = λ _. tt;
       fault = λ d. h.fault d
           ∙ ap (λ (r : Option (ℕ × Rule)). fault_at x.stage x.command r) (sym same);
-      sound = h.sound;
+      faultless = h.faultless;
       ahead = λ n. absurd (none-some k (sym n ∙ e));
     }
 
@@ -159,13 +159,7 @@ ended_none (Becomes rows ∷ os) h = absurd h
 ended_none (Refused rule ∷ os) h = refl
 ended_none (Undecided ∷ os) h = refl
 
--- how many are held of those that are due
-abbrev pub count_due : Option Row → ℕ
-count_due None = 0
-count_due (Some row) = 1
-
--- What is held: what is due, and those that wait, up to one that will be refused; none of these
--- after an end.
+-- Nothing is held after an end.
 pub held_ended : (room : ℕ) (look : Look) (follows : List Row → List Row
     → Type 0) (x : Lagged) (put : List Row) (given : ℕ) → LagsAt room look follows x put given
     → x.due ≡ None → held_of given true (outcomes_from room look [] put) ≡ 0
@@ -176,11 +170,12 @@ held_ended room look follows x put given h e =
     rw (all, h.counted) (held_behind true h.gone h.rest 0
     (held_rest 0 true h.rest (h.stopped e) ∙ ended_none h.rest (h.stopped e)))
 
+-- What is held: what is due, and those that wait, up to one that will be refused.
 pub held_waiting : (room : ℕ) (look : Look) (follows : List Row → List Row
     → Type 0) (x : Lagged) (put : List Row) (given : ℕ) → (h : LagsAt room look follows x put given)
     → (ok : x.fault ≡ None)
-    → held_of given false (outcomes_from room look [] put) ≡ count_due x.due + lasting look
-    (passed [] (h.ahead ok).front) (h.ahead ok).waits
+    → held_of given false (outcomes_from room look [] put) ≡ with_due x.due (lasting look
+    (passed [] (h.ahead ok).front) (h.ahead ok).waits)
 held_waiting room look follows x put given h ok =
     let a = h.ahead ok in
     let k : waiting false h.rest ≡ lasting look (passed [] a.front) a.waits =
@@ -191,20 +186,21 @@ held_waiting room look follows x put given h ok =
         → outcomes_from room look [] put ≡ map becomes (h.gone ++ listed due) ++ h.rest
         → (due ≡ None → Stops h.rest)
         → held_of (length (flat h.gone)) false (outcomes_from room look [] put)
-        ≡ count_due due + waiting false h.rest
+        ≡ with_due due (waiting false h.rest)
     by_due None os stops =
         let all : outcomes_from room look [] put ≡ map becomes h.gone ++ h.rest =
         os ∙ ap (λ (xs : List (Option Row)). map becomes xs ++ h.rest) (append-nil h.gone) in
-        rw all (held_behind false h.gone h.rest (0 + waiting false h.rest)
-        (held_rest 0 false h.rest (stops refl) ∙ omega arith))
+        rw all (held_behind false h.gone h.rest (waiting false h.rest)
+        (held_rest 0 false h.rest (stops refl)))
     by_due (Some row) os stops =
         let all : outcomes_from room look [] put
         ≡ map becomes h.gone ++ Becomes (row ∷ []) ∷ h.rest =
         os ∙ rw (map-append becomes h.gone (Some row ∷ []))
         (append_assoc (map becomes h.gone) (Becomes (row ∷ []) ∷ []) h.rest) in
-        rw all (held_behind false h.gone (Becomes (row ∷ []) ∷ h.rest) (1 + waiting false h.rest)
-        (omega arith))
+        rw all (held_behind false h.gone (Becomes (row ∷ []) ∷ h.rest) (waiting false h.rest + 1)
+        refl)
 
+-- Nothing is held after a fault.
 pub held_faulted : (room : ℕ) (look : Look) (follows : List Row → List Row
     → Type 0) (x : Lagged) (put : List Row) (given : ℕ) (k : Fault)
     → (h : LagsAt room look follows x put given) → x.fault ≡ Some k

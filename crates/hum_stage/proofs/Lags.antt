@@ -20,12 +20,12 @@ use Rattle.hum_stage.specs.declared.faults.State.TheVariants.{Gives, Wants}
 use Rattle.hum_stage.proofs.Moves.{wants_all, is_some_at}
 use Rattle.hum_stage.specs.Order.{open_score}
 use Rattle.hum_stage.specs.Look.{Look, IsSteady, outcomes_from, looking}
-use Rattle.hum_stage.specs.Settles.{MayWait, HasWaited, HasSettledNext, lasting, or_stop}
+use Rattle.hum_stage.specs.Settles.{MayWait, HasWaited, HasSettledNext, lasting, or_stop, with_due}
 use Rattle.hum_stage.proofs.Scores.{passed_length}
 use Rattle.hum_stage.specs.Lagging.{Lagged, Lags}
 use Rattle.hum_stage.proofs.Putting.{passed-append, put_parted, take_parted, drops_due, drops_refused}
 use Rattle.hum_stage.proofs.Putting.{due_lagged, refused_lagged, lined_lagged}
-use Rattle.hum_stage.proofs.Giving.{put_dropped, due_next, none_next, count_due, held_ended}
+use Rattle.hum_stage.proofs.Giving.{put_dropped, due_next, none_next, held_ended}
 use Rattle.hum_stage.proofs.Giving.{held_waiting, held_faulted}
 
 -- where one is due, something that is settled wasn't given
@@ -115,7 +115,7 @@ new_lags room follows stage command look steady h = record {
     counted = refl;
     stopped = λ _. tt;
     fault = λ _. refl;
-    sound = λ row e. refl;
+    faultless = λ row e. refl;
     ahead = λ _. record {
       front = [];
       waits = [];
@@ -241,7 +241,7 @@ pub lags_take : (room : ℕ) (follows follows' : Look → List Row → List Row 
     → (Some q ≡ slice_get (all_of t) t.given)
     × Lags room follows' (due_lagged x due) ended false (after_take t)
 lags_take room follows follows' x ended spent t q n due h e next =
-    let ok = h.at.sound q e in
+    let ok = h.at.faultless q e in
     let a = h.at.ahead ok in
     let p = take_parted room h.look (follows h.look) x t.put t.given q h.at e in (
       rw h.meaning (due_next room h.look (follows h.look) x t.put t.given q h.at e),
@@ -266,7 +266,7 @@ pub lags_take_refused : (room : ℕ) (follows follows' last : Look → List Row 
     → (Some q ≡ slice_get (all_of t) t.given)
     × Lags room last (refused_lagged (due_lagged x None) n rule) ended false (after_take t)
 lags_take_refused room follows follows' last x ended spent t q n rule h e next =
-    let ok = h.at.sound q e in
+    let ok = h.at.faultless q e in
     let a = h.at.ahead ok in
     let p = take_parted room h.look (follows h.look) x t.put t.given q h.at e in (
       rw h.meaning (due_next room h.look (follows h.look) x t.put t.given q h.at e),
@@ -292,7 +292,7 @@ lags_none room follows x ended spent t h e =
     rw h.meaning (none_next room h.look (follows h.look) x t.put t.given h.at e) in
     sym (slice_get_past (all_of t) t.given (omega (arith, all)))
 
--- what is held after an end or a fault
+-- nothing is held after an end or a fault
 pub held_stopped : (room : ℕ) (follows : Look → List Row → List Row
     → Type 0) (x : Lagged) (ended : Option End) (spent : Bool) (t : Moment)
     → (h : Lags room follows x ended spent t) → (is_some ended || is_some x.fault) ≡ true
@@ -315,7 +315,7 @@ pub held_open : (room : ℕ) (follows : Look → List Row → List Row
     → Type 0) (x : Lagged) (ended : Option End) (spent : Bool) (t : Moment) (n : ℕ)
     → (h : Lags room follows x ended spent t) → is_some ended ≡ false → is_some x.fault ≡ false
     → ((look : Look) (past rows : List Row) → follows look past rows → n ≡ lasting look past rows)
-    → count_due x.due + n ≡ held_at t
+    → with_due x.due n ≡ held_at t
 held_open room follows x ended spent t n h going e count =
     let ok : x.fault ≡ None = none_end x.fault e in
     let open_end : ended ≡ None = none_end ended going in
@@ -323,7 +323,7 @@ held_open room follows x ended spent t n h going e count =
     let k = count h.look (passed [] a.front) a.waits a.memory in
     rw (h.meaning, ← h.ending, open_end)
     (sym (held_waiting room h.look (follows h.look) x t.put t.given h.at ok
-    ∙ ap (λ (m : ℕ). count_due x.due + m) (sym k)))
+    ∙ ap (λ (m : ℕ). with_due x.due m) (sym k)))
 
 lasting_le : (look : Look) (past rows : List Row) → lasting look past rows ≤ length rows
 lasting_le look past [] = omega arith

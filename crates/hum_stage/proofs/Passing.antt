@@ -14,7 +14,7 @@ use Rattle.hum_stage.specs.declared.faults.Rule.TheVariants.{H1}
 use Rattle.hum_stage.specs.declared.looks_ahead.Verdict.TheVariants.{Waits, Gives, Refuses}
 use Rattle.hum_stage.specs.Outcome.{Becomes}
 use Rattle.hum_stage.specs.Look.{Look, outcome_at, outcomes_from}
-use Rattle.hum_stage.specs.Settles.{Follows, Settles, Drops, NextIs, nothing}
+use Rattle.hum_stage.specs.Settles.{Follows, Settles, Drops, NextIs, all_dropped}
 use Rattle.hum_stage.proofs.Fronts.{within_room}
 
 -- So far the memory has let only records go that are dropped.
@@ -113,7 +113,7 @@ drops_more room look past rows follows follows' h few some verdict =
   where
     on : (dropped rest : List Row) → rows ≡ dropped ++ rest
         → outcomes_from room look past rows
-        ≡ nothing dropped ++ outcomes_from room look (passed past dropped) rest
+        ≡ all_dropped dropped ++ outcomes_from room look (passed past dropped) rest
         → follows (passed past dropped) rest → Drops room look past rows follows'
     on dropped [] split outcomes behind =
         let k = some (passed past dropped) [] behind in absurd (omega (arith, k))
@@ -130,7 +130,7 @@ drops_more room look past rows follows follows' h few some verdict =
             o,
             passed-push past dropped row,
             map-append (λ (r : Row). Becomes []) dropped (row ∷ []),
-          ) (sym (append_assoc (nothing dropped) (Becomes [] ∷ []) (outcomes_from room look
+          ) (sym (append_assoc (all_dropped dropped) (Becomes [] ∷ []) (outcomes_from room look
               (row ∷ passed past dropped) rest)));
           behind = rw (passed-push past dropped row) v.1;
         }

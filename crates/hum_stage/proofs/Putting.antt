@@ -15,7 +15,7 @@ use Rattle.hum_stage.specs.Outcome.{Outcome, Becomes, Refused, Undecided, refusa
 use Rattle.hum_stage.specs.Meaning.{fault_at}
 use Rattle.hum_stage.specs.Look.{Look, IsSteady, outcome_of, outcomes_from}
 use Rattle.hum_stage.specs.LookLaws.{flat-append}
-use Rattle.hum_stage.specs.Settles.{Drops, NextIs, nothing}
+use Rattle.hum_stage.specs.Settles.{Drops, NextIs, all_dropped}
 use Rattle.hum_stage.specs.Lagging.{becomes, flat, listed, Lagged, LagsAt}
 use Rattle.hum_stage.proofs.Fronts.{front_stays, refusal_behind}
 
@@ -96,10 +96,10 @@ put_parted room look follows x put next given steady score h empty ok =
 pub take_parted : (room : ℕ) (look : Look) (follows : List Row → List Row → Type 0) (x : Lagged)
     (put : List Row) (given : ℕ) (due : Row)
     → (h : LagsAt room look follows x put given) → (e : x.due ≡ Some due)
-    → Parted room look put (given + 1) (h.gone ++ Some due ∷ []) (h.ahead (h.sound due e)).front
-    (h.ahead (h.sound due e)).waits
+    → Parted room look put (given + 1) (h.gone ++ Some due ∷ []) (h.ahead (h.faultless due e)).front
+    (h.ahead (h.faultless due e)).waits
 take_parted room look follows x put given due h e =
-    let a = h.ahead (h.sound due e) in
+    let a = h.ahead (h.faultless due e) in
     let all : h.gone ++ listed x.due ≡ h.gone ++ Some due ∷ [] =
     ap (λ (o : Option Row). h.gone ++ listed o) e in
     let count = h.counted in
@@ -122,10 +122,10 @@ nones_flat : (dropped : List Row) → flat (nones dropped) ≡ []
 nones_flat [] = refl
 nones_flat (row ∷ dropped) = nones_flat dropped
 
-nones_nothing : (dropped : List Row) → map becomes (nones dropped) ≡ nothing dropped
-nones_nothing [] = refl
-nones_nothing (row ∷ dropped) =
-    ap (λ (os : List Outcome). Becomes [] ∷ os) (nones_nothing dropped)
+nones_dropped : (dropped : List Row) → map becomes (nones dropped) ≡ all_dropped dropped
+nones_dropped [] = refl
+nones_dropped (row ∷ dropped) =
+    ap (λ (os : List Outcome). Becomes [] ∷ os) (nones_dropped dropped)
 
 nones_length : (dropped : List Row) → length (nones dropped) ≡ length dropped
 nones_length [] = refl
@@ -152,8 +152,8 @@ drop_parted room look put given gone front waits then p d =
           ∙ (ap (λ (xs : List Row). flat gone ++ xs) (nones_flat d.dropped)
           ∙ append-nil (flat gone))));
       outcomes = p.outcomes ∙ (ap (λ (os : List Outcome). map becomes gone ++ os) d.outcomes
-          ∙ rw (map-append becomes gone (nones d.dropped), nones_nothing, passed-append)
-          (sym (append_assoc (map becomes gone) (nothing d.dropped)
+          ∙ rw (map-append becomes gone (nones d.dropped), nones_dropped, passed-append)
+          (sym (append_assoc (map becomes gone) (all_dropped d.dropped)
           (outcomes_from room look (passed (passed [] front) d.dropped) d.rest))));
       few = omega (arith, cut, sum, few);
     }
@@ -188,7 +188,7 @@ at_due room look follows x put given n gone front [] None line ok p next =
       stopped = λ _. tt;
       fault = λ _. ok ∙ sym (ap (λ (r : Option (ℕ × Rule)). fault_at x.stage x.command r)
           (ap (refusal 1) p.outcomes ∙ refusal_behind 1 gone []));
-      sound = λ row e. absurd (none-some row e);
+      faultless = λ row e. absurd (none-some row e);
       ahead = λ _. record {
         front = front;
         waits = [];
@@ -216,7 +216,7 @@ at_due room look follows x put given n gone front (row ∷ rest) None line ok p 
       stopped = λ _. rw next.0 tt;
       fault = λ _. ok ∙ sym (ap (λ (r : Option (ℕ × Rule)). fault_at x.stage x.command r)
           (ap (refusal 1) p.outcomes ∙ (refusal_behind 1 gone _ ∙ ap (refusal (1 + length gone)) os)));
-      sound = λ row e. absurd (none-some row e);
+      faultless = λ row e. absurd (none-some row e);
       ahead = λ _. record {
         front = front;
         waits = row ∷ rest;
@@ -243,7 +243,7 @@ at_due room look follows x put given n gone front (row ∷ rest) (Some due) line
       counted = p.given_so;
       stopped = λ e. absurd (none-some due (sym e));
       fault = λ e. absurd (none-some due (sym e));
-      sound = λ row e. ok;
+      faultless = λ row e. ok;
       ahead = λ _. record {
         front = front ++ row ∷ [];
         waits = rest;
@@ -284,7 +284,7 @@ at_refused room look follows follows' x put given n gone front (row ∷ rest) ru
       stopped = λ _. rw next.0 tt;
       fault = λ _. rw at (sym (ap (λ (r : Option (ℕ × Rule)). fault_at x.stage x.command r)
           (ap (refusal 1) p.outcomes ∙ (refusal_behind 1 gone _ ∙ ap (refusal (1 + length gone)) os))));
-      sound = λ row e. absurd (none-some row (sym empty ∙ e));
+      faultless = λ row e. absurd (none-some row (sym empty ∙ e));
       ahead = λ e. absurd (none-some _ (sym e));
     }
 

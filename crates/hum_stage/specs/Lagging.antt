@@ -20,7 +20,7 @@ abbrev pub flat : List (Option Row) → List Row
 flat [] = []
 flat (o ∷ outs) = option_to_list o ++ flat outs
 
--- a record that is due is one that was decided
+-- what is due, as a list of records that were decided
 abbrev pub listed : Option Row → List (Option Row)
 listed None = []
 listed (Some row) = Some row ∷ []
@@ -40,7 +40,7 @@ pub record Lagged : Type 0 where
   pub due : Option Row
   pub fault : Option Fault
 
--- The records that became something or nothing, of which there are so many, and those that wait.
+-- The records that were put: those that went, of which there are so many, and those that wait.
 pub record Ahead (room : ℕ) (look : Look) (follows : List Row → List Row
     → Type 0) (put : List Row) (count : ℕ) (rest : List Outcome) : Type 0 where
   pub front : List Row
@@ -51,7 +51,8 @@ pub record Ahead (room : ℕ) (look : Look) (follows : List Row → List Row
   pub few : length waits ≤ room
   pub outcomes : rest ≡ outcomes_from room look (passed [] front) waits
 
--- Those behind the one that is due are looked at once it is taken. Where none is due, none is settled.
+-- Those behind the one that is due are looked at once it is taken. Where none is due, all that is
+-- settled was given.
 pub record LagsAt (room : ℕ) (look : Look) (follows : List Row → List Row
     → Type 0) (x : Lagged) (put : List Row) (given : ℕ) : Type 0 where
   pub line : x.line ≡ length put
@@ -62,7 +63,7 @@ pub record LagsAt (room : ℕ) (look : Look) (follows : List Row → List Row
   pub stopped : x.due ≡ None → Stops rest
   pub fault : x.due ≡ None
       → x.fault ≡ fault_at x.stage x.command (refusal 1 (outcomes_from room look [] put))
-  pub sound : (row : Row) → x.due ≡ Some row → x.fault ≡ None
+  pub faultless : (row : Row) → x.due ≡ Some row → x.fault ≡ None
   pub ahead : x.fault ≡ None → Ahead room look follows put (length (gone ++ listed x.due)) rest
 
 pub record Lags (room : ℕ) (follows : Look → List Row → List Row

@@ -13,7 +13,7 @@ use Rattle.hum_stage.specs.declared.faults.Rule.TheVariants.{H1}
 use Rattle.hum_stage.specs.Outcome.{Outcome, Becomes, Refused, Undecided, settled}
 use Rattle.hum_stage.specs.Meaning.{Goes, Moment, all_of}
 use Rattle.hum_stage.specs.declared.faults.End.{End}
-use Rattle.hum_stage.specs.Lagging.{becomes, flat, listed, Stops, Lagged, LagsAt, Lags}
+use Rattle.hum_stage.specs.Lagging.{becomes, flat, listed, Lagged, LagsAt, Lags}
 use Rattle.std.specs.Option.{option_to_list}
 use Rattle.hum_stage.specs.Look.{Look, outcome_of, outcome_at, outcomes_from, IsSteady}
 
@@ -112,12 +112,6 @@ pub settled_behind : (outs : List (Option Row)) (rest : List Outcome)
 settled_behind [] rest = refl
 settled_behind (o ∷ outs) rest = ap (λ (xs : List Row). option_to_list o ++ xs)
     (settled_behind outs rest) ∙ sym (append_assoc (option_to_list o) (flat outs) (settled rest))
-
-pub settled_rest : (rest : List Outcome) → Stops rest → settled rest ≡ []
-settled_rest [] h = refl
-settled_rest (Becomes rows ∷ os) h = absurd h
-settled_rest (Refused rule ∷ os) h = refl
-settled_rest (Undecided ∷ os) h = refl
 
 pub flat-append : (xs ys : List (Option Row)) → flat (xs ++ ys) ≡ flat xs ++ flat ys
 flat-append [] ys = refl

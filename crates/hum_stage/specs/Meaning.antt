@@ -128,7 +128,7 @@ HasTaken before after taken =
     → (taken ≡ slice_get (all_of t) t.given)
     × MatchOption taken (after t) (λ _. after (after_take t))
 
--- with a record that was taken, fewer are left
+-- where a record was taken, fewer are left
 abbrev pub LeavesFewer : Option Row → ℕ → ℕ → Type 0
 LeavesFewer None before after = Unit {0}
 LeavesFewer (Some row) before after = after < before

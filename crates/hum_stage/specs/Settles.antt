@@ -67,9 +67,8 @@ abbrev pub Lasts : Follows → ℕ → Type 0
 Lasts follows n = (look : Look) (past rows : List Row) → follows look past rows
     → n ≡ lasting look past rows
 
--- What comes next of those that wait, behind those that are dropped: none, since none is left or the
--- first is undecided; a record that is due, which the first becomes; or the rule by which it is
--- refused, with as many waiting as there are.
+-- What comes next of those that wait: none, since none is left or the first is undecided; the record
+-- that the first becomes; or the rule by which the first is refused, with n that wait.
 abbrev pub NextIs : ℕ → Look → List Row → List Row → (List Row → List Row → Type 0) → ℕ
     → Result (Option Row) Rule → Type 0
 NextIs room look past [] follows n (Ok None) = follows past []
@@ -82,22 +81,22 @@ NextIs room look past (row ∷ rows) follows n (Ok (Some due)) =
 NextIs room look past (row ∷ rows) follows n (Err rule) =
     (outcome_at room look past row rows ≡ Refused rule) × (n ≡ length rows + 1)
 
--- each of these becomes none
-abbrev pub nothing : List Row → List Outcome
-nothing dropped = map (λ _. Becomes []) dropped
+-- each of these is dropped
+abbrev pub all_dropped : List Row → List Outcome
+all_dropped rows = map (λ _. Becomes []) rows
 
--- The first of some records that wait are dropped.
+-- The first of some records that wait, or none, are dropped, and of those left something holds.
 pub record Drops (room : ℕ) (look : Look) (past rows : List Row)
     (then : List Row → List Row → Type 0) : Type 0 where
   pub dropped : List Row
   pub rest : List Row
   pub split : rows ≡ dropped ++ rest
   pub outcomes : outcomes_from room look past rows
-      ≡ nothing dropped ++ outcomes_from room look (passed past dropped) rest
+      ≡ all_dropped dropped ++ outcomes_from room look (passed past dropped) rest
   pub behind : then (passed past dropped) rest
 
--- So the memory goes from one record that becomes one to the next, with at most one more waiting than
--- there is room for.
+-- The memory lets those go that are dropped, and then this comes next, where at most one more waits
+-- than there is room for.
 abbrev pub HasSettledNext : ℕ → Follows → Follows → ℕ → Result (Option Row) Rule → Type 0
 HasSettledNext room before after n next =
     (look : Look) (past rows : List Row) → before look past rows → length rows ≤ room + 1
@@ -108,6 +107,7 @@ abbrev pub with_due : Option Row → ℕ → ℕ
 with_due None n = n
 with_due (Some due) n = n + 1
 
+-- the same, by what comes next
 abbrev pub with_next : Result (Option Row) Rule → ℕ → ℕ
 with_next (Ok due) n = with_due due n
 with_next (Err rule) n = n

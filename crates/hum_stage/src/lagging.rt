@@ -197,10 +197,7 @@ impl<C: LooksAhead> Stage for Lagging<C> {
     }
 
     fn held(&self) -> usize {
-        if self.ended.is_some() {
-            return 0;
-        }
-        if self.fault.is_some() {
+        if self.ended.is_some() || self.fault.is_some() {
             return 0;
         }
         let lasting = self.memory.lasting(&self.waiting);

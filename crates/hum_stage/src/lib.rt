@@ -22,9 +22,6 @@ mod settling;
 /// How many records a score may have, and a stage may give.
 pub const MOST_RECORDS: u64 = 4_294_967_295;
 
-// how many records behind it a record may wait for
-const ROOM: usize = 65_536;
-
 pub use at_once::AtOnce;
 pub use contract::Stage;
 pub use deciding::Decides;

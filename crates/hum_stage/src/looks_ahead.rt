@@ -23,10 +23,10 @@ pub enum Verdict {
 }
 
 /// A command that decides a record by some of those behind it, with what it remembers of the
-/// records so far and of those that wait to be decided.
+/// records so far and of those that wait.
 ///
-/// The stage round it, [`Lagging`](crate::Lagging), keeps the queue of those that wait and lends it to each
-/// call. A record that is decided before those in front of it goes on waiting until they are.
+/// The stage round it, [`Lagging`](crate::Lagging), keeps the queue of those that wait and lends it
+/// to each call. A record that is decided goes on waiting until those in front of it are gone.
 pub trait LooksAhead {
     /// What it is told to do.
     type Options;

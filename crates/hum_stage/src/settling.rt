@@ -3,16 +3,18 @@ ghost use Rattle.std.specs.Prelude.{◌≤◌, IfOk};
 ghost use Rattle.std.specs.VecDeque.{deque_len};
 ghost use Rattle.hum_stage.specs.Settles.{HasSettledNext, with_next};
 
-use crate::ROOM;
 use crate::faults::Rule;
 use crate::looks_ahead::{LooksAhead, Verdict};
 use hum_record::Record;
 use std::alloc::AllocError;
 use std::collections::VecDeque;
 
-/// Lets records that wait go up to the first that becomes one, which it answers, while the first is
-/// decided; or the rule by which the first is refused, which is H1 where it is undecided with
-/// too many behind it.
+// how many records behind it a record may wait for
+const ROOM: usize = 65_536;
+
+/// Lets the first records that wait go, up to one that becomes a record, and answers that record; none
+/// where no more wait or the next is undecided; or the rule by which the next is refused, H1
+/// where it is undecided with 65,536 behind it.
 pub fn settle_next<C: LooksAhead>(
     memory: &mut C,
     waiting: &mut VecDeque<C::Held>,
