@@ -2,9 +2,8 @@
 use Rattle.std.proofs.Common.{◌≡◌, ◌∙◌, refl, sym, ap, subst, ℕ, zero, suc, ◌+◌, ◌≤◌, Bool, true, false, arith}
 use Rattle.std.proofs.Common.{List, [], ◌∷◌, ◌++◌, length, drop, append_assoc, append-nil}
 use Rattle.std.specs.Prelude.{Option, Some, None, slice_get, is_none, if◌then◌else◌}
-use Rattle.std.proofs.Common.{Bor}
 use Rattle.std.proofs.lemmas.Option.{same_Some}
-use Rattle.hum_text.specs.Calls.{Calls}
+use Rattle.hum_pipeline.specs.declared.bundles.HeldScore.{HeldScore}
 use Rattle.std.proofs.lemmas.List.{drop_all, length-append}
 use Rattle.hum_plan.specs.declared.stages.Options.{Options}
 use Rattle.hum_plan.specs.declared.stages.Options.TheVariants as told
@@ -15,8 +14,8 @@ use Rattle.hum_pipeline.specs.declared.outcome.Outcome.{Outcome}
 use Rattle.hum_pipeline.specs.declared.outcome.Outcome.TheVariants as outcome
 use Rattle.hum_pipeline.specs.Bundles.{score_by, bytes_by, or_empty, first_lacking, Adds, LacksHere}
 use Rattle.hum_pipeline.specs.Bundles.{LacksNow, IsRefusal, Comes, ComesOfBundle}
-use Rattle.hum_pipeline.specs.Bundles.{is_failed_write}
-use Rattle.hum_net.specs.Readers.{is_write}
+use Rattle.hum_pipeline.specs.Bundles.{is_failed_write, is_read_by}
+use Rattle.hum_net.specs.Readers.{is_write, is_read_of}
 use Rattle.std.specs.Prelude.{◌||◌}
 use Rattle.std.proofs.Math.Bool.{or-false}
 use Rattle.hum_plan.specs.Stages.{Stage}
@@ -140,9 +139,9 @@ filled_all remaining score stages k readers filled past =
           tt));
     }
 
--- the bytes that a reader of a slice tells
-abbrev pub slice_tells : Calls (Bor (List ℕ)) → Option (List ℕ)
-slice_tells m = Some m.inner.now
+-- the bytes that a score in a bundle tells
+abbrev pub slice_tells : HeldScore → Option (List ℕ)
+slice_tells s = Some s.rest.now
 
 pub filled_next : {R : Type 0} (remaining : R → Option (List ℕ)) (score : List ℕ → Option (List ℕ))
     (stages : List PlanStage) (k : ℕ) (stage : PlanStage) (old new : List R) →
@@ -185,6 +184,20 @@ lack_writes_none score stages outcome.TooLarge h = refl
 
 pub unmarked : (mark : Bool) (outcome : Outcome) → is_failed_write outcome ≡ false → mark ≡ (mark || is_failed_write outcome)
 unmarked mark outcome none = sym (or-false mark) ∙ ap (λ b. mark || b) (sym none)
+
+-- Nor does a read.
+pub refusal_reads_none : (text : List ℕ) (outcome : Outcome) → IsRefusal text outcome → (k : ℕ) → is_read_by k outcome ≡ false
+refusal_reads_none text (outcome.Run end) h k = ap (λ e. is_read_of k (Some e)) h
+refusal_reads_none text (outcome.Plan fault) h k = refl
+refusal_reads_none text (outcome.NoScore number) h k = refl
+refusal_reads_none text outcome.TooLarge h k = refl
+
+pub lack_reads_none : (score : List ℕ → Option (List ℕ)) (stages : List Stage) (outcome : Outcome) →
+    LacksNow score stages outcome → (k : ℕ) → is_read_by k outcome ≡ false
+lack_reads_none score stages (outcome.Run end) h k = ap (λ e. is_read_of k (Some e)) h
+lack_reads_none score stages (outcome.Plan fault) h k = refl
+lack_reads_none score stages (outcome.NoScore number) h k = refl
+lack_reads_none score stages outcome.TooLarge h k = refl
 
 -- How many readers there are for the stages before stage k.
 pub counted_next : (stages : List PlanStage) (k : ℕ) (stage : PlanStage) (m n : ℕ) →

@@ -1,5 +1,5 @@
 -- A plan's net, from its beginning to the end of its run.
-use Rattle.std.proofs.Common.{◌≡◌, ◌∙◌, refl, sym, subst, ℕ, zero, suc, ◌+◌, ◌<◌, ◌≤◌, Bool, true, false}
+use Rattle.std.proofs.Common.{◌≡◌, ◌∙◌, refl, sym, ap, subst, ◌||◌, ℕ, zero, suc, ◌+◌, ◌<◌, ◌≤◌, Bool, true, false}
 use Rattle.std.proofs.Common.{List, [], ◌∷◌, length, arith}
 use Rattle.std.specs.Prelude.{Option, Some, None, slice_get}
 use Rattle.std.proofs.lemmas.Bool.{false≢true}
@@ -13,8 +13,8 @@ use Rattle.hum_turns.specs.Failures.{Now, IsFirst}
 use Rattle.hum_nodes.specs.At.{At, fresh}
 use Rattle.hum_nodes.specs.declared.either.Node.{Node}
 use Rattle.hum_nodes.specs.declared.either.Node.TheVariants.{Source, Stage}
-use Rattle.hum_nodes.specs.Nodes.{ended_of}
-use Rattle.hum_net.specs.Readers.{or_none}
+use Rattle.hum_nodes.specs.Nodes.{ended_of, failed_of}
+use Rattle.hum_net.specs.Readers.{or_none, failed_at}
 use Rattle.hum_net.specs.declared.net.Net.{Net}
 use Rattle.hum_net.specs.Scene.{Scene, IsBegun, IsNetPlan}
 use Rattle.hum_net.specs.Nets.{AreBegun}
@@ -281,3 +281,18 @@ net_at {F} {W} {S} {stands} bytes stages nodes size start made ok tree some fits
           (begun bytes bytes stages nodes size fits (λ i stage e. same_self stage.options (bytes i))),
       sound,
     )
+
+-- Where no source can fail, none has failed, and no failed read is told.
+none_failed : {F W : Type 0} (failed : F → Bool) → ((f : F) → failed f ≡ false) → (nodes : List (Node F W)) (k : ℕ)
+    → failed_at failed k nodes ≡ false
+none_failed {F} {W} failed never nodes k = by (slice_get nodes k)
+  where
+    by : (o : Option (Node F W)) → or_none false (failed_of failed) o ≡ false
+    by None = refl
+    by (Some (Source f)) = never f
+    by (Some (Stage w)) = refl
+
+pub no_read_failed : {F W : Type 0} (failed : F → Bool) → ((f : F) → failed f ≡ false) → (old new : List (Node F W))
+    (k : ℕ) (told : Bool) → failed_at failed k new ≡ (failed_at failed k old || told) → told ≡ false
+no_read_failed failed never old new k told e =
+    ap (λ b. b || told) (sym (none_failed failed never old k)) ∙ sym e ∙ none_failed failed never new k

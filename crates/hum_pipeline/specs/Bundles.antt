@@ -4,7 +4,7 @@ use Rattle.std.specs.Prelude.{List, [], ◌∷◌, ◌++◌, Option, None, Some,
 use Rattle.hum_turns.specs.declared.result.RunResult.{RunResult}
 use Rattle.hum_turns.specs.declared.result.RunResult.TheVariants as ends
 use Rattle.hum_turns.specs.Orders.{Order}
-use Rattle.hum_net.specs.Readers.{is_write}
+use Rattle.hum_net.specs.Readers.{is_write, is_read_of}
 use Rattle.hum_plan.specs.Stages.{Stage, Options, Read, Assemble, Takes}
 use Rattle.hum_plan.specs.Grammar.{IsPlanOf}
 use Rattle.hum_plan.specs.Answers.{PlanAnswer}
@@ -136,3 +136,10 @@ is_failed_write (outcome.Run end) = is_write (Some end)
 is_failed_write (outcome.Plan fault) = false
 is_failed_write (outcome.NoScore number) = false
 is_failed_write outcome.TooLarge = false
+
+-- A failed read of this stage, from 0, has ended the run.
+abbrev pub is_read_by : ℕ → Outcome → Bool
+is_read_by k (outcome.Run end) = is_read_of k (Some end)
+is_read_by k (outcome.Plan fault) = false
+is_read_by k (outcome.NoScore number) = false
+is_read_by k outcome.TooLarge = false

@@ -1,5 +1,6 @@
 //! Runs of bundles: a plan and its scores in one stream.
-ghost use Rattle.std.specs.Prelude.{◌≡◌, ◌≤◌, ◌<◌, ◌||◌, length, nat_lt, true, IfOk, OnOk, IfErr, None};
+ghost use Rattle.std.specs.Prelude.{◌≡◌, ◌≤◌, ◌<◌, ◌||◌, length, nat_lt, true, false, ℕ};
+ghost use Rattle.std.specs.Prelude.{IfOk, OnOk, IfErr, None, Some};
 ghost use Rattle.hum_plan.specs.Stages.{IsTree, Read};
 ghost use Rattle.hum_plan.specs.Seen.{stages_of, options_of};
 ghost use Rattle.hum_plan.specs.Grammar.{IsPlanOf};
@@ -7,15 +8,17 @@ ghost use Rattle.hum_bundle.specs.Parts.{largest, plan_of, score_of};
 ghost use Rattle.hum_pipeline.specs.Nodes.{AreTold, reads_of};
 ghost use Rattle.hum_pipeline.specs.Bundles.{ComesOfBundle, LacksNow, IsRefusal, is_refused};
 ghost use Rattle.hum_pipeline.specs.Bundles.{LacksHere, Adds, bytes_by, first_lacking, MayHavePicked};
-ghost use Rattle.hum_pipeline.specs.Bundles.{is_failed_write};
+ghost use Rattle.hum_pipeline.specs.Bundles.{is_failed_write, is_read_by};
 
 use crate::outcome::Outcome;
 use crate::running::run_stages;
 use hum_bundle::{is_too_large, plan_part, score};
 use hum_plan::{Options, PlanError, PlanStage, parse_plan};
-use hum_text::calls::{Marked, Sink, Source};
+use hum_text::calls::{Sink, Source};
 use hum_turns::{Order, RunResult};
 use std::alloc::Global;
+use std::io;
+use std::io::Read;
 
 /// The stages of a plan's text.
 ///
@@ -33,22 +36,56 @@ pub fn plan_stages(alloc: Global, text: &[u8]) -> Result<Vec<PlanStage>, Outcome
     }
 }
 
+/// A score in a bundle, which is read from where it stands: no read of it fails.
+#[derive(Drop)]
+struct HeldScore<'a> {
+    rest: &'a [u8],
+    calls: u64,
+}
+
+impl<'a> HeldScore<'a> {
+    /// A score of which nothing was read yet.
+    fn new(bytes: &'a [u8]) -> HeldScore<'a>
+        ensures { result ≡ record { rest = bytes.entry; calls = 0 } }
+    {
+        HeldScore {
+            rest: bytes,
+            calls: 0,
+        }
+    }
+}
+
+impl<'a> Source for HeldScore<'a> {
+    ghost use Rattle.std.specs.Prelude.{false};
+
+    ghost remaining = { λ s. Some s.rest.now };
+
+    ghost calls = { λ s. s.calls };
+
+    ghost failed = { λ s. false };
+
+    fn read(&mut self, buf: &mut [u8]) -> io::Result<usize> {
+        self.calls = self.calls.saturating_add(1);
+        self.rest.read(buf)
+    }
+}
+
 /// Adds a reader of the score of this name.
 fn add_score<'a>(
     bundle: &'a [u8],
     k: usize,
     name: &str,
-    readers: &mut Vec<Marked<&'a [u8]>>,
+    readers: &mut Vec<HeldScore<'a>>,
 ) -> Result<(), Outcome>
     requires { k < 64 }
-    ensures added { OnOk result (Adds ⟦<Marked<&'a [u8]> as Source>⟧.remaining
+    ensures added { OnOk result (Adds ⟦<HeldScore<'a> as Source>⟧.remaining
         (λ name. score_of name bundle.entry.now) (Read name.now) readers.old.items readers.new.items) }
     ensures lacks { IfErr result
         (LacksHere (λ name. score_of name bundle.entry.now) k (Read name.now)) }
 {
     match score(bundle, name) {
         None => Err(Outcome::NoScore(k as u8 + 1)),
-        Some(bytes) => match readers.push(Marked::new(bytes)) {
+        Some(bytes) => match readers.push(HeldScore::new(bytes)) {
             Ok(()) => Ok(()),
             Err(_) => Err(Outcome::Run(RunResult::Memory)),
         },
@@ -60,10 +97,10 @@ fn add_reader<'a>(
     bundle: &'a [u8],
     k: usize,
     stage: &PlanStage,
-    readers: &mut Vec<Marked<&'a [u8]>>,
+    readers: &mut Vec<HeldScore<'a>>,
 ) -> Result<(), Outcome>
     requires { k < 64 }
-    ensures added { OnOk result (Adds ⟦<Marked<&'a [u8]> as Source>⟧.remaining
+    ensures added { OnOk result (Adds ⟦<HeldScore<'a> as Source>⟧.remaining
         (λ name. score_of name bundle.entry.now) (options_of stage.now.options) readers.old.items
         readers.new.items) }
     ensures lacks { IfErr result
@@ -84,12 +121,12 @@ fn readers<'a>(
     alloc: Global,
     bundle: &'a [u8],
     stages: &[PlanStage],
-) -> Result<Vec<Marked<&'a [u8]>>, Outcome>
+) -> Result<Vec<HeldScore<'a>>, Outcome>
     requires { length stages.now ≤ 64 }
     ensures count { IfOk result (λ readers. reads_of stages.now ≡ length readers.items) }
     ensures there { OnOk result
         (first_lacking (λ name. score_of name bundle.entry.now) 1 (stages_of stages.now) ≡ None) }
-    ensures told { IfOk result (λ readers. AreTold ⟦<Marked<&'a [u8]> as Source>⟧.remaining
+    ensures told { IfOk result (λ readers. AreTold ⟦<HeldScore<'a> as Source>⟧.remaining
         (bytes_by (λ name. score_of name bundle.entry.now) (stages_of stages.now)) 0 stages.now
         readers.items) }
     ensures lacks { IfErr result
@@ -127,6 +164,9 @@ pub fn run_bundle<O: Order, W: Sink + Drop>(
 
     // A failed write or flush is told exactly where one set the writer's mark.
     ensures marked { W.failed result.1 ≡ (W.failed writer || is_failed_write result.0) }
+
+    // The scores are held, so that no read of one fails, and none is told to.
+    ensures unread { (k : ℕ) → is_read_by k result.0 ≡ false }
 
     // Where nothing was run, the writer and the order are as they were.
     ensures refused { is_refused result.0 ≡ true

@@ -1,8 +1,8 @@
 //! Runs of plans.
-ghost use Rattle.std.specs.Prelude.{◌≡◌, ◌≤◌, ◌||◌, ℕ, List, Some, length};
+ghost use Rattle.std.specs.Prelude.{◌≡◌, ◌≤◌, ◌||◌, ℕ, false, List, Some, length};
 ghost use Rattle.hum_plan.specs.Stages.{IsTree};
 ghost use Rattle.hum_plan.specs.Seen.{stages_of};
-ghost use Rattle.hum_net.specs.Readers.{is_write};
+ghost use Rattle.hum_net.specs.Readers.{is_write, is_read_of};
 ghost use Rattle.hum_pipeline.specs.Nodes.{AreTold, reads_by, reads_of};
 ghost use Rattle.hum_pipeline.specs.Runs.{HasWritten, HasPicked};
 
@@ -42,6 +42,10 @@ pub fn run_stages<R: Source + Drop, O: Order, W: Sink + Drop>(
 
     // A failed write or flush is told exactly where one set the sink's mark.
     ensures marked { W.failed result.1 ≡ (W.failed sink || is_write (Some result.0)) }
+
+    // Where no reader can fail, no failed read is told.
+    ensures unread { ((reader : R) → R.failed reader ≡ false)
+        → (k : ℕ) → is_read_of k (Some result.0) ≡ false }
 {
     let Ok(nodes) = plan_nodes(alloc, stages, readers) else {
         return (RunResult::Memory, sink);

@@ -1,11 +1,11 @@
-use Rattle.std.proofs.Common.{◌≡◌, ℕ, List, None, sym, subst, inl}
+use Rattle.std.proofs.Common.{◌≡◌, ℕ, List, None, sym, refl, subst, inl}
 use Rattle.hum_bundle.specs.Parts.{score_of}
 use Rattle.hum_plan.specs.declared.stages.PlanStage.{PlanStage}
 use Rattle.hum_plan.specs.Seen.{stages_of}
 use Rattle.hum_plan.specs.Grammar.{IsPlanOf}
 use Rattle.hum_pipeline.specs.Nodes.{AreTold}
 use Rattle.hum_pipeline.specs.Bundles.{bytes_by, first_lacking}
-use Rattle.hum_pipeline.proofs.Bundling.{run_comes, slice_tells, refusal_writes_none, lack_writes_none, unmarked}
+use Rattle.hum_pipeline.proofs.Bundling.{run_comes, slice_tells, refusal_writes_none, lack_writes_none, unmarked, refusal_reads_none, lack_reads_none}
 use Rattle.hum_pipeline.proofs.bundles.run_bundle.Goals as goal
 
 pub returns-clause-comes : goal.returns-clause-comes
@@ -38,3 +38,14 @@ pub returns-in-Err-readers-clause-marked : goal.returns-in-Err-readers-clause-ma
 returns-in-Err-readers-clause-marked g c =
     unmarked _ _ (lack_writes_none (λ (name : List ℕ). score_of name c.args.bundle.now)
     (stages_of c.deref.result.now) _ c.in-Err-readers.ensures.lacks)
+
+pub returns-in-Err-clause-unread : goal.returns-in-Err-clause-unread
+returns-in-Err-clause-unread g c = refusal_reads_none _ _ c.in-Err.ensures.refused
+
+pub returns-in-Err-readers-clause-unread : goal.returns-in-Err-readers-clause-unread
+returns-in-Err-readers-clause-unread g c =
+    lack_reads_none (λ (name : List ℕ). score_of name c.args.bundle.now) (stages_of c.deref.result.now) _
+    c.in-Err-readers.ensures.lacks
+
+pub returns-clause-unread : goal.returns-clause-unread
+returns-clause-unread g c = c.run_stages-end.ensures.unread (λ reader. refl)

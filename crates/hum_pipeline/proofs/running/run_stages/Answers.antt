@@ -1,6 +1,6 @@
 use Rattle.std.proofs.Common.{◌<◌, arith}
 use Rattle.hum_pipeline.proofs.Going.{scene_of, first_now, is_first, all_tell, all_begun, net_at}
-use Rattle.hum_pipeline.proofs.Going.{has_written, is_valid, nothing_written, nothing_picked, lawful_tree, few_nodes}
+use Rattle.hum_pipeline.proofs.Going.{has_written, is_valid, nothing_written, nothing_picked, lawful_tree, few_nodes, no_read_failed}
 use Rattle.hum_plan.specs.Seen.{stages_of}
 use Rattle.hum_pipeline.proofs.running.run_stages.Goals as goal
 
@@ -59,3 +59,7 @@ pub returns-in-Ok-new-clause-marked : goal.returns-in-Ok-new-clause-marked
 returns-in-Ok-new-clause-marked g c =
     let writes = c.run-result.ensures.writes c.in-Ok-new.ensures.failure in
     rw c.into_writer.ensures.sink (rw c.in-Ok-new.ensures.sink at writes)
+
+pub returns-in-Ok-new-clause-unread : goal.returns-in-Ok-new-clause-unread
+returns-in-Ok-new-clause-unread g c = λ never k.
+    no_read_failed _ (λ f. never f.inner.lines.source) _ _ k _ (c.run-result.ensures.reads c.in-Ok-new.ensures.failure k)
