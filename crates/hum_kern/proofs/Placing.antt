@@ -163,7 +163,7 @@ continued_letter b h = grind arith
 continued_sign : (b : ℕ) → is_sign b ≡ true → is_continued_sign b ≡ false
 continued_sign b h = grind arith
 
-same_marks : {a b c d e f : Bool} → a ≡ b → c ≡ d → e ≡ f → ◌≡◌ {A = Reading}
+pub same_marks : {a b c d e f : Bool} → a ≡ b → c ≡ d → e ≡ f → ◌≡◌ {A = Reading}
     (record { pitch = None; start = 0; end = 0; rest = a; grace = c; continued = e })
     (record { pitch = None; start = 0; end = 0; rest = b; grace = d; continued = f })
 same_marks {a} {b} {c} {d} {e} {f} p q r = ap (λ (x : Bool). made x c e) p ∙ ap (λ (x : Bool). made b x e) q ∙ ap (λ (x : Bool). made b d x) r

@@ -26,6 +26,9 @@ is_rest_sign b = b == 114
 abbrev pub is_continued_sign : ℕ → Bool
 is_continued_sign b = b == 95 || b == 93
 
+abbrev pub is_mark : ℕ → Bool
+is_mark b = is_rest_sign b || (is_grace_sign b || is_continued_sign b)
+
 -- a to g
 abbrev pub is_small : ℕ → Bool
 is_small b = nat_le 97 b && nat_le b 103

@@ -8,7 +8,7 @@ ghost use Rattle.hum_pitch.specs.Pitch.{IsOctave, IsAlteration};
 ghost use Rattle.hum_pitch.specs.Spelling.{read_letters, natural_note, spelling};
 ghost use Rattle.hum_pitch.specs.declared.pitch.Pitch.{Pitch as PitchValue};
 ghost use Rattle.hum_kern.specs.Classes.{is_letter, is_small};
-ghost use Rattle.hum_kern.specs.Classes.{is_rest_sign, is_grace_sign, is_continued_sign};
+ghost use Rattle.hum_kern.specs.Classes.{is_rest_sign, is_grace_sign, is_continued_sign, is_mark};
 ghost use Rattle.hum_kern.specs.Note.{Notation, is_uniform, alteration_of, notation, notation_of};
 ghost use Rattle.hum_kern.specs.Note.{marks_of, with_pitch, pitched, note_by, note};
 ghost use Rattle.hum_kern.specs.Note.{reading, reading_in};
@@ -145,8 +145,41 @@ fn read_pitch(marks: Note, before: &[u8], letter: u8, rest: &[u8]) -> Result<Not
     })
 }
 
+/// Whether a byte is a mark: a rest, the sign of a grace note, a tie that goes on or ends. Most bytes are below
+/// all of these.
+fn is_mark(b: u8) -> bool
+    ensures { result ≡ is_mark b }
+{
+    b >= b'Q' && (b == b'r' || b == b'q' || b == b'Q' || b == b'_' || b == b']')
+}
+
+fn has_mark(bytes: &[u8]) -> bool
+    ensures { result ≡ list_any is_mark bytes.now }
+{
+    bytes.iter().any(|b| is_mark(*b))
+}
+
 /// The marks of a subtoken.
+#[inline(always)]
 fn marks(bytes: &[u8]) -> Note
+    ensures { reading result ≡ marks_of bytes.now }
+{
+    if has_mark(bytes) {
+        return some_marks(bytes);
+    }
+    Note {
+        pitch: None,
+        start: 0,
+        end: 0,
+        rest: false,
+        grace: false,
+        continued: false,
+    }
+}
+
+/// The same of a subtoken that has some.
+#[inline(never)]
+fn some_marks(bytes: &[u8]) -> Note
     ensures { reading result ≡ marks_of bytes.now }
 {
     let mut rest = false;

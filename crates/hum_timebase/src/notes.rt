@@ -1,12 +1,13 @@
 //! Timed columns, and the notes in their cells.
 ghost use Rattle.std.specs.Prelude.{◌≡◌, ◌∷◌, ◌++◌, ◌≤◌, ◌<◌, [], length, true, false};
-ghost use Rattle.std.specs.Prelude.{IfOk, OnOk, OnErr, IfSome, IsTrue, slice_index_or, map};
+ghost use Rattle.std.specs.Prelude.{IfOk, OnOk, OnErr, IfSome, IsTrue, slice_index_or, map, is_some, ◌&&◌};
 ghost use Rattle.std.specs.List.{list_any};
 ghost use Rattle.hum_record.specs.Row.{tokens_of};
 ghost use Rattle.hum_record.specs.Contents.{is_null, is_barline};
 ghost use Rattle.hum_path.specs.Spines.{exclusives};
 ghost use Rattle.hum_kern.specs.Duration.{duration, value_in, is_refused};
 ghost use Rattle.hum_kern.specs.Runs.{run};
+ghost use Rattle.hum_kern.specs.Subtokens.{leads_shortly};
 ghost use Rattle.hum_timebase.specs.Notes.{is_timed, timed_in, own_name, timed_at};
 ghost use Rattle.hum_timebase.specs.Notes.{is_sounding};
 ghost use Rattle.hum_timebase.specs.Notes.{subtokens, first_duration, note_of, notes_of};
@@ -180,9 +181,10 @@ fn first_of_parts(token: &[u8]) -> Result<Option<Frac>, KernFault>
 }
 
 /// The note of a token in a timed column whose duration one or two digits at its front tell, as those of most
-/// do; of others nothing is said.
+/// do; none of others.
 fn plain_note(timed: bool, token: &[u8]) -> Option<Frac>
-    ensures { IfSome result (IsNote timed token.now) }
+    ensures which { is_some result ≡ (timed && leads_shortly token.now) }
+    ensures note { IfSome result (IsNote timed token.now) }
 {
     if timed { leading_part(token) } else { None }
 }

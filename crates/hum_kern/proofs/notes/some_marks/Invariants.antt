@@ -1,7 +1,7 @@
 use Rattle.std.proofs.Common.{◌≡◌, take}
 use Rattle.std.specs.List.{list_any}
 use Rattle.hum_kern.specs.Classes.{is_rest_sign, is_grace_sign, is_continued_sign}
-use Rattle.hum_kern.proofs.notes.marks.Given as goal
+use Rattle.hum_kern.proofs.notes.some_marks.Given as goal
 
 abbrev pub invariant-loop-b : goal.invariant-loop-b
 invariant-loop-b l = record {
