@@ -161,40 +161,6 @@ impl StandsFor for AnyStage {
     ] };
 }
 
-impl AnyStage {
-    /// The stage of this number, from 1, that is told to do so.
-    fn new(alloc: Global, number: u8, options: CommandOptions) -> AnyStage
-        ensures stands { ⟦<AnyStage as StandsFor>⟧.stands result
-            (opening (meaning number options)) }
-        ensures keeps { MakesScores options → KeepsScore (meaning number options).outcomes }
-        ensures within { IsWithinLag (most_lag options) (meaning number options) }
-    {
-        match options {
-            CommandOptions::Rid(options) => AnyStage::Rid(Rid::new(alloc, number, options)),
-            CommandOptions::Extract(options) => AnyStage::Extract(Extract::new(
-                alloc, number, options,
-            )),
-            CommandOptions::Ditto(options) => AnyStage::Ditto(Ditto::new(alloc, number, options)),
-            CommandOptions::Timebase(options) => AnyStage::Timebase(Timebase::new(
-                alloc, number, options,
-            )),
-            CommandOptions::Context(options) => AnyStage::Context(Context::new(
-                alloc, number, options,
-            )),
-            CommandOptions::Trans(options) => AnyStage::Trans(Trans::new(alloc, number, options)),
-            CommandOptions::Semits(options) => AnyStage::Semits(Semits::new(
-                alloc, number, options,
-            )),
-            CommandOptions::Mint(options) => AnyStage::Mint(Mint::new(alloc, number, options)),
-            CommandOptions::Recip(options) => AnyStage::Recip(Recip::new(alloc, number, options)),
-            CommandOptions::Yank(options) => AnyStage::Yank(Yank::new(alloc, number, options)),
-            CommandOptions::Cleave(options) => AnyStage::Cleave(Cleave::new(
-                alloc, number, options,
-            )),
-        }
-    }
-}
-
 impl CommandStage {
     /// The stage of this number, from 1, that is told to do so.
     pub fn new(alloc: Global, number: u8, options: CommandOptions) -> CommandStage
@@ -208,8 +174,23 @@ impl CommandStage {
         // What it holds of records that were put when it wanted them: one at most, or 65,537.
         ensures within { IsWithinLag (most_lag options) (meaning number options) }
     {
+        let stage = match options {
+            CommandOptions::Rid(told) => AnyStage::Rid(Rid::new(alloc, number, told)),
+            CommandOptions::Extract(told) => AnyStage::Extract(Extract::new(alloc, number, told)),
+            CommandOptions::Ditto(told) => AnyStage::Ditto(Ditto::new(alloc, number, told)),
+            CommandOptions::Timebase(told) => AnyStage::Timebase(Timebase::new(
+                alloc, number, told,
+            )),
+            CommandOptions::Context(told) => AnyStage::Context(Context::new(alloc, number, told)),
+            CommandOptions::Trans(told) => AnyStage::Trans(Trans::new(alloc, number, told)),
+            CommandOptions::Semits(told) => AnyStage::Semits(Semits::new(alloc, number, told)),
+            CommandOptions::Mint(told) => AnyStage::Mint(Mint::new(alloc, number, told)),
+            CommandOptions::Recip(told) => AnyStage::Recip(Recip::new(alloc, number, told)),
+            CommandOptions::Yank(told) => AnyStage::Yank(Yank::new(alloc, number, told)),
+            CommandOptions::Cleave(told) => AnyStage::Cleave(Cleave::new(alloc, number, told)),
+        };
         CommandStage {
-            stage: AnyStage::new(alloc, number, options),
+            stage,
             readiness: Readiness::Wants,
         }
     }

@@ -17,10 +17,19 @@ use hum_stage::End;
 use std::alloc::AllocError;
 
 /// A stage of a plan: one that reads bytes, or one that reads from other stages.
-#[derive(Drop)]
 pub enum Node<F, W> {
     Source(F),
     Stage(W),
+}
+
+// Written out, so that a proof of who drops a node sees one call and not the drop of each kind.
+impl<F: Drop, W: Drop> Drop for Node<F, W> {
+    fn drop(self) {
+        match self {
+            Node::Source(_source) => {}
+            Node::Stage(_stage) => {}
+        }
+    }
 }
 
 impl<F: Feeds, W: Works> Node<F, W> {

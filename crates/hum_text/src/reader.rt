@@ -307,41 +307,6 @@ impl<R: Source> LineReader<R> {
         }
     }
 
-    // What a poll gives, whatever is pending.
-    #[inline(never)]
-    fn poll_far(&mut self) -> Result<Step, TextFault>
-        requires sound { self.old.fault ≡ None }
-        ensures gives { GivesNext self.old result self.new }
-        ensures reads_not { ¬ NeedsRead self.old → IsUnread self.old self.new }
-        ensures reads_once { NeedsRead self.old
-            → ReadsOnce R.calls R.failed self.old result self.new }
-        ensures more { result ≡ Ok Step.More → IsFed self.old self.new }
-        ensures unfed { result ≢ Ok Step.More → bytes_read self.old self.new ≡ [] }
-        ensures asked { length (bytes_read self.old self.new) ≤ LARGEST_READ }
-        ensures consumes { Consumes (R.remaining self.old.source) (R.remaining self.new.source)
-            (bytes_read self.old self.new) }
-        ensures at_end { self.new.ended ≡ true
-            → (self.old.ended ≡ true) ⊎ IsAtEnd (R.remaining self.new.source) }
-        ensures failed { result ≡ Err TextFault.Read
-            → (self.old.fault ≡ Some TextFault.Read) ⊎ (R.failed self.new.source ≡ true) }
-        ensures within { IfOk result
-            (λ step. KeepsLimits self.old.limits step self.new.line self.new.given) }
-        ensures end { result ≡ Ok Step.End → IsOver self.new }
-        ensures over { IsOver self.old → (result ≡ Ok Step.End) × (self.new ≡ self.old) }
-        ensures sound { OnOk result (self.new.fault ≡ None) }
-        ensures err { IfErr result (Fails self.old self.new) }
-        ensures nears { IfOk result
-            (λ step. Nears step (left_to_do self.old) (left_to_do self.new)) }
-        ensures limits { self.new.limits ≡ self.old.limits }
-        ensures taken { self.new.taken ≤ self.new.limits.bytes }
-    {
-        match self.block.find_line_end() {
-            Some(k) => self.check_line(k),
-            None if self.ended => self.last_line(),
-            None => self.read_on(),
-        }
-    }
-
     /// Hands out the next line, if it was read to its end and breaks no rule, and tells whether it
     /// did. Where it didn't, nothing has changed.
     #[inline]
@@ -415,6 +380,10 @@ impl<R: Source> LineReader<R> {
         if self.next_line() {
             return Ok(Step::Line);
         }
-        self.poll_far()
+        match self.block.find_line_end() {
+            Some(k) => self.check_line(k),
+            None if self.ended => self.last_line(),
+            None => self.read_on(),
+        }
     }
 }
