@@ -61,13 +61,16 @@ grep -v '^== \|^statements \|^library \|^logic\|^crate \|^checked \|^axioms \|^s
 echo "not built: the whole log is $(log)"
 endef
 
-# A crate that all others wait for is proved by itself, with as many processors as it can use; those of the commands, and
-# those of the net, are proved side by side.
+# The crates that most others wait for are proved one after another, each with as many processors as it can use, and beside
+# them three that stand on none of these; all others side by side, each as soon as those that it stands on are proved.
 define prove
 alone() { for crate; do echo "== $$crate"; (cd crates/$$crate && rt lib) || return; done; }; \
 together() { (cd crates/$$1 && rt all check --jobs $(JOBS)); }; \
-alone hum_record hum_path hum_stage && together hum_commands && together hum_net && \
-alone hum_trees hum_words hum_values hum_options hum_plan hum_bundle hum_pipeline hum_line && together humpipe
+trap 'kill 0' INT; \
+alone hum_pattern hum_kern hum_text >$(log).leaves 2>&1 & leaves=$$!; \
+alone hum_record hum_path hum_stage; lowest=$$?; wait $$leaves; leaves=$$?; cat $(log).leaves; \
+test $$lowest = 0 && test $$leaves = 0 && together hum_pipeline && alone hum_line && \
+echo '== humpipe' && (cd crates/humpipe && rt check)
 endef
 
 humpipe: crates.txt $(files)
