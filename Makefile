@@ -62,7 +62,7 @@ echo "not built: the whole log is $(log)"
 endef
 
 # The crates that most others wait for are proved one after another, each with as many processors as it can use, and beside
-# them three that stand on none of these; all others side by side, each as soon as those that it stands on are proved.
+# them hum_pattern, hum_kern and hum_text, which stand on none of these; all others side by side, each as soon as it can be.
 define prove
 alone() { for crate; do echo "== $$crate"; (cd crates/$$crate && rt lib) || return; done; }; \
 together() { (cd crates/$$1 && rt all check --jobs $(JOBS)); }; \
