@@ -4,7 +4,7 @@
 #   make demo       shows the main job on a score of examples/
 #   make test       the merge gate: make lint, every proof from nothing, the edits that must fail, tests, runs, the examples of the docs
 #   make bench      times and peak memory beside other programs on the same score
-#   make install PREFIX=/usr/local
+#   make install    the program, its man page, the manual (docs/) and completions, into PREFIX=/usr/local
 #   make docs       runs what the README and docs/ print, with the program
 #   make lint       the man page, the scripts and the grammar, as far as there are programs that read them
 #
@@ -113,6 +113,7 @@ lint:
 install: humpipe
 	install -D -m 755 humpipe $(DESTDIR)$(PREFIX)/bin/humpipe
 	install -D -m 644 man/humpipe.1 $(DESTDIR)$(PREFIX)/share/man/man1/humpipe.1
+	install -D -m 644 -t $(DESTDIR)$(PREFIX)/share/doc/humpipe docs/*.md
 	install -D -m 644 completions/humpipe.bash $(DESTDIR)$(PREFIX)/share/bash-completion/completions/humpipe
 	install -D -m 644 completions/_humpipe $(DESTDIR)$(PREFIX)/share/zsh/site-functions/_humpipe
 	install -D -m 644 completions/humpipe.fish $(DESTDIR)$(PREFIX)/share/fish/vendor_completions.d/humpipe.fish

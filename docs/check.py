@@ -35,7 +35,7 @@ SECONDS = 120
 MADE = {
     'a text in Latin-1 with an `é` in line 3': b'# a\n# b\n# caf\xe9\nout: read a\n',
     'a 17th line': b''.join(b'b%d: read a\n' % k for k in range(1, 18)),
-    '63 commands behind `out: read a \\| rid -G`': b'out: read a | rid -G' + b' | rid -G' * 63,
+    '63 commands after `out: read a \\| rid -G`': b'out: read a | rid -G' + b' | rid -G' * 63,
 }
 # where they are refused, as far as the table says it in words
 MADE_AT = {'its line and command': 'line 1, word 130'}

@@ -16,7 +16,7 @@ use Rattle.hum_path.specs.declared.signs.Sign.TheVariants.{Exclusive, Plain}
 use Rattle.hum_path.specs.Sign.{sign_of, is_join}
 use Rattle.hum_path.specs.Spines.{Spines, width, heirs, heirs_from, exchanges}
 use Rattle.hum_path.specs.Spines.{renamed, moves_under, names_after}
-use Rattle.hum_assemble.specs.Spread.{spread, heirs_count, room}
+use Rattle.hum_assemble.specs.Sizes.{width_under, heirs_count, tokens_len}
 use Rattle.hum_assemble.specs.declared.places.Place.{Place}
 use Rattle.hum_assemble.specs.Source.{Source}
 use Rattle.hum_assemble.specs.Places.{null_at, kind_at}
@@ -24,32 +24,32 @@ use Rattle.hum_assemble.specs.Round.{takes, still_free}
 use Rattle.hum_assemble.specs.Merge.{part_given, comment_given, tokens_given, made, row_of_kind}
 use Rattle.hum_assemble.specs.Taking.{bytes_given}
 
-pub room_append : (xs ys : List (List ℕ)) → room (xs ++ ys) ≡ room xs + room ys
-room_append [] ys = omega arith
-room_append (x ∷ xs) ys = let e = room_append xs ys in omega (arith, e)
+pub tokens_len_append : (xs ys : List (List ℕ)) → tokens_len (xs ++ ys) ≡ tokens_len xs + tokens_len ys
+tokens_len_append [] ys = omega arith
+tokens_len_append (x ∷ xs) ys = let e = tokens_len_append xs ys in omega (arith, e)
 
-pub room_replicate : (n : ℕ) (token : List ℕ) → room (replicate n token) ≡ n * (length token + 1)
-room_replicate zero token = omega arith
-room_replicate (suc n) token = let e = room_replicate n token in grind (arith, e)
+pub tokens_len_replicate : (n : ℕ) (token : List ℕ) → tokens_len (replicate n token) ≡ n * (length token + 1)
+tokens_len_replicate zero token = omega arith
+tokens_len_replicate (suc n) token = let e = tokens_len_replicate n token in grind (arith, e)
 
-pub room_join : (token : List ℕ) (tokens : List (List ℕ))
-    → length (join_with_byte 9 (token ∷ tokens)) + 1 ≡ room (token ∷ tokens)
-room_join token [] = omega arith
-room_join token (x ∷ xs) =
-    let e = room_join x xs in
+pub tokens_len_join : (token : List ℕ) (tokens : List (List ℕ))
+    → length (join_with_byte 9 (token ∷ tokens)) + 1 ≡ tokens_len (token ∷ tokens)
+tokens_len_join token [] = omega arith
+tokens_len_join token (x ∷ xs) =
+    let e = tokens_len_join x xs in
     let l = length-append token (9 ∷ join_with_byte 9 (x ∷ xs)) in
     omega (arith, e, l)
 
 pub long_join : (tokens : List (List ℕ))
-    → nat_lt 1048577 (room tokens) ≡ nat_lt 1048576 (length (join_with_byte 9 tokens))
+    → nat_lt 1048577 (tokens_len tokens) ≡ nat_lt 1048576 (length (join_with_byte 9 tokens))
 long_join [] = refl
-long_join (x ∷ xs) = rw (← room_join x xs) (grind (arith, nat_tests))
+long_join (x ∷ xs) = rw (← tokens_len_join x xs) (grind (arith, nat_tests))
 
-pub room_text : (row : Row) → (kind_of row ≡ Global → ⊥) → IsTextOf row (text_of row)
-    → length (text_of row) + 1 ≡ room (tokens_of row)
-room_text (Comment text) n h = absurd (n refl)
-room_text (Spined kind []) n h = absurd (h.1 refl)
-room_text (Spined kind (x ∷ xs)) n h = room_join x xs
+pub tokens_len_text : (row : Row) → (kind_of row ≡ Global → ⊥) → IsTextOf row (text_of row)
+    → length (text_of row) + 1 ≡ tokens_len (tokens_of row)
+tokens_len_text (Comment text) n h = absurd (n refl)
+tokens_len_text (Spined kind []) n h = absurd (h.1 refl)
+tokens_len_text (Spined kind (x ∷ xs)) n h = tokens_len_join x xs
 
 heirs_length : (pair : List ℕ) (j : ℕ) (b : Bool) (sign : Sign) (signs : List Sign)
     → length (heirs pair j b sign signs) ≡ heirs_count b sign
@@ -62,40 +62,40 @@ heirs_length pair j b End signs = refl
 heirs_length pair j b Exclusive signs = refl
 heirs_length pair j b Plain signs = refl
 
-pub spread_length : (pair : List ℕ) (j : ℕ) (b : Bool) (signs : List Sign)
-    → length (heirs_from pair j b signs) ≡ spread b signs
-spread_length pair j b [] = refl
-spread_length pair j b (sign ∷ signs) =
-    let e = spread_length pair (j + 1) (is_join sign) signs in
+pub heirs_from_length : (pair : List ℕ) (j : ℕ) (b : Bool) (signs : List Sign)
+    → length (heirs_from pair j b signs) ≡ width_under b signs
+heirs_from_length pair j b [] = refl
+heirs_from_length pair j b (sign ∷ signs) =
+    let e = heirs_from_length pair (j + 1) (is_join sign) signs in
     let h = heirs_length pair j b sign signs in
     let l = length-append (heirs pair j b sign signs) (heirs_from pair (j + 1) (is_join sign) signs) in
     omega (arith, e, h, l)
 
 -- as many spines come of those that were opened as their signs say
-pub width_spread : (names tokens : List (List ℕ))
-    → spread false (map sign_of tokens) ≡ length (names_after (Spines names) tokens)
-width_spread names tokens =
-    let s = spread_length (exchanges 0 (map sign_of tokens)) 0 false (map sign_of tokens) in
+pub width_under_is : (names tokens : List (List ℕ))
+    → width_under false (map sign_of tokens) ≡ length (names_after (Spines names) tokens)
+width_under_is names tokens =
+    let s = heirs_from_length (exchanges 0 (map sign_of tokens)) 0 false (map sign_of tokens) in
     let l = length-map (moves_under (map sign_of tokens)) (renamed names tokens) in
     sym (l ∙ s)
 
-pub room_nulls : (taken : Bool) (p : Place) (s : Source) (w : ℕ) (null : List ℕ) → taken ≡ false
+pub tokens_len_nulls : (taken : Bool) (p : Place) (s : Source) (w : ℕ) (null : List ℕ) → taken ≡ false
     → w ≡ width s.path → null ≡ null_at (kind_at p)
-    → w * (length null + 1) ≡ room (part_given taken p s)
-room_nulls taken p s w null t e f =
-    rw (t, e, f) (sym (room_replicate (width s.path) (null_at (kind_at p))))
+    → w * (length null + 1) ≡ tokens_len (part_given taken p s)
+tokens_len_nulls taken p s w null t e f =
+    rw (t, e, f) (sym (tokens_len_replicate (width s.path) (null_at (kind_at p))))
 
-pub bytes_room : (free going : Bool) (p : Place) (ss : List Source)
-    → bytes_given free going p ss ≡ room (tokens_given free going p ss)
-bytes_room free going p [] = refl
-bytes_room free going p (s ∷ ss) =
-    let e = bytes_room (still_free free going p s) going p ss in
-    let r = room_append (part_given (takes free going p s) p s)
+pub bytes_given_is : (free going : Bool) (p : Place) (ss : List Source)
+    → bytes_given free going p ss ≡ tokens_len (tokens_given free going p ss)
+bytes_given_is free going p [] = refl
+bytes_given_is free going p (s ∷ ss) =
+    let e = bytes_given_is (still_free free going p s) going p ss in
+    let r = tokens_len_append (part_given (takes free going p s) p s)
     (tokens_given (still_free free going p s) going p ss) in
     omega (arith, e, r)
 
 made_long : (going : Bool) (p : Place) (ss : List Source) (k : Option SpinedKind) (o : Bool)
-    → (k ≡ None → ⊥) → o ≡ nat_lt 1048577 (room (tokens_given true going p ss))
+    → (k ≡ None → ⊥) → o ≡ nat_lt 1048577 (tokens_len (tokens_given true going p ss))
     → o ≡ nat_lt 1048576
     (length (text_of (row_of_kind k (comment_given going p ss) (tokens_given true going p ss))))
 made_long going p ss None o n e = absurd (n refl)
@@ -110,4 +110,4 @@ pub too_long : (going : Bool) (p : Place) (ss : List Source) (o : Bool) (kind : 
     → o ≡ nat_lt 1048576 (length (text_of (made going p ss)))
 too_long going p ss o kind n e =
     made_long going p ss (kind_at p) o (some_not_none (kind_at p) kind n)
-    (e ∙ ap (nat_lt 1048577) (bytes_room true going p ss))
+    (e ∙ ap (nat_lt 1048577) (bytes_given_is true going p ss))

@@ -35,7 +35,7 @@ use Rattle.hum_assemble.proofs.Steps.{is_giving, lost_given}
 use Rattle.hum_assemble.proofs.Growing.{changed_in}
 use Rattle.hum_stage.specs.declared.faults.Rule.TheVariants.{A1, L1, L2}
 use Rattle.hum_assemble.proofs.Standings.{WaitsAt, waits_at, wants_stands, put_dropped, put_kept}
-use Rattle.hum_assemble.proofs.Standings.{end_stands, take_gives, take_none, wanted_is, same_next}
+use Rattle.hum_assemble.proofs.Standings.{end_stands, take_gives, take_none, wanted_is}
 use Rattle.hum_assemble.proofs.Standings.{stopped_rests, OpenIn, same_ends, open_wanted, open_at}
 
 pub waits_within : (k : ℕ) (ss : List Source) → WaitsAt k ss → k < length ss
@@ -114,24 +114,22 @@ waits_not (Refused rule) k h e = cc
 waits_not NothingMore k h e = cc
 
 -- A record that is wanted breaks no rule.
-pub sound_put : (stage : ℕ) (kept : Merge) (j k : ℕ) (row : Row) (s : Source) → ahead kept ≡ Wants k
-    → s ≡ get_or kept.sources k s → MayPut (λ t. Standing stage kept false t) j row
+pub sound_put : (stage : ℕ) (kept : Merge) (j : ℕ) (row : Row) (s : Source) → ahead kept ≡ Wants j
+    → s ≡ get_or kept.sources j s → MayPut (λ t. Standing stage kept false t) j row
     → fault_of s.path row ≡ None
-sound_put stage kept j k row s e g may =
+sound_put stage kept j row s e g may =
     let h = may.stand in
-    let n = same_next stage kept false may.at h in
-    let i : k ≡ j = wanted_is stage kept false may.at j k h e may.wants in
     let live : kept ≡ h.at = elim h.keeps [
       | inl x ↦ x
       | inr d ↦ absurd
           (let r = stopped_rests (ahead h.at) d.stopped in
-          let v = sym (d.same) ∙ e in waits_not (ahead h.at) k d.stopped v)
+          let v = sym (d.same) ∙ e in waits_not (ahead h.at) j d.stopped v)
     ] in
     let a : AllPaths may.at.inputs kept.sources = rw live
     (reached_paths may.at.given may.at.inputs (opening may.at.inputs) h.at (opening_paths may.at.inputs)
     h.reached) in
-    let p = path_at k may.at.inputs kept.sources s a (waits_at kept k e) g in
-    rw (p, i) (sound_last Unopened (put_of j may.at.inputs) row may.score)
+    let p = path_at j may.at.inputs kept.sources s a (waits_at kept j e) g in
+    rw p (sound_last Unopened (put_of j may.at.inputs) row may.score)
 
 -- Nothing is kept where no record is waited for.
 put_cases : (stage : ℕ) (kept : Merge) (t : Moment) (j : ℕ) (row : Row) (a : next.Next)
@@ -207,17 +205,24 @@ pub empty_ahead : (ss : List Source) (given k : ℕ) (s : Source)
     → ahead (record { sources = ss; given = given }) ≡ Wants k → s ≡ get_or ss k s → s.coming ≡ []
 empty_ahead ss given k s e g = waits_empty k ss s (waits_at (record { sources = ss; given = given }) k e) g
 
+-- the source that is waited for is the wanted one
+pub wanted_waits : (stage : ℕ) (kept : Merge) (spent : Bool) (j k : ℕ) (row : Row) → spent ≡ false
+    → ((spent ≡ true) ⊎ MayPut (λ t. Standing stage kept spent t) j row)
+    → ahead kept ≡ Wants k → ahead kept ≡ Wants j
+wanted_waits stage kept spent j k row f r e =
+    let may = not_spent stage kept spent j row f r in
+    e ∙ ap Wants (wanted_is stage kept false may.at j k may.stand e may.wants)
+
 -- one record is put where it is waited for
-pub put_here : (stage : ℕ) (sources : List Source) (given : ℕ) (t : Moment) (j k : ℕ) (row : Row)
+pub put_here : (stage : ℕ) (sources : List Source) (given : ℕ) (t : Moment) (j : ℕ) (row : Row)
     (s s' : Source)
     → Standing stage (record { sources = sources; given = given }) false t
-    → ahead (record { sources = sources; given = given }) ≡ Wants k → wants_of t ≡ Some j
-    → s ≡ get_or sources k s → s' ≡ record s { coming = row ∷ [] } →
-    Standing stage (record { sources = set sources k s'; given = given }) false (after j (More row) t)
-put_here stage sources given t j k row s s' h e w f g =
-    let i : k ≡ j = wanted_is stage (record { sources = sources; given = given }) false t j k h e w in
-    let x = set_more k sources s s' row (waits_at (record { sources = sources; given = given }) k e) f g in
-    rw (x, i) (put_kept stage (record { sources = sources; given = given }) t j k (More row) h e w)
+    → ahead (record { sources = sources; given = given }) ≡ Wants j → wants_of t ≡ Some j
+    → s ≡ get_or sources j s → s' ≡ record s { coming = row ∷ [] } →
+    Standing stage (record { sources = set sources j s'; given = given }) false (after j (More row) t)
+put_here stage sources given t j row s s' h e w f g =
+    let x = set_more j sources s s' row (waits_at (record { sources = sources; given = given }) j e) f g in
+    rw x (put_kept stage (record { sources = sources; given = given }) t j j (More row) h e w)
 
 -- an end is set
 pub end_here : (stage : ℕ) (sources : List Source) (given : ℕ) (spent : Bool) (t : Moment)

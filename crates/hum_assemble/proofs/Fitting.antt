@@ -23,8 +23,8 @@ use Rattle.hum_assemble.specs.Source.{place, is_inside, is_end, unit_place, insi
 use Rattle.hum_assemble.specs.Source.{interpretation_place}
 use Rattle.hum_assemble.specs.Places.{rank, kind_at}
 use Rattle.hum_assemble.specs.Head.{is_opened}
-use Rattle.hum_assemble.specs.Spread.{spread}
-use Rattle.hum_assemble.proofs.Bytes.{width_spread}
+use Rattle.hum_assemble.specs.Sizes.{width_under}
+use Rattle.hum_assemble.proofs.Bytes.{width_under_is}
 
 -- the kind of a record; a global comment has none
 abbrev pub spined_of : Row → Option SpinedKind
@@ -128,11 +128,11 @@ wide_as_before (Spines names) (Spined Local tokens) o k h = cc
 wide_as_before (Spines names) (Spined Values tokens) o k h = cc
 wide_as_before (Spines names) (Spined Interpretation tokens) o k h = sound_width names tokens h
 
-pub spread_width : (path : Path) (row : Row) → is_opened path ≡ true
+pub width_under_after : (path : Path) (row : Row) → is_opened path ≡ true
     → kind_of row ≡ AnyInterpretation
-    → spread false (map sign_of (tokens_of row)) ≡ width (after path row)
-spread_width Unopened row o k = cc
-spread_width (Spines names) (Comment text) o k = cc
-spread_width (Spines names) (Spined Local tokens) o k = cc
-spread_width (Spines names) (Spined Values tokens) o k = cc
-spread_width (Spines names) (Spined Interpretation tokens) o k = width_spread names tokens
+    → width_under false (map sign_of (tokens_of row)) ≡ width (after path row)
+width_under_after Unopened row o k = cc
+width_under_after (Spines names) (Comment text) o k = cc
+width_under_after (Spines names) (Spined Local tokens) o k = cc
+width_under_after (Spines names) (Spined Values tokens) o k = cc
+width_under_after (Spines names) (Spined Interpretation tokens) o k = width_under_is names tokens

@@ -2,7 +2,7 @@
 use Rattle.std.proofs.Common.{◌≡◌, ◌∙◌, refl, sym, ap, ℕ, ◌+◌, Bool, true}
 use Rattle.std.proofs.Common.{false, cond, List, [], ◌∷◌, length}
 use Rattle.std.specs.Prelude.{None, Some}
-use Rattle.std.specs.List.{list_any}
+use Rattle.std.specs.List.{list_any, position_from}
 use Rattle.hum_record.specs.Row.{Row, text_of}
 use Rattle.hum_assemble.specs.declared.places.Place.{Place}
 use Rattle.hum_assemble.specs.declared.places.Next as next
@@ -14,7 +14,7 @@ use Rattle.hum_assemble.specs.Merge.{Merge, all_moved, tokens_given, comment_giv
 use Rattle.hum_assemble.specs.Merge.{made, row_of_kind, rule_broken, unless_broken, unless_missing}
 use Rattle.hum_assemble.specs.Merge.{ahead, ahead_at, ahead_of}
 use Rattle.hum_assemble.specs.Places.{is_over, kind_at}
-use Rattle.hum_assemble.specs.Round.{is_missing, is_lost, earliest, any_due, first_from}
+use Rattle.hum_assemble.specs.Round.{is_missing, is_lost, earliest, any_due}
 use Rattle.hum_assemble.proofs.Moving.{AllKnown, all_moves, comment_same, earliest_same}
 use Rattle.hum_assemble.proofs.Moving.{known_same, spines_same, due_same, lost_same, known_not_lost}
 
@@ -28,11 +28,11 @@ is_waiting (Gives p) = false
 is_waiting (Refused rule) = false
 is_waiting NothingMore = false
 
-none_missing : (going : Bool) (i : ℕ) (ss : List Source) → first_from (is_missing going) i ss ≡ None
+none_missing : (going : Bool) (i : ℕ) (ss : List Source) → position_from (is_missing going) i ss ≡ None
     → AllKnown going ss
 none_missing going i [] h = tt
 none_missing going i (s ∷ ss) h =
-    elim (is_missing going s) as (λ b. cond b (Some i) (first_from (is_missing going) (i + 1) ss) ≡ None →
+    elim (is_missing going s) as (λ b. cond b (Some i) (position_from (is_missing going) (i + 1) ss) ≡ None →
     (b ≡ false) × AllKnown going ss) [
       | true ↦ λ e. cc
       | false ↦ λ e.
@@ -40,7 +40,7 @@ none_missing going i (s ∷ ss) h =
     ] h
 
 pub missing_none : (going : Bool) (i : ℕ) (ss : List Source) → AllKnown going ss
-    → first_from (is_missing going) i ss ≡ None
+    → position_from (is_missing going) i ss ≡ None
 missing_none going i [] k = refl
 missing_none going i (s ∷ ss) k = rw (k.0, missing_none going (i + 1) ss k.1) refl
 
@@ -98,11 +98,11 @@ pub seen : (going : Bool) (ss : List Source) (given : ℕ)
     → is_waiting (ahead_of going ss given) ≡ false → Ahead going ss given
 seen going ss given h =
     (elim (list_any (is_lost going) ss) as (λ b. list_any (is_lost going) ss ≡ b →
-    is_waiting (cond b NothingMore (unless_missing (first_from (is_missing going) 0 ss)
+    is_waiting (cond b NothingMore (unless_missing (position_from (is_missing going) 0 ss)
     (ahead_at going (earliest going ss) ss given))) ≡ false → Ahead going ss given) [
       | true ↦ λ e w. Lost e
-      | false ↦ λ e w. (elim (first_from (is_missing going) 0 ss) as
-          (λ o. first_from (is_missing going) 0 ss ≡ o → is_waiting
+      | false ↦ λ e w. (elim (position_from (is_missing going) 0 ss) as
+          (λ o. position_from (is_missing going) 0 ss ≡ o → is_waiting
           (unless_missing o (ahead_at going (earliest going ss) ss given)) ≡ false → Ahead going ss given) [
             | None ↦ λ f v. Known (none_missing going 0 ss f)
             | Some k ↦ λ f v. cc

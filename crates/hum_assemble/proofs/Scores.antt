@@ -3,7 +3,7 @@ use Rattle.std.proofs.Common.{◌≡◌, ◌∙◌, refl, sym, ap, ℕ, zero, su
 use Rattle.std.proofs.Common.{Bool, true, false, ◌&&◌, cond, List, [], ◌∷◌, length}
 use Rattle.std.proofs.Common.{arith, map}
 use Rattle.std.specs.Prelude.{Option, None, Some}
-use Rattle.std.specs.List.{list_any, list_all, AllByRecursion}
+use Rattle.std.specs.List.{list_any, list_all, AllByRecursion, position_from}
 use Rattle.std.proofs.lemmas.Bool.Decides.{nat_tests}
 use Rattle.hum_record.specs.declared.SpinedKind.TheVariants.{Local, Interpretation, Values}
 use Rattle.hum_record.specs.Row.{Row, Comment, Spined}
@@ -33,7 +33,7 @@ use Rattle.hum_assemble.specs.declared.places.Next as next
 use Rattle.hum_assemble.specs.declared.places.Next.TheVariants.{Gives, Refused, Wants}
 use Rattle.hum_assemble.specs.declared.places.Next.TheVariants.{Over as NothingMore}
 use Rattle.hum_assemble.specs.Change.{Input}
-use Rattle.hum_assemble.specs.Round.{any_due, earliest, is_asked, is_lost, first_from}
+use Rattle.hum_assemble.specs.Round.{any_due, earliest, is_asked, is_lost}
 use Rattle.hum_assemble.specs.Merge.{Merge, ahead, given_row, given_on, made, spines, rule_broken}
 use Rattle.hum_assemble.specs.Merge.{unless_broken, ahead_at, ahead_of, unless_missing}
 use Rattle.hum_assemble.specs.Meaning.{gives, goes_on, total, begun, opening, output, rest, refusal}
@@ -252,7 +252,7 @@ missing_over (Some j) known h = cc
 over_earliest : (going : Bool) (ss : List Source) (given : ℕ) → list_any (is_lost going) ss ≡ false
     → ahead_of going ss given ≡ NothingMore → is_over (earliest going ss) ≡ true
 over_earliest going ss given n h =
-    at_over going (earliest going ss) ss given (missing_over (first_from (is_missing going) 0 ss) _ (rw n at h))
+    at_over going (earliest going ss) ss given (missing_over (position_from (is_missing going) 0 ss) _ (rw n at h))
 
 abbrev AllOver : Bool → List Source → Type 0
 AllOver going = AllByRecursion (λ s. 11 ≤ rank (place_at going s))

@@ -4,7 +4,7 @@ use Rattle.std.proofs.Common.{inl, inr, Bool, true, false, ◌&&◌, ◌||◌, c
 use Rattle.std.proofs.Common.{length, arith, map}
 use Rattle.std.specs.Prelude.{Option, None, Some, is_none, is_some, nat_lt}
 use Rattle.std.specs.Prelude.{slice_get}
-use Rattle.std.specs.List.{list_any}
+use Rattle.std.specs.List.{list_any, position_from}
 use Rattle.std.proofs.lemmas.Bool.Decides.{nat_tests}
 use Rattle.std.proofs.lemmas.Option.{slice_get_past}
 use Rattle.hum_record.specs.Row.{Row, text_of}
@@ -21,7 +21,7 @@ use Rattle.hum_assemble.specs.Change.{had_at}
 use Rattle.hum_assemble.specs.Merge.{Merge, unless_missing, ahead_at, unless_broken}
 use Rattle.hum_assemble.specs.Merge.{rule_broken, spines, all_moved, made, ahead, given_row}
 use Rattle.hum_assemble.specs.Merge.{given_on}
-use Rattle.hum_assemble.specs.Round.{shown, is_asked, is_lost, is_missing, earliest, first_from}
+use Rattle.hum_assemble.specs.Round.{shown, is_asked, is_lost, is_missing, earliest}
 use Rattle.hum_assemble.specs.Round.{any_due}
 use Rattle.hum_assemble.specs.Places.{is_over}
 use Rattle.hum_assemble.specs.Meaning.{goes_on, opening, begun}
@@ -61,13 +61,13 @@ record First (i k : ℕ) (es : List (Option end.End)) : Type 0 where
   is : k ≡ i + place
   opens : OpenIn place es
 
-first_open : (i k : ℕ) (es : List (Option end.End)) → first_from is_none i es ≡ Some k
+first_open : (i k : ℕ) (es : List (Option end.End)) → position_from is_none i es ≡ Some k
     → First i k es
 first_open i k [] h = cc
 first_open i k (None ∷ es) h = record { place = 0; is = (let e : i ≡ k = cc in omega (arith, e)); opens = refl }
 first_open i k (Some e ∷ es) h = let f = first_open (i + 1) k es h in record { place = suc f.place; is = (let w = f.is in omega (arith, w)); opens = f.opens }
 
-pub leftmost : (k : ℕ) (es : List (Option end.End)) → first_from is_none 0 es ≡ Some k → OpenIn k es
+pub leftmost : (k : ℕ) (es : List (Option end.End)) → position_from is_none 0 es ≡ Some k → OpenIn k es
 leftmost k es h = let f = first_open 0 k es h in let e : k ≡ f.place = (let w = f.is in omega (arith, w)) in rw e f.opens
 
 -- where one hasn't ended there is no end of all
@@ -122,11 +122,12 @@ missing_waits going s h l =
     (none_coming s s.coming refl n, not_some s.ended (rw (a, n) at l))
 
 first_waits : (going : Bool) (i k : ℕ) (ss : List Source)
-    → first_from (is_missing going) i ss ≡ Some k → list_any (is_lost going) ss ≡ false
+    → position_from (is_missing going) i ss ≡ Some k → list_any (is_lost going) ss ≡ false
     → Waiting i k ss
 first_waits going i k [] h l = cc
 first_waits going i k (s ∷ ss) h l =
-    (elim (is_missing going s) as (λ b. is_missing going s ≡ b → cond b (Some i) (first_from (is_missing going) (i + 1) ss) ≡ Some k → Waiting i k (s ∷ ss)) [
+    (elim (is_missing going s) as (λ b. is_missing going s ≡ b
+    → cond b (Some i) (position_from (is_missing going) (i + 1) ss) ≡ Some k → Waiting i k (s ∷ ss)) [
       | true ↦ λ e w. record { place = 0; is = (let v : i ≡ k = cc in omega (arith, v)); waits = missing_waits going s e (or_left (is_lost going s) _ l) }
       | false ↦ λ e w. let f = first_waits going (i + 1) k ss w (or_right (is_lost going s) _ l) in
           record { place = suc f.place; is = (let v = f.is in omega (arith, v)); waits = f.waits }
@@ -150,7 +151,7 @@ missing_is k (Some j) known n h = cc
 
 ahead_waits : (going : Bool) (ss : List Source) (given k : ℕ) (b : Bool)
     → list_any (is_lost going) ss ≡ b
-    → cond b NothingMore (unless_missing (first_from (is_missing going) 0 ss)
+    → cond b NothingMore (unless_missing (position_from (is_missing going) 0 ss)
     (ahead_at going (earliest going ss) ss given)) ≡ Wants k
     → Waiting 0 k ss
 ahead_waits going ss given k true e h = cc

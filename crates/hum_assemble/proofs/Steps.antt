@@ -3,7 +3,7 @@ use Rattle.std.proofs.Common.{◌≡◌, ◌∙◌, refl, sym, ap, ℕ, zero, su
 use Rattle.std.proofs.Common.{false, not, ◌||◌, cond, List, [], ◌∷◌, length, arith, map}
 use Rattle.std.specs.Prelude.{Option, None, Some, ◌==◌}
 use Rattle.std.specs.Prelude.{nat_lt, nat_le}
-use Rattle.std.specs.List.{list_any}
+use Rattle.std.specs.List.{list_any, position_from}
 use Rattle.std.proofs.lemmas.Bool.Decides.{nat_tests}
 use Rattle.hum_record.specs.Row.{Row, text_of}
 use Rattle.hum_path.specs.Spines.{Path}
@@ -20,7 +20,7 @@ use Rattle.hum_assemble.specs.Merge.{Merge, moved, all_moved, spines, made, rule
 use Rattle.hum_assemble.specs.Merge.{unless_broken, unless_missing, ahead, ahead_at, ahead_of}
 use Rattle.hum_assemble.specs.Merge.{given_row, given_on, advanced}
 use Rattle.hum_assemble.specs.Places.{rank, is_over, is_shared}
-use Rattle.hum_assemble.specs.Round.{is_missing, is_lost, place_at, earliest, any_due, first_from}
+use Rattle.hum_assemble.specs.Round.{is_missing, is_lost, place_at, earliest, any_due}
 use Rattle.hum_assemble.specs.Round.{takes, still_free}
 use Rattle.hum_assemble.specs.Meaning.{gives, goes_on, total, all_given, rest}
 use Rattle.hum_assemble.specs.Taking.{is_at, IsGiving}
@@ -74,7 +74,7 @@ missing_given going ss given p None h = h
 missing_given going ss given p (Some j) h = cc
 
 pub lost_given : (going : Bool) (ss : List Source) (given : ℕ) (p : Place) (b : Bool)
-    → cond b NothingMore (unless_missing (first_from (is_missing going) 0 ss)
+    → cond b NothingMore (unless_missing (position_from (is_missing going) 0 ss)
     (ahead_at going (earliest going ss) ss given)) ≡ Gives p
     → (b ≡ false) × (ahead_at going (earliest going ss) ss given ≡ Gives p)
 lost_given going ss given p true h = cc

@@ -2,7 +2,7 @@
 use Rattle.std.proofs.Common.{◌≡◌, ◌∙◌, refl, sym, ap, ℕ, ◌+◌, ◌≤◌, Bool, true}
 use Rattle.std.proofs.Common.{false, not, ◌&&◌, ◌||◌, cond, List, [], ◌∷◌, length, arith}
 use Rattle.std.specs.Prelude.{Option, None, Some, is_none, ◌==◌}
-use Rattle.std.specs.List.{list_any, AllByRecursion}
+use Rattle.std.specs.List.{list_any, AllByRecursion, position_from}
 use Rattle.std.proofs.lemmas.Bool.Decides.{nat_tests}
 use Rattle.hum_record.specs.declared.SpinedKind.{SpinedKind}
 use Rattle.hum_record.specs.Row.{Row, Comment, Spined, text_of}
@@ -17,7 +17,7 @@ use Rattle.hum_assemble.specs.Source.{Source}
 use Rattle.hum_assemble.specs.Head.{first_of}
 use Rattle.hum_assemble.specs.Places.{rank, kind_at, is_over, is_shared}
 use Rattle.hum_assemble.specs.Round.{any_due, is_missing, is_lost, place_at, takes, still_free}
-use Rattle.hum_assemble.specs.Round.{earliest, first_from}
+use Rattle.hum_assemble.specs.Round.{earliest}
 use Rattle.hum_assemble.specs.Merge.{Merge, all_moved, moved, made, spines, ahead}
 use Rattle.hum_assemble.specs.Merge.{ahead_at, ahead_of, unless_broken, unless_missing, given_row}
 use Rattle.hum_assemble.specs.Merge.{given_on, comment_given, tokens_given, part_given, advanced}
@@ -363,11 +363,11 @@ still_lost false None a h = h refl
 still_lost false (Some j) a h = refl
 
 some_missing : (going : Bool) (i : ℕ) (ss : List Source) → list_any (is_missing going) ss ≡ true
-    → first_from (is_missing going) i ss ≡ None → ⊥
+    → position_from (is_missing going) i ss ≡ None → ⊥
 some_missing going i [] h e = cc
 some_missing going i (s ∷ ss) h e =
     (elim (is_missing going s) as (λ b. (b || list_any (is_missing going) ss) ≡ true
-    → cond b (Some i) (first_from (is_missing going) (i + 1) ss) ≡ None → ⊥) [
+    → cond b (Some i) (position_from (is_missing going) (i + 1) ss) ≡ None → ⊥) [
       | true ↦ λ w v. cc
       | false ↦ λ w v. some_missing going (i + 1) ss w v
     ]) h e
@@ -388,6 +388,6 @@ meets_over ss i =
     let o : earliest (any_due ss) ss ≡ Over =
     same_place (earliest (any_due ss) ss) Over (omega (arith, l, r)) in
     still_meets ss (λ given. still_lost (list_any (is_lost (any_due ss)) ss)
-    (first_from (is_missing (any_due ss)) 0 ss)
+    (position_from (is_missing (any_due ss)) 0 ss)
     (ahead_at (any_due ss) (earliest (any_due ss) ss) ss given)
     (λ e. over_still (any_due ss) (earliest (any_due ss) ss) ss given o))

@@ -24,6 +24,7 @@ use Rattle.hum_stage.specs.declared.faults.State.TheVariants.{Gives}
 use Rattle.hum_stage.specs.Meaning.{fault_at, resting_state}
 use Rattle.hum_assemble.specs.Change.{Input}
 use Rattle.hum_assemble.specs.Source.{is_end}
+use Rattle.hum_assemble.specs.Head.{first_of}
 use Rattle.hum_assemble.specs.Places.{null_of}
 use Rattle.hum_assemble.specs.Merge.{rule_broken}
 use Rattle.hum_assemble.specs.Meaning.{output, own_fault, AreScores, Moment, state_of, inputs_end}
@@ -198,11 +199,6 @@ abbrev pub has_some : {X : Type 0} → List X → Bool
 has_some [] = false
 has_some (x ∷ xs) = true
 
--- the first, if there is one
-abbrev pub first : {X : Type 0} → List X → Option X
-first [] = None
-first (x ∷ xs) = Some x
-
 -- all but the first
 abbrev pub behind_first : {X : Type 0} → List X → List X
 behind_first [] = []
@@ -270,7 +266,7 @@ unit_if test b = elim b.units [
 
 -- the first record of that unit
 abbrev pub row_if : (Row → Bool) → Body → Option Row
-row_if test b = elim (unit_if test b) [ None ↦ None | Some unit ↦ first unit ]
+row_if test b = elim (unit_if test b) [ None ↦ None | Some unit ↦ first_of unit ]
 
 -- local comments
 abbrev pub is_local : Row → Bool

@@ -12,6 +12,7 @@ abbrev pub coming : Option Head → List Row
 coming None = []
 coming (Some head) = head.row ∷ []
 
+-- the first, if there is one
 abbrev pub first_of : List Row → Option Row
 first_of [] = None
 first_of (row ∷ rows) = Some row

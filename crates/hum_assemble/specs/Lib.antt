@@ -4,7 +4,7 @@ pub mod Round
 pub mod Change
 pub mod Merge
 pub mod Meaning
-pub mod Spread
+pub mod Sizes
 pub mod Head
 pub mod Taking
 pub mod Standing

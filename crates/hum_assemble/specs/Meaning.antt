@@ -2,7 +2,7 @@
 use Rattle.std.specs.Prelude.{◌≡◌, ℕ, zero, suc, ◌+◌, ◌<◌, nat_lt, Bool, true, false}
 use Rattle.std.specs.Prelude.{List, [], ◌∷◌, ◌++◌, map, length, replicate, if◌then◌else◌}
 use Rattle.std.specs.Prelude.{Option, None, Some, is_none, MatchOption, slice_get}
-use Rattle.std.specs.List.{AllByRecursion}
+use Rattle.std.specs.List.{AllByRecursion, position_from}
 use Rattle.hum_record.specs.Row.{Row}
 use Rattle.hum_stage.specs.declared.faults.Rule.{Rule}
 use Rattle.hum_stage.specs.declared.faults.Fault.{Fault}
@@ -18,7 +18,6 @@ use Rattle.hum_assemble.specs.declared.places.Next.TheVariants.{Gives as GivesAt
 use Rattle.hum_assemble.specs.declared.places.Next.TheVariants.{Wants as WantsOf, Over}
 use Rattle.hum_assemble.specs.Source.{Source, untouched}
 use Rattle.hum_assemble.specs.Change.{Input, Change, had_at}
-use Rattle.hum_assemble.specs.Round.{first_from}
 use Rattle.hum_assemble.specs.Merge.{Merge, ahead, given_row, given_on}
 
 abbrev pub begun : Input → Source
@@ -121,9 +120,9 @@ state_of t =
 -- ended.
 abbrev pub wanted : next.Next → List (Option end.End) → Option ℕ
 wanted (WantsOf j) ended = Some j
-wanted (GivesAt p) ended = first_from is_none 0 ended
-wanted (Refused rule) ended = first_from is_none 0 ended
-wanted Over ended = first_from is_none 0 ended
+wanted (GivesAt p) ended = position_from is_none 0 ended
+wanted (Refused rule) ended = position_from is_none 0 ended
+wanted Over ended = position_from is_none 0 ended
 
 abbrev pub wants_of : Moment → Option ℕ
 wants_of t =

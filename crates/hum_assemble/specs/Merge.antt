@@ -1,7 +1,7 @@
 -- Sources side by side: the record that they give next, and how they go on.
 use Rattle.std.specs.Prelude.{ℕ, ◌+◌, nat_lt, nat_le, Bool, true, if◌then◌else◌}
 use Rattle.std.specs.Prelude.{List, [], ◌∷◌, ◌++◌, length, replicate, Option, None, Some}
-use Rattle.std.specs.List.{list_any}
+use Rattle.std.specs.List.{list_any, position_from}
 use Rattle.hum_record.specs.declared.SpinedKind.{SpinedKind}
 use Rattle.hum_record.specs.Row.{Row, Comment, Spined, text_of, tokens_of}
 use Rattle.hum_path.specs.Spines.{Path, width, after}
@@ -14,7 +14,7 @@ use Rattle.hum_assemble.specs.declared.places.Next.TheVariants.{Gives, Refused, 
 use Rattle.hum_assemble.specs.Source.{Source, is_inside}
 use Rattle.hum_assemble.specs.Places.{kind_at, null_at, is_over}
 use Rattle.hum_assemble.specs.Round.{any_due, is_lost, is_missing, earliest, takes, still_free}
-use Rattle.hum_assemble.specs.Round.{in_round, first_from}
+use Rattle.hum_assemble.specs.Round.{in_round}
 
 abbrev pub tokens_of_first : List Row → List (List ℕ)
 tokens_of_first [] = []
@@ -112,7 +112,7 @@ unless_missing None known = known
 abbrev pub ahead_of : Bool → List Source → ℕ → next.Next
 ahead_of going ss given =
     if list_any (is_lost going) ss then Over
-    else unless_missing (first_from (is_missing going) 0 ss)
+    else unless_missing (position_from (is_missing going) 0 ss)
     (ahead_at going (earliest going ss) ss given)
 
 abbrev pub ahead : Merge → next.Next

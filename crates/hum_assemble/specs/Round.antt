@@ -1,5 +1,5 @@
 -- Who takes part in a round, and what each of them has there.
-use Rattle.std.specs.Prelude.{ℕ, ◌+◌, ◌==◌, Bool, false, not, ◌&&◌, ◌||◌, if◌then◌else◌}
+use Rattle.std.specs.Prelude.{◌==◌, Bool, false, not, ◌&&◌, ◌||◌, if◌then◌else◌}
 use Rattle.std.specs.Prelude.{List, [], ◌∷◌, Option, None, Some, is_some, is_none}
 use Rattle.std.specs.List.{list_any}
 use Rattle.hum_record.specs.Row.{Row}
@@ -60,8 +60,3 @@ still_free free going p s = free && (is_shared p || not (takes free going p s))
 -- who has a record at the same step when a round begins is due in it
 abbrev pub in_round : Bool → Place → Source → Bool
 in_round going p s = if going then s.due else step (place_at going s) == step p
-
--- the place of the first that passes a test, counted from i on
-abbrev pub first_from : {X : Type 0} → (X → Bool) → ℕ → List X → Option ℕ
-first_from test i [] = None
-first_from test i (x ∷ xs) = if test x then Some i else first_from test (i + 1) xs

@@ -1,7 +1,7 @@
 -- What an assembler stands for.
 use Rattle.std.specs.Prelude.{◌≡◌, ◌⊎◌, ℕ, zero, suc, ◌+◌, ◌≤◌, Bool, true, false}
 use Rattle.std.specs.Prelude.{List, map, length, Option, None, Some, is_none}
-use Rattle.std.specs.List.{AllByRecursion}
+use Rattle.std.specs.List.{AllByRecursion, position_from}
 use Rattle.hum_stage.specs.declared.faults.Command.TheVariants.{Assemble}
 use Rattle.hum_stage.specs.declared.faults.End as end
 use Rattle.hum_stage.specs.declared.faults.State as state
@@ -13,7 +13,6 @@ use Rattle.hum_assemble.specs.declared.places.Next.TheVariants.{Gives, Refused, 
 use Rattle.hum_assemble.specs.declared.places.Next.TheVariants.{Over}
 use Rattle.hum_assemble.specs.Source.{Source}
 use Rattle.hum_assemble.specs.Head.{AllLawful}
-use Rattle.hum_assemble.specs.Round.{first_from}
 use Rattle.hum_assemble.specs.Merge.{Merge, ahead, given_on}
 use Rattle.hum_assemble.specs.Meaning.{Moment, opening, is_stopped, inputs_end}
 
@@ -60,8 +59,8 @@ state_by stage m Over = resting_state None (inputs_end (ends_in m))
 abbrev pub wants_by : Merge → next.Next → Option ℕ
 wants_by m (Gives p) = None
 wants_by m (WantsOf j) = Some j
-wants_by m (Refused rule) = first_from is_none 0 (ends_in m)
-wants_by m Over = first_from is_none 0 (ends_in m)
+wants_by m (Refused rule) = position_from is_none 0 (ends_in m)
+wants_by m Over = position_from is_none 0 (ends_in m)
 
 -- What is kept with an assembler is right, unless memory ran out: what can be done next, and that
 -- the records that wait are lawful.

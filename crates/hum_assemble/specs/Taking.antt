@@ -10,7 +10,7 @@ use Rattle.hum_assemble.specs.Head.{first_of}
 use Rattle.hum_assemble.specs.Places.{rank, is_over, kind_at}
 use Rattle.hum_assemble.specs.Round.{place_at, takes, still_free}
 use Rattle.hum_assemble.specs.Merge.{part_given}
-use Rattle.hum_assemble.specs.Spread.{room}
+use Rattle.hum_assemble.specs.Sizes.{tokens_len}
 
 abbrev pub later : Option Row → Option Row → Option Row
 later o None = o
@@ -27,7 +27,7 @@ row_taken o free going p (s ∷ ss) =
 abbrev pub bytes_given : Bool → Bool → Place → List Source → ℕ
 bytes_given free going p [] = 0
 bytes_given free going p (s ∷ ss) =
-    room (part_given (takes free going p s) p s)
+    tokens_len (part_given (takes free going p s) p s)
     + bytes_given (still_free free going p s) going p ss
 
 -- how many sources have a part in the record: a token of theirs, or a spine to be filled

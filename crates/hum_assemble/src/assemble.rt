@@ -2,10 +2,10 @@
 ghost use Rattle.std.specs.Prelude.{◌≡◌, ◌≤◌, ◌<◌, ◌+◌, ◌⊎◌, ℕ, true, false};
 ghost use Rattle.std.specs.Prelude.{List, [], length, map};
 ghost use Rattle.std.specs.Prelude.{is_none, None, Some, IfSome, IfOk, OnOk, OnErr, IsErr};
+ghost use Rattle.std.specs.List.{position_from};
 ghost use Rattle.hum_stage.specs.declared.faults.Command.TheVariants.{Assemble as AssembleCommand};
 ghost use Rattle.hum_stage.specs.Meaning.{fault_at, resting_state};
 ghost use Rattle.hum_assemble.specs.Change.{Input, More, Ends, IsOpenInput};
-ghost use Rattle.hum_assemble.specs.Round.{first_from};
 ghost use Rattle.hum_assemble.specs.Merge.{ahead};
 ghost use Rattle.hum_assemble.specs.Meaning.{Moment, MayPut, MayEnd, HasChanged, HasTaken};
 ghost use Rattle.hum_assemble.specs.Meaning.{state_of, wants_of, held_at, lower, inputs_end};
@@ -92,18 +92,12 @@ fn inputs_end(sources: &[SourceHead]) -> Option<End>
 
 /// The leftmost source that hasn't ended.
 fn first_open(sources: &[SourceHead]) -> Option<usize>
-    ensures { result ≡ first_from is_none 0 (map (λ s. s.ended) sources.now) }
+    ensures { result ≡ position_from is_none 0 (map (λ s. s.ended) sources.now) }
 {
-    let mut j = 0usize;
-    let mut rest = sources;
-    while let [source, right @ ..] = rest {
-        if source.ended().is_none() {
-            return Some(j);
-        }
-        j += 1;
-        rest = right;
-    }
-    None
+    sources
+        .iter()
+        .map(|source| source.ended())
+        .position(|end| end.is_none())
 }
 
 /// How many records wait.
@@ -234,8 +228,8 @@ impl Assemble {
         if self.spent {
             return Err(AllocError);
         }
-        if let Next::Wants(j) = self.next {
-            self.sources[j].put(next);
+        if let Next::Wants(_) = self.next {
+            self.sources[source].put(next);
             self.next = ahead(&self.sources, self.given);
         }
         Ok(())

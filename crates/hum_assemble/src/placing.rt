@@ -9,7 +9,7 @@ ghost use Rattle.hum_path.specs.Rules.{fault_of};
 ghost use Rattle.hum_assemble.specs.Source.{is_end, is_inside, place, interpretation_place};
 ghost use Rattle.hum_assemble.specs.Source.{by_comment, unit_place};
 ghost use Rattle.hum_assemble.specs.Head.{is_opened};
-ghost use Rattle.hum_assemble.specs.Spread.{spread, heirs_count};
+ghost use Rattle.hum_assemble.specs.Sizes.{width_under, heirs_count};
 
 use crate::places::Place;
 use hum_path::{Paths, Sign, steers, token_sign};
@@ -124,9 +124,9 @@ fn heirs_count(after_join: bool, sign: Sign) -> usize
 }
 
 /// How many spines come of those under a record's tokens.
-fn spread(row: &Record) -> usize
+fn width_under(row: &Record) -> usize
     requires { length (tokens_of row.now) ≤ 4096 }
-    ensures { result ≡ spread false (map sign_of (tokens_of row.now)) }
+    ensures { result ≡ width_under false (map sign_of (tokens_of row.now)) }
 {
     let mut count = 0usize;
     let mut after_join = false;
@@ -146,7 +146,13 @@ pub fn width_after(opened: bool, paths: &Paths, row: &Record) -> usize
 {
     let width = paths.width();
     match row.kind() {
-        Kind::Interpretation => { if opened { spread(row) } else { row.width() } }
+        Kind::Interpretation => {
+            if opened {
+                width_under(row)
+            } else {
+                row.width()
+            }
+        }
         _ => width,
     }
 }

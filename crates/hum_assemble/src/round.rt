@@ -1,13 +1,12 @@
 //! What several sources give side by side.
-ghost use Rattle.std.specs.Prelude.{◌≡◌, ◌≢◌, ◌≤◌, ◌++◌, ℕ, ◌+◌, nat_lt, nat_le, true};
-ghost use Rattle.std.specs.Prelude.{None, Some, IfOk, OnOk, length};
-ghost use Rattle.std.specs.List.{list_any};
+ghost use Rattle.std.specs.Prelude.{◌≡◌, ◌≢◌, ◌≤◌, ◌++◌, ℕ, ◌+◌, nat_lt, nat_le, true, not, ◌&&◌};
+ghost use Rattle.std.specs.Prelude.{◌||◌, None, Some, IfOk, OnOk, length};
+ghost use Rattle.std.specs.List.{list_any, position_from};
 ghost use Rattle.hum_record.specs.Building.{spelled};
 ghost use Rattle.hum_record.specs.Row.{text_of};
 ghost use Rattle.hum_assemble.specs.Head.{AllLawful};
-ghost use Rattle.hum_assemble.specs.Places.{kind_at};
-ghost use Rattle.hum_assemble.specs.Round.{first_from, any_due, is_lost, is_missing, earliest};
-ghost use Rattle.hum_assemble.specs.Round.{takes, still_free};
+ghost use Rattle.hum_assemble.specs.Places.{kind_at, is_shared};
+ghost use Rattle.hum_assemble.specs.Round.{any_due, is_lost, is_missing, earliest};
 ghost use Rattle.hum_assemble.specs.Merge.{spines, all_moved, made, comment_given, tokens_given};
 ghost use Rattle.hum_assemble.specs.Merge.{ahead, ahead_of, ahead_at, given_row, given_on};
 ghost use Rattle.hum_assemble.specs.Taking.{row_taken, bytes_given, parts_given};
@@ -50,18 +49,9 @@ fn any_lost(sources: &[SourceHead], going: bool) -> bool
 
 /// The leftmost source of which a record, or the end, is needed.
 fn first_missing(sources: &[SourceHead], going: bool) -> Option<usize>
-    ensures { result ≡ first_from (is_missing going) 0 sources.now }
+    ensures { result ≡ position_from (is_missing going) 0 sources.now }
 {
-    let mut j = 0usize;
-    let mut rest = sources;
-    while let [source, right @ ..] = rest {
-        if is_missing(source, going) {
-            return Some(j);
-        }
-        j += 1;
-        rest = right;
-    }
-    None
+    sources.iter().position(|source| is_missing(source, going))
 }
 
 /// The earliest place of those that are asked.
@@ -74,11 +64,11 @@ fn earliest(sources: &[SourceHead], going: bool) -> Place
     }
 }
 
-/// Whether a source further right may still give a record.
-fn still_free(source: &SourceHead, free: bool, going: bool, p: Place) -> bool
-    ensures { result ≡ still_free free going p source.now }
+/// Whether a source further right may still give a record, by whether this one gives one.
+fn still_free(free: bool, p: Place, taken: bool) -> bool
+    ensures { result ≡ (free && (is_shared p || not taken)) }
 {
-    free && (p.is_shared() || !source.takes(free, going, p))
+    free && (p.is_shared() || !taken)
 }
 
 /// Whether more spines than are left stand behind the records at this place.
@@ -88,7 +78,8 @@ fn are_more_spines(sources: &[SourceHead], free: bool, going: bool, p: Place, le
     match sources {
         [] => false,
         [source, rest @ ..] => {
-            let width = if source.takes(free, going, p) {
+            let taken = source.takes(free, going, p);
+            let width = if taken {
                 source.width_ahead()
             } else {
                 source.width()
@@ -96,13 +87,7 @@ fn are_more_spines(sources: &[SourceHead], free: bool, going: bool, p: Place, le
             if width > left {
                 true
             } else {
-                are_more_spines(
-                    rest,
-                    still_free(source, free, going, p),
-                    going,
-                    p,
-                    left - width,
-                )
+                are_more_spines(rest, still_free(free, p, taken), going, p, left - width)
             }
         }
     }
@@ -130,17 +115,12 @@ fn are_more_bytes(sources: &[SourceHead], free: bool, going: bool, p: Place, lef
     match sources {
         [] => false,
         [source, rest @ ..] => {
-            let bytes = source.room(source.takes(free, going, p), p);
+            let taken = source.takes(free, going, p);
+            let bytes = source.part_len(taken, p);
             if bytes > left {
                 true
             } else {
-                are_more_bytes(
-                    rest,
-                    still_free(source, free, going, p),
-                    going,
-                    p,
-                    left - bytes,
-                )
+                are_more_bytes(rest, still_free(free, p, taken), going, p, left - bytes)
             }
         }
     }
@@ -199,8 +179,9 @@ fn are_few_parts(sources: &[SourceHead], free: bool, going: bool, p: Place, left
     match sources {
         [] => true,
         [source, rest @ ..] => {
-            let free_on = still_free(source, free, going, p);
-            if !source.takes(free, going, p) && source.width() == 0 {
+            let taken = source.takes(free, going, p);
+            let free_on = still_free(free, p, taken);
+            if !taken && source.width() == 0 {
                 are_few_parts(rest, free_on, going, p, left)
             } else if left == 0 {
                 false
@@ -229,8 +210,9 @@ fn push_parts(
     let mut free = true;
     let mut rest = sources;
     while let [source, right @ ..] = rest {
-        source.push_part(free, going, p, builder)?;
-        free = still_free(source, free, going, p);
+        let taken = source.takes(free, going, p);
+        source.push_part(taken, p, builder)?;
+        free = still_free(free, p, taken);
         rest = right;
     }
     Ok(())
@@ -261,7 +243,7 @@ fn go_on(
     let mut given = None;
     for source in sources.iter_mut() {
         let taken = source.takes(free, going, p);
-        free = still_free(source, free, going, p);
+        free = still_free(free, p, taken);
         if let Some(row) = source.go_on(taken, going, p)? {
             hand_on(&mut given, row, done);
         }

@@ -1,5 +1,5 @@
 //! One source: its spines, and its next record.
-ghost use Rattle.std.specs.Prelude.{◌≡◌, ◌++◌, ◌∷◌, ◌≤◌, [], false, None, Some};
+ghost use Rattle.std.specs.Prelude.{◌≡◌, ◌++◌, ◌∷◌, ◌≤◌, [], Bool, false, None, Some};
 ghost use Rattle.std.specs.Prelude.{IfOk, OnOk, length, replicate, if◌then◌else◌};
 ghost use Rattle.std.specs.List.{AllByRecursion};
 ghost use Rattle.hum_record.specs.Building.{spelled};
@@ -9,14 +9,14 @@ ghost use Rattle.hum_path.specs.Spines.{width};
 ghost use Rattle.hum_path.specs.Rules.{fault_of};
 ghost use Rattle.hum_assemble.specs.Head.{first_of, AreLawful};
 ghost use Rattle.hum_assemble.specs.Source.{untouched};
-ghost use Rattle.hum_assemble.specs.Spread.{room};
+ghost use Rattle.hum_assemble.specs.Sizes.{tokens_len};
 ghost use Rattle.hum_assemble.specs.Places.{kind_at};
 ghost use Rattle.hum_assemble.specs.Round.{shown, place_at, takes};
 ghost use Rattle.hum_assemble.specs.Merge.{moved, advanced, text_of_first, part_given};
 
 use crate::places::{Place, null_at};
 use crate::placing::{is_inside_after, is_opened_after, place, width_after};
-use hum_path::{PathFault, Paths};
+use hum_path::Paths;
 use hum_record::{Kind, Record, RecordBuilder, RecordFault};
 use hum_stage::End;
 use std::alloc::{AllocError, Global};
@@ -141,6 +141,7 @@ impl SourceHead {
         ensures put { self.new ≡ record self.old { coming = row ∷ [] } }
         ensures lawful { AreLawful self.old.path (row ∷ []) }
     {
+        // Its text is lawful.
         let _kind = row.kind();
         let place = place(self.opened, self.inside, &self.paths, &row);
         let width = width_after(self.opened, &self.paths, &row);
@@ -247,8 +248,8 @@ impl SourceHead {
     }
 
     /// How many bytes the source's part of a record has, with a tab for each token.
-    pub fn room(&self, taken: bool, p: Place) -> usize
-        ensures { result ≡ room (part_given taken p self.now) }
+    pub fn part_len(&self, taken: bool, p: Place) -> usize
+        ensures { result ≡ tokens_len (part_given taken p self.now) }
     {
         if !taken {
             return self.paths.width() * (null_at(p.kind()).len() + 1);
@@ -265,21 +266,20 @@ impl SourceHead {
     /// Adds the source's part to a record that has room for it.
     pub fn push_part(
         &self,
-        free: bool,
-        going: bool,
+        taken: bool,
         p: Place,
         builder: &mut RecordBuilder,
     ) -> Result<(), AllocError>
+        requires taken { (free : Bool) × (going : Bool) × (taken ≡ takes free going p self.now) }
         requires lawful { AreLawful self.now.path self.now.coming }
         requires kind { kind_at p ≡ Some builder.old.kind }
         requires fits { length (spelled (builder.old.tokens
-            ++ part_given (takes free going p self.now) p self.now)) ≤ 1048576 }
+            ++ part_given taken p self.now)) ≤ 1048576 }
         ensures { OnOk result (builder.new ≡ record builder.old {
-          tokens = builder.old.tokens
-              ++ part_given (takes free going p self.now) p self.now;
+          tokens = builder.old.tokens ++ part_given taken p self.now;
         }) }
     {
-        if !self.takes(free, going, p) {
+        if !taken {
             return push_nulls(builder, null_at(p.kind()), self.paths.width());
         }
         match &self.head {
@@ -314,16 +314,15 @@ impl SourceHead {
             place: _,
             width: _,
         } = head;
-        match self.paths.step(&row) {
+        match self.paths.follow(&row) {
             Ok(_) => {}
-            Err(PathFault::Memory) => {
+            Err(AllocError) => {
                 // where the spines stand isn't known any more
                 self.paths = Paths::new(self.alloc);
                 self.opened = false;
                 self.inside = false;
                 return Err(AllocError);
             }
-            Err(_) => unreachable!(),
         }
         self.opened = is_opened_after(self.opened, &row);
         self.inside = is_inside_after(self.inside, &self.paths, &row);

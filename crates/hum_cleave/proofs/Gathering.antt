@@ -1,7 +1,7 @@
 -- Data tokens that are joined, one by one.
 use Rattle.std.proofs.Common.{◌≡◌, ◌∙◌, refl, sym, ap, ℕ, zero, suc, ◌+◌, ◌<◌, ◌≤◌, Bool, true, false, cond}
 use Rattle.std.proofs.Common.{List, [], ◌∷◌, ◌++◌, length, map, drop, take, get_or, arith, add-one, append_assoc, append-nil}
-use Rattle.std.specs.List.{list_any, list_all}
+use Rattle.std.specs.List.{list_any}
 use Rattle.std.proofs.lemmas.List.{drop_all}
 use lib.Chars.{codes}
 use Rattle.hum_record.specs.Row.{chosen}
@@ -78,17 +78,16 @@ module _ {Y : Type 0} (p : Y → Bool) (f : List ℕ → Y) (fs : List Bool) (ts
       → list_any p (chosen (drop (j + 1) fs) (map f (drop (j + 1) ts))) ≡ list_any p (chosen (drop j fs) (map f (drop j ts)))
   any_skips off = rw add-one (ap (λ (ys : List Y). list_any p ys) (mapped_skips f fs ts j h e off))
 
-  pub all_skips : get_or fs j false ≡ false
-      → list_all p (chosen (drop (j + 1) fs) (map f (drop (j + 1) ts))) ≡ list_all p (chosen (drop j fs) (map f (drop j ts)))
-  all_skips off = rw add-one (ap (λ (ys : List Y). list_all p ys) (mapped_skips f fs ts j h e off))
-
   pub any_fails : get_or fs j false ≡ true → p (f (get_or ts j [])) ≡ false
       → list_any p (chosen (drop (j + 1) fs) (map f (drop (j + 1) ts))) ≡ list_any p (chosen (drop j fs) (map f (drop j ts)))
   any_fails on fails = rw add-one (rw (mapped_next f fs ts j [] h e on) (rw fails refl))
 
-  pub all_holds : get_or fs j false ≡ true → p (f (get_or ts j [])) ≡ true
-      → list_all p (chosen (drop (j + 1) fs) (map f (drop (j + 1) ts))) ≡ list_all p (chosen (drop j fs) (map f (drop j ts)))
-  all_holds on holds = rw add-one (rw (mapped_next f fs ts j [] h e on) (rw holds refl))
+  pub any_holds : get_or fs j false ≡ true → p (f (get_or ts j [])) ≡ true → list_any p (chosen (drop j fs) (map f (drop j ts))) ≡ true
+  any_holds on holds = rw (mapped_next f fs ts j [] h e on) (rw holds refl)
+
+pub any_ended : {Y : Type 0} (p : Y → Bool) (f : List ℕ → Y) (fs : List Bool) (ts : List (List ℕ)) (j : ℕ) → length fs ≤ j
+    → false ≡ list_any p (chosen (drop j fs) (map f (drop j ts)))
+any_ended p f fs ts j past = rw (drop_all j fs past) refl
 
 module _ (test : List ℕ → Bool) (other : List ℕ) (fs : List Bool) (ts : List (List ℕ)) (j : ℕ) (h : j < length fs) (e : length fs ≡ length ts) where
   pub left_skips : get_or fs j false ≡ false

@@ -93,6 +93,13 @@ all_or_none ss h some = flip (list_any is_end ss) (list_all is_end ss) h some
     flip true false h some = cc
     flip false b h some = absurd (false≢true some)
 
+-- not all end where one doesn't
+pub some_fails : {X : Type 0} (p : X → Bool) (xs : List X) → list_any (λ x. not (p x)) xs ≡ not (list_all p xs)
+some_fails p [] = refl
+some_fails p (x ∷ xs) = by_bool (p x)
+    (λ w. rw w (some_fails p xs))
+    (λ w. rw w refl)
+
 pub plain_at : (s : Sign) → is_end s ≡ false → is_moved s ≡ false → is_exclusive s ≡ false → is_inner s ≡ false → s ≡ Plain
 plain_at Plain a b c d = refl
 plain_at Split a b c d = cc

@@ -1,10 +1,11 @@
 //! Interpretations whose cleaved columns become one.
-ghost use Rattle.std.specs.Prelude.{◌≡◌, [], false, length, map, IfOk};
-ghost use Rattle.std.specs.List.{list_any, list_all};
+ghost use Rattle.std.specs.Prelude.{◌≡◌, [], Bool, false, length, map, IfOk};
+ghost use Rattle.std.specs.List.{list_any};
 ghost use Rattle.hum_record.specs.Row.{Spined, tokens_of, width_of, text_of, chosen};
 ghost use Rattle.hum_record.specs.declared.SpinedKind.TheVariants.{Interpretation};
 ghost use Rattle.hum_record.specs.Spelling.{IsTextOf};
 ghost use Rattle.hum_path.specs.Sign.{sign_of, is_exclusive};
+ghost use Rattle.hum_path.specs.declared.signs.Sign.{Sign};
 ghost use Rattle.hum_spread.specs.Spread.{piece};
 ghost use Rattle.hum_columns.specs.Chosen.{each_piece};
 ghost use Rattle.hum_columns.specs.Following.{AnswersInRoom};
@@ -20,17 +21,29 @@ use hum_stage::Rule;
 use std::alloc::{AllocError, Global};
 use std::collections::VecDeque;
 
+/// Whether what a cleaved column asks of its spine passes a test.
+#[inline]
+fn any_cleaved<F: Fn(Sign) -> bool>(marks: &[bool], row: &Record, test: F) -> bool
+    requires as_wide { length marks.now ≡ width_of row.now }
+    requires test { F.IsAlwaysCallable test }
+    ensures { (p : Sign → Bool) → ((sign : Sign) (passes : Bool)
+        → F.post test sign passes → passes ≡ p sign)
+        → result ≡ list_any p (chosen marks.now (map sign_of (tokens_of row.now))) }
+{
+    for (j, mark) in marks.iter().enumerate() {
+        if *mark && test(token_sign(row.token(j))) {
+            return true;
+        }
+    }
+    false
+}
+
 /// Whether a cleaved column has an exclusive interpretation.
 fn has_exclusive(marks: &[bool], row: &Record) -> bool
     requires { length marks.now ≡ width_of row.now }
     ensures { result ≡ list_any is_exclusive (chosen marks.now (map sign_of (tokens_of row.now))) }
 {
-    for (j, mark) in marks.iter().enumerate() {
-        if *mark && token_sign(row.token(j)).is_exclusive() {
-            return true;
-        }
-    }
-    false
+    any_cleaved(marks, row, |sign| sign.is_exclusive())
 }
 
 fn is_moved(sign: Sign) -> bool
@@ -39,49 +52,18 @@ fn is_moved(sign: Sign) -> bool
     matches!(sign, Sign::Exchange | Sign::Add)
 }
 
-fn is_end(sign: Sign) -> bool
-    ensures { result ≡ is_end sign }
-{
-    matches!(sign, Sign::End)
-}
-
 /// Whether a cleaved column is exchanged, or has a spine added to it.
 fn has_moved(marks: &[bool], row: &Record) -> bool
     requires { length marks.now ≡ width_of row.now }
     ensures { result ≡ list_any is_moved (chosen marks.now (map sign_of (tokens_of row.now))) }
 {
-    for (j, mark) in marks.iter().enumerate() {
-        if *mark && is_moved(token_sign(row.token(j))) {
-            return true;
-        }
-    }
-    false
+    any_cleaved(marks, row, |sign| is_moved(sign))
 }
 
-/// Whether a cleaved column ends.
-fn has_end(marks: &[bool], row: &Record) -> bool
-    requires { length marks.now ≡ width_of row.now }
-    ensures { result ≡ list_any is_end (chosen marks.now (map sign_of (tokens_of row.now))) }
+fn is_end(sign: Sign) -> bool
+    ensures { result ≡ is_end sign }
 {
-    for (j, mark) in marks.iter().enumerate() {
-        if *mark && is_end(token_sign(row.token(j))) {
-            return true;
-        }
-    }
-    false
-}
-
-/// Whether each cleaved column ends.
-fn all_end(marks: &[bool], row: &Record) -> bool
-    requires { length marks.now ≡ width_of row.now }
-    ensures { result ≡ list_all is_end (chosen marks.now (map sign_of (tokens_of row.now))) }
-{
-    for (j, mark) in marks.iter().enumerate() {
-        if *mark && !is_end(token_sign(row.token(j))) {
-            return false;
-        }
-    }
-    true
+    matches!(sign, Sign::End)
 }
 
 /// Whether some cleaved columns end and others don't.
@@ -89,7 +71,7 @@ fn ends_apart(marks: &[bool], row: &Record) -> bool
     requires { length marks.now ≡ width_of row.now }
     ensures { result ≡ ends_apart (chosen marks.now (map sign_of (tokens_of row.now))) }
 {
-    has_end(marks, row) && !all_end(marks, row)
+    any_cleaved(marks, row, |sign| is_end(sign)) && any_cleaved(marks, row, |sign| !is_end(sign))
 }
 
 /// Whether the record asks of a cleaved column what can't be written in one column.

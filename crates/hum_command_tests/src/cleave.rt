@@ -1,7 +1,8 @@
 //! The command cleave: small scores, by hand.
 use crate::checks::{Case, Refused, check};
 use hum_cleave::{Cleave, CleaveOptions, is_name, is_separator};
-use hum_commands::{CommandOptions, CommandStage};
+use hum_command_stages::CommandStage;
+use hum_commands::CommandOptions;
 use hum_stage::{Command, Rule, Stage, State};
 use std::alloc::Global;
 use std::process::Abort;

@@ -1,6 +1,7 @@
 //! The command ditto, call by call.
 use crate::checks::check_first;
-use hum_commands::{CommandOptions, CommandStage};
+use hum_command_stages::CommandStage;
+use hum_commands::CommandOptions;
 use hum_ditto::DittoOptions;
 
 #[test]

@@ -1,6 +1,7 @@
 //! The command extract: small scores, by hand.
 use crate::checks::{Refused, check, check_first};
-use hum_commands::{CommandOptions, CommandStage};
+use hum_command_stages::CommandStage;
+use hum_commands::CommandOptions;
 use hum_extract::Field::{self, Last, Number};
 use hum_extract::{Choice, FieldRange};
 use hum_stage::{Command, Rule};

@@ -1,6 +1,7 @@
 //! The command rid: a small score, by hand.
 use crate::checks::{check, check_first};
-use hum_commands::{CommandOptions, CommandStage};
+use hum_command_stages::CommandStage;
+use hum_commands::CommandOptions;
 use hum_rid::RidOptions;
 use hum_stage::Command;
 

@@ -3,7 +3,8 @@ ghost use Rattle.std.specs.Prelude.{Ok};
 ghost use Rattle.hum_kern.specs.Duration.{recip};
 
 use crate::checks::{Refused, check};
-use hum_commands::{CommandOptions, CommandStage};
+use hum_command_stages::CommandStage;
+use hum_commands::CommandOptions;
 use hum_kern::read_recip;
 use hum_stage::{Command, Rule};
 use hum_timebase::TimebaseOptions;

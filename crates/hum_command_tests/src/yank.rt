@@ -1,6 +1,7 @@
 //! The command yank, call by call.
 use crate::checks::check_first;
-use hum_commands::{CommandOptions, CommandStage};
+use hum_command_stages::CommandStage;
+use hum_commands::CommandOptions;
 use hum_pattern::Pattern;
 use hum_yank::{Markers, YankOptions, YankRange};
 use std::alloc::Global;

@@ -1,13 +1,9 @@
-//! The commands of one input, in one list: what they are told to do, what they mean, and their
-//! stages.
+//! The commands of one input, in one list: what they are told to do, and what they mean.
 //!
-//! [`CommandOptions`] are a command and what it is told to do, [`CommandStage`] is the stage that
-//! does it.
+//! [`CommandOptions`] are a command and what it is told to do. The stage that does it is the
+//! `CommandStage` of the crate `hum_command_stages`.
 #![tactic(auto)]
 
-mod asking;
 mod options;
-mod stages;
 
 pub use options::CommandOptions;
-pub use stages::CommandStage;

@@ -18,7 +18,7 @@ use Rattle.hum_context.specs.declared.queued.Queued.{Queued}
 use Rattle.hum_context.specs.declared.walk.Walk.{Walk}
 use Rattle.hum_context.specs.Options.{extent_of, choice_of}
 use Rattle.hum_context.specs.Context.{Choice, taken, context, all_some, data_of, if_fits, new_tokens}
-use Rattle.hum_context.specs.Columns.{path_through}
+use Rattle.hum_stage.specs.Score.{through}
 use Rattle.hum_context.specs.Memory.{Follows, follows_each}
 use Rattle.hum_context.specs.Queue.{FirstIsData, Known, Knows}
 use Rattle.hum_context.specs.Walking.{AllStand, Stands}
@@ -46,7 +46,7 @@ pub follows_put : (o : Choice) (path path' : Path) (gone : ℕ) (walks : List Wa
     → Follows o path' gone walks held' look past (rows ++ next ∷ [])
 follows_put o path path' gone walks held held' look past rows next kept h few p known k =
     let more = passed-push past rows next in
-    let here = known (path_through (path_after past) rows)
+    let here = known (through (path_after past) rows)
     (ap (λ (q : Path). moves q next) (h.spines ∙ sym (path_passed past rows))) in
     let sum = length-append rows (next ∷ []) in
     let longer : length (passed past (rows ++ next ∷ [])) ≡ suc (length (passed past rows)) =

@@ -11,7 +11,8 @@ use Rattle.hum_context.specs.declared.hearing.Heard.{Heard}
 use Rattle.hum_context.specs.declared.hearing.Heard.TheVariants.{Passed, Taken}
 use Rattle.hum_context.specs.declared.queued.Queued.{Queued}
 use Rattle.hum_context.specs.Context.{Choice, Extent, chain, is_collectable, taken}
-use Rattle.hum_context.specs.Columns.{column_after, path_through}
+use Rattle.hum_context.specs.Columns.{column_after}
+use Rattle.hum_stage.specs.Score.{through}
 use Rattle.hum_context.specs.Heard.{ends, enough_by, heard_under, wanted_of}
 use Rattle.hum_context.specs.Memory.{knows_each}
 use Rattle.hum_context.specs.Queue.{Knows, column_in, heard_token}
@@ -55,7 +56,7 @@ gathers_none o path rows j count made none zero e = record {
 next_at : (o : Choice) (path : Path) (rows : List Row) (j n c count : ℕ)
     (made : List (List ℕ) → Type 0) (held : List Queued) (kept : Queued) → Knows o path held rows
     → (h : Gathers o path rows j n c count made false) → n < length held → kept ≡ get_or held n kept
-    → At o (path_through path h.front) h.rest kept
+    → At o (through path h.front) h.rest kept
 next_at o path rows j n c count made held kept knows h below is =
     let long = h.long in
     knows_at o path held h.front h.rest kept (rw h.split at knows) (omega (arith, long, below))
@@ -162,7 +163,7 @@ gathers_all o path rows j n c count made enough tokens h are none e =
 
 -- where nothing is collected any more, too few stay too few
 too_few : (o : Choice) (path : Path) (rows front rest : List Row) (j : ℕ) (tokens : List (List ℕ))
-    → rows ≡ front ++ rest → chain_on (path_through path front) rest (column_after path front j) ≡ []
+    → rows ≡ front ++ rest → chain_on (through path front) rest (column_after path front j) ≡ []
     → taken o.extent (collected o path front j) ≡ None
     → taken o.extent (collected o path rows j) ≡ Some tokens → ⊥
 too_few o path rows front rest j tokens split none few e =
@@ -190,7 +191,7 @@ gathers_stop o path rows j n c count made held kept tokens knows h below is hear
     g.column ∙ (sym (here.known.below c) ∙ ends) in
     too_few o path rows (h.front ++ here.row ∷ []) here.behind j tokens
     (longer rows h.front h.rest here.behind here.row h.split here.split)
-    (ap (chain_on (path_through path (h.front ++ here.row ∷ [])) here.behind) stops)
+    (ap (chain_on (through path (h.front ++ here.row ∷ [])) here.behind) stops)
     (rw same h.enough_are) e
 
 none_left : (rows front rest : List Row) → rows ≡ front ++ rest → length rows ≤ length front
@@ -211,8 +212,8 @@ gathers_end o path rows j n c count made held tokens knows h over e =
     let long = h.long in
     let left = none_left rows h.front h.rest h.split (omega (arith, over, each, long)) in
     too_few o path rows h.front h.rest j tokens h.split
-    (ap (λ (xs : List Row). chain_on (path_through path h.front) xs (column_after path h.front j)) left
-    ∙ ap (chain_on (path_through path h.front) []) h.column)
+    (ap (λ (xs : List Row). chain_on (through path h.front) xs (column_after path h.front j)) left
+    ∙ ap (chain_on (through path h.front) []) h.column)
     h.enough_are e
 
 -- Their text grows by one,

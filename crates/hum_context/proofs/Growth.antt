@@ -17,7 +17,8 @@ use Rattle.hum_path.specs.Score.{path_after, passed}
 use Rattle.hum_path.specs.Chains.{below_at, future}
 use Rattle.hum_context.specs.Context.{Choice, Extent, First, Between, is_data, is_collectable}
 use Rattle.hum_context.specs.Context.{is_last, taken, through, to_last, chain}
-use Rattle.hum_context.specs.Columns.{place_after, column_below, column_after, path_through, under}
+use Rattle.hum_context.specs.Columns.{place_after, column_below, column_after, under}
+use Rattle.hum_stage.specs.Score.{through as path_through}
 use Rattle.hum_context.specs.Walking.{add_token}
 
 -- the spines behind those that wait

@@ -12,7 +12,7 @@ use Rattle.hum_context.specs.declared.front.Weight.{Weight}
 use Rattle.hum_context.specs.declared.front.Weight.TheVariants.{Undecided, Long, Fits}
 use Rattle.hum_context.specs.declared.queued.Queued.{Queued}
 use Rattle.hum_context.specs.Context.{Choice, context, all_some, new_tokens}
-use Rattle.hum_context.specs.Columns.{path_through}
+use Rattle.hum_stage.specs.Score.{through}
 use Rattle.hum_context.specs.Memory.{knows_each}
 use Rattle.hum_context.specs.Queue.{Knows}
 use Rattle.hum_context.specs.Walking.{Weighs}
@@ -62,7 +62,7 @@ pub here_at : (o : Choice) (past rows : List Row) (k : ℕ) (held : List Queued)
     → Here o past rows k held
 here_at o past rows k held knows h below = by h.rest refl
   where
-    left : Knows o (path_through (path_after past) h.front) (drop (length h.front) held) h.rest
+    left : Knows o (through (path_after past) h.front) (drop (length h.front) held) h.rest
     left = knows_drop o (path_after past) held h.front h.rest (rw h.split at knows)
 
     by : (rest : List Row) → h.rest ≡ rest → Here o past rows k held

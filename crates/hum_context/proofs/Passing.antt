@@ -18,7 +18,8 @@ use Rattle.hum_context.specs.declared.queued.Queued.{Queued}
 use Rattle.hum_context.specs.declared.walk.Walk.{Walk}
 use Rattle.hum_context.specs.Context.{Choice, Extent, First, Between, is_collectable, is_last, taken}
 use Rattle.hum_context.specs.Context.{to_last, chain, begins, token_or_null, new_token}
-use Rattle.hum_context.specs.Columns.{place_after, column_below, column_after, path_through, under}
+use Rattle.hum_context.specs.Columns.{place_after, column_below, column_after, under}
+use Rattle.hum_stage.specs.Score.{through}
 use Rattle.hum_context.specs.Heard.{heard_of, heard_under, ends, enough_by, wanted_of}
 use Rattle.hum_context.specs.Queue.{Known, column_in, is_last_in, heard_token}
 use Rattle.hum_context.specs.Walking.{Becomes, Has, Halts, Stands, collected, bytes_of}
@@ -40,16 +41,16 @@ chain_on path rows (Some c) = chain path rows c
 
 below_more : (path : Path) (front rest : List Row) (last : Bool) (below : Option ℕ)
     → ((c : ℕ) → chain path (front ++ rest) c ≡ chain path front c ++ chain_on
-    (path_through path front) rest (column_after path front c))
+    (through path front) rest (column_after path front c))
     → cond last [] (to_last (below_at (future path (front ++ rest)) below)) ≡ cond last []
-    (to_last (below_at (future path front) below)) ++ chain_on (path_through path front) rest
+    (to_last (below_at (future path front) below)) ++ chain_on (through path front) rest
     (option_and_then (column_after path front) (cond last None below))
 below_more path front rest true below h = refl
 below_more path front rest false None h = refl
 below_more path front rest false (Some c) h = h c
 
 pub chain_more : (path : Path) (front rest : List Row) (c : ℕ)
-    → chain path (front ++ rest) c ≡ chain path front c ++ chain_on (path_through path front) rest
+    → chain path (front ++ rest) c ≡ chain path front c ++ chain_on (through path front) rest
     (column_after path front c)
 chain_more path [] rest c = refl
 chain_more path (Comment text ∷ front) rest c = chain_more path front rest c
@@ -59,7 +60,7 @@ chain_more path (Spined kind tokens ∷ front) rest c =
     (below_more (after path (Spined kind tokens)) front rest (is_last (get_or tokens c []))
     (place_after path kind tokens c) (chain_more (after path (Spined kind tokens)) front rest))
     ∙ sym (ap (λ (ts : List (List ℕ)). ts ++ chain_on
-    (path_through path (Spined kind tokens ∷ front)) rest
+    (through path (Spined kind tokens ∷ front)) rest
     (column_after path (Spined kind tokens ∷ front) c)) (chain_step path kind tokens front c)))
 
 -- where a column goes on, its future isn't ended
@@ -74,7 +75,7 @@ open_end path rows j c e = by (list_any is_last (chain path rows j)) refl
 -- one record more, on which a walk stands
 pub record Grown (o : Choice) (path : Path) (rows : List Row) (row : Row) (j c : ℕ)
     (heard : Heard) : Type 0 where
-  pub column : column_after path (rows ++ row ∷ []) j ≡ column_below (path_through path rows) row c
+  pub column : column_after path (rows ++ row ∷ []) j ≡ column_below (through path rows) row c
   pub ended : list_any is_last (chain path (rows ++ row ∷ []) j)
       ≡ list_any is_last (under row (Some c))
   pub collected : collected o path (rows ++ row ∷ []) j
@@ -89,7 +90,7 @@ grown o path rows row j c heard at is =
     chain_push path rows row j ∙ ap (λ (x : Option ℕ). chain path rows j ++ under row x) at in
     record {
       column = column_push path rows row j
-          ∙ ap (λ (x : Option ℕ). option_and_then (column_below (path_through path rows) row) x) at;
+          ∙ ap (λ (x : Option ℕ). option_and_then (column_below (through path rows) row) x) at;
       ended = ap (list_any is_last) longer
           ∙ (list_any-append is_last (chain path rows j) (under row (Some c))
           ∙ ap (λ (b : Bool). b || list_any is_last (under row (Some c)))
@@ -100,14 +101,14 @@ grown o path rows row j c heard at is =
     }
 
 pub grown_by : (o : Choice) (path : Path) (rows : List Row) (row : Row) (j c : ℕ) (kept : Queued)
-    (walk : Walk) → Known o (path_through path rows) row kept → walk.column ≡ Some c
+    (walk : Walk) → Known o (through path rows) row kept → walk.column ≡ Some c
     → Has o path rows j walk → Grown o path rows row j c (heard_under o row c)
 grown_by o path rows row j c kept walk known at h =
     grown o path rows row j c (heard_under o row c) (sym h.column ∙ at) (known.collected c)
 
 -- where its token isn't collected
 pub pass_none : (o : Choice) (path : Path) (rows : List Row) (row : Row) (j c : ℕ) (kept : Queued)
-    (walk new : Walk) → Known o (path_through path rows) row kept → walk.column ≡ Some c
+    (walk new : Walk) → Known o (through path rows) row kept → walk.column ≡ Some c
     → walk.enough ≡ false → Has o path rows j walk
     → get_or kept.heard.items c Passed ≡ Passed → new.column ≡ column_in kept.row kept.below c
     → new.ended ≡ is_last_in kept.row c → new.count ≡ walk.count
@@ -140,7 +141,7 @@ heard_data o (Spined Values tokens) c b e h = h
 -- where it is
 pub pass_one : (o : Choice) (path : Path) (rows : List Row) (row : Row) (j c : ℕ) (kept : Queued)
     (walk new : Walk) (wanted : Option ℕ) (b e : Bool) → wanted ≡ wanted_of o.extent
-    → Known o (path_through path rows) row kept → walk.column ≡ Some c
+    → Known o (through path rows) row kept → walk.column ≡ Some c
     → walk.enough ≡ false → Has o path rows j walk
     → get_or kept.heard.items c Passed ≡ Taken b e → new.column ≡ column_in kept.row kept.below c
     → new.ended ≡ is_last_in kept.row c → new.count ≡ walk.count + 1
@@ -173,7 +174,7 @@ pub enough_taken : (o : Choice) (path : Path) (rows front rest : List Row) (j : 
     → rows ≡ front ++ rest → taken o.extent (collected o path front j) ≡ Some (collected o path front j)
     → taken o.extent (collected o path rows j) ≡ Some (collected o path front j)
 enough_taken o path rows front rest j split e =
-    let more = chain_on (path_through path front) rest (column_after path front j) in
+    let more = chain_on (through path front) rest (column_after path front j) in
     let got : collected o path rows j ≡ collected o path front j ++ filter (is_collectable o) more =
     ap (λ (xs : List Row). collected o path xs j) split
     ∙ (ap (filter (is_collectable o)) (chain_more path front rest j)
@@ -187,7 +188,7 @@ pub taken_longer : (o : Choice) (path : Path) (rows front rest : List Row) (j : 
     → taken o.extent (collected o path rows j) ≡ Some tokens
     → bytes_of (collected o path front j) ≤ bytes_of tokens
 taken_longer o path rows front rest j tokens split few e =
-    let more = chain_on (path_through path front) rest (column_after path front j) in
+    let more = chain_on (through path front) rest (column_after path front j) in
     let got : collected o path rows j ≡ collected o path front j ++ filter (is_collectable o) more =
     ap (λ (xs : List Row). collected o path xs j) split
     ∙ (ap (filter (is_collectable o)) (chain_more path front rest j)
@@ -207,16 +208,16 @@ whole o path first rows j walk h short = ap (λ (xs : List Row). chain path xs j
     front : List Row
     front = h.stands.front
 
-    nothing : (c : Option ℕ) → chain_on (path_through path front) [] c ≡ []
+    nothing : (c : Option ℕ) → chain_on (through path front) [] c ≡ []
     nothing None = refl
     nothing (Some c) = refl
 
     none : (walk.enough ≡ true) ⊎ ((walk.column ≡ None) ⊎ (h.stands.rest ≡ []))
-        → chain_on (path_through path front) h.stands.rest (column_after path front j) ≡ []
+        → chain_on (through path front) h.stands.rest (column_after path front j) ≡ []
     none (inl e) = let u = sym short ∙ e in cc
-    none (inr (inl e)) = ap (chain_on (path_through path front) h.stands.rest)
+    none (inr (inl e)) = ap (chain_on (through path front) h.stands.rest)
         (sym h.stands.has.column ∙ e)
-    none (inr (inr e)) = ap (λ (xs : List Row). chain_on (path_through path front) xs
+    none (inr (inr e)) = ap (λ (xs : List Row). chain_on (through path front) xs
         (column_after path front j)) e ∙ nothing (column_after path front j)
 
 pub too_few : (o : Choice) (path : Path) (first : ℕ) (rows : List Row) (j : ℕ) (walk : Walk)

@@ -15,7 +15,7 @@ use Rattle.hum_context.specs.declared.hearing.Heard.TheVariants.{Passed, Taken}
 use Rattle.hum_context.specs.declared.queued.Queued.{Queued}
 use Rattle.hum_context.specs.declared.walk.Walk.{Walk}
 use Rattle.hum_context.specs.Context.{Choice, is_collectable, is_last, begins}
-use Rattle.hum_context.specs.Columns.{path_through}
+use Rattle.hum_stage.specs.Score.{through}
 use Rattle.hum_context.specs.Heard.{heard_under, ends}
 use Rattle.hum_context.specs.Memory.{knows_each}
 use Rattle.hum_context.specs.Queue.{Known, Knows, column_in, is_last_in, place_in, heard_token}
@@ -103,7 +103,7 @@ known_new o path (Spined Interpretation tokens) kept found words lawful short is
 
 -- one more behind the others
 pub knows_push : (o : Choice) (path : Path) (held : List Queued) (rows : List Row) (kept : Queued)
-    (next : Row) → Knows o path held rows → Known o (path_through path rows) next kept
+    (next : Row) → Knows o path held rows → Known o (through path rows) next kept
     → Knows o path (held ++ kept ∷ []) (rows ++ next ∷ [])
 knows_push o path [] [] kept next h k = (k, tt)
 knows_push o path [] (row ∷ rows) kept next h k = absurd h
@@ -120,7 +120,7 @@ pub record At (o : Choice) (path : Path) (rest : List Row) (kept : Queued) : Typ
 
 pub knows_at : (o : Choice) (path : Path) (held : List Queued) (front rest : List Row)
     (kept : Queued) → Knows o path held (front ++ rest) → length front < length held
-    → kept ≡ get_or held (length front) kept → At o (path_through path front) rest kept
+    → kept ≡ get_or held (length front) kept → At o (through path front) rest kept
 knows_at o path [] front rest kept h below at = absurd (omega (arith, below))
 knows_at o path (q ∷ qs) [] [] kept h below at = absurd h
 knows_at o path (q ∷ qs) [] (row ∷ rows) kept h below at = record {
@@ -134,7 +134,7 @@ knows_at o path (q ∷ qs) (row ∷ front) rest kept h below at =
 
 pub knows_drop : (o : Choice) (path : Path) (held : List Queued) (front rest : List Row)
     → Knows o path held (front ++ rest)
-    → Knows o (path_through path front) (drop (length front) held) rest
+    → Knows o (through path front) (drop (length front) held) rest
 knows_drop o path held [] rest h = h
 knows_drop o path [] (row ∷ front) rest h = absurd h
 knows_drop o path (q ∷ qs) (row ∷ front) rest h = knows_drop o (after path row) qs front rest h.1
@@ -154,7 +154,7 @@ pub stands_pass : (o : Choice) (path : Path) (gone k : ℕ) (rows : List Row) (j
     (held : List Queued) (kept : Queued) (walk new : Walk)
     → Knows o path (drop k held) rows → Stands o path (gone + k) rows j walk
     → walk.at ≡ gone + n → n < length held → kept ≡ get_or held n kept → new.at ≡ walk.at + 1
-    → ((front : List Row) (row : Row) → Known o (path_through path front) row kept
+    → ((front : List Row) (row : Row) → Known o (through path front) row kept
     → Has o path front j walk → Has o path (front ++ row ∷ []) j new)
     → Stands o path (gone + k) rows j new
 stands_pass o path gone k rows j n held kept walk new knows h at below is next pass =

@@ -26,11 +26,6 @@ column_after path [] c = Some c
 column_after path (row ∷ rows) c =
     option_and_then (column_after (after path row) rows) (column_below path row c)
 
--- the spines after records
-abbrev pub path_through : Path → List Row → Path
-path_through path [] = path
-path_through path (row ∷ rows) = path_through (after path row) rows
-
 -- the token of a record in a column, if there is one
 abbrev pub under : Row → Option ℕ → List (List ℕ)
 under row None = []

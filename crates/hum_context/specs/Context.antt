@@ -4,9 +4,9 @@ use Rattle.std.specs.Prelude.{List, [], ◌∷◌, take, filter, length, if◌th
 use Rattle.std.specs.Prelude.{Option, Some, None, Result, Ok, Err}
 use Rattle.std.specs.Option.{option_map}
 use Rattle.std.specs.List.{list_any, join_with_byte}
-use Rattle.std.specs.Str.{bytes_eq}
 use lib.Chars.{codes}
 use Rattle.hum_record.specs.declared.SpinedKind.TheVariants.{Values}
+use Rattle.hum_record.specs.Contents.{is_null}
 use Rattle.hum_record.specs.Row.{Row, Comment, Spined, text_of}
 use Rattle.hum_path.specs.declared.signs.Sign.{Sign}
 use Rattle.hum_path.specs.declared.signs.Sign.TheVariants.{End, Exclusive}
@@ -28,13 +28,11 @@ pub record Choice : Type 0 where
   pub extent : Extent
   pub omits : List ℕ → Bool
 
--- whether a token is data, by its first byte
+-- whether a token is data, by its first byte; none stands beyond a record's last, and that isn't,
+-- which alone differs from `is_data` of what a record's tokens contain
 abbrev pub is_data : List ℕ → Bool
 is_data [] = false
 is_data (byte ∷ bytes) = not (byte == 33 || byte == 42)
-
-abbrev pub is_null : List ℕ → Bool
-is_null token = bytes_eq token (codes ".")
 
 abbrev pub is_collectable : Choice → List ℕ → Bool
 is_collectable choice token = is_data token && (not (is_null token) && not (choice.omits token))

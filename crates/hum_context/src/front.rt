@@ -226,8 +226,8 @@ fn weight_of(size: u64) -> Weight
 }
 
 /// What is known of the new tokens of the k-th record that waits.
-pub(crate) fn weigh(held: &VecDeque<Queued>, k: usize, gone: u64, wanted: Option<u16>) -> Weight
-    requires few { gone + length held.now.items ≤ 4294967295 }
+pub(crate) fn weigh(held: &VecDeque<Queued>, k: usize, wanted: Option<u16>) -> Weight
+    requires few { length held.now.items ≤ 4294967295 }
     requires within { k < length held.now.items }
     ensures { (o : Choice) (path : Path) (tokens : List (List ℕ)) (rows : List Row)
         → wanted ≡ wanted_of o.extent → taken o.extent [] ≡ None
@@ -238,7 +238,7 @@ pub(crate) fn weigh(held: &VecDeque<Queued>, k: usize, gone: u64, wanted: Option
     let unknown: &[Walk] = &[];
     let mut size: u64 = 0;
     for j in 0..kept.row.width() {
-        let Some(new) = new_at(held, k, gone, unknown, j, wanted) else {
+        let Some(new) = new_at(held, k, 0, unknown, j, wanted) else {
             return Weight::Undecided;
         };
         size = plus(size, new_bytes(held, k, j, wanted, new));
@@ -344,6 +344,7 @@ pub(crate) fn write(
         → IsMade Values new made) }
 {
     let row = &held[0].row;
+    // Its text is lawful.
     let _kind = row.kind();
     let mut making = Making::new(alloc, SpinedKind::Values, spare);
     for j in 0..row.width() {

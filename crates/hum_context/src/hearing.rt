@@ -4,14 +4,14 @@ ghost use Rattle.std.specs.Prelude.{slice_index_or};
 ghost use Rattle.std.specs.List.{list_any};
 ghost use Rattle.hum_record.specs.declared.Kind.TheVariants.{Values as AnyValues};
 ghost use Rattle.hum_record.specs.Row.{kind_of, tokens_of, width_of};
-ghost use Rattle.hum_context.specs.Context.{is_data, is_null, begins};
+ghost use Rattle.hum_context.specs.Context.{is_data, begins};
 ghost use Rattle.hum_context.specs.Options.{choice_of, extent_of, omits_of};
 ghost use Rattle.hum_context.specs.Heard.{heard_of, heard_under, is_taken, ends, wanted_of};
 ghost use Rattle.hum_context.specs.declared.hearing.Heard.TheVariants.{Passed};
 
 use crate::options::{ContextOptions, Span};
 use hum_pattern::Pattern;
-use hum_record::{Kind, Record};
+use hum_record::{Kind, Record, is_null};
 use std::alloc::{AllocError, Global};
 use std::marker::Model;
 
@@ -106,7 +106,7 @@ impl SpareHeard {
         }
     }
 
-    /// Keeps the list of a record of which something was heard, if there is room for it.
+    /// Keeps a list that isn't empty, whatever stands in it, if there is room for it.
     pub(crate) fn keep(&mut self, heard: Vec<Heard>) {
         if heard.is_empty() || self.lists.len() >= MOST_SPARE {
             return;
@@ -130,7 +130,7 @@ impl ContextOptions {
         ensures heard { result ≡ heard_of (choice_of self.old) token.now }
         ensures kept { self.new ≡ self.old }
     {
-        if !is_data(token) || token == b".".as_slice() {
+        if !is_data(token) || is_null(token) {
             return Heard::Passed;
         }
         if is_omitted(&mut self.omit, token) {

@@ -12,8 +12,8 @@ use crate::queued::Queued;
 use std::collections::VecDeque;
 
 /// Whether the k-th record that waits is known to be too long.
-fn is_refused(held: &VecDeque<Queued>, k: usize, gone: u64, wanted: Option<u16>) -> bool
-    requires few { gone + length held.now.items ≤ 4294967295 }
+fn is_refused(held: &VecDeque<Queued>, k: usize, wanted: Option<u16>) -> bool
+    requires few { length held.now.items ≤ 4294967295 }
     requires within { k < length held.now.items }
     ensures { (o : Choice) (past : List Row) (row : Row) (rows : List Row)
         → wanted ≡ wanted_of o.extent → taken o.extent [] ≡ None
@@ -23,7 +23,7 @@ fn is_refused(held: &VecDeque<Queued>, k: usize, gone: u64, wanted: Option<u16>)
     if held[k].is_quiet() {
         return false;
     }
-    match weigh(held, k, gone, wanted) {
+    match weigh(held, k, wanted) {
         Weight::Long => true,
         Weight::Undecided => false,
         Weight::Fits => false,
@@ -31,14 +31,14 @@ fn is_refused(held: &VecDeque<Queued>, k: usize, gone: u64, wanted: Option<u16>)
 }
 
 /// How many records stand before the first that is known to be refused.
-pub(crate) fn lasting(held: &VecDeque<Queued>, gone: u64, wanted: Option<u16>) -> usize
-    requires few { gone + length held.now.items ≤ 4294967295 }
+pub(crate) fn lasting(held: &VecDeque<Queued>, wanted: Option<u16>) -> usize
+    requires few { length held.now.items ≤ 4294967295 }
     ensures { (o : Choice) (past rows : List Row) → wanted ≡ wanted_of o.extent
         → taken o.extent [] ≡ None → Knows o (path_after past) held.now.items rows
         → result ≡ lasting (context o) past rows }
 {
     for k in 0..held.len() {
-        if is_refused(held, k, gone, wanted) {
+        if is_refused(held, k, wanted) {
             return k;
         }
     }

@@ -147,7 +147,7 @@ impl LooksAhead for Collecting {
         if held.len() as u64 > MOST_RECORDS {
             return 0;
         }
-        lasting(held, 0, self.options.span.wanted())
+        lasting(held, self.options.span.wanted())
     }
 }
 

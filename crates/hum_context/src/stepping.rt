@@ -4,7 +4,7 @@ ghost use Rattle.std.specs.Prelude.{false, Some, None, slice_index_or};
 ghost use Rattle.hum_record.specs.Row.{Row};
 ghost use Rattle.hum_path.specs.Spines.{Path};
 ghost use Rattle.hum_context.specs.Context.{Choice};
-ghost use Rattle.hum_context.specs.Columns.{path_through};
+ghost use Rattle.hum_stage.specs.Score.{through};
 ghost use Rattle.hum_context.specs.Heard.{wanted_of, enough_by};
 ghost use Rattle.hum_context.specs.Queue.{Known, Knows, column_in, is_last_in};
 ghost use Rattle.hum_context.specs.Walking.{Has, Stands, Halts};
@@ -100,7 +100,7 @@ impl Walk {
         requires few { self.old.at < 4294967295 }
         ensures at { self.new.at ≡ self.old.at + 1 }
         ensures has { (o : Choice) (path : Path) (rows : List Row) (row : Row) (j : ℕ)
-            → wanted ≡ wanted_of o.extent → Known o (path_through path rows) row next.now
+            → wanted ≡ wanted_of o.extent → Known o (through path rows) row next.now
             → self.old.column ≡ Some c → self.old.enough ≡ false → Has o path rows j self.old
             → Has o path (rows ++ row ∷ []) j self.new }
     {

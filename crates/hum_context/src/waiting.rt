@@ -46,6 +46,7 @@ impl Queued {
         ensures known { IfOk result (λ queued. (path : Path) → LeadsBelow path row below
             → Known (choice_of options.old) path row queued) }
     {
+        // Its text is lawful.
         let _kind = row.kind();
         let heard = options.hear_row(alloc, &row, spare)?;
         let row = HeldRecord::of(row, heard.is_empty());
@@ -154,6 +155,7 @@ impl Queued {
         ensures few { result ≤ 1048577 }
     {
         if c < self.row.width() {
+            // Its text is lawful.
             let _kind = self.row.kind();
             self.row.token(c).len() as u64 + 1
         } else {

@@ -1,19 +1,18 @@
 //! Data records whose null tokens are filled.
-ghost use Rattle.std.specs.Prelude.{◌≡◌, ◌≢◌, ◌≤◌, ◌<◌, ◌∷◌, ◌++◌, [], true, false, length};
-ghost use Rattle.std.specs.Prelude.{IfOk, IfErr, OnOk};
+ghost use Rattle.std.specs.Prelude.{◌≡◌, ◌≢◌, ◌≤◌, ◌∷◌, ◌++◌, ℕ, List, [], true, false, length};
+ghost use Rattle.std.specs.Prelude.{IfOk, OnOk};
 ghost use Rattle.std.specs.List.{list_any};
 ghost use Rattle.hum_record.specs.declared.Kind.TheVariants.{Values as AnyValues};
 ghost use Rattle.hum_record.specs.declared.SpinedKind.TheVariants.{Values};
-ghost use Rattle.hum_record.specs.declared.RecordFault.TheVariants.{Memory};
-ghost use Rattle.hum_record.specs.Row.{Spined, tokens_of, width_of, kind_of, text_of};
+ghost use Rattle.hum_record.specs.Row.{tokens_of, width_of, kind_of, text_of};
 ghost use Rattle.hum_record.specs.Spelling.{IsToken};
-ghost use Rattle.hum_record.specs.Building.{spelled};
+ghost use Rattle.hum_record.specs.Making.{Holds, IsMade};
 ghost use Rattle.hum_record.specs.Contents.{is_null};
 ghost use Rattle.hum_ditto.specs.Ditto.{written, filled, all_filled};
 
 use crate::last_seen::LastSeen;
 use hum_path::Carried;
-use hum_record::{Kind, Record, RecordBuilder, RecordFault, Spare, SpinedKind, is_null};
+use hum_record::{Kind, Making, Record, Spare, SpinedKind, is_null};
 use std::alloc::{AllocError, Global};
 
 /// Whether a record has a null data token.
@@ -51,38 +50,34 @@ fn push_filled(
     memory: &LastSeen,
     token: &[u8],
     shown: &mut Vec<u8>,
-    builder: &mut RecordBuilder,
-) -> Result<(), RecordFault>
+    making: &mut Making,
+) -> Result<(), AllocError>
     requires lawful { IsToken Values token.now }
-    requires kind { builder.old.kind ≡ Values }
-    ensures pushed { OnOk result (builder.new ≡ record builder.old {
-      tokens = builder.old.tokens ++ filled parentheses memory.now token.now ∷ [];
-    }) }
-    ensures fits { OnOk result (length (spelled
-        (builder.old.tokens ++ filled parentheses memory.now token.now ∷ [])) ≤ 1048576) }
-    ensures refused { IfErr result (λ fault. fault ≢ Memory → 1048576 < length (spelled
-        (builder.old.tokens ++ filled parentheses memory.now token.now ∷ []))) }
+    requires kind { making.old.builder.kind ≡ Values }
+    ensures kind { making.new.builder.kind ≡ Values }
+    ensures pushed { OnOk result ((tokens : List (List ℕ))
+        → Holds Values making.old.builder making.old.is_long tokens
+        → Holds Values making.new.builder making.new.is_long
+        (tokens ++ filled parentheses memory.now token.now ∷ [])) }
 {
     if !is_null(token) {
-        return builder.push(token);
+        return making.push(token);
     }
     match memory.token() {
-        None => builder.push(token),
+        None => making.push(token),
         Some(source) => {
             if parentheses {
                 parenthesize(source, shown)?;
-                builder.push(shown)
+                making.push(shown)
             } else {
-                builder.push(source)
+                making.push(source)
             }
         }
     }
 }
 
-/// The record that a data record becomes, by what is remembered of its columns.
-///
-/// # Errors
-/// L1 where its text would pass 1,048,576 bytes, or want of memory.
+/// The record that a data record becomes, by what is remembered of its columns, unless it is too
+/// long.
 pub(crate) fn rebuilt(
     alloc: Global,
     parentheses: bool,
@@ -90,29 +85,22 @@ pub(crate) fn rebuilt(
     memories: &Carried<LastSeen>,
     shown: &mut Vec<u8>,
     spare: &mut Spare,
-) -> Result<Record, RecordFault>
+) -> Result<Option<Record>, AllocError>
     requires kind { kind_of row.now ≡ AnyValues }
     requires width { length memories.now.each ≡ width_of row.now }
     requires tokens { tokens_of row.now ≢ [] }
-    ensures made { IfOk result (λ made. made
-        ≡ Spined Values (all_filled parentheses memories.now.each (tokens_of row.now))) }
-    ensures fits { OnOk result (length (spelled
-        (all_filled parentheses memories.now.each (tokens_of row.now))) ≤ 1048576) }
-    ensures refused { IfErr result (λ fault. fault ≢ Memory → 1048576 < length (spelled
-        (all_filled parentheses memories.now.each (tokens_of row.now)))) }
+    ensures { IfOk result
+        (IsMade Values (all_filled parentheses memories.now.each (tokens_of row.now))) }
 {
-    let mut builder = RecordBuilder::reusing(alloc, SpinedKind::Values, spare);
+    let mut making = Making::new(alloc, SpinedKind::Values, spare);
     for j in 0..row.width() {
-        match push_filled(
+        push_filled(
             parentheses,
             memories.at(j),
             row.token(j),
             shown,
-            &mut builder,
-        ) {
-            Ok(()) => {}
-            Err(fault) => return Err(fault),
-        }
+            &mut making,
+        )?;
     }
-    Ok(builder.finish())
+    Ok(making.finish())
 }

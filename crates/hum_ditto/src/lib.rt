@@ -11,7 +11,7 @@ mod last_seen;
 use filling::{is_to_fill, rebuilt};
 use hum_path::{Carried, Paths};
 use hum_pattern::Pattern;
-use hum_record::{Record, RecordFault, Spare};
+use hum_record::{Record, Spare};
 use hum_stage::{AtOnce, Command, Decides, Rule};
 use last_seen::LastSeen;
 use std::alloc::{AllocError, Global};
@@ -81,22 +81,22 @@ impl Decides for Repeats {
             return Ok(None);
         }
         let parentheses = self.options.parentheses;
-        match rebuilt(
+        let rebuilt = rebuilt(
             self.alloc,
             parentheses,
             &next,
             &self.carried,
             &mut self.shown,
             &mut self.spare,
-        ) {
-            Ok(made) => {
+        )?;
+        match rebuilt {
+            Some(made) => {
                 self.carried.follow(&mut self.options.skip, &next, &found)?;
                 *out = Some(made);
                 self.spare.keep(next);
                 Ok(None)
             }
-            Err(RecordFault::Memory) => Err(AllocError),
-            Err(_too_long) => Ok(Some(Rule::L1)),
+            None => Ok(Some(Rule::L1)),
         }
     }
 }

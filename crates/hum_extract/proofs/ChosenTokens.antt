@@ -53,7 +53,3 @@ pub some_kept : (fs : List Bool) (row : Row) → width_of row ≢ 0 → AsWide f
 some_kept fs (Comment text) some wide h = absurd (some refl)
 some_kept fs (Spined kind tokens) some wide h =
     sym (filled_one kind (chosen fs tokens) (chosen_filled fs tokens wide h))
-
-pub width_marks : (fs : List Bool) (row : Row) → width_of row ≢ 0 → AsWide fs row → length fs ≡ width_of row
-width_marks fs (Comment text) some wide = absurd (some refl)
-width_marks fs (Spined kind tokens) some wide = wide

@@ -13,7 +13,8 @@ ghost use Rattle.hum_laws.specs.Piped.{IsAlone, IsPiped};
 ghost use Rattle.hum_laws.specs.Fields.{every_field};
 
 use crate::given::{Given, again, alone, piped};
-use hum_commands::{CommandOptions, CommandStage};
+use hum_command_stages::CommandStage;
+use hum_commands::CommandOptions;
 use hum_ditto::DittoOptions;
 use hum_extract::{Choice, Field, FieldRange};
 use hum_record::Record;

@@ -6,7 +6,8 @@ ghost use Rattle.hum_ditto.specs.Ditto.{meaning};
 ghost use Rattle.hum_laws.specs.Piped.{IsAlone, IsPiped};
 
 use crate::given::{Given, again};
-use hum_commands::{CommandOptions, CommandStage};
+use hum_command_stages::CommandStage;
+use hum_commands::CommandOptions;
 use hum_ditto::DittoOptions;
 use hum_record::Record;
 use std::alloc::{AllocError, Global};

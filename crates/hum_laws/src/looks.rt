@@ -13,7 +13,8 @@ ghost use Rattle.hum_context.specs.Options.{omits_of};
 ghost use Rattle.hum_laws.specs.Piped.{IsAlone};
 
 use crate::given::{Given, alone};
-use hum_commands::{CommandOptions, CommandStage};
+use hum_command_stages::CommandStage;
+use hum_commands::CommandOptions;
 use hum_context::{ContextOptions, Span, TokenCount};
 use hum_pattern::Pattern;
 use hum_record::Record;

@@ -7,7 +7,8 @@ ghost use Rattle.hum_laws.specs.Piped.{IsAlone, IsPiped};
 ghost use Rattle.hum_laws.specs.Notes.{NamesColumns, IsOnNotes};
 
 use crate::given::{Given, again};
-use hum_commands::{CommandOptions, CommandStage};
+use hum_command_stages::CommandStage;
+use hum_commands::CommandOptions;
 use hum_record::Record;
 use std::alloc::{AllocError, Global};
 

@@ -9,7 +9,8 @@ ghost use Rattle.hum_laws.specs.Letters.{joint};
 ghost use Rattle.hum_laws.specs.Comments.{all_comments, TellsByTokens, MeanTheSame};
 
 use crate::given::{Given, again, alone, piped};
-use hum_commands::{CommandOptions, CommandStage};
+use hum_command_stages::CommandStage;
+use hum_commands::CommandOptions;
 use hum_record::Record;
 use hum_rid::{Rid, RidOptions};
 use std::alloc::{AllocError, Global};

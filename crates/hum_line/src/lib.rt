@@ -43,7 +43,7 @@ pub struct Choice<'a> {
 #[derive(Clone, Copy, Debug, PartialEq, Eq, Error)]
 pub enum LineFault {
     /// It isn't of the form above.
-    #[error("usage: humpipe [--link N] [--order left|right] [PIPELINE]")]
+    #[error("the command line is refused")]
     Usage,
     /// Memory ran out.
     #[error("out of memory")]

@@ -9,7 +9,8 @@ use Rattle.hum_assemble.specs.declared.places.Next as next
 use Rattle.hum_assemble.specs.declared.places.Next.TheVariants.{Gives, Refused, Wants}
 use Rattle.hum_assemble.specs.declared.places.Next.TheVariants.{Over as NothingMore}
 use Rattle.hum_assemble.specs.Change.{Input, Change, More, Ends, had, had_at, IsOpenInput}
-use Rattle.hum_assemble.specs.Round.{any_due, first_from}
+use Rattle.std.specs.List.{position_from}
+use Rattle.hum_assemble.specs.Round.{any_due}
 use Rattle.hum_assemble.specs.Merge.{Merge, ahead, given_on}
 use Rattle.hum_assemble.specs.Meaning.{gives, goes_on, total, opening, output, rest, ends, wanted}
 use Rattle.hum_assemble.proofs.Steps.{Going, Resting, doing, on_going, on_resting, all_ended}
@@ -73,12 +74,12 @@ abbrev pub HaveEnded : List Input → Type 0
 HaveEnded = AllByRecursion (λ x. (e : End) × (x.ended ≡ Some e))
 
 none_first : (i : ℕ) (x : Input) (xs : List Input) (o : Option End) → x.ended ≡ o
-    → first_from is_none i (o ∷ ends xs) ≡ None
-    → ((e : End) × (x.ended ≡ Some e)) × (first_from is_none (i + 1) (ends xs) ≡ None)
+    → position_from is_none i (o ∷ ends xs) ≡ None
+    → ((e : End) × (x.ended ≡ Some e)) × (position_from is_none (i + 1) (ends xs) ≡ None)
 none_first i x xs None e h = cc
 none_first i x xs (Some f) e h = ((f, e), h)
 
-none_open : (i : ℕ) (xs : List Input) → first_from is_none i (ends xs) ≡ None → HaveEnded xs
+none_open : (i : ℕ) (xs : List Input) → position_from is_none i (ends xs) ≡ None → HaveEnded xs
 none_open i [] h = tt
 none_open i (x ∷ xs) h =
     let k = none_first i x xs x.ended refl h in (k.0, none_open (i + 1) xs k.1)

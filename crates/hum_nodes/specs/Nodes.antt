@@ -1,5 +1,5 @@
 -- What a node of either kind stands for.
-use Rattle.std.specs.Prelude.{◌≡◌, ℕ, Bool, true, false, List, Option, None, Result}
+use Rattle.std.specs.Prelude.{ℕ, Bool, true, false, List, Option, None, Result}
 use Rattle.hum_stage.specs.declared.faults.End.{End}
 use Rattle.hum_read.specs.declared.ReadError.{ReadError}
 use Rattle.hum_nodes.specs.At.{At}
@@ -36,13 +36,3 @@ abbrev pub stopped_of : {F W : Type 0} → (F → Option (Result End ReadError))
     → Option (Result End ReadError)
 stopped_of stopped (Source f) = stopped f
 stopped_of stopped (Stage w) = None
-
-abbrev pub left_of : {F W : Type 0} → (F → ℕ) → Node F W → ℕ
-left_of left (Source f) = left f
-left_of left (Stage w) = 0
-
-pub record MayWork {F W : Type 0} (works : W → At → Type 0) (node : Node F W) : Type 0 where
-  pub worker : W
-  pub is_stage : node ≡ Stage worker
-  pub at : At
-  pub stand : works worker at

@@ -6,8 +6,7 @@ ghost use Rattle.std.specs.Prelude.{OnErr, ◌||◌};
 ghost use Rattle.hum_nodes.specs.Polls.{HasPolled, HasStayed, AsksAtMostOnce, IsKept};
 ghost use Rattle.hum_nodes.specs.Polls.{is_failed_read};
 ghost use Rattle.hum_nodes.specs.Nodes.{is_source, StandsAs, remaining_of, ended_of};
-ghost use Rattle.hum_nodes.specs.Nodes.{calls_of, failed_of, left_of, stopped_of};
-ghost use Rattle.hum_read.specs.Reading.{Nears};
+ghost use Rattle.hum_nodes.specs.Nodes.{calls_of, failed_of, stopped_of};
 ghost use Rattle.hum_read.specs.Steps.{given_by};
 
 use crate::node::{Doing, DoingKind, Feeds, Works};
@@ -17,19 +16,10 @@ use hum_stage::End;
 use std::alloc::AllocError;
 
 /// A stage of a plan: one that reads bytes, or one that reads from other stages.
+#[derive(Drop)]
 pub enum Node<F, W> {
     Source(F),
     Stage(W),
-}
-
-// Written out, so that a proof of who drops a node sees one call and not the drop of each kind.
-impl<F: Drop, W: Drop> Drop for Node<F, W> {
-    fn drop(self) {
-        match self {
-            Node::Source(_source) => {}
-            Node::Stage(_stage) => {}
-        }
-    }
 }
 
 impl<F: Feeds, W: Works> Node<F, W> {
@@ -61,8 +51,6 @@ impl<F: Feeds, W: Works> Node<F, W> {
         ensures stays { OnErr (given_by result (stopped_of F.stopped self.new))
             (HasStayed (ended_of F.ended self.old) (ended_of F.ended self.new)
             (remaining_of F.remaining self.old) (remaining_of F.remaining self.new)) }
-        ensures nears { IfOk (given_by result (stopped_of F.stopped self.new))
-            (λ polled. Nears polled (left_of F.left self.old) (left_of F.left self.new)) }
     {
         match self {
             Node::Source(node) => node.next(),

@@ -51,8 +51,8 @@ impl Works for Merging {
         match self.inner.wants() {
             Some(place) => Doing::Wants(place),
             None => match self.inner.state() {
-                State::Gives => Doing::Gives,
-                State::Wants => Doing::Gives,
+                // No input is wanted here, so the second doesn't come up.
+                State::Gives | State::Wants => Doing::Gives,
                 State::Done(end) => Doing::Done(end),
             },
         }

@@ -3,7 +3,6 @@ ghost use Rattle.std.specs.Prelude.{◌≡◌, ℕ, ◌<◌, List, Option, Bool,
 ghost use Rattle.std.specs.Prelude.{Result};
 ghost use Rattle.hum_stage.specs.declared.faults.End.{End};
 ghost use Rattle.hum_read.specs.declared.ReadError.{ReadError};
-ghost use Rattle.hum_read.specs.Reading.{Nears};
 ghost use Rattle.hum_read.specs.Steps.{given_by};
 ghost use Rattle.std.specs.Prelude.{OnOk, OnErr, ◌≤◌, ◌||◌};
 ghost use Rattle.hum_nodes.specs.At.{At, MayDo, sources_of, bytes_of, doing_of, holds_of, HasTaken};
@@ -130,9 +129,6 @@ pub trait Feeds: Drop {
     /// Whether a call on its reader failed.
     ghost failed: { Self → Bool };
 
-    /// How much it can still do.
-    ghost left: { Self → ℕ };
-
     /// Why it has stopped, once it has: its end, or a failed read or want of memory.
     ghost stopped: { Self → Option (Result End ReadError) };
 
@@ -153,11 +149,7 @@ pub trait Feeds: Drop {
 
         // A turn that fails reads no byte.
         ensures stays { OnErr (given_by result (stopped self.new)) (HasStayed (ended self.old)
-            (ended self.new) (remaining self.old) (remaining self.new)) }
-
-        // So each run of turns ends.
-        ensures nears { IfOk (given_by result (stopped self.new))
-            (λ polled. Nears polled (left self.old) (left self.new)) };
+            (ended self.new) (remaining self.old) (remaining self.new)) };
 
     /// Why it has stopped, once it has: its end, or a failed read or want of memory.
     fn stopped(&self) -> Option<Result<End, ReadError>>
@@ -171,8 +163,7 @@ pub trait Feeds: Drop {
         ensures bytes { IsKept (remaining self.old) (remaining self.new) (ended self.old)
             (ended self.new) }
         ensures calls { IsKept (calls self.old) (calls self.new) (failed self.old)
-            (failed self.new) }
-        ensures left { left self.new ≡ left self.old };
+            (failed self.new) };
 
     /// It reads bytes, or their end.
     ghost some_bytes: { (s : Self) (rest : List ℕ) (t : At) → stands s rest t → 0 < bytes_of t };

@@ -1,6 +1,5 @@
 //! A score that is read, as a node.
 ghost use Rattle.std.specs.Prelude.{◌≡◌, ℕ, List, false};
-ghost use Rattle.hum_text.specs.Reading.{left_to_do};
 ghost use Rattle.hum_nodes.specs.At.{fresh};
 ghost use Rattle.hum_nodes.specs.Reading.{IsReading, reading};
 
@@ -45,8 +44,6 @@ impl<R: Source + Drop> Feeds for Reading<R> {
     ghost calls = { λ r. R.calls r.inner.lines.source };
 
     ghost failed = { λ r. R.failed r.inner.lines.source };
-
-    ghost left = { λ r. left_to_do r.inner.lines };
 
     ghost stopped = { λ r. r.inner.stopped };
 

@@ -1,6 +1,6 @@
 -- The options of each command.
 use Rattle.std.specs.Prelude.{ℕ, Bool, ◌&&◌, ◌==◌}
-use Rattle.std.specs.Prelude.{List, [], ◌∷◌, Option}
+use Rattle.std.specs.Prelude.{List, [], ◌∷◌, map, Option}
 use Rattle.std.specs.List.{list_any, find}
 use Rattle.std.specs.Str.{bytes_eq}
 use lib.Chars.{codes}
@@ -18,11 +18,11 @@ letter [] = 0
 letter (b ∷ bs) = b
 
 -- an option, by the text of its letter and the kind of its value
-abbrev pub takes : List ℕ → Kind → CommandOption
-takes text kind = record { letter = letter text; kind = kind }
+abbrev pub takes : List ℕ → Kind → ℕ × Kind
+takes text kind = (letter text, kind)
 
 -- the options of a command; those of rid are words of letters
-abbrev pub table : Command → List CommandOption
+abbrev pub table : Command → List (ℕ × Kind)
 table command.Read = []
 table command.Assemble = []
 table command.Rid = []
@@ -63,9 +63,12 @@ groups command.Cleave = []
 abbrev pub is_spelled : List ℕ → CommandOption → Bool
 is_spelled word option = bytes_eq word (45 ∷ option.letter ∷ [])
 
+abbrev pub option : ℕ × Kind → CommandOption
+option entry = record { letter = entry.0; kind = entry.1 }
+
 -- the option that a word is, if it is one of the command
 abbrev pub option_of : Command → List ℕ → Option CommandOption
-option_of command word = find (is_spelled word) (table command)
+option_of command word = find (is_spelled word) (map option (table command))
 
 abbrev pub are_in : ℕ → ℕ → List ℕ → Bool
 are_in a b group = list_any (λ c. c == a) group && list_any (λ c. c == b) group

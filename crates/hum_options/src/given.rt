@@ -126,10 +126,7 @@ impl GivenOptions {
             ≡ option_and_then as_fields (value_at letter self.old) }
         ensures rest { self.new ≡ without letter self.old }
     {
-        match self.take(letter) {
-            Some(value) => value.fields(),
-            None => None,
-        }
+        self.take(letter)?.fields()
     }
 
     /// Takes out the value of the option of a letter, if it was given and is of this kind.
@@ -138,10 +135,7 @@ impl GivenOptions {
             ≡ option_and_then as_names (value_at letter self.old) }
         ensures rest { self.new ≡ without letter self.old }
     {
-        match self.take(letter) {
-            Some(value) => value.names(),
-            None => None,
-        }
+        self.take(letter)?.names()
     }
 
     /// Takes out the value of the option of a letter, if it was given and is of this kind.
@@ -150,10 +144,7 @@ impl GivenOptions {
             ≡ option_and_then as_name (value_at letter self.old) }
         ensures rest { self.new ≡ without letter self.old }
     {
-        match self.take(letter) {
-            Some(value) => value.name(),
-            None => None,
-        }
+        self.take(letter)?.name()
     }
 
     /// Takes out the value of the option of a letter, if it was given and is of this kind.
@@ -162,10 +153,7 @@ impl GivenOptions {
             ≡ option_and_then as_text (value_at letter self.old) }
         ensures rest { self.new ≡ without letter self.old }
     {
-        match self.take(letter) {
-            Some(value) => value.text(),
-            None => None,
-        }
+        self.take(letter)?.text()
     }
 
     /// Takes out the value of the option of a letter, if it was given and is of this kind.
@@ -174,10 +162,7 @@ impl GivenOptions {
             ≡ option_and_then as_ranges (value_at letter self.old) }
         ensures rest { self.new ≡ without letter self.old }
     {
-        match self.take(letter) {
-            Some(value) => value.ranges(),
-            None => None,
-        }
+        self.take(letter)?.ranges()
     }
 
     /// Takes out the value of the option of a letter, if it was given and is of this kind.
@@ -186,10 +171,7 @@ impl GivenOptions {
             ≡ option_and_then as_label (value_at letter self.old) }
         ensures rest { self.new ≡ without letter self.old }
     {
-        match self.take(letter) {
-            Some(value) => value.label(),
-            None => None,
-        }
+        self.take(letter)?.label()
     }
 
     /// Takes out the value of the option of a letter, if it was given and is of this kind.
@@ -198,10 +180,7 @@ impl GivenOptions {
             ≡ option_and_then as_pattern (value_at letter self.old) }
         ensures rest { self.new ≡ without letter self.old }
     {
-        match self.take(letter) {
-            Some(value) => value.pattern(),
-            None => None,
-        }
+        self.take(letter)?.pattern()
     }
 
     /// Takes out the value of the option of a letter, if it was given and is of this kind.
@@ -210,10 +189,7 @@ impl GivenOptions {
             ≡ option_and_then as_count (value_at letter self.old) }
         ensures rest { self.new ≡ without letter self.old }
     {
-        match self.take(letter) {
-            Some(value) => value.count(),
-            None => None,
-        }
+        self.take(letter)?.count()
     }
 
     /// Takes out the value of the option of a letter, if it was given and is of this kind.
@@ -222,10 +198,7 @@ impl GivenOptions {
             ≡ option_and_then as_steps (value_at letter self.old) }
         ensures rest { self.new ≡ without letter self.old }
     {
-        match self.take(letter) {
-            Some(value) => value.steps(),
-            None => None,
-        }
+        self.take(letter)?.steps()
     }
 
     /// Takes out the value of the option of a letter, if it was given and is of this kind.
@@ -234,10 +207,7 @@ impl GivenOptions {
             ≡ option_and_then as_semitones (value_at letter self.old) }
         ensures rest { self.new ≡ without letter self.old }
     {
-        match self.take(letter) {
-            Some(value) => value.semitones(),
-            None => None,
-        }
+        self.take(letter)?.semitones()
     }
 
     /// Takes out the value of the option of a letter, if it was given and is of this kind.
@@ -246,9 +216,6 @@ impl GivenOptions {
             ≡ option_and_then as_duration (value_at letter self.old) }
         ensures rest { self.new ≡ without letter self.old }
     {
-        match self.take(letter) {
-            Some(value) => value.duration(),
-            None => None,
-        }
+        self.take(letter)?.duration()
     }
 }

@@ -42,131 +42,40 @@ pub(crate) struct CommandOption {
     pub(crate) kind: Kind,
 }
 
-/// The options of a command. Those of rid are words of letters.
-fn table(command: Command) -> &'static [CommandOption]
+/// The letter and the kind of each option of a command. Those of rid are words of letters.
+fn table(command: Command) -> &'static [(u8, Kind)]
     ensures { result.now ≡ table command }
 {
     match command {
         Command::Read => &[],
         Command::Assemble => &[],
         Command::Rid => &[],
-        Command::Extract => &[
-            CommandOption {
-                letter: b'f',
-                kind: Kind::Fields,
-            },
-            CommandOption {
-                letter: b'i',
-                kind: Kind::Names,
-            },
-        ],
-        Command::Ditto => &[
-            CommandOption {
-                letter: b's',
-                kind: Kind::Pattern,
-            },
-            CommandOption {
-                letter: b'p',
-                kind: Kind::Alone,
-            },
-        ],
-        Command::Timebase => &[CommandOption {
-            letter: b't',
-            kind: Kind::Duration,
-        }],
+        Command::Extract => &[(b'f', Kind::Fields), (b'i', Kind::Names)],
+        Command::Ditto => &[(b's', Kind::Pattern), (b'p', Kind::Alone)],
+        Command::Timebase => &[(b't', Kind::Duration)],
         Command::Context => &[
-            CommandOption {
-                letter: b'n',
-                kind: Kind::Count,
-            },
-            CommandOption {
-                letter: b'b',
-                kind: Kind::Pattern,
-            },
-            CommandOption {
-                letter: b'e',
-                kind: Kind::Pattern,
-            },
-            CommandOption {
-                letter: b'o',
-                kind: Kind::Pattern,
-            },
+            (b'n', Kind::Count),
+            (b'b', Kind::Pattern),
+            (b'e', Kind::Pattern),
+            (b'o', Kind::Pattern),
         ],
-        Command::Trans => &[
-            CommandOption {
-                letter: b'd',
-                kind: Kind::Steps,
-            },
-            CommandOption {
-                letter: b'c',
-                kind: Kind::Semitones,
-            },
-        ],
-        Command::Semits => &[
-            CommandOption {
-                letter: b'x',
-                kind: Kind::Alone,
-            },
-            CommandOption {
-                letter: b't',
-                kind: Kind::Alone,
-            },
-        ],
+        Command::Trans => &[(b'd', Kind::Steps), (b'c', Kind::Semitones)],
+        Command::Semits => &[(b'x', Kind::Alone), (b't', Kind::Alone)],
         Command::Mint => &[
-            CommandOption {
-                letter: b'a',
-                kind: Kind::Alone,
-            },
-            CommandOption {
-                letter: b'd',
-                kind: Kind::Alone,
-            },
-            CommandOption {
-                letter: b'b',
-                kind: Kind::Pattern,
-            },
+            (b'a', Kind::Alone),
+            (b'd', Kind::Alone),
+            (b'b', Kind::Pattern),
         ],
         Command::Recip => &[],
         Command::Yank => &[
-            CommandOption {
-                letter: b'l',
-                kind: Kind::Alone,
-            },
-            CommandOption {
-                letter: b'n',
-                kind: Kind::Pattern,
-            },
-            CommandOption {
-                letter: b'o',
-                kind: Kind::Pattern,
-            },
-            CommandOption {
-                letter: b'e',
-                kind: Kind::Pattern,
-            },
-            CommandOption {
-                letter: b's',
-                kind: Kind::Label,
-            },
-            CommandOption {
-                letter: b'r',
-                kind: Kind::Ranges,
-            },
+            (b'l', Kind::Alone),
+            (b'n', Kind::Pattern),
+            (b'o', Kind::Pattern),
+            (b'e', Kind::Pattern),
+            (b's', Kind::Label),
+            (b'r', Kind::Ranges),
         ],
-        Command::Cleave => &[
-            CommandOption {
-                letter: b'i',
-                kind: Kind::Name,
-            },
-            CommandOption {
-                letter: b'o',
-                kind: Kind::Name,
-            },
-            CommandOption {
-                letter: b'd',
-                kind: Kind::Text,
-            },
-        ],
+        Command::Cleave => &[(b'i', Kind::Name), (b'o', Kind::Name), (b'd', Kind::Text)],
     }
 }
 
@@ -185,7 +94,10 @@ pub(crate) fn option_of(command: Command, word: &[u8]) -> Option<CommandOption>
 {
     table(command)
         .iter()
-        .copied()
+        .map(|(letter, kind)| CommandOption {
+            letter: *letter,
+            kind: *kind,
+        })
         .find(|option| option.is_spelled(word))
 }
 

@@ -1,6 +1,5 @@
 pub mod Carry
 pub mod Cases
-pub mod Coming
 pub mod Examples
 pub mod Joins
 pub mod Obeyed

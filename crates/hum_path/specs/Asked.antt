@@ -10,7 +10,8 @@ use Rattle.hum_path.specs.Rules.{Refuses}
 abbrev pub on_signs : List PathFault
 on_signs = P6 ∷ P10 ∷ P11 ∷ P3 ∷ P4 ∷ P5 ∷ []
 
--- a step (`IsStep`), by the first rule that is broken
+-- where no rule is broken, the moves and the exclusive interpretations after an interpretation; else
+-- the first rule that is
 abbrev pub IsStepBy : Option PathFault → Path → List (List ℕ) → Result NextSpines PathFault → Type 0
 IsStepBy broken path tokens (Ok next) =
     (broken ≡ None)

@@ -11,8 +11,9 @@ use Rattle.hum_path.specs.declared.moved.Moves.{Moves}
 use Rattle.hum_path.specs.declared.PathFault.{PathFault}
 use Rattle.hum_path.specs.declared.PathFault.TheVariants.{Memory}
 use Rattle.hum_path.specs.declared.steering.NextSpines.{NextSpines}
-use Rattle.hum_path.specs.Spines.{Path, moves, after, moves_at, names_after, source, texts}
-use Rattle.hum_path.specs.Rules.{fault_of, breaks, in_order, Refuses}
+use Rattle.hum_path.specs.Spines.{Path, moves, after, source, texts}
+use Rattle.hum_path.specs.Rules.{fault_of, breaks, in_order}
+use Rattle.hum_path.specs.Asked.{IsStepBy}
 
 -- each spine comes from one under a token of the record; a global comment has no tokens
 abbrev pub ComeFrom : Row → List Move → Type 0
@@ -32,12 +33,7 @@ IsStay path row (Err fault) = (fault_of path row ≡ Some fault) × (fault ≢ M
 -- where an interpretation breaks no rule, the moves and the exclusive interpretations after it;
 -- else the first rule that it breaks
 abbrev pub IsStep : Path → List (List ℕ) → Result NextSpines PathFault → Type 0
-IsStep path tokens (Ok next) =
-    (find (breaks path tokens) in_order ≡ None)
-    × (next.moves.items ≡ moves_at path tokens)
-    × (texts next.names.items ≡ names_after path tokens)
-    × (length next.names.items ≤ 4096)
-IsStep path tokens (Err fault) = Refuses fault (find (breaks path tokens) in_order)
+IsStep path tokens = IsStepBy (find (breaks path tokens) in_order) path tokens
 
 -- the fields of a path
 pub record IsTidy (opened waits : Bool) (names : List (Vec ℕ Global)) : Type 0 where

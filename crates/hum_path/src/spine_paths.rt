@@ -1,7 +1,7 @@
 //! The spines of a score, record by record.
 ghost use Rattle.std.specs.Prelude.{◌≡◌, ◌≢◌, ◌<◌, ◌≤◌, [], true, false, IsTrue};
 ghost use Rattle.std.specs.Prelude.{if◌then◌else◌, slice_index_or, Ok, Err, None};
-ghost use Rattle.std.specs.Prelude.{IfOk, IfErr, OnOk};
+ghost use Rattle.std.specs.Prelude.{IfOk, IfErr, OnOk, IsErr};
 ghost use Rattle.std.specs.Allocator.{alloc_error};
 ghost use Rattle.hum_path.specs.Sign.{steers};
 ghost use Rattle.hum_path.specs.Spines.{Unopened, exclusives, width, moves, after};
@@ -134,7 +134,8 @@ impl Paths {
         ensures refused { IfErr result (λ fault. Refuses fault (fault_of self.old.path row.now)) }
         ensures unchanged { IfErr result (λ fault. fault ≢ Memory → self.new ≡ self.old) }
 
-        // After want of memory there is no more.
+        // Only what asks something of the spines takes memory, and after want of it there is no more.
+        ensures free { steers row.now ≡ false → result ≡ Err Memory → IsTrue self.old.spent }
         ensures spent { IfErr result (λ fault. fault ≡ Memory → IsTrue self.new.spent) }
         ensures again { IsTrue self.old.spent → result ≡ Err Memory }
     {
@@ -159,6 +160,7 @@ impl Paths {
         ensures after { OnOk result
             (self.new ≡ record self.old { path = after self.old.path row.now }) }
         ensures sources { IfOk result (ComeFrom row.now) }
+        ensures free { steers row.now ≡ false → IsErr result → IsTrue self.old.spent }
         ensures spent { IfErr result (λ _. IsTrue self.new.spent) }
         ensures again { IsTrue self.old.spent → result ≡ Err alloc_error }
     {
@@ -179,6 +181,7 @@ impl Paths {
         ensures after { OnOk result
             (self.new ≡ record self.old { path = after self.old.path row.now }) }
         ensures sources { IfOk result (ComeFrom row.now) }
+        ensures free { steers row.now ≡ false → IsErr result → IsTrue self.old.spent }
         ensures spent { IfErr result (λ _. IsTrue self.new.spent) }
         ensures again { IsTrue self.old.spent → result ≡ Err alloc_error }
     {

@@ -14,15 +14,16 @@ use Rattle.hum_pipeline.specs.declared.outcome.Outcome.{Outcome}
 use Rattle.hum_pipeline.specs.declared.outcome.Outcome.TheVariants as outcome
 use Rattle.hum_pipeline.specs.Bundles.{score_by, bytes_by, or_empty, first_lacking, Adds, LacksHere}
 use Rattle.hum_pipeline.specs.Bundles.{LacksNow, IsRefusal, Comes, ComesOfBundle}
-use Rattle.hum_pipeline.specs.Bundles.{is_failed_write, is_read_by}
+use Rattle.hum_pipeline.specs.Bundles.{is_failed_write, is_read_by, Picks}
 use Rattle.hum_net.specs.Readers.{is_write, is_read_of}
 use Rattle.std.specs.Prelude.{◌||◌}
 use Rattle.std.proofs.Math.Bool.{or-false}
 use Rattle.hum_plan.specs.Stages.{Stage}
 use Rattle.hum_plan.specs.Grammar.{IsPlanOf}
 use Rattle.hum_turns.specs.declared.result.RunResult.{RunResult}
-use Rattle.hum_pipeline.specs.Runs.{HasWritten}
-use Rattle.std.proofs.Common.{inl}
+use Rattle.hum_turns.specs.Orders.{Order}
+use Rattle.hum_pipeline.specs.Runs.{HasWritten, HasPicked, IsUnasked}
+use Rattle.std.proofs.Common.{inl, inr, ◌⊎◌}
 
 -- What is left of some stages from stage k on.
 pub rest_of : (stages : List PlanStage) (k : ℕ) (stage : PlanStage) → Some stage ≡ slice_get stages k → drop k stages ≡ stage ∷ drop (suc k) stages
@@ -167,6 +168,15 @@ pub run_comes : (too_large : Bool) (text : List ℕ) (score : List ℕ → Optio
 run_comes too_large text score old new flushed end stages e plan there written =
     bundle_comes too_large text score old new flushed (outcome.Run end) e
     (inl (record { stages = stages_of stages; plan = plan; scores = there; written = written }))
+
+-- Its turns, by the order that picked them.
+pub pick_plan : {O : Type 0} (order : Order O) (text : List ℕ) (score : List ℕ → Option (List ℕ)) (link : ℕ)
+    (end : RunResult) (old new : O) (stages : List Stage) → IsPlanOf text stages
+    → HasPicked order (bytes_by score stages) stages link end old new ⊎ IsUnasked end old new
+    → Picks order text score link old new (outcome.Run end)
+pick_plan order text score link end old new stages plan (inl picked) =
+    inl (record { stages = stages; plan = plan; picked = picked })
+pick_plan order text score link end old new stages plan (inr unasked) = inr unasked
 
 -- Without a run no write fails.
 pub refusal_writes_none : (text : List ℕ) (outcome : Outcome) → IsRefusal text outcome → is_failed_write outcome ≡ false

@@ -28,7 +28,7 @@ use Rattle.hum_plan.specs.declared.stages.PlanStage.{PlanStage}
 use Rattle.hum_pipeline.specs.Parts.{part_by, part_of, parts_of, AreSoundFrom, AllGiveScores}
 use Rattle.hum_pipeline.specs.Nodes.{AllFrom, Fits, Tells, TellsBy}
 use Rattle.hum_writing.proofs.Appending.{appends_none}
-use Rattle.hum_pipeline.specs.Runs.{HasWritten, HasPicked, WroteAll, WroteFront}
+use Rattle.hum_pipeline.specs.Runs.{HasWritten, WroteAll, WroteFront}
 use Rattle.hum_turns.specs.Orders.{Order}
 use Rattle.hum_turns.proofs.Against.{meaning_fine}
 use Rattle.hum_nodes.specs.Fine.{IsFine}
@@ -234,17 +234,6 @@ pub nothing_written : (bytes : ℕ → List ℕ) (stages : List plan.Stage) (hel
     → HasWritten bytes stages held held flushed ends.Memory
 nothing_written bytes stages held flushed =
     record { part = []; front = (_, refl); wrote = appends_none held }
-
--- and the order was not asked
-pub nothing_picked : {O : Type 0} (order : Order O) (bytes : ℕ → List ℕ) (stages : List plan.Stage) (link : ℕ) (o : O)
-    → HasPicked order bytes stages link o o
-nothing_picked order bytes stages link o = record {
-  turns = [];
-  first = first_now;
-  last = first_now;
-  is_first = is_first;
-  driven = (record { links = λ k. refl; part = refl; failure = refl }, refl);
-}
 
 pub lawful_tree : (bytes : ℕ → List ℕ) (stages : List plan.Stage) → plan.IsTree stages
     → AreSoundFrom 0 stages → IsLawfulTree (parts_of bytes stages)

@@ -10,7 +10,7 @@ use Rattle.hum_plan.specs.Grammar.{IsPlanOf}
 use Rattle.hum_plan.specs.Answers.{PlanAnswer}
 use Rattle.hum_pipeline.specs.declared.outcome.Outcome.{Outcome}
 use Rattle.hum_pipeline.specs.declared.outcome.Outcome.TheVariants as outcome
-use Rattle.hum_pipeline.specs.Runs.{HasWritten, HasPicked}
+use Rattle.hum_pipeline.specs.Runs.{HasWritten, HasPicked, IsUnasked}
 
 -- The score that a stage reads, by its name; a stage that reads none has none.
 abbrev pub score_by : (List ℕ → Option (List ℕ)) → Options → Option (List ℕ)
@@ -43,17 +43,21 @@ pub record HasRunPlan
   pub scores : first_lacking score 1 stages ≡ None
   pub written : HasWritten (bytes_by score stages) stages old new flushed end
 
--- The order was asked in a run of the plan that a text is, over the scores of its names; or not at all.
+-- The order has picked the turns of a run of the plan that a text is, over the scores of its names.
 pub record HasPickedPlan {O : Type 0} (order : Order O) (text : List ℕ)
-    (score : List ℕ → Option (List ℕ)) (link : ℕ) (old new : O) : Type 0 where
+    (score : List ℕ → Option (List ℕ)) (link : ℕ) (end : RunResult) (old new : O) : Type 0 where
   pub stages : List Stage
   pub plan : IsPlanOf text stages
-  pub picked : HasPicked order (bytes_by score stages) stages link old new
+  pub picked : HasPicked order (bytes_by score stages) stages link end old new
 
-abbrev pub MayHavePicked : {O : Type 0} → Order O → List ℕ → (List ℕ → Option (List ℕ)) → ℕ
-    → O → O → Type 0
-MayHavePicked order text score link old new =
-    HasPickedPlan order text score link old new ⊎ (new ≡ old)
+-- Where stages were run, the order has picked their turns; else it was not asked.
+abbrev pub Picks : {O : Type 0} → Order O → List ℕ → (List ℕ → Option (List ℕ)) → ℕ → O → O
+    → Outcome → Type 0
+Picks order text score link old new (outcome.Run end) =
+    HasPickedPlan order text score link end old new ⊎ IsUnasked end old new
+Picks order text score link old new (outcome.Plan fault) = new ≡ old
+Picks order text score link old new (outcome.NoScore number) = new ≡ old
+Picks order text score link old new outcome.TooLarge = new ≡ old
 
 -- A run that wants memory may do so before there is a net.
 abbrev pub MayLackMemory : Option (List ℕ) → Option (List ℕ) → RunResult → Type 0

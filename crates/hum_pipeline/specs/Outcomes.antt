@@ -3,7 +3,6 @@ use Rattle.std.specs.Prelude.{ℕ, List, [], ◌++◌, codes, decimal}
 use Rattle.hum_stage.specs.declared.faults.Fault.{Fault}
 use Rattle.hum_stage.specs.Words.{word_of}
 use Rattle.hum_stage.specs.Words as stage
-use Rattle.hum_plan.specs.declared.faults.PlanFault.{PlanFault}
 use Rattle.hum_plan.specs.Faults as plan
 use Rattle.hum_turns.specs.declared.result.RunResult.{RunResult}
 use Rattle.hum_turns.specs.declared.result.RunResult.TheVariants as ends
@@ -31,12 +30,6 @@ line_of_fault fault =
     codes "humpipe: stage " ++ (decimal fault.stage ++ (codes " (" ++ (word_of fault.command ++ (
     codes "), line " ++ (decimal fault.line ++ (codes ": " ++ stage.code_of fault.rule))))))
 
--- A fault of a plan, by its line, its word and the rule.
-abbrev pub line_of_plan : PlanFault → List ℕ
-line_of_plan fault =
-    codes "humpipe: plan line " ++ (decimal fault.line ++ (codes ", word " ++ (
-    decimal fault.word ++ (codes ": " ++ plan.code_of fault.rule))))
-
 -- A reader of this number, from 1, has failed.
 abbrev pub line_of_read : ℕ → List ℕ → List ℕ
 line_of_read number how =
@@ -49,6 +42,6 @@ line_of (outcome.Run (ends.Fault fault)) = line_of_fault fault
 line_of (outcome.Run (ends.Read number)) = line_of_read number (codes "read failed")
 line_of (outcome.Run ends.Write) = codes "humpipe: write failed"
 line_of (outcome.Run ends.Memory) = codes "humpipe: out of memory"
-line_of (outcome.Plan fault) = line_of_plan fault
+line_of (outcome.Plan fault) = codes "humpipe: " ++ plan.line_of_fault fault
 line_of (outcome.NoScore number) = line_of_read number (codes "cannot open")
 line_of outcome.TooLarge = codes "humpipe: bundle too large"

@@ -8,7 +8,7 @@ use Rattle.hum_turns.specs.declared.result.RunResult.{RunResult}
 use Rattle.hum_turns.specs.declared.result.RunResult.TheVariants as ends
 use Rattle.hum_turns.specs.Flow.{Begins}
 use Rattle.hum_turns.specs.Text.{text}
-use Rattle.hum_turns.specs.Failures.{Now, IsFirst}
+use Rattle.hum_turns.specs.Failures.{Now, IsFirst, result}
 use Rattle.hum_turns.specs.Orders.{Order, Driven}
 use Rattle.hum_nodes.specs.Fine.{IsFine}
 use Rattle.hum_plan.specs.Stages.{Stage}
@@ -48,12 +48,18 @@ HasWritten bytes stages old new flushed (ends.Read number) =
 HasWritten bytes stages old new flushed ends.Write = WroteFront (parts_of bytes stages) old new
 HasWritten bytes stages old new flushed ends.Memory = WroteFront (parts_of bytes stages) old new
 
--- The turns that an order has picked in a run of a plan's stages: from the first moment on it was asked
--- before each turn, and told which actors are ready; this is what is left of it.
+-- The turns that an order has picked in a run of a plan's stages with links of this size, which ended so:
+-- from the first moment on it was asked before each turn, and told which actors are ready, until the
+-- run was over; this is what is left of it.
 pub record HasPicked {O : Type 0} (order : Order O) (bytes : ℕ → List ℕ) (stages : List Stage)
-    (link : ℕ) (old new : O) : Type 0 where
+    (link : ℕ) (end : RunResult) (old new : O) : Type 0 where
   pub turns : List ℕ
   pub first : Now Row
   pub last : Now Row
   pub is_first : IsFirst first
   pub driven : Driven order (plan_of (parts_of bytes stages)) link text_of old first turns last new
+  pub over : result (plan_of (parts_of bytes stages)) last ≡ Some end
+
+-- Memory was wanting before there was a net, and the order was not asked.
+abbrev pub IsUnasked : {O : Type 0} → RunResult → O → O → Type 0
+IsUnasked end old new = (end ≡ ends.Memory) × (new ≡ old)

@@ -7,7 +7,7 @@ ghost use Rattle.hum_plan.specs.Grammar.{IsPlanOf};
 ghost use Rattle.hum_bundle.specs.Parts.{largest, plan_of, score_of};
 ghost use Rattle.hum_pipeline.specs.Nodes.{AreTold, reads_of};
 ghost use Rattle.hum_pipeline.specs.Bundles.{ComesOfBundle, LacksNow, IsRefusal, is_refused};
-ghost use Rattle.hum_pipeline.specs.Bundles.{LacksHere, Adds, bytes_by, first_lacking, MayHavePicked};
+ghost use Rattle.hum_pipeline.specs.Bundles.{LacksHere, Adds, bytes_by, first_lacking, Picks};
 ghost use Rattle.hum_pipeline.specs.Bundles.{is_failed_write, is_read_by};
 
 use crate::outcome::Outcome;
@@ -158,9 +158,10 @@ pub fn run_bundle<O: Order, W: Sink + Drop>(
         (λ name. score_of name bundle.now) (W.contents writer) (W.contents result.1)
         (W.flushed result.1) result.0 }
 
-    // The turns are those that the order picked, which is left as its picks leave it.
-    ensures picked { MayHavePicked (record { pick = O.picks; next = O.after }) (plan_of bundle.now)
-        (λ name. score_of name bundle.now) link order.old order.new }
+    // The turns are those that the order picked, to the run's end, and it is left as its picks leave
+    // it; where there is no turn it is not asked.
+    ensures picked { Picks (record { pick = O.picks; next = O.after }) (plan_of bundle.now)
+        (λ name. score_of name bundle.now) link order.old order.new result.0 }
 
     // A failed write or flush is told exactly where one set the writer's mark.
     ensures marked { W.failed result.1 ≡ (W.failed writer || is_failed_write result.0) }
@@ -168,9 +169,8 @@ pub fn run_bundle<O: Order, W: Sink + Drop>(
     // The scores are held, so that no read of one fails, and none is told to.
     ensures unread { (k : ℕ) → is_read_by k result.0 ≡ false }
 
-    // Where nothing was run, the writer and the order are as they were.
-    ensures refused { is_refused result.0 ≡ true
-        → (result.1 ≡ writer) × (order.new ≡ order.old) }
+    // Where nothing was run, the writer is as it was.
+    ensures refused { is_refused result.0 ≡ true → result.1 ≡ writer }
 {
     if is_too_large(bundle) {
         return (Outcome::TooLarge, writer);

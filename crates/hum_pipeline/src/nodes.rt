@@ -15,7 +15,8 @@ ghost use Rattle.hum_pipeline.specs.Nodes.{AllFrom, Fits, Tells, AreTold, AreNar
 ghost use Rattle.hum_pipeline.specs.Nodes.{reads_by, reads_of};
 ghost use Rattle.hum_plan.specs.declared.stages.PlanStage.{PlanStage};
 
-use hum_commands::{CommandOptions, CommandStage};
+use hum_command_stages::CommandStage;
+use hum_commands::CommandOptions;
 use hum_nodes::{Asked, Feeds, Merging, Node, Reading, Single, Worker, Works};
 use hum_plan::{Options, PlanStage};
 use hum_stage::Stage;
@@ -135,11 +136,7 @@ impl<R: Source + Drop> Builder<R> {
             × AreTold R.remaining bytes (k + 1) stages self.new.readers.items) }
     {
         let number = k as u8 + 1;
-        let PlanStage {
-            command: _,
-            sources,
-            options,
-        } = stage;
+        let (sources, options) = stage.into_parts();
         match options {
             Options::Read(_) => match self.readers.pop_front() {
                 Some(reader) => Ok(Node::Source(Reading::new(self.alloc, number, reader))),

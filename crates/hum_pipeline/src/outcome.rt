@@ -71,10 +71,7 @@ impl fmt::Display for Outcome {
             }
             Outcome::Run(RunResult::Write) => f.write_str("humpipe: write failed"),
             Outcome::Run(RunResult::Memory) => f.write_str("humpipe: out of memory"),
-            Outcome::Plan(fault) => {
-                let PlanFault { line, word, rule } = *fault;
-                write!(f, "humpipe: plan line {line}, word {word}: {rule}")
-            }
+            Outcome::Plan(fault) => write!(f, "humpipe: {fault}"),
             Outcome::NoScore(stage) => write!(f, "humpipe: stage {stage} (read): cannot open"),
             Outcome::TooLarge => f.write_str("humpipe: bundle too large"),
         }

@@ -1,10 +1,10 @@
 //! Runs of plans.
-ghost use Rattle.std.specs.Prelude.{◌≡◌, ◌≤◌, ◌||◌, ℕ, false, List, Some, length};
+ghost use Rattle.std.specs.Prelude.{◌≡◌, ◌≤◌, ◌||◌, ◌⊎◌, ℕ, false, List, Some, length};
 ghost use Rattle.hum_plan.specs.Stages.{IsTree};
 ghost use Rattle.hum_plan.specs.Seen.{stages_of};
 ghost use Rattle.hum_net.specs.Readers.{is_write, is_read_of};
 ghost use Rattle.hum_pipeline.specs.Nodes.{AreTold, reads_by, reads_of};
-ghost use Rattle.hum_pipeline.specs.Runs.{HasWritten, HasPicked};
+ghost use Rattle.hum_pipeline.specs.Runs.{HasWritten, HasPicked, IsUnasked};
 
 use crate::nodes::plan_nodes;
 use hum_net::Net;
@@ -35,10 +35,11 @@ pub fn run_stages<R: Source + Drop, O: Order, W: Sink + Drop>(
         → HasWritten bytes (stages_of stages.items) (W.contents sink) (W.contents result.1)
         (W.flushed result.1) result.0 }
 
-    // The turns are those that the order picked, which is left as its picks leave it.
+    // The turns are those that the order picked, to the run's end, and it is left as its picks leave
+    // it; where memory is wanting before the first, it is not asked.
     ensures picked { (bytes : ℕ → List ℕ) → AreTold R.remaining bytes 0 stages.items readers.items
         → HasPicked (record { pick = O.picks; next = O.after }) bytes (stages_of stages.items) link
-        order.old order.new }
+        result.0 order.old order.new ⊎ IsUnasked result.0 order.old order.new }
 
     // A failed write or flush is told exactly where one set the sink's mark.
     ensures marked { W.failed result.1 ≡ (W.failed sink || is_write (Some result.0)) }

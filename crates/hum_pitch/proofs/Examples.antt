@@ -226,9 +226,9 @@ unfolding natural digits
 widest = refl
 
 -- without the direction, without the quality, and without both
-signless_third : named true false (pos 2) (pos 3) ≡ codes "m3"
+third_without_direction : named true false (pos 2) (pos 3) ≡ codes "m3"
 unfolding natural digits
-signless_third = refl
+third_without_direction = refl
 
 third_by_size : named false true (negsuc 1) (negsuc 2) ≡ codes "-3"
 unfolding natural digits

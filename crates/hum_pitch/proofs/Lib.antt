@@ -3,5 +3,4 @@ mod Theory
 pub mod Steps
 pub mod Answering
 pub mod Reading
-pub mod Digits
 pub mod Names

@@ -36,8 +36,9 @@ both_over [] ys p q = q
 both_over (x ∷ xs) ys p q = (p.0, both_over xs ys p.1 q)
 
 -- letters and signs are beyond those bytes that end tokens or begin comments and interpretations
-pub name_over : (signless sizeonly : Bool) (d s : ℤ) → AreOver 42 (cond signless [] (sign (direction d s)) ++ cond sizeonly [] (quality_letters (quality d s)))
-name_over signless sizeonly d s = both_over (cond signless [] (sign (direction d s)))
-    (cond sizeonly [] (quality_letters (quality d s)))
-    (shown_over signless (sign (direction d s)) (sign_over (direction d s)))
-    (shown_over sizeonly (quality_letters (quality d s)) (quality_over (quality d s)))
+pub name_over : (without_direction without_quality : Bool) (d s : ℤ) →
+    AreOver 42 (cond without_direction [] (sign (direction d s)) ++ cond without_quality [] (quality_letters (quality d s)))
+name_over without_direction without_quality d s = both_over (cond without_direction [] (sign (direction d s)))
+    (cond without_quality [] (quality_letters (quality d s)))
+    (shown_over without_direction (sign (direction d s)) (sign_over (direction d s)))
+    (shown_over without_quality (quality_letters (quality d s)) (quality_over (quality d s)))

@@ -76,6 +76,7 @@ abbrev pub size : ℤ → ℕ
 size d = unsigned_abs d + 1
 
 abbrev pub named : Bool → Bool → ℤ → ℤ → List ℕ
-named signless sizeonly d s =
-    (cond signless [] (sign (direction d s)) ++ cond sizeonly [] (quality_letters (quality d s)))
+named without_direction without_quality d s =
+    (cond without_direction [] (sign (direction d s))
+    ++ cond without_quality [] (quality_letters (quality d s)))
     ++ decimal (size d)

@@ -7,12 +7,12 @@ use crate::{Interval, Pitch};
 
 /// The interval from one pitch to another.
 pub fn interval(from: Pitch, to: Pitch) -> Interval
-    ensures steps { result.d ≡ step_number (spelled to) -ℤ step_number (spelled from) }
-    ensures semitones { result.s ≡ semitones (spelled to) -ℤ semitones (spelled from) }
-    ensures apart { IsAway result.d result.s (spelled from) (spelled to) }
+    ensures steps { result.steps ≡ step_number (spelled to) -ℤ step_number (spelled from) }
+    ensures semitones { result.semitones ≡ semitones (spelled to) -ℤ semitones (spelled from) }
+    ensures apart { IsAway result.steps result.semitones (spelled from) (spelled to) }
 {
     Interval {
-        d: to.step_number() - from.step_number(),
-        s: to.semits() - from.semits(),
+        steps: to.step_number() - from.step_number(),
+        semitones: to.semits() - from.semits(),
     }
 }

@@ -6,10 +6,11 @@ ghost use Rattle.hum_pitch.specs.Pitch.{IsWithin};
 #[derive(Clone, Copy, Debug, PartialEq, Eq)]
 pub struct Interval {
     /// The diatonic steps from the first to the second, -111 to 111: negative downwards.
-    pub d: i32,
+    pub steps: i32,
     /// The semitones from the first to the second, -205 to 205.
-    pub s: i32,
-    pub ghost in_range: { IsWithin (negsuc 110) d (pos 111) × IsWithin (negsuc 204) s (pos 205) },
+    pub semitones: i32,
+    pub ghost in_range: { IsWithin (negsuc 110) steps (pos 111)
+        × IsWithin (negsuc 204) semitones (pos 205) },
 }
 
 /// Whether an interval leads up or down.

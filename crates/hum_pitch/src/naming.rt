@@ -12,16 +12,17 @@ use crate::Interval;
 use crate::intervals::{Direction, Quality};
 use crate::pitch::natural;
 use crate::spelling::{Repeated, push_repeated};
+use itoa::Buffer;
 use std::alloc::{AllocError, Global};
 
 /// Up or down by the steps; where there are none, by the semitones.
 fn direction(interval: Interval) -> Direction
-    ensures { result ≡ direction interval.d interval.s }
+    ensures { result ≡ direction interval.steps interval.semitones }
 {
-    let leading = if interval.d == 0 {
-        interval.s
+    let leading = if interval.steps == 0 {
+        interval.semitones
     } else {
-        interval.d
+        interval.steps
     };
     if leading > 0 {
         Direction::Up
@@ -34,17 +35,17 @@ fn direction(interval: Interval) -> Direction
 
 /// The semitones of the interval as it is named, upwards.
 fn upwards(interval: Interval) -> i32
-    ensures exact { result ≡ upwards interval.d interval.s }
+    ensures exact { result ≡ upwards interval.steps interval.semitones }
     ensures bounded { IsWithin (negsuc 204) result (pos 205) }
 {
-    if interval.d > 0 {
-        interval.s
-    } else if interval.d < 0 {
-        0 - interval.s
-    } else if interval.s < 0 {
-        0 - interval.s
+    if interval.steps > 0 {
+        interval.semitones
+    } else if interval.steps < 0 {
+        0 - interval.semitones
+    } else if interval.semitones < 0 {
+        0 - interval.semitones
     } else {
-        interval.s
+        interval.semitones
     }
 }
 
@@ -59,10 +60,10 @@ fn natural_width(steps: u32) -> u32
 
 /// By how many semitones the interval is wider than the perfect or major one.
 fn excess(interval: Interval) -> i32
-    ensures exact { result ≡ excess interval.d interval.s }
+    ensures exact { result ≡ excess interval.steps interval.semitones }
     ensures bounded { IsWithin (negsuc 395) result (pos 205) }
 {
-    upwards(interval) - natural_width(interval.d.unsigned_abs()) as i32
+    upwards(interval) - natural_width(interval.steps.unsigned_abs()) as i32
 }
 
 /// Whether intervals of so many steps are perfect, and not major or minor.
@@ -107,10 +108,10 @@ fn of_major(excess: i32) -> Quality
 
 /// The quality of an interval.
 fn quality(interval: Interval) -> Quality
-    ensures exact { result ≡ quality interval.d interval.s }
+    ensures exact { result ≡ quality interval.steps interval.semitones }
     ensures modest { IsModest result }
 {
-    if can_be_perfect(interval.d.unsigned_abs()) {
+    if can_be_perfect(interval.steps.unsigned_abs()) {
         of_perfect(excess(interval))
     } else {
         of_major(excess(interval))
@@ -184,35 +185,34 @@ fn shown(is_shown: bool, repeated: Repeated) -> Repeated
 fn push_number(text: &mut Vec<u8>, number: u32) -> Result<(), AllocError>
     ensures { OnOk result (text.new.items ≡ text.old.items ++ decimal number) }
 {
-    if number < 10 {
-        text.push(b'0' + number as u8)?;
-        return Ok(());
-    }
-    push_number(text, number / 10)?;
-    text.push(b'0' + (number % 10) as u8)?;
-    Ok(())
+    let mut buffer = Buffer::new();
+    text.extend_from_slice(buffer.format(number).as_bytes())
 }
 
 /// Adds the name of an interval to a text: its direction (`+` or `-`), its quality (`P`, `M`, `m`,
 /// or `A` or `d` for each semitone by which it is augmented or diminished) and its size, as in
 /// `+M2`.
 ///
-/// `signless` leaves out the direction, `sizeonly` the quality.
+/// `without_direction` leaves out the direction, `without_quality` the quality.
 ///
 /// # Errors
 /// Want of memory.
 pub fn push_interval(
     text: &mut Vec<u8>,
     interval: Interval,
-    signless: bool,
-    sizeonly: bool,
+    without_direction: bool,
+    without_quality: bool,
 ) -> Result<(), AllocError>
     ensures { OnOk result (text.new.items
-        ≡ text.old.items ++ named signless sizeonly interval.d interval.s) }
+        ≡ text.old.items
+        ++ named without_direction without_quality interval.steps interval.semitones) }
 {
-    push_repeated(text, shown(!signless, sign(direction(interval))))?;
-    push_repeated(text, shown(!sizeonly, quality_letters(quality(interval))))?;
-    push_number(text, interval.d.unsigned_abs() + 1)
+    push_repeated(text, shown(!without_direction, sign(direction(interval))))?;
+    push_repeated(
+        text,
+        shown(!without_quality, quality_letters(quality(interval))),
+    )?;
+    push_number(text, interval.steps.unsigned_abs() + 1)
 }
 
 /// The name of an interval, as [`push_interval`] adds it.
@@ -222,12 +222,13 @@ pub fn push_interval(
 pub fn write_interval(
     alloc: Global,
     interval: Interval,
-    signless: bool,
-    sizeonly: bool,
+    without_direction: bool,
+    without_quality: bool,
 ) -> Result<Vec<u8>, AllocError>
-    ensures { IfOk result (λ text. text.items ≡ named signless sizeonly interval.d interval.s) }
+    ensures { IfOk result (λ text. text.items
+        ≡ named without_direction without_quality interval.steps interval.semitones) }
 {
     let mut text = Vec::new(alloc);
-    push_interval(&mut text, interval, signless, sizeonly)?;
+    push_interval(&mut text, interval, without_direction, without_quality)?;
     Ok(text)
 }

@@ -70,17 +70,7 @@ command_of word = find (λ command. bytes_eq (word_of command) word) commands
 abbrev pub opening_of : Command → Opening
 opening_of command.Read = opening.Read
 opening_of command.Assemble = opening.Assemble
-opening_of command.Rid = opening.Takes command.Rid
-opening_of command.Extract = opening.Takes command.Extract
-opening_of command.Ditto = opening.Takes command.Ditto
-opening_of command.Timebase = opening.Takes command.Timebase
-opening_of command.Context = opening.Takes command.Context
-opening_of command.Trans = opening.Takes command.Trans
-opening_of command.Semits = opening.Takes command.Semits
-opening_of command.Mint = opening.Takes command.Mint
-opening_of command.Recip = opening.Takes command.Recip
-opening_of command.Yank = opening.Takes command.Yank
-opening_of command.Cleave = opening.Takes command.Cleave
+opening_of other = opening.Takes other
 
 abbrev pub is_source : Opening → Bool
 is_source opening.Read = true

@@ -27,11 +27,15 @@ code_of N10 = codes "N10"
 code_of N11 = codes "N11"
 code_of N12 = codes "N12"
 
+-- the line that tells a fault, by its line, its word and the rule, without its end
+abbrev pub line_of_fault : PlanFault → List ℕ
+line_of_fault fault =
+    codes "plan line " ++ (decimal fault.line ++ (codes ", word " ++ (
+    decimal fault.word ++ (codes ": " ++ code_of fault.rule))))
+
 -- the line that tells why bytes are no plan, without its end
 abbrev pub line_of : PlanError → List ℕ
-line_of (Fault fault) =
-    codes "line " ++ (decimal fault.line ++ (codes ", word " ++ (
-    decimal fault.word ++ (codes ": " ++ code_of fault.rule))))
+line_of (Fault fault) = line_of_fault fault
 line_of Memory = codes "out of memory"
 
 -- a rule that is broken at a word of a line, both from 1; no word is 0

@@ -51,17 +51,7 @@ pub(crate) fn opening_of(command: Command) -> Opening
     match command {
         Command::Read => Opening::Read,
         Command::Assemble => Opening::Assemble,
-        Command::Rid => Opening::Takes(Command::Rid),
-        Command::Extract => Opening::Takes(Command::Extract),
-        Command::Ditto => Opening::Takes(Command::Ditto),
-        Command::Timebase => Opening::Takes(Command::Timebase),
-        Command::Context => Opening::Takes(Command::Context),
-        Command::Trans => Opening::Takes(Command::Trans),
-        Command::Semits => Opening::Takes(Command::Semits),
-        Command::Mint => Opening::Takes(Command::Mint),
-        Command::Recip => Opening::Takes(Command::Recip),
-        Command::Yank => Opening::Takes(Command::Yank),
-        Command::Cleave => Opening::Takes(Command::Cleave),
+        other => Opening::Takes(other),
     }
 }
 

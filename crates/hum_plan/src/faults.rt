@@ -1,7 +1,8 @@
 //! The rules of a plan, and where one was broken.
 ghost use Rattle.std.specs.Prelude.{◌≡◌, Some};
 ghost use Rattle.hum_plan.specs.declared.faults.PlanError.TheVariants.{Fault, Memory};
-ghost use Rattle.hum_plan.specs.Faults.{code_of, line_of, rule_of, in_line, of_text, broken};
+ghost use Rattle.hum_plan.specs.Faults.{code_of, line_of, line_of_fault, rule_of, in_line, of_text};
+ghost use Rattle.hum_plan.specs.Faults.{broken};
 
 use hum_options::{OptionFault, OptionRule};
 use hum_words::TextFault;
@@ -78,6 +79,15 @@ pub struct PlanFault {
     pub rule: PlanRule,
 }
 
+impl fmt::Display for PlanFault {
+    ghost output = { λ fault. Some (line_of_fault fault) };
+
+    fn fmt<W: fmt::Write>(&self, f: &mut fmt::Formatter<W>) -> fmt::Result {
+        let PlanFault { line, word, rule } = *self;
+        write!(f, "plan line {line}, word {word}: {rule}")
+    }
+}
+
 /// Why bytes are no plan.
 #[derive(Clone, Copy, Debug, PartialEq, Eq)]
 pub enum PlanError {
@@ -131,10 +141,7 @@ impl fmt::Display for PlanError {
 
     fn fmt<W: fmt::Write>(&self, f: &mut fmt::Formatter<W>) -> fmt::Result {
         match self {
-            PlanError::Fault(fault) => {
-                let PlanFault { line, word, rule } = *fault;
-                write!(f, "line {line}, word {word}: {rule}")
-            }
+            PlanError::Fault(fault) => write!(f, "{fault}"),
             PlanError::Memory => f.write_str("out of memory"),
         }
     }

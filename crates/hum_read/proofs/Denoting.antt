@@ -20,7 +20,7 @@ use Rattle.hum_stage.specs.declared.faults.End.TheVariants.{Closed}
 use Rattle.hum_stage.specs.Score.{through, Follow, IsScore}
 use Rattle.hum_stage.proofs.Scores.{through-append}
 use Rattle.hum_read.specs.Denoted.{read_after, on_spines, unless, onward, denoted, up_to, standard}
-use Rattle.hum_read.specs.Denoted.{score_of, end_at, broken_at, closed, ending, text_rule}
+use Rattle.hum_read.specs.Denoted.{Score, score_of, end_at, broken_at, closed, ending, text_rule}
 use Rattle.hum_read.specs.Reading.{Scores, HasRead, AreRead, ahead, Denotes}
 
 -- one line more is read as a record
@@ -128,18 +128,29 @@ denotes-broken stage all rows line rule end is told = record {
     not_closed : end_at stage (Some (line, rule)) ≡ Closed → ⊥
     not_closed e = cc
 
--- where no spine is open at the end of the lines, all is denoted
-pub denotes-closed : (stage : ℕ) (all : List ℕ) (rows : List Row) → IsScore rows
+-- where no line is left, all is denoted
+pub denotes-ending : (stage : ℕ) (all : List ℕ) (rows : List Row) → IsScore rows
     → score_of all ≡ ahead rows (ending (through Unopened rows) (length rows) None)
-    → is_unfinished (through Unopened rows) ≡ false → Denotes stage all rows Closed
-denotes-closed stage all rows score is whole =
-    let none : ending (through Unopened rows) (length rows) None ≡ closed = rw whole refl in
-    let all_of : score_of all ≡ ahead rows closed = is ∙ ap (ahead rows) none in
-    record {
-      records = ap (λ s. s.rows) all_of ∙ append-nil rows;
-      ending = ap (λ s. end_at stage s.fault) all_of;
-      closed = λ e. (score, whole);
-    }
+    → Denotes stage all rows (end_at stage (ending (through Unopened rows) (length rows) None).fault)
+denotes-ending stage all rows score is = by_open (is_unfinished (through Unopened rows)) refl
+  where
+    End-of : Score → End
+    End-of s = end_at stage s.fault
+
+    by_open : (b : Bool) → is_unfinished (through Unopened rows) ≡ b
+        → Denotes stage all rows (End-of (ending (through Unopened rows) (length rows) None))
+    by_open true unfinished =
+        let left : ending (through Unopened rows) (length rows) None ≡ broken_at (length rows + 1) (Some rule.P8) =
+        rw unfinished refl in
+        denotes-broken stage all rows (length rows + 1) rule.P8 _ (is ∙ ap (ahead rows) left) (ap End-of left)
+    by_open false none =
+        let left : ending (through Unopened rows) (length rows) None ≡ closed = rw none refl in
+        let all_of : score_of all ≡ ahead rows closed = is ∙ ap (ahead rows) left in
+        record {
+          records = ap (λ s. s.rows) all_of ∙ append-nil rows;
+          ending = ap End-of is;
+          closed = λ e. (score, none);
+        }
 
 -- a record that is read breaks no rule of the spines
 sound-read : (path : Path) (read : Result Row RecordFault) (row : Row) → on_spines path read ≡ Ok row

@@ -1,10 +1,10 @@
 -- What the parts of a poll give.
-use Rattle.std.proofs.Common.{◌≡◌, ℕ, ◌+◌, ◌<◌, ◌≤◌, Bool, true, false, List, [], ◌∷◌, ◌++◌, length, cond}
+use Rattle.std.proofs.Common.{◌≡◌, ℕ, ◌+◌, ◌<◌, ◌≤◌, List, [], ◌∷◌, ◌++◌, length}
 use Rattle.std.proofs.Common.{Option, None, Some, Result, Ok, Err, inl, inr, ◌⊎◌}
 use Rattle.std.proofs.Common.{refl, ap, sym, ◌∙◌, subst, arith, length-append}
 use Rattle.hum_text.specs.declared.TextFault.{TextFault}
 use Rattle.hum_text.specs.declared.TextFault.TheVariants as text
-use Rattle.hum_text.specs.Text.{fault_of, IsOfText}
+use Rattle.hum_text.specs.Text.{lines, fault_of, IsOfText}
 use Rattle.hum_text.specs.Reading.{Reader, Holds}
 use Rattle.hum_record.specs.declared.RecordFault.{RecordFault}
 use Rattle.hum_record.specs.declared.RecordFault.TheVariants as of_record
@@ -13,20 +13,19 @@ use Rattle.hum_record.specs.Spelling.{reading, Fails}
 use Rattle.hum_path.specs.declared.PathFault.{PathFault}
 use Rattle.hum_path.specs.declared.PathFault.TheVariants as of_path
 use Rattle.hum_path.specs.Spines.{Path, Unopened, after}
-use Rattle.hum_path.specs.Rules.{is_unfinished, Refuses, fault_of as path_fault_of}
+use Rattle.hum_path.specs.Rules.{Refuses, fault_of as path_fault_of}
 use Rattle.hum_stage.specs.declared.faults.Rule.{Rule}
 use Rattle.hum_stage.specs.declared.faults.Rule.TheVariants as rule
 use Rattle.hum_stage.specs.declared.faults.End.{End}
-use Rattle.hum_stage.specs.declared.faults.End.TheVariants.{Closed}
 use Rattle.hum_stage.specs.Score.{through}
 use Rattle.hum_stage.proofs.Scores.{through-append, Follow-append}
 use Rattle.hum_read.specs.declared.ReadError.{ReadError}
 use Rattle.hum_read.specs.Reading.{Polled}
-use Rattle.hum_read.specs.Denoted.{read_after, on_spines, unless, standard, score_of, end_at, broken_at}
+use Rattle.hum_read.specs.Denoted.{read_after, on_spines, unless, standard, score_of, end_at, broken_at, ending}
 use Rattle.hum_read.specs.Denoted.{text_rule, record_rule, path_rule}
 use Rattle.hum_read.specs.Reading.{Scores, HasRead, ahead, Denotes, Gives, answer_of}
-use Rattle.hum_read.specs.Steps.{HasLine, IsWholeText, refusal, stop_by}
-use Rattle.hum_read.proofs.Denoting.{read-more, refused-next, broken-next, ended-next, denotes-broken, denotes-closed}
+use Rattle.hum_read.specs.Steps.{HasLine, refusal, end_of, stop_by}
+use Rattle.hum_read.proofs.Denoting.{read-more, refused-next, broken-next, ended-next, denotes-broken, denotes-ending}
 
 -- The line that was just given is refused by this rule, or memory ran out.
 gives-refused : {R : Type 0} (v : Scores R) (all : List ℕ) (rows : List Row) (rest : List ℕ)
@@ -157,40 +156,7 @@ text-broken stage f result given all rows After told count is =
     by_fault text.Read is = tt
     by_fault text.Memory is = tt
 
--- The lines have ended, and no spine is open.
-pub text-closed : {R : Type 0} (v : Scores R) (all : List ℕ) (rows : List Row) (rest : List ℕ)
-    → HasRead v all rows rest → IsWholeText all rows → is_unfinished v.spines.path ≡ false
-    → Denotes v.stage all rows Closed
-text-closed v all rows rest h whole none =
-    denotes-closed v.stage all rows h.score (ended-next all whole.given rows whole.read whole.whole whole.sound)
-    (ap is_unfinished (sym h.path) ∙ none)
-
--- The lines have ended, and spines are open.
-pub text-unfinished : {R : Type 0} (v : Scores R) (all : List ℕ) (rows : List Row) (rest : List ℕ) (given : ℕ)
-    (end : End) → HasRead v all rows rest → IsWholeText all rows → is_unfinished v.spines.path ≡ true
-    → given ≡ v.lines.given → end ≡ end_at v.stage (Some (given + 1, rule.P8)) → Denotes v.stage all rows end
-text-unfinished v all rows rest given end h whole some count told =
-    let number = h.holds.stands.number in
-    let many = h.as_many in
-    let line : given + 1 ≡ length rows + 1 = omega (arith, count, number, many) in
-    let unfinished : is_unfinished (through Unopened rows) ≡ true = ap is_unfinished (sym h.path) ∙ some in
-    let is : score_of all ≡ ahead rows (broken_at (length rows + 1) (Some rule.P8)) =
-    ended-next all whole.given rows whole.read whole.whole whole.sound ∙ rw unfinished refl in
-    denotes-broken v.stage all rows (length rows + 1) rule.P8 end is
-    (told ∙ ap (λ (n : ℕ). end_at v.stage (Some (n, rule.P8))) line)
-
--- which way the test for open spines went
-pub is-closed : (b : Bool) (u : Unit {0})
-    → ◌≡◌ {A = Result (Unit {0}) PathFault} (cond b (Err of_path.P8) (Ok tt)) (Ok u) → b ≡ false
-is-closed true u h = cc
-is-closed false u h = refl
-
-pub is-unfinished : (b : Bool) (f : PathFault)
-    → ◌≡◌ {A = Result (Unit {0}) PathFault} (cond b (Err of_path.P8) (Ok tt)) (Err f) → b ≡ true
-is-unfinished true f h = refl
-is-unfinished false f h = cc
-
--- what the lines have given, as what the reader of scores has: a line, or none
+-- what the lines have given, as what the reader of scores has
 pub has-line : {R : Type 0} (v w : Scores R) (all : List ℕ) (rows : List Row) (read rest : List ℕ)
     → (h : HasRead v all rows read) → w.lines.limits ≡ v.lines.limits → w.spines.path ≡ v.spines.path
     → Holds w.lines all (h.given ++ w.lines.line ∷ []) rest → HasLine w all rows rest
@@ -204,18 +170,19 @@ has-line v w all rows read rest h limits path holds = record {
   as_many = h.as_many;
 }
 
-pub has-read : {R : Type 0} (v w : Scores R) (all : List ℕ) (rows : List Row) (read rest : List ℕ)
-    → (h : HasRead v all rows read) → w.lines.limits ≡ v.lines.limits → w.spines.path ≡ v.spines.path
-    → Holds w.lines all h.given rest → HasRead w all rows rest
-has-read v w all rows read rest h limits path holds = record {
-  limits = limits ∙ h.limits;
-  given = h.given;
-  holds = holds;
-  read = h.read;
-  score = h.score;
-  path = path ∙ h.path;
-  as_many = h.as_many;
-}
+-- No line is left.
+pub text-ended : {R : Type 0} (v w : Scores R) (all : List ℕ) (rows : List Row) (read rest : List ℕ)
+    → (h : HasRead v all rows read) → w.spines.path ≡ v.spines.path → Holds w.lines all h.given rest
+    → lines all ≡ h.given → fault_of v.lines.limits all ≡ None → Denotes w.stage all rows (end_of w)
+text-ended v w all rows read rest h path holds whole sound =
+    let number = holds.stands.number in
+    let many = h.as_many in
+    let count : w.lines.given ≡ length rows = omega (arith, number, many) in
+    let end : Path → ℕ → End = λ path n. end_at w.stage (ending path n None).fault in
+    let same : end (through Unopened rows) (length rows) ≡ end_of w =
+    sym (ap (λ (p : Path). end p w.lines.given) (path ∙ h.path) ∙ ap (end (through Unopened rows)) count) in
+    subst (Denotes w.stage all rows) same
+    (denotes-ending w.stage all rows h.score (ended-next all h.given rows h.read whole (rw h.limits at sound)))
 
 -- The first fault of the text is in the next line.
 pub text-stopped : {R : Type 0} (v : Scores R) (all : List ℕ) (rows : List Row) (read : List ℕ) (f : TextFault)

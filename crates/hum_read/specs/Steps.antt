@@ -3,7 +3,6 @@ use Rattle.std.specs.Prelude.{◌≡◌, ℕ, ◌+◌, List, [], ◌∷◌, ◌+
 use Rattle.std.specs.Prelude.{Option, None, Some, Result, Ok, Err}
 use Rattle.hum_text.specs.declared.TextFault.{TextFault}
 use Rattle.hum_text.specs.declared.TextFault.TheVariants as text
-use Rattle.hum_text.specs.Text.{lines, fault_of}
 use Rattle.hum_text.specs.Reading.{Reader, Holds}
 use Rattle.hum_record.specs.Row.{Row}
 use Rattle.hum_path.specs.Spines.{Unopened}
@@ -13,7 +12,7 @@ use Rattle.hum_stage.specs.declared.faults.Rule.{Rule}
 use Rattle.hum_stage.specs.declared.faults.Rule.TheVariants.{S1, S2, S3, S7}
 use Rattle.hum_read.specs.declared.ReadError.{ReadError}
 use Rattle.hum_read.specs.declared.ReadError.TheVariants.{Read, Memory}
-use Rattle.hum_read.specs.Denoted.{standard, end_at}
+use Rattle.hum_read.specs.Denoted.{standard, end_at, ending}
 use Rattle.hum_read.specs.Reading.{Scores, Polled, Gave, ReadOn}
 use Rattle.hum_read.specs.Reading.{HasRead, AreRead, Gives, answer_of}
 
@@ -42,13 +41,6 @@ ReadsLine old result new =
     → HasLine old all rows rest
     → Gives old.stage all rows result (λ after. HasRead new all after rest)
 
--- all lines of a text without fault are read as these records
-pub record IsWholeText (all : List ℕ) (rows : List Row) : Type 0 where
-  pub given : List (List ℕ)
-  pub read : AreRead given rows
-  pub whole : lines all ≡ given
-  pub sound : fault_of standard all ≡ None
-
 -- why a reader stops where a line is refused by a rule, or memory runs out
 abbrev pub refusal : ℕ → ℕ → Option Rule → Result End ReadError
 refusal stage line None = Err Memory
@@ -59,6 +51,10 @@ abbrev pub given_by : Option Row → Option (Result End ReadError) → Result Po
 given_by (Some row) stopped = Ok (Gave row)
 given_by None (Some why) = answer_of why
 given_by None None = Ok ReadOn
+
+-- how the score ends that a reader has given, where no line follows
+abbrev pub end_of : {R : Type 0} → Scores R → End
+end_of v = end_at v.stage (ending v.spines.path v.lines.given None).fault
 
 -- why it stops after so many lines, by a fault of the next
 abbrev pub stop_by : ℕ → ℕ → TextFault → Result End ReadError

@@ -32,17 +32,18 @@ fn broken(stage: u8, line: u64, rule: Rule) -> End
     })
 }
 
-/// Why a reader stops after so many lines, by a fault of the next.
+/// Stops a reader that has given so many lines, by a fault of the next. It happens once, and writes
+/// where it is kept, so that no call of [`ScoreReader::next`] has a place for it.
 #[inline(never)]
-fn stop(stage: u8, given: u64, fault: TextFault) -> Result<End, ReadError>
+fn stop(stopped: &mut Option<Result<End, ReadError>>, stage: u8, given: u64, fault: TextFault)
     requires { given ≤ 4294967295 }
-    ensures { result ≡ stop_by stage given fault }
+    ensures { stopped.new ≡ Some (stop_by stage given fault) }
 {
-    match text_rule(fault) {
+    *stopped = Some(match text_rule(fault) {
         Some(rule) => Ok(broken(stage, given + 1, rule)),
         None if fault == TextFault::Read => Err(ReadError::Read),
         None => Err(ReadError::Memory),
-    }
+    });
 }
 
 /// Takes the spines past a record.
@@ -102,10 +103,10 @@ impl<R> Model for ScoreReader<R> {
 
 impl<R: Source> ScoreReader<R> {
     ghost use Rattle.hum_record.specs.Row.{Row};
-    ghost use Rattle.hum_read.specs.Reading.{IsFresh, HasRead, GivesNext, Denotes};
+    ghost use Rattle.hum_read.specs.Reading.{IsFresh, HasRead, GivesNext};
     ghost use Rattle.hum_read.specs.Reading.{IsCalledAtMostOnce, IsDue, ReadsOnce, Nears};
     ghost use Rattle.hum_read.specs.Reading.{ReadOn, stop_of, answer_of};
-    ghost use Rattle.hum_read.specs.Steps.{ReadsLine, IsWholeText, refusal, given_by};
+    ghost use Rattle.hum_read.specs.Steps.{ReadsLine, refusal, end_of, given_by};
 
     /// The reader of a source of which nothing was read yet, as the stage of this number, from 1.
     pub fn new(alloc: Global, stage: u8, source: R) -> ScoreReader<R>
@@ -177,16 +178,18 @@ impl<R: Source> ScoreReader<R> {
         }
     }
 
-    /// How a text without fault ends.
+    /// No line is left: the score is closed, or breaks P8 where a spine is still open.
     #[inline(never)]
-    fn close(&self) -> End
-        ensures { (all : List ℕ) (rows : List Row) (rest : List ℕ) → HasRead self.now all rows rest
-            → IsWholeText all rows → Denotes self.now.stage all rows result }
+    fn close(&mut self)
+        ensures { self.new ≡ record self.old {
+          stopped = Some (Ok (end_of self.old));
+        } }
     {
-        match self.paths.close() {
+        let end = match self.paths.close() {
             Ok(()) => End::Closed,
             Err(_) => broken(self.stage, self.lines.given() + 1, Rule::P8),
-        }
+        };
+        self.stopped = Some(Ok(end));
     }
 
     /// Why nothing more comes, once it has stopped: the end, or a failed read or want of memory.
@@ -249,54 +252,15 @@ impl<R: Source> ScoreReader<R> {
         if self.stopped.is_some() {
             return None;
         }
-        if self.lines.next_line() {
-            return self.read_line();
-        }
-        self.next_far()
-    }
-
-    // The same where it has not stopped, by a poll of the lines.
-    #[inline(never)]
-    fn next_far(&mut self) -> Option<Record>
-        requires going { self.old.stopped ≡ None }
-        ensures gives { GivesNext self.old (given_by result self.new.stopped) self.new }
-        ensures stops { self.new.stopped ≡ stop_of (given_by result self.new.stopped) }
-        ensures stage { self.new.stage ≡ self.old.stage }
-        ensures unread { ¬ NeedsRead self.old.lines → IsUnread self.old.lines self.new.lines }
-        ensures once { NeedsRead self.old.lines
-            → IsCalledAtMostOnce R.calls R.failed
-            self.old.lines.source self.new.lines.source }
-        ensures due { IsDue self.old → ReadsOnce R.calls R.failed self.old
-            (given_by result self.new.stopped) self.new }
-        ensures more { given_by result self.new.stopped ≡ Ok ReadOn
-            → IsFed self.old.lines self.new.lines }
-        ensures unfed { given_by result self.new.stopped ≢ Ok ReadOn
-            → bytes_read self.old.lines self.new.lines ≡ [] }
-        ensures asked { length (bytes_read self.old.lines self.new.lines) ≤ LARGEST_READ }
-        ensures consumes { Consumes (R.remaining self.old.lines.source)
-            (R.remaining self.new.lines.source) (bytes_read self.old.lines self.new.lines) }
-        ensures at_end { self.new.lines.ended ≡ true
-            → (self.old.lines.ended ≡ true) ⊎ IsAtEnd (R.remaining self.new.lines.source) }
-        ensures failed { given_by result self.new.stopped ≡ Err ReadError.Read
-            → R.failed self.new.lines.source ≡ true }
-        ensures marked { R.failed self.new.lines.source ≡ true
-            → (R.failed self.old.lines.source ≡ true)
-            ⊎ (given_by result self.new.stopped ≡ Err ReadError.Read) }
-        ensures taken { self.new.lines.taken ≤ self.new.lines.limits.bytes }
-        ensures nears { IfOk (given_by result self.new.stopped) (λ step.
-            Nears step (left_to_do self.old.lines) (left_to_do self.new.lines)) }
-    {
         match self.lines.poll() {
             Ok(lines::Step::Line) => self.read_line(),
             Ok(lines::Step::More) => None,
             Ok(lines::Step::End) => {
-                let end = self.close();
-                self.stopped = Some(Ok(end));
+                self.close();
                 None
             }
             Err(fault) => {
-                let why = stop(self.stage, self.lines.given(), fault);
-                self.stopped = Some(why);
+                stop(&mut self.stopped, self.stage, self.lines.given(), fault);
                 None
             }
         }

@@ -1,14 +1,14 @@
 -- A record in the making keeps its text and where its tokens end.
-use Rattle.std.proofs.Common.{◌≡◌, ◌≢◌, ℕ, ◌+◌, ◌≤◌, List, [], ◌∷◌, ◌++◌, length, refl, sym, ap, subst, ◌∙◌, arith, append_assoc, length-append}
+use Rattle.std.proofs.Common.{◌≡◌, ◌≢◌, ℕ, ◌+◌, ◌≤◌, List, [], ◌∷◌, ◌++◌, length, refl, sym, ap, ◌∙◌, arith, append_assoc, length-append}
 use Rattle.std.specs.List.{AllByRecursion}
 use Rattle.hum_record.specs.declared.Kind.TheVariants.{Global}
 use Rattle.hum_record.specs.declared.SpinedKind.{SpinedKind}
 use Rattle.hum_record.specs.Row.{Row, Comment, Spined, kind_of, tokens_of}
 use Rattle.hum_record.specs.Spelling.{IsToken, IsTextOf, parts}
-use Rattle.hum_record.specs.Fields.{ends_from, row_in, AreFields}
+use Rattle.hum_record.specs.Fields.{ends_from}
 use Rattle.hum_record.specs.Building.{spelled, tab_between, tokens_in, IsDraft}
 use Rattle.hum_record.proofs.Ends.{ends_push}
-use Rattle.hum_record.proofs.Laws.{parts_join, parts_filled, only, row_read}
+use Rattle.hum_record.proofs.Laws.{parts_join, parts_filled}
 
 pub spelled_push : (ts : List (List ℕ)) (t : List ℕ) → ts ≢ [] → spelled (ts ++ t ∷ []) ≡ spelled ts ++ (9 ∷ t)
 spelled_push [] t filled = absurd (filled refl)
@@ -72,21 +72,6 @@ draft_more k text ends t draft is fits =
 pub draft_length : (k : SpinedKind) (text ends t : List ℕ) → IsDraft k text ends →
     length (spelled (tokens_in text ends ++ t ∷ [])) ≡ length text + length (tab_between ends) + length t
 draft_length k text ends t draft = ap length (sym (more_text k text ends t draft)) ∙ more_length text (tab_between ends) t
-
--- a draft with tokens is a record's text
-draft_text : (k : SpinedKind) (text ends : List ℕ) → IsDraft k text ends → tokens_in text ends ≢ [] → IsTextOf (Spined k (tokens_in text ends)) text
-draft_text k text ends draft filled = (draft.spelling, filled, draft.lawful, draft.at_most)
-
-pub draft_row : (k : SpinedKind) (text ends : List ℕ) → IsDraft k text ends → tokens_in text ends ≢ [] → row_in text ≡ Spined k (tokens_in text ends)
-draft_row k text ends draft filled = row_read text _ (only text _ (draft_text k text ends draft filled))
-
-pub draft_fields : (k : SpinedKind) (text ends : List ℕ) → IsDraft k text ends → tokens_in text ends ≢ [] → AreFields text ends
-draft_fields k text ends draft filled =
-    let is = draft_row k text ends draft filled in
-    record {
-      lawful = subst (λ (r : Row). IsTextOf r text) (sym is) (draft_text k text ends draft filled);
-      cut = draft.cut ∙ ap (λ (r : Row). ends_from 0 (tokens_of r)) (sym is);
-    }
 
 -- more tokens make a text no shorter
 spelled_grows : (x : List ℕ) (xs ys : List (List ℕ)) → length (spelled (x ∷ xs)) ≤ length (spelled ((x ∷ xs) ++ ys))

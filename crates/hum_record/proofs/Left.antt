@@ -385,10 +385,6 @@ parts_are : (text : List ℕ) (row : Row) → IsTextOf row text → 0 < width_of
 parts_are text (Comment comment) h filled = absurd (omega (arith, filled))
 parts_are text (Spined k ts) h filled = ap parts h.0 ∙ again k ts h.1 h.2
 
-most_of : (row : Row) (text : List ℕ) → IsTextOf row text → length text ≤ 1048576
-most_of (Comment comment) text h = h.4
-most_of (Spined k ts) text h = h.3
-
 -- what a record's fields are once the others were dropped
 pub record LeftFields (marks : List Bool) (row : Row) (text ends : List ℕ) : Type 0 where
   pub fields : AreFields text ends
@@ -434,9 +430,6 @@ module _ (row : Row) (text ends : List ℕ) (marks : List Bool) (fields : AreFie
 
   pub ends_wide : length marks ≡ length ends
   ends_wide = wide ∙ sym (ap length ends_are ∙ length-ends_from 0 (tokens_of row))
-
-  pub short_enough : length text ≤ 1048576
-  short_enough = most_of row text is_text
 
   pub retained : (new_text new_ends : List ℕ) → new_text ≡ spelled (chosen marks (parts text))
       → new_ends ≡ ends_from 0 (chosen marks (parts text)) → length new_text ≤ length text

@@ -1,5 +1,5 @@
 -- What a record's fields stand for.
-use Rattle.std.specs.Prelude.{◌≡◌, ◌==◌, ℕ, zero, suc, ◌+◌, List, [], ◌∷◌, length, drop}
+use Rattle.std.specs.Prelude.{◌≡◌, ℕ, zero, suc, ◌+◌, List, [], ◌∷◌, length}
 use Rattle.std.specs.Prelude.{slice_index, if◌then◌else◌}
 use Rattle.hum_record.specs.Row.{Row, Comment, Spined, tokens_of}
 use Rattle.hum_record.specs.Spelling.{IsTextOf, is_comment, kind_of_token, parts}
@@ -14,10 +14,6 @@ ends_from start (token ∷ tokens) =
 abbrev pub begins_at : List ℕ → ℕ → ℕ
 begins_at ends zero = 0
 begins_at ends (suc before) = slice_index ends before + 1
-
--- the parts of a text behind a tab, or none where the text ends there
-abbrev pub parts_after : ℕ → List ℕ → List (List ℕ)
-parts_after end text = if end == length text then [] else parts (drop (end + 1) text)
 
 -- The record of a text: a global comment, or tokens of the kind that the first byte shows.
 abbrev pub row_in : List ℕ → Row

@@ -1,5 +1,5 @@
 //! The places of a byte in a short text, as the bits of a number.
-ghost use Rattle.std.specs.Prelude.{◌≡◌, ◌+◌, ◌-◌, ◌*◌, ◌≤◌, length, take};
+ghost use Rattle.std.specs.Prelude.{◌≡◌, ◌+◌, ◌-◌, ◌*◌, ◌≤◌, length};
 ghost use Rattle.std.specs.Simd.Lanes.{chunk};
 ghost use Rattle.hum_record.specs.Cutting.{bits_of};
 ghost use Rattle.hum_record.specs.Spelling.{has_byte};
@@ -37,17 +37,6 @@ pub fn bits_of_32(text: &[u8], at: usize, byte: u8) -> u64
     u8x32::from_slice(&text[at..])
         .simd_eq(u8x32::splat(byte))
         .to_bitmask()
-}
-
-/// The bits of a byte in the first bytes of a text that is longer: they are found at once.
-#[inline(always)]
-pub fn bits_within(held: &[u8], len: usize, byte: u8) -> u64
-    requires filled { 32 ≤ length held.now }
-    requires short { len ≤ 32 }
-    ensures { result ≡ bits_of byte (take len held.now) }
-{
-    let within = (1u64 << len) - 1;
-    bits_of_32(held, 0, byte) & within
 }
 
 /// The bits of a byte in a text, from those in its first bytes and in as many of its last: the two

@@ -1,5 +1,5 @@
 //! A record in the making.
-ghost use Rattle.std.specs.Prelude.{◌≡◌, ◌≢◌, ℕ, ◌+◌, ◌<◌, ◌≤◌, ◌^◌, [], ◌∷◌, ◌++◌, false, nat_le};
+ghost use Rattle.std.specs.Prelude.{◌≡◌, ◌≢◌, ◌+◌, ◌<◌, ◌≤◌, ◌^◌, [], ◌∷◌, ◌++◌, false, nat_le};
 ghost use Rattle.std.specs.Prelude.{length, IsTrue, Err, OnOk, IfErr};
 ghost use Rattle.std.specs.Prelude.{is_some, true, IfOk, if◌then◌else◌};
 ghost use Rattle.hum_record.specs.Spelling.{IsToken};

@@ -6,7 +6,7 @@
 //! neither). The rules are those of the Humdrum Toolkit's reference manual, in its chapter on the
 //! syntax (<https://www.humdrum.org/guide/ch05/>).
 //!
-//! [`Record::parse`] reads a line, and [`Record::retain`] leaves some of its tokens alone;
+//! [`Record::parse_into`] reads a line, and [`Record::retain`] leaves some of its tokens alone;
 //! [`RecordBuilder`] makes a record token by token; [`Making`] does so where it may grow too long.
 #![tactic(auto)]
 

@@ -13,7 +13,7 @@ ghost use Rattle.hum_record.specs.declared.RecordFault.TheVariants.{Memory};
 use crate::iter::Tokens;
 use crate::leaving::leave;
 use crate::near::{NEAR, copy_near, plain_ends, put_plain_ends};
-use crate::spare::{Body, Spare, new_body};
+use crate::spare::{Body, Spare};
 use crate::tokens::{Cut, lawful_kind, push_ends, token_at_end, token_kind};
 use crate::{Kind, RecordFault};
 use memchr::memchr;
@@ -51,11 +51,7 @@ impl Model for Record {
 impl Record {
     ghost use Rattle.hum_record.specs.Fields.{AreFields, row_in};
 
-    /// Reads the text of one line, without its line end.
-    ///
-    /// The rules are tested in this order, and the first that is broken is the fault:
-    /// [`RecordFault::S8`], and but for a global comment [`RecordFault::S4`], [`RecordFault::S5`]
-    /// and [`RecordFault::S6`]. [`RecordFault::Memory`] comes only where memory was refused.
+    /// Reads the text of one line, without its line end, as [`Record::parse_into`] does.
     pub fn parse(alloc: Global, text: Vec<u8>) -> Result<Record, RecordFault>
         requires at_most { length text.items ≤ 1048576 }
         requires one_line { has_byte 10 text.items ≡ false }
@@ -73,27 +69,17 @@ impl Record {
         // Which fault it is.
         ensures exact { Gives result (reading text.items) }
     {
-        Self::of_text(alloc, text)
+        Self::parse_into(alloc, &mut Spare::none(alloc), &text, text.len())
     }
 
-    /// The same, by what a text is read as.
-    fn of_text(alloc: Global, text: Vec<u8>) -> Result<Record, RecordFault>
-        requires at_most { length text.items ≤ 1048576 }
-        requires one_line { has_byte 10 text.items ≡ false }
-        ensures { Gives result (reading text.items) }
-    {
-        let mut body = new_body(alloc)?;
-        cut(&mut body.ends, &text, text.len())?;
-        body.text = text;
-        Ok(Record { body })
-    }
-
-    /// Reads the first `len` bytes of what is held as [`Record::parse`] reads a text, and copies them
-    /// into what is left of a record that is done with. Where more is held than these, they are
-    /// looked at in pieces of one size.
+    /// Reads the text of one line, without its line end, and copies it into what is left of a
+    /// record that is done with. The text is the first `len` bytes of what is held: where more is
+    /// held, they are looked at in pieces of one size.
     ///
     /// # Errors
-    /// The first rule that the text breaks, or [`RecordFault::Memory`] where memory was refused.
+    /// The rules are tested in this order, and the first that is broken is the fault:
+    /// [`RecordFault::S8`], and but for a global comment [`RecordFault::S4`], [`RecordFault::S5`]
+    /// and [`RecordFault::S6`]. [`RecordFault::Memory`] comes only where memory was refused.
     #[inline]
     pub fn parse_into(
         alloc: Global,
@@ -111,7 +97,7 @@ impl Record {
                 return Self::of_plain(alloc, spare, held, len, ends);
             }
         }
-        Self::of_any(alloc, spare, held, len)
+        Self::of_any(alloc, spare, &held[..len])
     }
 
     /// The same of plain data in a short line, by the bits of where its tokens end.
@@ -137,20 +123,14 @@ impl Record {
 
     /// The same of any text.
     #[inline(never)]
-    fn of_any(
-        alloc: Global,
-        spare: &mut Spare,
-        held: &[u8],
-        len: usize,
-    ) -> Result<Record, RecordFault>
-        requires within { len ≤ length held.now }
-        requires at_most { length (take len held.now) ≤ 1048576 }
-        requires one_line { has_byte 10 (take len held.now) ≡ false }
-        ensures { Gives result (reading (take len held.now)) }
+    fn of_any(alloc: Global, spare: &mut Spare, text: &[u8]) -> Result<Record, RecordFault>
+        requires at_most { length text.now ≤ 1048576 }
+        requires one_line { has_byte 10 text.now ≡ false }
+        ensures { Gives result (reading text.now) }
     {
         let mut body = spare.take_or_new(alloc)?;
-        cut(&mut body.ends, held, len)?;
-        replace_text(&mut body.text, &held[..len])?;
+        cut(&mut body.ends, text)?;
+        replace_text(&mut body.text, text)?;
         Ok(Record { body })
     }
 
@@ -264,24 +244,22 @@ impl Record {
 }
 
 /// Finds where each token of a line ends, into a list that may hold anything, or the first rule that
-/// the line breaks. The line is the first `len` bytes of what is held.
-fn cut(ends: &mut Vec<u32>, held: &[u8], len: usize) -> Result<(), RecordFault>
-    requires within { len ≤ length held.now }
-    requires at_most { length (take len held.now) ≤ 1048576 }
-    requires one_line { has_byte 10 (take len held.now) ≡ false }
-    ensures fields { OnOk result (AreFields (take len held.now) ends.new.items) }
-    ensures read { OnOk result (reading (take len held.now) ≡ Ok (row_in (take len held.now))) }
-    ensures refused { IfErr result (λ fault. Fails fault (reading (take len held.now))) }
+/// the line breaks.
+fn cut(ends: &mut Vec<u32>, text: &[u8]) -> Result<(), RecordFault>
+    requires at_most { length text.now ≤ 1048576 }
+    requires one_line { has_byte 10 text.now ≡ false }
+    ensures fields { OnOk result (AreFields text.now ends.new.items) }
+    ensures read { OnOk result (reading text.now ≡ Ok (row_in text.now)) }
+    ensures refused { IfErr result (λ fault. Fails fault (reading text.now)) }
 {
     ends.clear();
-    let text = &held[..len];
     if is_global(text) {
         if has_return(text) {
             return Err(RecordFault::S8);
         }
         return Ok(());
     }
-    match push_ends(ends, held, len)? {
+    match push_ends(ends, text)? {
         Cut::Plain => {}
         Cut::Whole => {
             lawful_kind(text, ends)?;

@@ -1,16 +1,15 @@
 //! The cut of a line into tokens.
 ghost use Rattle.std.specs.Prelude.{◌≡◌, ◌<◌, ◌≤◌, ◌+◌, ◌^◌, ◌&&◌, [], ◌++◌, length, IfOk, OnOk, true, false};
-ghost use Rattle.std.specs.Prelude.{slice_index, slice_range, take};
+ghost use Rattle.std.specs.Prelude.{slice_index, slice_range};
 ghost use Rattle.std.specs.List.{list_any};
-ghost use Rattle.hum_record.specs.Spelling.{has_byte, kind_of_token, kind_of_tokens, parts};
+ghost use Rattle.hum_record.specs.Spelling.{kind_of_token, kind_of_tokens, parts};
 ghost use Rattle.hum_record.specs.Spelling.{is_comment, same_kind};
 ghost use Rattle.hum_record.specs.declared.SpinedKind.TheVariants.{Local};
 ghost use Rattle.hum_record.specs.Fields.{begins_at, ends_from};
-ghost use Rattle.hum_record.specs.Cutting.{tabs_from, IsCut};
-ghost use Rattle.hum_record.specs.Cutting.{bits_of};
-ghost use Rattle.hum_record.specs.Plain.{has_mark, head_after};
+ghost use Rattle.hum_record.specs.Cutting.{bits_of, tabs_from, IsCut};
+ghost use Rattle.hum_record.specs.Plain.{has_mark};
 
-use crate::bits::{bits_of, bits_within, holds};
+use crate::bits::{bits_of, holds};
 use crate::near::NEAR;
 use crate::{RecordFault, SpinedKind};
 use std::alloc::AllocError;
@@ -38,9 +37,6 @@ pub enum Cut {
 }
 
 /// Adds the place of each tab in a block of a text that begins at a place, by the bits of these.
-///
-/// Most lines of a score are one block and have as many tabs as the line before, so that it can be
-/// foretold how often this loop turns.
 #[inline]
 fn push_tabs(block: &[u8], tabs: u64, start: u32, ends: &mut Vec<u32>) -> Result<(), AllocError>
     requires short { length block.now ≤ 32 }
@@ -77,57 +73,9 @@ fn may_have_mark(block: &[u8], is_head: bool, tabs: u64, bangs: u64, stars: u64)
     has_empty | has_comment | has_interpretation
 }
 
-/// Adds where each token of the first bytes of what is held ends to an empty list, and tells what
-/// these bytes were found to be.
-#[inline]
-pub fn push_ends(ends: &mut Vec<u32>, held: &[u8], len: usize) -> Result<Cut, AllocError>
-    requires within { len ≤ length held.now }
-    requires at_most { length (take len held.now) ≤ 1048576 }
-    requires empty { ends.old.items ≡ [] }
-    ensures { IfOk result (λ cut. IsCut (take len held.now) ends.new.items cut) }
-{
-    if len <= NEAR && held.len() >= NEAR {
-        push_near_ends(ends, held, len)
-    } else {
-        push_all_ends(ends, &held[..len])
-    }
-}
-
-/// The same of a text of one block that as many bytes are held of.
-#[inline]
-fn push_near_ends(ends: &mut Vec<u32>, held: &[u8], len: usize) -> Result<Cut, AllocError>
-    requires short { len ≤ 32 }
-    requires filled { 32 ≤ length held.now }
-    requires empty { ends.old.items ≡ [] }
-    ensures { IfOk result (λ cut. IsCut (take len held.now) ends.new.items cut) }
-{
-    let text = &held[..len];
-    let tabs = bits_within(held, len, b'\t');
-    let bangs = bits_within(held, len, b'!');
-    let stars = bits_within(held, len, b'*');
-    let has_return = bits_within(held, len, b'\r') != 0;
-    let is_odd = may_have_mark(text, true, tabs, bangs, stars) | is_head_behind(text);
-    push_tabs(text, tabs, 0, ends)?;
-    ends.push(len as u32)?;
-    if has_return {
-        return Ok(Cut::Broken);
-    }
-    Ok(if is_odd { Cut::Whole } else { Cut::Plain })
-}
-
-/// Whether a token begins behind a text.
-#[inline]
-fn is_head_behind(text: &[u8]) -> bool
-    ensures { result ≡ head_after true text.now }
-{
-    match text {
-        [] => true,
-        [.., last] => *last == b'\t',
-    }
-}
-
-/// The same of any text, block by block.
-fn push_all_ends(ends: &mut Vec<u32>, text: &[u8]) -> Result<Cut, AllocError>
+/// Adds where each token of a text ends to an empty list, and tells what the text was found to be.
+/// It is looked at block by block.
+pub fn push_ends(ends: &mut Vec<u32>, text: &[u8]) -> Result<Cut, AllocError>
     requires at_most { length text.now ≤ 1048576 }
     requires empty { ends.old.items ≡ [] }
     ensures { IfOk result (λ cut. IsCut text.now ends.new.items cut) }

@@ -1,7 +1,6 @@
 //! The stage round a command that decides each record at once.
 ghost use Rattle.std.specs.Prelude.{◌≡◌, true, length, []};
-ghost use Rattle.hum_stage.specs.Meaning.{Moment, opening, end_of};
-ghost use Rattle.hum_stage.specs.declared.faults.State.TheVariants.{Done};
+ghost use Rattle.hum_stage.specs.Meaning.{Moment, opening};
 ghost use Rattle.hum_stage.specs.Decided.{at_once};
 ghost use Rattle.hum_stage.specs.Standing.{Standing};
 
@@ -9,7 +8,7 @@ use crate::MOST_RECORDS;
 use crate::contract::Stage;
 use crate::deciding::Decides;
 use crate::due::Due;
-use crate::faults::{Command, End, Fault, Readiness, Rule, State};
+use crate::faults::{Command, End, Fault, Readiness, Rule, State, resting};
 use hum_record::Record;
 use std::alloc::{AllocError, Global};
 
@@ -95,23 +94,6 @@ impl<C: Decides> AtOnce<C> {
     }
 }
 
-// Were this inlined, every state of a stage would be put together from pieces as small as a fault's
-// fields.
-
-/// What a stage is ready for that has given all, behind such an end.
-#[inline(never)]
-fn done(end: End, own: Option<Fault>) -> State
-    ensures { result ≡ Done (end_of end own) }
-{
-    match end {
-        End::Broken(fault) => State::Done(End::Broken(fault)),
-        End::Closed => match own {
-            None => State::Done(End::Closed),
-            Some(fault) => State::Done(End::Broken(fault)),
-        },
-    }
-}
-
 impl<C: Decides> Stage for AtOnce<C> {
     ghost stands = { λ s t. Standing (C.follows s.memory) (record {
       stage = s.stage;
@@ -176,10 +158,7 @@ impl<C: Decides> Stage for AtOnce<C> {
         if !self.due.is_empty() {
             return State::Gives;
         }
-        match self.ended {
-            None => State::Wants,
-            Some(end) => done(end, self.fault),
-        }
+        resting(self.ended, self.fault)
     }
 
     fn readiness(&self) -> Readiness {

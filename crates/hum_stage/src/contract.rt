@@ -71,6 +71,7 @@ pub trait Stage {
     /// No more was given than is settled.
     ghost within: { (s : Self) (t : Moment) → stands s t → t.given ≤ length (all_of t) };
 
-    /// The command keeps what it has settled, and decides of each record by itself.
+    /// What the command has settled stays, whatever follows; in a closed score it decides each record,
+    /// and it never waits for more records than it may.
     ghost lawful: { (s : Self) (t : Moment) → stands s t → IsLawful t.meaning };
 }

@@ -1,13 +1,13 @@
 //! The stage round a command whose records wait for later ones.
 ghost use Rattle.std.specs.Prelude.{◌≡◌, ◌-◌, true};
 ghost use Rattle.std.specs.VecDeque.{deque_len};
-ghost use Rattle.hum_stage.specs.Meaning.{Moment, opening, resting_state};
+ghost use Rattle.hum_stage.specs.Meaning.{Moment, opening};
 ghost use Rattle.hum_stage.specs.Look.{looking};
 ghost use Rattle.hum_stage.specs.Lagging.{Lags};
 ghost use Rattle.hum_stage.specs.Settles.{with_due};
 
 use crate::contract::Stage;
-use crate::faults::{Command, End, Fault, Readiness, Rule, State};
+use crate::faults::{Command, End, Fault, Readiness, Rule, State, resting};
 use crate::looks_ahead::LooksAhead;
 use crate::settling::settle_next;
 use hum_record::Record;
@@ -102,20 +102,6 @@ impl<C: LooksAhead> Lagging<C> {
             line: self.line.saturating_sub(behind),
             rule,
         });
-    }
-}
-
-/// What a stage with nothing to give is ready for.
-fn resting(ended: Option<End>, own: Option<Fault>) -> State
-    ensures { result ≡ resting_state own ended }
-{
-    match ended {
-        None => State::Wants,
-        Some(End::Broken(fault)) => State::Done(End::Broken(fault)),
-        Some(End::Closed) => match own {
-            None => State::Done(End::Closed),
-            Some(fault) => State::Done(End::Broken(fault)),
-        },
     }
 }
 

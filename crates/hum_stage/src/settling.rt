@@ -15,7 +15,6 @@ const ROOM: usize = 65_536;
 /// Lets the first records that wait go, up to one that becomes a record, and answers that record; none
 /// where no more wait or the next is undecided; or the rule by which the next is refused, H1
 /// where it is undecided with 65,536 behind it.
-#[inline]
 pub fn settle_next<C: LooksAhead>(
     memory: &mut C,
     waiting: &mut VecDeque<C::Held>,

@@ -5,15 +5,18 @@ use std::process::Abort;
 
 /// Lines, and what their words ask for: how many records a link holds, the order and the file.
 const LINES: &[(&str, &str)] = &[
-    ("humpipe", "16 left -"),
+    ("humpipe", "16 left none"),
     ("humpipe tune.hpl", "16 left tune.hpl"),
-    ("humpipe --link 1", "1 left -"),
+    ("humpipe --link 1", "1 left none"),
     ("humpipe --link 4096 tune.hpl", "4096 left tune.hpl"),
     (
         "humpipe tune.hpl --order right --link 7",
         "7 right tune.hpl",
     ),
-    ("humpipe --order left", "16 left -"),
+    ("humpipe --order left", "16 left none"),
+    ("humpipe --link=7", "7 left none"),
+    ("humpipe -", "16 left -"),
+    ("humpipe ./-x", "16 left ./-x"),
     ("humpipe -- --link", "16 left --link"),
     ("humpipe --link 0", "usage"),
     ("humpipe --link 4097", "usage"),
@@ -51,7 +54,7 @@ fn shown(rt: &impl Abort, alloc: Global, words: &[String]) -> String {
                 Side::Left => "left",
                 Side::Right => "right",
             };
-            let file = choice.file.unwrap_or("-");
+            let file = choice.file.unwrap_or("none");
             format!(in alloc; "{link} {order} {file}").expect(rt, "memory")
         }
         Err(LineFault::Usage) => String::from_str(alloc, "usage").expect(rt, "memory"),

@@ -2,7 +2,7 @@
 ghost use Rattle.std.specs.Prelude.{◌≡◌, ◌≤◌, [], length};
 
 use crate::record::read;
-use hum_path::{Carried, ColumnMemory, Move, Moves, Origins, PathFault, Paths};
+use hum_path::{Carried, ColumnMemory, Move, Moves, PathFault, Paths};
 use hum_record::{Record, RecordBuilder, SpinedKind};
 use std::alloc::{AllocError, Global};
 use std::marker::Model;
@@ -218,26 +218,17 @@ fn check_nearest(rt: &impl Abort, carried: &Carried<Nearest>, want: &[&'static [
     }
 }
 
-fn check_origins(rt: &impl Abort, origins: &Origins, want: &[u16]) {
-    assert_eq!(rt; origins.width(), want.len());
-    for (i, origin) in want.iter().enumerate() {
-        if i < origins.width() {
-            assert_eq!(rt; origins.at(i), *origin, "spine {i}");
-        }
-    }
-}
-
-/// A record, the nearest cell above each spine after it, and its opening spine.
-const REMEMBERED: &[(&[u8], &[&[u8]], &[u16])] = &[
-    (b"!!c", &[], &[]),
-    (b"**x\t**y", &[b"**x", b"**y"], &[0, 1]),
-    (b"*x\t*x", &[b"*x", b"*x"], &[1, 0]),
-    (b"a\tb", &[b"a", b"b"], &[1, 0]),
-    (b"*^\t*I", &[b"*^", b"*^", b"*I"], &[1, 1, 0]),
-    (b"c\td\te", &[b"c", b"d", b"e"], &[1, 1, 0]),
-    (b"*\t*\t*M", &[b"*", b"*", b"*M"], &[1, 1, 0]),
-    (b"*v\t*v\t*+", &[b"*v", b"*+", b""], &[1, 0, 0]),
-    (b"*\t*\t**z", &[b"*", b"*", b"**z"], &[1, 0, 0]),
+/// A record, and the nearest cell above each spine after it.
+const REMEMBERED: &[(&[u8], &[&[u8]])] = &[
+    (b"!!c", &[]),
+    (b"**x\t**y", &[b"**x", b"**y"]),
+    (b"*x\t*x", &[b"*x", b"*x"]),
+    (b"a\tb", &[b"a", b"b"]),
+    (b"*^\t*I", &[b"*^", b"*^", b"*I"]),
+    (b"c\td\te", &[b"c", b"d", b"e"]),
+    (b"*\t*\t*M", &[b"*", b"*", b"*M"]),
+    (b"*v\t*v\t*+", &[b"*v", b"*+", b""]),
+    (b"*\t*\t**z", &[b"*", b"*", b"**z"]),
 ];
 
 #[test]
@@ -245,14 +236,11 @@ fn remembers_columns(rt: HostRuntime) {
     let alloc = rt.alloc();
     let mut paths = Paths::new(alloc);
     let mut carried = Carried::new(alloc);
-    let mut origins = Origins::new(alloc);
     for line in REMEMBERED {
-        let (text, nearest, opening) = *line;
+        let (text, nearest) = *line;
         let row = read(&rt, alloc, text);
         let found = paths.step(&row).expect(&rt, "moves");
         carried.follow(&mut (), &row, &found).expect(&rt, "memory");
-        origins.follow(&row, &found).expect(&rt, "memory");
         check_nearest(&rt, &carried, nearest);
-        check_origins(&rt, &origins, opening);
     }
 }

@@ -98,11 +98,13 @@ const LEFT: &[(bool, bool, &str)] = &[(true, false, "d4"), (false, true, "-4"), 
 #[test]
 fn leaves_out_direction_and_quality(rt: HostRuntime) {
     let fourth = interval(at((E, 4, -1)), at((B, 3, 0)));
-    assert_eq!(rt; fourth.d, -3);
-    assert_eq!(rt; fourth.s, -4);
+    assert_eq!(rt; fourth.steps, -3);
+    assert_eq!(rt; fourth.semitones, -4);
     for row in LEFT {
-        let (signless, sizeonly, left) = *row;
-        let text = write_interval(rt.alloc(), fourth, signless, sizeonly).expect(&rt, "memory");
+        let (without_direction, without_quality, left) = *row;
+        let text = write_interval(rt.alloc(), fourth, without_direction, without_quality).expect(
+            &rt, "memory",
+        );
         assert_eq!(rt; text.as_slice(), left.as_bytes());
     }
 }

@@ -18,21 +18,6 @@ fn a_run_ends_by_what_the_sink_has_heard(rt: HostRuntime) {
 }
 
 #[test]
-fn failures_are_no_faults(rt: HostRuntime) {
-    let fault = Fault {
-        stage: 1,
-        command: Command::Read,
-        line: 900,
-        rule: Rule::S1,
-    };
-    assert!(rt; !RunResult::Finished.is_failure());
-    assert!(rt; !RunResult::Fault(fault).is_failure());
-    assert!(rt; RunResult::Read(1).is_failure());
-    assert!(rt; RunResult::Write.is_failure());
-    assert!(rt; RunResult::Memory.is_failure());
-}
-
-#[test]
 fn a_pick_that_is_not_ready_counts_as_the_leftmost(rt: HostRuntime) {
     let ready = [false, true, false, true];
     for (pick, chosen) in [

@@ -1,10 +1,10 @@
--- The line before the first LF is given where it breaks no rule, and where it breaks one there is none to give.
-use Rattle.std.proofs.Common.{◌≡◌, ℕ, ◌+◌, ◌<◌, ◌≤◌, List, [], ◌∷◌, ◌++◌, inl, inr, length, length-drop, take, drop, refl, ap, sym, subst, arith, None, Some}
-use Rattle.std.proofs.lemmas.Bool.{cases_lt, eqb-true}
+-- The line before the first LF is given where it breaks no rule.
+use Rattle.std.proofs.Common.{◌≡◌, ℕ, ◌+◌, ◌<◌, ◌≤◌, length, length-drop, take, drop, refl, ap, sym, subst, arith, None, Some}
+use Rattle.std.proofs.lemmas.Bool.{eqb-true}
 use Rattle.memchr.specs.Find.{IsFirstByte, is_byte}
 use Rattle.hum_text.specs.Text.{without_cr, IsLawful}
-use Rattle.hum_text.specs.Reading.{Reader, HasNextLine, GivesLine}
-use Rattle.hum_text.proofs.ReadingLemmas.{first-free, to-line, given_of, gives-line, whole-given, drop-all, length-drop_le}
+use Rattle.hum_text.specs.Reading.{Reader, GivesLine}
+use Rattle.hum_text.proofs.ReadingLemmas.{given_of, gives-line, whole-given, drop-all, length-drop_le}
 use Rattle.hum_text.proofs.LimitLemmas.{whole-short, whole-free}
 
 pub given-line : {R : Type 0} (v w : Reader R) (k : ℕ) → v.fault ≡ None → IsFirstByte (is_byte 10) v.pending (Some k)
@@ -30,21 +30,3 @@ given-line {R} v w k sound first lawful records bytes is =
       limits = refl;
       taken = bytes;
     })
-
-first-once : (xs : List ℕ) (j k : ℕ) → IsFirstByte (is_byte 10) xs (Some j) → IsFirstByte (is_byte 10) xs (Some k) → j ≡ k
-first-once xs j k one other = elim (cases_lt j k) as (λ _. j ≡ k) [
-  | inl below ↦ absurd (first-free xs k other j below (eqb-true _ 10 one.1))
-  | inr from ↦ elim (cases_lt k j) as (λ _. j ≡ k) [
-    | inl below ↦ absurd (first-free xs j one k below (eqb-true _ 10 other.1))
-    | inr to ↦ omega (arith, from, to)
-  ]
-]
-
--- where the line before the first LF breaks a rule, none is there
-pub no-line-at : {R : Type 0} (v : Reader R) (k : ℕ) → IsFirstByte (is_byte 10) v.pending (Some k)
-    → (IsLawful v.limits (v.given + 1) v.taken (take k v.pending ++ 10 ∷ []) → ⊥) → HasNextLine v → ⊥
-no-line-at v k first unlawful has =
-    let same : has.place ≡ k = first-once v.pending has.place k has.first first in
-    let Lawful : List ℕ → Type 0 = λ held. IsLawful v.limits (v.given + 1) v.taken held in
-    let here : Lawful (take (k + 1) v.pending) = subst (λ (m : ℕ). Lawful (take (m + 1) v.pending)) same has.lawful in
-    unlawful (subst Lawful (sym (to-line v.pending k first)) here)

@@ -132,14 +132,6 @@ last-ten : (xs : List ℕ) → (get_or (xs ++ 10 ∷ []) (length xs) 0 == 10) �
 last-ten [] = refl
 last-ten (x ∷ xs) = last-ten xs
 
--- a line that LF ends and that breaks no rule is within the limits
-pub lawful-line : (l : Limits) (n t : ℕ) (piece : List ℕ) → IsLawful l n t (piece ++ 10 ∷ []) → Fits l n piece true (t + (length piece + 1))
-lawful-line l n t piece lawful =
-    let size : length (piece ++ 10 ∷ []) ≡ length piece + 1 = omega (arith, length-append piece (10 ∷ [])) in
-    let here : rule_of_line l n t (piece ++ 10 ∷ []) (length piece) ≡ None = lawful (length piece) (omega (arith, size)) in
-    let front : take (length piece) (piece ++ 10 ∷ []) ≡ piece = take_at piece (10 ∷ []) (length piece) refl in
-    fits l n piece true (t + (length piece + 1)) (rw (last-ten piece, front) at here)
-
 -- a line that LF ends breaks no rule where its length, its number and its end are within the limits
 pub line-lawful : (l : Limits) (n t : ℕ) (piece : List ℕ) → NoLf piece → 0 < length (without_cr piece) → length (without_cr piece) ≤ l.line
     → n ≤ l.records → t + (length piece + 1) ≤ l.bytes → IsLawful l n t (piece ++ 10 ∷ [])

@@ -1,9 +1,9 @@
 -- The first LF, found by the bits of the first bytes.
-use Rattle.std.proofs.Common.{◌≡◌, ℕ, ◌+◌, ◌<◌, ◌≤◌, Bool, true, false, not, List, [], ◌∷◌, length, map, refl, sym, ap, ◌∙◌, arith, Some, get_or}
+use Rattle.std.proofs.Common.{◌≡◌, ℕ, ◌+◌, ◌<◌, ◌≤◌, Bool, true, false, not, List, [], ◌∷◌, length, map, refl, ap, ◌∙◌, arith, Some, get_or}
 use Rattle.std.specs.List.{prefix_len}
 use Rattle.std.specs.Simd.Lanes.{chunk, mask_l}
 use Rattle.std.specs.Int.Count.{count_trailing_zeros}
-use Rattle.std.proofs.lemmas.Simd.{length-chunk, leading_from_mask_l, trailing_mask_l, run_in_chunk_fails, run_in_chunk_stops}
+use Rattle.std.proofs.lemmas.Simd.{length-chunk, trailing_mask_l, run_in_chunk_fails, run_in_chunk_stops}
 use Rattle.memchr.specs.Find.{IsFirstByte, is_byte}
 
 -- where some byte passes, fewer than all come before the first
@@ -35,12 +35,3 @@ first-near xs bits r room is some at =
       },
       ap (λ n. is_byte 10 (get_or xs n 0)) at_r ∙ run_in_chunk_stops (is_byte 10) xs 0 32 r 0 room counted near,
     )
-
-pub none-near : (xs : List ℕ) (bits : ℕ) → 32 ≤ length xs → bits ≡ mask_l (map (is_byte 10) (chunk 0 32 xs)) → bits ≡ 0
-    → (k : ℕ) → k < 32 → get_or xs k 0 ≡ 10 → ⊥
-none-near xs bits room is zero k near ten =
-    let size : length (chunk 0 32 xs) ≡ 32 = length-chunk 0 32 xs room in
-    let counted : 32 ≡ prefix_len (λ x. not (is_byte 10 x)) (chunk 0 32 xs) =
-    sym size ∙ sym (leading_from_mask_l (is_byte 10) (chunk 0 32 xs) (sym is ∙ zero)) in
-    let no : is_byte 10 (get_or xs k 0) ≡ false = run_in_chunk_fails (is_byte 10) xs 0 32 32 0 room counted k (omega arith) (omega (arith, near)) in
-    let yes : is_byte 10 (get_or xs k 0) ≡ true = ap (is_byte 10) ten in cc

@@ -1,11 +1,10 @@
 -- What a reader of lines shows, what it stands for, and what a poll does.
 use Rattle.std.specs.Prelude.{◌≡◌, ◌≢◌, ℕ, ◌+◌, ◌-◌, ◌*◌, ◌<◌, ◌≤◌}
 use Rattle.std.specs.Prelude.{◌==◌, ◌⊎◌, Bool, true, false}
-use Rattle.std.specs.Prelude.{List, [], ◌∷◌, ◌++◌, length, take, slice_index}
+use Rattle.std.specs.Prelude.{List, [], ◌∷◌, ◌++◌, length, slice_index}
 use Rattle.std.specs.Prelude.{Option, None, Some, Result, Ok, Err}
 use Rattle.std.specs.Io.{appended_bytes}
 use Rattle.std.specs.List.{list_any}
-use Rattle.memchr.specs.Find.{IsFirstByte, is_byte}
 use Rattle.hum_text.specs.declared.Limits.{Limits}
 use Rattle.hum_text.specs.declared.TextFault.{TextFault}
 use Rattle.hum_text.specs.declared.TextFault.TheVariants.{Read, Memory}
@@ -105,13 +104,12 @@ IsRead calls failed old new failure end =
     IsCalled calls failed old.source new.source failure × (new.ended ≡ end)
 
 -- What a poll made of the read that it needs. It gave bytes, it failed, or it gave none and so the
--- end is marked. Where memory ran out, it was before the read or after the end.
+-- end is marked. Where memory ran out, it was before the read.
 abbrev pub ReadsOnce : {R : Type 0} → (R → ℕ) → (R → Bool) → Reader R → Result Step TextFault
     → Reader R → Type 0
 ReadsOnce calls failed old (Ok More) new = IsRead calls failed old new false false
 ReadsOnce calls failed old (Err Read) new = IsRead calls failed old new true false
-ReadsOnce calls failed old (Err Memory) new =
-    IsUnread old new ⊎ IsRead calls failed old new false true
+ReadsOnce calls failed old (Err Memory) new = IsUnread old new
 ReadsOnce calls failed old _ new = IsRead calls failed old new false true
 
 -- The read that a poll needs gave bytes, and they stand behind those that were pending.
@@ -157,12 +155,6 @@ abbrev pub Nears : Step → ℕ → ℕ → Type 0
 Nears End old new = Unit {0}
 Nears More old new = new < old
 Nears Line old new = new < old
-
--- The next line is there: its LF is pending, and no byte up to it breaks a rule.
-pub record HasNextLine {R : Type 0} (v : Reader R) : Type 0 where
-  pub place : ℕ
-  pub first : IsFirstByte (is_byte lf) v.pending (Some place)
-  pub lawful : IsLawful v.limits (v.given + 1) v.taken (take (place + 1) v.pending)
 
 -- The next line was handed out. Its LF was pending, so no read was needed, and none was made.
 pub record GivesLine {R : Type 0} (old new : Reader R) : Type 0 where

@@ -26,10 +26,10 @@ pub enum TextFault {
     /// More bytes than `Limits::bytes`.
     #[error("S7")]
     S7,
-    /// The source failed, were it only interrupted.
+    /// The source failed, even if it was only interrupted.
     #[error("read failed")]
     Read,
-    /// There was no memory for a line or for what is read.
+    /// There was no memory for what is read.
     #[error("out of memory")]
     Memory,
 }

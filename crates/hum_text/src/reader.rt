@@ -72,7 +72,7 @@ impl<R: Source> LineReader<R> {
     ghost use Rattle.hum_text.specs.Reading.{opening, Holds, GivesNext, bytes_read};
     ghost use Rattle.hum_text.specs.Reading.{NeedsRead, ReadsOnce, IsUnread, IsFed};
     ghost use Rattle.hum_text.specs.Reading.{IsOver, KeepsLimits, Fails, left_to_do, Nears};
-    ghost use Rattle.hum_text.specs.Reading.{HasNextLine, GivesLine};
+    ghost use Rattle.hum_text.specs.Reading.{GivesLine};
 
     /// The reader of a source of which nothing was read yet.
     pub fn new(alloc: Global, source: R, limits: Limits) -> LineReader<R>
@@ -90,8 +90,8 @@ impl<R: Source> LineReader<R> {
         }
     }
 
-    /// The line that the last call gave, by [`LineReader::poll`] or [`LineReader::next_line`], without
-    /// its line end; where it gave none, what this shows is of no use.
+    /// The line that the last poll gave, without its line end; where it gave none, what this shows is
+    /// of no use.
     #[inline]
     pub fn line(&self) -> &[u8]
         ensures { result.now ≡ self.now.line }
@@ -189,7 +189,6 @@ impl<R: Source> LineReader<R> {
         requires sound { self.old.fault ≡ None }
         requires first { IsFirstByte (is_byte lf) self.old.pending (Some k) }
         ensures line { result ≡ true → GivesLine self.old self.new }
-        ensures none { result ≡ false → ¬ HasNextLine self.old }
         ensures same { result ≡ false → self.new ≡ self.old }
     {
         let piece = &self.block.pending()[..k];
@@ -213,6 +212,7 @@ impl<R: Source> LineReader<R> {
         ensures unread { IsUnread self.old self.new }
         ensures not_more { result ≢ Ok Step.More }
         ensures not_read { result ≢ Err TextFault.Read }
+        ensures not_memory { result ≢ Err TextFault.Memory }
         ensures sound { OnOk result (self.new.fault ≡ None) }
         ensures err { IfErr result (Fails self.old self.new) }
         ensures nears { IfOk result
@@ -243,6 +243,7 @@ impl<R: Source> LineReader<R> {
         ensures unread { IsUnread self.old self.new }
         ensures not_more { result ≢ Ok Step.More }
         ensures not_read { result ≢ Err TextFault.Read }
+        ensures not_memory { result ≢ Err TextFault.Memory }
         ensures sound { OnOk result (self.new.fault ≡ None) }
         ensures err { IfErr result (Fails self.old self.new) }
         ensures nears { IfOk result
@@ -286,6 +287,7 @@ impl<R: Source> LineReader<R> {
             (bytes_read self.old self.new) }
         ensures at_end { self.new.ended ≡ true → IsAtEnd (R.remaining self.new.source) }
         ensures failed { result ≡ Err TextFault.Read → R.failed self.new.source ≡ true }
+        ensures memory { result ≡ Err TextFault.Memory → NeedsRead self.old }
         ensures end { result ≡ Ok Step.End → IsOver self.new }
         ensures sound { OnOk result (self.new.fault ≡ None) }
         ensures err { IfErr result (Fails self.old self.new) }
@@ -307,13 +309,12 @@ impl<R: Source> LineReader<R> {
         }
     }
 
-    /// Hands out the next line, if it was read to its end and breaks no rule, and tells whether it
-    /// did. Where it didn't, nothing has changed.
+    // Hands out the next line, if it was read to its end and breaks no rule, and tells whether it
+    // did. Where it didn't, nothing has changed.
     #[inline]
-    pub fn next_line(&mut self) -> bool
+    fn next_line(&mut self) -> bool
         requires sound { self.old.fault ≡ None }
         ensures line { result ≡ true → GivesLine self.old self.new }
-        ensures none { result ≡ false → ¬ HasNextLine self.old }
         ensures same { result ≡ false → self.new ≡ self.old }
     {
         match near_lf(self.block.pending()) {
@@ -327,7 +328,6 @@ impl<R: Source> LineReader<R> {
     fn far_line(&mut self) -> bool
         requires sound { self.old.fault ≡ None }
         ensures line { result ≡ true → GivesLine self.old self.new }
-        ensures none { result ≡ false → ¬ HasNextLine self.old }
         ensures same { result ≡ false → self.new ≡ self.old }
     {
         let Some(k) = self.block.find_line_end() else {
@@ -356,6 +356,10 @@ impl<R: Source> LineReader<R> {
             → (self.old.ended ≡ true) ⊎ IsAtEnd (R.remaining self.new.source) }
         ensures failed { result ≡ Err TextFault.Read
             → (self.old.fault ≡ Some TextFault.Read) ⊎ (R.failed self.new.source ≡ true) }
+
+        // Only a read takes memory.
+        ensures memory { result ≡ Err TextFault.Memory
+            → (self.old.fault ≡ Some TextFault.Memory) ⊎ NeedsRead self.old }
 
         // A line keeps to the limits.
         ensures within { IfOk result

@@ -83,8 +83,6 @@ pub fn sound_len(limits: &Limits, given: u64, taken: u64, piece: &[u8]) -> Optio
     ensures len { IfSome result (λ len. len ≡ length (without_cr piece.now)) }
     ensures records { IfSome result (λ _. given < limits.now.records) }
     ensures bytes { IfSome result (λ _. taken + (length piece.now + 1) ≤ limits.now.bytes) }
-    ensures none { IfNone result
-        (¬ IsLawful limits.now (given + 1) taken (piece.now ++ lf ∷ [])) }
 {
     let len = strip_cr(piece).len();
     if len == 0 || len > limits.line as usize {

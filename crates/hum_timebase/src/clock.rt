@@ -19,12 +19,11 @@ fn multiples_from(a: Frac, b: Frac, step: Frac) -> u128
     ensures count { result ≡ multiples_from a b step }
     ensures below { result < 2 ^ 127 + 1 }
 {
-    let first = if a.is_before(b) && a.is_multiple(step) {
-        1
-    } else {
-        0
-    };
-    first + a.multiples_between(b, step)
+    if !a.is_before(b) {
+        return 0;
+    }
+    let (on_grid, count) = a.multiples_to(b, step);
+    if on_grid { count + 1 } else { count }
 }
 
 /// How many from the least end after the last timed record to the time of this one.

@@ -1,6 +1,6 @@
 //! How a run ends.
-ghost use Rattle.std.specs.Prelude.{◌≡◌, ◌↔◌, IsTrue};
-ghost use Rattle.hum_turns.specs.Failures.{result_of, IsFailure};
+ghost use Rattle.std.specs.Prelude.{◌≡◌};
+ghost use Rattle.hum_turns.specs.Failures.{result_of};
 
 use hum_stage::{End, Fault};
 
@@ -27,19 +27,6 @@ impl RunResult {
         match end {
             End::Closed => RunResult::Finished,
             End::Broken(fault) => RunResult::Fault(fault),
-        }
-    }
-
-    /// Whether a read, a write or want of memory ended the run, before the sink heard its end.
-    pub fn is_failure(self) -> bool
-        ensures { IsTrue result ↔ IsFailure self }
-    {
-        match self {
-            RunResult::Finished => false,
-            RunResult::Fault(_) => false,
-            RunResult::Read(_) => true,
-            RunResult::Write => true,
-            RunResult::Memory => true,
         }
     }
 }

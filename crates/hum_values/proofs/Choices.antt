@@ -1,7 +1,8 @@
 -- What an answer tells of the choices behind it.
-use Rattle.std.proofs.Common.{◌≡◌, refl, sym, ◌∙◌, Bool, true, false, None, Some, Option, Result, Ok, Err}
+use Rattle.std.proofs.Common.{◌≡◌, refl, sym, ap, ◌∙◌, Bool, true, false, None, Some, Option, Result, Ok, Err, List, map}
 use Rattle.std.specs.Prelude.{if◌then◌else◌, IfSome, IfOk}
 use Rattle.std.specs.Option.{option_map}
+use Rattle.std.proofs.lemmas.List.{map-id}
 
 -- some answer of a choice against none is that of its first branch
 pub chosen : {A : Type 0} (b : Bool) (o : Option A) (y : A) → (if b then o else None) ≡ Some y
@@ -36,3 +37,10 @@ pub IfOk_alone : {A B E : Type 0} (P : B → Type 0) (f : A → B) (r : Result (
     → IfOk r (λ o. (x : B) → P x → option_map f o ≡ Some x)
 IfOk_alone P f (Ok o) read was h = λ x holds. was ∙ h x holds
 IfOk_alone P f (Err e) read was h = tt
+
+-- the same, where contracts see the values as they are
+pub IfOk_as_is : {A B E : Type 0} (f : A → List B) (r : Result (Option A) E) (read : Option (List B))
+    → IfOk r (λ o. option_map (λ x. map (λ y. y) (f x)) o ≡ read) → IfOk r (λ o. option_map f o ≡ read)
+IfOk_as_is f (Ok None) read is = is
+IfOk_as_is f (Ok (Some x)) read is = ap (λ (ys : List _). Some ys) (sym (map-id (f x))) ∙ is
+IfOk_as_is f (Err e) read is = tt

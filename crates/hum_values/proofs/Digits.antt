@@ -1,6 +1,6 @@
 -- Numbers and their digits.
 use Rattle.std.proofs.Common.{◌≡◌, ◌<◌, ◌≤◌, ◌+◌, ◌-◌, ◌*◌, ◌^◌, ◌==◌, ◌&&◌, refl, ap, sym, ◌∙◌, ℕ, zero, suc, Bool, true, false}
-use Rattle.std.proofs.Common.{List, [], ◌∷◌, ◌++◌, length, drop, drop-cons, get_or, arith, rules, None, Some, Option}
+use Rattle.std.proofs.Common.{List, [], ◌∷◌, ◌++◌, length, drop, drop-cons, get_or, arith, None, Some, Option}
 use Rattle.std.specs.Prelude.{if◌then◌else◌, nat_le, decimal}
 use Rattle.std.specs.Str.{all_ascii_digits, bytes_eq}
 use lib.Chars.{codes}
@@ -8,37 +8,30 @@ use Rattle.std.specs.Char.{is_ascii_digit}
 use Rattle.std.proofs.lemmas.Bool.{and_parts, and_right, leb-true, le-leb, lt-leb, or_from, or_parts}
 use Rattle.std.proofs.lemmas.Bool.Decides.{nat_tests}
 use Rattle.std.proofs.lemmas.Fmt.{decimal_digit, decimal_nonempty, first_decimal, digits_decimal, digits_value-decimal, decimal-digits_value}
-use Rattle.std.proofs.lemmas.Str.Parse.{IsNumeralModel, numerals_by_fold}
+use Rattle.hum_kern.specs.Value.{number_from}
+use Rattle.hum_kern.proofs.Decimals.{own}
+use Rattle.hum_kern.proofs.Laws.{number_from-le}
 use Rattle.hum_record.specs.Spelling.{has_byte}
-use Rattle.hum_values.specs.Numbers.{IsNumber, IsPositive, value_of, is_plain, digits_of, number_of, positive_of, above_zero}
+use Rattle.hum_values.specs.Numbers.{IsNumber, IsPositive, is_plain, digits_of, number_of, positive_of, above_zero}
 use Rattle.hum_values.proofs.Choices.{chosen}
-
--- more digits make it no less
-pub value_grows : (n : ℕ) (digits : List ℕ) → n ≤ value_of n digits
-value_grows n [] = omega arith
-value_grows n (digit ∷ digits) =
-    let more = value_grows (10 * n + (digit - 48)) digits in omega (arith, more)
 
 without : {A : Type 0} (x y : Bool) (o p : A) → y ≡ false → p ≡ (if x && y then o else p)
 without x y o p none = rw (and_right x y none) refl
 
 -- a number that is too great
-too_great : (most : ℕ) (text : List ℕ) → most < value_of 0 text → None ≡ digits_of most text
-too_great most text over = without (all_ascii_digits text) (nat_le (value_of 0 text) most)
-    (Some (value_of 0 text)) None (lt-leb _ _ over)
+too_great : (most : ℕ) (text : List ℕ) → most < number_from 0 text → None ≡ digits_of most text
+too_great most text over = without (all_ascii_digits text) (nat_le (number_from 0 text) most)
+    (Some (number_from 0 text)) None (lt-leb _ _ over)
 
 -- one digit more makes it too great, and others don't help
 pub goes_over : (most n : ℕ) (text : List ℕ) (i : ℕ) → i < length text
-    → value_of n (drop i text) ≡ value_of 0 text → most < 10 * n + (get_or text i 0 - 48)
+    → number_from n (drop i text) ≡ number_from 0 text → most < 10 * n + (get_or text i 0 - 48)
     → None ≡ digits_of most text
 goes_over most n text i within is over =
     let next : drop i text ≡ get_or text i 0 ∷ drop (suc i) text = drop-cons text i 0 within in
-    let more = value_grows (10 * n + (get_or text i 0 - 48)) (drop (suc i) text) in
-    let same : value_of n (get_or text i 0 ∷ drop (suc i) text) ≡ value_of 0 text = rw next at is in
+    let more = number_from-le (10 * n + (get_or text i 0 - 48)) (drop (suc i) text) in
+    let same : number_from n (get_or text i 0 ∷ drop (suc i) text) ≡ number_from 0 text = rw next at is in
     too_great most text (omega (arith, over, more, same))
-
-pub own : IsNumeralModel (λ ds. all_ascii_digits ds ≡ true) (value_of 0)
-own = numerals_by_fold _ (search rules) value_of (search rules)
 
 record IsPlain (text : List ℕ) : Type 0 where
   filled : 0 < length text
@@ -61,12 +54,12 @@ plain_from (b ∷ text) filled above =
 pub number_is : (most : ℕ) (text : List ℕ) (n : ℕ) → most < 2 ^ 64 → number_of most text ≡ Some n → IsNumber most text n
 number_is most text n small e =
     let plain = chosen (is_plain text) (digits_of most text) n e in
-    let read = chosen (all_ascii_digits text && nat_le (value_of 0 text) most) (Some (value_of 0 text)) n plain.1 in
-    let tests = and_parts (all_ascii_digits text) (nat_le (value_of 0 text) most) read.0 in
-    let value : value_of 0 text ≡ n = cc in
+    let read = chosen (all_ascii_digits text && nat_le (number_from 0 text) most) (Some (number_from 0 text)) n plain.1 in
+    let tests = and_parts (all_ascii_digits text) (nat_le (number_from 0 text) most) read.0 in
+    let value : number_from 0 text ≡ n = cc in
     let parts = plain_is text plain.0 in
-    let within : value_of 0 text ≤ most = leb-true _ _ tests.1 in
-    let fits : value_of 0 text < 2 ^ 64 = omega (arith, within, small) in
+    let within : number_from 0 text ≤ most = leb-true _ _ tests.1 in
+    let fits : number_from 0 text < 2 ^ 64 = omega (arith, within, small) in
     record {
       digits = sym (decimal-digits_value own text tests.0 parts.filled parts.first fits) ∙ ap decimal value;
       within = omega (arith, within, value);

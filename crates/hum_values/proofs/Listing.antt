@@ -1,22 +1,15 @@
 -- Items between commas.
-use Rattle.std.proofs.Common.{◌≡◌, ◌<◌, ◌≤◌, ◌+◌, ◌==◌, drop, drop-cons, get_or, add-one, refl, ap, sym, ◌∙◌, subst, ℕ, suc, Bool, true, false}
-use Rattle.std.proofs.Common.{List, [], ◌∷◌, ◌++◌, length, arith, None, Some, Option, append_assoc, length-append}
+use Rattle.std.proofs.Common.{◌≡◌, ◌<◌, ◌≤◌, ◌+◌, ◌==◌, ◌-◌, take, drop, refl, ap, sym, ◌∙◌, subst, ℕ, suc, Bool, true, false}
+use Rattle.std.proofs.Common.{List, [], ◌∷◌, ◌++◌, length, arith, None, Some, Option, append_assoc, length-append, map}
 use Rattle.std.specs.Prelude.{if◌then◌else◌, nat_le}
 use Rattle.std.specs.Option.{option_map, option_and_then}
 use Rattle.std.specs.List.{AllByRecursion, join_with_byte}
 use Rattle.std.proofs.lemmas.Bool.{leb-true, le-leb, lt-leb}
-use Rattle.std.proofs.lemmas.List.{append-nil, drop_all}
-use Rattle.std.specs.Fn.{CalledAt}
-use Rattle.std.specs.Iterator.{Yields}
-use Rattle.std.specs.declared.slice.Split.{Split}
-use Rattle.std.specs.Slice.Iter.{split_steps, split_rest, split_done, split_callee}
-use denote.Param.Members.{Mut}
-use denote.Ref.{Bor}
-use Rattle.std.proofs.lemmas.Iterator.Splits.{YieldsList-from_slice_split}
-use Rattle.std.proofs.lemmas.Iterator.Consumers.{YieldsList-turn, YieldsList-end}
+use Rattle.std.proofs.lemmas.List.{append-nil, map-append, take_all}
 use Rattle.std.proofs.lemmas.List.Splits.{join_with_byte-slice_split, length-slice_split}
 use Rattle.hum_record.specs.Spelling.{has_byte}
-use Rattle.hum_values.specs.Cutting.{parts}
+use Rattle.hum_path.proofs.Cases.{by_bool}
+use Rattle.hum_values.specs.Cutting.{front, rest, parts}
 use Rattle.hum_values.specs.Items.{AreItems, one, more, AreListed, with_first, all_of, items_of}
 use Rattle.hum_values.proofs.Choices.{chosen}
 use Rattle.hum_values.proofs.Cuts.{parts_lack, parts_alone, parts_before}
@@ -25,17 +18,48 @@ use Rattle.hum_values.proofs.Cuts.{parts_lack, parts_alone, parts_before}
 abbrev pub behind : {A : Type 0} → List A → Option (List A) → Option (List A)
 behind done values = option_map (λ more. done ++ more) values
 
--- The first n of some texts are read as these values, at most 64.
-pub record IsListing {A : Type 0} (value_of : List ℕ → Option A) (texts : List (List ℕ)) (n : ℕ) (done : List A)
-    : Type 0 where
-  pub few : length done ≤ 64
-  pub count : length done ≡ n
-  pub values : all_of value_of texts ≡ behind done (all_of value_of (drop n texts))
+-- the parts behind the first, by what stands from its end on
+abbrev pub parts_behind : List ℕ → List (List ℕ)
+parts_behind [] = []
+parts_behind (comma ∷ text) = parts 44 text
 
--- The next text is this item.
-pub record IsNext (texts : List (List ℕ)) (n : ℕ) (item : List ℕ) : Type 0 where
-  pub within : n < length texts
-  pub is : item ≡ get_or texts n item
+-- Some parts of a text were read as these items, at most 64, and some are left.
+pub record IsListing {A B : Type 0} (value_of : List ℕ → Option A) (view : B → A) (text : List ℕ) (left : List (List ℕ))
+    (items : List B) : Type 0 where
+  pub few : length items ≤ 64
+  pub count : length (parts 44 text) ≡ length items + length left
+  pub values : all_of value_of (parts 44 text) ≡ behind (map view items) (all_of value_of left)
+
+first_part : (text : List ℕ) → parts 44 text ≡ front 44 text ∷ parts_behind (rest 44 text)
+first_part [] = refl
+first_part (b ∷ bytes) = by_bool (b == 44) (λ w. rw w refl) (λ w. rw (w, first_part bytes) refl)
+
+-- what stands behind the comma, if there is one
+pub left_behind : (left : List ℕ) → 1 ≤ length left → parts_behind left ≡ parts 44 (take (length left - 1) (drop 1 left))
+left_behind [] some = absurd (omega (arith, some))
+left_behind (comma ∷ text) some =
+    let next : length (comma ∷ text) - 1 ≡ length text = omega arith in
+    rw (next, take_all (length text) text (omega arith)) refl
+
+pub none_behind : (left : List ℕ) → length left < 1 → parts_behind left ≡ []
+none_behind [] none = refl
+none_behind (comma ∷ text) none = absurd (omega (arith, none))
+
+all_left : {A : Type 0} (o : Option (List A)) → o ≡ behind [] o
+all_left None = refl
+all_left (Some values) = refl
+
+-- nothing is read yet
+pub listing_begins : {A B : Type 0} {value_of : List ℕ → Option A} {view : B → A} (text : List ℕ)
+    → IsListing value_of view text (parts 44 text) []
+listing_begins {A} {B} {value_of} text =
+    record { few = omega arith; count = omega arith; values = all_left (all_of value_of (parts 44 text)) }
+
+-- the next part, and what is behind it
+pub next_part : {A B : Type 0} {value_of : List ℕ → Option A} {view : B → A} {text part left : List ℕ} {items : List B}
+    (here : List ℕ) → IsListing value_of view text (parts 44 here) items → part ≡ front 44 here → left ≡ rest 44 here
+    → IsListing value_of view text (part ∷ parts_behind left) items
+next_part here h part_is left_is = rw (part_is, left_is) (rw (first_part here) at h)
 
 behind_one : {A : Type 0} (done : List A) (value : A) (o : Option (List A))
     → behind done (with_first o value) ≡ behind (done ++ value ∷ []) o
@@ -43,79 +67,47 @@ behind_one done value None = refl
 behind_one done value (Some values) =
     ap (λ (xs : List _). Some xs) (sym (append_assoc done (value ∷ []) values))
 
-next_is : {texts : List (List ℕ)} {n : ℕ} {item : List ℕ} → IsNext texts n item
-    → drop n texts ≡ item ∷ drop (suc n) texts
-next_is {texts} {n} {item} next =
-    drop-cons texts n item next.within ∙ ap (λ (t : List ℕ). t ∷ drop (suc n) texts) (sym next.is)
+module _ {A B : Type 0} {value_of : List ℕ → Option A} {view : B → A} {text part : List ℕ} {left : List (List ℕ)}
+    {items : List B} (h : IsListing value_of view text (part ∷ left) items) where
+  -- what is done and what is to come, the next part first
+  next_values : (o : Option A) → o ≡ value_of part
+      → all_of value_of (parts 44 text) ≡ behind (map view items) (option_and_then (with_first (all_of value_of left)) o)
+  next_values o is =
+      h.values ∙ ap (λ (x : Option A). behind (map view items) (option_and_then (with_first (all_of value_of left)) x)) (sym is)
 
--- what is done and what is to come, the next item first
-next_values : {A : Type 0} {value_of : List ℕ → Option A} {texts : List (List ℕ)} {n : ℕ} {done : List A}
-    {item : List ℕ} → IsListing value_of texts n done → IsNext texts n item → (o : Option A) → value_of item ≡ o
-    → all_of value_of texts ≡ behind done (option_and_then (with_first (all_of value_of (drop (suc n) texts))) o)
-next_values {A} {value_of} {texts} {n} {done} h next o is =
-    h.values ∙ ap (λ (ts : List (List ℕ)). behind done (all_of value_of ts)) (next_is next)
-    ∙ ap (λ (x : Option A). behind done (option_and_then (with_first (all_of value_of (drop (suc n) texts))) x)) is
+  -- one more is read
+  pub listing_goes_on : (item : B) → Some (view item) ≡ value_of part → length items < 64
+      → IsListing value_of view text left (items ++ item ∷ [])
+  listing_goes_on item read few =
+      let longer = length-append items (item ∷ []) in
+      record {
+        few = omega (arith, few, longer);
+        count = omega (arith, h.count, longer);
+        values = rw (map-append view items (item ∷ []))
+            (next_values (Some (view item)) read ∙ behind_one (map view items) (view item) (all_of value_of left));
+      }
 
--- what a loop over the parts between commas takes next
-pub next_item : {F : Type 0} {g : Mut F (Bor ℕ × Unit {0}) Bool} (s t u : Split ℕ F) (text : List ℕ)
-    (items : List (Bor (List ℕ))) → Yields (split_steps g) s items t → split_rest s ≡ text → split_done s ≡ false
-    → ((x : ℕ) (b : Bool) (q : F) → CalledAt g (split_callee s) x b q → (q ≡ split_callee s) × (b ≡ (x == 44)))
-    → (r : Option (Bor (List ℕ))) (item : Bor (List ℕ)) → r ≡ Some item → split_steps g t r u
-    → IsNext (parts 44 text) (length items) item.now
-next_item {F} {g} s t u text items yielded rest fresh commas r item is taken =
-    let turn = YieldsList-turn (YieldsList-from_slice_split g (λ b. b == 44) text rest fresh refl commas)
-    items t yielded r u item is taken in
-    record { within = turn.0; is = turn.1 }
+  -- a part that isn't read
+  pub listing_refused : None ≡ value_of part → None ≡ items_of value_of text
+  listing_refused none = either_none (nat_le (length (parts 44 text)) 64) (all_of value_of (parts 44 text)) (next_values None none)
+    where
+      either_none : (b : Bool) (o : Option (List A)) → o ≡ None → None ≡ (if b then o else None)
+      either_none true o is = sym is
+      either_none false o is = refl
 
--- where it takes none, it has taken all
-pub no_item : {F : Type 0} {g : Mut F (Bor ℕ × Unit {0}) Bool} (s t u : Split ℕ F) (text : List ℕ)
-    (items : List (Bor (List ℕ))) → Yields (split_steps g) s items t → split_rest s ≡ text → split_done s ≡ false
-    → ((x : ℕ) (b : Bool) (q : F) → CalledAt g (split_callee s) x b q → (q ≡ split_callee s) × (b ≡ (x == 44)))
-    → (r : Option (Bor (List ℕ))) → r ≡ None → split_steps g t r u → length items ≡ length (parts 44 text)
-no_item {F} {g} s t u text items yielded rest fresh commas r is taken =
-    let last = YieldsList-end (YieldsList-from_slice_split g (λ b. b == 44) text rest fresh refl commas)
-    items t yielded r u is taken in
-    last.1
-
--- one more is read
-pub listing_goes_on : {A : Type 0} {value_of : List ℕ → Option A} {texts : List (List ℕ)} {n : ℕ} {done : List A}
-    {item : List ℕ} → IsListing value_of texts n done → IsNext texts n item → (value : A) → Some value ≡ value_of item
-    → length done < 64 → IsListing value_of texts (n + 1) (done ++ value ∷ [])
-listing_goes_on {A} {value_of} {texts} {n} {done} h next value read few =
-    rw add-one (record {
-      few = omega (arith, few, length-append done (value ∷ []));
-      count = omega (arith, h.count, length-append done (value ∷ []));
-      values = next_values h next (Some value) (sym read) ∙ behind_one done value (all_of value_of (drop (suc n) texts));
-    })
-
-either_none : {A : Type 0} (b : Bool) (o : Option A) → o ≡ None → None ≡ (if b then o else None)
-either_none true o is = sym is
-either_none false o is = refl
-
--- an item that isn't read
-pub listing_refused : {A : Type 0} {value_of : List ℕ → Option A} (text : List ℕ) {n : ℕ} {done : List A}
-    {item : List ℕ} → IsListing value_of (parts 44 text) n done → IsNext (parts 44 text) n item
-    → None ≡ value_of item → None ≡ items_of value_of text
-listing_refused {A} {value_of} text h next none =
-    either_none (nat_le (length (parts 44 text)) 64) (all_of value_of (parts 44 text)) (next_values h next None (sym none))
-
--- an item behind 64 others
-pub listing_full : {A : Type 0} {value_of : List ℕ → Option A} (text : List ℕ) {n : ℕ} {done : List A} {item : List ℕ}
-    → IsListing value_of (parts 44 text) n done → IsNext (parts 44 text) n item → 64 ≤ length done
-    → None ≡ items_of value_of text
-listing_full {A} {value_of} text h next full =
-    let over : 64 < length (parts 44 text) = omega (arith, h.count, full, next.within) in
-    rw (lt-leb (length (parts 44 text)) 64 over) refl
+  -- a part behind 64 others
+  pub listing_full : 64 ≤ length items → None ≡ items_of value_of text
+  listing_full full =
+      let over : 64 < length (parts 44 text) = omega (arith, h.count, full) in
+      rw (lt-leb (length (parts 44 text)) 64 over) refl
 
 -- all are read
-pub listing_ends : {A : Type 0} {value_of : List ℕ → Option A} (text : List ℕ) {n : ℕ} {done : List A}
-    → IsListing value_of (parts 44 text) n done → n ≡ length (parts 44 text) → Some done ≡ items_of value_of text
-listing_ends {A} {value_of} text {n} {done} h last =
-    let within : length (parts 44 text) ≤ 64 = omega (arith, h.count, h.few, last) in
-    let none : drop n (parts 44 text) ≡ [] = drop_all n (parts 44 text) (omega (arith, last)) in
-    let all : all_of value_of (parts 44 text) ≡ Some done =
-    h.values ∙ ap (λ (ts : List (List ℕ)). behind done (all_of value_of ts)) none
-    ∙ ap (λ (xs : List A). Some xs) (append-nil done) in
+pub listing_ends : {A B : Type 0} {value_of : List ℕ → Option A} {view : B → A} {text : List ℕ} {items : List B}
+    → IsListing value_of view text [] items → Some (map view items) ≡ items_of value_of text
+listing_ends {A} {B} {value_of} {view} {text} {items} h =
+    let within : length (parts 44 text) ≤ 64 = omega (arith, h.count, h.few) in
+    let all : all_of value_of (parts 44 text) ≡ Some (map view items)
+    = h.values ∙ ap (λ (xs : List A). Some xs) (append-nil (map view items)) in
     rw (le-leb (length (parts 44 text)) 64 within, all) refl
 
 -- what the first of some answers is, and the others

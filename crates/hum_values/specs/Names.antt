@@ -3,7 +3,7 @@ use Rattle.std.specs.Prelude.{◌≡◌, ◌≢◌, ℕ, Bool, true, false, not,
 use Rattle.std.specs.Prelude.{Option, None, Some, if◌then◌else◌}
 use Rattle.hum_record.specs.Spelling.{has_byte}
 use Rattle.hum_cleave.specs.Cleave.{is_name, fits_in_token}
-use Rattle.hum_values.specs.Numbers.{is_empty}
+use Rattle.hum_kern.specs.Duration.{is_empty}
 
 -- A name of a list is an exclusive interpretation without a comma.
 pub record IsListedName (text name : List ℕ) : Type 0 where

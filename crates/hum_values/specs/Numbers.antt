@@ -1,10 +1,12 @@
 -- Numbers, as they are written.
-use Rattle.std.specs.Prelude.{◌≡◌, ℕ, ℤ, pos, neg_ℤ, ◌+◌, ◌-◌, ◌*◌, ◌<◌}
+use Rattle.std.specs.Prelude.{◌≡◌, ℕ, ℤ, pos, neg_ℤ, ◌<◌}
 use Rattle.std.specs.Prelude.{◌≤◌, nat_le, decimal}
-use Rattle.std.specs.Prelude.{Bool, true, false, not, ◌&&◌, ◌||◌, ◌==◌, if◌then◌else◌}
+use Rattle.std.specs.Prelude.{Bool, false, not, ◌&&◌, ◌||◌, ◌==◌, if◌then◌else◌}
 use Rattle.std.specs.Prelude.{List, [], ◌∷◌, Option, None, Some}
 use Rattle.std.specs.Option.{option_map}
 use Rattle.std.specs.Str.{all_ascii_digits}
+use Rattle.hum_kern.specs.Duration.{is_empty}
+use Rattle.hum_kern.specs.Value.{number}
 
 -- The text is the digits of a number, without a zero in front. The number is at most `most`.
 pub record IsNumber (most : ℕ) (text : List ℕ) (n : ℕ) : Type 0 where
@@ -23,15 +25,6 @@ pub data IsSigned (most : ℕ) : List ℕ → ℤ → Type 0 where
   minus : {text : List ℕ} {n : ℕ} → IsNumber most text n
       → IsSigned most (45 ∷ text) (neg_ℤ (pos n))
 
--- the number that digits write behind those of n
-abbrev pub value_of : ℕ → List ℕ → ℕ
-value_of n [] = n
-value_of n (digit ∷ digits) = value_of (10 * n + (digit - 48)) digits
-
-abbrev pub is_empty : List ℕ → Bool
-is_empty [] = true
-is_empty (byte ∷ bytes) = false
-
 -- some bytes, without a zero in front of others
 abbrev pub is_plain : List ℕ → Bool
 is_plain [] = false
@@ -40,7 +33,7 @@ is_plain (byte ∷ bytes) = not (byte == 48) || is_empty bytes
 -- the number that digits write, if it is at most `most`
 abbrev pub digits_of : ℕ → List ℕ → Option ℕ
 digits_of most text =
-    if all_ascii_digits text && nat_le (value_of 0 text) most then Some (value_of 0 text) else None
+    if all_ascii_digits text && nat_le (number text) most then Some (number text) else None
 
 -- the number that a text is, if it is one
 abbrev pub number_of : ℕ → List ℕ → Option ℕ

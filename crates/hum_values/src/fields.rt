@@ -6,8 +6,8 @@ ghost use Rattle.hum_values.specs.Fields.{IsCount, AreFields, count_of, fields_o
 ghost use Rattle.hum_values.specs.Fields.{from_number, by_dash};
 ghost use Rattle.hum_values.specs.Items.{AreListed, items_of};
 
-use crate::MOST_ITEMS;
 use crate::cutting::cut;
+use crate::items::{Item, read_items};
 use crate::numbers::positive;
 use hum_context::TokenCount;
 use hum_extract::{Field, FieldRange};
@@ -20,19 +20,15 @@ fn small_count(text: &[u8]) -> Option<u16>
     ensures read { result ≡ count_of text.now }
     ensures within { IfSome result (λ n. (0 < n) × (n ≤ 4096)) }
 {
-    match positive(text, MOST) {
-        Some(n) => Some(n as u16),
-        None => None,
-    }
+    Some(positive(text, MOST)? as u16)
 }
 
 fn read_count(text: &[u8]) -> Option<TokenCount>
     ensures { option_map (λ count. count.number) result ≡ count_of text.now }
 {
-    match small_count(text) {
-        Some(number) => Some(TokenCount { number }),
-        None => None,
-    }
+    Some(TokenCount {
+        number: small_count(text)?,
+    })
 }
 
 /// The number of tokens, from 1 to 4,096, that a text is, if it is one.
@@ -91,21 +87,16 @@ fn field_range(item: &[u8]) -> Option<FieldRange>
     }
 }
 
-fn read_ranges(alloc: Global, text: &[u8]) -> Result<Option<Vec<FieldRange>>, AllocError>
-    ensures { IfOk result (λ found.
-        option_map (λ ranges. ranges.items) found ≡ items_of fields_of text.now) }
-{
-    let mut ranges = Vec::new(alloc);
-    for item in text.split(|byte| *byte == b',') {
-        let Some(range) = field_range(item) else {
-            return Ok(None);
-        };
-        if ranges.len() >= MOST_ITEMS {
-            return Ok(None);
-        }
-        ranges.push(range)?;
+impl Item for FieldRange {
+    ghost Value = { FieldRange };
+
+    ghost view = { λ range. range };
+
+    ghost value_of = { fields_of };
+
+    fn read(_alloc: Global, text: &[u8]) -> Result<Option<FieldRange>, AllocError> {
+        Ok(field_range(text))
     }
-    Ok(Some(ranges))
 }
 
 /// The fields that a list names, if it is one: 1 to 64 items between commas, each `a`, `$` for the
@@ -120,5 +111,5 @@ pub fn field_ranges(alloc: Global, text: &[u8]) -> Result<Option<Vec<FieldRange>
         → AreListed AreFields text.now ranges
         → option_map (λ ranges. ranges.items) found ≡ Some ranges) }
 {
-    read_ranges(alloc, text)
+    read_items(alloc, text)
 }

@@ -9,6 +9,7 @@
 
 mod cutting;
 mod fields;
+mod items;
 mod naming;
 mod numbers;
 mod passages;
@@ -20,6 +21,3 @@ pub use naming::{is_label, names};
 pub use numbers::{number, signed_number};
 pub use passages::passage_ranges;
 pub use steps::step;
-
-/// How many items a list may have.
-const MOST_ITEMS: usize = 64;

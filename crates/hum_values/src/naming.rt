@@ -6,25 +6,24 @@ ghost use Rattle.hum_record.specs.Spelling.{has_byte};
 ghost use Rattle.hum_values.specs.Items.{AreListed, items_of};
 ghost use Rattle.hum_values.specs.Names.{IsListedName, name_of, IsLabel, is_label};
 
-use crate::MOST_ITEMS;
+use crate::items::{Item, read_items};
 use hum_cleave::{is_name, is_separator};
 use std::alloc::{AllocError, Global};
 
-fn read_names(alloc: Global, text: &[u8]) -> Result<Option<Vec<Vec<u8>>>, AllocError>
-    ensures { IfOk result (λ found.
-        option_map (λ names. texts names.items) found ≡ items_of name_of text.now) }
-{
-    let mut names = Vec::new(alloc);
-    for item in text.split(|byte| *byte == b',') {
-        if !is_name(item) {
-            return Ok(None);
+impl Item for Vec<u8> {
+    ghost Value = { List ℕ };
+
+    ghost view = { λ name. name.items };
+
+    ghost value_of = { name_of };
+
+    fn read(alloc: Global, text: &[u8]) -> Result<Option<Vec<u8>>, AllocError> {
+        if is_name(text) {
+            Ok(Some(text.to_vec(alloc)?))
+        } else {
+            Ok(None)
         }
-        if names.len() >= MOST_ITEMS {
-            return Ok(None);
-        }
-        names.push(item.to_vec(alloc)?)?;
     }
-    Ok(Some(names))
 }
 
 /// The names of exclusive interpretations that a list has, if it is one: 1 to 64 between commas,
@@ -39,7 +38,7 @@ pub fn names(alloc: Global, text: &[u8]) -> Result<Option<Vec<Vec<u8>>>, AllocEr
         → AreListed IsListedName text.now names
         → option_map (λ names. texts names.items) found ≡ Some names) }
 {
-    read_names(alloc, text)
+    read_items(alloc, text)
 }
 
 fn has_bracket(text: &[u8]) -> bool

@@ -25,14 +25,8 @@ fn read_number(text: &[u8], most: u64) -> Option<u64>
     ensures { result ≡ number_of most text.now }
 {
     match text {
-        [] => None,
-        [first, rest @ ..] => {
-            if *first == b'0' && !rest.is_empty() {
-                None
-            } else {
-                digits_value(text, most)
-            }
-        }
+        [] | [b'0', _, ..] => None,
+        _ => digits_value(text, most),
     }
 }
 
@@ -61,10 +55,7 @@ fn small_number(text: &[u8], most: u8) -> Option<i32>
     ensures read { result ≡ option_map pos (number_of most text.now) }
     ensures natural { IfSome result (λ n. pos 0 ≤ℤ n) }
 {
-    match read_number(text, most as u64) {
-        Some(n) => Some(n as i32),
-        None => None,
-    }
+    Some(read_number(text, most as u64)? as i32)
 }
 
 fn read_signed(text: &[u8], most: u8) -> Option<i32>
@@ -72,10 +63,7 @@ fn read_signed(text: &[u8], most: u8) -> Option<i32>
 {
     match text {
         [b'+', digits @ ..] => small_number(digits, most),
-        [b'-', digits @ ..] => match small_number(digits, most) {
-            Some(n) => Some(-n),
-            None => None,
-        },
+        [b'-', digits @ ..] => Some(-small_number(digits, most)?),
         _ => small_number(text, most),
     }
 }

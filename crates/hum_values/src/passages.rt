@@ -7,8 +7,8 @@ ghost use Rattle.hum_values.specs.Passages.{ArePassages, passages_of, greatest, 
 ghost use Rattle.hum_values.specs.Passages.{through, by_distance, by_number};
 ghost use Rattle.hum_values.specs.Items.{AreListed, items_of};
 
-use crate::MOST_ITEMS;
 use crate::cutting::cut;
+use crate::items::{Item, read_items};
 use crate::numbers::{number, positive};
 use hum_yank::YankRange;
 use std::alloc::{AllocError, Global};
@@ -19,19 +19,13 @@ const GREATEST: u64 = 4_294_967_295;
 fn passage(text: &[u8]) -> Option<u32>
     ensures { result ≡ number_of greatest text.now }
 {
-    match number(text, GREATEST) {
-        Some(number) => Some(number as u32),
-        None => None,
-    }
+    Some(number(text, GREATEST)? as u32)
 }
 
 fn so_many(text: &[u8]) -> Option<u32>
     ensures { result ≡ positive_of greatest text.now }
 {
-    match positive(text, GREATEST) {
-        Some(number) => Some(number as u32),
-        None => None,
-    }
+    Some(positive(text, GREATEST)? as u32)
 }
 
 /// How far before the last number a text is: `$` is 0, `$-n` is n.
@@ -99,21 +93,16 @@ fn passage_range(item: &[u8]) -> Option<YankRange>
     }
 }
 
-fn read_ranges(alloc: Global, text: &[u8]) -> Result<Option<Vec<YankRange>>, AllocError>
-    ensures { IfOk result (λ found.
-        option_map (λ ranges. ranges.items) found ≡ items_of passages_of text.now) }
-{
-    let mut ranges = Vec::new(alloc);
-    for item in text.split(|byte| *byte == b',') {
-        let Some(range) = passage_range(item) else {
-            return Ok(None);
-        };
-        if ranges.len() >= MOST_ITEMS {
-            return Ok(None);
-        }
-        ranges.push(range)?;
+impl Item for YankRange {
+    ghost Value = { YankRange };
+
+    ghost view = { λ range. range };
+
+    ghost value_of = { passages_of };
+
+    fn read(_alloc: Global, text: &[u8]) -> Result<Option<YankRange>, AllocError> {
+        Ok(passage_range(text))
     }
-    Ok(Some(ranges))
 }
 
 /// The passages that a list names, if it is one: 1 to 64 items between commas, each `a`, `a-b` with
@@ -130,5 +119,5 @@ pub fn passage_ranges(alloc: Global, text: &[u8]) -> Result<Option<Vec<YankRange
         → AreListed ArePassages text.now ranges
         → option_map (λ ranges. ranges.items) found ≡ Some ranges) }
 {
-    read_ranges(alloc, text)
+    read_items(alloc, text)
 }

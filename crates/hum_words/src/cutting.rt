@@ -59,9 +59,7 @@ fn quoted_word(line: &str) -> Option<(&str, &str)>
     ensures wrong { IfNone result (IsWrong (39 ∷ line.now)) }
     ensures shorter { IfSome result (λ x. length x.1.now < length line.now) }
 {
-    let Some((word, rest)) = line.split_once('\'') else {
-        return None;
-    };
+    let (word, rest) = line.split_once('\'')?;
     if is_apart(rest) {
         Some((word, rest))
     } else {

@@ -17,4 +17,4 @@ mod text;
 pub use branches::{Line, Lines, line_count};
 pub use cutting::{LineFault, Piece, pieces};
 pub use naming::name_of;
-pub use text::{TextFault, plan_text};
+pub use text::{LONGEST_PLAN, TextFault, plan_text};

@@ -9,7 +9,7 @@ use std::str;
 use thiserror::Error;
 
 /// How many bytes a plan may have.
-const LONGEST: usize = 65_536;
+pub const LONGEST_PLAN: usize = 65_536;
 
 /// Why bytes are no text of a plan.
 #[derive(Clone, Copy, Debug, PartialEq, Eq, Error)]
@@ -46,7 +46,7 @@ pub fn plan_text(bytes: &[u8]) -> Result<&str, TextFault>
     ensures exact { MatchResult result (λ _. fault_of bytes.now ≡ None)
         (λ fault. fault_of bytes.now ≡ Some fault) }
 {
-    if bytes.len() > LONGEST {
+    if bytes.len() > LONGEST_PLAN {
         return Err(TextFault::TooLong);
     }
     match str::from_utf8(bytes) {

@@ -18,7 +18,7 @@ pub struct WriteFailed;
 /// # Errors
 /// A write that fails, or that takes no byte. A front of the text was written then.
 #[inline(always)]
-pub fn write_all<W: Sink>(sink: &mut W, text: &[u8]) -> Result<(), WriteFailed>
+fn write_all<W: Sink>(sink: &mut W, text: &[u8]) -> Result<(), WriteFailed>
     ensures ok { OnOk result (Appends (W.contents sink.old) (W.contents sink.new) text.now) }
     ensures err { OnErr result (WroteFront (W.contents sink.old) (W.contents sink.new) text.now) }
     ensures sound { OnOk result (W.failed sink.new ≡ W.failed sink.old) }

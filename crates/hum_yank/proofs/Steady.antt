@@ -15,8 +15,8 @@ use Rattle.hum_path.specs.Score.{IsOpen, path_after, passed}
 use Rattle.hum_stage.specs.declared.faults.Rule.{Rule}
 use Rattle.hum_stage.specs.Order.{passed-push}
 use Rattle.hum_stage.specs.Look.{IsSteady}
-use Rattle.hum_yank.specs.Passages.{Form, Lines, Numbers, Occurrences, Labels, greatest, last_of}
-use Rattle.hum_yank.specs.Passages.{is_counted, max_of}
+use Rattle.hum_yank.specs.Passages.{Form, Lines, Numbers, Occurrences, Labels, last_of}
+use Rattle.hum_yank.specs.Passages.{is_counted}
 use Rattle.hum_yank.specs.declared.options.YankRange.{YankRange}
 use Rattle.hum_yank.specs.declared.options.YankRange.TheVariants.{Through, Onward, ToEnd, FromEnd}
 use Rattle.hum_yank.specs.Yank.{Choice, chosen_by, chooses_early, chooses_late, chooses_now}
@@ -30,14 +30,10 @@ filter_more : {X : Type 0} (p : X → Bool) (x : X) (xs : List X) → length (fi
 filter_more p x xs = elim (p x) as (λ b. length (filter p xs) ≤ length
     (cond b (x ∷ filter p xs) (filter p xs))) [ true ↦ omega arith | false ↦ omega arith ]
 
-max_above : (a b : ℕ) → b ≤ max_of a b
-max_above a b = elim (cases_Bool (nat_le a b)) as (λ _. b ≤ max_of a b)
-    [ inl w ↦ rw w (omega arith) | inr w ↦ rw w (grind (arith, nat_tests, w)) ]
-
 pub last_grows : (form : Form) (row : Row) (seen : List Row) → last_of form seen ≤ last_of form
     (row ∷ seen)
 last_grows Lines row seen = omega arith
-last_grows (Numbers end_of) row seen = max_above _ (greatest (Numbers end_of) seen)
+last_grows (Numbers end_of) row seen = omega arith
 last_grows (Occurrences opens ends) row seen = filter_more (is_counted (Occurrences opens ends)) row
     seen
 last_grows (Labels name) row seen = filter_more (is_counted (Labels name)) row seen

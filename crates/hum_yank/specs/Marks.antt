@@ -1,12 +1,13 @@
 -- What a record begins, and what is remembered of passages.
-use Rattle.std.specs.Prelude.{ℕ, ◌+◌, Bool, ◌||◌, List, if◌then◌else◌, Option, Some, None}
+use Rattle.std.specs.Prelude.{ℕ, ◌+◌, max, Bool, ◌||◌, List, if◌then◌else◌}
+use Rattle.std.specs.Prelude.{Option, Some, None, unwrap_or}
 use Rattle.hum_record.specs.Row.{Row}
 use Rattle.hum_yank.specs.declared.marking.Mark.{Mark}
 use Rattle.hum_yank.specs.declared.marking.Mark.TheVariants.{Inside, Counted, Bears}
 use Rattle.hum_yank.specs.Passages.{Form, Lines, Numbers, Occurrences, Labels, number_after}
 use Rattle.hum_yank.specs.declared.passages.Passages.{Passages}
 use Rattle.hum_yank.specs.Passages.{has_value, first_value, has_match, is_named, label_of}
-use Rattle.hum_yank.specs.Passages.{number_above, has_ended, counted, greatest, max_of, or_zero}
+use Rattle.hum_yank.specs.Passages.{number_above, has_ended, counted, greatest}
 
 -- by the token that bears a number, if there is one
 abbrev pub marked : (List ℕ → Option ℕ) → Option (List ℕ) → Mark
@@ -30,7 +31,7 @@ inside p ends = record {
   number = p.number;
   ended = ends || p.ended;
   counted = p.counted;
-  greatest = max_of (or_zero p.number) p.greatest;
+  greatest = max (unwrap_or p.number 0) p.greatest;
 }
 
 -- after one that begins a passage
@@ -39,7 +40,7 @@ begun p number counted ends = record {
   number = number;
   ended = ends;
   counted = counted;
-  greatest = max_of (or_zero number) p.greatest;
+  greatest = max (unwrap_or number 0) p.greatest;
 }
 
 -- after a record, by what it begins and whether a passage ends with it

@@ -1,9 +1,9 @@
 -- Passages: stretches of a list of records, each from a marker to before the next, and their
 -- numbers. In these lists the newest record stands first, so that the nearest marker above is the
 -- first that is met.
-use Rattle.std.specs.Prelude.{ℕ, ◌+◌, ◌*◌, ◌-◌, ◌==◌, Bool, true, false, not, ◌&&◌, nat_le}
+use Rattle.std.specs.Prelude.{ℕ, ◌+◌, ◌*◌, ◌-◌, ◌==◌, max, Bool, true, false, not, ◌&&◌, nat_le}
 use Rattle.std.specs.Prelude.{nat_eq, List, [], ◌∷◌, ◌++◌, filter, drop, length, if◌then◌else◌}
-use Rattle.std.specs.Prelude.{Option, Some, None, is_some}
+use Rattle.std.specs.Prelude.{Option, Some, None, is_some, unwrap_or}
 use Rattle.std.specs.Option.{option_map_or}
 use Rattle.std.specs.List.{list_any, find, starts_with, take_while}
 use Rattle.std.specs.Str.{bytes_eq}
@@ -147,17 +147,11 @@ passage_of form past row =
     else if has_ended form past then None
     else number_above form (row ∷ past)
 
-abbrev pub or_zero : Option ℕ → ℕ
-or_zero None = 0
-or_zero (Some n) = n
-
-abbrev pub max_of : ℕ → ℕ → ℕ
-max_of a b = if nat_le a b then b else a
-
 -- the greatest number that a passage bears
 abbrev pub greatest : Form → List Row → ℕ
 greatest form [] = 0
-greatest form (row ∷ past) = max_of (or_zero (number_above form (row ∷ past))) (greatest form past)
+greatest form (row ∷ past) =
+    max (unwrap_or (number_above form (row ∷ past)) 0) (greatest form past)
 
 -- The last number of the passages of some records: how many lines or numbered passages there are,
 -- or the greatest number.

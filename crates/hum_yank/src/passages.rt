@@ -1,6 +1,6 @@
 //! The passage at hand.
 ghost use Rattle.std.specs.Prelude.{◌≡◌, ◌<◌, []};
-ghost use Rattle.hum_yank.specs.Passages.{or_zero, max_of, is_last};
+ghost use Rattle.hum_yank.specs.Passages.{is_last};
 ghost use Rattle.hum_yank.specs.Options.{form_of};
 ghost use Rattle.hum_yank.specs.Marks.{mark_of, passages_of, inside, begun};
 ghost use Rattle.hum_yank.specs.Marks.{next_passages, number_in, last_in};
@@ -20,21 +20,6 @@ pub(crate) struct Passages {
     counted: u32,
     // the greatest number
     greatest: u32,
-}
-
-fn or_zero(number: Option<u32>) -> u32
-    ensures { result ≡ or_zero number }
-{
-    match number {
-        None => 0,
-        Some(number) => number,
-    }
-}
-
-fn greater(a: u32, b: u32) -> u32
-    ensures { result ≡ max_of a b }
-{
-    if a <= b { b } else { a }
 }
 
 impl Passages {
@@ -64,7 +49,7 @@ impl Passages {
             number: self.number,
             ended: ends || self.ended,
             counted: self.counted,
-            greatest: greater(or_zero(self.number), self.greatest),
+            greatest: self.number.unwrap_or(0).max(self.greatest),
         }
     }
 
@@ -76,7 +61,7 @@ impl Passages {
             number,
             ended: ends,
             counted,
-            greatest: greater(or_zero(number), self.greatest),
+            greatest: number.unwrap_or(0).max(self.greatest),
         }
     }
 

@@ -73,53 +73,25 @@ impl YankRange {
 pub(crate) fn any_early(ranges: &[YankRange], number: u32) -> bool
     ensures { result ≡ list_any (chooses_early number) ranges.now }
 {
-    let mut rest = ranges;
-    while let [range, behind @ ..] = rest {
-        if range.chooses_early(number) {
-            return true;
-        }
-        rest = behind;
-    }
-    false
+    ranges.iter().any(|range| range.chooses_early(number))
 }
 
 fn any_late(ranges: &[YankRange], last: u32, number: u32) -> bool
     ensures { result ≡ list_any (chooses_late last number) ranges.now }
 {
-    let mut rest = ranges;
-    while let [range, behind @ ..] = rest {
-        if range.chooses_late(last, number) {
-            return true;
-        }
-        rest = behind;
-    }
-    false
+    ranges.iter().any(|range| range.chooses_late(last, number))
 }
 
 fn any_now(ranges: &[YankRange], least: u32, number: u32) -> bool
     ensures { result ≡ list_any (chooses_now least number) ranges.now }
 {
-    let mut rest = ranges;
-    while let [range, behind @ ..] = rest {
-        if range.chooses_now(least, number) {
-            return true;
-        }
-        rest = behind;
-    }
-    false
+    ranges.iter().any(|range| range.chooses_now(least, number))
 }
 
 fn all_drop(ranges: &[YankRange], least: u32, number: u32) -> bool
     ensures { result ≡ list_all (drops_now least number) ranges.now }
 {
-    let mut rest = ranges;
-    while let [range, behind @ ..] = rest {
-        if !range.drops_now(least, number) {
-            return false;
-        }
-        rest = behind;
-    }
-    true
+    ranges.iter().all(|range| range.drops_now(least, number))
 }
 
 /// Whether ranges from the end choose a number, by the last one, which may still grow while a spine

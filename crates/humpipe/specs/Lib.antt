@@ -1,2 +1,3 @@
 -- What is said of the program.
 pub mod Endings
+pub mod Files

@@ -1,6 +1,8 @@
 //! Runs of plans whose scores are files.
-ghost use Rattle.std.specs.Prelude.{◌≡◌, ◌≤◌, ◌<◌, ◌+◌, length, IfOk, OnOk};
+ghost use Rattle.std.specs.Prelude.{◌≡◌, ◌≤◌, ◌<◌, ◌+◌, ◌||◌, true, length, IfOk, OnOk, IfErr};
 ghost use Rattle.hum_pipeline.specs.Nodes.{reads_by, reads_of};
+ghost use Rattle.hum_pipeline.specs.Bundles.{is_refused, is_failed_write};
+ghost use Rattle.humpipe.specs.Files.{IsShut, IsOneShut, MayCome};
 
 use hum_pipeline::{Outcome, plan_stages, run_stages};
 use hum_plan::{Options, PlanStage};
@@ -16,7 +18,8 @@ fn add_file(
     readers: &mut Vec<Marked<File>>,
 ) -> Result<(), Outcome>
     requires { k < 64 }
-    ensures { OnOk result (length readers.new.items ≡ length readers.old.items + 1) }
+    ensures added { OnOk result (length readers.new.items ≡ length readers.old.items + 1) }
+    ensures shut { IfErr result (IsShut k) }
 {
     match fs::open(rt, name) {
         Err(_) => Err(Outcome::NoScore(k as u8 + 1)),
@@ -35,8 +38,9 @@ fn add_reader(
     readers: &mut Vec<Marked<File>>,
 ) -> Result<(), Outcome>
     requires { k < 64 }
-    ensures { OnOk result
+    ensures added { OnOk result
         (length readers.new.items ≡ length readers.old.items + reads_by stage.now.options) }
+    ensures shut { IfErr result (IsShut k) }
 {
     match &stage.options {
         Options::Read(name) => add_file(rt, k, name.as_str(), readers),
@@ -51,7 +55,8 @@ fn add_reader(
 /// What the run ends with: the first stage whose file doesn't open, or want of memory.
 fn open_all(rt: &HostRuntime, stages: &[PlanStage]) -> Result<Vec<Marked<File>>, Outcome>
     requires { length stages.now ≤ 64 }
-    ensures { IfOk result (λ readers. reads_of stages.now ≡ length readers.items) }
+    ensures count { IfOk result (λ readers. reads_of stages.now ≡ length readers.items) }
+    ensures shut { IfErr result (IsOneShut (length stages.now)) }
 {
     let mut readers = Vec::new(rt.alloc());
     for (k, stage) in stages.iter().enumerate() {
@@ -71,6 +76,15 @@ pub fn run_files<O: Order, W: Sink + Drop>(
 ) -> (Outcome, W)
     requires link { 1 ≤ link }
     requires room { link ≤ 4096 }
+
+    // A text that is no plan is refused by its first fault, and else a stage whose file doesn't open;
+    // then the writer and the order are as they were.
+    ensures comes { MayCome plan.now result.0 }
+    ensures refused { is_refused result.0 ≡ true
+        → (result.1 ≡ writer) × (order.new ≡ order.old) }
+
+    // A failed write or flush is told exactly where one set the writer's mark.
+    ensures marked { W.failed result.1 ≡ (W.failed writer || is_failed_write result.0) }
 {
     let stages = match plan_stages(rt.alloc(), plan) {
         Ok(stages) => stages,

@@ -32,13 +32,11 @@ use hum_line::{Choice, LineFault, Side, read_line};
 use hum_pipeline::run_bundle;
 use hum_text::calls::{LARGEST_READ, Marked};
 use hum_turns::{Leftmost, Order, Rightmost};
+use hum_words::LONGEST_PLAN;
 use std::alloc::Global;
 use std::io::{self, BufWriter, ErrorKind, Printer, Read};
 use std::process::ExitCode;
 use std::{env, fs};
-
-/// How long a plan may be, in bytes.
-const LONGEST_PLAN: u64 = 65_536;
 
 /// Standard output, in blocks.
 type Output<'a> = Marked<BufWriter<Printer<'a, HostRuntime>>>;
@@ -74,7 +72,7 @@ fn run_plan<O: Order>(rt: &HostRuntime, plan: &str, link: u16, order: &mut O) ->
     requires room { link ≤ 4096 }
 {
     let plan = match fs::open(rt, plan) {
-        Ok(file) => read_up_to(rt.alloc(), file, LONGEST_PLAN),
+        Ok(file) => read_up_to(rt.alloc(), file, LONGEST_PLAN as u64),
         Err(error) => Err(error),
     };
     let plan = match plan {

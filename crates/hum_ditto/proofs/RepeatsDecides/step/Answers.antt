@@ -1,4 +1,4 @@
-use Rattle.std.proofs.Common.{rules, ap}
+use Rattle.std.proofs.Common.{ap}
 use Rattle.hum_ditto.proofs.Steps.{told, memories_width, gives_made, gives_same, refuses_long, follows_on}
 use Rattle.hum_ditto.proofs.RepeatsDecides.step.Goals as goal
 
@@ -17,18 +17,19 @@ rebuilt-requires-clause-width c =
     memories_width _ _ _ _ _ c.requires.score.memory c.args.next c.requires.score.score
     (c.is_to_fill.ensures.kind c.if-not-is_to_fill.false)
 
-pub returns-in-Ok : goal.returns-in-Ok
-returns-in-Ok c = λ decide past h sound.
+pub returns-in_ok-follow-in-Some : goal.returns-in_ok-follow-in-Some
+returns-in_ok-follow-in-Some c = λ decide past h sound.
     let row = c.args.next in
     let moved = told _ _ past row c.in_ok-found.ensures.moves h.spines in
-    let made = gives_made _ _ _ decide past h row c.in-Ok.made
-    (c.is_to_fill.ensures.kind c.if-not-is_to_fill.false) c.in-Ok.ensures.made c.in-Ok.ensures.fits in (
+    let is = rw c.in-Some.is at c.in_ok-rebuilt.ensures in
+    let made = gives_made _ _ _ decide past h row c.in-Some.made
+    (c.is_to_fill.ensures.kind c.if-not-is_to_fill.false) is.0 is.1 in (
       made,
-      follows_on _ _ _ decide past h row _ _ _ (ap (λ p. p.path) c.in_ok-found.ensures.after) c.follow-in-Ok.ensures.kept
-          (c.in_ok-follow-in-Ok.ensures.memories past h.remembered moved),
+      follows_on _ _ _ decide past h row _ _ _ (ap (λ p. p.path) c.in_ok-found.ensures.after) c.follow-in-Some.ensures.kept
+          (c.in_ok-follow-in-Some.ensures.memories past h.remembered moved),
     )
 
-pub returns : goal.returns
-returns c = λ decide past h sound.
+pub returns-in-None : goal.returns-in-None
+returns-in-None c = λ decide past h sound.
     refuses_long _ _ _ decide past h c.args.next c.args._room
-    (c.is_to_fill.ensures.kind c.if-not-is_to_fill.false) (c.in-Err.ensures.refused (λ e. search rules))
+    (c.is_to_fill.ensures.kind c.if-not-is_to_fill.false) (rw c.in-None.is at c.in_ok-rebuilt.ensures)

@@ -1,18 +1,34 @@
 use Rattle.std.proofs.Common.{arith}
 use Rattle.hum_record.specs.Row.{tokens_of}
-use Rattle.hum_ditto.proofs.Tokens.{has_tokens, stays_long}
+use Rattle.hum_record.specs.declared.SpinedKind.TheVariants.{Values}
+use Rattle.hum_ditto.proofs.Tokens.{some_filled, fill_more, fill_all}
 use Rattle.hum_ditto.proofs.filling.rebuilt.Goals as goal
 
-pub returns-in-Err-clause-refused : goal.returns-in-Err-clause-refused
-returns-in-Err-clause-refused c = λ known.
+pub loop-j-preserved : goal.loop-j-preserved
+loop-j-preserved c =
     let test = c.loop-j-test.true in
     let width = c.width-j-end.ensures in
-    stays_long c.args.parentheses c.args.memories.now.each (tokens_of c.args.row.now) c.loop-j.builder.tokens _ c.loop-j.j c.at.result.now
-    (omega (arith, test, width)) c.requires.width c.at.ensures c.loop-j.invariant.made (rw c.token.ensures.token at (c.in-Err.ensures.refused known))
+    let more = fill_more c.args.parentheses c.args.memories.now.each (tokens_of c.args.row.now) c.loop-j.j c.at.result.now
+    (omega (arith, test, width)) c.requires.width c.at.ensures in
+    record {
+      kind = c.in_ok-push_filled.ensures.kind;
+      made = rw (c.token.ensures.token, more) at (c.in_ok-push_filled.ensures.pushed _ c.loop-j.invariant.made);
+    }
 
-pub finish-requires-clause-filled : goal.finish-requires-clause-filled
-finish-requires-clause-filled c =
-    let test = c.loop-j-test.false in
+pub finish-requires : goal.finish-requires
+finish-requires c =
+    let past = c.loop-j-test.false in
     let width = c.width-j-end.ensures in
-    has_tokens c.args.parentheses c.args.memories.now.each (tokens_of c.args.row.now) c.loop-j.builder.tokens c.loop-j.j
-    c.requires.tokens (omega (arith, test, width)) c.loop-j.invariant.made
+    let all = fill_all c.args.parentheses c.args.memories.now.each (tokens_of c.args.row.now) c.loop-j.j (omega (arith, past, width)) c.requires.width in (
+      Values,
+      _,
+      rw all at c.loop-j.invariant.made,
+      some_filled c.args.parentheses c.args.memories.now.each (tokens_of c.args.row.now) c.requires.tokens,
+    )
+
+pub returns : goal.returns
+returns c =
+    let past = c.loop-j-test.false in
+    let width = c.width-j-end.ensures in
+    let all = fill_all c.args.parentheses c.args.memories.now.each (tokens_of c.args.row.now) c.loop-j.j (omega (arith, past, width)) c.requires.width in
+    c.finish.ensures _ _ (rw all at c.loop-j.invariant.made)

@@ -1,11 +1,11 @@
-use Rattle.std.proofs.Common.{◌≡◌, ℕ, List, None, sym, refl, subst, inl}
+use Rattle.std.proofs.Common.{◌≡◌, ℕ, List, None, sym, refl, subst}
 use Rattle.hum_bundle.specs.Parts.{score_of}
 use Rattle.hum_plan.specs.declared.stages.PlanStage.{PlanStage}
 use Rattle.hum_plan.specs.Seen.{stages_of}
 use Rattle.hum_plan.specs.Grammar.{IsPlanOf}
 use Rattle.hum_pipeline.specs.Nodes.{AreTold}
 use Rattle.hum_pipeline.specs.Bundles.{bytes_by, first_lacking}
-use Rattle.hum_pipeline.proofs.Bundling.{run_comes, slice_tells, refusal_writes_none, lack_writes_none, unmarked, refusal_reads_none, lack_reads_none}
+use Rattle.hum_pipeline.proofs.Bundling.{run_comes, pick_plan, slice_tells, refusal_writes_none, lack_writes_none, unmarked, refusal_reads_none, lack_reads_none}
 use Rattle.hum_pipeline.proofs.bundles.run_bundle.Goals as goal
 
 pub returns-clause-comes : goal.returns-clause-comes
@@ -24,11 +24,8 @@ returns-clause-picked g c =
     let plan = subst (λ (text : List ℕ). IsPlanOf text (stages_of c.in-Ok.stages.items)) c.plan_part.ensures c.in-Ok.ensures.plan in
     let told = subst (λ (s : List PlanStage). AreTold slice_tells (bytes_by score (stages_of s)) 0 s
     c.in-Ok-readers.readers.items) c.deref.ensures.value c.in-Ok-readers.ensures.told in
-    inl (record {
-      stages = stages_of c.in-Ok.stages.items;
-      plan = plan;
-      picked = c.run_stages-end.ensures.picked (bytes_by score (stages_of c.in-Ok.stages.items)) told;
-    })
+    let picked = c.run_stages-end.ensures.picked (bytes_by score (stages_of c.in-Ok.stages.items)) told in
+    pick_plan _ _ score _ _ _ _ (stages_of c.in-Ok.stages.items) plan picked
 
 pub returns-in-Err-clause-marked : goal.returns-in-Err-clause-marked
 returns-in-Err-clause-marked g c =

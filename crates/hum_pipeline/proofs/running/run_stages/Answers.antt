@@ -1,6 +1,6 @@
-use Rattle.std.proofs.Common.{◌<◌, arith}
+use Rattle.std.proofs.Common.{◌<◌, arith, refl, inl, inr}
 use Rattle.hum_pipeline.proofs.Going.{scene_of, first_now, is_first, all_tell, all_begun, net_at}
-use Rattle.hum_pipeline.proofs.Going.{has_written, is_valid, nothing_written, nothing_picked, lawful_tree, few_nodes, no_read_failed}
+use Rattle.hum_pipeline.proofs.Going.{has_written, is_valid, nothing_written, lawful_tree, few_nodes, no_read_failed}
 use Rattle.hum_plan.specs.Seen.{stages_of}
 use Rattle.hum_pipeline.proofs.running.run_stages.Goals as goal
 
@@ -38,22 +38,23 @@ returns-in-Ok-new-clause-picked g c bytes told =
     c.requires.tree some c.in-Ok.ensures.fits in
     let ran = c.run-result.ensures.whole _ (scene_of bytes bytes stages c.args.link) first_now
     (rw c.in-Ok-new.ensures.nodes tells) at.0 in
-    record {
+    inl (record {
       turns = ran.runs.leads.turns;
       first = first_now;
       last = ran.runs.leads.to;
       is_first = is_first;
       driven = ran.runs.leads.driven;
-    }
+      over = ran.runs.over;
+    })
 
 pub returns-in-Err-clause-wrote : goal.returns-in-Err-clause-wrote
 returns-in-Err-clause-wrote g c = λ bytes told. rw c.in-Err.ensures.err (nothing_written _ _ _ (g.W.Sink.flushed c.args.sink))
 
 pub returns-in-Err-clause-picked : goal.returns-in-Err-clause-picked
-returns-in-Err-clause-picked g c = λ bytes told. nothing_picked _ bytes _ _ _
+returns-in-Err-clause-picked g c = λ bytes told. inr (refl, refl)
 
 pub returns-in_default-clause-picked : goal.returns-in_default-clause-picked
-returns-in_default-clause-picked g c = λ bytes told. nothing_picked _ bytes _ _ _
+returns-in_default-clause-picked g c = λ bytes told. inr (refl, refl)
 
 pub returns-in-Ok-new-clause-marked : goal.returns-in-Ok-new-clause-marked
 returns-in-Ok-new-clause-marked g c =

@@ -1,4 +1,4 @@
-use Rattle.std.proofs.Common.{◌≡◌, ◌∙◌, sym, subst, take, Ok, false}
+use Rattle.std.proofs.Common.{◌≡◌, ◌∙◌, sym, subst, Ok, false}
 use Rattle.hum_record.specs.Spelling.{is_comment, kind_of_tokens, parts}
 use Rattle.hum_record.specs.Cutting.{IsCut}
 use Rattle.hum_record.specs.declared.tokens.Cut.TheVariants.{Plain, Whole}
@@ -8,14 +8,14 @@ use Rattle.hum_record.proofs.reading.cut.Goals as goal
 
 pub returns-in-Plain-clause-fields : goal.returns-in-Plain-clause-fields
 returns-in-Plain-clause-fields c =
-    let text = take c.args.len c.args.held.now in
+    let text = c.args.text.now in
     let comment : is_comment text ≡ false = sym c.is_global.ensures ∙ c.if-is_global.false in
     let cut : IsCut text c.push_ends.new.ends.items Plain = subst (IsCut text c.push_ends.new.ends.items) c.in-Plain.is c.in_ok-push_ends.ensures in
     spined_fields text c.push_ends.new.ends.items Values c.requires.at_most c.requires.one_line cut.0 comment cut.2 cut.1
 
 pub returns-in_ok-lawful_kind-in-Whole-clause-fields : goal.returns-in_ok-lawful_kind-in-Whole-clause-fields
 returns-in_ok-lawful_kind-in-Whole-clause-fields c =
-    let text = take c.args.len c.args.held.now in
+    let text = c.args.text.now in
     let comment : is_comment text ≡ false = sym c.is_global.ensures ∙ c.if-is_global.false in
     let cut : IsCut text c.push_ends.new.ends.items Whole = subst (IsCut text c.push_ends.new.ends.items) c.in-Whole.is c.in_ok-push_ends.ensures in
     let kind : kind_of_tokens (parts text) ≡ Ok c.in_ok-lawful_kind-in-Whole.field-0 = sym c.in_ok-lawful_kind-in-Whole.ensures in

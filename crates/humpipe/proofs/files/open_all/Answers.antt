@@ -7,7 +7,7 @@ pub loop-k-preserved : goal.loop-k-preserved
 loop-k-preserved c =
     let here = ap Some c.index-stages-k.is ∙ sym (slice_get-get_or c.args.stages.now c.loop-k.k c.index-stages-k.result c.loop-k-test.true) in
     counted_next c.args.stages.now c.loop-k.k c.index-stages-k.result (length c.loop-k.readers.items)
-    (length c.add_reader.new.readers.items) c.loop-k.invariant here c.in_ok-add_reader.ensures
+    (length c.add_reader.new.readers.items) c.loop-k.invariant here c.in_ok-add_reader.ensures.added
 
-pub returns : goal.returns
-returns c = counted_all c.args.stages.now c.loop-k.k (length c.loop-k.readers.items) c.loop-k.invariant c.loop-k-test.false
+pub returns-clause-count : goal.returns-clause-count
+returns-clause-count c = counted_all c.args.stages.now c.loop-k.k (length c.loop-k.readers.items) c.loop-k.invariant c.loop-k-test.false

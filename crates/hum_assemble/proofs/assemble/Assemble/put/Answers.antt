@@ -1,29 +1,38 @@
 use Rattle.std.proofs.Common.{◌∙◌, sym, arith}
 use Rattle.hum_assemble.proofs.Calls.{within_ahead, empty_ahead, sound_put, not_spent, alive}
-use Rattle.hum_assemble.proofs.Calls.{with_spent, put_here, put_other, has_grown}
+use Rattle.hum_assemble.proofs.Calls.{with_spent, wanted_waits, put_here, put_other, has_grown}
 use Rattle.hum_assemble.proofs.assemble.Assemble.put.Goals as goal
 
 pub index_mut-requires : goal.index_mut-requires
 index_mut-requires c =
     let a = c.self.invariant.alive c.if-self.false in
-    let w = within_ahead c.self.inside.sources.items c.self.inside.given c.in-Wants.j
-    (sym a.next ∙ c.in-Wants.is) in
+    let r = rw (← c.self.view_is) at c.requires in
+    let e = wanted_waits c.self.inside.stage
+    (record { sources = c.self.inside.sources.items; given = c.self.inside.given })
+    c.self.inside.spent c.args.source _ c.args.next c.if-self.false r (sym a.next ∙ c.in-Wants.is) in
+    let w = within_ahead c.self.inside.sources.items c.self.inside.given c.args.source e in
     let l = c.self.inside.sources.ok.0 in
     omega (arith, w, l)
 
 pub put-requires-clause-empty : goal.put-requires-clause-empty
 put-requires-clause-empty c =
     let a = c.self.invariant.alive c.if-self.false in
-    empty_ahead c.self.inside.sources.items c.self.inside.given c.in-Wants.j _
-    (sym a.next ∙ c.in-Wants.is) c.index_mut.ensures.value
+    let r = rw (← c.self.view_is) at c.requires in
+    let e = wanted_waits c.self.inside.stage
+    (record { sources = c.self.inside.sources.items; given = c.self.inside.given })
+    c.self.inside.spent c.args.source _ c.args.next c.if-self.false r (sym a.next ∙ c.in-Wants.is) in
+    empty_ahead c.self.inside.sources.items c.self.inside.given c.args.source _ e c.index_mut.ensures.value
 
 pub put-requires-clause-sound : goal.put-requires-clause-sound
 put-requires-clause-sound c =
     let a = c.self.invariant.alive c.if-self.false in
     let r = rw (← c.self.view_is) at c.requires in
+    let e = wanted_waits c.self.inside.stage
+    (record { sources = c.self.inside.sources.items; given = c.self.inside.given })
+    c.self.inside.spent c.args.source _ c.args.next c.if-self.false r (sym a.next ∙ c.in-Wants.is) in
     sound_put c.self.inside.stage
     (record { sources = c.self.inside.sources.items; given = c.self.inside.given })
-    c.args.source c.in-Wants.j c.args.next _ (sym a.next ∙ c.in-Wants.is) c.index_mut.ensures.value
+    c.args.source c.args.next _ e c.index_mut.ensures.value
     (not_spent c.self.inside.stage
     (record { sources = c.self.inside.sources.items; given = c.self.inside.given })
     c.self.inside.spent c.args.source c.args.next c.if-self.false r)
@@ -31,10 +40,14 @@ put-requires-clause-sound c =
 pub returns-in-Wants-clause-ok : goal.returns-in-Wants-clause-ok
 returns-in-Wants-clause-ok c = λ t h w.
     let a = c.self.invariant.alive c.if-self.false in
+    let r = rw (← c.self.view_is) at c.requires in
+    let e = wanted_waits c.self.inside.stage
+    (record { sources = c.self.inside.sources.items; given = c.self.inside.given })
+    c.self.inside.spent c.args.source _ c.args.next c.if-self.false r (sym a.next ∙ c.in-Wants.is) in
     let h' = rw (← c.self.view_is) at h in
     with_spent _ _ _ _ c.if-self.false
-    (put_here _ _ _ t _ _ _ _ _ (alive _ _ _ _ c.if-self.false h')
-    (sym a.next ∙ c.in-Wants.is) w c.index_mut.ensures.value c.put.ensures.put)
+    (put_here _ _ _ t _ _ _ _ (alive _ _ _ _ c.if-self.false h')
+    e w c.index_mut.ensures.value c.put.ensures.put)
 
 pub returns-in-Wants-clause-grows : goal.returns-in-Wants-clause-grows
 returns-in-Wants-clause-grows c = λ t h w.

@@ -16,6 +16,7 @@ returns-in_default c =
       moves = kept ∙ stays.2;
       after = rw stays.1 refl;
       sources = rw kept stays.3;
+      free = λ steady err. cc;
       spent = tt;
       again = λ spent. search rules;
     }

@@ -1,11 +1,23 @@
+use Rattle.std.proofs.Common.{◌≡◌, ◌∙◌, ℕ, List, length, take, ap₂, rules, arith}
+use Rattle.std.proofs.lemmas.List.{take_all}
 use Rattle.hum_record.proofs.Laws.{gives_found, gives_only, gives_broken}
 use Rattle.hum_record.proofs.reading.Record.parse.Goals as goal
 
+-- all of what is held
+whole : (len : ℕ) (held text : List ℕ) → len ≡ length text → held ≡ text → take len held ≡ text
+whole len held text size is = ap₂ take size is ∙ take_all (length text) text (omega arith)
+
 pub returns-clause-found : goal.returns-clause-found
-returns-clause-found c = gives_found c.of_text.result c.args.text.items c.requires.at_most c.requires.one_line c.of_text.ensures
+returns-clause-found c =
+    gives_found c.parse_into.result c.args.text.items c.requires.at_most c.requires.one_line
+    (rw (whole c.len.result c.deref.result.now c.args.text.items (search rules) c.deref.ensures.value) at c.parse_into.ensures)
 
 pub returns-clause-only : goal.returns-clause-only
-returns-clause-only c = gives_only c.of_text.result c.args.text.items c.of_text.ensures
+returns-clause-only c =
+    gives_only c.parse_into.result c.args.text.items
+    (rw (whole c.len.result c.deref.result.now c.args.text.items (search rules) c.deref.ensures.value) at c.parse_into.ensures)
 
 pub returns-clause-broken : goal.returns-clause-broken
-returns-clause-broken c = gives_broken c.of_text.result c.args.text.items c.of_text.ensures
+returns-clause-broken c =
+    gives_broken c.parse_into.result c.args.text.items
+    (rw (whole c.len.result c.deref.result.now c.args.text.items (search rules) c.deref.ensures.value) at c.parse_into.ensures)

@@ -1,7 +1,7 @@
 use Rattle.std.proofs.Common.{◌+◌, ◌<◌, ◌≤◌, ◌++◌, ◌∷◌, [], length, length-take, subst, take, arith}
 use Rattle.hum_text.specs.Text.{IsLawful}
 use Rattle.hum_text.proofs.ReadingLemmas.{to-line}
-use Rattle.hum_text.proofs.GivenLine.{given-line, no-line-at}
+use Rattle.hum_text.proofs.GivenLine.{given-line}
 use Rattle.hum_text.proofs.reader.LineReader.sound_line.Goals as goal
 
 pub returns-in-Some-clause-line : goal.returns-in-Some-clause-line
@@ -18,11 +18,3 @@ returns-in-Some-clause-line g c = λ _.
     subst (λ w. w.taken + (length (take c.args.k w.pending) + 1) ≤ w.limits.bytes) c.self.view_is end in
     let bytes : v.taken + (c.args.k + 1) ≤ v.limits.bytes = omega (arith, within, length-take c.args.k v.pending, first.0.high) in
     given-line v _ c.args.k c.requires.sound first lawful records bytes c.hand_out_line.ensures
-
-pub returns-in-None-clause-none : goal.returns-in-None-clause-none
-returns-in-None-clause-none g c = λ _ has.
-    let v = c.args.self.now in
-    let none = rw c.pending.ensures at c.in-None.ensures.none in
-    let unlawful : IsLawful v.limits (v.given + 1) v.taken (take c.args.k v.pending ++ 10 ∷ []) → ⊥ =
-    subst (λ w. IsLawful w.limits (w.given + 1) w.taken (take c.args.k w.pending ++ 10 ∷ []) → ⊥) c.self.view_is none in
-    no-line-at v c.args.k c.requires.first unlawful has

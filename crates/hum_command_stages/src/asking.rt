@@ -1,0 +1,58 @@
+//! Stages that tell what they are ready for after each of their calls.
+ghost use Rattle.std.specs.Prelude.{◌⊎◌, IfOk, OnOk, OnErr, IsErr};
+ghost use Rattle.hum_stage.specs.Meaning.{MayPut, MayEnd, HasPut, HasEnded, HasTaken, LeavesFewer};
+ghost use Rattle.hum_command_stages.specs.Asking.{Knows};
+
+use hum_record::Record;
+use hum_stage::{AtOnce, Decides, End, Lagging, LooksAhead, Readiness, Stage};
+use std::alloc::AllocError;
+
+/// A stage whose calls tell what it is ready for then.
+pub trait Asks: Stage {
+    /// Puts one record more into a stage that wants it.
+    #[inline(always)]
+    fn put_and_ask(&mut self, readiness: &mut Readiness, next: Record) -> Result<(), AllocError>
+        requires { Self.spent self.old ⊎ MayPut (Knows (Self.stands self.old) readiness.old) next }
+        ensures ok { OnOk result (HasPut (Knows (Self.stands self.old) readiness.old)
+            (Knows (Self.stands self.new) readiness.new) next) }
+        ensures err { OnErr result (Self.spent self.new) }
+        ensures stays_spent { Self.spent self.old → IsErr result }
+    {
+        let done = self.put(next);
+        *readiness = self.readiness();
+        done
+    }
+
+    /// Says that no record comes any more.
+    #[inline(always)]
+    fn end_and_ask(&mut self, readiness: &mut Readiness, end: End)
+        requires { Self.spent self.old ⊎ MayEnd (Knows (Self.stands self.old) readiness.old) end }
+        ensures ended { HasEnded (Knows (Self.stands self.old) readiness.old)
+            (Knows (Self.stands self.new) readiness.new) end }
+        ensures stays_spent { Self.spent self.old → Self.spent self.new }
+    {
+        self.end(end);
+        *readiness = self.readiness();
+    }
+
+    /// The next record that is settled, if there is one.
+    #[inline(always)]
+    fn take_and_ask(&mut self, readiness: &mut Readiness) -> Result<Option<Record>, AllocError>
+        ensures ok { IfOk result (HasTaken (Knows (Self.stands self.old) readiness.old)
+            (Knows (Self.stands self.new) readiness.new)) }
+        ensures fewer { IfOk result
+            (λ taken. LeavesFewer taken (Self.left self.old) (Self.left self.new)) }
+        ensures err { OnErr result (Self.spent self.new) }
+        ensures stays_spent { Self.spent self.old → IsErr result }
+    {
+        let taken = self.take();
+        *readiness = self.readiness();
+        taken
+    }
+}
+
+// One impl for every stage would leave a call without a proof where the stage holds a pattern.
+
+impl<C: Decides> Asks for AtOnce<C> {}
+
+impl<C: LooksAhead> Asks for Lagging<C> {}
