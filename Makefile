@@ -61,16 +61,21 @@ grep -v '^== \|^statements \|^library \|^logic\|^crate \|^checked \|^axioms \|^s
 echo "not built: the whole log is $(log)"
 endef
 
-# The crates that most others wait for are proved one after another, each with as many processors as it can use, and beside
-# them hum_pattern, hum_kern and hum_text, which stand on none of these; all others side by side, each as soon as it can be.
+# The crates that most others wait for are proved one after another, and beside them some that stand on none of these; all
+# others side by side, each as soon as it can be, and hum_line, which none of them uses, while these begin; then the program,
+# by one job: each further one loads all libraries, and with four it takes half as long again.
 define prove
 alone() { for crate; do echo "== $$crate"; (cd crates/$$crate && rt lib) || return; done; }; \
 together() { (cd crates/$$1 && rt all check --jobs $(JOBS)); }; \
+beside() { \
+	alone $$1 >$(log).beside 2>&1 & other=$$!; \
+	shift; "$$@"; one=$$?; \
+	wait $$other; other=$$?; cat $(log).beside; \
+	test $$one = 0 && test $$other = 0; \
+}; \
 trap 'kill 0' INT; \
-alone hum_pattern hum_kern hum_text >$(log).leaves 2>&1 & leaves=$$!; \
-alone hum_record hum_path hum_stage; lowest=$$?; wait $$leaves; leaves=$$?; cat $(log).leaves; \
-test $$lowest = 0 && test $$leaves = 0 && together hum_pipeline && alone hum_line && \
-echo '== humpipe' && (cd crates/humpipe && rt check)
+beside 'hum_pattern hum_kern hum_text' alone hum_record hum_path hum_stage && beside hum_line together hum_pipeline && \
+echo '== humpipe' && (cd crates/humpipe && rt check --jobs 1)
 endef
 
 humpipe: crates.txt $(files)
