@@ -90,7 +90,20 @@ impl Record {
         requires within { len ≤ length held.now }
         requires at_most { length (take len held.now) ≤ 1048576 }
         requires one_line { has_byte 10 (take len held.now) ≡ false }
-        ensures { Gives result (reading (take len held.now)) }
+
+        // What is read has this text.
+        ensures found { IfOk result (λ read. IsTextOf read (take len held.now)) }
+
+        // The text of a record is read as that record, unless memory runs out.
+        ensures only { (row : Row) → IsTextOf row (take len held.now) →
+            MatchResult result (λ read. read ≡ row) (λ fault. fault ≡ Memory) }
+
+        // A fault is told only of a text that breaks its rule.
+        ensures broken { IfErr result (λ fault. fault ≢ Memory
+            → Breaks fault (take len held.now)) }
+
+        // Which fault it is.
+        ensures exact { Gives result (reading (take len held.now)) }
     {
         if len <= NEAR && held.len() >= NEAR {
             if let Some(ends) = plain_ends(held, len) {

@@ -1,6 +1,5 @@
 use Rattle.std.proofs.Common.{◌≡◌, ◌∙◌, ℕ, List, length, take, ap₂, rules, arith}
 use Rattle.std.proofs.lemmas.List.{take_all}
-use Rattle.hum_record.proofs.Laws.{gives_found, gives_only, gives_broken}
 use Rattle.hum_record.proofs.reading.Record.parse.Goals as goal
 
 -- all of what is held
@@ -9,15 +8,12 @@ whole len held text size is = ap₂ take size is ∙ take_all (length text) text
 
 pub returns-clause-found : goal.returns-clause-found
 returns-clause-found c =
-    gives_found c.parse_into.result c.args.text.items c.requires.at_most c.requires.one_line
-    (rw (whole c.len.result c.deref.result.now c.args.text.items (search rules) c.deref.ensures.value) at c.parse_into.ensures)
+    rw (whole c.len.result c.deref.result.now c.args.text.items (search rules) c.deref.ensures.value) at c.parse_into.ensures.found
 
 pub returns-clause-only : goal.returns-clause-only
 returns-clause-only c =
-    gives_only c.parse_into.result c.args.text.items
-    (rw (whole c.len.result c.deref.result.now c.args.text.items (search rules) c.deref.ensures.value) at c.parse_into.ensures)
+    rw (whole c.len.result c.deref.result.now c.args.text.items (search rules) c.deref.ensures.value) at c.parse_into.ensures.only
 
 pub returns-clause-broken : goal.returns-clause-broken
 returns-clause-broken c =
-    gives_broken c.parse_into.result c.args.text.items
-    (rw (whole c.len.result c.deref.result.now c.args.text.items (search rules) c.deref.ensures.value) at c.parse_into.ensures)
+    rw (whole c.len.result c.deref.result.now c.args.text.items (search rules) c.deref.ensures.value) at c.parse_into.ensures.broken
