@@ -1,17 +1,19 @@
 -- Texts that are joined by spaces make a lawful token.
-use Rattle.std.proofs.Common.{◌≡◌, ◌≢◌, refl, sym, ◌∙◌, ℕ, ◌≤◌, ◌==◌, false, List, [], ◌∷◌, ◌++◌, length, append_assoc, arith}
-use Rattle.std.specs.Prelude.{Result, Ok, Option, None}
+use Rattle.std.proofs.Common.{◌≡◌, ◌≢◌, refl, sym, ◌∙◌, ℕ, ◌==◌, false, List, [], ◌∷◌, ◌++◌, append_assoc, arith}
 use Rattle.std.specs.List.{AllByRecursion}
 use Rattle.std.proofs.lemmas.List.Folds.{list_any-append}
 use Rattle.std.proofs.lemmas.Bool.{or_parts}
 use Rattle.std.proofs.lemmas.Bool.Decides.{nat_tests}
-use lib.Chars.{codes}
 use Rattle.hum_record.specs.declared.SpinedKind.TheVariants.{Local, Values}
 use Rattle.hum_record.specs.Spelling.{has_byte, is_comment, kind_of_token, IsToken}
 use Rattle.hum_path.proofs.Cases.{by_bool}
-use Rattle.hum_stage.specs.declared.faults.Rule.{Rule}
-use Rattle.hum_tones.specs.Subtokens.{joined, IsPiece, given_by, if_given, IsRetold}
-use Rattle.hum_tones.proofs.SoFar.{spaced, SoFar, all_given}
+use Rattle.hum_tones.specs.Subtokens.{joined}
+use Rattle.hum_tones.proofs.Parts.{IsPiece}
+
+-- texts, each with a space behind it
+abbrev pub spaced : List (List ℕ) → List ℕ
+spaced [] = []
+spaced (text ∷ texts) = text ++ (32 ∷ spaced texts)
 
 -- without the last space
 pub spaced_joined : (text : List ℕ) (texts : List (List ℕ)) → spaced (text ∷ texts) ≡ joined (text ∷ texts) ++ 32 ∷ []
@@ -80,32 +82,3 @@ joined_lawful (text ∷ texts) all =
       of_kind = kind;
       no_comment = no_comment (joined (text ∷ texts)) kind;
     }
-
--- Where all parts have given their texts, the token is what they make without the last space.
-pub none_given : (gives : List ℕ → Result (Option (List ℕ)) Rule) (parts : List (List ℕ)) (n : ℕ) (text : List ℕ) → SoFar gives parts n text
-    → length parts ≤ n → text ≡ [] → (after : List ℕ) → after ≡ codes "." → IsRetold (if_given (given_by gives parts)) after None
-none_given gives parts n text h past empty after is = go h.done h.pieces (all_given gives parts n text h past) (sym h.made ∙ empty)
-  where
-    go : (done : List (List ℕ)) → AllByRecursion IsPiece done → given_by gives parts ≡ Ok done →
-        spaced done ≡ [] → IsRetold (if_given (given_by gives parts)) after None
-    go [] all given e = rw (given, is) (refl, joined_lawful [] tt)
-    go (first ∷ done) all given e = absurd (nothing first (spaced done) e)
-      where
-        nothing : (xs ys : List ℕ) → xs ++ (32 ∷ ys) ≡ [] → ⊥
-        nothing [] ys e = cc
-        nothing (x ∷ xs) ys e = cc
-
-pub some_given : (gives : List ℕ → Result (Option (List ℕ)) Rule) (parts : List (List ℕ)) (n : ℕ) (text : List ℕ) → SoFar gives parts n text
-    → length parts ≤ n → (after : List ℕ) (last : ℕ) → text ≡ after ++ last ∷ [] → IsRetold (if_given (given_by gives parts)) after None
-some_given gives parts n text h past after last cut = go h.done h.pieces (all_given gives parts n text h past) (sym h.made ∙ cut)
-  where
-    go : (done : List (List ℕ)) → AllByRecursion IsPiece done → given_by gives parts ≡ Ok done →
-        spaced done ≡ after ++ last ∷ [] → IsRetold (if_given (given_by gives parts)) after None
-    go [] all given e = absurd (nothing after e)
-      where
-        nothing : (xs : List ℕ) → [] ≡ xs ++ last ∷ [] → ⊥
-        nothing [] e = cc
-        nothing (x ∷ xs) e = cc
-    go (first ∷ done) all given e =
-        let same = fronts (joined (first ∷ done)) after 32 last (sym (spaced_joined first done) ∙ e) in
-        rw (given, ← same) (refl, joined_lawful (first ∷ done) all)

@@ -5,10 +5,10 @@ pub mod Heard
 pub mod Parts
 pub mod Written
 pub mod Numbers
-pub mod SoFar
 pub mod Joined
-pub mod Moved
+pub mod SoFar
 pub mod MovedLawful
+pub mod GivenLawful
 pub mod MintedLawful
 pub mod LastNotes
 pub mod MintSteps

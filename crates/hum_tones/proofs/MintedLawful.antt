@@ -13,8 +13,8 @@ use Rattle.hum_pitch.specs.Spelling.{spelling}
 use Rattle.hum_pitch.specs.Intervals.{direction, sign, quality, quality_letters, size, named}
 use Rattle.hum_pitch.specs.declared.pitch.Pitch.{Pitch}
 use Rattle.hum_pitch.proofs.Names.{AreOver, name_over}
-use Rattle.hum_tones.specs.Subtokens.{IsPiece}
 use Rattle.hum_tones.specs.Mint.{approached}
+use Rattle.hum_tones.proofs.Parts.{IsPiece}
 use Rattle.hum_tones.proofs.MovedLawful.{both_lack, spelling_lacks}
 use Rattle.hum_tones.proofs.Numbers.{number_piece}
 use Rattle.hum_tones.proofs.Joined.{no_comment}

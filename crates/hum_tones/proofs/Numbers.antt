@@ -14,8 +14,9 @@ use Rattle.hum_record.specs.declared.SpinedKind.TheVariants.{Interpretation}
 use Rattle.hum_record.specs.Spelling.{has_byte, IsToken}
 use Rattle.hum_pitch.specs.Pitch.{Spelled, semitones, IsWithin}
 use Rattle.hum_kern.specs.Note.{Reading, note}
-use Rattle.hum_tones.specs.Subtokens.{IsPiece, HasAdded}
+use Rattle.hum_tones.specs.Subtokens.{HasAdded}
 use Rattle.hum_tones.specs.Semits.{semits_of}
+use Rattle.hum_tones.proofs.Parts.{IsPiece}
 use lib.Chars.{codes}
 
 record IsDigit (b : ℕ) : Type 0 where
@@ -94,10 +95,9 @@ number_piece (negsuc n) fits =
 -- the semitones of a part
 pub adds_semitones : (ties : Bool) (part : List ℕ) (reading : Reading) (pitch : Spelled) (before after : List ℕ)
     → Ok reading ≡ note part → reading.rest ≡ false → reading.pitch ≡ Some pitch
-    → (ties && reading.continued) ≡ false → mag (semitones pitch) < 2 ^ 63
-    → after ≡ before ++ (signed_decimal (semitones pitch) ++ codes " ") → HasAdded (semits_of ties part) before after None
-adds_semitones ties part reading pitch before after is no_rest some kept fits made =
-    rw (← is) (rw no_rest (rw some (rw kept (made, number_piece (semitones pitch) fits))))
+    → (ties && reading.continued) ≡ false → after ≡ before ++ (signed_decimal (semitones pitch) ++ codes " ") → HasAdded (semits_of ties part) before after None
+adds_semitones ties part reading pitch before after is no_rest some kept made =
+    rw (← is) (rw no_rest (rw some (rw kept made)))
 
 pub mag_within : (z : ℤ) → IsWithin (negsuc 102) z (pos 102) → mag z < 2 ^ 63
 mag_within (pos n) within = omega (arith, ints)

@@ -1,11 +1,11 @@
--- The parts of a lawful token.
-use Rattle.std.proofs.Common.{◌≡◌, refl, ℕ, ◌<◌, ◌==◌, false, List, [], ◌∷◌, length, get_or, arith, zero, suc}
+-- The parts of a lawful token, and texts that may stand in one.
+use Rattle.std.proofs.Common.{◌≡◌, ◌≢◌, refl, ℕ, ◌==◌, false, List, [], ◌∷◌}
 use Rattle.std.specs.List.{AllByRecursion, onto_first}
 use Rattle.std.proofs.lemmas.Bool.{or_parts}
 use Rattle.hum_record.specs.declared.SpinedKind.TheVariants.{Values}
-use Rattle.hum_record.specs.Spelling.{has_byte, IsToken}
+use Rattle.hum_record.specs.Spelling.{has_byte, kind_of_token}
 use Rattle.hum_path.proofs.Cases.{by_bool}
-use Rattle.hum_tones.specs.Subtokens.{subtokens, IsPart}
+use Rattle.hum_tones.specs.Subtokens.{subtokens}
 
 abbrev pub Lack : ℕ → List (List ℕ) → Type 0
 Lack c = AllByRecursion (λ part. has_byte c part ≡ false)
@@ -22,15 +22,20 @@ parts_lack c (x ∷ xs) h =
     let rest = parts_lack c xs both.1 in
     by_bool (x == 32) (λ w. rw w (refl, rest)) (λ w. rw w (onto_lacks c x (subtokens xs) both.0 rest))
 
-lacks_at : (c : ℕ) (parts : List (List ℕ)) (n : ℕ) (d : List ℕ) → n < length parts → Lack c parts → has_byte c (get_or parts n d) ≡ false
-lacks_at c [] n d below all = absurd (omega arith)
-lacks_at c (part ∷ parts) zero d below all = all.0
-lacks_at c (part ∷ parts) (suc n) d below all = lacks_at c parts n d (omega arith) all.1
+-- a text that may stand in a token
+pub record IsPart (text : List ℕ) : Type 0 where
+  pub one_token : has_byte 9 text ≡ false
+  pub one_line : has_byte 13 text ≡ false
+  pub no_line_end : has_byte 10 text ≡ false
+
+-- one that may stand at the front of a data token
+pub record IsPiece (text : List ℕ) : Type 0 where
+  pub part : IsPart text
+  pub filled : text ≢ []
+  pub of_kind : kind_of_token text ≡ Values
 
 -- each part of a lawful token may stand in one
-pub part_at : (token : List ℕ) (n : ℕ) (d : List ℕ) → n < length (subtokens token) → IsToken Values token → IsPart (get_or (subtokens token) n d)
-part_at token n d below lawful = record {
-  one_token = lacks_at 9 (subtokens token) n d below (parts_lack 9 token lawful.one_token);
-  one_line = lacks_at 13 (subtokens token) n d below (parts_lack 13 token lawful.one_line);
-  no_line_end = lacks_at 10 (subtokens token) n d below (parts_lack 10 token lawful.no_line_end);
-}
+pub are_parts : (parts : List (List ℕ)) → Lack 9 parts → Lack 13 parts → Lack 10 parts → AllByRecursion IsPart parts
+are_parts [] tabs returns ends = tt
+are_parts (part ∷ parts) tabs returns ends =
+    (record { one_token = tabs.0; one_line = returns.0; no_line_end = ends.0 }, are_parts parts tabs.1 returns.1 ends.1)

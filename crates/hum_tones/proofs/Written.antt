@@ -17,11 +17,13 @@ use Rattle.hum_kern.specs.declared.KernFault.TheVariants.{K3}
 use Rattle.hum_kern.specs.declared.Length.{Length}
 use Rattle.hum_kern.specs.Classes.{is_digit, is_grace_sign}
 use Rattle.hum_kern.specs.Value.{value_of, dotted}
-use Rattle.hum_kern.specs.Duration.{Spelling, duration, said, said_of, with_dots, no_length, is_torn, is_empty, second_length}
+use Rattle.hum_kern.specs.Duration.{Spelling, spelling_of, duration, said, said_of, with_dots, no_length, is_torn, is_empty, second_length}
 use Rattle.hum_kern.specs.Parts.{AreParts, behind_first}
-use Rattle.hum_tones.specs.Subtokens.{IsPart, HasAdded}
+use Rattle.hum_kern.proofs.Parts.{are_parts}
+use Rattle.hum_tones.specs.Subtokens.{HasAdded}
 use Rattle.hum_kern.specs.Note.{is_rest}
-use Rattle.hum_tones.specs.Recip.{written, rest_sign, by_value, recip_of}
+use Rattle.hum_tones.specs.Recip.{written, rest_sign, recip_of}
+use Rattle.hum_tones.proofs.Parts.{IsPart, IsPiece}
 
 place_of : (start end : ℕ) (value : Option Ratio) (dots : ℕ) (found : Length) →
     Ok found ≡ with_dots start end value dots → (found.start ≡ start) × (end ≤ found.end)
@@ -114,29 +116,25 @@ digit_kind text more h =
     let not_star : (h.first == 42) ≡ false = grind (arith, nat_tests, (and_parts (nat_le 48 h.first) (nat_le h.first 57) h.digit).0) in
     rw h.is (rw (not_comment, not_star) refl, λ e. cc)
 
--- the duration of a part with the sign of a rest
-pub adds_written : (part : List ℕ) (parts : Spelling) (found : Length) (before after : List ℕ) →
-    AreParts part parts → Ok found ≡ said_of part parts → Ok found ≡ duration part
-    → IsPart part → found.value ≢ None → after ≡ before ++ ((written found part ++ rest_sign part) ++ codes " ") → HasAdded (recip_of part) before after None
-adds_written part parts found before after are says is lawful some made = rw (← is) (go found.value refl)
+-- the duration of a part, as it is written, with the sign of a rest
+pub written_piece : (part : List ℕ) (found : Length) → Ok found ≡ duration part → found.value ≢ None → IsPart part →
+    IsPiece (written found part ++ rest_sign part)
+written_piece part found is some lawful = record {
+  part = record {
+    one_token = lacks_written 9 found part refl lawful.one_token;
+    one_line = lacks_written 13 found part refl lawful.one_line;
+    no_line_end = lacks_written 10 found part refl lawful.no_line_end;
+  };
+  filled = kind.1;
+  of_kind = kind.0;
+}
   where
     kind : (kind_of_token (written found part ++ rest_sign part) ≡ Values) × (written found part ++ rest_sign part ≢ [])
-    kind = digit_kind (written found part) (rest_sign part) (begins part parts found are says some)
+    kind = digit_kind (written found part) (rest_sign part) (begins part (spelling_of part) found (are_parts part) is some)
 
-    go : (value : Option Ratio) → found.value ≡ value → HasAdded (Ok (by_value value found part)) before after None
-    go None e = absurd (some e)
-    go (Some value) e = (
-      made,
-      record {
-        part = record {
-          one_token = lacks_written 9 found part refl lawful.one_token;
-          one_line = lacks_written 13 found part refl lawful.one_line;
-          no_line_end = lacks_written 10 found part refl lawful.no_line_end;
-        };
-        filled = kind.1;
-        of_kind = kind.0;
-      },
-    )
+pub adds_written : (part : List ℕ) (found : Length) (value : Ratio) (before after : List ℕ) → Ok found ≡ duration part → found.value ≡ Some value →
+    after ≡ before ++ ((written found part ++ rest_sign part) ++ codes " ") → HasAdded (recip_of part) before after None
+adds_written part found value before after is some made = rw (← is) (rw some made)
 
 pub regrouped : (a w r s : List ℕ) → (a ++ w) ++ (r ++ s) ≡ a ++ ((w ++ r) ++ s)
 regrouped a w r s = append_assoc a w (r ++ s) ∙ ap (λ (x : List ℕ). a ++ x) (sym (append_assoc w r s))

@@ -1,16 +1,18 @@
--- The commands that put what its notes give in the place of a token.
+-- The commands that put what its parts give in the place of a token.
 use Rattle.std.specs.Prelude.{ℕ, List, Option, Result}
 use Rattle.hum_stage.specs.declared.faults.Rule.{Rule}
 use Rattle.hum_tones.specs.declared.giving.Giving.{Giving}
-use Rattle.hum_tones.specs.declared.giving.Giving.TheVariants.{Semitones, Durations}
+use Rattle.hum_tones.specs.declared.giving.Giving.TheVariants.{Semitones, Durations, Transposed}
 use Rattle.hum_tones.specs.Semits.{semits_of}
 use Rattle.hum_tones.specs.Recip.{recip_of}
+use Rattle.hum_tones.specs.Trans.{transposed_part}
 use Rattle.hum_tones.specs.Subtokens.{retold}
 
 -- what a part gives
 abbrev pub gives : Giving → List ℕ → Result (Option (List ℕ)) Rule
 gives (Semitones ties_left_out) = semits_of ties_left_out
 gives Durations = recip_of
+gives (Transposed way) = transposed_part way.steps way.semitones
 
 -- what a token becomes
 abbrev pub given : Giving → List ℕ → Result (List ℕ) Rule

@@ -2,8 +2,8 @@ pub mod Subtokens
 pub mod Faults
 pub mod Semits
 pub mod Recip
-pub mod Giving
 pub mod Trans
+pub mod Giving
 pub mod Mint
 pub mod Hearing
 pub mod Memory

@@ -1,10 +1,10 @@
 -- Tokens that are made of what their parts give.
-use Rattle.std.specs.Prelude.{◌≡◌, ◌≢◌, ℕ, false, List, [], ◌∷◌, ◌++◌}
+use Rattle.std.specs.Prelude.{◌≡◌, ℕ, List, [], ◌∷◌, ◌++◌}
 use Rattle.std.specs.Prelude.{Option, None, Some, Result, Ok, Err}
 use Rattle.std.specs.List.{join_with_byte}
 use lib.Chars.{codes}
 use Rattle.hum_record.specs.declared.SpinedKind.TheVariants.{Values}
-use Rattle.hum_record.specs.Spelling.{has_byte, kind_of_token, IsToken}
+use Rattle.hum_record.specs.Spelling.{IsToken}
 pub use Rattle.hum_kern.specs.Subtokens.{subtokens}
 use Rattle.hum_stage.specs.declared.faults.Rule.{Rule}
 
@@ -35,22 +35,10 @@ if_given (Err rule) = Err rule
 abbrev pub retold : (List ℕ → Result (Option (List ℕ)) Rule) → List ℕ → Result (List ℕ) Rule
 retold gives token = if_given (given_by gives (subtokens token))
 
--- a text that may stand in a token
-pub record IsPart (text : List ℕ) : Type 0 where
-  pub one_token : has_byte 9 text ≡ false
-  pub one_line : has_byte 13 text ≡ false
-  pub no_line_end : has_byte 10 text ≡ false
-
--- one that may stand at the front of a data token
-pub record IsPiece (text : List ℕ) : Type 0 where
-  pub part : IsPart text
-  pub filled : text ≢ []
-  pub of_kind : kind_of_token text ≡ Values
-
 -- What a part gives is added, with a space behind it; or the rule is told.
 abbrev pub HasAdded : Result (Option (List ℕ)) Rule → List ℕ → List ℕ → Option Rule → Type 0
 HasAdded (Ok None) before after None = after ≡ before
-HasAdded (Ok (Some text)) before after None = (after ≡ before ++ (text ++ codes " ")) × IsPiece text
+HasAdded (Ok (Some text)) before after None = after ≡ before ++ (text ++ codes " ")
 HasAdded (Ok given) before after (Some rule) = ⊥
 HasAdded (Err refused) before after None = ⊥
 HasAdded (Err refused) before after (Some rule) = rule ≡ refused

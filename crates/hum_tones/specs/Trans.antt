@@ -1,7 +1,6 @@
 -- What the command trans makes of a token: each pitch in it some steps and some semitones away.
-use Rattle.std.specs.Prelude.{◌≡◌, ℕ, ℤ, pos, negsuc, nat_le, Bool, not, List, ◌++◌, take, drop}
+use Rattle.std.specs.Prelude.{ℕ, ℤ, pos, negsuc, nat_le, Bool, not, List, ◌++◌, take, drop}
 use Rattle.std.specs.Prelude.{Option, None, Some, Result, Ok, Err, if◌then◌else◌}
-use lib.Chars.{codes}
 use Rattle.hum_pitch.specs.Pitch.{Spelled, away}
 use Rattle.hum_pitch.specs.Spelling.{spelling}
 use Rattle.hum_kern.specs.declared.KernFault.{KernFault}
@@ -51,11 +50,3 @@ transposed_part n m part = moved_as_read n m part (note part)
 -- what a token becomes
 abbrev pub transposed : ℤ → ℤ → List ℕ → Result (List ℕ) Rule
 transposed n m = retold (transposed_part n m)
-
--- What a part becomes is added, with a space behind it; or the rule is told.
-abbrev pub HasMoved : Result (Option (List ℕ)) Rule → List ℕ → List ℕ → Option Rule → Type 0
-HasMoved (Ok (Some text)) before after None = after ≡ before ++ (text ++ codes " ")
-HasMoved (Ok None) before after None = ⊥
-HasMoved (Ok given) before after (Some rule) = ⊥
-HasMoved (Err refused) before after None = ⊥
-HasMoved (Err refused) before after (Some rule) = rule ≡ refused

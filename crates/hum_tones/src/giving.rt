@@ -3,12 +3,13 @@ ghost use Rattle.std.specs.Prelude.{◌≡◌, ◌++◌, [], codes, ◌&&◌, If
 ghost use Rattle.std.specs.Fmt.{signed_decimal};
 ghost use Rattle.hum_record.specs.declared.SpinedKind.TheVariants.{Values};
 ghost use Rattle.hum_record.specs.Spelling.{IsToken};
-ghost use Rattle.hum_tones.specs.Subtokens.{HasAdded, IsPart, IsRetold};
+ghost use Rattle.hum_tones.specs.Subtokens.{HasAdded, IsRetold};
 ghost use Rattle.hum_kern.specs.Note.{is_rest};
 ghost use Rattle.hum_tones.specs.Faults.{rule_of};
 ghost use Rattle.hum_tones.specs.Recip.{rest_sign, recip_of};
 ghost use Rattle.hum_tones.specs.Semits.{semits_of};
 
+use crate::transposing::Transposition;
 use hum_kern::{KernFault, Note, read_duration, read_note};
 use hum_stage::Rule;
 use itoa::Buffer;
@@ -22,6 +23,8 @@ pub(crate) enum Giving {
     Semitones { ties_left_out: bool },
     /// Its duration, as it is written.
     Durations,
+    /// Itself, with its pitch so far away.
+    Transposed(Transposition),
 }
 
 /// The rule by which a part is refused.
@@ -66,7 +69,6 @@ fn behind(part: &[u8]) -> &'static [u8]
 
 /// Adds the duration of a part as it is written.
 fn add_duration(part: &[u8], text: &mut Vec<u8>) -> Result<Option<Rule>, AllocError>
-    requires { IsPart part.now }
     ensures { IfOk result (HasAdded (recip_of part.now) text.old.items text.new.items) }
 {
     let found = match read_duration(part) {
@@ -128,18 +130,21 @@ impl Giving {
     ghost use Rattle.std.specs.Prelude.{List, ℕ};
     ghost use Rattle.hum_tones.specs.Giving.{gives, given};
 
-    /// Adds what a part gives.
+    /// Adds what a part gives, with a space behind it.
+    #[inline(always)]
     fn add(self, part: &[u8], text: &mut Vec<u8>) -> Result<Option<Rule>, AllocError>
-        requires { IsPart part.now }
         ensures { IfOk result (HasAdded (gives self part.now) text.old.items text.new.items) }
     {
         match self {
             Giving::Semitones { ties_left_out } => add_semitones(part, ties_left_out, text),
             Giving::Durations => add_duration(part, text),
+            Giving::Transposed(transposition) => transposition.add(part, text),
         }
     }
 
-    /// Puts what a data token becomes into the empty text, or answers the rule by which it is refused.
+    /// Puts what a data token becomes into the empty text, or answers the rule by which it is
+    /// refused.
+    #[inline(always)]
     pub(crate) fn retell(self, token: &[u8], text: &mut Vec<u8>) -> Result<Option<Rule>, AllocError>
         requires empty { text.old.items ≡ [] }
         requires lawful { IsToken Values token.now }

@@ -3,10 +3,10 @@ ghost use Rattle.std.specs.Prelude.{◌≡◌, [], IfOk, pos, negsuc};
 ghost use Rattle.hum_record.specs.declared.SpinedKind.TheVariants.{Values};
 ghost use Rattle.hum_record.specs.Spelling.{IsToken};
 ghost use Rattle.hum_pitch.specs.Pitch.{IsWithin};
-ghost use Rattle.hum_tones.specs.Subtokens.{IsRetold};
-ghost use Rattle.hum_tones.specs.Trans.{transposed, transposed_part, HasMoved};
+ghost use Rattle.hum_tones.specs.Subtokens.{HasAdded, IsRetold};
+ghost use Rattle.hum_tones.specs.Trans.{transposed, transposed_part};
 
-use crate::giving::rule_of;
+use crate::giving::{Giving, rule_of};
 use hum_kern::read_note;
 use hum_pitch::{Pitch, PitchFault, push_pitch};
 use hum_stage::Rule;
@@ -35,8 +35,8 @@ impl Transposition {
     }
 
     /// Adds what a part becomes, with a space behind it.
-    fn add(self, part: &[u8], text: &mut Vec<u8>) -> Result<Option<Rule>, AllocError>
-        ensures { IfOk result (HasMoved
+    pub(crate) fn add(self, part: &[u8], text: &mut Vec<u8>) -> Result<Option<Rule>, AllocError>
+        ensures { IfOk result (HasAdded
             (transposed_part self.steps self.semitones part.now) text.old.items text.new.items) }
     {
         let note = match read_note(part) {
@@ -75,17 +75,6 @@ impl Transposition {
         ensures { IfOk result
             (IsRetold (transposed self.steps self.semitones token.now) text.new.items) }
     {
-        for part in token.split(|b| *b == b' ') {
-            if let Some(rule) = self.add(part, text)? {
-                return Ok(Some(rule));
-            }
-        }
-        match text.pop() {
-            Some(_) => Ok(None),
-            None => {
-                text.push(b'.')?;
-                Ok(None)
-            }
-        }
+        Giving::Transposed(self).retell(token, text)
     }
 }

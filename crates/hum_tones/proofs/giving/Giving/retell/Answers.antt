@@ -4,22 +4,12 @@ use Rattle.std.proofs.lemmas.Iterator.Consumers.{YieldsList-turn, YieldsList-end
 use Rattle.std.proofs.lemmas.List.{length_push, nil_from_length}
 use Rattle.hum_tones.specs.Subtokens.{subtokens}
 use Rattle.hum_tones.specs.Giving.{gives}
-use Rattle.hum_tones.proofs.SoFar.{nothing_yet, one_more, refused}
-use Rattle.hum_tones.proofs.Joined.{none_given, some_given}
-use Rattle.hum_tones.proofs.Parts.{part_at}
+use Rattle.hum_tones.proofs.SoFar.{nothing_yet, one_more, refused, none_given, some_given}
+use Rattle.hum_tones.proofs.GivenLawful.{given_lawful}
 use Rattle.hum_tones.proofs.giving.Giving.retell.Goals as goal
 
 pub loop-part-init : goal.loop-part-init
 loop-part-init c = rw c.requires.empty (nothing_yet (gives c.args.self) (subtokens c.args.token.now))
-
-pub add-requires : goal.add-requires
-add-requires c =
-    let start = c.into_iter-part-iterator.ensures.into_iter_gives in
-    let t = YieldsList-turn (YieldsList-from_slice_split {s = c.into_iter-part-iterator.result} _ (λ b. b == 32)
-    c.args.token.now (rw start c.split-part-items.ensures.rest) (rw start c.split-part-items.ensures.done)
-    (rw start c.split-part-items.ensures.closure) (λ x b q k. search rules)) c.loop-part.yielded _
-    c.loop-part.yielded_by _ _ c.in-Some.part c.in-Some.is c.next.ensures.steps in
-    rw t.1 (part_at c.args.token.now (length c.loop-part.yielded) c.in-Some.part.now t.0 c.requires.lawful)
 
 pub returns-in-Some-2 : goal.returns-in-Some-2
 returns-in-Some-2 c =
@@ -53,10 +43,10 @@ returns-in_ok-push-in-None-pop c =
     c.loop-part.yielded_by _ _ c.in-None.is c.next.ensures.steps in
     let length_0 : length c.pop.new.self.items ≡ 0 = omega (arith, (rw c.in-None-pop.is at c.pop.ensures.cases).1, c.pop.new.self.ok.0) in
     let empty : c.pop.new.self.items ≡ [] = nil_from_length c.pop.new.self.items length_0 in
-    none_given (gives c.args.self) (subtokens c.args.token.now) (length c.loop-part.yielded)
-    c.loop-part.text.items c.loop-part.invariant (omega (arith, t.1))
-    ((rw c.in-None-pop.is at c.pop.ensures.items) ∙ rw empty refl) c.push.new.self.items
-    (c.in_ok-push-in-None-pop.ensures.items ∙ rw empty refl)
+    let given = none_given (gives c.args.self) (subtokens c.args.token.now) (length c.loop-part.yielded)
+    c.loop-part.text.items c.loop-part.invariant (omega (arith, t.1)) ((rw c.in-None-pop.is at c.pop.ensures.items) ∙ rw empty refl) in
+    let is = c.in_ok-push-in-None-pop.ensures.items ∙ rw empty refl in
+    rw (given, is) (refl, given_lawful c.args.self c.args.token.now _ given c.requires.lawful)
 
 pub returns-in-Some-pop : goal.returns-in-Some-pop
 returns-in-Some-pop c =
@@ -65,6 +55,7 @@ returns-in-Some-pop c =
     c.args.token.now (rw start c.split-part-items.ensures.rest) (rw start c.split-part-items.ensures.done)
     (rw start c.split-part-items.ensures.closure) (λ x b q k. search rules)) c.loop-part.yielded _
     c.loop-part.yielded_by _ _ c.in-None.is c.next.ensures.steps in
-    some_given (gives c.args.self) (subtokens c.args.token.now) (length c.loop-part.yielded)
+    let given = some_given (gives c.args.self) (subtokens c.args.token.now) (length c.loop-part.yielded)
     c.loop-part.text.items c.loop-part.invariant (omega (arith, t.1)) c.pop.new.self.items _
-    (rw c.in-Some-pop.is at c.pop.ensures.items)
+    (rw c.in-Some-pop.is at c.pop.ensures.items) in
+    rw given (refl, given_lawful c.args.self c.args.token.now c.pop.new.self.items given c.requires.lawful)
