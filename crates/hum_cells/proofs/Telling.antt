@@ -1,5 +1,5 @@
 -- Tokens of a data record, told one by one.
-use Rattle.std.proofs.Common.{◌≡◌, ◌∙◌, refl, sym, ap, ℕ, ◌+◌, ◌<◌, ◌≤◌, Bool, true, false, ◌&&◌, List, [], ◌∷◌, ◌++◌}
+use Rattle.std.proofs.Common.{◌≡◌, ◌∙◌, refl, sym, ap, ℕ, zero, suc, ◌+◌, ◌<◌, ◌≤◌, Bool, true, false, ◌&&◌, List, [], ◌∷◌, ◌++◌}
 use Rattle.std.proofs.Common.{length-append, length, drop, get_or, arith, add-one, drop-cons, append_assoc, append-nil}
 use Rattle.std.specs.Prelude.{None, Result, Ok, Err, nat_lt}
 use Rattle.std.proofs.lemmas.List.{drop_all, length-map}
@@ -11,7 +11,7 @@ use Rattle.hum_record.specs.Row.{Row, Comment, Spined, kind_of, tokens_of, width
 use Rattle.hum_record.specs.Building.{Draft, spelled}
 use Rattle.hum_path.specs.Spines.{exclusives}
 use Rattle.hum_path.specs.Score.{IsOpen, path_after}
-use Rattle.hum_path.specs.Chains.{columns}
+use Rattle.hum_path.specs.Chains.{columns, longer, history}
 use Rattle.hum_path.proofs.Widths.{columns_width, text_width}
 use Rattle.hum_stage.specs.declared.faults.Rule.{Rule}
 use Rattle.hum_stage.specs.declared.faults.Rule.TheVariants.{L1}
@@ -115,6 +115,29 @@ as_wide past (Spined Values tokens) sound k =
       columns_width past sound.0 ∙ sym wide,
       length-map (exclusives (path_after past)) is_kern ∙ sym wide,
     )
+
+longer_at : (tokens : List (List ℕ)) (above : List (List (List ℕ))) (j : ℕ) → j < length tokens → length tokens ≡ length above
+    → get_or (longer tokens above) j [] ≡ get_or tokens j [] ∷ get_or above j []
+longer_at [] above j h e = absurd (omega (arith, h))
+longer_at (t ∷ ts) [] j h e = absurd (omega (arith, e))
+longer_at (t ∷ ts) (chain ∷ above) zero h e = refl
+longer_at (t ∷ ts) (chain ∷ above) (suc j) h e = longer_at ts above j (omega (arith, h)) (omega (arith, e))
+
+-- a column behind a data record: its last cell, and those above
+pub last_cell : (past : List Row) (row : Row) (j : ℕ) (token : List ℕ) → IsOpen (row ∷ past) → kind_of row ≡ AnyValues
+    → j < width_of row → token ≡ get_or (tokens_of row) j [] → history (row ∷ past) j ≡ token ∷ history past j
+last_cell past (Comment text) j token sound k below is = absurd (comment_no_data k)
+last_cell past (Spined Local tokens) j token sound k below is = absurd cc
+last_cell past (Spined Interpretation tokens) j token sound k below is = absurd cc
+last_cell past (Spined Values tokens) j token sound k below is =
+    longer_at tokens (columns past) j below (sym (as_wide past (Spined Values tokens) sound k).0)
+    ∙ ap (λ (t : List ℕ). t ∷ history past j) (sym is)
+
+pub wider : (past : List Row) (row : Row) → IsOpen (row ∷ past) → kind_of row ≡ AnyValues → length (columns (row ∷ past)) ≡ length (columns past)
+wider past (Comment text) sound k = absurd (comment_no_data k)
+wider past (Spined Local tokens) sound k = absurd cc
+wider past (Spined Interpretation tokens) sound k = absurd cc
+wider past (Spined Values tokens) sound k = columns_width (Spined Values tokens ∷ past) sound ∙ sym (columns_width past sound.0)
 
 pub told_data : (retelling : Retelling) (past : List Row) (row : Row) → kind_of row ≡ AnyValues
     → retell retelling past row ≡ data_record (all_retold retelling.becomes (kern_columns past) (columns past) (tokens_of row))

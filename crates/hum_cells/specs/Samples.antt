@@ -24,9 +24,20 @@ abbrev pub is_below_data : List (List ℕ) → Bool
 is_below_data [] = false
 is_below_data (cell ∷ above) = same_kind (kind_of_token cell) Values
 
+-- a column by its last cell: whether the cell above that is data, and whether that is
+pub record Seen : Type 0 where
+  pub below_data : Bool
+  pub is_data : Bool
+
+abbrev pub unseen : Seen
+unseen = record { below_data = false; is_data = false }
+
 -- the same after one cell more
-abbrev pub seen : List ℕ → Bool → Bool
-seen cell below = same_kind (kind_of_token cell) Values
+abbrev pub seen : List ℕ → Seen → Seen
+seen cell column = record {
+  below_data = column.is_data;
+  is_data = same_kind (kind_of_token cell) Values;
+}
 
 -- *y goes behind **kern, and an x before each token below data
 abbrev pub pursued : Retelling

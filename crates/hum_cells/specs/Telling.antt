@@ -23,24 +23,29 @@ abbrev pub shown : Shown → Heading
 shown (ShownRenamed name) = Renamed name.now
 shown (ShownFollowed tandem) = Followed tandem.now
 
--- a column after records that a teller follows
-pub record MayRetell (follows : Retelling → List Row → Type 0) (j : ℕ) : Type 0 where
+-- a column after records that a teller follows, and its last cell
+pub record MayRetell (follows : Retelling → List Row → Type 0) (j : ℕ) (token : List ℕ)
+    : Type 0 where
   pub retelling : Retelling
   pub past : List Row
+  pub above : List (List ℕ)
   pub memory : follows retelling past
   pub column : j < length (columns past)
+  pub cell : history past j ≡ token ∷ above
 
 -- the text that a token becomes, which is a data token, or the rule by which it is refused
 abbrev pub Tells : Result (List ℕ) Rule → List ℕ → Option Rule → Type 0
 Tells becomes text None = (becomes ≡ Ok text) × IsToken Values text
 Tells becomes text (Some rule) = becomes ≡ Err rule
 
--- The token was told by each retelling and each past that the teller follows, and it still follows.
+-- The last cell of a column was told by each retelling and each past that the teller follows, and it
+-- still follows.
 abbrev pub HasRetold : (Retelling → List Row → Type 0) → (Retelling → List Row → Type 0) → ℕ
     → List ℕ → List ℕ → Option Rule → Type 0
 HasRetold before after j token text refused =
-    (retelling : Retelling) (past : List Row) → before retelling past
-    → after retelling past × Tells (retelling.becomes (history past j) token) text refused
+    (retelling : Retelling) (past : List Row) (above : List (List ℕ)) → before retelling past
+    → history past j ≡ token ∷ above
+    → after retelling past × Tells (retelling.becomes above token) text refused
 
 -- a record after records that a teller follows, and where the spines come from
 pub record MayFollow (follows : Retelling → List Row → Type 0) (row : Row) (found : List Move)
@@ -81,22 +86,23 @@ decision row (Other made) = Ok (made ∷ [])
 decision row (With behind) = Ok (row ∷ behind ∷ [])
 decision row (Refused rule) = Err rule
 
--- a record after records that a teller follows, by which columns are under **kern
+-- a record that a teller has followed, by which columns were under **kern in front of it
 pub record MayTell (follows : Retelling → List Row → Type 0) (kern : List Bool) (row : Row)
     : Type 0 where
   pub retelling : Retelling
   pub past : List Row
-  pub memory : follows retelling past
+  pub memory : follows retelling (row ∷ past)
   pub kern_is : kern ≡ kern_columns past
   pub score : IsOpen (row ∷ past)
 
--- What a record becomes by each retelling and each past that a teller followed, and follows still.
+-- What a record becomes by each retelling and each past with which a teller has followed it, and
+-- follows it still.
 abbrev pub HasTold : (Retelling → List Row → Type 0) → (Retelling → List Row → Type 0)
     → List Bool → Row → Told → Type 0
 HasTold before after kern row told =
-    (retelling : Retelling) (past : List Row) → before retelling past → kern ≡ kern_columns past
-    → IsOpen (row ∷ past)
-    → after retelling past × (retell retelling past row ≡ decision row told)
+    (retelling : Retelling) (past : List Row) → before retelling (row ∷ past)
+    → kern ≡ kern_columns past → IsOpen (row ∷ past)
+    → after retelling (row ∷ past) × (retell retelling past row ≡ decision row told)
 
 -- what a token became stands behind the others, or it is refused
 abbrev pub Pushes : Result (List ℕ) Rule → (List (List ℕ) → Type 0) → (List (List ℕ) → Type 0)
@@ -110,9 +116,9 @@ Pushes becomes before after (Some rule) = becomes ≡ Err rule
 abbrev pub HasPushed : (Retelling → List Row → Type 0) → (Retelling → List Row → Type 0) → ℕ → Bool
     → List ℕ → (List (List ℕ) → Type 0) → (List (List ℕ) → Type 0) → Option Rule → Type 0
 HasPushed before after j kern token made making refused =
-    (retelling : Retelling) (past : List Row) → before retelling past
-    → after retelling past
-    × Pushes (retold retelling.becomes kern (history past j) token) made making refused
+    (retelling : Retelling) (past : List Row) (above : List (List ℕ)) → before retelling past
+    → history past j ≡ token ∷ above
+    → after retelling past × Pushes (retold retelling.becomes kern above token) made making refused
 
 -- the records that were decided, or the rule
 abbrev pub Puts : Result (List Row) Rule → List Row → Option Rule → Type 0

@@ -147,6 +147,7 @@ impl<T: Retells> Decides for Cells<T> {
         out: &mut UpToTwo,
     ) -> Result<Option<Rule>, AllocError> {
         let found = self.paths.follow(&next)?;
+        self.teller.follow(&next, &found)?;
         let told = tell(
             self.alloc,
             &mut self.teller,
@@ -155,7 +156,6 @@ impl<T: Retells> Decides for Cells<T> {
             &mut self.text,
             &mut self.spare,
         )?;
-        self.teller.follow(&next, &found)?;
         mark_after(&next, &self.paths, &mut self.kern)?;
         let refused = told.put(next, &mut self.spare, out);
         Ok(refused)

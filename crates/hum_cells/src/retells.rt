@@ -49,22 +49,22 @@ pub trait Retells: Drop {
     fn heading(&self) -> Heading<'_>
         ensures { ShowsHeading (follows self.now) result };
 
-    /// Puts what the data token in column `j` becomes into the empty text, or answers the rule by
-    /// which it is refused. The token is neither null nor a barline.
+    /// Puts what the last cell of column `j`, a data token, becomes into the empty text, or answers
+    /// the rule by which it is refused. The token is neither null nor a barline.
     fn retell(
         &mut self,
         j: usize,
         token: &[u8],
         text: &mut Vec<u8>,
     ) -> Result<Option<Rule>, AllocError>
-        requires column { MayRetell (follows self.old) j }
+        requires column { MayRetell (follows self.old) j token.now }
         requires lawful { IsToken Values token.now }
         requires told { is_told token.now ≡ true }
         requires empty { text.old.items ≡ [] }
         ensures { IfOk result
             (HasRetold (follows self.old) (follows self.new) j token.now text.new.items) };
 
-    /// Goes on with the next record, whose moves are known.
+    /// Goes on with the next record, whose moves are known. Its tokens are told behind that.
     fn follow(&mut self, row: &Record, found: &Moves) -> Result<(), AllocError>
         requires score { MayFollow (follows self.old) row.now found.now }
         requires sources { ComeFrom row.now found.now }

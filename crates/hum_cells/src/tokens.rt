@@ -54,7 +54,7 @@ fn push_told<T: Retells>(
     text: &mut Vec<u8>,
     making: &mut Making,
 ) -> Result<Option<Rule>, AllocError>
-    requires column { MayRetell (T.follows teller.old) j }
+    requires column { MayRetell (T.follows teller.old) j token.now }
     requires lawful { IsToken Values token.now }
     requires kind { making.old.builder.kind ≡ Values }
     ensures pushed { IfOk result (HasPushed (T.follows teller.old) (T.follows teller.new) j kern

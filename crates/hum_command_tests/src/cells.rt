@@ -80,43 +80,47 @@ impl Retells for Marks {
     }
 }
 
-// Whether the cell above is data.
+// Whether the last cell of a column is data, and whether the one above it is.
 #[derive(Drop)]
 struct BelowData {
     is: bool,
+    above: bool,
 }
 
 impl Model for BelowData {
-    ghost use Rattle.std.specs.Prelude.{Bool};
+    ghost use Rattle.hum_cells.specs.Samples.{Seen};
 
-    ghost Value = { Bool };
+    ghost Value = { Seen };
 
-    ghost view = { λ m. m.is };
+    ghost view = { λ m. record { below_data = m.above; is_data = m.is } };
 }
 
 impl BelowData {
     fn get(&self) -> bool
-        ensures { result ≡ self.now }
+        ensures { result ≡ self.now.below_data }
     {
-        self.is
+        self.above
     }
 }
 
 impl ColumnMemory for BelowData {
     type Rule = bool;
 
-    ghost use Rattle.std.specs.Prelude.{false};
-    ghost use Rattle.hum_cells.specs.Samples.{seen};
+    ghost use Rattle.hum_cells.specs.Samples.{unseen, seen};
 
-    ghost beginning = { false };
+    ghost beginning = { unseen };
 
     ghost seen = { λ rule. seen };
 
     fn fresh(_alloc: Global) -> Self {
-        BelowData { is: false }
+        BelowData {
+            is: false,
+            above: false,
+        }
     }
 
     fn see(&mut self, _rule: &mut bool, token: &[u8]) -> Result<(), AllocError> {
+        self.above = self.is;
         self.is = match token.first() {
             Some(byte) => *byte != b'!' && *byte != b'*',
             None => true,
@@ -125,7 +129,10 @@ impl ColumnMemory for BelowData {
     }
 
     fn copy(&self) -> Result<Self, AllocError> {
-        Ok(BelowData { is: self.is })
+        Ok(BelowData {
+            is: self.is,
+            above: self.above,
+        })
     }
 }
 
@@ -137,10 +144,10 @@ struct Pursues {
 }
 
 impl Retells for Pursues {
-    ghost use Rattle.std.specs.Prelude.{◌≡◌, false};
+    ghost use Rattle.std.specs.Prelude.{◌≡◌};
     ghost use Rattle.hum_stage.specs.declared.faults.Command.TheVariants.{Mint};
     ghost use Rattle.hum_path.specs.Memories.{Remember};
-    ghost use Rattle.hum_cells.specs.Samples.{pursued, pursued_lawful, seen};
+    ghost use Rattle.hum_cells.specs.Samples.{pursued, pursued_lawful, unseen, seen};
 
     type Options = bool;
 
@@ -149,7 +156,7 @@ impl Retells for Pursues {
     ghost retelling = { λ options. pursued };
 
     ghost follows = { λ s retelling past. (retelling ≡ pursued)
-        × Remember seen false past s.carried.each };
+        × Remember seen unseen past s.carried.each };
 
     ghost lawful = { λ s retelling past h. pursued_lawful retelling h.0 };
 

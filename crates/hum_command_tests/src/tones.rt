@@ -83,7 +83,7 @@ fn transposed(rt: HostRuntime) {
 /// A cell of a column, and what it becomes.
 type Cell = (&'static [u8], &'static [u8]);
 
-// The token below the last note becomes what it should, and then is the last note.
+// The token below the last note is heard, and becomes what it should.
 fn check_below(
     rt: &impl Abort,
     alloc: Global,
@@ -94,12 +94,12 @@ fn check_below(
     let (token, want) = cell;
     let record = read(rt, alloc, token);
     assert!(rt; record.kind() == Kind::Values && record.width() == 1);
-    let mut text = Vec::new(alloc);
-    let told = options.retell(memory, record.token(0), &mut text);
-    let found = told.expect(rt, "memory");
-    assert_eq!(rt; (found, text.as_slice()), (None, want), "{token:?}");
     let seen = memory.see(&mut options.breaks, record.token(0));
     seen.expect(rt, "memory");
+    let mut text = Vec::new(alloc);
+    let told = options.retell(memory, &mut text);
+    let found = told.expect(rt, "memory");
+    assert_eq!(rt; (found, text.as_slice()), (None, want), "{token:?}");
 }
 
 fn check_column(rt: &impl Abort, alloc: Global, mut options: MintOptions, cells: &[Cell]) {

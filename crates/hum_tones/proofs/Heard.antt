@@ -9,6 +9,14 @@ use Rattle.hum_kern.specs.Note.{Reading, note}
 use Rattle.hum_stage.specs.declared.faults.Rule.{Rule}
 use Rattle.hum_tones.specs.Faults.{rule_of}
 use Rattle.hum_tones.specs.Mint.{readings, told, told_of, minted, approached, readings_of, with_reading, Tone, or_tone, leading, Heard, heard}
+use Rattle.hum_tones.specs.Mint.{remembered_of, new_pitch, pitch_in}
+use Rattle.hum_tones.specs.Memory.{silence, heard_of, told_as}
+use Rattle.hum_record.specs.declared.SpinedKind.TheVariants.{Values}
+use Rattle.hum_record.specs.Contents.{is_filled, is_null, is_barline}
+use Rattle.hum_record.specs.Spelling.{IsToken}
+use Rattle.hum_cells.specs.Retelling.{is_told}
+use Rattle.std.specs.Prelude.{not, ◌&&◌, if◌then◌else◌}
+use Rattle.std.proofs.lemmas.Bool.{and_parts}
 use Rattle.hum_pitch.specs.Pitch.{Spelled}
 use Rattle.hum_pitch.specs.Given.{spelled}
 use Rattle.hum_tones.specs.declared.hearing.Tone.{Tone as KeptTone}
@@ -94,20 +102,36 @@ module _ (parts : List (List ℕ)) (n : ℕ) (kept : Kept) (h : HeardSoFar parts
       let all : readings_of parts ≡ Ok h.done = h.rest ∙ rw (drop_all n parts past, append-nil h.done) refl in
       ap (λ (x : Heard). Ok x) h.is ∙ sym (ap heard_in all)
 
-told_as_heard : (signless sizeonly : Bool) (before : Option Spelled) (rs : Result (List Reading) Rule)
-    (h : Heard) → Ok h ≡ heard_in rs → told_of signless sizeonly before rs ≡ Ok
-    (told signless sizeonly before h.tone h.rest)
-told_as_heard signless sizeonly before (Ok readings) h e =
-    let same : heard readings ≡ h = cc in
-    ap (λ (x : Heard). Ok (told signless sizeonly before x.tone x.rest)) same
-told_as_heard signless sizeonly before (Err rule) h e = cc
-
 -- a token with a note that begins anew
-pub told_anew : (signless sizeonly : Bool) (before : Option Spelled) (token : List ℕ) (kept : Kept)
-    (tone : KeptTone) → Ok (hearing kept) ≡ heard_in (readings token) → kept.tone ≡ Some tone →
-    tone.continued ≡ false → minted signless sizeonly before token ≡ Ok
-    (approached signless sizeonly before (spelled tone.pitch))
-told_anew signless sizeonly before token kept tone e is anew =
-    told_as_heard signless sizeonly before (readings token) (hearing kept) e
+pub told_anew : (signless sizeonly : Bool) (before : Option Spelled) (r : Result Heard Rule) (kept : Kept) (tone : KeptTone)
+    → Ok (hearing kept) ≡ r → kept.tone ≡ Some tone → tone.continued ≡ false
+    → told_as signless sizeonly before r ≡ Ok (approached signless sizeonly before (spelled tone.pitch))
+told_anew signless sizeonly before r kept tone e is anew =
+    ap (told_as signless sizeonly before) (sym e)
     ∙ ap (λ (t : Option KeptTone). Ok (told signless sizeonly before (option_map tone_of t) kept.rest)) is
     ∙ rw anew refl
+
+-- what is remembered of a cell, by what is heard of it
+abbrev pub pitch_heard : Result Heard Rule → Option Spelled
+pitch_heard (Ok heard) = new_pitch heard.tone
+pitch_heard (Err rule) = None
+
+pub remembered_is : (token : List ℕ) → pitch_heard (heard_of token) ≡ remembered_of token
+remembered_is token = go (is_filled token && not (is_barline token)) (readings token)
+  where
+    go : (b : Bool) (r : Result (List Reading) Rule) → pitch_heard (if b then heard_in r else Ok silence) ≡ (if b then pitch_in r else None)
+    go true (Ok rs) = refl
+    go true (Err rule) = refl
+    go false r = refl
+
+-- what a data token becomes, by what is heard of it
+pub told_is : (signless sizeonly : Bool) (before : Option Spelled) (token : List ℕ) → IsToken Values token → is_told token ≡ true
+    → told_as signless sizeonly before (heard_of token) ≡ minted signless sizeonly before token
+told_is signless sizeonly before token lawful told =
+    let both = and_parts (not (is_null token)) (not (is_barline token)) told in
+    let all : (is_filled token && not (is_barline token)) ≡ true = rw (lawful.of_kind, both.0, both.1) refl in
+    rw all (go (readings token))
+  where
+    go : (r : Result (List Reading) Rule) → told_as signless sizeonly before (heard_in r) ≡ told_of signless sizeonly before r
+    go (Ok rs) = refl
+    go (Err rule) = refl

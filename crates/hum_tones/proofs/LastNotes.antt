@@ -1,5 +1,5 @@
 -- What is remembered of a column is the note before.
-use Rattle.std.proofs.Common.{◌≡◌, ◌∙◌, refl, sym, ℕ, Bool, true, false, ◌==◌, List, [], ◌∷◌, map, Option, None, Some, inl, inr, arith}
+use Rattle.std.proofs.Common.{◌≡◌, ◌∙◌, refl, sym, ap, ℕ, Bool, true, false, ◌==◌, List, [], ◌∷◌, Option, None, Some, inl, inr, arith}
 use Rattle.std.specs.Prelude.{if◌then◌else◌, ◌||◌, nat_eq}
 use Rattle.std.specs.List.{find, starts_with}
 use Rattle.std.specs.Str.{bytes_eq}
@@ -15,7 +15,7 @@ use Rattle.hum_path.specs.declared.signs.Sign.TheVariants.{Split, Join, Exchange
 use Rattle.hum_pitch.specs.Pitch.{Spelled}
 use Rattle.hum_record.specs.Contents.{is_filled}
 use Rattle.hum_tones.specs.Mint.{is_break, is_some, settles, settled, note_before, remembered_of}
-use Rattle.hum_tones.specs.Memory.{note_after, or_before}
+use Rattle.hum_tones.specs.Memory.{note_after, or_before, unheard, heard_after}
 
 others : (a b c d e : Bool) → is_exclusive (if a then Split else if b then Join else if c then Exchange else if
     d then Add else if e then End else Plain) ≡ false
@@ -69,15 +69,17 @@ one_more breaks token before rest false apart is true f r g = rw f refl
 one_more breaks token before rest false apart is false f (Some p) g = rw (f, g) refl
 one_more breaks token before rest false apart is false f None g = is
 
-pub remembers_note : (breaks : Option (List ℕ)) (above : List (List ℕ)) → remembered (note_after breaks) None above ≡ note_before breaks above
+remembers_note : (breaks : Option (List ℕ)) (above : List (List ℕ)) → remembered (note_after breaks) None above ≡ note_before breaks above
 remembers_note breaks [] = refl
 remembers_note breaks (token ∷ above) =
     one_more breaks token (remembered (note_after breaks) None above) (reach above)
     (is_exclusive (sign_of token)) (exclusive_not_filled token) (remembers_note breaks above)
     (is_break breaks token) refl (remembered_of token) refl
 
-pub all_remembered : (breaks : Option (List ℕ)) (columns : List (List (List ℕ)))
-    → map (remembered (note_after breaks) None) columns ≡ map (note_before breaks) columns
-all_remembered breaks [] = refl
-all_remembered breaks (above ∷ columns) =
-    let a = remembers_note breaks above in let b = all_remembered breaks columns in cc
+-- so it is where what was heard is kept beside it
+pub note_kept : (breaks : Option (List ℕ)) (above : List (List ℕ)) → (remembered (heard_after breaks) unheard above).note ≡ note_before breaks above
+note_kept breaks above = same above ∙ remembers_note breaks above
+  where
+    same : (above : List (List ℕ)) → (remembered (heard_after breaks) unheard above).note ≡ remembered (note_after breaks) None above
+    same [] = refl
+    same (token ∷ above) = ap (note_after breaks token) (same above)

@@ -1,10 +1,9 @@
 -- What the commands on notes make of kern columns.
-use Rattle.std.specs.Prelude.{◌≡◌, ℕ, ℤ, List, ◌++◌, Option, None}
+use Rattle.std.specs.Prelude.{◌≡◌, ℕ, ℤ, List, ◌++◌}
 use Rattle.std.specs.Fmt.{signed_decimal}
 use lib.Chars.{codes}
 use Rattle.hum_record.specs.Row.{Row}
 use Rattle.hum_path.specs.Memories.{Remember}
-use Rattle.hum_pitch.specs.Pitch.{Spelled}
 use Rattle.hum_stage.specs.declared.faults.Command.TheVariants.{Trans, Semits, Mint, Recip}
 use Rattle.hum_stage.specs.Meaning.{Meaning}
 use Rattle.hum_cells.specs.Retelling.{Retelling, Renamed, Followed, IsHeading, meaning}
@@ -15,7 +14,7 @@ use Rattle.hum_tones.specs.declared.recip.RecipOptions.{RecipOptions}
 use Rattle.hum_tones.specs.declared.minting.MintOptions.{MintOptions}
 use Rattle.hum_tones.specs.Trans.{transposed}
 use Rattle.hum_tones.specs.Mint.{minted_after}
-use Rattle.hum_tones.specs.Memory.{note_after}
+use Rattle.hum_tones.specs.Memory.{HeardColumn, unheard, heard_after}
 use Rattle.hum_tones.specs.Giving.{given}
 
 -- what goes behind **kern: by how many steps and semitones its notes were moved
@@ -52,11 +51,11 @@ pub record Transposes (options : Transposition) (sign : List ℕ) (retelling : R
   pub text : sign ≡ trans_sign options.steps options.semitones
   pub lawful : IsHeading retelling.heading
 
--- what mint keeps: its options, and the note before of each column
-pub record Mints (options : MintOptions) (memories : List (Option Spelled)) (retelling : Retelling)
+-- what mint keeps: its options, and what it heard of each column
+pub record Mints (options : MintOptions) (memories : List HeardColumn) (retelling : Retelling)
     (past : List Row) : Type 0 where
   pub command : retelling ≡ mint options
-  pub remembered : Remember (note_after options.breaks) None past memories
+  pub remembered : Remember (heard_after options.breaks) unheard past memories
 
 -- what the stages of these numbers mean
 abbrev pub meaning_of_trans : ℕ → Transposition → Meaning

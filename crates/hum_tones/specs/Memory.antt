@@ -1,8 +1,12 @@
 -- What is remembered of a column's notes.
-use Rattle.std.specs.Prelude.{ℕ, List, Option, None, Some, if◌then◌else◌}
+use Rattle.std.specs.Prelude.{ℕ, Bool, false, not, ◌&&◌, List, Option, None, Some, Result, Ok, Err}
+use Rattle.std.specs.Prelude.{if◌then◌else◌}
+use Rattle.hum_record.specs.Contents.{is_filled, is_barline}
 use Rattle.hum_path.specs.Sign.{sign_of, is_exclusive}
 use Rattle.hum_pitch.specs.Pitch.{Spelled}
-use Rattle.hum_tones.specs.Mint.{remembered_of, is_break}
+use Rattle.hum_stage.specs.declared.faults.Rule.{Rule}
+use Rattle.hum_tones.specs.Mint.{Heard, readings, remembered_of, is_break, told}
+use Rattle.hum_tones.specs.Hearing.{heard_in}
 
 abbrev pub or_before : Option Spelled → Option Spelled → Option Spelled
 or_before (Some pitch) before = Some pitch
@@ -14,3 +18,35 @@ note_after breaks token before =
     if is_exclusive (sign_of token) then None
     else if is_break breaks token then None
     else or_before (remembered_of token) before
+
+abbrev pub silence : Heard
+silence = record { tone = None; rest = false }
+
+-- What is heard of a cell: nothing of a barline, nor of what is no data.
+abbrev pub heard_of : List ℕ → Result Heard Rule
+heard_of token =
+    if is_filled token && not (is_barline token) then heard_in (readings token) else Ok silence
+
+-- What a token becomes by the note before it and what was heard of it.
+abbrev pub told_as : Bool → Bool → Option Spelled → Result Heard Rule → Result (List ℕ) Rule
+told_as signless sizeonly before (Ok heard) =
+    Ok (told signless sizeonly before heard.tone heard.rest)
+told_as signless sizeonly before (Err rule) = Err rule
+
+-- A column by its last cell: the note before that, what was heard of it, and the note before the
+-- next cell.
+pub record HeardColumn : Type 0 where
+  pub before : Option Spelled
+  pub heard : Result Heard Rule
+  pub note : Option Spelled
+
+abbrev pub unheard : HeardColumn
+unheard = record { before = None; heard = Ok silence; note = None }
+
+-- the same after one cell more
+abbrev pub heard_after : Option (List ℕ) → List ℕ → HeardColumn → HeardColumn
+heard_after breaks token column = record {
+  before = column.note;
+  heard = heard_of token;
+  note = note_after breaks token column.note;
+}

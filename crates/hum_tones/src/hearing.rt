@@ -1,7 +1,7 @@
 //! The note of a token.
 ghost use Rattle.std.specs.Prelude.{◌≡◌, ◌||◌, None, option_map};
 ghost use Rattle.hum_pitch.specs.Given.{spelled};
-ghost use Rattle.hum_tones.specs.Mint.{readings, or_tone};
+ghost use Rattle.hum_tones.specs.Mint.{readings, or_tone, new_pitch};
 ghost use Rattle.hum_tones.specs.Hearing.{tone_of, first_of, heard_in, heard_by};
 
 use crate::giving::rule_of;
@@ -56,6 +56,12 @@ impl Heard {
     ghost use Rattle.hum_kern.specs.Note.{reading};
     ghost use Rattle.hum_tones.specs.Hearing.{hearing, heard_with};
 
+    /// What is heard of no part.
+    pub(crate) const SILENCE: Heard = Heard {
+        tone: None,
+        rest: false,
+    };
+
     /// What is heard with one part more.
     fn with(self, note: Note) -> Heard
         ensures { hearing result ≡ heard_with (hearing self) (reading note) }
@@ -65,16 +71,29 @@ impl Heard {
             rest: either(self.rest, note.rest),
         }
     }
+
+    /// The pitch that is remembered: none where its tie goes on.
+    pub(crate) fn new_pitch(self) -> Option<Pitch>
+        ensures { option_map spelled result ≡ new_pitch (hearing self).tone }
+    {
+        match self.tone {
+            Some(tone) => {
+                if tone.continued {
+                    None
+                } else {
+                    Some(tone.pitch)
+                }
+            }
+            None => None,
+        }
+    }
 }
 
 /// What is heard of a token, or the rule by which a part of it is refused.
 pub(crate) fn hear(token: &[u8]) -> Result<Heard, Rule>
     ensures { heard_by result ≡ heard_in (readings token.now) }
 {
-    let mut heard = Heard {
-        tone: None,
-        rest: false,
-    };
+    let mut heard = Heard::SILENCE;
     for part in token.split(|b| *b == b' ') {
         match read_note(part) {
             Ok(note) => heard = heard.with(note),

@@ -1,16 +1,17 @@
 //! The note before.
-ghost use Rattle.std.specs.Prelude.{◌≡◌, true};
-ghost use Rattle.hum_record.specs.Contents.{is_filled, is_barline};
+ghost use Rattle.std.specs.Prelude.{◌≡◌, ℕ, true, List, option_map};
+ghost use Rattle.hum_record.specs.Contents.{is_filled};
 ghost use Rattle.hum_tones.specs.Mint.{is_break, remembered_of};
-ghost use Rattle.hum_tones.specs.Memory.{note_after};
-ghost use Rattle.std.specs.Prelude.{option_map};
+ghost use Rattle.hum_tones.specs.Memory.{note_after, or_before, heard_of};
+ghost use Rattle.hum_tones.specs.Hearing.{heard_by};
 ghost use Rattle.hum_pitch.specs.Given.{spelled};
 
-use crate::hearing::hear;
+use crate::hearing::{Heard, hear};
 use hum_path::ColumnMemory;
 use hum_pattern::Pattern;
 use hum_pitch::Pitch;
 use hum_record::{is_barline, is_filled};
+use hum_stage::Rule;
 use std::alloc::{AllocError, Global};
 use std::marker::Model;
 
@@ -26,82 +27,136 @@ fn is_break(breaks: &mut Option<Pattern>, token: &[u8]) -> bool
     }
 }
 
-/// The pitch that is remembered of a filled token.
-fn remembered_of(token: &[u8]) -> Option<Pitch>
-    requires { is_filled token.now ≡ true }
-    ensures { option_map spelled result ≡ remembered_of token.now }
+/// What is heard of a cell: nothing of a barline, nor of what is no data.
+fn heard_of(token: &[u8]) -> Result<Heard, Rule>
+    ensures { heard_by result ≡ heard_of token.now }
 {
-    if is_barline(token) {
-        return None;
+    if is_filled(token) && !is_barline(token) {
+        return hear(token);
     }
-    match hear(token) {
-        Ok(heard) => match heard.tone {
-            Some(tone) => {
-                if tone.continued {
-                    None
-                } else {
-                    Some(tone.pitch)
-                }
-            }
-            None => None,
-        },
+    Ok(Heard::SILENCE)
+}
+
+/// The pitch that is remembered of a cell, by what was heard of it.
+fn remembered_of(heard: Result<Heard, Rule>) -> Option<Pitch>
+    ensures { (token : List ℕ) → heard_by heard ≡ heard_of token
+        → option_map spelled result ≡ remembered_of token }
+{
+    match heard {
+        Ok(heard) => heard.new_pitch(),
         Err(_) => None,
     }
 }
 
-/// The last note of a column that is remembered, since the last break.
+/// A pitch, or the one before where there is none.
+fn or_before(pitch: Option<Pitch>, before: Option<Pitch>) -> Option<Pitch>
+    ensures { option_map spelled result
+        ≡ or_before (option_map spelled pitch) (option_map spelled before) }
+{
+    match pitch {
+        Some(pitch) => Some(pitch),
+        None => before,
+    }
+}
+
+/// The note before the next cell, by the note before a cell and what was heard of it.
+fn note_after(
+    breaks: &mut Option<Pattern>,
+    token: &[u8],
+    heard: Result<Heard, Rule>,
+    before: Option<Pitch>,
+) -> Option<Pitch>
+    requires { heard_by heard ≡ heard_of token.now }
+    ensures note { option_map spelled result
+        ≡ note_after breaks.old token.now (option_map spelled before) }
+    ensures kept { breaks.new ≡ breaks.old }
+{
+    if is_filled(token) {
+        if is_break(breaks, token) {
+            return None;
+        }
+        return or_before(remembered_of(heard), before);
+    }
+    if token.starts_with(b"**") {
+        None
+    } else {
+        before
+    }
+}
+
+/// The last note of a column that is remembered, since the last break, and what was heard of its
+/// last cell.
 #[derive(Drop)]
 pub struct LastNote {
+    // the note before the last cell
+    before: Option<Pitch>,
+    heard: Result<Heard, Rule>,
+    // the note before the next cell
     pitch: Option<Pitch>,
 }
 
 impl Model for LastNote {
-    ghost use Rattle.std.specs.Prelude.{Option, option_map};
-    ghost use Rattle.hum_pitch.specs.Pitch.{Spelled};
+    ghost use Rattle.std.specs.Prelude.{option_map};
     ghost use Rattle.hum_pitch.specs.Given.{spelled};
+    ghost use Rattle.hum_tones.specs.Hearing.{heard_by};
+    ghost use Rattle.hum_tones.specs.Memory.{HeardColumn};
 
-    ghost Value = { Option Spelled };
+    ghost Value = { HeardColumn };
 
-    ghost view = { λ m. option_map spelled m.pitch };
+    ghost view = { λ m. record {
+      before = option_map spelled m.before;
+      heard = heard_by m.heard;
+      note = option_map spelled m.pitch;
+    } };
 }
 
 impl LastNote {
-    /// Its pitch, if there is one.
-    pub(crate) fn pitch(&self) -> Option<Pitch>
-        ensures { option_map spelled result ≡ self.now }
+    /// The note before the last cell, if there is one.
+    pub(crate) fn before(&self) -> Option<Pitch>
+        ensures { option_map spelled result ≡ self.now.before }
     {
-        self.pitch
+        self.before
+    }
+
+    /// What was heard of the last cell.
+    pub(crate) fn heard(&self) -> Result<Heard, Rule>
+        ensures { heard_by result ≡ self.now.heard }
+    {
+        self.heard
     }
 }
 
 impl ColumnMemory for LastNote {
     type Rule = Option<Pattern>;
 
-    ghost use Rattle.std.specs.Prelude.{None};
-    ghost use Rattle.hum_tones.specs.Memory.{note_after};
+    ghost use Rattle.hum_tones.specs.Memory.{unheard, heard_after};
 
-    ghost beginning = { None };
+    ghost beginning = { unheard };
 
-    ghost seen = { note_after };
+    ghost seen = { heard_after };
 
     fn fresh(_alloc: Global) -> Self {
-        LastNote { pitch: None }
+        LastNote {
+            before: None,
+            heard: Ok(Heard::SILENCE),
+            pitch: None,
+        }
     }
 
     fn see(&mut self, breaks: &mut Option<Pattern>, token: &[u8]) -> Result<(), AllocError> {
-        if is_filled(token) {
-            if is_break(breaks, token) {
-                self.pitch = None;
-            } else if let Some(pitch) = remembered_of(token) {
-                self.pitch = Some(pitch);
-            }
-        } else if token.starts_with(b"**") {
-            self.pitch = None;
-        }
+        let heard = heard_of(token);
+        let pitch = note_after(breaks, token, heard, self.pitch);
+        self.before = self.pitch;
+        self.heard = heard;
+        self.pitch = pitch;
         Ok(())
     }
 
     fn copy(&self) -> Result<Self, AllocError> {
-        Ok(LastNote { pitch: self.pitch })
+        Ok(LastNote {
+            before: self.before,
+            heard: self.heard,
+            pitch: self.pitch,
+        })
     }
 }

@@ -13,7 +13,7 @@ use std::alloc::{AllocError, Global};
 #[derive(Drop)]
 pub struct MintTokens {
     options: MintOptions,
-    // the note before, for each spine
+    // what was heard of each spine, and the note before
     carried: Carried<LastNote>,
 }
 
@@ -52,10 +52,10 @@ impl Retells for MintTokens {
     fn retell(
         &mut self,
         j: usize,
-        token: &[u8],
+        _token: &[u8],
         text: &mut Vec<u8>,
     ) -> Result<Option<Rule>, AllocError> {
-        self.options.retell(self.carried.at(j), token, text)
+        self.options.retell(self.carried.at(j), text)
     }
 
     fn follow(&mut self, row: &Record, found: &Moves) -> Result<(), AllocError> {

@@ -4,9 +4,10 @@ ghost use Rattle.hum_record.specs.declared.SpinedKind.TheVariants.{Values};
 ghost use Rattle.hum_record.specs.Spelling.{IsToken};
 ghost use Rattle.hum_pitch.specs.Given.{spelled};
 ghost use Rattle.hum_tones.specs.Subtokens.{IsRetold};
-ghost use Rattle.hum_tones.specs.Mint.{approached, minted};
+ghost use Rattle.hum_tones.specs.Mint.{approached};
+ghost use Rattle.hum_tones.specs.Memory.{told_as};
 
-use crate::hearing::{Heard, Tone, hear};
+use crate::hearing::{Heard, Tone};
 use crate::last_note::LastNote;
 use hum_pattern::Pattern;
 use hum_pitch::{Pitch, interval, push_interval, push_pitch};
@@ -49,22 +50,18 @@ impl MintOptions {
         Ok(())
     }
 
-    /// Puts what a data token becomes by the note before it into the empty text, or answers the
-    /// rule by which it is refused.
+    /// Puts what a column's last cell, a data token, becomes by the note before it into the empty
+    /// text, or answers the rule by which it is refused.
     ///
     /// # Errors
     /// Want of memory.
-    pub fn retell(
-        &self,
-        before: &LastNote,
-        token: &[u8],
-        text: &mut Vec<u8>,
-    ) -> Result<Option<Rule>, AllocError>
+    pub fn retell(&self, column: &LastNote, text: &mut Vec<u8>) -> Result<Option<Rule>, AllocError>
         requires empty { text.old.items ≡ [] }
         ensures { IfOk result (IsRetold
-            (minted self.now.signless self.now.sizeonly before.now token.now) text.new.items) }
+            (told_as self.now.signless self.now.sizeonly column.now.before column.now.heard)
+            text.new.items) }
     {
-        let heard = match hear(token) {
+        let heard = match column.heard() {
             Ok(heard) => heard,
             Err(rule) => return Ok(Some(rule)),
         };
@@ -73,7 +70,7 @@ impl MintOptions {
                 if tone.continued {
                     text.push(b'.')?;
                 } else {
-                    self.add_tone(before.pitch(), tone.pitch, text)?;
+                    self.add_tone(column.before(), tone.pitch, text)?;
                 }
             }
             None => text.push(if heard.rest { b'r' } else { b'.' })?,

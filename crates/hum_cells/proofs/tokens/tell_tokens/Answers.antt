@@ -1,6 +1,7 @@
-use Rattle.std.proofs.Common.{◌≡◌, ◌∙◌, refl, length, arith}
+use Rattle.std.proofs.Common.{◌≡◌, ◌∙◌, ◌∷◌, refl, length, arith}
 use Rattle.hum_record.specs.Row.{tokens_of, width_of}
-use Rattle.hum_cells.proofs.Telling.{done_more, refused_at, done_all, as_wide, told_data, fits, too_long}
+use Rattle.hum_path.specs.Chains.{history}
+use Rattle.hum_cells.proofs.Telling.{done_more, refused_at, done_all, as_wide, wider, last_cell, told_data, fits, too_long}
 use Rattle.hum_cells.proofs.tokens.tell_tokens.Goals as goal
 
 pub push_told-requires-clause-column : goal.push_told-requires-clause-column
@@ -9,17 +10,23 @@ push_told-requires-clause-column g c =
     let wide = (as_wide m.past c.args.row.now m.score c.requires.kind).0 in
     let width = c.width-j-end.ensures in
     let at = c.loop-j-test.true in
+    let size = wider m.past c.args.row.now m.score c.requires.kind in
     record {
       retelling = m.retelling;
-      past = m.past;
+      past = c.args.row.now ∷ m.past;
+      above = history m.past c.loop-j.j;
       memory = (c.loop-j.invariant.told m.retelling m.past m.memory m.kern_is m.score).0;
-      column = omega (arith, wide, width, at);
+      column = omega (arith, wide, width, at, size);
+      cell = last_cell m.past c.args.row.now c.loop-j.j c.token.result.now m.score c.requires.kind
+          (omega (arith, width, at)) c.token.ensures.token;
     }
 
 pub returns-in-Some : goal.returns-in-Some
 returns-in-Some g c = λ retelling past h kern sound.
     let before = c.loop-j.invariant.told retelling past h kern sound in
-    let p = rw c.in-Some.is at (c.in_ok-refused.ensures.pushed retelling past before.0) in
+    let p = rw c.in-Some.is at (c.in_ok-refused.ensures.pushed retelling (c.args.row.now ∷ past) (history past c.loop-j.j) before.0
+    (last_cell past c.args.row.now c.loop-j.j c.token.result.now sound c.requires.kind
+    (let width = c.width-j-end.ensures in let at = c.loop-j-test.true in omega (arith, width, at)) c.token.ensures.token)) in
     let wide = as_wide past c.args.row.now sound c.requires.kind in
     let columns = wide.0 in
     let kerns : length c.args.kern.now ≡ width_of c.args.row.now = rw kern wide.1 in
@@ -37,7 +44,9 @@ loop-j-preserved g c = record {
   kind = c.in_ok-refused.ensures.kind;
   told = λ retelling past h kern sound.
       let before = c.loop-j.invariant.told retelling past h kern sound in
-      let p = rw c.in_default.is at (c.in_ok-refused.ensures.pushed retelling past before.0) in
+      let p = rw c.in_default.is at (c.in_ok-refused.ensures.pushed retelling (c.args.row.now ∷ past) (history past c.loop-j.j) before.0
+      (last_cell past c.args.row.now c.loop-j.j c.token.result.now sound c.requires.kind
+      (let width = c.width-j-end.ensures in let at = c.loop-j-test.true in omega (arith, width, at)) c.token.ensures.token)) in
       let wide = as_wide past c.args.row.now sound c.requires.kind in
       let columns = wide.0 in
       let kerns : length c.args.kern.now ≡ width_of c.args.row.now = rw kern wide.1 in

@@ -10,8 +10,8 @@ use Rattle.hum_cells.proofs.tokens.tell_tokens.Given as goal
 abbrev pub invariant-loop-j : goal.invariant-loop-j
 invariant-loop-j g l = record {
   kind : l.making.builder.kind ≡ Values;
-  told : (retelling : Retelling) (past : List Row) → g.T.Retells.follows l.initial.teller retelling past
+  told : (retelling : Retelling) (past : List Row) → g.T.Retells.follows l.initial.teller retelling (l.row ∷ past)
       → l.kern ≡ kern_columns past → IsOpen (l.row ∷ past)
-      → g.T.Retells.follows l.teller retelling past
+      → g.T.Retells.follows l.teller retelling (l.row ∷ past)
       × Done retelling.becomes l.kern (columns past) (tokens_of l.row) l.j l.making.builder l.making.is_long;
 }

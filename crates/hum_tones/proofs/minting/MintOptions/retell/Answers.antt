@@ -9,15 +9,16 @@ use Rattle.hum_tones.proofs.minting.MintOptions.retell.Goals as goal
 
 pub returns-in_ok-add_tone-in-Some : goal.returns-in_ok-add_tone-in-Some
 returns-in_ok-add_tone-in-Some c =
-    let lawful = approached_lawful c.args.self.now.signless c.args.self.now.sizeonly c.pitch.result c.in-Some.tone.pitch in
-    let written : c.add_tone.new.text.items ≡ approached c.args.self.now.signless c.args.self.now.sizeonly c.args.before.now (spelled c.in-Some.tone.pitch) =
+    let signless = c.args.self.now.signless in
+    let sizeonly = c.args.self.now.sizeonly in
+    let lawful = approached_lawful signless sizeonly c.before-else-tone.result c.in-Some.tone.pitch in
+    let written : c.add_tone.new.text.items ≡ approached signless sizeonly c.args.column.now.before (spelled c.in-Some.tone.pitch) =
     c.in_ok-add_tone-in-Some.ensures
-    ∙ ap (λ (xs : List ℕ). xs ++ approached c.args.self.now.signless c.args.self.now.sizeonly
-    (option_map spelled c.pitch.result) (spelled c.in-Some.tone.pitch)) c.requires.empty
-    ∙ ap (λ (b : Option Spelled). approached c.args.self.now.signless c.args.self.now.sizeonly b (spelled c.in-Some.tone.pitch)) c.pitch.ensures in
+    ∙ ap (λ (xs : List ℕ). xs ++ approached signless sizeonly (option_map spelled c.before-else-tone.result) (spelled c.in-Some.tone.pitch)) c.requires.empty
+    ∙ ap (λ (b : Option Spelled). approached signless sizeonly b (spelled c.in-Some.tone.pitch)) c.before-else-tone.ensures in
     rw (
-      told_anew c.args.self.now.signless c.args.self.now.sizeonly c.args.before.now c.args.token.now
-          c.in-Ok.heard c.in-Some.tone c.in-Ok.ensures c.in-Some.is c.if-tone.false,
+      told_anew signless sizeonly c.args.column.now.before c.args.column.now.heard c.in-Ok.heard c.in-Some.tone
+          c.in-Ok.ensures c.in-Some.is c.if-tone.false,
       written,
     )
-    (refl, rw c.pitch.ensures at lawful)
+    (refl, rw c.before-else-tone.ensures at lawful)
