@@ -74,7 +74,7 @@ beside() { \
 	test $$one = 0 && test $$other = 0; \
 }; \
 trap 'kill 0' INT; \
-beside 'hum_pattern hum_kern hum_text' alone hum_record hum_path hum_stage && beside hum_line together hum_pipeline && \
+beside 'hum_pattern hum_kern' alone hum_record hum_path hum_stage && beside hum_line together hum_pipeline && \
 echo '== humpipe' && (cd crates/humpipe && rt check --jobs 1)
 endef
 

@@ -2,6 +2,7 @@
 use Rattle.std.proofs.Common.{◌≡◌, ◌∙◌, refl, sym, ap, add-one, ℕ, zero, suc, ◌+◌, ◌<◌}
 use Rattle.std.proofs.Common.{inl, inr, Bool, true, false, ◌&&◌, ◌||◌, cond, List, [], ◌∷◌}
 use Rattle.std.proofs.Common.{length, arith, map}
+use Rattle.std.proofs.lemmas.List.{length-map}
 use Rattle.std.specs.Prelude.{Option, None, Some, is_none, is_some, nat_lt}
 use Rattle.std.specs.Prelude.{slice_get}
 use Rattle.std.specs.List.{list_any, position_from}
@@ -204,6 +205,13 @@ same_ends stage kept spent t h =
     let r = reaches_ended t.given (opening t.inputs) h.at h.reached in
     let s : ends_in kept ≡ ends_in h.at = elim h.keeps [ inl e ↦ ap ends_in e | inr d ↦ d.ended ] in
     s ∙ (r ∙ begun_ends t.inputs)
+
+-- a source for each input
+pub as_many : (stage : ℕ) (kept : Merge) (spent : Bool) (t : Moment)
+    → Standing stage kept spent t → length kept.sources ≡ length t.inputs
+as_many stage kept spent t h =
+    sym (length-map kept.sources (λ s. s.ended))
+    ∙ (ap length (same_ends stage kept spent t h) ∙ length-map t.inputs (λ x. x.ended))
 
 lt_true : (a b : ℕ) → a < b → nat_lt a b ≡ true
 lt_true a b h = grind (arith, nat_tests)

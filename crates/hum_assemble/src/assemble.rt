@@ -306,7 +306,7 @@ impl Assemble {
     /// How many records wait inside: at most one of each source.
     pub fn held(&self) -> usize
         ensures held { (t : Moment) → Stands self.now t → result ≡ held_at t }
-        ensures at_most { result ≤ length self.now.merge.sources }
+        ensures at_most { (t : Moment) → Stands self.now t → result ≤ length t.inputs }
         ensures each { HoldOneEach self.now.merge.sources }
 
         // At most so many records are taken before the next is put.

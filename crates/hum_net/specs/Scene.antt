@@ -10,7 +10,8 @@ use Rattle.hum_turns.specs.Near.{IsOneOf}
 use Rattle.hum_turns.specs.Links.{Moment, given, view, IsOpening}
 use Rattle.hum_turns.specs.Turns.{State, state, can, ready, Does, Step, Run}
 use Rattle.hum_nodes.specs.Fine.{fine}
-use Rattle.hum_nodes.specs.At.{Kind, At, IsLimited, doing_of, kind_of, holds_of, fresh as fresh_at}
+use Rattle.hum_nodes.specs.At.{Kind, At, HoldsOneEach, IsLimited, doing_of, kind_of, holds_of}
+use Rattle.hum_nodes.specs.At.{fresh as fresh_at}
 use Rattle.hum_nodes.specs.Single.{single}
 use Rattle.hum_nodes.specs.declared.node.Doing.{Doing}
 use Rattle.hum_nodes.specs.declared.node.DoingKind.{DoingKind}
@@ -181,11 +182,12 @@ held_of s m k =
     then (if nat_lt 0 (s.kinds k).stage.bytes then 0 else holds_of (at_of s.kinds m k))
     else 0
 
--- So many records are at most one more than the greatest lag of stage k, which has one input.
-abbrev pub HoldsFew : Scene → ℕ → ℕ → Type 0
-HoldsFew s k many =
-    (from n : ℕ) (m : Meaning) → k < s.count → s.kinds k ≡ single from m → IsWithinLag n m
-    → many ≤ n + 1
+-- So many records are few for stage k: of one input at most one more than the greatest lag of its
+-- records, and in assemble at most one of each source.
+pub record HoldsFew (s : Scene) (k many : ℕ) : Type 0 where
+  pub within : (from n : ℕ) (m : Meaning) → k < s.count → s.kinds k ≡ single from m
+      → IsWithinLag n m → many ≤ n + 1
+  pub each : k < s.count → HoldsOneEach (s.kinds k) (length (s.kinds k).stage.sources) many
 
 -- Only the node of stage k may have changed.
 abbrev pub KeepsOthers : {F W : Type 0} → ℕ → Web F W → Web F W → Type 0

@@ -512,7 +512,8 @@ impl<F: Feeds, W: Works, S: Sink> Net<F, W, S> {
             → NetAt (StandsAs F.stands W.stands) S.contents S.flushed start s self.now now
             → now.failure ≡ None → k ≤ s.count → result ≡ held_of s now.links k }
 
-        // In a stage of one input at most one more than the greatest lag of its records.
+        // In a stage of one input at most one more than the greatest lag of its records, in assemble
+        // at most one of each source.
         ensures few { (start : Option (List ℕ)) (s : Scene) (now : Now Row)
             → NetAt (StandsAs F.stands W.stands) S.contents S.flushed start s self.now now
             → now.failure ≡ None → HoldsFew s k result }

@@ -6,7 +6,7 @@ ghost use Rattle.hum_turns.specs.Plan.{last};
 ghost use Rattle.hum_turns.specs.Near.{touched};
 ghost use Rattle.hum_turns.specs.Links.{has_some, linked, IsOpening};
 ghost use Rattle.hum_nodes.specs.Nodes.{StandsAs};
-ghost use Rattle.hum_nodes.specs.At.{doing_of, kind_of};
+ghost use Rattle.hum_nodes.specs.At.{HoldsOneEach, doing_of, kind_of};
 ghost use Rattle.hum_nodes.specs.declared.node.Doing.TheVariants as does;
 ghost use Rattle.hum_nodes.specs.declared.node.DoingKind.TheVariants as kinds;
 ghost use Rattle.hum_links.specs.Links.{next_of};
@@ -466,8 +466,10 @@ impl<F: Feeds, W: Works> Web<F, W> {
     /// How many records wait inside a stage: none in a source.
     pub fn held(&self, k: usize) -> usize
         requires { Somewhere (HasStage (StandsAs F.stands W.stands) k self.now) }
-        ensures { (s : Scene) → HasStage (StandsAs F.stands W.stands) k self.now s
+        ensures held { (s : Scene) → HasStage (StandsAs F.stands W.stands) k self.now s
             → result ≡ held_of s s.links k }
+        ensures few { (s : Scene) → HasStage (StandsAs F.stands W.stands) k self.now s
+            → HoldsOneEach (s.kinds k) (length (s.kinds k).stage.sources) result }
     {
         if self.nodes[k].is_source() {
             0

@@ -1,5 +1,5 @@
 -- What a node stands for, and what its calls make of that.
-use Rattle.std.specs.Prelude.{◌≡◌, ℕ, zero, suc, ◌+◌, ◌≤◌, if◌then◌else◌, nat_lt}
+use Rattle.std.specs.Prelude.{◌≡◌, ℕ, zero, suc, ◌+◌, ◌≤◌, Bool, true, if◌then◌else◌, nat_lt}
 use Rattle.std.specs.Prelude.{List, [], ◌∷◌, ◌++◌}
 use Rattle.std.specs.Prelude.{map, length, Option, Some, MatchOption, slice_get}
 use Rattle.hum_record.specs.Row.{Row}
@@ -12,11 +12,12 @@ use Rattle.hum_nodes.specs.declared.node.DoingKind.{DoingKind}
 use Rattle.hum_nodes.specs.declared.node.DoingKind.TheVariants as kind
 use Rattle.hum_nodes.specs.Fine.{fine}
 
--- A stage, and how many records wait inside it, by what it has had of its inputs and how many
--- records it has given.
+-- A stage; how many records wait inside it, by what it has had of its inputs and how many it has
+-- given; and whether these are at most one of each input.
 pub record Kind : Type 0 where
   pub stage : Stage Row
   pub holds : List (Flow Row) → ℕ → ℕ
+  pub one_each : Bool
 
 -- What it has had of its inputs, how many bytes it has read, and how many records it has given.
 pub record At : Type 0 where
@@ -50,6 +51,10 @@ ending_of t = end_of t.kind.stage t.read t.inputs
 
 abbrev pub holds_of : At → ℕ
 holds_of t = t.kind.holds t.inputs t.given
+
+-- Where at most one record of each input waits, so many are no more than these inputs.
+abbrev pub HoldsOneEach : Kind → ℕ → ℕ → Type 0
+HoldsOneEach kind inputs many = kind.one_each ≡ true → many ≤ inputs
 
 abbrev pub doing_by : Want → End → Doing
 doing_by Bytes end = Reads

@@ -1,5 +1,5 @@
 -- Several scores side by side as a stage of a plan.
-use Rattle.std.specs.Prelude.{◌≡◌, ℕ, List, map, Option, Some, None}
+use Rattle.std.specs.Prelude.{◌≡◌, ℕ, true, List, map, Option, Some, None}
 use Rattle.hum_record.specs.Row.{Row}
 use Rattle.hum_assemble.specs.Change.{Input}
 use Rattle.hum_assemble.specs.Merge.{ahead}
@@ -37,6 +37,7 @@ merging number sources = record {
   };
   holds = λ inputs given.
       held_at (record { stage = number; inputs = inputs_of inputs; given = given });
+  one_each = true;
 }
 
 -- Where the assembler stands for what was put and given, the node stands for that of its inputs.

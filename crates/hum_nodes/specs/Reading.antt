@@ -38,6 +38,7 @@ reading number all = record {
     own = λ read inputs. end_at number (settled_at all read).fault;
   };
   holds = λ inputs given. 0;
+  one_each = true;
 }
 
 -- as many bytes as a reader can have seen

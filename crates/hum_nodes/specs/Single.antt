@@ -43,6 +43,7 @@ single from m = record {
     own = λ read inputs. own_end (own_fault m (items_of inputs));
   };
   holds = λ inputs given. held_of given (has_ended inputs) (m.outcomes (items_of inputs));
+  one_each = false;
 }
 
 -- Where the stage stands for what was put and given, the node stands for that of its one input.

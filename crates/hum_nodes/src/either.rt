@@ -1,7 +1,7 @@
 //! A node of either kind.
 ghost use Rattle.std.specs.Prelude.{◌≡◌, ℕ, ◌<◌, List, [], true, false, length, slice_index, IfOk, OnOk};
 ghost use Rattle.hum_nodes.specs.At.{At, MayDo, sources_of, bytes_of, doing_of, holds_of, HasTaken};
-ghost use Rattle.hum_nodes.specs.At.{MayPut, MayStop, HasPut, HasStopped, kind_of};
+ghost use Rattle.hum_nodes.specs.At.{HoldsOneEach, MayPut, MayStop, HasPut, HasStopped, kind_of};
 ghost use Rattle.std.specs.Prelude.{OnErr, ◌||◌};
 ghost use Rattle.hum_nodes.specs.Polls.{HasPolled, HasStayed, AsksAtMostOnce, IsKept};
 ghost use Rattle.hum_nodes.specs.Polls.{is_failed_read};
@@ -103,8 +103,10 @@ impl<F: Feeds, W: Works> Node<F, W> {
     /// How many records wait inside a stage that reads from others.
     pub fn held(&self) -> usize
         requires { is_source self.now ≡ false }
-        ensures { (rest : List ℕ) (t : At) → StandsAs F.stands W.stands self.now rest t
+        ensures held { (rest : List ℕ) (t : At) → StandsAs F.stands W.stands self.now rest t
             → result ≡ holds_of t }
+        ensures few { (rest : List ℕ) (t : At) → StandsAs F.stands W.stands self.now rest t
+            → HoldsOneEach t.kind (length t.inputs) result }
     {
         match self {
             Node::Source(_) => unreachable!(),

@@ -6,7 +6,7 @@ ghost use Rattle.hum_read.specs.declared.ReadError.{ReadError};
 ghost use Rattle.hum_read.specs.Steps.{given_by};
 ghost use Rattle.std.specs.Prelude.{OnOk, OnErr, ◌≤◌, ◌||◌};
 ghost use Rattle.hum_nodes.specs.At.{At, MayDo, sources_of, bytes_of, doing_of, holds_of, HasTaken};
-ghost use Rattle.hum_nodes.specs.At.{MayPut, MayStop, HasPut, HasStopped, kind_of};
+ghost use Rattle.hum_nodes.specs.At.{HoldsOneEach, MayPut, MayStop, HasPut, HasStopped, kind_of};
 ghost use Rattle.hum_nodes.specs.Polls.{HasPolled, AsksAtMostOnce, IsKept};
 ghost use Rattle.hum_nodes.specs.Polls.{HasStayed, is_failed_read, most_bytes};
 
@@ -72,7 +72,9 @@ pub trait Works: Drop {
 
     /// How many records wait inside.
     fn held(&self) -> usize
-        ensures { (t : At) → stands self.now t → result ≡ holds_of t };
+        ensures held { (t : At) → stands self.now t → result ≡ holds_of t }
+        ensures few { (t : At) → stands self.now t
+            → HoldsOneEach t.kind (length t.inputs) result };
 
     /// The next record that is settled, if there is one.
     ///
