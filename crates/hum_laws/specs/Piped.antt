@@ -18,11 +18,6 @@ IsPiped first second score given =
 abbrev pub Same : Given → Given → Type 0
 Same one other = (one.records.items ≡ other.records.items) × (one.end ≡ other.end)
 
--- The same records, where neither side refuses one.
-abbrev pub SameUnlessRefused : Given → Given → Type 0
-SameUnlessRefused one other =
-    one.end ≡ Closed → other.end ≡ Closed → one.records.items ≡ other.records.items
-
 -- a new stage that makes scores of scores
 pub record IsFirst (stands : Moment → Type 0) : Type 0 where
   pub meaning : Meaning
