@@ -13,6 +13,10 @@ mod ending;
 mod failure_tests;
 mod files;
 #[cfg(test)]
+mod files_tests;
+#[cfg(test)]
+mod front_tests;
+#[cfg(test)]
 mod long_tests;
 #[cfg(test)]
 mod note_tests;
