@@ -1,4 +1,5 @@
 //! Options by hand: those of each command, and the first rule that other words break.
+use crate::compared::{holds, same};
 use hum_commands::CommandOptions;
 use hum_context::Span;
 use hum_extract::{Choice, Field, FieldRange};
@@ -28,11 +29,6 @@ fn read(
     }
 }
 
-// The same, where the words give options.
-fn options(rt: &impl Abort, alloc: Global, command: Command, line: &str) -> CommandOptions {
-    read(rt, alloc, command, line, true).expect(rt, "options")
-}
-
 // Whether each letter of G, g, L, l, I, i, T, D and d is given.
 fn letters_of(options: &CommandOptions) -> Option<[bool; 9]> {
     match options {
@@ -49,16 +45,6 @@ fn letters_of(options: &CommandOptions) -> Option<[bool; 9]> {
         ]),
         _ => None,
     }
-}
-
-#[test]
-fn letters(rt: HostRuntime) {
-    let found = options(&rt, rt.alloc(), Command::Rid, "rid -Gl -T");
-    let want = [true, false, false, true, false, false, true, false, false];
-    assert_eq!(rt; letters_of(&found), Some(want));
-    let found = options(&rt, rt.alloc(), Command::Rid, "rid -gLIiDd | -Q");
-    let want = [false, true, true, false, true, true, false, true, true];
-    assert_eq!(rt; letters_of(&found), Some(want));
 }
 
 /// The first field, and the fields from the third on.
@@ -80,20 +66,11 @@ fn are_fields(options: &CommandOptions, want: &[FieldRange]) -> bool {
     }
 }
 
-fn are_two_names(options: &CommandOptions) -> bool {
+fn count_of_names(options: &CommandOptions) -> Option<usize> {
     match options {
-        CommandOptions::Extract(Choice::Names(names)) => names.len() == 2,
-        _ => false,
+        CommandOptions::Extract(Choice::Names(names)) => Some(names.len()),
+        _ => None,
     }
-}
-
-#[test]
-fn fields_and_names(rt: HostRuntime) {
-    let alloc = rt.alloc();
-    let found = options(&rt, alloc, Command::Extract, "extract -f 1,3-$");
-    assert!(rt; are_fields(&found, FIELDS));
-    let found = options(&rt, alloc, Command::Extract, "extract -i **kern,**text");
-    assert!(rt; are_two_names(&found));
 }
 
 // Whether some tokens and those between parentheses are passed over.
@@ -125,18 +102,6 @@ fn is_phrase(options: &CommandOptions) -> bool {
     }
 }
 
-#[test]
-fn patterns(rt: HostRuntime) {
-    let alloc = rt.alloc();
-    let found = options(&rt, alloc, Command::Ditto, "ditto -s '^=' -p");
-    assert!(rt; passes_over(&found));
-    let found = options(&rt, alloc, Command::Mint, "mint -a -b r");
-    assert!(rt; is_signless_with_breaks(&found));
-    let line = "context -o r -b '[(]' -e '[)]'";
-    let found = options(&rt, alloc, Command::Context, line);
-    assert!(rt; is_phrase(&found));
-}
-
 // How many tokens a context has.
 fn count_of(options: &CommandOptions) -> Option<u16> {
     match options {
@@ -156,24 +121,14 @@ fn way_of(options: &CommandOptions) -> Option<(i32, i32)> {
     }
 }
 
-fn is_step(options: &CommandOptions, step: Frac, text: &[u8]) -> bool {
+// Whether the step is 1/n, written so.
+fn is_step(options: &CommandOptions, number: u32, text: &[u8]) -> bool {
     match options {
         CommandOptions::Timebase(options) => {
-            options.step == step && options.text.as_slice() == text
+            options.step == Frac::new(1, number.max(1) as u64) && options.text.as_slice() == text
         }
         _ => false,
     }
-}
-
-#[test]
-fn numbers(rt: HostRuntime) {
-    let alloc = rt.alloc();
-    let found = options(&rt, alloc, Command::Context, "context -n 4096");
-    assert_eq!(rt; count_of(&found), Some(4096));
-    let found = options(&rt, alloc, Command::Trans, "trans -c +84 -d -49");
-    assert_eq!(rt; way_of(&found), Some((-49, 84)));
-    let found = options(&rt, alloc, Command::Timebase, "timebase -t 16");
-    assert!(rt; is_step(&found, Frac::new(1, 16), b"16"));
 }
 
 fn leaves_out_ties(options: &CommandOptions) -> bool {
@@ -190,14 +145,6 @@ fn is_recip(options: &CommandOptions) -> bool {
     }
 }
 
-#[test]
-fn alone(rt: HostRuntime) {
-    let found = options(&rt, rt.alloc(), Command::Semits, "semits -t -x");
-    assert!(rt; leaves_out_ties(&found));
-    let found = options(&rt, rt.alloc(), Command::Recip, "recip");
-    assert!(rt; is_recip(&found));
-}
-
 // Whether columns **kern become one that is **all, with this between two tokens.
 fn becomes_all(options: &CommandOptions, separator: &[u8]) -> bool {
     match options {
@@ -208,16 +155,6 @@ fn becomes_all(options: &CommandOptions, separator: &[u8]) -> bool {
         }
         _ => false,
     }
-}
-
-#[test]
-fn columns(rt: HostRuntime) {
-    let alloc = rt.alloc();
-    let found = options(&rt, alloc, Command::Cleave, "cleave -i **kern -o **all");
-    assert!(rt; becomes_all(&found, b" "));
-    let line = "cleave -d '' -i **kern -o **all";
-    let found = options(&rt, alloc, Command::Cleave, line);
-    assert!(rt; becomes_all(&found, b""));
 }
 
 fn are_lines(options: &CommandOptions, want: &[YankRange]) -> bool {
@@ -266,17 +203,111 @@ const INNER: &[YankRange] = &[YankRange::ToEnd {
     before: 1,
 }];
 
+// What a command is told to do.
+#[derive(Clone, Copy)]
+enum Told {
+    // which of the letters G, g, L, l, I, i, T, D and d
+    Letters([bool; 9]),
+    Fields(&'static [FieldRange]),
+    // so many names
+    Names(usize),
+    // to pass over some tokens and those between parentheses
+    PassesOver,
+    // to write no direction, and that some notes end what was told
+    SignlessWithBreaks,
+    // a phrase, of which some tokens are left out
+    Phrase,
+    // so many tokens
+    Tokens(u16),
+    // steps and semitones
+    Moved(i32, i32),
+    // a step of 1/n, and its text
+    Step(u32, &'static [u8]),
+    WithoutTies,
+    Recip,
+    // that columns **kern become one that is **all, with this between two tokens
+    All(&'static [u8]),
+    Lines(&'static [YankRange]),
+    // passages that begin and end at some tokens
+    BetweenMarks,
+    Numbered,
+    Labelled(&'static [u8]),
+}
+
+fn is_told(options: &CommandOptions, told: Told) -> bool {
+    match told {
+        Told::Letters(letters) => letters_of(options) == Some(letters),
+        Told::Fields(ranges) => are_fields(options, ranges),
+        Told::Names(count) => count_of_names(options) == Some(count),
+        Told::PassesOver => passes_over(options),
+        Told::SignlessWithBreaks => is_signless_with_breaks(options),
+        Told::Phrase => is_phrase(options),
+        Told::Tokens(count) => count_of(options) == Some(count),
+        Told::Moved(steps, semitones) => way_of(options) == Some((steps, semitones)),
+        Told::Step(number, text) => is_step(options, number, text),
+        Told::WithoutTies => leaves_out_ties(options),
+        Told::Recip => is_recip(options),
+        Told::All(separator) => becomes_all(options, separator),
+        Told::Lines(ranges) => are_lines(options, ranges),
+        Told::BetweenMarks => have_ends(options),
+        Told::Numbered => are_numbered(options),
+        Told::Labelled(label) => are_labelled(options, label),
+    }
+}
+
+const SOME_LETTERS: [bool; 9] = [true, false, false, true, false, false, true, false, false];
+
+const OTHER_LETTERS: [bool; 9] = [false, true, true, false, true, true, false, true, true];
+
+/// Commands and lines, each with what the command is told.
+const GIVEN: &[(Command, &str, Told)] = &[
+    (Command::Rid, "rid -Gl -T", Told::Letters(SOME_LETTERS)),
+    (
+        Command::Rid,
+        "rid -gLIiDd | -Q",
+        Told::Letters(OTHER_LETTERS),
+    ),
+    (Command::Extract, "extract -f 1,3-$", Told::Fields(FIELDS)),
+    (Command::Extract, "extract -i **kern,**text", Told::Names(2)),
+    (Command::Ditto, "ditto -s '^=' -p", Told::PassesOver),
+    (Command::Mint, "mint -a -b r", Told::SignlessWithBreaks),
+    (
+        Command::Context,
+        "context -o r -b '[(]' -e '[)]'",
+        Told::Phrase,
+    ),
+    (Command::Context, "context -n 4096", Told::Tokens(4096)),
+    (Command::Trans, "trans -c +84 -d -49", Told::Moved(-49, 84)),
+    (Command::Timebase, "timebase -t 16", Told::Step(16, b"16")),
+    (Command::Semits, "semits -t -x", Told::WithoutTies),
+    (Command::Recip, "recip", Told::Recip),
+    (
+        Command::Cleave,
+        "cleave -i **kern -o **all",
+        Told::All(b" "),
+    ),
+    (
+        Command::Cleave,
+        "cleave -d '' -i **kern -o **all",
+        Told::All(b""),
+    ),
+    (Command::Yank, "yank -l -r 2-$-1", Told::Lines(INNER)),
+    (
+        Command::Yank,
+        "yank -e '[}]' -r 1 -o '[{]'",
+        Told::BetweenMarks,
+    ),
+    (Command::Yank, "yank -n = -r 12", Told::Numbered),
+    (Command::Yank, "yank -r 1 -s A", Told::Labelled(b"A")),
+];
+
 #[test]
-fn passages(rt: HostRuntime) {
-    let alloc = rt.alloc();
-    let found = options(&rt, alloc, Command::Yank, "yank -l -r 2-$-1");
-    assert!(rt; are_lines(&found, INNER));
-    let found = options(&rt, alloc, Command::Yank, "yank -e '[}]' -r 1 -o '[{]'");
-    assert!(rt; have_ends(&found));
-    let found = options(&rt, alloc, Command::Yank, "yank -n = -r 12");
-    assert!(rt; are_numbered(&found));
-    let found = options(&rt, alloc, Command::Yank, "yank -r 1 -s A");
-    assert!(rt; are_labelled(&found, b"A"));
+fn given(rt: HostRuntime) {
+    for row in GIVEN {
+        let (command, line, told) = *row;
+        let found = read(&rt, rt.alloc(), command, line, true).expect(&rt, "options");
+        holds(&rt, is_told(&found, told), line);
+    }
 }
 
 /// Commands and lines, each with the word that breaks a rule, and the rule.
@@ -337,6 +368,6 @@ fn faults(rt: HostRuntime) {
         let (command, line, word, rule) = *row;
         let found = read(&rt, rt.alloc(), command, line, false).err();
         let want = OptionError::Fault(OptionFault { word, rule });
-        assert_eq!(rt; found, Some(want), "{line}");
+        same(&rt, found, Some(want), line);
     }
 }

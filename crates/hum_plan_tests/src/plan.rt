@@ -1,24 +1,41 @@
 //! Plans worked by hand from the grammar: their stages, or the rule that they break.
-use hum_plan::{Options, Plan, PlanError, parse_plan};
+use crate::compared::same_text;
+use hum_plan::{Options, PlanError, PlanStage, parse_plan};
 use std::alloc::Global;
 use std::process::Abort;
 
+// Writes a command behind a text, with the name of its score or the numbers of its sources.
+fn push_stage(rt: &impl Abort, alloc: Global, text: &mut String, stage: &PlanStage) {
+    text.push_str(stage.command.word()).expect(rt, "memory");
+    if let Options::Read(name) = &stage.options {
+        text.push_str(" ").expect(rt, "memory");
+        text.push_str(name).expect(rt, "memory");
+    }
+    for source in &stage.sources {
+        push_number(rt, alloc, text, " ", *source as u32);
+    }
+}
+
+/// Writes a number behind a text, with this in front of it.
+pub(crate) fn push_number(
+    rt: &impl Abort,
+    alloc: Global,
+    text: &mut String,
+    front: &str,
+    number: u32,
+) {
+    let part = format!(in alloc; "{front}{number}").expect(rt, "memory");
+    text.push_str(&part).expect(rt, "memory");
+}
+
 // The stages of a plan, each with the name of its score or the numbers of its sources.
-fn stages(rt: &impl Abort, alloc: Global, plan: Plan) -> String {
+fn stages(rt: &impl Abort, alloc: Global, stages: &[PlanStage]) -> String {
     let mut text = String::new(alloc);
-    for stage in plan.into_stages() {
+    for stage in stages {
         if !text.is_empty() {
             text.push_str("; ").expect(rt, "memory");
         }
-        text.push_str(stage.command.word()).expect(rt, "memory");
-        if let Options::Read(name) = &stage.options {
-            text.push_str(" ").expect(rt, "memory");
-            text.push_str(name).expect(rt, "memory");
-        }
-        for source in &stage.sources {
-            let number = format!(in alloc; " {source}").expect(rt, "memory");
-            text.push_str(&number).expect(rt, "memory");
-        }
+        push_stage(rt, alloc, &mut text, stage);
     }
     text
 }
@@ -26,7 +43,7 @@ fn stages(rt: &impl Abort, alloc: Global, plan: Plan) -> String {
 // The stages of a plan, or the line, the word and the rule that it breaks.
 fn shown(rt: &impl Abort, alloc: Global, plan: &[u8]) -> String {
     match parse_plan(alloc, plan) {
-        Ok(plan) => stages(rt, alloc, plan),
+        Ok(plan) => stages(rt, alloc, &plan.into_stages()),
         Err(PlanError::Fault(fault)) => {
             let line = fault.line;
             let word = fault.word;
@@ -39,7 +56,7 @@ fn shown(rt: &impl Abort, alloc: Global, plan: &[u8]) -> String {
 /// A plan of this text has these stages, or breaks a rule there.
 pub(crate) fn check(rt: &impl Abort, alloc: Global, plan: &[u8], want: &str) {
     let text = shown(rt, alloc, plan);
-    assert_eq!(rt; text.as_str(), want, "{plan:?}");
+    same_text(rt, &text, want, plan);
 }
 
 /// A plan, and its stages or the line, the word and the rule that it breaks.

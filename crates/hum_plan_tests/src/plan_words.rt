@@ -1,5 +1,6 @@
 //! Plans whose words behind a command break a rule, and plans at their limits.
-use crate::plan::{Row, check, check_all};
+use crate::compared::{holds, same};
+use crate::plan::{Row, check, check_all, push_number};
 use hum_plan::parse_plan;
 use std::alloc::Global;
 use std::process::Abort;
@@ -150,12 +151,16 @@ fn plan(rt: &impl Abort, alloc: Global, front: &str, piece: &str, count: u32, en
     text
 }
 
+fn is_plan(alloc: Global, text: &[u8]) -> bool {
+    parse_plan(alloc, text).is_ok()
+}
+
 #[test]
 fn at_most_64_stages(rt: HostRuntime) {
     let alloc = rt.alloc();
     let end = "\nout: assemble p";
     let most = plan(&rt, alloc, "p: read a", " | recip", 62, end);
-    assert!(rt; parse_plan(alloc, most.as_bytes()).is_ok());
+    holds(&rt, is_plan(alloc, most.as_bytes()), "64 stages");
     let more = plan(&rt, alloc, "p: read a", " | recip", 63, end);
     check(&rt, alloc, more.as_bytes(), "2, 2: N11");
     let unknown = plan(&rt, alloc, "out: read a", " | recip", 63, " | foo");
@@ -166,13 +171,12 @@ fn at_most_64_stages(rt: HostRuntime) {
 fn joined(rt: &impl Abort, alloc: Global, branches: u32, sources: u32) -> String {
     let mut text = String::new(alloc);
     for k in 0..branches {
-        let branch = format!(in alloc; "b{k}: read x\n").expect(rt, "memory");
-        text.push_str(&branch).expect(rt, "memory");
+        push_number(rt, alloc, &mut text, "b", k);
+        text.push_str(": read x\n").expect(rt, "memory");
     }
     text.push_str("out: assemble").expect(rt, "memory");
     for k in 0..sources {
-        let source = format!(in alloc; " b{k}").expect(rt, "memory");
-        text.push_str(&source).expect(rt, "memory");
+        push_number(rt, alloc, &mut text, " b", k);
     }
     text
 }
@@ -181,7 +185,7 @@ fn joined(rt: &impl Abort, alloc: Global, branches: u32, sources: u32) -> String
 fn at_most_16_branches_and_15_sources(rt: HostRuntime) {
     let alloc = rt.alloc();
     let most = joined(&rt, alloc, 15, 15);
-    assert!(rt; parse_plan(alloc, most.as_bytes()).is_ok());
+    holds(&rt, is_plan(alloc, most.as_bytes()), "16 branches");
     let again = plan(&rt, alloc, &most, " b0", 1, "");
     check(&rt, alloc, again.as_bytes(), "16, 18: N8");
     let more = joined(&rt, alloc, 16, 15);
@@ -192,7 +196,7 @@ fn at_most_16_branches_and_15_sources(rt: HostRuntime) {
 fn at_most_65_536_bytes(rt: HostRuntime) {
     let alloc = rt.alloc();
     let most = plan(&rt, alloc, "out: read a\n", "#", 65_524, "");
-    assert_eq!(rt; most.len(), 65_536);
+    same(&rt, most.len(), 65_536, "bytes");
     check(&rt, alloc, most.as_bytes(), "read a");
     let more = plan(&rt, alloc, "\n\n", "#", 65_535, "");
     check(&rt, alloc, more.as_bytes(), "1, 0: N1");

@@ -1,4 +1,5 @@
 //! Values of options by hand, of each kind and of none.
+use crate::compared::{holds, same, same_bytes};
 use hum_extract::{Field, FieldRange};
 use hum_frac::Frac;
 use hum_values::{
@@ -28,7 +29,7 @@ const NUMBERS: &[(&[u8], u64, Option<u64>)] = &[
 fn numbers(rt: HostRuntime) {
     for row in NUMBERS {
         let (text, most, want) = *row;
-        assert_eq!(rt; number(text, most), want, "{text:?}");
+        same(&rt, number(text, most), want, text);
     }
 }
 
@@ -49,7 +50,7 @@ fn counts(rt: HostRuntime) {
             Some(count) => Some(count.number),
             None => None,
         };
-        assert_eq!(rt; number, want, "{text:?}");
+        same(&rt, number, want, text);
     }
 }
 
@@ -75,7 +76,7 @@ const SIGNED_NUMBERS: &[(&[u8], u8, Option<i32>)] = &[
 fn signed_numbers(rt: HostRuntime) {
     for row in SIGNED_NUMBERS {
         let (text, most, want) = *row;
-        assert_eq!(rt; signed_number(text, most), want, "{text:?}");
+        same(&rt, signed_number(text, most), want, text);
     }
 }
 
@@ -120,7 +121,7 @@ fn lists_of_fields(rt: HostRuntime) {
     for row in FIELDS {
         let (text, want) = *row;
         let found = fields(&rt, rt.alloc(), text).expect(&rt, "fields");
-        assert!(rt; found.as_slice() == want, "{text:?}");
+        holds(&rt, found.as_slice() == want, text);
     }
 }
 
@@ -132,7 +133,7 @@ const NO_FIELDS: &[&[u8]] = &[
 #[test]
 fn no_lists_of_fields(rt: HostRuntime) {
     for text in NO_FIELDS {
-        assert!(rt; fields(&rt, rt.alloc(), *text).is_none(), "{text:?}");
+        holds(&rt, fields(&rt, rt.alloc(), *text).is_none(), *text);
     }
 }
 
@@ -176,7 +177,7 @@ fn lists_of_passages(rt: HostRuntime) {
     for row in PASSAGES {
         let (text, want) = *row;
         let found = passages(&rt, rt.alloc(), text).expect(&rt, "passages");
-        assert!(rt; found.as_slice() == want, "{text:?}");
+        holds(&rt, found.as_slice() == want, text);
     }
 }
 
@@ -204,7 +205,7 @@ const NO_PASSAGES: &[&[u8]] = &[
 #[test]
 fn no_lists_of_passages(rt: HostRuntime) {
     for text in NO_PASSAGES {
-        assert!(rt; passages(&rt, rt.alloc(), *text).is_none(), "{text:?}");
+        holds(&rt, passages(&rt, rt.alloc(), *text).is_none(), *text);
     }
 }
 
@@ -221,22 +222,28 @@ const NO_NAMES: &[&[u8]] = &[
     b"", b"**", b"*a", b"kern", b"**a,b", b"**a,", b"**a\tb", b"**a\r",
 ];
 
+fn check_names(rt: &impl Abort, found: &[Vec<u8>], want: &[&[u8]]) {
+    same(rt, found.len(), want.len(), "names");
+    for i in 0..want.len() {
+        if i < found.len() {
+            same_bytes(rt, &found[i], want[i], want[i]);
+        }
+    }
+}
+
 #[test]
 fn lists_of_names(rt: HostRuntime) {
     for row in NAMES {
         let (text, want) = *row;
         let found = names_in(&rt, rt.alloc(), text).expect(&rt, "names");
-        assert_eq!(rt; found.len(), want.len(), "{text:?}");
-        for (name, want) in found.iter().zip(want) {
-            assert_eq!(rt; name.as_slice(), *want, "{text:?}");
-        }
+        check_names(&rt, &found, want);
     }
 }
 
 #[test]
 fn no_lists_of_names(rt: HostRuntime) {
     for text in NO_NAMES {
-        assert!(rt; names_in(&rt, rt.alloc(), *text).is_none(), "{text:?}");
+        holds(&rt, names_in(&rt, rt.alloc(), *text).is_none(), *text);
     }
 }
 
@@ -250,30 +257,57 @@ fn repeated(rt: &impl Abort, alloc: Global, item: &[u8], times: usize) -> Vec<u8
     text
 }
 
+/// How many items, and whether a list may have so many.
+const ITEMS: &[(usize, bool)] = &[(64, true), (65, false)];
+
 #[test]
 fn at_most_64_items(rt: HostRuntime) {
     let alloc = rt.alloc();
-    for (times, few) in [(64usize, true), (65, false)] {
+    for row in ITEMS {
+        let (times, few) = *row;
         let sevens = repeated(&rt, alloc, b"7", times);
-        assert_eq!(rt; fields(&rt, alloc, &sevens).is_some(), few);
-        assert_eq!(rt; passages(&rt, alloc, &sevens).is_some(), few);
+        let are_fields = fields(&rt, alloc, &sevens).is_some();
+        let are_passages = passages(&rt, alloc, &sevens).is_some();
         let alike = repeated(&rt, alloc, b"**a", times);
-        assert_eq!(rt; names_in(&rt, alloc, &alike).is_some(), few);
+        let are_names = names_in(&rt, alloc, &alike).is_some();
+        same(
+            &rt,
+            (are_fields, are_passages, are_names),
+            (few, few, few),
+            times,
+        );
     }
 }
 
+const LABELS: &[(&[u8], bool)] = &[
+    (b"A", true),
+    (b"a b,c]", true),
+    (b"", false),
+    (b"a[b", false),
+    (b"a\tb", false),
+    (b"a\n", false),
+];
+
+const SEPARATORS: &[(&[u8], bool)] = &[(b"", true), (b", ", true), (b"\r", false)];
+
 #[test]
 fn labels_and_separators(rt: HostRuntime) {
-    assert!(rt; is_label(b"A") && is_label(b"a b,c]"));
-    assert!(rt; !is_label(b"") && !is_label(b"a[b") && !is_label(b"a\tb") && !is_label(b"a\n"));
-    assert!(rt; is_separator(b"") && is_separator(b", ") && !is_separator(b"\r"));
-    assert!(rt; is_name(b"**a,b") && !is_name(b"**"));
+    for row in LABELS {
+        let (text, is) = *row;
+        same(&rt, is_label(text), is, text);
+    }
+    for row in SEPARATORS {
+        let (text, is) = *row;
+        same(&rt, is_separator(text), is, text);
+    }
+    same(&rt, is_name(b"**a,b"), true, "a name with a comma");
+    same(&rt, is_name(b"**"), false, "no name");
 }
 
 fn check_step(rt: &impl Abort, alloc: Global, text: &[u8], want: Frac) {
     let options = step(alloc, text).expect(rt, "memory").expect(rt, "a step");
-    assert_eq!(rt; options.step, want, "{text:?}");
-    assert_eq!(rt; options.text.as_slice(), text);
+    same(rt, options.step, want, text);
+    same_bytes(rt, &options.text, text, text);
 }
 
 const NO_STEPS: &[&[u8]] = &[b"", b"3%", b"16c", b"r", b"4097", b"016"];
@@ -286,6 +320,6 @@ fn steps(rt: HostRuntime) {
     check_step(&rt, alloc, b"3%2", Frac::new(2, 3));
     for text in NO_STEPS {
         let found = step(alloc, *text).expect(&rt, "memory");
-        assert!(rt; found.is_none(), "{text:?}");
+        holds(&rt, found.is_none(), *text);
     }
 }

@@ -1,4 +1,5 @@
 //! Bundles by hand, and their parts.
+use crate::compared::{same, same_bytes};
 use hum_bundle::{is_too_large, plan_part, score};
 
 /// Bundles and their plans.
@@ -19,7 +20,7 @@ const PLANS: &[(&[u8], &[u8])] = &[
 fn plans(rt: HostRuntime) {
     for row in PLANS {
         let (bundle, plan) = *row;
-        assert_eq!(rt; plan_part(bundle), plan, "{bundle:?}");
+        same_bytes(&rt, plan_part(bundle), plan, bundle);
     }
 }
 
@@ -45,14 +46,18 @@ const SCORES: &[(&[u8], &str, Option<&[u8]>)] = &[
 fn scores(rt: HostRuntime) {
     for row in SCORES {
         let (bundle, name, found) = *row;
-        assert_eq!(rt; score(bundle, name), found, "{bundle:?}");
+        same(&rt, score(bundle, name), found, bundle);
     }
 }
 
+/// Sizes in bytes, and whether each is too large.
+const SIZES: &[(usize, bool)] = &[(67_108_864, false), (67_108_865, true)];
+
 #[test]
 fn sizes(rt: HostRuntime) {
-    for (size, too_large) in [(67_108_864usize, false), (67_108_865, true)] {
+    for row in SIZES {
+        let (size, too_large) = *row;
         let bundle = vec![in rt.alloc(); b'a'; size].expect(&rt, "memory");
-        assert_eq!(rt; is_too_large(&bundle), too_large, "{size}");
+        same(&rt, is_too_large(&bundle), too_large, size);
     }
 }

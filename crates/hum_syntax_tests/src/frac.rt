@@ -1,68 +1,102 @@
 //! Fractions worked by hand, each call.
+use crate::compared::{holds, same};
 use hum_frac::{Frac, FracFault};
+use std::process::Abort;
+
+/// A numerator and a denominator.
+type Ratio = (u64, u64);
+
+const LARGE: u64 = 1 << 62;
+
+fn frac(rt: &impl Abort, ratio: Ratio) -> Frac {
+    let (top, bottom) = ratio;
+    assert!(rt; top <= LARGE && 0 < bottom && bottom <= LARGE);
+    Frac::new(top, bottom)
+}
+
+const LOWEST: &[(Ratio, Ratio)] = &[
+    ((6, 4), (3, 2)),
+    ((0, 7), (0, 1)),
+    ((5, 5), (1, 1)),
+    ((4096, 12), (1024, 3)),
+];
 
 #[test]
 fn a_fraction_is_kept_in_lowest_terms(rt: HostRuntime) {
-    for (given, kept) in [
-        (Frac::new(6, 4), Frac::new(3, 2)),
-        (Frac::new(0, 7), Frac::new(0, 1)),
-        (Frac::new(5, 5), Frac::new(1, 1)),
-        (Frac::new(4096, 12), Frac::new(1024, 3)),
-        (Frac::zero(), Frac::new(0, 9)),
-    ] {
-        assert_eq!(rt; given, kept);
+    for row in LOWEST {
+        let (given, kept) = *row;
+        same(&rt, frac(&rt, given), frac(&rt, kept), given);
+    }
+    same(&rt, Frac::zero(), frac(&rt, (0, 9)), "zero");
+}
+
+/// Two fractions, and their sum if it fits.
+const SUMS: &[(Ratio, Ratio, Option<Ratio>)] = &[
+    ((1, 6), (1, 3), Some((1, 2))),
+    ((3, 4), (0, 1), Some((3, 4))),
+    ((1, LARGE), (1, LARGE - 1), None),
+    ((1, LARGE), (1, LARGE), Some((1, LARGE / 2))),
+];
+
+fn wanted(rt: &impl Abort, sum: Option<Ratio>) -> Result<Frac, FracFault> {
+    match sum {
+        Some(sum) => Ok(frac(rt, sum)),
+        None => Err(FracFault::F1),
     }
 }
 
 #[test]
 fn sums(rt: HostRuntime) {
-    let large = 1 << 62;
-    for (a, b, sum) in [
-        (Frac::new(1, 6), Frac::new(1, 3), Ok(Frac::new(1, 2))),
-        (Frac::new(3, 4), Frac::zero(), Ok(Frac::new(3, 4))),
-        (
-            Frac::new(1, large),
-            Frac::new(1, large - 1),
-            Err(FracFault::F1),
-        ),
-        (
-            Frac::new(1, large),
-            Frac::new(1, large),
-            Ok(Frac::new(1, large / 2)),
-        ),
-    ] {
-        assert_eq!(rt; a.add(b), sum, "{a:?} and {b:?}");
+    for row in SUMS {
+        let (a, b, sum) = *row;
+        let found = frac(&rt, a).add(frac(&rt, b));
+        same(&rt, found, wanted(&rt, sum), (a, b));
     }
 }
 
+/// Two fractions, and whether the first is before the second.
+const ORDER: &[(Ratio, Ratio, bool)] = &[
+    ((1, 3), (3, 8), true),
+    ((3, 8), (1, 3), false),
+    ((2, 6), (1, 3), false),
+];
+
 #[test]
 fn order(rt: HostRuntime) {
-    let third = Frac::new(1, 3);
-    let more = Frac::new(3, 8);
-    assert!(rt; third.is_before(more));
-    assert!(rt; !more.is_before(third));
-    assert!(rt; !Frac::new(2, 6).is_before(third));
-    assert!(rt; third != more);
+    for row in ORDER {
+        let (a, b, before) = *row;
+        same(&rt, frac(&rt, a).is_before(frac(&rt, b)), before, (a, b));
+    }
+    holds(&rt, frac(&rt, (1, 3)) != frac(&rt, (3, 8)), "1/3 and 3/8");
 }
+
+/// Fractions, and whether each is a multiple of 3/16.
+const MULTIPLES: &[(Ratio, bool)] = &[((3, 4), true), ((0, 1), true), ((1, 4), false)];
 
 #[test]
 fn multiples(rt: HostRuntime) {
     let unit = Frac::new(3, 16);
-    assert!(rt; Frac::new(3, 4).is_multiple(unit));
-    assert!(rt; Frac::zero().is_multiple(unit));
-    assert!(rt; !Frac::new(1, 4).is_multiple(unit));
+    for row in MULTIPLES {
+        let (ratio, is) = *row;
+        same(&rt, frac(&rt, ratio).is_multiple(unit), is, ratio);
+    }
 }
+
+/// Two fractions, and how many quarters are strictly between them.
+const BETWEEN: &[(Ratio, Ratio, u128)] = &[
+    // 1/4, 2/4, 3/4 and 1 are strictly between 0 and 5/4, which is none of them.
+    ((0, 1), (5, 4), 4),
+    ((1, 8), (9, 8), 4),
+    ((1, 4), (1, 2), 0),
+    ((1, 2), (1, 4), 0),
+];
 
 #[test]
 fn multiples_in_between(rt: HostRuntime) {
     let quarter = Frac::new(1, 4);
-    for (from, to, count) in [
-        // 1/4, 2/4, 3/4 and 1 are strictly between 0 and 5/4, which is none of them.
-        (Frac::zero(), Frac::new(5, 4), 4),
-        (Frac::new(1, 8), Frac::new(9, 8), 4),
-        (Frac::new(1, 4), Frac::new(1, 2), 0),
-        (Frac::new(1, 2), Frac::new(1, 4), 0),
-    ] {
-        assert_eq!(rt; from.multiples_to(to, quarter).1, count);
+    for row in BETWEEN {
+        let (from, to, count) = *row;
+        let found = frac(&rt, from).multiples_to(frac(&rt, to), quarter).1;
+        same(&rt, found, count, (from, to));
     }
 }

@@ -1,9 +1,11 @@
 //! Notes and durations worked by hand.
+use crate::compared::same;
+use crate::pitch::{Spelled, at};
 use hum_frac::Frac;
 use hum_kern::{
     KernFault, Length, Note, leading_part, read_duration, read_leading, read_note, read_recip,
 };
-use hum_pitch::{Pitch, write_pitch};
+use hum_pitch::write_pitch;
 use std::process::Abort;
 
 /// A text, its value as a numerator and a denominator, and where the duration stands in it.
@@ -15,7 +17,7 @@ fn check_durations(rt: &impl Abort, rows: &[Row]) {
         assert!(rt; bottom > 0);
         let value = Some(Frac::new(top as u64, bottom as u64));
         let want = Length { value, start, end };
-        assert_eq!(rt; read_duration(text), Ok(want), "{text:?}");
+        same(rt, read_duration(text), Ok(want), text);
     }
 }
 
@@ -78,7 +80,7 @@ fn leading_durations(rt: HostRuntime) {
         } else {
             None
         };
-        assert_eq!(rt; read_leading(token), want, "{token:?}");
+        same(&rt, read_leading(token), want, token);
     }
 }
 
@@ -110,7 +112,7 @@ fn leading_parts(rt: HostRuntime) {
             Ok(found) if tells => found.value,
             _ => None,
         };
-        assert_eq!(rt; leading_part(token), want, "{token:?}");
+        same(&rt, leading_part(token), want, token);
     }
 }
 
@@ -146,8 +148,8 @@ const NOTHING: Length = Length {
 #[test]
 fn without_a_duration(rt: HostRuntime) {
     for text in WITHOUT {
-        assert_eq!(rt; read_duration(*text), Ok(NOTHING), "{text:?}");
-        assert_eq!(rt; read_recip(*text), Err(KernFault::K3), "{text:?}");
+        same(&rt, read_duration(*text), Ok(NOTHING), *text);
+        same(&rt, read_recip(*text), Err(KernFault::K3), *text);
     }
 }
 
@@ -177,37 +179,38 @@ const REFUSED: &[&[u8]] = &[
 #[test]
 fn refused(rt: HostRuntime) {
     for text in REFUSED {
-        assert_eq!(rt; read_duration(*text), Err(KernFault::K3), "{text:?}");
-        assert_eq!(rt; read_recip(*text), Err(KernFault::K3), "{text:?}");
+        same(&rt, read_duration(*text), Err(KernFault::K3), *text);
+        same(&rt, read_recip(*text), Err(KernFault::K3), *text);
     }
 }
+
+/// Texts, each with its value as a numerator and a denominator.
+const ALONE: &[(&[u8], u32, u32)] = &[(b"16", 1, 16), (b"3%2.", 1, 1), (b"00", 4, 1)];
 
 /// Texts that are no duration, though each has one.
 const BESIDE: &[&[u8]] = &[b"4c", b" 4", b"4 ", b"4 8", b".4", b"4.%2", b"%2"];
 
 #[test]
 fn durations_and_nothing_else(rt: HostRuntime) {
-    assert_eq!(rt; read_recip(b"16"), Ok(Frac::new(1, 16)));
-    assert_eq!(rt; read_recip(b"3%2."), Ok(Frac::new(1, 1)));
-    assert_eq!(rt; read_recip(b"00"), Ok(Frac::new(4, 1)));
-    for text in BESIDE {
-        assert_eq!(rt; read_recip(*text), Err(KernFault::K3), "{text:?}");
+    for row in ALONE {
+        let (text, top, bottom) = *row;
+        assert!(rt; bottom > 0);
+        same(
+            &rt,
+            read_recip(text),
+            Ok(Frac::new(top as u64, bottom as u64)),
+            text,
+        );
     }
-}
-
-fn pitch(rt: &impl Abort, step: u8, octave: i8, alteration: i8) -> Pitch {
-    assert!(rt; step < 7 && octave >= -4 && octave <= 11 && alteration >= -7 && alteration <= 7);
-    Pitch {
-        step,
-        octave,
-        alteration,
+    for text in BESIDE {
+        same(&rt, read_recip(*text), Err(KernFault::K3), *text);
     }
 }
 
 // A note of this pitch, which stands there, without a mark.
-fn plain_note(pitch: Pitch, start: usize, end: usize) -> Note {
+fn plain_note(pitch: Spelled, start: usize, end: usize) -> Note {
     Note {
-        pitch: Some(pitch),
+        pitch: Some(at(pitch)),
         start,
         end,
         rest: false,
@@ -267,12 +270,8 @@ const PITCHES: &[Pitched] = &[
 fn pitches(rt: HostRuntime) {
     for row in PITCHES {
         let (text, start, end, step, octave, alteration) = *row;
-        let pitch = pitch(&rt, step, octave, alteration);
-        assert_eq!(rt;
-            read_note(text),
-            Ok(plain_note(pitch, start, end)),
-            "{text:?}"
-        );
+        let want = plain_note((step, octave, alteration), start, end);
+        same(&rt, read_note(text), Ok(want), text);
     }
 }
 
@@ -306,10 +305,10 @@ const REFUSED_BY_K2: &[&[u8]] = &[
 #[test]
 fn pitches_refused(rt: HostRuntime) {
     for text in REFUSED_BY_K1 {
-        assert_eq!(rt; read_note(*text), Err(KernFault::K1), "{text:?}");
+        same(&rt, read_note(*text), Err(KernFault::K1), *text);
     }
     for text in REFUSED_BY_K2 {
-        assert_eq!(rt; read_note(*text), Err(KernFault::K2), "{text:?}");
+        same(&rt, read_note(*text), Err(KernFault::K2), *text);
     }
 }
 
@@ -321,8 +320,10 @@ fn check_marks(rt: &impl Abort, rows: &[Marked], pitched: bool) {
         let (text, rest, grace, continued) = *row;
         let note = read_note(text).expect(rt, "a note");
         let found = (note.rest, note.grace, note.continued, note.pitch.is_some());
-        assert_eq!(rt; found, (rest, grace, continued, pitched), "{text:?}");
-        assert!(rt; pitched || note.start == 0 && note.end == 0, "{text:?}");
+        same(rt, found, (rest, grace, continued, pitched), text);
+        if !pitched {
+            same(rt, (note.start, note.end), (0, 0), text);
+        }
     }
 }
 
@@ -362,14 +363,13 @@ fn marks(rt: HostRuntime) {
 }
 
 /// Steps, octaves and alterations.
-const WRITTEN: &[(u8, i8, i8)] = &[(0, 4, 0), (6, 11, 7), (0, -4, -7), (3, 3, 2), (5, 0, -1)];
+const WRITTEN: &[Spelled] = &[(0, 4, 0), (6, 11, 7), (0, -4, -7), (3, 3, 2), (5, 0, -1)];
 
 #[test]
 fn written_pitches_are_read(rt: HostRuntime) {
-    for row in WRITTEN {
-        let (step, octave, alteration) = *row;
-        let pitch = pitch(&rt, step, octave, alteration);
-        let text = write_pitch(rt.alloc(), pitch).expect(&rt, "memory");
-        assert_eq!(rt; read_note(&text), Ok(plain_note(pitch, 0, text.len())));
+    for pitch in WRITTEN {
+        let text = write_pitch(rt.alloc(), at(*pitch)).expect(&rt, "memory");
+        let want = plain_note(*pitch, 0, text.len());
+        same(&rt, read_note(&text), Ok(want), *pitch);
     }
 }

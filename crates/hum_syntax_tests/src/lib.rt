@@ -8,6 +8,8 @@
 #[cfg(test)]
 mod bundle;
 #[cfg(test)]
+mod compared;
+#[cfg(test)]
 mod frac;
 #[cfg(test)]
 mod kern;
@@ -27,6 +29,8 @@ mod pitch;
 mod read;
 #[cfg(test)]
 mod record;
+#[cfg(test)]
+mod sources;
 #[cfg(test)]
 mod spread;
 #[cfg(test)]

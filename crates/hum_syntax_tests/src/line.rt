@@ -1,38 +1,46 @@
 //! Command lines by hand.
+use crate::compared::same;
+use hum_line::Side::{Left, Right};
 use hum_line::{LineFault, Side, read_line};
 use std::alloc::Global;
 use std::process::Abort;
 
-/// Lines, and what their words ask for: how many records a link holds, the order and the file.
-const LINES: &[(&str, &str)] = &[
-    ("humpipe", "16 left none"),
-    ("humpipe tune.hpl", "16 left tune.hpl"),
-    ("humpipe --link 1", "1 left none"),
-    ("humpipe --link 4096 tune.hpl", "4096 left tune.hpl"),
+/// How many records a link holds, the order and the file.
+type Asked<'w> = (u16, Side, Option<&'w str>);
+
+/// Lines, and what their words ask for, if anything.
+const LINES: &[(&str, Option<Asked<'static>>)] = &[
+    ("humpipe", Some((16, Left, None))),
+    ("humpipe tune.hpl", Some((16, Left, Some("tune.hpl")))),
+    ("humpipe --link 1", Some((1, Left, None))),
+    (
+        "humpipe --link 4096 tune.hpl",
+        Some((4096, Left, Some("tune.hpl"))),
+    ),
     (
         "humpipe tune.hpl --order right --link 7",
-        "7 right tune.hpl",
+        Some((7, Right, Some("tune.hpl"))),
     ),
-    ("humpipe --order left", "16 left none"),
-    ("humpipe --link=7", "7 left none"),
-    ("humpipe -", "16 left -"),
-    ("humpipe ./-x", "16 left ./-x"),
-    ("humpipe -- --link", "16 left --link"),
-    ("humpipe --link 0", "usage"),
-    ("humpipe --link 4097", "usage"),
-    ("humpipe --link -1", "usage"),
-    ("humpipe --link x", "usage"),
-    ("humpipe --link", "usage"),
-    ("humpipe --link 1 --link 2", "usage"),
-    ("humpipe --order up", "usage"),
-    ("humpipe --order", "usage"),
-    ("humpipe --order left --order left", "usage"),
-    ("humpipe --help", "usage"),
-    ("humpipe -h", "usage"),
-    ("humpipe help x", "usage"),
-    ("humpipe --version", "usage"),
-    ("humpipe a b", "usage"),
-    ("humpipe -x", "usage"),
+    ("humpipe --order left", Some((16, Left, None))),
+    ("humpipe --link=7", Some((7, Left, None))),
+    ("humpipe -", Some((16, Left, Some("-")))),
+    ("humpipe ./-x", Some((16, Left, Some("./-x")))),
+    ("humpipe -- --link", Some((16, Left, Some("--link")))),
+    ("humpipe --link 0", None),
+    ("humpipe --link 4097", None),
+    ("humpipe --link -1", None),
+    ("humpipe --link x", None),
+    ("humpipe --link", None),
+    ("humpipe --link 1 --link 2", None),
+    ("humpipe --order up", None),
+    ("humpipe --order", None),
+    ("humpipe --order left --order left", None),
+    ("humpipe --help", None),
+    ("humpipe -h", None),
+    ("humpipe help x", None),
+    ("humpipe --version", None),
+    ("humpipe a b", None),
+    ("humpipe -x", None),
 ];
 
 // The words of a line, which stand between single spaces.
@@ -45,20 +53,11 @@ fn words(rt: &impl Abort, alloc: Global, line: &str) -> Vec<String> {
     words
 }
 
-// What words ask for, or why not.
-fn shown(rt: &impl Abort, alloc: Global, words: &[String]) -> String {
+fn asked<'w>(rt: &impl Abort, alloc: Global, words: &'w [String]) -> Option<Asked<'w>> {
     match read_line(alloc, words) {
-        Ok(choice) => {
-            let link = choice.link;
-            let order = match choice.order {
-                Side::Left => "left",
-                Side::Right => "right",
-            };
-            let file = choice.file.unwrap_or("none");
-            format!(in alloc; "{link} {order} {file}").expect(rt, "memory")
-        }
-        Err(LineFault::Usage) => String::from_str(alloc, "usage").expect(rt, "memory"),
-        Err(fault) => panic!(rt; "{fault:?}"),
+        Ok(choice) => Some((choice.link, choice.order, choice.file)),
+        Err(LineFault::Usage) => None,
+        Err(LineFault::Memory) => panic!(rt; "memory"),
     }
 }
 
@@ -67,7 +66,7 @@ fn lines(rt: HostRuntime) {
     let alloc = rt.alloc();
     for row in LINES {
         let (line, want) = *row;
-        let text = shown(&rt, alloc, &words(&rt, alloc, line));
-        assert_eq!(rt; text.as_str(), want, "{line}");
+        let words = words(&rt, alloc, line);
+        same(&rt, asked(&rt, alloc, &words), want, line);
     }
 }

@@ -1,6 +1,7 @@
 //! Spines of small scores, by hand: where they come from, and each rule broken once.
 ghost use Rattle.std.specs.Prelude.{◌≡◌, ◌≤◌, [], length};
 
+use crate::compared::{holds, prints, same, same_bytes};
 use crate::record::read;
 use hum_path::{Carried, ColumnMemory, Move, Moves, PathFault, Paths};
 use hum_record::{Record, RecordBuilder, SpinedKind};
@@ -9,23 +10,23 @@ use std::marker::Model;
 use std::process::Abort;
 
 fn check_moves(rt: &impl Abort, found: &Moves, want: &[Move]) {
-    assert_eq!(rt; found.len(), want.len());
-    assert_eq!(rt; found.is_empty(), want.is_empty());
+    same(rt, found.len(), want.len(), "spines");
+    same(rt, found.is_empty(), want.is_empty(), "no spines");
     for (i, from) in want.iter().enumerate() {
         if i < found.len() {
-            assert_eq!(rt; found.get(i), *from, "spine {i}");
+            same(rt, found.get(i), *from, i);
         }
     }
     if let Some(listed) = found.as_listed() {
-        assert_eq!(rt; listed, want);
+        same(rt, listed, want, "a list");
     }
 }
 
 fn check_names(rt: &impl Abort, paths: &Paths, want: &[&'static [u8]]) {
-    assert_eq!(rt; paths.width(), want.len());
+    same(rt, paths.width(), want.len(), "spines");
     for (j, name) in want.iter().enumerate() {
         if j < paths.width() {
-            assert_eq!(rt; paths.exclusive(j), *name, "spine {j}");
+            same_bytes(rt, paths.exclusive(j), *name, j);
         }
     }
 }
@@ -44,7 +45,7 @@ fn check_steps(rt: &impl Abort, alloc: Global, paths: &mut Paths, rows: &[Row]) 
         let found = paths.step(&read(rt, alloc, text));
         match want {
             Ok(moves) => check_moves(rt, &found.expect(rt, "moves"), moves),
-            Err(fault) => assert_eq!(rt; found.err(), Some(fault), "{text:?}"),
+            Err(fault) => same(rt, found.err(), Some(fault), text),
         }
         check_names(rt, paths, names);
     }
@@ -88,12 +89,12 @@ const ENDED: &[Row] = &[(b"*-\t*-\t*-", Ok(&[]), &[])];
 fn follows_spines(rt: HostRuntime) {
     let alloc = rt.alloc();
     let mut paths = Paths::new(alloc);
-    assert!(rt; paths.is_closed());
+    holds(&rt, paths.is_closed(), "no spine was opened");
     check_steps(&rt, alloc, &mut paths, FOLLOWED);
-    assert_eq!(rt; paths.close(), Err(PathFault::P8));
+    same(&rt, paths.close(), Err(PathFault::P8), "spines are open");
     check_steps(&rt, alloc, &mut paths, ENDED);
-    assert!(rt; paths.is_closed());
-    assert_eq!(rt; paths.close(), Ok(()));
+    holds(&rt, paths.is_closed(), "all spines have ended");
+    same(&rt, paths.close(), Ok(()), "all spines have ended");
 }
 
 const REFUSED: &[Row] = &[
@@ -152,17 +153,16 @@ fn refuses_more_than_4096_spines(rt: HostRuntime) {
         let row = splits(&rt, alloc, paths.width());
         paths.step(&row).expect(&rt, "moves");
     }
-    assert_eq!(rt; paths.width(), 4096);
+    same(&rt, paths.width(), 4096, "twelve splits");
     let row = splits(&rt, alloc, 4096);
-    assert_eq!(rt; paths.step(&row).err(), Some(PathFault::P9));
-    assert_eq!(rt; paths.width(), 4096);
+    same(&rt, paths.step(&row).err(), Some(PathFault::P9), "one more");
+    same(&rt, paths.width(), 4096, "as before");
 }
 
 #[test]
 fn prints_its_faults(rt: HostRuntime) {
-    let alloc = rt.alloc();
-    let text = format!(in alloc; "{} {}", PathFault::P10, PathFault::Memory).expect(&rt, "memory");
-    assert_eq!(rt; text.as_str(), "P10 out of memory");
+    prints(&rt, rt.alloc(), &PathFault::P10, "P10");
+    prints(&rt, rt.alloc(), &PathFault::Memory, "out of memory");
 }
 
 /// The nearest cell above.
@@ -209,11 +209,10 @@ impl ColumnMemory for Nearest {
 }
 
 fn check_nearest(rt: &impl Abort, carried: &Carried<Nearest>, want: &[&'static [u8]]) {
-    assert_eq!(rt; carried.width(), want.len());
+    same(rt, carried.width(), want.len(), "spines");
     for (i, token) in want.iter().enumerate() {
         if i < carried.width() {
-            let memory = carried.at(i);
-            assert_eq!(rt; memory.token.as_slice(), *token, "spine {i}");
+            same_bytes(rt, &carried.at(i).token, *token, i);
         }
     }
 }
@@ -231,6 +230,18 @@ const REMEMBERED: &[(&[u8], &[&[u8]])] = &[
     (b"*\t*\t**z", &[b"*", b"*", b"**z"]),
 ];
 
+fn follow(
+    rt: &impl Abort,
+    alloc: Global,
+    paths: &mut Paths,
+    carried: &mut Carried<Nearest>,
+    text: &[u8],
+) {
+    let row = read(rt, alloc, text);
+    let found = paths.step(&row).expect(rt, "moves");
+    carried.follow(&mut (), &row, &found).expect(rt, "memory");
+}
+
 #[test]
 fn remembers_columns(rt: HostRuntime) {
     let alloc = rt.alloc();
@@ -238,9 +249,7 @@ fn remembers_columns(rt: HostRuntime) {
     let mut carried = Carried::new(alloc);
     for line in REMEMBERED {
         let (text, nearest) = *line;
-        let row = read(&rt, alloc, text);
-        let found = paths.step(&row).expect(&rt, "moves");
-        carried.follow(&mut (), &row, &found).expect(&rt, "memory");
+        follow(&rt, alloc, &mut paths, &mut carried, text);
         check_nearest(&rt, &carried, nearest);
     }
 }

@@ -1,4 +1,5 @@
 //! Patterns and tokens, by hand.
+use crate::compared::{prints, same};
 use hum_pattern::{Pattern, PatternFault};
 use std::alloc::Global;
 use std::process::Abort;
@@ -21,9 +22,10 @@ fn matches_anywhere_in_a_token(rt: HostRuntime) {
     for row in MATCHED {
         let (text, matched, other) = *row;
         let mut pattern = pattern(&rt, rt.alloc(), text);
-        assert!(rt; pattern.matches(matched), "{text}");
-        assert!(rt; !pattern.matches(other), "{text}");
-        assert!(rt; pattern.matches(matched), "{text}");
+        let first = pattern.matches(matched);
+        let second = pattern.matches(other);
+        let third = pattern.matches(matched);
+        same(&rt, (first, second, third), (true, false, true), text);
     }
 }
 
@@ -40,7 +42,7 @@ fn ends_where_the_first_match_ends(rt: HostRuntime) {
     for row in ENDS {
         let (text, token, end) = *row;
         let mut pattern = pattern(&rt, rt.alloc(), text);
-        assert_eq!(rt; pattern.end_of_first(token), end, "{text}");
+        same(&rt, pattern.end_of_first(token), end, text);
     }
 }
 
@@ -55,12 +57,12 @@ fn refuses_what_is_no_expression(rt: HostRuntime) {
     for row in REFUSED {
         let (text, fault) = *row;
         let found = Pattern::new(rt.alloc(), text).err();
-        assert_eq!(rt; found, Some(fault), "{text}");
+        same(&rt, found, Some(fault), text);
     }
 }
 
 #[test]
 fn prints_its_faults(rt: HostRuntime) {
-    let text = format!(in rt.alloc(); "{}", PatternFault::Refused).expect(&rt, "memory");
-    assert_eq!(rt; text.as_str(), "the text is no regular expression");
+    let want = "the text is no regular expression";
+    prints(&rt, rt.alloc(), &PatternFault::Refused, want);
 }

@@ -1,10 +1,11 @@
 //! Pitches and intervals of music theory.
+use crate::compared::{prints, same, same_bytes};
 use hum_pitch::{Pitch, PitchFault, interval, write_interval, write_pitch};
 use std::alloc::Global;
 use std::process::Abort;
 
 /// The step of a pitch, its octave, and its sharps or flats.
-type Spelled = (u8, i8, i8);
+pub(crate) type Spelled = (u8, i8, i8);
 
 const C: u8 = 0;
 
@@ -20,8 +21,8 @@ const A: u8 = 5;
 
 const B: u8 = 6;
 
-// A pitch, kept within its limits.
-fn at(spelled: Spelled) -> Pitch {
+/// A pitch, kept within its limits.
+pub(crate) fn at(spelled: Spelled) -> Pitch {
     let (step, octave, alteration) = spelled;
     Pitch {
         step: step.min(6),
@@ -38,7 +39,7 @@ fn check_named(rt: &impl Abort, alloc: Global, rows: &[Named]) {
         let (from, to, name) = *row;
         let found = interval(at(from), at(to));
         let text = write_interval(alloc, found, false, false).expect(rt, "memory");
-        assert_eq!(rt; text.as_slice(), name.as_bytes(), "{name}");
+        same_bytes(rt, &text, name.as_bytes(), name);
     }
 }
 
@@ -98,14 +99,13 @@ const LEFT: &[(bool, bool, &str)] = &[(true, false, "d4"), (false, true, "-4"), 
 #[test]
 fn leaves_out_direction_and_quality(rt: HostRuntime) {
     let fourth = interval(at((E, 4, -1)), at((B, 3, 0)));
-    assert_eq!(rt; fourth.steps, -3);
-    assert_eq!(rt; fourth.semitones, -4);
+    same(&rt, (fourth.steps, fourth.semitones), (-3, -4), "-d4");
     for row in LEFT {
         let (without_direction, without_quality, left) = *row;
         let text = write_interval(rt.alloc(), fourth, without_direction, without_quality).expect(
             &rt, "memory",
         );
-        assert_eq!(rt; text.as_slice(), left.as_bytes());
+        same_bytes(&rt, &text, left.as_bytes(), left);
     }
 }
 
@@ -129,7 +129,7 @@ fn writes_pitches(rt: HostRuntime) {
     for row in WRITTEN {
         let (pitch, text) = *row;
         let written = write_pitch(rt.alloc(), at(pitch)).expect(&rt, "memory");
-        assert_eq!(rt; written.as_slice(), text.as_bytes());
+        same_bytes(&rt, &written, text.as_bytes(), text);
     }
 }
 
@@ -148,22 +148,25 @@ const SEMITONES: &[(Spelled, i32)] = &[
 fn counts_semitones_from_middle_c(rt: HostRuntime) {
     for row in SEMITONES {
         let (pitch, semitones) = *row;
-        assert_eq!(rt; at(pitch).semits(), semitones, "{pitch:?}");
+        same(&rt, at(pitch).semits(), semitones, pitch);
     }
 }
 
 /// A pitch, how many steps and semitones it is moved by, and what it becomes.
 type Moved = (Spelled, i32, i32, Result<Spelled, PitchFault>);
 
+fn wanted(to: Result<Spelled, PitchFault>) -> Result<Pitch, PitchFault> {
+    match to {
+        Ok(to) => Ok(at(to)),
+        Err(fault) => Err(fault),
+    }
+}
+
 fn check_moved(rt: &impl Abort, rows: &[Moved]) {
     for row in rows {
         let (from, steps, semitones, want) = *row;
         assert!(rt; steps >= -49 && steps <= 49 && semitones >= -84 && semitones <= 84);
-        let found = at(from).transpose(steps, semitones);
-        match want {
-            Ok(to) => assert_eq!(rt; found, Ok(at(to))),
-            Err(fault) => assert_eq!(rt; found, Err(fault)),
-        }
+        same(rt, at(from).transpose(steps, semitones), wanted(want), from);
     }
 }
 
@@ -198,6 +201,6 @@ fn refuses_what_has_no_spelling(rt: HostRuntime) {
 
 #[test]
 fn prints_its_faults(rt: HostRuntime) {
-    let text = format!(in rt.alloc(); "{}", PitchFault::TR1).expect(&rt, "memory");
-    assert_eq!(rt; text.as_str(), "over seven sharps or flats");
+    let want = "over seven sharps or flats";
+    prints(&rt, rt.alloc(), &PitchFault::TR1, want);
 }

@@ -1,34 +1,11 @@
 //! Scores read in pieces of several sizes, and from a source that fails.
+use crate::compared::{holds, prints, same, same_bytes};
+use crate::sources::Pieces;
 use hum_read::{ReadError, ScoreReader};
 use hum_stage::{Command, End, Fault, Rule};
 use hum_text::calls::Marked;
 use std::alloc::Global;
-use std::io;
-use std::io::{Error, ErrorKind, Read};
 use std::process::Abort;
-
-// Gives a text in pieces of this size. The read after so many good ones fails, and no other does.
-#[derive(Drop)]
-struct Pieces {
-    text: &'static [u8],
-    size: usize,
-    good: usize,
-}
-
-impl Read for Pieces {
-    fn read(&mut self, buf: &mut [u8]) -> io::Result<usize> {
-        if self.good == 0 {
-            self.good = usize::MAX;
-            return Err(Error::from(ErrorKind::Interrupted));
-        }
-        self.good -= 1;
-        let n = self.size.min(buf.len()).min(self.text.len());
-        let (front, rest) = self.text.split_at(n);
-        buf[..n].copy_from_slice(front);
-        self.text = rest;
-        Ok(n)
-    }
-}
 
 // Reads to the end or an error: the texts of the records, with LF after each, and why it stops.
 fn read_all(
@@ -59,10 +36,10 @@ fn check_read(
 ) {
     let mut reader = ScoreReader::new(alloc, 3, Marked::new(source));
     let (texts, found) = read_all(rt, alloc, &mut reader);
-    assert_eq!(rt; texts.as_slice(), want);
-    assert_eq!(rt; found, stop);
-    assert!(rt; reader.next().is_none());
-    assert_eq!(rt; reader.stopped(), Some(stop));
+    same_bytes(rt, &texts, want, want);
+    same(rt, found, stop, want);
+    holds(rt, reader.next().is_none(), "it has stopped");
+    same(rt, reader.stopped(), Some(stop), want);
 }
 
 fn end_of(fault: Option<(u64, Rule)>) -> End {
@@ -111,10 +88,14 @@ const SCORES: &[Row] = &[
     (b"4c\t\n\n", b"", Some((1, Rule::S4))),
 ];
 
+/// Sizes of the pieces.
+const SIZES: &[usize] = &[1, 2, 7];
+
 #[test]
 fn scores_in_pieces(rt: HostRuntime) {
-    for size in [1usize, 2, 7] {
+    for size in SIZES {
         for row in SCORES {
+            let size = *size;
             let (text, texts, fault) = *row;
             let good = usize::MAX;
             let source = Pieces { text, size, good };
@@ -142,11 +123,6 @@ fn a_read_fails(rt: HostRuntime) {
 
 #[test]
 fn errors_print(rt: HostRuntime) {
-    for (error, text) in [
-        (ReadError::Read, "read failed"),
-        (ReadError::Memory, "out of memory"),
-    ] {
-        let printed = format!(in rt.alloc(); "{error}").expect(&rt, "memory");
-        assert_eq!(rt; printed.as_str(), text);
-    }
+    prints(&rt, rt.alloc(), &ReadError::Read, "read failed");
+    prints(&rt, rt.alloc(), &ReadError::Memory, "out of memory");
 }

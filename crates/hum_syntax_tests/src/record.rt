@@ -3,6 +3,7 @@ ghost use Rattle.std.specs.Prelude.{◌≡◌, ◌<◌, IfOk};
 ghost use Rattle.hum_record.specs.Spelling.{has_byte, IsToken};
 ghost use Rattle.hum_record.specs.declared.SpinedKind.TheVariants.{Values};
 
+use crate::compared::{prints, same, same_bytes};
 use hum_record::{Kind, Record, RecordBuilder, RecordFault, Spare, SpinedKind};
 use std::alloc::{AllocError, Global};
 use std::process::Abort;
@@ -30,12 +31,12 @@ type Row = (&'static [u8], Kind, &'static [&'static [u8]]);
 // The record is that of the row.
 fn check_record(rt: &impl Abort, record: &Record, row: &Row) {
     let (text, kind, tokens) = *row;
-    assert_eq!(rt; record.text(), text);
-    assert_eq!(rt; record.kind(), kind, "{text:?}");
-    assert_eq!(rt; record.width(), tokens.len(), "{text:?}");
+    same_bytes(rt, record.text(), text, text);
+    same(rt, record.kind(), kind, text);
+    same(rt, record.width(), tokens.len(), text);
     for (j, token) in tokens.iter().enumerate() {
         if j < record.width() {
-            assert_eq!(rt; record.token(j), *token, "token {j}");
+            same_bytes(rt, record.token(j), *token, j);
         }
     }
 }
@@ -45,11 +46,11 @@ fn through_line(rt: &impl Abort, record: Record) -> Record {
     let width = record.width();
     match record.into_line() {
         Ok(line) => {
-            assert_eq!(rt; line.text().last(), Some(&b'\n'));
+            same(rt, line.text().ends_with(b"\n"), true, "a line");
             line.into_record()
         }
         Err(record) => {
-            assert_eq!(rt; record.width(), width);
+            same(rt, record.width(), width, "no line");
             record
         }
     }
@@ -85,6 +86,16 @@ fn reads_each_kind(rt: HostRuntime) {
     check_read(&rt, rt.alloc(), EACH_KIND);
 }
 
+// Both have the same tokens.
+fn check_alike(rt: &impl Abort, record: &Record, other: &Record) {
+    same(rt, record.width(), other.width(), "tokens");
+    for j in 0..record.width() {
+        if j < other.width() {
+            same_bytes(rt, record.token(j), other.token(j), j);
+        }
+    }
+}
+
 /// A text, which of its tokens are marked, and the text of these alone.
 type Marked = (&'static [u8], &'static [bool], &'static [u8]);
 
@@ -104,16 +115,10 @@ fn retains_marked_tokens(rt: HostRuntime) {
     for row in MARKED {
         let (text, marks, left) = *row;
         let mut record = read(&rt, alloc, text);
-        assert!(rt; marks.len() == record.width() && marks.iter().any(|mark| *mark));
+        assert!(rt; marks.len() == record.width() && marks.contains(&true));
         record.retain(marks);
-        assert_eq!(rt; record.text(), left);
-        let again = read(&rt, alloc, left);
-        assert_eq!(rt; record.width(), again.width(), "{text:?}");
-        for j in 0..record.width() {
-            if j < again.width() {
-                assert_eq!(rt; record.token(j), again.token(j), "token {j}");
-            }
-        }
+        same_bytes(&rt, record.text(), left, text);
+        check_alike(&rt, &record, &read(&rt, alloc, left));
     }
 }
 
@@ -188,7 +193,7 @@ fn refuses_in_order(rt: HostRuntime) {
     for row in REFUSED {
         let (text, fault) = *row;
         let found = parse(&rt, rt.alloc(), text).err();
-        assert_eq!(rt; found, Some(fault), "{text:?}");
+        same(&rt, found, Some(fault), text);
     }
 }
 
@@ -237,24 +242,28 @@ fn second_push(
     builder.push(second)
 }
 
-// With a tab between them two halves are one byte under the limit, or at it, or over it.
+/// How long a second token is beside a first of 524,287 bytes, and what it is answered: with the tab
+/// between them both are one byte under the limit, or at it, or over it.
+const LONG: &[(usize, Result<(), RecordFault>)] = &[
+    (524_287, Ok(())),
+    (524_288, Ok(())),
+    (524_289, Err(RecordFault::L1)),
+];
+
 #[test]
 fn refuses_what_would_be_too_long(rt: HostRuntime) {
     let alloc = rt.alloc();
     let half = long_token(alloc, 524_287).expect(&rt, "memory");
-    for (len, want) in [
-        (524_287usize, Ok(())),
-        (524_288, Ok(())),
-        (524_289, Err(RecordFault::L1)),
-    ] {
+    for row in LONG {
+        let (len, want) = *row;
         let other = long_token(alloc, len.max(1)).expect(&rt, "memory");
         let answer = second_push(&rt, alloc, &half, &other);
-        assert_eq!(rt; answer, want, "{len}");
+        same(&rt, answer, want, len);
     }
 }
 
 #[test]
 fn prints_its_faults(rt: HostRuntime) {
-    let text = format!(in rt.alloc(); "{}", RecordFault::S5).expect(&rt, "memory");
-    assert_eq!(rt; text.as_str(), "tokens are of different kinds (S5)");
+    let want = "tokens are of different kinds (S5)";
+    prints(&rt, rt.alloc(), &RecordFault::S5, want);
 }

@@ -1,4 +1,5 @@
 //! The spread rule on interpretations of some tokens, by hand.
+use crate::compared::{holds, same, same_bytes};
 use hum_record::{Record, RecordBuilder, SpinedKind};
 use hum_spread::{Piece, push_fitting, spread};
 use std::alloc::Global;
@@ -24,14 +25,19 @@ fn written(rt: &impl Abort, alloc: Global, between: bool, room: u64) -> VecDeque
     ];
     let pieces = if between { &apart } else { &beside };
     let fits = spread(alloc, pieces, room, &mut out).expect(rt, "memory");
-    assert_eq!(rt; fits, !out.is_empty());
+    same(
+        rt,
+        fits,
+        !out.is_empty(),
+        "records come where there is room",
+    );
     out
 }
 
 fn check_texts(rt: &impl Abort, records: &VecDeque<Record>, want: &[&'static [u8]]) {
-    assert_eq!(rt; records.len(), want.len());
+    same(rt, records.len(), want.len(), "records");
     for (record, text) in records.iter().zip(want) {
-        assert_eq!(rt; record.text(), *text);
+        same_bytes(rt, record.text(), *text, *text);
     }
 }
 
@@ -46,18 +52,18 @@ fn writes_neighbouring_joins_one_after_another(rt: HostRuntime) {
 #[test]
 fn writes_nothing_without_room_or_tokens(rt: HostRuntime) {
     let alloc = rt.alloc();
-    assert!(rt; written(&rt, alloc, false, 1).is_empty());
+    holds(&rt, written(&rt, alloc, false, 1).is_empty(), "no room");
     let mut out = VecDeque::new(alloc);
-    assert!(rt; spread(alloc, &[], 0, &mut out).expect(&rt, "memory"));
-    assert!(rt; out.is_empty());
+    let fits = spread(alloc, &[], 0, &mut out).expect(&rt, "memory");
+    holds(&rt, fits && out.is_empty(), "no tokens");
 }
 
 #[test]
 fn adds_a_token(rt: HostRuntime) {
     let piece = Piece::new(true, b"*v");
-    assert!(rt; piece.begins());
-    assert_eq!(rt; piece.token(), b"*v".as_slice());
+    holds(&rt, piece.begins(), "a join begins");
+    same_bytes(&rt, piece.token(), b"*v", "a token");
     let mut builder = RecordBuilder::new(rt.alloc(), SpinedKind::Interpretation);
     push_fitting(&mut builder, b"*v").expect(&rt, "memory");
-    assert_eq!(rt; builder.finish().text(), b"*v".as_slice());
+    same_bytes(&rt, builder.finish().text(), b"*v", "a record");
 }

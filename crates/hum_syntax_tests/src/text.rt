@@ -1,61 +1,13 @@
 //! Lines of texts in pieces of every size, and sources and sinks that fail.
-use hum_text::calls::{LARGEST_READ, Marked, Sink, Source};
+use crate::compared::{holds, prints, same, same_bytes};
+use crate::sources::Pieces;
+use hum_text::calls::{Marked, Sink, Source};
 use hum_text::reader::{LineReader, Step};
 use hum_text::{Limits, TextFault};
 use std::alloc::Global;
 use std::io;
-use std::io::{Error, ErrorKind, Read, Write};
+use std::io::{Error, ErrorKind, Write};
 use std::process::Abort;
-
-// Gives a text in pieces of this size, and is interrupted once, after `good` reads. A read that
-// asks for no byte, or for more than may be asked for, fails.
-#[derive(Drop)]
-struct Pieces {
-    text: &'static [u8],
-    size: usize,
-    good: usize,
-}
-
-impl Read for Pieces {
-    fn read(&mut self, buf: &mut [u8]) -> io::Result<usize> {
-        if self.good == 0 {
-            self.good = usize::MAX;
-            return Err(Error::from(ErrorKind::Interrupted));
-        }
-        if buf.is_empty() || buf.len() > LARGEST_READ {
-            return Err(Error::from(ErrorKind::InvalidInput));
-        }
-        self.good -= 1;
-        let n = self.size.min(buf.len()).min(self.text.len());
-        let (front, rest) = self.text.split_at(n);
-        buf[..n].copy_from_slice(front);
-        self.text = rest;
-        Ok(n)
-    }
-}
-
-// Gives this many letters, then CR and LF, as many bytes as are asked for.
-#[derive(Drop)]
-struct Letters {
-    letters: usize,
-    line_end: &'static [u8],
-}
-
-impl Read for Letters {
-    fn read(&mut self, buf: &mut [u8]) -> io::Result<usize> {
-        if self.letters > 0 {
-            let n = self.letters.min(buf.len());
-            buf[..n].fill(b'a');
-            self.letters -= n;
-            return Ok(n);
-        }
-        let n = self.line_end.len().min(buf.len());
-        let (front, rest) = self.line_end.split_at(n);
-        buf[..n].copy_from_slice(front);
-        self.line_end = rest;
-        Ok(n)
-    }
-}
 
 // Takes this many bytes in all.
 #[derive(Drop)]
@@ -109,7 +61,7 @@ fn read_all<R: Source + Drop>(
             }
             Ok(Step::More) => reads = reads.saturating_add(1),
             Ok(Step::End) | Err(_) => {
-                assert_eq!(rt; reader.poll(), polled);
+                same(rt, reader.poll(), polled, "polled once more");
                 let fault = polled.err();
                 return Reading {
                     lines,
@@ -164,61 +116,81 @@ const TEXTS: &[Row] = &[
     (b"abc\ndef\nghi", SMALL, b"abc\ndef\n", Some(TextFault::S7)),
 ];
 
+// The source gives these lines and this fault; answers how many reads gave bytes.
+fn check_lines(
+    rt: &impl Abort,
+    alloc: Global,
+    source: Pieces,
+    limits: Limits,
+    lines: &[u8],
+    fault: Option<TextFault>,
+) -> usize {
+    let case = (source.text, source.size);
+    let reading = read_all(rt, alloc, Marked::new(source), limits);
+    same_bytes(rt, &reading.lines, lines, case);
+    same(rt, reading.fault, fault, case);
+    reading.reads
+}
+
 #[test]
 fn texts_in_pieces(rt: HostRuntime) {
     for size in 1..=12usize {
         for row in TEXTS {
             let (text, limits, lines, fault) = *row;
             let good = usize::MAX;
-            let source = Marked::new(Pieces { text, size, good });
-            let reading = read_all(&rt, rt.alloc(), source, limits);
-            assert_eq!(rt; reading.lines.as_slice(), lines, "{text:?} by {size}");
-            assert_eq!(rt; reading.fault, fault, "{text:?} by {size}");
+            let source = Pieces { text, size, good };
+            check_lines(&rt, rt.alloc(), source, limits, lines, fault);
         }
     }
 }
 
 #[test]
 fn a_score_with_cr_byte_by_byte(rt: HostRuntime) {
-    let source = Marked::new(Pieces {
+    let source = Pieces {
         text: b"**kern\r\n*k[]\r\n4e\r\n4B-\r\n8bb\r\n*-",
         size: 1,
         good: usize::MAX,
-    });
-    let reading = read_all(&rt, rt.alloc(), source, Limits::standard());
+    };
     let lines = b"**kern\n*k[]\n4e\n4B-\n8bb\n*-\n";
-    assert_eq!(rt; reading.lines.as_slice(), lines.as_slice());
-    assert_eq!(rt; reading.reads, 30);
-    assert_eq!(rt; reading.fault, None);
+    let limits = Limits::standard();
+    let reads = check_lines(&rt, rt.alloc(), source, limits, lines, None);
+    same(&rt, reads, 30, "reads");
 }
+
+/// How many letters stand in front of CR and LF, how many bytes of lines are read, and the fault.
+const LONGEST: &[(usize, usize, Option<TextFault>)] = &[
+    (1_048_576, 1_048_577, None),
+    (1_048_577, 0, Some(TextFault::S2)),
+];
 
 #[test]
 fn the_longest_line(rt: HostRuntime) {
-    for (letters, lines, fault) in [
-        (1_048_576usize, 1_048_577usize, None),
-        (1_048_577, 0, Some(TextFault::S2)),
-    ] {
-        let line_end = b"\r\n";
-        let source = Marked::new(Letters { letters, line_end });
+    for row in LONGEST {
+        let (letters, lines, fault) = *row;
+        let mut text = vec![in rt.alloc(); b'a'; letters].expect(&rt, "memory");
+        text.extend_from_slice(b"\r\n").expect(&rt, "memory");
+        let source = Marked::new(text.as_slice());
         let reading = read_all(&rt, rt.alloc(), source, Limits::standard());
-        assert_eq!(rt; reading.lines.len(), lines, "{letters}");
-        assert_eq!(rt; reading.fault, fault, "{letters}");
-        assert_eq!(rt; reading.reads, 17, "{letters}");
+        let found = (reading.lines.len(), reading.fault, reading.reads);
+        same(&rt, found, (lines, fault, 17), letters);
     }
 }
 
 #[test]
 fn a_read_fails(rt: HostRuntime) {
-    let source = Marked::new(Pieces {
+    let source = Pieces {
         text: b"ab\ncd\nef\n",
         size: 2,
         good: 3,
-    });
-    let reading = read_all(&rt, rt.alloc(), source, Limits::standard());
-    assert_eq!(rt; reading.lines.as_slice(), b"ab\ncd\n".as_slice());
-    assert_eq!(rt; reading.reads, 3);
-    assert_eq!(rt; reading.fault, Some(TextFault::Read));
+    };
+    let limits = Limits::standard();
+    let fault = Some(TextFault::Read);
+    let reads = check_lines(&rt, rt.alloc(), source, limits, b"ab\ncd\n", fault);
+    same(&rt, reads, 3, "reads");
 }
+
+/// How many calls were made, whether the last one failed, and whether one has.
+const MARKED: &[(u64, bool, bool)] = &[(1, false, false), (2, true, true), (3, false, true)];
 
 #[test]
 fn a_failed_read_is_marked(rt: HostRuntime) {
@@ -228,12 +200,13 @@ fn a_failed_read_is_marked(rt: HostRuntime) {
         good: 1,
     });
     let mut buf = [0u8; 4];
-    for (calls, failed) in [(1u64, false), (2, true), (3, true)] {
-        assert_eq!(rt; source.read(&mut buf).is_err(), calls == 2);
-        assert_eq!(rt; source.calls(), calls);
-        assert_eq!(rt; source.failed(), failed, "after {calls}");
+    for row in MARKED {
+        let (calls, fails, failed) = *row;
+        let fails_now = source.read(&mut buf).is_err();
+        let found = (source.calls(), fails_now, source.failed());
+        same(&rt, found, (calls, fails, failed), "calls");
     }
-    assert_eq!(rt; source.into_inner().text, b"".as_slice());
+    same_bytes(&rt, source.into_inner().text, b"", "what is left");
 }
 
 #[test]
@@ -242,27 +215,33 @@ fn a_failed_write_is_marked(rt: HostRuntime) {
     let _ = sink.write(b"ab");
     let _ = sink.flush();
     let _ = sink.write(b"cd");
-    assert_eq!(rt; sink.calls(), 3);
-    assert!(rt; !sink.failed());
+    same(
+        &rt,
+        (sink.calls(), sink.failed()),
+        (3, false),
+        "there was room",
+    );
     let _ = sink.write(b"d");
-    assert!(rt; sink.failed());
+    holds(&rt, sink.failed(), "there is no room");
 
     let mut flushed = Marked::new(Room { room: 0 });
     let _ = flushed.flush();
-    assert!(rt; flushed.failed());
+    holds(&rt, flushed.failed(), "a flush");
 }
+
+const PRINTED: &[(TextFault, &str)] = &[
+    (TextFault::S1, "S1"),
+    (TextFault::S2, "S2"),
+    (TextFault::S3, "S3"),
+    (TextFault::S7, "S7"),
+    (TextFault::Read, "read failed"),
+    (TextFault::Memory, "out of memory"),
+];
 
 #[test]
 fn faults_print(rt: HostRuntime) {
-    for (fault, text) in [
-        (TextFault::S1, "S1"),
-        (TextFault::S2, "S2"),
-        (TextFault::S3, "S3"),
-        (TextFault::S7, "S7"),
-        (TextFault::Read, "read failed"),
-        (TextFault::Memory, "out of memory"),
-    ] {
-        let printed = format!(in rt.alloc(); "{fault}").expect(&rt, "memory");
-        assert_eq!(rt; printed.as_str(), text);
+    for row in PRINTED {
+        let (fault, text) = *row;
+        prints(&rt, rt.alloc(), &fault, text);
     }
 }

@@ -1,4 +1,5 @@
 //! Orders of turns and results, and each theorem at types of its own.
+use crate::compared::same;
 use hum_stage::{Command, End, Fault, Rule};
 use hum_turns::{Leftmost, Order, Rightmost, RunResult, choose};
 
@@ -10,42 +11,47 @@ fn a_run_ends_by_what_the_sink_has_heard(rt: HostRuntime) {
         line: 12,
         rule: Rule::K1,
     };
-    assert_eq!(rt; RunResult::from_end(End::Closed), RunResult::Finished);
-    assert_eq!(rt;
-        RunResult::from_end(End::Broken(fault)),
-        RunResult::Fault(fault)
-    );
+    let finished = RunResult::from_end(End::Closed);
+    same(&rt, finished, RunResult::Finished, "closed");
+    let broken = RunResult::from_end(End::Broken(fault));
+    same(&rt, broken, RunResult::Fault(fault), "broken");
 }
+
+/// Picks, and what is chosen of four actors, of which the second and the last are ready.
+const PICKS: &[(usize, usize)] = &[(3, 3), (1, 1), (0, 1), (2, 1), (4, 1), (usize::MAX, 1)];
 
 #[test]
 fn a_pick_that_is_not_ready_counts_as_the_leftmost(rt: HostRuntime) {
     let ready = [false, true, false, true];
-    for (pick, chosen) in [
-        (3usize, 3usize),
-        (1, 1),
-        (0, 1),
-        (2, 1),
-        (4, 1),
-        (usize::MAX, 1),
-    ] {
-        assert_eq!(rt; choose(&ready, pick), chosen, "{pick}");
+    for row in PICKS {
+        let (pick, chosen) = *row;
+        same(&rt, choose(&ready, pick), chosen, pick);
     }
 }
 
 #[test]
 fn where_none_is_ready_the_choice_is_none_of_them(rt: HostRuntime) {
-    assert_eq!(rt; choose(&[], 0), 0);
-    assert_eq!(rt; choose(&[false, false], 1), 2);
+    same(&rt, choose(&[], 0), 0, "no actor");
+    same(&rt, choose(&[false, false], 1), 2, "two actors");
 }
+
+/// Whether each actor is ready, and which is picked from the left and from the right.
+const SIDES: &[(&[bool], usize, usize)] = &[
+    (&[false, true, false, true, false], 1, 3),
+    (&[true], 0, 0),
+];
 
 #[test]
 fn orders_pick_from_their_side(rt: HostRuntime) {
-    let ready = [false, true, false, true, false];
-    assert_eq!(rt; Leftmost.pick(&ready), 1);
-    assert_eq!(rt; Rightmost.pick(&ready), 3);
-    let one = [true];
-    assert_eq!(rt; Leftmost.pick(&one), 0);
-    assert_eq!(rt; Rightmost.pick(&one), 0);
+    for row in SIDES {
+        let (ready, left, right) = *row;
+        same(
+            &rt,
+            (Leftmost.pick(ready), Rightmost.pick(ready)),
+            (left, right),
+            ready,
+        );
+    }
 }
 
 #[test]

@@ -1,29 +1,41 @@
 //! The lines and words of plans worked by hand, each call.
+use crate::compared::{same, same_text};
 use hum_words::{LineFault, Lines, Piece, TextFault, line_count, name_of, pieces, plan_text};
 use std::alloc::Global;
 use std::process::Abort;
+
+// Writes a word behind a text, in angle brackets and behind its number.
+fn push_word(rt: &impl Abort, alloc: Global, text: &mut String, number: u32, word: &str) {
+    let part = format!(in alloc; "{number}<{word}>").expect(rt, "memory");
+    text.push_str(&part).expect(rt, "memory");
+}
+
+// Writes a bar behind a text, behind its number.
+fn push_bar(rt: &impl Abort, alloc: Global, text: &mut String, number: u32) {
+    let part = format!(in alloc; "{number}|").expect(rt, "memory");
+    text.push_str(&part).expect(rt, "memory");
+}
+
+fn text_of(rt: &impl Abort, alloc: Global, cut: &[Piece<'_>]) -> String {
+    let mut text = String::new(alloc);
+    for piece in cut {
+        match *piece {
+            Piece::Word(number, word) => push_word(rt, alloc, &mut text, number, word),
+            Piece::Bar(number) => push_bar(rt, alloc, &mut text, number),
+        }
+    }
+    text
+}
 
 /// The pieces of a line as text: words between angle brackets and bars, each behind its number, or
 /// the word that is wrong.
 fn shown(rt: &impl Abort, alloc: Global, line: &str) -> String {
     assert!(rt; line.len() <= 65_536);
-    let cut = match pieces(alloc, line) {
-        Ok(cut) => cut,
-        Err(LineFault::Quote(word)) => {
-            return format!(in alloc; "N2 at {word}").expect(rt, "memory");
-        }
-        Err(fault) => panic!(rt; "{fault:?}"),
-    };
-    let mut text = String::new(alloc);
-    for piece in &cut {
-        let part = match *piece {
-            Piece::Word(number, word) => format!(in alloc; "{number}<{word}>"),
-            Piece::Bar(number) => format!(in alloc; "{number}|"),
-        };
-        let part = part.expect(rt, "memory");
-        text.push_str(&part).expect(rt, "memory");
+    match pieces(alloc, line) {
+        Ok(cut) => text_of(rt, alloc, &cut),
+        Err(LineFault::Quote(word)) => format!(in alloc; "N2 at {word}").expect(rt, "memory"),
+        Err(LineFault::Memory) => panic!(rt; "memory"),
     }
-    text
 }
 
 /// A line, and its pieces as text.
@@ -33,7 +45,7 @@ fn check_all(rt: &impl Abort, alloc: Global, rows: &[Row]) {
     for row in rows {
         let (line, want) = *row;
         let text = shown(rt, alloc, line);
-        assert_eq!(rt; text.as_str(), want, "{line}");
+        same_text(rt, &text, want, line);
     }
 }
 
@@ -87,10 +99,7 @@ fn quotes(rt: HostRuntime) {
 fn branches_of(rt: &impl Abort, alloc: Global, lines: Lines<'_>) -> String {
     let mut text = String::new(alloc);
     for line in lines {
-        let number = line.number;
-        let branch = line.text;
-        let part = format!(in alloc; "{number}<{branch}>").expect(rt, "memory");
-        text.push_str(&part).expect(rt, "memory");
+        push_word(rt, alloc, &mut text, line.number, line.text);
     }
     text
 }
@@ -114,9 +123,9 @@ fn branches(rt: HostRuntime) {
     for row in BRANCHES {
         let (plan, count, want) = *row;
         assert!(rt; plan.len() <= 65_536);
-        assert_eq!(rt; line_count(plan), count, "{plan:?}");
+        same(&rt, line_count(plan), count, plan);
         let text = branches_of(&rt, rt.alloc(), Lines::new(plan));
-        assert_eq!(rt; text.as_str(), want, "{plan:?}");
+        same_text(&rt, &text, want, plan);
     }
 }
 
@@ -127,23 +136,32 @@ const NO_TEXTS: &[(&[u8], TextFault)] = &[
     (b"\xed\xa0\x80", TextFault::NotUtf8 { line: 1 }),
 ];
 
+const TEXTS: &[&str] = &["", "out: read a\n", "\u{e9}\u{1d11e}"];
+
 #[test]
 fn texts(rt: HostRuntime) {
     for row in NO_TEXTS {
         let (bytes, fault) = *row;
-        assert_eq!(rt; plan_text(bytes).err(), Some(fault));
+        same(&rt, plan_text(bytes).err(), Some(fault), bytes);
     }
-    for text in ["", "out: read a\n", "\u{e9}\u{1d11e}"] {
-        assert_eq!(rt; plan_text(text.as_bytes()), Ok(text));
+    for text in TEXTS {
+        same(&rt, plan_text(text.as_bytes()), Ok(*text), *text);
     }
 }
 
+/// A byte, how often it stands in a text, and the fault of the text.
+const LONG: &[(u8, usize, Option<TextFault>)] = &[
+    (b'a', 65_536, None),
+    (b'\xff', 65_537, Some(TextFault::TooLong)),
+];
+
 #[test]
 fn long_texts(rt: HostRuntime) {
-    let most = vec![in rt.alloc(); b'a'; 65_536].expect(&rt, "memory");
-    assert!(rt; plan_text(&most).is_ok());
-    let more = vec![in rt.alloc(); b'\xff'; 65_537].expect(&rt, "memory");
-    assert_eq!(rt; plan_text(&more).err(), Some(TextFault::TooLong));
+    for row in LONG {
+        let (byte, size, fault) = *row;
+        let text = vec![in rt.alloc(); byte; size].expect(&rt, "memory");
+        same(&rt, plan_text(&text).err(), fault, size);
+    }
 }
 
 /// Words, and the names that they give branches, if any.
@@ -173,6 +191,6 @@ const NAMES: &[(&str, Option<&str>)] = &[
 fn names(rt: HostRuntime) {
     for row in NAMES {
         let (word, name) = *row;
-        assert_eq!(rt; name_of(word), name, "{word}");
+        same(&rt, name_of(word), name, word);
     }
 }
