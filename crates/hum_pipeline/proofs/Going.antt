@@ -29,7 +29,6 @@ use Rattle.hum_pipeline.specs.Parts.{part_by, part_of, parts_of, AreSoundFrom, A
 use Rattle.hum_pipeline.specs.Nodes.{AllFrom, Fits, Tells, TellsBy}
 use Rattle.hum_writing.proofs.Appending.{appends_none}
 use Rattle.hum_pipeline.specs.Runs.{HasWritten, WroteAll, WroteFront}
-use Rattle.hum_turns.specs.Orders.{Order}
 use Rattle.hum_turns.proofs.Against.{meaning_fine}
 use Rattle.hum_nodes.specs.Fine.{IsFine}
 use Rattle.hum_nodes.proofs.Fining.{fine_is}

@@ -35,6 +35,7 @@ impl Transposition {
     }
 
     /// Adds what a part becomes, with a space behind it.
+    #[inline(always)]
     pub(crate) fn add(self, part: &[u8], text: &mut Vec<u8>) -> Result<Option<Rule>, AllocError>
         ensures { IfOk result (HasAdded
             (transposed_part self.steps self.semitones part.now) text.old.items text.new.items) }
