@@ -6,4 +6,7 @@ pub mod ReadingLemmas
 pub mod LimitLemmas
 pub mod FrontLemmas
 pub mod GivenLine
+pub mod WayLemmas
+pub mod ReadLemmas
+pub mod PollLemmas
 pub mod NearLemmas

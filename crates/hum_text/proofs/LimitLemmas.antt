@@ -5,7 +5,7 @@ use Rattle.std.proofs.Common.{inl, inr, length-take}
 use Rattle.std.specs.List.{list_any}
 use Rattle.std.proofs.lemmas.Bool.{cases_Bool, cases_lt, eqb-true, or_from, or_parts}
 use Rattle.std.proofs.lemmas.Bool.Decides.{nat_tests}
-use Rattle.std.proofs.lemmas.List.{get_or-take, get_or_append_left, take_all, take_at, take-append-le}
+use Rattle.std.proofs.lemmas.List.{get_or-take, get_or_append_left, take_all, take_at, take_more, take-append-le}
 use Rattle.std.proofs.Math.Seq.{take-length}
 use Rattle.memchr.specs.Find.{IsFirstByte, is_byte}
 use Rattle.hum_text.specs.declared.Limits.{Limits}
@@ -132,6 +132,9 @@ last-ten : (xs : List ℕ) → (get_or (xs ++ 10 ∷ []) (length xs) 0 == 10) �
 last-ten [] = refl
 last-ten (x ∷ xs) = last-ten xs
 
+not-ten : (b : ℕ) → (b ≡ 10 → ⊥) → (b == 10) ≡ false
+not-ten b h = elim (cases_Bool (b == 10)) as (λ _. (b == 10) ≡ false) [ inl is ↦ absurd (h (eqb-true b 10 is)) | inr isnt ↦ isnt ]
+
 -- a line that LF ends breaks no rule where its length, its number and its end are within the limits
 pub line-lawful : (l : Limits) (n t : ℕ) (piece : List ℕ) → NoLf piece → 0 < length (without_cr piece) → length (without_cr piece) ≤ l.line
     → n ≤ l.records → t + (length piece + 1) ≤ l.bytes → IsLawful l n t (piece ++ 10 ∷ [])
@@ -150,6 +153,31 @@ line-lawful l n t piece free some fits records bytes k h =
           let front : take k (piece ++ 10 ∷ []) ≡ piece = take_at piece (10 ∷ []) k (sym at) in
           rw (ten, front) (no-rule l n piece true (t + (k + 1)) (some-left (length (without_cr piece)) some) fits records (omega (arith, at, bytes)))
     ]
+
+-- the same, told by the line with its LF
+pub whole-lawful : (l : Limits) (n t : ℕ) (held : List ℕ) → ((k : ℕ) → k + 1 < length held → get_or held k 0 ≡ 10 → ⊥)
+    → 1 ≤ length held → get_or held (length held - 1) 0 ≡ 10 → 0 < length (without_cr (take (length held - 1) held))
+    → length (without_cr (take (length held - 1) held)) ≤ l.line → n ≤ l.records → t + length held ≤ l.bytes → IsLawful l n t held
+whole-lawful l n t held one_line some last long fits records bytes =
+    let k = length held - 1 in
+    let len : length (take k held) ≡ k = length-take k held ∙ omega arith in
+    let all : take (k + 1) held ≡ held = take_all (k + 1) held (omega (arith, some)) in
+    let whole : take k held ++ 10 ∷ [] ≡ held =
+    ap (λ (b : ℕ). take k held ++ b ∷ []) (sym last) ∙ sym (take_more held k 0 (omega (arith, some))) ∙ all in
+    let free : NoLf (take k held) =
+    λ j h is. let low : j < k = omega (arith, h, len) in one_line j (omega (arith, low)) (sym (get_or-take k held j 0 low) ∙ is) in
+    subst (λ zs. IsLawful l n t zs) whole (line-lawful l n t (take k held) free long fits records (omega (arith, len, some, bytes)))
+
+-- a line that LF doesn't end yet breaks no rule where its length, its number and its end are within the limits
+pub open-lawful : (l : Limits) (n t : ℕ) (held : List ℕ) → ((k : ℕ) → k + 1 < length held → get_or held k 0 ≡ 10 → ⊥)
+    → (get_or held (length held - 1) 0 ≡ 10 → ⊥) → length (without_cr held) ≤ l.line → n ≤ l.records → t + length held ≤ l.bytes
+    → IsLawful l n t held
+open-lawful l n t held one_line last fits records bytes k h =
+    let less = without-front k held h in
+    rw (not-ten _ free) (no-rule l n (take (k + 1) held) false (t + (k + 1)) refl (omega (arith, less, fits)) records (omega (arith, h, bytes)))
   where
-    not-ten : (b : ℕ) → (b ≡ 10 → ⊥) → (b == 10) ≡ false
-    not-ten b h = elim (cases_Bool (b == 10)) as (λ _. (b == 10) ≡ false) [ inl is ↦ absurd (h (eqb-true b 10 is)) | inr isnt ↦ isnt ]
+    free : get_or held k 0 ≡ 10 → ⊥
+    free is = elim (cases_lt (k + 1) (length held)) as (λ _. ⊥) [
+      | inl below ↦ one_line k below is
+      | inr from ↦ let at : k ≡ length held - 1 = omega (arith, h, from) in last (sym (ap (λ (m : ℕ). get_or held m 0) at) ∙ is)
+    ]

@@ -34,7 +34,7 @@ to-line block k first =
     let ten : get_or block k 0 ≡ 10 = eqb-true _ 10 first.1 in
     ap (λ (b : ℕ). take k block ++ b ∷ []) (sym ten) ∙ sym (take_more block k 0 high)
 
-nil-of : (xs : List ℕ) → length xs ≡ 0 → xs ≡ []
+pub nil-of : (xs : List ℕ) → length xs ≡ 0 → xs ≡ []
 nil-of [] h = refl
 nil-of (x ∷ xs) h = absurd (omega arith)
 

@@ -2,7 +2,8 @@
 use Rattle.std.specs.Prelude.{◌≡◌, ◌≢◌, ℕ, ◌+◌, ◌-◌, ◌*◌, ◌<◌, ◌≤◌}
 use Rattle.std.specs.Prelude.{◌==◌, ◌⊎◌, Bool, true, false}
 use Rattle.std.specs.Prelude.{List, [], ◌∷◌, ◌++◌, length, slice_index}
-use Rattle.std.specs.Prelude.{Option, None, Some, Result, Ok, Err}
+use Rattle.std.specs.Prelude.{Option, None, Some, Result, Ok, Err, IfOk, IfErr, OnOk}
+use Rattle.std.specs.Io.KnownBytes.{Consumes, IsAtEnd}
 use Rattle.std.specs.Io.{appended_bytes}
 use Rattle.std.specs.List.{list_any}
 use Rattle.hum_text.specs.declared.Limits.{Limits}
@@ -10,6 +11,7 @@ use Rattle.hum_text.specs.declared.TextFault.{TextFault}
 use Rattle.hum_text.specs.declared.TextFault.TheVariants.{Read, Memory}
 use Rattle.hum_text.specs.declared.reader.Step.{Step}
 use Rattle.hum_text.specs.declared.reader.Step.TheVariants.{Line, More, End}
+use Rattle.hum_text.specs.declared.calls.TheConstants.{LARGEST_READ}
 use Rattle.hum_text.specs.Calls.{IsCalled}
 use Rattle.hum_text.specs.Text.{lf, lines, pieces, rule_at_end, fault_after, fault_of}
 use Rattle.hum_text.specs.Text.{IsAtStart, IsOfText, IsLawful}
@@ -167,3 +169,42 @@ pub record GivesLine {R : Type 0} (old new : Reader R) : Type 0 where
   pub nears : Nears Line (left_to_do old) (left_to_do new)
   pub limits : new.limits ≡ old.limits
   pub taken : new.taken ≤ new.limits.bytes
+
+-- What each way through a poll does, from a reader without a fault: it gives what comes next, and
+-- a line keeps to the limits; the end and a fault are told by the reader too; and it is nearer to
+-- the end.
+pub record Goes {R : Type 0} (old : Reader R) (result : Result Step TextFault) (new : Reader R)
+    : Type 0 where
+  pub within : IfOk result (λ step. KeepsLimits old.limits step new.line new.given)
+  pub gives : GivesNext old result new
+  pub end : result ≡ Ok End → IsOver new
+  pub sound : OnOk result (new.fault ≡ None)
+  pub err : IfErr result (Fails old new)
+  pub nears : IfOk result (λ step. Nears step (left_to_do old) (left_to_do new))
+  pub limits : new.limits ≡ old.limits
+  pub taken : new.taken ≤ new.limits.bytes
+
+-- It went so without a read: none was made, so none gave bytes or failed, and none took memory.
+pub record GoesUnread {R : Type 0} (old : Reader R) (result : Result Step TextFault)
+    (new : Reader R) : Type 0 where
+  pub goes : Goes old result new
+  pub unread : IsUnread old new
+  pub not_more : result ≢ Ok More
+  pub not_read : result ≢ Err Read
+  pub not_memory : result ≢ Err Memory
+
+-- It went so, from a reader that has not ended, and a read was made where it was needed, and then
+-- once. The functions tell what a source shows.
+pub record GoesReading {R : Type 0} (remaining : R → Option (List ℕ)) (calls : R → ℕ)
+    (failed : R → Bool) (old : Reader R) (result : Result Step TextFault) (new : Reader R)
+    : Type 0 where
+  pub goes : Goes old result new
+  pub reads_not : ¬ NeedsRead old → IsUnread old new
+  pub reads_once : NeedsRead old → ReadsOnce calls failed old result new
+  pub more : result ≡ Ok More → IsFed old new
+  pub unfed : result ≢ Ok More → bytes_read old new ≡ []
+  pub asked : length (bytes_read old new) ≤ LARGEST_READ
+  pub consumes : Consumes (remaining old.source) (remaining new.source) (bytes_read old new)
+  pub at_end : new.ended ≡ true → IsAtEnd (remaining new.source)
+  pub failed_read : result ≡ Err Read → failed new.source ≡ true
+  pub memory : result ≡ Err Memory → NeedsRead old

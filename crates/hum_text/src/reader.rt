@@ -72,7 +72,7 @@ impl<R: Source> LineReader<R> {
     ghost use Rattle.hum_text.specs.Reading.{opening, Holds, GivesNext, bytes_read};
     ghost use Rattle.hum_text.specs.Reading.{NeedsRead, ReadsOnce, IsUnread, IsFed};
     ghost use Rattle.hum_text.specs.Reading.{IsOver, KeepsLimits, Fails, left_to_do, Nears};
-    ghost use Rattle.hum_text.specs.Reading.{GivesLine};
+    ghost use Rattle.hum_text.specs.Reading.{GivesLine, GoesUnread, GoesReading};
 
     /// The reader of a source of which nothing was read yet.
     pub fn new(alloc: Global, source: R, limits: Limits) -> LineReader<R>
@@ -206,19 +206,7 @@ impl<R: Source> LineReader<R> {
     fn check_line(&mut self, k: usize) -> Result<Step, TextFault>
         requires sound { self.old.fault ≡ None }
         requires first { IsFirstByte (is_byte lf) self.old.pending (Some k) }
-        ensures within { IfOk result
-            (λ step. KeepsLimits self.old.limits step self.new.line self.new.given) }
-        ensures gives { GivesNext self.old result self.new }
-        ensures unread { IsUnread self.old self.new }
-        ensures not_more { result ≢ Ok Step.More }
-        ensures not_read { result ≢ Err TextFault.Read }
-        ensures not_memory { result ≢ Err TextFault.Memory }
-        ensures sound { OnOk result (self.new.fault ≡ None) }
-        ensures err { IfErr result (Fails self.old self.new) }
-        ensures nears { IfOk result
-            (λ step. Nears step (left_to_do self.old) (left_to_do self.new)) }
-        ensures limits { self.new.limits ≡ self.old.limits }
-        ensures taken { self.new.taken ≤ self.new.limits.bytes }
+        ensures goes { GoesUnread self.old result self.new }
         ensures not_end { result ≢ Ok Step.End }
     {
         let size = through(self.block.pending(), k);
@@ -237,20 +225,7 @@ impl<R: Source> LineReader<R> {
         requires sound { self.old.fault ≡ None }
         requires unended { IsFirstByte (is_byte lf) self.old.pending None }
         requires ended { self.old.ended ≡ true }
-        ensures within { IfOk result
-            (λ step. KeepsLimits self.old.limits step self.new.line self.new.given) }
-        ensures gives { GivesNext self.old result self.new }
-        ensures unread { IsUnread self.old self.new }
-        ensures not_more { result ≢ Ok Step.More }
-        ensures not_read { result ≢ Err TextFault.Read }
-        ensures not_memory { result ≢ Err TextFault.Memory }
-        ensures sound { OnOk result (self.new.fault ≡ None) }
-        ensures err { IfErr result (Fails self.old self.new) }
-        ensures nears { IfOk result
-            (λ step. Nears step (left_to_do self.old) (left_to_do self.new)) }
-        ensures limits { self.new.limits ≡ self.old.limits }
-        ensures taken { self.new.taken ≤ self.new.limits.bytes }
-        ensures end { result ≡ Ok Step.End → IsOver self.new }
+        ensures goes { GoesUnread self.old result self.new }
         ensures over { IsOver self.old → (result ≡ Ok Step.End) × (self.new ≡ self.old) }
     {
         let size = self.block.pending().len();
@@ -274,27 +249,7 @@ impl<R: Source> LineReader<R> {
         requires sound { self.old.fault ≡ None }
         requires unended { IsFirstByte (is_byte lf) self.old.pending None }
         requires going { self.old.ended ≡ false }
-        ensures within { IfOk result
-            (λ step. KeepsLimits self.old.limits step self.new.line self.new.given) }
-        ensures gives { GivesNext self.old result self.new }
-        ensures reads_not { ¬ NeedsRead self.old → IsUnread self.old self.new }
-        ensures reads_once { NeedsRead self.old
-            → ReadsOnce R.calls R.failed self.old result self.new }
-        ensures more { result ≡ Ok Step.More → IsFed self.old self.new }
-        ensures unfed { result ≢ Ok Step.More → bytes_read self.old self.new ≡ [] }
-        ensures asked { length (bytes_read self.old self.new) ≤ LARGEST_READ }
-        ensures consumes { Consumes (R.remaining self.old.source) (R.remaining self.new.source)
-            (bytes_read self.old self.new) }
-        ensures at_end { self.new.ended ≡ true → IsAtEnd (R.remaining self.new.source) }
-        ensures failed { result ≡ Err TextFault.Read → R.failed self.new.source ≡ true }
-        ensures memory { result ≡ Err TextFault.Memory → NeedsRead self.old }
-        ensures end { result ≡ Ok Step.End → IsOver self.new }
-        ensures sound { OnOk result (self.new.fault ≡ None) }
-        ensures err { IfErr result (Fails self.old self.new) }
-        ensures nears { IfOk result
-            (λ step. Nears step (left_to_do self.old) (left_to_do self.new)) }
-        ensures limits { self.new.limits ≡ self.old.limits }
-        ensures taken { self.new.taken ≤ self.new.limits.bytes }
+        ensures { GoesReading R.remaining R.calls R.failed self.old result self.new }
     {
         match self.fault_in(self.block.pending().len()) {
             Some(fault) => self.fail(fault),

@@ -1,0 +1,166 @@
+-- What each way through a poll does.
+use Rattle.std.proofs.Common.{◌≡◌, ◌≢◌, ℕ, ◌+◌, ◌<◌, ◌≤◌, Bool, true, false, if◌then◌else◌, Option, List, [], ◌++◌, length}
+use Rattle.std.proofs.Common.{take, drop, refl, ap, sym, ◌∙◌, subst, arith, None, Some, Result, Ok, Err, length-drop, ◌&&◌, ◌==◌, slice_index}
+use Rattle.std.proofs.Math.Seq.{take-length}
+use Rattle.memchr.specs.Find.{IsFirstByte, is_byte}
+use Rattle.hum_text.specs.declared.Limits.{Limits}
+use Rattle.hum_text.specs.declared.TextFault.{TextFault}
+use Rattle.hum_text.specs.declared.TextFault.TheVariants.{S1, S2, S3, S7}
+use Rattle.hum_text.specs.declared.reader.Step.{Step}
+use Rattle.hum_text.specs.declared.reader.Step.TheVariants.{Line, End}
+use Rattle.hum_text.specs.Text.{lf, without_cr, fault_of, rule_in, rule_of_line, IsOfText, IsLawful, BreaksFirst}
+use Rattle.hum_text.specs.Reading.{Reader, Holds, GivesLine, Fails, IsUnread, Goes, GoesUnread, bytes_read}
+use Rattle.hum_text.proofs.ReadingLemmas.{given_of, gives-line, gives-fault, drop-all, length-drop_le, last-given, none-left, nil-of}
+use Rattle.hum_text.proofs.LimitLemmas.{last-short, last-free}
+
+-- a reader keeps this fault, and has made no read
+abbrev pub faulty : {R : Type 0} → Reader R → TextFault → Reader R
+faulty v fault = record v { fault = Some fault }
+
+-- a fault that is met is one of the text's
+abbrev FaultOfText : Result Step TextFault → Type 0
+FaultOfText (Ok step) = Unit {0}
+FaultOfText (Err fault) = IsOfText fault
+
+-- a rule that is broken is one of the text's
+abbrev RuleOfText : Option TextFault → Type 0
+RuleOfText None = Unit {0}
+RuleOfText (Some rule) = IsOfText rule
+
+pub nothing-read : {R : Type 0} (v : Reader R) → bytes_read v v ≡ []
+nothing-read v = drop-all v.pending (length v.pending) (omega arith)
+
+-- the reader has this fault, and no read was made
+pub fails-here : {R : Type 0} (v w : Reader R) (fault : TextFault) → w ≡ faulty v fault → Fails v w fault
+fails-here {R} v w fault state = let To : Reader R → Type 0 = λ u. Fails v u fault in subst To (sym state) refl
+
+module _ {R : Type 0} (v w : Reader R) (result : Result Step TextFault) where
+  -- a fault was met
+  pub fault-goes : (fault : TextFault) → v.taken ≤ v.limits.bytes → result ≡ Err fault → Fails v w fault
+      → ((all : List ℕ) (gs : List (List ℕ)) (rest : List ℕ) → Holds v all gs rest → IsOfText fault
+      → fault_of v.limits all ≡ Some (length gs + 1, fault))
+      → Goes v result w
+  fault-goes fault bytes is state tells =
+      let At : Result Step TextFault → Type 0 = λ r. Goes v r w in
+      let Within : Reader R → Type 0 = λ u. u.taken ≤ u.limits.bytes in
+      subst At (sym is) (record {
+        within = tt;
+        gives = gives-fault v w (Err fault) fault refl tells;
+        end = λ same. cc;
+        sound = tt;
+        err = state;
+        nears = tt;
+        limits = ap (λ u. u.limits) state;
+        taken = subst Within (sym state) bytes;
+      })
+
+  -- a fault of the text was met, in what was pending
+  pub fault-unread : (fault : TextFault) → v.taken ≤ v.limits.bytes → result ≡ Err fault → w ≡ faulty v fault → IsOfText fault
+      → ((all : List ℕ) (gs : List (List ℕ)) (rest : List ℕ) → Holds v all gs rest → IsOfText fault
+      → fault_of v.limits all ≡ Some (length gs + 1, fault))
+      → GoesUnread v result w
+  fault-unread fault bytes is state text tells =
+      let At : Result Step TextFault → Type 0 = λ r. GoesUnread v r w in
+      let Unread : Reader R → Type 0 = λ u. IsUnread v u in
+      let met = subst (λ r. Goes v r w) is (fault-goes fault bytes is (fails-here v w fault state) tells) in
+      subst At (sym is) (record {
+        goes = met;
+        unread = subst Unread (sym state) (refl, refl, nothing-read v);
+        not_more = λ same. cc;
+        not_read = λ same. subst FaultOfText same text;
+        not_memory = λ same. subst FaultOfText same text;
+      })
+
+-- A rule that a byte breaks is one of the text's.
+first-of : (a b c d : Bool)
+    → RuleOfText (if a then Some S1 else if b then Some S2 else if c then Some S3 else if d then Some S7 else None)
+first-of true b c d = tt
+first-of false true c d = tt
+first-of false false true d = tt
+first-of false false false true = tt
+first-of false false false false = tt
+
+either-of : (test : Bool) (x y : Option TextFault) → RuleOfText x → RuleOfText y → RuleOfText (if test then x else y)
+either-of true x y one other = one
+either-of false x y one other = other
+
+pub of-text : (l : Limits) (n t : ℕ) (held : List ℕ) (f : TextFault) → BreaksFirst l n t held f → IsOfText f
+of-text l n t held f found =
+    let k = found.place in
+    let rule : RuleOfText (rule_of_line l n t held k) =
+    either-of (slice_index held k == lf) (rule_in l n (take k held) true (t + (k + 1))) (rule_in l n (take (k + 1) held) false (t + (k + 1)))
+    (first-of (true && length (without_cr (take k held)) == 0) _ _ _)
+    (first-of (false && length (without_cr (take (k + 1) held)) == 0) _ _ _) in
+    subst RuleOfText found.breaks rule
+
+-- a line was given
+pub line-unread : {R : Type 0} (v w : Reader R) → GivesLine v w → GoesUnread v (Ok Line) w
+line-unread v w line = record {
+  goes = record {
+    within = line.within;
+    gives = line.gives;
+    end = λ same. cc;
+    sound = line.sound;
+    err = tt;
+    nears = line.nears;
+    limits = line.limits;
+    taken = line.taken;
+  };
+  unread = line.unread;
+  not_more = λ same. cc;
+  not_read = λ same. cc;
+  not_memory = λ same. cc;
+}
+
+-- nothing is left, and no fault was met
+pub end-unread : {R : Type 0} (v : Reader R) → v.fault ≡ None → v.ended ≡ true → length v.pending ≡ 0
+    → v.taken ≤ v.limits.bytes → GoesUnread v (Ok End) v
+end-unread {R} v sound ended empty bytes =
+    let none = nothing-read v in
+    record {
+      goes = record {
+        within = tt;
+        gives = λ all gs rest h end.
+            let here : Holds v all gs rest = subst (λ zs. Holds v all gs (zs ++ rest)) none h in
+            let done = none-left v all gs rest here ended empty in
+            (done.0, done.1, here);
+        end = λ same. record { ended = ended; handed_out = nil-of v.pending empty; sound = sound };
+        sound = sound;
+        err = tt;
+        nears = tt;
+        limits = refl;
+        taken = bytes;
+      };
+      unread = (refl, refl, none);
+      not_more = λ same. cc;
+      not_read = λ same. cc;
+      not_memory = λ same. cc;
+    }
+
+-- the last line was given, which no LF ends
+pub last-unread : {R : Type 0} (v w : Reader R) (line : List ℕ) (size : ℕ) → v.fault ≡ None → v.ended ≡ true
+    → IsFirstByte (is_byte 10) v.pending None → size ≡ length v.pending → size ≢ 0
+    → line ≡ without_cr v.pending → (length line == 0) ≡ false
+    → IsLawful v.limits (v.given + 1) v.taken (take size v.pending)
+    → v.given < v.limits.records → v.taken + size ≤ v.limits.bytes
+    → w ≡ given_of v (without_cr (take size v.pending)) size → GoesUnread v (Ok Line) w
+last-unread {R} v w line size sound ended unended is some cut long lawful records bytes state =
+    let Given : Reader R → Type 0 = λ r. GivesLine v r in
+    let all : take size v.pending ≡ v.pending = ap (λ n. take n v.pending) is ∙ take-length v.pending in
+    let left = length-drop size v.pending in
+    let here : IsLawful v.limits (v.given + 1) v.taken v.pending = subst (λ zs. IsLawful v.limits (v.given + 1) v.taken zs) all lawful in
+    line-unread v w (subst Given (sym state) (record {
+      gives = gives-line v _ _ size refl (last-given v v.pending line size ended unended refl is cut long lawful);
+      within = rw all (
+        last-short v.limits (v.given + 1) v.taken v.pending (omega (arith, is, some)) unended here,
+        last-free v.pending unended,
+        omega (arith, records),
+      );
+      needless = λ needs. let both : true ≡ false = sym ended ∙ needs.going in cc;
+      going = λ over. let none = ap length over.handed_out in absurd (omega (arith, is, some, none));
+      unread = (refl, refl, drop-all (drop size v.pending) (length v.pending) (length-drop_le size v.pending));
+      sound = sound;
+      nears = omega (arith, left, is, some, bytes);
+      limits = refl;
+      taken = bytes;
+    }))
