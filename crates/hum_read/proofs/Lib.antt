@@ -2,3 +2,6 @@ mod Examples
 pub mod Denoting
 pub mod Faults
 pub mod Polling
+mod Nexting
+mod Opened
+mod LineRead

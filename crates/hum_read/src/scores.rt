@@ -233,7 +233,7 @@ impl<R: Source> ScoreReader<R> {
         ensures at_end { self.new.lines.ended ≡ true
             → (self.old.lines.ended ≡ true) ⊎ IsAtEnd (R.remaining self.new.lines.source) }
 
-        // It tells of a failed read exactly where this turn's read failed.
+        // It tells of a failed read only where a read has failed, and of each that fails.
         ensures failed { given_by result self.new.stopped ≡ Err ReadError.Read
             → (self.old.stopped ≡ Some (Err ReadError.Read))
             ⊎ (R.failed self.new.lines.source ≡ true) }

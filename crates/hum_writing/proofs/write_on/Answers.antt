@@ -1,17 +1,8 @@
-use Rattle.std.proofs.Common.{◌≡◌, ◌∙◌, ◌||◌, Bool, true, false, ℕ, ne_eqb, ap, refl, drop, sym, subst, arith, length-drop}
-use Rattle.std.specs.Bool.{◌==◌}
+use Rattle.std.proofs.Common.{◌∙◌, drop, sym, subst, arith, length-drop}
 use Rattle.std.proofs.lemmas.List.{take_all}
 use Rattle.hum_writing.specs.Writing.{Wrote}
-use Rattle.hum_writing.proofs.Appending.{wrote_more}
+use Rattle.hum_writing.proofs.Appending.{wrote_more, no_mark}
 use Rattle.hum_writing.proofs.write_on.Goals as goal
-
--- a write that took bytes sets no mark
-no_mark : (f : Bool) (n : ℕ) → (n ≡ 0 → ⊥) → (f || (n == 0)) ≡ f
-no_mark f n some = ap (λ b. f || b) (ne_eqb n 0 some) ∙ or_none f
-  where
-    or_none : (f : Bool) → (f || false) ≡ f
-    or_none true = refl
-    or_none false = refl
 
 pub loop-rest-preserved : goal.loop-rest-preserved
 loop-rest-preserved g c =

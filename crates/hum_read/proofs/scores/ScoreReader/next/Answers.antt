@@ -1,35 +1,98 @@
-use Rattle.std.proofs.Common.{◌∙◌, ap, refl, None}
+use Rattle.std.proofs.Common.{subst, None}
 use Rattle.hum_read.specs.Reading.{Scores}
 use Rattle.hum_read.specs.Steps.{given_by}
-use Rattle.hum_read.proofs.Polling.{has-line, text-ended, text-stopped}
+use Rattle.hum_read.proofs.Nexting.{Nexts, stopped-nexts, line-nexts, more-nexts, end-nexts, fault-nexts}
+use Rattle.hum_read.proofs.Nexting.{tidy-on, tidy-stopped, asks-line, few-given}
 use Rattle.hum_read.proofs.scores.ScoreReader.next.Goals as goal
 
-pub returns-in-Ok-Line-clause-gives : goal.returns-in-Ok-Line-clause-gives
-returns-in-Ok-Line-clause-gives g c = rw (← c.self.view_is) (λ going all rows rest h end.
-    let fine = c.self.invariant.going going in
-    let same = c.read_line.ensures.lines in
-    let holds = rw same at h.holds in
-    let next = rw c.in-Ok-Line.field-0-is at
-    (c.in-Ok-Line.ensures.gives fine all h.given rest holds (rw same at end)) in
-    c.read_line.ensures.gives all rows rest
-    (has-line _ _ all rows _ rest h c.poll.ensures.limits refl next))
+pub returns-then-is_some : goal.returns-then-is_some
+returns-then-is_some g c =
+    let remaining = g.R.Source.remaining in
+    let calls = g.R.Source.calls in
+    let failed = g.R.Source.failed in
+    subst (λ v. Nexts remaining calls failed v (given_by None v.stopped) v) c.self.view_is
+    (stopped-nexts remaining calls failed _ c.if-is_some.ensures)
 
-pub returns-in-Ok-End-clause-gives : goal.returns-in-Ok-End-clause-gives
-returns-in-Ok-End-clause-gives g c = rw (← c.self.view_is, c.close.ensures) (λ going all rows rest h end.
-    let fine = c.self.invariant.going going in
-    let next = rw c.in-Ok-End.field-0-is at (c.in-Ok-End.ensures.gives fine all h.given rest h.holds end) in
-    let read : Scores _ = record {
+pub returns-in-Ok-Line : goal.returns-in-Ok-Line
+returns-in-Ok-Line g c =
+    let remaining = g.R.Source.remaining in
+    let calls = g.R.Source.calls in
+    let failed = g.R.Source.failed in
+    let w = c.read_line.new.self in
+    let r = given_by c.read_line.result w.stopped in
+    let read = c.read_line.ensures in
+    subst (λ v. Nexts remaining calls failed v r w) c.self.view_is
+    (line-nexts remaining calls failed _ w c.poll.new.self c.in-Ok-Line.field-0 r c.self.invariant c.if-is_some.ensures
+    c.in-Ok-Line.field-0-is c.in-Ok-Line.ensures read.lines read.stage read.stops read.told read.not_read read.gives)
+
+pub returns-in-Ok-More : goal.returns-in-Ok-More
+returns-in-Ok-More g c =
+    let remaining = g.R.Source.remaining in
+    let calls = g.R.Source.calls in
+    let failed = g.R.Source.failed in
+    let stopped = c.self.inside.stopped in
+    let w : Scores _ = record {
       stage = c.self.inside.stage;
       lines = c.poll.new.self;
       spines = c.self.inside.paths;
-      stopped = None;
+      stopped = stopped;
     } in
-    text-ended _ read all rows _ rest h refl next.2 next.0 next.1)
+    subst (λ v. Nexts remaining calls failed v (given_by None stopped) w) c.self.view_is
+    (more-nexts remaining calls failed _ c.poll.new.self c.in-Ok-More.field-0 c.self.invariant c.if-is_some.ensures
+    c.in-Ok-More.field-0-is c.in-Ok-More.ensures)
 
-pub returns-in-Err-clause-gives : goal.returns-in-Err-clause-gives
-returns-in-Err-clause-gives g c = rw (← c.self.view_is) (λ going all rows rest h end.
-    let fine = c.self.invariant.going going in
-    let next = c.in-Err.ensures.gives fine all h.given rest h.holds end in
-    text-stopped _ all rows _ c.in-Err.fault (given_by None c.stop.new.stopped) c.given.result _ h
-    (c.given.ensures.given ∙ ap (λ v. v.given) c.in-Err.ensures.err)
-    (ap (λ s. given_by None s) c.stop.ensures) next)
+pub returns-in-Ok-End : goal.returns-in-Ok-End
+returns-in-Ok-End g c =
+    let remaining = g.R.Source.remaining in
+    let calls = g.R.Source.calls in
+    let failed = g.R.Source.failed in
+    let w = c.close.new.self in
+    subst (λ v. Nexts remaining calls failed v (given_by None w.stopped) w) c.self.view_is
+    (end-nexts remaining calls failed _ w c.poll.new.self c.in-Ok-End.field-0 c.self.invariant c.if-is_some.ensures
+    c.in-Ok-End.field-0-is c.in-Ok-End.ensures c.close.ensures)
+
+pub returns-in-Err : goal.returns-in-Err
+returns-in-Err g c =
+    let remaining = g.R.Source.remaining in
+    let calls = g.R.Source.calls in
+    let failed = g.R.Source.failed in
+    let stopped = c.stop.new.stopped in
+    let w : Scores _ = record {
+      stage = c.self.inside.stage;
+      lines = c.poll.new.self;
+      spines = c.self.inside.paths;
+      stopped = stopped;
+    } in
+    subst (λ v. Nexts remaining calls failed v (given_by None stopped) w) c.self.view_is
+    (fault-nexts remaining calls failed _ c.poll.new.self c.in-Err.fault c.given.result stopped c.self.invariant
+    c.if-is_some.ensures c.in-Err.ensures c.given.ensures.given c.stop.ensures)
+
+pub invariant_of-self : goal.invariant_of-self
+invariant_of-self g c =
+    tidy-on g.R.Source.remaining g.R.Source.calls g.R.Source.failed c.self.inside.lines c.poll.new.self c.self.inside.stopped c.in-Ok-Line.field-0
+    c.self.invariant c.in-Ok-Line.ensures
+
+pub read_line-requires : goal.read_line-requires
+read_line-requires g c =
+    asks-line g.R.Source.remaining g.R.Source.calls g.R.Source.failed c.self.inside.lines c.poll.new.self c.self.inside.stopped c.in-Ok-Line.field-0
+    c.self.invariant c.if-is_some.ensures c.in-Ok-Line.field-0-is c.in-Ok-Line.ensures
+
+pub invariant_of-self-in-Ok-More : goal.invariant_of-self-in-Ok-More
+invariant_of-self-in-Ok-More g c =
+    tidy-on g.R.Source.remaining g.R.Source.calls g.R.Source.failed c.self.inside.lines c.poll.new.self c.self.inside.stopped c.in-Ok-More.field-0
+    c.self.invariant c.in-Ok-More.ensures
+
+pub invariant_of-self-in-Ok-End : goal.invariant_of-self-in-Ok-End
+invariant_of-self-in-Ok-End g c =
+    tidy-on g.R.Source.remaining g.R.Source.calls g.R.Source.failed c.self.inside.lines c.poll.new.self c.self.inside.stopped c.in-Ok-End.field-0
+    c.self.invariant c.in-Ok-End.ensures
+
+pub stop-requires : goal.stop-requires
+stop-requires g c =
+    few-given g.R.Source.remaining g.R.Source.calls g.R.Source.failed c.self.inside.lines c.poll.new.self c.self.inside.stopped c.in-Err.fault
+    c.given.result c.self.invariant c.in-Err.ensures c.given.ensures.at_most
+
+pub invariant_of-self-in-Err : goal.invariant_of-self-in-Err
+invariant_of-self-in-Err g c =
+    tidy-stopped g.R.Source.remaining g.R.Source.calls g.R.Source.failed c.self.inside.lines c.poll.new.self c.self.inside.stopped c.stop.new.stopped
+    c.in-Err.fault _ c.self.invariant c.in-Err.ensures c.stop.ensures

@@ -1,22 +1,34 @@
-use Rattle.std.proofs.Common.{refl, ap, None}
+use Rattle.std.proofs.Common.{None, Ok, ◌≤◌, ◌≡◌, sym, subst}
+use Rattle.hum_read.specs.Reading.{Scores, Gave}
 use Rattle.hum_read.specs.Steps.{given_by}
-use Rattle.hum_read.proofs.Polling.{text-refused, record-refused, record-given}
+use Rattle.hum_read.proofs.LineRead.{LineReads, text-reads, record-reads, given-reads}
 use Rattle.hum_read.proofs.scores.ScoreReader.read_line.Goals as goal
 
-pub returns-in-Err-clause-gives : goal.returns-in-Err-clause-gives
-returns-in-Err-clause-gives g c = rw (← c.self.view_is) (λ all rows rest h.
-    text-refused _ c.in-Err.fault (given_by None c.refuse.new.self.stopped) all rows rest _
-    (rw c.from_line-len.ensures.line at c.in-Err.ensures.exact)
-    (ap (λ v. given_by None v.stopped) (rw c.record_rule.ensures at c.refuse.ensures)) h)
+pub returns-in-Err : goal.returns-in-Err
+returns-in-Err g c =
+    let w = c.refuse.new.self in
+    subst (λ v. LineReads v (given_by None w.stopped) w) c.self.view_is
+    (text-reads _ w _ c.in-Err.fault c.record_rule.result (rw c.from_line-len.ensures.line at c.in-Err.ensures.exact)
+    c.record_rule.ensures c.refuse.ensures)
 
-pub returns-in-Ok-pass-clause-gives : goal.returns-in-Ok-pass-clause-gives
-returns-in-Ok-pass-clause-gives g c = rw (← c.self.view_is) (λ all rows rest h.
-    record-given _ _ c.in-Ok.record all rows rest
-    (rw c.from_line-len.ensures.line at c.in-Ok.ensures.exact) c.in-Ok-pass.ensures.sound refl
-    c.in-Ok-pass.ensures.after (rw (← c.self.view_is) at c.requires.few) h)
+pub returns-in-Ok-pass : goal.returns-in-Ok-pass
+returns-in-Ok-pass g c =
+    let w : Scores _ = record {
+      stage = c.self.inside.stage;
+      lines = c.self.inside.lines;
+      spines = c.pass.new.paths;
+      stopped = c.self.inside.stopped;
+    } in
+    let going = subst (λ v. v.stopped ≡ None) (sym c.self.view_is) c.requires.going in
+    let few = subst (λ v. v.lines.given ≤ 4294967295) (sym c.self.view_is) c.requires.few in
+    subst (λ v. LineReads v (Ok (Gave c.in-Ok.record)) w) c.self.view_is
+    (given-reads _ c.pass.new.paths c.in-Ok.record going (rw c.from_line-len.ensures.line at c.in-Ok.ensures.exact)
+    c.in-Ok-pass.ensures.sound c.in-Ok-pass.ensures.after few)
 
-pub returns-in-Err-pass-clause-gives : goal.returns-in-Err-pass-clause-gives
-returns-in-Err-pass-clause-gives g c = rw (← c.self.view_is) (λ all rows rest h.
-    record-refused _ c.in-Ok.record c.in-Err-pass.fault (given_by None c.refuse-in-Err-pass.new.self.stopped) all rows rest _
-    (rw c.from_line-len.ensures.line at c.in-Ok.ensures.exact) c.in-Err-pass.ensures.refused
-    (ap (λ v. given_by None v.stopped) (rw c.path_rule.ensures at c.refuse-in-Err-pass.ensures)) h)
+pub returns-in-Err-pass : goal.returns-in-Err-pass
+returns-in-Err-pass g c =
+    let w = c.refuse-in-Err-pass.new.self in
+    subst (λ v. LineReads v (given_by None w.stopped) w) c.self.view_is
+    (record-reads _ w c.pass.new.paths c.in-Ok.record c.in-Err-pass.fault c.path_rule.result
+    (rw c.from_line-len.ensures.line at c.in-Ok.ensures.exact) c.in-Err-pass.ensures.refused c.path_rule.ensures
+    c.refuse-in-Err-pass.ensures)

@@ -1,0 +1,422 @@
+-- What each way through `next` says.
+use Rattle.std.proofs.Common.{◌≡◌, ◌≢◌, ℕ, ◌<◌, ◌≤◌, Bool, true, false, ◌||◌, ◌⊎◌, inl, inr, List, [], length}
+use Rattle.std.proofs.Common.{refl, ap, sym, ◌∙◌, subst, arith, Option, None, Some, Result, Ok, Err}
+use Rattle.std.specs.Prelude.{IfOk, IfErr, OnOk, IfSome}
+use Rattle.std.specs.Option.{is_some}
+use Rattle.std.specs.Io.KnownBytes.{Consumes, IsAtEnd}
+use Rattle.hum_text.specs.declared.TextFault.{TextFault}
+use Rattle.hum_text.specs.declared.TextFault.TheVariants as text
+use Rattle.hum_text.specs.declared.calls.TheConstants.{LARGEST_READ}
+use Rattle.hum_text.specs.declared.reader.Step.{Step}
+use Rattle.hum_text.specs.declared.reader.Step.TheVariants.{Line, More, End}
+use Rattle.hum_text.specs.Calls.{IsCalled}
+use Rattle.hum_text.specs.Reading.{Reader, IsUnread, IsFed, IsOver, NeedsRead, ReadsOnce, Nears, Fails, KeepsLimits, left_to_do, bytes_read}
+use Rattle.hum_text.specs.Reading.{GivesNext as LinesGiveNext}
+use Rattle.hum_text.proofs.ReadingLemmas.{drop-all}
+use Rattle.hum_stage.specs.declared.faults.End.{End as EndOf}
+use Rattle.hum_read.specs.declared.ReadError.{ReadError}
+use Rattle.hum_read.specs.declared.ReadError.TheVariants as error
+use Rattle.hum_record.specs.Spelling.{has_byte}
+use Rattle.hum_read.specs.Denoted.{standard}
+use Rattle.hum_read.specs.Steps.{IsTidy, ReadsLine, given_by, end_of, stop_by}
+use Rattle.hum_read.proofs.Polling.{has-line, text-ended, text-stopped}
+use Rattle.hum_read.specs.Reading.{HasRead, Scores, Polled, Gave, ReadOn, Ended, Gives, GivesNext, stop_of, answer_of, IsDue, IsCalledAtMostOnce}
+use Rattle.hum_read.specs.Reading.{ReadsOnce as ReadsOnceDue, Nears as NearsBy}
+
+-- how an answer comes of what the lines gave
+abbrev Meets : Result Step TextFault → Result Polled ReadError → Type 0
+Meets (Ok Line) r = (r ≢ Ok ReadOn) × (r ≢ Err error.Read)
+Meets (Ok More) r = r ≡ Ok ReadOn
+Meets (Ok End) r = (end : EndOf) × (r ≡ Ok (Ended end))
+Meets (Err text.Read) r = r ≡ Err error.Read
+Meets (Err text.Memory) r = r ≡ Err error.Memory
+Meets (Err text.S1) r = (end : EndOf) × (r ≡ Ok (Ended end))
+Meets (Err text.S2) r = (end : EndOf) × (r ≡ Ok (Ended end))
+Meets (Err text.S3) r = (end : EndOf) × (r ≡ Ok (Ended end))
+Meets (Err text.S7) r = (end : EndOf) × (r ≡ Ok (Ended end))
+
+-- an answer is that nothing is there yet where the lines say so
+more-of : (s : Result Step TextFault) (r : Result Polled ReadError) → Meets s r → r ≡ Ok ReadOn → s ≡ Ok More
+more-of (Ok Line) r meets is = absurd (meets.0 is)
+more-of (Ok More) r meets is = refl
+more-of (Ok End) r meets is = let both = sym is ∙ meets.1 in cc
+more-of (Err text.Read) r meets is = let both = sym is ∙ meets in cc
+more-of (Err text.Memory) r meets is = let both = sym is ∙ meets in cc
+more-of (Err text.S1) r meets is = let both = sym is ∙ meets.1 in cc
+more-of (Err text.S2) r meets is = let both = sym is ∙ meets.1 in cc
+more-of (Err text.S3) r meets is = let both = sym is ∙ meets.1 in cc
+more-of (Err text.S7) r meets is = let both = sym is ∙ meets.1 in cc
+
+more-then : (s : Result Step TextFault) (r : Result Polled ReadError) → Meets s r → s ≡ Ok More → r ≡ Ok ReadOn
+more-then s r meets is = let At : Result Step TextFault → Type 0 = λ t. Meets t r in subst At is meets
+
+-- an answer is that the read failed where the lines say so
+read-of : (s : Result Step TextFault) (r : Result Polled ReadError) → Meets s r → r ≡ Err error.Read → s ≡ Err text.Read
+read-of (Ok Line) r meets is = absurd (meets.1 is)
+read-of (Ok More) r meets is = let both = sym is ∙ meets in cc
+read-of (Ok End) r meets is = let both = sym is ∙ meets.1 in cc
+read-of (Err text.Read) r meets is = refl
+read-of (Err text.Memory) r meets is = let both = sym is ∙ meets in cc
+read-of (Err text.S1) r meets is = let both = sym is ∙ meets.1 in cc
+read-of (Err text.S2) r meets is = let both = sym is ∙ meets.1 in cc
+read-of (Err text.S3) r meets is = let both = sym is ∙ meets.1 in cc
+read-of (Err text.S7) r meets is = let both = sym is ∙ meets.1 in cc
+
+-- a property of an answer that is a known one
+at : (Q : Result Polled ReadError → Type 0) (q r : Result Polled ReadError) → r ≡ q → Q q → Q r
+at Q q r is h = subst Q (sym is) h
+
+-- each answer brings it nearer to the end, as a poll of the lines does
+nears-by : (s : Result Step TextFault) (r : Result Polled ReadError) (m n : ℕ) → Meets s r → IfOk s (λ step. Nears step m n)
+    → IfOk r (λ step. NearsBy step m n)
+nears-by s r m n = by s
+  where
+    By : Result Polled ReadError → Type 0
+    By q = IfOk q (λ step. NearsBy step m n)
+
+    line : (q : Result Polled ReadError) → n < m → By q
+    line (Ok (Gave row)) near = near
+    line (Ok ReadOn) near = near
+    line (Ok (Ended end)) near = tt
+    line (Err e) near = tt
+
+    by : (t : Result Step TextFault) → Meets t r → IfOk t (λ step. Nears step m n) → By r
+    by (Ok Line) meets near = line r near
+    by (Ok More) meets near = line r near
+    by (Ok End) meets near = at By _ r meets.1 tt
+    by (Err text.Read) meets near = at By _ r meets tt
+    by (Err text.Memory) meets near = at By _ r meets tt
+    by (Err text.S1) meets near = at By _ r meets.1 tt
+    by (Err text.S2) meets near = at By _ r meets.1 tt
+    by (Err text.S3) meets near = at By _ r meets.1 tt
+    by (Err text.S7) meets near = at By _ r meets.1 tt
+
+-- no byte was consumed
+consumes-none : (known : Option (List ℕ)) → Consumes known known []
+consumes-none None = tt
+consumes-none (Some xs) = refl
+
+-- a reader that has not stopped
+none-of : (o : Option (Result EndOf ReadError)) → false ≡ is_some o → o ≡ None
+none-of None is = refl
+none-of (Some s) is = let both : false ≡ true = is in absurd cc
+
+some-none : (s : Result EndOf ReadError) → Some s ≡ None → ⊥
+some-none s is = cc
+
+-- what one answers that has stopped is how it has stopped
+pub stop-answer : (s : Result EndOf ReadError) → Some s ≡ stop_of (answer_of s)
+stop-answer (Ok end) = refl
+stop-answer (Err e) = refl
+
+pub no-more : (s : Result EndOf ReadError) → answer_of s ≡ Ok ReadOn → ⊥
+no-more (Ok end) is = cc
+no-more (Err e) is = cc
+
+failed-of : (s : Result EndOf ReadError) → answer_of s ≡ Err error.Read → s ≡ Err error.Read
+failed-of (Ok end) is = cc
+failed-of (Err e) is = cc
+
+no-step : (s : Result EndOf ReadError) (m n : ℕ) → IfOk (answer_of s) (λ step. NearsBy step m n)
+no-step (Ok end) m n = tt
+no-step (Err e) m n = tt
+
+-- a fault is told as what it is
+meets-stop : (stage given : ℕ) (f : TextFault) → Meets (Err f) (answer_of (stop_by stage given f))
+meets-stop stage given text.Read = refl
+meets-stop stage given text.Memory = refl
+meets-stop stage given text.S1 = (_, refl)
+meets-stop stage given text.S2 = (_, refl)
+meets-stop stage given text.S3 = (_, refl)
+meets-stop stage given text.S7 = (_, refl)
+
+module _ {R : Type 0} (remaining : R → Option (List ℕ)) (calls : R → ℕ) (has_failed : R → Bool) where
+  -- the clauses of a poll of the lines, in their order
+  abbrev pub Polls : Reader R → Result Step TextFault → Reader R → Type 0
+  Polls old result new = record {
+    gives : old.fault ≡ None → LinesGiveNext old result new;
+    reads_not : ¬ NeedsRead old → IsUnread old new;
+    reads_once : NeedsRead old → ReadsOnce calls has_failed old result new;
+    more : result ≡ Ok More → IsFed old new;
+    unfed : result ≢ Ok More → bytes_read old new ≡ [];
+    asked : length (bytes_read old new) ≤ LARGEST_READ;
+    consumes : Consumes (remaining old.source) (remaining new.source) (bytes_read old new);
+    at_end : new.ended ≡ true → (old.ended ≡ true) ⊎ IsAtEnd (remaining new.source);
+    failed : result ≡ Err text.Read → (old.fault ≡ Some text.Read) ⊎ (has_failed new.source ≡ true);
+    memory : result ≡ Err text.Memory → (old.fault ≡ Some text.Memory) ⊎ NeedsRead old;
+    within : IfOk result (λ step. KeepsLimits old.limits step new.line new.given);
+    end : result ≡ Ok End → IsOver new;
+    over : IsOver old → (result ≡ Ok End) × (new ≡ old);
+    sound : OnOk result (new.fault ≡ None);
+    err : IfErr result (Fails old new);
+    again : IfSome old.fault (λ f. (result ≡ Err f) × (new ≡ old));
+    nears : IfOk result (λ step. Nears step (left_to_do old) (left_to_do new));
+    limits : new.limits ≡ old.limits;
+    taken : new.taken ≤ new.limits.bytes;
+  }
+
+  -- the clauses of `next`, in their order
+  abbrev pub Nexts : Scores R → Result Polled ReadError → Scores R → Type 0
+  Nexts old result new = record {
+    gives : old.stopped ≡ None → GivesNext old result new;
+    stops : new.stopped ≡ stop_of result;
+    again : IfSome old.stopped (λ s. (result ≡ answer_of s) × (new ≡ old));
+    stage : new.stage ≡ old.stage;
+    unread : ¬ NeedsRead old.lines → IsUnread old.lines new.lines;
+    once : NeedsRead old.lines → IsCalledAtMostOnce calls has_failed old.lines.source new.lines.source;
+    due : IsDue old → ReadsOnceDue calls has_failed old result new;
+    more : result ≡ Ok ReadOn → IsFed old.lines new.lines;
+    unfed : result ≢ Ok ReadOn → bytes_read old.lines new.lines ≡ [];
+    asked : length (bytes_read old.lines new.lines) ≤ LARGEST_READ;
+    consumes : Consumes (remaining old.lines.source) (remaining new.lines.source) (bytes_read old.lines new.lines);
+    at_end : new.lines.ended ≡ true → (old.lines.ended ≡ true) ⊎ IsAtEnd (remaining new.lines.source);
+    failed : result ≡ Err error.Read → (old.stopped ≡ Some (Err error.Read)) ⊎ (has_failed new.lines.source ≡ true);
+    marked : has_failed new.lines.source ≡ true → (has_failed old.lines.source ≡ true) ⊎ (result ≡ Err error.Read);
+    taken : old.stopped ≡ None → new.lines.taken ≤ new.lines.limits.bytes;
+    nears : IfOk result (λ step. NearsBy step (left_to_do old.lines) (left_to_do new.lines));
+  }
+
+  -- a poll makes at most one call
+  once-of : (v w : Reader R) (s : Result Step TextFault) → ReadsOnce calls has_failed v s w
+      → IsCalledAtMostOnce calls has_failed v.source w.source
+  once-of v w (Ok Line) read = inr (false, read.0)
+  once-of v w (Ok More) read = inr (false, read.0)
+  once-of v w (Ok End) read = inr (false, read.0)
+  once-of v w (Err text.Read) read = inr (true, read.0)
+  once-of v w (Err text.Memory) read = inl (sym read.0)
+  once-of v w (Err text.S1) read = inr (false, read.0)
+  once-of v w (Err text.S2) read = inr (false, read.0)
+  once-of v w (Err text.S3) read = inr (false, read.0)
+  once-of v w (Err text.S7) read = inr (false, read.0)
+
+  -- what it made of the read that was due
+  due-of : (v w : Scores R) (s : Result Step TextFault) (r : Result Polled ReadError) → Meets s r
+      → ReadsOnce calls has_failed v.lines s w.lines → ReadsOnceDue calls has_failed v r w
+  due-of v w s r = by s
+    where
+      By : Result Polled ReadError → Type 0
+      By q = ReadsOnceDue calls has_failed v q w
+
+      line : (q : Result Polled ReadError) → (q ≢ Ok ReadOn) → (q ≢ Err error.Read)
+          → ReadsOnce calls has_failed v.lines (Ok Line) w.lines → By q
+      line (Ok (Gave row)) more fails read = read
+      line (Ok ReadOn) more fails read = absurd (more refl)
+      line (Ok (Ended end)) more fails read = read
+      line (Err error.Read) more fails read = absurd (fails refl)
+      line (Err error.Memory) more fails read = inr read
+
+      by : (t : Result Step TextFault) → Meets t r → ReadsOnce calls has_failed v.lines t w.lines → By r
+      by (Ok Line) meets read = line r meets.0 meets.1 read
+      by (Ok More) meets read = at By _ r meets read
+      by (Ok End) meets read = at By _ r meets.1 read
+      by (Err text.Read) meets read = at By _ r meets read
+      by (Err text.Memory) meets read = at By _ r meets (inl read)
+      by (Err text.S1) meets read = at By _ r meets.1 read
+      by (Err text.S2) meets read = at By _ r meets.1 read
+      by (Err text.S3) meets read = at By _ r meets.1 read
+      by (Err text.S7) meets read = at By _ r meets.1 read
+
+  -- a mark that is new was set by a read that has_failed
+  marked-of : (v w : Reader R) (s : Result Step TextFault) (r : Result Polled ReadError) → Meets s r
+      → (¬ NeedsRead v → IsUnread v w) → (NeedsRead v → ReadsOnce calls has_failed v s w)
+      → has_failed w.source ≡ true → (has_failed v.source ≡ true) ⊎ (r ≡ Err error.Read)
+  marked-of v w s r meets unread once is = by_old (has_failed v.source) refl
+    where
+      new : IsCalled calls has_failed v.source w.source false → has_failed v.source ≡ false → ⊥
+      new called clear =
+          let both : true ≡ false = sym is ∙ called.marked ∙ ap (λ b. b || false) clear in absurd cc
+
+      same : w.source ≡ v.source → has_failed v.source ≡ false → ⊥
+      same kept clear = let both : true ≡ false = sym is ∙ ap has_failed kept ∙ clear in absurd cc
+
+      sound : (has_failed v.source ≡ false) → (NeedsRead v → ⊥) → ⊥
+      sound clear needless = same (unread needless).0 clear
+
+      by : (t : Result Step TextFault) → Meets t r → (NeedsRead v → ReadsOnce calls has_failed v t w) → has_failed v.source ≡ false
+          → r ≡ Err error.Read
+      by (Ok Line) m read clear = absurd (sound clear (λ needs. new (read needs).0 clear))
+      by (Ok More) m read clear = absurd (sound clear (λ needs. new (read needs).0 clear))
+      by (Ok End) m read clear = absurd (sound clear (λ needs. new (read needs).0 clear))
+      by (Err text.Read) m read clear = m
+      by (Err text.Memory) m read clear = absurd (sound clear (λ needs. same (read needs).0 clear))
+      by (Err text.S1) m read clear = absurd (sound clear (λ needs. new (read needs).0 clear))
+      by (Err text.S2) m read clear = absurd (sound clear (λ needs. new (read needs).0 clear))
+      by (Err text.S3) m read clear = absurd (sound clear (λ needs. new (read needs).0 clear))
+      by (Err text.S7) m read clear = absurd (sound clear (λ needs. new (read needs).0 clear))
+
+      by_old : (b : Bool) → has_failed v.source ≡ b → (has_failed v.source ≡ true) ⊎ (r ≡ Err error.Read)
+      by_old true marked = inl marked
+      by_old false clear = inr (by s meets once clear)
+
+  failed-new : (v w : Reader R) → v.fault ≡ None → (v.fault ≡ Some text.Read) ⊎ (has_failed w.source ≡ true) → has_failed w.source ≡ true
+  failed-new v w sound (inl is) = let both = sym is ∙ sound in cc
+  failed-new v w sound (inr is) = is
+
+  -- A poll of the lines was made, and this comes of it.
+  polled-nexts : (v w : Scores R) (s : Result Step TextFault) (r : Result Polled ReadError) → v.stopped ≡ None
+      → v.lines.fault ≡ None → Polls v.lines s w.lines → Meets s r → w.stage ≡ v.stage → w.stopped ≡ stop_of r
+      → GivesNext v r w → Nexts v r w
+  polled-nexts v w s r going sound says meets stage stops gives = record {
+    gives = λ _. gives;
+    stops = stops;
+    again = subst (λ o. IfSome o (λ q. (r ≡ answer_of q) × (w ≡ v))) (sym going) tt;
+    stage = stage;
+    unread = says.reads_not;
+    once = λ needs. once-of v.lines w.lines s (says.reads_once needs);
+    due = λ is. due-of v w s r meets (says.reads_once is.needs);
+    more = λ is. says.more (more-of s r meets is);
+    unfed = λ not. says.unfed (λ is. not (more-then s r meets is));
+    asked = says.asked;
+    consumes = says.consumes;
+    at_end = says.at_end;
+    failed = λ is. inr (failed-new v.lines w.lines sound (says.failed (read-of s r meets is)));
+    marked = marked-of v.lines w.lines s r meets says.reads_not says.reads_once;
+    taken = λ _. says.taken;
+    nears = nears-by s r _ _ meets says.nears;
+  }
+
+  -- a reader of scores stays tidy where its lines met no fault
+  pub tidy-on : (old new : Reader R) (stopped : Option (Result EndOf ReadError)) (step : Step) → IsTidy old stopped
+      → Polls old (Ok step) new → IsTidy new stopped
+  tidy-on old new stopped step tidy polls = record { limits = polls.limits ∙ tidy.limits; going = λ _. polls.sound }
+
+  -- one that has stopped by a fault is tidy too
+  pub tidy-stopped : (old new : Reader R) (before stopped : Option (Result EndOf ReadError)) (f : TextFault)
+      (why : Result EndOf ReadError) → IsTidy old before → Polls old (Err f) new → stopped ≡ Some why → IsTidy new stopped
+  tidy-stopped old new before stopped f why tidy polls is = record {
+    limits = polls.limits ∙ tidy.limits;
+    going = λ none. absurd (some-none why (sym is ∙ none));
+  }
+
+  -- what is asked where a line is read: it was given, within the limits
+  abbrev pub AsksLine : Option (Result EndOf ReadError) → Reader R → Type 0
+  AsksLine stopped lines = record {
+    going : stopped ≡ None;
+    short : length lines.line ≤ 1048576;
+    one_line : has_byte 10 lines.line ≡ false;
+    few : lines.given ≤ 4294967295;
+  }
+
+  pub asks-line : (old new : Reader R) (stopped : Option (Result EndOf ReadError)) (step : Step) → IsTidy old stopped
+      → false ≡ is_some stopped → step ≡ Line → Polls old (Ok step) new → AsksLine stopped new
+  asks-line old new stopped step tidy clear is polls =
+      let Q : Step → Type 0 = λ t. Polls old (Ok t) new in
+      let polled : Polls old (Ok Line) new = subst Q is polls in
+      let within : KeepsLimits standard Line new.line new.given =
+      subst (λ l. KeepsLimits l Line new.line new.given) tidy.limits polled.within in
+      record {
+        going = none-of stopped clear;
+        short = within.0;
+        one_line = within.1;
+        few = within.2;
+      }
+
+  -- so many lines as the limits allow
+  pub few-given : (old new : Reader R) (stopped : Option (Result EndOf ReadError)) (f : TextFault) (given : ℕ)
+      → IsTidy old stopped → Polls old (Err f) new → given ≤ new.limits.records → given ≤ 4294967295
+  few-given old new stopped f given tidy polls = subst (λ l. given ≤ l.records) (polls.limits ∙ tidy.limits)
+
+  -- A line was given, and it was read.
+  pub line-nexts : (v w : Scores R) (lines : Reader R) (step : Step) (r : Result Polled ReadError) → IsTidy v.lines v.stopped
+      → false ≡ is_some v.stopped → step ≡ Line → Polls v.lines (Ok step) lines → w.lines ≡ lines → w.stage ≡ v.stage
+      → w.stopped ≡ stop_of r → r ≢ Ok ReadOn → r ≢ Err error.Read → ReadsLine (record v { lines = lines }) r w → Nexts v r w
+  line-nexts v w lines step r tidy clear is polls same stage stops told sound reads =
+      let going = none-of v.stopped clear in
+      let fine = tidy.going going in
+      let P : Reader R → Type 0 = λ l. Polls v.lines (Ok step) l in
+      let Q : Step → Type 0 = λ t. Polls v.lines (Ok t) w.lines in
+      let L : Reader R → Type 0 = λ l. ReadsLine (record v { lines = l }) r w in
+      let polled : Polls v.lines (Ok Line) w.lines = subst Q is (subst P (sym same) polls) in
+      let read = subst L (sym same) reads in
+      polled-nexts v w (Ok Line) r going fine polled (told, sound) stage stops
+      (λ all rows rest h end. read all rows rest
+      (has-line v (record v { lines = w.lines }) all rows _ rest h polled.limits refl (polled.gives fine all h.given rest h.holds end)))
+
+  -- Nothing is there yet.
+  pub more-nexts : (v : Scores R) (lines : Reader R) (step : Step) → IsTidy v.lines v.stopped
+      → false ≡ is_some v.stopped → step ≡ More → Polls v.lines (Ok step) lines
+      → Nexts v (given_by None v.stopped) (record v { lines = lines })
+  more-nexts v lines step tidy clear is polls =
+      let going = none-of v.stopped clear in
+      let fine = tidy.going going in
+      let Q : Step → Type 0 = λ t. Polls v.lines (Ok t) lines in
+      let polled : Polls v.lines (Ok More) lines = subst Q is polls in
+      let w : Scores R = record v { lines = lines } in
+      let told : given_by None v.stopped ≡ Ok ReadOn = ap (λ o. given_by None o) going in
+      polled-nexts v w (Ok More) (given_by None v.stopped) going fine polled told refl (going ∙ sym (ap stop_of told))
+      (λ all rows rest h end.
+      at (λ q. Gives v.stage all rows q (λ after. HasRead w all after rest)) _ _ told (record {
+        limits = polled.limits ∙ h.limits;
+        given = h.given;
+        holds = polled.gives fine all h.given rest h.holds end;
+        read = h.read;
+        score = h.score;
+        path = h.path;
+        as_many = h.as_many;
+      }))
+
+  -- No line is left.
+  pub end-nexts : (v w : Scores R) (lines : Reader R) (step : Step) → IsTidy v.lines v.stopped
+      → false ≡ is_some v.stopped → step ≡ End → Polls v.lines (Ok step) lines
+      → w ≡ record v { lines = lines; stopped = Some (Ok (end_of (record v { lines = lines }))) }
+      → Nexts v (given_by None w.stopped) w
+  end-nexts v w lines step tidy clear is polls state =
+      let going = none-of v.stopped clear in
+      let fine = tidy.going going in
+      let Q : Step → Type 0 = λ t. Polls v.lines (Ok t) lines in
+      let polled : Polls v.lines (Ok End) lines = subst Q is polls in
+      let W : Scores R → Type 0 = λ u. Nexts v (given_by None u.stopped) u in
+      subst W (sym state)
+      (polled-nexts v (record v { lines = lines; stopped = Some (Ok (end_of (record v { lines = lines }))) }) (Ok End) _ going fine polled
+      (end_of (record v { lines = lines }), refl) refl refl (λ all rows rest h end.
+      let next = polled.gives fine all h.given rest h.holds end in
+      text-ended v (record v { lines = lines }) all rows _ rest h refl next.2 next.0 next.1))
+
+  -- The lines have a fault.
+  pub fault-nexts : (v : Scores R) (lines : Reader R) (f : TextFault) (given : ℕ) (stopped : Option (Result EndOf ReadError))
+      → IsTidy v.lines v.stopped → false ≡ is_some v.stopped → Polls v.lines (Err f) lines → given ≡ lines.given
+      → stopped ≡ Some (stop_by v.stage given f)
+      → Nexts v (given_by None stopped) (record v { lines = lines; stopped = stopped })
+  fault-nexts v lines f given stopped tidy clear polls count told =
+      let going = none-of v.stopped clear in
+      let fine = tidy.going going in
+      let W : Option (Result EndOf ReadError) → Type 0 = λ o. Nexts v (given_by None o) (record v { lines = lines; stopped = o }) in
+      subst W (sym told)
+      (polled-nexts v (record v { lines = lines; stopped = Some (stop_by v.stage given f) }) (Err f) (answer_of (stop_by v.stage given f))
+      going fine polls (meets-stop v.stage given f) refl (stop-answer (stop_by v.stage given f)) (λ all rows rest h end.
+      text-stopped v all rows _ f (answer_of (stop_by v.stage given f)) given _ h (count ∙ ap (λ l. l.given) polls.err) refl
+      (polls.gives fine all h.given rest h.holds end)))
+
+  -- It has stopped before.
+  pub stopped-nexts : (v : Scores R) → true ≡ is_some v.stopped → Nexts v (given_by None v.stopped) v
+  stopped-nexts v some = by v.stopped refl some
+    where
+      none : bytes_read v.lines v.lines ≡ []
+      none = drop-all v.lines.pending (length v.lines.pending) (omega arith)
+
+      stopped : (s : Result EndOf ReadError) (r : Result Polled ReadError) → v.stopped ≡ Some s → r ≡ answer_of s → Nexts v r v
+      stopped s r is told =
+          let ends : v.stopped ≡ None → ⊥ = λ going. let both = sym is ∙ going in absurd (some-none s both) in
+          let By : List ℕ → Type 0 = λ bs. Consumes (remaining v.lines.source) (remaining v.lines.source) bs in
+          record {
+            gives = λ going. absurd (ends going);
+            stops = is ∙ stop-answer s ∙ sym (ap stop_of told);
+            again = subst (λ o. IfSome o (λ q. (r ≡ answer_of q) × (v ≡ v))) (sym is) (told, refl);
+            stage = refl;
+            unread = λ _. (refl, refl, none);
+            once = λ _. inl refl;
+            due = λ due. absurd (ends due.going);
+            more = λ more. absurd (no-more s (sym told ∙ more));
+            unfed = λ _. none;
+            asked = omega (arith, ap length none);
+            consumes = subst By (sym none) (consumes-none (remaining v.lines.source));
+            at_end = λ end. inl end;
+            failed = λ fails. inl (is ∙ ap Some (failed-of s (sym told ∙ fails)));
+            marked = λ mark. inl mark;
+            taken = λ going. absurd (ends going);
+            nears = at (λ q. IfOk q (λ step. NearsBy step (left_to_do v.lines) (left_to_do v.lines))) _ r told (no-step s _ _);
+          }
+
+      by : (o : Option (Result EndOf ReadError)) → v.stopped ≡ o → true ≡ is_some o → Nexts v (given_by None v.stopped) v
+      by None is some = let both : true ≡ false = some in absurd cc
+      by (Some s) is some = stopped s (given_by None v.stopped) is (ap (λ o. given_by None o) is)
