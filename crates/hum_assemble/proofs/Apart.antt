@@ -1,10 +1,10 @@
 -- Records of one source after another, each alone.
 use Rattle.std.proofs.Common.{◌≡◌, ◌∙◌, refl, ap, ℕ, suc, ◌+◌, ◌≤◌, Bool, true}
+use Rattle.std.proofs.lemmas.Bool.{ne_eqb, eq-eqb}
 use Rattle.std.proofs.Common.{false, ◌||◌, List, [], ◌∷◌, ◌++◌, length, arith}
 use Rattle.std.proofs.Common.{map, length-append}
 use Rattle.std.specs.Prelude.{Option, None, Some, ◌==◌, replicate}
 use Rattle.std.specs.List.{list_any}
-use Rattle.std.proofs.lemmas.Bool.Decides.{nat_tests}
 use Rattle.hum_record.specs.Row.{Row}
 use Rattle.hum_path.specs.Spines.{Path, after}
 use Rattle.hum_stage.specs.Score.{Follow}
@@ -34,10 +34,10 @@ gone path row rows ended = record {
 }
 
 later_not : (k n : ℕ) → suc k ≤ n → (k == n) ≡ false
-later_not k n h = grind (arith, nat_tests)
+later_not k n h = ne_eqb k n (λ e. omega (arith, h, e))
 
 self_at : (n : ℕ) → (n == n) ≡ true
-self_at n = grind (arith, nat_tests)
+self_at n = eq-eqb n n refl
 
 not_at : (q : Place) (s : Source) → Sees true (suc (rank q)) s → is_at true q s ≡ false
 not_at q s h = later_not (rank q) (rank (place_at true s)) h.later

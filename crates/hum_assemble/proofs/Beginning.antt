@@ -1,10 +1,10 @@
 -- Where a round begins, it is as if all who take part in it were due.
 use Rattle.std.proofs.Common.{◌≡◌, ◌∙◌, refl, sym, ap, ℕ, ◌+◌, ◌≤◌, Bool, true}
+use Rattle.std.proofs.lemmas.Bool.{eq-eqb}
 use Rattle.std.proofs.Common.{false, ◌&&◌, ◌||◌, cond, List, [], ◌∷◌, arith}
 use Rattle.std.proofs.Common.{map}
 use Rattle.std.specs.Prelude.{Option, None, Some, ◌==◌}
 use Rattle.std.specs.List.{list_any, AllByRecursion}
-use Rattle.std.proofs.lemmas.Bool.Decides.{nat_tests}
 use Rattle.hum_record.specs.Row.{Row}
 use Rattle.hum_path.specs.Spines.{Path}
 use Rattle.hum_stage.specs.Score.{Follow}
@@ -98,7 +98,7 @@ by_part p path row rows ended false o e =
       | true ↦ λ w.
           let same = same_place p (place path row) (same_rank (rank p) (rank (place path row)) w) in
           let f : (step p == step p) ≡ false = rw (← same) at e in
-          let g : (step p == step p) ≡ true = grind (arith, nat_tests) in cc
+          let g : (step p == step p) ≡ true = eq-eqb (step p) (step p) refl in cc
       | false ↦ λ w. o
     ]) refl
 

@@ -1,10 +1,10 @@
 -- How many bytes a record has, and how many spines stand behind one.
-use Rattle.std.proofs.Common.{◌≡◌, ◌∙◌, refl, sym, ap, ℕ, zero, suc, ◌+◌, ◌*◌}
+use Rattle.std.proofs.lemmas.Bool.{cases_lt, lt-ltb, le-ltb}
+use Rattle.std.proofs.Common.{inl, inr, ◌≡◌, ◌∙◌, refl, sym, ap, ℕ, zero, suc, ◌+◌, ◌*◌}
 use Rattle.std.proofs.Common.{Bool, true, false, List, [], ◌∷◌, ◌++◌, length, length-append}
 use Rattle.std.proofs.Common.{arith, map, replicate}
 use Rattle.std.specs.Prelude.{nat_lt, Option, None, Some}
 use Rattle.std.specs.List.{join_with_byte}
-use Rattle.std.proofs.lemmas.Bool.Decides.{nat_tests}
 use Rattle.std.proofs.lemmas.List.{length-map}
 use Rattle.hum_record.specs.declared.SpinedKind.{SpinedKind}
 use Rattle.hum_record.specs.declared.Kind.TheVariants.{Global}
@@ -40,10 +40,16 @@ tokens_len_join token (x ∷ xs) =
     let l = length-append token (9 ∷ join_with_byte 9 (x ∷ xs)) in
     omega (arith, e, l)
 
+one_more : (a b : ℕ) → nat_lt (a + 1) (b + 1) ≡ nat_lt a b
+one_more a b = elim (cases_lt a b) as (λ _. nat_lt (a + 1) (b + 1) ≡ nat_lt a b) [
+  | inl l ↦ lt-ltb (a + 1) (b + 1) (omega (arith, l)) ∙ sym (lt-ltb a b l)
+  | inr g ↦ le-ltb (a + 1) (b + 1) (omega (arith, g)) ∙ sym (le-ltb a b g)
+]
+
 pub long_join : (tokens : List (List ℕ))
     → nat_lt 1048577 (tokens_len tokens) ≡ nat_lt 1048576 (length (join_with_byte 9 tokens))
 long_join [] = refl
-long_join (x ∷ xs) = rw (← tokens_len_join x xs) (grind (arith, nat_tests))
+long_join (x ∷ xs) = rw (← tokens_len_join x xs) (one_more 1048576 (length (join_with_byte 9 (x ∷ xs))))
 
 pub tokens_len_text : (row : Row) → (kind_of row ≡ Global → ⊥) → IsTextOf row (text_of row)
     → length (text_of row) + 1 ≡ tokens_len (tokens_of row)

@@ -1,11 +1,11 @@
 -- What the calls of an assembler need of what it stands for.
 use Rattle.std.proofs.Common.{◌≡◌, ◌∙◌, refl, sym, ap, ℕ, zero, suc, ◌+◌, ◌<◌, ◌⊎◌}
+use Rattle.std.proofs.lemmas.Bool.{leb-false}
 use Rattle.std.proofs.Common.{inl, inr, Bool, true, false, cond, List, [], ◌∷◌, ◌++◌, length}
 use Rattle.std.proofs.Common.{arith, map, get_or, set, take, replicate}
 use Rattle.std.specs.Prelude.{IfSome, Option}
 use Rattle.std.specs.Prelude.{None, Some, nat_lt, nat_le}
 use Rattle.std.specs.Prelude.{slice_get}
-use Rattle.std.proofs.lemmas.Bool.Decides.{nat_tests}
 use Rattle.hum_record.specs.Row.{Row, text_of}
 use Rattle.hum_path.specs.Spines.{Path, Unopened, after as path_of}
 use Rattle.hum_path.specs.Rules.{fault_of}
@@ -270,7 +270,7 @@ broken_room p q spines bytes given h =
                 (λ a. nat_le 4294967295 given ≡ a → unless_broken q (cond a (Some L2) None) ≡ Gives p →
                 given < 4294967295) [
                   | true ↦ λ g i. cc
-                  | false ↦ λ g i. grind (arith, nat_tests)
+                  | false ↦ λ g i. leb-false 4294967295 given g
                 ]) refl f
           ]) e
     ]) h
@@ -301,33 +301,33 @@ lawful_new zero = tt
 lawful_new (suc n) = (tt, lawful_new n)
 
 -- What an assembler shows.
-pub told_ahead : (ss : List Source) (given : ℕ) (told : next.Next) (spent : Bool)
-    → IsTold ss given told spent → spent ≡ false
+pub told_ahead : (ss : List Source) (given : ℕ) (going : Bool) (told : next.Next)
+    (spent : Bool) → IsTold ss given going told spent → spent ≡ false
     → told ≡ ahead (record { sources = ss; given = given })
-told_ahead ss given told spent h e = (h.alive e).next
+told_ahead ss given going told spent h e = (h.alive e).next
 
-pub told_state : (stage : ℕ) (ss : List Source) (given : ℕ) (told : next.Next) (spent : Bool)
-    (t : Moment) → IsTold ss given told spent
+pub told_state : (stage : ℕ) (ss : List Source) (given : ℕ) (going : Bool) (told : next.Next)
+    (spent : Bool) (t : Moment) → IsTold ss given going told spent
     → Standing stage (record { sources = ss; given = given }) spent t
     → state_by stage (record { sources = ss; given = given }) told ≡ state_of t
-told_state stage ss given told spent t k h =
-    ap (state_by stage (record { sources = ss; given = given })) (told_ahead ss given told spent k h.alive)
+told_state stage ss given going told spent t k h =
+    ap (state_by stage (record { sources = ss; given = given })) (told_ahead ss given going told spent k h.alive)
     ∙ state_stands stage (record { sources = ss; given = given }) spent t h
 
-pub told_wants : (stage : ℕ) (ss : List Source) (given : ℕ) (told : next.Next) (spent : Bool)
-    (t : Moment) → IsTold ss given told spent
+pub told_wants : (stage : ℕ) (ss : List Source) (given : ℕ) (going : Bool) (told : next.Next)
+    (spent : Bool) (t : Moment) → IsTold ss given going told spent
     → Standing stage (record { sources = ss; given = given }) spent t
     → wants_by (record { sources = ss; given = given }) told ≡ wants_of t
-told_wants stage ss given told spent t k h =
-    ap (wants_by (record { sources = ss; given = given })) (told_ahead ss given told spent k h.alive)
+told_wants stage ss given going told spent t k h =
+    ap (wants_by (record { sources = ss; given = given })) (told_ahead ss given going told spent k h.alive)
     ∙ wants_stands stage (record { sources = ss; given = given }) spent t h
 
-pub told_held : (stage : ℕ) (ss : List Source) (given : ℕ) (told : next.Next) (spent : Bool)
-    (t : Moment) → IsTold ss given told spent
+pub told_held : (stage : ℕ) (ss : List Source) (given : ℕ) (going : Bool) (told : next.Next)
+    (spent : Bool) (t : Moment) → IsTold ss given going told spent
     → Standing stage (record { sources = ss; given = given }) spent t
     → held_by ss told ≡ held_at t
-told_held stage ss given told spent t k h =
-    ap (held_by ss) (told_ahead ss given told spent k h.alive)
+told_held stage ss given going told spent t k h =
+    ap (held_by ss) (told_ahead ss given going told spent k h.alive)
     ∙ held_stands stage (record { sources = ss; given = given }) spent t h
 
 -- What was settled stays.
@@ -343,13 +343,14 @@ has_grown stage kept spent j change = λ t h w.
     (rw (same_ends stage kept spent t h) at (open_wanted stage kept spent t h j w)))
 
 -- What is kept after a record is given.
-pub told_taken : (ss news more : List Source) (given n : ℕ) (p : Place) (told : next.Next)
+pub told_taken : (ss news more : List Source) (given n : ℕ) (p : Place) (going : Bool) (told : next.Next)
     → ahead (record { sources = ss; given = given }) ≡ Gives p → AllLawful news
+    → going ≡ any_due (take n (news ++ more))
     → told ≡ ahead (record { sources = take n (news ++ more); given = given + 1 })
-    → n ≡ length news → IsTold (take n (news ++ more)) (given + 1) told false
-told_taken ss news more given n p told e l t k = record {
+    → n ≡ length news → IsTold (take n (news ++ more)) (given + 1) going told false
+told_taken ss news more given n p going told e l d t k = record {
   at_most = let r = has_room ss given p e in omega (arith, r);
-  alive = λ f. record { next = t; lawful = rw (take_front n news more k) l };
+  alive = λ f. record { due = d; next = t; lawful = rw (take_front n news more k) l };
 }
 
 -- Who is wanted hasn't ended.

@@ -1,10 +1,10 @@
 -- Group after group, the closing records.
+use Rattle.std.proofs.lemmas.Bool.{leb-true, leb-false}
 use Rattle.std.proofs.Common.{◌≡◌, ◌∙◌, refl, sym, ap, ℕ, zero, suc, ◌+◌, ◌≤◌, ◌<◌, Bool, true}
 use Rattle.std.proofs.Common.{false, not, ◌&&◌, ◌||◌, cond, List, [], ◌∷◌, length, arith}
 use Rattle.std.proofs.Common.{map}
 use Rattle.std.specs.Prelude.{Option, None, Some, is_some, ◌==◌, nat_le}
 use Rattle.std.specs.List.{list_any, list_all, AllByRecursion}
-use Rattle.std.proofs.lemmas.Bool.Decides.{nat_tests}
 use Rattle.hum_record.specs.Row.{Row, Comment}
 use Rattle.hum_path.specs.Spines.{Path, Spines}
 use Rattle.hum_stage.specs.Score.{Follow}
@@ -134,10 +134,10 @@ most_short size m (v ∷ vs) h =
     (elim (nat_le (size v) (most (map size vs))) as (λ b. nat_le (size v) (most (map size vs)) ≡ b
     → cond b (most (map size vs)) (size v) ≤ m → AllShort size (m + 1) (v ∷ vs)) [
       | true ↦ λ e w.
-          let l : size v ≤ most (map size vs) = grind (arith, nat_tests) in
+          let l = leb-true (size v) (most (map size vs)) e in
           (omega (arith, l, w), most_short size m vs w)
       | false ↦ λ e w.
-          let l : most (map size vs) ≤ size v = grind (arith, nat_tests) in
+          let l = leb-false (size v) (most (map size vs)) e in
           (omega (arith, w), most_short size m vs (omega (arith, l, w)))
     ]) refl h
 

@@ -14,8 +14,8 @@ use Rattle.hum_assemble.specs.Merge.{Merge, all_moved, tokens_given, comment_giv
 use Rattle.hum_assemble.specs.Merge.{made, row_of_kind, rule_broken, unless_broken, unless_missing}
 use Rattle.hum_assemble.specs.Merge.{ahead, ahead_at, ahead_of}
 use Rattle.hum_assemble.specs.Places.{is_over, kind_at}
-use Rattle.hum_assemble.specs.Round.{is_missing, is_lost, earliest, any_due}
-use Rattle.hum_assemble.proofs.Moving.{AllKnown, all_moves, comment_same, earliest_same}
+use Rattle.hum_assemble.specs.Round.{is_missing, is_lost, earliest, any_due, AllKnown}
+use Rattle.hum_assemble.proofs.Moving.{all_moves, comment_same, earliest_same}
 use Rattle.hum_assemble.proofs.Moving.{known_same, spines_same, due_same, lost_same, known_not_lost}
 
 abbrev pub changed_in : ℕ → Change → Merge → Merge

@@ -9,6 +9,7 @@ pub mod Growing
 pub mod Steps
 pub mod Reaching
 pub mod Standings
+pub mod Asking
 pub mod Calls
 pub mod Padding
 pub mod Shifting
@@ -34,4 +35,5 @@ pub mod Grouping
 pub mod Remarks
 pub mod Fronts
 pub mod Few
+pub mod Firsts
 pub mod One

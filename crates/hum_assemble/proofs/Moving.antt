@@ -13,12 +13,8 @@ use Rattle.hum_assemble.specs.Merge.{moved, all_moved, nulls, tokens_of_first, t
 use Rattle.hum_assemble.specs.Merge.{tokens_given, comment_given, spines}
 use Rattle.hum_assemble.specs.Places.{rank, is_over, earlier}
 use Rattle.hum_assemble.specs.Round.{shown, is_asked, is_missing, is_lost, place_at, takes}
-use Rattle.hum_assemble.specs.Round.{still_free, in_round, earliest, any_due}
+use Rattle.hum_assemble.specs.Round.{still_free, in_round, earliest, any_due, AllKnown}
 use Rattle.hum_assemble.proofs.Kept.{kept}
-
--- nothing asked is missing
-abbrev pub AllKnown : Bool → List Source → Type 0
-AllKnown going = AllByRecursion (λ s. is_missing going s ≡ false)
 
 pub record Moves (free going : Bool) (p : Place) (change : Change) (s : Source) : Type 0 where
   pub taken : takes free going p (changed change s) ≡ takes free going p s

@@ -1,8 +1,8 @@
 -- One source alone: its records are given as they are.
 use Rattle.std.proofs.Common.{◌≡◌, ◌∙◌, refl, sym, ap, subst, ℕ, ◌+◌, ◌≤◌, Bool, true, false, ◌||◌}
+use Rattle.std.proofs.lemmas.Bool.{le-leb, ne_eqb, eq-eqb}
 use Rattle.std.proofs.Common.{List, [], ◌∷◌, ◌++◌, length, arith, append-nil}
 use Rattle.std.specs.Prelude.{◌==◌, nat_le, Option, None, Some}
-use Rattle.std.proofs.lemmas.Bool.Decides.{nat_tests}
 use Rattle.hum_record.specs.declared.SpinedKind.{SpinedKind}
 use Rattle.hum_record.specs.Row.{Row, Comment, Spined, text_of, tokens_of}
 use Rattle.hum_path.specs.Rules.{fault_of}
@@ -30,10 +30,10 @@ sole path due coming ended given =
 
 -- Its next record stands at the earliest place.
 first_place : (q : Place) → rank q ≤ 10 → (nat_le (rank q) 11 ≡ true) × (is_over q ≡ false)
-first_place q h = (grind (arith, nat_tests, h), grind (arith, nat_tests, h))
+first_place q h = (le-leb (rank q) 11 (omega (arith, h)), ne_eqb (rank q) 11 (λ e. omega (arith, h, e)))
 
 own_rank : (n : ℕ) → (n == n) ≡ true
-own_rank n = grind (arith, nat_tests)
+own_rank n = eq-eqb n n refl
 
 like_kind : (row : Row) → row_of_kind (spined_of row) (text_of row) (tokens_of row) ≡ row
 like_kind (Comment text) = refl

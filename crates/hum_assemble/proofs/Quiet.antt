@@ -1,5 +1,6 @@
 -- Records of several sources, by their places.
 use Rattle.std.proofs.Common.{◌≡◌, ◌∙◌, refl, sym, ap, ℕ, zero, suc, ◌+◌, ◌<◌, inl, inr}
+use Rattle.std.proofs.lemmas.Bool.{ne_eqb, eqb-false}
 use Rattle.std.proofs.Common.{Bool, true, false, ◌&&◌, ◌||◌, cond, List, [], ◌∷◌, ◌++◌, length}
 use Rattle.std.proofs.Common.{arith, map, length-append, replicate}
 use Rattle.std.specs.Prelude.{◌==◌, Option, None, Some}
@@ -151,10 +152,10 @@ row_filled (Spines names) (Spined Values tokens) kind o k h =
     (find_head (breaks_as_text (Spines names) tokens) P7 (P1 ∷ P2 ∷ P6 ∷ P10 ∷ P11 ∷ P3 ∷ P4 ∷ P5 ∷ P9 ∷ []) h).0
 
 some_left : (w n m : ℕ) → (w == 0) ≡ false → m ≡ w + n → (m == 0) ≡ false
-some_left w n m h e = grind (arith, nat_tests)
+some_left w n m h e = ne_eqb m 0 (λ z. eqb-false w 0 h (omega (arith, e, z)))
 
 some_right : (w n m : ℕ) → (n == 0) ≡ false → m ≡ w + n → (m == 0) ≡ false
-some_right w n m h e = grind (arith, nat_tests)
+some_right w n m h e = ne_eqb m 0 (λ z. eqb-false n 0 h (omega (arith, e, z)))
 
 pub some_names : (going : Bool) (p : Place) (ss : List Source) (kind : SpinedKind)
     → is_over p ≡ false → kind_at p ≡ Some kind → AllSound ss → AllSettled ss

@@ -1,10 +1,10 @@
 -- All sources, where a record is given.
 use Rattle.std.proofs.Common.{◌≡◌, ◌∙◌, refl, sym, ap, ℕ, zero, suc, ◌≤◌, ◌<◌, ◌⊎◌, inl, inr, Bool}
+use Rattle.std.proofs.lemmas.Bool.{leb-true, leb-false}
 use Rattle.std.proofs.Common.{true, false, ◌&&◌, ◌||◌, cond, List, [], ◌∷◌, ◌++◌, length, arith}
 use Rattle.std.proofs.Common.{length-append, replicate}
 use Rattle.std.specs.Prelude.{nat_le, None, Some}
 use Rattle.std.specs.List.{AllByRecursion}
-use Rattle.std.proofs.lemmas.Bool.Decides.{nat_tests}
 use Rattle.hum_record.specs.declared.SpinedKind.{SpinedKind}
 use Rattle.hum_record.specs.declared.SpinedKind.TheVariants.{Local, Interpretation, Values}
 use Rattle.hum_record.specs.Row.{Row, Comment, Spined, tokens_of}
@@ -17,12 +17,11 @@ use Rattle.hum_assemble.specs.declared.places.Place.{Place}
 use Rattle.hum_assemble.specs.Source.{Source, is_inside}
 use Rattle.hum_assemble.specs.Head.{is_opened}
 use Rattle.hum_assemble.specs.Places.{rank, kind_at, null_at, is_shared, is_over, earlier}
-use Rattle.hum_assemble.specs.Round.{place_at, takes, still_free, earliest, any_due}
+use Rattle.hum_assemble.specs.Round.{place_at, takes, still_free, earliest, any_due, AllKnown}
 use Rattle.hum_assemble.specs.Merge.{all_moved, part_given, tokens_given}
 use Rattle.hum_assemble.specs.Merge.{tokens_of_first, spines}
 use Rattle.hum_assemble.specs.Taking.{is_at}
 use Rattle.hum_assemble.proofs.Fitting.{spined_of}
-use Rattle.hum_assemble.proofs.Moving.{AllKnown}
 use Rattle.hum_assemble.proofs.Sides.{IsSound, Shows, Takes, taker, moved_sound, not_inside}
 
 abbrev pub AllSound : List Source → Type 0
@@ -39,8 +38,8 @@ pub earlier_le : (n : ℕ) (p q : Place) → n ≤ rank (earlier p q) → (n ≤
 earlier_le n p q h =
     (elim (nat_le (rank p) (rank q)) as (λ b. nat_le (rank p) (rank q) ≡ b
     → n ≤ rank (cond b p q) → (n ≤ rank p) × (n ≤ rank q)) [
-      | true ↦ λ e w. let l : rank p ≤ rank q = grind (arith, nat_tests) in (w, omega (arith, l, w))
-      | false ↦ λ e w. let l : rank q ≤ rank p = grind (arith, nat_tests) in (omega (arith, l, w), w)
+      | true ↦ λ e w. let l = leb-true (rank p) (rank q) e in (w, omega (arith, l, w))
+      | false ↦ λ e w. let l = leb-false (rank p) (rank q) e in (omega (arith, l, w), w)
     ]) refl h
 
 pub all_show : (going : Bool) (p : Place) (ss : List Source) → AllKnown going ss

@@ -1,10 +1,10 @@
 -- Scores side by side are a score, and closed ones a closed one.
 use Rattle.std.proofs.Common.{◌≡◌, ◌∙◌, refl, sym, ap, ℕ, zero, suc, ◌+◌, ◌≤◌, inl, inr}
+use Rattle.std.proofs.lemmas.Bool.{ltb-false}
 use Rattle.std.proofs.Common.{Bool, true, false, ◌&&◌, cond, List, [], ◌∷◌, length}
 use Rattle.std.proofs.Common.{arith, map}
 use Rattle.std.specs.Prelude.{Option, None, Some}
 use Rattle.std.specs.List.{list_any, list_all, AllByRecursion, position_from}
-use Rattle.std.proofs.lemmas.Bool.Decides.{nat_tests}
 use Rattle.hum_record.specs.declared.SpinedKind.TheVariants.{Local, Interpretation, Values}
 use Rattle.hum_record.specs.Row.{Row, Comment, Spined}
 use Rattle.hum_path.specs.Sign.{sign_of, all_plain}
@@ -58,7 +58,7 @@ broken_few p q n bytes given h =
     (cond a (Some A1) (cond (nat_lt 1048576 bytes) (Some L1)
     (cond (nat_le 4294967295 given) (Some L2) None))) ≡ Gives p → n ≤ 4096) [
       | true ↦ λ e w. cc
-      | false ↦ λ e w. grind (arith, nat_tests)
+      | false ↦ λ e w. ltb-false 4096 n e
     ]) refl h
 
 at_few : (going : Bool) (q p : Place) (ss : List Source) (given : ℕ)

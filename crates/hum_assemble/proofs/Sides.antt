@@ -1,9 +1,9 @@
 -- One source of several, where a record is given.
 use Rattle.std.proofs.Common.{◌≡◌, ◌∙◌, refl, sym, ap, ℕ, ◌≤◌, ◌<◌, ◌⊎◌, inl, inr, Bool}
+use Rattle.std.proofs.lemmas.Bool.{eqb-false, eqb-true, eq-eqb}
 use Rattle.std.proofs.Common.{true, false, ◌&&◌, ◌||◌, cond, List, [], ◌∷◌, arith, map}
 use Rattle.std.specs.Prelude.{◌==◌, Option, None, Some}
 use Rattle.std.specs.List.{list_all}
-use Rattle.std.proofs.lemmas.Bool.Decides.{nat_tests}
 use Rattle.hum_record.specs.declared.SpinedKind.TheVariants.{Local, Interpretation, Values}
 use Rattle.hum_record.specs.Row.{Row, Comment, Spined}
 use Rattle.hum_path.specs.Sign.{sign_of, is_plain}
@@ -149,20 +149,23 @@ step_over Closing h = cc
 step_over Tail h = cc
 step_over Over h = refl
 
+turned : (n k : ℕ) → (n == k) ≡ true → (k == n) ≡ true
+turned n k h = eq-eqb k n (sym (eqb-true n k h))
+
 -- a step that isn't that of units is a rank
 alone_step : (q : Place) (k : ℕ) → (k == 4) ≡ false → (step q == k) ≡ true → (k == rank q) ≡ true
-alone_step Aside k n h = grind (arith, nat_tests)
-alone_step Begins k n h = grind (arith, nat_tests)
-alone_step Front k n h = grind (arith, nat_tests)
-alone_step Opening k n h = grind (arith, nat_tests)
-alone_step Remark k n h = grind (arith, nat_tests)
-alone_step LocalPlace k n h = grind (arith, nat_tests)
-alone_step Tandem k n h = grind (arith, nat_tests)
-alone_step Change k n h = grind (arith, nat_tests)
-alone_step Note k n h = grind (arith, nat_tests)
-alone_step Closing k n h = grind (arith, nat_tests)
-alone_step Tail k n h = grind (arith, nat_tests)
-alone_step Over k n h = grind (arith, nat_tests)
+alone_step Aside k n h = turned 0 k h
+alone_step Begins k n h = turned 1 k h
+alone_step Front k n h = turned 2 k h
+alone_step Opening k n h = turned 3 k h
+alone_step Remark k n h = turned 4 k h
+alone_step LocalPlace k n h = absurd (eqb-false k 4 n (sym (eqb-true 4 k h)))
+alone_step Tandem k n h = absurd (eqb-false k 4 n (sym (eqb-true 4 k h)))
+alone_step Change k n h = absurd (eqb-false k 4 n (sym (eqb-true 4 k h)))
+alone_step Note k n h = turned 8 k h
+alone_step Closing k n h = turned 9 k h
+alone_step Tail k n h = turned 10 k h
+alone_step Over k n h = turned 11 k h
 
 rank_le : (k n : ℕ) → (k == n) ≡ true → k ≤ 1 → n ≤ 1
 rank_le k n h e = let s = same_rank k n h in omega (arith, s, e)

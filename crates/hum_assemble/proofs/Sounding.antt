@@ -1,9 +1,9 @@
 -- Records that break no path rule.
 use Rattle.std.proofs.Common.{◌≡◌, ◌≢◌, ◌∙◌, refl, sym, ap, ℕ, ◌+◌, ◌≤◌, Bool, true, false}
-use Rattle.std.proofs.Common.{not, ◌||◌, List, [], ◌∷◌, length, arith, map}
+use Rattle.std.proofs.lemmas.Bool.{le-ltb, eq-eqb}
+use Rattle.std.proofs.Common.{not, ◌||◌, List, [], ◌∷◌, length, map}
 use Rattle.std.specs.Prelude.{◌==◌, nat_lt, None}
 use Rattle.std.specs.List.{list_any, list_all, find}
-use Rattle.std.proofs.lemmas.Bool.Decides.{nat_tests}
 use Rattle.std.proofs.lemmas.List.{length-map}
 use Rattle.hum_record.specs.Spelling.{is_empty}
 use Rattle.hum_path.specs.declared.signs.Sign.{Sign}
@@ -20,10 +20,10 @@ use Rattle.hum_assemble.specs.Source.{is_end}
 use Rattle.hum_assemble.proofs.Beside.{Leads}
 
 few_fit : (n : ℕ) → n ≤ 4096 → nat_lt 4096 n ≡ false
-few_fit n h = grind (arith, nat_tests)
+few_fit n h = le-ltb 4096 n h
 
 same_count : (n m : ℕ) → n ≡ m → not (m == n) ≡ false
-same_count n m h = grind (arith, nat_tests)
+same_count n m h = rw (eq-eqb m n (sym h)) refl
 
 -- an interpretation that obeys the rules, where there are few spines
 pub leads_sound : (names tokens result : List (List ℕ)) → Leads names tokens result

@@ -1,4 +1,5 @@
 -- What an assembler does, and what it stands for then.
+use Rattle.std.proofs.lemmas.Bool.{lt-ltb, le-ltb}
 use Rattle.std.proofs.Common.{◌≡◌, ◌∙◌, refl, sym, ap, add-one, ℕ, zero, suc, ◌+◌, ◌<◌}
 use Rattle.std.proofs.Common.{inl, inr, Bool, true, false, ◌&&◌, ◌||◌, cond, List, [], ◌∷◌}
 use Rattle.std.proofs.Common.{length, arith, map}
@@ -6,7 +7,6 @@ use Rattle.std.proofs.lemmas.List.{length-map}
 use Rattle.std.specs.Prelude.{Option, None, Some, is_none, is_some, nat_lt}
 use Rattle.std.specs.Prelude.{slice_get}
 use Rattle.std.specs.List.{list_any, position_from}
-use Rattle.std.proofs.lemmas.Bool.Decides.{nat_tests}
 use Rattle.std.proofs.lemmas.Option.{slice_get_past}
 use Rattle.hum_record.specs.Row.{Row, text_of}
 use Rattle.hum_stage.specs.declared.faults.Rule.{Rule}
@@ -138,14 +138,14 @@ broken_waits : (k : ℕ) (p : Place) (o : Option Rule) → unless_broken p o ≡
 broken_waits k p None h = cc
 broken_waits k p (Some rule) h = cc
 
-at_waits : (going : Bool) (p : Place) (ss : List Source) (given k : ℕ) (b : Bool)
+pub at_waits : (going : Bool) (p : Place) (ss : List Source) (given k : ℕ) (b : Bool)
     → cond b NothingMore (unless_broken p (rule_broken (spines (all_moved true going p ss))
     (length (text_of (made going p ss))) given)) ≡ Wants k
     → ⊥
 at_waits going p ss given k true h = cc
 at_waits going p ss given k false h = broken_waits k p _ h
 
-missing_is : (k : ℕ) (o : Option ℕ) (known : next.Next) → (known ≡ Wants k → ⊥)
+pub missing_is : (k : ℕ) (o : Option ℕ) (known : next.Next) → (known ≡ Wants k → ⊥)
     → unless_missing o known ≡ Wants k → o ≡ Some k
 missing_is k None known n h = absurd (n h)
 missing_is k (Some j) known n h = cc
@@ -214,10 +214,10 @@ as_many stage kept spent t h =
     ∙ (ap length (same_ends stage kept spent t h) ∙ length-map t.inputs (λ x. x.ended))
 
 lt_true : (a b : ℕ) → a < b → nat_lt a b ≡ true
-lt_true a b h = grind (arith, nat_tests)
+lt_true a b h = lt-ltb a b h
 
 lt_false : (a b : ℕ) → b ≡ a → nat_lt a b ≡ false
-lt_false a b h = grind (arith, nat_tests)
+lt_false a b h = le-ltb a b (omega (arith, h))
 
 -- the state where no record is given
 resting_own : (stage : ℕ) (kept : Merge) (spent : Bool) (t : Moment)

@@ -1,10 +1,10 @@
 -- Records given one after another.
+use Rattle.std.proofs.lemmas.Bool.{eq-eqb, ltb-false}
 use Rattle.std.proofs.Common.{◌≡◌, ◌∙◌, refl, sym, ap, ℕ, zero, suc, ◌+◌, ◌≤◌, Bool, true}
 use Rattle.std.proofs.Common.{false, not, ◌||◌, cond, List, [], ◌∷◌, length, arith, map}
 use Rattle.std.specs.Prelude.{Option, None, Some, ◌==◌}
 use Rattle.std.specs.Prelude.{nat_lt, nat_le}
 use Rattle.std.specs.List.{list_any, position_from}
-use Rattle.std.proofs.lemmas.Bool.Decides.{nat_tests}
 use Rattle.hum_record.specs.Row.{Row, text_of}
 use Rattle.hum_path.specs.Spines.{Path}
 use Rattle.hum_stage.specs.declared.faults.Rule.{Rule}
@@ -21,11 +21,10 @@ use Rattle.hum_assemble.specs.Merge.{unless_broken, unless_missing, ahead, ahead
 use Rattle.hum_assemble.specs.Merge.{given_row, given_on, advanced}
 use Rattle.hum_assemble.specs.Places.{rank, is_over, is_shared}
 use Rattle.hum_assemble.specs.Round.{is_missing, is_lost, place_at, earliest, any_due}
-use Rattle.hum_assemble.specs.Round.{takes, still_free}
+use Rattle.hum_assemble.specs.Round.{takes, still_free, AllKnown}
 use Rattle.hum_assemble.specs.Meaning.{gives, goes_on, total, all_given, rest}
 use Rattle.hum_assemble.specs.Taking.{is_at, IsGiving}
 use Rattle.hum_assemble.proofs.Taking.{empty_over, or_not_false}
-use Rattle.hum_assemble.proofs.Moving.{AllKnown}
 use Rattle.hum_assemble.proofs.Growing.{Ahead, Lost, Known, seen, is_waiting}
 
 abbrev pub is_giving : next.Next → Bool
@@ -143,7 +142,7 @@ total_less going p (s ∷ ss) o h =
     ]) refl h
 
 self_at : (n : ℕ) → (n == n) ≡ true
-self_at n = grind (arith, nat_tests)
+self_at n = eq-eqb n n refl
 
 pub earliest_at : (going : Bool) (ss : List Source) → is_over (earliest going ss) ≡ false
     → list_any (is_at going (earliest going ss)) ss ≡ true
@@ -267,7 +266,7 @@ unbroken_fits q p spines bytes given h = by_tests (nat_lt 4096 spines) (nat_lt 1
         → bytes ≤ 1048576
     by_tests true b e h = cc
     by_tests false true e h = cc
-    by_tests false false e h = grind (arith, nat_tests, e)
+    by_tests false false e h = ltb-false 1048576 bytes e
 
 at_fits : (going : Bool) (q p : Place) (ss : List Source) (given : ℕ) → ahead_at going q ss given ≡ Gives p
     → length (text_of (made going q ss)) ≤ 1048576

@@ -1,10 +1,10 @@
 -- Which records a record is given of.
+use Rattle.std.proofs.lemmas.Bool.{eqb-true, not-false, leb-true, le-leb}
 use Rattle.std.proofs.Common.{◌≡◌, ◌≢◌, ◌∙◌, refl, sym, ap, ℕ, zero, suc, ◌+◌, inl, inr}
 use Rattle.std.proofs.Common.{Bool, true, false, not, ◌&&◌, ◌||◌, cond, List, [], ◌∷◌, ◌++◌}
 use Rattle.std.proofs.Common.{append-nil, arith, replicate}
 use Rattle.std.specs.Prelude.{nat_le, ◌==◌, Option, None, Some}
 use Rattle.std.specs.List.{list_any, AllByRecursion}
-use Rattle.std.proofs.lemmas.Bool.Decides.{nat_tests}
 use Rattle.hum_record.specs.declared.SpinedKind.{SpinedKind}
 use Rattle.hum_record.specs.Row.{Row, Comment, Spined, text_of, tokens_of}
 use Rattle.hum_record.specs.Spelling.{IsTextOf, IsToken}
@@ -51,7 +51,7 @@ empty_over false path false (Some Closed) = refl
 empty_over false path false (Some (Broken f)) = refl
 
 pub same_rank : (n m : ℕ) → (n == m) ≡ true → n ≡ m
-same_rank n m h = grind (arith, nat_tests)
+same_rank n m h = eqb-true n m h
 
 asked_place : (going : Bool) (p : Place) (path : Path) (due : Bool) (row : Row) (rows : List Row)
     (ended : Option end.End) → is_over p ≡ false
@@ -160,7 +160,7 @@ no_nulls : (p : Place) (w : ℕ) (token : List ℕ) → not (w == 0) ≡ false
     → replicate w token ≡ []
 no_nulls p zero token h = refl
 no_nulls p (suc w) token h =
-    let n : suc w ≡ 0 = grind (arith, nat_tests, h) in absurd (omega (arith, n))
+    let n = eqb-true (suc w) 0 (not-false _ h) in absurd (omega (arith, n))
 
 part_zero : (b : Bool) (n : ℕ) → cond b 1 0 + n ≡ 0 → (b ≡ false) × (n ≡ 0)
 part_zero true n h = absurd (omega (arith, h))
@@ -196,10 +196,10 @@ record Only (p : Place) (tokens : List (List ℕ)) (row : Row) : Type 0 where
   kind : kind_at p ≡ spined_of row
 
 le_one : (n : ℕ) → nat_le (1 + n) 1 ≡ true → n ≡ 0
-le_one n h = grind (arith, nat_tests)
+le_one n h = let most = leb-true (1 + n) 1 h in omega (arith, most)
 
 le_none : (n : ℕ) → nat_le (0 + n) 1 ≡ true → nat_le n 1 ≡ true
-le_none n h = grind (arith, nat_tests)
+le_none n h = let most = leb-true (0 + n) 1 h in le-leb n 1 (omega (arith, most))
 
 no_more : (xs ys : List (List ℕ)) → ys ≡ [] → xs ++ ys ≡ xs
 no_more xs ys e = rw e (append-nil xs)

@@ -1,5 +1,6 @@
 -- The opening record and the closing one.
 use Rattle.std.proofs.Common.{◌≡◌, ◌∙◌, refl, ap, ℕ, suc, ◌≤◌, ◌<◌, inl, inr}
+use Rattle.std.proofs.lemmas.Bool.{eqb-false, ne_eqb}
 use Rattle.std.proofs.Common.{Bool, true, false, ◌&&◌, ◌||◌, cond, List, [], ◌∷◌, ◌++◌, length}
 use Rattle.std.proofs.Common.{arith, map}
 use Rattle.std.specs.Prelude.{◌==◌, Option, None, Some}
@@ -143,7 +144,7 @@ inside_soon (Comment text) = omega arith
 inside_soon (Spined kind tokens) = omega arith
 
 not_nine : (n : ℕ) → (9 == n) ≡ false → 9 ≤ n → 9 < n
-not_nine n h l = grind (arith, nat_tests)
+not_nine n h l = let other = eqb-false 9 n h in omega (arith, l, other)
 
 beyond : (path : Path) (row : Row) → 9 < rank (place path row) → exclusives path ≡ []
 beyond Unopened row h = refl
@@ -244,7 +245,7 @@ named_none (path ∷ paths) h =
 
 pub exclusive_filled : (token : List ℕ) → is_exclusive (sign_of token) ≡ true → is_empty token ≡ false
 exclusive_filled [] h = cc
-exclusive_filled (b ∷ bs) h = grind (arith, nat_tests)
+exclusive_filled (b ∷ bs) h = ne_eqb (suc (length bs)) 0 (λ e. omega (arith, e))
 
 pub exclusive_named : (tokens : List (List ℕ)) → list_all is_exclusive (map sign_of tokens) ≡ true
     → list_any is_empty tokens ≡ false

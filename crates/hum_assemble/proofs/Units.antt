@@ -1,10 +1,10 @@
 -- A round of units.
+use Rattle.std.proofs.lemmas.Bool.{eqb-false, ne_eqb}
 use Rattle.std.proofs.Common.{◌≡◌, ◌∙◌, refl, sym, ap, ℕ, suc, ◌≤◌, ◌<◌, Bool, true}
 use Rattle.std.proofs.Common.{false, not, ◌||◌, List, [], ◌∷◌, ◌++◌, length, arith}
 use Rattle.std.proofs.Common.{map}
 use Rattle.std.specs.Prelude.{Option, None, Some, ◌==◌}
 use Rattle.std.specs.List.{list_any}
-use Rattle.std.proofs.lemmas.Bool.Decides.{nat_tests}
 use Rattle.hum_record.specs.Row.{Row}
 use Rattle.hum_path.specs.Spines.{Path, Spines, after}
 use Rattle.hum_stage.specs.Score.{Follow}
@@ -78,10 +78,10 @@ adds_unit n ns row rows ended whole wh ad at u st i f = record {
 
 -- A source's own part, by the test of its place.
 past_rank : (n m : ℕ) → (n == m) ≡ false → n ≤ m → suc n ≤ m
-past_rank n m h l = grind (arith, nat_tests)
+past_rank n m h l = let other = eqb-false n m h in omega (arith, l, other)
 
 below_rank : (n m : ℕ) → m < n → (n == m) ≡ false
-below_rank n m h = grind (arith, nat_tests)
+below_rank n m h = ne_eqb n m (λ e. omega (arith, h, e))
 
 module _ (k : ℕ) (t : Row → Bool) (p : Place) (ts : Tests t k) (pk : rank p ≡ k) (low : 4 ≤ k)
     (high : k ≤ 7) where

@@ -1,9 +1,9 @@
 -- What a merge gives, as parts that are written.
 use Rattle.std.proofs.Common.{◌≡◌, ◌∙◌, refl, sym, ap, ℕ, ◌+◌, ◌≤◌, Bool, true}
+use Rattle.std.proofs.lemmas.Bool.{leb-false, leb-true}
 use Rattle.std.proofs.Common.{false, not, ◌&&◌, ◌||◌, cond, List, [], ◌∷◌, length, arith}
 use Rattle.std.specs.Prelude.{Option, None, Some, is_none, ◌==◌}
 use Rattle.std.specs.List.{list_any, AllByRecursion, position_from}
-use Rattle.std.proofs.lemmas.Bool.Decides.{nat_tests}
 use Rattle.hum_record.specs.declared.SpinedKind.{SpinedKind}
 use Rattle.hum_record.specs.Row.{Row, Comment, Spined, text_of}
 use Rattle.hum_path.specs.Spines.{Path, width}
@@ -17,7 +17,7 @@ use Rattle.hum_assemble.specs.Source.{Source}
 use Rattle.hum_assemble.specs.Head.{first_of}
 use Rattle.hum_assemble.specs.Places.{rank, kind_at, is_over, is_shared}
 use Rattle.hum_assemble.specs.Round.{any_due, is_missing, is_lost, place_at, takes, still_free}
-use Rattle.hum_assemble.specs.Round.{earliest}
+use Rattle.hum_assemble.specs.Round.{earliest, AllKnown}
 use Rattle.hum_assemble.specs.Merge.{Merge, all_moved, moved, made, spines, ahead}
 use Rattle.hum_assemble.specs.Merge.{ahead_at, ahead_of, unless_broken, unless_missing, given_row}
 use Rattle.hum_assemble.specs.Merge.{given_on, comment_given, tokens_given, part_given, advanced}
@@ -26,7 +26,7 @@ use Rattle.hum_assemble.specs.Meaning.{all_given, rest, refusal}
 use Rattle.hum_assemble.specs.Taking.{is_at}
 use Rattle.hum_assemble.specs.Groups.{written, stops_at, rule_at, row_of, paths_on, path_on, widths}
 use Rattle.hum_assemble.specs.Groups.{side_by_side, part}
-use Rattle.hum_assemble.proofs.Moving.{AllKnown, known_not_lost}
+use Rattle.hum_assemble.proofs.Moving.{known_not_lost}
 use Rattle.hum_assemble.proofs.Growing.{missing_none}
 use Rattle.hum_assemble.proofs.Steps.{all_going, all_resting, is_giving}
 use Rattle.hum_assemble.proofs.Sides.{Takes, takes_fields}
@@ -146,13 +146,13 @@ pub earlier_left : (p q : Place) → rank (earlier p q) ≤ rank p
 earlier_left p q =
     (elim (nat_le (rank p) (rank q)) as (λ b. nat_le (rank p) (rank q) ≡ b → rank (cond b p q) ≤ rank p) [
       | true ↦ λ e. omega arith
-      | false ↦ λ e. grind (arith, nat_tests)
+      | false ↦ λ e. let less = leb-false (rank p) (rank q) e in omega (arith, less)
     ]) refl
 
 pub earlier_right : (p q : Place) → rank (earlier p q) ≤ rank q
 earlier_right p q =
     (elim (nat_le (rank p) (rank q)) as (λ b. nat_le (rank p) (rank q) ≡ b → rank (cond b p q) ≤ rank q) [
-      | true ↦ λ e. grind (arith, nat_tests)
+      | true ↦ λ e. leb-true (rank p) (rank q) e
       | false ↦ λ e. omega arith
     ]) refl
 

@@ -106,14 +106,17 @@ abbrev pub unless_missing : Option ℕ → next.Next → next.Next
 unless_missing (Some j) known = Wants j
 unless_missing None known = known
 
--- What can be done next: nothing any more where what is asked of a source can't be known; where it
--- isn't known yet the leftmost such source is wanted; else the records at the earliest place are
--- given.
+-- Where all that is asked can still be known: where it isn't known yet the leftmost such source is
+-- wanted, else the records at the earliest place are given.
+abbrev pub ahead_open : Bool → List Source → ℕ → next.Next
+ahead_open going ss given =
+    unless_missing (position_from (is_missing going) 0 ss)
+    (ahead_at going (earliest going ss) ss given)
+
+-- What can be done next: nothing any more where what is asked of a source can't be known.
 abbrev pub ahead_of : Bool → List Source → ℕ → next.Next
 ahead_of going ss given =
-    if list_any (is_lost going) ss then Over
-    else unless_missing (position_from (is_missing going) 0 ss)
-    (ahead_at going (earliest going ss) ss given)
+    if list_any (is_lost going) ss then Over else ahead_open going ss given
 
 abbrev pub ahead : Merge → next.Next
 ahead m = ahead_of (any_due m.sources) m.sources m.given

@@ -1,7 +1,7 @@
 -- Who takes part in a round, and what each of them has there.
-use Rattle.std.specs.Prelude.{◌==◌, Bool, false, not, ◌&&◌, ◌||◌, if◌then◌else◌}
+use Rattle.std.specs.Prelude.{◌≡◌, ◌==◌, Bool, false, not, ◌&&◌, ◌||◌, if◌then◌else◌}
 use Rattle.std.specs.Prelude.{List, [], ◌∷◌, Option, None, Some, is_some, is_none}
-use Rattle.std.specs.List.{list_any}
+use Rattle.std.specs.List.{list_any, AllByRecursion}
 use Rattle.hum_record.specs.Row.{Row}
 use Rattle.hum_path.specs.Spines.{Path}
 use Rattle.hum_stage.specs.declared.faults.End as end
@@ -36,6 +36,10 @@ is_missing going s = is_asked going s && is_none (shown s)
 -- and can't be known any more
 abbrev pub is_lost : Bool → Source → Bool
 is_lost going s = is_asked going s && (is_none (shown s) && is_some s.ended)
+
+-- of each all that is asked is known
+abbrev pub AllKnown : Bool → List Source → Type 0
+AllKnown going = AllByRecursion (λ s. is_missing going s ≡ false)
 
 abbrev pub place_or_over : Option Place → Place
 place_or_over None = Over

@@ -13,6 +13,7 @@ use Rattle.hum_assemble.specs.declared.places.Next.TheVariants.{Gives, Refused, 
 use Rattle.hum_assemble.specs.declared.places.Next.TheVariants.{Over}
 use Rattle.hum_assemble.specs.Source.{Source}
 use Rattle.hum_assemble.specs.Head.{AllLawful}
+use Rattle.hum_assemble.specs.Round.{any_due}
 use Rattle.hum_assemble.specs.Merge.{Merge, ahead, given_on}
 use Rattle.hum_assemble.specs.Meaning.{Moment, opening, is_stopped, inputs_end}
 
@@ -62,16 +63,18 @@ wants_by m (WantsOf j) = Some j
 wants_by m (Refused rule) = position_from is_none 0 (ends_in m)
 wants_by m Over = position_from is_none 0 (ends_in m)
 
--- What is kept with an assembler is right, unless memory ran out: what can be done next, and that
--- the records that wait are lawful.
-pub record IsToldAt (sources : List Source) (given : ℕ) (told : next.Next) : Type 0 where
+-- What is kept with an assembler is right, unless memory ran out: whether a round goes on, what can
+-- be done next, and that the records that wait are lawful.
+pub record IsToldAt (sources : List Source) (given : ℕ) (going : Bool) (told : next.Next)
+    : Type 0 where
+  pub due : going ≡ any_due sources
   pub next : told ≡ ahead (record { sources = sources; given = given })
   pub lawful : AllLawful sources
 
-pub record IsTold (sources : List Source) (given : ℕ) (told : next.Next) (spent : Bool)
-    : Type 0 where
+pub record IsTold (sources : List Source) (given : ℕ) (going : Bool) (told : next.Next)
+    (spent : Bool) : Type 0 where
   pub at_most : given ≤ 4294967295
-  pub alive : spent ≡ false → IsToldAt sources given told
+  pub alive : spent ≡ false → IsToldAt sources given going told
 
 -- of each source one record at most waits
 abbrev pub HoldOneEach : List Source → Type 0

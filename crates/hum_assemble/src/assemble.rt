@@ -16,7 +16,7 @@ ghost use Rattle.hum_assemble.specs.Groups.{GivesByGroups, IsTakenByGroups};
 
 use crate::done::Done;
 use crate::places::Next;
-use crate::round::{ahead, give};
+use crate::round::{ahead, ahead_open, any_due, give};
 use crate::source_head::SourceHead;
 use hum_record::Record;
 use hum_stage::{Command, End, Fault, Rule, State};
@@ -32,6 +32,8 @@ pub struct Assemble {
     stage: u8,
     sources: Vec<SourceHead>,
     given: u64,
+    // whether a round goes on, and what can be done next
+    going: bool,
     next: Next,
     // records of the sources that were done with
     done: Done,
@@ -46,6 +48,7 @@ impl Drop for Assemble {
             stage: _,
             sources: _sources,
             given: _,
+            going: _,
             next: _,
             done: _done,
             spent: _,
@@ -64,7 +67,7 @@ impl Model for Assemble {
       spent = a.spent;
     } };
 
-    ghost invariant = { λ a. IsTold a.sources.items a.given a.next a.spent };
+    ghost invariant = { λ a. IsTold a.sources.items a.given a.going a.next a.spent };
 }
 
 /// The lower-numbered fault.
@@ -201,12 +204,14 @@ impl Assemble {
         for _ in 0..sources {
             heads.push(SourceHead::new(alloc))?;
         }
-        let next = ahead(&heads, 0);
+        let going = any_due(&heads);
+        let next = ahead(&heads, 0, going);
         Ok(Assemble {
             alloc,
             stage,
             sources: heads,
             given: 0,
+            going,
             next,
             done: Done::with_room(alloc, sources)?,
             spent: false,
@@ -229,8 +234,9 @@ impl Assemble {
             return Err(AllocError);
         }
         if let Next::Wants(_) = self.next {
+            // the others show what they did, and those before it all that is asked
             self.sources[source].put(next);
-            self.next = ahead(&self.sources, self.given);
+            self.next = ahead_open(&self.sources, self.given, self.going, source + 1);
         }
         Ok(())
     }
@@ -246,7 +252,8 @@ impl Assemble {
             return;
         }
         self.sources[source].end(end);
-        self.next = ahead(&self.sources, self.given);
+        self.going = any_due(&self.sources);
+        self.next = ahead(&self.sources, self.given, self.going);
     }
 
     /// The next record that is settled, if there is one.
@@ -268,9 +275,16 @@ impl Assemble {
             return Ok(None);
         };
         self.spent = true;
-        let row = give(self.alloc, &mut self.sources, place, &mut self.done)?;
+        let row = give(
+            self.alloc,
+            &mut self.sources,
+            self.going,
+            place,
+            &mut self.done,
+        )?;
         self.given += 1;
-        self.next = ahead(&self.sources, self.given);
+        self.going = any_due(&self.sources);
+        self.next = ahead(&self.sources, self.given, self.going);
         self.spent = false;
         Ok(Some(row))
     }

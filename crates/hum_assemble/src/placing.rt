@@ -36,24 +36,17 @@ fn is_inside(paths: &Paths) -> bool
     false
 }
 
-/// The same after a record, by what it was before: only an interpretation changes it.
-pub fn is_inside_after(before: bool, paths: &Paths, row: &Record) -> bool
-    ensures { (path : Path) → before ≡ is_inside path → paths.now.path ≡ after path row.now
-        → result ≡ is_inside paths.now.path }
+/// Whether spines were opened, and whether an added one waits, behind a record, by whether they did
+/// before it: only an interpretation changes that.
+pub fn stand_behind(opened: bool, inside: bool, paths: &Paths, row: &Record) -> (bool, bool)
+    ensures opened { (path : Path) → opened ≡ is_opened path
+        → result.0 ≡ is_opened (after path row.now) }
+    ensures inside { (path : Path) → inside ≡ is_inside path → paths.now.path ≡ after path row.now
+        → result.1 ≡ is_inside paths.now.path }
 {
     match row.kind() {
-        Kind::Interpretation => is_inside(paths),
-        _ => before,
-    }
-}
-
-/// Whether spines were opened, after a record.
-pub fn is_opened_after(before: bool, row: &Record) -> bool
-    ensures { (path : Path) → before ≡ is_opened path → result ≡ is_opened (after path row.now) }
-{
-    match row.kind() {
-        Kind::Interpretation => true,
-        _ => before,
+        Kind::Interpretation => (true, is_inside(paths)),
+        _ => (opened, inside),
     }
 }
 

@@ -1,14 +1,14 @@
 //! What several sources give side by side.
 ghost use Rattle.std.specs.Prelude.{◌≡◌, ◌≢◌, ◌≤◌, ◌++◌, ℕ, ◌+◌, nat_lt, nat_le, true, not, ◌&&◌};
-ghost use Rattle.std.specs.Prelude.{◌||◌, None, Some, IfOk, OnOk, length};
+ghost use Rattle.std.specs.Prelude.{◌||◌, None, Some, IfOk, OnOk, length, take};
 ghost use Rattle.std.specs.List.{list_any, position_from};
 ghost use Rattle.hum_record.specs.Building.{spelled};
 ghost use Rattle.hum_record.specs.Row.{text_of};
 ghost use Rattle.hum_assemble.specs.Head.{AllLawful};
 ghost use Rattle.hum_assemble.specs.Places.{kind_at, is_shared};
-ghost use Rattle.hum_assemble.specs.Round.{any_due, is_lost, is_missing, earliest};
+ghost use Rattle.hum_assemble.specs.Round.{any_due, is_lost, is_missing, earliest, AllKnown};
 ghost use Rattle.hum_assemble.specs.Merge.{spines, all_moved, made, comment_given, tokens_given};
-ghost use Rattle.hum_assemble.specs.Merge.{ahead, ahead_of, ahead_at, given_row, given_on};
+ghost use Rattle.hum_assemble.specs.Merge.{ahead, ahead_open, ahead_at, given_row, given_on};
 ghost use Rattle.hum_assemble.specs.Taking.{row_taken, bytes_given, parts_given};
 ghost use Rattle.hum_assemble.specs.Taking.{IsGiving, IsAlone};
 
@@ -21,7 +21,7 @@ use hum_stage::{MOST_RECORDS, Rule};
 use std::alloc::{AllocError, Global};
 
 /// Whether a round goes on.
-fn any_due(sources: &[SourceHead]) -> bool
+pub fn any_due(sources: &[SourceHead]) -> bool
     ensures { result ≡ any_due sources.now }
 {
     sources.iter().any(|source| source.is_due())
@@ -153,23 +153,29 @@ fn ahead_at(sources: &[SourceHead], given: u64, going: bool, p: Place) -> Next
     }
 }
 
-fn ahead_of(sources: &[SourceHead], given: u64, going: bool) -> Next
-    ensures { result ≡ ahead_of going sources.now given }
+/// What can be done next where all that is asked can still be known, and is known of the first
+/// sources, so many.
+pub fn ahead_open(sources: &[SourceHead], given: u64, going: bool, known: usize) -> Next
+    requires within { known ≤ length sources.now }
+    requires known { AllKnown going (take known sources.now) }
+    ensures { result ≡ ahead_open going sources.now given }
 {
-    if any_lost(sources, going) {
-        return Next::Over;
-    }
-    match first_missing(sources, going) {
-        Some(j) => Next::Wants(j),
+    let (_, rest) = sources.split_at(known);
+    match first_missing(rest, going) {
+        Some(j) => Next::Wants(known + j),
         None => ahead_at(sources, given, going, earliest(sources, going)),
     }
 }
 
 /// What can be done next, after so many records were given.
-pub fn ahead(sources: &[SourceHead], given: u64) -> Next
+pub fn ahead(sources: &[SourceHead], given: u64, going: bool) -> Next
+    requires { going ≡ any_due sources.now }
     ensures { result ≡ ahead (record { sources = sources.now; given = given }) }
 {
-    ahead_of(sources, given, any_due(sources))
+    if any_lost(sources, going) {
+        return Next::Over;
+    }
+    ahead_open(sources, given, going, 0)
 }
 
 /// Whether at most so many sources have a part in the record at this place.
@@ -353,9 +359,11 @@ fn give_at(
 pub fn give(
     alloc: Global,
     sources: &mut [SourceHead],
+    going: bool,
     p: Place,
     done: &mut Done,
 ) -> Result<Record, AllocError>
+    requires going { going ≡ any_due sources.old }
     requires ahead { (given : ℕ)
         × (ahead (record { sources = sources.old; given = given }) ≡ Next.Gives p) }
     requires lawful { AllLawful sources.old }
@@ -366,7 +374,6 @@ pub fn give(
         ≡ given_on p (record { sources = sources.old; given = given })) }
     ensures lawful { OnOk result (AllLawful sources.new) }
 {
-    let going = any_due(sources);
     let row = give_at(alloc, sources, going, p, done)?;
     Ok(row)
 }

@@ -15,7 +15,7 @@ ghost use Rattle.hum_assemble.specs.Round.{shown, place_at, takes};
 ghost use Rattle.hum_assemble.specs.Merge.{moved, advanced, text_of_first, part_given};
 
 use crate::places::{Place, null_at};
-use crate::placing::{is_inside_after, is_opened_after, place, width_after};
+use crate::placing::{place, stand_behind, width_after};
 use hum_path::Paths;
 use hum_record::{Kind, Record, RecordBuilder, RecordFault};
 use hum_stage::End;
@@ -324,9 +324,10 @@ impl SourceHead {
                 return Err(AllocError);
             }
         }
-        self.opened = is_opened_after(self.opened, &row);
-        self.inside = is_inside_after(self.inside, &self.paths, &row);
-        self.due = self.inside;
+        let (opened, inside) = stand_behind(self.opened, self.inside, &self.paths, &row);
+        self.opened = opened;
+        self.inside = inside;
+        self.due = inside;
         Ok(Some(row))
     }
 }

@@ -58,8 +58,12 @@ impl Works for Merging {
         }
     }
 
+    // Most often a source is wanted. That is told without a place for an end.
     fn doing_kind(&self) -> DoingKind {
-        self.doing().kind()
+        match self.inner.wants() {
+            Some(place) => DoingKind::Wants(place),
+            None => self.doing().kind(),
+        }
     }
 
     fn held(&self) -> usize {

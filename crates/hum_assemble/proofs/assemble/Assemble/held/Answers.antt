@@ -10,7 +10,7 @@ pub returns-clause-held : goal.returns-clause-held
 returns-clause-held c = λ t h.
     let h' = rw (← c.self.view_is) at h in
     c.held_by.ensures.held ∙ (ap (λ (ss : List Source). held_by ss c.self.inside.next) c.deref.ensures.value
-    ∙ told_held _ _ _ _ _ t c.self.invariant h')
+    ∙ told_held _ _ _ _ _ _ t c.self.invariant h')
 
 pub returns-clause-at_most : goal.returns-clause-at_most
 returns-clause-at_most c = λ t h.

@@ -1,5 +1,9 @@
 use Rattle.std.proofs.Common.{◌≡◌, ◌∙◌, arith, ap, List}
-use Rattle.hum_assemble.specs.Source.{Source}
+use Rattle.std.proofs.lemmas.Result.{IfOk-from_err}
+use Rattle.std.specs.Prelude.{None, []}
+use Rattle.std.proofs.lemmas.List.{replicate_more}
+use Rattle.hum_assemble.specs.Source.{Source, untouched}
+use Rattle.hum_assemble.specs.Round.{any_due}
 use Rattle.hum_assemble.specs.Merge.{ahead}
 use Rattle.hum_assemble.proofs.Scores.{keeps_scores}
 use Rattle.hum_assemble.proofs.Fronts.{gives_by_groups}
@@ -12,8 +16,9 @@ pub invariant_of-result : goal.invariant_of-result
 invariant_of-result c = record {
   at_most = omega arith;
   alive = λ e. record {
+    due = c.any_due-going.ensures ∙ ap any_due c.deref.ensures.value;
     next = c.ahead-next.ensures ∙ ap (λ (ss : List Source).
-        ahead (record { sources = ss; given = 0 })) c.deref.ensures.value;
+        ahead (record { sources = ss; given = 0 })) c.deref-2.ensures.value;
     lawful = rw c.loop.invariant (lawful_new c.loop.counter);
   };
 }
@@ -52,3 +57,14 @@ returns-in_err-with_room-clause-one c = gives_one
 
 pub returns-in_err-with_room-clause-few : goal.returns-in_err-with_room-clause-few
 returns-in_err-with_room-clause-few c = few_in_all
+
+pub returns-in_err-push-clause-stands : goal.returns-in_err-push-clause-stands
+returns-in_err-push-clause-stands c = IfOk-from_err c.from_residual.result _ c.from_residual.ensures.0
+
+pub returns-in_err-with_room-clause-stands : goal.returns-in_err-with_room-clause-stands
+returns-in_err-with_room-clause-stands c =
+    IfOk-from_err c.from_residual-in_err-with_room.result _ c.from_residual-in_err-with_room.ensures.0
+
+pub loop-preserved : goal.loop-preserved
+loop-preserved c =
+    c.in_ok-push.ensures.items ∙ rw (c.loop.invariant, c.new.ensures) (replicate_more c.loop.counter (untouched None []))

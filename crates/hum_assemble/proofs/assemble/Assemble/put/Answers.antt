@@ -1,6 +1,9 @@
-use Rattle.std.proofs.Common.{◌∙◌, sym, arith}
+use Rattle.std.proofs.Common.{refl, ◌∙◌, sym, ap, arith, List, length, length-set}
+use Rattle.hum_assemble.specs.Source.{Source}
+use Rattle.hum_assemble.specs.Merge.{ahead_open}
 use Rattle.hum_assemble.proofs.Calls.{within_ahead, empty_ahead, sound_put, not_spent, alive}
 use Rattle.hum_assemble.proofs.Calls.{with_spent, wanted_waits, put_here, put_other, has_grown}
+use Rattle.hum_assemble.proofs.Asking.{put_known, put_ahead, put_lawful}
 use Rattle.hum_assemble.proofs.assemble.Assemble.put.Goals as goal
 
 pub index_mut-requires : goal.index_mut-requires
@@ -37,6 +40,62 @@ put-requires-clause-sound c =
     (record { sources = c.self.inside.sources.items; given = c.self.inside.given })
     c.self.inside.spent c.args.source c.args.next c.if-self.false r)
 
+pub overflow_add-source : goal.overflow_add-source
+overflow_add-source c =
+    let a = c.self.invariant.alive c.if-self.false in
+    let r = rw (← c.self.view_is) at c.requires in
+    let e = wanted_waits c.self.inside.stage
+    (record { sources = c.self.inside.sources.items; given = c.self.inside.given })
+    c.self.inside.spent c.args.source _ c.args.next c.if-self.false r (sym a.next ∙ c.in-Wants.is) in
+    let w = within_ahead c.self.inside.sources.items c.self.inside.given c.args.source e in
+    let l = c.self.inside.sources.ok.0 in
+    omega (arith, w, l)
+
+pub ahead_open-self-inside-requires-clause-within :
+    goal.ahead_open-self-inside-requires-clause-within
+ahead_open-self-inside-requires-clause-within c =
+    let a = c.self.invariant.alive c.if-self.false in
+    let r = rw (← c.self.view_is) at c.requires in
+    let e = wanted_waits c.self.inside.stage
+    (record { sources = c.self.inside.sources.items; given = c.self.inside.given })
+    c.self.inside.spent c.args.source _ c.args.next c.if-self.false r (sym a.next ∙ c.in-Wants.is) in
+    let w = within_ahead c.self.inside.sources.items c.self.inside.given c.args.source e in
+    let l = ap length c.deref.ensures.value in
+    let s = length-set c.self.inside.sources.items c.args.source c.put.new.self in
+    omega (arith, w, l, s)
+
+pub ahead_open-self-inside-requires-clause-known :
+    goal.ahead_open-self-inside-requires-clause-known
+ahead_open-self-inside-requires-clause-known c =
+    let a = c.self.invariant.alive c.if-self.false in
+    let r = rw (← c.self.view_is) at c.requires in
+    let e = wanted_waits c.self.inside.stage
+    (record { sources = c.self.inside.sources.items; given = c.self.inside.given })
+    c.self.inside.spent c.args.source _ c.args.next c.if-self.false r (sym a.next ∙ c.in-Wants.is) in
+    rw c.deref.ensures.value
+    (put_known c.self.inside.sources.items c.self.inside.given c.args.source c.self.inside.going
+    c.index_mut.result.now c.put.new.self c.args.next a.due e c.put.ensures.put)
+
+pub invariant_of-self : goal.invariant_of-self
+invariant_of-self c =
+    let a = c.self.invariant.alive c.if-self.false in
+    let r = rw (← c.self.view_is) at c.requires in
+    let e = wanted_waits c.self.inside.stage
+    (record { sources = c.self.inside.sources.items; given = c.self.inside.given })
+    c.self.inside.spent c.args.source _ c.args.next c.if-self.false r (sym a.next ∙ c.in-Wants.is) in
+    let h = put_ahead c.self.inside.sources.items c.self.inside.given c.args.source c.self.inside.going
+    c.index_mut.result.now c.put.new.self c.args.next a.due e c.index_mut.ensures.value c.put.ensures.put in
+    record {
+      at_most = c.self.invariant.at_most;
+      alive = λ f. record {
+        due = h.0;
+        next = c.ahead_open-self-inside.ensures ∙ (ap (λ (ss : List Source).
+            ahead_open c.self.inside.going ss c.self.inside.given) c.deref.ensures.value ∙ h.1);
+        lawful = put_lawful c.self.inside.sources.items c.args.source c.put.new.self a.lawful
+            (rw c.put.ensures.put c.put.ensures.lawful);
+      };
+    }
+
 pub returns-in-Wants-clause-ok : goal.returns-in-Wants-clause-ok
 returns-in-Wants-clause-ok c = λ t h w.
     let a = c.self.invariant.alive c.if-self.false in
@@ -69,3 +128,14 @@ returns-in_default c =
       err = tt;
       stays_spent = λ e. let f = rw (← c.self.view_is) at e in let g = c.if-self.false in cc;
     }
+
+pub returns-then-self : goal.returns-then-self
+returns-then-self c = record {
+  ok = tt;
+  grows = λ t h w. has_grown _ _ _ _ _ t h w;
+  err = rw (← c.self.view_is) c.if-self.true;
+  stays_spent = λ e. refl;
+}
+
+pub returns-in-Wants-clause-stays_spent : goal.returns-in-Wants-clause-stays_spent
+returns-in-Wants-clause-stays_spent c = λ e. let f = rw (← c.self.view_is) at e in let g = c.if-self.false in cc

@@ -9,4 +9,4 @@ returns c = λ t h.
     let h' = rw (← c.self.view_is) at h in
     c.state_by.ensures ∙ (ap (λ (ss : List Source). state_by c.self.inside.stage
     (record { sources = ss; given = c.self.inside.given }) c.self.inside.next) c.deref.ensures.value
-    ∙ told_state _ _ _ _ _ t c.self.invariant h')
+    ∙ told_state _ _ _ _ _ _ t c.self.invariant h')

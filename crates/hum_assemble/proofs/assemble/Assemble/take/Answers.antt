@@ -1,5 +1,7 @@
-use Rattle.std.proofs.Common.{◌∙◌, sym, ap, ◌+◌, List, arith}
+use Rattle.std.proofs.Common.{refl, ◌∙◌, sym, ap, ◌+◌, List, arith}
+use Rattle.std.proofs.lemmas.Result.{IfOk-from_err}
 use Rattle.hum_assemble.specs.Source.{Source}
+use Rattle.hum_assemble.specs.Round.{any_due}
 use Rattle.hum_assemble.specs.Merge.{ahead, given_row, given_on}
 use Rattle.hum_assemble.proofs.Fronts.{next_by_groups}
 use Rattle.hum_assemble.proofs.Calls.{take_here, take_nothing, alive, told_taken}
@@ -25,9 +27,10 @@ invariant_of-self-2 c =
     let l = c.deref_mut.ensures.len in
     let n = c.give.auto.sources in
     told_taken c.self.inside.sources.items c.give.new.sources _ c.self.inside.given _
-    c.in-Gives.place _ (sym a.next ∙ c.in-Gives.is) c.in_ok-row.ensures.lawful
+    c.in-Gives.place _ _ (sym a.next ∙ c.in-Gives.is) c.in_ok-row.ensures.lawful
+    (c.any_due-self-inside.ensures ∙ ap any_due c.deref.ensures.value)
     (c.ahead-self-inside.ensures ∙ ap (λ (ss : List Source).
-    ahead (record { sources = ss; given = c.self.inside.given + 1 })) c.deref.ensures.value)
+    ahead (record { sources = ss; given = c.self.inside.given + 1 })) c.deref-2.ensures.value)
     (omega (arith, l, n))
 
 pub returns-clause-ok : goal.returns-clause-ok
@@ -48,3 +51,18 @@ returns-clause-ok c = λ t h.
 
 pub returns-clause-groups : goal.returns-clause-groups
 returns-clause-groups c = λ t h a. next_by_groups t _ (returns-clause-ok c t h).0 a
+
+pub returns-then-self : goal.returns-then-self
+returns-then-self c = record { ok = tt; groups = tt; err = rw (← c.self.view_is) c.if-self.true; stays_spent = λ e. refl }
+
+pub returns-in_err-row-clause-ok : goal.returns-in_err-row-clause-ok
+returns-in_err-row-clause-ok c = IfOk-from_err c.from_residual.result _ c.from_residual.ensures.0
+
+pub returns-in_err-row-clause-groups : goal.returns-in_err-row-clause-groups
+returns-in_err-row-clause-groups c = IfOk-from_err c.from_residual.result _ c.from_residual.ensures.0
+
+pub returns-in_err-row-clause-stays_spent : goal.returns-in_err-row-clause-stays_spent
+returns-in_err-row-clause-stays_spent c = λ e. c.from_residual.ensures.0
+
+pub returns-clause-stays_spent : goal.returns-clause-stays_spent
+returns-clause-stays_spent c = λ e. let f = rw (← c.self.view_is) at e in let g = c.if-self.false in cc

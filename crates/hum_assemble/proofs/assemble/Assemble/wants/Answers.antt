@@ -9,7 +9,7 @@ returns-clause-wanted c = λ t h.
     let h' = rw (← c.self.view_is) at h in
     c.wants_by.ensures c.self.inside.given ∙ (ap (λ (ss : List Source).
     wants_by (record { sources = ss; given = c.self.inside.given }) c.self.inside.next) c.deref.ensures.value
-    ∙ told_wants _ _ _ _ _ t c.self.invariant h')
+    ∙ told_wants _ _ _ _ _ _ t c.self.invariant h')
 
 pub returns-clause-awaits : goal.returns-clause-awaits
 returns-clause-awaits c = λ t h.

@@ -1,0 +1,145 @@
+-- What is known of the sources once the record that was wanted is put.
+use Rattle.std.proofs.Common.{◌≡◌, ◌∙◌, refl, sym, ap, ℕ, zero, suc, ◌+◌, ◌<◌, Bool, true, false, cond}
+use Rattle.std.proofs.Common.{◌&&◌, ◌||◌, List, [], ◌∷◌, length, take, drop, set}
+use Rattle.std.proofs.Common.{get_or, arith, add-one}
+use Rattle.std.specs.Prelude.{Option, None, Some, option_map}
+use Rattle.std.specs.List.{list_any, position_from}
+use Rattle.std.proofs.lemmas.Option.{none-some, same_Some}
+use Rattle.hum_record.specs.Row.{Row}
+use Rattle.hum_assemble.specs.declared.places.Next as next
+use Rattle.hum_assemble.specs.declared.places.Next.TheVariants.{Wants, Over as NothingMore}
+use Rattle.hum_assemble.specs.Source.{Source}
+use Rattle.hum_assemble.specs.Merge.{ahead, ahead_at, ahead_open}
+use Rattle.hum_assemble.specs.Round.{is_asked, is_missing, is_lost, any_due, AllKnown}
+use Rattle.hum_assemble.specs.Round.{earliest}
+use Rattle.hum_assemble.specs.Places.{is_over}
+use Rattle.hum_assemble.specs.Head.{AllLawful, AreLawful}
+use Rattle.hum_assemble.proofs.Standings.{at_waits, missing_is}
+
+-- The first that is missing lies behind those that are known.
+pub behind : (going : Bool) (n i : ℕ) (ss : List Source) → AllKnown going (take n ss)
+    → position_from (is_missing going) i ss ≡ position_from (is_missing going) (i + n) (drop n ss)
+behind going zero i ss k = ap (λ m. position_from (is_missing going) m ss) (omega arith)
+behind going (suc n) i [] k = refl
+behind going (suc n) i (s ∷ ss) k =
+    rw k.0 (behind going n (i + 1) ss k.1
+    ∙ ap (λ m. position_from (is_missing going) m (drop n ss)) (omega arith))
+
+-- Places that are counted from further on are greater by as much.
+pub counted_on : (going : Bool) (i k : ℕ) (ss : List Source)
+    → position_from (is_missing going) (i + k) ss
+    ≡ option_map (λ j. i + j) (position_from (is_missing going) k ss)
+counted_on going i k [] = refl
+counted_on going i k (s ∷ ss) =
+    elim (is_missing going s) as (λ b. cond b (Some (i + k)) (position_from (is_missing going) (i + k + 1) ss)
+    ≡ option_map (λ j. i + j) (cond b (Some k) (position_from (is_missing going) (k + 1) ss))) [
+      | true ↦ refl
+      | false ↦ ap (λ m. position_from (is_missing going) m ss) (omega arith) ∙ counted_on going i (k + 1) ss
+    ]
+
+pub found_below : (going : Bool) (i j : ℕ) (ss : List Source)
+    → position_from (is_missing going) i ss ≡ Some j → j < i + length ss
+found_below going i j [] h = absurd (none-some j h)
+found_below going i j (s ∷ ss) h =
+    (elim (is_missing going s) as (λ b. cond b (Some i) (position_from (is_missing going) (i + 1) ss) ≡ Some j
+    → j < i + length (s ∷ ss)) [
+      | true ↦ λ e. let f = same_Some _ _ e in omega (arith, f)
+      | false ↦ λ e. let f = found_below going (i + 1) j ss e in omega (arith, f)
+    ]) h
+
+-- The first that is missing, found behind those that are known.
+pub first_behind : (going : Bool) (n : ℕ) (ss : List Source) (o : Option ℕ) → AllKnown going (take n ss)
+    → o ≡ position_from (is_missing going) 0 (drop n ss)
+    → position_from (is_missing going) 0 ss ≡ option_map (λ j. n + j) o
+first_behind going n ss o k h =
+    behind going n 0 ss k ∙ (ap (λ m. position_from (is_missing going) m (drop n ss)) (omega arith)
+    ∙ (counted_on going n 0 (drop n ss) ∙ ap (option_map (λ j. n + j)) (sym h)))
+
+and_false : (a : Bool) → (a && false) ≡ false
+and_false true = refl
+and_false false = refl
+
+-- who has a record shows where that stands
+shows : (going : Bool) (s : Source) (row : Row) → is_missing going (record s { coming = row ∷ [] }) ≡ false
+shows going s row = and_false (is_asked going s)
+
+not_lost : (going : Bool) (s : Source) (row : Row) → is_lost going (record s { coming = row ∷ [] }) ≡ false
+not_lost going s row = and_false (is_asked going s)
+
+-- All that is asked is known up to the source that was missing first, once its record is put.
+known_to : (going : Bool) (i j : ℕ) (ss : List Source) (s s' : Source) (row : Row)
+    → position_from (is_missing going) i ss ≡ Some (i + j) → s' ≡ record s { coming = row ∷ [] }
+    → AllKnown going (take (suc j) (set ss j s'))
+known_to going i j [] s s' row h g = tt
+known_to going i zero (x ∷ ss) s s' row h g = (rw g (shows going s row), tt)
+known_to going i (suc j) (x ∷ ss) s s' row h g =
+    (elim (is_missing going x) as (λ b. cond b (Some i) (position_from (is_missing going) (i + 1) ss)
+    ≡ Some (i + suc j) → (b ≡ false) × AllKnown going (take (suc j) (set ss j s'))) [
+      | true ↦ λ e. absurd (let f = same_Some _ _ e in omega (arith, f))
+      | false ↦ λ e. (refl, known_to going (i + 1) j ss s s' row (e ∙ ap Some (omega arith)) g)
+    ]) h
+
+-- None is lost by it.
+none_lost : (going : Bool) (j : ℕ) (ss : List Source) (s s' : Source) (row : Row)
+    → s' ≡ record s { coming = row ∷ [] } → list_any (is_lost going) ss ≡ false
+    → list_any (is_lost going) (set ss j s') ≡ false
+none_lost going j [] s s' row g h = refl
+none_lost going zero (x ∷ ss) s s' row g h =
+    (elim (is_lost going x) as (λ b. (b || list_any (is_lost going) ss) ≡ false
+    → (is_lost going s' || list_any (is_lost going) ss) ≡ false)
+    [ true ↦ λ e. cc | false ↦ λ e. rw (g, not_lost going s row) e ]) h
+none_lost going (suc j) (x ∷ ss) s s' row g h =
+    (elim (is_lost going x) as (λ b. (b || list_any (is_lost going) ss) ≡ false
+    → (b || list_any (is_lost going) (set ss j s')) ≡ false)
+    [ true ↦ λ e. cc | false ↦ λ e. none_lost going j ss s s' row g e ]) h
+
+-- Who is due stays so.
+pub same_due : (j : ℕ) (ss : List Source) (s s' : Source) (row : Row) → s ≡ get_or ss j s
+    → s' ≡ record s { coming = row ∷ [] } → any_due (set ss j s') ≡ any_due ss
+same_due j [] s s' row e g = refl
+same_due zero (x ∷ ss) s s' row e g = ap (λ b. b || any_due ss) (ap (λ (y : Source). y.due) (g
+    ∙ ap (λ (y : Source). record y { coming = row ∷ [] }) e))
+same_due (suc j) (x ∷ ss) s s' row e g = ap (λ b. x.due || b) (same_due j ss s s' row e g)
+
+-- Where a source is wanted none is lost, and it is the first that is missing.
+first_at : (going : Bool) (ss : List Source) (given j : ℕ) (b : Bool) → list_any (is_lost going) ss ≡ b
+    → cond b NothingMore (ahead_open going ss given) ≡ Wants j
+    → (list_any (is_lost going) ss ≡ false) × (position_from (is_missing going) 0 ss ≡ Some j)
+first_at going ss given j true e h = cc
+first_at going ss given j false e h = (
+  e,
+  missing_is j _ (ahead_at going (earliest going ss) ss given)
+      (at_waits going (earliest going ss) ss given j (is_over (earliest going ss))) h,
+)
+
+first_wanted : (ss : List Source) (given j : ℕ) (going : Bool) → going ≡ any_due ss
+    → ahead (record { sources = ss; given = given }) ≡ Wants j
+    → (list_any (is_lost going) ss ≡ false) × (position_from (is_missing going) 0 ss ≡ Some j)
+first_wanted ss given j going d h =
+    rw d (first_at (any_due ss) ss given j (list_any (is_lost (any_due ss)) ss) refl h)
+
+-- What is asked is known up to the source whose record is put.
+pub put_known : (ss : List Source) (given j : ℕ) (going : Bool) (s s' : Source) (row : Row)
+    → going ≡ any_due ss → ahead (record { sources = ss; given = given }) ≡ Wants j
+    → s' ≡ record s { coming = row ∷ [] } → AllKnown going (take (j + 1) (set ss j s'))
+put_known ss given j going s s' row d h g =
+    rw (add-one j) (known_to going 0 j ss s s' row
+    ((first_wanted ss given j going d h).1 ∙ ap Some (omega arith)) g)
+
+-- What can be done next once it is put.
+pub put_ahead : (ss : List Source) (given j : ℕ) (going : Bool) (s s' : Source) (row : Row)
+    → going ≡ any_due ss → ahead (record { sources = ss; given = given }) ≡ Wants j
+    → s ≡ get_or ss j s → s' ≡ record s { coming = row ∷ [] }
+    → (going ≡ any_due (set ss j s'))
+    × (ahead_open going (set ss j s') given ≡ ahead (record { sources = set ss j s'; given = given }))
+put_ahead ss given j going s s' row d h e g =
+    let same = d ∙ sym (same_due j ss s s' row e g) in
+    let none = none_lost going j ss s s' row g (first_wanted ss given j going d h).0 in
+    (same, rw (sym same) (rw none refl))
+
+-- The records that wait are lawful then, too.
+pub put_lawful : (ss : List Source) (j : ℕ) (s' : Source) → AllLawful ss → AreLawful s'.path s'.coming
+    → AllLawful (set ss j s')
+put_lawful [] j s' h l = tt
+put_lawful (x ∷ ss) zero s' h l = (l, h.1)
+put_lawful (x ∷ ss) (suc j) s' h l = (h.0, put_lawful ss j s' h.1 l)
