@@ -14,6 +14,7 @@ pub mod Netting
 pub mod Bounds
 pub mod Flags
 pub mod Leftmost
+pub mod Searching
 pub mod Running
 pub mod Telling
 pub mod Beginning

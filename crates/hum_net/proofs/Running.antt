@@ -43,24 +43,27 @@ use Rattle.hum_nodes.proofs.Fining.{fine_is}
 use Rattle.hum_net.specs.Scene.{TakesFrom, IsActor, moved}
 use Rattle.hum_net.specs.Nets.{Known, asked, AreAmong, GoesTo, IsChanged, Sees, HasPicked, MayAsk}
 use Rattle.hum_net.proofs.Flags.{took, touched_below, as_listed}
+use Rattle.hum_net.specs.Search.{Search, beginning, past, after}
+use Rattle.hum_net.proofs.Searching.{IsIdle, Past, none_idle, goes_past_idle, after_from, idle_after}
 use Rattle.hum_net.proofs.Leftmost.{leftmost_is, leftmost_choice, left_as_ready, left_of_first}
 use Rattle.hum_net.proofs.Netting.{is_at, unfailed_now, ends_alike, not_over}
 
 -- It is known whether the run is over. While it goes on, the actor whose turn is next can be told: its
 -- flags say who is ready, and what is known of readers is so, or, where the order is a leftmost one,
 -- nobody to the left of one is ready.
-pub record Listed {F W S : Type 0} (leftmost : Bool) (from : ℕ) (is_over : Bool) (s : Scene)
+pub record Listed {F W S : Type 0} (leftmost : Bool) (look : Search) (is_over : Bool) (s : Scene)
     (now : Now Row) (net : Net F W S) : Type 0 where
   pub tells : is_over ≡ is_some (result (plan_of s) now)
-  pub sees : result (plan_of s) now ≡ None → Sees leftmost from s now net
-  pub within : result (plan_of s) now ≡ None → from ≤ s.count
+  pub sees : result (plan_of s) now ≡ None → Sees leftmost look.from s now net
+  pub within : result (plan_of s) now ≡ None → look.from ≤ s.count
+  pub idle : leftmost ≡ true → result (plan_of s) now ≡ None → IsIdle look s now
   pub known : leftmost ≡ false → result (plan_of s) now ≡ None → (t r : ℕ)
       → slice_get net.readers.items t ≡ Some (Some r) → TakesFrom s.count s.kinds r t
 
 -- What the turns so far have led to, however the bytes go on.
 pub record Ran {F W S O : Type 0} (stands : Node F W → List ℕ → At → Type 0)
     (remaining : F → Option (List ℕ)) (ended : F → Bool) (contents : S → Option (List ℕ))
-    (flushed : S → Bool) (order : Order O) (leftmost : Bool) (from : ℕ) (is_over : Bool) (o p : O)
+    (flushed : S → Bool) (order : Order O) (leftmost : Bool) (look : Search) (is_over : Bool) (o p : O)
     (old new : Net F W S) : Type 0 where
   pub reads : ℕ → List ℕ
   pub read : (i : ℕ)
@@ -70,7 +73,7 @@ pub record Ran {F W S O : Type 0} (stands : Node F W → List ℕ → At → Typ
   pub leads : (start : Option (List ℕ)) (s : Scene) (now : Now Row)
       → AreOver ended new.web.nodes.items s.rests
       → NetAt stands contents flushed start (before_all reads s) old now
-      → (d : Leads stands contents flushed order o p start s now new) × Listed leftmost from is_over s d.to new
+      → (d : Leads stands contents flushed order o p start s now new) × Listed leftmost look is_over s d.to new
 
 -- flags alone, or readers alone
 pub flags_alone : {F W S : Type 0} (a b : Net F W S) → a ≡ record b { actors = a.actors }
@@ -260,7 +263,7 @@ module _ {F W S O : Type 0} (stands : Node F W → List ℕ → At → Type 0)
       → NetAt stands contents flushed start s old now → result (plan_of s) now ≡ None
       → (new.actors.items ≡ ready_list (plan_of s) s.size now)
       × ((t r : ℕ) → slice_get new.readers.items t ≢ Some (Some r)))
-      → Ran stands remaining ended contents flushed order leftmost 0 is_over o o old new
+      → Ran stands remaining ended contents flushed order leftmost beginning is_over o o old new
   ran_none is_over o old new tells same len list = record {
     reads = λ i. [];
     read = λ i.
@@ -283,6 +286,7 @@ module _ {F W S O : Type 0} (stands : Node F W → List ℕ → At → Type 0)
           left = λ is j less. absurd (omega (arith, less));
         };
         within = λ none. omega arith;
+        idle = λ is none. none_idle s now 0 h.plan.few (omega arith);
         known = λ isnt none t r e. absurd ((list start s now h none).1 t r e);
       },
     );
@@ -313,15 +317,15 @@ module _ {F W S O : Type 0} (stands : Node F W → List ℕ → At → Type 0)
   }
 
   -- a moment that the net stands for, with what is known of who is ready
-  pub record Standing (from : ℕ) (is_over : Bool) (net : Net F W S) : Type 0 where
+  pub record Standing (look : Search) (is_over : Bool) (net : Net F W S) : Type 0 where
     pub running : IsRunning stands contents flushed net
-    pub listed : Listed leftmost from is_over running.scene running.now net
+    pub listed : Listed leftmost look is_over running.scene running.now net
 
-  pub witness : (from : ℕ) (is_over : Bool) (o p : O) (old new : Net F W S)
+  pub witness : (look : Search) (is_over : Bool) (o p : O) (old new : Net F W S)
       → IsNet stands ended contents flushed old
-      → Ran stands remaining ended contents flushed order leftmost from is_over o p old new
-      → Standing from is_over new
-  witness from is_over o p old new r ran =
+      → Ran stands remaining ended contents flushed order leftmost look is_over o p old new
+      → Standing look is_over new
+  witness look is_over o p old new r ran =
       let s : Scene = record (r.scene (λ i. ran.reads i ++ [])) { rests = λ i. [] } in
       let now = r.now (λ i. ran.reads i ++ []) in
       let d = ran.leads r.start s now (no_rests new)
@@ -332,32 +336,32 @@ module _ {F W S O : Type 0} (stands : Node F W → List ℕ → At → Type 0)
       }
 
   -- whatever the net stands for
-  pub told_all : (from : ℕ) (is_over : Bool) (o p : O) (old new : Net F W S)
+  pub told_all : (look : Search) (is_over : Bool) (o p : O) (old new : Net F W S)
       → IsNet stands ended contents flushed old
-      → Ran stands remaining ended contents flushed order leftmost from is_over o p old new
+      → Ran stands remaining ended contents flushed order leftmost look is_over o p old new
       → (start : Option (List ℕ)) (s : Scene) (now : Now Row)
       → NetAt stands contents flushed start s new now → is_over ≡ is_some (result (plan_of s) now)
-  told_all from is_over o p old new r ran start s now h =
-      let st = witness from is_over o p old new r ran in
+  told_all look is_over o p old new r ran start s now h =
+      let st = witness look is_over o p old new r ran in
       let w = st.running in
       st.listed.tells
       ∙ ap is_some (ends_alike stands contents flushed new w.start start w.scene s w.now now w.at h)
 
   -- The actor that is asked next: the order's pick, or of a leftmost order this one.
-  module _ (from k : ℕ) (p q : O) (net : Net F W S)
-      (here : leftmost ≡ true → (k ≡ from) × (q ≡ p) × IsLeftmost order.pick order.next p)
+  module _ (look : Search) (k : ℕ) (p q : O) (net : Net F W S)
+      (here : leftmost ≡ true → (k ≡ look.from) × (q ≡ p) × IsLeftmost order.pick order.next p)
       (picked_by : (leftmost ≡ false → (start : Option (List ℕ)) (s : Scene) (now : Now Row)
       → NetAt stands contents flushed start s net now → result (plan_of s) now ≡ None
-      → Sees false from s now net → HasPicked order (plan_of s) s.size p q now k)) where
+      → Sees false look.from s now net → HasPicked order (plan_of s) s.size p q now k)) where
     chosen_now : leftmost ≡ false → (start : Option (List ℕ)) (s : Scene) (now : Now Row)
         → NetAt stands contents flushed start s net now → result (plan_of s) now ≡ None
-        → Sees leftmost from s now net → (k ≤ s.count) × (is_ready (plan_of s) s.size now k ≡ true)
+        → Sees leftmost look.from s now net → (k ≤ s.count) × (is_ready (plan_of s) s.size now k ≡ true)
     chosen_now isnt start s now h none sees =
-        let picks = picked_by isnt start s now h none (subst (λ b. Sees b from s now net) isnt sees) in
+        let picks = picked_by isnt start s now h none (subst (λ b. Sees b look.from s now net) isnt sees) in
         let list = ready_list (plan_of s) s.size now in
         picked stands contents flushed start s net now h list (order.pick p list) k none refl picks.choice
 
-    pub may_ask_next : (is_over : Bool) (st : Standing from is_over net)
+    pub may_ask_next : (is_over : Bool) (st : Standing look is_over net)
         → result (plan_of st.running.scene) st.running.now ≡ None → MayAsk stands contents flushed k net
     may_ask_next is_over st none =
         let w = st.running in
@@ -375,8 +379,8 @@ module _ {F W S O : Type 0} (stands : Node F W → List ℕ → At → Type 0)
         → NetAt stands contents flushed start s net now → result (plan_of s) now ≡ None → k ≤ s.count
         → is_ready (plan_of s) s.size now k ≡ true)
         → (start : Option (List ℕ)) (s : Scene) (now : Now Row)
-        → NetAt stands contents flushed start s net now → result (plan_of s) now ≡ None → from ≤ s.count
-        → Sees leftmost from s now net → HasPicked order (plan_of s) s.size p q now k
+        → NetAt stands contents flushed start s net now → result (plan_of s) now ≡ None → look.from ≤ s.count
+        → Sees leftmost look.from s now net → HasPicked order (plan_of s) s.size p q now k
     picks is_ready_now start s now h none within sees = ⊎_elim
         (λ is.
         let at = here is in
@@ -387,7 +391,7 @@ module _ {F W S O : Type 0} (stands : Node F W → List ℕ → At → Type 0)
               ∙ sym (leftmost_choice order s p now at.2);
           next = at.1 ∙ sym (at.2.stays (ready_list (plan_of s) s.size now));
         })
-        (λ isnt. picked_by isnt start s now h none (subst (λ b. Sees b from s now net) isnt sees))
+        (λ isnt. picked_by isnt start s now h none (subst (λ b. Sees b look.from s now net) isnt sees))
         (cases_Bool leftmost)
 
     -- It isn't ready, so the order is a leftmost one, and nobody to the left of the next one is.
@@ -395,9 +399,9 @@ module _ {F W S O : Type 0} (stands : Node F W → List ℕ → At → Type 0)
         (unready : (start : Option (List ℕ)) (s : Scene) (now : Now Row)
         → NetAt stands contents flushed start s net now → result (plan_of s) now ≡ None → k ≤ s.count
         → is_ready (plan_of s) s.size now k ≡ false)
-        (ran : Ran stands remaining ended contents flushed order leftmost from is_over o p old net) where
+        (ran : Ran stands remaining ended contents flushed order leftmost look is_over o p old net) where
       ran_behind : leftmost ≡ true
-          → Ran stands remaining ended contents flushed order leftmost (k + 1) is_over o q old net
+          → Ran stands remaining ended contents flushed order leftmost (past look k) is_over o q old net
       ran_behind is =
           let at = here is in
           record {
@@ -410,7 +414,19 @@ module _ {F W S O : Type 0} (stands : Node F W → List ℕ → At → Type 0)
                 λ none. subst (λ i. i ≤ s.count) (sym at.0) (d.1.within none) in
                 let left : result (plan_of s) l.to ≡ None → (j : ℕ) → j < k
                 → is_ready (plan_of s) s.size l.to j ≡ false =
-                λ none j less. (d.1.sees none).left is j (subst (λ i. j < i) at.0 less) in (
+                λ none j less. (d.1.sees none).left is j (subst (λ i. j < i) at.0 less) in
+                let goes : result (plan_of s) l.to ≡ None → Past look (past look k) k s l.to =
+                λ none. goes_past_idle look k s l.to l.at.plan.few at.0
+                (goes_past stands contents flushed start s net l.to l.at k none (within none)
+                (left none) (unready start s l.to l.at none (within none)))
+                (λ j less. ⊎_elim
+                (λ lower. left none j lower)
+                (λ upper.
+                let same : j ≡ k = omega (arith, upper, less) in
+                ap (is_ready (plan_of s) s.size l.to) same
+                ∙ unready start s l.to l.at none (within none))
+                (cases_lt j k))
+                (d.1.idle is none) in (
                   record {
                     turns = l.turns;
                     to = l.to;
@@ -422,18 +438,10 @@ module _ {F W S O : Type 0} (stands : Node F W → List ℕ → At → Type 0)
                     tells = d.1.tells;
                     sees = λ none. record {
                       flags = λ isnt. absurd (false≢true (sym isnt ∙ is));
-                      left = λ yes j less. ⊎_elim
-                          (λ lower. left none j lower)
-                          (λ upper.
-                          let same : j ≡ k = omega (arith, upper, less) in
-                          ap (is_ready (plan_of s) s.size l.to) same
-                          ∙ unready start s l.to l.at none (within none))
-                          (cases_lt j k);
+                      left = λ yes. (goes none).left;
                     };
-                    within = λ none.
-                        let past = goes_past stands contents flushed start s net l.to l.at k none (within none)
-                        (left none) (unready start s l.to l.at none (within none)) in
-                        omega (arith, past);
+                    within = λ none. (goes none).within;
+                    idle = λ yes none. (goes none).idle;
                     known = λ isnt. absurd (false≢true (sym isnt ∙ is));
                   },
                 );
@@ -441,7 +449,7 @@ module _ {F W S O : Type 0} (stands : Node F W → List ℕ → At → Type 0)
 
       asked_last : IsNet stands ended contents flushed old → is_over ≡ false → leftmost ≡ false → ⊥
       asked_last r goes isnt =
-          let st = witness from is_over o p old net r ran in
+          let st = witness look is_over o p old net r ran in
           let w = st.running in
           let none = not_over _ st.listed.tells goes in
           let ready = chosen_now isnt w.start w.scene w.now w.at none (st.listed.sees none) in
@@ -452,23 +460,23 @@ module _ {F W S O : Type 0} (stands : Node F W → List ℕ → At → Type 0)
 
       pub ran_past : (new : Net F W S) → new ≡ net → IsNet stands ended contents flushed old
           → is_over ≡ false
-          → Ran stands remaining ended contents flushed order leftmost (k + 1) is_over o q old new
+          → Ran stands remaining ended contents flushed order leftmost (past look k) is_over o q old new
       ran_past new same r goes =
           subst
-          (λ n. Ran stands remaining ended contents flushed order leftmost (k + 1) is_over o q old n)
+          (λ n. Ran stands remaining ended contents flushed order leftmost (past look k) is_over o q old n)
           (sym same) (ran_behind (is_leftmost_one r goes))
 
   -- one turn more
-  module _ (from k link : ℕ) (was is_over : Bool) (o p q : O) (old net after : Net F W S)
-      (ran : Ran stands remaining ended contents flushed order leftmost from was o p old net)
+  module _ (look : Search) (k link : ℕ) (was is_over : Bool) (o p q : O) (old net behind : Net F W S)
+      (ran : Ran stands remaining ended contents flushed order leftmost look was o p old net)
       (going : (start : Option (List ℕ)) (s : Scene) (now : Now Row)
       → NetAt stands contents flushed start s net now → result (plan_of s) now ≡ None)
       (picked_by : (start : Option (List ℕ)) (s : Scene) (now : Now Row)
       → NetAt stands contents flushed start s net now → result (plan_of s) now ≡ None
-      → from ≤ s.count → Sees leftmost from s now net → HasPicked order (plan_of s) s.size p q now k)
-      (links : (s : Scene) → IsActor stands k net.web s → IsChanged k s after.failure link)
-      (turned : HasTurned stands remaining ended contents flushed k net after is_over)
-      (same_readers : after.readers ≡ net.readers) where
+      → look.from ≤ s.count → Sees leftmost look.from s now net → HasPicked order (plan_of s) s.size p q now k)
+      (links : (s : Scene) → IsActor stands k net.web s → IsChanged k s behind.failure link)
+      (turned : HasTurned stands remaining ended contents flushed k net behind is_over)
+      (same_readers : behind.readers ≡ net.readers) where
     joined : ℕ → List ℕ
     joined i = ran.reads i ++ turned.reads i
 
@@ -476,16 +484,17 @@ module _ {F W S O : Type 0} (stands : Node F W → List ℕ → At → Type 0)
     record Next (start : Option (List ℕ)) (s : Scene) (now : Now Row) : Type 0 where
       before : Leads stands contents flushed order o p start (before_all turned.reads s) now net
       none : result (plan_of s) before.to ≡ None
-      sees : Sees leftmost from s before.to net
+      sees : Sees leftmost look.from s before.to net
+      idle : leftmost ≡ true → IsIdle look s before.to
       picks : HasPicked order (plan_of s) s.size p q before.to k
       within : k ≤ s.count
-      goes : GoesTo stands contents flushed start s k before.to after is_over
-      link_is : IsChanged k (moved s before.to.links) after.failure link
-      knows : leftmost ≡ false → (t r : ℕ) → Known after.readers.items k link t r
+      goes : GoesTo stands contents flushed start s k before.to behind is_over
+      link_is : IsChanged k (moved s before.to.links) behind.failure link
+      knows : leftmost ≡ false → (t r : ℕ) → Known behind.readers.items k link t r
           → TakesFrom s.count s.kinds r t
 
     next_at : (start : Option (List ℕ)) (s : Scene) (now : Now Row)
-        → AreOver ended after.web.nodes.items s.rests
+        → AreOver ended behind.web.nodes.items s.rests
         → NetAt stands contents flushed start (before_all joined s) old now → Next start s now
     unfolding joined
     next_at start s now over h =
@@ -510,12 +519,15 @@ module _ {F W S O : Type 0} (stands : Node F W → List ℕ → At → Type 0)
           before = d.0;
           none = none;
           sees = record { flags = sees.flags; left = sees.left };
+          idle = λ is.
+              let i = d.1.idle is none in
+              record { before = i.before; order = i.order; within = i.within; unready = i.unready; apart = i.apart };
           picks = picks;
           within = may.0;
           goes = turned.turns start s d.0.to over d.0.at may.0 may.1;
           link_is = link_is;
           knows = λ isnt t r h. ⊎_elim
-              (λ (e : slice_get after.readers.items t ≡ Some (Some r)).
+              (λ (e : slice_get behind.readers.items t ≡ Some (Some r)).
               d.1.known isnt none t r (ap (λ v. slice_get v.items t) (sym same_readers) ∙ e))
               (λ (e : (t ≡ link) × (r ≡ k) × (k ≢ link)).
               subst (λ i. TakesFrom s.count s.kinds i t) (sym e.1)
@@ -544,7 +556,7 @@ module _ {F W S O : Type 0} (stands : Node F W → List ℕ → At → Type 0)
 
     -- the order's pick has had its turn
     leads_more : (start : Option (List ℕ)) (s : Scene) (now : Now Row) → Next start s now
-        → Leads stands contents flushed order o q start s now after
+        → Leads stands contents flushed order o q start s now behind
     leads_more start s now n =
         let d = n.before in
         record {
@@ -564,12 +576,23 @@ module _ {F W S O : Type 0} (stands : Node F W → List ℕ → At → Type 0)
         → link ≡ touched k (state (plan_of s) n.before.to.links k)
     changed_is start s now n none = ⊎_elim (λ is. is)
         (λ own. absurd (own.1 (n.goes.at.failure
-        ∙ unfailed_now stands contents flushed start s after n.goes.to k n.goes.at none)))
+        ∙ unfailed_now stands contents flushed start s behind n.goes.to k n.goes.at none)))
         n.link_is
+
+    -- There are few actors.
+    pub link_few : IsNet stands ended contents flushed old → link < 18446744073709551615
+    unfolding joined next_at
+    link_few r =
+        let s : Scene = record (r.scene (λ i. joined i ++ [])) { rests = λ i. [] } in
+        let now = r.now (λ i. joined i ++ []) in
+        let n = next_at r.start s now (no_rests behind) (opening_at old joined r still_joined) in
+        let within = link_within r.start s now n in
+        let few = n.before.at.plan.few in
+        omega (arith, within, few)
 
     -- The run is over.
     pub ran_over : is_over ≡ true
-        → Ran stands remaining ended contents flushed order leftmost link is_over o q old after
+        → Ran stands remaining ended contents flushed order leftmost look is_over o q old behind
     unfolding joined next_at leads_more
     ran_over is = record {
       reads = λ i. ran.reads i ++ turned.reads i;
@@ -583,16 +606,17 @@ module _ {F W S O : Type 0} (stands : Node F W → List ℕ → At → Type 0)
               tells = n.goes.tells;
               sees = ends _;
               within = ends _;
+              idle = λ yes. ends _;
               known = λ isnt. ends _;
             },
           );
     }
 
     -- A leftmost order goes on from the link.
-    pub ran_left : leftmost ≡ true → IsLeftmost order.pick order.next p
-        → Ran stands remaining ended contents flushed order leftmost link is_over o q old after
+    pub ran_left : leftmost ≡ true → k ≡ look.from → IsLeftmost order.pick order.next p
+        → Ran stands remaining ended contents flushed order leftmost (after look k link) is_over o q old behind
     unfolding joined next_at leads_more
-    ran_left is leans = record {
+    ran_left is here leans = record {
       reads = λ i. ran.reads i ++ turned.reads i;
       read = λ i. read_more _ _ _ _ _ _ _ _ (ran.read i) (turned.read i);
       leads = λ start s now over h.
@@ -605,11 +629,16 @@ module _ {F W S O : Type 0} (stands : Node F W → List ℕ → At → Type 0)
                 flags = λ isnt. absurd (false≢true (sym isnt ∙ is));
                 left = λ is j less.
                     let below = link_below start s now n in
+                    let from = after_from look k link in
                     left_as_ready s n.goes.at.plan k link n.before.to n.goes.to n.goes.turn none n.none
-                    (changed_is start s now n none) j less (link_within start s now n)
-                    ∙ left_of_first s n.before.to k j n.within first (omega (arith, less, below));
+                    (changed_is start s now n none) j (omega (arith, less, from)) (link_within start s now n)
+                    ∙ left_of_first s n.before.to k j n.within first (omega (arith, less, below, from));
               };
-              within = λ none. link_within start s now n;
+              within = λ none. rw (after_from look k link) (link_within start s now n);
+              idle = λ yes none.
+                  idle_after s n.goes.at.plan k link n.before.to n.goes.to n.goes.turn none n.none
+                  (changed_is start s now n none) n.within look here
+                  (λ j less. left_of_first s n.before.to k j n.within first less) (n.idle is);
               known = λ isnt. absurd (false≢true (sym isnt ∙ is));
             },
           );
@@ -617,13 +646,13 @@ module _ {F W S O : Type 0} (stands : Node F W → List ℕ → At → Type 0)
 
     -- Of any other the two ends of the link are asked again.
     module _ (isnt : leftmost ≡ false) (who : Option ℕ) (told : Net F W S)
-        (same : told ≡ record after { readers = told.readers })
+        (same : told ≡ record behind { readers = told.readers })
         (learns : (t r : ℕ) → slice_get told.readers.items t ≡ Some (Some r)
-        → Known after.readers.items k link t r)
-        (tells : IfSome who (λ r. Known after.readers.items k link link r)) where
+        → Known behind.readers.items k link t r)
+        (tells : IfSome who (λ r. Known behind.readers.items k link link r)) where
       reader_known : (o : Option ℕ) (s : Scene)
-          → ((r : ℕ) → Known after.readers.items k link link r → TakesFrom s.count s.kinds r link)
-          → IfSome o (λ r. Known after.readers.items k link link r)
+          → ((r : ℕ) → Known behind.readers.items k link link r → TakesFrom s.count s.kinds r link)
+          → IfSome o (λ r. Known behind.readers.items k link link r)
           → IfSome o (λ r. TakesFrom s.count s.kinds r link)
       reader_known None s f h = tt
       reader_known (Some r) s f h = f r h
@@ -635,10 +664,10 @@ module _ {F W S O : Type 0} (stands : Node F W → List ℕ → At → Type 0)
           (λ t. let l = t.0 in omega (arith, l)) (λ t. let e = t.0 in omega (arith, e)) h
 
       told_at : (start : Option (List ℕ)) (s : Scene) (now : Now Row)
-          → NetAt stands contents flushed start s after now
+          → NetAt stands contents flushed start s behind now
           → NetAt stands contents flushed start s told now
       told_at start s now h =
-          relisted stands contents flushed start s after told now (readers_alone told after same)
+          relisted stands contents flushed start s behind told now (readers_alone told behind same)
           (ap (λ (n : Net F W S). length n.actors.items) same) h
 
       -- who may be asked again
@@ -647,7 +676,7 @@ module _ {F W S O : Type 0} (stands : Node F W → List ℕ → At → Type 0)
       may_ask r not_yet =
           let s : Scene = record (r.scene (λ i. joined i ++ [])) { rests = λ i. [] } in
           let now = r.now (λ i. joined i ++ []) in
-          let n = next_at r.start s now (no_rests after) (opening_at old joined r still_joined) in
+          let n = next_at r.start s now (no_rests behind) (opening_at old joined r still_joined) in
           record {
             running = record {
               start = r.start;
@@ -655,23 +684,23 @@ module _ {F W S O : Type 0} (stands : Node F W → List ℕ → At → Type 0)
               now = n.goes.to;
               at = told_at r.start s n.goes.to n.goes.at;
             };
-            going = unfailed_now stands contents flushed r.start s after n.goes.to 0 n.goes.at
+            going = unfailed_now stands contents flushed r.start s behind n.goes.to 0 n.goes.at
                 (not_over _ n.goes.tells not_yet);
             link_within = link_within r.start s now n;
             reader_within = takers_within who s (reader_known who s (n.knows isnt link) tells);
           }
 
-      pub ran_more : (new : Net F W S) → after.actors ≡ net.actors
+      pub ran_more : (new : Net F W S) → behind.actors ≡ net.actors
           → new ≡ record told { actors = new.actors }
           → ((start : Option (List ℕ)) (s : Scene) (now : Now Row)
           → NetAt stands contents flushed start s told now → result (plan_of s) now ≡ None
           → link ≤ s.count → IfSome who (λ r. r ≤ s.count)
           → new.actors.items ≡ asked (is_ready (plan_of s) s.size now) s.count told.actors.items link who)
           → length new.actors.items ≡ length told.actors.items
-          → Ran stands remaining ended contents flushed order leftmost link is_over o q old new
+          → Ran stands remaining ended contents flushed order leftmost (after look k link) is_over o q old new
       unfolding joined next_at leads_more
       ran_more new same_actors flagged again len =
-          let nodes : new.web.nodes ≡ after.web.nodes =
+          let nodes : new.web.nodes ≡ behind.web.nodes =
           ap (λ (n : Net F W S). n.web.nodes) flagged ∙ ap (λ (n : Net F W S). n.web.nodes) same in
           record {
             reads = λ i. ran.reads i ++ turned.reads i;
@@ -708,7 +737,8 @@ module _ {F W S O : Type 0} (stands : Node F W → List ℕ → At → Type 0)
                           (changed_is start s now n none) who known;
                       left = λ is. absurd (false≢true (sym isnt ∙ is));
                     };
-                    within = λ none. link_within start s now n;
+                    within = λ none. rw (after_from look k link) (link_within start s now n);
+                    idle = λ is. absurd (false≢true (sym isnt ∙ is));
                     known = λ is none t r h.
                         n.knows isnt t r (learns t r
                         (ap (λ (m : Net F W S). slice_get m.readers.items t) (sym flagged) ∙ h));
@@ -716,13 +746,43 @@ module _ {F W S O : Type 0} (stands : Node F W → List ℕ → At → Type 0)
                 );
           }
 
+  -- To know less of who isn't ready is always right.
+  pub ran_knowing : (look to : Search) (k link : ℕ) (is_over : Bool) (o p : O) (old new : Net F W S)
+      → (to ≡ after look k link) ⊎ (to ≡ record beginning { from = link })
+      → Ran stands remaining ended contents flushed order leftmost (after look k link) is_over o p old new
+      → Ran stands remaining ended contents flushed order leftmost to is_over o p old new
+  ran_knowing look to k link is_over o p old new knows ran = ⊎_elim
+      (λ e. subst (λ x. Ran stands remaining ended contents flushed order leftmost x is_over o p old new) (sym e) ran)
+      (λ e. subst (λ x. Ran stands remaining ended contents flushed order leftmost x is_over o p old new) (sym e) (record {
+        reads = ran.reads;
+        read = ran.read;
+        leads = λ start s now over h.
+            let d = ran.leads start s now over h in
+            let from = after_from look k link in (
+              d.0,
+              record {
+                tells = d.1.tells;
+                sees = λ none. record {
+                  flags = (d.1.sees none).flags;
+                  left = λ is j less. (d.1.sees none).left is j (omega (arith, less, from));
+                };
+                within = λ none. let w = d.1.within none in omega (arith, w, from);
+                idle = λ is none.
+                    let w = d.1.within none in
+                    none_idle s d.0.to link d.0.at.plan.few (omega (arith, w, from));
+                known = d.1.known;
+              },
+            );
+      }))
+      knows
+
   -- the run is over
-  pub ran_to : (from : ℕ) (is_over : Bool) (o p : O) (old new : Net F W S) (by : RunResult)
-      → Ran stands remaining ended contents flushed order leftmost from is_over o p old new
+  pub ran_to : (look : Search) (is_over : Bool) (o p : O) (old new : Net F W S) (by : RunResult)
+      → Ran stands remaining ended contents flushed order leftmost look is_over o p old new
       → ((start : Option (List ℕ)) (s : Scene) (now : Now Row)
       → NetAt stands contents flushed start s new now → result (plan_of s) now ≡ Some by)
       → HasRun stands remaining ended contents flushed order o p old new by
-  ran_to from is_over o p old new by ran is = record {
+  ran_to look is_over o p old new by ran is = record {
     reads = ran.reads;
     read = ran.read;
     runs = λ start s now over h.

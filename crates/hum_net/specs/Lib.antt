@@ -1,3 +1,4 @@
 pub mod Readers
+pub mod Search
 pub mod Scene
 pub mod Nets

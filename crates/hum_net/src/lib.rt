@@ -5,6 +5,7 @@
 //! - [`Net`] is a web whose last stage is written.
 #![tactic(auto)]
 
+mod idle;
 mod net;
 mod web;
 

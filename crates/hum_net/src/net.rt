@@ -4,6 +4,7 @@ ghost use Rattle.std.specs.Prelude.{IfSome, IfOk, IfErr, OnErr, length, is_some,
 ghost use Rattle.std.specs.Prelude.{slice_get, slice_set};
 ghost use Rattle.hum_record.specs.Row.{Row, text_of};
 ghost use Rattle.hum_turns.specs.Links.{linked};
+ghost use Rattle.hum_turns.specs.declared.result.RunResult.TheVariants as ends;
 ghost use Rattle.hum_turns.specs.Failures.{Now, IsFirst, MayFail, is_ready, result as ended};
 ghost use Rattle.hum_turns.specs.Orders.{ready_list};
 ghost use Rattle.hum_nodes.specs.Nodes.{StandsAs};
@@ -17,8 +18,10 @@ ghost use Rattle.hum_turns.specs.Counts.{most_in_all};
 ghost use Rattle.hum_turns.specs.Holds.{SomeReady};
 ghost use Rattle.hum_net.specs.Nets.{WroteFront, IsGoing, IsStage, IsChanged, AreAmong, Known, asked};
 ghost use Rattle.hum_net.specs.Nets.{IsAmong, NetAt, AreBegun, Tells, HasRun, HasRunOn, IsNet};
+ghost use Rattle.hum_net.specs.Search.{beginning, search_by};
 ghost use Rattle.hum_net.specs.Nets.{Sees, MayPick, HasPicked, MayAsk, HasGone};
 
+use crate::idle::{Chain, Knows, Tree};
 use crate::web::Web;
 use hum_links::Next;
 use hum_nodes::{DoingKind, Feeds, Node, Works};
@@ -77,15 +80,39 @@ impl<F: Feeds, W: Works, S: Sink> Net<F, W, S> {
                     self.web.reuse(row);
                     return false;
                 }
-                Err(_) => self.failure = Some(RunResult::Write),
+                Err(_) => self.fail_to_write(),
             },
             Next::End(_) => match self.sink.flush() {
                 Ok(()) => {}
-                Err(_) => self.failure = Some(RunResult::Write),
+                Err(_) => self.fail_to_write(),
             },
             Next::Nothing => {}
         }
         true
+    }
+
+    // A read of a stage has failed, or memory is wanting: that ends the run. It happens once, so no turn has
+    // a place for how it ended.
+    #[inline(never)]
+    fn fail_to_read(&mut self, k: usize)
+        requires { k < 255 }
+        ensures { self.new ≡ record self.old { failure = Some (ends.Read (k + 1)) } }
+    {
+        self.failure = Some(RunResult::Read((k + 1) as u8));
+    }
+
+    #[inline(never)]
+    fn fail_to_write(&mut self)
+        ensures { self.new ≡ record self.old { failure = Some ends.Write } }
+    {
+        self.failure = Some(RunResult::Write);
+    }
+
+    #[inline(never)]
+    fn fail_for_memory(&mut self)
+        ensures { self.new ≡ record self.old { failure = Some ends.Memory } }
+    {
+        self.failure = Some(RunResult::Memory);
     }
 
     // A stage's turn, where it does this next.
@@ -128,8 +155,8 @@ impl<F: Feeds, W: Works, S: Sink> Net<F, W, S> {
                     is_over: false,
                 };
             }
-            Err(ReadError::Read) => self.failure = Some(RunResult::Read((k + 1) as u8)),
-            Err(ReadError::Memory) => self.failure = Some(RunResult::Memory),
+            Err(ReadError::Read) => self.fail_to_read(k),
+            Err(ReadError::Memory) => self.fail_for_memory(),
         }
         Turned {
             link: k,
@@ -312,10 +339,47 @@ impl<F: Feeds, W: Works, S: Sink> Net<F, W, S> {
     }
 
     /// Makes the turns that the order picks, to the end of the run.
-    // All that a stage's turn calls stands in this loop, and the loop in no caller's.
-    #[inline(never)]
     pub fn run<O: Order>(&mut self, order: &mut O) -> RunResult
         requires { IsNet (StandsAs F.stands W.stands) F.ended S.contents S.flushed self.old }
+        // Whatever bytes the sources have, and however they go on: the turns are those that the
+        // order picks, and what was written is what the plan means.
+        ensures ran { HasRun (StandsAs F.stands W.stands) F.remaining F.ended S.contents S.flushed
+            (record { pick = O.picks; next = O.after }) order.old order.new self.old self.new
+            result }
+
+        // Where the sources tell their bytes, it is what the plan means over these.
+        ensures whole { (start : Option (List ℕ)) (s : Scene) (now : Now Row)
+            → Tells F.remaining F.ended self.old.web.nodes.items s.rests
+            → NetAt (StandsAs F.stands W.stands) S.contents S.flushed start s self.old now
+            → HasRunOn (StandsAs F.stands W.stands) S.contents S.flushed
+            (record { pick = O.picks; next = O.after }) order.old order.new start s now self.new
+            result }
+
+        // It ends by a failed read or write exactly where a call has failed in it.
+        ensures reads { self.old.failure ≡ None → (i : ℕ)
+            → failed_at F.failed i self.new.web.nodes.items
+            ≡ (failed_at F.failed i self.old.web.nodes.items || is_read_of i (Some result)) }
+        ensures writes { self.old.failure ≡ None
+            → S.failed self.new.sink ≡ (S.failed self.old.sink || is_write (Some result)) }
+
+        // A run that is over answers its result again.
+        ensures again { (start : Option (List ℕ)) (s : Scene) (now : Now Row) (by : RunResult)
+            → NetAt (StandsAs F.stands W.stands) S.contents S.flushed start s self.old now
+            → ended (plan_of s) now ≡ Some by
+            → (result ≡ by) × (self.new ≡ self.old) × (order.new ≡ order.old) }
+    {
+        if self.web.has_several() {
+            return self.run_by(order, Tree::new());
+        }
+        self.run_by(order, Chain)
+    }
+
+    // The same, by what may be known of who isn't ready: more than nothing only in a tree. All that a
+    // stage's turn calls stands in this loop, and the loop in no caller's.
+    #[inline(never)]
+    fn run_by<O: Order, K: Knows>(&mut self, order: &mut O, mut known: K) -> RunResult
+        requires unknown { search_by 0 (K.first known) (K.behind known) ≡ beginning }
+        requires net { IsNet (StandsAs F.stands W.stands) F.ended S.contents S.flushed self.old }
         // Whatever bytes the sources have, and however they go on: the turns are those that the
         // order picks, and what was written is what the plan means.
         ensures ran { HasRun (StandsAs F.stands W.stands) F.remaining F.ended S.contents S.flushed
@@ -352,13 +416,14 @@ impl<F: Feeds, W: Works, S: Sink> Net<F, W, S> {
         'turns: loop {
             let actor = self.next(order, is_leftmost, from);
             let Some(turned) = self.turn_if_ready(actor) else {
-                from = actor + 1;
+                from = known.right_of(actor);
                 continue 'turns;
             };
             if turned.is_over {
                 return self.told();
             }
             from = turned.link;
+            known.went(actor, from);
             if is_leftmost {
                 continue 'turns;
             }

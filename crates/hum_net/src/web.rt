@@ -74,6 +74,13 @@ impl<F: Feeds, W: Works> Web<F, W> {
         self.nodes.len()
     }
 
+    /// Whether there are several sources.
+    pub fn has_several(&self) -> bool
+        ensures { result ≡ self.now.has_several }
+    {
+        self.has_several
+    }
+
     // A turn of a source, which changes its own link.
     #[inline(always)]
     fn poll(&mut self, k: usize) -> Result<usize, ReadError>

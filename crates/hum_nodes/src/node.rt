@@ -73,6 +73,8 @@ pub trait Works: Drop {
     /// How many records wait inside.
     fn held(&self) -> usize
         ensures held { (t : At) → stands self.now t → result ≡ holds_of t }
+
+        // Where one of each input is all that waits, they are no more than the inputs.
         ensures few { (t : At) → stands self.now t
             → HoldsOneEach t.kind (length t.inputs) result };
 

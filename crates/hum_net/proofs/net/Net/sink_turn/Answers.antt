@@ -32,4 +32,5 @@ returns-in-Ok-flush-clause-went g c s h =
 
 pub returns-in-Err-flush-clause-went : goal.returns-in-Err-flush-clause-went
 returns-in-Err-flush-clause-went g c s h =
+    rw c.fail_to_write-in-Err-flush.ensures
     (record { part = []; may = (refl, (_, refl)); appends = keeps_appends _ _ c.in-Err-flush.ensures.bytes }, refl)

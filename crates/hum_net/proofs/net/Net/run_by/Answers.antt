@@ -7,20 +7,22 @@ use Rattle.hum_turns.specs.Orders.{Order, IsLeftmost}
 use Rattle.hum_nodes.specs.Nodes.{StandsAs}
 use Rattle.hum_net.specs.Readers.{failed_at, is_read_of, is_write}
 use Rattle.hum_net.specs.Scene.{plan_of}
+use Rattle.hum_net.specs.Search.{Search, search_by, beginning}
 use Rattle.hum_net.specs.Nets.{NetAt}
 use Rattle.hum_net.proofs.Bounds.{turns_few, reads_few}
 use Rattle.hum_net.proofs.Netting.{not_over, has_told, or_false, still_going, none_of}
 use Rattle.hum_net.proofs.Running.{relisted, told_read, told_write, ran_none, first_running}
-use Rattle.hum_net.proofs.Running.{picks, may_ask_next, is_leftmost_one, ran_past}
-use Rattle.hum_net.proofs.Running.{Ran, witness, told_all, may_ask, ran_over, ran_left, ran_more, ran_to}
+use Rattle.hum_net.proofs.Running.{picks, ran_knowing, may_ask_next, is_leftmost_one, ran_past}
+use Rattle.hum_net.proofs.Running.{Ran, witness, told_all, may_ask, link_few, ran_over, ran_left, ran_more, ran_to}
+use Rattle.hum_net.proofs.Searching.{further}
 use Rattle.hum_net.proofs.Telling.{run_on}
-use Rattle.hum_net.proofs.net.Net.run.Goals as goal
+use Rattle.hum_net.proofs.net.Net.run_by.Goals as goal
 
 pub prepare-requires : goal.prepare-requires
 prepare-requires g c =
     let order : Order g.row.O.Denot = record { pick = g.O.Order.picks; next = g.O.Order.after } in
     first_running (StandsAs g.F.Feeds.stands g.W.Works.stands) g.F.Feeds.remaining g.F.Feeds.ended
-    g.S.Sink.contents g.S.Sink.flushed order false c.args.self.now c.requires
+    g.S.Sink.contents g.S.Sink.flushed order false c.args.self.now c.requires.net
 
 pub over-requires : goal.over-requires
 over-requires g c =
@@ -31,7 +33,7 @@ over-requires g c =
     let net = c.args.self.now in
     let p = c.prepare.ensures in
     let r = first_running stands g.F.Feeds.remaining g.F.Feeds.ended contents flushed order false net
-    c.requires in
+    c.requires.net in
     let at = relisted stands contents flushed r.start r.scene net c.prepare.new.self r.now p.same p.len r.at in
     record { start = r.start; scene = r.scene; now = r.now; at = at }
 
@@ -46,7 +48,7 @@ told-requires g c =
     let net = c.args.self.now in
     let p = c.prepare.ensures in
     let r = first_running stands g.F.Feeds.remaining g.F.Feeds.ended contents flushed order false net
-    c.requires in
+    c.requires.net in
     let at = relisted stands contents flushed r.start r.scene net c.prepare.new.self r.now p.same p.len r.at in
     record { start = r.start; scene = r.scene; now = r.now; at = at }
 
@@ -59,7 +61,7 @@ returns-then-over-clause-ran g c =
     let net = c.args.self.now in
     let p = c.prepare.ensures in
     ran_to stands g.F.Feeds.remaining g.F.Feeds.ended contents flushed order c.is_leftmost-is_leftmost.result
-    0 c.over.result c.args.order.now c.args.order.now net c.prepare.new.self c.told.result
+    beginning c.over.result c.args.order.now c.args.order.now net c.prepare.new.self c.told.result
     (ran_none stands g.F.Feeds.remaining g.F.Feeds.ended contents flushed order
     c.is_leftmost-is_leftmost.result c.over.result c.args.order.now net c.prepare.new.self
     c.over.ensures.over p.same p.len p.list)
@@ -83,7 +85,7 @@ returns-then-over-clause-reads g c = λ none i.
     let net = c.args.self.now in
     let p = c.prepare.ensures in
     let r = first_running stands g.F.Feeds.remaining g.F.Feeds.ended contents flushed order false net
-    c.requires in
+    c.requires.net in
     let at = relisted stands contents flushed r.start r.scene net c.prepare.new.self r.now p.same p.len r.at in
     let heard = (r.now.links (last (plan_of r.scene))).heard in
     ap (λ n. failed_at g.F.Feeds.failed i n.web.nodes.items) p.same ∙ or_false _
@@ -104,7 +106,7 @@ returns-then-over-clause-writes g c = λ none.
     let net = c.args.self.now in
     let p = c.prepare.ensures in
     let r = first_running stands g.F.Feeds.remaining g.F.Feeds.ended contents flushed order false net
-    c.requires in
+    c.requires.net in
     let at = relisted stands contents flushed r.start r.scene net c.prepare.new.self r.now p.same p.len r.at in
     let heard = (r.now.links (last (plan_of r.scene))).heard in
     ap (λ n. g.S.Sink.failed n.sink) p.same ∙ or_false _
@@ -135,9 +137,10 @@ turns-init g c =
     let net = c.args.self.now in
     let p = c.prepare.ensures in
     record {
-      ran = ran_none stands g.F.Feeds.remaining g.F.Feeds.ended contents flushed order
+      ran = rw c.requires.unknown
+          (ran_none stands g.F.Feeds.remaining g.F.Feeds.ended contents flushed order
           c.is_leftmost-is_leftmost.result false c.args.order.now net c.prepare.new.self
-          (λ start s now h. sym c.if-over.false ∙ c.over.ensures.over start s now h) p.same p.len p.list;
+          (λ start s now h. sym c.if-over.false ∙ c.over.ensures.over start s now h) p.same p.len p.list);
       leans = c.is_leftmost-is_leftmost.ensures;
       reads = λ none i. ap (λ n. failed_at g.F.Feeds.failed i n.web.nodes.items) p.same ∙ or_false _
           ∙ ap (λ f. failed_at g.F.Feeds.failed i net.web.nodes.items || is_read_of i f)
@@ -155,10 +158,10 @@ next-actor-requires g c =
     let order : Order g.row.O.Denot = record { pick = g.O.Order.picks; next = g.O.Order.after } in
     let inv = c.turns.invariant in
     let tells = told_all stands g.F.Feeds.remaining g.F.Feeds.ended contents flushed order
-    c.is_leftmost-is_leftmost.result c.turns.from false c.args.order.now c.turns.order
-    c.args.self.now c.turns.self c.requires inv.ran in
+    c.is_leftmost-is_leftmost.result (search_by c.turns.from (g.K.Knows.first c.turns.known) (g.K.Knows.behind c.turns.known)) false c.args.order.now c.turns.order
+    c.args.self.now c.turns.self c.requires.net inv.ran in
     let st = witness stands g.F.Feeds.remaining g.F.Feeds.ended contents flushed order
-    c.is_leftmost-is_leftmost.result c.turns.from false c.args.order.now c.turns.order c.args.self.now c.turns.self c.requires
+    c.is_leftmost-is_leftmost.result (search_by c.turns.from (g.K.Knows.first c.turns.known) (g.K.Knows.behind c.turns.known)) false c.args.order.now c.turns.order c.args.self.now c.turns.self c.requires.net
     inv.ran in
     let w = st.running in
     let none = not_over _ (tells w.start w.scene w.now w.at) refl in
@@ -177,37 +180,37 @@ turn_if_ready-requires g c =
     let order : Order g.row.O.Denot = record { pick = g.O.Order.picks; next = g.O.Order.after } in
     let inv = c.turns.invariant in
     let tells = told_all stands g.F.Feeds.remaining g.F.Feeds.ended contents flushed order
-    c.is_leftmost-is_leftmost.result c.turns.from false c.args.order.now c.turns.order
-    c.args.self.now c.turns.self c.requires inv.ran in
+    c.is_leftmost-is_leftmost.result (search_by c.turns.from (g.K.Knows.first c.turns.known) (g.K.Knows.behind c.turns.known)) false c.args.order.now c.turns.order
+    c.args.self.now c.turns.self c.requires.net inv.ran in
     let st = witness stands g.F.Feeds.remaining g.F.Feeds.ended contents flushed order
-    c.is_leftmost-is_leftmost.result c.turns.from false c.args.order.now c.turns.order c.args.self.now c.turns.self c.requires
+    c.is_leftmost-is_leftmost.result (search_by c.turns.from (g.K.Knows.first c.turns.known) (g.K.Knows.behind c.turns.known)) false c.args.order.now c.turns.order c.args.self.now c.turns.self c.requires.net
     inv.ran in
     let w = st.running in
     let e = c.next-actor.ensures in
     let none = not_over _ (tells w.start w.scene w.now w.at) refl in
     let may = may_ask_next stands g.F.Feeds.remaining g.F.Feeds.ended contents flushed order
-    c.is_leftmost-is_leftmost.result c.turns.from c.next-actor.result c.turns.order c.next-actor.new.order
+    c.is_leftmost-is_leftmost.result (search_by c.turns.from (g.K.Knows.first c.turns.known) (g.K.Knows.behind c.turns.known)) c.next-actor.result c.turns.order c.next-actor.new.order
     c.turns.self (λ is. (e.from is, e.stays is, inv.leans is)) e.picked false st none in
     may
 
-pub overflow_add-from : goal.overflow_add-from
-overflow_add-from g c =
+pub right_of-from-requires : goal.right_of-from-requires
+right_of-from-requires g c =
     let stands = StandsAs g.F.Feeds.stands g.W.Works.stands in
     let contents = g.S.Sink.contents in
     let flushed = g.S.Sink.flushed in
     let order : Order g.row.O.Denot = record { pick = g.O.Order.picks; next = g.O.Order.after } in
     let inv = c.turns.invariant in
     let tells = told_all stands g.F.Feeds.remaining g.F.Feeds.ended contents flushed order
-    c.is_leftmost-is_leftmost.result c.turns.from false c.args.order.now c.turns.order
-    c.args.self.now c.turns.self c.requires inv.ran in
+    c.is_leftmost-is_leftmost.result (search_by c.turns.from (g.K.Knows.first c.turns.known) (g.K.Knows.behind c.turns.known)) false c.args.order.now c.turns.order
+    c.args.self.now c.turns.self c.requires.net inv.ran in
     let st = witness stands g.F.Feeds.remaining g.F.Feeds.ended contents flushed order
-    c.is_leftmost-is_leftmost.result c.turns.from false c.args.order.now c.turns.order c.args.self.now c.turns.self c.requires
+    c.is_leftmost-is_leftmost.result (search_by c.turns.from (g.K.Knows.first c.turns.known) (g.K.Knows.behind c.turns.known)) false c.args.order.now c.turns.order c.args.self.now c.turns.self c.requires.net
     inv.ran in
     let w = st.running in
     let e = c.next-actor.ensures in
     let none = not_over _ (tells w.start w.scene w.now w.at) refl in
     let may = may_ask_next stands g.F.Feeds.remaining g.F.Feeds.ended contents flushed order
-    c.is_leftmost-is_leftmost.result c.turns.from c.next-actor.result c.turns.order c.next-actor.new.order
+    c.is_leftmost-is_leftmost.result (search_by c.turns.from (g.K.Knows.first c.turns.known) (g.K.Knows.behind c.turns.known)) c.next-actor.result c.turns.order c.next-actor.new.order
     c.turns.self (λ is. (e.from is, e.stays is, inv.leans is)) e.picked false st none in
     let few = may.running.at.plan.few in
     let within = may.within in
@@ -221,27 +224,29 @@ turns-smaller-in_default g c =
     let order : Order g.row.O.Denot = record { pick = g.O.Order.picks; next = g.O.Order.after } in
     let inv = c.turns.invariant in
     let tells = told_all stands g.F.Feeds.remaining g.F.Feeds.ended contents flushed order
-    c.is_leftmost-is_leftmost.result c.turns.from false c.args.order.now c.turns.order
-    c.args.self.now c.turns.self c.requires inv.ran in
+    c.is_leftmost-is_leftmost.result (search_by c.turns.from (g.K.Knows.first c.turns.known) (g.K.Knows.behind c.turns.known)) false c.args.order.now c.turns.order
+    c.args.self.now c.turns.self c.requires.net inv.ran in
     let st = witness stands g.F.Feeds.remaining g.F.Feeds.ended contents flushed order
-    c.is_leftmost-is_leftmost.result c.turns.from false c.args.order.now c.turns.order c.args.self.now c.turns.self c.requires
+    c.is_leftmost-is_leftmost.result (search_by c.turns.from (g.K.Knows.first c.turns.known) (g.K.Knows.behind c.turns.known)) false c.args.order.now c.turns.order c.args.self.now c.turns.self c.requires.net
     inv.ran in
     let w = st.running in
     let e = c.next-actor.ensures in
     let silent = none_of c.turn_if_ready.result c.in_default.not-Some in
     let leans = is_leftmost_one stands g.F.Feeds.remaining g.F.Feeds.ended contents flushed order
-    c.is_leftmost-is_leftmost.result c.turns.from c.next-actor.result c.turns.order c.next-actor.new.order
+    c.is_leftmost-is_leftmost.result (search_by c.turns.from (g.K.Knows.first c.turns.known) (g.K.Knows.behind c.turns.known)) c.next-actor.result c.turns.order c.next-actor.new.order
     c.turns.self (λ is. (e.from is, e.stays is, inv.leans is)) e.picked false c.args.order.now
     c.args.self.now
     (λ start s now h none within. sym (c.turn_if_ready.ensures.ready start s now h none within) ∙ ap is_some silent)
-    inv.ran c.requires refl in
+    inv.ran c.requires.net refl in
     let same = c.turn_if_ready.ensures.same silent in
     let none = not_over _ (tells w.start w.scene w.now w.at) refl in
     let few = w.at.plan.few in
     let within = st.listed.within none in
     let here = e.from leans in
     let turns = ap (λ n. n.turns) same in
-    omega (arith, few, within, here, turns)
+    let on = further (search_by c.turns.from (g.K.Knows.first c.turns.known) (g.K.Knows.behind c.turns.known)) c.next-actor.result (st.listed.idle leans none).order in
+    let is = ap (λ (x : Search). x.from) (c.right_of-from.ensures c.turns.from) in
+    omega (arith, few, within, here, turns, on, is)
 
 pub turns-preserved-in_default : goal.turns-preserved-in_default
 turns-preserved-in_default g c =
@@ -251,30 +256,30 @@ turns-preserved-in_default g c =
     let order : Order g.row.O.Denot = record { pick = g.O.Order.picks; next = g.O.Order.after } in
     let inv = c.turns.invariant in
     let tells = told_all stands g.F.Feeds.remaining g.F.Feeds.ended contents flushed order
-    c.is_leftmost-is_leftmost.result c.turns.from false c.args.order.now c.turns.order
-    c.args.self.now c.turns.self c.requires inv.ran in
+    c.is_leftmost-is_leftmost.result (search_by c.turns.from (g.K.Knows.first c.turns.known) (g.K.Knows.behind c.turns.known)) false c.args.order.now c.turns.order
+    c.args.self.now c.turns.self c.requires.net inv.ran in
     let st = witness stands g.F.Feeds.remaining g.F.Feeds.ended contents flushed order
-    c.is_leftmost-is_leftmost.result c.turns.from false c.args.order.now c.turns.order c.args.self.now c.turns.self c.requires
+    c.is_leftmost-is_leftmost.result (search_by c.turns.from (g.K.Knows.first c.turns.known) (g.K.Knows.behind c.turns.known)) false c.args.order.now c.turns.order c.args.self.now c.turns.self c.requires.net
     inv.ran in
     let w = st.running in
     let e = c.next-actor.ensures in
     let silent = none_of c.turn_if_ready.result c.in_default.not-Some in
     let leans = is_leftmost_one stands g.F.Feeds.remaining g.F.Feeds.ended contents flushed order
-    c.is_leftmost-is_leftmost.result c.turns.from c.next-actor.result c.turns.order c.next-actor.new.order
+    c.is_leftmost-is_leftmost.result (search_by c.turns.from (g.K.Knows.first c.turns.known) (g.K.Knows.behind c.turns.known)) c.next-actor.result c.turns.order c.next-actor.new.order
     c.turns.self (λ is. (e.from is, e.stays is, inv.leans is)) e.picked false c.args.order.now
     c.args.self.now
     (λ start s now h none within. sym (c.turn_if_ready.ensures.ready start s now h none within) ∙ ap is_some silent)
-    inv.ran c.requires refl in
+    inv.ran c.requires.net refl in
     let same = c.turn_if_ready.ensures.same silent in
     let net = c.args.self.now in
     record {
-      ran = ran_past stands g.F.Feeds.remaining g.F.Feeds.ended contents flushed order
-          c.is_leftmost-is_leftmost.result c.turns.from c.next-actor.result c.turns.order
+      ran = rw (c.right_of-from.ensures c.turns.from) (ran_past stands g.F.Feeds.remaining g.F.Feeds.ended contents flushed order
+          c.is_leftmost-is_leftmost.result (search_by c.turns.from (g.K.Knows.first c.turns.known) (g.K.Knows.behind c.turns.known)) c.next-actor.result c.turns.order
           c.next-actor.new.order c.turns.self (λ is. (e.from is, e.stays is, inv.leans is)) e.picked
           false c.args.order.now net
           (λ start s now h none within. sym (c.turn_if_ready.ensures.ready start s now h none within)
           ∙ ap is_some silent)
-          inv.ran c.turn_if_ready.new.self same c.requires refl;
+          inv.ran c.turn_if_ready.new.self same c.requires.net refl);
       leans = λ is. subst (λ o. IsLeftmost g.O.Order.picks g.O.Order.after o) (sym (e.stays is)) (inv.leans is);
       reads = λ none i. ap (λ n. failed_at g.F.Feeds.failed i n.web.nodes.items) same ∙ inv.reads none i
           ∙ ap (λ n. failed_at g.F.Feeds.failed i net.web.nodes.items || is_read_of i n.failure) (sym same);
@@ -286,6 +291,30 @@ turns-preserved-in_default g c =
           absurd (none-some by (sym (not_over _ (tells start s now at) refl) ∙ ended));
     }
 
+pub went-requires : goal.went-requires
+went-requires g c =
+    let stands = StandsAs g.F.Feeds.stands g.W.Works.stands in
+    let contents = g.S.Sink.contents in
+    let flushed = g.S.Sink.flushed in
+    let order : Order g.row.O.Denot = record { pick = g.O.Order.picks; next = g.O.Order.after } in
+    let inv = c.turns.invariant in
+    let tells = told_all stands g.F.Feeds.remaining g.F.Feeds.ended contents flushed order
+    c.is_leftmost-is_leftmost.result (search_by c.turns.from (g.K.Knows.first c.turns.known) (g.K.Knows.behind c.turns.known)) false c.args.order.now c.turns.order
+    c.args.self.now c.turns.self c.requires.net inv.ran in
+    link_few stands g.F.Feeds.remaining g.F.Feeds.ended contents flushed order
+    c.is_leftmost-is_leftmost.result (search_by c.turns.from (g.K.Knows.first c.turns.known) (g.K.Knows.behind c.turns.known)) c.next-actor.result c.in-Some.turned.link false c.in-Some.turned.is_over
+    c.args.order.now c.turns.order c.next-actor.new.order c.args.self.now c.turns.self
+    c.turn_if_ready.new.self inv.ran
+    (λ start s now h. not_over _ (tells start s now h) refl)
+    (picks stands g.F.Feeds.remaining g.F.Feeds.ended contents flushed order c.is_leftmost-is_leftmost.result
+    (search_by c.turns.from (g.K.Knows.first c.turns.known) (g.K.Knows.behind c.turns.known)) c.next-actor.result c.turns.order c.next-actor.new.order c.turns.self
+    (λ is. (c.next-actor.ensures.from is, c.next-actor.ensures.stays is, inv.leans is))
+    c.next-actor.ensures.picked
+    (λ start s now h none within. sym (c.turn_if_ready.ensures.ready start s now h none within)
+    ∙ ap is_some c.in-Some.is))
+    c.in-Some.ensures.gone.link c.in-Some.ensures.gone.turned c.in-Some.ensures.gone.readers
+    c.requires.net
+
 pub ask_again-requires : goal.ask_again-requires
 ask_again-requires g c =
     let stands = StandsAs g.F.Feeds.stands g.W.Works.stands in
@@ -294,21 +323,21 @@ ask_again-requires g c =
     let order : Order g.row.O.Denot = record { pick = g.O.Order.picks; next = g.O.Order.after } in
     let inv = c.turns.invariant in
     let tells = told_all stands g.F.Feeds.remaining g.F.Feeds.ended contents flushed order
-    c.is_leftmost-is_leftmost.result c.turns.from false c.args.order.now c.turns.order
-    c.args.self.now c.turns.self c.requires inv.ran in
+    c.is_leftmost-is_leftmost.result (search_by c.turns.from (g.K.Knows.first c.turns.known) (g.K.Knows.behind c.turns.known)) false c.args.order.now c.turns.order
+    c.args.self.now c.turns.self c.requires.net inv.ran in
     may_ask stands g.F.Feeds.remaining g.F.Feeds.ended contents flushed order c.is_leftmost-is_leftmost.result
-    c.turns.from c.next-actor.result c.in-Some.turned.link false c.in-Some.turned.is_over c.args.order.now c.turns.order
+    (search_by c.turns.from (g.K.Knows.first c.turns.known) (g.K.Knows.behind c.turns.known)) c.next-actor.result c.in-Some.turned.link false c.in-Some.turned.is_over c.args.order.now c.turns.order
     c.next-actor.new.order c.args.self.now c.turns.self c.turn_if_ready.new.self inv.ran
     (λ start s now h. not_over _ (tells start s now h) refl)
     (picks stands g.F.Feeds.remaining g.F.Feeds.ended contents flushed order c.is_leftmost-is_leftmost.result
-    c.turns.from c.next-actor.result c.turns.order c.next-actor.new.order c.turns.self
+    (search_by c.turns.from (g.K.Knows.first c.turns.known) (g.K.Knows.behind c.turns.known)) c.next-actor.result c.turns.order c.next-actor.new.order c.turns.self
     (λ is. (c.next-actor.ensures.from is, c.next-actor.ensures.stays is, inv.leans is))
     c.next-actor.ensures.picked
     (λ start s now h none within. sym (c.turn_if_ready.ensures.ready start s now h none within)
     ∙ ap is_some c.in-Some.is))
     c.in-Some.ensures.gone.link c.in-Some.ensures.gone.turned
     c.in-Some.ensures.gone.readers c.if-is_leftmost.false c.reader-reader.result c.reader-reader.new.self
-    c.reader-reader.ensures.same c.reader-reader.ensures.learns c.reader-reader.ensures.tells c.requires
+    c.reader-reader.ensures.same c.reader-reader.ensures.learns c.reader-reader.ensures.tells c.requires.net
     c.if-turned.false
 
 pub turns-smaller-then-is_leftmost : goal.turns-smaller-then-is_leftmost
@@ -319,10 +348,10 @@ turns-smaller-then-is_leftmost g c =
     let order : Order g.row.O.Denot = record { pick = g.O.Order.picks; next = g.O.Order.after } in
     let inv = c.turns.invariant in
     let tells = told_all stands g.F.Feeds.remaining g.F.Feeds.ended contents flushed order
-    c.is_leftmost-is_leftmost.result c.turns.from false c.args.order.now c.turns.order
-    c.args.self.now c.turns.self c.requires inv.ran in
+    c.is_leftmost-is_leftmost.result (search_by c.turns.from (g.K.Knows.first c.turns.known) (g.K.Knows.behind c.turns.known)) false c.args.order.now c.turns.order
+    c.args.self.now c.turns.self c.requires.net inv.ran in
     let st = witness stands g.F.Feeds.remaining g.F.Feeds.ended contents flushed order
-    c.is_leftmost-is_leftmost.result c.turns.from false c.args.order.now c.turns.order c.args.self.now c.turns.self c.requires
+    c.is_leftmost-is_leftmost.result (search_by c.turns.from (g.K.Knows.first c.turns.known) (g.K.Knows.behind c.turns.known)) false c.args.order.now c.turns.order c.args.self.now c.turns.self c.requires.net
     inv.ran in
     let w = st.running in
     let unfailed = still_going stands contents flushed w.start w.scene c.turns.self w.now 0 w.at
@@ -343,10 +372,10 @@ turns-smaller g c =
     let order : Order g.row.O.Denot = record { pick = g.O.Order.picks; next = g.O.Order.after } in
     let inv = c.turns.invariant in
     let tells = told_all stands g.F.Feeds.remaining g.F.Feeds.ended contents flushed order
-    c.is_leftmost-is_leftmost.result c.turns.from false c.args.order.now c.turns.order
-    c.args.self.now c.turns.self c.requires inv.ran in
+    c.is_leftmost-is_leftmost.result (search_by c.turns.from (g.K.Knows.first c.turns.known) (g.K.Knows.behind c.turns.known)) false c.args.order.now c.turns.order
+    c.args.self.now c.turns.self c.requires.net inv.ran in
     let st = witness stands g.F.Feeds.remaining g.F.Feeds.ended contents flushed order
-    c.is_leftmost-is_leftmost.result c.turns.from false c.args.order.now c.turns.order c.args.self.now c.turns.self c.requires
+    c.is_leftmost-is_leftmost.result (search_by c.turns.from (g.K.Knows.first c.turns.known) (g.K.Knows.behind c.turns.known)) false c.args.order.now c.turns.order c.args.self.now c.turns.self c.requires.net
     inv.ran in
     let w = st.running in
     let unfailed = still_going stands contents flushed w.start w.scene c.turns.self w.now 0 w.at
@@ -369,10 +398,10 @@ turns-preserved-then-is_leftmost g c =
     let order : Order g.row.O.Denot = record { pick = g.O.Order.picks; next = g.O.Order.after } in
     let inv = c.turns.invariant in
     let tells = told_all stands g.F.Feeds.remaining g.F.Feeds.ended contents flushed order
-    c.is_leftmost-is_leftmost.result c.turns.from false c.args.order.now c.turns.order
-    c.args.self.now c.turns.self c.requires inv.ran in
+    c.is_leftmost-is_leftmost.result (search_by c.turns.from (g.K.Knows.first c.turns.known) (g.K.Knows.behind c.turns.known)) false c.args.order.now c.turns.order
+    c.args.self.now c.turns.self c.requires.net inv.ran in
     let st = witness stands g.F.Feeds.remaining g.F.Feeds.ended contents flushed order
-    c.is_leftmost-is_leftmost.result c.turns.from false c.args.order.now c.turns.order c.args.self.now c.turns.self c.requires
+    c.is_leftmost-is_leftmost.result (search_by c.turns.from (g.K.Knows.first c.turns.known) (g.K.Knows.behind c.turns.known)) false c.args.order.now c.turns.order c.args.self.now c.turns.self c.requires.net
     inv.ran in
     let w = st.running in
     let unfailed = still_going stands contents flushed w.start w.scene c.turns.self w.now 0 w.at
@@ -381,20 +410,24 @@ turns-preserved-then-is_leftmost g c =
     let net = c.args.self.now in
     record {
       ran = subst (λ b. Ran stands g.F.Feeds.remaining g.F.Feeds.ended contents flushed order
-          c.is_leftmost-is_leftmost.result c.in-Some.turned.link b c.args.order.now c.next-actor.new.order net
-          c.turn_if_ready.new.self) c.if-turned.false (ran_left stands g.F.Feeds.remaining g.F.Feeds.ended contents flushed order
-          c.is_leftmost-is_leftmost.result c.turns.from c.next-actor.result c.in-Some.turned.link false c.in-Some.turned.is_over
+          c.is_leftmost-is_leftmost.result (search_by c.in-Some.turned.link (g.K.Knows.first c.went.new.self) (g.K.Knows.behind c.went.new.self)) b c.args.order.now c.next-actor.new.order net
+          c.turn_if_ready.new.self) c.if-turned.false (ran_knowing stands g.F.Feeds.remaining g.F.Feeds.ended contents flushed order
+          c.is_leftmost-is_leftmost.result (search_by c.turns.from (g.K.Knows.first c.turns.known) (g.K.Knows.behind c.turns.known)) _
+          c.next-actor.result c.in-Some.turned.link c.in-Some.turned.is_over c.args.order.now c.next-actor.new.order net
+          c.turn_if_ready.new.self (c.went.ensures c.turns.from) (ran_left stands g.F.Feeds.remaining g.F.Feeds.ended contents flushed order
+          c.is_leftmost-is_leftmost.result (search_by c.turns.from (g.K.Knows.first c.turns.known) (g.K.Knows.behind c.turns.known)) c.next-actor.result c.in-Some.turned.link false c.in-Some.turned.is_over
           c.args.order.now c.turns.order c.next-actor.new.order c.args.self.now c.turns.self
           c.turn_if_ready.new.self inv.ran
           (λ start s now h. not_over _ (tells start s now h) refl)
           (picks stands g.F.Feeds.remaining g.F.Feeds.ended contents flushed order c.is_leftmost-is_leftmost.result
-          c.turns.from c.next-actor.result c.turns.order c.next-actor.new.order c.turns.self
+          (search_by c.turns.from (g.K.Knows.first c.turns.known) (g.K.Knows.behind c.turns.known)) c.next-actor.result c.turns.order c.next-actor.new.order c.turns.self
           (λ is. (c.next-actor.ensures.from is, c.next-actor.ensures.stays is, inv.leans is))
           c.next-actor.ensures.picked
           (λ start s now h none within. sym (c.turn_if_ready.ensures.ready start s now h none within)
           ∙ ap is_some c.in-Some.is))
           c.in-Some.ensures.gone.link c.in-Some.ensures.gone.turned
-          c.in-Some.ensures.gone.readers c.if-is_leftmost.true (inv.leans c.if-is_leftmost.true));
+          c.in-Some.ensures.gone.readers c.if-is_leftmost.true
+          (c.next-actor.ensures.from c.if-is_leftmost.true) (inv.leans c.if-is_leftmost.true)));
       leans = λ is. subst (λ o. IsLeftmost g.O.Order.picks g.O.Order.after o)
           (sym (c.next-actor.ensures.stays is)) (inv.leans is);
       reads = λ none i. c.in-Some.ensures.gone.reads i
@@ -421,10 +454,10 @@ turns-preserved g c =
     let order : Order g.row.O.Denot = record { pick = g.O.Order.picks; next = g.O.Order.after } in
     let inv = c.turns.invariant in
     let tells = told_all stands g.F.Feeds.remaining g.F.Feeds.ended contents flushed order
-    c.is_leftmost-is_leftmost.result c.turns.from false c.args.order.now c.turns.order
-    c.args.self.now c.turns.self c.requires inv.ran in
+    c.is_leftmost-is_leftmost.result (search_by c.turns.from (g.K.Knows.first c.turns.known) (g.K.Knows.behind c.turns.known)) false c.args.order.now c.turns.order
+    c.args.self.now c.turns.self c.requires.net inv.ran in
     let st = witness stands g.F.Feeds.remaining g.F.Feeds.ended contents flushed order
-    c.is_leftmost-is_leftmost.result c.turns.from false c.args.order.now c.turns.order c.args.self.now c.turns.self c.requires
+    c.is_leftmost-is_leftmost.result (search_by c.turns.from (g.K.Knows.first c.turns.known) (g.K.Knows.behind c.turns.known)) false c.args.order.now c.turns.order c.args.self.now c.turns.self c.requires.net
     inv.ran in
     let w = st.running in
     let unfailed = still_going stands contents flushed w.start w.scene c.turns.self w.now 0 w.at
@@ -435,14 +468,17 @@ turns-preserved g c =
     let net = c.args.self.now in
     record {
       ran = subst (λ b. Ran stands g.F.Feeds.remaining g.F.Feeds.ended contents flushed order
-          c.is_leftmost-is_leftmost.result c.in-Some.turned.link b c.args.order.now c.next-actor.new.order net
-          c.ask_again.new.self) c.if-turned.false (ran_more stands g.F.Feeds.remaining g.F.Feeds.ended contents flushed order
-          c.is_leftmost-is_leftmost.result c.turns.from c.next-actor.result c.in-Some.turned.link false c.in-Some.turned.is_over
+          c.is_leftmost-is_leftmost.result (search_by c.in-Some.turned.link (g.K.Knows.first c.went.new.self) (g.K.Knows.behind c.went.new.self)) b c.args.order.now c.next-actor.new.order net
+          c.ask_again.new.self) c.if-turned.false (ran_knowing stands g.F.Feeds.remaining g.F.Feeds.ended contents flushed order
+          c.is_leftmost-is_leftmost.result (search_by c.turns.from (g.K.Knows.first c.turns.known) (g.K.Knows.behind c.turns.known)) _
+          c.next-actor.result c.in-Some.turned.link c.in-Some.turned.is_over c.args.order.now c.next-actor.new.order net
+          c.ask_again.new.self (c.went.ensures c.turns.from) (ran_more stands g.F.Feeds.remaining g.F.Feeds.ended contents flushed order
+          c.is_leftmost-is_leftmost.result (search_by c.turns.from (g.K.Knows.first c.turns.known) (g.K.Knows.behind c.turns.known)) c.next-actor.result c.in-Some.turned.link false c.in-Some.turned.is_over
           c.args.order.now c.turns.order c.next-actor.new.order c.args.self.now c.turns.self
           c.turn_if_ready.new.self inv.ran
           (λ start s now h. not_over _ (tells start s now h) refl)
           (picks stands g.F.Feeds.remaining g.F.Feeds.ended contents flushed order c.is_leftmost-is_leftmost.result
-          c.turns.from c.next-actor.result c.turns.order c.next-actor.new.order c.turns.self
+          (search_by c.turns.from (g.K.Knows.first c.turns.known) (g.K.Knows.behind c.turns.known)) c.next-actor.result c.turns.order c.next-actor.new.order c.turns.self
           (λ is. (c.next-actor.ensures.from is, c.next-actor.ensures.stays is, inv.leans is))
           c.next-actor.ensures.picked
           (λ start s now h none within. sym (c.turn_if_ready.ensures.ready start s now h none within)
@@ -451,7 +487,7 @@ turns-preserved g c =
           c.in-Some.ensures.gone.readers c.if-is_leftmost.false c.reader-reader.result
           c.reader-reader.new.self c.reader-reader.ensures.same c.reader-reader.ensures.learns
           c.reader-reader.ensures.tells c.ask_again.new.self c.in-Some.ensures.gone.actors asked
-          c.ask_again.ensures.list c.ask_again.ensures.len);
+          c.ask_again.ensures.list c.ask_again.ensures.len));
       leans = λ is. absurd (false≢true (sym c.if-is_leftmost.false ∙ is));
       reads = λ none i. ap (λ n. failed_at g.F.Feeds.failed i n.web.nodes.items) asked
           ∙ ap (λ n. failed_at g.F.Feeds.failed i n.web.nodes.items) same
@@ -487,15 +523,15 @@ told-requires-then-turned g c =
     let order : Order g.row.O.Denot = record { pick = g.O.Order.picks; next = g.O.Order.after } in
     let inv = c.turns.invariant in
     let tells = told_all stands g.F.Feeds.remaining g.F.Feeds.ended contents flushed order
-    c.is_leftmost-is_leftmost.result c.turns.from false c.args.order.now c.turns.order
-    c.args.self.now c.turns.self c.requires inv.ran in
+    c.is_leftmost-is_leftmost.result (search_by c.turns.from (g.K.Knows.first c.turns.known) (g.K.Knows.behind c.turns.known)) false c.args.order.now c.turns.order
+    c.args.self.now c.turns.self c.requires.net inv.ran in
     let ran = ran_over stands g.F.Feeds.remaining g.F.Feeds.ended contents flushed order
-    c.is_leftmost-is_leftmost.result c.turns.from c.next-actor.result c.in-Some.turned.link false c.in-Some.turned.is_over
+    c.is_leftmost-is_leftmost.result (search_by c.turns.from (g.K.Knows.first c.turns.known) (g.K.Knows.behind c.turns.known)) c.next-actor.result c.in-Some.turned.link false c.in-Some.turned.is_over
     c.args.order.now c.turns.order c.next-actor.new.order c.args.self.now c.turns.self
     c.turn_if_ready.new.self inv.ran
     (λ start s now h. not_over _ (tells start s now h) refl)
     (picks stands g.F.Feeds.remaining g.F.Feeds.ended contents flushed order c.is_leftmost-is_leftmost.result
-    c.turns.from c.next-actor.result c.turns.order c.next-actor.new.order c.turns.self
+    (search_by c.turns.from (g.K.Knows.first c.turns.known) (g.K.Knows.behind c.turns.known)) c.next-actor.result c.turns.order c.next-actor.new.order c.turns.self
     (λ is. (c.next-actor.ensures.from is, c.next-actor.ensures.stays is, inv.leans is))
     c.next-actor.ensures.picked
     (λ start s now h none within. sym (c.turn_if_ready.ensures.ready start s now h none within)
@@ -503,8 +539,8 @@ told-requires-then-turned g c =
     c.in-Some.ensures.gone.link c.in-Some.ensures.gone.turned c.in-Some.ensures.gone.readers
     c.if-turned.true in
     let st = witness stands g.F.Feeds.remaining g.F.Feeds.ended contents flushed order
-    c.is_leftmost-is_leftmost.result c.in-Some.turned.link c.in-Some.turned.is_over c.args.order.now
-    c.next-actor.new.order c.args.self.now c.turn_if_ready.new.self c.requires ran in
+    c.is_leftmost-is_leftmost.result (search_by c.turns.from (g.K.Knows.first c.turns.known) (g.K.Knows.behind c.turns.known)) c.in-Some.turned.is_over c.args.order.now
+    c.next-actor.new.order c.args.self.now c.turn_if_ready.new.self c.requires.net ran in
     let w = st.running in
     w
 
@@ -516,15 +552,15 @@ returns-then-turned-clause-ran g c =
     let order : Order g.row.O.Denot = record { pick = g.O.Order.picks; next = g.O.Order.after } in
     let inv = c.turns.invariant in
     let tells = told_all stands g.F.Feeds.remaining g.F.Feeds.ended contents flushed order
-    c.is_leftmost-is_leftmost.result c.turns.from false c.args.order.now c.turns.order
-    c.args.self.now c.turns.self c.requires inv.ran in
+    c.is_leftmost-is_leftmost.result (search_by c.turns.from (g.K.Knows.first c.turns.known) (g.K.Knows.behind c.turns.known)) false c.args.order.now c.turns.order
+    c.args.self.now c.turns.self c.requires.net inv.ran in
     let ran = ran_over stands g.F.Feeds.remaining g.F.Feeds.ended contents flushed order
-    c.is_leftmost-is_leftmost.result c.turns.from c.next-actor.result c.in-Some.turned.link false c.in-Some.turned.is_over
+    c.is_leftmost-is_leftmost.result (search_by c.turns.from (g.K.Knows.first c.turns.known) (g.K.Knows.behind c.turns.known)) c.next-actor.result c.in-Some.turned.link false c.in-Some.turned.is_over
     c.args.order.now c.turns.order c.next-actor.new.order c.args.self.now c.turns.self
     c.turn_if_ready.new.self inv.ran
     (λ start s now h. not_over _ (tells start s now h) refl)
     (picks stands g.F.Feeds.remaining g.F.Feeds.ended contents flushed order c.is_leftmost-is_leftmost.result
-    c.turns.from c.next-actor.result c.turns.order c.next-actor.new.order c.turns.self
+    (search_by c.turns.from (g.K.Knows.first c.turns.known) (g.K.Knows.behind c.turns.known)) c.next-actor.result c.turns.order c.next-actor.new.order c.turns.self
     (λ is. (c.next-actor.ensures.from is, c.next-actor.ensures.stays is, inv.leans is))
     c.next-actor.ensures.picked
     (λ start s now h none within. sym (c.turn_if_ready.ensures.ready start s now h none within)
@@ -532,10 +568,10 @@ returns-then-turned-clause-ran g c =
     c.in-Some.ensures.gone.link c.in-Some.ensures.gone.turned c.in-Some.ensures.gone.readers
     c.if-turned.true in
     let over = told_all stands g.F.Feeds.remaining g.F.Feeds.ended contents flushed order
-    c.is_leftmost-is_leftmost.result c.in-Some.turned.link c.in-Some.turned.is_over c.args.order.now
-    c.next-actor.new.order c.args.self.now c.turn_if_ready.new.self c.requires ran in
+    c.is_leftmost-is_leftmost.result (search_by c.turns.from (g.K.Knows.first c.turns.known) (g.K.Knows.behind c.turns.known)) c.in-Some.turned.is_over c.args.order.now
+    c.next-actor.new.order c.args.self.now c.turn_if_ready.new.self c.requires.net ran in
     ran_to stands g.F.Feeds.remaining g.F.Feeds.ended contents flushed order c.is_leftmost-is_leftmost.result
-    c.in-Some.turned.link c.in-Some.turned.is_over c.args.order.now c.next-actor.new.order c.args.self.now
+    (search_by c.turns.from (g.K.Knows.first c.turns.known) (g.K.Knows.behind c.turns.known)) c.in-Some.turned.is_over c.args.order.now c.next-actor.new.order c.args.self.now
     c.turn_if_ready.new.self c.told-then-turned.result ran
     (λ start s now h.
     has_told _ c.told-then-turned.result (over start s now h) c.if-turned.true
@@ -556,15 +592,15 @@ returns-then-turned-clause-reads g c = λ none i.
     let order : Order g.row.O.Denot = record { pick = g.O.Order.picks; next = g.O.Order.after } in
     let inv = c.turns.invariant in
     let tells = told_all stands g.F.Feeds.remaining g.F.Feeds.ended contents flushed order
-    c.is_leftmost-is_leftmost.result c.turns.from false c.args.order.now c.turns.order
-    c.args.self.now c.turns.self c.requires inv.ran in
+    c.is_leftmost-is_leftmost.result (search_by c.turns.from (g.K.Knows.first c.turns.known) (g.K.Knows.behind c.turns.known)) false c.args.order.now c.turns.order
+    c.args.self.now c.turns.self c.requires.net inv.ran in
     let ran = ran_over stands g.F.Feeds.remaining g.F.Feeds.ended contents flushed order
-    c.is_leftmost-is_leftmost.result c.turns.from c.next-actor.result c.in-Some.turned.link false c.in-Some.turned.is_over
+    c.is_leftmost-is_leftmost.result (search_by c.turns.from (g.K.Knows.first c.turns.known) (g.K.Knows.behind c.turns.known)) c.next-actor.result c.in-Some.turned.link false c.in-Some.turned.is_over
     c.args.order.now c.turns.order c.next-actor.new.order c.args.self.now c.turns.self
     c.turn_if_ready.new.self inv.ran
     (λ start s now h. not_over _ (tells start s now h) refl)
     (picks stands g.F.Feeds.remaining g.F.Feeds.ended contents flushed order c.is_leftmost-is_leftmost.result
-    c.turns.from c.next-actor.result c.turns.order c.next-actor.new.order c.turns.self
+    (search_by c.turns.from (g.K.Knows.first c.turns.known) (g.K.Knows.behind c.turns.known)) c.next-actor.result c.turns.order c.next-actor.new.order c.turns.self
     (λ is. (c.next-actor.ensures.from is, c.next-actor.ensures.stays is, inv.leans is))
     c.next-actor.ensures.picked
     (λ start s now h none within. sym (c.turn_if_ready.ensures.ready start s now h none within)
@@ -572,12 +608,12 @@ returns-then-turned-clause-reads g c = λ none i.
     c.in-Some.ensures.gone.link c.in-Some.ensures.gone.turned c.in-Some.ensures.gone.readers
     c.if-turned.true in
     let st = witness stands g.F.Feeds.remaining g.F.Feeds.ended contents flushed order
-    c.is_leftmost-is_leftmost.result c.in-Some.turned.link c.in-Some.turned.is_over c.args.order.now
-    c.next-actor.new.order c.args.self.now c.turn_if_ready.new.self c.requires ran in
+    c.is_leftmost-is_leftmost.result (search_by c.turns.from (g.K.Knows.first c.turns.known) (g.K.Knows.behind c.turns.known)) c.in-Some.turned.is_over c.args.order.now
+    c.next-actor.new.order c.args.self.now c.turn_if_ready.new.self c.requires.net ran in
     let w = st.running in
     let before = (witness stands g.F.Feeds.remaining g.F.Feeds.ended contents flushed order
-    c.is_leftmost-is_leftmost.result c.turns.from false c.args.order.now c.turns.order c.args.self.now c.turns.self
-    c.requires inv.ran).running in
+    c.is_leftmost-is_leftmost.result (search_by c.turns.from (g.K.Knows.first c.turns.known) (g.K.Knows.behind c.turns.known)) false c.args.order.now c.turns.order c.args.self.now c.turns.self
+    c.requires.net inv.ran).running in
     let unfailed = still_going stands contents flushed before.start before.scene c.turns.self before.now 0 before.at
     None
     (sym (not_over _ (tells before.start before.scene before.now before.at) refl)) refl in
@@ -601,15 +637,15 @@ returns-then-turned-clause-writes g c = λ none.
     let order : Order g.row.O.Denot = record { pick = g.O.Order.picks; next = g.O.Order.after } in
     let inv = c.turns.invariant in
     let tells = told_all stands g.F.Feeds.remaining g.F.Feeds.ended contents flushed order
-    c.is_leftmost-is_leftmost.result c.turns.from false c.args.order.now c.turns.order
-    c.args.self.now c.turns.self c.requires inv.ran in
+    c.is_leftmost-is_leftmost.result (search_by c.turns.from (g.K.Knows.first c.turns.known) (g.K.Knows.behind c.turns.known)) false c.args.order.now c.turns.order
+    c.args.self.now c.turns.self c.requires.net inv.ran in
     let ran = ran_over stands g.F.Feeds.remaining g.F.Feeds.ended contents flushed order
-    c.is_leftmost-is_leftmost.result c.turns.from c.next-actor.result c.in-Some.turned.link false c.in-Some.turned.is_over
+    c.is_leftmost-is_leftmost.result (search_by c.turns.from (g.K.Knows.first c.turns.known) (g.K.Knows.behind c.turns.known)) c.next-actor.result c.in-Some.turned.link false c.in-Some.turned.is_over
     c.args.order.now c.turns.order c.next-actor.new.order c.args.self.now c.turns.self
     c.turn_if_ready.new.self inv.ran
     (λ start s now h. not_over _ (tells start s now h) refl)
     (picks stands g.F.Feeds.remaining g.F.Feeds.ended contents flushed order c.is_leftmost-is_leftmost.result
-    c.turns.from c.next-actor.result c.turns.order c.next-actor.new.order c.turns.self
+    (search_by c.turns.from (g.K.Knows.first c.turns.known) (g.K.Knows.behind c.turns.known)) c.next-actor.result c.turns.order c.next-actor.new.order c.turns.self
     (λ is. (c.next-actor.ensures.from is, c.next-actor.ensures.stays is, inv.leans is))
     c.next-actor.ensures.picked
     (λ start s now h none within. sym (c.turn_if_ready.ensures.ready start s now h none within)
@@ -617,12 +653,12 @@ returns-then-turned-clause-writes g c = λ none.
     c.in-Some.ensures.gone.link c.in-Some.ensures.gone.turned c.in-Some.ensures.gone.readers
     c.if-turned.true in
     let st = witness stands g.F.Feeds.remaining g.F.Feeds.ended contents flushed order
-    c.is_leftmost-is_leftmost.result c.in-Some.turned.link c.in-Some.turned.is_over c.args.order.now
-    c.next-actor.new.order c.args.self.now c.turn_if_ready.new.self c.requires ran in
+    c.is_leftmost-is_leftmost.result (search_by c.turns.from (g.K.Knows.first c.turns.known) (g.K.Knows.behind c.turns.known)) c.in-Some.turned.is_over c.args.order.now
+    c.next-actor.new.order c.args.self.now c.turn_if_ready.new.self c.requires.net ran in
     let w = st.running in
     let before = (witness stands g.F.Feeds.remaining g.F.Feeds.ended contents flushed order
-    c.is_leftmost-is_leftmost.result c.turns.from false c.args.order.now c.turns.order c.args.self.now c.turns.self
-    c.requires inv.ran).running in
+    c.is_leftmost-is_leftmost.result (search_by c.turns.from (g.K.Knows.first c.turns.known) (g.K.Knows.behind c.turns.known)) false c.args.order.now c.turns.order c.args.self.now c.turns.self
+    c.requires.net inv.ran).running in
     let unfailed = still_going stands contents flushed before.start before.scene c.turns.self before.now 0 before.at
     None
     (sym (not_over _ (tells before.start before.scene before.now before.at) refl)) refl in
@@ -646,8 +682,8 @@ returns-then-turned-clause-again g c = λ start s now by h e.
     let order : Order g.row.O.Denot = record { pick = g.O.Order.picks; next = g.O.Order.after } in
     let inv = c.turns.invariant in
     let tells = told_all stands g.F.Feeds.remaining g.F.Feeds.ended contents flushed order
-    c.is_leftmost-is_leftmost.result c.turns.from false c.args.order.now c.turns.order
-    c.args.self.now c.turns.self c.requires inv.ran in
+    c.is_leftmost-is_leftmost.result (search_by c.turns.from (g.K.Knows.first c.turns.known) (g.K.Knows.behind c.turns.known)) false c.args.order.now c.turns.order
+    c.args.self.now c.turns.self c.requires.net inv.ran in
     let x = inv.again start s now by h e in
     let at = subst (λ n. NetAt stands contents flushed start s n now) (sym x.0) h in
     absurd (none-some by (sym (not_over _ (tells start s now at) refl) ∙ e))

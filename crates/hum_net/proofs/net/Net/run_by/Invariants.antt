@@ -6,15 +6,16 @@ use Rattle.hum_turns.specs.Failures.{Now, result}
 use Rattle.hum_nodes.specs.Nodes.{StandsAs}
 use Rattle.hum_net.specs.Readers.{failed_at, is_read_of, is_write}
 use Rattle.hum_net.specs.Scene.{Scene, plan_of}
+use Rattle.hum_net.specs.Search.{search_by}
 use Rattle.hum_net.specs.Nets.{NetAt}
 use Rattle.hum_net.proofs.Running.{Ran}
-use Rattle.hum_net.proofs.net.Net.run.Given as goal
+use Rattle.hum_net.proofs.net.Net.run_by.Given as goal
 
 abbrev pub invariant-turns : goal.invariant-turns
 invariant-turns g l = record {
   ran : Ran (StandsAs g.F.Feeds.stands g.W.Works.stands) g.F.Feeds.remaining g.F.Feeds.ended
       g.S.Sink.contents g.S.Sink.flushed (record { pick = g.O.Order.picks; next = g.O.Order.after })
-      l.is_leftmost l.from false l.fn.order l.order l.fn.self l.self;
+      l.is_leftmost (search_by l.from (g.K.Knows.first l.known) (g.K.Knows.behind l.known)) false l.fn.order l.order l.fn.self l.self;
   leans : l.is_leftmost ≡ true → IsLeftmost g.O.Order.picks g.O.Order.after l.order;
   reads : l.fn.self.failure ≡ None → (i : ℕ) → failed_at g.F.Feeds.failed i l.self.web.nodes.items
       ≡ (failed_at g.F.Feeds.failed i l.fn.self.web.nodes.items || is_read_of i l.self.failure);
