@@ -1,5 +1,7 @@
 mod Examples
 pub mod Keeping
 pub mod Nearest
+pub mod Passing
 pub mod Steps
 pub mod Tokens
+pub mod Whole

@@ -7,8 +7,8 @@ use Rattle.std.specs.Prelude.{nat_eq}
 use Rattle.std.specs.List.{starts_with}
 use Rattle.std.specs.Str.{bytes_eq}
 use lib.Chars.{codes}
-use Rattle.hum_record.specs.declared.SpinedKind.TheVariants.{Local, Interpretation, Values}
-use Rattle.hum_record.specs.Spelling.{same_kind}
+use Rattle.hum_record.specs.declared.SpinedKind.TheVariants.{Interpretation}
+use Rattle.hum_record.specs.Spelling.{kind_of_token}
 use Rattle.hum_path.specs.declared.signs.Sign.TheVariants.{Split, Join, Exchange, Add, End, Plain}
 use Rattle.hum_path.specs.Sign.{sign_of, is_exclusive}
 use Rattle.hum_path.specs.Chains.{reach}
@@ -42,19 +42,19 @@ exclusive_by_text token = elim (cases_Bool (starts_with nat_eq token (codes "**"
           (bytes_eq token (codes "*+")) (bytes_eq token (codes "*-")))
     ]
 
-no_data : (comment star : Bool) → star ≡ true → same_kind (cond comment Local (cond star Interpretation Values)) Values ≡ false
-no_data true star h = refl
-no_data false true h = refl
-no_data false false h = cc
-
--- an exclusive interpretation is no data
-pub not_repeated : (skip : Option (List ℕ)) (token : List ℕ) → is_exclusive (sign_of token) ≡ true → may_repeat skip token ≡ false
-not_repeated skip [] h = cc
-not_repeated skip (b ∷ bs) h =
+-- an exclusive interpretation is an interpretation
+pub exclusive_kind : (token : List ℕ) → is_exclusive (sign_of token) ≡ true → kind_of_token token ≡ Interpretation
+exclusive_kind [] h = cc
+exclusive_kind (b ∷ bs) h =
     let starts : starts_with nat_eq (b ∷ bs) (codes "**") ≡ true = sym (exclusive_by_text (b ∷ bs)) ∙ h in
     let first = (and_parts (42 == b) (starts_with nat_eq bs (codes "*")) starts).0 in
     let star : (b == 42) ≡ true = grind (arith, nat_tests, first) in
-    rw (no_data (b == 33) (b == 42) star) refl
+    let comment : (b == 33) ≡ false = grind (arith, nat_tests, first) in
+    rw (comment, star) refl
+
+-- and no data
+pub not_repeated : (skip : Option (List ℕ)) (token : List ℕ) → is_exclusive (sign_of token) ≡ true → may_repeat skip token ≡ false
+not_repeated skip token h = rw (exclusive_kind token h) refl
 
 pub remembers_nearest : (skip : Option (List ℕ)) (above : List (List ℕ)) → remembered (last_seen skip) None above ≡ repeated skip above
 remembers_nearest skip [] = refl

@@ -3,23 +3,22 @@ use Rattle.std.proofs.Common.{◌≡◌, ◌∙◌, refl, sym, ap, ℕ, ◌<◌,
 use Rattle.std.specs.Prelude.{nat_le, Ok, Err}
 use Rattle.std.specs.List.{list_any}
 use Rattle.std.proofs.lemmas.Bool.Decides.{nat_tests}
-use Rattle.std.proofs.lemmas.List.{length-map}
 use Rattle.hum_record.specs.declared.Kind.TheVariants.{Global, Values as AnyValues}
 use Rattle.hum_record.specs.declared.SpinedKind.TheVariants.{Local, Interpretation, Values}
-use Rattle.hum_record.specs.Row.{Row, Comment, Spined, kind_of, tokens_of, width_of, text_of}
+use Rattle.hum_record.specs.Row.{Row, Comment, Spined, kind_of, tokens_of, text_of}
 use Rattle.hum_record.specs.Building.{spelled}
 use Rattle.hum_path.specs.declared.moved.Move.{Move}
 use Rattle.hum_path.specs.Spines.{Path, after, moves}
-use Rattle.hum_path.specs.Score.{IsOpen, path_after}
+use Rattle.hum_path.specs.Score.{path_after}
 use Rattle.hum_path.specs.Chains.{columns}
-use Rattle.hum_path.specs.Memories.{remembered, Remember}
-use Rattle.hum_path.proofs.Widths.{columns_width, text_width}
+use Rattle.hum_path.specs.Memories.{Remember}
 use Rattle.hum_stage.specs.declared.faults.Rule.TheVariants.{L1}
 use Rattle.hum_stage.specs.Decided.{Decision, in_room}
 use Rattle.hum_ditto.specs.declared.DittoOptions.{DittoOptions}
 use Rattle.hum_record.specs.Contents.{is_null}
 use Rattle.hum_ditto.specs.Ditto.{all_filled, if_fits}
 use Rattle.hum_ditto.specs.Memory.{last_seen, Follows}
+use Rattle.hum_ditto.specs.Held.{Remembered, IsGivenFor}
 use Rattle.hum_ditto.proofs.Nearest.{all_remembered}
 use Rattle.hum_ditto.proofs.Tokens.{nothing_filled}
 
@@ -27,6 +26,10 @@ use Rattle.hum_ditto.proofs.Tokens.{nothing_filled}
 pub told : (found : List Move) (path : Path) (past : List Row) (row : Row) → found ≡ moves path row → path ≡ path_after past
     → found ≡ moves (path_after past) row
 told found path past row is spines = rw spines at is
+
+-- a record without null data tokens is given as it is
+pub stays_given : (memory : Remembered) (row : Row) → (kind_of row ≡ AnyValues → list_any is_null (tokens_of row) ≡ false) → IsGivenFor memory row row
+stays_given memory row none k = (k, sym (nothing_filled memory.options.parentheses memory.each (tokens_of row) (none k)))
 
 comment_no_data : Global ≡ AnyValues → ⊥
 comment_no_data e = cc
@@ -67,21 +70,11 @@ module _ (options : DittoOptions) (path : Path) (memories : List (Option (List �
       let test : nat_le (length (spelled tokens)) 1048576 ≡ true = grind (arith, nat_tests, within) in
       rw (decided tokens, nothing_filled options.parentheses memories tokens (none refl), test) refl
 
-  -- each token of a data record has its memory
-  pub memories_width : (row : Row) → IsOpen (row ∷ past) → kind_of row ≡ AnyValues → length memories ≡ width_of row
-  memories_width (Comment text) sound k = absurd (comment_no_data k)
-  memories_width (Spined Local tokens) sound k = absurd cc
-  memories_width (Spined Interpretation tokens) sound k = absurd cc
-  memories_width (Spined Values tokens) sound k =
-      ap length h.remembered ∙ length-map (columns past) (remembered (last_seen options.skip) None)
-      ∙ columns_width past sound.0 ∙ sym (text_width (path_after past) tokens sound.1)
-
   -- the state goes on with the record
-  pub follows_on : (row : Row) (path' : Path) (skip' : Option (List ℕ)) (memories' : List (Option (List ℕ))) → path' ≡ after path row → skip' ≡ options.skip
+  pub follows_on : (row : Row) (path' : Path) (options' : DittoOptions) (memories' : List (Option (List ℕ))) → path' ≡ after path row → options' ≡ options
       → Remember (last_seen options.skip) None (row ∷ past) memories' →
-      Follows (record { skip = skip'; parentheses = options.parentheses }) path' memories' decide
-      (row ∷ past)
-  follows_on row path' skip' memories' is same remember = rw same (record {
+      Follows options' path' memories' decide (row ∷ past)
+  follows_on row path' options' memories' is same remember = rw same (record {
     command = h.command;
     spines = is ∙ ap (λ (p : Path). after p row) h.spines;
     remembered = remember;

@@ -21,22 +21,22 @@ filled_length parentheses (source ∷ sources) [] = refl
 filled_length parentheses (source ∷ sources) (token ∷ tokens) = ap suc (filled_length parentheses sources tokens)
 
 -- one token more
-filled_next : (parentheses : Bool) (sources : List (Option (List ℕ))) (tokens : List (List ℕ)) (j : ℕ) (x : Option (List ℕ))
-    → j < length tokens → length sources ≡ length tokens → x ≡ get_or sources j x
+filled_next : (parentheses : Bool) (sources : List (Option (List ℕ))) (tokens : List (List ℕ)) (j : ℕ)
+    → j < length tokens → length sources ≡ length tokens
     → all_filled parentheses (take (suc j) sources) (take (suc j) tokens)
-    ≡ all_filled parentheses (take j sources) (take j tokens) ++ filled parentheses x (get_or tokens j []) ∷ []
-filled_next parentheses [] tokens j x below same at = absurd (omega (arith, below, same))
-filled_next parentheses (source ∷ sources) [] j x below same at = absurd (omega (arith, below))
-filled_next parentheses (source ∷ sources) (token ∷ tokens) zero x below same at = rw at refl
-filled_next parentheses (source ∷ sources) (token ∷ tokens) (suc j) x below same at =
+    ≡ all_filled parentheses (take j sources) (take j tokens) ++ filled parentheses (get_or sources j None) (get_or tokens j []) ∷ []
+filled_next parentheses [] tokens j below same = absurd (omega (arith, below, same))
+filled_next parentheses (source ∷ sources) [] j below same = absurd (omega (arith, below))
+filled_next parentheses (source ∷ sources) (token ∷ tokens) zero below same = refl
+filled_next parentheses (source ∷ sources) (token ∷ tokens) (suc j) below same =
     ap (λ (made : List (List ℕ)). filled parentheses source token ∷ made)
-    (filled_next parentheses sources tokens j x (omega (arith, below)) (omega (arith, same)) at)
+    (filled_next parentheses sources tokens j (omega (arith, below)) (omega (arith, same)))
 
-pub fill_more : (parentheses : Bool) (sources : List (Option (List ℕ))) (tokens : List (List ℕ)) (j : ℕ) (x : Option (List ℕ))
-    → j < length tokens → length sources ≡ length tokens → x ≡ get_or sources j x
-    → all_filled parentheses (take j sources) (take j tokens) ++ filled parentheses x (get_or tokens j []) ∷ []
+pub fill_more : (parentheses : Bool) (sources : List (Option (List ℕ))) (tokens : List (List ℕ)) (j : ℕ)
+    → j < length tokens → length sources ≡ length tokens
+    → all_filled parentheses (take j sources) (take j tokens) ++ filled parentheses (get_or sources j None) (get_or tokens j []) ∷ []
     ≡ all_filled parentheses (take (j + 1) sources) (take (j + 1) tokens)
-fill_more parentheses sources tokens j x below same at = rw add-one (sym (filled_next parentheses sources tokens j x below same at))
+fill_more parentheses sources tokens j below same = rw add-one (sym (filled_next parentheses sources tokens j below same))
 
 -- that was all of them
 pub fill_all : (parentheses : Bool) (sources : List (Option (List ℕ))) (tokens : List (List ℕ)) (j : ℕ)

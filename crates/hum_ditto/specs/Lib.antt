@@ -1,2 +1,3 @@
 pub mod Ditto
+pub mod Held
 pub mod Memory

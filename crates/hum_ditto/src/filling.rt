@@ -1,5 +1,6 @@
 //! Data records whose null tokens are filled.
-ghost use Rattle.std.specs.Prelude.{◌≡◌, ◌≢◌, ◌≤◌, ◌∷◌, ◌++◌, ℕ, List, [], true, false, length};
+ghost use Rattle.std.specs.Prelude.{◌≡◌, ◌≢◌, ◌<◌, ◌≤◌, ◌∷◌, ◌++◌, ℕ, List, []};
+ghost use Rattle.std.specs.Prelude.{true, false, length, None, slice_index_or};
 ghost use Rattle.std.specs.Prelude.{IfOk, OnOk};
 ghost use Rattle.std.specs.List.{list_any};
 ghost use Rattle.hum_record.specs.declared.Kind.TheVariants.{Values as AnyValues};
@@ -10,8 +11,7 @@ ghost use Rattle.hum_record.specs.Making.{Holds, IsMade};
 ghost use Rattle.hum_record.specs.Contents.{is_null};
 ghost use Rattle.hum_ditto.specs.Ditto.{written, filled, all_filled};
 
-use crate::last_seen::LastSeen;
-use hum_path::Carried;
+use crate::memory::Memory;
 use hum_record::{Kind, Making, Record, Spare, SpinedKind, is_null};
 use std::alloc::{AllocError, Global};
 
@@ -46,27 +46,29 @@ fn parenthesize(token: &[u8], shown: &mut Vec<u8>) -> Result<(), AllocError>
 
 /// Adds what a token becomes, by what is remembered of its column.
 fn push_filled(
-    parentheses: bool,
-    memory: &LastSeen,
+    memory: &Memory,
+    j: usize,
     token: &[u8],
     shown: &mut Vec<u8>,
     making: &mut Making,
 ) -> Result<(), AllocError>
+    requires within { j < length memory.now.each }
     requires lawful { IsToken Values token.now }
     requires kind { making.old.builder.kind ≡ Values }
     ensures kind { making.new.builder.kind ≡ Values }
     ensures pushed { OnOk result ((tokens : List (List ℕ))
         → Holds Values making.old.builder making.old.is_long tokens
         → Holds Values making.new.builder making.new.is_long
-        (tokens ++ filled parentheses memory.now token.now ∷ [])) }
+        (tokens ++ filled memory.now.options.parentheses
+        (slice_index_or memory.now.each j None) token.now ∷ [])) }
 {
     if !is_null(token) {
         return making.push(token);
     }
-    match memory.token() {
+    match memory.token(j) {
         None => making.push(token),
         Some(source) => {
-            if parentheses {
+            if memory.parentheses() {
                 parenthesize(source, shown)?;
                 making.push(shown)
             } else {
@@ -80,27 +82,21 @@ fn push_filled(
 /// long.
 pub(crate) fn rebuilt(
     alloc: Global,
-    parentheses: bool,
     row: &Record,
-    memories: &Carried<LastSeen>,
+    memory: &Memory,
     shown: &mut Vec<u8>,
     spare: &mut Spare,
 ) -> Result<Option<Record>, AllocError>
     requires kind { kind_of row.now ≡ AnyValues }
-    requires width { length memories.now.each ≡ width_of row.now }
+    requires width { length memory.now.each ≡ width_of row.now }
     requires tokens { tokens_of row.now ≢ [] }
     ensures { IfOk result
-        (IsMade Values (all_filled parentheses memories.now.each (tokens_of row.now))) }
+        (IsMade Values (all_filled memory.now.options.parentheses memory.now.each
+        (tokens_of row.now))) }
 {
     let mut making = Making::new(alloc, SpinedKind::Values, spare);
     for j in 0..row.width() {
-        push_filled(
-            parentheses,
-            memories.at(j),
-            row.token(j),
-            shown,
-            &mut making,
-        )?;
+        push_filled(memory, j, row.token(j), shown, &mut making)?;
     }
     Ok(making.finish())
 }

@@ -7,13 +7,14 @@
 
 mod filling;
 mod last_seen;
+mod memory;
 
 use filling::{is_to_fill, rebuilt};
-use hum_path::{Carried, Paths};
+use hum_path::Paths;
 use hum_pattern::Pattern;
 use hum_record::{Record, Spare};
 use hum_stage::{AtOnce, Command, Decides, Rule};
-use last_seen::LastSeen;
+use memory::Memory;
 use std::alloc::{AllocError, Global};
 
 /// How null data tokens are filled.
@@ -29,9 +30,8 @@ pub struct DittoOptions {
 #[derive(Drop)]
 pub struct Repeats {
     alloc: Global,
-    options: DittoOptions,
     paths: Paths,
-    carried: Carried<LastSeen>,
+    memory: Memory,
     // where a token is written in parentheses
     shown: Vec<u8>,
     // what is left of records that gave way to others
@@ -51,7 +51,7 @@ impl Decides for Repeats {
 
     ghost decide = { ditto };
 
-    ghost follows = { λ s. Follows s.options s.paths.path s.carried.each };
+    ghost follows = { λ s. Follows s.memory.options s.paths.path s.memory.each };
 
     fn command() -> Command {
         Command::Ditto
@@ -60,9 +60,8 @@ impl Decides for Repeats {
     fn begin(alloc: Global, options: DittoOptions) -> Repeats {
         Repeats {
             alloc,
-            options,
             paths: Paths::new(alloc),
-            carried: Carried::new(alloc),
+            memory: Memory::new(alloc, options),
             shown: Vec::new(alloc),
             spare: Spare::none(alloc),
         }
@@ -76,22 +75,20 @@ impl Decides for Repeats {
     ) -> Result<Option<Rule>, AllocError> {
         let found = self.paths.follow(&next)?;
         if !is_to_fill(&next) {
-            self.carried.follow(&mut self.options.skip, &next, &found)?;
+            self.memory.follow(&next, &next, found)?;
             *out = Some(next);
             return Ok(None);
         }
-        let parentheses = self.options.parentheses;
         let rebuilt = rebuilt(
             self.alloc,
-            parentheses,
             &next,
-            &self.carried,
+            &self.memory,
             &mut self.shown,
             &mut self.spare,
         )?;
         match rebuilt {
             Some(made) => {
-                self.carried.follow(&mut self.options.skip, &next, &found)?;
+                self.memory.follow(&next, &made, found)?;
                 *out = Some(made);
                 self.spare.keep(next);
                 Ok(None)

@@ -9,5 +9,5 @@ abbrev pub invariant-loop-j : goal.invariant-loop-j
 invariant-loop-j l = record {
   kind : l.making.builder.kind ≡ Values;
   made : Holds Values l.making.builder l.making.is_long
-      (all_filled l.parentheses (take l.j l.memories.each) (take l.j (tokens_of l.row)));
+      (all_filled l.memory.options.parentheses (take l.j l.memory.each) (take l.j (tokens_of l.row)));
 }

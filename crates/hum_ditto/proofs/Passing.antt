@@ -1,0 +1,131 @@
+-- What the memory holds behind a record.
+use Rattle.std.proofs.Common.{◌≡◌, ◌∙◌, refl, sym, ap, ℕ, false, List, [], ◌∷◌, length, map, Option, None, arith}
+use Rattle.std.specs.Prelude.{Result, Ok, Err, OnOk, OnErr}
+use Rattle.std.specs.List.{list_any}
+use Rattle.std.proofs.lemmas.List.{length-map}
+use Rattle.hum_record.specs.declared.Kind.TheVariants.{Interpretation as AnyInterpretation, Values as AnyValues}
+use Rattle.hum_record.specs.Row.{Row, kind_of, tokens_of, width_of, text_of}
+use Rattle.hum_record.specs.Spelling.{IsTextOf}
+use Rattle.hum_path.specs.declared.moved.Move.{Move}
+use Rattle.hum_path.specs.Sign.{sign_of, is_exclusive}
+use Rattle.hum_path.specs.Spines.{same_upto, moves}
+use Rattle.hum_path.specs.Score.{path_after}
+use Rattle.hum_path.specs.Memories.{Remember}
+use Rattle.hum_path.specs.Step.{ComeFrom}
+use Rattle.hum_ditto.specs.declared.DittoOptions.{DittoOptions}
+use Rattle.hum_ditto.specs.declared.memory.Holding.{Holding}
+use Rattle.hum_ditto.specs.declared.memory.Holding.TheVariants.{Given}
+use Rattle.hum_ditto.specs.Memory.{last_seen}
+use Rattle.hum_ditto.specs.Held.{seen_alone, remembered_in, Remembered, IsWhole, MayFollow, HasFollowed, IsGivenFor}
+use Rattle.hum_ditto.proofs.Whole.{data_width, data_stays, steered_width, data_followed, plain_followed}
+use Rattle.hum_ditto.proofs.Whole.{seen_behind, stays_behind, given_width, given_some}
+
+abbrev pub seen_in : DittoOptions → Holding → Remembered
+seen_in options holding = record { options = options; each = remembered_in holding }
+
+-- a data record that is the first to be held whole
+pub begins_whole : (memory : Remembered) (options : DittoOptions) (holding : Holding) (row given new : Row) (found : List Move)
+    → seen_in options holding ≡ memory → options.skip ≡ None → options.parentheses ≡ false
+    → kind_of row ≡ AnyValues → IsTextOf row (text_of row) → MayFollow memory row found → IsGivenFor memory row given → new ≡ given
+    → IsWhole options new found
+begins_whole memory options holding row given new found view none bare k lawful may becomes is = rw is (record {
+  skips_none = none;
+  bare = bare;
+  kind = (becomes k).0;
+  some = given_some memory row given k lawful becomes;
+  stays = data_stays may.past row found may.moved may.score k ∙ ap (same_upto 0) (sym (given_width memory row given k becomes));
+})
+
+pub begins_followed : (memory : Remembered) (options : DittoOptions) (holding : Holding) (row given new : Row) (found : List Move)
+    → seen_in options holding ≡ memory → options.skip ≡ None → options.parentheses ≡ false
+    → kind_of row ≡ AnyValues → IsTextOf row (text_of row) → ComeFrom row found → IsGivenFor memory row given → new ≡ given
+    → HasFollowed memory row found (map seen_alone (tokens_of new))
+begins_followed memory options holding row given new found view none bare k lawful come becomes is =
+    data_followed memory (map seen_alone (tokens_of new)) row given found (ap (λ m. m.options.skip) (sym view) ∙ none)
+    (ap (λ m. m.options.parentheses) (sym view) ∙ bare) k lawful come becomes (ap (λ r. map seen_alone (tokens_of r)) is)
+
+module _ (memory : Remembered) (options : DittoOptions) (holding : Holding) (old : Row) (stays : List Move)
+    (view : seen_in options holding ≡ memory) (is : holding ≡ Given old stays) (whole : IsWhole options old stays) where
+  none : memory.options.skip ≡ None
+  none = ap (λ m. m.options.skip) (sym view) ∙ whole.skips_none
+
+  each : memory.each ≡ map seen_alone (tokens_of old)
+  each = ap (λ m. m.each) (sym view) ∙ ap remembered_in is
+
+  size : length memory.each ≡ width_of old
+  size = ap length each ∙ length-map (tokens_of old) seen_alone
+
+  -- a data record in the place of the one before
+  pub goes_on_whole : (row given new : Row) (found : List Move) {A E : Type 0} (result : Result A E) → kind_of row ≡ AnyValues → IsTextOf row (text_of row)
+      → MayFollow memory row found → IsGivenFor memory row given → OnOk result (new ≡ given) → OnErr result (new ≡ old)
+      → IsWhole options new stays
+  goes_on_whole row given new found (Err fault) k lawful may becomes made kept = rw kept whole
+  goes_on_whole row given new found (Ok done) k lawful may becomes made kept =
+      let same : width_of old ≡ width_of given =
+      sym size ∙ data_width memory.options.skip may.past row memory.each may.remembered may.score k ∙ sym (given_width memory row given k becomes) in
+      rw made (record {
+        skips_none = whole.skips_none;
+        bare = whole.bare;
+        kind = (becomes k).0;
+        some = given_some memory row given k lawful becomes;
+        stays = whole.stays ∙ ap (same_upto 0) same;
+      })
+
+  pub goes_on_followed : (row given new : Row) (found : List Move) → kind_of row ≡ AnyValues → IsTextOf row (text_of row)
+      → ComeFrom row found → IsGivenFor memory row given → new ≡ given → HasFollowed memory row found (map seen_alone (tokens_of new))
+  goes_on_followed row given new found k lawful come becomes made =
+      data_followed memory (map seen_alone (tokens_of new)) row given found none (ap (λ m. m.options.parentheses) (sym view) ∙ whole.bare)
+      k lawful come becomes (ap (λ r. map seen_alone (tokens_of r)) made)
+
+  -- an interpretation that moves and names nothing
+  pub stays_followed : (row : Row) (found : List Move) (wide : ℕ) → kind_of row ≡ AnyInterpretation → IsTextOf row (text_of row) → ComeFrom row found
+      → wide ≡ width_of old → found ≡ same_upto 0 wide → list_any (λ t. is_exclusive (sign_of t)) (tokens_of row) ≡ false
+      → HasFollowed memory row found (map seen_alone (tokens_of old))
+  stays_followed row found wide k lawful come same stay plain =
+      plain_followed memory (map seen_alone (tokens_of old)) (sym each) row found k lawful come
+      (stay ∙ ap (same_upto 0) (same ∙ sym size)) plain
+
+  -- one that does is as wide
+  pub steers_width : (row : Row) (found : List Move) → kind_of row ≡ AnyInterpretation → MayFollow memory row found → width_of row ≡ width_of old
+  steers_width row found k may =
+      steered_width memory.options.skip may.past row memory.each may.remembered may.score k
+      (λ no. whole.some (empty (tokens_of old) (sym size ∙ no))) ∙ size
+    where
+      empty : (tokens : List (List ℕ)) → length tokens ≡ 0 → tokens ≡ []
+      empty [] h = refl
+      empty (token ∷ tokens) h = absurd (omega (arith, h))
+
+  pub steers_followed : (row : Row) (found : List Move) (skip : Option (List ℕ)) (old' new : List (Option (List ℕ)))
+      → skip ≡ options.skip → old' ≡ map seen_alone (tokens_of old)
+      → ((past : List Row) → Remember (last_seen skip) None past old' → found ≡ moves (path_after past) row
+      → Remember (last_seen skip) None (row ∷ past) new)
+      → HasFollowed memory row found new
+  steers_followed row found skip old' new kept alone follow past remember sound moved =
+      let same : skip ≡ memory.options.skip = kept ∙ ap (λ m. m.options.skip) view in
+      let before : Remember (last_seen skip) None past old' = rw (same, alone, ← each) remember in
+      rw (← same) (follow past before moved)
+
+-- each column's own memory goes on
+pub each_followed : (memory : Remembered) (options : DittoOptions) (holding : Holding) (each new : List (Option (List ℕ))) (row : Row) (found : List Move)
+    → seen_in options holding ≡ memory → remembered_in holding ≡ each
+    → ((past : List Row) → Remember (last_seen options.skip) None past each → found ≡ moves (path_after past) row
+    → Remember (last_seen options.skip) None (row ∷ past) new)
+    → HasFollowed memory row found new
+each_followed memory options holding each new row found view is follow past remember sound moved =
+    let same = ap (λ m. m.options.skip) view in
+    let before : Remember (last_seen options.skip) None past each = rw (same, ← is) (ap (λ m. m.each) view ∙ remember) in
+    rw (← same) (follow past before moved)
+
+-- memories that open under an interpretation, and see a data record
+pub each_alone : (skip skip' : Option (List ℕ)) (row next : Row) (stays : List Move) (fresh first last : List (Option (List ℕ)))
+    → skip ≡ None → skip' ≡ skip → fresh ≡ [] → kind_of row ≡ AnyValues → kind_of next ≡ AnyInterpretation → IsTextOf next (text_of next)
+    → width_of next ≡ width_of row → stays ≡ same_upto 0 (width_of row)
+    → ((past : List Row) → Remember (last_seen skip) None past fresh → stays ≡ moves (path_after past) next
+    → Remember (last_seen skip) None (next ∷ past) first)
+    → ((past : List Row) → Remember (last_seen skip') None past first → stays ≡ moves (path_after past) row
+    → Remember (last_seen skip') None (row ∷ past) last)
+    → last ≡ map seen_alone (tokens_of row)
+each_alone skip skip' row next stays fresh first last none kept empty k n lawful same stay opens sees =
+    let told = stays_behind row next stays k n same stay in
+    let begun : Remember (last_seen skip') None (next ∷ []) first = rw kept (opens [] empty told.0) in
+    seen_behind row next k n lawful same last (rw (kept ∙ none) at (sees (next ∷ []) begun told.1))

@@ -1,0 +1,243 @@
+//! What null tokens would repeat.
+ghost use Rattle.std.specs.Prelude.{◌≡◌, ◌<◌, true, false, map, [], None, slice_index_or};
+ghost use Rattle.std.specs.Prelude.{IfSome, IfOk, OnOk, OnErr, option_map, length};
+ghost use Rattle.std.specs.List.{list_any};
+ghost use Rattle.hum_record.specs.declared.Kind.TheVariants.{Interpretation, Values as AnyValues};
+ghost use Rattle.hum_record.specs.declared.SpinedKind.TheVariants.{Values};
+ghost use Rattle.hum_record.specs.Row.{Row, kind_of, tokens_of, width_of, token_at, text_of};
+ghost use Rattle.hum_record.specs.Spelling.{IsToken, IsTextOf};
+ghost use Rattle.hum_path.specs.Sign.{sign_of, is_exclusive};
+ghost use Rattle.hum_path.specs.Spines.{same_upto};
+ghost use Rattle.hum_path.specs.Step.{ComeFrom};
+ghost use Rattle.hum_ditto.specs.Held.{seen_alone, remembered_in, MayHold, MayFollow, HasFollowed};
+ghost use Rattle.hum_ditto.specs.Held.{IsGivenFor};
+
+use crate::DittoOptions;
+use crate::last_seen::LastSeen;
+use hum_path::{Carried, Moves, token_sign};
+use hum_pattern::Pattern;
+use hum_record::{Kind, Record, Spare, is_null};
+use std::alloc::{AllocError, Global};
+use std::marker::Model;
+use std::mem;
+
+/// How it is held what null tokens would repeat.
+#[derive(Drop)]
+enum Holding {
+    /// The last data record as it was given, and that under it each spine stays where it is.
+    Given(Record, Moves),
+    /// What is remembered of each column.
+    Each(Carried<LastSeen>),
+}
+
+/// What null tokens would repeat, column by column.
+///
+/// Where any token may be repeated, and as it is, a data record as it was given tells so by itself,
+/// until spines move or are named anew.
+pub struct Memory {
+    alloc: Global,
+    options: DittoOptions,
+    holding: Holding,
+    // what is left of the record that was held before
+    spare: Spare,
+}
+
+// Written out, so that a caller's proof sees one call and not both ways to remember.
+impl Drop for Memory {
+    fn drop(self) {
+        let Memory {
+            alloc: _,
+            options: _options,
+            holding: _holding,
+            spare: _spare,
+        } = self;
+    }
+}
+
+impl Model for Memory {
+    ghost use Rattle.hum_ditto.specs.Held.{Remembered, remembered_in, MayHold};
+
+    ghost Value = { Remembered };
+
+    ghost view = { λ m. record { options = m.options; each = remembered_in m.holding } };
+
+    ghost invariant = { λ m. MayHold m.options m.holding };
+}
+
+/// A token of a data record, unless it is null.
+fn filled_token(row: &Record, j: usize) -> Option<&[u8]>
+    requires kind { kind_of row.now ≡ AnyValues }
+    requires within { j < width_of row.now }
+    ensures token { option_map (λ t. t.now) result ≡ seen_alone (token_at row.now j) }
+    ensures lawful { IfSome result (λ t. IsToken Values t.now) }
+{
+    let token = row.token(j);
+    if is_null(token) { None } else { Some(token) }
+}
+
+/// Whether a record names a spine anew.
+fn has_name(row: &Record) -> bool
+    ensures { result ≡ list_any (λ t. is_exclusive (sign_of t)) (tokens_of row.now) }
+{
+    row.tokens().any(|token| token_sign(token).is_exclusive())
+}
+
+/// Whether an interpretation leaves so many spines where they are, and names none.
+fn leaves_all(row: &Record, found: &Moves, width: usize) -> bool
+    ensures moved { result ≡ true → found.now ≡ same_upto 0 width }
+    ensures named { result ≡ true
+        → list_any (λ t. is_exclusive (sign_of t)) (tokens_of row.now) ≡ false }
+{
+    match found.as_listed() {
+        Some(_) => false,
+        None => found.len() == width && !has_name(row),
+    }
+}
+
+/// What is remembered of each column under a data record alone; the next record steers its spines.
+fn each_of(
+    alloc: Global,
+    skip: &mut Option<Pattern>,
+    row: &Record,
+    stays: &Moves,
+    next: &Record,
+) -> Result<Carried<LastSeen>, AllocError>
+    requires skips_none { skip.old ≡ None }
+    requires kind { kind_of row.now ≡ AnyValues }
+    requires stays { stays.now ≡ same_upto 0 (width_of row.now) }
+    requires next { kind_of next.now ≡ Interpretation }
+    requires lawful { IsTextOf next.now (text_of next.now) }
+    requires width { width_of next.now ≡ width_of row.now }
+    ensures each { IfOk result (λ c. c.each ≡ map seen_alone (tokens_of row.now)) }
+    ensures kept { skip.new ≡ skip.old }
+{
+    let mut each = Carried::new(alloc);
+    // an interpretation opens spines, and says nothing to repeat
+    each.follow(skip, next, stays)?;
+    each.follow(skip, row, stays)?;
+    Ok(each)
+}
+
+/// Puts a copy of a record in the place of another.
+fn replace(
+    alloc: Global,
+    held: &mut Record,
+    given: &Record,
+    spare: &mut Spare,
+) -> Result<(), AllocError>
+    ensures given { OnOk result (held.new ≡ given.now) }
+    ensures kept { OnErr result (held.new ≡ held.old) }
+{
+    let copy = given.copy_into(alloc, spare)?;
+    spare.keep(mem::replace(held, copy));
+    Ok(())
+}
+
+/// Whether any token may be repeated, and as it is.
+fn is_plain(options: &DittoOptions) -> bool
+    ensures skips_none { result ≡ true → options.now.skip ≡ None }
+    ensures bare { result ≡ true → options.now.parentheses ≡ false }
+{
+    options.skip.is_none() && !options.parentheses
+}
+
+impl Memory {
+    /// No spines yet.
+    pub fn new(alloc: Global, options: DittoOptions) -> Memory
+        ensures { result ≡ record { options = options; each = [] } }
+    {
+        Memory {
+            alloc,
+            options,
+            holding: Holding::Each(Carried::new(alloc)),
+            spare: Spare::none(alloc),
+        }
+    }
+
+    /// Whether a repeated token stands in parentheses.
+    pub fn parentheses(&self) -> bool
+        ensures { result ≡ self.now.options.parentheses }
+    {
+        self.options.parentheses
+    }
+
+    /// The token that a null token of a column would repeat.
+    pub fn token(&self, j: usize) -> Option<&[u8]>
+        requires { j < length self.now.each }
+        ensures token { option_map (λ t. t.now) result ≡ slice_index_or self.now.each j None }
+        ensures lawful { IfSome result (λ t. IsToken Values t.now) }
+    {
+        match &self.holding {
+            Holding::Given(row, _) => filled_token(row, j),
+            Holding::Each(each) => each.at(j).token(),
+        }
+    }
+
+    /// Goes on under a record, and what it became.
+    ///
+    /// # Errors
+    /// Want of memory. Then it no longer tells what null tokens would repeat.
+    #[inline(always)]
+    pub fn follow(&mut self, row: &Record, given: &Record, found: Moves) -> Result<(), AllocError>
+        requires come { ComeFrom row.now found }
+        requires score { MayFollow self.old row.now found }
+        requires given { IsGivenFor self.old row.now given.now }
+        ensures options { self.new.options ≡ self.old.options }
+        ensures memories { OnOk result (HasFollowed self.old row.now found self.new.each) }
+    {
+        match row.kind() {
+            Kind::Values => self.follow_data(row, given, found),
+            Kind::Interpretation => self.follow_interpretation(row, found),
+            Kind::Local => Ok(()),
+            Kind::Global => Ok(()),
+        }
+    }
+
+    /// The same of a data record.
+    #[inline(always)]
+    fn follow_data(&mut self, row: &Record, given: &Record, found: Moves) -> Result<(), AllocError>
+        requires kind { kind_of row.now ≡ AnyValues }
+        requires lawful { IsTextOf row.now (text_of row.now) }
+        requires come { ComeFrom row.now found }
+        requires score { MayFollow self.old row.now found }
+        requires given { IsGivenFor self.old row.now given.now }
+        ensures options { self.new.options ≡ self.old.options }
+        ensures memories { OnOk result (HasFollowed self.old row.now found self.new.each) }
+    {
+        match &mut self.holding {
+            Holding::Given(held, _) => replace(self.alloc, held, given, &mut self.spare),
+            Holding::Each(each) => {
+                if is_plain(&self.options) {
+                    let copy = given.copy_into(self.alloc, &mut self.spare)?;
+                    self.holding = Holding::Given(copy, found);
+                    return Ok(());
+                }
+                each.follow(&mut self.options.skip, row, &found)
+            }
+        }
+    }
+
+    /// The same of an interpretation.
+    #[inline(never)]
+    fn follow_interpretation(&mut self, row: &Record, found: Moves) -> Result<(), AllocError>
+        requires kind { kind_of row.now ≡ Interpretation }
+        requires lawful { IsTextOf row.now (text_of row.now) }
+        requires come { ComeFrom row.now found }
+        requires score { MayFollow self.old row.now found }
+        ensures options { self.new.options ≡ self.old.options }
+        ensures memories { OnOk result (HasFollowed self.old row.now found self.new.each) }
+    {
+        match &mut self.holding {
+            Holding::Given(held, stays) => {
+                if leaves_all(row, &found, held.width()) {
+                    return Ok(());
+                }
+                let mut each = each_of(self.alloc, &mut self.options.skip, held, stays, row)?;
+                each.follow(&mut self.options.skip, row, &found)?;
+                self.holding = Holding::Each(each);
+                Ok(())
+            }
+            Holding::Each(each) => each.follow(&mut self.options.skip, row, &found),
+        }
+    }
+}
