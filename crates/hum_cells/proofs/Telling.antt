@@ -1,7 +1,8 @@
 -- Tokens of a data record, told one by one.
 use Rattle.std.proofs.Common.{◌≡◌, ◌∙◌, refl, sym, ap, ℕ, zero, suc, ◌+◌, ◌<◌, ◌≤◌, Bool, true, false, ◌&&◌, List, [], ◌∷◌, ◌++◌}
 use Rattle.std.proofs.Common.{length-append, length, drop, get_or, arith, add-one, drop-cons, append_assoc, append-nil}
-use Rattle.std.specs.Prelude.{None, Result, Ok, Err, nat_lt}
+use Rattle.std.specs.Prelude.{Option, None, Some, IfSome, Result, Ok, Err, nat_lt}
+use denote.Ref.{Bor}
 use Rattle.std.proofs.lemmas.List.{drop_all, length-map}
 use Rattle.std.proofs.lemmas.Bool.{or_parts}
 use Rattle.std.proofs.lemmas.Bool.Decides.{nat_tests}
@@ -16,7 +17,7 @@ use Rattle.hum_path.proofs.Widths.{columns_width, text_width}
 use Rattle.hum_stage.specs.declared.faults.Rule.{Rule}
 use Rattle.hum_stage.specs.declared.faults.Rule.TheVariants.{L1}
 use Rattle.hum_record.specs.Making.{Holds}
-use Rattle.hum_cells.specs.Telling.{Pushes}
+use Rattle.hum_cells.specs.Telling.{Knows, KnowsCell, Pushes}
 use Rattle.hum_cells.specs.Retelling.{Retelling, is_kern, kern_columns, is_told, any_told, retold, beside, all_retold, if_fit, data_record, retell}
 
 pub none_told : (kerns : List Bool) (tokens : List (List ℕ)) (j : ℕ) → length tokens ≤ j
@@ -70,6 +71,13 @@ stays becomes kern above token isnt = rw isnt refl
 pub changes : (becomes : List (List ℕ) → List ℕ → Result (List ℕ) Rule) (kern : Bool) (above : List (List ℕ)) (token : List ℕ)
     → (kern && is_told token) ≡ true → retold becomes kern above token ≡ becomes above token
 changes becomes kern above token is = rw is refl
+
+-- what is known of a token that is told anew
+pub known_changes : (follows : Retelling → List Row → Type 0) (kern : Bool) (token : List ℕ) → (kern && is_told token) ≡ true
+    → (known : Option (Bor (List ℕ))) → IfSome known (λ text. Knows follows token text.now)
+    → IfSome known (λ text. KnowsCell follows kern token text.now)
+known_changes follows kern token is None h = tt
+known_changes follows kern token is (Some text) h = λ retelling past above followed. rw is (h retelling past above followed)
 
 module _ (becomes : List (List ℕ) → List ℕ → Result (List ℕ) Rule) (kerns : List Bool) (columns : List (List (List ℕ))) (tokens : List (List ℕ)) (j : ℕ)
     (draft : Draft) (long : Bool) where

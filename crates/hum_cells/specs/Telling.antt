@@ -47,6 +47,13 @@ HasRetold before after j token text refused =
     → history past j ≡ token ∷ above
     → after retelling past × Tells (retelling.becomes above token) text refused
 
+-- A data token becomes this text wherever it stands, by each retelling and each past that the teller
+-- follows.
+abbrev pub Knows : (Retelling → List Row → Type 0) → List ℕ → List ℕ → Type 0
+Knows follows token text =
+    (retelling : Retelling) (past : List Row) (above : List (List ℕ)) → follows retelling past
+    → Tells (retelling.becomes above token) text None
+
 -- a record after records that a teller follows, and where the spines come from
 pub record MayFollow (follows : Retelling → List Row → Type 0) (row : Row) (found : List Move)
     : Type 0 where
@@ -103,6 +110,12 @@ HasTold before after kern row told =
     (retelling : Retelling) (past : List Row) → before retelling (row ∷ past)
     → kern ≡ kern_columns past → IsOpen (row ∷ past)
     → after retelling (row ∷ past) × (retell retelling past row ≡ decision row told)
+
+-- The same of a token in a column that may be under **kern.
+abbrev pub KnowsCell : (Retelling → List Row → Type 0) → Bool → List ℕ → List ℕ → Type 0
+KnowsCell follows kern token text =
+    (retelling : Retelling) (past : List Row) (above : List (List ℕ)) → follows retelling past
+    → Tells (retold retelling.becomes kern above token) text None
 
 -- what a token became stands behind the others, or it is refused
 abbrev pub Pushes : Result (List ℕ) Rule → (List (List ℕ) → Type 0) → (List (List ℕ) → Type 0)

@@ -1,5 +1,5 @@
 //! What is a command's own.
-ghost use Rattle.std.specs.Prelude.{◌≡◌, [], true, List, IfOk, OnOk};
+ghost use Rattle.std.specs.Prelude.{◌≡◌, [], true, List, IfOk, IfSome, OnOk};
 ghost use Rattle.hum_record.specs.declared.SpinedKind.TheVariants.{Values};
 ghost use Rattle.hum_record.specs.Row.{Row};
 ghost use Rattle.hum_record.specs.Spelling.{IsToken};
@@ -7,7 +7,7 @@ ghost use Rattle.hum_path.specs.Step.{ComeFrom};
 ghost use Rattle.hum_stage.specs.declared.faults.Command.{Command};
 ghost use Rattle.hum_cells.specs.Retelling.{Retelling, IsHeading, is_told};
 ghost use Rattle.hum_cells.specs.Telling.{MayRetell, HasRetold, MayFollow, HasFollowed};
-ghost use Rattle.hum_cells.specs.Telling.{ShowsHeading};
+ghost use Rattle.hum_cells.specs.Telling.{Knows, ShowsHeading};
 
 use hum_path::Moves;
 use hum_record::Record;
@@ -48,6 +48,15 @@ pub trait Retells: Drop {
     /// What becomes of `**kern`.
     fn heading(&self) -> Heading<'_>
         ensures { ShowsHeading (follows self.now) result };
+
+    /// What a data token becomes wherever it stands, if that is known without reading it.
+    #[inline]
+    fn known(&self, _token: &[u8]) -> Option<&[u8]>
+        requires { IsToken Values _token.now }
+        ensures { IfSome result (λ text. Knows (follows self.now) _token.now text.now) }
+    {
+        None
+    }
 
     /// Puts what the last cell of column `j`, a data token, becomes into the empty text, or answers
     /// the rule by which it is refused. The token is neither null nor a barline.

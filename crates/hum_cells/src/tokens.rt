@@ -1,11 +1,11 @@
 //! Data records with tokens that are told anew.
-ghost use Rattle.std.specs.Prelude.{◌≡◌, ◌&&◌, length, IfOk, OnOk};
+ghost use Rattle.std.specs.Prelude.{◌≡◌, ◌&&◌, length, IfOk, IfSome, OnOk};
 ghost use Rattle.hum_record.specs.declared.Kind.TheVariants.{Values as AnyValues};
 ghost use Rattle.hum_record.specs.declared.SpinedKind.TheVariants.{Values};
 ghost use Rattle.hum_record.specs.Row.{tokens_of, width_of, kind_of};
 ghost use Rattle.hum_record.specs.Spelling.{IsToken};
 ghost use Rattle.hum_cells.specs.Retelling.{is_told, any_told};
-ghost use Rattle.hum_cells.specs.Telling.{MayRetell, HasPushed, MayTell, HasTold};
+ghost use Rattle.hum_cells.specs.Telling.{KnowsCell, MayRetell, HasPushed, MayTell, HasTold};
 ghost use Rattle.hum_record.specs.Making.{Holds};
 
 use crate::retells::Retells;
@@ -44,9 +44,24 @@ pub(crate) fn any_told(kern: &[bool], row: &Record) -> bool
     false
 }
 
-/// Adds what the token in column `j` becomes, or answers the rule by which it is refused.
+/// What a token of a column that may be under `**kern` becomes wherever it stands, if that is
+/// known without reading it: itself, if it isn't told anew.
 #[inline]
-fn push_told<T: Retells>(
+fn known<'a, T: Retells>(teller: &'a T, kern: bool, token: &'a [u8]) -> Option<&'a [u8]>
+    requires { IsToken Values token.now }
+    ensures { IfSome result (λ text. KnowsCell (T.follows teller.now) kern token.now text.now) }
+{
+    if is_retold(kern, token) {
+        teller.known(token)
+    } else {
+        Some(token)
+    }
+}
+
+/// Adds what the token in column `j` becomes, which is read, or answers the rule by which it is
+/// refused.
+#[inline(never)]
+fn push_read<T: Retells>(
     teller: &mut T,
     j: usize,
     kern: bool,
@@ -74,6 +89,31 @@ fn push_told<T: Retells>(
             Ok(None)
         }
     }
+}
+
+/// Adds what the token in column `j` becomes, or answers the rule by which it is refused.
+#[inline]
+fn push_told<T: Retells>(
+    teller: &mut T,
+    j: usize,
+    kern: bool,
+    token: &[u8],
+    text: &mut Vec<u8>,
+    making: &mut Making,
+) -> Result<Option<Rule>, AllocError>
+    requires column { MayRetell (T.follows teller.old) j token.now }
+    requires lawful { IsToken Values token.now }
+    requires kind { making.old.builder.kind ≡ Values }
+    ensures pushed { IfOk result (HasPushed (T.follows teller.old) (T.follows teller.new) j kern
+        token.now (Holds Values making.old.builder making.old.is_long)
+        (Holds Values making.new.builder making.new.is_long)) }
+    ensures kind { OnOk result (making.new.builder.kind ≡ Values) }
+{
+    if let Some(told) = known(&*teller, kern, token) {
+        making.push(told)?;
+        return Ok(None);
+    }
+    push_read(teller, j, kern, token, text, making)
 }
 
 /// What a data record becomes.

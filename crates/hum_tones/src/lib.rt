@@ -10,7 +10,9 @@ mod last_note;
 mod mint;
 mod minting;
 mod recip;
+mod remembered;
 mod semits;
+mod short;
 mod trans;
 mod transposing;
 

@@ -2,6 +2,7 @@
 ghost use Rattle.hum_stage.specs.declared.faults.Command.TheVariants.{Recip as RecipCommand};
 
 use crate::giving::Giving;
+use crate::remembered::GivenTokens;
 use hum_cells::{CellStage, Heading, Retells};
 use hum_path::Moves;
 use hum_record::Record;
@@ -16,6 +17,7 @@ pub struct RecipOptions;
 #[derive(Drop)]
 pub struct RecipTokens {
     options: RecipOptions,
+    tokens: GivenTokens,
 }
 
 /// The command recip, as a stage.
@@ -40,12 +42,17 @@ impl Retells for RecipTokens {
         Command::Recip
     }
 
-    fn begin(_alloc: Global, options: RecipOptions) -> Self {
-        RecipTokens { options }
+    fn begin(alloc: Global, options: RecipOptions) -> Self {
+        RecipTokens { options, tokens: GivenTokens::new(alloc, Giving::Durations) }
     }
 
     fn heading(&self) -> Heading<'_> {
         Heading::Renamed(b"**recip".as_slice())
+    }
+
+    #[inline]
+    fn known(&self, token: &[u8]) -> Option<&[u8]> {
+        self.tokens.known(token)
     }
 
     fn retell(
@@ -54,7 +61,7 @@ impl Retells for RecipTokens {
         token: &[u8],
         text: &mut Vec<u8>,
     ) -> Result<Option<Rule>, AllocError> {
-        Giving::Durations.retell(token, text)
+        self.tokens.retell(token, text)
     }
 
     fn follow(&mut self, _row: &Record, _found: &Moves) -> Result<(), AllocError> {

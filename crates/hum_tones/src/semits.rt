@@ -2,6 +2,7 @@
 ghost use Rattle.hum_stage.specs.declared.faults.Command.TheVariants.{Semits as SemitsCommand};
 
 use crate::giving::Giving;
+use crate::remembered::GivenTokens;
 use hum_cells::{CellStage, Heading, Retells};
 use hum_path::Moves;
 use hum_record::Record;
@@ -19,6 +20,7 @@ pub struct SemitsOptions {
 #[derive(Drop)]
 pub struct SemitsTokens {
     options: SemitsOptions,
+    tokens: GivenTokens,
 }
 
 /// The command semits, as a stage.
@@ -43,12 +45,17 @@ impl Retells for SemitsTokens {
         Command::Semits
     }
 
-    fn begin(_alloc: Global, options: SemitsOptions) -> Self {
-        SemitsTokens { options }
+    fn begin(alloc: Global, options: SemitsOptions) -> Self {
+        SemitsTokens { options, tokens: GivenTokens::new(alloc, Giving::Semitones { ties_left_out: options.ties_left_out }) }
     }
 
     fn heading(&self) -> Heading<'_> {
         Heading::Renamed(b"**semits".as_slice())
+    }
+
+    #[inline]
+    fn known(&self, token: &[u8]) -> Option<&[u8]> {
+        self.tokens.known(token)
     }
 
     fn retell(
@@ -57,10 +64,7 @@ impl Retells for SemitsTokens {
         token: &[u8],
         text: &mut Vec<u8>,
     ) -> Result<Option<Rule>, AllocError> {
-        let giving = Giving::Semitones {
-            ties_left_out: self.options.ties_left_out,
-        };
-        giving.retell(token, text)
+        self.tokens.retell(token, text)
     }
 
     fn follow(&mut self, _row: &Record, _found: &Moves) -> Result<(), AllocError> {

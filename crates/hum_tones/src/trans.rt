@@ -4,6 +4,8 @@ ghost use Rattle.arrayvec.specs.ArrayString.{array_string_len};
 ghost use Rattle.hum_stage.specs.declared.faults.Command.TheVariants.{Trans as TransCommand};
 ghost use Rattle.hum_tones.specs.Commands.{trans_sign};
 
+use crate::giving::Giving;
+use crate::remembered::GivenTokens;
 use crate::transposing::Transposition;
 use arrayvec::ArrayString;
 use hum_cells::{CellStage, Heading, Retells};
@@ -17,6 +19,7 @@ use std::alloc::{AllocError, Global};
 #[derive(Drop)]
 pub struct TransTokens {
     transposition: Transposition,
+    tokens: GivenTokens,
     // what goes behind **kern: *Trd1c2
     sign: ArrayString<32>,
 }
@@ -54,9 +57,10 @@ impl Retells for TransTokens {
         Command::Trans
     }
 
-    fn begin(_alloc: Global, transposition: Transposition) -> Self {
+    fn begin(alloc: Global, transposition: Transposition) -> Self {
         TransTokens {
             transposition,
+            tokens: GivenTokens::new(alloc, Giving::Transposed(transposition)),
             sign: sign(transposition),
         }
     }
@@ -65,13 +69,18 @@ impl Retells for TransTokens {
         Heading::Followed(self.sign.as_str().as_bytes())
     }
 
+    #[inline]
+    fn known(&self, token: &[u8]) -> Option<&[u8]> {
+        self.tokens.known(token)
+    }
+
     fn retell(
         &mut self,
         _j: usize,
         token: &[u8],
         text: &mut Vec<u8>,
     ) -> Result<Option<Rule>, AllocError> {
-        self.transposition.retell(token, text)
+        self.tokens.retell(token, text)
     }
 
     fn follow(&mut self, _row: &Record, _found: &Moves) -> Result<(), AllocError> {
