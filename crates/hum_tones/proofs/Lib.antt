@@ -3,6 +3,7 @@ mod ToneExamples
 pub mod Moving
 pub mod Heard
 pub mod Parts
+pub mod Recalled
 pub mod Written
 pub mod Numbers
 pub mod Joined

@@ -6,7 +6,8 @@ use Rattle.hum_record.specs.Row.{Row}
 use Rattle.hum_path.specs.Memories.{Remember}
 use Rattle.hum_stage.specs.declared.faults.Command.TheVariants.{Trans, Semits, Mint, Recip}
 use Rattle.hum_stage.specs.Meaning.{Meaning}
-use Rattle.hum_cells.specs.Retelling.{Retelling, Renamed, Followed, IsHeading, meaning}
+use Rattle.hum_cells.specs.Retelling.{Retelling, Heading, Renamed, Followed, IsHeading, meaning}
+use Rattle.hum_tones.specs.declared.giving.Giving.{Giving}
 use Rattle.hum_tones.specs.declared.giving.Giving.TheVariants.{Semitones, Durations}
 use Rattle.hum_tones.specs.declared.transposing.Transposition.{Transposition}
 use Rattle.hum_tones.specs.declared.semits.SemitsOptions.{SemitsOptions}
@@ -44,11 +45,14 @@ mint options = record { heading = Renamed (codes "**mint"); becomes = minted_aft
 abbrev pub recip : RecipOptions → Retelling
 recip options = record { heading = Renamed (codes "**recip"); becomes = λ above. given Durations }
 
--- what trans keeps: its options, and the text of what goes behind **kern
-pub record Transposes (options : Transposition) (sign : List ℕ) (retelling : Retelling)
-    (past : List Row) : Type 0 where
-  pub command : retelling ≡ trans options.steps options.semitones
-  pub text : sign ≡ trans_sign options.steps options.semitones
+-- what becomes of kern columns by a heading and by what parts give
+abbrev pub given_under : Heading → Giving → Retelling
+given_under heading giving = record { heading = heading; becomes = λ above. given giving }
+
+-- what trans keeps: how far its notes go, and the text of what goes behind **kern
+pub record Transposes (giving : Giving) (sign : List ℕ) (retelling : Retelling) (past : List Row)
+    : Type 0 where
+  pub command : retelling ≡ given_under (Followed sign) giving
   pub lawful : IsHeading retelling.heading
 
 -- what mint keeps: its options, and what it heard of each column

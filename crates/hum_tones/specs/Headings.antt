@@ -1,14 +1,14 @@
 -- The names of columns that the commands give.
 use Rattle.std.proofs.Common.{◌≡◌, refl}
-use Rattle.hum_cells.specs.Retelling.{Retelling, IsHeading}
-use Rattle.hum_tones.specs.declared.semits.SemitsOptions.{SemitsOptions}
-use Rattle.hum_tones.specs.declared.recip.RecipOptions.{RecipOptions}
+use lib.Chars.{codes}
+use Rattle.hum_cells.specs.Retelling.{Retelling, Renamed, IsHeading}
+use Rattle.hum_tones.specs.declared.giving.Giving.{Giving}
 use Rattle.hum_tones.specs.declared.minting.MintOptions.{MintOptions}
-use Rattle.hum_tones.specs.Commands.{semits, mint, recip}
+use Rattle.hum_tones.specs.Commands.{given_under, mint}
 
-pub semits_heading : (options : SemitsOptions) (retelling : Retelling)
-    → retelling ≡ semits options → IsHeading retelling.heading
-semits_heading options retelling h =
+pub semits_heading : (giving : Giving) (retelling : Retelling)
+    → retelling ≡ given_under (Renamed (codes "**semits")) giving → IsHeading retelling.heading
+semits_heading giving retelling h =
     rw h (
       record {
         filled = λ e. cc;
@@ -22,9 +22,9 @@ semits_heading options retelling h =
       refl,
     )
 
-pub recip_heading : (options : RecipOptions) (retelling : Retelling)
-    → retelling ≡ recip options → IsHeading retelling.heading
-recip_heading options retelling h =
+pub recip_heading : (giving : Giving) (retelling : Retelling)
+    → retelling ≡ given_under (Renamed (codes "**recip")) giving → IsHeading retelling.heading
+recip_heading giving retelling h =
     rw h (
       record {
         filled = λ e. cc;

@@ -2,6 +2,7 @@ pub mod Subtokens
 pub mod Faults
 pub mod Semits
 pub mod Recip
+pub mod Remembering
 pub mod Trans
 pub mod Giving
 pub mod Mint

@@ -16,7 +16,6 @@ pub struct RecipOptions;
 /// What recip makes of tokens.
 #[derive(Drop)]
 pub struct RecipTokens {
-    options: RecipOptions,
     tokens: GivenTokens,
 }
 
@@ -26,31 +25,35 @@ pub type Recip = CellStage<RecipTokens>;
 impl Retells for RecipTokens {
     type Options = RecipOptions;
 
-    ghost use Rattle.std.specs.Prelude.{◌≡◌};
-    ghost use Rattle.hum_tones.specs.Commands.{recip};
+    ghost use Rattle.std.specs.Prelude.{◌≡◌, codes};
+    ghost use Rattle.hum_cells.specs.Retelling.{Renamed};
+    ghost use Rattle.hum_tones.specs.Commands.{recip, given_under};
     ghost use Rattle.hum_tones.specs.Headings.{recip_heading};
 
     ghost command = { RecipCommand };
 
     ghost retelling = { recip };
 
-    ghost follows = { λ s retelling past. retelling ≡ recip s.options };
+    ghost follows = { λ s retelling past. retelling
+        ≡ given_under (Renamed (codes "**recip")) s.tokens };
 
-    ghost lawful = { λ s retelling past h. recip_heading s.options retelling h };
+    ghost lawful = { λ s retelling past h. recip_heading s.tokens retelling h };
 
     fn command() -> Command {
         Command::Recip
     }
 
-    fn begin(alloc: Global, options: RecipOptions) -> Self {
-        RecipTokens { options, tokens: GivenTokens::new(alloc, Giving::Durations) }
+    fn begin(alloc: Global, _options: RecipOptions) -> Self {
+        RecipTokens {
+            tokens: GivenTokens::new(alloc, Giving::Durations),
+        }
     }
 
     fn heading(&self) -> Heading<'_> {
         Heading::Renamed(b"**recip".as_slice())
     }
 
-    #[inline]
+    #[inline(always)]
     fn known(&self, token: &[u8]) -> Option<&[u8]> {
         self.tokens.known(token)
     }

@@ -19,7 +19,6 @@ pub struct SemitsOptions {
 /// What semits makes of tokens.
 #[derive(Drop)]
 pub struct SemitsTokens {
-    options: SemitsOptions,
     tokens: GivenTokens,
 }
 
@@ -29,31 +28,38 @@ pub type Semits = CellStage<SemitsTokens>;
 impl Retells for SemitsTokens {
     type Options = SemitsOptions;
 
-    ghost use Rattle.std.specs.Prelude.{◌≡◌};
-    ghost use Rattle.hum_tones.specs.Commands.{semits};
+    ghost use Rattle.std.specs.Prelude.{◌≡◌, codes};
+    ghost use Rattle.hum_cells.specs.Retelling.{Renamed};
+    ghost use Rattle.hum_tones.specs.Commands.{semits, given_under};
     ghost use Rattle.hum_tones.specs.Headings.{semits_heading};
 
     ghost command = { SemitsCommand };
 
     ghost retelling = { semits };
 
-    ghost follows = { λ s retelling past. retelling ≡ semits s.options };
+    ghost follows = { λ s retelling past. retelling
+        ≡ given_under (Renamed (codes "**semits")) s.tokens };
 
-    ghost lawful = { λ s retelling past h. semits_heading s.options retelling h };
+    ghost lawful = { λ s retelling past h. semits_heading s.tokens retelling h };
 
     fn command() -> Command {
         Command::Semits
     }
 
     fn begin(alloc: Global, options: SemitsOptions) -> Self {
-        SemitsTokens { options, tokens: GivenTokens::new(alloc, Giving::Semitones { ties_left_out: options.ties_left_out }) }
+        let giving = Giving::Semitones {
+            ties_left_out: options.ties_left_out,
+        };
+        SemitsTokens {
+            tokens: GivenTokens::new(alloc, giving),
+        }
     }
 
     fn heading(&self) -> Heading<'_> {
         Heading::Renamed(b"**semits".as_slice())
     }
 
-    #[inline]
+    #[inline(always)]
     fn known(&self, token: &[u8]) -> Option<&[u8]> {
         self.tokens.known(token)
     }

@@ -18,7 +18,6 @@ use std::alloc::{AllocError, Global};
 /// What trans makes of tokens.
 #[derive(Drop)]
 pub struct TransTokens {
-    transposition: Transposition,
     tokens: GivenTokens,
     // what goes behind **kern: *Trd1c2
     sign: ArrayString<32>,
@@ -49,7 +48,7 @@ impl Retells for TransTokens {
 
     ghost retelling = { λ options. trans options.steps options.semitones };
 
-    ghost follows = { λ s. Transposes s.transposition s.sign.bytes };
+    ghost follows = { λ s. Transposes s.tokens s.sign.bytes };
 
     ghost lawful = { λ s retelling past h. h.lawful };
 
@@ -59,7 +58,6 @@ impl Retells for TransTokens {
 
     fn begin(alloc: Global, transposition: Transposition) -> Self {
         TransTokens {
-            transposition,
             tokens: GivenTokens::new(alloc, Giving::Transposed(transposition)),
             sign: sign(transposition),
         }
@@ -69,7 +67,7 @@ impl Retells for TransTokens {
         Heading::Followed(self.sign.as_str().as_bytes())
     }
 
-    #[inline]
+    #[inline(always)]
     fn known(&self, token: &[u8]) -> Option<&[u8]> {
         self.tokens.known(token)
     }

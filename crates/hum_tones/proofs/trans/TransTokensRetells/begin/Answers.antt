@@ -6,7 +6,6 @@ pub returns : goal.returns
 returns c =
     let options = c.args.transposition in
     record {
-      command = refl;
-      text = c.sign.ensures;
+      command = rw (c.new.ensures, c.sign.ensures) refl;
       lawful = (sign_lawful options.steps options.semitones options.in_range.0 options.in_range.1, refl);
     }
