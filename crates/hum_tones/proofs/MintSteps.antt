@@ -19,7 +19,6 @@ use Rattle.hum_tones.specs.Memory.{HeardColumn, unheard, heard_after, heard_of, 
 use Rattle.hum_tones.specs.Commands.{Mints}
 use Rattle.hum_tones.proofs.Heard.{told_is}
 use Rattle.hum_tones.proofs.LastNotes.{note_kept}
-use Rattle.hum_tones.proofs.Recalled.{told_by}
 
 at_map : (f : List (List ℕ) → HeardColumn) (xs : List (List (List ℕ))) (j : ℕ) (e : HeardColumn) →
     j < length xs → slice_index_or (map f xs) j e ≡ f (slice_index_or xs j [])
@@ -44,6 +43,13 @@ heard_is options memories j token column may is retelling past above h cell =
     is ∙ ap (λ (l : List HeardColumn). slice_index_or l j column) h.remembered
     ∙ at_map (remembered (heard_after options.breaks) unheard) (columns past) j column below
     ∙ ap (remembered (heard_after options.breaks) unheard) cell
+
+-- the token that was told is what the command makes of it
+told_by : (made : Result (List ℕ) Rule) (text : List ℕ) (refused : Option Rule) → IsRetold made text refused → Tells made text refused
+told_by (Ok made) text None h = (ap (λ (t : List ℕ). Ok t) (sym h.0), h.1)
+told_by (Ok made) text (Some rule) h = absurd h
+told_by (Err rule) text None h = absurd h
+told_by (Err rule) text (Some other) h = ap (λ (x : Rule). Err x) (sym h)
 
 pub has_retold : (options : MintOptions) (memories : List HeardColumn) (j : ℕ) (token text : List ℕ) (column : HeardColumn)
     → MayRetell (Mints options memories) j token → IsToken Values token → is_told token ≡ true

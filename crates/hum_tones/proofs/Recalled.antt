@@ -1,17 +1,12 @@
 -- Tokens that are remembered, and short texts.
 use Rattle.std.proofs.Common.{◌≡◌, ◌∙◌, refl, sym, ap, subst, ℕ, zero, suc, ◌+◌, ◌≤◌, ◌<◌, List, [], ◌∷◌, ◌++◌, length, get_or, set, arith, inl, inr, ◌⊎◌}
 use Rattle.std.specs.Prelude.{Option, None, Some, IfSome, Result, Ok, Err, slice_get, slice_index}
-use denote.Ref.{Bor}
 use Rattle.hum_record.specs.declared.SpinedKind.TheVariants.{Values}
 use Rattle.hum_record.specs.Spelling.{IsToken}
-use Rattle.hum_stage.specs.declared.faults.Rule.{Rule}
-use Rattle.hum_cells.specs.Retelling.{Retelling, Heading}
-use Rattle.hum_cells.specs.Telling.{Tells, Knows, HasRetold}
 use Rattle.hum_tones.specs.declared.giving.Giving.{Giving}
 use Rattle.hum_tones.specs.declared.remembered.Place.{Place}
 use Rattle.hum_tones.specs.Giving.{given}
 use Rattle.hum_tones.specs.Subtokens.{IsRetold}
-use Rattle.hum_tones.specs.Commands.{given_under}
 use Rattle.hum_tones.specs.Remembering.{Recalls, AllRecall, AgreeWithin}
 
 get_push : {X : Type 0} (xs : List X) (y : X) (i : ℕ) (x : X)
@@ -63,26 +58,3 @@ pub recalled_of : (giving : Giving) (place : Place) (token text : List ℕ) → 
     → place.token ≡ token → text ≡ place.text → IsRetold (given giving token) text None
 recalled_of giving place token text h lawful same is =
     let told : IsRetold (given giving place.token) place.text None = h.is (rw same lawful) in rw (← same, is) told
-
--- the texts that agree in each byte are the same
-pub agree_all : (one other : List ℕ) → length one ≡ length other → AgreeWithin 0 (length one) one other → one ≡ other
-agree_all [] [] same h = refl
-agree_all [] (y ∷ ys) same h = absurd (omega (arith, same))
-agree_all (x ∷ xs) [] same h = absurd (omega (arith, same))
-agree_all (x ∷ xs) (y ∷ ys) same h =
-    let head : x ≡ y = h 0 (omega arith) (omega arith) in
-    let tail : xs ≡ ys = agree_all xs ys (omega (arith, same)) (λ k from to. h (suc k) (omega arith) (omega (arith, to))) in
-    rw (head, tail) refl
-
--- the token that was told is what the command makes of it
-pub told_by : (made : Result (List ℕ) Rule) (text : List ℕ) (refused : Option Rule) → IsRetold made text refused → Tells made text refused
-told_by (Ok made) text None h = (ap (λ (t : List ℕ). Ok t) (sym h.0), h.1)
-told_by (Ok made) text (Some rule) h = absurd h
-told_by (Err rule) text None h = absurd h
-told_by (Err rule) text (Some other) h = ap (λ (x : Rule). Err x) (sym h)
-
--- what a command of what parts give makes of a token
-pub tells_given : (heading : Heading) (giving : Giving) (retelling : Retelling) → retelling ≡ given_under heading giving
-    → (above : List (List ℕ)) (token text : List ℕ) (refused : Option Rule) → IsRetold (given giving token) text refused
-    → Tells (retelling.becomes above token) text refused
-tells_given heading giving retelling command above token text refused h = rw command (told_by _ text refused h)
