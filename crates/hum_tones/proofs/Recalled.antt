@@ -1,13 +1,8 @@
--- Tokens that are remembered, and short texts.
-use Rattle.std.proofs.Common.{◌≡◌, ◌∙◌, refl, sym, ap, subst, ℕ, zero, suc, ◌+◌, ◌≤◌, ◌<◌, List, [], ◌∷◌, ◌++◌, length, get_or, set, arith, inl, inr, ◌⊎◌}
-use Rattle.std.specs.Prelude.{Option, None, Some, IfSome, Result, Ok, Err, slice_get, slice_index}
-use Rattle.hum_record.specs.declared.SpinedKind.TheVariants.{Values}
-use Rattle.hum_record.specs.Spelling.{IsToken}
-use Rattle.hum_tones.specs.declared.giving.Giving.{Giving}
+-- Answers that are remembered.
+use Rattle.std.proofs.Common.{◌≡◌, ◌≢◌, refl, sym, ap, ℕ, zero, suc, ◌<◌, List, [], ◌∷◌, ◌++◌, length, get_or, set, arith, inl, inr, ◌⊎◌}
+use Rattle.std.specs.Prelude.{Some, slice_get}
 use Rattle.hum_tones.specs.declared.remembered.Place.{Place}
-use Rattle.hum_tones.specs.Giving.{given}
-use Rattle.hum_tones.specs.Subtokens.{IsRetold}
-use Rattle.hum_tones.specs.Remembering.{Recalls, AllRecall, AgreeWithin}
+use Rattle.hum_tones.specs.Remembering.{AllAnswer}
 
 get_push : {X : Type 0} (xs : List X) (y : X) (i : ℕ) (x : X)
     → slice_get (xs ++ y ∷ []) i ≡ Some x → (slice_get xs i ≡ Some x) ⊎ (x ≡ y)
@@ -24,37 +19,30 @@ get_set (z ∷ zs) zero y (suc i) x h = inl h
 get_set (z ∷ zs) (suc j) y zero x h = inl h
 get_set (z ∷ zs) (suc j) y (suc i) x h = get_set zs j y i x h
 
-module _ (giving : Giving) (places : List Place) (new : Place) (h : AllRecall giving places) (r : Recalls giving new) where
-  pub recall_push : AllRecall giving (places ++ new ∷ [])
-  recall_push = record { each = λ i place at. by i place (get_push places new i place at) }
+module _ {A : Type 0} (answers : List ℕ → A → Type 0) (places : List (Place A)) where
+  -- one place more, or in the place of another
+  module _ (new : Place A) (h : AllAnswer answers places) (answered : new.token ≢ [] → answers new.token new.answer) where
+    pub answer_push : AllAnswer answers (places ++ new ∷ [])
+    answer_push = record { each = λ i place at. by i place (get_push places new i place at) }
+      where
+        by : (i : ℕ) (place : Place A) → (slice_get places i ≡ Some place) ⊎ (place ≡ new) → place.token ≢ [] → answers place.token place.answer
+        by i place (inl w) = h.each i place w
+        by i place (inr w) = rw w answered
+
+    pub answer_set : (j : ℕ) → AllAnswer answers (set places j new)
+    answer_set j = record { each = λ i place at. by i place (get_set places j new i place at) }
+      where
+        by : (i : ℕ) (place : Place A) → (slice_get places i ≡ Some place) ⊎ (place ≡ new) → place.token ≢ [] → answers place.token place.answer
+        by i place (inl w) = h.each i place w
+        by i place (inr w) = rw w answered
+
+  -- the answer in a place that has this token
+  pub answer_at : (at : ℕ) (place : Place A) (token : List ℕ) → AllAnswer answers places → at < length places → place ≡ get_or places at place
+      → place.token ≡ token → token ≢ [] → answers token place.answer
+  answer_at at place token h below is same filled =
+      rw same at (h.each at place (there places at place below is) (rw same filled))
     where
-      by : (i : ℕ) (place : Place) → (slice_get places i ≡ Some place) ⊎ (place ≡ new) → Recalls giving place
-      by i place (inl w) = h.each i place w
-      by i place (inr w) = rw w r
-
-  pub recall_set : (j : ℕ) → AllRecall giving (set places j new)
-  recall_set j = record { each = λ i place at. by i place (get_set places j new i place at) }
-    where
-      by : (i : ℕ) (place : Place) → (slice_get places i ≡ Some place) ⊎ (place ≡ new) → Recalls giving place
-      by i place (inl w) = h.each i place w
-      by i place (inr w) = rw w r
-
--- no token is remembered in a place that has none
-pub none_recalled : (giving : Giving) (new : Place) → new.token ≡ [] → Recalls giving new
-none_recalled giving new none = record { is = λ token. absurd (token.filled none) }
-
--- what is known of a place that was read
-pub recall_at : (giving : Giving) (places : List Place) (at : ℕ) (place : Place) → AllRecall giving places → at < length places
-    → place ≡ get_or places at place → Recalls giving place
-recall_at giving places at place h below is = h.each at place (there places at place below is)
-  where
-    there : (xs : List Place) (i : ℕ) (x : Place) → i < length xs → x ≡ get_or xs i x → slice_get xs i ≡ Some x
-    there [] i x below is = absurd (omega (arith, below))
-    there (y ∷ ys) zero x below is = ap (λ (z : Place). Some z) (sym is)
-    there (y ∷ ys) (suc i) x below is = there ys i x (omega (arith, below)) is
-
--- the text that is remembered of a token
-pub recalled_of : (giving : Giving) (place : Place) (token text : List ℕ) → Recalls giving place → IsToken Values token
-    → place.token ≡ token → text ≡ place.text → IsRetold (given giving token) text None
-recalled_of giving place token text h lawful same is =
-    let told : IsRetold (given giving place.token) place.text None = h.is (rw same lawful) in rw (← same, is) told
+      there : (xs : List (Place A)) (i : ℕ) (x : Place A) → i < length xs → x ≡ get_or xs i x → slice_get xs i ≡ Some x
+      there [] i x below is = absurd (omega (arith, below))
+      there (y ∷ ys) zero x below is = ap (λ (z : Place A). Some z) (sym is)
+      there (y ∷ ys) (suc i) x below is = there ys i x (omega (arith, below)) is

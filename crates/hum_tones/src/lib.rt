@@ -4,6 +4,7 @@
 //! else as it is, is the crate `hum_cells`.
 #![tactic(auto)]
 
+mod given_tokens;
 mod giving;
 mod hearing;
 mod last_note;

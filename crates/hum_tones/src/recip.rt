@@ -1,8 +1,8 @@
 //! The command recip: notes become their durations, as they are written.
 ghost use Rattle.hum_stage.specs.declared.faults.Command.TheVariants.{Recip as RecipCommand};
 
+use crate::given_tokens::GivenTokens;
 use crate::giving::Giving;
-use crate::remembered::GivenTokens;
 use hum_cells::{CellStage, Heading, Retells};
 use hum_path::Moves;
 use hum_record::Record;

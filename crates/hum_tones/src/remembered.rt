@@ -1,26 +1,38 @@
-//! Tokens that were retold before, and what they became.
-ghost use Rattle.std.specs.Prelude.{◌≡◌, [], None, IfSome, IfOk};
-ghost use Rattle.hum_record.specs.declared.SpinedKind.TheVariants.{Values};
-ghost use Rattle.hum_record.specs.Spelling.{IsToken};
-ghost use Rattle.hum_tones.specs.declared.giving.Giving.{Giving};
-ghost use Rattle.hum_tones.specs.Giving.{given};
-ghost use Rattle.hum_tones.specs.Subtokens.{IsRetold};
-ghost use Rattle.hum_tones.specs.Remembering.{AllRecall};
+//! What was found out of tokens before.
+ghost use Rattle.std.specs.Prelude.{◌≢◌, [], IfSome};
+ghost use Rattle.hum_tones.specs.Remembering.{AllAnswer};
 
-use crate::giving::Giving;
 use crate::short::{Short, word};
-use hum_stage::Rule;
 use std::alloc::{AllocError, Global};
-use std::marker::Model;
 
 /// How many tokens are remembered at most.
 const PLACES: usize = 256;
 
-/// A token that was retold, and what it became; no bytes where there was none.
+/// What may be remembered of a token: the answer to a question that is asked of many.
+pub(crate) trait Answer: Drop {
+    /// What is asked.
+    type Question;
+
+    /// It is the answer to a question of a token.
+    ghost answers: { Self.Question → List ℕ → Self → Type 0 };
+
+    ghost use Rattle.std.specs.Prelude.{ℕ, List};
+
+    /// An answer, whatever it says.
+    fn some() -> Self;
+}
+
+/// A token that isn't empty, and the answer; or neither.
 #[derive(Drop)]
-pub(crate) struct Place {
+pub(crate) struct Place<A> {
     token: Short,
-    text: Short,
+    answer: A,
+}
+
+/// The answers to one question of tokens that were seen before.
+#[derive(Drop)]
+pub(crate) struct Remembered<A> {
+    places: Vec<Place<A>>,
 }
 
 /// A number that few tokens have in common: some of a token's bytes, and all of a few.
@@ -43,114 +55,66 @@ fn place_of(token: &[u8]) -> usize {
     (key_of(token).wrapping_mul(0x9E37_79B1) >> 24) as usize
 }
 
-/// What a token became, if that is remembered.
-#[inline(always)]
-fn recalled<'a>(places: &'a [Place], token: &[u8]) -> Option<&'a [u8]>
-    requires { IsToken Values token.now }
-    ensures { (giving : Giving) → AllRecall giving places.now
-        → IfSome result (λ text. IsRetold (given giving token.now) text.now None) }
-{
-    let at = place_of(token);
-    if at >= places.len() {
-        return None;
-    }
-    let place = &places[at];
-    if place.token.is(token) {
-        Some(place.text.text())
-    } else {
-        None
-    }
-}
-
 /// Makes the places, where there are none as yet.
-fn provide(places: &mut Vec<Place>) -> Result<(), AllocError>
-    ensures { (giving : Giving) → AllRecall giving places.old.items
-        → AllRecall giving places.new.items }
+fn provide<A: Answer>(places: &mut Vec<Place<A>>) -> Result<(), AllocError>
+    ensures { (question : A.Question) → AllAnswer (A.answers question) places.old.items
+        → AllAnswer (A.answers question) places.new.items }
 {
     for _ in places.len()..PLACES {
         places.push(Place {
             token: Short::empty(),
-            text: Short::empty(),
+            answer: A::some(),
         })?;
     }
     Ok(())
 }
 
-/// A token is remembered, and what it became, if both are short and there is memory for it.
-fn remember(places: &mut Vec<Place>, token: &[u8], text: &[u8])
-    ensures { (giving : Giving) → AllRecall giving places.old.items
-        → IsRetold (given giving token.now) text.now None → AllRecall giving places.new.items }
-{
-    if provide(places).is_err() {
-        return;
-    }
-    let at = place_of(token);
-    if at >= places.len() {
-        return;
-    }
-    if let Some(token) = Short::of(token) {
-        if let Some(text) = Short::of(text) {
-            places[at] = Place { token, text };
-        }
-    }
-}
-
-/// Tokens that become what their parts give. A score says the same tokens again and again, so what
-/// they became is remembered.
-#[derive(Drop)]
-pub struct GivenTokens {
-    giving: Giving,
-    places: Vec<Place>,
-}
-
-impl Model for GivenTokens {
-    ghost use Rattle.hum_tones.specs.declared.giving.Giving.{Giving};
-    ghost use Rattle.hum_tones.specs.Remembering.{AllRecall};
-
-    ghost Value = { Giving };
-
-    ghost view = { λ t. t.giving };
-
-    ghost invariant = { λ t. AllRecall t.giving t.places.items };
-}
-
-impl GivenTokens {
-    /// No token was retold as yet.
-    pub(crate) fn new(alloc: Global, giving: Giving) -> GivenTokens
-        ensures { result ≡ giving }
+impl<A: Answer> Remembered<A> {
+    /// Nothing is remembered.
+    pub(crate) fn new(alloc: Global) -> Remembered<A>
+        ensures { (question : A.Question) → AllAnswer (A.answers question) result.places.items }
     {
-        GivenTokens {
-            giving,
+        Remembered {
             places: Vec::new(alloc),
         }
     }
 
-    /// What a data token becomes, if that is remembered.
+    /// The answer, if the token is remembered.
     #[inline(always)]
-    pub(crate) fn known(&self, token: &[u8]) -> Option<&[u8]>
-        requires { IsToken Values token.now }
-        ensures { IfSome result (λ text. IsRetold (given self.now token.now) text.now None) }
+    pub(crate) fn recall(&self, token: &[u8]) -> Option<&A>
+        requires { token.now ≢ [] }
+        ensures { (question : A.Question)
+            → AllAnswer (A.answers question) self.now.places.items
+            → IfSome result (λ answer. A.answers question token.now answer.now) }
     {
-        recalled(&self.places, token)
+        let at = place_of(token);
+        if at >= self.places.len() {
+            return None;
+        }
+        let place = &self.places[at];
+        if place.token.is(token) {
+            Some(&place.answer)
+        } else {
+            None
+        }
     }
 
-    /// Puts what a data token becomes into the empty text, or answers the rule by which it is
-    /// refused.
-    pub(crate) fn retell(
-        &mut self,
-        token: &[u8],
-        text: &mut Vec<u8>,
-    ) -> Result<Option<Rule>, AllocError>
-        requires empty { text.old.items ≡ [] }
-        requires lawful { IsToken Values token.now }
-        ensures told { IfOk result (IsRetold (given self.old token.now) text.new.items) }
-        ensures same { self.new ≡ self.old }
+    /// The token and the answer are remembered, if it is short and there is memory for them.
+    pub(crate) fn remember(&mut self, token: &[u8], answer: A)
+        ensures { (question : A.Question)
+            → AllAnswer (A.answers question) self.old.places.items
+            → A.answers question token.now answer
+            → AllAnswer (A.answers question) self.new.places.items }
     {
-        let refused = self.giving.retell(token, text)?;
-        if let Some(rule) = refused {
-            return Ok(Some(rule));
+        if provide(&mut self.places).is_err() {
+            return;
         }
-        remember(&mut self.places, token, text);
-        Ok(None)
+        let at = place_of(token);
+        if at >= self.places.len() {
+            return;
+        }
+        if let Some(token) = Short::of(token) {
+            self.places[at] = Place { token, answer };
+        }
     }
 }

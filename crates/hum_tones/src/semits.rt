@@ -1,8 +1,8 @@
 //! The command semits: notes become their semitones.
 ghost use Rattle.hum_stage.specs.declared.faults.Command.TheVariants.{Semits as SemitsCommand};
 
+use crate::given_tokens::GivenTokens;
 use crate::giving::Giving;
-use crate::remembered::GivenTokens;
 use hum_cells::{CellStage, Heading, Retells};
 use hum_path::Moves;
 use hum_record::Record;

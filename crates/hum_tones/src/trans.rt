@@ -4,8 +4,8 @@ ghost use Rattle.arrayvec.specs.ArrayString.{array_string_len};
 ghost use Rattle.hum_stage.specs.declared.faults.Command.TheVariants.{Trans as TransCommand};
 ghost use Rattle.hum_tones.specs.Commands.{trans_sign};
 
+use crate::given_tokens::GivenTokens;
 use crate::giving::Giving;
-use crate::remembered::GivenTokens;
 use crate::transposing::Transposition;
 use arrayvec::ArrayString;
 use hum_cells::{CellStage, Heading, Retells};

@@ -1,6 +1,6 @@
-use Rattle.hum_tones.specs.declared.giving.Giving.{Giving}
-use Rattle.hum_tones.specs.Remembering.{AllRecall}
+use Rattle.hum_tones.specs.Remembering.{AllAnswer}
 use Rattle.hum_tones.proofs.remembered.provide.Given as goal
 
 abbrev pub invariant-loop : goal.invariant-loop
-invariant-loop l = (giving : Giving) → AllRecall giving l.initial.places.items → AllRecall giving l.places.items
+invariant-loop g l = (question : _) → AllAnswer (g.A.Answer.answers question) l.initial.places.items
+    → AllAnswer (g.A.Answer.answers question) l.places.items
