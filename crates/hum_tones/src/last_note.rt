@@ -6,11 +6,12 @@ ghost use Rattle.hum_tones.specs.Memory.{note_after, or_before, heard_of};
 ghost use Rattle.hum_tones.specs.Hearing.{heard_by};
 ghost use Rattle.hum_pitch.specs.Given.{spelled};
 
-use crate::hearing::{Heard, hear};
+use crate::hearing::Heard;
+use crate::listening::Listening;
 use hum_path::ColumnMemory;
 use hum_pattern::Pattern;
 use hum_pitch::Pitch;
-use hum_record::{is_barline, is_filled};
+use hum_record::is_filled;
 use hum_stage::Rule;
 use std::alloc::{AllocError, Global};
 use std::marker::Model;
@@ -25,16 +26,6 @@ fn is_break(breaks: &mut Option<Pattern>, token: &[u8]) -> bool
         None => false,
         Some(pattern) => pattern.matches(token),
     }
-}
-
-/// What is heard of a cell: nothing of a barline, nor of what is no data.
-fn heard_of(token: &[u8]) -> Result<Heard, Rule>
-    ensures { heard_by result ≡ heard_of token.now }
-{
-    if is_filled(token) && !is_barline(token) {
-        return hear(token);
-    }
-    Ok(Heard::SILENCE)
 }
 
 /// The pitch that is remembered of a cell, by what was heard of it.
@@ -60,7 +51,7 @@ fn or_before(pitch: Option<Pitch>, before: Option<Pitch>) -> Option<Pitch>
 }
 
 /// The note before the next cell, by the note before a cell and what was heard of it.
-fn note_after(
+pub(crate) fn note_after(
     breaks: &mut Option<Pattern>,
     token: &[u8],
     heard: Result<Heard, Rule>,
@@ -127,13 +118,13 @@ impl LastNote {
 }
 
 impl ColumnMemory for LastNote {
-    type Rule = Option<Pattern>;
+    type Rule = Listening;
 
     ghost use Rattle.hum_tones.specs.Memory.{unheard, heard_after};
 
     ghost beginning = { unheard };
 
-    ghost seen = { heard_after };
+    ghost seen = { λ options. heard_after options.breaks };
 
     fn fresh(_alloc: Global) -> Self {
         LastNote {
@@ -143,9 +134,9 @@ impl ColumnMemory for LastNote {
         }
     }
 
-    fn see(&mut self, breaks: &mut Option<Pattern>, token: &[u8]) -> Result<(), AllocError> {
-        let heard = heard_of(token);
-        let pitch = note_after(breaks, token, heard, self.pitch);
+    fn see(&mut self, listening: &mut Listening, token: &[u8]) -> Result<(), AllocError> {
+        let heard = listening.heard_of(token);
+        let pitch = listening.note_after(token, heard, self.pitch);
         self.before = self.pitch;
         self.heard = heard;
         self.pitch = pitch;

@@ -8,6 +8,7 @@ mod given_tokens;
 mod giving;
 mod hearing;
 mod last_note;
+mod listening;
 mod mint;
 mod minting;
 mod recip;
@@ -18,6 +19,7 @@ mod trans;
 mod transposing;
 
 pub use last_note::LastNote;
+pub use listening::Listening;
 pub use mint::{Mint, MintTokens};
 pub use minting::MintOptions;
 pub use recip::{Recip, RecipOptions, RecipTokens};

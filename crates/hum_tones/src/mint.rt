@@ -2,6 +2,7 @@
 ghost use Rattle.hum_stage.specs.declared.faults.Command.TheVariants.{Mint as MintCommand};
 
 use crate::last_note::LastNote;
+use crate::listening::Listening;
 use crate::minting::MintOptions;
 use hum_cells::{CellStage, Heading, Retells};
 use hum_path::{Carried, Moves};
@@ -12,7 +13,7 @@ use std::alloc::{AllocError, Global};
 /// What mint makes of tokens.
 #[derive(Drop)]
 pub struct MintTokens {
-    options: MintOptions,
+    listening: Listening,
     // what was heard of each spine, and the note before
     carried: Carried<LastNote>,
 }
@@ -30,9 +31,9 @@ impl Retells for MintTokens {
 
     ghost retelling = { mint };
 
-    ghost follows = { λ s. Mints s.options s.carried.each };
+    ghost follows = { λ s. Mints s.listening s.carried.each };
 
-    ghost lawful = { λ s retelling past h. mint_heading s.options retelling h.command };
+    ghost lawful = { λ s retelling past h. mint_heading s.listening retelling h.command };
 
     fn command() -> Command {
         Command::Mint
@@ -40,7 +41,7 @@ impl Retells for MintTokens {
 
     fn begin(alloc: Global, options: MintOptions) -> Self {
         MintTokens {
-            options,
+            listening: Listening::new(alloc, options),
             carried: Carried::new(alloc),
         }
     }
@@ -55,10 +56,10 @@ impl Retells for MintTokens {
         _token: &[u8],
         text: &mut Vec<u8>,
     ) -> Result<Option<Rule>, AllocError> {
-        self.options.retell(self.carried.at(j), text)
+        self.listening.options().retell(self.carried.at(j), text)
     }
 
     fn follow(&mut self, row: &Record, found: &Moves) -> Result<(), AllocError> {
-        self.carried.follow(&mut self.options.breaks, row, found)
+        self.carried.follow(&mut self.listening, row, found)
     }
 }

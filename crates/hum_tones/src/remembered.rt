@@ -6,7 +6,7 @@ use crate::short::{Short, word};
 use std::alloc::{AllocError, Global};
 
 /// How many tokens are remembered at most.
-const PLACES: usize = 256;
+const PLACES: usize = 512;
 
 /// What may be remembered of a token: the answer to a question that is asked of many.
 pub(crate) trait Answer: Drop {
@@ -35,24 +35,25 @@ pub(crate) struct Remembered<A> {
     places: Vec<Place<A>>,
 }
 
-/// A number that few tokens have in common: some of a token's bytes, and all of a few.
+/// A number that few tokens have in common, by their lengths and by some bytes of each.
 #[inline(always)]
 fn key_of(token: &[u8]) -> u32 {
     let len = token.len();
     if len >= 4 {
-        return word(token, 0).wrapping_add(word(token, len - 4).rotate_left(5));
+        let ends = word(token, 0).wrapping_add(word(token, len - 4).rotate_left(5));
+        return ends.wrapping_add((len % 256) as u32);
     }
     match token {
         [] => 0,
-        [first, .., last] => u32::from_le_bytes([*first, token[len / 2], *last, 0]),
+        [first, .., last] => u32::from_le_bytes([*first, token[len / 2], *last, len as u8]),
         [only] => u32::from(*only),
     }
 }
 
-/// The place of a token among those that are remembered.
+/// The place of a token among those that are remembered: the first nine bits of a product.
 #[inline(always)]
 fn place_of(token: &[u8]) -> usize {
-    (key_of(token).wrapping_mul(0x9E37_79B1) >> 24) as usize
+    (key_of(token).wrapping_mul(0x27D4_EB2F) >> 23) as usize
 }
 
 /// Makes the places, where there are none as yet.
