@@ -4,7 +4,7 @@ use hum_path::ColumnMemory;
 use hum_pattern::Pattern;
 use hum_record::Kind;
 use hum_stage::Rule;
-use hum_tones::{LastNote, MintOptions, Transposition};
+use hum_tones::{LastNote, Listening, MintOptions, Transposition};
 use std::alloc::Global;
 use std::process::Abort;
 
@@ -87,25 +87,26 @@ type Cell = (&'static [u8], &'static [u8]);
 fn check_below(
     rt: &impl Abort,
     alloc: Global,
-    options: &mut MintOptions,
+    listening: &mut Listening,
     memory: &mut LastNote,
     cell: Cell,
 ) {
     let (token, want) = cell;
     let record = read(rt, alloc, token);
     assert!(rt; record.kind() == Kind::Values && record.width() == 1);
-    let seen = memory.see(&mut options.breaks, record.token(0));
+    let seen = memory.see(listening, record.token(0));
     seen.expect(rt, "memory");
     let mut text = Vec::new(alloc);
-    let told = options.retell(memory, &mut text);
+    let told = listening.options().retell(memory, &mut text);
     let found = told.expect(rt, "memory");
     assert_eq!(rt; (found, text.as_slice()), (None, want), "{token:?}");
 }
 
-fn check_column(rt: &impl Abort, alloc: Global, mut options: MintOptions, cells: &[Cell]) {
+fn check_column(rt: &impl Abort, alloc: Global, options: MintOptions, cells: &[Cell]) {
+    let mut listening = Listening::new(alloc, options);
     let mut memory = LastNote::fresh(alloc);
     for cell in cells {
-        check_below(rt, alloc, &mut options, &mut memory, *cell);
+        check_below(rt, alloc, &mut listening, &mut memory, *cell);
     }
 }
 

@@ -15,10 +15,6 @@ use std::marker::Model;
 impl Answer for Short {
     type Question = Giving;
 
-    ghost use Rattle.std.specs.Prelude.{None};
-    ghost use Rattle.hum_tones.specs.Giving.{given};
-    ghost use Rattle.hum_tones.specs.Subtokens.{IsRetold};
-
     ghost answers = { λ giving token text. IsRetold (given giving token) text None };
 
     fn some() -> Short {
@@ -29,7 +25,7 @@ impl Answer for Short {
 /// Tokens that become what their parts give. A score says the same tokens again and again, so what
 /// they became is remembered.
 #[derive(Drop)]
-pub struct GivenTokens {
+pub(crate) struct GivenTokens {
     giving: Giving,
     remembered: Remembered<Short>,
 }

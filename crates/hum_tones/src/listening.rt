@@ -1,9 +1,9 @@
 //! What is heard of tokens, and what was heard of them before.
-ghost use Rattle.std.specs.Prelude.{◌≡◌, ◌≢◌, [], option_map};
+ghost use Rattle.std.specs.Prelude.{◌≡◌, ◌≢◌, [], Ok, option_map};
 ghost use Rattle.hum_pitch.specs.Given.{spelled};
 ghost use Rattle.hum_tones.specs.Mint.{readings};
 ghost use Rattle.hum_tones.specs.Memory.{note_after, heard_of};
-ghost use Rattle.hum_tones.specs.Hearing.{heard_by, heard_in};
+ghost use Rattle.hum_tones.specs.Hearing.{hearing, heard_by, heard_in};
 
 use crate::hearing::{Heard, hear};
 use crate::last_note::note_after;
@@ -17,10 +17,6 @@ use std::marker::Model;
 
 impl Answer for Heard {
     type Question = ();
-
-    ghost use Rattle.std.specs.Prelude.{◌≡◌, Ok};
-    ghost use Rattle.hum_tones.specs.Mint.{readings};
-    ghost use Rattle.hum_tones.specs.Hearing.{hearing, heard_in};
 
     ghost answers = { λ all token heard. heard_in (readings token) ≡ Ok (hearing heard) };
 

@@ -1,5 +1,5 @@
 //! What was found out of tokens before.
-ghost use Rattle.std.specs.Prelude.{◌≢◌, [], IfSome};
+ghost use Rattle.std.specs.Prelude.{◌≢◌, ℕ, List, [], IfSome};
 ghost use Rattle.hum_tones.specs.Remembering.{AllAnswer};
 
 use crate::short::{Short, word};
@@ -15,8 +15,6 @@ pub(crate) trait Answer: Drop {
 
     /// It is the answer to a question of a token.
     ghost answers: { Self.Question → List ℕ → Self → Type 0 };
-
-    ghost use Rattle.std.specs.Prelude.{ℕ, List};
 
     /// An answer, whatever it says.
     fn some() -> Self;
