@@ -1,5 +1,5 @@
 use Rattle.std.proofs.Common.{◌∙◌, sym}
-use Rattle.hum_cells.proofs.Telling.{stays, known_changes}
+use Rattle.hum_cells.proofs.Telling.{known_changes}
 use Rattle.hum_cells.proofs.tokens.known.Goals as goal
 
 pub returns-then-is_retold : goal.returns-then-is_retold

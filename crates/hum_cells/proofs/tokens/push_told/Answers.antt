@@ -1,4 +1,3 @@
-use Rattle.std.proofs.Common.{◌∙◌, sym}
 use Rattle.hum_cells.proofs.tokens.push_told.Goals as goal
 
 pub push-requires : goal.push-requires
