@@ -23,6 +23,7 @@ mod line;
 mod making;
 mod near;
 mod reading;
+mod selection;
 mod spare;
 mod tokens;
 
@@ -31,6 +32,7 @@ pub use contents::{is_barline, is_data, is_filled, is_null};
 pub use line::RecordLine;
 pub use making::Making;
 pub use reading::Record;
+pub use selection::Selection;
 pub use spare::Spare;
 use std::alloc::{AllocError, AllocFailed};
 use thiserror::Error;

@@ -13,6 +13,7 @@ ghost use Rattle.hum_record.specs.declared.RecordFault.TheVariants.{Memory};
 use crate::iter::Tokens;
 use crate::leaving::leave;
 use crate::near::{NEAR, copy_near, plain_ends, put_plain_ends};
+use crate::selection::Selection;
 use crate::spare::{Body, Spare};
 use crate::tokens::{Cut, lawful_kind, push_ends, token_at_end, token_kind};
 use crate::{Kind, RecordFault};
@@ -191,15 +192,15 @@ impl Record {
         Ok(Record { body })
     }
 
-    /// Leaves the marked tokens alone, at least one of which there is, in the record's own memory.
+    /// Leaves the selected tokens alone, at least one of which there is, in the record's own memory.
     #[inline]
-    pub fn retain(&mut self, marks: &[bool])
-        requires as_wide { length marks.now ≡ width_of self.old }
-        requires some { list_any (λ b. b) marks.now ≡ true }
-        ensures { self.new ≡ with_chosen marks.now self.old }
+    pub fn retain(&mut self, selection: &Selection)
+        requires as_wide { length selection.now ≡ width_of self.old }
+        requires some { list_any (λ b. b) selection.now ≡ true }
+        ensures { self.new ≡ with_chosen selection.now self.old }
     {
         let Body { text, ends } = &mut *self.body;
-        leave(text, ends, marks);
+        leave(text, ends, selection);
     }
 
     /// What the record is.
