@@ -27,7 +27,11 @@ impl Model for ChosenColumns {
 
     ghost Value = { Memory };
 
+    ghost use Rattle.std.specs.Prelude.{◌≡◌};
+
     ghost view = { λ c. memory c.paths.path c.marks };
+
+    ghost invariant = { λ c. c.selection ≡ c.marks };
 }
 
 impl ChosenColumns {
