@@ -107,7 +107,13 @@ impl Decides for Columns {
         if self.columns.is_unopened() {
             return open(self.alloc, &self.choice, &mut self.columns, next, out);
         }
-        let refused = cut(self.alloc, self.columns.marks().each(), &next, room, &mut out.many)?;
+        let refused = cut(
+            self.alloc,
+            self.columns.marks().each(),
+            &next,
+            room,
+            &mut out.many,
+        )?;
         self.columns.pass(self.alloc, &next)?;
         Ok(refused)
     }

@@ -10,5 +10,6 @@ pub mod Laws
 pub mod Drafts
 pub mod TooLong
 pub mod Moved
+pub mod Held
 pub mod Left
 pub mod Selected

@@ -9,7 +9,7 @@ use Rattle.hum_record.specs.Row.{chosen}
 use Rattle.hum_record.specs.Building.{spelled}
 use Rattle.hum_record.specs.Fields.{ends_from, begins_at}
 use Rattle.hum_record.specs.Selecting.{marked_from, front_of, moved_of}
-use Rattle.hum_record.proofs.Left.{Leaving, begins_left, end_least, end_most, ends_more, skips, from_most, from_least, takes_from, moved_nowhere}
+use Rattle.hum_record.proofs.Left.{Leaving, begins_left, end_most, ends_more, skips, from_most, from_least, takes_from, moved_nowhere}
 
 in_place : (ends : List ℕ) (m : ℕ) → (if m == 0 then begins_at ends m else begins_at ends m - 1) ≡ begins_at ends m - 1
 in_place ends zero = refl

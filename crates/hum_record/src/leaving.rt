@@ -120,6 +120,8 @@ fn move_to_front(text: &mut [u8], ends: &mut [u32], selection: &Selection) -> (u
     requires at_most { length text.old ≤ 1048576 }
     ensures text { take result.0 text.new ≡ spelled (chosen selection.now (parts text.old)) }
     ensures ends { take result.1 ends.new ≡ ends_from 0 (chosen selection.now (parts text.old)) }
+    ensures shorter { result.0 ≤ length text.new }
+    ensures fewer { result.1 ≤ length ends.new }
 {
     let mut count = selection.front();
     let mut len = front_len(ends, count);
@@ -134,17 +136,27 @@ fn move_to_front(text: &mut [u8], ends: &mut [u32], selection: &Selection) -> (u
     (len, count)
 }
 
-/// Leaves of a text the selected tokens, by where each token ends in it.
+/// The same of a text that is the first `len` bytes, of whose tokens the first `count` places say where
+/// they end.
 #[inline]
-pub fn leave(text: &mut Vec<u8>, ends: &mut Vec<u32>, selection: &Selection)
-    requires cut { ends.old.items ≡ ends_from 0 (parts text.old.items) }
-    requires as_wide { length selection.now ≡ length ends.old.items }
-    requires at_most { length text.old.items ≤ 1048576 }
-    ensures text { text.new.items ≡ spelled (chosen selection.now (parts text.old.items)) }
-    ensures ends { ends.new.items ≡ ends_from 0 (chosen selection.now (parts text.old.items)) }
-    ensures short { length text.new.items ≤ length text.old.items }
+pub fn move_in_front(
+    text: &mut [u8],
+    len: usize,
+    ends: &mut [u32],
+    count: usize,
+    selection: &Selection,
+) -> (usize, usize)
+    requires text_within { len ≤ length text.old }
+    requires ends_within { count ≤ length ends.old }
+    requires cut { take count ends.old ≡ ends_from 0 (parts (take len text.old)) }
+    requires as_wide { length selection.now ≡ count }
+    requires at_most { len ≤ 1048576 }
+    ensures text { take result.0 text.new
+        ≡ spelled (chosen selection.now (parts (take len text.old))) }
+    ensures ends { take result.1 ends.new
+        ≡ ends_from 0 (chosen selection.now (parts (take len text.old))) }
+    ensures shorter { result.0 ≤ len }
+    ensures fewer { result.1 ≤ count }
 {
-    let (len, count) = move_to_front(text, ends, selection);
-    text.truncate(len);
-    ends.truncate(count);
+    move_to_front(&mut text[..len], &mut ends[..count], selection)
 }

@@ -15,6 +15,7 @@ ghost use Rattle.hum_record.specs.Row.{as_kind};
 ghost use Rattle.hum_record.specs.declared.RecordFault.TheVariants.{Memory};
 
 mod bits;
+mod body;
 mod building;
 mod contents;
 pub mod iter;
@@ -22,6 +23,7 @@ mod leaving;
 mod line;
 mod making;
 mod near;
+mod putting;
 mod reading;
 mod selection;
 mod spare;

@@ -4,4 +4,5 @@ use Rattle.hum_record.proofs.leaving.move_by_8.Goals as goal
 
 pub returns : goal.returns
 returns c =
-    by_both c.args.text.now c.args.from c.args.end c.args.to (omega arith) c.requires.within c.requires.leftward 8 c.requires.few (omega arith)
+    let text = c.args.text.now in
+    by_both text text c.args.from c.args.end c.args.to (omega arith) c.requires.within (omega arith) 8 c.requires.few (omega arith)

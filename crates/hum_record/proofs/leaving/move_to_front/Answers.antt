@@ -1,14 +1,9 @@
-use Rattle.std.proofs.Common.{◌≡◌, ◌≤◌, ◌<◌, ◌∙◌, sym, ap, refl, subst, length, ℕ, List, arith, ◌-◌}
-use Rattle.std.proofs.lemmas.List.{length-set}
+use Rattle.std.proofs.Common.{sym, arith}
 use Rattle.std.proofs.lemmas.List.Sums.{prefix_len-le-length}
 use Rattle.std.proofs.lemmas.List.Splits.{join_with_byte-slice_split}
-use Rattle.std.proofs.lemmas.List.Edits.{length-paste}
-use Rattle.hum_record.specs.Fields.{begins_at}
-use Rattle.hum_record.specs.Row.{chosen}
-use Rattle.hum_record.specs.Selecting.{front_of, moved_of}
 use Rattle.hum_record.specs.Spelling.{parts}
 use Rattle.hum_record.proofs.Laws.{parts_filled}
-use Rattle.hum_record.proofs.Selected.{Moving, unmoved, place_within, place_behind, end_within, least, most, turn, all_turns}
+use Rattle.hum_record.proofs.Selected.{unmoved, place_within, place_behind, end_within, least, most, turn, all_turns}
 use Rattle.hum_record.proofs.leaving.move_to_front.Goals as goal
 
 pub front_len-len-requires : goal.front_len-len-requires
@@ -65,3 +60,13 @@ returns-clause-text c = (all_turns _ _ _ _ _ _ _ _ c.loop-j.invariant c.loop-j-t
 
 pub returns-clause-ends : goal.returns-clause-ends
 returns-clause-ends c = (all_turns _ _ _ _ _ _ _ _ c.loop-j.invariant c.loop-j-test.false).1
+
+pub returns-clause-shorter : goal.returns-clause-shorter
+returns-clause-shorter c = c.loop-j.invariant.left.within
+
+pub returns-clause-fewer : goal.returns-clause-fewer
+returns-clause-fewer c =
+    let l = c.loop-j.invariant.left in
+    let f = l.fewer in
+    let s = l.some_ends in
+    omega (arith, f, s)

@@ -16,11 +16,11 @@ invariant_of-self c =
     let left = c.leave.ensures in
     let e = c.deref_mut.ensures.value in
     (retained c.args.self.now _ _ c.args.selection.now c.self.invariant c.self.view_is c.requires.as_wide c.requires.some
-    c.leave.new.text.items c.leave.new.ends.items (rw e at left.text) (rw e at left.ends) (rw e at left.short)).fields
+    c.leave.new.self.text c.leave.new.self.ends (rw e at left.text) (rw e at left.ends) (rw e at left.short)).fields
 
 pub returns : goal.returns
 returns c =
     let left = c.leave.ensures in
     let e = c.deref_mut.ensures.value in
     (retained c.args.self.now _ _ c.args.selection.now c.self.invariant c.self.view_is c.requires.as_wide c.requires.some
-    c.leave.new.text.items c.leave.new.ends.items (rw e at left.text) (rw e at left.ends) (rw e at left.short)).is
+    c.leave.new.self.text c.leave.new.self.ends (rw e at left.text) (rw e at left.ends) (rw e at left.short)).is

@@ -1,4 +1,4 @@
-use Rattle.std.proofs.Common.{◌≡◌, ◌∙◌, sym, ap, length, drop, ◌==◌, false, not}
+use Rattle.std.proofs.Common.{◌≡◌, ◌∙◌, sym, ap, length, drop, ◌==◌, not}
 use Rattle.std.specs.List.{list_any}
 use Rattle.hum_record.specs.Selecting.{marked_from, front_of}
 use Rattle.hum_record.proofs.Selected.{marked_none}
