@@ -94,7 +94,8 @@ module _ (len count k : ℕ) (text ends : List ℕ) (marks : List Bool) (all : L
       }))
       (λ unset. reach n (suc j) (omega (arith, e)) (subst (λ (m : ℕ). Leaving len count (get_or ends j 0 + 1) m text ends marks all) (omega arith)
       (skips _ _ _ _ _ _ _ _ l within unset))
-      (places ∙ ap (marked_from j) is ∙ rw unset (ap (λ m. marked_from m (drop (suc j) marks)) (omega arith))) (λ far. absurd (let f = l.fewer in omega (arith, far, f))))
+      (places ∙ ap (marked_from j) is ∙ rw unset (ap (λ m. marked_from m (drop (suc j) marks)) (omega arith)))
+      (λ far. absurd (let f = l.fewer in omega (arith, far, f))))
 
   pub reached : Moving len count text ends marks all (k ∷ rest) → Reached len count k text ends marks all rest
   reached m =
