@@ -8,15 +8,18 @@ ghost use Rattle.hum_columns.specs.Following.{memory, passed};
 
 use crate::marks::moved;
 use hum_path::{Marks, Paths};
-use hum_record::Record;
+use hum_record::{Record, Selection};
 use std::alloc::{AllocError, Global};
 use std::marker::Model;
 
 /// The spines of a score so far, and for each of their columns whether it is chosen.
 #[derive(Drop)]
 pub struct ChosenColumns {
+    alloc: Global,
     paths: Paths,
     marks: Marks,
+    // the same, for records that are left with these columns alone
+    selection: Selection,
 }
 
 impl Model for ChosenColumns {
@@ -24,7 +27,11 @@ impl Model for ChosenColumns {
 
     ghost Value = { Memory };
 
+    ghost use Rattle.std.specs.Prelude.{◌≡◌};
+
     ghost view = { λ c. memory c.paths.path c.marks };
+
+    ghost invariant = { λ c. c.selection ≡ c.marks };
 }
 
 impl ChosenColumns {
@@ -33,8 +40,10 @@ impl ChosenColumns {
         ensures { result ≡ memory Unopened [] }
     {
         ChosenColumns {
+            alloc,
             paths: Paths::new(alloc),
             marks: Marks::none(alloc),
+            selection: Selection::none(alloc),
         }
     }
 
@@ -52,6 +61,14 @@ impl ChosenColumns {
         &self.marks
     }
 
+    /// The columns that are chosen.
+    #[inline]
+    pub fn selection(&self) -> &Selection
+        ensures { result.now ≡ self.now.each }
+    {
+        &self.selection
+    }
+
     /// Takes the opening record, of which these columns are chosen.
     ///
     /// # Errors
@@ -61,7 +78,9 @@ impl ChosenColumns {
         ensures { OnOk result (self.new ≡ memory (after self.old.path row.now) marks) }
     {
         let _found = self.paths.follow(row)?;
+        let selection = Selection::new(self.alloc, marks.each())?;
         self.marks = marks;
+        self.selection = selection;
         Ok(())
     }
 
@@ -75,7 +94,10 @@ impl ChosenColumns {
         ensures sources { OnOk result (ComeFrom row.now (moves self.old.path row.now)) }
     {
         let found = self.paths.follow(row)?;
-        self.marks = moved(alloc, &self.marks, &found)?;
+        let marks = moved(alloc, &self.marks, &found)?;
+        let selection = Selection::new(alloc, marks.each())?;
+        self.marks = marks;
+        self.selection = selection;
         Ok(())
     }
 }

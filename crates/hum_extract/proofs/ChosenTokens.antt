@@ -1,6 +1,7 @@
 -- What is chosen of a list, and what is kept of a record.
-use Rattle.std.proofs.Common.{◌≡◌, ◌≢◌, refl, sym, ap, ℕ, Bool, true, false, List, [], ◌∷◌, length, arith}
+use Rattle.std.proofs.Common.{◌≡◌, ◌≢◌, refl, sym, ap, ℕ, Bool, true, false, not, List, [], ◌∷◌, ◌++◌, length, arith, Option, None, Some}
 use Rattle.std.specs.List.{list_any, list_all}
+use Rattle.std.specs.Option.{option_to_list}
 use Rattle.hum_record.specs.declared.SpinedKind.{SpinedKind}
 use Rattle.hum_record.specs.Row.{Row, Comment, Spined, width_of, text_of, chosen, with_chosen}
 use Rattle.hum_record.specs.Spelling.{IsTextOf}
@@ -29,13 +30,6 @@ filled_one kind (t ∷ ts) some = refl
 
 -- What is kept of a record
 
--- all of it
-pub all_kept : (fs : List Bool) (row : Row) → IsTextOf row (text_of row) → AsWide fs row → list_all (λ b. b) fs ≡ true
-    → row ∷ [] ≡ kept fs row
-all_kept fs (Comment text) is wide h = refl
-all_kept fs (Spined kind tokens) is wide h =
-    rw (chosen_whole fs tokens h wide) (sym (filled_one kind tokens is.1))
-
 -- a comment has no tokens
 pub none_chosen : (fs : List Bool) (row : Row) → IsTextOf row (text_of row) → width_of row ≡ 0 → row ∷ [] ≡ kept fs row
 none_chosen fs (Comment text) is none = refl
@@ -53,3 +47,17 @@ pub some_kept : (fs : List Bool) (row : Row) → width_of row ≢ 0 → AsWide f
 some_kept fs (Comment text) some wide h = absurd (some refl)
 some_kept fs (Spined kind tokens) some wide h =
     sym (filled_one kind (chosen fs tokens) (chosen_filled fs tokens wide h))
+
+-- tests of tests
+pub was_true : (b : Bool) → not b ≡ true → b ≡ false
+was_true true h = cc
+was_true false h = refl
+
+pub was_false : (b : Bool) → not b ≡ false → b ≡ true
+was_false true h = refl
+was_false false h = cc
+
+-- where nothing is due there is no first one
+pub no_first : (first : Option Row) (others : List Row) → option_to_list first ++ others ≡ [] → option_to_list first ≡ []
+no_first None others h = refl
+no_first (Some row) others h = cc

@@ -13,13 +13,13 @@ ghost use Rattle.hum_extract.specs.Written.{choice_of};
 
 use crate::choice::Choice;
 use crate::cutting::cut;
+use crate::due::MostlyOne;
 use crate::kept::keep;
 use hum_columns::ChosenColumns;
 use hum_path::steers;
 use hum_record::{Kind, Record};
 use hum_stage::{Command, Decides, Rule};
 use std::alloc::{AllocError, Global};
-use std::collections::VecDeque;
 
 /// Whether a record asks something of the spines.
 fn asks(row: &Record) -> bool
@@ -38,14 +38,14 @@ fn open(
     choice: &Choice,
     columns: &mut ChosenColumns,
     row: Record,
-    out: &mut VecDeque<Record>,
+    out: &mut MostlyOne,
 ) -> Result<Option<Rule>, AllocError>
     requires kind { row ≡ Spined Interpretation (tokens_of row) }
     requires lawful { IsTextOf row (text_of row) }
     requires sound { fault_of columns.old.path row ≡ None }
-    requires empty { out.old.items ≡ [] }
+    requires empty { out.old ≡ [] }
     ensures decided { IfOk result (λ refused. (room : ℕ)
-        → Answers (opened (choice_of choice.now) (tokens_of row)) room out.new.items refused) }
+        → Answers (opened (choice_of choice.now) (tokens_of row)) room out.new refused) }
     ensures columns { IfOk result (λ refused. IfNone refused
         (columns.new ≡ memory (after columns.old.path row)
         (opening_flags (choice_of choice.now) (tokens_of row)))) }
@@ -54,7 +54,7 @@ fn open(
         None => Ok(Some(Rule::X2)),
         Some(marks) => {
             columns.open(&row, marks)?;
-            keep(columns.marks(), row, out)?;
+            keep(columns.selection(), row, out);
             Ok(None)
         }
     }
@@ -71,7 +71,7 @@ pub struct Columns {
 impl Decides for Columns {
     type Options = Choice;
 
-    type Due = VecDeque<Record>;
+    type Due = MostlyOne;
 
     ghost use Rattle.hum_stage.specs.declared.faults.Command.TheVariants.{Extract};
     ghost use Rattle.hum_columns.specs.Following.{Follows};
@@ -98,16 +98,22 @@ impl Decides for Columns {
         &mut self,
         next: Record,
         room: u64,
-        out: &mut VecDeque<Record>,
+        out: &mut MostlyOne,
     ) -> Result<Option<Rule>, AllocError> {
         if !asks(&next) {
-            keep(self.columns.marks(), next, out)?;
+            keep(self.columns.selection(), next, out);
             return Ok(None);
         }
         if self.columns.is_unopened() {
             return open(self.alloc, &self.choice, &mut self.columns, next, out);
         }
-        let refused = cut(self.alloc, self.columns.marks().each(), &next, room, out)?;
+        let refused = cut(
+            self.alloc,
+            self.columns.marks().each(),
+            &next,
+            room,
+            &mut out.many,
+        )?;
         self.columns.pass(self.alloc, &next)?;
         Ok(refused)
     }

@@ -7,6 +7,7 @@
 mod choice;
 mod columns;
 mod cutting;
+mod due;
 mod kept;
 
 pub use choice::{Choice, Field, FieldRange};

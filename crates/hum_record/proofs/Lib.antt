@@ -9,4 +9,7 @@ pub mod Cuts
 pub mod Laws
 pub mod Drafts
 pub mod TooLong
+pub mod Moved
+pub mod Held
 pub mod Left
+pub mod Selected

@@ -2,10 +2,10 @@
 use Rattle.std.proofs.Common.{◌≡◌, ◌∙◌, refl, sym, ap, ap₂, ℕ, suc, zero, ◌+◌, ◌*◌, ◌-◌, ◌/◌, ◌%◌, ◌≤◌, ◌<◌, ◌^◌, min, Bool, true, false, not, ◌||◌}
 use Rattle.std.proofs.Common.{List, [], ◌∷◌, ◌++◌, map, length, take, cond, eqb, Ok, arith, append_assoc, length-append}
 use Rattle.std.proofs.Common.{mod-lt, zero-lt-suc, pow-suc, add-zero}
-use Rattle.std.specs.Prelude.{◌==◌, if◌then◌else◌, Result, OnOk, Err}
+use Rattle.std.specs.Prelude.{◌==◌, if◌then◌else◌}
 use Rattle.std.specs.Simd.Lanes.{chunk, mask_l, top}
 use Rattle.std.proofs.lemmas.Simd.{mask_l-mod}
-use Rattle.std.proofs.lemmas.List.{length-map, append-nil, take_all}
+use Rattle.std.proofs.lemmas.List.{length-map, append-nil}
 use Rattle.std.proofs.lemmas.Bool.{eqb-true, eq-eqb, and_parts}
 use lib.Bits.{bit_and, bit_or, and_step, and_self, and_zero_r}
 use lib.Count.{count_trailing_zeros, under, ones, ones_step}
@@ -95,7 +95,7 @@ count_places (suc k) b x h =
     ∙ ap (λ n. x % 2 + n) (count_places k (b + 1) (x / 2) (omega (arith, pow-suc 2 k))) ∙ sym (ones_step x)
 
 -- where a bit is left there is room for its place
-pub room_left : (places all : List ℕ) (j x : ℕ) → 0 < x → x < 2 ^ 64 → j ≤ length places → length places ≡ length all
+pub room_left : (places all : List ℕ) (j x : ℕ) → 0 < x → x < 2 ^ 64 → j ≤ length places → length all ≤ length places
     → take j places ++ set_places 64 0 x ≡ all → j < length places
 room_left places all j x some fits within size e =
     let front = take_count j places within in
@@ -104,14 +104,13 @@ room_left places all j x some fits within size e =
     omega (arith, front, later, whole, size)
 
 -- where none is left all places are put
-pub all_put : (places all : List ℕ) (j x : ℕ) → x ≡ 0 → j ≤ length places → length places ≡ length all
-    → take j places ++ set_places 64 0 x ≡ all → places ≡ all
-all_put places all j x none within size e =
+pub all_put : (places all : List ℕ) (j x : ℕ) → x ≡ 0 → j ≤ length places
+    → take j places ++ set_places 64 0 x ≡ all → take (length all) places ≡ all
+all_put places all j x none within e =
     let front : take j places ≡ all =
     sym (append-nil (take j places)) ∙ ap (λ ys. take j places ++ ys) (sym (ap (set_places 64 0) none ∙ no_places 64 0)) ∙ e in
-    let count = take_count j places within in
-    let whole : length (take j places) ≡ length all = ap length front in
-    sym (take_all j places (omega (arith, count, whole, size))) ∙ front
+    let count : length all ≡ j = sym (ap length front) ∙ take_count j places within in
+    ap (λ n. take n places) count ∙ front
 
 one_step : (k b n m : ℕ) (t : Bool) → n ≡ cond t 1 0 + 2 * m → set_places (suc k) b n ≡ (if t then b ∷ set_places k (b + 1) m else set_places k (b + 1) m)
 unfolding set_places
@@ -266,7 +265,3 @@ plain_fields text all ends few line plain is =
 
 pub plain_reads : (text : List ℕ) (ends : ℕ) → IsPlain text ends → reading text ≡ Ok (row_in text)
 plain_reads text ends plain = reads_row text _ (reads_spined text Values plain.unbroken plain.spined plain.lawful)
-
-pub on_ok : {A E B C : Type 0} (r : Result A E) → (B → C) → OnOk r B → OnOk r C
-on_ok (Ok x) f h = f h
-on_ok (Err e) f h = tt

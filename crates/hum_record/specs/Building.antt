@@ -1,11 +1,11 @@
 -- A record in the making.
 use Rattle.std.specs.Prelude.{◌≡◌, ℕ, ◌≤◌, Bool, false, List, [], ◌∷◌, length}
+use Rattle.std.specs.Prelude.{◌==◌, if◌then◌else◌}
 use Rattle.std.specs.Prelude.{Option, None, Some, Box}
 use Rattle.std.specs.List.{join_with_byte, AllByRecursion}
 use Rattle.hum_record.specs.declared.SpinedKind.{SpinedKind}
-use Rattle.hum_record.specs.declared.spare.Body.{Body}
 use Rattle.hum_record.specs.Spelling.{IsToken, parts}
-use Rattle.hum_record.specs.Fields.{ends_from}
+use Rattle.hum_record.specs.Fields.{ends_from, Written}
 
 -- its kind and its tokens so far, and whether memory ran out
 pub record Draft : Type 0 where
@@ -31,6 +31,10 @@ abbrev pub tab_between : List ℕ → List ℕ
 tab_between [] = []
 tab_between (end ∷ ends) = 9 ∷ []
 
+-- the same where there are so many so far
+abbrev pub between : ℕ → List ℕ
+between count = if count == 0 then [] else 9 ∷ []
+
 -- the fields of a builder: the text of its tokens, and where they end in it
 pub record IsDraft (kind : SpinedKind) (text ends : List ℕ) : Type 0 where
   pub spelling : text ≡ spelled (tokens_in text ends)
@@ -39,13 +43,13 @@ pub record IsDraft (kind : SpinedKind) (text ends : List ℕ) : Type 0 where
   pub at_most : length text ≤ 1048576
 
 -- the text and the ends in a body, none where there is none
-abbrev pub text_in : {Z : Type 0} → Option (Box Body Z) → List ℕ
+abbrev pub text_in : {Z : Type 0} → Option (Box Written Z) → List ℕ
 text_in None = []
-text_in (Some body) = body.value.text.items
+text_in (Some body) = body.value.text
 
-abbrev pub ends_in : {Z : Type 0} → Option (Box Body Z) → List ℕ
+abbrev pub ends_in : {Z : Type 0} → Option (Box Written Z) → List ℕ
 ends_in None = []
-ends_in (Some body) = body.value.ends.items
+ends_in (Some body) = body.value.ends
 
 -- nothing is known after want of memory
 abbrev pub IsDraftUnless : Bool → SpinedKind → List ℕ → List ℕ → Type 0

@@ -24,3 +24,11 @@ row_in text =
 pub record AreFields (text ends : List ℕ) : Type 0 where
   pub lawful : IsTextOf (row_in text) text
   pub cut : ends ≡ ends_from 0 (tokens_of (row_in text))
+
+-- a text, and where its tokens end in it
+pub record Written : Type 0 where
+  pub text : List ℕ
+  pub ends : List ℕ
+
+abbrev pub written : List ℕ → List ℕ → Written
+written text ends = record { text = text; ends = ends }

@@ -7,4 +7,5 @@ pub mod Cutting
 pub mod Plain
 pub mod Building
 pub mod Making
+pub mod Selecting
 pub mod Contents

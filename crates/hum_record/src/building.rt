@@ -6,14 +6,12 @@ ghost use Rattle.hum_record.specs.Spelling.{IsToken};
 ghost use Rattle.hum_record.specs.Building.{tab_between, text_in, ends_in};
 ghost use Rattle.hum_record.specs.declared.RecordFault.TheVariants.{L1, Memory};
 
+use crate::body::Body;
 use crate::reading::Record;
-use crate::spare::{Body, Spare, new_body};
+use crate::spare::{Spare, new_body};
 use crate::{MOST_BYTES, RecordFault, SpinedKind};
 use std::alloc::{AllocError, Global};
 use std::marker::Model;
-
-/// The bytes that are asked for with the first token, so that few records grow again.
-const FIRST_BYTES: usize = 64;
 
 /// A spined record in the making: its kind, and the tokens so far.
 ///
@@ -136,8 +134,7 @@ fn empty(body: &mut Option<Box<Body>>)
     ensures ends { ends_in body.new ≡ [] }
 {
     if let Some(body) = body {
-        body.text.clear();
-        body.ends.clear();
+        body.clear();
     }
 }
 
@@ -168,10 +165,28 @@ fn provide(alloc: Global, body: &mut Option<Box<Body>>) -> Result<(), AllocError
     Ok(())
 }
 
-/// Adds a token behind the others, in a body that is made where there is none as yet; or answers that
-/// it doesn't fit.
+/// Adds a token behind the others where there is room for it, and tells whether there was.
 #[inline]
-fn add(alloc: Global, body: &mut Option<Box<Body>>, token: &[u8]) -> Result<bool, AllocError>
+fn add_near(body: &mut Option<Box<Body>>, token: &[u8]) -> bool
+    ensures text { result ≡ true → text_in body.new
+        ≡ text_in body.old ++ (tab_between (ends_in body.old) ++ token.now) }
+    ensures ends { result ≡ true → ends_in body.new
+        ≡ ends_in body.old ++ length (text_in body.new) ∷ [] }
+    ensures fits { result ≡ true → length (text_in body.old)
+        + length (tab_between (ends_in body.old)) + length token.now ≤ 1048576 }
+    ensures there { result ≡ true → is_some body.new ≡ true }
+    ensures same_text { result ≡ false → text_in body.new ≡ text_in body.old }
+    ensures same_ends { result ≡ false → ends_in body.new ≡ ends_in body.old }
+{
+    match body {
+        Some(body) => body.add_near(token),
+        None => false,
+    }
+}
+
+/// The same in any body, or in one that is made where there is none as yet.
+#[inline(never)]
+fn add_far(alloc: Global, body: &mut Option<Box<Body>>, token: &[u8]) -> Result<bool, AllocError>
     requires { length (text_in body.old) ≤ 1048576 }
     ensures fits { IfOk result (λ fits. fits
         ≡ nat_le (length (text_in body.old) + length (tab_between (ends_in body.old))
@@ -188,28 +203,31 @@ fn add(alloc: Global, body: &mut Option<Box<Body>>, token: &[u8]) -> Result<bool
     let Some(body) = body else {
         unreachable!();
     };
-    let Body { text, ends } = &mut **body;
-    if !has_room(text, ends, token) {
+    if !has_room(body.text(), body.ends(), token) {
         return Ok(false);
     }
-    append(text, ends, token)?;
+    body.add(token)?;
     Ok(true)
 }
 
-/// Adds a token behind the others, and a tab before it if there are any.
+/// Adds a token behind the others, in a body that is made where there is none as yet; or answers that
+/// it doesn't fit.
 #[inline]
-fn append(text: &mut Vec<u8>, ends: &mut Vec<u32>, token: &[u8]) -> Result<(), AllocError>
-    requires { length text.old.items + length token.now < 2 ^ 31 }
-    ensures text { OnOk result
-        (text.new.items ≡ text.old.items ++ (tab_between ends.old.items ++ token.now)) }
-    ensures ends { OnOk result (ends.new.items ≡ ends.old.items ++ length text.new.items ∷ []) }
+fn add(alloc: Global, body: &mut Option<Box<Body>>, token: &[u8]) -> Result<bool, AllocError>
+    requires { length (text_in body.old) ≤ 1048576 }
+    ensures fits { IfOk result (λ fits. fits
+        ≡ nat_le (length (text_in body.old) + length (tab_between (ends_in body.old))
+        + length token.now) 1048576) }
+    ensures text { IfOk result (λ fits. text_in body.new
+        ≡ (if fits then text_in body.old ++ (tab_between (ends_in body.old) ++ token.now)
+        else text_in body.old)) }
+    ensures ends { IfOk result (λ fits. ends_in body.new
+        ≡ (if fits then ends_in body.old ++ length (text_in body.new) ∷ []
+        else ends_in body.old)) }
+    ensures there { OnOk result (is_some body.new ≡ true) }
 {
-    if ends.is_empty() {
-        text.reserve(token.len().max(FIRST_BYTES))?;
-    } else {
-        text.push(b'\t')?;
+    if add_near(body, token) {
+        return Ok(true);
     }
-    text.extend_from_slice(token)?;
-    ends.push(text.len() as u32)?;
-    Ok(())
+    add_far(alloc, body, token)
 }

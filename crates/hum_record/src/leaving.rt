@@ -1,60 +1,162 @@
 //! Tokens that are left of a record, in its own memory.
-ghost use Rattle.std.specs.Prelude.{◌≡◌, ◌<◌, ◌≤◌, ◌-◌, ◌==◌, length, if◌then◌else◌};
+ghost use Rattle.std.specs.Prelude.{◌≡◌, ◌<◌, ◌≤◌, ◌+◌, ◌-◌, ◌^◌, ◌==◌, length, take, if◌then◌else◌};
 ghost use Rattle.std.specs.List.{copy_within};
 ghost use Rattle.hum_record.specs.Row.{chosen};
 ghost use Rattle.hum_record.specs.Spelling.{parts};
 ghost use Rattle.hum_record.specs.Building.{spelled};
-ghost use Rattle.hum_record.specs.Fields.{ends_from};
+ghost use Rattle.hum_record.specs.Fields.{begins_at, ends_from};
 
-/// Where what is moved of a token begins: at the token, or at the tab before it where another was left.
+use crate::selection::Selection;
+use std::simd::prelude::*;
+
+/// Moves two to four bytes to the left, by the first two and the last two.
 #[inline]
-fn moved_from(begin: usize, count: usize) -> usize
-    requires { 0 < count → 0 < begin }
-    ensures { result ≡ (if count == 0 then begin else begin - 1) }
+fn move_by_2(text: &mut [u8], from: usize, end: usize, to: usize)
+    requires leftward { to ≤ from }
+    requires few { from + 2 ≤ end }
+    requires many { end ≤ from + 4 }
+    requires within { end ≤ length text.old }
+    ensures { text.new ≡ copy_within text.old from end to }
 {
-    if count == 0 { begin } else { begin - 1 }
+    let first = u8x2::from_slice(&text[from..]);
+    let last = u8x2::from_slice(&text[end - 2..]);
+    first.copy_to_slice(&mut text[to..]);
+    last.copy_to_slice(&mut text[to + (end - 2 - from)..]);
 }
 
-/// Moves what stands between two places to the left, unless it begins where it goes.
+/// Moves four to eight bytes to the left, by the first four and the last four.
 #[inline]
-fn move_left(text: &mut Vec<u8>, from: usize, end: usize, to: usize)
+fn move_by_4(text: &mut [u8], from: usize, end: usize, to: usize)
+    requires leftward { to ≤ from }
+    requires few { from + 4 ≤ end }
+    requires many { end ≤ from + 8 }
+    requires within { end ≤ length text.old }
+    ensures { text.new ≡ copy_within text.old from end to }
+{
+    let first = u8x4::from_slice(&text[from..]);
+    let last = u8x4::from_slice(&text[end - 4..]);
+    first.copy_to_slice(&mut text[to..]);
+    last.copy_to_slice(&mut text[to + (end - 4 - from)..]);
+}
+
+/// Moves eight to sixteen bytes to the left, by the first eight and the last eight.
+#[inline]
+fn move_by_8(text: &mut [u8], from: usize, end: usize, to: usize)
+    requires leftward { to ≤ from }
+    requires few { from + 8 ≤ end }
+    requires many { end ≤ from + 16 }
+    requires within { end ≤ length text.old }
+    ensures { text.new ≡ copy_within text.old from end to }
+{
+    let first = u8x8::from_slice(&text[from..]);
+    let last = u8x8::from_slice(&text[end - 8..]);
+    first.copy_to_slice(&mut text[to..]);
+    last.copy_to_slice(&mut text[to + (end - 8 - from)..]);
+}
+
+/// Moves any number of bytes to the left.
+#[inline(never)]
+fn move_any(text: &mut [u8], from: usize, end: usize, to: usize)
     requires leftward { to ≤ from }
     requires order { from ≤ end }
-    requires within { end ≤ length text.old.items }
-    ensures moved { text.new.items ≡ copy_within text.old.items from end to }
-    ensures len { length text.new.items ≡ length text.old.items }
+    requires within { end ≤ length text.old }
+    ensures { text.new ≡ copy_within text.old from end to }
 {
-    if to < from {
-        text.copy_within(from..end, to);
+    text.copy_within(from..end, to);
+}
+
+/// Moves what stands between two places to the left. Most tokens are short.
+#[inline]
+fn move_left(text: &mut [u8], from: usize, end: usize, to: usize)
+    requires leftward { to ≤ from }
+    requires order { from ≤ end }
+    requires within { end ≤ length text.old }
+    ensures { text.new ≡ copy_within text.old from end to }
+{
+    let size = end - from;
+    if size < 4 {
+        if size < 2 {
+            move_any(text, from, end, to);
+        } else {
+            move_by_2(text, from, end, to);
+        }
+    } else if size <= 8 {
+        move_by_4(text, from, end, to);
+    } else if size <= 16 {
+        move_by_8(text, from, end, to);
+    } else {
+        move_any(text, from, end, to);
     }
 }
 
-/// Leaves of a text the tokens that are marked, by where each token ends in it.
+/// Where what is moved of a token begins: at the tab before it, or behind that where none is left so
+/// far.
 #[inline]
-pub fn leave(text: &mut Vec<u8>, ends: &mut Vec<u32>, marks: &[bool])
-    requires cut { ends.old.items ≡ ends_from 0 (parts text.old.items) }
-    requires as_wide { length marks.now ≡ length ends.old.items }
-    requires at_most { length text.old.items ≤ 1048576 }
-    ensures text { text.new.items ≡ spelled (chosen marks.now (parts text.old.items)) }
-    ensures ends { ends.new.items ≡ ends_from 0 (chosen marks.now (parts text.old.items)) }
-    ensures short { length text.new.items ≤ length text.old.items }
+fn moved_from(before: usize, count: usize) -> usize
+    requires { before < 2 ^ 32 }
+    ensures { result ≡ (if count == 0 then before + 1 else before) }
 {
-    // how much is left so far: bytes, and tokens
-    let mut len = 0;
-    let mut count = 0;
-    // where the next token begins
-    let mut begin = 0;
-    for (j, mark) in marks.iter().enumerate() {
-        let end = ends[j] as usize;
-        if *mark {
-            let from = moved_from(begin, count);
-            move_left(text, from, end, len);
-            len += end - from;
-            ends[count] = len as u32;
-            count += 1;
-        }
-        begin = end + 1;
+    if count == 0 { before + 1 } else { before }
+}
+
+/// How long the text of the tokens in front is.
+#[inline]
+fn front_len(ends: &[u32], front: usize) -> usize
+    requires { front ≤ length ends.now }
+    ensures { result ≡ begins_at ends.now front - 1 }
+{
+    match front.checked_sub(1) {
+        None => 0,
+        Some(last) => ends[last] as usize,
     }
-    text.truncate(len);
-    ends.truncate(count);
+}
+
+/// Moves the selected tokens of a text to its front, by where each token ends in it, and answers how
+/// many bytes and tokens these are. Those in front stay where they stand.
+#[inline]
+fn move_to_front(text: &mut [u8], ends: &mut [u32], selection: &Selection) -> (usize, usize)
+    requires cut { ends.old ≡ ends_from 0 (parts text.old) }
+    requires as_wide { length selection.now ≡ length ends.old }
+    requires at_most { length text.old ≤ 1048576 }
+    ensures text { take result.0 text.new ≡ spelled (chosen selection.now (parts text.old)) }
+    ensures ends { take result.1 ends.new ≡ ends_from 0 (chosen selection.now (parts text.old)) }
+    ensures shorter { result.0 ≤ length text.new }
+    ensures fewer { result.1 ≤ length ends.new }
+{
+    let mut count = selection.front();
+    let mut len = front_len(ends, count);
+    for j in selection.moved() {
+        let end = ends[*j] as usize;
+        let from = moved_from(ends[*j - 1] as usize, count);
+        move_left(text, from, end, len);
+        len += end - from;
+        ends[count] = len as u32;
+        count += 1;
+    }
+    (len, count)
+}
+
+/// The same of a text that is the first `len` bytes, of whose tokens the first `count` places say where
+/// they end.
+#[inline]
+pub fn move_in_front(
+    text: &mut [u8],
+    len: usize,
+    ends: &mut [u32],
+    count: usize,
+    selection: &Selection,
+) -> (usize, usize)
+    requires text_within { len ≤ length text.old }
+    requires ends_within { count ≤ length ends.old }
+    requires cut { take count ends.old ≡ ends_from 0 (parts (take len text.old)) }
+    requires as_wide { length selection.now ≡ count }
+    requires at_most { len ≤ 1048576 }
+    ensures text { take result.0 text.new
+        ≡ spelled (chosen selection.now (parts (take len text.old))) }
+    ensures ends { take result.1 ends.new
+        ≡ ends_from 0 (chosen selection.now (parts (take len text.old))) }
+    ensures shorter { result.0 ≤ len }
+    ensures fewer { result.1 ≤ count }
+{
+    move_to_front(&mut text[..len], &mut ends[..count], selection)
 }

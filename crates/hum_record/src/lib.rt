@@ -15,6 +15,7 @@ ghost use Rattle.hum_record.specs.Row.{as_kind};
 ghost use Rattle.hum_record.specs.declared.RecordFault.TheVariants.{Memory};
 
 mod bits;
+mod body;
 mod building;
 mod contents;
 pub mod iter;
@@ -22,7 +23,9 @@ mod leaving;
 mod line;
 mod making;
 mod near;
+mod putting;
 mod reading;
+mod selection;
 mod spare;
 mod tokens;
 
@@ -31,6 +34,7 @@ pub use contents::{is_barline, is_data, is_filled, is_null};
 pub use line::RecordLine;
 pub use making::Making;
 pub use reading::Record;
+pub use selection::Selection;
 pub use spare::Spare;
 use std::alloc::{AllocError, AllocFailed};
 use thiserror::Error;

@@ -2,8 +2,8 @@
 ghost use Rattle.std.specs.Prelude.{◌≡◌, ◌++◌, ◌∷◌, [], IfOk, IfErr};
 ghost use Rattle.hum_record.specs.Row.{text_of};
 
+use crate::body::Body;
 use crate::reading::Record;
-use crate::spare::Body;
 use std::marker::Model;
 
 /// A record with LF behind its text, so that it is written at once.
@@ -19,9 +19,9 @@ impl Model for RecordLine {
 
     ghost Value = { Row };
 
-    ghost view = { λ l. row_in (text_in l.body.value.text.items) };
+    ghost view = { λ l. row_in (text_in l.body.value.text) };
 
-    ghost invariant = { λ l. AreLineFields l.body.value.text.items l.body.value.ends.items };
+    ghost invariant = { λ l. AreLineFields l.body.value.text l.body.value.ends };
 }
 
 impl Record {
@@ -32,12 +32,10 @@ impl Record {
         ensures back { IfErr result (λ back. back ≡ self) }
     {
         let mut body = self.into_body();
-        if body.text.len() == body.text.capacity() {
-            return Err(Record::of_body(body));
-        }
-        match body.text.push(b'\n') {
-            Ok(()) => Ok(RecordLine { body }),
-            Err(_) => Err(Record::of_body(body)),
+        if body.add_lf() {
+            Ok(RecordLine { body })
+        } else {
+            Err(Record::of_body(body))
         }
     }
 }
@@ -48,7 +46,7 @@ impl RecordLine {
     pub fn text(&self) -> &[u8]
         ensures { result.now ≡ text_of self.now ++ 10 ∷ [] }
     {
-        &self.body.text
+        self.body.text()
     }
 
     /// The record without the LF.
@@ -57,7 +55,7 @@ impl RecordLine {
         ensures { result ≡ self }
     {
         let RecordLine { mut body } = self;
-        let _lf = body.text.pop();
+        body.drop_lf();
         Record::of_body(body)
     }
 }

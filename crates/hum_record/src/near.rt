@@ -1,17 +1,17 @@
 //! Short lines of plain data, all of whose bytes are looked at in one go.
-ghost use Rattle.std.specs.Prelude.{◌≡◌, ◌≤◌, length, map, take, Ok, OnOk, IfSome, false};
-ghost use Rattle.std.specs.Simd.Lanes.{chunk, mask_l};
+ghost use Rattle.std.specs.Prelude.{◌≡◌, ◌≤◌, length, map, take, IfSome};
+ghost use Rattle.std.specs.Simd.Lanes.{chunk, mask_l, put_chunk};
 ghost use Rattle.hum_record.specs.Cutting.{set_places};
-ghost use Rattle.hum_record.specs.Fields.{AreFields, row_in};
 ghost use Rattle.hum_record.specs.Plain.{is_rare, IsPlain};
-ghost use Rattle.hum_record.specs.Spelling.{has_byte, reading};
 
 use crate::bits::bits_of_32;
-use std::alloc::AllocError;
 use std::simd::prelude::*;
 
 /// How many bytes are looked at at once: most lines are shorter.
 pub const NEAR: usize = 32;
+
+/// How many places are copied at once: most lines have fewer tokens.
+pub const FEW: usize = 8;
 
 /// Where a byte that seldom stands in data is among the first 32, as the bits of a number.
 #[inline(always)]
@@ -45,11 +45,11 @@ pub fn plain_ends(held: &[u8], len: usize) -> Option<u64>
     Some(ends)
 }
 
-/// Puts the places of bits into a list of as many, in place of what stands there.
+/// Puts the places of bits in front of what stands in a list.
 #[inline]
-fn overwrite(places: &mut [u32], bits: u64)
-    requires { length places.old ≡ length (set_places 64 0 bits) }
-    ensures { places.new ≡ set_places 64 0 bits }
+pub fn put_places(places: &mut [u32], bits: u64)
+    requires { length (set_places 64 0 bits) ≤ length places.old }
+    ensures { take (length (set_places 64 0 bits)) places.new ≡ set_places 64 0 bits }
 {
     let mut rest = bits;
     let mut j = 0;
@@ -60,59 +60,22 @@ fn overwrite(places: &mut [u32], bits: u64)
     }
 }
 
-/// Makes a list that may hold anything the places of bits.
-#[inline(never)]
-fn replace_places(places: &mut Vec<u32>, bits: u64) -> Result<(), AllocError>
-    ensures { OnOk result (places.new.items ≡ set_places 64 0 bits) }
-{
-    places.clear();
-    let mut rest = bits;
-    while rest != 0 {
-        places.push(rest.trailing_zeros())?;
-        rest &= rest - 1;
-    }
-    Ok(())
-}
-
-/// The same where it most often has as many places as before.
+/// Puts the first bytes of what is held in front of what stands in a list.
 #[inline]
-fn put_places(places: &mut Vec<u32>, bits: u64) -> Result<(), AllocError>
-    ensures { OnOk result (places.new.items ≡ set_places 64 0 bits) }
-{
-    if places.len() != bits.count_ones() as usize {
-        return replace_places(places, bits);
-    }
-    overwrite(places, bits);
-    Ok(())
-}
-
-/// Makes a list that may hold anything where the tokens of a line of plain data end, by their bits.
-#[inline]
-pub fn put_plain_ends(
-    ends: &mut Vec<u32>,
-    held: &[u8],
-    len: usize,
-    bits: u64,
-) -> Result<(), AllocError>
-    requires at_most { length (take len held.now) ≤ 32 }
-    requires one_line { has_byte 10 (take len held.now) ≡ false }
-    requires plain { IsPlain (take len held.now) bits }
-    ensures fields { OnOk result (AreFields (take len held.now) ends.new.items) }
-    ensures read { OnOk result (reading (take len held.now) ≡ Ok (row_in (take len held.now))) }
-{
-    put_places(ends, bits)
-}
-
-/// Puts the first `len` bytes of what is held into a list that may hold anything: with others behind
-/// them that are taken off again, since so many bytes are moved without a call.
-#[inline]
-pub fn copy_near(text: &mut Vec<u8>, held: &[u8], len: usize) -> Result<(), AllocError>
+pub fn copy_near(text: &mut [u8], held: &[u8])
     requires filled { 32 ≤ length held.now }
-    requires short { len ≤ 32 }
-    ensures { OnOk result (text.new.items ≡ take len held.now) }
+    requires room { 32 ≤ length text.old }
+    ensures { text.new ≡ put_chunk 0 text.old (chunk 0 32 held.now) }
 {
-    text.clear();
-    text.extend_from_slice(&held[..NEAR])?;
-    text.truncate(len);
-    Ok(())
+    u8x32::from_slice(held).copy_to_slice(text);
+}
+
+/// The same of places.
+#[inline]
+pub fn copy_places(places: &mut [u32], held: &[u32])
+    requires filled { 8 ≤ length held.now }
+    requires room { 8 ≤ length places.old }
+    ensures { places.new ≡ put_chunk 0 places.old (chunk 0 8 held.now) }
+{
+    u32x8::from_slice(held).copy_to_slice(places);
 }

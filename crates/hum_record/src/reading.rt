@@ -10,10 +10,11 @@ ghost use Rattle.hum_record.specs.Row.{with_chosen};
 ghost use Rattle.std.specs.List.{list_any};
 ghost use Rattle.hum_record.specs.declared.RecordFault.TheVariants.{Memory};
 
+use crate::body::Body;
 use crate::iter::Tokens;
-use crate::leaving::leave;
-use crate::near::{NEAR, copy_near, plain_ends, put_plain_ends};
-use crate::spare::{Body, Spare};
+use crate::near::{NEAR, plain_ends};
+use crate::selection::Selection;
+use crate::spare::Spare;
 use crate::tokens::{Cut, lawful_kind, push_ends, token_at_end, token_kind};
 use crate::{Kind, RecordFault};
 use memchr::memchr;
@@ -43,9 +44,9 @@ impl Model for Record {
 
     ghost use Rattle.hum_record.specs.Fields.{row_in, AreFields};
 
-    ghost view = { λ r. row_in r.body.value.text.items };
+    ghost view = { λ r. row_in r.body.value.text };
 
-    ghost invariant = { λ r. AreFields r.body.value.text.items r.body.value.ends.items };
+    ghost invariant = { λ r. AreFields r.body.value.text r.body.value.ends };
 }
 
 impl Record {
@@ -129,8 +130,7 @@ impl Record {
         ensures { Gives result (reading (take len held.now)) }
     {
         let mut body = spare.take_or_new(alloc)?;
-        put_plain_ends(&mut body.ends, held, len, ends)?;
-        copy_near(&mut body.text, held, len)?;
+        body.put_near(held, len, ends)?;
         Ok(Record { body })
     }
 
@@ -142,23 +142,22 @@ impl Record {
         ensures { Gives result (reading text.now) }
     {
         let mut body = spare.take_or_new(alloc)?;
-        cut(&mut body.ends, text)?;
-        replace_text(&mut body.text, text)?;
+        body.put(text)?;
         Ok(Record { body })
     }
 
     /// The record of a text, by where each token ends in it.
     pub(crate) fn of_body(body: Box<Body>) -> Record
-        requires { AreFields body.value.text.items body.value.ends.items }
-        ensures { result ≡ row_in body.value.text.items }
+        requires { AreFields body.value.text body.value.ends }
+        ensures { result ≡ row_in body.value.text }
     {
         Record { body }
     }
 
     /// What is left of a record that is done with.
     pub(crate) fn into_body(self) -> Box<Body>
-        ensures fields { AreFields result.value.text.items result.value.ends.items }
-        ensures text { self ≡ row_in result.value.text.items }
+        ensures fields { AreFields result.value.text result.value.ends }
+        ensures text { self ≡ row_in result.value.text }
     {
         let Record { body } = self;
         body
@@ -166,7 +165,7 @@ impl Record {
 
     /// How long a text fits into the memory of this one.
     pub(crate) fn capacity(&self) -> usize {
-        self.body.text.capacity()
+        self.body.room()
     }
 
     /// A second record that is the same.
@@ -184,22 +183,18 @@ impl Record {
         ensures { IfOk result (λ r. r ≡ self.now) }
     {
         let mut body = spare.take_or_new(alloc)?;
-        body.text.clear();
-        body.text.extend_from_slice(&self.body.text)?;
-        body.ends.clear();
-        body.ends.extend_from_slice(&self.body.ends)?;
+        body.copy_of(&self.body)?;
         Ok(Record { body })
     }
 
-    /// Leaves the marked tokens alone, at least one of which there is, in the record's own memory.
+    /// Leaves the selected tokens alone, at least one of which there is, in the record's own memory.
     #[inline]
-    pub fn retain(&mut self, marks: &[bool])
-        requires as_wide { length marks.now ≡ width_of self.old }
-        requires some { list_any (λ b. b) marks.now ≡ true }
-        ensures { self.new ≡ with_chosen marks.now self.old }
+    pub fn retain(&mut self, selection: &Selection)
+        requires as_wide { length selection.now ≡ width_of self.old }
+        requires some { list_any (λ b. b) selection.now ≡ true }
+        ensures { self.new ≡ with_chosen selection.now self.old }
     {
-        let Body { text, ends } = &mut *self.body;
-        leave(text, ends, marks);
+        self.body.leave(selection);
     }
 
     /// What the record is.
@@ -210,10 +205,10 @@ impl Record {
         ensures shape { self.now ≡ row_of result (text_of self.now) (tokens_of self.now) }
         ensures at_most { length (text_of self.now) ≤ 1048576 }
     {
-        if is_global(&self.body.text) {
+        if is_global(self.body.text()) {
             Kind::Global
         } else {
-            token_kind(&self.body.text).into()
+            token_kind(self.body.text()).into()
         }
     }
 
@@ -222,7 +217,7 @@ impl Record {
     pub fn width(&self) -> usize
         ensures { result ≡ width_of self.now }
     {
-        self.body.ends.len()
+        self.body.width()
     }
 
     /// The token of the spine `j`, counted from 0.
@@ -232,7 +227,7 @@ impl Record {
         ensures token { result.now ≡ token_at self.now j }
         ensures lawful { IsTokenOf self.now result.now }
     {
-        token_at_end(&self.body.text, &self.body.ends, j)
+        token_at_end(self.body.text(), self.body.ends(), j)
     }
 
     /// The tokens, from the left: one for each spine, and none of a global comment.
@@ -240,7 +235,7 @@ impl Record {
     pub fn tokens(&self) -> Tokens<'_>
         ensures { result ≡ tokens_of self.now }
     {
-        Tokens::all(&self.body.text, &self.body.ends)
+        Tokens::all(self.body.text(), self.body.ends())
     }
 
     /// The whole text: the tokens, a tab between two.
@@ -252,13 +247,13 @@ impl Record {
         // Its text is read as the record itself.
         ensures read_back { reading (text_of self.now) ≡ Ok self.now }
     {
-        &self.body.text
+        self.body.text()
     }
 }
 
 /// Finds where each token of a line ends, into a list that may hold anything, or the first rule that
 /// the line breaks.
-fn cut(ends: &mut Vec<u32>, text: &[u8]) -> Result<(), RecordFault>
+pub fn cut(ends: &mut Vec<u32>, text: &[u8]) -> Result<(), RecordFault>
     requires at_most { length text.now ≤ 1048576 }
     requires one_line { has_byte 10 text.now ≡ false }
     ensures fields { OnOk result (AreFields text.now ends.new.items) }
@@ -280,14 +275,6 @@ fn cut(ends: &mut Vec<u32>, text: &[u8]) -> Result<(), RecordFault>
         Cut::Broken => return Err(RecordFault::S8),
     }
     Ok(())
-}
-
-/// Puts a line into a list that may hold anything.
-fn replace_text(text: &mut Vec<u8>, line: &[u8]) -> Result<(), AllocError>
-    ensures { OnOk result (text.new.items ≡ line.now) }
-{
-    text.clear();
-    text.extend_from_slice(line)
 }
 
 /// Whether a carriage return stands in a text.

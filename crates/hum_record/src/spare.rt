@@ -1,27 +1,10 @@
 //! What is left of a record that is done with.
 ghost use Rattle.std.specs.Prelude.{◌≡◌, [], IfOk};
 
+use crate::body::Body;
 use crate::reading::Record;
 use std::alloc::{AllocError, Global};
 use std::marker::Model;
-
-/// The text of a record, and where each of its tokens ends in it.
-#[derive(Debug)]
-pub struct Body {
-    pub(crate) text: Vec<u8>,
-    pub(crate) ends: Vec<u32>,
-}
-
-// Written out, so that a proof of who drops a record sees one call and not the drop of each field.
-impl Drop for Body {
-    #[inline]
-    fn drop(self) {
-        let Body {
-            text: _text,
-            ends: _ends,
-        } = self;
-    }
-}
 
 /// How many bodies wait behind the first, and how much text may fit in each of them: what is kept
 /// takes little memory, however long the records are.
@@ -119,10 +102,8 @@ impl Spare {
 /// Empty buffers.
 #[inline(never)]
 pub(crate) fn new_body(alloc: Global) -> Result<Box<Body>, AllocError>
-    ensures text { IfOk result (λ body. body.value.text.items ≡ []) }
-    ensures ends { IfOk result (λ body. body.value.ends.items ≡ []) }
+    ensures text { IfOk result (λ body. body.value.text ≡ []) }
+    ensures ends { IfOk result (λ body. body.value.ends ≡ []) }
 {
-    let text = Vec::new(alloc);
-    let ends = Vec::new(alloc);
-    Ok(Box::new(alloc, Body { text, ends })?)
+    Ok(Box::new(alloc, Body::new(alloc))?)
 }

@@ -4,7 +4,7 @@ ghost use Rattle.hum_record.specs.Spelling.{has_byte, IsToken};
 ghost use Rattle.hum_record.specs.declared.SpinedKind.TheVariants.{Values};
 
 use crate::compared::{prints, same, same_bytes};
-use hum_record::{Kind, Record, RecordBuilder, RecordFault, Spare, SpinedKind};
+use hum_record::{Kind, Record, RecordBuilder, RecordFault, Selection, Spare, SpinedKind};
 use std::alloc::{AllocError, Global};
 use std::process::Abort;
 
@@ -116,7 +116,8 @@ fn retains_marked_tokens(rt: HostRuntime) {
         let (text, marks, left) = *row;
         let mut record = read(&rt, alloc, text);
         assert!(rt; marks.len() == record.width() && marks.contains(&true));
-        record.retain(marks);
+        let selection = Selection::new(alloc, marks).expect(&rt, "memory");
+        record.retain(&selection);
         same_bytes(&rt, record.text(), left, text);
         check_alike(&rt, &record, &read(&rt, alloc, left));
     }

@@ -13,4 +13,4 @@ keep-requires-clause-as_wide c =
     let found = rw c.in-Some.is at c.in_ok-marks.ensures in
     let opened = c.in_ok-open-in-Some.ensures in
     opening_wide (opening_flags choice) c.args.row _ (opening_length choice (tokens_of c.args.row))
-    (c.marks-in-Some.ensures ∙ ap (λ (m : Memory). m.each) opened ∙ found.1)
+    (c.selection.ensures ∙ ap (λ (m : Memory). m.each) opened ∙ found.1)

@@ -1,4 +1,5 @@
-use Rattle.std.proofs.Common.{◌≡◌, ◌∙◌, sym, true, false, ℕ}
+use Rattle.std.proofs.Common.{◌≡◌, ◌∙◌, sym, true, false, ℕ, []}
+use Rattle.std.specs.Option.{option_to_list}
 use Rattle.std.specs.Prelude.{IfNone}
 use Rattle.hum_record.specs.Row.{tokens_of}
 use Rattle.hum_path.specs.Sign.{steers}
@@ -9,6 +10,7 @@ use Rattle.hum_columns.specs.Following.{Answers, Follows, memory}
 use Rattle.hum_columns.proofs.Taking.{wide_later, steps_opening, steps_later, both_ok}
 use Rattle.hum_extract.specs.Extract.{column_command}
 use Rattle.hum_extract.specs.Written.{choice_of}
+use Rattle.hum_extract.proofs.ChosenTokens.{no_first}
 use Rattle.hum_extract.proofs.Taking.{wide_still, gives_still, follows_still, steered_kind, opening_length}
 use Rattle.hum_extract.proofs.columns.ColumnsDecides.step.Goals as goal
 
@@ -16,14 +18,14 @@ pub keep-requires-clause-as_wide : goal.keep-requires-clause-as_wide
 keep-requires-clause-as_wide c =
     let still : steers c.args.next ≡ false = sym c.asks.ensures.asks ∙ c.if-not-asks.true in
     let at = c.requires.score in
-    rw c.marks.ensures (wide_still (choice_of c.args.self.now.choice) c.args.next at.past at.memory at.score c.asks.ensures.lawful still)
+    rw c.selection.ensures (wide_still (choice_of c.args.self.now.choice) c.args.next at.past at.memory at.score c.asks.ensures.lawful still)
 
 pub returns-then-not-asks : goal.returns-then-not-asks
 returns-then-not-asks c decide past memory score =
     let choice = choice_of c.args.self.now.choice in
     let still : steers c.args.next ≡ false = sym c.asks.ensures.asks ∙ c.if-not-asks.true in
-    let given = rw (c.requires.empty, c.marks.ensures) at c.in_ok-keep.ensures in (
-      gives_still choice c.args.next past c.keep.new.out.items memory score c.asks.ensures.lawful still given,
+    let given = rw c.selection.ensures at c.keep.ensures in (
+      gives_still choice c.args.next past c.keep.new.out memory score c.asks.ensures.lawful still given,
       follows_still choice c.args.next past memory score c.asks.ensures.lawful still,
     )
 
@@ -34,7 +36,7 @@ returns-then-is_unopened c =
     let row = c.args.next in
     let is = steered_kind row (sym c.asks.ensures.asks ∙ c.if-not-asks.false) in
     let on : is_closed c.args.self.now.columns.path ≡ true = sym c.is_unopened.ensures ∙ c.if-is_unopened.true in
-    let out = c.open.new.out.items in
+    let out = c.open.new.out in
     let new = c.open.new.columns in
     both_ok c.open.result (λ refused. (room : ℕ) → Answers (command.opening (tokens_of row)) room out refused)
     (λ refused. IfNone refused (new ≡ memory (after c.args.self.now.columns.path row) (command.choose (tokens_of row))))
@@ -49,7 +51,7 @@ cut-requires-clause-as_wide c =
     let is = steered_kind row (sym c.asks.ensures.asks ∙ c.if-not-asks.false) in
     let off : is_closed c.args.self.now.columns.path ≡ false = sym c.is_unopened.ensures ∙ c.if-is_unopened.false in
     let at = c.requires.score in
-    rw (c.each.ensures, c.marks-2.ensures) (wide_later (column_command (choice_of c.args.self.now.choice)) row at.past at.memory at.score is off)
+    rw (c.each.ensures, c.marks.ensures) (wide_later (column_command (choice_of c.args.self.now.choice)) row at.past at.memory at.score is off)
 
 pub returns : goal.returns
 returns c decide past follows score =
@@ -57,6 +59,7 @@ returns c decide past follows score =
     let row = c.args.next in
     let is = steered_kind row (sym c.asks.ensures.asks ∙ c.if-not-asks.false) in
     let off : is_closed c.args.self.now.columns.path ≡ false = sym c.is_unopened.ensures ∙ c.if-is_unopened.false in
-    let answers = rw (c.each.ensures, c.marks-2.ensures) at c.in_ok-refused.ensures in
-    steps_later command row past c.args.room c.cut.new.out.items c.pass.new.self c.in_ok-refused.refused follows score is off answers
-    c.in_ok-pass.ensures.passed c.in_ok-pass.ensures.sources
+    let answers = rw (c.each.ensures, c.marks.ensures) at c.in_ok-refused.ensures in
+    let alone : option_to_list c.out.inside.one ≡ [] = no_first c.out.inside.one _ (c.out.view_is ∙ c.requires.empty) in
+    rw alone (steps_later command row past c.args.room c.cut.new.out.items c.pass.new.self c.in_ok-refused.refused follows score is off answers
+    c.in_ok-pass.ensures.passed c.in_ok-pass.ensures.sources)

@@ -4,23 +4,23 @@ use Rattle.hum_record.proofs.reading.Record.retain.Goals as goal
 pub leave-requires-clause-cut : goal.leave-requires-clause-cut
 leave-requires-clause-cut c =
     rw c.deref_mut.ensures.value
-    (ends_cut c.args.self.now _ _ c.args.marks.now c.self.invariant c.self.view_is c.requires.as_wide c.requires.some)
+    (ends_cut c.args.self.now _ _ c.args.selection.now c.self.invariant c.self.view_is c.requires.as_wide c.requires.some)
 
 pub leave-requires-clause-as_wide : goal.leave-requires-clause-as_wide
 leave-requires-clause-as_wide c =
     rw c.deref_mut.ensures.value
-    (ends_wide c.args.self.now _ _ c.args.marks.now c.self.invariant c.self.view_is c.requires.as_wide c.requires.some)
+    (ends_wide c.args.self.now _ _ c.args.selection.now c.self.invariant c.self.view_is c.requires.as_wide c.requires.some)
 
 pub invariant_of-self : goal.invariant_of-self
 invariant_of-self c =
     let left = c.leave.ensures in
     let e = c.deref_mut.ensures.value in
-    (retained c.args.self.now _ _ c.args.marks.now c.self.invariant c.self.view_is c.requires.as_wide c.requires.some
-    c.leave.new.text.items c.leave.new.ends.items (rw e at left.text) (rw e at left.ends) (rw e at left.short)).fields
+    (retained c.args.self.now _ _ c.args.selection.now c.self.invariant c.self.view_is c.requires.as_wide c.requires.some
+    c.leave.new.self.text c.leave.new.self.ends (rw e at left.text) (rw e at left.ends) (rw e at left.short)).fields
 
 pub returns : goal.returns
 returns c =
     let left = c.leave.ensures in
     let e = c.deref_mut.ensures.value in
-    (retained c.args.self.now _ _ c.args.marks.now c.self.invariant c.self.view_is c.requires.as_wide c.requires.some
-    c.leave.new.text.items c.leave.new.ends.items (rw e at left.text) (rw e at left.ends) (rw e at left.short)).is
+    (retained c.args.self.now _ _ c.args.selection.now c.self.invariant c.self.view_is c.requires.as_wide c.requires.some
+    c.leave.new.self.text c.leave.new.self.ends (rw e at left.text) (rw e at left.ends) (rw e at left.short)).is

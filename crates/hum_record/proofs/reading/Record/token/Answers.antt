@@ -6,20 +6,20 @@ use Rattle.hum_record.proofs.reading.Record.token.Goals as goal
 pub token_at_end-requires : goal.token_at_end-requires
 token_at_end-requires c =
     let inside = c.self.inside in
-    let lies = piece_lies inside.body.value.text.items inside.body.value.ends.items c.args.self.now c.args.j c.self.invariant c.self.view_is c.requires in
-    let count = width_counts inside.body.value.text.items inside.body.value.ends.items c.args.self.now c.self.invariant c.self.view_is in
-    rw (c.deref-2.ensures.value, c.deref.ensures, c.deref-4.ensures.value, c.deref-3.ensures)
+    let lies = piece_lies inside.body.value.text inside.body.value.ends c.args.self.now c.args.j c.self.invariant c.self.view_is c.requires in
+    let count = width_counts inside.body.value.text inside.body.value.ends c.args.self.now c.self.invariant c.self.view_is in
+    rw (c.text.ensures, c.deref.ensures, c.ends.ensures, c.deref-2.ensures)
     (record { counted = omega (arith, count); order = lies.order; within = lies.within })
 
 pub returns-clause-token : goal.returns-clause-token
 returns-clause-token c =
     let inside = c.self.inside in
-    let lies = piece_lies inside.body.value.text.items inside.body.value.ends.items c.args.self.now c.args.j c.self.invariant c.self.view_is c.requires in
-    rw (c.deref-2.ensures.value, c.deref.ensures, c.deref-4.ensures.value, c.deref-3.ensures) at c.token_at_end.ensures ∙ lies.reads
+    let lies = piece_lies inside.body.value.text inside.body.value.ends c.args.self.now c.args.j c.self.invariant c.self.view_is c.requires in
+    rw (c.text.ensures, c.deref.ensures, c.ends.ensures, c.deref-2.ensures) at c.token_at_end.ensures ∙ lies.reads
 
 pub returns-clause-lawful : goal.returns-clause-lawful
 returns-clause-lawful c =
     let inside = c.self.inside in
-    let lies = piece_lies inside.body.value.text.items inside.body.value.ends.items c.args.self.now c.args.j c.self.invariant c.self.view_is c.requires in
-    let same = rw (c.deref-2.ensures.value, c.deref.ensures, c.deref-4.ensures.value, c.deref-3.ensures) at c.token_at_end.ensures ∙ lies.reads in
+    let lies = piece_lies inside.body.value.text inside.body.value.ends c.args.self.now c.args.j c.self.invariant c.self.view_is c.requires in
+    let same = rw (c.text.ensures, c.deref.ensures, c.ends.ensures, c.deref-2.ensures) at c.token_at_end.ensures ∙ lies.reads in
     rw same (token_lawful c.args.self.now _ c.args.j (rw c.self.view_is at c.self.invariant.lawful) c.requires)

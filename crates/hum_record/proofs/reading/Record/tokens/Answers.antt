@@ -5,11 +5,11 @@ use Rattle.hum_record.proofs.reading.Record.tokens.Goals as goal
 pub all-requires : goal.all-requires
 all-requires c =
     let body = c.self.inside.body.value in
-    let come = tokens_come body.text.items body.ends.items c.args.self.now c.self.invariant c.self.view_is in
-    rw (c.deref-2.ensures.value, c.deref.ensures, c.deref-4.ensures.value, c.deref-3.ensures) come.within
+    let come = tokens_come body.text body.ends c.args.self.now c.self.invariant c.self.view_is in
+    rw (c.text.ensures, c.deref.ensures, c.ends.ensures, c.deref-2.ensures) come.within
 
 pub returns : goal.returns
 returns c =
     let body = c.self.inside.body.value in
-    let come = tokens_come body.text.items body.ends.items c.args.self.now c.self.invariant c.self.view_is in
-    rw (c.deref-2.ensures.value, c.deref.ensures, c.deref-4.ensures.value, c.deref-3.ensures) at c.all.ensures ∙ come.reads
+    let come = tokens_come body.text body.ends c.args.self.now c.self.invariant c.self.view_is in
+    rw (c.text.ensures, c.deref.ensures, c.ends.ensures, c.deref-2.ensures) at c.all.ensures ∙ come.reads

@@ -1,11 +1,11 @@
 use Rattle.std.proofs.Common.{◌≡◌, ◌≤◌, ◌++◌, length, take}
 use Rattle.hum_record.specs.Cutting.{set_places}
-use Rattle.hum_record.proofs.near.overwrite.Given as goal
+use Rattle.hum_record.proofs.near.put_places.Given as goal
 
 abbrev pub invariant-loop-rest : goal.invariant-loop-rest
 invariant-loop-rest l =
     (take l.j l.places ++ set_places 64 0 l.rest ≡ set_places 64 0 l.bits)
-    × (length l.places ≡ length (set_places 64 0 l.bits)) × (l.j ≤ length l.places)
+    × (length (set_places 64 0 l.bits) ≤ length l.places) × (l.j ≤ length l.places)
 
 abbrev pub decreases-loop-rest : goal.decreases-loop-rest
 decreases-loop-rest l = l.rest

@@ -1,0 +1,71 @@
+//! Records that are due, mostly one.
+ghost use Rattle.std.specs.Prelude.{◌≡◌, ◌∷◌, []};
+
+use hum_record::Record;
+use hum_stage::Due;
+use std::alloc::{AllocError, Global};
+use std::collections::VecDeque;
+use std::marker::Model;
+
+/// Records that are due: one, without a list of them, or as many as an interpretation becomes.
+#[derive(Drop)]
+pub struct MostlyOne {
+    one: Option<Record>,
+    pub(crate) many: VecDeque<Record>,
+}
+
+impl Model for MostlyOne {
+    ghost use Rattle.std.specs.Prelude.{List, ◌++◌};
+    ghost use Rattle.std.specs.Option.{option_to_list};
+    ghost use Rattle.hum_record.specs.Row.{Row};
+
+    ghost Value = { List Row };
+
+    ghost view = { λ due. option_to_list due.one ++ due.many.items };
+}
+
+impl MostlyOne {
+    /// This record is due.
+    #[inline]
+    pub fn put(&mut self, row: Record)
+        requires { self.old ≡ [] }
+        ensures { self.new ≡ row ∷ [] }
+    {
+        self.one = Some(row);
+    }
+}
+
+impl Due for MostlyOne {
+    ghost rows = { λ s. s };
+
+    fn none(alloc: Global) -> Self {
+        MostlyOne {
+            one: None,
+            many: VecDeque::new(alloc),
+        }
+    }
+
+    fn next(&mut self) -> Result<Option<Record>, AllocError> {
+        if self.one.is_some() {
+            return Ok(self.one.take());
+        }
+        Ok(self.many.pop_front())
+    }
+
+    fn count(&self) -> u64 {
+        if self.one.is_some() {
+            1 + self.many.len() as u64
+        } else {
+            self.many.len() as u64
+        }
+    }
+
+    fn is_empty(&self) -> bool {
+        self.one.is_none() && self.many.is_empty()
+    }
+
+    fn clear(&mut self) {
+        self.one = None;
+        self.many.clear();
+    }
+}

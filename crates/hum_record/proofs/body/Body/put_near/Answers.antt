@@ -1,0 +1,25 @@
+use Rattle.std.proofs.Common.{◌≡◌, ◌∙◌, length, take, ap, sym, arith}
+use Rattle.hum_record.proofs.Held.{written_back, front_put}
+use Rattle.hum_record.proofs.Short.{count_places}
+use Rattle.hum_record.proofs.body.Body.put_near.Goals as goal
+
+pub put_places-requires : goal.put_places-requires
+put_places-requires c =
+    omega (arith, count_places 64 0 c.args.ends c.ranges.ends.fits, c.in_ok-give_places.ensures.room, c.deref_mut-2.ensures.len)
+
+pub returns-clause-text : goal.returns-clause-text
+returns-clause-text c =
+    let held = c.give_bytes.new.held in
+    let put = rw c.deref_mut.ensures.value at c.copy_near.ensures in
+    let size : length c.copy_near.new.text ≡ held.len = omega (arith, c.copy_near.auto.text, c.deref_mut.ensures.len) in
+    ap (take c.args.len) (written_back held.len c.copy_near.new.text held.items size ∙ put)
+    ∙ front_put held.items c.args.held.now 32 c.args.len
+    (omega (arith, c.in_ok-give_bytes.ensures.room, held.ok.0)) c.requires.filled c.requires.short
+
+pub returns-clause-ends : goal.returns-clause-ends
+returns-clause-ends c =
+    let places = c.give_places.new.places in
+    let size : length c.put_places.new.places ≡ places.len = omega (arith, c.put_places.auto.places, c.deref_mut-2.ensures.len) in
+    ap (take _) (written_back places.len c.put_places.new.places places.items size)
+    ∙ ap (λ n. take n c.put_places.new.places) (sym (count_places 64 0 c.args.ends c.ranges.ends.fits))
+    ∙ c.put_places.ensures

@@ -1,0 +1,329 @@
+//! The text of a record, and where its tokens end in it.
+ghost use Rattle.std.specs.Prelude.{◌≡◌, ◌≤◌, ◌<◌, ◌+◌, ◌-◌, ◌^◌, ◌++◌, ◌∷◌, [], length, take};
+ghost use Rattle.std.specs.Prelude.{OnOk, IfErr, Ok, true, false, vec_len};
+ghost use Rattle.hum_record.specs.Building.{tab_between, spelled};
+ghost use Rattle.hum_record.specs.Cutting.{set_places};
+ghost use Rattle.hum_record.specs.Fields.{AreFields, ends_from, row_in, written};
+ghost use Rattle.hum_record.specs.Row.{chosen};
+ghost use Rattle.hum_record.specs.Spelling.{has_byte, reading, parts, Fails};
+
+use crate::leaving::move_in_front;
+use crate::near::{FEW, NEAR, copy_near, copy_places, put_places};
+use crate::putting::put_behind;
+use crate::reading::cut;
+use crate::selection::Selection;
+use crate::{MOST_BYTES, RecordFault};
+use std::alloc::{AllocError, Global};
+use std::marker::Model;
+
+/// How many bytes and places there are at least once there are some, so that a short record finds
+/// room in what another one left.
+const LEAST_BYTES: usize = 64;
+
+const LEAST_PLACES: usize = 16;
+
+/// A text, and where each of its tokens ends in it.
+///
+/// Behind both there is room that doesn't count: a short text is put there in one piece, and no list is
+/// cut or grown for it.
+#[derive(Debug)]
+pub struct Body {
+    held: Vec<u8>,
+    len: usize,
+    places: Vec<u32>,
+    count: usize,
+}
+
+// Written out, so that a proof of who drops a record sees one call and not the drop of each field.
+impl Drop for Body {
+    #[inline]
+    fn drop(self) {
+        let Body {
+            held: _held,
+            len: _,
+            places: _places,
+            count: _,
+        } = self;
+    }
+}
+
+impl Model for Body {
+    ghost use Rattle.std.specs.Prelude.{◌≤◌, take, vec_len};
+    ghost use Rattle.hum_record.specs.Fields.{Written, written};
+
+    ghost Value = { Written };
+
+    ghost view = { λ b. written (take b.len b.held.items) (take b.count b.places.items) };
+
+    ghost invariant = { λ b. (b.len ≤ vec_len b.held) × (b.count ≤ vec_len b.places) };
+}
+
+/// Fills up a list to this length, where it is shorter.
+#[inline(never)]
+fn fill_bytes(held: &mut Vec<u8>, count: usize) -> Result<(), AllocError>
+    ensures kept { take (vec_len held.old) held.new.items ≡ held.old.items }
+    ensures more { vec_len held.old ≤ vec_len held.new }
+    ensures room { OnOk result (count ≤ vec_len held.new) }
+{
+    let count = count.max(LEAST_BYTES);
+    if held.len() < count {
+        held.resize(count, 0)?;
+    }
+    Ok(())
+}
+
+#[inline(never)]
+fn fill_places(places: &mut Vec<u32>, count: usize) -> Result<(), AllocError>
+    ensures kept { take (vec_len places.old) places.new.items ≡ places.old.items }
+    ensures more { vec_len places.old ≤ vec_len places.new }
+    ensures room { OnOk result (count ≤ vec_len places.new) }
+{
+    let count = count.max(LEAST_PLACES);
+    if places.len() < count {
+        places.resize(count, 0)?;
+    }
+    Ok(())
+}
+
+/// The same, but most often it is as long already.
+#[inline]
+fn give_bytes(held: &mut Vec<u8>, count: usize) -> Result<(), AllocError>
+    ensures kept { take (vec_len held.old) held.new.items ≡ held.old.items }
+    ensures more { vec_len held.old ≤ vec_len held.new }
+    ensures room { OnOk result (count ≤ vec_len held.new) }
+{
+    if held.len() < count {
+        return fill_bytes(held, count);
+    }
+    Ok(())
+}
+
+#[inline]
+fn give_places(places: &mut Vec<u32>, count: usize) -> Result<(), AllocError>
+    ensures kept { take (vec_len places.old) places.new.items ≡ places.old.items }
+    ensures more { vec_len places.old ≤ vec_len places.new }
+    ensures room { OnOk result (count ≤ vec_len places.new) }
+{
+    if places.len() < count {
+        return fill_places(places, count);
+    }
+    Ok(())
+}
+
+impl Body {
+    /// No text, and no memory as yet.
+    pub fn new(alloc: Global) -> Body
+        ensures { result ≡ written [] [] }
+    {
+        Body {
+            held: Vec::new(alloc),
+            len: 0,
+            places: Vec::new(alloc),
+            count: 0,
+        }
+    }
+
+    /// The text.
+    #[inline]
+    pub fn text(&self) -> &[u8]
+        ensures { result.now ≡ self.now.text }
+    {
+        &self.held[..self.len]
+    }
+
+    /// Where each of its tokens ends in it.
+    #[inline]
+    pub fn ends(&self) -> &[u32]
+        ensures { result.now ≡ self.now.ends }
+    {
+        &self.places[..self.count]
+    }
+
+    /// How many tokens end in it.
+    #[inline]
+    pub fn width(&self) -> usize
+        ensures { result ≡ length self.now.ends }
+    {
+        self.count
+    }
+
+    /// How much room there is for a text, without more memory.
+    #[inline]
+    pub fn room(&self) -> usize {
+        self.held.len()
+    }
+
+    /// Leaves nothing but room.
+    #[inline]
+    pub fn clear(&mut self)
+        ensures { self.new ≡ written [] [] }
+    {
+        self.len = 0;
+        self.count = 0;
+    }
+
+    /// Puts the first `len` bytes of what is held in place of the text, and the places of bits in place
+    /// of where tokens end.
+    #[inline]
+    pub fn put_near(&mut self, held: &[u8], len: usize, ends: u64) -> Result<(), AllocError>
+        requires filled { 32 ≤ length held.now }
+        requires short { len ≤ 32 }
+        ensures text { OnOk result (self.new.text ≡ take len held.now) }
+        ensures ends { OnOk result (self.new.ends ≡ set_places 64 0 ends) }
+    {
+        let count = ends.count_ones() as usize;
+        give_bytes(&mut self.held, NEAR)?;
+        give_places(&mut self.places, count)?;
+        copy_near(&mut self.held, held);
+        self.len = len;
+        put_places(&mut self.places, ends);
+        self.count = count;
+        Ok(())
+    }
+
+    /// Puts a line in place of the text, and where its tokens end; or finds the first rule that it
+    /// breaks.
+    pub fn put(&mut self, text: &[u8]) -> Result<(), RecordFault>
+        requires at_most { length text.now ≤ 1048576 }
+        requires one_line { has_byte 10 text.now ≡ false }
+        ensures text { OnOk result (self.new.text ≡ text.now) }
+        ensures fields { OnOk result (AreFields text.now self.new.ends) }
+        ensures read { OnOk result (reading text.now ≡ Ok (row_in text.now)) }
+        ensures refused { IfErr result (λ fault. Fails fault (reading text.now)) }
+    {
+        self.clear();
+        cut(&mut self.places, text)?;
+        self.held.clear();
+        self.held.extend_from_slice(text)?;
+        self.len = text.len();
+        self.count = self.places.len();
+        fill_bytes(&mut self.held, self.len + 1)?;
+        Ok(())
+    }
+
+    /// Puts what another one is in place of this.
+    #[inline]
+    pub fn copy_of(&mut self, other: &Body) -> Result<(), AllocError>
+        ensures { OnOk result (self.new ≡ other.now) }
+    {
+        if other.len <= NEAR && other.held.len() >= NEAR && self.held.len() >= NEAR {
+            if other.count <= FEW && other.places.len() >= FEW && self.places.len() >= FEW {
+                copy_near(&mut self.held, &other.held);
+                self.len = other.len;
+                copy_places(&mut self.places, &other.places);
+                self.count = other.count;
+                return Ok(());
+            }
+        }
+        self.copy_any(other)
+    }
+
+    #[inline(never)]
+    fn copy_any(&mut self, other: &Body) -> Result<(), AllocError>
+        ensures { OnOk result (self.new ≡ other.now) }
+    {
+        self.clear();
+        self.held.clear();
+        self.held.extend_from_slice(other.text())?;
+        fill_bytes(&mut self.held, other.len + 1)?;
+        self.places.clear();
+        self.places.extend_from_slice(other.ends())?;
+        fill_places(&mut self.places, other.count)?;
+        self.len = other.len;
+        self.count = other.count;
+        Ok(())
+    }
+
+    /// Leaves the selected tokens alone.
+    #[inline]
+    pub fn leave(&mut self, selection: &Selection)
+        requires cut { self.old.ends ≡ ends_from 0 (parts self.old.text) }
+        requires as_wide { length selection.now ≡ length self.old.ends }
+        requires at_most { length self.old.text ≤ 1048576 }
+        ensures text { self.new.text ≡ spelled (chosen selection.now (parts self.old.text)) }
+        ensures ends { self.new.ends ≡ ends_from 0 (chosen selection.now (parts self.old.text)) }
+        ensures short { length self.new.text ≤ length self.old.text }
+    {
+        let (len, count) = move_in_front(
+            &mut self.held,
+            self.len,
+            &mut self.places,
+            self.count,
+            selection,
+        );
+        self.len = len;
+        self.count = count;
+    }
+
+    /// Adds a token behind the others, and a tab before it if there are any.
+    #[inline(never)]
+    pub fn add(&mut self, token: &[u8]) -> Result<(), AllocError>
+        requires { length self.old.text + length token.now < 2 ^ 31 }
+        ensures text { OnOk result
+            (self.new.text ≡ self.old.text ++ (tab_between self.old.ends ++ token.now)) }
+        ensures ends { OnOk result
+            (self.new.ends ≡ self.old.ends ++ length self.new.text ∷ []) }
+    {
+        if self.held.len() - self.len <= token.len() {
+            fill_bytes(&mut self.held, 2 * (self.len + 1 + token.len()))?;
+        }
+        if self.places.len() == self.count {
+            fill_places(&mut self.places, 2 * self.count + 1)?;
+        }
+        let end = put_behind(&mut self.held, self.len, self.count, token);
+        self.len = end;
+        self.places[self.count] = end as u32;
+        self.count += 1;
+        Ok(())
+    }
+
+    /// The same where there is room for it and no doubt that the text isn't too long, or else nothing;
+    /// and tells which.
+    #[inline]
+    pub fn add_near(&mut self, token: &[u8]) -> bool
+        ensures text { result ≡ true
+            → self.new.text ≡ self.old.text ++ (tab_between self.old.ends ++ token.now) }
+        ensures ends { result ≡ true
+            → self.new.ends ≡ self.old.ends ++ length self.new.text ∷ [] }
+        ensures fits { result ≡ true → length self.old.text
+            + length (tab_between self.old.ends) + length token.now ≤ 1048576 }
+        ensures kept { result ≡ false → self.new ≡ self.old }
+    {
+        if self.held.len() > MOST_BYTES
+            || self.held.len() - self.len <= token.len()
+            || self.places.len() == self.count
+        {
+            return false;
+        }
+        let end = put_behind(&mut self.held, self.len, self.count, token);
+        self.len = end;
+        self.places[self.count] = end as u32;
+        self.count += 1;
+        true
+    }
+
+    /// Adds LF at the end, where there is room, and tells whether there was.
+    #[inline]
+    pub fn add_lf(&mut self) -> bool
+        ensures added { result ≡ true
+            → self.new ≡ written (self.old.text ++ 10 ∷ []) self.old.ends }
+        ensures full { result ≡ false → self.new ≡ self.old }
+    {
+        if self.len == self.held.len() {
+            return false;
+        }
+        self.held[self.len] = b'\n';
+        self.len += 1;
+        true
+    }
+
+    /// Drops the last byte.
+    #[inline]
+    pub fn drop_lf(&mut self)
+        requires { 0 < length self.old.text }
+        ensures { self.new
+            ≡ written (take (length self.old.text - 1) self.old.text) self.old.ends }
+    {
+        self.len -= 1;
+    }
+}
