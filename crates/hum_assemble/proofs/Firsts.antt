@@ -40,7 +40,7 @@ none_left : (left b : ℕ) → left ≡ 0 → false ≡ nat_le (1 + b) left
 none_left left b none = sym (lt-leb (1 + b) left (omega (arith, none)))
 
 -- the list behind the first, as a slice
-others : (x : Source) (xs : List Source) → take (length (x ∷ xs) - 1) (drop 1 (x ∷ xs)) ≡ xs
+pub others : (x : Source) (xs : List Source) → take (length (x ∷ xs) - 1) (drop 1 (x ∷ xs)) ≡ xs
 others x xs =
     let n : length (x ∷ xs) - 1 ≡ length xs = omega arith in ap (λ (k : ℕ). take k xs) n ∙ take-length xs
 

@@ -1,7 +1,7 @@
 -- What is remembered goes on.
 use Rattle.std.proofs.Common.{◌≡◌, ◌∙◌, ◌≢◌, refl, sym, ap, ℕ, suc, ◌+◌, ◌≤◌, ◌<◌, true, false}
 use Rattle.std.proofs.Common.{List, [], ◌∷◌, ◌++◌, length, drop, get_or, length-append, append_assoc}
-use Rattle.std.proofs.Common.{arith, Option, Some, None}
+use Rattle.std.proofs.Common.{arith, length-drop, Option, Some, None}
 use Rattle.std.specs.Prelude.{Result, nat_le, slice_get, ◌==◌}
 use Rattle.std.proofs.lemmas.Bool.Decides.{nat_tests}
 use Rattle.hum_record.specs.declared.SpinedKind.TheVariants.{Values}
@@ -197,3 +197,23 @@ pub first_is_data : (held : List Queued) (kept : Queued) → kept ≡ get_or hel
     → (length kept.heard.items == 0) ≡ false → FirstIsData held
 first_is_data [] kept e some loud = absurd (omega (arith, some))
 first_is_data (q ∷ held) kept e some loud = rw e at (kept.valued (some_heard kept.heard.items loud))
+
+-- one record fewer waits once the first is gone
+pub one_fewer : (held held' : List Queued) {before after : ℕ} → held' ≡ drop 1 held
+    → before ≡ length held → after ≡ length held' → 0 < before → before ≡ after + 1
+one_fewer held held' is size left some =
+    let gone = ap length is in
+    let rest = length-drop 1 held in
+    omega (arith, gone, rest, size, left, some)
+
+-- the first is the one that is gone
+pub first_popped : (held : List Queued) (popped kept : Queued) → popped ≡ get_or held 0 popped
+    → slice_get held 0 ≡ Some kept → popped ≡ kept
+first_popped [] popped kept is at = cc
+first_popped (q ∷ held) popped kept is at = let same : q ≡ kept = cc in is ∙ same
+
+pub popped_known : (o : Choice) (path : Path) (held : List Queued) (popped : Queued) (row : Row)
+    (rows : List Row) → popped ≡ get_or held 0 popped → Knows o path held (row ∷ rows)
+    → Known o path row popped
+popped_known o path [] popped row rows is knows = absurd knows
+popped_known o path (q ∷ held) popped row rows is knows = rw is knows.0

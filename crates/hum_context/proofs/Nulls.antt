@@ -39,3 +39,8 @@ null_fits j width done below is fits =
     let front = spelled_front (done ++ codes "." ∷ []) rest in
     let same = ap (λ xs. length (spelled xs)) all in
     omega (arith, front, same, fits)
+
+-- one null token more
+pub nulls_more : (j : ℕ) (done : List (List ℕ)) → done ≡ replicate j (codes ".")
+    → done ++ codes "." ∷ [] ≡ replicate (j + 1) (codes ".")
+nulls_more j done is = ap (λ d. d ++ codes "." ∷ []) is ∙ replicate-append-replicate j 1 (codes ".")

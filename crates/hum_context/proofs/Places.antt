@@ -1,9 +1,10 @@
 -- The spine that goes on from a place.
 use Rattle.std.proofs.Common.{◌≡◌, ◌∙◌, refl, sym, ap, ℕ, zero, suc, ◌+◌, ◌<◌, Bool, true, false}
-use Rattle.std.proofs.Common.{◌&&◌, List, length, drop, get_or, cond, Option, None, Some, arith}
+use Rattle.std.proofs.Common.{◌&&◌, ◌≢◌, ◌≤◌, ◌++◌, ◌∷◌, [], inl, inr, List, length, drop, get_or, cond, Option, None, Some, arith}
 use Rattle.std.proofs.Common.{add-one, drop-cons}
 use Rattle.std.specs.Prelude.{nat_le, nat_lt, ◌==◌}
 use Rattle.std.specs.List.{position, position_from}
+use Rattle.std.proofs.lemmas.Bool.{cases_lt, eqb-false, eqb-true, le-leb, le-ltb, leb-true, lt-ltb}
 use Rattle.std.proofs.lemmas.Bool.Decides.{nat_tests}
 use Rattle.std.proofs.lemmas.Iterator.Adapters.{position_from-zero}
 use Rattle.hum_record.specs.declared.SpinedKind.TheVariants.{Local, Interpretation, Values}
@@ -62,3 +63,61 @@ moves_after path (Comment text) = same_upto_length 0 (width path)
 moves_after path (Spined Interpretation tokens) = moves_width path tokens
 moves_after path (Spined Local tokens) = same_upto_length 0 (width path)
 moves_after path (Spined Values tokens) = same_upto_length 0 (width path)
+
+-- the columns from the first to the last are marked, those before place j as yet
+pub marked_none : {X : Type 0} (first last c : ℕ) (x y : X)
+    → y ≡ cond (nat_le first c && (nat_lt c first && nat_le c last)) x y
+marked_none first last c x y = by (nat_le first c) refl
+  where
+    by : (b : Bool) → nat_le first c ≡ b → y ≡ cond (b && (nat_lt c first && nat_le c last)) x y
+    by true e = rw (le-ltb c first (leb-true first c e)) refl
+    by false e = refl
+
+pub marked_more : {X : Type 0} (first last j c : ℕ) (x y : X) → first ≤ j → j ≤ last
+    → cond (j == c) x (cond (nat_le first c && (nat_lt c j && nat_le c last)) x y)
+    ≡ cond (nat_le first c && (nat_lt c (j + 1) && nat_le c last)) x y
+marked_more first last j c x y low high = by (j == c) refl
+  where
+    next : j ≢ c → nat_lt c j ≡ nat_lt c (j + 1)
+    next other = elim (cases_lt c j) [
+      | inl l ↦ lt-ltb c j l ∙ sym (lt-ltb c (j + 1) (omega (arith, l)))
+      | inr g ↦ le-ltb c j g ∙ sym (le-ltb c (j + 1) (omega (arith, g, other)))
+    ]
+
+    by : (b : Bool) → (j == c) ≡ b
+        → cond b x (cond (nat_le first c && (nat_lt c j && nat_le c last)) x y)
+        ≡ cond (nat_le first c && (nat_lt c (j + 1) && nat_le c last)) x y
+    by true e =
+        let same = eqb-true j c e in
+        rw (
+          le-leb first c (omega (arith, same, low)),
+          lt-ltb c (j + 1) (omega (arith, same)),
+          le-leb c last (omega (arith, same, high)),
+        ) refl
+    by false e = ap (λ (b : Bool). cond (nat_le first c && (b && nat_le c last)) x y)
+        (next (eqb-false j c e))
+
+pub marked_all : {X : Type 0} (first last j c : ℕ) (x y : X) → last < j
+    → cond (nat_le first c && (nat_lt c j && nat_le c last)) x y
+    ≡ cond (nat_le first c && nat_le c last) x y
+marked_all first last j c x y over = by (nat_le c last) refl
+  where
+    none : (a b : Bool) → cond (a && (b && false)) x y ≡ cond (a && false) x y
+    none true true = refl
+    none true false = refl
+    none false b = refl
+
+    by : (b : Bool) → nat_le c last ≡ b
+        → cond (nat_le first c && (nat_lt c j && b)) x y ≡ cond (nat_le first c && b) x y
+    by true e =
+        let low = leb-true c last e in
+        rw (lt-ltb c j (omega (arith, low, over))) refl
+    by false e = none (nat_le first c) (nat_lt c j)
+
+-- what stands beyond the last is as good as nothing
+pub get_more_none : {X : Type 0} (xs : List (Option X)) (c : ℕ)
+    → get_or (xs ++ None ∷ []) c None ≡ get_or xs c None
+get_more_none [] zero = refl
+get_more_none [] (suc c) = refl
+get_more_none (x ∷ xs) zero = refl
+get_more_none (x ∷ xs) (suc c) = get_more_none xs c

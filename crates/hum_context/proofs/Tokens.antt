@@ -1,12 +1,13 @@
 -- What a record's tokens are.
 use Rattle.std.proofs.Common.{◌≡◌, ◌∙◌, refl, sym, ap, ℕ, zero, suc, Bool, true, false, not}
 use Rattle.std.proofs.Common.{◌||◌, List, [], ◌∷◌, map, inl, inr, ◌⊎◌, cond}
-use Rattle.std.proofs.Common.{get_or, nat_eq, ◌+◌, arith, length, length-append, ◌≤◌}
+use Rattle.std.proofs.Common.{get_or, nat_eq, ◌+◌, arith, length, length-append, ◌≤◌, ◌≢◌, ◌++◌, append_assoc, append-nil}
 use Rattle.std.specs.List.{AllByRecursion, join_with_byte, list_any}
 use Rattle.std.proofs.lemmas.Bool.Decides.{nat_tests}
+use Rattle.std.proofs.lemmas.List.{length-map}
 use Rattle.hum_record.specs.declared.SpinedKind.{SpinedKind}
 use Rattle.hum_record.specs.declared.SpinedKind.TheVariants.{Local, Interpretation, Values}
-use Rattle.hum_record.specs.Row.{Row, Comment, Spined, kind_of, text_of, tokens_of}
+use Rattle.hum_record.specs.Row.{Row, Comment, Spined, kind_of, text_of, tokens_of, width_of}
 use Rattle.hum_record.specs.declared.Kind.TheVariants.{Values as AnyValues}
 use Rattle.hum_record.specs.Spelling.{IsToken, kind_of_token}
 use Rattle.hum_context.specs.declared.hearing.Heard.TheVariants.{Passed, Taken}
@@ -117,6 +118,54 @@ token_short (Spined kind tokens) c h = let k = part_short tokens c in omega (ari
         let ih = part_short (u ∷ us) c in
         omega (arith, sum, ih)
 
+-- one token more was heard
+pub heard_more : (o : Choice) (token : List ℕ) (heard heard' : List Heard) (one : Heard)
+    (left rest tokens : List (List ℕ)) → heard' ≡ heard ++ one ∷ [] → one ≡ heard_of o token
+    → left ≡ token ∷ rest → heard ++ map (heard_of o) left ≡ map (heard_of o) tokens
+    → heard' ++ map (heard_of o) rest ≡ map (heard_of o) tokens
+heard_more o token heard heard' one left rest tokens grown is next so_far =
+    ap (λ (hs : List Heard). hs ++ map (heard_of o) rest) grown
+    ∙ append_assoc heard (one ∷ []) (map (heard_of o) rest)
+    ∙ ap (λ (h : Heard). heard ++ h ∷ map (heard_of o) rest) is
+    ∙ ap (λ (ts : List (List ℕ)). heard ++ map (heard_of o) ts) (sym next)
+    ∙ so_far
+
+pub heard_end : (o : Choice) (heard : List Heard) (left tokens : List (List ℕ)) → left ≡ []
+    → heard ++ map (heard_of o) left ≡ map (heard_of o) tokens → heard ≡ map (heard_of o) tokens
+heard_end o heard left tokens none so_far =
+    sym (append-nil heard) ∙ ap (λ (ts : List (List ℕ)). heard ++ map (heard_of o) ts) (sym none) ∙ so_far
+
+any_push : (hs : List Heard) (h : Heard)
+    → list_any is_taken (hs ++ h ∷ []) ≡ (list_any is_taken hs || is_taken h)
+any_push [] Passed = refl
+any_push [] (Taken b e) = refl
+any_push (Passed ∷ hs) h = any_push hs h
+any_push (Taken b e ∷ hs) h = refl
+
+-- and one is collected
+pub any_more : (hs hs' : List Heard) (h : Heard) → hs' ≡ hs ++ h ∷ [] → h ≢ Passed
+    → true ≡ list_any is_taken hs'
+any_more hs hs' Passed grown other = absurd (other refl)
+any_more hs hs' (Taken b e) grown other =
+    rw grown (sym (any_push hs (Taken b e) ∙ or_true (list_any is_taken hs)))
+  where
+    or_true : (b : Bool) → (b || true) ≡ true
+    or_true true = refl
+    or_true false = refl
+
+pub not_taken : (h : Heard) → ((b e : Bool) → h ≡ Taken b e → ⊥) → h ≡ Passed
+not_taken Passed other = refl
+not_taken (Taken b e) other = absurd (other b e refl)
+
+pub none_more : (any : Bool) (hs hs' : List Heard) (h : Heard) → hs' ≡ hs ++ h ∷ [] → h ≡ Passed
+    → any ≡ list_any is_taken hs → any ≡ list_any is_taken hs'
+none_more any hs hs' h grown passed before =
+    rw (grown, passed) (before ∙ sym (any_push hs Passed ∙ or_false (list_any is_taken hs)))
+  where
+    or_false : (b : Bool) → (b || false) ≡ b
+    or_false true = refl
+    or_false false = refl
+
 none_taken : (hs : List Heard) (c : ℕ) → list_any is_taken hs ≡ false → get_or hs c Passed ≡ Passed
 none_taken [] c e = refl
 none_taken (Passed ∷ hs) zero e = refl
@@ -133,3 +182,26 @@ none_heard o (Spined Interpretation tokens) heard c k e n = cc
 none_heard o (Spined Values tokens) heard c k e n =
     sym (heard_all o tokens c) ∙ (ap (λ (hs : List Heard). get_or hs c Passed) (sym e)
     ∙ none_taken heard c n)
+
+-- where some are, so many are heard
+pub all_heard : (o : Choice) (row : Row) (heard : List Heard) (c : ℕ) → kind_of row ≡ AnyValues
+    → heard ≡ map (heard_of o) (tokens_of row) → get_or heard c Passed ≡ heard_under o row c
+all_heard o (Comment text) heard c k e = cc
+all_heard o (Spined Local tokens) heard c k e = cc
+all_heard o (Spined Interpretation tokens) heard c k e = cc
+all_heard o (Spined Values tokens) heard c k e =
+    ap (λ (hs : List Heard). get_or hs c Passed) e ∙ heard_all o tokens c
+
+pub heard_narrow : (o : Choice) (row : Row) (heard : List Heard) → kind_of row ≡ AnyValues
+    → heard ≡ map (heard_of o) (tokens_of row) → length heard ≤ width_of row
+heard_narrow o (Comment text) heard k e = cc
+heard_narrow o (Spined kind tokens) heard k e =
+    let same = ap length e ∙ length-map tokens (heard_of o) in omega (arith, same)
+
+-- of another record nothing is heard
+pub other_passed : (o : Choice) (row : Row) (c : ℕ) → kind_of row ≢ AnyValues
+    → Passed ≡ heard_under o row c
+other_passed o (Comment text) c other = refl
+other_passed o (Spined Local tokens) c other = refl
+other_passed o (Spined Interpretation tokens) c other = refl
+other_passed o (Spined Values tokens) c other = absurd (other refl)

@@ -175,6 +175,25 @@ data_row (Spined Local tokens) k = cc
 data_row (Spined Interpretation tokens) k = cc
 data_row (Spined Values tokens) k = refl
 
+-- a token that isn't collected
+pub passed_stays : (o : Choice) (path : Path) (tokens : List (List ℕ)) (kept : Queued) (j : ℕ)
+    (rows : List Row) → Known o path (Spined Values tokens) kept
+    → get_or kept.heard.items j Passed ≡ Passed
+    → new_token o (get_or tokens j []) (chain path (Spined Values tokens ∷ rows) j)
+    ≡ Some (get_or tokens j [])
+passed_stays o path tokens kept j rows h w =
+    rw (passed_none o (get_or tokens j []) (sym (h.heard j) ∙ w)) refl
+
+-- one that is collected, from which no others are
+pub shut_is : (o : Choice) (path : Path) (tokens : List (List ℕ)) (kept : Queued) (j : ℕ) (b e : Bool)
+    (rows : List Row) → Known o path (Spined Values tokens) kept
+    → get_or kept.heard.items j Passed ≡ Taken b e → b ≡ false
+    → new_token o (get_or tokens j []) (chain path (Spined Values tokens ∷ rows) j) ≡ Some (codes ".")
+shut_is o path tokens kept j b e rows h w shut =
+    let is = taken_is o (get_or tokens j []) b e (sym (h.heard j) ∙ w) in
+    let begun : begins o.extent (get_or tokens j []) ≡ false = is.1 ∙ shut in
+    rw (is.0, begun) refl
+
 -- what was heard of a token
 pub open_is : (o : Choice) (path : Path) (tokens : List (List ℕ)) (kept : Queued) (j : ℕ) (b e : Bool)
     → Known o path (Spined Values tokens) kept → get_or kept.heard.items j Passed ≡ Taken b e → b ≡ true

@@ -1,17 +1,18 @@
 -- A record whose new tokens are written, one by one.
 use Rattle.std.proofs.Common.{◌≡◌, ◌≢◌, ◌∙◌, refl, ℕ, ◌+◌, ◌<◌, ◌≤◌, Bool, true, false, List, [], ◌∷◌, ◌++◌}
-use Rattle.std.proofs.Common.{length, length-append, get_or, arith, inl, inr, ◌⊎◌, subst}
+use Rattle.std.proofs.Common.{length, length-append, get_or, arith, inl, inr, ◌⊎◌, subst, ap, sym, Some}
 use Rattle.hum_record.specs.Building.{Draft, spelled}
 use Rattle.hum_record.specs.Making.{Holds}
-use Rattle.hum_record.specs.declared.SpinedKind.TheVariants.{Values}
+use Rattle.hum_record.specs.declared.SpinedKind.TheVariants.{Local, Interpretation, Values}
 use Rattle.hum_record.specs.declared.Kind.TheVariants.{Values as AnyValues}
-use Rattle.hum_record.specs.Row.{Row, Comment, Spined, kind_of, text_of, width_of}
-use Rattle.hum_record.specs.Spelling.{IsTextOf}
+use Rattle.hum_record.specs.Row.{Row, Comment, Spined, kind_of, text_of, token_at, width_of}
+use Rattle.hum_record.specs.Spelling.{IsTextOf, IsToken, IsTokenOf}
 use Rattle.hum_path.specs.Spines.{Path}
 use Rattle.hum_context.specs.declared.queued.Queued.{Queued}
+use Rattle.hum_context.specs.declared.front.Becoming.TheVariants.{Stays}
 use Rattle.hum_context.specs.Context.{Choice, chain}
-use Rattle.hum_context.specs.Queue.{HasToken, FirstIsData}
-use Rattle.hum_context.specs.Walking.{Writes}
+use Rattle.hum_context.specs.Queue.{HasToken, FirstIsData, Knows}
+use Rattle.hum_context.specs.Walking.{Becomes, Writes}
 use Rattle.hum_context.proofs.Weighing.{Sofar, sofar_none, sofar_more}
 
 -- so many new tokens were written
@@ -52,6 +53,43 @@ pub first_token : (held : List Queued) (kept : Queued) (j : ℕ) → kept ≡ ge
     → FirstIsData held → j < width_of kept.row → HasToken held j
 first_token [] kept j e h below = absurd h
 first_token (q ∷ held) kept j e h below = (h, rw e at below)
+
+-- a first record with a token at place j
+pub some_held : (held : List Queued) (j : ℕ) → HasToken held j → 0 < length held
+some_held [] j h = absurd h
+some_held (q ∷ held) j h = omega arith
+
+pub held_width : (held : List Queued) (kept : Queued) (j : ℕ) → kept ≡ get_or held 0 kept
+    → HasToken held j → j < width_of kept.row
+held_width [] kept j e h = absurd h
+held_width (q ∷ held) kept j e h = rw e h.1
+
+values_token : (row : Row) (token : List ℕ) → kind_of row ≡ AnyValues → IsTokenOf row token
+    → IsToken Values token
+values_token (Comment text) token e h = absurd h
+values_token (Spined Local tokens) token e h = cc
+values_token (Spined Interpretation tokens) token e h = cc
+values_token (Spined Values tokens) token e h = h
+
+pub held_token : (held : List Queued) (kept : Queued) (j : ℕ) (token : List ℕ)
+    → kept ≡ get_or held 0 kept → HasToken held j → IsTokenOf kept.row token → IsToken Values token
+held_token [] kept j token e h lawful = absurd h
+held_token (q ∷ held) kept j token e h lawful = values_token q.row token h.0 (rw e at lawful)
+
+-- its token at place j was written as it is
+pub stays_written : (o : Choice) (path : Path) (tokens : List (List ℕ)) (rows : List Row) (j : ℕ)
+    (held : List Queued) (kept : Queued) (token : List ℕ) (before after : List (List ℕ) → Type 0)
+    → kept ≡ get_or held 0 kept → Knows o path held (Spined Values tokens ∷ rows)
+    → token ≡ token_at kept.row j
+    → Becomes o (token_at (Spined Values tokens) j) (chain path (Spined Values tokens ∷ rows) j)
+    (Some Stays) → ((made : List (List ℕ)) → before made → after (made ++ token ∷ []))
+    → Writes o (token_at (Spined Values tokens) j) (chain path (Spined Values tokens ∷ rows) j)
+    before after
+stays_written o path tokens rows j [] kept token before after e knows is becomes added = absurd knows
+stays_written o path tokens rows j (q ∷ held) kept token before after e knows is becomes added =
+    let row : kept.row ≡ Spined Values tokens = ap (λ (k : Queued). k.row) e ∙ knows.0.is in
+    let same : token ≡ token_at (Spined Values tokens) j = is ∙ ap (λ (r : Row). token_at r j) row in
+    record { new = token; is = becomes ∙ ap (λ (t : List ℕ). Some t) (sym same); added = added }
 
 -- the kind of the first
 pub first_kind : (held : List Queued) (kept : Queued) → kept ≡ get_or held 0 kept → FirstIsData held

@@ -1,9 +1,10 @@
 -- What is read of a record, token by token.
-use Rattle.std.proofs.Common.{◌≡◌, ◌∙◌, ℕ, zero, suc, ◌+◌, ◌<◌, List, [], ◌∷◌, ◌++◌, map, length, drop, get_or}
-use Rattle.std.proofs.Common.{refl, sym, ap, arith, add-one, append_assoc, Bool, true, false, Option, None, Some}
+use Rattle.std.proofs.Common.{◌≡◌, ◌∙◌, ℕ, zero, suc, ◌+◌, ◌<◌, ◌≤◌, List, [], ◌∷◌, ◌++◌, map, length, drop, get_or}
+use Rattle.std.proofs.Common.{refl, sym, ap, arith, add-one, append_assoc, append-nil, Bool, true, false, Option, None, Some}
 use Rattle.std.specs.Prelude.{◌&&◌, ◌||◌, not, is_some, if◌then◌else◌}
 use Rattle.std.specs.List.{list_any, list_all}
 use Rattle.std.proofs.lemmas.Bool.{or_parts}
+use Rattle.std.proofs.lemmas.List.{drop_all}
 use Rattle.hum_record.specs.Contents.{is_null, is_barline}
 use Rattle.hum_kern.specs.declared.KernFault.{KernFault}
 use Rattle.hum_timebase.specs.Notes.{is_timed, own_name, own_names, is_sounding, note_of, notes_of, is_misread, has_misread}
@@ -34,6 +35,11 @@ pub timed_more : (names tokens : List (List ℕ)) (done all : List Bool) (j : �
 timed_more names tokens done all j b name token below is own at h =
     let next = own-drop names tokens j below in
     rw (is, own, at, append_assoc, add-one) (ap (λ xs. done ++ map is_timed xs) (sym next) ∙ h)
+
+pub names_done : (names tokens : List (List ℕ)) (done all : List Bool) (j : ℕ) → length tokens ≤ j
+    → done ++ map is_timed (own_names (drop j names) (drop j tokens)) ≡ all → done ≡ all
+names_done names tokens done all j over h =
+    sym (append-nil done) ∙ ap (λ left. done ++ map is_timed (own_names (drop j names) left)) (sym (drop_all j tokens over)) ∙ h
 
 -- ---- what a data record holds
 

@@ -1,6 +1,4 @@
 use Rattle.std.proofs.Common.{◌∙◌, sym, refl, arith}
-use Rattle.hum_assemble.specs.Merge.{ahead_at}
-use Rattle.hum_assemble.specs.Round.{earliest}
 use Rattle.hum_assemble.proofs.Asking.{found_below, first_behind}
 use Rattle.hum_assemble.proofs.round.ahead_open.Goals as goal
 

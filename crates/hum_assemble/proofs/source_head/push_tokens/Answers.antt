@@ -1,5 +1,6 @@
 use Rattle.std.proofs.Common.{◌<◌, length, arith}
 use Rattle.hum_record.specs.Row.{tokens_of}
+use Rattle.hum_assemble.proofs.Pushing.{first_added, next_added, all_added, token_lawful}
 use Rattle.hum_assemble.proofs.Room.{token_fits}
 use Rattle.hum_assemble.proofs.source_head.push_tokens.Goals as goal
 
@@ -10,3 +11,33 @@ push_token-requires-clause-fits c =
     let less : c.loop-j.j < length (tokens_of c.args.row.now) = omega (arith, width, test) in
     rw (c.loop-j.invariant, c.token.ensures.token)
     (token_fits c.args.builder.now.tokens (tokens_of c.args.row.now) c.loop-j.j less c.requires.fits)
+
+pub loop-j-init : goal.loop-j-init
+loop-j-init c = first_added c.args.builder.now
+
+pub token-requires : goal.token-requires
+token-requires c =
+    let width = c.width-j-end.ensures in
+    let test = c.loop-j-test.true in
+    omega (arith, width, test)
+
+pub push_token-requires-clause-token : goal.push_token-requires-clause-token
+push_token-requires-clause-token c =
+    let width = c.width-j-end.ensures in
+    let test = c.loop-j-test.true in
+    token_lawful c.loop-j.builder c.args.builder.now _ (tokens_of c.args.row.now) c.token.result.now c.loop-j.j
+    c.loop-j.invariant c.token.ensures.token c.requires.tokens (omega (arith, width, test))
+
+pub loop-j-preserved : goal.loop-j-preserved
+loop-j-preserved c =
+    let width = c.width-j-end.ensures in
+    let test = c.loop-j-test.true in
+    next_added c.args.builder.now c.loop-j.builder _ (tokens_of c.args.row.now) c.token.result.now c.loop-j.j
+    c.loop-j.invariant c.in_ok-push_token.ensures c.token.ensures.token (omega (arith, width, test))
+
+pub returns : goal.returns
+returns c =
+    let width = c.width-j-end.ensures in
+    let over = c.loop-j-test.false in
+    all_added c.args.builder.now c.loop-j.builder (tokens_of c.args.row.now) c.loop-j.j c.loop-j.invariant
+    (omega (arith, width, over))

@@ -2,7 +2,7 @@ use Rattle.std.proofs.Common.{ap, arith, length, ◌∷◌, [], ◌++◌}
 use Rattle.hum_record.specs.declared.SpinedKind.TheVariants.{Values}
 use Rattle.hum_record.specs.Row.{Row, Spined, token_at, tokens_of}
 use Rattle.hum_context.specs.Context.{chain}
-use Rattle.hum_context.proofs.Weighing.{becomes_some, sofar_more, sofar_stops, sofar_all, kept_at}
+use Rattle.hum_context.proofs.Weighing.{becomes_some, sofar_none, sofar_more, sofar_stops, sofar_all, kept_at}
 use Rattle.hum_context.proofs.front.advance.Goals as goal
 
 pub loop-j-preserved : goal.loop-j-preserved
@@ -61,3 +61,23 @@ returns-clause-known c o path tokens rows want none knows stand =
       sofar_all o path (Spined Values tokens) rows tokens c.loop-j.j w.0 w.1
           (omega (arith, columns, over, end)),
     )
+
+pub index-kept-requires : goal.index-kept-requires
+index-kept-requires c =
+    let size = c.args.held.now.ok.0 in
+    let some = c.requires.within in
+    omega (arith, size, some)
+
+pub loop-j-init : goal.loop-j-init
+loop-j-init c = record {
+  wide = c.in_ok-widen.ensures.wide;
+  stand = λ o path rows want none knows h. c.in_ok-widen.ensures.stand o path rows h;
+  known = λ o path tokens rows want none knows stand.
+      ([], sofar_none o path (Spined Values tokens) rows tokens);
+}
+
+pub advance_at-requires-clause-within : goal.advance_at-requires-clause-within
+advance_at-requires-clause-within c =
+    let wide = c.loop-j.invariant.wide in
+    let test = c.loop-j-test.true in
+    omega (arith, wide, test)

@@ -1,9 +1,9 @@
-use Rattle.std.proofs.Common.{ap, refl, arith, length, ◌∷◌, [], ◌++◌}
+use Rattle.std.proofs.Common.{ap, refl, arith, inl, length, ◌∷◌, [], ◌++◌}
 use Rattle.hum_record.specs.declared.SpinedKind.TheVariants.{Values}
 use Rattle.hum_record.specs.Row.{Row, Spined, tokens_of}
 use Rattle.hum_context.specs.Walking.{bytes_of}
 use Rattle.hum_context.proofs.Following.{none_stand}
-use Rattle.hum_context.proofs.Weighing.{sofar_more, sofar_stops, sofar_all, counts_more}
+use Rattle.hum_context.proofs.Weighing.{sofar_none, sofar_more, sofar_stops, sofar_all, counts_more}
 use Rattle.hum_context.proofs.Weighing.{kept_at}
 use Rattle.hum_context.proofs.front.weigh.Goals as goal
 
@@ -50,3 +50,10 @@ returns c o path tokens rows want none knows =
     let end = c.width-j-end.ensures in
     rw (sofar_all o path (Spined Values tokens) rows tokens c.loop-j.j w.0 w.1
     (omega (arith, wide, over, end))) (c.weight_of.ensures w.0 w.2)
+
+pub loop-j-init : goal.loop-j-init
+loop-j-init c = record {
+  few = omega arith;
+  weighs = λ o path tokens rows want none knows.
+      ([], sofar_none o path (Spined Values tokens) rows tokens, inl refl);
+}

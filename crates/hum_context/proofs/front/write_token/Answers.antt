@@ -1,9 +1,9 @@
 use lib.Chars.{codes}
-use Rattle.std.proofs.Common.{◌∷◌}
+use Rattle.std.proofs.Common.{◌∷◌, arith}
 use Rattle.std.specs.List.{join_with_byte}
 use Rattle.hum_record.specs.declared.SpinedKind.TheVariants.{Values}
 use Rattle.hum_record.specs.Row.{Spined}
-use Rattle.hum_context.proofs.Written.{joined_added}
+use Rattle.hum_context.proofs.Written.{joined_added, some_held, held_width, held_token, stays_written}
 use Rattle.hum_context.proofs.front.write_token.Goals as goal
 
 pub returns-in_ok-push-in-Collects-clause-written :
@@ -26,3 +26,36 @@ returns-in_ok-push-in-Null-clause-grown c made h =
 pub returns-in_ok-push-in-Collects-clause-grown : goal.returns-in_ok-push-in-Collects-clause-grown
 returns-in_ok-push-in-Collects-clause-grown c made h =
     (c.token-in-Collects.result.now, c.in_ok-push-in-Collects.ensures.pushed Values made h)
+
+pub index-requires : goal.index-requires
+index-requires c =
+    let size = c.args.held.now.ok.0 in
+    let some = some_held c.args.held.now.items c.args.j c.requires.token in
+    omega (arith, size, some)
+
+pub token-requires : goal.token-requires
+token-requires c = held_width c.args.held.now.items _ c.args.j c.index.ensures c.requires.token
+
+pub push-requires : goal.push-requires
+push-requires c =
+    rw c.requires.kind (held_token c.args.held.now.items _ c.args.j _ c.index.ensures c.requires.token
+    c.token.ensures.lawful)
+
+pub push-requires-in-Collects : goal.push-requires-in-Collects
+push-requires-in-Collects c = rw c.requires.kind c.token-in-Collects.ensures.lawful
+
+pub returns-in_ok-push-in-Stays-clause-grown : goal.returns-in_ok-push-in-Stays-clause-grown
+returns-in_ok-push-in-Stays-clause-grown c made h =
+    (c.token.result.now, c.in_ok-push-in-Stays.ensures.pushed Values made h)
+
+pub returns-in_ok-push-in-Stays-clause-written : goal.returns-in_ok-push-in-Stays-clause-written
+returns-in_ok-push-in-Stays-clause-written c o path tokens rows want none knows becomes =
+    stays_written o path tokens rows c.args.j c.args.held.now.items _ _ _ _ c.index.ensures knows
+    c.token.ensures.token (rw c.in-Stays.is at becomes) (c.in_ok-push-in-Stays.ensures.pushed Values)
+
+pub returns-in_ok-push-in-Null-clause-written : goal.returns-in_ok-push-in-Null-clause-written
+returns-in_ok-push-in-Null-clause-written c o path tokens rows want none knows becomes = record {
+  new = codes ".";
+  is = rw c.in-Null.is at becomes;
+  added = c.in_ok-push-in-Null.ensures.pushed Values;
+}

@@ -30,3 +30,24 @@ pub returns-then-other-walk : goal.returns-then-other-walk
 returns-then-other-walk c o path first rows h s =
     stand_in o path first rows c.loop.walks.items c.args.i c.args.walk
     (c.loop.invariant.stand o path first rows h) s
+
+pub index-other-requires : goal.index-other-requires
+index-other-requires c =
+    let size = c.loop.walks.ok.0 in
+    let wide = c.loop.invariant.wide in
+    let over = c.loop-test.false in
+    let len = c.len.ensures in
+    let other = c.if-len-i.false in
+    omega (arith, size, wide, over, len, other)
+
+pub index_mut-requires : goal.index_mut-requires
+index_mut-requires c =
+    let size = c.loop.walks.ok.0 in
+    let wide = c.loop.invariant.wide in
+    let over = c.loop-test.false in
+    let len = c.len.ensures in
+    let other = c.if-len-i.false in
+    omega (arith, size, wide, over, len, other)
+
+pub returns-else-other-walk : goal.returns-else-other-walk
+returns-else-other-walk c o path first rows h s = c.loop.invariant.stand o path first rows h

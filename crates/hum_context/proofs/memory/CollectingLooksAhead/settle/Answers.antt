@@ -1,5 +1,6 @@
 use Rattle.std.proofs.Common.{◌≡◌, ◌∙◌, sym, ap, arith, subst, ◌∷◌, []}
 use Rattle.std.specs.Prelude.{Ok, Err}
+use Rattle.std.proofs.lemmas.Result.{err_from_is_err_and}
 use Rattle.hum_record.specs.declared.SpinedKind.TheVariants.{Values}
 use Rattle.hum_record.specs.Row.{Row, Spined, tokens_of}
 use Rattle.hum_path.specs.Score.{path_after}
@@ -9,7 +10,7 @@ use Rattle.hum_context.specs.Queue.{Knows}
 use Rattle.hum_context.specs.Walking.{AllStand}
 use Rattle.hum_context.proofs.Weighing.{quiet_stays, fits_is, long_is, bytes_fit, bytes_long}
 use Rattle.hum_context.proofs.Following.{few_held, first_known, first_data, none_heard, get_first}
-use Rattle.hum_context.proofs.Following.{first_is_data, follows_on, follows_walks, undecided, decided_by}
+use Rattle.hum_context.proofs.Following.{first_is_data, follows_on, follows_walks, undecided, decided_by, one_fewer}
 use Rattle.hum_context.proofs.memory.CollectingLooksAhead.settle.Goals as goal
 
 pub returns-then-is_quiet-clause-settles : goal.returns-then-is_quiet-clause-settles
@@ -126,3 +127,116 @@ write-requires-clause-data c =
     let some = c.requires.filled in
     first_is_data c.args.held.now.items c.index.result.now c.index.ensures (omega (arith, size, some))
     (sym c.is_quiet.ensures ∙ c.if-is_quiet.false)
+
+pub index-requires : goal.index-requires
+index-requires c = c.requires.filled
+
+pub let_go-requires-clause-few : goal.let_go-requires-clause-few
+let_go-requires-clause-few c =
+    let len = c.len.ensures in
+    let sum = c.saturating_add.ensures in
+    let under = c.if-saturating_add-gt-MOST_RECORDS.false in
+    let some = c.requires.filled in
+    omega (arith, len, sum, under, some)
+
+pub let_go-requires-clause-some : goal.let_go-requires-clause-some
+let_go-requires-clause-some c = c.requires.filled
+
+pub let_go-requires-2-clause-few : goal.let_go-requires-2-clause-few
+let_go-requires-2-clause-few c =
+    let len = c.len.ensures in
+    let sum = c.saturating_add.ensures in
+    let under = c.if-saturating_add-gt-MOST_RECORDS.false in
+    let some = c.requires.filled in
+    omega (arith, len, sum, under, some)
+
+pub let_go-requires-2-clause-some : goal.let_go-requires-2-clause-some
+let_go-requires-2-clause-some c = c.requires.filled
+
+pub advance-requires-clause-few : goal.advance-requires-clause-few
+advance-requires-clause-few c =
+    let size = c.args.held.now.ok.0 in
+    let len = c.len.ensures in
+    let sum = c.saturating_add.ensures in
+    let under = c.if-saturating_add-gt-MOST_RECORDS.false in
+    omega (arith, size, len, sum, under)
+
+pub advance-requires-clause-within : goal.advance-requires-clause-within
+advance-requires-clause-within c =
+    let size = c.args.held.now.ok.0 in
+    let some = c.requires.filled in
+    omega (arith, size, some)
+
+pub write-requires-clause-few : goal.write-requires-clause-few
+write-requires-clause-few c =
+    let size = c.args.held.now.ok.0 in
+    let len = c.len.ensures in
+    let sum = c.saturating_add.ensures in
+    let under = c.if-saturating_add-gt-MOST_RECORDS.false in
+    omega (arith, size, len, sum, under)
+
+pub write-requires-clause-within : goal.write-requires-clause-within
+write-requires-clause-within c =
+    let size = c.args.held.now.ok.0 in
+    let some = c.requires.filled in
+    omega (arith, size, some)
+
+pub returns-then-is_quiet-clause-fewer : goal.returns-then-is_quiet-clause-fewer
+returns-then-is_quiet-clause-fewer c =
+    one_fewer c.args.held.now.items c.let_go.new.held.items c.in_ok-row.ensures.held
+    c.args.held.now.ok.0 c.let_go.new.held.ok.0 c.requires.filled
+
+pub returns-clause-fewer : goal.returns-clause-fewer
+returns-clause-fewer c =
+    one_fewer c.args.held.now.items c.let_go-2.new.held.items c.in_ok-row-2.ensures.held
+    c.args.held.now.ok.0 c.let_go-2.new.held.ok.0 c.requires.filled
+
+pub returns-in_err-row-clause-fewer : goal.returns-in_err-row-clause-fewer
+returns-in_err-row-clause-fewer c =
+    let p = err_from_is_err_and c.from_residual.result c.from_residual.ensures.1 in
+    rw p.1 tt
+
+pub returns-in_err-row-clause-settles : goal.returns-in_err-row-clause-settles
+returns-in_err-row-clause-settles c =
+    let p = err_from_is_err_and c.from_residual.result c.from_residual.ensures.1 in
+    rw p.1 tt
+
+pub returns-in_err-into_record-clause-fewer : goal.returns-in_err-into_record-clause-fewer
+returns-in_err-into_record-clause-fewer c =
+    let p = err_from_is_err_and c.from_residual-in_err-into_record.result c.from_residual-in_err-into_record.ensures.1 in
+    rw p.1 tt
+
+pub returns-in_err-into_record-clause-settles : goal.returns-in_err-into_record-clause-settles
+returns-in_err-into_record-clause-settles c =
+    let p = err_from_is_err_and c.from_residual-in_err-into_record.result c.from_residual-in_err-into_record.ensures.1 in
+    rw p.1 tt
+
+pub returns-in_err-known-clause-fewer : goal.returns-in_err-known-clause-fewer
+returns-in_err-known-clause-fewer c =
+    let p = err_from_is_err_and c.from_residual-in_err-known.result c.from_residual-in_err-known.ensures.1 in
+    rw p.1 tt
+
+pub returns-in_err-known-clause-settles : goal.returns-in_err-known-clause-settles
+returns-in_err-known-clause-settles c =
+    let p = err_from_is_err_and c.from_residual-in_err-known.result c.from_residual-in_err-known.ensures.1 in
+    rw p.1 tt
+
+pub returns-in_err-made-clause-fewer : goal.returns-in_err-made-clause-fewer
+returns-in_err-made-clause-fewer c =
+    let p = err_from_is_err_and c.from_residual-in_err-made.result c.from_residual-in_err-made.ensures.1 in
+    rw p.1 tt
+
+pub returns-in_err-made-clause-settles : goal.returns-in_err-made-clause-settles
+returns-in_err-made-clause-settles c =
+    let p = err_from_is_err_and c.from_residual-in_err-made.result c.from_residual-in_err-made.ensures.1 in
+    rw p.1 tt
+
+pub returns-in_err-row-2-clause-fewer : goal.returns-in_err-row-2-clause-fewer
+returns-in_err-row-2-clause-fewer c =
+    let p = err_from_is_err_and c.from_residual-in_err-row-2.result c.from_residual-in_err-row-2.ensures.1 in
+    rw p.1 tt
+
+pub returns-in_err-row-2-clause-settles : goal.returns-in_err-row-2-clause-settles
+returns-in_err-row-2-clause-settles c =
+    let p = err_from_is_err_and c.from_residual-in_err-row-2.result c.from_residual-in_err-row-2.ensures.1 in
+    rw p.1 tt

@@ -1,0 +1,51 @@
+-- The first duration of some subtokens.
+use Rattle.std.proofs.Common.{◌≡◌, ◌∙◌, ◌<◌, ◌≤◌, Bool, true, false, List, [], ◌∷◌, length, take, drop, ◌-◌, suc, refl, sym, ap, arith, ℕ, Option, None, Some}
+use Rattle.std.proofs.Math.Seq.{take-length}
+use Rattle.std.specs.Prelude.{is_some}
+use Rattle.std.specs.List.{list_any}
+use Rattle.hum_frac.specs.Ratio.{Ratio}
+use Rattle.hum_kern.specs.Duration.{duration, value_in, is_refused}
+use Rattle.hum_timebase.specs.Notes.{subtokens, first_duration, or_else}
+use Rattle.hum_timebase.specs.Reading.{rest_parts}
+
+-- whether some part is refused
+abbrev pub some_refused : List (List ℕ) → Bool
+some_refused parts = list_any (λ part. is_refused (duration part)) parts
+
+pub first_is : (found : Option Ratio) (part : List ℕ) (parts all : List (List ℕ)) → all ≡ part ∷ parts
+    → found ≡ value_in (duration part) → or_else found (first_duration parts) ≡ first_duration all
+first_is found part parts all is value =
+    ap (λ v. or_else v (first_duration parts)) value ∙ ap first_duration (sym is)
+
+pub others_refused : (part : List ℕ) (parts all : List (List ℕ)) → all ≡ part ∷ parts → is_refused (duration part) ≡ false
+    → some_refused parts ≡ some_refused all
+others_refused part parts all is read = rw (is, read) refl
+
+pub first_refused : (part : List ℕ) (parts all : List (List ℕ)) → all ≡ part ∷ parts → is_refused (duration part) ≡ true
+    → some_refused all ≡ true
+first_refused part parts all is refused = rw (is, refused) refl
+
+-- what is left begins with a space
+pub behind_space : (left part : List ℕ) (parts : List (List ℕ)) → 1 ≤ length left
+    → subtokens (take (length left - 1) (drop 1 left)) ≡ part ∷ parts → rest_parts left ≡ part ∷ parts
+behind_space [] part parts some is = absurd (omega (arith, some))
+behind_space (space ∷ left) part parts some is =
+    let size : suc (length left) - 1 ≡ length left = omega arith in
+    ap subtokens (sym (ap (λ n. take n left) size ∙ take-length left)) ∙ is
+
+pub none_parts : (left : List ℕ) → length left < 1 → rest_parts left ≡ []
+none_parts [] none = refl
+none_parts (space ∷ left) none = absurd (omega (arith, none))
+
+-- once one was found, others don't matter
+pub none_found : (found : Option Ratio) → is_some found ≡ false → found ≡ None
+none_found None is = refl
+none_found (Some x) is = cc
+
+pub found_stays : (found more other : Option Ratio) → is_some found ≡ true → or_else found more ≡ or_else found other
+found_stays None more other is = cc
+found_stays (Some x) more other is = refl
+
+pub or_none : (found : Option Ratio) → or_else found None ≡ found
+or_none None = refl
+or_none (Some x) = refl
