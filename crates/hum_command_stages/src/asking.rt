@@ -10,7 +10,9 @@ use std::alloc::AllocError;
 /// A stage whose calls tell what it is ready for then.
 pub trait Asks: Stage {
     /// Puts one record more into a stage that wants it.
-    #[inline(always)]
+    // A function of its own for each command: in one for all of them each record would pay for the
+    // registers and the room on the stack that any of them takes.
+    #[inline(never)]
     fn put_and_ask(&mut self, readiness: &mut Readiness, next: Record) -> Result<(), AllocError>
         requires { Self.spent self.old ⊎ MayPut (Knows (Self.stands self.old) readiness.old) next }
         ensures ok { OnOk result (HasPut (Knows (Self.stands self.old) readiness.old)

@@ -207,6 +207,7 @@ impl Stage for CommandStage {
 
     ghost lawful = { λ s t h. ⟦<AnyStage as StandsFor>⟧.lawful s.stage t h.0 };
 
+    #[inline(always)]
     fn put(&mut self, next: Record) -> Result<(), AllocError> {
         let CommandStage { stage, readiness } = self;
         each!(stage, stage => stage.put_and_ask(readiness, next))
@@ -217,6 +218,7 @@ impl Stage for CommandStage {
         each!(stage, stage => stage.end_and_ask(readiness, end))
     }
 
+    #[inline(always)]
     fn take(&mut self) -> Result<Option<Record>, AllocError> {
         let CommandStage { stage, readiness } = self;
         each!(stage, stage => stage.take_and_ask(readiness))

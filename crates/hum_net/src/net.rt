@@ -58,7 +58,7 @@ impl<F: Feeds, W: Works, S: Sink> Net<F, W, S> {
     // fields, at each turn.
 
     // The sink's turn, and whether the run is over.
-    #[inline(never)]
+    #[inline(always)]
     fn sink_turn(&mut self) -> bool
         requires none { self.old.failure ≡ None }
         requires may { Somewhere (IsAt (StandsAs F.stands W.stands) self.old.web) }

@@ -71,7 +71,9 @@ impl<C: Decides> AtOnce<C> {
         }
     }
 
-    /// Breaks a rule at the last record that was put, which then becomes nothing.
+    /// Breaks a rule at the last record that was put, which then becomes nothing. It happens once, so
+    /// it isn't inlined where each record passes.
+    #[inline(never)]
     fn refuse(&mut self, rule: Rule)
         ensures fault { self.new ≡ record self.old {
           due = self.new.due;
