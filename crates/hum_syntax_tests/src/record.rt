@@ -3,7 +3,7 @@ ghost use Rattle.std.specs.Prelude.{◌≡◌, ◌<◌, IfOk};
 ghost use Rattle.hum_record.specs.Spelling.{has_byte, IsToken};
 ghost use Rattle.hum_record.specs.declared.SpinedKind.TheVariants.{Values};
 
-use crate::compared::{prints, same, same_bytes};
+use crate::compared::{same, same_bytes};
 use hum_record::{Kind, Record, RecordBuilder, RecordFault, Selection, Spare, SpinedKind};
 use std::alloc::{AllocError, Global};
 use std::process::Abort;
@@ -261,10 +261,4 @@ fn refuses_what_would_be_too_long(rt: HostRuntime) {
         let answer = second_push(&rt, alloc, &half, &other);
         same(&rt, answer, want, len);
     }
-}
-
-#[test]
-fn prints_its_faults(rt: HostRuntime) {
-    let want = "tokens are of different kinds (S5)";
-    prints(&rt, rt.alloc(), &RecordFault::S5, want);
 }

@@ -1,5 +1,5 @@
 //! Lines of texts in pieces of every size, and sources and sinks that fail.
-use crate::compared::{holds, prints, same, same_bytes};
+use crate::compared::{holds, same, same_bytes};
 use crate::sources::Pieces;
 use hum_text::calls::{Marked, Sink, Source};
 use hum_text::reader::{LineReader, Step};
@@ -227,21 +227,4 @@ fn a_failed_write_is_marked(rt: HostRuntime) {
     let mut flushed = Marked::new(Room { room: 0 });
     let _ = flushed.flush();
     holds(&rt, flushed.failed(), "a flush");
-}
-
-const PRINTED: &[(TextFault, &str)] = &[
-    (TextFault::S1, "S1"),
-    (TextFault::S2, "S2"),
-    (TextFault::S3, "S3"),
-    (TextFault::S7, "S7"),
-    (TextFault::Read, "read failed"),
-    (TextFault::Memory, "out of memory"),
-];
-
-#[test]
-fn faults_print(rt: HostRuntime) {
-    for row in PRINTED {
-        let (fault, text) = *row;
-        prints(&rt, rt.alloc(), &fault, text);
-    }
 }
