@@ -219,14 +219,18 @@ const NAMES: &[(&[u8], Option<&[&[u8]]>)] = &[
 ];
 
 fn are_names(found: &Option<Vec<Vec<u8>>>, want: Option<&[&[u8]]>) -> bool {
-    match (found, want) {
-        (Some(names), Some(want)) => {
-            let mut pairs = names.iter().zip(want);
-            names.len() == want.len() && pairs.all(|(name, want)| name.as_slice() == *want)
+    let Some(names) = found else {
+        return want.is_none();
+    };
+    let Some(want) = want else {
+        return false;
+    };
+    for (name, want) in names.iter().zip(want) {
+        if name.as_slice() != *want {
+            return false;
         }
-        (None, None) => true,
-        _ => false,
     }
+    names.len() == want.len()
 }
 
 #[test]
