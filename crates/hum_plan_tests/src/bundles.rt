@@ -53,6 +53,16 @@ const READ: &[Row] = &[
         b"**x\n",
         "humpipe: stage 1 (read), line 2: P2",
     ),
+    (
+        b"out: read a | rid -Tid\n--- a\n!!x\n**kern\n*clefG2\n*\n!a\n.\n4c\n*-\n",
+        b"!!x\n**kern\n!a\n4c\n*-\n",
+        "",
+    ),
+    (
+        b"out: read a | rid -GLId\n--- a\n!!x\n**kern\n*clefG2\n*\n!a\n.\n4c\n*-\n",
+        b"4c\n",
+        "",
+    ),
 ];
 
 const RULES: &[Row] = &[
@@ -244,16 +254,6 @@ const BROKEN: &[Row] = &[
         b"out: read a | cleave -i **a -o **b\n--- a\n**a\t**a\n",
         b"**b\n",
         "humpipe: stage 1 (read), line 2: P8",
-    ),
-    (
-        b"out: read a | rid -Tid\n--- a\n!!x\n**kern\n*clefG2\n*\n!a\n.\n4c\n*-\n",
-        b"!!x\n**kern\n!a\n4c\n*-\n",
-        "",
-    ),
-    (
-        b"out: read a | rid -GLId\n--- a\n!!x\n**kern\n*clefG2\n*\n!a\n.\n4c\n*-\n",
-        b"4c\n",
-        "",
     ),
     (
         b"out: read a | semits -x\n--- a\n**kern\t**b\n",

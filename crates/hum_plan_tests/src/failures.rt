@@ -62,8 +62,8 @@ fn readers_of(rt: &impl Abort, alloc: Global, texts: &[Failing]) -> Vec<Marked<F
     readers
 }
 
-// Runs a plan over such readers, to a writer with so much room that can be flushed or not. A front of
-// this text is written, and this is told; answers how many bytes are written.
+// Runs a plan over such readers, to a writer with so much room that can be flushed or not. A front
+// of this text is written, and this is told; answers how many bytes are written.
 fn check_told<O: Order>(
     rt: &impl Abort,
     alloc: Global,
@@ -132,8 +132,8 @@ fn failed_writes(rt: HostRuntime) {
 
 const TWO: &[u8] = b"p: read a\nq: read b\nout: assemble p q";
 
-/// Two readers, a text, how many bytes of it are written by the order from the left, and what is told
-/// by that order and by the one from the right.
+/// Two readers, a text, how many bytes of it are written by the order from the left, and what is
+/// told by that order and by the one from the right.
 type Pair = (
     &'static [Failing],
     &'static [u8],

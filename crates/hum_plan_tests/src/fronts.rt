@@ -1,5 +1,5 @@
-//! Each front of a score, cut anywhere: the run ends well or by a stage's fault, and after whole lines
-//! no more is written than of the whole score.
+//! Each front of a score, cut anywhere: the run ends well or by a stage's fault, and after whole
+//! lines no more is written than of the whole score.
 use crate::compared::holds;
 use hum_pipeline::run_bundle;
 use hum_text::calls::Marked;
@@ -38,8 +38,8 @@ const ROWS: &[Row] = &[
     ),
 ];
 
-// The bundle whose last score breaks off behind this front isn't refused as a bundle. Behind a whole
-// line a front of this text is written.
+// The bundle whose last score breaks off behind this front isn't refused as a bundle. Behind a
+// whole line a front of this text is written.
 fn check_front(rt: &impl Abort, alloc: Global, head: &[u8], front: &[u8], text: &[u8]) {
     let mut bundle = head.to_vec(alloc).expect(rt, "memory");
     bundle.extend_from_slice(front).expect(rt, "memory");

@@ -1,8 +1,8 @@
-//! Tests of commands and plans: the values of options, options, plans, runs of plans over small scores,
-//! laws between commands, and what commands stand in.
+//! Tests of commands and plans: the values of options, options, plans, runs of plans over small
+//! scores, laws between commands, and what commands stand in.
 //!
-//! They call what any crate may call, and stand in a crate of their own: so no crate is proved once more
-//! with its tests.
+//! They call what any crate may call, and stand in a crate of their own: so no crate is proved once
+//! more with its tests.
 #![tactic(auto)]
 
 #[cfg(test)]

@@ -48,7 +48,7 @@ const LONG: &[Row] = &[
         &[(b"**x\t**x\n", 1), (b"4c\t4c\n", 100_000), (b"*-\t*-\n", 1)],
         "",
     ),
-    // a line of 1,048,576 bytes passes, and one of a byte more is refused before anything is written
+    // a line of 1,048,576 bytes passes, and of one of a byte more nothing is written
     (
         &[(COMMENT, 1), (b"a", 1_048_574), (b"\n", 1)],
         &[(b"!!", 1), (b"a", 1_048_574), (b"\n", 1)],
