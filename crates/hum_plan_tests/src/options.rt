@@ -1,13 +1,18 @@
 //! Options by hand: those of each command, and the first rule that other words break.
 use crate::compared::{holds, same};
+use hum_cleave::CleaveOptions;
 use hum_commands::CommandOptions;
-use hum_context::Span;
+use hum_context::{ContextOptions, Span};
+use hum_ditto::DittoOptions;
 use hum_extract::{Choice, Field, FieldRange};
 use hum_frac::Frac;
 use hum_options::{OptionError, OptionFault, OptionRule, Refusal, read_options};
+use hum_rid::RidOptions;
 use hum_stage::Command;
+use hum_timebase::TimebaseOptions;
+use hum_tones::MintOptions;
 use hum_words::{Piece, pieces};
-use hum_yank::{Markers, YankRange};
+use hum_yank::{Markers, YankOptions, YankRange};
 use std::alloc::Global;
 use std::process::Abort;
 
@@ -21,30 +26,10 @@ fn read(
 ) -> Result<CommandOptions, OptionError> {
     assert!(rt; line.len() <= 65_536);
     let words = pieces(alloc, line).expect(rt, "words");
-    match words.as_slice() {
-        [Piece::Word(number, _), behind @ ..] => {
-            read_options(alloc, command, *number, behind, is_last)
-        }
-        _ => panic!(rt; "no command"),
-    }
-}
-
-// Whether each letter of G, g, L, l, I, i, T, D and d is given.
-fn letters_of(options: &CommandOptions) -> Option<[bool; 9]> {
-    match options {
-        CommandOptions::Rid(options) => Some([
-            options.global_comments,
-            options.empty_global_comments,
-            options.local_comments,
-            options.null_local_comments,
-            options.interpretations,
-            options.null_interpretations,
-            options.tandems,
-            options.values,
-            options.null_values,
-        ]),
-        _ => None,
-    }
+    let [Piece::Word(number, _), behind @ ..] = words.as_slice() else {
+        panic!(rt; "no command")
+    };
+    read_options(alloc, command, *number, behind, is_last)
 }
 
 /// The first field, and the fields from the third on.
@@ -58,144 +43,6 @@ const FIELDS: &[FieldRange] = &[
         last: Field::Last,
     },
 ];
-
-fn are_fields(options: &CommandOptions, want: &[FieldRange]) -> bool {
-    match options {
-        CommandOptions::Extract(Choice::Fields(ranges)) => ranges.as_slice() == want,
-        _ => false,
-    }
-}
-
-fn count_of_names(options: &CommandOptions) -> Option<usize> {
-    match options {
-        CommandOptions::Extract(Choice::Names(names)) => Some(names.len()),
-        _ => None,
-    }
-}
-
-// Whether some tokens and those between parentheses are passed over.
-fn passes_over(options: &CommandOptions) -> bool {
-    match options {
-        CommandOptions::Ditto(options) => options.skip.is_some() && options.parentheses,
-        _ => false,
-    }
-}
-
-// Whether no direction is written, and some notes end what was told.
-fn is_signless_with_breaks(options: &CommandOptions) -> bool {
-    match options {
-        CommandOptions::Mint(options) => {
-            options.signless && !options.sizeonly && options.breaks.is_some()
-        }
-        _ => false,
-    }
-}
-
-// Whether this is a phrase, and some tokens are left out.
-fn is_phrase(options: &CommandOptions) -> bool {
-    match options {
-        CommandOptions::Context(options) => match &options.span {
-            Span::Phrase(_, _) => options.omit.is_some(),
-            Span::Number(_) => false,
-        },
-        _ => false,
-    }
-}
-
-// How many tokens a context has.
-fn count_of(options: &CommandOptions) -> Option<u16> {
-    match options {
-        CommandOptions::Context(options) => match &options.span {
-            Span::Number(count) => Some(count.number),
-            Span::Phrase(_, _) => None,
-        },
-        _ => None,
-    }
-}
-
-// The steps and semitones of a transposition.
-fn way_of(options: &CommandOptions) -> Option<(i32, i32)> {
-    match options {
-        CommandOptions::Trans(options) => Some((options.steps, options.semitones)),
-        _ => None,
-    }
-}
-
-// Whether the step is 1/n, written so.
-fn is_step(options: &CommandOptions, number: u32, text: &[u8]) -> bool {
-    match options {
-        CommandOptions::Timebase(options) => {
-            options.step == Frac::new(1, number.max(1) as u64) && options.text.as_slice() == text
-        }
-        _ => false,
-    }
-}
-
-fn leaves_out_ties(options: &CommandOptions) -> bool {
-    match options {
-        CommandOptions::Semits(options) => options.ties_left_out,
-        _ => false,
-    }
-}
-
-fn is_recip(options: &CommandOptions) -> bool {
-    match options {
-        CommandOptions::Recip(_) => true,
-        _ => false,
-    }
-}
-
-// Whether columns **kern become one that is **all, with this between two tokens.
-fn becomes_all(options: &CommandOptions, separator: &[u8]) -> bool {
-    match options {
-        CommandOptions::Cleave(options) => {
-            options.name() == b"**kern".as_slice()
-                && options.new_name() == b"**all".as_slice()
-                && options.separator() == separator
-        }
-        _ => false,
-    }
-}
-
-fn are_lines(options: &CommandOptions, want: &[YankRange]) -> bool {
-    match options {
-        CommandOptions::Yank(options) => match &options.markers {
-            Markers::Lines => options.ranges.as_slice() == want,
-            _ => false,
-        },
-        _ => false,
-    }
-}
-
-fn have_ends(options: &CommandOptions) -> bool {
-    match options {
-        CommandOptions::Yank(options) => match &options.markers {
-            Markers::Occurrences(_, ends) => ends.is_some(),
-            _ => false,
-        },
-        _ => false,
-    }
-}
-
-fn are_numbered(options: &CommandOptions) -> bool {
-    match options {
-        CommandOptions::Yank(options) => match &options.markers {
-            Markers::Numbers(_) => true,
-            _ => false,
-        },
-        _ => false,
-    }
-}
-
-fn are_labelled(options: &CommandOptions, want: &[u8]) -> bool {
-    match options {
-        CommandOptions::Yank(options) => match &options.markers {
-            Markers::Labels(label) => label.as_slice() == want,
-            _ => false,
-        },
-        _ => false,
-    }
-}
 
 /// From the second line to the last but one.
 const INNER: &[YankRange] = &[YankRange::ToEnd {
@@ -234,24 +81,131 @@ enum Told {
     Labelled(&'static [u8]),
 }
 
-fn is_told(options: &CommandOptions, told: Told) -> bool {
+// Which of the letters G, g, L, l, I, i, T, D and d are given.
+fn is_rid(options: &RidOptions, told: Told) -> bool {
+    let found = [
+        options.global_comments,
+        options.empty_global_comments,
+        options.local_comments,
+        options.null_local_comments,
+        options.interpretations,
+        options.null_interpretations,
+        options.tandems,
+        options.values,
+        options.null_values,
+    ];
     match told {
-        Told::Letters(letters) => letters_of(options) == Some(letters),
-        Told::Fields(ranges) => are_fields(options, ranges),
-        Told::Names(count) => count_of_names(options) == Some(count),
-        Told::PassesOver => passes_over(options),
-        Told::SignlessWithBreaks => is_signless_with_breaks(options),
-        Told::Phrase => is_phrase(options),
-        Told::Tokens(count) => count_of(options) == Some(count),
-        Told::Moved(steps, semitones) => way_of(options) == Some((steps, semitones)),
-        Told::Step(number, text) => is_step(options, number, text),
-        Told::WithoutTies => leaves_out_ties(options),
-        Told::Recip => is_recip(options),
-        Told::All(separator) => becomes_all(options, separator),
-        Told::Lines(ranges) => are_lines(options, ranges),
-        Told::BetweenMarks => have_ends(options),
-        Told::Numbered => are_numbered(options),
-        Told::Labelled(label) => are_labelled(options, label),
+        Told::Letters(letters) => found == letters,
+        _ => false,
+    }
+}
+
+fn is_extract(choice: &Choice, told: Told) -> bool {
+    match choice {
+        Choice::Fields(ranges) => match told {
+            Told::Fields(want) => ranges.as_slice() == want,
+            _ => false,
+        },
+        Choice::Names(names) => match told {
+            Told::Names(count) => names.len() == count,
+            _ => false,
+        },
+    }
+}
+
+fn is_ditto(options: &DittoOptions, told: Told) -> bool {
+    match told {
+        Told::PassesOver => options.skip.is_some() && options.parentheses,
+        _ => false,
+    }
+}
+
+fn is_mint(options: &MintOptions, told: Told) -> bool {
+    match told {
+        Told::SignlessWithBreaks => {
+            options.signless && !options.sizeonly && options.breaks.is_some()
+        }
+        _ => false,
+    }
+}
+
+fn is_context(options: &ContextOptions, told: Told) -> bool {
+    match &options.span {
+        Span::Phrase(_, _) => match told {
+            Told::Phrase => options.omit.is_some(),
+            _ => false,
+        },
+        Span::Number(count) => match told {
+            Told::Tokens(number) => count.number == number,
+            _ => false,
+        },
+    }
+}
+
+fn is_timebase(options: &TimebaseOptions, told: Told) -> bool {
+    match told {
+        Told::Step(number, text) => {
+            options.step == Frac::new(1, number.max(1) as u64) && options.text.as_slice() == text
+        }
+        _ => false,
+    }
+}
+
+fn is_cleave(options: &CleaveOptions, told: Told) -> bool {
+    match told {
+        Told::All(separator) => {
+            options.name() == b"**kern".as_slice()
+                && options.new_name() == b"**all".as_slice()
+                && options.separator() == separator
+        }
+        _ => false,
+    }
+}
+
+fn is_yank(options: &YankOptions, told: Told) -> bool {
+    match told {
+        Told::Lines(ranges) => match &options.markers {
+            Markers::Lines => options.ranges.as_slice() == ranges,
+            _ => false,
+        },
+        Told::BetweenMarks => match &options.markers {
+            Markers::Occurrences(_, ends) => ends.is_some(),
+            _ => false,
+        },
+        Told::Numbered => match &options.markers {
+            Markers::Numbers(_) => true,
+            _ => false,
+        },
+        Told::Labelled(want) => match &options.markers {
+            Markers::Labels(label) => label.as_slice() == want,
+            _ => false,
+        },
+        _ => false,
+    }
+}
+
+fn is_told(options: &CommandOptions, told: Told) -> bool {
+    match options {
+        CommandOptions::Rid(options) => is_rid(options, told),
+        CommandOptions::Extract(choice) => is_extract(choice, told),
+        CommandOptions::Ditto(options) => is_ditto(options, told),
+        CommandOptions::Mint(options) => is_mint(options, told),
+        CommandOptions::Context(options) => is_context(options, told),
+        CommandOptions::Timebase(options) => is_timebase(options, told),
+        CommandOptions::Cleave(options) => is_cleave(options, told),
+        CommandOptions::Yank(options) => is_yank(options, told),
+        CommandOptions::Trans(way) => match told {
+            Told::Moved(steps, semitones) => (way.steps, way.semitones) == (steps, semitones),
+            _ => false,
+        },
+        CommandOptions::Semits(options) => match told {
+            Told::WithoutTies => options.ties_left_out,
+            _ => false,
+        },
+        CommandOptions::Recip(_) => match told {
+            Told::Recip => true,
+            _ => false,
+        },
     }
 }
 

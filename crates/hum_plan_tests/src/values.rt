@@ -1,5 +1,6 @@
 //! Values of options by hand, of each kind and of none.
 use crate::compared::{holds, same, same_bytes};
+use crate::texts::{Part, joined};
 use hum_extract::{Field, FieldRange};
 use hum_frac::Frac;
 use hum_values::{
@@ -105,177 +106,161 @@ const FROM_FOUR: FieldRange = FieldRange {
     last: Field::Number(4096),
 };
 
-const FIELDS: &[(&[u8], &[FieldRange])] = &[
-    (b"1", &[FIRST]),
-    (b"$", &[LAST]),
-    (b"2-$", &[FROM_TWO]),
-    (b"4-4096,2-$,3,$", &[FROM_FOUR, FROM_TWO, THIRD, LAST]),
+/// Texts, and the fields that they list, if they do.
+const FIELDS: &[(&[u8], Option<&[FieldRange]>)] = &[
+    (b"1", Some(&[FIRST])),
+    (b"$", Some(&[LAST])),
+    (b"2-$", Some(&[FROM_TWO])),
+    (b"4-4096,2-$,3,$", Some(&[FROM_FOUR, FROM_TWO, THIRD, LAST])),
+    (b"", None),
+    (b",", None),
+    (b"0", None),
+    (b"01", None),
+    (b"4097", None),
+    (b"2-1", None),
+    (b"$-1", None),
+    (b"$-$", None),
+    (b"1-$-1", None),
+    (b"1-2-3", None),
+    (b"1,,2", None),
+    (b"1,", None),
+    (b"-", None),
+    (b"a", None),
 ];
 
-fn fields(rt: &impl Abort, alloc: Global, text: &[u8]) -> Option<Vec<FieldRange>> {
-    field_ranges(alloc, text).expect(rt, "memory")
+// These are the items that are wanted, or none where there is no list.
+fn are_items<T: PartialEq>(found: &Option<Vec<T>>, want: Option<&[T]>) -> bool {
+    match found {
+        Some(items) => want == Some(items.as_slice()),
+        None => want.is_none(),
+    }
 }
 
 #[test]
 fn lists_of_fields(rt: HostRuntime) {
     for row in FIELDS {
         let (text, want) = *row;
-        let found = fields(&rt, rt.alloc(), text).expect(&rt, "fields");
-        holds(&rt, found.as_slice() == want, text);
+        let found = field_ranges(rt.alloc(), text).expect(&rt, "memory");
+        holds(&rt, are_items(&found, want), text);
     }
 }
 
-const NO_FIELDS: &[&[u8]] = &[
-    b"", b",", b"0", b"01", b"4097", b"2-1", b"$-1", b"$-$", b"1-$-1", b"1-2-3", b"1,,2", b"1,",
-    b"-", b"a",
-];
-
-#[test]
-fn no_lists_of_fields(rt: HostRuntime) {
-    for text in NO_FIELDS {
-        holds(&rt, fields(&rt, rt.alloc(), *text).is_none(), *text);
-    }
-}
-
-fn passages(rt: &impl Abort, alloc: Global, text: &[u8]) -> Option<Vec<YankRange>> {
-    passage_ranges(alloc, text).expect(rt, "memory")
-}
-
-const PASSAGES: &[(&[u8], &[YankRange])] = &[
-    (b"0", &[YankRange::Through { first: 0, last: 0 }]),
+/// Texts, and the passages that they list, if they do.
+const PASSAGES: &[(&[u8], Option<&[YankRange]>)] = &[
+    (b"0", Some(&[YankRange::Through { first: 0, last: 0 }])),
     (
         b"3-4294967295",
-        &[YankRange::Through {
+        Some(&[YankRange::Through {
             first: 3,
             last: 4_294_967_295,
-        }],
+        }]),
     ),
-    (b"2-$", &[YankRange::Onward { first: 2 }]),
+    (b"2-$", Some(&[YankRange::Onward { first: 2 }])),
     (
         b"0-$-3",
-        &[YankRange::ToEnd {
+        Some(&[YankRange::ToEnd {
             first: 0,
             before: 3,
-        }],
+        }]),
     ),
-    (b"$", &[YankRange::FromEnd { from: 0, to: 0 }]),
-    (b"$-7", &[YankRange::FromEnd { from: 7, to: 7 }]),
-    (b"$-2-$", &[YankRange::FromEnd { from: 2, to: 0 }]),
-    (b"$-2-$-1", &[YankRange::FromEnd { from: 2, to: 1 }]),
+    (b"$", Some(&[YankRange::FromEnd { from: 0, to: 0 }])),
+    (b"$-7", Some(&[YankRange::FromEnd { from: 7, to: 7 }])),
+    (b"$-2-$", Some(&[YankRange::FromEnd { from: 2, to: 0 }])),
+    (b"$-2-$-1", Some(&[YankRange::FromEnd { from: 2, to: 1 }])),
     (
         b"1,$,1",
-        &[
+        Some(&[
             YankRange::Through { first: 1, last: 1 },
             YankRange::FromEnd { from: 0, to: 0 },
             YankRange::Through { first: 1, last: 1 },
-        ],
+        ]),
     ),
+    (b"", None),
+    (b"1,", None),
+    (b"5-3", None),
+    (b"4294967296", None),
+    (b"012", None),
+    (b"$-0", None),
+    (b"$-01", None),
+    (b"1-$-0", None),
+    (b"$-1-$-2", None),
+    (b"$-$", None),
+    (b"$-$-1", None),
+    (b"$-1-2", None),
+    (b"$-0-$", None),
+    (b"1--$", None),
+    (b"$-3-$-3-", None),
+    (b"$-", None),
+    (b"1-2-3", None),
+    (b"$a", None),
 ];
 
 #[test]
 fn lists_of_passages(rt: HostRuntime) {
     for row in PASSAGES {
         let (text, want) = *row;
-        let found = passages(&rt, rt.alloc(), text).expect(&rt, "passages");
-        holds(&rt, found.as_slice() == want, text);
+        let found = passage_ranges(rt.alloc(), text).expect(&rt, "memory");
+        holds(&rt, are_items(&found, want), text);
     }
 }
 
-const NO_PASSAGES: &[&[u8]] = &[
-    b"",
-    b"1,",
-    b"5-3",
-    b"4294967296",
-    b"012",
-    b"$-0",
-    b"$-01",
-    b"1-$-0",
-    b"$-1-$-2",
-    b"$-$",
-    b"$-$-1",
-    b"$-1-2",
-    b"$-0-$",
-    b"1--$",
-    b"$-3-$-3-",
-    b"$-",
-    b"1-2-3",
-    b"$a",
+/// Texts, and the names that they list, if they do.
+const NAMES: &[(&[u8], Option<&[&[u8]]>)] = &[
+    (b"**kern", Some(&[b"**kern"])),
+    (b"**a,**b c,***", Some(&[b"**a", b"**b c", b"***"])),
+    (b"", None),
+    (b"**", None),
+    (b"*a", None),
+    (b"kern", None),
+    (b"**a,b", None),
+    (b"**a,", None),
+    (b"**a\tb", None),
+    (b"**a\r", None),
 ];
 
-#[test]
-fn no_lists_of_passages(rt: HostRuntime) {
-    for text in NO_PASSAGES {
-        holds(&rt, passages(&rt, rt.alloc(), *text).is_none(), *text);
-    }
-}
-
-fn names_in(rt: &impl Abort, alloc: Global, text: &[u8]) -> Option<Vec<Vec<u8>>> {
-    names(alloc, text).expect(rt, "memory")
-}
-
-const NAMES: &[(&[u8], &[&[u8]])] = &[
-    (b"**kern", &[b"**kern"]),
-    (b"**a,**b c,***", &[b"**a", b"**b c", b"***"]),
-];
-
-const NO_NAMES: &[&[u8]] = &[
-    b"", b"**", b"*a", b"kern", b"**a,b", b"**a,", b"**a\tb", b"**a\r",
-];
-
-fn check_names(rt: &impl Abort, found: &[Vec<u8>], want: &[&[u8]]) {
-    same(rt, found.len(), want.len(), "names");
-    for i in 0..want.len() {
-        if i < found.len() {
-            same_bytes(rt, &found[i], want[i], want[i]);
+fn are_names(found: &Option<Vec<Vec<u8>>>, want: Option<&[&[u8]]>) -> bool {
+    let Some(names) = found else {
+        return want.is_none();
+    };
+    let Some(want) = want else {
+        return false;
+    };
+    for (name, want) in names.iter().zip(want) {
+        if name.as_slice() != *want {
+            return false;
         }
     }
+    names.len() == want.len()
 }
 
 #[test]
 fn lists_of_names(rt: HostRuntime) {
     for row in NAMES {
         let (text, want) = *row;
-        let found = names_in(&rt, rt.alloc(), text).expect(&rt, "names");
-        check_names(&rt, &found, want);
+        let found = names(rt.alloc(), text).expect(&rt, "memory");
+        holds(&rt, are_names(&found, want), text);
     }
 }
 
-#[test]
-fn no_lists_of_names(rt: HostRuntime) {
-    for text in NO_NAMES {
-        holds(&rt, names_in(&rt, rt.alloc(), *text).is_none(), *text);
-    }
-}
-
-// So many times an item, with commas between.
-fn repeated(rt: &impl Abort, alloc: Global, item: &[u8], times: usize) -> Vec<u8> {
-    let mut text = item.to_vec(alloc).expect(rt, "memory");
-    for _ in 1..times {
-        text.push(b',').expect(rt, "memory");
-        text.extend_from_slice(item).expect(rt, "memory");
-    }
-    text
-}
-
-/// How many items, and whether a list may have so many.
-const ITEMS: &[(usize, bool)] = &[(64, true), (65, false)];
+/// The parts of a text, whether it lists fields and passages, and whether it lists names.
+const ITEMS: &[(&[Part], bool, bool)] = &[
+    (&[(b"7", 1), (b",7", 63)], true, false),
+    (&[(b"7", 1), (b",7", 64)], false, false),
+    (&[(b"**a", 1), (b",**a", 63)], false, true),
+    (&[(b"**a", 1), (b",**a", 64)], false, false),
+];
 
 #[test]
 fn at_most_64_items(rt: HostRuntime) {
     let alloc = rt.alloc();
     for row in ITEMS {
-        let (times, few) = *row;
-        let sevens = repeated(&rt, alloc, b"7", times);
-        let are_fields = fields(&rt, alloc, &sevens).is_some();
-        let are_passages = passages(&rt, alloc, &sevens).is_some();
-        let alike = repeated(&rt, alloc, b"**a", times);
-        let are_names = names_in(&rt, alloc, &alike).is_some();
-        same(
-            &rt,
-            (are_fields, are_passages, are_names),
-            (few, few, few),
-            times,
-        );
+        let (parts, are_ranges, are_names) = *row;
+        let text = joined(&rt, alloc, parts);
+        let fields = field_ranges(alloc, &text).expect(&rt, "memory").is_some();
+        let passages = passage_ranges(alloc, &text).expect(&rt, "memory").is_some();
+        let names = names(alloc, &text).expect(&rt, "memory").is_some();
+        let want = (are_ranges, are_ranges, are_names);
+        same(&rt, (fields, passages, names), want, text.len());
     }
 }
 

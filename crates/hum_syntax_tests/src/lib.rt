@@ -10,6 +10,8 @@ mod bundle;
 #[cfg(test)]
 mod compared;
 #[cfg(test)]
+mod faults;
+#[cfg(test)]
 mod frac;
 #[cfg(test)]
 mod kern;

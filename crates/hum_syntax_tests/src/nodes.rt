@@ -36,41 +36,34 @@ fn node_of(alloc: Global, text: &'static [u8], good: usize) -> Reading<Marked<Pi
     Reading::new(alloc, 1, Marked::new(Pieces { text, size, good }))
 }
 
-// The next record, if there is one: what the turn has given is this, as text.
-fn next_given(rt: &impl Abort, node: &mut Reading<Marked<Pieces>>, want: &[u8]) -> Option<Record> {
-    let next = node.next();
-    same_bytes(rt, shown(node, &next), want, want);
-    next
-}
+/// A text, how many reads of it are good, and what each turn gives.
+const READ: &[(&[u8], usize, &[&[u8]])] = &[
+    (
+        b"**x\n*-",
+        usize::MAX,
+        &[b"nothing", b"**x", b"*-", b"closed", b"closed"],
+    ),
+    (
+        b"**x\n\n*-\n",
+        usize::MAX,
+        &[b"nothing", b"**x", b"broken", b"broken"],
+    ),
+    (b"**x\n*-", 0, &[b"failed", b"failed"]),
+];
 
-const CLOSED: &[&[u8]] = &[b"nothing", b"**x", b"*-", b"closed", b"closed"];
-
-#[test]
-fn a_score_is_read(rt: HostRuntime) {
-    let mut node = node_of(rt.alloc(), b"**x\n*-", usize::MAX);
-    for text in CLOSED {
-        let next = next_given(&rt, &mut node, *text);
-        give_back(&rt, &mut node, next);
+fn check_turns(rt: &impl Abort, mut node: Reading<Marked<Pieces>>, turns: &[&[u8]]) {
+    for want in turns {
+        let next = node.next();
+        same_bytes(rt, shown(&node, &next), *want, *want);
+        give_back(rt, &mut node, next);
     }
 }
 
-const BROKEN: &[&[u8]] = &[b"nothing", b"**x", b"broken", b"broken"];
-
 #[test]
-fn a_broken_score_is_read(rt: HostRuntime) {
-    let mut node = node_of(rt.alloc(), b"**x\n\n*-\n", usize::MAX);
-    for text in BROKEN {
-        next_given(&rt, &mut node, *text);
-    }
-}
-
-const FAILED: &[&[u8]] = &[b"failed", b"failed"];
-
-#[test]
-fn a_failed_read_is_told_again(rt: HostRuntime) {
-    let mut node = node_of(rt.alloc(), b"**x\n*-", 0);
-    for text in FAILED {
-        next_given(&rt, &mut node, *text);
+fn scores_are_read(rt: HostRuntime) {
+    for row in READ {
+        let (text, good, turns) = *row;
+        check_turns(&rt, node_of(rt.alloc(), text, good), turns);
     }
 }
 

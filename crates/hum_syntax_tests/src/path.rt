@@ -1,7 +1,7 @@
 //! Spines of small scores, by hand: where they come from, and each rule broken once.
 ghost use Rattle.std.specs.Prelude.{◌≡◌, ◌≤◌, [], length};
 
-use crate::compared::{holds, prints, same, same_bytes};
+use crate::compared::{holds, same, same_bytes};
 use crate::record::read;
 use hum_path::{Carried, ColumnMemory, Move, Moves, PathFault, Paths};
 use hum_record::{Record, RecordBuilder, SpinedKind};
@@ -157,12 +157,6 @@ fn refuses_more_than_4096_spines(rt: HostRuntime) {
     let row = splits(&rt, alloc, 4096);
     same(&rt, paths.step(&row).err(), Some(PathFault::P9), "one more");
     same(&rt, paths.width(), 4096, "as before");
-}
-
-#[test]
-fn prints_its_faults(rt: HostRuntime) {
-    prints(&rt, rt.alloc(), &PathFault::P10, "P10");
-    prints(&rt, rt.alloc(), &PathFault::Memory, "out of memory");
 }
 
 /// The nearest cell above.

@@ -1,5 +1,5 @@
 //! Patterns and tokens, by hand.
-use crate::compared::{prints, same};
+use crate::compared::same;
 use hum_pattern::{Pattern, PatternFault};
 use std::alloc::Global;
 use std::process::Abort;
@@ -59,10 +59,4 @@ fn refuses_what_is_no_expression(rt: HostRuntime) {
         let found = Pattern::new(rt.alloc(), text).err();
         same(&rt, found, Some(fault), text);
     }
-}
-
-#[test]
-fn prints_its_faults(rt: HostRuntime) {
-    let want = "the text is no regular expression";
-    prints(&rt, rt.alloc(), &PatternFault::Refused, want);
 }

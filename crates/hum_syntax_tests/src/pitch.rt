@@ -1,5 +1,5 @@
 //! Pitches and intervals of music theory.
-use crate::compared::{prints, same, same_bytes};
+use crate::compared::{same, same_bytes};
 use hum_pitch::{Pitch, PitchFault, interval, write_interval, write_pitch};
 use std::alloc::Global;
 use std::process::Abort;
@@ -58,11 +58,6 @@ const NATURAL: &[Named] = &[
     ((C, 4, 0), (F, 5, 0), "+P11"),
 ];
 
-#[test]
-fn names_natural_intervals(rt: HostRuntime) {
-    check_named(&rt, rt.alloc(), NATURAL);
-}
-
 const ALTERED: &[Named] = &[
     ((C, 4, 0), (G, 4, -1), "+d5"),
     ((B, 3, 1), (C, 5, -1), "+dd9"),
@@ -78,18 +73,15 @@ const ALTERED: &[Named] = &[
     ((C, 4, 1), (D, 4, -1), "+d2"),
 ];
 
-#[test]
-fn names_altered_intervals(rt: HostRuntime) {
-    check_named(&rt, rt.alloc(), ALTERED);
-}
-
 const WIDEST: &[Named] = &[
     ((C, -4, -7), (B, 11, 7), "+AAAAAAAAAAAAAA112"),
     ((B, 11, 7), (C, -4, -7), "-AAAAAAAAAAAAAA112"),
 ];
 
 #[test]
-fn names_the_widest_interval(rt: HostRuntime) {
+fn names_intervals(rt: HostRuntime) {
+    check_named(&rt, rt.alloc(), NATURAL);
+    check_named(&rt, rt.alloc(), ALTERED);
     check_named(&rt, rt.alloc(), WIDEST);
 }
 
@@ -181,11 +173,6 @@ const TRANSPOSED: &[Moved] = &[
     ((C, 4, 0), 0, 7, Ok((C, 4, 7))),
 ];
 
-#[test]
-fn transposes(rt: HostRuntime) {
-    check_moved(&rt, TRANSPOSED);
-}
-
 const REFUSED: &[Moved] = &[
     ((C, 4, 0), 0, 8, Err(PitchFault::TR1)),
     ((C, 4, 0), 0, -8, Err(PitchFault::TR1)),
@@ -195,12 +182,7 @@ const REFUSED: &[Moved] = &[
 ];
 
 #[test]
-fn refuses_what_has_no_spelling(rt: HostRuntime) {
+fn transposes_what_has_a_spelling(rt: HostRuntime) {
+    check_moved(&rt, TRANSPOSED);
     check_moved(&rt, REFUSED);
-}
-
-#[test]
-fn prints_its_faults(rt: HostRuntime) {
-    let want = "over seven sharps or flats";
-    prints(&rt, rt.alloc(), &PitchFault::TR1, want);
 }

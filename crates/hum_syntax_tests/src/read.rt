@@ -1,5 +1,5 @@
 //! Scores read in pieces of several sizes, and from a source that fails.
-use crate::compared::{holds, prints, same, same_bytes};
+use crate::compared::{holds, same, same_bytes};
 use crate::sources::Pieces;
 use hum_read::{ReadError, ScoreReader};
 use hum_stage::{Command, End, Fault, Rule};
@@ -119,10 +119,4 @@ fn a_read_fails(rt: HostRuntime) {
         let source = Pieces { text, size, good };
         check_read(&rt, rt.alloc(), source, texts, Err(ReadError::Read));
     }
-}
-
-#[test]
-fn errors_print(rt: HostRuntime) {
-    prints(&rt, rt.alloc(), &ReadError::Read, "read failed");
-    prints(&rt, rt.alloc(), &ReadError::Memory, "out of memory");
 }

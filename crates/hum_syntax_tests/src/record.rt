@@ -3,7 +3,7 @@ ghost use Rattle.std.specs.Prelude.{◌≡◌, ◌<◌, IfOk};
 ghost use Rattle.hum_record.specs.Spelling.{has_byte, IsToken};
 ghost use Rattle.hum_record.specs.declared.SpinedKind.TheVariants.{Values};
 
-use crate::compared::{prints, same, same_bytes};
+use crate::compared::{same, same_bytes};
 use hum_record::{Kind, Record, RecordBuilder, RecordFault, Selection, Spare, SpinedKind};
 use std::alloc::{AllocError, Global};
 use std::process::Abort;
@@ -81,11 +81,6 @@ const EACH_KIND: &[Row] = &[
     (b"!!!COM:\t\tBach", Kind::Global, &[]),
 ];
 
-#[test]
-fn reads_each_kind(rt: HostRuntime) {
-    check_read(&rt, rt.alloc(), EACH_KIND);
-}
-
 // Both have the same tokens.
 fn check_alike(rt: &impl Abort, record: &Record, other: &Record) {
     same(rt, record.width(), other.width(), "tokens");
@@ -123,6 +118,7 @@ fn retains_marked_tokens(rt: HostRuntime) {
     }
 }
 
+/// More tokens than fit inline.
 const MANY_TOKENS: &[Row] = &[(
     b"1\t22\t333\t4\t55\t6\t7\t88\t9\t10",
     Kind::Values,
@@ -130,11 +126,6 @@ const MANY_TOKENS: &[Row] = &[(
         b"1", b"22", b"333", b"4", b"55", b"6", b"7", b"88", b"9", b"10",
     ],
 )];
-
-#[test]
-fn reads_more_tokens_than_fit_inline(rt: HostRuntime) {
-    check_read(&rt, rt.alloc(), MANY_TOKENS);
-}
 
 /// Texts of 7, 8, 11, 16, 24, 32 and 35 bytes: the tabs of up to 7 bytes, of 8 to 15 and of 16 to 32
 /// are found in three ways, and those of longer texts in pieces of 32 bytes.
@@ -169,7 +160,9 @@ const SHORT_AND_LONG: &[Row] = &[
 ];
 
 #[test]
-fn reads_short_and_long_texts(rt: HostRuntime) {
+fn reads_records(rt: HostRuntime) {
+    check_read(&rt, rt.alloc(), EACH_KIND);
+    check_read(&rt, rt.alloc(), MANY_TOKENS);
     check_read(&rt, rt.alloc(), SHORT_AND_LONG);
 }
 
@@ -261,10 +254,4 @@ fn refuses_what_would_be_too_long(rt: HostRuntime) {
         let answer = second_push(&rt, alloc, &half, &other);
         same(&rt, answer, want, len);
     }
-}
-
-#[test]
-fn prints_its_faults(rt: HostRuntime) {
-    let want = "tokens are of different kinds (S5)";
-    prints(&rt, rt.alloc(), &RecordFault::S5, want);
 }

@@ -1,5 +1,5 @@
 //! Lines of texts in pieces of every size, and sources and sinks that fail.
-use crate::compared::{holds, prints, same, same_bytes};
+use crate::compared::{holds, same, same_bytes};
 use crate::sources::Pieces;
 use hum_text::calls::{Marked, Sink, Source};
 use hum_text::reader::{LineReader, Step};
@@ -144,19 +144,6 @@ fn texts_in_pieces(rt: HostRuntime) {
     }
 }
 
-#[test]
-fn a_score_with_cr_byte_by_byte(rt: HostRuntime) {
-    let source = Pieces {
-        text: b"**kern\r\n*k[]\r\n4e\r\n4B-\r\n8bb\r\n*-",
-        size: 1,
-        good: usize::MAX,
-    };
-    let lines = b"**kern\n*k[]\n4e\n4B-\n8bb\n*-\n";
-    let limits = Limits::standard();
-    let reads = check_lines(&rt, rt.alloc(), source, limits, lines, None);
-    same(&rt, reads, 30, "reads");
-}
-
 /// How many letters stand in front of CR and LF, how many bytes of lines are read, and the fault.
 const LONGEST: &[(usize, usize, Option<TextFault>)] = &[
     (1_048_576, 1_048_577, None),
@@ -176,17 +163,40 @@ fn the_longest_line(rt: HostRuntime) {
     }
 }
 
+/// A text, the size of its pieces, how many reads are good, its lines, the fault that ends them, and
+/// how many reads gave bytes.
+type Reads = (
+    &'static [u8],
+    usize,
+    usize,
+    &'static [u8],
+    Option<TextFault>,
+    usize,
+);
+
+const READS: &[Reads] = &[
+    // a score with CR, byte by byte
+    (
+        b"**kern\r\n*k[]\r\n4e\r\n4B-\r\n8bb\r\n*-",
+        1,
+        usize::MAX,
+        b"**kern\n*k[]\n4e\n4B-\n8bb\n*-\n",
+        None,
+        30,
+    ),
+    // a read that fails
+    (b"ab\ncd\nef\n", 2, 3, b"ab\ncd\n", Some(TextFault::Read), 3),
+];
+
 #[test]
-fn a_read_fails(rt: HostRuntime) {
-    let source = Pieces {
-        text: b"ab\ncd\nef\n",
-        size: 2,
-        good: 3,
-    };
-    let limits = Limits::standard();
-    let fault = Some(TextFault::Read);
-    let reads = check_lines(&rt, rt.alloc(), source, limits, b"ab\ncd\n", fault);
-    same(&rt, reads, 3, "reads");
+fn reads_are_told(rt: HostRuntime) {
+    for row in READS {
+        let (text, size, good, lines, fault, reads) = *row;
+        let source = Pieces { text, size, good };
+        let limits = Limits::standard();
+        let found = check_lines(&rt, rt.alloc(), source, limits, lines, fault);
+        same(&rt, found, reads, text);
+    }
 }
 
 /// How many calls were made, whether the last one failed, and whether one has.
@@ -227,21 +237,4 @@ fn a_failed_write_is_marked(rt: HostRuntime) {
     let mut flushed = Marked::new(Room { room: 0 });
     let _ = flushed.flush();
     holds(&rt, flushed.failed(), "a flush");
-}
-
-const PRINTED: &[(TextFault, &str)] = &[
-    (TextFault::S1, "S1"),
-    (TextFault::S2, "S2"),
-    (TextFault::S3, "S3"),
-    (TextFault::S7, "S7"),
-    (TextFault::Read, "read failed"),
-    (TextFault::Memory, "out of memory"),
-];
-
-#[test]
-fn faults_print(rt: HostRuntime) {
-    for row in PRINTED {
-        let (fault, text) = *row;
-        prints(&rt, rt.alloc(), &fault, text);
-    }
 }

@@ -66,11 +66,6 @@ const WORDS_AND_BARS: &[Row] = &[
     ("a\u{a0}b", "1<a\u{a0}b>"),
 ];
 
-#[test]
-fn words_and_bars(rt: HostRuntime) {
-    check_all(&rt, rt.alloc(), WORDS_AND_BARS);
-}
-
 const QUOTES: &[Row] = &[
     ("''", "1<>"),
     ("x 'a b|c'| ''", "1<x>2<a b|c>2|3<>"),
@@ -91,7 +86,8 @@ const QUOTES: &[Row] = &[
 ];
 
 #[test]
-fn quotes(rt: HostRuntime) {
+fn words_bars_and_quotes(rt: HostRuntime) {
+    check_all(&rt, rt.alloc(), WORDS_AND_BARS);
     check_all(&rt, rt.alloc(), QUOTES);
 }
 

@@ -6,28 +6,8 @@
 
 ghost use Rattle.std.specs.Prelude.{◌≤◌};
 
-#[cfg(test)]
-mod column_tests;
 mod ending;
-#[cfg(test)]
-mod failure_tests;
 mod files;
-#[cfg(test)]
-mod files_tests;
-#[cfg(test)]
-mod front_tests;
-#[cfg(test)]
-mod long_tests;
-#[cfg(test)]
-mod note_tests;
-#[cfg(test)]
-mod order_tests;
-#[cfg(test)]
-mod rows;
-#[cfg(test)]
-mod tests;
-#[cfg(test)]
-mod waiting_tests;
 
 use crate::ending::Ending;
 use crate::files::run_files;
