@@ -7,7 +7,7 @@ use hum_turns::RunResult;
 use std::fmt;
 
 /// How the program ends.
-#[derive(Clone, Copy, Debug, PartialEq, Eq)]
+#[derive(Clone, Copy)]
 pub enum Ending {
     /// A plan was run, or is refused.
     Outcome(Outcome),
