@@ -1,17 +1,22 @@
 -- The frame goes on from record to record.
 use Rattle.std.proofs.Common.{◌≡◌, ◌∙◌, refl, sym, ap, ℕ, true, false, List, [], ◌∷◌, map}
-use Rattle.std.specs.Prelude.{None}
+use Rattle.std.specs.Prelude.{Option, None, Some, Bool}
 use Rattle.std.specs.List.{list_all, find}
 use Rattle.std.proofs.lemmas.Bool.{and_parts, not-false, false≢true}
 use Rattle.hum_record.specs.declared.SpinedKind.TheVariants.{Local, Interpretation, Values}
 use Rattle.hum_record.specs.Row.{Row, Comment, Spined}
 use Rattle.hum_path.specs.Sign.{sign_of, is_exclusive, is_plain, all_plain, steers}
-use Rattle.hum_path.specs.Spines.{Path, Unopened, Spines, exclusives, names_after}
-use Rattle.hum_path.specs.Rules.{breaks, in_order}
+use Rattle.hum_path.specs.declared.moved.Move.{Move}
+use Rattle.hum_path.specs.Spines.{Path, Unopened, Spines, exclusives, names_after, moves, after}
+use Rattle.hum_path.specs.Rules.{fault_of, breaks, in_order}
 use Rattle.hum_path.specs.Score.{IsOpen, path_after}
 use Rattle.hum_path.proofs.Plain.{sound_width, plain_stays, not_exclusive}
 use Rattle.hum_path.proofs.Obeyed.{opens}
-use Rattle.hum_cells.specs.Retelling.{is_kern, kern_columns}
+use Rattle.hum_stage.specs.declared.faults.Rule.{Rule}
+use Rattle.hum_stage.specs.Decided.{Decision, MayStep, Steps, in_room}
+use Rattle.hum_cells.specs.declared.told.Told.{Told}
+use Rattle.hum_cells.specs.Retelling.{Retelling, is_kern, kern_columns}
+use Rattle.hum_cells.specs.Telling.{Frames, MayFollow, HasFollowed, MayTell, HasTold, decision, Puts}
 
 quiet : (path : Path) (tokens : List (List ℕ)) → all_plain tokens ≡ true → find (breaks path tokens) in_order ≡ None
     → exclusives path ≡ names_after path tokens
@@ -30,3 +35,52 @@ kern_stays past (Spined Local tokens) quiets sound = refl
 kern_stays past (Spined Values tokens) quiets sound = refl
 kern_stays past (Spined Interpretation tokens) quiets sound =
     ap (map is_kern) (quiet (path_after past) tokens (not-false (all_plain tokens) quiets) sound.1)
+
+-- What one step asks of its parts.
+moved : {follows : Retelling → List Row → Type 0} {path : Path} {kern : List Bool} {decide : Decision} {past : List Row} (row : Row) (found : List Move)
+    → found ≡ moves path row → Frames follows path kern decide past → found ≡ moves (path_after past) row
+moved row found is h = is ∙ ap (λ p. moves p row) h.spines
+
+pub no_fault : {follows : Retelling → List Row → Type 0} {path : Path} {kern : List Bool} (row : Row)
+    → MayStep (Frames follows path kern) row → fault_of path row ≡ None
+no_fault row m = ap (λ p. fault_of p row) m.memory.spines ∙ m.score.1
+
+pub may_follow : {follows : Retelling → List Row → Type 0} {path : Path} {kern : List Bool} (row : Row) (found : List Move) → found ≡ moves path row
+    → MayStep (Frames follows path kern) row → MayFollow follows row found
+may_follow row found is m = record {
+  retelling = m.memory.retelling;
+  past = m.past;
+  memory = m.memory.memory;
+  score = m.score;
+  moved = moved row found is m.memory;
+}
+
+pub may_tell : (before after : Retelling → List Row → Type 0) {path : Path} {kern shown : List Bool} (row : Row) (found : List Move)
+    → shown ≡ kern → found ≡ moves path row → HasFollowed before after row found → MayStep (Frames before path kern) row → MayTell after shown row
+may_tell before after row found same is follow m = record {
+  retelling = m.memory.retelling;
+  past = m.past;
+  memory = follow m.memory.retelling m.past m.memory.memory m.score (moved row found is m.memory);
+  kern_is = same ∙ m.memory.kern_is;
+  score = m.score;
+}
+
+-- What they say together.
+pub stepped : (before followed told : Retelling → List Row → Type 0) {path path' : Path} {kern shown kern' : List Bool} (row : Row)
+    (found : List Move) (answer : Told) (rows : List Row) (refused : Option Rule) (room : ℕ) → shown ≡ kern → found ≡ moves path row
+    → path' ≡ after path row → HasFollowed before followed row found → HasTold followed told shown row answer
+    → ((past : List Row) → kern ≡ kern_columns past → path' ≡ path_after (row ∷ past) → IsOpen (row ∷ past) → kern' ≡ kern_columns (row ∷ past))
+    → Puts (decision row answer) rows refused
+    → (decide : Decision) (past : List Row) → Frames before path kern decide past → IsOpen (row ∷ past)
+    → Steps decide past row (Frames told path' kern') room rows refused
+stepped before followed told {path' = path'} row found answer rows None room same is at follow tell mark puts decide past h sound =
+    let m = follow h.retelling past h.memory sound (moved row found is h) in
+    let t = tell h.retelling past m (same ∙ h.kern_is) sound in
+    let spines : path' ≡ path_after (row ∷ past) = at ∙ ap (λ p. after p row) h.spines in (
+      ap (λ (d : Decision). d past row) h.command ∙ t.1 ∙ puts,
+      record { retelling = h.retelling; command = h.command; memory = t.0; spines = spines; kern_is = mark past h.kern_is spines sound },
+    )
+stepped before followed told row found answer rows (Some rule) room same is at follow tell mark puts decide past h sound =
+    let m = follow h.retelling past h.memory sound (moved row found is h) in
+    let t = tell h.retelling past m (same ∙ h.kern_is) sound in
+    ap (in_room room) (ap (λ (d : Decision). d past row) h.command ∙ t.1 ∙ puts)

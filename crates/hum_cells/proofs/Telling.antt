@@ -9,6 +9,7 @@ use Rattle.std.proofs.lemmas.Bool.Decides.{nat_tests}
 use Rattle.hum_record.specs.declared.Kind.TheVariants.{Values as AnyValues, Global}
 use Rattle.hum_record.specs.declared.SpinedKind.TheVariants.{Local, Interpretation, Values}
 use Rattle.hum_record.specs.Row.{Row, Comment, Spined, kind_of, tokens_of, width_of, text_of}
+use Rattle.hum_record.specs.Spelling.{IsToken, IsTokenOf}
 use Rattle.hum_record.specs.Building.{Draft, spelled}
 use Rattle.hum_path.specs.Spines.{exclusives}
 use Rattle.hum_path.specs.Score.{IsOpen, path_after}
@@ -45,6 +46,15 @@ pub record Done (becomes : List (List ℕ) → List ℕ → Result (List ℕ) Ru
   pub size : length done ≡ j
   pub whole : behind done (all_retold becomes (drop j kerns) (drop j columns) (drop j tokens)) ≡ all_retold becomes kerns columns tokens
   pub holds : Holds Values draft long done
+
+behind_nothing : (rest : Result (List (List ℕ)) Rule) → behind [] rest ≡ rest
+behind_nothing (Ok tokens) = refl
+behind_nothing (Err rule) = refl
+
+pub none_done : (becomes : List (List ℕ) → List ℕ → Result (List ℕ) Rule) (kerns : List Bool) (columns : List (List (List ℕ)))
+    (tokens : List (List ℕ)) {draft : Draft} {long : Bool} → Holds Values draft long [] → Done becomes kerns columns tokens 0 draft long
+none_done becomes kerns columns tokens held =
+    record { done = []; size = refl; whole = behind_nothing (all_retold becomes kerns columns tokens); holds = held }
 
 first_told : (becomes : List (List ℕ) → List ℕ → Result (List ℕ) Rule) (kerns : List Bool) (columns : List (List (List ℕ))) (tokens : List (List ℕ)) (j : ℕ)
     → j < length kerns → j < length columns → j < length tokens
@@ -112,7 +122,14 @@ module _ (becomes : List (List ℕ) → List ℕ → Result (List ℕ) Rule) (ke
 comment_no_data : Global ≡ AnyValues → ⊥
 comment_no_data e = cc
 
--- each token of a data record has its column
+-- each token of a data record is one
+pub token_of_data : (row : Row) (token : List ℕ) → kind_of row ≡ AnyValues → IsTokenOf row token → IsToken Values token
+token_of_data (Comment text) token k h = absurd h
+token_of_data (Spined Local tokens) token k h = absurd cc
+token_of_data (Spined Interpretation tokens) token k h = absurd cc
+token_of_data (Spined Values tokens) token k h = h
+
+-- and has its column
 pub as_wide : (past : List Row) (row : Row) → IsOpen (row ∷ past) → kind_of row ≡ AnyValues
     → (length (columns past) ≡ width_of row) × (length (kern_columns past) ≡ width_of row)
 as_wide past (Comment text) sound k = absurd (comment_no_data k)

@@ -312,14 +312,13 @@ fn write_token(
         (Holds Values making.new.builder making.new.is_long)) }
 {
     match becoming {
-        Becoming::Stays => making.push(held[0].row.token(j))?,
-        Becoming::Null => making.push(b".")?,
+        Becoming::Stays => making.push(held[0].row.token(j)),
+        Becoming::Null => making.push(b"."),
         Becoming::Collects => {
             gather(text, held, j, wanted)?;
-            making.push(text.token())?;
+            making.push(text.token())
         }
     }
-    Ok(())
 }
 
 /// The record that the first that waits becomes. None where one of its new tokens isn't known, or they

@@ -5,7 +5,7 @@ ghost use Rattle.hum_kern.specs.Runs.{run, front, behind, starts_with};
 ghost use Rattle.hum_kern.specs.Classes.{is_digit, is_letter, is_sign, is_in};
 
 /// What a run consists of.
-#[derive(Clone, Copy, Debug, PartialEq, Eq)]
+#[derive(Clone, Copy)]
 pub(crate) enum Class {
     /// The digits `0` to `9`.
     Digit,

@@ -126,7 +126,10 @@ impl GivenOptions {
             ≡ option_and_then as_fields (value_at letter self.old) }
         ensures rest { self.new ≡ without letter self.old }
     {
-        self.take(letter)?.fields()
+        match self.take(letter)? {
+            Value::Fields(found) => Some(found),
+            other => other.of_another_kind(),
+        }
     }
 
     /// Takes out the value of the option of a letter, if it was given and is of this kind.
@@ -135,7 +138,10 @@ impl GivenOptions {
             ≡ option_and_then as_names (value_at letter self.old) }
         ensures rest { self.new ≡ without letter self.old }
     {
-        self.take(letter)?.names()
+        match self.take(letter)? {
+            Value::Names(found) => Some(found),
+            other => other.of_another_kind(),
+        }
     }
 
     /// Takes out the value of the option of a letter, if it was given and is of this kind.
@@ -144,7 +150,10 @@ impl GivenOptions {
             ≡ option_and_then as_name (value_at letter self.old) }
         ensures rest { self.new ≡ without letter self.old }
     {
-        self.take(letter)?.name()
+        match self.take(letter)? {
+            Value::Name(found) => Some(found),
+            other => other.of_another_kind(),
+        }
     }
 
     /// Takes out the value of the option of a letter, if it was given and is of this kind.
@@ -153,7 +162,10 @@ impl GivenOptions {
             ≡ option_and_then as_text (value_at letter self.old) }
         ensures rest { self.new ≡ without letter self.old }
     {
-        self.take(letter)?.text()
+        match self.take(letter)? {
+            Value::Text(found) => Some(found),
+            other => other.of_another_kind(),
+        }
     }
 
     /// Takes out the value of the option of a letter, if it was given and is of this kind.
@@ -162,7 +174,10 @@ impl GivenOptions {
             ≡ option_and_then as_ranges (value_at letter self.old) }
         ensures rest { self.new ≡ without letter self.old }
     {
-        self.take(letter)?.ranges()
+        match self.take(letter)? {
+            Value::Ranges(found) => Some(found),
+            other => other.of_another_kind(),
+        }
     }
 
     /// Takes out the value of the option of a letter, if it was given and is of this kind.
@@ -171,7 +186,10 @@ impl GivenOptions {
             ≡ option_and_then as_label (value_at letter self.old) }
         ensures rest { self.new ≡ without letter self.old }
     {
-        self.take(letter)?.label()
+        match self.take(letter)? {
+            Value::Label(found) => Some(found),
+            other => other.of_another_kind(),
+        }
     }
 
     /// Takes out the value of the option of a letter, if it was given and is of this kind.
@@ -180,7 +198,10 @@ impl GivenOptions {
             ≡ option_and_then as_pattern (value_at letter self.old) }
         ensures rest { self.new ≡ without letter self.old }
     {
-        self.take(letter)?.pattern()
+        match self.take(letter)? {
+            Value::Pattern(found) => Some(found),
+            other => other.of_another_kind(),
+        }
     }
 
     /// Takes out the value of the option of a letter, if it was given and is of this kind.
@@ -189,7 +210,10 @@ impl GivenOptions {
             ≡ option_and_then as_count (value_at letter self.old) }
         ensures rest { self.new ≡ without letter self.old }
     {
-        self.take(letter)?.count()
+        match self.take(letter)? {
+            Value::Count(found) => Some(found),
+            other => other.of_another_kind(),
+        }
     }
 
     /// Takes out the value of the option of a letter, if it was given and is of this kind.
@@ -198,7 +222,10 @@ impl GivenOptions {
             ≡ option_and_then as_steps (value_at letter self.old) }
         ensures rest { self.new ≡ without letter self.old }
     {
-        self.take(letter)?.steps()
+        match self.take(letter)? {
+            Value::Steps(found) => Some(found),
+            other => other.of_another_kind(),
+        }
     }
 
     /// Takes out the value of the option of a letter, if it was given and is of this kind.
@@ -207,7 +234,10 @@ impl GivenOptions {
             ≡ option_and_then as_semitones (value_at letter self.old) }
         ensures rest { self.new ≡ without letter self.old }
     {
-        self.take(letter)?.semitones()
+        match self.take(letter)? {
+            Value::Semitones(found) => Some(found),
+            other => other.of_another_kind(),
+        }
     }
 
     /// Takes out the value of the option of a letter, if it was given and is of this kind.
@@ -216,6 +246,9 @@ impl GivenOptions {
             ≡ option_and_then as_duration (value_at letter self.old) }
         ensures rest { self.new ≡ without letter self.old }
     {
-        self.take(letter)?.duration()
+        match self.take(letter)? {
+            Value::Duration(found) => Some(found),
+            other => other.of_another_kind(),
+        }
     }
 }

@@ -10,7 +10,6 @@
 mod faults;
 mod given;
 mod grammar;
-mod kinds;
 pub mod laws;
 mod letters;
 mod options;

@@ -124,13 +124,13 @@ fn at_end(
     alloc: Global,
     command: Command,
     number: u32,
-    given: GivenOptions,
+    mut given: GivenOptions,
     turn: Turn,
 ) -> Result<CommandOptions, OptionError>
     ensures { Tells (Answers command number given turn []) result }
 {
     match turn {
-        Turn::Free => match put_together(alloc, command, given)? {
+        Turn::Free => match put_together(alloc, command, &mut given)? {
             Some(options) => Ok(options),
             None => Err(OptionError::Fault(OptionFault {
                 word: number,

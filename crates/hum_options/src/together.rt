@@ -20,8 +20,8 @@ use hum_tones::{MintOptions, RecipOptions, SemitsOptions, Transposition};
 use hum_yank::{Markers, YankOptions};
 use std::alloc::{AllocError, Global};
 
-fn choice(mut given: GivenOptions) -> Option<Choice>
-    ensures { option_map choice_of result ≡ choice_meant given }
+fn choice(given: &mut GivenOptions) -> Option<Choice>
+    ensures { option_map choice_of result ≡ choice_meant given.old }
 {
     match given.fields(b'f') {
         Some(ranges) => Some(Choice::Fields(ranges)),
@@ -32,15 +32,15 @@ fn choice(mut given: GivenOptions) -> Option<Choice>
     }
 }
 
-fn extract(given: GivenOptions) -> Option<CommandOptions>
-    ensures { option_map options_of result ≡ meant command.Extract given }
+fn extract(given: &mut GivenOptions) -> Option<CommandOptions>
+    ensures { option_map options_of result ≡ meant command.Extract given.old }
 {
     let choice = choice(given)?;
     Some(CommandOptions::Extract(choice))
 }
 
-fn ditto(mut given: GivenOptions) -> CommandOptions
-    ensures { Some (options_of result) ≡ meant command.Ditto given }
+fn ditto(given: &mut GivenOptions) -> CommandOptions
+    ensures { Some (options_of result) ≡ meant command.Ditto given.old }
 {
     let parentheses = given.has(b'p');
     CommandOptions::Ditto(DittoOptions {
@@ -49,23 +49,23 @@ fn ditto(mut given: GivenOptions) -> CommandOptions
     })
 }
 
-fn timebase(mut given: GivenOptions) -> Option<CommandOptions>
-    ensures { option_map options_of result ≡ meant command.Timebase given }
+fn timebase(given: &mut GivenOptions) -> Option<CommandOptions>
+    ensures { option_map options_of result ≡ meant command.Timebase given.old }
 {
     let options = given.duration(b't')?;
     Some(CommandOptions::Timebase(options))
 }
 
-fn phrase(mut given: GivenOptions) -> Option<Span>
-    ensures { option_map span_of result ≡ phrase_meant given }
+fn phrase(given: &mut GivenOptions) -> Option<Span>
+    ensures { option_map span_of result ≡ phrase_meant given.old }
 {
     let begin = given.pattern(b'b')?;
     let end = given.pattern(b'e')?;
     Some(Span::Phrase(begin, end))
 }
 
-fn span(mut given: GivenOptions) -> Option<Span>
-    ensures { option_map span_of result ≡ span_meant given }
+fn span(given: &mut GivenOptions) -> Option<Span>
+    ensures { option_map span_of result ≡ span_meant given.old }
 {
     match given.count(b'n') {
         Some(count) => Some(Span::Number(count)),
@@ -73,8 +73,8 @@ fn span(mut given: GivenOptions) -> Option<Span>
     }
 }
 
-fn context(mut given: GivenOptions) -> Option<CommandOptions>
-    ensures { option_map options_of result ≡ meant command.Context given }
+fn context(given: &mut GivenOptions) -> Option<CommandOptions>
+    ensures { option_map options_of result ≡ meant command.Context given.old }
 {
     let omit = given.pattern(b'o');
     let span = span(given)?;
@@ -91,16 +91,16 @@ fn transposition(steps: Steps, semitones: Semitones) -> Transposition
     }
 }
 
-fn trans(mut given: GivenOptions) -> Option<CommandOptions>
-    ensures { option_map options_of result ≡ meant command.Trans given }
+fn trans(given: &mut GivenOptions) -> Option<CommandOptions>
+    ensures { option_map options_of result ≡ meant command.Trans given.old }
 {
     let steps = given.steps(b'd')?;
     let semitones = given.semitones(b'c')?;
     Some(CommandOptions::Trans(transposition(steps, semitones)))
 }
 
-fn semits(given: GivenOptions) -> Option<CommandOptions>
-    ensures { option_map options_of result ≡ meant command.Semits given }
+fn semits(given: &GivenOptions) -> Option<CommandOptions>
+    ensures { option_map options_of result ≡ meant command.Semits given.now }
 {
     if given.has(b'x') {
         let ties_left_out = given.has(b't');
@@ -110,8 +110,8 @@ fn semits(given: GivenOptions) -> Option<CommandOptions>
     }
 }
 
-fn mint(mut given: GivenOptions) -> CommandOptions
-    ensures { Some (options_of result) ≡ meant command.Mint given }
+fn mint(given: &mut GivenOptions) -> CommandOptions
+    ensures { Some (options_of result) ≡ meant command.Mint given.old }
 {
     let signless = given.has(b'a');
     let sizeonly = given.has(b'd');
@@ -122,15 +122,15 @@ fn mint(mut given: GivenOptions) -> CommandOptions
     })
 }
 
-fn labels(mut given: GivenOptions) -> Option<Markers>
-    ensures { option_map markers_of result ≡ labels_meant given }
+fn labels(given: &mut GivenOptions) -> Option<Markers>
+    ensures { option_map markers_of result ≡ labels_meant given.old }
 {
     let label = given.label(b's')?;
     Some(Markers::Labels(label))
 }
 
-fn occurrences(mut given: GivenOptions) -> Option<Markers>
-    ensures { option_map markers_of result ≡ occurrences_meant given }
+fn occurrences(given: &mut GivenOptions) -> Option<Markers>
+    ensures { option_map markers_of result ≡ occurrences_meant given.old }
 {
     match given.pattern(b'o') {
         Some(begins) => {
@@ -141,8 +141,8 @@ fn occurrences(mut given: GivenOptions) -> Option<Markers>
     }
 }
 
-fn numbers(mut given: GivenOptions) -> Option<Markers>
-    ensures { option_map markers_of result ≡ numbers_meant given }
+fn numbers(given: &mut GivenOptions) -> Option<Markers>
+    ensures { option_map markers_of result ≡ numbers_meant given.old }
 {
     match given.pattern(b'n') {
         Some(numbered) => Some(Markers::Numbers(numbered)),
@@ -150,8 +150,8 @@ fn numbers(mut given: GivenOptions) -> Option<Markers>
     }
 }
 
-fn markers(given: GivenOptions) -> Option<Markers>
-    ensures { option_map markers_of result ≡ markers_meant given }
+fn markers(given: &mut GivenOptions) -> Option<Markers>
+    ensures { option_map markers_of result ≡ markers_meant given.old }
 {
     if given.has(b'l') {
         Some(Markers::Lines)
@@ -160,16 +160,16 @@ fn markers(given: GivenOptions) -> Option<Markers>
     }
 }
 
-fn yank(mut given: GivenOptions) -> Option<CommandOptions>
-    ensures { option_map options_of result ≡ meant command.Yank given }
+fn yank(given: &mut GivenOptions) -> Option<CommandOptions>
+    ensures { option_map options_of result ≡ meant command.Yank given.old }
 {
     let ranges = given.ranges(b'r')?;
     let markers = markers(given)?;
     Some(CommandOptions::Yank(YankOptions { markers, ranges }))
 }
 
-fn separator(alloc: Global, mut given: GivenOptions) -> Result<Separator, AllocError>
-    ensures { IfOk result (λ separator. separator.text.items ≡ separator_meant given) }
+fn separator(alloc: Global, given: &mut GivenOptions) -> Result<Separator, AllocError>
+    ensures { IfOk result (λ separator. separator.text.items ≡ separator_meant given.old) }
 {
     match given.text(b'd') {
         Some(separator) => Ok(separator),
@@ -177,8 +177,8 @@ fn separator(alloc: Global, mut given: GivenOptions) -> Result<Separator, AllocE
     }
 }
 
-fn cleave(alloc: Global, mut given: GivenOptions) -> Result<Option<CommandOptions>, AllocError>
-    ensures { IfOk result (λ found. option_map options_of found ≡ meant command.Cleave given) }
+fn cleave(alloc: Global, given: &mut GivenOptions) -> Result<Option<CommandOptions>, AllocError>
+    ensures { IfOk result (λ found. option_map options_of found ≡ meant command.Cleave given.old) }
 {
     let Some(name) = given.name(b'i') else {
         return Ok(None);
@@ -194,9 +194,9 @@ fn cleave(alloc: Global, mut given: GivenOptions) -> Result<Option<CommandOption
 pub(crate) fn put_together(
     alloc: Global,
     command: Command,
-    given: GivenOptions,
+    given: &mut GivenOptions,
 ) -> Result<Option<CommandOptions>, AllocError>
-    ensures { IfOk result (λ found. option_map options_of found ≡ meant command given) }
+    ensures { IfOk result (λ found. option_map options_of found ≡ meant command given.old) }
 {
     match command {
         Command::Read | Command::Assemble | Command::Rid => Ok(None),

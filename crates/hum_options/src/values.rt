@@ -1,5 +1,5 @@
 //! What options are given.
-ghost use Rattle.std.specs.Prelude.{◌≡◌, ◌≤◌, nat_abs, true, codes, IfOk};
+ghost use Rattle.std.specs.Prelude.{◌≡◌, ◌≤◌, None, nat_abs, true, codes, IfOk};
 ghost use Rattle.hum_cleave.specs.Cleave.{is_name, fits_in_token};
 
 use hum_context::TokenCount;
@@ -63,4 +63,13 @@ pub(crate) enum Value {
     Steps(Steps),
     Semitones(Semitones),
     Duration(TimebaseOptions),
+}
+
+impl Value {
+    /// Nothing, since the value is of another kind.
+    pub(crate) fn of_another_kind<T: Drop>(self) -> Option<T>
+        ensures { result ≡ None }
+    {
+        None
+    }
 }

@@ -9,7 +9,7 @@ use std::alloc::{AllocError, Global};
 use std::fmt;
 
 /// How a run of a plan's text ends.
-#[derive(Clone, Copy, Debug, PartialEq, Eq)]
+#[derive(Clone, Copy, Debug)]
 pub enum Outcome {
     /// The plan was run.
     Run(RunResult),

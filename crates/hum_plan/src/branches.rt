@@ -10,7 +10,7 @@ use std::marker::Model;
 
 /// A branch: the number of its last stage, whether an `assemble` took it, and its line. Nothing
 /// takes `out`, and it counts as taken.
-#[derive(Clone, Copy, Debug)]
+#[derive(Clone, Copy)]
 pub struct Branch {
     pub last: u8,
     pub taken: bool,

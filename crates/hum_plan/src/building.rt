@@ -220,6 +220,8 @@ impl<'a> Draft<'a> {
             × IsAnswer tool number place.is_last (words_of pieces.entry.now) found
             × (answer ≡ with_command place.line (outline_of self.old) command found)) result }
     {
+        let mut sources = Vec::new(alloc);
+        sources.push(self.stages.len() as u8)?;
         let options = match read_options(alloc, tool, number, pieces, place.is_last) {
             Ok(options) => options,
             Err(OptionError::Fault(found)) => {
@@ -227,8 +229,6 @@ impl<'a> Draft<'a> {
             }
             Err(OptionError::Memory) => return Err(PlanError::Memory),
         };
-        let mut sources = Vec::new(alloc);
-        sources.push(self.stages.len() as u8)?;
         self.push(command, sources, Options::Command(options))?;
         Ok(())
     }

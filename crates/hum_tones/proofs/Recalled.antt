@@ -1,6 +1,15 @@
 -- Answers that are remembered.
 use Rattle.std.proofs.Common.{◌≡◌, ◌≢◌, sym, ap, ℕ, zero, suc, ◌<◌, List, [], ◌∷◌, ◌++◌, length, get_or, set, arith, inl, inr, ◌⊎◌}
-use Rattle.std.specs.Prelude.{Some, slice_get}
+use Rattle.std.specs.Prelude.{Option, None, Some, IfSome, Result, Ok, Err, slice_get}
+use denote.Ref.{Bor}
+use Rattle.hum_record.specs.Row.{Row}
+use Rattle.hum_stage.specs.declared.faults.Rule.{Rule}
+use Rattle.hum_cells.specs.Retelling.{Retelling, Heading}
+use Rattle.hum_cells.specs.Telling.{Knows, Tells}
+use Rattle.hum_tones.specs.declared.giving.Giving.{Giving}
+use Rattle.hum_tones.specs.Giving.{given}
+use Rattle.hum_tones.specs.Subtokens.{IsRetold}
+use Rattle.hum_tones.specs.Commands.{given_under}
 use Rattle.hum_tones.specs.declared.remembered.Place.{Place}
 use Rattle.hum_tones.specs.Remembering.{AllAnswer}
 
@@ -46,3 +55,17 @@ module _ {A : Type 0} (answers : List ℕ → A → Type 0) (places : List (Plac
       there [] i x below is = absurd (omega (arith, below))
       there (y ∷ ys) zero x below is = ap (λ (z : Place A). Some z) (sym is)
       there (y ∷ ys) (suc i) x below is = there ys i x (omega (arith, below)) is
+
+-- a token that became something is told so
+told_so : (becomes : Result (List ℕ) Rule) (text : List ℕ) → IsRetold becomes text None → Tells becomes text None
+told_so (Ok token) text h = (ap Ok (sym h.0), h.1)
+told_so (Err refused) text h = absurd h
+
+-- what is remembered of a token is known of it wherever it stands, where it is all by what its parts give
+pub known_given : (follows : Retelling → List Row → Type 0) (heading : Heading) (giving : Giving) (token : List ℕ)
+    → ((retelling : Retelling) (past : List Row) → follows retelling past → retelling ≡ given_under heading giving)
+    → (result : Option (Bor (List ℕ))) → IfSome result (λ text. IsRetold (given giving token) text.now None)
+    → IfSome result (λ text. Knows follows token text.now)
+known_given follows heading giving token is None h = tt
+known_given follows heading giving token is (Some text) h =
+    λ retelling past above followed. rw (is retelling past followed) (told_so (given giving token) text.now h)

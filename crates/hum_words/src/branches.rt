@@ -6,7 +6,7 @@ use crate::characters::skip_blanks;
 use std::iter::Iterator;
 
 /// A line that is a branch, with its number, from 1, among all lines.
-#[derive(Clone, Copy, Debug)]
+#[derive(Clone, Copy)]
 pub struct Line<'a> {
     pub number: u32,
     pub text: &'a str,
@@ -14,7 +14,7 @@ pub struct Line<'a> {
 }
 
 /// The branches of a plan, in order.
-#[derive(Debug, Drop)]
+#[derive(Drop)]
 pub struct Lines<'a> {
     rest: &'a str,
     number: u32,

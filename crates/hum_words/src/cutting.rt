@@ -15,7 +15,7 @@ use thiserror::Error;
 
 /// A word with its number, from 1, or a bar with the number of the last word before it, 0 where
 /// there is none. Bars aren't counted.
-#[derive(Clone, Copy, Debug)]
+#[derive(Clone, Copy)]
 pub enum Piece<'a> {
     Word(u32, &'a str),
     Bar(u32),

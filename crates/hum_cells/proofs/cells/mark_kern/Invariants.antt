@@ -1,7 +1,7 @@
-use Rattle.std.proofs.Common.{◌≡◌, ◌++◌, drop, map}
+use Rattle.std.proofs.Common.{◌≡◌, take, map}
 use Rattle.hum_path.specs.Spines.{exclusives}
 use Rattle.hum_cells.specs.Retelling.{is_kern}
 use Rattle.hum_cells.proofs.cells.mark_kern.Given as goal
 
 abbrev pub invariant-loop-j : goal.invariant-loop-j
-invariant-loop-j l = l.kern.items ++ map is_kern (drop l.j (exclusives l.paths.path)) ≡ map is_kern (exclusives l.paths.path)
+invariant-loop-j l = l.kern.items ≡ map is_kern (take l.j (exclusives l.paths.path))

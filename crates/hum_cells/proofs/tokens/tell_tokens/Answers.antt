@@ -1,8 +1,26 @@
 use Rattle.std.proofs.Common.{◌≡◌, ◌∙◌, ◌∷◌, refl, length, arith}
 use Rattle.hum_record.specs.Row.{tokens_of, width_of}
 use Rattle.hum_path.specs.Chains.{history}
-use Rattle.hum_cells.proofs.Telling.{done_more, refused_at, done_all, as_wide, wider, last_cell, told_data, fits, too_long}
+use Rattle.hum_cells.proofs.Telling.{done_more, refused_at, done_all, as_wide, wider, last_cell, told_data, fits, too_long, none_done, token_of_data}
 use Rattle.hum_cells.proofs.tokens.tell_tokens.Goals as goal
+
+pub loop-j-init : goal.loop-j-init
+loop-j-init g c = record {
+  kind = c.new-making.ensures.of_kind;
+  told = λ retelling past h kern sound. (h, none_done retelling.becomes _ _ _ c.new-making.ensures);
+}
+
+pub bounds-kern-j : goal.bounds-kern-j
+bounds-kern-j g c =
+    let m = c.requires.score in
+    let wide = as_wide m.past c.args.row.now m.score c.requires.kind in
+    let kerns : length c.args.kern.now ≡ width_of c.args.row.now = rw m.kern_is wide.1 in
+    let width = c.width-j-end.ensures in
+    let at = c.loop-j-test.true in
+    omega (arith, kerns, width, at)
+
+pub push_told-requires-clause-lawful : goal.push_told-requires-clause-lawful
+push_told-requires-clause-lawful g c = token_of_data c.args.row.now _ c.requires.kind c.token.ensures.lawful
 
 pub push_told-requires-clause-column : goal.push_told-requires-clause-column
 push_told-requires-clause-column g c =
