@@ -22,21 +22,12 @@ use std::marker::Model;
 use std::mem;
 
 /// How it is held what null tokens would repeat.
+#[derive(Drop)]
 enum Holding {
     /// The last data record as it was given, and that under it each spine stays where it is.
     Given(Record, Moves),
     /// What is remembered of each column.
     Each(Carried<LastSeen>),
-}
-
-// Written out, so that a caller's proof sees one call and not both ways to remember.
-impl Drop for Holding {
-    fn drop(self) {
-        match self {
-            Holding::Given(_row, _stays) => {}
-            Holding::Each(_each) => {}
-        }
-    }
 }
 
 /// What null tokens would repeat, column by column.
@@ -51,7 +42,7 @@ pub struct Memory {
     spare: Spare,
 }
 
-// Written out, so that a caller's proof sees one call and not the drop of each field.
+// Written out, so that a caller's proof sees one call and not both ways to remember.
 impl Drop for Memory {
     fn drop(self) {
         let Memory {
@@ -196,7 +187,7 @@ impl Memory {
     {
         match row.kind() {
             Kind::Values => self.follow_data(row, given, found),
-            Kind::Interpretation => self.follow_interpretation(row, &found),
+            Kind::Interpretation => self.follow_interpretation(row, found),
             Kind::Local => Ok(()),
             Kind::Global => Ok(()),
         }
@@ -228,25 +219,25 @@ impl Memory {
 
     /// The same of an interpretation.
     #[inline(never)]
-    fn follow_interpretation(&mut self, row: &Record, found: &Moves) -> Result<(), AllocError>
+    fn follow_interpretation(&mut self, row: &Record, found: Moves) -> Result<(), AllocError>
         requires kind { kind_of row.now ≡ Interpretation }
         requires lawful { IsTextOf row.now (text_of row.now) }
-        requires come { ComeFrom row.now found.now }
-        requires score { MayFollow self.old row.now found.now }
+        requires come { ComeFrom row.now found }
+        requires score { MayFollow self.old row.now found }
         ensures options { self.new.options ≡ self.old.options }
-        ensures memories { OnOk result (HasFollowed self.old row.now found.now self.new.each) }
+        ensures memories { OnOk result (HasFollowed self.old row.now found self.new.each) }
     {
         match &mut self.holding {
             Holding::Given(held, stays) => {
-                if leaves_all(row, found, held.width()) {
+                if leaves_all(row, &found, held.width()) {
                     return Ok(());
                 }
                 let mut each = each_of(self.alloc, &mut self.options.skip, held, stays, row)?;
-                each.follow(&mut self.options.skip, row, found)?;
+                each.follow(&mut self.options.skip, row, &found)?;
                 self.holding = Holding::Each(each);
                 Ok(())
             }
-            Holding::Each(each) => each.follow(&mut self.options.skip, row, found),
+            Holding::Each(each) => each.follow(&mut self.options.skip, row, &found),
         }
     }
 }
