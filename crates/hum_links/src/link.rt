@@ -1,5 +1,6 @@
 //! The link of a stage.
-ghost use Rattle.std.specs.Prelude.{◌≡◌, ◌≤◌, ℕ, true, is_none, IfOk};
+ghost use Rattle.std.specs.Prelude.{◌≡◌, ◌≤◌, ℕ, true, is_none, is_some, IfOk, ◌||◌};
+ghost use Rattle.std.specs.Prelude.{nat_lt, length};
 ghost use Rattle.hum_turns.specs.Links.{fresh, linked, has_room, has_some};
 ghost use Rattle.hum_turns.specs.Turns.{pushed, popped};
 ghost use Rattle.hum_links.specs.Traffic.{Traffic, ended};
@@ -91,7 +92,15 @@ impl Link {
     pub fn has_some(&self) -> bool
         ensures { Tells self.now result (λ size l. has_some l) }
     {
-        self.heard.is_none() && (self.waiting.len() > 0 || self.mark.is_some())
+        self.heard.is_none() && self.has_more()
+    }
+
+    /// The same of a link whose end wasn't heard.
+    #[inline(always)]
+    pub fn has_more(&self) -> bool
+        ensures { Tells self.now result (λ size l. nat_lt 0 (length l.waiting) || is_some l.mark) }
+    {
+        self.waiting.len() > 0 || self.mark.is_some()
     }
 
     /// Whether the stage has set no end yet.

@@ -1,9 +1,10 @@
 -- What a web tells of who is ready.
 use Rattle.std.proofs.Common.{◌≡◌, ◌∙◌, ℕ, ◌<◌, ◌≤◌, Bool, true, false, List, length, Some, ◌&&◌}
-use Rattle.std.proofs.Common.{is_none, sym, ap, arith, slice_get, slice_index, get_or}
+use Rattle.std.proofs.Common.{is_none, is_some, ◌||◌, nat_lt, None, sym, ap, subst, arith, slice_get, slice_index, get_or}
 use Rattle.hum_turns.specs.Links.{has_room, has_some}
 use Rattle.hum_turns.specs.Turns.{state, can, ready}
 use Rattle.hum_turns.proofs.Near.{ready_reader}
+use Rattle.hum_turns.proofs.States.{reads_bytes, wanted}
 use Rattle.hum_stage.specs.declared.faults.End.{End}
 use Rattle.hum_nodes.specs.declared.node.Doing.{Doing}
 use Rattle.hum_nodes.specs.declared.node.Doing.TheVariants as does
@@ -33,13 +34,6 @@ module _ {F W : Type 0} (stands : Node F W → List ℕ → At → Type 0) (k : 
       tells s.size (s.links k) (a.at.stand.links k link (about_link link e))
       ∙ sym (ap (can s.size s.links k) (state_gives s s.links k a.less (a.does ∙ is)))
 
-  pub room_reads : (link : port.Link) (b : Bool) → doing ≡ does.Reads
-      → link ≡ get_or web.links.items k link → Tells link b has_room
-      → b ≡ can s.size s.links k (state (plan_of s) s.links k)
-  room_reads link b is e tells =
-      tells s.size (s.links k) (a.at.stand.links k link (about_link link e))
-      ∙ sym (ap (can s.size s.links k) (state_reads s s.links k a.less (a.does ∙ is)))
-
   pub unset_ends : (link : port.Link) (b : Bool) (end : End) → doing ≡ does.Done end
       → link ≡ get_or web.links.items k link → Tells link b (λ size l. is_none l.mark)
       → b ≡ can s.size s.links k (state (plan_of s) s.links k)
@@ -61,13 +55,26 @@ module _ {F W : Type 0} (stands : Node F W → List ℕ → At → Type 0) (k : 
 
   pub some_takes : (place i : ℕ) (link : port.Link) (b : Bool) → doing ≡ does.Wants place
       → i ≡ slice_index (s.kinds k).stage.sources place
-      → link ≡ get_or web.links.items i link → Tells link b (λ size l. has_some l)
+      → link ≡ get_or web.links.items i link
+      → Tells link b (λ size l. nat_lt 0 (length l.waiting) || is_some l.mark)
       → b ≡ can s.size s.links k (state (plan_of s) s.links k)
   some_takes place i link b is e value tells =
       let at = nth web.links.items i link (within_links place i is e) value in
+      let takes = state_takes s s.links k place a.less (a.does ∙ is) in
+      let unheard : (s.links i).heard ≡ None =
+      subst (λ j. (s.links j).heard ≡ None) (sym e)
+      (wanted (plan_of s) a.at.reached.ok s.links k (slice_index (s.kinds k).stage.sources place) a.less takes).unheard in
       tells s.size (s.links i) (a.at.stand.links i link at)
+      ∙ sym (ap (λ o. is_none o && (nat_lt 0 (length (s.links i).waiting) || is_some (s.links i).mark)) unheard)
       ∙ ap (λ j. has_some (s.links j)) e
       ∙ sym (ap (can s.size s.links k) (state_takes s s.links k place a.less (a.does ∙ is)))
+
+  -- it never reads
+  pub never : doing ≡ does.Reads → ⊥
+  never is =
+      let n = reads_bytes (plan_of s) a.at.reached.ok s.links k a.less (state_reads s s.links k a.less (a.does ∙ is)) in
+      let none = a.bytes in
+      omega (arith, n, none)
 
   pub touched_gives : doing ≡ does.Gives → k ≡ touched k (state (plan_of s) s.links k)
   touched_gives is = sym (ap (touched k) (state_gives s s.links k a.less (a.does ∙ is)))

@@ -415,11 +415,13 @@ impl<F: Feeds, W: Works> Web<F, W> {
             → result ≡ can s.size s.links k (state (plan_of s) s.links k) }
     {
         match kind {
-            DoingKind::Gives | DoingKind::Reads => self.links[k].has_room(),
-            DoingKind::Done => self.links[k].is_unset(),
+            DoingKind::Gives => self.links[k].has_room(),
+            // it never reads
+            DoingKind::Done | DoingKind::Reads => self.links[k].is_unset(),
+            // while it wants more, it hasn't heard the end
             DoingKind::Wants(place) => {
                 let source = self.nodes[k].source(place);
-                self.links[source].has_some()
+                self.links[source].has_more()
             }
         }
     }

@@ -5,7 +5,7 @@ use Rattle.hum_net.specs.Scene.{at_of}
 use Rattle.hum_net.proofs.Feeding.{node_at}
 use Rattle.hum_net.proofs.Acting.{any_rest}
 use Rattle.hum_net.proofs.Doings.{gives_of, reads_of, wants_of, done_of, about_it}
-use Rattle.hum_net.proofs.Readying.{room_gives, room_reads, unset_ends, within_place, within_links, some_takes}
+use Rattle.hum_net.proofs.Readying.{room_gives, unset_ends, within_place, within_links, some_takes, never}
 use Rattle.hum_net.proofs.web.Web.can.Goals as goal
 
 pub source-source-requires-clause-place : goal.source-source-requires-clause-place
@@ -48,13 +48,8 @@ returns-in-Gives g c s a =
     let k = c.args.k in
     let stands = StandsAs g.F.Feeds.stands g.W.Works.stands in
     let b = about_it stands k c.args.kind web s a in
-    let doing = doing_of (at_of s.kinds s.links k) in
-    ⊎_elim
-    (λ is. room_gives stands k web doing s b c.index.result.now c.has_room.result (gives_of _ (a.does ∙ is))
-    c.index.ensures c.has_room.ensures.has_room)
-    (λ is. room_reads stands k web doing s b c.index.result.now c.has_room.result (reads_of _ (a.does ∙ is))
-    c.index.ensures c.has_room.ensures.has_room)
-    c.in-Gives.is
+    room_gives stands k web (doing_of (at_of s.kinds s.links k)) s b c.index.result.now c.has_room.result
+    (gives_of _ (a.does ∙ c.in-Gives.is)) c.index.ensures c.has_room.ensures.has_room
 
 pub returns-in-Wants : goal.returns-in-Wants
 returns-in-Wants g c s a =
@@ -67,8 +62,8 @@ returns-in-Wants g c s a =
     let e = c.source-source.ensures (s.rests k) (at_of s.kinds s.links k)
     (a.at.stand.nodes k node there) in
     some_takes stands k web (doing_of (at_of s.kinds s.links k)) s b c.in-Wants.place c.source-source.result
-    c.index-in-Wants-2.result.now c.has_some.result (wants_of _ _ (a.does ∙ c.in-Wants.is)) e c.index-in-Wants-2.ensures
-    c.has_some.ensures
+    c.index-in-Wants-2.result.now c.has_more.result (wants_of _ _ (a.does ∙ c.in-Wants.is)) e c.index-in-Wants-2.ensures
+    c.has_more.ensures
 
 pub returns-in-Done : goal.returns-in-Done
 returns-in-Done g c s a =
@@ -76,6 +71,11 @@ returns-in-Done g c s a =
     let k = c.args.k in
     let stands = StandsAs g.F.Feeds.stands g.W.Works.stands in
     let b = about_it stands k c.args.kind web s a in
-    let d = done_of _ (a.does ∙ c.in-Done.is) in
-    unset_ends stands k web (doing_of (at_of s.kinds s.links k)) s b c.index-in-Done.result.now
-    c.is_unset.result d.0 d.1 c.index-in-Done.ensures c.is_unset.ensures
+    let doing = doing_of (at_of s.kinds s.links k) in
+    ⊎_elim
+    (λ is.
+    let d = done_of _ (a.does ∙ is) in
+    unset_ends stands k web doing s b c.index-in-Done.result.now c.is_unset.result d.0 d.1 c.index-in-Done.ensures
+    c.is_unset.ensures)
+    (λ is. absurd (never stands k web doing s b (reads_of _ (a.does ∙ is))))
+    c.in-Done.is
