@@ -61,22 +61,21 @@ grep -v '^== \|^statements \|^library \|^logic\|^crate \|^checked \|^axioms \|^s
 echo "not built: the whole log is $(log)"
 endef
 
-# The crates that most others wait for are proved one after another, and beside them, in two rows, some that stand on none of
-# these; then all others side by side, each as soon as it can be; then the program, by one job: each further one loads all
-# libraries, and with four it takes half as long again.
+# The crates that most others wait for are proved one after another, and beside them some that stand on none of these; all
+# others side by side, each as soon as it can be, and hum_line, which none of them uses, while these begin; then the program,
+# by one job: each further one loads all libraries, and with four it takes half as long again.
 define prove
 alone() { for crate; do echo "== $$crate"; (cd crates/$$crate && rt lib) || return; done; }; \
 together() { (cd crates/$$1 && rt all check --jobs $(JOBS)); }; \
-beside() ( \
-	row=$$1; told=$(log).$${row%% *}; \
-	alone $$row >$$told 2>&1 & other=$$!; \
+beside() { \
+	alone $$1 >$(log).beside 2>&1 & other=$$!; \
 	shift; "$$@"; one=$$?; \
-	wait $$other; other=$$?; cat $$told; rm -f $$told; \
+	wait $$other; other=$$?; cat $(log).beside; \
 	test $$one = 0 && test $$other = 0; \
-); \
+}; \
 trap 'kill 0' INT; \
-beside 'hum_pattern hum_kern' beside 'hum_text hum_words hum_line' alone hum_record hum_path hum_stage && \
-together hum_pipeline && echo '== humpipe' && (cd crates/humpipe && rt check --jobs 1)
+beside 'hum_pattern hum_kern' alone hum_record hum_path hum_stage && beside hum_line together hum_pipeline && \
+echo '== humpipe' && (cd crates/humpipe && rt check --jobs 1)
 endef
 
 humpipe: crates.txt $(files)
