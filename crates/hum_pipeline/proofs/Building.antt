@@ -1,5 +1,5 @@
 -- Nodes, one after another.
-use Rattle.std.proofs.Common.{◌≡◌, ◌∙◌, refl, sym, subst, ℕ, suc, ◌+◌, true, List, [], ◌∷◌, ◌++◌, length, arith}
+use Rattle.std.proofs.Common.{◌≡◌, ◌∙◌, refl, sym, subst, ℕ, suc, ◌+◌, Bool, true, List, [], ◌∷◌, ◌++◌, length, arith}
 use Rattle.std.proofs.Common.{length-append}
 use Rattle.hum_plan.specs.declared.stages.PlanStage.{PlanStage}
 use Rattle.hum_pipeline.specs.Nodes.{AllFrom, AreNarrow, HasAdded, reads_of}
@@ -28,7 +28,7 @@ all_length Holds k (s ∷ stages) (n ∷ nodes) h =
     let rest = all_length Holds (suc k) stages nodes h.1 in omega arith
 
 -- The nodes of the first stages were made, and the others are left.
-pub record Built (made : List PlanStage → Type 0)
+pub record Built (may : Bool) (made : List PlanStage → Type 0)
     (old now : (ℕ → List ℕ) → List PlanStage → Type 0) (left : ℕ) (all rest : List PlanStage)
     : Type 0 where
   pub front : List PlanStage
@@ -36,7 +36,7 @@ pub record Built (made : List PlanStage → Type 0)
   pub made_front : made front
   pub told : (bytes : ℕ → List ℕ) → old bytes [] → now bytes front
   pub readers : reads_of rest ≡ left
-  pub narrow : AreNarrow rest
+  pub narrow : AreNarrow may rest
 
 -- a node more is made, of the stage that is next
 pub added : {N : Type 0} (Holds : ℕ → PlanStage → N → Type 0) (Tell : (ℕ → List ℕ) → ℕ → PlanStage → N → Type 0)

@@ -1,7 +1,7 @@
 -- The stages of a plan are a tree of parts.
 use Rattle.std.proofs.Common.{◌≡◌, refl, ap, subst, ℕ, zero, suc, pred, ◌+◌, ◌<◌, ◌≤◌, Bool, true, false}
 use Rattle.std.proofs.Common.{List, [], ◌∷◌, ◌++◌, length, map, arith, cond}
-use Rattle.std.specs.Prelude.{◌==◌, Some, slice_get, option_map}
+use Rattle.std.specs.Prelude.{◌==◌, ◌||◌, Some, slice_get, option_map}
 use Rattle.std.specs.List.{AllByRecursion}
 use Rattle.std.proofs.lemmas.Option.{slice_get-map}
 use Rattle.std.proofs.lemmas.Bool.Decides.{nat_tests}
@@ -11,13 +11,15 @@ use Rattle.hum_nodes.specs.Fine.{fine}
 use Rattle.hum_nodes.proofs.SingleLaws as single
 use Rattle.hum_nodes.proofs.MergingLaws as merging
 use Rattle.hum_nodes.proofs.ReadingLaws as reading
+use Rattle.hum_plan.specs.declared.stages.Options.{Options as WrittenOptions}
+use Rattle.hum_plan.specs.declared.stages.Options.TheVariants as told
 use Rattle.hum_plan.specs.declared.stages.PlanStage.{PlanStage}
 use Rattle.hum_plan.specs.Stages.{Stage, Options, Read, Assemble, Takes, MayHave, drops_interpretations}
 use Rattle.hum_plan.specs.Stages.{all_sources, times}
 use Rattle.hum_plan.specs.Stages as plan
 use Rattle.hum_plan.specs.Seen.{stages_of, stage_of, options_of}
 use Rattle.hum_trees.specs.Trees.{part_at, kind_of, kind_at, sources_of, IsPart, IsRead, IsReadAt, IsTree}
-use Rattle.hum_pipeline.specs.Nodes.{AreNarrow}
+use Rattle.hum_pipeline.specs.Nodes.{AreNarrow, MayBe, is_assemble, merges}
 use Rattle.hum_pipeline.specs.Commands.{means}
 use Rattle.hum_pipeline.specs.Parts.{part_by, part_of, parts_from, parts_of, first_of, IsSoundBy, AreSoundFrom, AllGiveScores}
 
@@ -330,15 +332,29 @@ pub stage_there : (stages : List PlanStage) (k : ℕ) (stage : PlanStage) → sl
     → slice_get (stages_of stages) k ≡ Some (stage_of stage)
 stage_there stages k stage e = rw (slice_get-map stage_of stages k, e) refl
 
-are_narrow_at : (stages : List PlanStage) → ((k : ℕ) (stage : PlanStage) → slice_get stages k ≡ Some stage
-    → length stage.sources.items ≤ 15) → AreNarrow stages
-are_narrow_at [] h = tt
-are_narrow_at (stage ∷ stages) h = (h 0 stage refl, are_narrow_at stages (λ k s e. h (suc k) s e))
+may_be : (may : Bool) (options : WrittenOptions) → (is_assemble options ≡ true → may ≡ true) → MayBe may options
+may_be may (told.Read name) h = tt
+may_be may told.Assemble h = h refl
+may_be may (told.Command options) h = tt
 
-pub are_narrow : (stages : List PlanStage) → plan.IsTree (stages_of stages) → AreNarrow stages
-are_narrow stages h =
-    are_narrow_at stages (λ k stage e. narrow (options_of stage.options) (length stage.sources.items)
-    (h.counts k (stage_of stage) (stage_there stages k stage e)))
+or_right : (a b : Bool) → b ≡ true → (a || b) ≡ true
+or_right true b e = refl
+or_right false b e = e
+
+are_narrow_at : (may : Bool) (stages : List PlanStage)
+    → ((k : ℕ) (stage : PlanStage) → slice_get stages k ≡ Some stage → length stage.sources.items ≤ 15)
+    → (merges stages ≡ true → may ≡ true) → AreNarrow may stages
+are_narrow_at may [] h m = tt
+are_narrow_at may (stage ∷ stages) h m = (
+  (h 0 stage refl, may_be may stage.options (λ e. m (ap (λ b. b || merges stages) e))),
+  are_narrow_at may stages (λ k s e. h (suc k) s e) (λ e. m (or_right (is_assemble stage.options) _ e)),
+)
+
+pub are_narrow : (may : Bool) (stages : List PlanStage) → plan.IsTree (stages_of stages)
+    → (merges stages ≡ true → may ≡ true) → AreNarrow may stages
+are_narrow may stages h m =
+    are_narrow_at may stages (λ k stage e. narrow (options_of stage.options) (length stage.sources.items)
+    (h.counts k (stage_of stage) (stage_there stages k stage e))) m
 
 -- Where all stages give scores, so does the last.
 keeps : (k : ℕ) (bytes sources : List ℕ) (options : Options) → IsSoundBy (k + 1) options

@@ -1,6 +1,7 @@
 -- The stages of a plan as nodes of a net.
 use Rattle.std.specs.Prelude.{◌≡◌, ℕ, suc, ◌+◌, ◌≤◌, length, Bool, true, false, List, []}
 use Rattle.std.specs.Prelude.{◌∷◌, ◌++◌, Option, Some}
+use Rattle.std.specs.List.{list_any}
 use Rattle.hum_nodes.specs.At.{At, fresh}
 use Rattle.hum_nodes.specs.declared.either.Node.{Node}
 use Rattle.hum_nodes.specs.declared.either.Node.TheVariants.{Source, Stage}
@@ -73,7 +74,23 @@ HasAdded made_old made told_old told old new true = (stage : PlanStage) × (old 
     × ((bytes : ℕ → List ℕ) (front : List PlanStage) → made_old front → told_old bytes front
     → told bytes (front ++ stage ∷ []))
 
--- no stage reads from more than 15 others
-abbrev pub AreNarrow : List PlanStage → Type 0
-AreNarrow [] = Unit {0}
-AreNarrow (stage ∷ stages) = (length stage.sources.items ≤ 15) × AreNarrow stages
+-- whether a stage puts scores side by side, and whether one of some stages does
+abbrev pub is_assemble : Options → Bool
+is_assemble told.Assemble = true
+is_assemble _ = false
+
+abbrev pub merges : List PlanStage → Bool
+merges = list_any (λ stage. is_assemble stage.options)
+
+-- where assemble may be among the stages, or not
+abbrev pub MayBe : Bool → Options → Type 0
+MayBe may told.Assemble = may ≡ true
+MayBe may _ = Unit {0}
+
+-- a stage that may be there, and reads from no more than 15 others
+abbrev pub IsNarrow : Bool → PlanStage → Type 0
+IsNarrow may stage = (length stage.sources.items ≤ 15) × MayBe may stage.options
+
+abbrev pub AreNarrow : Bool → List PlanStage → Type 0
+AreNarrow may [] = Unit {0}
+AreNarrow may (stage ∷ stages) = IsNarrow may stage × AreNarrow may stages

@@ -1,6 +1,6 @@
 //! The stages of a plan as nodes of a net.
 ghost use Rattle.std.specs.Prelude.{◌≡◌, ◌≤◌, ◌<◌, ◌+◌, ℕ, pred, List, ◌∷◌, ◌++◌, [], map, length};
-ghost use Rattle.std.specs.Prelude.{IfOk, OnOk};
+ghost use Rattle.std.specs.Prelude.{IfOk, OnOk, Bool, true, false};
 ghost use Rattle.hum_stage.specs.Meaning.{Meaning, opening, IsLawful};
 ghost use Rattle.hum_nodes.specs.At.{fresh};
 ghost use Rattle.hum_nodes.specs.Nodes.{StandsAs};
@@ -12,7 +12,7 @@ ghost use Rattle.hum_plan.specs.Seen.{stages_of};
 ghost use Rattle.hum_pipeline.specs.Commands.{means};
 ghost use Rattle.hum_pipeline.specs.Parts.{first_of, IsSoundBy};
 ghost use Rattle.hum_pipeline.specs.Nodes.{AllFrom, Fits, Tells, AreTold, AreNarrow, HasAdded};
-ghost use Rattle.hum_pipeline.specs.Nodes.{reads_by, reads_of};
+ghost use Rattle.hum_pipeline.specs.Nodes.{reads_by, reads_of, merges, IsNarrow};
 ghost use Rattle.hum_plan.specs.declared.stages.PlanStage.{PlanStage};
 
 use hum_command_stages::CommandStage;
@@ -24,11 +24,52 @@ use hum_text::calls::Source;
 use std::alloc::{AllocError, Global};
 use std::collections::VecDeque;
 
-/// A stage of others as a node.
-pub type StageNode = Worker<CommandStage>;
-
 /// A stage of a plan as a node: a score that is read, or a stage of others.
-pub type PlanNode<R> = Node<Reading<R>, StageNode>;
+pub type PlanNode<R, N> = Node<Reading<R>, N>;
+
+/// What the stages of others of a plan are as nodes: where assemble isn't among them, no turn asks
+/// which of the two a stage is.
+pub(crate) trait StageNode<S: Stage>: Works {
+    /// Whether assemble may be among them.
+    ghost merges: { Bool };
+
+    /// The node of a command that was put nothing yet, and reads from the stage of this number, from 0.
+    fn command(stage: S, from: usize) -> Self
+        ensures { (m : Meaning) → S.stands stage (opening m)
+            → Self.stands result (fresh (single from m)) };
+
+    /// The node of assemble as stage `number`, from 1, which reads from the stages of these numbers,
+    /// from 0.
+    fn assemble(alloc: Global, number: u8, from: Vec<usize>) -> Result<Self, AllocError>
+        requires may { merges ≡ true }
+        requires narrow { length from.items ≤ 15 }
+        ensures { IfOk result (λ node. Self.stands node (fresh (merging number from.items))) };
+}
+
+impl<S: Stage + Drop> StageNode<S> for Single<S> {
+    ghost merges = { false };
+
+    fn command(stage: S, from: usize) -> Single<S> {
+        Single::new(stage, from)
+    }
+
+    fn assemble(_alloc: Global, _number: u8, _from: Vec<usize>) -> Result<Single<S>, AllocError> {
+        unreachable!()
+    }
+}
+
+impl<S: Stage + Drop> StageNode<S> for Worker<S> {
+    ghost merges = { true };
+
+    fn command(stage: S, from: usize) -> Worker<S> {
+        Worker::Single(Single::new(stage, from))
+    }
+
+    fn assemble(alloc: Global, number: u8, from: Vec<usize>) -> Result<Worker<S>, AllocError> {
+        let node = Merging::new(alloc, number, from)?;
+        Ok(Worker::Merging(Asked::new(node)))
+    }
+}
 
 /// A stage's number, counted from 0 in place of 1.
 fn from_zero(number: u8) -> usize
@@ -63,25 +104,34 @@ fn is_lawful<S: Stage>(stage: &S)
 }
 
 /// The node of a command.
-fn command_node(alloc: Global, number: u8, sources: &[u8], options: CommandOptions) -> StageNode
-    ensures stands { ⟦<Worker<CommandStage> as Works>⟧.stands result
+fn command_node<N: StageNode<CommandStage>>(
+    alloc: Global,
+    number: u8,
+    sources: &[u8],
+    options: CommandOptions,
+) -> N
+    ensures stands { N.stands result
         (fresh (single (first_of sources.now) (means number (options_of options)))) }
     ensures sound { IsSoundBy number (Takes (options_of options)) }
 {
     let stage = CommandStage::new(alloc, number, options);
     is_lawful(&stage);
-    Worker::Single(Single::new(stage, first_from_zero(sources)))
+    N::command(stage, first_from_zero(sources))
 }
 
 /// The node of assemble.
-fn merging_node(alloc: Global, number: u8, sources: &[u8]) -> Result<StageNode, AllocError>
-    requires { length sources.now ≤ 15 }
-    ensures { IfOk result (λ node. ⟦<Worker<CommandStage> as Works>⟧.stands node
+fn merging_node<N: StageNode<CommandStage>>(
+    alloc: Global,
+    number: u8,
+    sources: &[u8],
+) -> Result<N, AllocError>
+    requires may { N.merges ≡ true }
+    requires narrow { length sources.now ≤ 15 }
+    ensures { IfOk result (λ node. N.stands node
         (fresh (merging number (map pred sources.now)))) }
 {
     let from = all_from_zero(alloc, sources)?;
-    let node = Merging::new(alloc, number, from)?;
-    Ok(Worker::Merging(Asked::new(node)))
+    N::assemble(alloc, number, from)
 }
 
 /// What makes the nodes of a plan's stages, one after another.
@@ -99,11 +149,14 @@ trait Builds {
     /// How many readers are left.
     ghost readers: { Self → ℕ };
 
+    /// Whether a stage may be assemble.
+    ghost merges: { Bool };
+
     /// Makes the node of the next stage, if there is one.
     fn add(&mut self) -> Result<bool, AllocError>
         requires few { (front : List PlanStage) × made self.old front
             × (length front + length (rest self.old) ≤ 64) }
-        requires narrow { AreNarrow (rest self.old) }
+        requires narrow { AreNarrow merges (rest self.old) }
         requires readers { reads_of (rest self.old) ≡ readers self.old }
         ensures added { IfOk result (λ more. HasAdded (made self.old) (made self.new)
             (told self.old) (told self.new) (rest self.old) (rest self.new) more) }
@@ -111,25 +164,25 @@ trait Builds {
 }
 
 /// The readers that are left, and the nodes that were made.
-struct Builder<R> {
+struct Builder<R, N> {
     alloc: Global,
     stages: VecDeque<PlanStage>,
     readers: VecDeque<R>,
-    nodes: Vec<PlanNode<R>>,
+    nodes: Vec<PlanNode<R, N>>,
 }
 
-impl<R: Source + Drop> Builder<R> {
+impl<R: Source + Drop, N: StageNode<CommandStage>> Builder<R, N> {
     /// The node of stage `k`, from 0, whose reader comes first among those that are left.
-    fn node(&mut self, k: usize, stage: PlanStage) -> Result<PlanNode<R>, AllocError>
+    fn node(&mut self, k: usize, stage: PlanStage) -> Result<PlanNode<R, N>, AllocError>
         requires few { k < 64 }
-        requires narrow { length stage.sources.items ≤ 15 }
+        requires narrow { IsNarrow N.merges stage }
         requires reader { reads_by stage.options ≤ length self.old.readers.items }
         ensures left { length self.new.readers.items + reads_by stage.options
             ≡ length self.old.readers.items }
         ensures nodes { self.new.nodes ≡ self.old.nodes }
         ensures stages { self.new.stages ≡ self.old.stages }
         ensures fits { IfOk result (Fits (StandsAs ⟦<Reading<R> as Feeds>⟧.stands
-            ⟦<Worker<CommandStage> as Works>⟧.stands) k stage) }
+            N.stands) k stage) }
         ensures told { IfOk result (λ made. (bytes : ℕ → List ℕ) (stages : List PlanStage)
             → AreTold R.remaining bytes k (stage ∷ stages) self.old.readers.items
             → Tells ⟦<Reading<R> as Feeds>⟧.remaining ⟦<Reading<R> as Feeds>⟧.ended bytes k stage made
@@ -154,9 +207,9 @@ impl<R: Source + Drop> Builder<R> {
     }
 }
 
-impl<R: Source + Drop> Builds for Builder<R> {
+impl<R: Source + Drop, N: StageNode<CommandStage>> Builds for Builder<R, N> {
     ghost made = { λ s front. AllFrom (Fits (StandsAs ⟦<Reading<R> as Feeds>⟧.stands
-        ⟦<Worker<CommandStage> as Works>⟧.stands)) 0 front s.nodes.items };
+        N.stands)) 0 front s.nodes.items };
 
     ghost told = { λ s bytes front. AllFrom (Tells ⟦<Reading<R> as Feeds>⟧.remaining
         ⟦<Reading<R> as Feeds>⟧.ended bytes) 0 front s.nodes.items
@@ -165,6 +218,8 @@ impl<R: Source + Drop> Builds for Builder<R> {
     ghost rest = { λ s. s.stages.items };
 
     ghost readers = { λ s. length s.readers.items };
+
+    ghost merges = { N.merges };
 
     fn add(&mut self) -> Result<bool, AllocError> {
         let Some(stage) = self.stages.pop_front() else {
@@ -180,6 +235,7 @@ impl<R: Source + Drop> Builds for Builder<R> {
 /// Makes the nodes of all stages of a plan.
 fn build_all<B: Builds>(builder: &mut B) -> Result<(), AllocError>
     requires tree { IsTree (stages_of (B.rest builder.old)) }
+    requires merges { merges (B.rest builder.old) ≡ true → B.merges ≡ true }
     requires readers { reads_of (B.rest builder.old) ≡ B.readers builder.old }
     requires none { B.made builder.old [] }
     ensures made { OnOk result (B.made builder.new (B.rest builder.old)) }
@@ -194,15 +250,16 @@ fn build_all<B: Builds>(builder: &mut B) -> Result<(), AllocError>
 }
 
 /// The nodes of a plan's stages, with a reader for each that reads a score, in their order.
-pub(crate) fn plan_nodes<R: Source + Drop>(
+pub(crate) fn plan_nodes<R: Source + Drop, N: StageNode<CommandStage>>(
     alloc: Global,
     stages: Vec<PlanStage>,
     readers: Vec<R>,
-) -> Result<Vec<PlanNode<R>>, AllocError>
+) -> Result<Vec<PlanNode<R, N>>, AllocError>
     requires tree { IsTree (stages_of stages.items) }
+    requires merges { merges stages.items ≡ true → N.merges ≡ true }
     requires readers { reads_of stages.items ≡ length readers.items }
     ensures fits { IfOk result (λ nodes. AllFrom (Fits (StandsAs ⟦<Reading<R> as Feeds>⟧.stands
-        ⟦<Worker<CommandStage> as Works>⟧.stands)) 0 stages.items nodes.items) }
+        N.stands)) 0 stages.items nodes.items) }
     ensures told { IfOk result (λ nodes. (bytes : ℕ → List ℕ)
         → AreTold R.remaining bytes 0 stages.items readers.items
         → AllFrom (Tells ⟦<Reading<R> as Feeds>⟧.remaining ⟦<Reading<R> as Feeds>⟧.ended bytes) 0

@@ -9,5 +9,5 @@ stages-init g c = record {
   made_front = c.requires.none;
   told = λ bytes t. t;
   readers = c.requires.readers;
-  narrow = are_narrow _ c.requires.tree;
+  narrow = are_narrow _ _ c.requires.tree c.requires.merges;
 }

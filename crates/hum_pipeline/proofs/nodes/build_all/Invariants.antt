@@ -7,5 +7,5 @@ decreases-stages g l = length (g.B.Builds.rest l.builder)
 
 abbrev pub invariant-stages : goal.invariant-stages
 invariant-stages g l =
-    Built (g.B.Builds.made l.builder) (g.B.Builds.told l.initial.builder) (g.B.Builds.told l.builder)
+    Built g.B.Builds.merges (g.B.Builds.made l.builder) (g.B.Builds.told l.initial.builder) (g.B.Builds.told l.builder)
     (g.B.Builds.readers l.builder) (g.B.Builds.rest l.initial.builder) (g.B.Builds.rest l.builder)

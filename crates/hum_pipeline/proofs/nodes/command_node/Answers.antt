@@ -3,11 +3,11 @@ use Rattle.hum_pipeline.proofs.Meaning.{means_is, is_sound}
 use Rattle.hum_pipeline.proofs.nodes.command_node.Goals as goal
 
 pub returns-clause-stands : goal.returns-clause-stands
-returns-clause-stands c =
-    let stands = c.new.ensures (meaning c.args.number c.args.options) c.new-stage.ensures.stands in
+returns-clause-stands g c =
+    let stands = c.command.ensures (meaning c.args.number c.args.options) c.new-stage.ensures.stands in
     rw (← means_is c.args.number c.args.options, ← c.first_from_zero.ensures) stands
 
 pub returns-clause-sound : goal.returns-clause-sound
-returns-clause-sound c =
+returns-clause-sound g c =
     let lawful = c.is_lawful.ensures (meaning c.args.number c.args.options) c.new-stage.ensures.stands in
     is_sound c.args.number c.args.options lawful c.new-stage.ensures.keeps

@@ -1,8 +1,8 @@
-use Rattle.std.proofs.Common.{◌<◌, arith, refl, inl, inr}
+use Rattle.std.proofs.Common.{◌≡◌, ◌||◌, ◌<◌, true, false, arith, refl, inl, inr}
 use Rattle.hum_pipeline.proofs.Going.{scene_of, first_now, is_first, all_tell, all_begun, net_at}
 use Rattle.hum_pipeline.proofs.Going.{has_written, is_valid, nothing_written, lawful_tree, few_nodes, no_read_failed}
 use Rattle.hum_plan.specs.Seen.{stages_of}
-use Rattle.hum_pipeline.proofs.running.run_stages.Goals as goal
+use Rattle.hum_pipeline.proofs.running.run_nodes.Goals as goal
 
 pub new-requires : goal.new-requires
 new-requires g c =
@@ -64,3 +64,7 @@ returns-in-Ok-new-clause-marked g c =
 pub returns-in-Ok-new-clause-unread : goal.returns-in-Ok-new-clause-unread
 returns-in-Ok-new-clause-unread g c = λ never k.
     no_read_failed _ (λ f. never f.inner.lines.source) _ _ k _ (c.run-result.ensures.reads c.in-Ok-new.ensures.failure k)
+
+pub returns-in-Err-clause-marked : goal.returns-in-Err-clause-marked
+returns-in-Err-clause-marked g c =
+    rw c.in-Err.ensures.err (elim (g.W.Sink.failed c.args.sink) as (λ b. b ≡ (b || false)) [ | true ↦ refl | false ↦ refl ])
