@@ -90,6 +90,13 @@ module _ {F W : Type 0} (stands : Node F W → List ℕ → At → Type 0) (k : 
       → node ≡ get_or web.nodes.items k node → slice_get web.nodes.items k ≡ Some node
   node_at node less st e = let n = st.count in nth web.nodes.items k node (omega arith) e
 
+  -- one that reads from others
+  pub stage_at : (it : Node F W) (stage : W) → k < s.count → Stands stands web s
+      → it ≡ get_or web.nodes.items k it → it ≡ node.Stage stage
+      → slice_get web.nodes.items k ≡ Some (node.Stage stage)
+  stage_at it stage less st e is =
+      subst (λ n. slice_get web.nodes.items k ≡ Some n) is (node_at it less st e)
+
   pub node_of : k < s.count → Stands stands web s
       → (node : Node F W) × (slice_get web.nodes.items k ≡ Some node)
   node_of less st =

@@ -1,10 +1,9 @@
 -- Who is known not to be ready, right of the actor that is asked.
-use Rattle.std.proofs.Common.{◌≡◌, ◌≢◌, ◌∙◌, ℕ, suc, ◌+◌, ◌<◌, ◌≤◌, ◌⊎◌, Bool, true, false, None}
+use Rattle.std.proofs.Common.{◌≡◌, ◌≢◌, ◌∙◌, ℕ, ◌+◌, ◌<◌, ◌≤◌, ◌⊎◌, true, false, None}
 use Rattle.std.proofs.Common.{is_none, ◌&&◌, refl, sym, ap, subst, arith, inl, inr, ⊎_elim, eq-eqb, ne_eqb}
 use Rattle.std.specs.Prelude.{nat_lt, if◌then◌else◌}
-use Rattle.std.proofs.lemmas.Bool.{false≢true, cases_eq, cases_lt, cond-true, cond-false, lt-ltb, le-ltb}
+use Rattle.std.proofs.lemmas.Bool.{cases_eq, cases_lt, cond-true, cond-false, lt-ltb, le-ltb}
 use Rattle.hum_record.specs.Row.{Row, text_of}
-use Rattle.hum_turns.specs.Plan.{last}
 use Rattle.hum_turns.specs.Failures.{Now, is_ready, result, Turn}
 use Rattle.hum_turns.specs.Turns.{state, ready}
 use Rattle.hum_turns.specs.Near.{IsOneOf, LooksAt, touched}

@@ -328,13 +328,18 @@ impl<F: Feeds, W: Works> Web<F, W> {
             → source ≡ slice_index (s.kinds k).stage.sources place) }
         ensures nodes { Keeps k self.old self.new }
     {
-        let source = self.nodes[k].source(place);
-        match self.links[source].next() {
-            Next::Record(row) => self.nodes[k].put(place, row)?,
-            Next::End(end) => self.nodes[k].stop(place, end),
-            Next::Nothing => {}
+        match &mut self.nodes[k] {
+            Node::Source(_) => unreachable!(),
+            Node::Stage(stage) => {
+                let source = stage.source(place);
+                match self.links[source].next() {
+                    Next::Record(row) => stage.put(place, row)?,
+                    Next::End(end) => stage.stop(place, end),
+                    Next::Nothing => {}
+                }
+                Ok(source)
+            }
         }
-        Ok(source)
     }
 
     // The turn of a stage that isn't a source and does this next, and the link that it has changed: the

@@ -1,7 +1,7 @@
 //! A node of either kind.
-ghost use Rattle.std.specs.Prelude.{◌≡◌, ℕ, ◌<◌, List, [], true, false, length, slice_index, IfOk, OnOk};
+ghost use Rattle.std.specs.Prelude.{◌≡◌, ℕ, ◌<◌, List, [], true, false, length, slice_index, IfOk};
 ghost use Rattle.hum_nodes.specs.At.{At, MayDo, sources_of, bytes_of, doing_of, holds_of, HasTaken};
-ghost use Rattle.hum_nodes.specs.At.{HoldsOneEach, MayPut, MayStop, HasPut, HasStopped, kind_of};
+ghost use Rattle.hum_nodes.specs.At.{HoldsOneEach, kind_of};
 ghost use Rattle.std.specs.Prelude.{OnErr, ◌||◌};
 ghost use Rattle.hum_nodes.specs.Polls.{HasPolled, HasStayed, AsksAtMostOnce, IsKept};
 ghost use Rattle.hum_nodes.specs.Polls.{is_failed_read};
@@ -154,40 +154,6 @@ impl<F: Feeds, W: Works> Node<F, W> {
         match self {
             Node::Source(_) => unreachable!(),
             Node::Stage(node) => node.take(),
-        }
-    }
-
-    /// Puts the next record of the input that it wants.
-    ///
-    /// # Errors
-    /// Want of memory.
-    #[inline(always)]
-    pub fn put(&mut self, place: usize, next: Record) -> Result<(), AllocError>
-        requires kind { is_source self.old ≡ false }
-        requires may { MayPut (StandsAs F.stands W.stands self.old []) place next }
-        ensures kind { is_source self.new ≡ false }
-        ensures put { OnOk result ((rest : List ℕ) → HasPut
-            (StandsAs F.stands W.stands self.old rest)
-            (StandsAs F.stands W.stands self.new rest) place next) }
-    {
-        match self {
-            Node::Source(_) => unreachable!(),
-            Node::Stage(node) => node.put(place, next),
-        }
-    }
-
-    /// Says how the input that it wants ends: closed only after a closed score.
-    pub fn stop(&mut self, place: usize, end: End)
-        requires kind { is_source self.old ≡ false }
-        requires may { MayStop (StandsAs F.stands W.stands self.old []) place end }
-        ensures kind { is_source self.new ≡ false }
-        ensures stopped { (rest : List ℕ) → HasStopped
-            (StandsAs F.stands W.stands self.old rest)
-            (StandsAs F.stands W.stands self.new rest) place end }
-    {
-        match self {
-            Node::Source(_) => unreachable!(),
-            Node::Stage(node) => node.stop(place, end),
         }
     }
 
