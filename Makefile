@@ -9,47 +9,35 @@
 #   make lint       the man page, the scripts and the grammar, as far as there are programs that read them
 #
 # The first build proves every crate that the program is made of, and tells each one that is proved. Later ones prove what
-# has changed. What the prover says of each function is in crates/humpipe/out/log. The laws and the crates of tests, which
-# the program doesn't need, are proved by make test.
+# has changed and what stands on it. What the prover says of each function is in crates/humpipe/out/log. The laws and the
+# crates of tests, which the program doesn't need, are proved by make test.
 #
-# Where the build works on crates side by side it works on JOBS, twice as many as there are processors: some wait for those
-# that they stand on. The gate makes LANES checks at once, one to a processor. Both stay within the memory, in kilobytes:
-# 2 GB a crate that is worked on or waits, 4 GB a check.
+# Both make as many checks at once as there are processors and memory for; the gate plans on LANES of 4 GB each.
 
 PREFIX ?= /usr/local
 memory = $(shell awk '$$1 == "MemAvailable:" { print $$2 }' /proc/meminfo)
 at_most = $(shell awk -v most=$(1) -v each=$(2) -v memory=$(memory) \
 	'BEGIN { n = int(memory / each); print n < 1 ? 1 : n < most ? n : most }')
-JOBS ?= $(call at_most,$(shell echo $$((2 * $$(nproc)))),2000000)
 LANES ?= $(call at_most,$(shell nproc),4000000)
 
 log = crates/humpipe/out/log
-# how many crates the program is made of: each line of crates.txt names those that a crate uses, which stand above it
+# the crates that the program is made of: each line of crates.txt names those that a crate uses, which stand above it
 crates = $(shell tac crates.txt | awk -F'[: ]+' '$$1 == "humpipe" { uses[$$1] } \
-	$$1 in uses { n++; for (i = 2; i <= NF; i++) uses[$$i] } END { print n }')
+	$$1 in uses { print $$1; for (i = 2; i <= NF; i++) uses[$$i] }')
 files = $(shell find crates -name out -prune -o -name must-fail -prune -o -type f -print)
 
 .PHONY: all demo test bench docs lint install clean
 
 all: humpipe
 
-# Reads the log as it grows: tells each crate that is proved, once, and ends with the status that the last line bears.
-# Behind the name of a crate that was proved before there are no lines.
+# Reads the log as it grows: tells each crate that is proved, and ends with the status that the last line bears.
 define progress
-proved=0; told=' '; last=; \
-tell() { \
-	case "$$told" in *" $$1 "*) return ;; esac; \
-	told="$$told$$1 "; proved=$$((proved + 1)); echo "$$proved of $(crates) crates proved: $$1"; \
-}; \
-while IFS= read -r line; do \
-	case "$$last|$$line" in '== '*'|== '*) tell "$${last#== }" ;; esac; \
-	case "$$line" in \
-	'== ended '*) exit "$${line##* }" ;; \
-	'crate '*) crate=$${line#crate }; crate=$${crate%%:*} ;; \
-	logic=proved*) tell "$$crate" ;; \
-	'rt: waiting '*) echo "$$line" ;; \
+proved=0; \
+while read -r first crate last; do \
+	case "$$first $$crate $$last" in \
+	'rt: '*' proved'|'rt: '*' is kept:'*) proved=$$((proved + 1)); echo "$$proved of $(words $(crates)) crates proved: $$crate" ;; \
+	'== ended '*) exit "$$last" ;; \
 	esac; \
-	last=$$line; \
 done; \
 exit 1
 endef
@@ -61,28 +49,20 @@ grep -v '^== \|^statements \|^library \|^logic\|^crate \|^checked \|^axioms \|^s
 echo "not built: the whole log is $(log)"
 endef
 
-# The crates that most others wait for are proved one after another, and beside them some that stand on none of these; all
-# others side by side, each as soon as it can be, and hum_line, which none of them uses, while these begin; then the program,
-# by one job: each further one loads all libraries, and with four it takes half as long again.
+# Proves the crates that the program is made of, and no edit, test or law, in a copy of them, by as many checks at once as
+# there are processors and memory for, those first which most others wait for. What passed is kept on this machine: where files
+# have changed, the crates that stand on none of them aren't proved again.
 define prove
-alone() { for crate; do echo "== $$crate"; (cd crates/$$crate && rt lib) || return; done; }; \
-together() { (cd crates/$$1 && rt all check --jobs $(JOBS)); }; \
-beside() { \
-	alone $$1 >$(log).beside 2>&1 & other=$$!; \
-	shift; "$$@"; one=$$?; \
-	wait $$other; other=$$?; cat $(log).beside; \
-	test $$one = 0 && test $$other = 0; \
-}; \
-trap 'kill 0' INT; \
-beside 'hum_pattern hum_kern' alone hum_record hum_path hum_stage && beside hum_line together hum_pipeline && \
-echo '== humpipe' && (cd crates/humpipe && rt check --jobs 1)
+room=$$(mktemp -d) && trap 'rm -rf "$$room"' EXIT INT TERM; \
+mkdir "$$room/.git" && cp HANDLES "$$room" && \
+for crate in $(crates); do grep "^$$crate:" crates.txt; done >"$$room/crates.txt" && \
+tar -c --exclude=out --exclude=must-fail $(crates:%=crates/%) | tar -x -C "$$room" && \
+(cd "$$room" && rt ci) && mkdir -p $(dir $(log)) && cp "$$room/crates/humpipe/out/humpipe" humpipe
 endef
 
-humpipe: crates.txt $(files)
+humpipe: crates.txt HANDLES $(files)
 	@mkdir -p $(dir $(log))
-	@{ $(prove); echo "== ended $$?"; } 2>&1 | tee $(log) | { $(progress); } || { $(failure); exit 1; }
-	@cd crates/humpipe && rt run <stdin >out/run.log 2>&1 || { cat out/run.log; exit 1; }
-	@cp -f crates/humpipe/out/humpipe humpipe
+	@{ { $(prove); }; echo "== ended $$?"; } 2>&1 | tee $(log) | { $(progress); } || { $(failure); exit 1; }
 
 demo: humpipe
 	@echo '$$ cat examples/no_comments.hpl'
