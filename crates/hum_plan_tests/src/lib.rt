@@ -10,17 +10,11 @@ mod assembled;
 #[cfg(test)]
 mod bundles;
 #[cfg(test)]
-mod cells;
-#[cfg(test)]
-mod checks;
-#[cfg(test)]
 mod chosen;
 #[cfg(test)]
 mod columns;
 #[cfg(test)]
 mod compared;
-#[cfg(test)]
-mod context;
 #[cfg(test)]
 mod failures;
 #[cfg(test)]
