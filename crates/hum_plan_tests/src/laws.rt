@@ -139,6 +139,12 @@ fn columns(rt: HostRuntime) {
     let other = named(alloc).expect(&rt, "memory");
     let both = names_twice(alloc, &records, one, other).expect(&rt, "memory");
     have(&rt, alloc, both, WORDS, WORDS);
+}
+
+#[test]
+fn filled_null_tokens(rt: HostRuntime) {
+    let alloc = rt.alloc();
+    let records = song(&rt, alloc);
     let both = ditto_twice(alloc, &records, plain(), plain()).expect(&rt, "memory");
     have(&rt, alloc, both, FILLED, FILLED);
     let ditto = CommandOptions::Ditto(plain());
@@ -154,7 +160,7 @@ fn columns(rt: HostRuntime) {
 }
 
 #[test]
-fn what_leaves_records_as_they_are_or_out(rt: HostRuntime) {
+fn what_leaves_a_score_as_it_is(rt: HostRuntime) {
     let alloc = rt.alloc();
     let records = song(&rt, alloc);
     let given = all_fields(alloc, &records).expect(&rt, "memory");
@@ -163,6 +169,12 @@ fn what_leaves_records_as_they_are_or_out(rt: HostRuntime) {
     has(&rt, alloc, given, UNCHANGED);
     let given = context_of_one(alloc, &records, None).expect(&rt, "memory");
     has(&rt, alloc, given, UNCHANGED);
+}
+
+#[test]
+fn letters_of_rid(rt: HostRuntime) {
+    let alloc = rt.alloc();
+    let records = song(&rt, alloc);
     let some = letters(true, false);
     let more = letters(false, true);
     let both = rid_by_letters(alloc, &records, some, more).expect(&rt, "memory");
@@ -178,13 +190,19 @@ const UP: Transposition = Transposition {
 };
 
 #[test]
-fn notes_that_move(rt: HostRuntime) {
+fn up_and_back_and_up_twice(rt: HostRuntime) {
     let alloc = rt.alloc();
     let records = song(&rt, alloc);
     let given = there_and_back(alloc, &records, UP).expect(&rt, "memory");
     has(&rt, alloc, given, THERE_AND_BACK);
     let both = transpositions_add_up(alloc, &records, UP, UP).expect(&rt, "memory");
     have(&rt, alloc, both, UP_AND_UP, UP_AT_ONCE);
+}
+
+#[test]
+fn notes_that_move(rt: HostRuntime) {
+    let alloc = rt.alloc();
+    let records = song(&rt, alloc);
     let options = SemitsOptions {
         ties_left_out: false,
     };

@@ -41,11 +41,6 @@ const PLAIN: &[Row] = &[
     (b".4", 1, 4, 1, 2),
 ];
 
-#[test]
-fn plain_durations(rt: HostRuntime) {
-    check_durations(&rt, PLAIN);
-}
-
 /// Tokens, and whether each begins with a digit and is one subtoken without the sign of a grace note.
 const LEADING: &[(&[u8], bool)] = &[
     (b"4c", true),
@@ -133,7 +128,8 @@ const QUOTIENTS: &[Row] = &[
 ];
 
 #[test]
-fn quotients(rt: HostRuntime) {
+fn durations(rt: HostRuntime) {
+    check_durations(&rt, PLAIN);
     check_durations(&rt, QUOTIENTS);
 }
 
