@@ -1,4 +1,4 @@
-//! Columns that are chosen of a small score, followed by hand.
+//! Columns that are chosen, by hand: marks, torn joins, and the room that joins need.
 use crate::compared::{holds, same};
 use crate::scores::record_of;
 use hum_columns::{is_torn, write_pieces};
