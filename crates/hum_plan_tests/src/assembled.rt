@@ -54,11 +54,6 @@ const CLOSED: &[Row] = &[
     ),
 ];
 
-#[test]
-fn scores_side_by_side(rt: HostRuntime) {
-    check_all(&rt, rt.alloc(), CLOSED);
-}
-
 const BROKEN: &[Row] = &[
     // the first source
     (
@@ -81,7 +76,8 @@ const BROKEN: &[Row] = &[
 ];
 
 #[test]
-fn a_broken_score_ends_what_is_given(rt: HostRuntime) {
+fn scores_side_by_side(rt: HostRuntime) {
+    check_all(&rt, rt.alloc(), CLOSED);
     check_all(&rt, rt.alloc(), BROKEN);
 }
 

@@ -216,13 +216,6 @@ const COMMANDS: &[Row] = &[
     ),
 ];
 
-#[test]
-fn bundles(rt: HostRuntime) {
-    check_all(&rt, rt.alloc(), READ);
-    check_all(&rt, rt.alloc(), RULES);
-    check_all(&rt, rt.alloc(), COMMANDS);
-}
-
 const BROKEN: &[Row] = &[
     // what waits for no later record is written where a score breaks off
     (
@@ -263,6 +256,9 @@ const BROKEN: &[Row] = &[
 ];
 
 #[test]
-fn scores_that_break_off(rt: HostRuntime) {
+fn bundles(rt: HostRuntime) {
+    check_all(&rt, rt.alloc(), READ);
+    check_all(&rt, rt.alloc(), RULES);
+    check_all(&rt, rt.alloc(), COMMANDS);
     check_all(&rt, rt.alloc(), BROKEN);
 }

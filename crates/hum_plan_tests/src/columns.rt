@@ -80,11 +80,6 @@ const CLEAVE: &[Row] = &[
     ),
 ];
 
-#[test]
-fn columns_put_together(rt: HostRuntime) {
-    check_all(&rt, rt.alloc(), CLEAVE);
-}
-
 const CLEAVED: &[Row] = &[
     (
         b"out: read a | cleave -i **a -o **b\n--- a\n**a\t**a\t**z\n1\t.\tq\n=1\t=1\t=1\n.\t.\t.\n3\t4\t.\n=2\t=2\t=2\n*-\t*-\t*-\n",
@@ -163,11 +158,6 @@ const CLEAVED: &[Row] = &[
     ),
 ];
 
-#[test]
-fn columns_become_one(rt: HostRuntime) {
-    check_all(&rt, rt.alloc(), CLEAVED);
-}
-
 const EXTRACTED: &[Row] = &[
     // a lone exchange becomes null
     (
@@ -217,6 +207,18 @@ const EXTRACTED: &[Row] = &[
         b"**b\n*\n*\n3\n*\n3\n*\n4\n*-\n",
         "",
     ),
+    // names with a space and of asterisks alone
+    (
+        b"out: read a | extract -i '**a,**b c,***'\n--- a\n**a\t**x\t**b c\t***\n1\t2\t3\t4\n*-\t*-\t*-\t*-\n",
+        b"**a\t**b c\t***\n1\t3\t4\n*-\t*-\t*-\n",
+        "",
+    ),
+    // a column that isn't chosen splits, and one that is adds a spine
+    (
+        b"out: read a | extract -f 2\n--- a\n!!score\n**a\t**b\n*^\t*+\n*\t*\t*\t**n\n1\t2\t3\t4\n*-\t*-\t*-\t*-\n",
+        b"!!score\n**b\n*+\n*\t**n\n3\t4\n*-\t*-\n",
+        "",
+    ),
     // an exchange with a column that is left out
     (
         b"out: read a | extract -f 1-2\n--- a\n**a\t**b\t**c\n1\t2\t3\n*x\t*\t*x\n3\t2\t1\n*-\t*-\t*-\n",
@@ -238,6 +240,8 @@ const EXTRACTED: &[Row] = &[
 ];
 
 #[test]
-fn columns_are_chosen(rt: HostRuntime) {
+fn columns_put_together_and_chosen(rt: HostRuntime) {
+    check_all(&rt, rt.alloc(), CLEAVE);
+    check_all(&rt, rt.alloc(), CLEAVED);
     check_all(&rt, rt.alloc(), EXTRACTED);
 }

@@ -14,6 +14,12 @@ const STAND: &[Row] = &[
         b"**kern\n*tb16\n4..c\n.\n.\n.\n.\n.\n.\n16d\n2e\n.\n.\n.\n.\n.\n.\n.\n*-\n",
         "",
     ),
+    // a step with a dot
+    (
+        b"out: read a | timebase -t 4.\n--- a\n**kern\n4.c\n2.d\n*-\n",
+        b"**kern\n*tb4.\n4.c\n2.d\n.\n*-\n",
+        "",
+    ),
     // breves and longs
     (
         b"out: read a | timebase -t 1\n--- a\n**kern\n0c\n00d\n*-\n",
@@ -45,11 +51,6 @@ const STAND: &[Row] = &[
         "",
     ),
 ];
-
-#[test]
-fn stands_on_the_grid(rt: HostRuntime) {
-    check_all(&rt, rt.alloc(), STAND);
-}
 
 const REFUSED: &[Row] = &[
     // a duration that can't be read
@@ -85,6 +86,7 @@ const REFUSED: &[Row] = &[
 ];
 
 #[test]
-fn is_refused(rt: HostRuntime) {
+fn stands_on_the_grid_or_is_refused(rt: HostRuntime) {
+    check_all(&rt, rt.alloc(), STAND);
     check_all(&rt, rt.alloc(), REFUSED);
 }

@@ -6,8 +6,8 @@ ghost use Rattle.hum_extract.specs.Choice.{Fields, Number};
 ghost use Rattle.hum_extract.specs.Written.{choice_of};
 ghost use Rattle.hum_stage.specs.Score.{IsClosed};
 
-use crate::compared::{holds, same, same_bytes, same_text};
-use crate::scores::{record_of, score_of, text_of};
+use crate::compared::{same, same_bytes};
+use crate::scores::{score_of, text_of};
 use hum_commands::CommandOptions;
 use hum_ditto::DittoOptions;
 use hum_extract::{Choice, Field, FieldRange};
@@ -23,46 +23,57 @@ use hum_tones::{SemitsOptions, Transposition};
 use std::alloc::{AllocError, Global};
 use std::process::Abort;
 
-// A small song.
+/// A small song, and what it becomes.
+const SONG: &str = "!!song\n**kern\t**text\n4cn\tla\n.\t.\n8dL 8f#\tlo\n8e-J\t.\n*-\t*-";
+
+const UNCHANGED: &[u8] = b"!!song\n**kern\t**text\n4cn\tla\n.\t.\n8dL 8f#\tlo\n8e-J\t.\n*-\t*-\n";
+
+const FILLED: &[u8] = b"!!song\n**kern\t**text\n4cn\tla\n4cn\tla\n8dL 8f#\tlo\n8e-J\tlo\n*-\t*-\n";
+
+const FILLED_WORDS: &[u8] = b"!!song\n**text\nla\nla\nlo\nlo\n*-\n";
+
+const FILLED_WITHOUT_COMMENTS: &[u8] =
+    b"**kern\t**text\n4cn\tla\n4cn\tla\n8dL 8f#\tlo\n8e-J\tlo\n*-\t*-\n";
+
+const WORDS: &[u8] = b"!!song\n**text\nla\n.\nlo\n.\n*-\n";
+
+const BARE: &[u8] = b"**kern\t**text\n4cn\tla\n8dL 8f#\tlo\n8e-J\t.\n*-\t*-\n";
+
+const THERE_AND_BACK: &[u8] =
+    b"!!song\n**kern\t**text\n*Trd-1c-2\t*\n*Trd1c2\t*\n4c\tla\n.\t.\n8dL 8f#\tlo\n8e-J\t.\n*-\t*-\n";
+
+const UP_AND_UP: &[u8] =
+    b"!!song\n**kern\t**text\n*Trd1c2\t*\n*Trd1c2\t*\n4e\tla\n.\t.\n8f#L 8a#\tlo\n8gJ\t.\n*-\t*-\n";
+
+const UP_AT_ONCE: &[u8] =
+    b"!!song\n**kern\t**text\n*Trd2c4\t*\n4e\tla\n.\t.\n8f#L 8a#\tlo\n8gJ\t.\n*-\t*-\n";
+
+const RAISED: &[u8] = b"!!song\n**semits\t**text\n*Trd1c2\t*\n2\tla\n.\t.\n4 8\tlo\n5\t.\n*-\t*-\n";
+
+const SEMITS: &[u8] = b"!!song\n**semits\t**text\n0\tla\n.\t.\n2 6\tlo\n3\t.\n*-\t*-\n";
+
+const RAISED_DURATIONS: &[u8] =
+    b"!!song\n**recip\t**text\n*Trd1c2\t*\n4\tla\n.\t.\n8 8\tlo\n8\t.\n*-\t*-\n";
+
+const DURATIONS: &[u8] = b"!!song\n**recip\t**text\n4\tla\n.\t.\n8 8\tlo\n8\t.\n*-\t*-\n";
+
 fn song(rt: &impl Abort, alloc: Global) -> Vec<Record>
     ensures closed { IsClosed result.items }
     ensures few { length result.items ≤ 4294967295 }
 {
-    let score = "!!song / **kern & **text / 4cn & la / . & . / 8dL 8f# & lo / 8e-J & . / *- & *-";
-    score_of(rt, alloc, score).closed(rt)
+    score_of(rt, alloc, SONG).closed(rt)
 }
 
 // It ended well, and this is its text.
-fn has(rt: &impl Abort, alloc: Global, given: Given, want: &str) {
+fn has(rt: &impl Abort, alloc: Global, given: Given, want: &[u8]) {
     same(rt, given.end, End::Closed, want);
-    same_text(rt, &text_of(rt, alloc, &given.records), want, want);
+    same_bytes(rt, &text_of(rt, alloc, &given.records), want, want);
 }
 
-// The same of both.
-fn both_have(rt: &impl Abort, alloc: Global, both: (Given, Given), want: &str) {
-    has(rt, alloc, both.0, want);
-    has(rt, alloc, both.1, want);
-}
-
-/// The place of a record, and its text.
-type Line = (usize, &'static str);
-
-// It ended well, and the records of these places are these.
-fn has_lines(rt: &impl Abort, alloc: Global, given: Given, lines: &[Line]) {
-    same(rt, given.end, End::Closed, "its end");
-    for line in lines {
-        let (place, want) = *line;
-        match given.records.get(place) {
-            Some(found) => same_bytes(rt, found.text(), record_of(rt, alloc, want).text(), want),
-            None => holds(rt, false, want),
-        }
-    }
-}
-
-// The same of both, each with its records.
-fn have_lines(rt: &impl Abort, alloc: Global, both: (Given, Given), first: &[Line], last: &[Line]) {
-    has_lines(rt, alloc, both.0, first);
-    has_lines(rt, alloc, both.1, last);
+// The same of both, each with its text.
+fn have(rt: &impl Abort, alloc: Global, both: (Given, Given), first: &[u8], last: &[u8]) {
+    has(rt, alloc, both.0, first);
+    has(rt, alloc, both.1, last);
 }
 
 fn plain() -> DittoOptions
@@ -111,69 +122,65 @@ fn letters(global_comments: bool, null_values: bool) -> RidOptions
 }
 
 #[test]
-fn filled_words(rt: HostRuntime) {
+fn columns(rt: HostRuntime) {
     let alloc = rt.alloc();
     let records = song(&rt, alloc);
     let one = second(alloc).expect(&rt, "memory");
     let other = second(alloc).expect(&rt, "memory");
     let both = extract_ditto(alloc, &records, (one, other), (plain(), plain()));
-    let want = "!!song / **text / la / la / lo / lo / *-";
-    both_have(&rt, alloc, both.expect(&rt, "memory"), want);
+    have(
+        &rt,
+        alloc,
+        both.expect(&rt, "memory"),
+        FILLED_WORDS,
+        FILLED_WORDS,
+    );
+    let one = named(alloc).expect(&rt, "memory");
+    let other = named(alloc).expect(&rt, "memory");
+    let both = names_twice(alloc, &records, one, other).expect(&rt, "memory");
+    have(&rt, alloc, both, WORDS, WORDS);
 }
-
-const FILLED: &[Line] = &[(5, "8e-J & lo")];
 
 #[test]
 fn filled_null_tokens(rt: HostRuntime) {
     let alloc = rt.alloc();
     let records = song(&rt, alloc);
     let both = ditto_twice(alloc, &records, plain(), plain()).expect(&rt, "memory");
-    have_lines(&rt, alloc, both, FILLED, FILLED);
+    have(&rt, alloc, both, FILLED, FILLED);
     let ditto = CommandOptions::Ditto(plain());
     let alike = CommandOptions::Ditto(plain());
     let both = comments_aside(alloc, &records, ditto, alike).expect(&rt, "memory");
-    let want = "**kern & **text / 4cn & la / 4cn & la / 8dL 8f# & lo / 8e-J & lo / *- & *-";
-    both_have(&rt, alloc, both, want);
+    have(
+        &rt,
+        alloc,
+        both,
+        FILLED_WITHOUT_COMMENTS,
+        FILLED_WITHOUT_COMMENTS,
+    );
 }
-
-const CHORD: &[Line] = &[(4, "8dL 8f# & lo")];
-
-const ENDED: &[Line] = &[(6, "*- & *-")];
 
 #[test]
 fn what_leaves_a_score_as_it_is(rt: HostRuntime) {
     let alloc = rt.alloc();
     let records = song(&rt, alloc);
     let given = all_fields(alloc, &records).expect(&rt, "memory");
-    has_lines(&rt, alloc, given, CHORD);
+    has(&rt, alloc, given, UNCHANGED);
     let given = all_lines(alloc, &records).expect(&rt, "memory");
-    has_lines(&rt, alloc, given, ENDED);
+    has(&rt, alloc, given, UNCHANGED);
     let given = context_of_one(alloc, &records, None).expect(&rt, "memory");
-    has_lines(&rt, alloc, given, CHORD);
-}
-
-#[test]
-fn words_alone(rt: HostRuntime) {
-    let alloc = rt.alloc();
-    let records = song(&rt, alloc);
-    let one = named(alloc).expect(&rt, "memory");
-    let other = named(alloc).expect(&rt, "memory");
-    let both = names_twice(alloc, &records, one, other).expect(&rt, "memory");
-    let want = "!!song / **text / la / . / lo / . / *-";
-    both_have(&rt, alloc, both, want);
+    has(&rt, alloc, given, UNCHANGED);
 }
 
 #[test]
 fn letters_of_rid(rt: HostRuntime) {
     let alloc = rt.alloc();
     let records = song(&rt, alloc);
-    let want = "**kern & **text / 4cn & la / 8dL 8f# & lo / 8e-J & . / *- & *-";
     let some = letters(true, false);
     let more = letters(false, true);
     let both = rid_by_letters(alloc, &records, some, more).expect(&rt, "memory");
-    both_have(&rt, alloc, both, want);
+    have(&rt, alloc, both, BARE, BARE);
     let both = rid_twice(alloc, &records, letters(true, true)).expect(&rt, "memory");
-    both_have(&rt, alloc, both, want);
+    have(&rt, alloc, both, BARE, BARE);
 }
 
 /// A major second.
@@ -182,29 +189,15 @@ const UP: Transposition = Transposition {
     semitones: 2,
 };
 
-const ONCE_AND_ONCE_MORE: &[Line] = &[(4, "4e & la")];
-
-const TWICE: &[Line] = &[(2, "*Trd2c4 & *"), (3, "4e & la")];
-
 #[test]
 fn up_and_back_and_up_twice(rt: HostRuntime) {
     let alloc = rt.alloc();
     let records = song(&rt, alloc);
     let given = there_and_back(alloc, &records, UP).expect(&rt, "memory");
-    let want = "!!song / **kern & **text / *Trd-1c-2 & * / *Trd1c2 & * / 4c & la / . & . \
-         / 8dL 8f# & lo / 8e-J & . / *- & *-";
-    has(&rt, alloc, given, want);
+    has(&rt, alloc, given, THERE_AND_BACK);
     let both = transpositions_add_up(alloc, &records, UP, UP).expect(&rt, "memory");
-    have_lines(&rt, alloc, both, ONCE_AND_ONCE_MORE, TWICE);
+    have(&rt, alloc, both, UP_AND_UP, UP_AT_ONCE);
 }
-
-const RAISED: &[Line] = &[(5, "4 8 & lo")];
-
-const TOLD: &[Line] = &[(4, "2 6 & lo")];
-
-const RAISED_DURATIONS: &[Line] = &[(2, "*Trd1c2 & *"), (5, "8 8 & lo")];
-
-const DURATIONS: &[Line] = &[(4, "8 8 & lo")];
 
 #[test]
 fn notes_that_move(rt: HostRuntime) {
@@ -214,11 +207,11 @@ fn notes_that_move(rt: HostRuntime) {
         ties_left_out: false,
     };
     let both = semits_shifted(alloc, &records, UP, options).expect(&rt, "memory");
-    have_lines(&rt, alloc, both, RAISED, TOLD);
+    have(&rt, alloc, both, RAISED, SEMITS);
     let both = durations_stay(alloc, &records, UP).expect(&rt, "memory");
-    have_lines(&rt, alloc, both, RAISED_DURATIONS, DURATIONS);
+    have(&rt, alloc, both, RAISED_DURATIONS, DURATIONS);
     let told = CommandOptions::Semits(options);
     let moved = CommandOptions::Trans(UP);
     let both = told_once(alloc, &records, told, moved).expect(&rt, "memory");
-    have_lines(&rt, alloc, both, TOLD, TOLD);
+    have(&rt, alloc, both, SEMITS, SEMITS);
 }

@@ -1,5 +1,5 @@
 //! Tests of commands and plans: the values of options, options, plans, runs of plans over small
-//! scores, laws between commands, and what commands stand in.
+//! scores, laws between commands, and columns that are chosen.
 //!
 //! They call what any crate may call, and stand in a crate of their own: so no crate is proved once
 //! more with its tests.
@@ -10,17 +10,11 @@ mod assembled;
 #[cfg(test)]
 mod bundles;
 #[cfg(test)]
-mod cells;
-#[cfg(test)]
-mod checks;
-#[cfg(test)]
 mod chosen;
 #[cfg(test)]
 mod columns;
 #[cfg(test)]
 mod compared;
-#[cfg(test)]
-mod context;
 #[cfg(test)]
 mod failures;
 #[cfg(test)]

@@ -35,6 +35,8 @@ const WAITING: &[Row] = &[
     ),
 ];
 
+const SHARPENED: &[u8] = b"out: read a | trans -d 0 -c 1\n--- a\n**kern\t**kern\nc";
+
 const COMMENT: &[u8] = b"out: read a | rid -l\n--- a\n!!";
 
 const LONG: &[Row] = &[
@@ -84,6 +86,100 @@ const LONG: &[Row] = &[
     ),
 ];
 
+const TOLD: &[Row] = &[
+    // a sharp more in two tokens of 524,287 bytes would be too much, unless the second is refused
+    (
+        &[
+            (SHARPENED, 1),
+            (b"X", 524_286),
+            (b"\tc", 1),
+            (b"X", 524_286),
+            (b"\n*-\t*-\n", 1),
+        ],
+        &[(b"**kern\t**kern\n*Trd0c1\t*Trd0c1\n", 1)],
+        "humpipe: stage 2 (trans), line 2: L1",
+    ),
+    (
+        &[(SHARPENED, 1), (b"X", 524_286), (b"\tcd\n*-\t*-\n", 1)],
+        &[(b"**kern\t**kern\n*Trd0c1\t*Trd0c1\n", 1)],
+        "humpipe: stage 2 (trans), line 2: K1",
+    ),
+    // 4096 spines are split, after twelve times that all are
+    (
+        &[
+            (b"out: read a\n--- a\n**x\n", 1),
+            (b"*^\n", 1),
+            (b"*^\t", 1),
+            (b"*^\n", 1),
+            (b"*^\t", 3),
+            (b"*^\n", 1),
+            (b"*^\t", 7),
+            (b"*^\n", 1),
+            (b"*^\t", 15),
+            (b"*^\n", 1),
+            (b"*^\t", 31),
+            (b"*^\n", 1),
+            (b"*^\t", 63),
+            (b"*^\n", 1),
+            (b"*^\t", 127),
+            (b"*^\n", 1),
+            (b"*^\t", 255),
+            (b"*^\n", 1),
+            (b"*^\t", 511),
+            (b"*^\n", 1),
+            (b"*^\t", 1023),
+            (b"*^\n", 1),
+            (b"*^\t", 2047),
+            (b"*^\n", 1),
+            (b"*^\t", 4095),
+            (b"*^\n", 1),
+        ],
+        &[
+            (b"**x\n", 1),
+            (b"*^\n", 1),
+            (b"*^\t", 1),
+            (b"*^\n", 1),
+            (b"*^\t", 3),
+            (b"*^\n", 1),
+            (b"*^\t", 7),
+            (b"*^\n", 1),
+            (b"*^\t", 15),
+            (b"*^\n", 1),
+            (b"*^\t", 31),
+            (b"*^\n", 1),
+            (b"*^\t", 63),
+            (b"*^\n", 1),
+            (b"*^\t", 127),
+            (b"*^\n", 1),
+            (b"*^\t", 255),
+            (b"*^\n", 1),
+            (b"*^\t", 511),
+            (b"*^\n", 1),
+            (b"*^\t", 1023),
+            (b"*^\n", 1),
+            (b"*^\t", 2047),
+            (b"*^\n", 1),
+        ],
+        "humpipe: stage 1 (read), line 14: P9",
+    ),
+    // a context of as many tokens as may be
+    (
+        &[
+            (b"out: read a | context -n 4096\n--- a\n**x\n", 1),
+            (b"a\n", 4096),
+            (b"*-\n", 1),
+        ],
+        &[
+            (b"**x\na", 1),
+            (b" a", 4095),
+            (b"\n", 1),
+            (b".\n", 4095),
+            (b"*-\n", 1),
+        ],
+        "",
+    ),
+];
+
 fn check_all(rt: &impl Abort, alloc: Global, rows: &[Row]) {
     for row in rows {
         let (bundle, text, told) = *row;
@@ -94,11 +190,8 @@ fn check_all(rt: &impl Abort, alloc: Global, rows: &[Row]) {
 }
 
 #[test]
-fn at_most_65536_records_wait(rt: HostRuntime) {
-    check_all(&rt, rt.alloc(), WAITING);
-}
-
-#[test]
 fn long_scores_and_records(rt: HostRuntime) {
+    check_all(&rt, rt.alloc(), WAITING);
     check_all(&rt, rt.alloc(), LONG);
+    check_all(&rt, rt.alloc(), TOLD);
 }

@@ -482,37 +482,42 @@ const MINT_EACH: &[Row] = &[
     ),
 ];
 
+const COLUMNS: &[Row] = &[
+    // columns that are **kern, wherever they stand
+    (
+        b"out: read a | semits -x\n--- a\n**kern\t**b\nc\td\n.\te\n=2\t=2\n!!f\n!\t!g\n*x\t*x\nh?\te\n*\t*+\n*\t*\t**kern\n*-\t*-\t*-\n",
+        b"**semits\t**b\n0\td\n.\te\n=2\t=2\n!!f\n!\t!g\n*x\t*x\nh?\t4\n*\t*+\n*\t*\t**semits\n*-\t*-\t*-\n",
+        "",
+    ),
+    // columns that become **kern, and what stands above in them
+    (
+        b"out: read a | trans -d 1 -c 2\n--- a\n**b\t**kern\nc\td\ne\tf\n**kern\t*\ng\t.\n*x\t*x\na\tb\n*-\t*-\n",
+        b"**b\t**kern\n*\t*Trd1c2\nc\te\ne\tg\n**kern\t*\n*Trd1c2\t*\na\t.\n*x\t*x\nb\tcc#\n*-\t*-\n",
+        "",
+    ),
+    (
+        b"out: read a | mint\n--- a\n**b\t**kern\nc\td\ne\tf\n**kern\t*\ng\t.\n*x\t*x\na\tb\n*-\t*-\n",
+        b"**b\t**mint\nc\t[d]\ne\t+m3\n**mint\t*\n[g]\t.\n*x\t*x\n+M3\t+M3\n*-\t*-\n",
+        "",
+    ),
+];
+
 #[test]
 fn transposed(rt: HostRuntime) {
     check_all(&rt, rt.alloc(), TRANS);
+    check_all(&rt, rt.alloc(), TRANS_EACH);
+    check_all(&rt, rt.alloc(), COLUMNS);
 }
 
 #[test]
-fn in_semitones(rt: HostRuntime) {
+fn semitones_and_intervals(rt: HostRuntime) {
     check_all(&rt, rt.alloc(), SEMITS);
+    check_all(&rt, rt.alloc(), MINT);
+    check_all(&rt, rt.alloc(), MINT_EACH);
 }
 
 #[test]
 fn durations(rt: HostRuntime) {
     check_all(&rt, rt.alloc(), RECIP);
-}
-
-#[test]
-fn intervals(rt: HostRuntime) {
-    check_all(&rt, rt.alloc(), MINT);
-}
-
-#[test]
-fn on_a_grid(rt: HostRuntime) {
     check_all(&rt, rt.alloc(), TIMEBASE);
-}
-
-#[test]
-fn each_spelling_transposed(rt: HostRuntime) {
-    check_all(&rt, rt.alloc(), TRANS_EACH);
-}
-
-#[test]
-fn each_interval(rt: HostRuntime) {
-    check_all(&rt, rt.alloc(), MINT_EACH);
 }

@@ -187,11 +187,6 @@ const BYTES: &[Row] = &[
     (b"\n\n\n\xe2\x82\n", 4, 0),
 ];
 
-#[test]
-fn bytes(rt: HostRuntime) {
-    check_faults(&rt, rt.alloc(), PlanRule::N1, BYTES);
-}
-
 const QUOTES: &[Row] = &[
     (b"out: read 'a", 1, 3),
     (b"out: read a'b", 1, 3),
@@ -212,11 +207,6 @@ const QUOTES: &[Row] = &[
     (b"p: read a\np: '", 2, 2),
     (b"out: | 'x", 1, 2),
 ];
-
-#[test]
-fn quotes(rt: HostRuntime) {
-    check_faults(&rt, rt.alloc(), PlanRule::N2, QUOTES);
-}
 
 const NAMES: &[Row] = &[
     (b"read a", 1, 1),
@@ -239,11 +229,6 @@ const NAMES: &[Row] = &[
     (b"out: read a\nx", 2, 1),
     (b"abcdefghijklmnopqrstuvwxyz_123456: read a", 1, 1),
 ];
-
-#[test]
-fn names(rt: HostRuntime) {
-    check_faults(&rt, rt.alloc(), PlanRule::N3, NAMES);
-}
 
 const USED_NAMES_AND_OUT: &[Row] = &[
     (b"", 1, 0),
@@ -270,8 +255,12 @@ const USED_NAMES_AND_OUT: &[Row] = &[
 ];
 
 #[test]
-fn used_names_and_out(rt: HostRuntime) {
-    check_faults(&rt, rt.alloc(), PlanRule::N4, USED_NAMES_AND_OUT);
+fn bytes_quotes_and_names(rt: HostRuntime) {
+    let alloc = rt.alloc();
+    check_faults(&rt, alloc, PlanRule::N1, BYTES);
+    check_faults(&rt, alloc, PlanRule::N2, QUOTES);
+    check_faults(&rt, alloc, PlanRule::N3, NAMES);
+    check_faults(&rt, alloc, PlanRule::N4, USED_NAMES_AND_OUT);
 }
 
 const EMPTY_STAGES: &[Row] = &[
@@ -294,11 +283,6 @@ const EMPTY_STAGES: &[Row] = &[
     (b"p: read a |\n'", 1, 3),
 ];
 
-#[test]
-fn empty_stages(rt: HostRuntime) {
-    check_faults(&rt, rt.alloc(), PlanRule::N5, EMPTY_STAGES);
-}
-
 const FIRST_STAGES: &[Row] = &[
     (b"out: rid -G", 1, 2),
     (b"out: mint", 1, 2),
@@ -318,11 +302,6 @@ const FIRST_STAGES: &[Row] = &[
     (b"p: read a\nout: assemble p | assemble q", 2, 4),
     (b"p: read a\nout: cleave p", 2, 2),
 ];
-
-#[test]
-fn first_stages(rt: HostRuntime) {
-    check_faults(&rt, rt.alloc(), PlanRule::N6, FIRST_STAGES);
-}
 
 const UNKNOWN_COMMANDS: &[Row] = &[
     (b"out: foo", 1, 2),
@@ -344,6 +323,9 @@ const UNKNOWN_COMMANDS: &[Row] = &[
 ];
 
 #[test]
-fn unknown_commands(rt: HostRuntime) {
-    check_faults(&rt, rt.alloc(), PlanRule::N7, UNKNOWN_COMMANDS);
+fn stages_and_commands(rt: HostRuntime) {
+    let alloc = rt.alloc();
+    check_faults(&rt, alloc, PlanRule::N5, EMPTY_STAGES);
+    check_faults(&rt, alloc, PlanRule::N6, FIRST_STAGES);
+    check_faults(&rt, alloc, PlanRule::N7, UNKNOWN_COMMANDS);
 }

@@ -26,11 +26,6 @@ const WORDS_TOO_MANY: &[Row] = &[
     (b"out: read a | cleave -i **kern -i **kern", 1, 7),
 ];
 
-#[test]
-fn words_too_many(rt: HostRuntime) {
-    check_faults(&rt, rt.alloc(), PlanRule::N8, WORDS_TOO_MANY);
-}
-
 const WORDS_MISSING: &[Row] = &[
     (b"out: read", 1, 2),
     (b"out: read | mint", 1, 2),
@@ -55,11 +50,6 @@ const WORDS_MISSING: &[Row] = &[
     (b"out: read a | mint -b", 1, 5),
 ];
 
-#[test]
-fn words_missing(rt: HostRuntime) {
-    check_faults(&rt, rt.alloc(), PlanRule::N9, WORDS_MISSING);
-}
-
 const VALUES: &[Row] = &[
     (b"out: read ''", 1, 3),
     (b"out: read '' b", 1, 3),
@@ -83,10 +73,20 @@ const VALUES: &[Row] = &[
     (b"out: read a | cleave -i **a -o **b -d '\t'", 1, 10),
 ];
 
-#[test]
-fn values(rt: HostRuntime) {
-    check_faults(&rt, rt.alloc(), PlanRule::N10, VALUES);
-}
+const NAMES_AND_STEPS: &[Row] = &[
+    (b"out: read a | extract -i ''", 1, 6),
+    (b"out: read a | extract -i *a", 1, 6),
+    (b"out: read a | extract -i **a,b", 1, 6),
+    (b"out: read a | extract -i **a,", 1, 6),
+    (b"out: read a | extract -i '**a\tb'", 1, 6),
+    (b"out: read a | extract -i '**a\r'", 1, 6),
+    (b"out: read a | timebase -t ''", 1, 6),
+    (b"out: read a | timebase -t 3%", 1, 6),
+    (b"out: read a | timebase -t 16c", 1, 6),
+    (b"out: read a | timebase -t r", 1, 6),
+    (b"out: read a | timebase -t 4097", 1, 6),
+    (b"out: read a | timebase -t 016", 1, 6),
+];
 
 const BRANCHES: &[Row] = &[
     (b"p: read a\nout: assemble q", 2, 3),
@@ -108,11 +108,6 @@ const BRANCHES: &[Row] = &[
     (b"p: read a | rid -I -Q", 1, 5),
 ];
 
-#[test]
-fn branches(rt: HostRuntime) {
-    check_faults(&rt, rt.alloc(), PlanRule::N11, BRANCHES);
-}
-
 const PATTERNS: &[Row] = &[
     (b"out: read a | ditto -s '('", 1, 6),
     (b"out: read a | ditto -p -s '(?<n'", 1, 7),
@@ -132,8 +127,14 @@ const PATTERNS: &[Row] = &[
 ];
 
 #[test]
-fn patterns(rt: HostRuntime) {
-    check_faults(&rt, rt.alloc(), PlanRule::N12, PATTERNS);
+fn words_behind_commands(rt: HostRuntime) {
+    let alloc = rt.alloc();
+    check_faults(&rt, alloc, PlanRule::N8, WORDS_TOO_MANY);
+    check_faults(&rt, alloc, PlanRule::N9, WORDS_MISSING);
+    check_faults(&rt, alloc, PlanRule::N10, VALUES);
+    check_faults(&rt, alloc, PlanRule::N10, NAMES_AND_STEPS);
+    check_faults(&rt, alloc, PlanRule::N11, BRANCHES);
+    check_faults(&rt, alloc, PlanRule::N12, PATTERNS);
 }
 
 const FIFTEEN: &[u8] =
@@ -173,6 +174,22 @@ const LONG: &[(&[Part], Option<(u32, u32, PlanRule)>)] = &[
     (
         &[(FIFTEEN, 1), (b"b15: read x\n", 1), (JOINED, 1)],
         Some((17, 1, PlanRule::N11)),
+    ),
+    // 64 fields, passages and names
+    (&[(b"out: read a | extract -f 7", 1), (b",7", 63)], None),
+    (
+        &[(b"out: read a | extract -f 7", 1), (b",7", 64)],
+        Some((1, 6, PlanRule::N10)),
+    ),
+    (&[(b"out: read a | yank -l -r 7", 1), (b",7", 63)], None),
+    (
+        &[(b"out: read a | yank -l -r 7", 1), (b",7", 64)],
+        Some((1, 7, PlanRule::N10)),
+    ),
+    (&[(b"out: read a | extract -i **a", 1), (b",**a", 63)], None),
+    (
+        &[(b"out: read a | extract -i **a", 1), (b",**a", 64)],
+        Some((1, 6, PlanRule::N10)),
     ),
     // 65,536 bytes
     (&[(b"out: read a\n", 1), (b"#", 65_524)], None),

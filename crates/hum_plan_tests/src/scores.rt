@@ -1,5 +1,4 @@
-//! Scores as tables have them, with ` / ` between two records and ` & ` between two tokens: their
-//! records, with the proof that they are scores.
+//! Scores of texts: their records, with the proof that they are scores.
 ghost use Rattle.std.specs.Prelude.{◌≡◌, ◌≤◌, length};
 ghost use Rattle.hum_record.specs.Spelling.{has_byte};
 ghost use Rattle.hum_stage.specs.Score.{IsClosed};
@@ -69,41 +68,26 @@ fn has_line_feed(text: &[u8]) -> bool
 }
 
 /// The record of a line.
-pub(crate) fn read(rt: &impl Abort, alloc: Global, line: &[u8]) -> Record {
+pub(crate) fn record_of(rt: &impl Abort, alloc: Global, line: &[u8]) -> Record {
     assert!(rt; line.len() <= 1_048_576 && !has_line_feed(line));
     Record::parse(alloc, line.to_vec(alloc).expect(rt, "memory")).expect(rt, "a record")
 }
 
-/// The record of a text.
-pub(crate) fn record_of(rt: &impl Abort, alloc: Global, text: &str) -> Record {
-    let line = text.replace(alloc, " & ", "\t").expect(rt, "memory");
-    read(rt, alloc, line.as_bytes())
-}
-
-/// The score of a text.
+/// The score of a text, whose lines stand between line feeds.
 pub(crate) fn score_of(rt: &impl Abort, alloc: Global, text: &str) -> Score {
     let mut score = Score::new(alloc);
-    for record in text.split(" / ") {
-        score = score.with(rt, record_of(rt, alloc, record));
+    for line in text.split('\n') {
+        score = score.with(rt, record_of(rt, alloc, line.as_bytes()));
     }
     score
 }
 
-/// Writes a record behind a text.
-pub(crate) fn push_record(rt: &impl Abort, alloc: Global, text: &mut String, record: &Record) {
-    if !text.is_empty() {
-        text.push_str(" / ").expect(rt, "memory");
-    }
-    let line = str::from_utf8(record.text()).expect(rt, "UTF-8");
-    let tokens = line.replace(alloc, "\t", " & ").expect(rt, "memory");
-    text.push_str(&tokens).expect(rt, "memory");
-}
-
-/// The text of records.
-pub(crate) fn text_of(rt: &impl Abort, alloc: Global, records: &[Record]) -> String {
-    let mut text = String::new(alloc);
+/// The text of records, with a line feed behind each.
+pub(crate) fn text_of(rt: &impl Abort, alloc: Global, records: &[Record]) -> Vec<u8> {
+    let mut text = Vec::new(alloc);
     for record in records {
-        push_record(rt, alloc, &mut text, record);
+        text.extend_from_slice(record.text()).expect(rt, "memory");
+        text.push(b'\n').expect(rt, "memory");
     }
     text
 }

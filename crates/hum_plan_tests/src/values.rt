@@ -1,15 +1,10 @@
 //! Values of options by hand, of each kind and of none.
-use crate::compared::{holds, same, same_bytes};
-use crate::texts::{Part, joined};
+use crate::compared::{holds, same};
 use hum_extract::{Field, FieldRange};
-use hum_frac::Frac;
 use hum_values::{
-    count, field_ranges, is_label, is_name, is_separator, names, number, passage_ranges,
-    signed_number, step,
+    count, field_ranges, is_label, is_name, is_separator, number, passage_ranges, signed_number,
 };
 use hum_yank::YankRange;
-use std::alloc::Global;
-use std::process::Abort;
 
 /// Texts, each with the largest number that may stand there, and the number that it is.
 const NUMBERS: &[(&[u8], u64, Option<u64>)] = &[
@@ -204,107 +199,25 @@ fn lists_of_passages(rt: HostRuntime) {
     }
 }
 
-/// Texts, and the names that they list, if they do.
-const NAMES: &[(&[u8], Option<&[&[u8]]>)] = &[
-    (b"**kern", Some(&[b"**kern"])),
-    (b"**a,**b c,***", Some(&[b"**a", b"**b c", b"***"])),
-    (b"", None),
-    (b"**", None),
-    (b"*a", None),
-    (b"kern", None),
-    (b"**a,b", None),
-    (b"**a,", None),
-    (b"**a\tb", None),
-    (b"**a\r", None),
-];
-
-fn are_names(found: &Option<Vec<Vec<u8>>>, want: Option<&[&[u8]]>) -> bool {
-    let Some(names) = found else {
-        return want.is_none();
-    };
-    let Some(want) = want else {
-        return false;
-    };
-    for (name, want) in names.iter().zip(want) {
-        if name.as_slice() != *want {
-            return false;
-        }
-    }
-    names.len() == want.len()
-}
-
-#[test]
-fn lists_of_names(rt: HostRuntime) {
-    for row in NAMES {
-        let (text, want) = *row;
-        let found = names(rt.alloc(), text).expect(&rt, "memory");
-        holds(&rt, are_names(&found, want), text);
-    }
-}
-
-/// The parts of a text, whether it lists fields and passages, and whether it lists names.
-const ITEMS: &[(&[Part], bool, bool)] = &[
-    (&[(b"7", 1), (b",7", 63)], true, false),
-    (&[(b"7", 1), (b",7", 64)], false, false),
-    (&[(b"**a", 1), (b",**a", 63)], false, true),
-    (&[(b"**a", 1), (b",**a", 64)], false, false),
+/// Texts, and whether each is a label, a separator and a name.
+const WORDS: &[(&[u8], bool, bool, bool)] = &[
+    (b"A", true, true, false),
+    (b"a b,c]", true, true, false),
+    (b"", false, true, false),
+    (b"a[b", false, true, false),
+    (b"a\tb", false, false, false),
+    (b"a\n", false, false, false),
+    (b", ", true, true, false),
+    (b"\r", false, false, false),
+    (b"**a,b", true, true, true),
+    (b"**", true, true, false),
 ];
 
 #[test]
-fn at_most_64_items(rt: HostRuntime) {
-    let alloc = rt.alloc();
-    for row in ITEMS {
-        let (parts, are_ranges, are_names) = *row;
-        let text = joined(&rt, alloc, parts);
-        let fields = field_ranges(alloc, &text).expect(&rt, "memory").is_some();
-        let passages = passage_ranges(alloc, &text).expect(&rt, "memory").is_some();
-        let names = names(alloc, &text).expect(&rt, "memory").is_some();
-        let want = (are_ranges, are_ranges, are_names);
-        same(&rt, (fields, passages, names), want, text.len());
-    }
-}
-
-const LABELS: &[(&[u8], bool)] = &[
-    (b"A", true),
-    (b"a b,c]", true),
-    (b"", false),
-    (b"a[b", false),
-    (b"a\tb", false),
-    (b"a\n", false),
-];
-
-const SEPARATORS: &[(&[u8], bool)] = &[(b"", true), (b", ", true), (b"\r", false)];
-
-#[test]
-fn labels_and_separators(rt: HostRuntime) {
-    for row in LABELS {
-        let (text, is) = *row;
-        same(&rt, is_label(text), is, text);
-    }
-    for row in SEPARATORS {
-        let (text, is) = *row;
-        same(&rt, is_separator(text), is, text);
-    }
-    same(&rt, is_name(b"**a,b"), true, "a name with a comma");
-    same(&rt, is_name(b"**"), false, "no name");
-}
-
-fn check_step(rt: &impl Abort, alloc: Global, text: &[u8], want: Frac) {
-    let options = step(alloc, text).expect(rt, "memory").expect(rt, "a step");
-    same(rt, options.step, want, text);
-    same_bytes(rt, &options.text, text, text);
-}
-
-const NO_STEPS: &[&[u8]] = &[b"", b"3%", b"16c", b"r", b"4097", b"016"];
-
-#[test]
-fn steps(rt: HostRuntime) {
-    let alloc = rt.alloc();
-    check_step(&rt, alloc, b"16", Frac::new(1, 16));
-    check_step(&rt, alloc, b"4.", Frac::new(3, 8));
-    check_step(&rt, alloc, b"3%2", Frac::new(2, 3));
-    for text in NO_STEPS {
-        let found = step(alloc, *text).expect(&rt, "memory");
-        holds(&rt, found.is_none(), *text);
+fn labels_separators_and_names(rt: HostRuntime) {
+    for row in WORDS {
+        let (text, label, separator, name) = *row;
+        let found = (is_label(text), is_separator(text), is_name(text));
+        same(&rt, found, (label, separator, name), text);
     }
 }

@@ -136,6 +136,76 @@ const CONTEXT: &[Row] = &[
     ),
 ];
 
+const CONTEXT_LINE_BY_LINE: &[Row] = &[
+    // a context is given with the record that decides it, and what stands behind it waits on
+    (
+        b"out: read a | context -n 2 -o '^='\n--- a\n**x\n",
+        b"**x\n",
+        "humpipe: stage 1 (read), line 2: P8",
+    ),
+    (
+        b"out: read a | context -n 2 -o '^='\n--- a\n**x\na\n",
+        b"**x\n",
+        "humpipe: stage 1 (read), line 3: P8",
+    ),
+    (
+        b"out: read a | context -n 2 -o '^='\n--- a\n**x\na\n=1\n",
+        b"**x\n",
+        "humpipe: stage 1 (read), line 4: P8",
+    ),
+    (
+        b"out: read a | context -n 2 -o '^='\n--- a\n**x\na\n=1\n.\n",
+        b"**x\n",
+        "humpipe: stage 1 (read), line 5: P8",
+    ),
+    (
+        b"out: read a | context -n 2 -o '^='\n--- a\n**x\na\n=1\n.\nb\n",
+        b"**x\na b\n=1\n.\n",
+        "humpipe: stage 1 (read), line 6: P8",
+    ),
+    // a group is followed through a split, an exchange and a join, and given with the token that ends it
+    (
+        b"out: read a | context -b '\\{' -e '\\}'\n--- a\n**x\t**x\n",
+        b"**x\t**x\n",
+        "humpipe: stage 1 (read), line 2: P8",
+    ),
+    (
+        b"out: read a | context -b '\\{' -e '\\}'\n--- a\n**x\t**x\n{a\tb\n",
+        b"**x\t**x\n",
+        "humpipe: stage 1 (read), line 3: P8",
+    ),
+    (
+        b"out: read a | context -b '\\{' -e '\\}'\n--- a\n**x\t**x\n{a\tb\n*^\t*\n",
+        b"**x\t**x\n",
+        "humpipe: stage 1 (read), line 4: P8",
+    ),
+    (
+        b"out: read a | context -b '\\{' -e '\\}'\n--- a\n**x\t**x\n{a\tb\n*^\t*\nc\t{d\te\n",
+        b"**x\t**x\n",
+        "humpipe: stage 1 (read), line 5: P8",
+    ),
+    (
+        b"out: read a | context -b '\\{' -e '\\}'\n--- a\n**x\t**x\n{a\tb\n*^\t*\nc\t{d\te\n*x\t*x\t*\n",
+        b"**x\t**x\n",
+        "humpipe: stage 1 (read), line 6: P8",
+    ),
+    (
+        b"out: read a | context -b '\\{' -e '\\}'\n--- a\n**x\t**x\n{a\tb\n*^\t*\nc\t{d\te\n*x\t*x\t*\nf\tg\th\n",
+        b"**x\t**x\n",
+        "humpipe: stage 1 (read), line 7: P8",
+    ),
+    (
+        b"out: read a | context -b '\\{' -e '\\}'\n--- a\n**x\t**x\n{a\tb\n*^\t*\nc\t{d\te\n*x\t*x\t*\nf\tg\th\n*v\t*v\t*\n",
+        b"**x\t**x\n",
+        "humpipe: stage 1 (read), line 8: P8",
+    ),
+    (
+        b"out: read a | context -b '\\{' -e '\\}'\n--- a\n**x\t**x\n{a\tb\n*^\t*\nc\t{d\te\n*x\t*x\t*\nf\tg\th\n*v\t*v\t*\ni}\tj\n",
+        b"**x\t**x\n{a c g i}\t.\n*^\t*\n.\t{d f i}\t.\n*x\t*x\t*\n.\t.\t.\n*v\t*v\t*\n.\t.\n",
+        "humpipe: stage 1 (read), line 9: P8",
+    ),
+];
+
 const YANK: &[Row] = &[
     (
         b"out: read a | yank -n '^=' -r 1\n--- a\n**kern\n!!up\n4c\n=1\n4d\n*k[]\n=2\n4e\n==\n*-\n",
@@ -404,13 +474,10 @@ const YANK_REFUSED: &[Row] = &[
 ];
 
 #[test]
-fn repeated_tokens(rt: HostRuntime) {
+fn repeated_tokens_and_contexts(rt: HostRuntime) {
     check_all(&rt, rt.alloc(), DITTO);
-}
-
-#[test]
-fn contexts(rt: HostRuntime) {
     check_all(&rt, rt.alloc(), CONTEXT);
+    check_all(&rt, rt.alloc(), CONTEXT_LINE_BY_LINE);
 }
 
 #[test]

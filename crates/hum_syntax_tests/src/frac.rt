@@ -30,12 +30,15 @@ fn a_fraction_is_kept_in_lowest_terms(rt: HostRuntime) {
     same(&rt, Frac::zero(), frac(&rt, (0, 9)), "zero");
 }
 
-/// Two fractions, and their sum if it fits.
-const SUMS: &[(Ratio, Ratio, Option<Ratio>)] = &[
-    ((1, 6), (1, 3), Some((1, 2))),
-    ((3, 4), (0, 1), Some((3, 4))),
-    ((1, LARGE), (1, LARGE - 1), None),
-    ((1, LARGE), (1, LARGE), Some((1, LARGE / 2))),
+/// Two fractions, their sum if it fits, and whether the first is before the second.
+const PAIRS: &[(Ratio, Ratio, Option<Ratio>, bool)] = &[
+    ((1, 6), (1, 3), Some((1, 2)), true),
+    ((3, 4), (0, 1), Some((3, 4)), false),
+    ((1, LARGE), (1, LARGE - 1), None, true),
+    ((1, LARGE), (1, LARGE), Some((1, LARGE / 2)), false),
+    ((1, 3), (3, 8), Some((17, 24)), true),
+    ((3, 8), (1, 3), Some((17, 24)), false),
+    ((2, 6), (1, 3), Some((2, 3)), false),
 ];
 
 fn wanted(rt: &impl Abort, sum: Option<Ratio>) -> Result<Frac, FracFault> {
@@ -46,26 +49,12 @@ fn wanted(rt: &impl Abort, sum: Option<Ratio>) -> Result<Frac, FracFault> {
 }
 
 #[test]
-fn sums(rt: HostRuntime) {
-    for row in SUMS {
-        let (a, b, sum) = *row;
-        let found = frac(&rt, a).add(frac(&rt, b));
-        same(&rt, found, wanted(&rt, sum), (a, b));
-    }
-}
-
-/// Two fractions, and whether the first is before the second.
-const ORDER: &[(Ratio, Ratio, bool)] = &[
-    ((1, 3), (3, 8), true),
-    ((3, 8), (1, 3), false),
-    ((2, 6), (1, 3), false),
-];
-
-#[test]
-fn order(rt: HostRuntime) {
-    for row in ORDER {
-        let (a, b, before) = *row;
-        same(&rt, frac(&rt, a).is_before(frac(&rt, b)), before, (a, b));
+fn sums_and_order(rt: HostRuntime) {
+    for row in PAIRS {
+        let (a, b, sum, before) = *row;
+        let (one, other) = (frac(&rt, a), frac(&rt, b));
+        let found = (one.add(other), one.is_before(other));
+        same(&rt, found, (wanted(&rt, sum), before), (a, b));
     }
     holds(&rt, frac(&rt, (1, 3)) != frac(&rt, (3, 8)), "1/3 and 3/8");
 }

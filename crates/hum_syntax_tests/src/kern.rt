@@ -41,11 +41,6 @@ const PLAIN: &[Row] = &[
     (b".4", 1, 4, 1, 2),
 ];
 
-#[test]
-fn plain_durations(rt: HostRuntime) {
-    check_durations(&rt, PLAIN);
-}
-
 /// Tokens, and whether each begins with a digit and is one subtoken without the sign of a grace note.
 const LEADING: &[(&[u8], bool)] = &[
     (b"4c", true),
@@ -133,7 +128,8 @@ const QUOTIENTS: &[Row] = &[
 ];
 
 #[test]
-fn quotients(rt: HostRuntime) {
+fn durations(rt: HostRuntime) {
+    check_durations(&rt, PLAIN);
     check_durations(&rt, QUOTIENTS);
 }
 
@@ -144,14 +140,6 @@ const NOTHING: Length = Length {
     start: 0,
     end: 0,
 };
-
-#[test]
-fn without_a_duration(rt: HostRuntime) {
-    for text in WITHOUT {
-        same(&rt, read_duration(*text), Ok(NOTHING), *text);
-        same(&rt, read_recip(*text), Err(KernFault::K3), *text);
-    }
-}
 
 const REFUSED: &[&[u8]] = &[
     b"0000c",
@@ -176,34 +164,44 @@ const REFUSED: &[&[u8]] = &[
     b"3%2.......",
 ];
 
-#[test]
-fn refused(rt: HostRuntime) {
-    for text in REFUSED {
-        same(&rt, read_duration(*text), Err(KernFault::K3), *text);
-        same(&rt, read_recip(*text), Err(KernFault::K3), *text);
+// Each text is read so as a subtoken, and is no duration by itself.
+fn check_no_recip(rt: &impl Abort, texts: &[&[u8]], want: &Result<Length, KernFault>) {
+    for text in texts {
+        let found = (read_duration(*text), read_recip(*text));
+        same(rt, found, (*want, Err(KernFault::K3)), *text);
     }
 }
 
-/// Texts, each with its value as a numerator and a denominator.
-const ALONE: &[(&[u8], u32, u32)] = &[(b"16", 1, 16), (b"3%2.", 1, 1), (b"00", 4, 1)];
+#[test]
+fn without_a_duration_or_refused(rt: HostRuntime) {
+    check_no_recip(&rt, WITHOUT, &Ok(NOTHING));
+    check_no_recip(&rt, REFUSED, &Err(KernFault::K3));
+}
 
-/// Texts that are no duration, though each has one.
-const BESIDE: &[&[u8]] = &[b"4c", b" 4", b"4 ", b"4 8", b".4", b"4.%2", b"%2"];
+/// Texts, each with its value as a numerator and a denominator. Those without are no duration, though
+/// each has one.
+const ALONE: &[(&[u8], Option<(u32, u32)>)] = &[
+    (b"16", Some((1, 16))),
+    (b"3%2.", Some((1, 1))),
+    (b"00", Some((4, 1))),
+    (b"4c", None),
+    (b" 4", None),
+    (b"4 ", None),
+    (b"4 8", None),
+    (b".4", None),
+    (b"4.%2", None),
+    (b"%2", None),
+];
 
 #[test]
 fn durations_and_nothing_else(rt: HostRuntime) {
     for row in ALONE {
-        let (text, top, bottom) = *row;
-        assert!(rt; bottom > 0);
-        same(
-            &rt,
-            read_recip(text),
-            Ok(Frac::new(top as u64, bottom as u64)),
-            text,
-        );
-    }
-    for text in BESIDE {
-        same(&rt, read_recip(*text), Err(KernFault::K3), *text);
+        let (text, value) = *row;
+        let want = match value {
+            Some((top, bottom)) => Ok(Frac::new(top as u64, bottom.max(1) as u64)),
+            None => Err(KernFault::K3),
+        };
+        same(&rt, read_recip(text), want, text);
     }
 }
 
@@ -275,40 +273,35 @@ fn pitches(rt: HostRuntime) {
     }
 }
 
-const REFUSED_BY_K1: &[&[u8]] = &[
-    b"cd",
-    b"c4c",
-    b"cC",
-    b"ccdcc",
-    b"c#c",
-    b"4gg#-",
-    b"4c-n",
-    b"an#",
-    b"c##-#",
-    b"ee-4q_e",
+const REFUSED_PITCHES: &[(&[u8], KernFault)] = &[
+    (b"cd", KernFault::K1),
+    (b"c4c", KernFault::K1),
+    (b"cC", KernFault::K1),
+    (b"ccdcc", KernFault::K1),
+    (b"c#c", KernFault::K1),
+    (b"4gg#-", KernFault::K1),
+    (b"4c-n", KernFault::K1),
+    (b"an#", KernFault::K1),
+    (b"c##-#", KernFault::K1),
+    (b"ee-4q_e", KernFault::K1),
     // two runs or different signs come before what is too long
-    b"ccccccccc4d",
-    b"ccccccccc#-",
-    b"c########-",
-    b"c4ccccccccc",
-];
-
-const REFUSED_BY_K2: &[&[u8]] = &[
-    b"ccccccccc",
-    b"4AAAAAAAAA",
-    b"c########",
-    b"c--------",
-    b"cnnnnnnnn",
-    b"bbbbbbbbb#########_",
+    (b"ccccccccc4d", KernFault::K1),
+    (b"ccccccccc#-", KernFault::K1),
+    (b"c########-", KernFault::K1),
+    (b"c4ccccccccc", KernFault::K1),
+    (b"ccccccccc", KernFault::K2),
+    (b"4AAAAAAAAA", KernFault::K2),
+    (b"c########", KernFault::K2),
+    (b"c--------", KernFault::K2),
+    (b"cnnnnnnnn", KernFault::K2),
+    (b"bbbbbbbbb#########_", KernFault::K2),
 ];
 
 #[test]
 fn pitches_refused(rt: HostRuntime) {
-    for text in REFUSED_BY_K1 {
-        same(&rt, read_note(*text), Err(KernFault::K1), *text);
-    }
-    for text in REFUSED_BY_K2 {
-        same(&rt, read_note(*text), Err(KernFault::K2), *text);
+    for row in REFUSED_PITCHES {
+        let (text, fault) = *row;
+        same(&rt, read_note(text), Err(fault), text);
     }
 }
 
@@ -319,11 +312,18 @@ fn check_marks(rt: &impl Abort, rows: &[Marked], pitched: bool) {
     for row in rows {
         let (text, rest, grace, continued) = *row;
         let note = read_note(text).expect(rt, "a note");
+        let place = if pitched {
+            (0, 0)
+        } else {
+            (note.start, note.end)
+        };
         let found = (note.rest, note.grace, note.continued, note.pitch.is_some());
-        same(rt, found, (rest, grace, continued, pitched), text);
-        if !pitched {
-            same(rt, (note.start, note.end), (0, 0), text);
-        }
+        same(
+            rt,
+            (found, place),
+            ((rest, grace, continued, pitched), (0, 0)),
+            text,
+        );
     }
 }
 

@@ -43,30 +43,25 @@ const LINES: &[(&str, Option<Asked<'static>>)] = &[
     ("humpipe -x", None),
 ];
 
-// The words of a line, which stand between single spaces.
-fn words(rt: &impl Abort, alloc: Global, line: &str) -> Vec<String> {
+// The words of a line, which stand between single spaces, ask for this.
+fn check(rt: &impl Abort, alloc: Global, line: &str, want: Option<Asked<'_>>) {
     let mut words = Vec::new(alloc);
     for word in line.split(' ') {
         let word = String::from_str(alloc, word).expect(rt, "memory");
         words.push(word).expect(rt, "memory");
     }
-    words
-}
-
-fn asked<'w>(rt: &impl Abort, alloc: Global, words: &'w [String]) -> Option<Asked<'w>> {
-    match read_line(alloc, words) {
+    let asked = match read_line(alloc, &words) {
         Ok(choice) => Some((choice.link, choice.order, choice.file)),
         Err(LineFault::Usage) => None,
         Err(LineFault::Memory) => panic!(rt; "memory"),
-    }
+    };
+    same(rt, asked, want, line);
 }
 
 #[test]
 fn lines(rt: HostRuntime) {
-    let alloc = rt.alloc();
     for row in LINES {
         let (line, want) = *row;
-        let words = words(&rt, alloc, line);
-        same(&rt, asked(&rt, alloc, &words), want, line);
+        check(&rt, rt.alloc(), line, want);
     }
 }

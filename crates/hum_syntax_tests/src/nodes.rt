@@ -10,7 +10,7 @@ use std::alloc::Global;
 use std::process::Abort;
 
 // What a turn has given, as text.
-fn shown<'a>(node: &Reading<Marked<Pieces>>, next: &'a Option<Record>) -> &'a [u8] {
+fn shown<'a>(node: &Reading<Marked<Pieces<'static>>>, next: &'a Option<Record>) -> &'a [u8] {
     match next {
         Some(record) => record.text(),
         None => match node.stopped() {
@@ -21,19 +21,6 @@ fn shown<'a>(node: &Reading<Marked<Pieces>>, next: &'a Option<Record>) -> &'a [u
             Some(Err(ReadError::Memory)) => b"out of memory",
         },
     }
-}
-
-// Gives back what was given, which the reader keeps.
-fn give_back(rt: &impl Abort, node: &mut Reading<Marked<Pieces>>, next: Option<Record>) {
-    if let Some(row) = next {
-        holds(rt, node.reuse(row).is_none(), "the reader keeps it");
-    }
-}
-
-// The node that reads this text by one read. That read fails if none is good.
-fn node_of(alloc: Global, text: &'static [u8], good: usize) -> Reading<Marked<Pieces>> {
-    let size = text.len();
-    Reading::new(alloc, 1, Marked::new(Pieces { text, size, good }))
 }
 
 /// A text, how many reads of it are good, and what each turn gives.
@@ -51,11 +38,16 @@ const READ: &[(&[u8], usize, &[&[u8]])] = &[
     (b"**x\n*-", 0, &[b"failed", b"failed"]),
 ];
 
-fn check_turns(rt: &impl Abort, mut node: Reading<Marked<Pieces>>, turns: &[&[u8]]) {
+// The node that reads from this source gives so much by each turn. What was given is given back, and
+// the reader keeps it.
+fn check_turns(rt: &impl Abort, alloc: Global, source: Pieces<'static>, turns: &[&[u8]]) {
+    let mut node = Reading::new(alloc, 1, Marked::new(source));
     for want in turns {
         let next = node.next();
         same_bytes(rt, shown(&node, &next), *want, *want);
-        give_back(rt, &mut node, next);
+        if let Some(row) = next {
+            holds(rt, node.reuse(row).is_none(), "the reader keeps it");
+        }
     }
 }
 
@@ -63,7 +55,8 @@ fn check_turns(rt: &impl Abort, mut node: Reading<Marked<Pieces>>, turns: &[&[u8
 fn scores_are_read(rt: HostRuntime) {
     for row in READ {
         let (text, good, turns) = *row;
-        check_turns(&rt, node_of(rt.alloc(), text, good), turns);
+        let size = text.len();
+        check_turns(&rt, rt.alloc(), Pieces { text, size, good }, turns);
     }
 }
 

@@ -4,7 +4,6 @@ ghost use Rattle.std.specs.Prelude.{◌≡◌, ◌≤◌, [], length};
 use crate::compared::{holds, same, same_bytes};
 use crate::record::read;
 use hum_path::{Carried, ColumnMemory, Move, Moves, PathFault, Paths};
-use hum_record::{Record, RecordBuilder, SpinedKind};
 use std::alloc::{AllocError, Global};
 use std::marker::Model;
 use std::process::Abort;
@@ -125,38 +124,15 @@ const REFUSED: &[Row] = &[
     (b"*", Err(PathFault::P7), &[]),
 ];
 
+const OPENED: &[Row] = &[(b"**x", Ok(&[Move::Same(0)]), &[b"**x"])];
+
 #[test]
 fn refuses_what_breaks_a_rule(rt: HostRuntime) {
     let alloc = rt.alloc();
     let mut paths = Paths::new(alloc);
     check_steps(&rt, alloc, &mut paths, REFUSED);
-}
-
-// A record that splits so many spines, and at least one.
-fn splits(rt: &impl Abort, alloc: Global, width: usize) -> Record {
-    let mut builder = RecordBuilder::new(alloc, SpinedKind::Interpretation);
-    builder.push(b"*^").expect(rt, "a token");
-    for _ in 1..width {
-        builder.push(b"*^").expect(rt, "a token");
-    }
-    builder.finish()
-}
-
-const OPENED: &[Row] = &[(b"**x", Ok(&[Move::Same(0)]), &[b"**x"])];
-
-#[test]
-fn refuses_more_than_4096_spines(rt: HostRuntime) {
-    let alloc = rt.alloc();
-    let mut paths = Paths::new(alloc);
-    check_steps(&rt, alloc, &mut paths, OPENED);
-    for _ in 0..12 {
-        let row = splits(&rt, alloc, paths.width());
-        paths.step(&row).expect(&rt, "moves");
-    }
-    same(&rt, paths.width(), 4096, "twelve splits");
-    let row = splits(&rt, alloc, 4096);
-    same(&rt, paths.step(&row).err(), Some(PathFault::P9), "one more");
-    same(&rt, paths.width(), 4096, "as before");
+    let mut other = Paths::new(alloc);
+    check_steps(&rt, alloc, &mut other, OPENED);
 }
 
 /// The nearest cell above.

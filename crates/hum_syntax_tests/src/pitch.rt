@@ -34,11 +34,12 @@ pub(crate) fn at(spelled: Spelled) -> Pitch {
 /// Two pitches, and the interval from the first to the second.
 type Named = (Spelled, Spelled, &'static str);
 
-fn check_named(rt: &impl Abort, alloc: Global, rows: &[Named]) {
+// The intervals have these names, without direction or quality where these are left out.
+fn check_named(rt: &impl Abort, alloc: Global, rows: &[Named], left_out: (bool, bool)) {
     for row in rows {
         let (from, to, name) = *row;
         let found = interval(at(from), at(to));
-        let text = write_interval(alloc, found, false, false).expect(rt, "memory");
+        let text = write_interval(alloc, found, left_out.0, left_out.1).expect(rt, "memory");
         same_bytes(rt, &text, name.as_bytes(), name);
     }
 }
@@ -78,69 +79,54 @@ const WIDEST: &[Named] = &[
     ((B, 11, 7), (C, -4, -7), "-AAAAAAAAAAAAAA112"),
 ];
 
+/// A diminished fourth down without direction, without quality and without both.
+const UNDIRECTED: &[Named] = &[((E, 4, -1), (B, 3, 0), "d4")];
+
+const UNQUALIFIED: &[Named] = &[((E, 4, -1), (B, 3, 0), "-4")];
+
+const BARE: &[Named] = &[((E, 4, -1), (B, 3, 0), "4")];
+
 #[test]
 fn names_intervals(rt: HostRuntime) {
-    check_named(&rt, rt.alloc(), NATURAL);
-    check_named(&rt, rt.alloc(), ALTERED);
-    check_named(&rt, rt.alloc(), WIDEST);
-}
-
-/// Whether direction and quality are left out of a diminished fourth down, and what is left.
-const LEFT: &[(bool, bool, &str)] = &[(true, false, "d4"), (false, true, "-4"), (true, true, "4")];
-
-#[test]
-fn leaves_out_direction_and_quality(rt: HostRuntime) {
+    check_named(&rt, rt.alloc(), NATURAL, (false, false));
+    check_named(&rt, rt.alloc(), ALTERED, (false, false));
+    check_named(&rt, rt.alloc(), WIDEST, (false, false));
+    check_named(&rt, rt.alloc(), UNDIRECTED, (true, false));
+    check_named(&rt, rt.alloc(), UNQUALIFIED, (false, true));
+    check_named(&rt, rt.alloc(), BARE, (true, true));
     let fourth = interval(at((E, 4, -1)), at((B, 3, 0)));
     same(&rt, (fourth.steps, fourth.semitones), (-3, -4), "-d4");
-    for row in LEFT {
-        let (without_direction, without_quality, left) = *row;
-        let text = write_interval(rt.alloc(), fourth, without_direction, without_quality).expect(
-            &rt, "memory",
-        );
-        same_bytes(&rt, &text, left.as_bytes(), left);
-    }
 }
 
-const WRITTEN: &[(Spelled, &str)] = &[
-    ((C, 4, 0), "c"),
-    ((C, 5, 0), "cc"),
-    ((C, 3, 0), "C"),
-    ((C, 2, 0), "CC"),
-    ((D, 5, 1), "dd#"),
-    ((G, 3, -2), "G--"),
-    ((F, 4, 3), "f###"),
-    ((B, 3, -1), "B-"),
-    ((A, 0, 0), "AAAA"),
-    ((E, 6, -1), "eee-"),
-    ((C, -4, -7), "CCCCCCCC-------"),
-    ((B, 11, 7), "bbbbbbbb#######"),
+/// Pitches, their texts, and how many semitones they are above middle c.
+const WRITTEN: &[(Spelled, &str, i32)] = &[
+    ((C, 4, 0), "c", 0),
+    ((C, 5, 0), "cc", 12),
+    ((C, 3, 0), "C", -12),
+    ((C, 2, 0), "CC", -24),
+    ((D, 5, 1), "dd#", 15),
+    ((G, 3, -2), "G--", -7),
+    ((F, 4, 3), "f###", 8),
+    ((B, 3, -1), "B-", -2),
+    ((A, 0, 0), "AAAA", -39),
+    ((E, 6, -1), "eee-", 27),
+    ((C, -4, -7), "CCCCCCCC-------", -103),
+    ((B, 11, 7), "bbbbbbbb#######", 102),
+    ((D, 4, 1), "d#", 3),
+    ((A, 4, 0), "a", 9),
+    ((B, 3, 1), "B#", 0),
+    ((C, 4, -1), "c-", -1),
+    ((C, -1, 0), "CCCCC", -60),
+    ((G, 9, 0), "gggggg", 67),
 ];
 
 #[test]
-fn writes_pitches(rt: HostRuntime) {
+fn writes_pitches_and_counts_semitones(rt: HostRuntime) {
     for row in WRITTEN {
-        let (pitch, text) = *row;
+        let (pitch, text, semitones) = *row;
         let written = write_pitch(rt.alloc(), at(pitch)).expect(&rt, "memory");
-        same_bytes(&rt, &written, text.as_bytes(), text);
-    }
-}
-
-const SEMITONES: &[(Spelled, i32)] = &[
-    ((C, 4, 0), 0),
-    ((D, 4, 1), 3),
-    ((G, 3, -2), -7),
-    ((A, 4, 0), 9),
-    ((B, 3, 1), 0),
-    ((C, 4, -1), -1),
-    ((C, -1, 0), -60),
-    ((G, 9, 0), 67),
-];
-
-#[test]
-fn counts_semitones_from_middle_c(rt: HostRuntime) {
-    for row in SEMITONES {
-        let (pitch, semitones) = *row;
-        same(&rt, at(pitch).semits(), semitones, pitch);
+        let found = (written.as_slice(), at(pitch).semits());
+        same(&rt, found, (text.as_bytes(), semitones), pitch);
     }
 }
 

@@ -11,7 +11,7 @@ use std::process::Abort;
 fn read_all(
     rt: &impl Abort,
     alloc: Global,
-    reader: &mut ScoreReader<Marked<Pieces>>,
+    reader: &mut ScoreReader<Marked<Pieces<'static>>>,
 ) -> (Vec<u8>, Result<End, ReadError>) {
     let mut texts = Vec::new(alloc);
     for _ in 0..1_000 {
@@ -30,7 +30,7 @@ fn read_all(
 fn check_read(
     rt: &impl Abort,
     alloc: Global,
-    source: Pieces,
+    source: Pieces<'static>,
     want: &[u8],
     stop: Result<End, ReadError>,
 ) {

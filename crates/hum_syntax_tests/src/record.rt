@@ -193,19 +193,15 @@ fn refuses_in_order(rt: HostRuntime) {
 
 const BUILT: &Row = &(b"!a\t!", Kind::Local, &[b"!a", b"!"]);
 
-#[test]
-fn builds_a_record(rt: HostRuntime) {
-    let mut builder = RecordBuilder::new(rt.alloc(), SpinedKind::Local);
-    builder.push(b"!a").expect(&rt, "a token");
-    builder.push(b"!").expect(&rt, "a token");
-    check_record(&rt, &builder.finish(), BUILT);
-}
-
 const BUILT_IN_A_SPARE: &Row = &(b"*", Kind::Interpretation, &[b"*"]);
 
 #[test]
-fn nothing_of_a_spare_shows(rt: HostRuntime) {
+fn builds_records_and_nothing_of_a_spare_shows(rt: HostRuntime) {
     let alloc = rt.alloc();
+    let mut builder = RecordBuilder::new(alloc, SpinedKind::Local);
+    builder.push(b"!a").expect(&rt, "a token");
+    builder.push(b"!").expect(&rt, "a token");
+    check_record(&rt, &builder.finish(), BUILT);
     let mut spare = Spare::none(alloc);
     spare.keep(read(&rt, alloc, b"4c\t4e\t4g"));
     let mut builder = RecordBuilder::reusing(alloc, SpinedKind::Interpretation, &mut spare);

@@ -6,13 +6,13 @@ use std::io::{Error, ErrorKind, Read};
 /// Gives a text in pieces of this size, and is interrupted once, after `good` reads. A read that
 /// asks for no byte, or for more than may be asked for, fails.
 #[derive(Drop)]
-pub(crate) struct Pieces {
-    pub text: &'static [u8],
+pub(crate) struct Pieces<'a> {
+    pub text: &'a [u8],
     pub size: usize,
     pub good: usize,
 }
 
-impl Read for Pieces {
+impl Read for Pieces<'_> {
     fn read(&mut self, buf: &mut [u8]) -> io::Result<usize> {
         if self.good == 0 {
             self.good = usize::MAX;

@@ -1,4 +1,6 @@
 //! The spread rule on interpretations of some tokens, by hand.
+ghost use Rattle.hum_spread.specs.Writing.{Fit};
+
 use crate::compared::{holds, same, same_bytes};
 use hum_record::{Record, RecordBuilder, SpinedKind};
 use hum_spread::{Piece, push_fitting, spread};
@@ -6,9 +8,24 @@ use std::alloc::Global;
 use std::collections::VecDeque;
 use std::process::Abort;
 
-// Writes two joins, with a token between or one behind, and answers the records.
-fn written(rt: &impl Abort, alloc: Global, between: bool, room: u64) -> VecDeque<Record> {
-    let mut out = VecDeque::new(alloc);
+// Whether the pieces fit into so much room, and the texts of their records, with LF behind each.
+fn check(rt: &impl Abort, alloc: Global, pieces: &[Piece], room: u64, want: (bool, &[u8]))
+    requires { Fit pieces.now }
+{
+    let mut out: VecDeque<Record> = VecDeque::new(alloc);
+    let fits = spread(alloc, pieces, room, &mut out).expect(rt, "memory");
+    let mut texts = Vec::new(alloc);
+    for record in &out {
+        texts.extend_from_slice(record.text()).expect(rt, "memory");
+        texts.push(b'\n').expect(rt, "memory");
+    }
+    same(rt, fits, want.0, room);
+    same_bytes(rt, &texts, want.1, room);
+}
+
+#[test]
+fn writes_neighbouring_joins_one_after_another(rt: HostRuntime) {
+    let alloc = rt.alloc();
     let apart = [
         Piece::new(true, b"*v"),
         Piece::new(false, b"*v"),
@@ -16,6 +33,7 @@ fn written(rt: &impl Abort, alloc: Global, between: bool, room: u64) -> VecDeque
         Piece::new(true, b"*v"),
         Piece::new(false, b"*v"),
     ];
+    check(&rt, alloc, &apart, 1, (true, b"*v\t*v\t*\t*v\t*v\n"));
     let beside = [
         Piece::new(true, b"*v"),
         Piece::new(false, b"*v"),
@@ -23,39 +41,11 @@ fn written(rt: &impl Abort, alloc: Global, between: bool, room: u64) -> VecDeque
         Piece::new(false, b"*v"),
         Piece::new(false, b"*^"),
     ];
-    let pieces = if between { &apart } else { &beside };
-    let fits = spread(alloc, pieces, room, &mut out).expect(rt, "memory");
-    same(
-        rt,
-        fits,
-        !out.is_empty(),
-        "records come where there is room",
-    );
-    out
-}
-
-fn check_texts(rt: &impl Abort, records: &VecDeque<Record>, want: &[&'static [u8]]) {
-    same(rt, records.len(), want.len(), "records");
-    for (record, text) in records.iter().zip(want) {
-        same_bytes(rt, record.text(), *text, *text);
-    }
-}
-
-#[test]
-fn writes_neighbouring_joins_one_after_another(rt: HostRuntime) {
-    let two = written(&rt, rt.alloc(), false, 2);
-    check_texts(&rt, &two, &[b"*v\t*v\t*\t*\t*", b"*\t*v\t*v\t*^"]);
-    let one = written(&rt, rt.alloc(), true, 1);
-    check_texts(&rt, &one, &[b"*v\t*v\t*\t*v\t*v"]);
-}
-
-#[test]
-fn writes_nothing_without_room_or_tokens(rt: HostRuntime) {
-    let alloc = rt.alloc();
-    holds(&rt, written(&rt, alloc, false, 1).is_empty(), "no room");
-    let mut out = VecDeque::new(alloc);
-    let fits = spread(alloc, &[], 0, &mut out).expect(&rt, "memory");
-    holds(&rt, fits && out.is_empty(), "no tokens");
+    let texts = b"*v\t*v\t*\t*\t*\n*\t*v\t*v\t*^\n";
+    check(&rt, alloc, &beside, 2, (true, texts));
+    // no room, and no tokens
+    check(&rt, alloc, &beside, 1, (false, b""));
+    check(&rt, alloc, &[], 0, (true, b""));
 }
 
 #[test]

@@ -31,25 +31,17 @@ impl Write for Room {
     }
 }
 
-// What a reading to the end gave.
-#[derive(Drop)]
-struct Reading {
-    // the lines, with LF after each
-    lines: Vec<u8>,
-    // how many polls answered `More`
-    reads: usize,
-    // the fault, if it didn't come to the end
-    fault: Option<TextFault>,
-}
-
-// Reads to the end or a fault, and polls once more, which has to answer the same.
-fn read_all<R: Source + Drop>(
+// The source gives these lines, with LF after each, and this fault if it doesn't come to the end, and
+// the same again when it is polled once more. Answers how many polls answered `More`.
+fn check_lines(
     rt: &impl Abort,
     alloc: Global,
-    source: R,
+    source: Pieces<'_>,
     limits: Limits,
-) -> Reading {
-    let mut reader = LineReader::new(alloc, source, limits);
+    (want, fault): (&[u8], Option<TextFault>),
+) -> usize {
+    let case = (source.size, want.len().min(100), fault);
+    let mut reader = LineReader::new(alloc, Marked::new(source), limits);
     let mut lines = Vec::new(alloc);
     let mut reads = 0usize;
     for _ in 0..10_000 {
@@ -61,13 +53,9 @@ fn read_all<R: Source + Drop>(
             }
             Ok(Step::More) => reads = reads.saturating_add(1),
             Ok(Step::End) | Err(_) => {
-                same(rt, reader.poll(), polled, "polled once more");
-                let fault = polled.err();
-                return Reading {
-                    lines,
-                    reads,
-                    fault,
-                };
+                same(rt, (reader.poll(), polled.err()), (polled, fault), case);
+                same_bytes(rt, &lines, want, case);
+                return reads;
             }
         }
     }
@@ -116,22 +104,6 @@ const TEXTS: &[Row] = &[
     (b"abc\ndef\nghi", SMALL, b"abc\ndef\n", Some(TextFault::S7)),
 ];
 
-// The source gives these lines and this fault; answers how many reads gave bytes.
-fn check_lines(
-    rt: &impl Abort,
-    alloc: Global,
-    source: Pieces,
-    limits: Limits,
-    lines: &[u8],
-    fault: Option<TextFault>,
-) -> usize {
-    let case = (source.text, source.size);
-    let reading = read_all(rt, alloc, Marked::new(source), limits);
-    same_bytes(rt, &reading.lines, lines, case);
-    same(rt, reading.fault, fault, case);
-    reading.reads
-}
-
 #[test]
 fn texts_in_pieces(rt: HostRuntime) {
     for size in 1..=12usize {
@@ -139,7 +111,7 @@ fn texts_in_pieces(rt: HostRuntime) {
             let (text, limits, lines, fault) = *row;
             let good = usize::MAX;
             let source = Pieces { text, size, good };
-            check_lines(&rt, rt.alloc(), source, limits, lines, fault);
+            check_lines(&rt, rt.alloc(), source, limits, (lines, fault));
         }
     }
 }
@@ -156,10 +128,16 @@ fn the_longest_line(rt: HostRuntime) {
         let (letters, lines, fault) = *row;
         let mut text = vec![in rt.alloc(); b'a'; letters].expect(&rt, "memory");
         text.extend_from_slice(b"\r\n").expect(&rt, "memory");
-        let source = Marked::new(text.as_slice());
-        let reading = read_all(&rt, rt.alloc(), source, Limits::standard());
-        let found = (reading.lines.len(), reading.fault, reading.reads);
-        same(&rt, found, (lines, fault, 17), letters);
+        let mut want = vec![in rt.alloc(); b'a'; letters].expect(&rt, "memory");
+        want.push(b'\n').expect(&rt, "memory");
+        let source = Pieces {
+            text: &text,
+            size: usize::MAX,
+            good: usize::MAX,
+        };
+        let want = (&want[..lines.min(want.len())], fault);
+        let reads = check_lines(&rt, rt.alloc(), source, Limits::standard(), want);
+        same(&rt, reads, 17, letters);
     }
 }
 
@@ -194,7 +172,7 @@ fn reads_are_told(rt: HostRuntime) {
         let (text, size, good, lines, fault, reads) = *row;
         let source = Pieces { text, size, good };
         let limits = Limits::standard();
-        let found = check_lines(&rt, rt.alloc(), source, limits, lines, fault);
+        let found = check_lines(&rt, rt.alloc(), source, limits, (lines, fault));
         same(&rt, found, reads, text);
     }
 }

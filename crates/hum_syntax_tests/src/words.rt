@@ -4,38 +4,33 @@ use hum_words::{LineFault, Lines, Piece, TextFault, line_count, name_of, pieces,
 use std::alloc::Global;
 use std::process::Abort;
 
-// Writes a word behind a text, in angle brackets and behind its number.
-fn push_word(rt: &impl Abort, alloc: Global, text: &mut String, number: u32, word: &str) {
-    let part = format!(in alloc; "{number}<{word}>").expect(rt, "memory");
-    text.push_str(&part).expect(rt, "memory");
-}
-
-// Writes a bar behind a text, behind its number.
-fn push_bar(rt: &impl Abort, alloc: Global, text: &mut String, number: u32) {
-    let part = format!(in alloc; "{number}|").expect(rt, "memory");
-    text.push_str(&part).expect(rt, "memory");
-}
-
-fn text_of(rt: &impl Abort, alloc: Global, cut: &[Piece<'_>]) -> String {
-    let mut text = String::new(alloc);
-    for piece in cut {
-        match *piece {
-            Piece::Word(number, word) => push_word(rt, alloc, &mut text, number, word),
-            Piece::Bar(number) => push_bar(rt, alloc, &mut text, number),
-        }
-    }
-    text
+// Writes a number of one digit behind a text, and what is between two marks.
+fn push(rt: &impl Abort, text: &mut String, number: u32, between: (&str, &str, &str)) {
+    let digit = char::from(b'0' + number.min(9) as u8);
+    text.push(digit).expect(rt, "memory");
+    text.push_str(between.0).expect(rt, "memory");
+    text.push_str(between.1).expect(rt, "memory");
+    text.push_str(between.2).expect(rt, "memory");
 }
 
 /// The pieces of a line as text: words between angle brackets and bars, each behind its number, or
 /// the word that is wrong.
 fn shown(rt: &impl Abort, alloc: Global, line: &str) -> String {
     assert!(rt; line.len() <= 65_536);
+    let mut text = String::new(alloc);
     match pieces(alloc, line) {
-        Ok(cut) => text_of(rt, alloc, &cut),
-        Err(LineFault::Quote(word)) => format!(in alloc; "N2 at {word}").expect(rt, "memory"),
+        Ok(cut) => {
+            for piece in &cut {
+                match *piece {
+                    Piece::Word(number, word) => push(rt, &mut text, number, ("<", word, ">")),
+                    Piece::Bar(number) => push(rt, &mut text, number, ("|", "", "")),
+                }
+            }
+        }
+        Err(LineFault::Quote(word)) => push(rt, &mut text, word, (" is wrong", "", "")),
         Err(LineFault::Memory) => panic!(rt; "memory"),
     }
+    text
 }
 
 /// A line, and its pieces as text.
@@ -72,17 +67,17 @@ const QUOTES: &[Row] = &[
     ("'a'|'b'\t", "1<a>1|2<b>"),
     ("'out:' '-f' ' '", "1<out:>2<-f>3< >"),
     ("'\u{e9}' x", "1<\u{e9}>2<x>"),
-    ("'a", "N2 at 1"),
-    ("'", "N2 at 1"),
-    ("x ' y", "N2 at 2"),
-    ("a'b", "N2 at 1"),
-    ("a b' c", "N2 at 2"),
-    ("a'b'", "N2 at 1"),
-    ("'a'b", "N2 at 1"),
-    ("'a''b'", "N2 at 1"),
-    ("a | 'b'\u{e9}", "N2 at 2"),
-    ("'a' 'b c' d'", "N2 at 3"),
-    ("'a'b'", "N2 at 1"),
+    ("'a", "1 is wrong"),
+    ("'", "1 is wrong"),
+    ("x ' y", "2 is wrong"),
+    ("a'b", "1 is wrong"),
+    ("a b' c", "2 is wrong"),
+    ("a'b'", "1 is wrong"),
+    ("'a'b", "1 is wrong"),
+    ("'a''b'", "1 is wrong"),
+    ("a | 'b'\u{e9}", "2 is wrong"),
+    ("'a' 'b c' d'", "3 is wrong"),
+    ("'a'b'", "1 is wrong"),
 ];
 
 #[test]
@@ -95,7 +90,7 @@ fn words_bars_and_quotes(rt: HostRuntime) {
 fn branches_of(rt: &impl Abort, alloc: Global, lines: Lines<'_>) -> String {
     let mut text = String::new(alloc);
     for line in lines {
-        push_word(rt, alloc, &mut text, line.number, line.text);
+        push(rt, &mut text, line.number, ("<", line.text, ">"));
     }
     text
 }
@@ -125,23 +120,22 @@ fn branches(rt: HostRuntime) {
     }
 }
 
-const NO_TEXTS: &[(&[u8], TextFault)] = &[
-    (b"a\n\xff", TextFault::NotUtf8 { line: 2 }),
-    (b"\xc3\nb", TextFault::NotUtf8 { line: 1 }),
-    (b"a\n\nb\xc3", TextFault::NotUtf8 { line: 3 }),
-    (b"\xed\xa0\x80", TextFault::NotUtf8 { line: 1 }),
+/// Bytes, and the text that they are, or the fault.
+const TEXTS: &[(&[u8], Result<&str, TextFault>)] = &[
+    (b"a\n\xff", Err(TextFault::NotUtf8 { line: 2 })),
+    (b"\xc3\nb", Err(TextFault::NotUtf8 { line: 1 })),
+    (b"a\n\nb\xc3", Err(TextFault::NotUtf8 { line: 3 })),
+    (b"\xed\xa0\x80", Err(TextFault::NotUtf8 { line: 1 })),
+    (b"", Ok("")),
+    (b"out: read a\n", Ok("out: read a\n")),
+    (b"\xc3\xa9\xf0\x9d\x84\x9e", Ok("\u{e9}\u{1d11e}")),
 ];
-
-const TEXTS: &[&str] = &["", "out: read a\n", "\u{e9}\u{1d11e}"];
 
 #[test]
 fn texts(rt: HostRuntime) {
-    for row in NO_TEXTS {
-        let (bytes, fault) = *row;
-        same(&rt, plan_text(bytes).err(), Some(fault), bytes);
-    }
-    for text in TEXTS {
-        same(&rt, plan_text(text.as_bytes()), Ok(*text), *text);
+    for row in TEXTS {
+        let (bytes, want) = *row;
+        same(&rt, plan_text(bytes), want, bytes);
     }
 }
 
