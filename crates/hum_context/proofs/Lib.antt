@@ -6,7 +6,6 @@ pub mod Steady
 pub mod Nulls
 pub mod Places
 pub mod Tokens
-pub mod Feeding
 pub mod Measured
 pub mod Passing
 pub mod Queues

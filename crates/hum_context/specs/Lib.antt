@@ -6,4 +6,3 @@ pub mod Held
 pub mod Queue
 pub mod Walking
 pub mod Memory
-pub mod Fed
