@@ -27,24 +27,6 @@ pub(crate) fn alone(
     given::alone(alloc, records, CommandStage::new(alloc, 1, options))
 }
 
-/// What a closed score becomes by two commands, the second behind the first.
-pub(crate) fn piped(
-    alloc: Global,
-    records: &[Record],
-    first: CommandOptions,
-    second: CommandOptions,
-) -> Result<Given, AllocError>
-    requires scores { MakesScores first }
-    requires closed { IsClosed records.now }
-    requires few { length records.now ≤ 4294967295 }
-    ensures given { IfOk result (IsPiped (meaning 1 first) (meaning 2 second) records.now) }
-    ensures keeps { KeepsScore (meaning 1 first).outcomes }
-{
-    let first = CommandStage::new(alloc, 1, first);
-    let second = CommandStage::new(alloc, 2, second);
-    given::piped(alloc, records, first, second)
-}
-
 /// What a closed score becomes by a command, and what that becomes by another one.
 pub(crate) fn again(
     alloc: Global,
@@ -62,6 +44,23 @@ pub(crate) fn again(
     let first = CommandStage::new(alloc, 1, first);
     let second = CommandStage::new(alloc, 2, second);
     given::again(alloc, records, first, second)
+}
+
+/// What a closed score becomes by two commands, the second behind the first.
+pub(crate) fn piped(
+    alloc: Global,
+    records: &[Record],
+    first: CommandOptions,
+    second: CommandOptions,
+) -> Result<Given, AllocError>
+    requires scores { MakesScores first }
+    requires closed { IsClosed records.now }
+    requires few { length records.now ≤ 4294967295 }
+    ensures given { IfOk result (IsPiped (meaning 1 first) (meaning 2 second) records.now) }
+    ensures keeps { KeepsScore (meaning 1 first).outcomes }
+{
+    let (_, twice) = again(alloc, records, first, second)?;
+    Ok(twice)
 }
 
 /// What a closed score becomes by two commands, and what it becomes by one.

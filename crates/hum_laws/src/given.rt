@@ -44,25 +44,6 @@ pub(crate) fn alone<S: Stage + Drop>(
     Ok(Given { records, end })
 }
 
-/// What a closed score becomes by two stages, the second behind the first.
-pub(crate) fn piped<S: Stage + Drop>(
-    alloc: Global,
-    records: &[Record],
-    first: S,
-    second: S,
-) -> Result<Given, AllocError>
-    requires first { IsFirst (S.stands first) }
-    requires second { (n : Meaning) × S.stands second (opening n) }
-    requires closed { IsClosed records.now }
-    requires few { length records.now ≤ 4294967295 }
-    ensures { IfOk result (λ given. (m n : Meaning) → S.stands first (opening m)
-        → S.stands second (opening n) → IsPiped m n records.now given) }
-{
-    let (between, end) = whole(alloc, first, copied(alloc, records)?, End::Closed)?;
-    let (records, end) = whole(alloc, second, between, end)?;
-    Ok(Given { records, end })
-}
-
 /// What a closed score becomes by a stage, and what that becomes by another one.
 pub(crate) fn again<S: Stage + Drop>(
     alloc: Global,
@@ -104,7 +85,7 @@ pub(crate) fn piped_and_alone<S: Stage + Drop>(
         → S.stands second (opening n) → S.stands single (opening k)
         → IsPiped m n records.now both.0 × IsAlone k records.now both.1) }
 {
-    let in_turn = piped(alloc, records, first, second)?;
+    let (_, in_turn) = again(alloc, records, first, second)?;
     let at_once = alone(alloc, records, single)?;
     Ok((in_turn, at_once))
 }
