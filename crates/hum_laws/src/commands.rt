@@ -1,6 +1,6 @@
 //! What commands give of a score, one alone or two one after another.
 //!
-//! Here alone the stages of commands are made: each law is one call of a function below.
+//! Here alone the stages of commands are made: a law is a call or two of the functions below.
 ghost use Rattle.std.specs.Prelude.{◌≤◌, length, IfOk};
 ghost use Rattle.hum_stage.specs.Score.{IsClosed};
 ghost use Rattle.hum_stage.specs.Meaning.{KeepsScore};
@@ -79,8 +79,7 @@ pub(crate) fn piped_and_alone(
         × IsAlone (meaning 1 single) records.now both.1) }
     ensures keeps { KeepsScore (meaning 1 first).outcomes }
 {
-    let first = CommandStage::new(alloc, 1, first);
-    let second = CommandStage::new(alloc, 2, second);
-    let single = CommandStage::new(alloc, 1, single);
-    given::piped_and_alone(alloc, records, first, second, single)
+    let in_turn = piped(alloc, records, first, second)?;
+    let at_once = alone(alloc, records, single)?;
+    Ok((in_turn, at_once))
 }

@@ -67,25 +67,3 @@ pub(crate) fn again<S: Stage + Drop>(
     };
     Ok((once, twice))
 }
-
-/// What a closed score becomes by two stages, and what it becomes by one.
-pub(crate) fn piped_and_alone<S: Stage + Drop>(
-    alloc: Global,
-    records: &[Record],
-    first: S,
-    second: S,
-    single: S,
-) -> Result<(Given, Given), AllocError>
-    requires first { IsFirst (S.stands first) }
-    requires second { (n : Meaning) × S.stands second (opening n) }
-    requires single { (k : Meaning) × S.stands single (opening k) }
-    requires closed { IsClosed records.now }
-    requires few { length records.now ≤ 4294967295 }
-    ensures { IfOk result (λ both. (m n k : Meaning) → S.stands first (opening m)
-        → S.stands second (opening n) → S.stands single (opening k)
-        → IsPiped m n records.now both.0 × IsAlone k records.now both.1) }
-{
-    let (_, in_turn) = again(alloc, records, first, second)?;
-    let at_once = alone(alloc, records, single)?;
-    Ok((in_turn, at_once))
-}
