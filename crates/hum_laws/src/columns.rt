@@ -12,8 +12,8 @@ ghost use Rattle.hum_ditto.specs.Ditto.{meaning as meaning_of_ditto};
 ghost use Rattle.hum_laws.specs.Piped.{IsAlone, IsPiped};
 ghost use Rattle.hum_laws.specs.Fields.{every_field};
 
-use crate::given::{Given, again, alone, piped};
-use hum_command_stages::CommandStage;
+use crate::commands::{again, alone, piped};
+use crate::given::Given;
 use hum_commands::CommandOptions;
 use hum_ditto::DittoOptions;
 use hum_extract::{Choice, Field, FieldRange};
@@ -46,14 +46,14 @@ pub fn extract_ditto(
     let extracted = piped(
         alloc,
         records,
-        CommandStage::new(alloc, 1, CommandOptions::Extract(chosen.0)),
-        CommandStage::new(alloc, 2, CommandOptions::Ditto(options.0)),
+        CommandOptions::Extract(chosen.0),
+        CommandOptions::Ditto(options.0),
     )?;
     let filled = piped(
         alloc,
         records,
-        CommandStage::new(alloc, 1, CommandOptions::Ditto(options.1)),
-        CommandStage::new(alloc, 2, CommandOptions::Extract(chosen.1)),
+        CommandOptions::Ditto(options.1),
+        CommandOptions::Extract(chosen.1),
     )?;
     Ok((extracted, filled))
 }
@@ -75,12 +75,11 @@ pub fn all_fields(alloc: Global, records: &[Record]) -> Result<Given, AllocError
         first: Field::Number(1),
         last: Field::Last,
     })?;
-    let given = alone(
+    alone(
         alloc,
         records,
-        CommandStage::new(alloc, 1, CommandOptions::Extract(Choice::Fields(ranges))),
-    )?;
-    Ok(given)
+        CommandOptions::Extract(Choice::Fields(ranges)),
+    )
 }
 
 /// What is extracted by some names has no others: `extract -i NAMES` twice is once.
@@ -104,11 +103,10 @@ pub fn names_twice(
     ensures same { IfOk result (λ both. both.0.end ≡ Closed → both.1.end ≡ Closed →
         both.1.records.items ≡ both.0.records.items) }
 {
-    let both = again(
+    again(
         alloc,
         records,
-        CommandStage::new(alloc, 1, CommandOptions::Extract(Choice::Names(names))),
-        CommandStage::new(alloc, 2, CommandOptions::Extract(Choice::Names(alike))),
-    )?;
-    Ok(both)
+        CommandOptions::Extract(Choice::Names(names)),
+        CommandOptions::Extract(Choice::Names(alike)),
+    )
 }

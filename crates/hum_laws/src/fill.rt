@@ -5,8 +5,8 @@ ghost use Rattle.hum_stage.specs.declared.faults.End.TheVariants.{Closed};
 ghost use Rattle.hum_ditto.specs.Ditto.{meaning};
 ghost use Rattle.hum_laws.specs.Piped.{IsAlone, IsPiped};
 
-use crate::given::{Given, again};
-use hum_command_stages::CommandStage;
+use crate::commands::again;
+use crate::given::Given;
 use hum_commands::CommandOptions;
 use hum_ditto::DittoOptions;
 use hum_record::Record;
@@ -31,11 +31,10 @@ pub fn ditto_twice(
     ensures same { IfOk result (λ both. both.0.end ≡ Closed → both.1.end ≡ Closed →
         both.1.records.items ≡ both.0.records.items) }
 {
-    let both = again(
+    again(
         alloc,
         records,
-        CommandStage::new(alloc, 1, CommandOptions::Ditto(options)),
-        CommandStage::new(alloc, 2, CommandOptions::Ditto(alike)),
-    )?;
-    Ok(both)
+        CommandOptions::Ditto(options),
+        CommandOptions::Ditto(alike),
+    )
 }

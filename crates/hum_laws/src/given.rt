@@ -1,7 +1,6 @@
 //! What stages give of a score, one alone or two one after another.
 //!
-//! The laws end in `let given = piped(..)?; Ok(given)`, and not in the call alone: what it ensures is
-//! then known of the answer itself.
+//! Generic in the stage, so that no proof here looks into it: `crate::commands` calls them.
 ghost use Rattle.std.specs.Prelude.{◌≡◌, ◌≤◌, length, IfOk};
 ghost use Rattle.hum_stage.specs.Score.{IsClosed};
 ghost use Rattle.hum_stage.specs.Meaning.{Meaning, opening};
@@ -45,40 +44,20 @@ pub(crate) fn alone<S: Stage + Drop>(
     Ok(Given { records, end })
 }
 
-/// What a closed score becomes by two stages, the second behind the first.
-pub(crate) fn piped<S: Stage + Drop, T: Stage + Drop>(
-    alloc: Global,
-    records: &[Record],
-    first: S,
-    second: T,
-) -> Result<Given, AllocError>
-    requires first { IsFirst (S.stands first) }
-    requires second { (n : Meaning) × T.stands second (opening n) }
-    requires closed { IsClosed records.now }
-    requires few { length records.now ≤ 4294967295 }
-    ensures { IfOk result (λ given. (m n : Meaning) → S.stands first (opening m)
-        → T.stands second (opening n) → IsPiped m n records.now given) }
-{
-    let (between, end) = whole(alloc, first, copied(alloc, records)?, End::Closed)?;
-    let (records, end) = whole(alloc, second, between, end)?;
-    Ok(Given { records, end })
-}
-
 /// What a closed score becomes by a stage, and what that becomes by another one.
-pub(crate) fn again<S: Stage + Drop, T: Stage + Drop>(
+pub(crate) fn again<S: Stage + Drop>(
     alloc: Global,
     records: &[Record],
     first: S,
-    second: T,
+    second: S,
 ) -> Result<(Given, Given), AllocError>
     requires first { IsFirst (S.stands first) }
-    requires second { (n : Meaning) × T.stands second (opening n) }
+    requires second { (n : Meaning) × S.stands second (opening n) }
     requires closed { IsClosed records.now }
     requires few { length records.now ≤ 4294967295 }
-    ensures once { IfOk result (λ both. (m : Meaning) → S.stands first (opening m)
-        → IsAlone m records.now both.0) }
-    ensures twice { IfOk result (λ both. (m n : Meaning) → S.stands first (opening m)
-        → T.stands second (opening n) → IsPiped m n records.now both.1) }
+    ensures { IfOk result (λ both. (m n : Meaning) → S.stands first (opening m)
+        → S.stands second (opening n)
+        → IsAlone m records.now both.0 × IsPiped m n records.now both.1) }
 {
     let once = alone(alloc, records, first)?;
     let (again, end) = whole(alloc, second, copied(alloc, &once.records)?, once.end)?;

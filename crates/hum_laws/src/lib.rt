@@ -6,6 +6,7 @@
 #![tactic(auto)]
 
 mod columns;
+mod commands;
 mod fill;
 mod given;
 mod looks;

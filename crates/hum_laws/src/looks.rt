@@ -12,8 +12,8 @@ ghost use Rattle.hum_context.specs.Context.{First, context};
 ghost use Rattle.hum_context.specs.Options.{omits_of};
 ghost use Rattle.hum_laws.specs.Piped.{IsAlone};
 
-use crate::given::{Given, alone};
-use hum_command_stages::CommandStage;
+use crate::commands::alone;
+use crate::given::Given;
 use hum_commands::CommandOptions;
 use hum_context::{ContextOptions, Span, TokenCount};
 use hum_pattern::Pattern;
@@ -39,12 +39,7 @@ pub fn all_lines(alloc: Global, records: &[Record]) -> Result<Given, AllocError>
         markers: Markers::Lines,
         ranges,
     };
-    let given = alone(
-        alloc,
-        records,
-        CommandStage::new(alloc, 1, CommandOptions::Yank(options)),
-    )?;
-    Ok(given)
+    alone(alloc, records, CommandOptions::Yank(options))
 }
 
 /// A context of one token is that token: `context -n 1` leaves a score as it is, with any `-o`.
@@ -67,10 +62,5 @@ pub fn context_of_one(
         span: Span::Number(TokenCount { number: 1 }),
         omit,
     };
-    let given = alone(
-        alloc,
-        records,
-        CommandStage::new(alloc, 1, CommandOptions::Context(options)),
-    )?;
-    Ok(given)
+    alone(alloc, records, CommandOptions::Context(options))
 }

@@ -6,8 +6,8 @@ ghost use Rattle.hum_commands.specs.Meaning.{meaning};
 ghost use Rattle.hum_laws.specs.Piped.{IsAlone, IsPiped};
 ghost use Rattle.hum_laws.specs.Notes.{NamesColumns, IsOnNotes};
 
-use crate::given::{Given, again};
-use hum_command_stages::CommandStage;
+use crate::commands::again;
+use crate::given::Given;
 use hum_commands::CommandOptions;
 use hum_record::Record;
 use std::alloc::{AllocError, Global};
@@ -33,11 +33,5 @@ pub fn told_once(
     ensures same { IfOk result (λ both. both.0.end ≡ Closed → both.1.end ≡ Closed →
         both.1.records.items ≡ both.0.records.items) }
 {
-    let both = again(
-        alloc,
-        records,
-        CommandStage::new(alloc, 1, first),
-        CommandStage::new(alloc, 2, second),
-    )?;
-    Ok(both)
+    again(alloc, records, first, second)
 }

@@ -8,11 +8,11 @@ ghost use Rattle.hum_laws.specs.Piped.{IsAlone, IsPiped, Same};
 ghost use Rattle.hum_laws.specs.Letters.{joint};
 ghost use Rattle.hum_laws.specs.Comments.{all_comments, TellsByTokens, MeanTheSame};
 
-use crate::given::{Given, again, alone, piped};
-use hum_command_stages::CommandStage;
+use crate::commands::{again, piped, piped_and_alone};
+use crate::given::Given;
 use hum_commands::CommandOptions;
 use hum_record::Record;
-use hum_rid::{Rid, RidOptions};
+use hum_rid::RidOptions;
 use std::alloc::{AllocError, Global};
 
 fn either(one: bool, other: bool) -> bool
@@ -59,14 +59,13 @@ pub fn rid_by_letters(
     ensures same { IfOk result (λ both. Same both.0 both.1) }
 {
     let all = joint(&some, &more);
-    let in_turn = piped(
+    piped_and_alone(
         alloc,
         records,
-        Rid::new(alloc, 1, some),
-        Rid::new(alloc, 2, more),
-    )?;
-    let at_once = alone(alloc, records, Rid::new(alloc, 1, all))?;
-    Ok((in_turn, at_once))
+        CommandOptions::Rid(some),
+        CommandOptions::Rid(more),
+        CommandOptions::Rid(all),
+    )
 }
 
 /// The same letters of rid twice are the same as once.
@@ -86,13 +85,9 @@ pub fn rid_twice(
         IsPiped (meaning 1 options) (meaning 2 options) records.now both.1) }
     ensures same { IfOk result (λ both. Same both.0 both.1) }
 {
-    let both = again(
-        alloc,
-        records,
-        Rid::new(alloc, 1, options),
-        Rid::new(alloc, 2, options),
-    )?;
-    Ok(both)
+    let first = CommandOptions::Rid(options);
+    let second = CommandOptions::Rid(options);
+    again(alloc, records, first, second)
 }
 
 /// The letter `G` alone.
@@ -137,17 +132,7 @@ pub fn comments_aside(
         both.0.records.items ≡ both.1.records.items) }
 {
     let letter = all_comments();
-    let first = piped(
-        alloc,
-        records,
-        Rid::new(alloc, 1, letter),
-        CommandStage::new(alloc, 2, command),
-    )?;
-    let last = piped(
-        alloc,
-        records,
-        CommandStage::new(alloc, 1, alike),
-        Rid::new(alloc, 2, letter),
-    )?;
+    let first = piped(alloc, records, CommandOptions::Rid(letter), command)?;
+    let last = piped(alloc, records, alike, CommandOptions::Rid(letter))?;
     Ok((first, last))
 }

@@ -9,9 +9,11 @@ ghost use Rattle.hum_laws.specs.Unsigned.{unsigned_under};
 ghost use Rattle.hum_laws.specs.Transposing.{moved_by, transposed_under};
 ghost use Rattle.hum_laws.specs.Transposing.{semitones_under, as_semitones, durations_under};
 
-use crate::given::{Given, alone, piped};
+use crate::commands::{piped, piped_and_alone};
+use crate::given::Given;
+use hum_commands::CommandOptions;
 use hum_record::Record;
-use hum_tones::{Recip, RecipOptions, Semits, SemitsOptions, Trans, Transposition};
+use hum_tones::{RecipOptions, SemitsOptions, Transposition};
 use std::alloc::{AllocError, Global};
 
 /// Both ways, one after the other.
@@ -71,14 +73,13 @@ pub fn transpositions_add_up(
         (some.semitones +ℤ more.semitones) records.now) }
 {
     let all = sum(some, more);
-    let in_turn = piped(
+    piped_and_alone(
         alloc,
         records,
-        Trans::new(alloc, 1, some),
-        Trans::new(alloc, 2, more),
-    )?;
-    let at_once = alone(alloc, records, Trans::new(alloc, 1, all))?;
-    Ok((in_turn, at_once))
+        CommandOptions::Trans(some),
+        CommandOptions::Trans(more),
+        CommandOptions::Trans(all),
+    )
 }
 
 /// What is transposed by m semitones has each of its semitones m higher: `trans -c m | semits` is
@@ -106,14 +107,13 @@ pub fn semits_shifted(
     ensures still_is { IfOk result (λ both. both.1.end ≡ Closed →
         both.1.records.items ≡ as_semitones options.ties_left_out records.now) }
 {
-    let moved = piped(
+    piped_and_alone(
         alloc,
         records,
-        Trans::new(alloc, 1, way),
-        Semits::new(alloc, 2, options),
-    )?;
-    let still = alone(alloc, records, Semits::new(alloc, 1, options))?;
-    Ok((moved, still))
+        CommandOptions::Trans(way),
+        CommandOptions::Semits(options),
+        CommandOptions::Semits(options),
+    )
 }
 
 /// What is transposed lasts as long as before: `trans | recip` is `recip`, and the records of `*Tr`.
@@ -138,14 +138,13 @@ pub fn durations_stay(
     ensures still_is { IfOk result (λ both. both.1.end ≡ Closed →
         both.1.records.items ≡ durations_under [] records.now) }
 {
-    let moved = piped(
+    piped_and_alone(
         alloc,
         records,
-        Trans::new(alloc, 1, way),
-        Recip::new(alloc, 2, RecipOptions),
-    )?;
-    let still = alone(alloc, records, Recip::new(alloc, 1, RecipOptions))?;
-    Ok((moved, still))
+        CommandOptions::Trans(way),
+        CommandOptions::Recip(RecipOptions),
+        CommandOptions::Recip(RecipOptions),
+    )
 }
 
 /// There and back: `trans -d n -c m | trans -d -n -c -m` is the score, with the accidental `n` dropped
@@ -168,11 +167,10 @@ pub fn there_and_back(
         ∷ trans_sign way.steps way.semitones ∷ []) records.now) }
 {
     let back = opposite(way);
-    let given = piped(
+    piped(
         alloc,
         records,
-        Trans::new(alloc, 1, way),
-        Trans::new(alloc, 2, back),
-    )?;
-    Ok(given)
+        CommandOptions::Trans(way),
+        CommandOptions::Trans(back),
+    )
 }

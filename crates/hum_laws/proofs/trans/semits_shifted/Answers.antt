@@ -1,11 +1,20 @@
+use Rattle.std.proofs.lemmas.Result.{IfOk-weaker}
 use Rattle.hum_laws.proofs.Transposed.{semits_moved, semits_alone}
 use Rattle.hum_laws.proofs.trans.semits_shifted.Goals as goal
 
+pub returns-clause-moved : goal.returns-clause-moved
+returns-clause-moved c = IfOk-weaker c.piped_and_alone.result _ _ (λ both h. h.0) c.piped_and_alone.ensures.given
+
+pub returns-clause-still : goal.returns-clause-still
+returns-clause-still c = IfOk-weaker c.piped_and_alone.result _ _ (λ both h. h.1) c.piped_and_alone.ensures.given
+
 pub returns-clause-moved_is : goal.returns-clause-moved_is
-returns-clause-moved_is c = λ end.
-    semits_moved c.args.way.steps c.args.way.semitones c.args.options c.args.records.now c.in_ok-moved.moved
-    (c.in_ok-moved.ensures _ _ c.new.ensures.stands c.new-2.ensures.stands) (c.new.ensures.keeps tt) c.requires.closed.0 end
+returns-clause-moved_is c =
+    IfOk-weaker c.piped_and_alone.result _ _
+    (λ both h. semits_moved c.args.way.steps c.args.way.semitones c.args.options c.args.records.now both.0 h.0
+    c.piped_and_alone.ensures.keeps c.requires.closed.0)
+    c.piped_and_alone.ensures.given
 
 pub returns-clause-still_is : goal.returns-clause-still_is
-returns-clause-still_is c = λ end.
-    semits_alone c.args.options c.args.records.now c.in_ok-still.still (c.in_ok-still.ensures _ c.new-3.ensures.stands) end
+returns-clause-still_is c =
+    IfOk-weaker c.piped_and_alone.result _ _ (λ both h. semits_alone c.args.options c.args.records.now both.1 h.1) c.piped_and_alone.ensures.given
