@@ -13,7 +13,6 @@ pub mod Asking
 pub mod Calls
 pub mod Padding
 pub mod Shifting
-pub mod Served
 pub mod Beside
 pub mod Sounding
 pub mod Sides

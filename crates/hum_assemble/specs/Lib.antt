@@ -8,5 +8,4 @@ pub mod Sizes
 pub mod Head
 pub mod Taking
 pub mod Standing
-pub mod Serving
 pub mod Groups

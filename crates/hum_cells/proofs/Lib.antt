@@ -2,5 +2,4 @@ mod Examples
 pub mod Framing
 pub mod Headings
 pub mod Keeping
-pub mod Long
 pub mod Telling
