@@ -67,4 +67,4 @@ returns-in-Ok-new-clause-unread g c = λ never k.
 
 pub returns-in-Err-clause-marked : goal.returns-in-Err-clause-marked
 returns-in-Err-clause-marked g c =
-    rw c.in-Err.ensures.err (elim (g.W.Sink.failed c.args.sink) as (λ b. b ≡ (b || false)) [ | true ↦ refl | false ↦ refl ])
+    rw c.in-Err.ensures.err (elim (g.W.Sink.failed c.args.sink) as (λ b. b ≡ (b || false)) [ true ↦ refl | false ↦ refl ])
