@@ -1,6 +1,6 @@
 -- The stages of a plan as nodes of a net.
 use Rattle.std.specs.Prelude.{◌≡◌, ℕ, suc, ◌+◌, ◌≤◌, length, Bool, true, false, List, []}
-use Rattle.std.specs.Prelude.{◌∷◌, ◌++◌, Option, Some}
+use Rattle.std.specs.Prelude.{◌∷◌, ◌++◌, Option, None, Some}
 use Rattle.std.specs.List.{list_any}
 use Rattle.hum_nodes.specs.At.{At, fresh}
 use Rattle.hum_nodes.specs.declared.either.Node.{Node}
@@ -86,6 +86,11 @@ merges = list_any (λ stage. is_assemble stage.options)
 abbrev pub MayBe : Bool → Options → Type 0
 MayBe may told.Assemble = may ≡ true
 MayBe may _ = Unit {0}
+
+-- A node was made of which this holds.
+abbrev pub IsMade : {N : Type 0} → Option N → (N → Type 0) → Type 0
+IsMade None Holds = ⊥
+IsMade (Some node) Holds = Holds node
 
 -- a stage that may be there, and reads from no more than 15 others
 abbrev pub IsNarrow : Bool → PlanStage → Type 0

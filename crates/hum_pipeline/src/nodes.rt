@@ -12,7 +12,7 @@ ghost use Rattle.hum_plan.specs.Seen.{stages_of};
 ghost use Rattle.hum_pipeline.specs.Commands.{means};
 ghost use Rattle.hum_pipeline.specs.Parts.{first_of, IsSoundBy};
 ghost use Rattle.hum_pipeline.specs.Nodes.{AllFrom, Fits, Tells, AreTold, AreNarrow, HasAdded};
-ghost use Rattle.hum_pipeline.specs.Nodes.{reads_by, reads_of, merges, IsNarrow};
+ghost use Rattle.hum_pipeline.specs.Nodes.{reads_by, reads_of, merges, IsNarrow, IsMade};
 ghost use Rattle.hum_plan.specs.declared.stages.PlanStage.{PlanStage};
 
 use hum_command_stages::CommandStage;
@@ -39,11 +39,11 @@ pub(crate) trait StageNode<S: Stage>: Works {
             → Self.stands result (fresh (single from m)) };
 
     /// The node of assemble as stage `number`, from 1, which reads from the stages of these numbers,
-    /// from 0.
-    fn assemble(alloc: Global, number: u8, from: Vec<usize>) -> Result<Self, AllocError>
-        requires may { merges ≡ true }
-        requires narrow { length from.items ≤ 15 }
-        ensures { IfOk result (λ node. Self.stands node (fresh (merging number from.items))) };
+    /// from 0; none where it isn't among them.
+    fn assemble(alloc: Global, number: u8, from: Vec<usize>) -> Result<Option<Self>, AllocError>
+        requires { length from.items ≤ 15 }
+        ensures { IfOk result (λ made. merges ≡ true
+            → IsMade made (λ node. Self.stands node (fresh (merging number from.items)))) };
 }
 
 impl<S: Stage + Drop> StageNode<S> for Single<S> {
@@ -53,8 +53,12 @@ impl<S: Stage + Drop> StageNode<S> for Single<S> {
         Single::new(stage, from)
     }
 
-    fn assemble(_alloc: Global, _number: u8, _from: Vec<usize>) -> Result<Single<S>, AllocError> {
-        unreachable!()
+    fn assemble(
+        _alloc: Global,
+        _number: u8,
+        _from: Vec<usize>,
+    ) -> Result<Option<Single<S>>, AllocError> {
+        Ok(None)
     }
 }
 
@@ -65,9 +69,13 @@ impl<S: Stage + Drop> StageNode<S> for Worker<S> {
         Worker::Single(Single::new(stage, from))
     }
 
-    fn assemble(alloc: Global, number: u8, from: Vec<usize>) -> Result<Worker<S>, AllocError> {
+    fn assemble(
+        alloc: Global,
+        number: u8,
+        from: Vec<usize>,
+    ) -> Result<Option<Worker<S>>, AllocError> {
         let node = Merging::new(alloc, number, from)?;
-        Ok(Worker::Merging(Asked::new(node)))
+        Ok(Some(Worker::Merging(Asked::new(node))))
     }
 }
 
@@ -131,7 +139,10 @@ fn merging_node<N: StageNode<CommandStage>>(
         (fresh (merging number (map pred sources.now)))) }
 {
     let from = all_from_zero(alloc, sources)?;
-    N::assemble(alloc, number, from)
+    match N::assemble(alloc, number, from)? {
+        Some(node) => Ok(node),
+        None => unreachable!(),
+    }
 }
 
 /// What makes the nodes of a plan's stages, one after another.
