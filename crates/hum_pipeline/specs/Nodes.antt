@@ -82,7 +82,7 @@ is_assemble _ = false
 abbrev pub merges : List PlanStage → Bool
 merges = list_any (λ stage. is_assemble stage.options)
 
--- where assemble may be among the stages, or not
+-- what a stage may be: assemble only where that may be among the stages
 abbrev pub MayBe : Bool → Options → Type 0
 MayBe may told.Assemble = may ≡ true
 MayBe may _ = Unit {0}

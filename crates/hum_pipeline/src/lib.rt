@@ -11,6 +11,5 @@ mod outcome;
 mod running;
 
 pub use bundles::{plan_stages, run_bundle};
-pub use nodes::PlanNode;
 pub use outcome::Outcome;
 pub use running::{reads, run_stages};

@@ -25,7 +25,7 @@ use std::alloc::{AllocError, Global};
 use std::collections::VecDeque;
 
 /// A stage of a plan as a node: a score that is read, or a stage of others.
-pub type PlanNode<R, N> = Node<Reading<R>, N>;
+pub(crate) type PlanNode<R, N> = Node<Reading<R>, N>;
 
 /// What the stages of others of a plan are as nodes: where assemble isn't among them, no turn asks
 /// which of the two a stage is.
@@ -192,8 +192,8 @@ impl<R: Source + Drop, N: StageNode<CommandStage>> Builder<R, N> {
             ≡ length self.old.readers.items }
         ensures nodes { self.new.nodes ≡ self.old.nodes }
         ensures stages { self.new.stages ≡ self.old.stages }
-        ensures fits { IfOk result (Fits (StandsAs ⟦<Reading<R> as Feeds>⟧.stands
-            N.stands) k stage) }
+        ensures fits { IfOk result
+            (Fits (StandsAs ⟦<Reading<R> as Feeds>⟧.stands N.stands) k stage) }
         ensures told { IfOk result (λ made. (bytes : ℕ → List ℕ) (stages : List PlanStage)
             → AreTold R.remaining bytes k (stage ∷ stages) self.old.readers.items
             → Tells ⟦<Reading<R> as Feeds>⟧.remaining ⟦<Reading<R> as Feeds>⟧.ended bytes k stage made

@@ -58,7 +58,7 @@ pub fn run_stages<R: Source + Drop, O: Order, W: Sink + Drop>(
     run_nodes::<R, Single<CommandStage>, O, W>(alloc, stages, readers, link, order, sink)
 }
 
-/// The same by nodes that may be assemble, or not.
+/// The same, with the stages of others as nodes of one kind.
 fn run_nodes<R: Source + Drop, N: StageNode<CommandStage>, O: Order, W: Sink + Drop>(
     alloc: Global,
     stages: Vec<PlanStage>,

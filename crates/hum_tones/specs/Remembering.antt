@@ -1,5 +1,6 @@
 -- What is remembered of tokens.
-use Rattle.std.specs.Prelude.{◌≡◌, ◌≢◌, ℕ, ◌≤◌, ◌<◌, List, [], None, Some, Ok, slice_get, slice_index}
+use Rattle.std.specs.Prelude.{◌≡◌, ◌≢◌, ℕ, ◌≤◌, ◌<◌, List, []}
+use Rattle.std.specs.Prelude.{None, Some, Ok, slice_get, slice_index}
 use Rattle.hum_tones.specs.declared.giving.Giving.{Giving}
 use Rattle.hum_tones.specs.declared.hearing.Heard.{Heard}
 use Rattle.hum_tones.specs.declared.remembered.Place.{Place}
