@@ -1,0 +1,217 @@
+"""Rows that are made: long plans and scores, each front of a score, and what comes of a run from outside its plan."""
+import os
+import resource
+import signal
+import subprocess
+import tempfile
+
+from check import Plan, Row, run, shown, write
+
+
+def long_scores():
+    """Lines and tokens as long as they may be and a byte longer, and as many records as may wait and one more."""
+    yank, context = b"out: read a | yank -o '^a' -r $\n--- a\n**x\na\n", b'out: read a | context -n 2\n--- a\n**x\na\n'
+    yield 'records wait', yank + b'b\n' * 65_535 + b'*-\n', b'**x\na\n' + b'b\n' * 65_535 + b'*-\n', ''
+    yield 'one more waits', yank + b'b\n' * 65_536 + b'*-\n', b'**x\n', 'stage 2 (yank), line 2: H1'
+    yield 'tokens wait', context + b'.\n' * 65_535 + b'b\n*-\n', b'**x\na b\n' + b'.\n' * 65_536 + b'*-\n', ''
+    yield 'one more token waits', context + b'.\n' * 65_536 + b'*-\n', b'**x\n', 'stage 2 (context), line 2: H1'
+    many = b'out: read a | context -n 4096\n--- a\n**x\n' + b'a\n' * 4096 + b'*-\n'
+    yield 'a context of 4,096 tokens', many, b'**x\na' + b' a' * 4095 + b'\n' + b'.\n' * 4095 + b'*-\n', ''
+
+    comment = b'out: read a | rid -l\n--- a\n!!'
+    yield 'a line of 1,048,576 bytes', comment + b'a' * 1_048_574 + b'\n', b'!!' + b'a' * 1_048_574 + b'\n', ''
+    yield 'a byte more', comment + b'a' * 1_048_575 + b'\n', b'', 'stage 1 (read), line 1: S2'
+    long, front = b'a' * 600_000, b'out: read a | ditto\n--- a\n**x\t**y\n'
+    yield ('a record that ditto makes too long', front + long + b'\t.\n.\t' + long + b'\n*-\t*-\n',
+           b'**x\t**y\n' + long + b'\t.\n', 'stage 2 (ditto), line 3: L1')
+    front = b'out: read a | context -n 2\n--- a\n**x\t**y\nb\tc\n'
+    yield ('a record that context makes too long', front + long + b'\t.\n' + long + b'\td\n*-\t*-\n',
+           b'**x\t**y\nb ' + long + b'\tc d\n', 'stage 2 (context), line 3: L1')
+    # a sharp more in two tokens of 524,287 bytes would be too much, unless the second is refused
+    front, sharp = b'out: read a | trans -d 0 -c 1\n--- a\n**kern\t**kern\nc', b'X' * 524_286
+    text = b'**kern\t**kern\n*Trd0c1\t*Trd0c1\n'
+    yield 'a record that trans makes too long', front + sharp + b'\tc' + sharp + b'\n*-\t*-\n', text, 'stage 2 (trans), line 2: L1'
+    yield 'a token that is refused first', front + sharp + b'\tcd\n*-\t*-\n', text, 'stage 2 (trans), line 2: K1'
+
+    scores = b'p: read a\nq: read a\nout: assemble p q\n--- a\n**x\n'
+    yield ('100,000 data records side by side', scores + b'4c\n' * 100_000 + b'*-\n',
+           b'**x\t**x\n' + b'4c\t4c\n' * 100_000 + b'*-\t*-\n', '')
+
+
+def wide_scores():
+    """4,096 spines, and more."""
+    record = lambda token, width: b'\t'.join([token] * width) + b'\n'
+    splits = b''.join(record(b'*^', 2 ** k) for k in range(12))
+    yield ('4,096 spines are split', b'out: read a\n--- a\n**x\n' + splits + record(b'*^', 4096), b'**x\n' + splits,
+           'stage 1 (read), line 14: P9')
+    scores = b'p: read a\nq: read a\nout: assemble p q\n--- a\n'
+    spines = lambda k: b'**x\n' + b''.join(record(b'*^', 2 ** n) for n in range(k)) + record(b'*v', 2 ** k) + b'*-\n'
+    text = b'**x\t**x\n'
+    for k in range(11):
+        text += record(b'*^', 2 ** k)[:-1] + b'\t' + record(b'*', 2 ** k)
+        text += record(b'*', 2 ** (k + 1))[:-1] + b'\t' + record(b'*^', 2 ** k)
+    joins = record(b'*v', 2048)[:-1] + b'\t' + record(b'*', 2048) + b'*\t' + record(b'*v', 2048)
+    yield '4,096 spines side by side', scores + spines(11), text + joins + b'*-\t*-\n', ''
+    split = record(b'*^', 2048)[:-1] + b'\t' + record(b'*', 2048)
+    yield 'more than 4,096 side by side', scores + spines(12), text + split, 'stage 3 (assemble), line 24: A1'
+
+
+def long_plans():
+    """As many stages, branches, sources, values and bytes as a plan may have, and one more."""
+    yield 'p: read a' + ' | recip' * 62 + '\nout: assemble p', ''
+    yield 'p: read a' + ' | recip' * 63 + '\nout: assemble p', 'plan line 2, word 2: N11'
+    yield 'out: read a' + ' | recip' * 63 + ' | foo', 'plan line 1, word 67: N11'
+    branches = lambda count: ''.join(f'b{k}: read x\n' for k in range(count))
+    joined = 'out: assemble ' + ' '.join(f'b{k}' for k in range(15))
+    yield branches(15) + joined, ''
+    yield branches(15) + joined + ' b0', 'plan line 16, word 18: N8'
+    yield branches(16) + joined, 'plan line 17, word 1: N11'
+    for words, value, place in ('extract -f', '7', 6), ('yank -l -r', '7', 7), ('extract -i', '**a', 6):
+        yield f'out: read a | {words} ' + ','.join([value] * 64), ''
+        yield f'out: read a | {words} ' + ','.join([value] * 65), f'plan line 1, word {place}: N10'
+    yield 'out: read a\n' + '#' * 65_524, ''
+    yield '\n\n' + '#' * 65_535, 'plan line 1, word 0: N1'
+
+
+# the lines of a bundle in front of its last score, that score, and what is written of all of it
+FRONTS = [
+    (b'out: read a | trans -d 1 -c 2\n--- a\n', b'**kern\n*k[]\n4e\n4B-\n8bb\n*-\n',
+     b'**kern\n*Trd1c2\n*k[]\n4f#\n4c\n8ccc#\n*-\n'),
+    (b'out: read a | context -n 2\n--- a\n', b'**x\na\n*^\nb\tc\n*v\t*v\nd\n*-\n', b'**x\na b\n*^\nb d\tc d\n*v\t*v\n.\n*-\n'),
+    (b'p: read a\nq: read b\nout: assemble p q\n--- b\n**y\n*^\n7\t8\n*v\t*v\n9\n*-\n--- a\n', b'**x\n*^\n1\t2\n*v\t*v\n*-\n',
+     b'**x\t**y\n*^\t*\n*\t*\t*^\n1\t2\t7\t8\n*v\t*v\t*\t*\n*\t*v\t*v\n.\t9\n*-\t*-\n'),
+    (b"out: read a | extract -i '**kern'\n--- a\n",
+     b'**kern\t**dynam\t**kern\n*^\t*\t*^\n4c\t4e\tp\t4g\t4b\n*v\t*v\t*\t*v\t*v\n4c\tf\t4d\n*-\t*-\t*-\n',
+     b'**kern\t**kern\n*^\t*^\n4c\t4e\t4g\t4b\n*v\t*v\t*\t*\n*\t*v\t*v\n4c\t4d\n*-\t*-\n'),
+    (b'out: read a | timebase -t 4\n--- a\n', b'**kern\n*^\n4c\t2e\n*v\t*v\n4d\n*-\n', b'**kern\n*tb4\n*^\n4c\t2e\n*v\t*v\n.\n4d\n*-\n'),
+]
+
+
+class Front:
+    """A score that breaks off: the run ends well or by a fault, and behind a whole line a front of this text is written."""
+
+    def __init__(self, head, front, text):
+        self.bundle, self.text, self.is_whole = head + front, text, front.endswith(b'\n')
+
+    def check(self, program):
+        found = run([program], self.bundle)
+        is_right = found[0] in (0, 1) and (not self.is_whole or self.text.startswith(found[1]))
+        return [] if is_right else [f'{self.bundle!r}: {shown(found)}']
+
+
+class Line:
+    """A command line over a folder with the plan of one file in it, and whether it is accepted. The words alone run a bundle."""
+
+    def __init__(self, line, file=None, is_refused=False):
+        self.line, self.file, self.is_refused = line, file, is_refused
+
+    def check(self, program):
+        with tempfile.TemporaryDirectory(prefix='humpipe-line-') as folder:
+            write(f'{folder}/a', b'**x\n*-\n')
+            if self.file:
+                write(f'{folder}/{self.file}', b'out: read a')
+            found = run([program, *self.line.split()], b'' if self.file else b'out: read a\n--- a\n**x\n*-\n', cwd=folder)
+        want = (3, b'', USAGE) if self.is_refused else (0, b'**x\n*-\n', b'')
+        return [] if found == want else [f'humpipe {self.line}: {shown(found)}']
+
+
+USAGE = b'humpipe: usage: humpipe [--link N] [--order left|right] [PIPELINE]\n'
+
+LINES = [
+    *[Line(line) for line in ('', '--link 1', '--order left', '--link=7', '--link 4096 --order right')],
+    *[Line(line, file) for line, file in [
+        ('tune.hpl', 'tune.hpl'), ('--link 4096 tune.hpl', 'tune.hpl'), ('tune.hpl --order right --link 7', 'tune.hpl'),
+        ('-', '-'), ('./-x', '-x'), ('-- --link', '--link')]],
+    *[Line(line, is_refused=True) for line in (
+        '--link 0', '--link 4097', '--link -1', '--link x', '--link', '--link 1 --link 2', '--order up', '--order',
+        '--order left --order left', '--help', '-h', 'help x', '--version', 'a b', '-x')],
+]
+
+
+class Failing:
+    """A plan of two scores, of which some can't be read since they are folders, by an order: the text and the line told."""
+
+    def __init__(self, scores, order, text, told):
+        self.scores, self.order, self.text, self.told = scores, order, text, told
+
+    def check(self, program):
+        with tempfile.TemporaryDirectory(prefix='humpipe-fails-') as folder:
+            write(f'{folder}/plan', b'p: read a\nq: read b\nout: assemble p q')
+            for name, score in self.scores.items():
+                os.mkdir(f'{folder}/{name}') if score is None else write(f'{folder}/{name}', score)
+            found = run([program, '--order', self.order, 'plan'], b'', cwd=folder)
+        want = 1 if 'line' in self.told else 3, self.text, f'humpipe: {self.told}\n'.encode()
+        return [] if found == want else [f'{self.scores} from the {self.order}: {shown(found)}']
+
+
+CLOSED, BROKEN = b'**x\n*^\n1\t2\n*v\t*v\n*-\n', b'**x\n1\n'
+FAILING = [
+    Failing({'a': None, 'b': None}, 'left', b'', 'stage 1 (read): read failed'),
+    Failing({'a': None, 'b': None}, 'right', b'', 'stage 2 (read): read failed'),
+    *[Failing({'a': CLOSED, 'b': None}, order, b'', 'stage 2 (read): read failed') for order in ('left', 'right')],
+    # a fault is told once the other score has ended, and not where that can't be read
+    *[Failing({'a': BROKEN, 'b': b'**y\n7\n8\n*-\n'}, order, b'**x\t**y\n1\t7\n', 'stage 1 (read), line 3: P8') for order in ('left', 'right')],
+    *[Failing({'a': BROKEN, 'b': None}, order, b'', 'stage 2 (read): read failed') for order in ('left', 'right')],
+]
+
+
+class Full:
+    """An output that takes so many bytes: they are a front of the text, and it is told if they aren't all."""
+
+    BUNDLE, TEXT = b'out: read a | rid -G\n--- a\n!!x\n**kern\n4c\n*-\n', b'**kern\n4c\n*-\n'
+
+    def __init__(self, room):
+        self.room = room
+
+    def check(self, program):
+        def narrow():
+            signal.signal(signal.SIGXFSZ, signal.SIG_IGN)
+            resource.setrlimit(resource.RLIMIT_FSIZE, (self.room, self.room))
+
+        with tempfile.TemporaryFile() as output:
+            status, _, told = run([program], self.BUNDLE, stdout=output, preexec_fn=narrow)
+            output.seek(0)
+            found = status, output.read(), told
+        want = (0, self.TEXT, b'') if self.room >= len(self.TEXT) else (3, self.TEXT[:self.room], b'humpipe: write failed\n')
+        return [] if found == want else [f'an output of {self.room} bytes: {shown(found)}']
+
+
+class Closed:
+    """An output that nobody reads, a plan and an input that can't be read."""
+
+    def check(self, program):
+        end, output = os.pipe()
+        os.close(end)
+        found = [run([program], Full.BUNDLE, stdout=output)[::2]]
+        os.close(output)
+        with tempfile.TemporaryDirectory(prefix='humpipe-fails-') as folder:
+            found += [run([program, place], b'', cwd=folder)[::2] for place in ('.', 'nowhere')]
+            here = os.open(folder, os.O_RDONLY)
+            ended = subprocess.run([program], stdin=here, capture_output=True)
+            os.close(here)
+        found += [(ended.returncode, ended.stderr)]
+        want = [(3, b'humpipe: write failed\n'), *[(3, b'humpipe: cannot read plan\n')] * 3]
+        return [] if found == want else [f'what nobody reads or can read: {found}']
+
+
+class Large:
+    """A bundle of so many bytes, of which 67,108,864 may be."""
+
+    def __init__(self, size):
+        self.size = size
+
+    def check(self, program):
+        text = b'!!' + b'x' * 1_048_573 + b'\n'
+        bundle = (b'out: read a | rid -G\n--- a\n' + text * 64)[:self.size - 1] + b'\n'
+        found = run([program], bundle)
+        want = (0, b'', b'') if self.size <= 67_108_864 else (3, b'', b'humpipe: bundle too large\n')
+        return [] if found == want else [f'a bundle of {self.size} bytes: {shown(found)}']
+
+
+def cases():
+    return [
+        *[Row(f'made.py: {name}', *row) for name, *row in [*long_scores(), *wide_scores()]],
+        *[Plan(f'made.py: {plan[:40]!r}', plan.encode(), told) for plan, told in long_plans()],
+        *[Front(head, score[:end], text) for head, score, text in FRONTS for end in range(len(score) + 1)],
+        *LINES, *FAILING, *[Full(room) for room in (0, 1, 7, 12, 13)], Closed(), Large(67_108_864), Large(67_108_865),
+    ]
