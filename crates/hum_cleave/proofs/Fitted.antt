@@ -14,11 +14,11 @@ use Rattle.hum_record.specs.Building.{spelled}
 use Rattle.hum_path.specs.Sign.{sign_of, is_join}
 use Rattle.hum_path.specs.Onward.{beginnings}
 use Rattle.hum_path.proofs.Cases.{by_bool}
-use Rattle.hum_spread.specs.Spread.{piece, tokens_in}
-use Rattle.hum_spread.specs.Writing.{Fit}
-use Rattle.hum_spread.proofs.Spreading.{marks}
-use Rattle.hum_spread.proofs.Weights.{weight, no_longer}
-use Rattle.hum_spread.proofs.OneByOne.{Lawful, null_lawful}
+use Rattle.hum_columns.specs.Spread.{piece, tokens_in}
+use Rattle.hum_columns.specs.Writing.{Fit}
+use Rattle.hum_columns.proofs.Spreading.{marks}
+use Rattle.hum_columns.proofs.Weights.{weight, no_longer}
+use Rattle.hum_columns.proofs.OneByOne.{Lawful, null_lawful}
 use Rattle.hum_columns.specs.Chosen.{others}
 use Rattle.hum_cleave.specs.Columns.{together}
 use Rattle.hum_cleave.specs.Tokens.{leftmost, comment_of, is_silent, interpretation_of, is_left_out, taken, following, joined, data_of}

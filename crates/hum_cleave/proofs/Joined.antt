@@ -5,8 +5,8 @@ use Rattle.hum_path.specs.declared.signs.Sign.{Sign}
 use Rattle.hum_path.specs.declared.signs.Sign.TheVariants.{Plain}
 use Rattle.hum_path.specs.Sign.{sign_of, is_join}
 use Rattle.hum_path.specs.Rules.{first_is, has_lone_join, has_mixed_join}
-use Rattle.hum_spread.specs.Spread.{piece}
-use Rattle.hum_spread.proofs.Spreading.{next_goes_on, Formed}
+use Rattle.hum_columns.specs.Spread.{piece}
+use Rattle.hum_columns.proofs.Spreading.{next_goes_on, Formed}
 use Rattle.hum_columns.proofs.TornJoins.{torn_start}
 use Rattle.hum_columns.proofs.ChosenJoins.{join_too, goes, begins_well, goes_well, others_formed, mixed_start}
 use Rattle.hum_cleave.specs.Columns.{together}

@@ -20,10 +20,10 @@ use Rattle.hum_record.specs.declared.SpinedKind.TheVariants.{Interpretation}
 use Rattle.hum_record.specs.Row.{Row, chosen}
 use Rattle.hum_stage.specs.declared.faults.Rule.{Rule}
 use Rattle.hum_stage.specs.declared.faults.Rule.TheVariants.{C1, C2}
-use Rattle.hum_spread.specs.Spread.{spread, filled}
-use Rattle.hum_spread.proofs.Spreading.{signs_in}
-use Rattle.hum_spread.proofs.Fitting.{Fits, come_to}
-use Rattle.hum_spread.proofs.Leading.{spread_leads}
+use Rattle.hum_columns.specs.Spread.{spread, filled}
+use Rattle.hum_columns.proofs.Spreading.{signs_in}
+use Rattle.hum_columns.proofs.Fitting.{Fits, come_to}
+use Rattle.hum_columns.proofs.Leading.{spread_leads}
 use Rattle.hum_columns.proofs.ChosenLists.{chosen_none, chosen_map}
 use Rattle.hum_columns.proofs.TornJoins.{torn_start}
 use Rattle.hum_columns.proofs.Flags.{flags_after}

@@ -12,7 +12,7 @@ use Rattle.hum_record.specs.Spelling.{has_byte}
 use Rattle.hum_path.specs.declared.signs.Sign.{Sign}
 use Rattle.hum_path.specs.declared.signs.Sign.TheVariants.{Exchange, Add, End}
 use Rattle.hum_path.specs.Sign.{sign_of, is_exclusive}
-use Rattle.hum_spread.specs.Spread.{Piece, piece, spread, filled}
+use Rattle.hum_columns.specs.Spread.{Piece, piece, spread, filled}
 use Rattle.hum_stage.specs.declared.faults.Rule.{Rule}
 use Rattle.hum_stage.specs.declared.faults.Rule.TheVariants.{C1, C2, L1}
 use Rattle.hum_stage.specs.declared.faults.Command.TheVariants.{Cleave}

@@ -6,17 +6,16 @@ ghost use Rattle.hum_record.specs.declared.SpinedKind.TheVariants.{Interpretatio
 ghost use Rattle.hum_record.specs.Spelling.{IsTextOf};
 ghost use Rattle.hum_path.specs.Sign.{sign_of, is_exclusive};
 ghost use Rattle.hum_path.specs.declared.signs.Sign.{Sign};
-ghost use Rattle.hum_spread.specs.Spread.{piece};
+ghost use Rattle.hum_columns.specs.Spread.{piece};
 ghost use Rattle.hum_columns.specs.Chosen.{each_piece};
 ghost use Rattle.hum_columns.specs.Following.{AnswersInRoom};
 ghost use Rattle.hum_cleave.specs.Columns.{together};
 ghost use Rattle.hum_cleave.specs.Cleave.{is_moved, is_end, ends_apart, is_entangled, merged};
 
 use crate::tokens::leftmost_interpretation;
-use hum_columns::{is_torn, write_pieces};
+use hum_columns::{Piece, is_torn, write_pieces};
 use hum_path::{Sign, token_sign};
 use hum_record::Record;
-use hum_spread::Piece;
 use hum_stage::Rule;
 use std::alloc::{AllocError, Global};
 use std::collections::VecDeque;

@@ -8,8 +8,8 @@ use Rattle.hum_path.specs.declared.signs.Sign.TheVariants.{Plain}
 use Rattle.hum_path.specs.Sign.{sign_of, is_join}
 use Rattle.hum_path.specs.Rules.{first_is, has_lone_join, has_mixed_join}
 use Rattle.hum_path.specs.Onward.{beginnings}
-use Rattle.hum_spread.specs.Spread.{Piece, tokens_in}
-use Rattle.hum_spread.proofs.Spreading.{marks, next_goes_on, Formed}
+use Rattle.hum_columns.specs.Spread.{Piece, tokens_in}
+use Rattle.hum_columns.proofs.Spreading.{marks, next_goes_on, Formed}
 use Rattle.hum_record.specs.Row.{chosen}
 use Rattle.hum_columns.specs.Chosen.{others, differ, is_torn, each_piece}
 use Rattle.hum_columns.proofs.ChosenLists.{chosen_map, not_length}

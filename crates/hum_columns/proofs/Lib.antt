@@ -5,3 +5,10 @@ pub mod ChosenJoins
 pub mod Flags
 pub mod Taking
 pub mod KeepsScores
+mod Examples
+pub mod Weights
+pub mod OneByOne
+pub mod FirstJoin
+pub mod Fitting
+pub mod Leading
+pub mod Spreading

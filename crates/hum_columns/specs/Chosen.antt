@@ -7,7 +7,7 @@ use Rattle.hum_path.specs.Sign.{sign_of, is_join}
 use Rattle.hum_path.specs.Spines.{Path, Unopened, Spines}
 use Rattle.hum_path.specs.Score.{path_after}
 use Rattle.hum_path.specs.Chains.{origins}
-use Rattle.hum_spread.specs.Spread.{Piece, piece}
+use Rattle.hum_columns.specs.Spread.{Piece, piece}
 
 -- the tokens of the opening record, of records with the newest first
 abbrev pub opening_if : Path → List (List ℕ) → List (List ℕ) → List (List ℕ)

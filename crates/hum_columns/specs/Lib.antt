@@ -1,3 +1,5 @@
 pub mod Chosen
 pub mod Deciding
 pub mod Following
+pub mod Spread
+pub mod Writing

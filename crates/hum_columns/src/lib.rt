@@ -3,23 +3,27 @@
 //!
 //! [`ChosenColumns`] say of each column whether it is chosen, and go on along splits, joins,
 //! exchanges and added spines; [`is_torn`] finds the joins that such a command can't write, and
-//! [`write_pieces`] writes what it makes of an interpretation.
+//! [`write_pieces`] writes what it makes of an interpretation, by the rule that [`spread`] is.
 #![tactic(auto)]
 
 ghost use Rattle.std.specs.Prelude.{◌≡◌, [], Ok, IfOk};
 ghost use Rattle.hum_record.specs.declared.SpinedKind.TheVariants.{Interpretation};
-ghost use Rattle.hum_spread.specs.Spread.{spread, filled};
-ghost use Rattle.hum_spread.specs.Writing.{Fit};
+ghost use Rattle.hum_columns.specs.Spread.{spread, filled};
+ghost use Rattle.hum_columns.specs.Writing.{Fit};
 ghost use Rattle.hum_columns.specs.Following.{AnswersInRoom};
 
 mod columns;
+mod joins;
 mod marks;
+mod pieces;
 mod torn;
+mod writing;
 
 pub use columns::ChosenColumns;
 use hum_record::Record;
-use hum_spread::{Piece, spread};
 use hum_stage::Rule;
+pub use joins::{push_fitting, spread};
+pub use pieces::Piece;
 use std::alloc::{AllocError, Global};
 use std::collections::VecDeque;
 pub use torn::is_torn;

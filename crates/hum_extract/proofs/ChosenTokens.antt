@@ -6,7 +6,7 @@ use Rattle.hum_record.specs.declared.SpinedKind.{SpinedKind}
 use Rattle.hum_record.specs.Row.{Row, Comment, Spined, width_of, text_of, chosen, with_chosen}
 use Rattle.hum_record.specs.Spelling.{IsTextOf}
 use Rattle.hum_record.proofs.Left.{chosen_filled}
-use Rattle.hum_spread.specs.Spread.{filled}
+use Rattle.hum_columns.specs.Spread.{filled}
 use Rattle.hum_columns.specs.Following.{AsWide}
 use Rattle.hum_extract.specs.Kept.{kept}
 

@@ -9,10 +9,10 @@ use Rattle.hum_record.specs.Row.{Row, Comment, Spined, tokens_of, text_of, chose
 use Rattle.hum_record.specs.Spelling.{IsToken, IsTextOf}
 use Rattle.hum_record.specs.Building.{spelled}
 use Rattle.hum_path.specs.Sign.{sign_of, is_join, is_exchange}
-use Rattle.hum_spread.specs.Spread.{Piece, tokens_in}
-use Rattle.hum_spread.specs.Writing.{Fit}
-use Rattle.hum_spread.proofs.Weights.{weight, no_longer}
-use Rattle.hum_spread.proofs.OneByOne.{Lawful, null_lawful}
+use Rattle.hum_columns.specs.Spread.{Piece, tokens_in}
+use Rattle.hum_columns.specs.Writing.{Fit}
+use Rattle.hum_columns.proofs.Weights.{weight, no_longer}
+use Rattle.hum_columns.proofs.OneByOne.{Lawful, null_lawful}
 use Rattle.hum_columns.specs.Chosen.{each_piece}
 use Rattle.hum_extract.specs.Extract.{softened, pieces}
 

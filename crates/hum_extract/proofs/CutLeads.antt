@@ -21,10 +21,10 @@ use Rattle.hum_record.specs.declared.SpinedKind.TheVariants.{Interpretation}
 use Rattle.hum_record.specs.Row.{Row, chosen}
 use Rattle.hum_stage.specs.declared.faults.Rule.{Rule}
 use Rattle.hum_stage.specs.declared.faults.Rule.TheVariants.{X1, X3}
-use Rattle.hum_spread.specs.Spread.{Piece, tokens_in, spread, filled}
-use Rattle.hum_spread.proofs.Spreading.{marks, signs_in}
-use Rattle.hum_spread.proofs.Fitting.{Fits, come_to}
-use Rattle.hum_spread.proofs.Leading.{spread_leads}
+use Rattle.hum_columns.specs.Spread.{Piece, tokens_in, spread, filled}
+use Rattle.hum_columns.proofs.Spreading.{marks, signs_in}
+use Rattle.hum_columns.proofs.Fitting.{Fits, come_to}
+use Rattle.hum_columns.proofs.Leading.{spread_leads}
 use Rattle.hum_columns.specs.Chosen.{is_torn}
 use Rattle.hum_columns.proofs.ChosenLists.{chosen_fewer, chosen_none, chosen_map, chosen_each}
 use Rattle.hum_columns.proofs.ChosenOnward.{chosen_onward}

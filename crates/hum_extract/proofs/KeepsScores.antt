@@ -14,7 +14,7 @@ use Rattle.hum_path.specs.Spines.{Unopened, Spines}
 use Rattle.hum_path.specs.Rules.{breaks_as_text, in_order}
 use Rattle.hum_path.proofs.Widths.{text_width}
 use Rattle.hum_path.proofs.Obeyed.{Opens}
-use Rattle.hum_spread.specs.Spread.{filled}
+use Rattle.hum_columns.specs.Spread.{filled}
 use Rattle.hum_stage.specs.declared.faults.Rule.{Rule}
 use Rattle.hum_stage.specs.declared.faults.Rule.TheVariants.{X2}
 use Rattle.hum_stage.specs.Meaning.{KeepsScore}

@@ -15,7 +15,7 @@ use Rattle.hum_path.specs.Rules.{fault_of}
 use Rattle.hum_path.specs.Score.{IsOpen, path_after}
 use Rattle.hum_path.proofs.Plain.{sound_width, plain_stays}
 use Rattle.hum_stage.specs.Decided.{Decision}
-use Rattle.hum_spread.specs.Spread.{touches, filled}
+use Rattle.hum_columns.specs.Spread.{touches, filled}
 use Rattle.hum_columns.specs.Chosen.{flags, is_torn, each_piece}
 use Rattle.hum_columns.specs.Deciding.{at_path}
 use Rattle.hum_columns.specs.Following.{AsWide, Memory, Follows}

@@ -6,7 +6,7 @@ use Rattle.hum_record.specs.declared.SpinedKind.TheVariants.{Interpretation}
 use Rattle.hum_record.specs.Row.{Row, chosen}
 use Rattle.hum_path.specs.declared.signs.Sign.{Sign}
 use Rattle.hum_path.specs.Sign.{sign_of, is_exchange}
-use Rattle.hum_spread.specs.Spread.{Piece, spread, filled}
+use Rattle.hum_columns.specs.Spread.{Piece, spread, filled}
 use Rattle.hum_stage.specs.declared.faults.Rule.{Rule}
 use Rattle.hum_stage.specs.declared.faults.Rule.TheVariants.{X1, X2, X3}
 use Rattle.hum_stage.specs.Decided.{Decision}

@@ -1,7 +1,7 @@
 -- Records that are left with their chosen tokens.
 use Rattle.std.specs.Prelude.{Bool, List, [], ◌∷◌}
 use Rattle.hum_record.specs.Row.{Row, Comment, Spined, chosen}
-use Rattle.hum_spread.specs.Spread.{filled}
+use Rattle.hum_columns.specs.Spread.{filled}
 
 -- what is left of a record with the chosen tokens alone, if there are any
 abbrev pub kept : List Bool → Row → List Row

@@ -8,10 +8,9 @@ ghost use Rattle.hum_columns.specs.Following.{AnswersInRoom};
 ghost use Rattle.hum_extract.specs.Extract.{exchanged_flags, is_lone, chosen_between};
 ghost use Rattle.hum_extract.specs.Extract.{softened, pieces, cut};
 
-use hum_columns::{is_torn, write_pieces};
+use hum_columns::{Piece, is_torn, write_pieces};
 use hum_path::token_sign;
 use hum_record::Record;
-use hum_spread::Piece;
 use hum_stage::Rule;
 use std::alloc::{AllocError, Global};
 use std::collections::VecDeque;

@@ -23,8 +23,8 @@ use Rattle.hum_stage.specs.declared.faults.Rule.{Rule}
 use Rattle.hum_stage.specs.declared.faults.Rule.TheVariants.{X1, X2, X3}
 use Rattle.hum_stage.specs.Score.{Follow}
 use Rattle.hum_stage.proofs.Scores.{path_passed}
-use Rattle.hum_spread.specs.Spread.{filled, spread, tokens_in}
-use Rattle.hum_spread.proofs.Spreading.{marks, formed_length}
+use Rattle.hum_columns.specs.Spread.{filled, spread, tokens_in}
+use Rattle.hum_columns.proofs.Spreading.{marks, formed_length}
 use Rattle.hum_columns.specs.Chosen.{is_torn, opening_of, flags}
 use Rattle.hum_columns.specs.Deciding.{at_path}
 use Rattle.hum_columns.proofs.ChosenLists.{chosen_length, chosen_map}

@@ -18,7 +18,7 @@ use Rattle.hum_stage.specs.declared.faults.Command.TheVariants.{Ditto, Extract}
 use Rattle.hum_stage.specs.declared.faults.End.TheVariants.{Closed}
 use Rattle.hum_stage.specs.Score.{IsScore}
 use Rattle.hum_stage.specs.Meaning.{KeepsScore}
-use Rattle.hum_spread.specs.Spread.{filled, spread}
+use Rattle.hum_columns.specs.Spread.{filled, spread}
 use Rattle.hum_columns.specs.Chosen.{is_torn, opening_if, opening_of, flags}
 use Rattle.hum_columns.specs.Deciding.{at_path}
 use Rattle.hum_extract.specs.declared.choice.Choice.{Choice as WrittenChoice}

@@ -17,7 +17,7 @@ use Rattle.hum_stage.specs.declared.faults.Rule.TheVariants.{X2}
 use Rattle.hum_stage.specs.Score.{Follow, IsScore}
 use Rattle.hum_stage.specs.Meaning.{KeepsScore}
 use Rattle.hum_stage.specs.Decided.{at_once}
-use Rattle.hum_spread.specs.Spread.{filled}
+use Rattle.hum_columns.specs.Spread.{filled}
 use Rattle.hum_columns.specs.Chosen.{flags}
 use Rattle.hum_columns.specs.Deciding.{at_path}
 use Rattle.hum_extract.specs.Choice.{Names, each_chosen, opening_flags, misses, names_beyond}

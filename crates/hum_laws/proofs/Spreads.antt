@@ -7,13 +7,13 @@ use Rattle.hum_path.specs.Onward.{onward, swapped}
 use Rattle.hum_path.specs.Memories.{seen_each}
 use Rattle.hum_path.proofs.Onwards.{swapped_none}
 use Rattle.hum_path.proofs.Cases.{by_bool}
-use Rattle.hum_spread.specs.Spread.{Piece, joins, tokens_in, touches, joins_in, goes_on, join_alone, first_alone, join_done, first_done}
-use Rattle.hum_spread.specs.Spread.{one_by_one, before_last, spread}
-use Rattle.hum_spread.proofs.Spreading.{marks, signs_in, Formed, formed_length, rest_merged, merged, first_onward, done_onward, done_formed}
-use Rattle.hum_spread.proofs.Spreading.{done_joins, done_swapped}
-use Rattle.hum_spread.proofs.Fitting.{begins_marks}
-use Rattle.hum_spread.proofs.FirstJoin.{first_size, first_exchange}
-use Rattle.hum_spread.proofs.Leading.{touching_joins, one_apart}
+use Rattle.hum_columns.specs.Spread.{Piece, joins, tokens_in, touches, joins_in, goes_on, join_alone, first_alone, join_done, first_done}
+use Rattle.hum_columns.specs.Spread.{one_by_one, before_last, spread}
+use Rattle.hum_columns.proofs.Spreading.{marks, signs_in, Formed, formed_length, rest_merged, merged, first_onward, done_onward, done_formed}
+use Rattle.hum_columns.proofs.Spreading.{done_joins, done_swapped}
+use Rattle.hum_columns.proofs.Fitting.{begins_marks}
+use Rattle.hum_columns.proofs.FirstJoin.{first_size, first_exchange}
+use Rattle.hum_columns.proofs.Leading.{touching_joins, one_apart}
 use Rattle.hum_laws.proofs.Seen.{seen_on}
 
 -- Null interpretations, joins and exchanges leave what is remembered as it is.

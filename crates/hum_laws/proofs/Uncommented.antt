@@ -19,7 +19,7 @@ use Rattle.hum_stage.specs.Score.{IsScore}
 use Rattle.hum_stage.specs.Meaning.{KeepsScore}
 use Rattle.hum_stage.specs.Decided.{Decision, at_once}
 use Rattle.hum_rid.specs.Rid.{rid, meaning as meaning_of_rid}
-use Rattle.hum_spread.specs.Spread.{filled, spread}
+use Rattle.hum_columns.specs.Spread.{filled, spread}
 use Rattle.hum_columns.specs.Chosen.{opening_of, flags}
 use Rattle.hum_columns.specs.Deciding.{ColumnCommand, at_path, by_columns}
 use Rattle.hum_extract.specs.Written.{choice_of}

@@ -23,7 +23,7 @@ use Rattle.hum_path.specs.declared.PathFault.TheVariants.{P1, P2, P3, P4, P5, P6
 use Rattle.hum_stage.specs.declared.faults.Rule.{Rule}
 use Rattle.hum_stage.specs.declared.faults.Rule.TheVariants.{X2}
 use Rattle.hum_stage.specs.Score.{Follow, IsScore}
-use Rattle.hum_spread.specs.Spread.{touches, filled}
+use Rattle.hum_columns.specs.Spread.{touches, filled}
 use Rattle.hum_columns.specs.Chosen.{is_torn, each_piece, opening_of, flags}
 use Rattle.hum_columns.specs.Deciding.{at_path}
 use Rattle.hum_columns.proofs.ChosenJoins.{each_tokens}

@@ -1,9 +1,9 @@
 //! Intervals and pitches.
 ghost use Rattle.std.specs.Prelude.{◌≡◌, ◌+ℤ◌, ◌-ℤ◌, pos, negsuc, MatchResult};
-ghost use Rattle.hum_pitch.specs.Pitch.{IsAway, IsWithin, semitones, step_number};
-ghost use Rattle.hum_pitch.specs.Given.{spelled};
+ghost use Rattle.hum_kern.specs.Pitch.{IsAway, IsWithin, semitones, step_number};
+ghost use Rattle.hum_kern.specs.Given.{spelled};
 
-use hum_pitch::{Interval, Pitch, PitchFault, interval};
+use hum_kern::{Interval, Pitch, PitchFault, interval};
 
 /// Intervals add up: that from one pitch to another, and that from there to a third, are together
 /// that from the first to the third.

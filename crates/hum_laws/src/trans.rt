@@ -1,6 +1,6 @@
 //! The command trans, and what comes behind it.
 ghost use Rattle.std.specs.Prelude.{◌≡◌, ◌≤◌, ◌+ℤ◌, neg_ℤ, pos, negsuc, [], ◌∷◌, length, IfOk};
-ghost use Rattle.hum_pitch.specs.Pitch.{IsWithin};
+ghost use Rattle.hum_kern.specs.Pitch.{IsWithin};
 ghost use Rattle.hum_stage.specs.Score.{IsClosed};
 ghost use Rattle.hum_stage.specs.declared.faults.End.TheVariants.{Closed};
 ghost use Rattle.hum_tones.specs.Commands.{trans_sign, meaning_of_semits, meaning_of_recip};

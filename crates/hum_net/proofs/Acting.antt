@@ -17,11 +17,11 @@ use Rattle.hum_nodes.specs.At.{with_record, with_end}
 use Rattle.hum_nodes.specs.declared.either.Node.{Node}
 use Rattle.hum_nodes.specs.declared.either.Node.TheVariants as node
 use Rattle.hum_nodes.specs.Nodes.{is_source, StandsAs}
-use Rattle.hum_links.specs.declared.link.Link as port
-use Rattle.hum_links.specs.declared.link.Next.{Next}
-use Rattle.hum_links.specs.declared.link.Next.TheVariants as next
-use Rattle.hum_links.specs.Links.{IsLink, Goes, Tells, next_of, room}
-use Rattle.hum_links.specs.Traffic.{ended}
+use Rattle.hum_net.specs.declared.link.Link as port
+use Rattle.hum_net.specs.declared.link.Next.{Next}
+use Rattle.hum_net.specs.declared.link.Next.TheVariants as next
+use Rattle.hum_net.specs.Links.{IsLink, Goes, Tells, next_of, room}
+use Rattle.hum_net.specs.Traffic.{ended}
 use Rattle.hum_net.specs.declared.web.Web.{Web}
 use Rattle.hum_net.specs.Scene.{Scene, plan_of, moved, at_of, NodesStand, LinksStand, Stands, Done}
 use Rattle.hum_net.specs.Scene.{IsAt, MayAct, Keeps}

@@ -7,8 +7,8 @@ use Rattle.hum_turns.specs.Flow.{Flow, so_far}
 use Rattle.hum_turns.specs.Links.{Link, Moment, given, view, fresh, IsOpening}
 use Rattle.hum_nodes.specs.At.{Kind, At, fresh as fresh_at}
 use Rattle.hum_nodes.specs.declared.either.Node.{Node}
-use Rattle.hum_links.specs.declared.link.Link as port
-use Rattle.hum_links.specs.Links.{IsLink}
+use Rattle.hum_net.specs.declared.link.Link as port
+use Rattle.hum_net.specs.Links.{IsLink}
 use Rattle.hum_net.specs.declared.web.Web.{Web}
 use Rattle.hum_net.specs.Scene.{Scene, at_of, IsBegun, Stands}
 

@@ -13,8 +13,8 @@ use Rattle.hum_read.specs.Reading.{Polled, Gave, ReadOn, Ended}
 use Rattle.hum_nodes.specs.Nodes.{is_source, StandsAs, remaining_of, ended_of, calls_of, failed_of}
 use Rattle.hum_nodes.specs.Polls.{HasPolled, HasStayed, AsksAtMostOnce}
 use Rattle.hum_net.specs.Readers.{or_none, remaining_at, ended_at, calls_at, failed_at}
-use Rattle.hum_links.specs.declared.link.Link as port
-use Rattle.hum_links.specs.Links.{room}
+use Rattle.hum_net.specs.declared.link.Link as port
+use Rattle.hum_net.specs.Links.{room}
 use Rattle.hum_net.specs.declared.web.Web.{Web}
 use Rattle.hum_net.specs.Scene.{Scene, plan_of, moved, at_of, NodesStand, LinksStand, Stands}
 use Rattle.hum_net.specs.Scene.{MayTurn, Fed}

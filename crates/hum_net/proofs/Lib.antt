@@ -18,3 +18,5 @@ pub mod Searching
 pub mod Running
 pub mod Telling
 pub mod Beginning
+mod Examples
+pub mod Appending

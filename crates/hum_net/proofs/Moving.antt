@@ -12,8 +12,8 @@ use Rattle.hum_turns.specs.Plan.{end_of}
 use Rattle.hum_turns.specs.Links.{Link, Moment, given, view, settled}
 use Rattle.hum_turns.specs.Turns.{State, Gives, Ends, Does, Becomes, pushed, marked}
 use Rattle.hum_nodes.specs.At.{Kind, At, after_take, read_to}
-use Rattle.hum_links.specs.declared.link.Link as port
-use Rattle.hum_links.specs.Links.{IsLink}
+use Rattle.hum_net.specs.declared.link.Link as port
+use Rattle.hum_net.specs.Links.{IsLink}
 use Rattle.hum_net.specs.Scene.{Scene, plan_of, moved, at_of, NodesStand, LinksStand}
 
 pub set_cases : {X : Type 0} (xs : List X) (k : ℕ) (y : X) (i : ℕ) (x : X)

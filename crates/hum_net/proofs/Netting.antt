@@ -34,7 +34,7 @@ use Rattle.hum_nodes.proofs.Followed.{read_once, read_none, read_stayed}
 use Rattle.std.proofs.Math.Path.{fun_ext}
 use Rattle.std.proofs.lemmas.Bool.{cases_eq}
 use Rattle.hum_net.proofs.Feeding.{source_bytes, link_of}
-use Rattle.hum_writing.proofs.Appending.{appends_none, appends_trans}
+use Rattle.hum_net.proofs.Appending.{appends_none, appends_trans}
 
 pub source_here : {F W : Type 0} (feeds : F → List ℕ → At → Type 0) (works : W → At → Type 0) (k : ℕ)
     (web : Web F W) (s : Scene)

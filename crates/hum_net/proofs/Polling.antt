@@ -17,9 +17,9 @@ use Rattle.hum_nodes.specs.declared.node.Doing.TheVariants as does
 use Rattle.hum_read.specs.Reading.{Polled, Gave, ReadOn, Ended}
 use Rattle.hum_nodes.specs.At.{At, doing_by, doing_of, output_of, read_to}
 use Rattle.hum_nodes.specs.Polls.{GoesOn, PollsBy, Polls}
-use Rattle.hum_links.specs.declared.link.Link as port
-use Rattle.hum_links.specs.Links.{IsLink, Goes}
-use Rattle.hum_links.specs.Traffic.{ended}
+use Rattle.hum_net.specs.declared.link.Link as port
+use Rattle.hum_net.specs.Links.{IsLink, Goes}
+use Rattle.hum_net.specs.Traffic.{ended}
 use Rattle.hum_net.specs.Scene.{Scene, plan_of, moved, at_of, NodesStand, LinksStand}
 use Rattle.hum_net.proofs.Moving.{OthersStand, Did, did_give, did_end, has_read, nodes_set, ins_of}
 

@@ -11,8 +11,8 @@ use Rattle.hum_nodes.specs.declared.node.Doing.TheVariants as does
 use Rattle.hum_nodes.specs.At.{At}
 use Rattle.hum_nodes.specs.declared.either.Node.{Node}
 use Rattle.hum_nodes.specs.Nodes.{is_source, StandsAs}
-use Rattle.hum_links.specs.declared.link.Link as port
-use Rattle.hum_links.specs.Links.{Tells}
+use Rattle.hum_net.specs.declared.link.Link as port
+use Rattle.hum_net.specs.Links.{Tells}
 use Rattle.hum_net.specs.declared.web.Web.{Web}
 use Rattle.hum_net.specs.Scene.{Scene, plan_of, at_of, IsAt, IsAbout}
 use Rattle.hum_net.proofs.Moving.{nth}

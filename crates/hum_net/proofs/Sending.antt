@@ -15,9 +15,9 @@ use Rattle.hum_turns.specs.Text.{text}
 use Rattle.hum_turns.proofs.Writing.{text_append}
 use Rattle.hum_nodes.specs.At.{At}
 use Rattle.hum_nodes.specs.declared.either.Node.{Node}
-use Rattle.hum_links.specs.declared.link.Next.{Next}
-use Rattle.hum_links.specs.declared.link.Next.TheVariants as next
-use Rattle.hum_links.specs.Links.{next_of}
+use Rattle.hum_net.specs.declared.link.Next.{Next}
+use Rattle.hum_net.specs.declared.link.Next.TheVariants as next
+use Rattle.hum_net.specs.Links.{next_of}
 use Rattle.hum_net.specs.declared.web.Web.{Web}
 use Rattle.hum_net.specs.Scene.{Scene, plan_of, Done}
 use Rattle.hum_net.specs.Nets.{Sent, SinkWent}

@@ -23,10 +23,10 @@ use Rattle.hum_nodes.specs.declared.node.Doing.TheVariants as does
 use Rattle.hum_nodes.specs.Fine.{fine}
 use Rattle.hum_nodes.specs.At.{At, doing_by, doing_of, change_at, after_change, MayChange}
 use Rattle.hum_nodes.specs.At.{with_record, with_end}
-use Rattle.hum_links.specs.declared.link.Link as port
-use Rattle.hum_links.specs.declared.link.Next.{Next}
-use Rattle.hum_links.specs.declared.link.Next.TheVariants as next
-use Rattle.hum_links.specs.Links.{Goes, next_of}
+use Rattle.hum_net.specs.declared.link.Link as port
+use Rattle.hum_net.specs.declared.link.Next.{Next}
+use Rattle.hum_net.specs.declared.link.Next.TheVariants as next
+use Rattle.hum_net.specs.Links.{Goes, next_of}
 use Rattle.hum_net.specs.Scene.{Scene, plan_of, at_of, NodesStand, LinksStand, IsTree}
 use Rattle.hum_net.specs.Scene.{IsReached}
 use Rattle.hum_net.proofs.Moving.{Did, put_at, put_becomes, at_with, ins_of, at_same}

@@ -17,8 +17,8 @@ use Rattle.hum_nodes.specs.declared.node.Doing.{Doing}
 use Rattle.hum_nodes.specs.declared.node.DoingKind.{DoingKind}
 use Rattle.hum_nodes.specs.declared.either.Node.{Node}
 use Rattle.hum_nodes.specs.Nodes.{is_source, remaining_of, ended_of}
-use Rattle.hum_links.specs.declared.link.Link.{Link}
-use Rattle.hum_links.specs.Links.{IsLink}
+use Rattle.hum_net.specs.declared.link.Link.{Link}
+use Rattle.hum_net.specs.Links.{IsLink}
 use Rattle.hum_net.specs.declared.web.Web.{Web}
 
 -- A moment of a plan, with the bytes that each source has still to read: how many stages, what each

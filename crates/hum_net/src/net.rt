@@ -22,13 +22,13 @@ ghost use Rattle.hum_net.specs.Search.{beginning, search_by};
 ghost use Rattle.hum_net.specs.Nets.{Sees, MayPick, HasPicked, MayAsk, HasGone};
 
 use crate::idle::{Chain, Knows, Tree};
+use crate::link::Next;
 use crate::web::Web;
-use hum_links::Next;
+use crate::writing::write_record;
 use hum_nodes::{DoingKind, Feeds, Node, Works};
 use hum_read::ReadError;
 use hum_text::calls::Sink;
 use hum_turns::{Order, RunResult, choose};
-use hum_writing::write_record;
 use std::alloc::Global;
 
 /// Nodes and links, what the last stage is written to, and the failure that has ended the run.

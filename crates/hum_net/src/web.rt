@@ -9,7 +9,7 @@ ghost use Rattle.hum_nodes.specs.Nodes.{StandsAs};
 ghost use Rattle.hum_nodes.specs.At.{HoldsOneEach, doing_of, kind_of};
 ghost use Rattle.hum_nodes.specs.declared.node.Doing.TheVariants as does;
 ghost use Rattle.hum_nodes.specs.declared.node.DoingKind.TheVariants as kinds;
-ghost use Rattle.hum_links.specs.Links.{next_of};
+ghost use Rattle.hum_net.specs.Links.{next_of};
 ghost use Rattle.hum_net.specs.Scene.{Scene, plan_of, Somewhere, IsAt, IsActor, MayTurn, MayAct};
 ghost use Rattle.hum_net.specs.Scene.{IsKind, Keeps, KeepsOthers, Fed, Done, IsAbout};
 ghost use Rattle.hum_net.specs.Scene.{IsAboutKind, IsDoing};
@@ -17,7 +17,7 @@ ghost use Rattle.hum_net.specs.Scene.{IsBegun, Stands, HasStage, held_of, at_of}
 ghost use Rattle.hum_net.specs.Readers.{ShowsSame, remaining_at, ended_at, calls_at, failed_at};
 ghost use Rattle.hum_nodes.specs.Polls.{AsksAtMostOnce, HasStayed, is_failed_read};
 
-use hum_links::{Link, Next};
+use crate::link::{Link, Next};
 use hum_nodes::{Doing, DoingKind, Feeds, Node, Works};
 use hum_read::ReadError;
 use hum_record::Record;

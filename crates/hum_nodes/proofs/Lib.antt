@@ -17,3 +17,4 @@ pub mod Turns
 pub mod Asks
 pub mod Followed
 pub mod Limits
+pub mod TreeLaws

@@ -8,6 +8,7 @@ ghost use Rattle.hum_nodes.specs.Fine.{fine, AreFine};
 ghost use Rattle.hum_nodes.specs.Single.{single};
 ghost use Rattle.hum_nodes.specs.Merging.{merging};
 ghost use Rattle.hum_nodes.specs.Reading.{reading};
+ghost use Rattle.hum_nodes.specs.Trees.{Part, IsTree, IsLawfulTree};
 
 /// Exactly scores of at most 4,294,967,295 records may lie on a link, and those that end closed
 /// only where no spine is open.
@@ -56,4 +57,10 @@ pub fn readings_are_lawful()
 /// What it gives may lie on a link.
 pub fn readings_keep_fine()
     ensures { (number : ℕ) (all : List ℕ) → KeepsFine fine (reading number all).stage }
+{}
+
+/// A tree of stages is a plan of stages that keep to their contracts, whose faults bear their
+/// stages' numbers; it ends by the fault of the lowest-numbered stage that refuses.
+pub fn trees_are_plans()
+    ensures { (parts : List Part) → IsTree parts → IsLawfulTree parts }
 {}

@@ -8,7 +8,8 @@
 //! - [`Worker`] is one of the two.
 //! - [`Asked`] is a stage that keeps what it does next: of assemble a net would ask each source.
 //! - [`Reading`] is the command read as a node that reads bytes.
-//! - [`what_is_fine`] and the functions beside it are the laws that a plan asks of its stages.
+//! - [`what_is_fine`] and the functions beside it are the laws that a plan asks of its stages, and
+//!   [`trees_are_plans`] says that all trees of such stages are plans.
 #![tactic(auto)]
 
 mod asked;
@@ -24,7 +25,8 @@ pub use asked::Asked;
 pub use either::Node;
 pub use laws::{
     kept_stages_are_limited, mergings_are_lawful, mergings_keep_fine, readings_are_lawful,
-    readings_keep_fine, singles_are_lawful, singles_are_limited, singles_keep_fine, what_is_fine,
+    readings_keep_fine, singles_are_lawful, singles_are_limited, singles_keep_fine,
+    trees_are_plans, what_is_fine,
 };
 pub use merging::Merging;
 pub use node::{Doing, DoingKind, Feeds, Works};

@@ -2,7 +2,7 @@
 use Rattle.std.specs.Prelude.{ℕ, ℤ, Bool, if◌then◌else◌, List}
 use Rattle.std.specs.Prelude.{Option, None, Some}
 use Rattle.std.specs.Option.{option_map}
-use Rattle.hum_frac.specs.Ratio.{Ratio}
+use Rattle.hum_kern.specs.Ratio.{Ratio}
 use Rattle.hum_pattern.specs.Meaning.{IsExpression, IsNone}
 use Rattle.hum_extract.specs.declared.choice.FieldRange.{FieldRange}
 use Rattle.hum_cleave.specs.Cleave.{is_name, fits_in_token}

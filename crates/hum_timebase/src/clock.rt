@@ -1,13 +1,13 @@
 //! The time of each record.
 ghost use Rattle.std.specs.Prelude.{◌≡◌, ◌+◌, ◌<◌, ◌^◌, IfOk, OnOk, IfErr, Ok, Err, None, Some, []};
-ghost use Rattle.hum_frac.specs.Multiples.{is_multiple};
+ghost use Rattle.hum_kern.specs.Multiples.{is_multiple};
 ghost use Rattle.hum_timebase.specs.Clock.{time_after};
 ghost use Rattle.hum_timebase.specs.Placed.{OfColumns};
 ghost use Rattle.hum_timebase.specs.Timebase.{multiples_from, count_before, count_after};
 
 use crate::ends::{drop_untimed, ends_by, has_clash, next_end, sound};
 use crate::notes::NoteAt;
-use hum_frac::Frac;
+use hum_kern::Frac;
 use hum_path::{Marks, Moves};
 use hum_stage::Rule;
 use std::alloc::{AllocError, Global};

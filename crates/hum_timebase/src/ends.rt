@@ -2,7 +2,7 @@
 ghost use Rattle.std.specs.Prelude.{◌≡◌, ◌++◌, ℕ, true, false, not, length, map, None, Some};
 ghost use Rattle.std.specs.Prelude.{List, Option, IfOk, OnErr, OnOk, slice_index_or, slice_set};
 ghost use Rattle.std.specs.List.{list_any};
-ghost use Rattle.hum_frac.specs.Ratio.{Ratio, plus};
+ghost use Rattle.hum_kern.specs.Ratio.{Ratio, plus};
 ghost use Rattle.hum_timebase.specs.Ends.{later, sooner, beyond, next_end};
 ghost use Rattle.hum_timebase.specs.Kept.{end_if_timed, ends_before, ends_after, end_by};
 ghost use Rattle.hum_timebase.specs.Placed.{OfColumns};
@@ -10,7 +10,7 @@ ghost use Rattle.hum_timebase.specs.Spans.{low_of, high_of};
 ghost use Rattle.hum_timebase.specs.Timebase.{clash, clashes, is_too_long};
 
 use crate::notes::NoteAt;
-use hum_frac::{Frac, FracFault};
+use hum_kern::{Frac, FracFault};
 use hum_path::{Move, Moves};
 use std::alloc::{AllocError, Global};
 

@@ -2,7 +2,7 @@
 ghost use Rattle.std.specs.Prelude.{◌≡◌, Ok};
 ghost use Rattle.hum_kern.specs.Duration.{recip};
 
-use hum_frac::Frac;
+use hum_kern::Frac;
 
 /// How far apart the records stand.
 #[derive(Drop)]

@@ -8,7 +8,7 @@ use Rattle.hum_record.specs.Row.{Row}
 use Rattle.hum_record.specs.Spelling.{IsToken}
 use Rattle.hum_path.specs.Chains.{columns, history}
 use Rattle.hum_path.specs.Memories.{remembered}
-use Rattle.hum_pitch.specs.Pitch.{Spelled}
+use Rattle.hum_kern.specs.Pitch.{Spelled}
 use Rattle.hum_cells.specs.Retelling.{Retelling, is_told}
 use Rattle.hum_cells.specs.Telling.{MayRetell, HasRetold, Tells}
 use Rattle.hum_stage.specs.declared.faults.Rule.{Rule}

@@ -2,15 +2,15 @@
 ghost use Rattle.std.specs.Prelude.{◌≡◌, ◌++◌, [], IfOk, OnOk, option_map};
 ghost use Rattle.hum_record.specs.declared.SpinedKind.TheVariants.{Values};
 ghost use Rattle.hum_record.specs.Spelling.{IsToken};
-ghost use Rattle.hum_pitch.specs.Given.{spelled};
+ghost use Rattle.hum_kern.specs.Given.{spelled};
 ghost use Rattle.hum_tones.specs.Subtokens.{IsRetold};
 ghost use Rattle.hum_tones.specs.Mint.{approached};
 ghost use Rattle.hum_tones.specs.Memory.{told_as};
 
 use crate::hearing::{Heard, Tone};
 use crate::last_note::LastNote;
+use hum_kern::{Pitch, interval, push_interval, push_pitch};
 use hum_pattern::Pattern;
-use hum_pitch::{Pitch, interval, push_interval, push_pitch};
 use hum_stage::Rule;
 use std::alloc::AllocError;
 

@@ -2,13 +2,12 @@
 ghost use Rattle.std.specs.Prelude.{◌≡◌, [], IfOk, pos, negsuc};
 ghost use Rattle.hum_record.specs.declared.SpinedKind.TheVariants.{Values};
 ghost use Rattle.hum_record.specs.Spelling.{IsToken};
-ghost use Rattle.hum_pitch.specs.Pitch.{IsWithin};
+ghost use Rattle.hum_kern.specs.Pitch.{IsWithin};
 ghost use Rattle.hum_tones.specs.Subtokens.{HasAdded, IsRetold};
 ghost use Rattle.hum_tones.specs.Trans.{transposed, transposed_part};
 
 use crate::giving::{Giving, rule_of};
-use hum_kern::read_note;
-use hum_pitch::{Pitch, PitchFault, push_pitch};
+use hum_kern::{Pitch, PitchFault, push_pitch, read_note};
 use hum_stage::Rule;
 use std::alloc::AllocError;
 
@@ -24,8 +23,8 @@ pub struct Transposition {
 }
 
 impl Transposition {
-    ghost use Rattle.hum_pitch.specs.Pitch.{away};
-    ghost use Rattle.hum_pitch.specs.Given.{spelled, Answers};
+    ghost use Rattle.hum_kern.specs.Pitch.{away};
+    ghost use Rattle.hum_kern.specs.Given.{spelled, Answers};
 
     /// The pitch so far away, where it can be spelled.
     fn there(self, pitch: Pitch) -> Result<Pitch, PitchFault>

@@ -7,3 +7,4 @@ pub mod Writing
 pub mod Cutting
 pub mod Names
 pub mod Laws
+pub mod Bundle

@@ -2,7 +2,7 @@
 ghost use Rattle.std.specs.Prelude.{◌≡◌, Some};
 ghost use Rattle.humpipe.specs.Endings.{status_of, line_of};
 
-use hum_pipeline::Outcome;
+use crate::outcome::Outcome;
 use hum_turns::RunResult;
 use std::fmt;
 

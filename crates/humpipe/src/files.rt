@@ -1,10 +1,12 @@
 //! Runs of plans whose scores are files.
 ghost use Rattle.std.specs.Prelude.{◌≡◌, ◌≤◌, ◌<◌, ◌+◌, ◌||◌, true, length, IfOk, OnOk, IfErr};
-ghost use Rattle.hum_pipeline.specs.Nodes.{reads_by, reads_of};
-ghost use Rattle.hum_pipeline.specs.Bundles.{is_refused, is_failed_write};
+ghost use Rattle.humpipe.specs.Nodes.{reads_by, reads_of};
+ghost use Rattle.humpipe.specs.Bundles.{is_refused, is_failed_write};
 ghost use Rattle.humpipe.specs.Files.{IsShut, IsOneShut, MayCome};
 
-use hum_pipeline::{Outcome, plan_stages, run_stages};
+use crate::bundles::plan_stages;
+use crate::outcome::Outcome;
+use crate::running::run_stages;
 use hum_plan::{Options, PlanStage};
 use hum_text::calls::{Marked, Sink};
 use hum_turns::{Order, RunResult};

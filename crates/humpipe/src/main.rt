@@ -6,17 +6,20 @@
 
 ghost use Rattle.std.specs.Prelude.{◌≤◌};
 
+mod bundles;
 mod ending;
 mod files;
+mod nodes;
+mod outcome;
+mod running;
 
+use crate::bundles::run_bundle;
 use crate::ending::Ending;
 use crate::files::run_files;
-use hum_bundle::LARGEST;
 use hum_line::{Choice, LineFault, Side, read_line};
-use hum_pipeline::run_bundle;
 use hum_text::calls::{LARGEST_READ, Marked};
 use hum_turns::{Leftmost, Order, Rightmost};
-use hum_words::LONGEST_PLAN;
+use hum_words::{LARGEST_BUNDLE, LONGEST_PLAN};
 use std::alloc::Global;
 use std::io::{self, BufWriter, ErrorKind, Printer, Read};
 use std::process::ExitCode;
@@ -42,7 +45,7 @@ fn run_input<O: Order>(rt: &HostRuntime, link: u16, order: &mut O) -> io::Result
     requires link { 1 ≤ link }
     requires room { link ≤ 4096 }
 {
-    let bundle = match read_up_to(rt.alloc(), rt.reader(), LARGEST as u64) {
+    let bundle = match read_up_to(rt.alloc(), rt.reader(), LARGEST_BUNDLE as u64) {
         Ok(bundle) => bundle,
         Err(error) => return unread(error),
     };

@@ -1,7 +1,7 @@
 use Rattle.std.proofs.Common.{◌∙◌, sym, subst, ap, List, ℕ, false}
 use Rattle.hum_record.specs.Row.{tokens_of}
-use Rattle.hum_spread.specs.Spread.{Piece, piece}
-use Rattle.hum_spread.specs.Writing.{Fit}
+use Rattle.hum_columns.specs.Spread.{Piece, piece}
+use Rattle.hum_columns.specs.Writing.{Fit}
 use Rattle.hum_cleave.specs.Columns.{together}
 use Rattle.hum_columns.specs.Chosen.{each_piece}
 use Rattle.hum_cleave.proofs.Fitted.{pieces_fit}

@@ -1,6 +1,6 @@
 use Rattle.std.proofs.Common.{◌≡◌, ◌++◌, false, drop}
 use Rattle.hum_record.specs.Row.{tokens_of}
-use Rattle.hum_spread.specs.Spread.{piece}
+use Rattle.hum_columns.specs.Spread.{piece}
 use Rattle.hum_cleave.specs.Columns.{together}
 use Rattle.hum_columns.specs.Chosen.{each_piece}
 use Rattle.hum_cleave.proofs.Placewise.{left_of}

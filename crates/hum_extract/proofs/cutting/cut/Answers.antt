@@ -1,6 +1,6 @@
 use Rattle.std.proofs.Common.{◌∙◌, sym, subst, List}
-use Rattle.hum_spread.specs.Spread.{Piece}
-use Rattle.hum_spread.specs.Writing.{Fit}
+use Rattle.hum_columns.specs.Spread.{Piece}
+use Rattle.hum_columns.specs.Writing.{Fit}
 use Rattle.hum_extract.proofs.CutFits.{pieces_fit}
 use Rattle.hum_extract.proofs.cutting.cut.Goals as goal
 

@@ -1,6 +1,6 @@
 use Rattle.std.proofs.Common.{◌≡◌, false, rules, refl, arith}
-use Rattle.hum_frac.specs.Ratio.{is_before}
-use Rattle.hum_frac.proofs.Order.{none_between}
+use Rattle.hum_kern.specs.Ratio.{is_before}
+use Rattle.hum_kern.proofs.Order.{none_between}
 use Rattle.hum_timebase.proofs.clock.multiples_from.Goals as goal
 
 pub returns-then-not-is_before-clause-count : goal.returns-then-not-is_before-clause-count

@@ -1,5 +1,5 @@
 use Rattle.std.proofs.Common.{◌≡◌, ◌+◌, length, drop}
-use Rattle.hum_pipeline.specs.Nodes.{reads_of}
+use Rattle.humpipe.specs.Nodes.{reads_of}
 use Rattle.humpipe.proofs.files.open_all.Given as goal
 
 abbrev pub invariant-loop-k : goal.invariant-loop-k

@@ -7,7 +7,7 @@ use Rattle.hum_turns.specs.Links.{Link, fresh}
 use Rattle.hum_turns.specs.Failures.{Now}
 use Rattle.hum_turns.specs.Text.{text}
 use Rattle.hum_turns.proofs.Writing.{still}
-use Rattle.hum_writing.proofs.Appending.{appends_none}
+use Rattle.hum_net.proofs.Appending.{appends_none}
 use Rattle.hum_net.specs.Scene.{plan_of, moved}
 use Rattle.hum_net.proofs.net.Net.new.Goals as goal
 

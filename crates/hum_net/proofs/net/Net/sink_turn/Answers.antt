@@ -3,7 +3,7 @@ use Rattle.hum_turns.specs.Plan.{last}
 use Rattle.hum_nodes.specs.Nodes.{StandsAs}
 use Rattle.hum_turns.specs.Turns.{Takes}
 use Rattle.hum_net.specs.Scene.{plan_of, moved, Done}
-use Rattle.hum_writing.proofs.Appending.{keeps_appends}
+use Rattle.hum_net.proofs.Appending.{keeps_appends}
 use Rattle.hum_net.proofs.Sending.{went, sent_record, sent_end, not_heard}
 use Rattle.hum_net.proofs.net.Net.sink_turn.Goals as goal
 

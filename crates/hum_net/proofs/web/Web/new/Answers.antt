@@ -1,6 +1,6 @@
 use Rattle.std.proofs.Common.{◌∙◌, ◌∷◌, [], length, sym, ap, subst, ⊎_elim, arith, length-append, slice_get}
 use Rattle.hum_turns.specs.Links.{fresh}
-use Rattle.hum_links.specs.Links.{IsLink}
+use Rattle.hum_net.specs.Links.{IsLink}
 use Rattle.hum_nodes.specs.Nodes.{StandsAs}
 use Rattle.hum_net.proofs.Beginning.{push_cases, begins}
 use Rattle.hum_net.proofs.web.Web.new.Goals as goal

@@ -1,7 +1,7 @@
 use Rattle.std.proofs.Common.{◌≡◌, ℕ, length, Some, slice_get}
 use Rattle.hum_turns.specs.Links.{fresh}
-use Rattle.hum_links.specs.declared.link.Link.{Link}
-use Rattle.hum_links.specs.Links.{IsLink}
+use Rattle.hum_net.specs.declared.link.Link.{Link}
+use Rattle.hum_net.specs.Links.{IsLink}
 use Rattle.hum_net.proofs.web.Web.new.Given as goal
 
 abbrev pub invariant-loop-node : goal.invariant-loop-node

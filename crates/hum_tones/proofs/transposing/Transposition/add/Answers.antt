@@ -1,7 +1,7 @@
 use Rattle.std.proofs.Common.{refl, take, drop, ap, ◌∙◌, List, ℕ, ◌++◌}
 use lib.Chars.{codes}
-use Rattle.hum_pitch.specs.Given.{spelled}
-use Rattle.hum_pitch.specs.Spelling.{spelling}
+use Rattle.hum_kern.specs.Given.{spelled}
+use Rattle.hum_kern.specs.Spelling.{spelling}
 use Rattle.hum_tones.proofs.Moving.{too_many_signs, too_far, put_there, in_order}
 use Rattle.hum_tones.proofs.transposing.Transposition.add.Goals as goal
 

@@ -1,6 +1,0 @@
-pub mod Examples
-mod Theory
-pub mod Steps
-pub mod Answering
-pub mod Reading
-pub mod Names

@@ -1,4 +1,0 @@
-pub mod Pitch
-pub mod Given
-pub mod Spelling
-pub mod Intervals

@@ -1,6 +1,0 @@
-use Rattle.std.proofs.Common.{◌≡◌, drop}
-use Rattle.hum_spread.specs.Spread.{join_done}
-use Rattle.hum_spread.proofs.writing.join_len.Given as goal
-
-abbrev pub invariant-loop-i : goal.invariant-loop-i
-invariant-loop-i l = join_done (drop l.i l.pieces) ≡ join_done l.pieces
