@@ -91,7 +91,7 @@ def status_of(told):
     """The status that goes with a line that is told."""
     if not told:
         return 0
-    if told.startswith('plan line'):
+    if told.startswith('plan line') or told == 'bundle too large':
         return 2
     return 1 if re.fullmatch(r'stage \d+ \([a-z]+\), line \d+: [A-Z]+\d+', told) else 3
 

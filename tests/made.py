@@ -52,8 +52,7 @@ def wide_scores():
         text += record(b'*', 2 ** (k + 1))[:-1] + b'\t' + record(b'*^', 2 ** k)
     joins = record(b'*v', 2048)[:-1] + b'\t' + record(b'*', 2048) + b'*\t' + record(b'*v', 2048)
     yield '4,096 spines side by side', scores + spines(11), text + joins + b'*-\t*-\n', ''
-    split = record(b'*^', 2048)[:-1] + b'\t' + record(b'*', 2048)
-    yield 'more than 4,096 side by side', scores + spines(12), text + split, 'stage 3 (assemble), line 24: A1'
+    yield 'more than 4,096 side by side', scores + spines(12), text, 'stage 3 (assemble), line 24: A1'
 
 
 def long_plans():
@@ -111,7 +110,7 @@ class Line:
             if self.file:
                 write(f'{folder}/{self.file}', b'out: read a')
             found = run([program, *self.line.split()], b'' if self.file else b'out: read a\n--- a\n**x\n*-\n', cwd=folder)
-        want = (3, b'', USAGE) if self.is_refused else (0, b'**x\n*-\n', b'')
+        want = (2, b'', USAGE) if self.is_refused else (0, b'**x\n*-\n', b'')
         return [] if found == want else [f'humpipe {self.line}: {shown(found)}']
 
 
@@ -204,7 +203,7 @@ class Large:
         text = b'!!' + b'x' * 1_048_573 + b'\n'
         bundle = (b'out: read a | rid -G\n--- a\n' + text * 64)[:self.size - 1] + b'\n'
         found = run([program], bundle)
-        want = (0, b'', b'') if self.size <= 67_108_864 else (3, b'', b'humpipe: bundle too large\n')
+        want = (0, b'', b'') if self.size <= 67_108_864 else (2, b'', b'humpipe: bundle too large\n')
         return [] if found == want else [f'a bundle of {self.size} bytes: {shown(found)}']
 
 
