@@ -2,10 +2,12 @@
 #
 #   make            proves each crate and builds ./humpipe
 #   make demo       shows the main job on a score of examples/
-#   make test       the merge gate: make lint, every proof from nothing, the edits that must fail, tests, runs, the examples of the docs
+#   make test       the merge gate: make lint, every proof from nothing, the edits that must fail, tests, runs, the rows of tests/,
+#                   the examples of the docs
 #   make bench      times and peak memory beside other programs on the same score
 #   make install    the program, its man page, the manual (docs/) and completions, into PREFIX=/usr/local
-#   make docs       runs what the README and docs/ print, with the program
+#   make rows       runs the rows of tests/ with the program
+#   make docs       runs what the README and docs/ print, with it
 #   make lint       the man page, the scripts and the grammar, as far as there are programs that read them
 #
 # The first build proves every crate that the program is made of, and tells each one that is proved. Later ones prove what
@@ -26,7 +28,7 @@ crates = $(shell tac crates.txt | awk -F'[: ]+' '$$1 == "humpipe" { uses[$$1] } 
 	$$1 in uses { print $$1; for (i = 2; i <= NF; i++) uses[$$i] }')
 files = $(shell find crates -name out -prune -o -name must-fail -prune -o -type f -print)
 
-.PHONY: all demo test bench docs lint install clean
+.PHONY: all demo test bench rows docs lint install clean
 
 all: humpipe
 
@@ -70,16 +72,19 @@ demo: humpipe
 	@echo '$$ ./humpipe examples/no_comments.hpl'
 	@./humpipe examples/no_comments.hpl
 
-# The examples run with the program that is there; DOCS=no leaves them out.
+# Rows and examples run with the program that is there; DOCS=no leaves them out.
 test: lint
 	RT_JOBS=$(LANES) rt ci
 	@program=$$(ls humpipe crates/humpipe/out/humpipe 2>/dev/null | head -n 1); \
 	if test "$(DOCS)" = no; then :; \
-	elif test -n "$$program"; then python3 docs/check.py "$$program"; \
+	elif test -n "$$program"; then python3 tests/check.py "$$program" && python3 docs/check.py "$$program"; \
 	else echo 'no program at humpipe or crates/humpipe/out/humpipe: make it, or say DOCS=no'; echo '0 passed, 1 failed'; exit 1; fi
 
 bench: humpipe
 	python3 bench/run.py
+
+rows: humpipe
+	@python3 tests/check.py humpipe
 
 docs: humpipe
 	@python3 docs/check.py humpipe
