@@ -175,8 +175,8 @@ class Full:
         return [] if found == want else [f'an output of {self.room} bytes: {shown(found)}']
 
 
-class Closed:
-    """An output that nobody reads, a plan and an input that can't be read."""
+class OutOfReach:
+    """An output that nobody reads, plans that can't be opened or read, and an input that can't be read."""
 
     def check(self, program):
         end, output = os.pipe()
@@ -212,5 +212,5 @@ def cases():
         *[Row(f'made.py: {name}', *row) for name, *row in [*long_scores(), *wide_scores()]],
         *[Plan(f'made.py: {plan[:40]!r}', plan.encode(), told) for plan, told in long_plans()],
         *[Front(head, score[:end], text) for head, score, text in FRONTS for end in range(len(score) + 1)],
-        *LINES, *FAILING, *[Full(room) for room in (0, 1, 7, 12, 13)], Closed(), Large(67_108_864), Large(67_108_865),
+        *LINES, *FAILING, *[Full(room) for room in (0, 1, 7, 12, 13)], OutOfReach(), Large(67_108_864), Large(67_108_865),
     ]

@@ -1,6 +1,6 @@
 use Rattle.std.proofs.Common.{◌≡◌, replicate, rules}
 use Rattle.hum_record.proofs.Long.{repeated_token}
-use Rattle.hum_syntax_tests.proofs.record.long_token.Goals as goal
+use Rattle.hum_tests.proofs.record.long_token.Goals as goal
 
 pub returns : goal.returns
 returns c =
