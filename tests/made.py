@@ -55,6 +55,22 @@ def wide_scores():
     yield 'more than 4,096 side by side', scores + spines(12), text, 'stage 3 (assemble), line 24: A1'
 
 
+# subtokens that are no note: two runs of letters or different signs come before what is too long
+NO_NOTES = {
+    'K1': ['cd', 'c4c', 'cC', 'ccdcc', 'c#c', '4gg#-', '4c-n', 'an#', 'c##-#', 'ee-4q_e', 'ccccccccc4d', 'ccccccccc#-', 'c########-',
+           'c4ccccccccc'],
+    'K2': ['ccccccccc', '4AAAAAAAAA', 'c########', 'c--------', 'cnnnnnnnn', 'bbbbbbbbb#########_'],
+}
+
+
+def no_notes():
+    """Notes that are refused."""
+    for rule, notes in NO_NOTES.items():
+        for note in notes:
+            bundle = f'out: read a | semits -x\n--- a\n**kern\n4c\n{note}\n*-\n'
+            yield note, bundle.encode(), b'**semits\n0\n', f'stage 2 (semits), line 3: {rule}'
+
+
 def long_plans():
     """As many stages, branches, sources, values and bytes as a plan may have, and one more."""
     yield 'p: read a' + ' | recip' * 62 + '\nout: assemble p', ''
@@ -209,7 +225,7 @@ class Large:
 
 def cases():
     return [
-        *[Row(f'made.py: {name}', *row) for name, *row in [*long_scores(), *wide_scores()]],
+        *[Row(f'made.py: {name}', *row) for name, *row in [*long_scores(), *wide_scores(), *no_notes()]],
         *[Plan(f'made.py: {plan[:40]!r}', plan.encode(), told) for plan, told in long_plans()],
         *[Front(head, score[:end], text) for head, score, text in FRONTS for end in range(len(score) + 1)],
         *LINES, *FAILING, *[Full(room) for room in (0, 1, 7, 12, 13)], OutOfReach(), Large(67_108_864), Large(67_108_865),

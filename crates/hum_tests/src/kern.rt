@@ -1,9 +1,7 @@
 //! Notes and durations worked by hand.
 use crate::compared::same;
-use crate::pitch::{Spelled, at};
 use hum_kern::{
-    Frac, KernFault, Length, Note, leading_part, read_duration, read_leading, read_note,
-    read_recip, write_pitch,
+    Frac, KernFault, Length, leading_part, read_duration, read_leading, read_note, read_recip,
 };
 use std::process::Abort;
 
@@ -204,106 +202,6 @@ fn durations_and_nothing_else(rt: HostRuntime) {
     }
 }
 
-// A note of this pitch, which stands there, without a mark.
-fn plain_note(pitch: Spelled, start: usize, end: usize) -> Note {
-    Note {
-        pitch: Some(at(pitch)),
-        start,
-        end,
-        rest: false,
-        grace: false,
-        continued: false,
-    }
-}
-
-/// A text, where its pitch stands, and the pitch's step, octave and alteration.
-type Pitched = (&'static [u8], usize, usize, u8, i8, i8);
-
-const PITCHES: &[Pitched] = &[
-    // middle c, and its octaves up to the eighth and down to the eighth
-    (b"c", 0, 1, 0, 4, 0),
-    (b"cc", 0, 2, 0, 5, 0),
-    (b"4ccccc", 1, 6, 0, 8, 0),
-    (b"cccccccc", 0, 8, 0, 11, 0),
-    (b"C", 0, 1, 0, 3, 0),
-    (b"CC", 0, 2, 0, 2, 0),
-    (b"CCCCCCCC", 0, 8, 0, -4, 0),
-    (b"bbbbbbbb", 0, 8, 6, 11, 0),
-    (b"BBBBBBBB", 0, 8, 6, -4, 0),
-    // the piano's lowest and highest keys, and the a of 440 hertz
-    (b"AAAA", 0, 4, 5, 0, 0),
-    (b"8ccccc", 1, 6, 0, 8, 0),
-    (b"2a", 1, 2, 5, 4, 0),
-    // each letter
-    (b"d", 0, 1, 1, 4, 0),
-    (b"e", 0, 1, 2, 4, 0),
-    (b"f", 0, 1, 3, 4, 0),
-    (b"g", 0, 1, 4, 4, 0),
-    (b"b", 0, 1, 6, 4, 0),
-    (b"DD", 0, 2, 1, 2, 0),
-    (b"EE", 0, 2, 2, 2, 0),
-    (b"FF", 0, 2, 3, 2, 0),
-    (b"GG", 0, 2, 4, 2, 0),
-    (b"BB", 0, 2, 6, 2, 0),
-    // sharps, flats and naturals
-    (b"4dd#", 1, 4, 1, 5, 1),
-    (b"2.G--L", 2, 5, 4, 3, -2),
-    (b"16f###J", 2, 6, 3, 4, 3),
-    (b"C-", 0, 2, 0, 3, -1),
-    (b"[4c-", 2, 4, 0, 4, -1),
-    (b"8bb#", 1, 4, 6, 5, 1),
-    (b"e#######", 0, 8, 2, 4, 7),
-    (b"F-------", 0, 8, 3, 3, -7),
-    (b"4cn", 1, 3, 0, 4, 0),
-    (b"8BBnnn", 1, 6, 6, 2, 0),
-    (b"cnnnnnnn", 0, 8, 0, 4, 0),
-    // signs elsewhere are no part of the pitch, nor are other letters
-    (b"4c4#", 1, 2, 0, 4, 0),
-    (b"#4a-X", 2, 4, 5, 4, -1),
-    (b"(4.e-/LLjz~)", 3, 5, 2, 4, -1),
-];
-
-#[test]
-fn pitches(rt: HostRuntime) {
-    for row in PITCHES {
-        let (text, start, end, step, octave, alteration) = *row;
-        let want = plain_note((step, octave, alteration), start, end);
-        same(&rt, read_note(text), Ok(want), text);
-    }
-}
-
-const REFUSED_PITCHES: &[(&[u8], KernFault)] = &[
-    (b"cd", KernFault::K1),
-    (b"c4c", KernFault::K1),
-    (b"cC", KernFault::K1),
-    (b"ccdcc", KernFault::K1),
-    (b"c#c", KernFault::K1),
-    (b"4gg#-", KernFault::K1),
-    (b"4c-n", KernFault::K1),
-    (b"an#", KernFault::K1),
-    (b"c##-#", KernFault::K1),
-    (b"ee-4q_e", KernFault::K1),
-    // two runs or different signs come before what is too long
-    (b"ccccccccc4d", KernFault::K1),
-    (b"ccccccccc#-", KernFault::K1),
-    (b"c########-", KernFault::K1),
-    (b"c4ccccccccc", KernFault::K1),
-    (b"ccccccccc", KernFault::K2),
-    (b"4AAAAAAAAA", KernFault::K2),
-    (b"c########", KernFault::K2),
-    (b"c--------", KernFault::K2),
-    (b"cnnnnnnnn", KernFault::K2),
-    (b"bbbbbbbbb#########_", KernFault::K2),
-];
-
-#[test]
-fn pitches_refused(rt: HostRuntime) {
-    for row in REFUSED_PITCHES {
-        let (text, fault) = *row;
-        same(&rt, read_note(text), Err(fault), text);
-    }
-}
-
 /// A text, and whether it is a rest, a grace note and the rest of a tie.
 type Marked = (&'static [u8], bool, bool, bool);
 
@@ -359,16 +257,4 @@ const UNPITCHED: &[Marked] = &[
 fn marks(rt: HostRuntime) {
     check_marks(&rt, PITCHED, true);
     check_marks(&rt, UNPITCHED, false);
-}
-
-/// Steps, octaves and alterations.
-const WRITTEN: &[Spelled] = &[(0, 4, 0), (6, 11, 7), (0, -4, -7), (3, 3, 2), (5, 0, -1)];
-
-#[test]
-fn written_pitches_are_read(rt: HostRuntime) {
-    for pitch in WRITTEN {
-        let text = write_pitch(rt.alloc(), at(*pitch)).expect(&rt, "memory");
-        let want = plain_note(*pitch, 0, text.len());
-        same(&rt, read_note(&text), Ok(want), *pitch);
-    }
 }

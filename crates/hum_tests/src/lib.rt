@@ -1,5 +1,5 @@
-//! Tests of the libraries that know no command: lines and words, records and spines, columns, patterns,
-//! numbers, pitches and notes, turns, nodes and links.
+//! Tests of the libraries that know no command: lines, records and spines, columns, patterns, fractions
+//! and durations, turns, nodes and links.
 //!
 //! They call what any crate may call, and stand in a crate of their own: so no library is proved once more
 //! with its tests. What the program shows is tested by the rows of the folder `tests`.
@@ -24,8 +24,6 @@ mod path;
 #[cfg(test)]
 mod pattern;
 #[cfg(test)]
-mod pitch;
-#[cfg(test)]
 mod read;
 #[cfg(test)]
 mod record;
@@ -37,5 +35,3 @@ mod spread;
 mod text;
 #[cfg(test)]
 mod turns;
-#[cfg(test)]
-mod words;
