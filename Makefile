@@ -72,12 +72,14 @@ demo: humpipe
 	@echo '$$ ./humpipe examples/no_comments.hpl'
 	@./humpipe examples/no_comments.hpl
 
-# Rows and examples run with the program that is there; DOCS=no leaves them out.
+# Rows and examples run with the program that is there, the rows as Rattle's own compiler makes it too; DOCS=no leaves them out.
 test: lint
 	RT_JOBS=$(LANES) rt ci
 	@program=$$(ls humpipe crates/humpipe/out/humpipe 2>/dev/null | head -n 1); \
 	if test "$(DOCS)" = no; then :; \
-	elif test -n "$$program"; then python3 tests/check.py "$$program" && python3 docs/check.py "$$program"; \
+	elif test -n "$$program"; then \
+		for made in "$$program" "$$program.by-rattle"; do test ! -x "$$made" || python3 tests/check.py "$$made" || exit 1; done; \
+		python3 docs/check.py "$$program"; \
 	else echo 'no program at humpipe or crates/humpipe/out/humpipe: make it, or say DOCS=no'; echo '0 passed, 1 failed'; exit 1; fi
 
 bench: humpipe
