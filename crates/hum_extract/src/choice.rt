@@ -13,7 +13,7 @@ use hum_record::Record;
 use std::alloc::{AllocError, Global};
 
 /// A field of the opening record, which has one for each opening spine.
-#[derive(Clone, Copy, PartialEq, Eq)]
+#[derive(Clone, Copy)]
 pub enum Field {
     /// by its number, from 1
     Number(u16),
@@ -23,7 +23,7 @@ pub enum Field {
 
 /// The fields from one to another, both included. Where the first comes after the last there are
 /// none.
-#[derive(Clone, Copy, PartialEq, Eq)]
+#[derive(Clone, Copy)]
 pub struct FieldRange {
     pub first: Field,
     pub last: Field,

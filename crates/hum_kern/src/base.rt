@@ -9,7 +9,7 @@ use crate::frac::Frac;
 use std::marker::Model;
 
 /// A duration without dots, in whole notes, as it is written.
-#[derive(Clone, Copy, Debug, PartialEq, Eq)]
+#[derive(Clone, Copy)]
 pub(crate) struct Base {
     top: u64,
     bottom: u64,

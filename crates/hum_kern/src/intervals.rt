@@ -3,7 +3,7 @@ ghost use Rattle.std.specs.Prelude.{pos, negsuc};
 ghost use Rattle.hum_kern.specs.Pitch.{IsWithin};
 
 /// The interval from one pitch to another.
-#[derive(Clone, Copy, Debug, PartialEq, Eq)]
+#[derive(Clone, Copy)]
 pub struct Interval {
     /// The diatonic steps from the first to the second, -111 to 111: negative downwards.
     pub steps: i32,
@@ -14,7 +14,7 @@ pub struct Interval {
 }
 
 /// Whether an interval leads up or down.
-#[derive(Clone, Copy, Debug, PartialEq, Eq)]
+#[derive(Clone, Copy)]
 pub(crate) enum Direction {
     Up,
     Down,
@@ -22,7 +22,7 @@ pub(crate) enum Direction {
 }
 
 /// The quality of an interval, with the semitones by which it is augmented or diminished.
-#[derive(Clone, Copy, Debug, PartialEq, Eq)]
+#[derive(Clone, Copy)]
 pub(crate) enum Quality {
     Perfect,
     Major,

@@ -20,7 +20,7 @@ use crate::pitch::Pitch;
 use crate::runs::{Class, is_letter, split_run};
 
 /// What a subtoken says of its pitch, and the marks that it bears.
-#[derive(Clone, Copy, Debug, PartialEq, Eq)]
+#[derive(Clone, Copy)]
 pub struct Note {
     /// The pitch. A rest has none, nor has a subtoken without a letter of pitches.
     pub pitch: Option<Pitch>,

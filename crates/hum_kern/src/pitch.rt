@@ -18,7 +18,7 @@ pub enum PitchFault {
 }
 
 /// A pitch by its spelling.
-#[derive(Clone, Copy, Debug, PartialEq, Eq)]
+#[derive(Clone, Copy)]
 pub struct Pitch {
     /// The diatonic step, 0 to 6: c, d, e, f, g, a, b.
     pub step: u8,

@@ -11,7 +11,6 @@ ghost use Rattle.hum_line.specs.declared.LineFault.TheVariants.{Memory};
 use clap::error::ErrorKind;
 use clap::{Arg, ArgAction, Command};
 use std::alloc::{AllocError, Global};
-use thiserror::Error;
 
 /// How many records a link may hold at most.
 const LARGEST_LINK: u16 = 4096;
@@ -20,7 +19,7 @@ const LARGEST_LINK: u16 = 4096;
 const USUAL_LINK: u16 = 16;
 
 /// Which of the actors that are ready takes its turn.
-#[derive(Clone, Copy, Debug, PartialEq, Eq)]
+#[derive(Clone, Copy)]
 pub enum Side {
     /// The one that comes first.
     Left,
@@ -29,7 +28,7 @@ pub enum Side {
 }
 
 /// What a command line asks for.
-#[derive(Clone, Copy, Debug)]
+#[derive(Clone, Copy)]
 pub struct Choice<'a> {
     /// how many records a link holds
     pub link: u16,
@@ -40,13 +39,11 @@ pub struct Choice<'a> {
 }
 
 /// Why a command line asks for nothing.
-#[derive(Clone, Copy, Debug, PartialEq, Eq, Error)]
+#[derive(Clone, Copy)]
 pub enum LineFault {
     /// It isn't of the form above.
-    #[error("the command line is refused")]
     Usage,
     /// Memory ran out.
-    #[error("out of memory")]
     Memory,
 }
 

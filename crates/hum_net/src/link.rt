@@ -23,7 +23,7 @@ pub struct Link {
 }
 
 /// What comes next from a link.
-#[derive(Debug, Drop)]
+#[derive(Drop)]
 pub enum Next {
     /// The record that has waited longest.
     Record(Record),

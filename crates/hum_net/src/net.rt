@@ -45,7 +45,7 @@ pub struct Net<F, W, S> {
 }
 
 /// What a turn has come to.
-#[derive(Clone, Copy, Debug, Drop, PartialEq, Eq)]
+#[derive(Clone, Copy)]
 pub struct Turned {
     /// The link that it has changed; its own, where the actor has failed.
     pub link: usize,

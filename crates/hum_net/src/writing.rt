@@ -8,7 +8,7 @@ use hum_record::Record;
 use hum_text::calls::Sink;
 
 /// A write or a flush gave an error, or a write took no byte.
-#[derive(Clone, Copy, Debug, PartialEq, Eq)]
+#[derive(Clone, Copy)]
 pub struct WriteFailed;
 
 /// Writes a text by as many writes as it takes.

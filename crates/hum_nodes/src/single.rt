@@ -10,7 +10,7 @@ use hum_stage::{End, Readiness, Stage, State};
 use std::alloc::AllocError;
 
 /// A stage that reads from the stage of this number, from 0.
-#[derive(Debug, Drop)]
+#[derive(Drop)]
 pub struct Single<S> {
     inner: S,
     from: usize,

@@ -3,10 +3,9 @@ ghost use Rattle.std.specs.Prelude.{◌≡◌};
 ghost use Rattle.hum_options.specs.declared.faults.OptionError.TheVariants.{Memory};
 
 use std::alloc::{AllocError, AllocFailed};
-use thiserror::Error;
 
 /// Why a text is refused as a pattern.
-#[derive(Clone, Copy, Debug, PartialEq, Eq)]
+#[derive(Clone, Copy)]
 pub enum Refusal {
     /// It is no regular expression, or nests deeper than 250.
     NoExpression,
@@ -15,41 +14,33 @@ pub enum Refusal {
 }
 
 /// A rule on the words behind a command.
-#[derive(Clone, Copy, Debug, PartialEq, Eq, Error)]
+#[derive(Clone, Copy)]
 pub enum OptionRule {
     /// The word is no option of the command, or the option came before, or one that excludes it.
-    #[error("N8")]
     N8,
     /// The option's value is missing; at the command, a required option is.
-    #[error("N9")]
     N9,
     /// The word isn't a value of the option's kind.
-    #[error("N10")]
     N10,
     /// The word drops all interpretations, and the stage isn't the last of its plan.
-    #[error("N11")]
     N11,
     /// The word is no pattern.
-    #[error("N12")]
     N12(Refusal),
 }
 
 /// The number of a word, and the rule that is broken there.
-#[derive(Clone, Copy, Debug, PartialEq, Eq, Error)]
-#[error("word {word}: {rule}")]
+#[derive(Clone, Copy)]
 pub struct OptionFault {
     pub word: u32,
     pub rule: OptionRule,
 }
 
 /// Why words give no options.
-#[derive(Clone, Copy, Debug, PartialEq, Eq, Error)]
+#[derive(Clone, Copy)]
 pub enum OptionError {
     /// The first rule that they break.
-    #[error("{0}")]
     Fault(OptionFault),
     /// Memory ran out.
-    #[error("out of memory")]
     Memory,
 }
 

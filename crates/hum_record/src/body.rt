@@ -26,7 +26,6 @@ const LEAST_PLACES: usize = 16;
 ///
 /// Behind both there is room that doesn't count: a short text is put there in one piece, and no list is
 /// cut or grown for it.
-#[derive(Debug)]
 pub struct Body {
     held: Vec<u8>,
     len: usize,

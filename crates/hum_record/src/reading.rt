@@ -24,7 +24,6 @@ use std::marker::Model;
 /// One record: a global comment, or a token of one kind for each spine.
 ///
 /// It is as large as a pointer, so that it is moved as quickly.
-#[derive(Debug)]
 pub struct Record {
     body: Box<Body>,
 }

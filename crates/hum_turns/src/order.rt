@@ -46,7 +46,7 @@ pub fn choose(ready: &[bool], pick: usize) -> usize
 }
 
 /// The leftmost actor that is ready: records go no further than they have to.
-#[derive(Drop, Debug)]
+#[derive(Drop)]
 pub struct Leftmost;
 
 impl Order for Leftmost {
@@ -64,7 +64,7 @@ impl Order for Leftmost {
 }
 
 /// The rightmost actor that is ready: what can be written is written first.
-#[derive(Drop, Debug)]
+#[derive(Drop)]
 pub struct Rightmost;
 
 impl Order for Rightmost {

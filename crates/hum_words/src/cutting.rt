@@ -11,7 +11,6 @@ ghost use Rattle.hum_words.specs.declared.cutting.LineFault.TheVariants.{Quote, 
 
 use crate::characters::{bare_len, is_apart, skip_blanks};
 use std::alloc::{AllocFailed, Global};
-use thiserror::Error;
 
 /// A word with its number, from 1, or a bar with the number of the last word before it, 0 where
 /// there is none. Bars aren't counted.
@@ -22,14 +21,12 @@ pub enum Piece<'a> {
 }
 
 /// Why a line isn't cut into pieces.
-#[derive(Clone, Copy, Debug, PartialEq, Eq, Error)]
+#[derive(Clone, Copy)]
 pub enum LineFault {
     /// The number of a word with a quote that isn't closed, with a quote in it, or with something
     /// else than a blank, a bar or the line's end behind its closing quote.
-    #[error("word {0} is wrong with its quotes (N2)")]
     Quote(u32),
     /// Memory ran out.
-    #[error("out of memory")]
     Memory,
 }
 

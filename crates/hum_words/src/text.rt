@@ -6,19 +6,16 @@ ghost use Rattle.hum_words.specs.Branches.{is_lf};
 ghost use Rattle.hum_words.specs.Text.{longest, IsFault, fault_of};
 
 use std::str;
-use thiserror::Error;
 
 /// How many bytes a plan may have.
 pub const LONGEST_PLAN: usize = 65_536;
 
 /// Why bytes are no text of a plan.
-#[derive(Clone, Copy, Debug, PartialEq, Eq, Error)]
+#[derive(Clone, Copy)]
 pub enum TextFault {
     /// There are over 65,536 bytes.
-    #[error("the plan is longer than 65,536 bytes (N1)")]
     TooLong,
     /// They aren't UTF-8: the line, from 1, of the byte behind the longest front that is.
-    #[error("line {line} isn't UTF-8 (N1)")]
     NotUtf8 { line: u32 },
 }
 

@@ -18,7 +18,7 @@ pub enum Markers {
 }
 
 /// One item of `-r`: the numbers of passages that are chosen.
-#[derive(Clone, Copy, PartialEq, Eq)]
+#[derive(Clone, Copy)]
 pub enum YankRange {
     /// `a`, `a-b`: from the first through the last
     Through { first: u32, last: u32 },
