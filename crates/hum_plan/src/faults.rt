@@ -11,7 +11,7 @@ use std::error::Error;
 use std::fmt;
 
 /// A rule of the grammar of plans.
-#[derive(Clone, Copy)]
+#[derive(Clone, Copy, Debug)]
 pub enum PlanRule {
     /// The plan has over 65,536 bytes, or isn't UTF-8.
     N1,
@@ -72,7 +72,7 @@ impl fmt::Display for PlanRule {
 
 /// A rule that was broken, with the number of the line, from 1, and that of the word in it, from 1,
 /// bars not counted; 0 where it is no word's.
-#[derive(Clone, Copy)]
+#[derive(Clone, Copy, Debug)]
 pub struct PlanFault {
     pub line: u32,
     pub word: u32,
@@ -89,7 +89,7 @@ impl fmt::Display for PlanFault {
 }
 
 /// Why bytes are no plan.
-#[derive(Clone, Copy)]
+#[derive(Clone, Copy, Debug)]
 pub enum PlanError {
     /// The first rule that they break.
     Fault(PlanFault),
