@@ -173,6 +173,7 @@ FAILING = [
 class Full:
     """An output that takes so many bytes: they are a front of the text, and it is told if they aren't all."""
 
+    LIMITED = True
     BUNDLE, TEXT = b'out: read a | rid -G\n--- a\n!!x\n**kern\n4c\n*-\n', b'**kern\n4c\n*-\n'
 
     def __init__(self, room):
