@@ -20,8 +20,8 @@ row. `\\r`, `\\xHH` and `\\\\` are bytes that a text doesn't show, and a line th
 A file `NAME.plans` has a plan in each line, behind the rule that it breaks, and the line and the word where it does, or behind
 `ok` and a dash. In it `\\n` and `\\t` are bytes too. What begins with `#` is a comment.
 
-`made.py` makes rows of the same kinds that are too long to be written out, and tries what a plan doesn't say: command lines,
-files that can't be read, and outputs that take no more.
+`made.py` makes rows of the same kinds that are too long to be written out, and of the rows such as break off; it tries what a plan
+doesn't say: command lines, files that can't be read, and outputs that take no more.
 
 Each bundle is run with links of 1, 16 and 4,096 records and both orders of turns, and once more as files. The status of each run
 must be the one that the line told goes with. One line for each row that fails; the last line is `N passed, M failed`."""
@@ -162,13 +162,13 @@ def main():
         print(f'check.py: no program at {program}')
         print('0 passed, 1 failed')
         sys.exit(1)
-    cases = []
-    for path in sorted(glob.glob(f'{HERE}/*.rows') + glob.glob(f'{HERE}/*.plans')):
-        if not names or os.path.basename(path) in names:
-            cases += rows_of(path) if path.endswith('.rows') else plans_of(path)
-    if not names or 'made.py' in names:
+    is_asked = lambda path: not names or os.path.basename(path) in names
+    rows = [row for path in sorted(glob.glob(f'{HERE}/*.rows')) for row in rows_of(path) if is_asked(path) or is_asked('made.py')]
+    plans = [plan for path in sorted(glob.glob(f'{HERE}/*.plans')) if is_asked(path) for plan in plans_of(path)]
+    cases = [row for row in rows if is_asked(row.place.partition(':')[0])] + plans
+    if is_asked('made.py'):
         import made
-        cases += made.cases()
+        cases += made.cases(rows)
     # (what changes the limits of a process before it begins does so beside no other thread)
     told = [case.check(program) for case in cases if hasattr(case, 'LIMITED')]
     with ThreadPoolExecutor(os.cpu_count()) as pool:

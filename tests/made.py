@@ -88,30 +88,30 @@ def long_plans():
     yield '\n\n' + '#' * 65_535, 'plan line 1, word 0: N1'
 
 
-# the lines of a bundle in front of its last score, that score, and what is written of all of it
-FRONTS = [
-    (b'out: read a | trans -d 1 -c 2\n--- a\n', b'**kern\n*k[]\n4e\n4B-\n8bb\n*-\n',
-     b'**kern\n*Trd1c2\n*k[]\n4f#\n4c\n8ccc#\n*-\n'),
-    (b'out: read a | context -n 2\n--- a\n', b'**x\na\n*^\nb\tc\n*v\t*v\nd\n*-\n', b'**x\na b\n*^\nb d\tc d\n*v\t*v\n.\n*-\n'),
-    (b'p: read a\nq: read b\nout: assemble p q\n--- b\n**y\n*^\n7\t8\n*v\t*v\n9\n*-\n--- a\n', b'**x\n*^\n1\t2\n*v\t*v\n*-\n',
-     b'**x\t**y\n*^\t*\n*\t*\t*^\n1\t2\t7\t8\n*v\t*v\t*\t*\n*\t*v\t*v\n.\t9\n*-\t*-\n'),
-    (b"out: read a | extract -i '**kern'\n--- a\n",
-     b'**kern\t**dynam\t**kern\n*^\t*\t*^\n4c\t4e\tp\t4g\t4b\n*v\t*v\t*\t*v\t*v\n4c\tf\t4d\n*-\t*-\t*-\n',
-     b'**kern\t**kern\n*^\t*^\n4c\t4e\t4g\t4b\n*v\t*v\t*\t*\n*\t*v\t*v\n4c\t4d\n*-\t*-\n'),
-    (b'out: read a | timebase -t 4\n--- a\n', b'**kern\n*^\n4c\t2e\n*v\t*v\n4d\n*-\n', b'**kern\n*tb4\n*^\n4c\t2e\n*v\t*v\n.\n4d\n*-\n'),
-]
-
-
 class Front:
-    """A score that breaks off: the run ends well or by a fault, and behind a whole line a front of this text is written."""
+    """A score that breaks off: the run ends well, or by a fault, and then behind a whole line a front of this text is written."""
 
-    def __init__(self, head, front, text):
-        self.bundle, self.text, self.is_whole = head + front, text, front.endswith(b'\n')
+    def __init__(self, bundle, text):
+        self.bundle, self.text = bundle, text
 
     def check(self, program):
         found = run([program], self.bundle)
-        is_right = found[0] in (0, 1) and (not self.is_whole or self.text.startswith(found[1]))
+        is_front = not self.bundle.endswith(b'\n') or self.text.startswith(found[1])
+        is_right = found[0] == 0 or found[0] == 1 and is_front
         return [] if is_right else [f'{self.bundle!r}: {shown(found)}']
+
+
+def fronts(rows):
+    """The last score of each bundle that ends well, cut behind each of its lines; that of the first in each file, cut anywhere."""
+    cut = set()
+    for row in rows:
+        head, mark, last = row.bundle.rpartition(b'\n--- ')
+        first = len(head + mark) + last.find(b'\n') + 1
+        if mark and not row.told:
+            file = row.place.partition(':')[0]
+            yield from (Front(row.bundle[:end], row.text) for end in range(first, len(row.bundle))
+                        if file not in cut or row.bundle[end - 1:end] == b'\n')
+            cut.add(file)
 
 
 class Line:
@@ -224,10 +224,10 @@ class Large:
         return [] if found == want else [f'a bundle of {self.size} bytes: {shown(found)}']
 
 
-def cases():
+def cases(rows):
+    """All that is made, of these rows too."""
     return [
         *[Row(f'made.py: {name}', *row) for name, *row in [*long_scores(), *wide_scores(), *no_notes()]],
         *[Plan(f'made.py: {plan[:40]!r}', plan.encode(), told) for plan, told in long_plans()],
-        *[Front(head, score[:end], text) for head, score, text in FRONTS for end in range(len(score) + 1)],
-        *LINES, *FAILING, *[Full(room) for room in (0, 1, 7, 12, 13)], OutOfReach(), Large(67_108_864), Large(67_108_865),
+        *fronts(rows), *LINES, *FAILING, *[Full(room) for room in (0, 1, 7, 12, 13)], OutOfReach(), Large(67_108_864), Large(67_108_865),
     ]
