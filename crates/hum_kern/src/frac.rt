@@ -12,13 +12,11 @@ ghost use Rattle.hum_kern.specs.Ratio.{reduced, sum, plus, fits, is_before};
 ghost use Rattle.hum_kern.specs.Multiples.{IsMultiple, is_multiple, AreBetween, multiples_between};
 
 use std::marker::Model;
-use thiserror::Error;
 
 /// Why a sum is refused.
-#[derive(Clone, Copy, Debug, PartialEq, Eq, Error)]
+#[derive(Clone, Copy, Debug, PartialEq, Eq)]
 pub enum FracFault {
     /// In lowest terms, the numerator or the denominator would pass 2^63 - 1.
-    #[error("F1")]
     F1,
 }
 

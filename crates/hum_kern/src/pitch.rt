@@ -4,16 +4,12 @@ ghost use Rattle.std.specs.Prelude.{MatchBool};
 ghost use Rattle.hum_kern.specs.Pitch.{IsPitch, IsWithin, IsOutside, IsAway};
 ghost use Rattle.hum_kern.specs.Pitch.{natural, natural_at, semitones, step_number, away};
 
-use thiserror::Error;
-
 /// Why a transposed pitch has no spelling.
-#[derive(Clone, Copy, Debug, PartialEq, Eq, Error)]
+#[derive(Clone, Copy, Debug, PartialEq, Eq)]
 pub enum PitchFault {
     /// It would need over seven sharps or flats.
-    #[error("over seven sharps or flats")]
     TR1,
     /// Its octave would be below -4 or above 11.
-    #[error("an octave below -4 or above 11")]
     TR2,
 }
 

@@ -16,19 +16,15 @@ use regex::Error as RegexError;
 use regex::bytes::{Matcher, Regex};
 use std::alloc::{AllocError, AllocFailed, Global};
 use std::marker::Model;
-use thiserror::Error;
 
 /// Why a text gives no pattern.
-#[derive(Clone, Copy, Debug, PartialEq, Eq, Error)]
+#[derive(Clone, Copy, Debug, PartialEq, Eq)]
 pub enum PatternFault {
     /// The text is no regular expression, or nests deeper than 250.
-    #[error("the text is no regular expression")]
     Refused,
     /// The expression would take over 10 MiB.
-    #[error("the regular expression is too large")]
     TooLarge,
     /// Memory ran out.
-    #[error("out of memory")]
     Memory,
 }
 

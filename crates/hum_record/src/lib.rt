@@ -37,7 +37,6 @@ pub use reading::Record;
 pub use selection::Selection;
 pub use spare::Spare;
 use std::alloc::{AllocError, AllocFailed};
-use thiserror::Error;
 
 /// How many bytes the text of a record may have.
 pub const MOST_BYTES: usize = 1_048_576;
@@ -80,25 +79,19 @@ impl From<SpinedKind> for Kind {
 }
 
 /// Why a text is no record, or a token has no place in one.
-#[derive(Clone, Copy, Debug, PartialEq, Eq, Error)]
+#[derive(Clone, Copy, Debug, PartialEq, Eq)]
 pub enum RecordFault {
     /// Two tabs in a row, or a tab at an end of the line.
-    #[error("a token is empty (S4)")]
     S4,
     /// Comments, interpretations and data side by side.
-    #[error("tokens are of different kinds (S5)")]
     S5,
     /// A local comment with a token that begins with `!!`.
-    #[error("a token of a local comment begins with two exclamation marks (S6)")]
     S6,
     /// A carriage return within the line.
-    #[error("a carriage return stands within the line (S8)")]
     S8,
     /// A record of over 1,048,576 bytes.
-    #[error("the record would pass 1,048,576 bytes (L1)")]
     L1,
     /// Memory ran out.
-    #[error("out of memory")]
     Memory,
 }
 

@@ -1,6 +1,5 @@
 //! What tests compare: so each proof of a test sees one call, and not what is told of a failure.
-use std::alloc::Global;
-use std::fmt::{Debug, Display};
+use std::fmt::Debug;
 use std::process::Abort;
 
 // Ends a test, and tells in which case something else was found.
@@ -19,16 +18,6 @@ where
     }
 }
 
-/// The same of text.
-pub(crate) fn same_text<C>(rt: &impl Abort, found: &str, want: &str, case: C)
-where
-    C: Copy + Debug,
-{
-    if found != want {
-        fail(rt, &found, &want, &case);
-    }
-}
-
 /// The same of bytes.
 pub(crate) fn same_bytes<C>(rt: &impl Abort, found: &[u8], want: &[u8], case: C)
 where
@@ -37,12 +26,6 @@ where
     if found != want {
         fail(rt, &found, &want, &case);
     }
-}
-
-/// A value is printed so.
-pub(crate) fn prints(rt: &impl Abort, alloc: Global, value: &impl Display, want: &str) {
-    let text = format!(in alloc; "{value}").expect(rt, "memory");
-    same_text(rt, &text, want, want);
 }
 
 /// This is so, in this case.

@@ -10,8 +10,6 @@ mod chosen;
 #[cfg(test)]
 mod compared;
 #[cfg(test)]
-mod faults;
-#[cfg(test)]
 mod frac;
 #[cfg(test)]
 mod kern;

@@ -7,30 +7,22 @@ mod near;
 pub mod reader;
 mod rules;
 
-use thiserror::Error;
-
 /// Why a text is refused, or not read to its end.
 ///
 /// S1 to S7 are rules of Humdrum text: each stands at the first byte that breaks it.
-#[derive(Debug, Clone, Copy, PartialEq, Eq, Error)]
+#[derive(Debug, Clone, Copy, PartialEq, Eq)]
 pub enum TextFault {
     /// An empty line.
-    #[error("S1")]
     S1,
     /// A line of more bytes than `Limits::line`; the CR that is dropped from its end isn't counted.
-    #[error("S2")]
     S2,
     /// More lines than `Limits::records`.
-    #[error("S3")]
     S3,
     /// More bytes than `Limits::bytes`.
-    #[error("S7")]
     S7,
     /// The source failed, even if it was only interrupted.
-    #[error("read failed")]
     Read,
     /// There was no memory for what is read.
-    #[error("out of memory")]
     Memory,
 }
 
