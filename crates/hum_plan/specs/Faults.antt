@@ -9,8 +9,6 @@ use Rattle.hum_plan.specs.declared.faults.PlanRule.{PlanRule}
 use Rattle.hum_plan.specs.declared.faults.PlanRule.TheVariants.{N1, N2, N3, N4, N5, N6, N7, N8}
 use Rattle.hum_plan.specs.declared.faults.PlanRule.TheVariants.{N9, N10, N11, N12}
 use Rattle.hum_plan.specs.declared.faults.PlanFault.{PlanFault}
-use Rattle.hum_plan.specs.declared.faults.PlanError.{PlanError}
-use Rattle.hum_plan.specs.declared.faults.PlanError.TheVariants.{Fault, Memory}
 
 -- a rule's code, as it is printed
 abbrev pub code_of : PlanRule → List ℕ
@@ -32,11 +30,6 @@ abbrev pub line_of_fault : PlanFault → List ℕ
 line_of_fault fault =
     codes "plan line " ++ (decimal fault.line ++ (codes ", word " ++ (
     decimal fault.word ++ (codes ": " ++ code_of fault.rule))))
-
--- the line that tells why bytes are no plan, without its end
-abbrev pub line_of : PlanError → List ℕ
-line_of (Fault fault) = line_of_fault fault
-line_of Memory = codes "out of memory"
 
 -- a rule that is broken at a word of a line, both from 1; no word is 0
 abbrev pub broken : ℕ → ℕ → PlanRule → PlanFault

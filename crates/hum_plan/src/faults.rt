@@ -1,17 +1,16 @@
 //! The rules of a plan, and where one was broken.
 ghost use Rattle.std.specs.Prelude.{◌≡◌, Some};
 ghost use Rattle.hum_plan.specs.declared.faults.PlanError.TheVariants.{Fault, Memory};
-ghost use Rattle.hum_plan.specs.Faults.{code_of, line_of, line_of_fault, rule_of, in_line, of_text};
+ghost use Rattle.hum_plan.specs.Faults.{code_of, line_of_fault, rule_of, in_line, of_text};
 ghost use Rattle.hum_plan.specs.Faults.{broken};
 
 use hum_options::{OptionFault, OptionRule};
 use hum_words::TextFault;
 use std::alloc::{AllocError, AllocFailed};
-use std::error::Error;
 use std::fmt;
 
 /// A rule of the grammar of plans.
-#[derive(Clone, Copy, Debug)]
+#[derive(Clone, Copy)]
 pub enum PlanRule {
     /// The plan has over 65,536 bytes, or isn't UTF-8.
     N1,
@@ -72,7 +71,7 @@ impl fmt::Display for PlanRule {
 
 /// A rule that was broken, with the number of the line, from 1, and that of the word in it, from 1,
 /// bars not counted; 0 where it is no word's.
-#[derive(Clone, Copy, Debug)]
+#[derive(Clone, Copy)]
 pub struct PlanFault {
     pub line: u32,
     pub word: u32,
@@ -89,7 +88,7 @@ impl fmt::Display for PlanFault {
 }
 
 /// Why bytes are no plan.
-#[derive(Clone, Copy, Debug)]
+#[derive(Clone, Copy)]
 pub enum PlanError {
     /// The first rule that they break.
     Fault(PlanFault),
@@ -135,19 +134,6 @@ pub(crate) fn of_text(fault: TextFault) -> PlanFault
         rule: PlanRule::N1,
     }
 }
-
-impl fmt::Display for PlanError {
-    ghost output = { λ error. Some (line_of error) };
-
-    fn fmt<W: fmt::Write>(&self, f: &mut fmt::Formatter<W>) -> fmt::Result {
-        match self {
-            PlanError::Fault(fault) => write!(f, "{fault}"),
-            PlanError::Memory => f.write_str("out of memory"),
-        }
-    }
-}
-
-impl Error for PlanError {}
 
 impl From<AllocError> for PlanError {
     ghost from_gives = { λ _ e. e ≡ Memory };
