@@ -1,6 +1,6 @@
 -- A token behind those of a body.
 use Rattle.std.proofs.Common.{◌≡◌, ◌∙◌, ℕ, zero, suc, ◌+◌, ◌<◌, ◌≤◌, List, [], ◌∷◌, ◌++◌, length, take, drop, set, refl, sym, ap, arith}
-use Rattle.std.proofs.Common.{◌==◌, ne_eqb, length-append}
+use Rattle.std.proofs.Common.{ne_eqb, length-append}
 use Rattle.std.proofs.lemmas.Bool.{cond-false}
 use Rattle.std.proofs.lemmas.List.{take_more_set}
 use Rattle.hum_record.specs.Building.{between, tab_between}

@@ -1,8 +1,10 @@
 -- Lists of which a front counts.
-use Rattle.std.proofs.Common.{◌≡◌, ◌∙◌, ℕ, ◌≤◌, List, [], ◌++◌, length, take, drop, refl, sym, ap, arith, take_at}
+use Rattle.std.proofs.Common.{◌≡◌, ◌∙◌, ℕ, ◌≤◌, List, [], ◌∷◌, ◌++◌, length, take, drop, refl, sym, ap, subst, arith, take_at, length-append}
 use Rattle.std.proofs.lemmas.List.{take_all}
 use Rattle.std.proofs.lemmas.Simd.{length-chunk, take_more_put_chunk}
 use Rattle.std.specs.Simd.Lanes.{chunk, put_chunk}
+use Rattle.hum_record.specs.Fields.{AreFields}
+use Rattle.hum_record.specs.Lines.{text_in, AreLineFields}
 use Rattle.hum_record.proofs.Places.{front_of_front, take_count}
 
 -- what stands in a list behind a borrow of it all
@@ -35,3 +37,13 @@ front_written r n new old e = ap (take r) (written_back n new old e)
 pub front_behind : (r : ℕ) (new rest : List ℕ) → r ≤ length new → take r (new ++ rest) ≡ take r new
 front_behind r new rest short =
     sym (front_of_front r (length new) (new ++ rest) short) ∙ ap (take r) (take_at new rest (length new) refl)
+
+pub without_lf : (text : List ℕ) → text_in (text ++ 10 ∷ []) ≡ text
+without_lf text = take_at text (10 ∷ []) _ (omega (arith, length-append text (10 ∷ [])))
+
+-- a record's text with LF behind it is a line of its fields
+pub as_line : (text ends : List ℕ) → AreFields text ends → AreLineFields (text ++ 10 ∷ []) ends
+as_line text ends fields = record {
+  fields = subst (λ (xs : List ℕ). AreFields xs ends) (sym (without_lf text)) fields;
+  ended = ap (λ (xs : List ℕ). xs ++ 10 ∷ []) (sym (without_lf text));
+}

@@ -1,4 +1,4 @@
-use Rattle.std.proofs.Common.{◌≡◌, ◌∙◌, List, ℕ, length, take, ap, arith, length-take}
+use Rattle.std.proofs.Common.{◌≡◌, ◌∙◌, length, ap, arith, length-take}
 use Rattle.hum_record.specs.Fields.{Written, ends_from}
 use Rattle.hum_record.specs.Building.{spelled}
 use Rattle.hum_record.specs.Row.{chosen}

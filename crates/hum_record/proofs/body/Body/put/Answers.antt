@@ -1,5 +1,5 @@
 use Rattle.std.proofs.Common.{◌≡◌, ◌∙◌, [], take, sym, ap, subst, arith, take_all}
-use Rattle.hum_record.specs.Fields.{Written, written, AreFields}
+use Rattle.hum_record.specs.Fields.{Written, AreFields}
 use Rattle.hum_record.proofs.Held.{none_counts}
 use Rattle.hum_record.proofs.body.Body.put.Goals as goal
 
