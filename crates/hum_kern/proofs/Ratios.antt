@@ -17,6 +17,10 @@ use Rattle.hum_kern.proofs.Gcds.{gcd_is, gcd-lowest, top_back, bottom_back, bott
 pub product_fits : (a b : ℕ) → a < 2 ^ 63 → b < 2 ^ 63 → a * b < 2 ^ 126
 product_fits a b p q = let most = mul-le-mul {n₁ = a} {m₁ = b} {n₂ = 2 ^ 63 - 1} {m₂ = 2 ^ 63 - 1} (omega arith) (omega arith) in omega (arith, most)
 
+-- a product of two small parts
+pub small_product : (a b : ℕ) → a < 2147483648 → b < 2147483648 → a * b < 2 ^ 62
+small_product a b p q = let most = mul-le-mul {n₁ = a} {m₁ = b} {n₂ = 2147483647} {m₂ = 2147483647} (omega arith) (omega arith) in omega (arith, most)
+
 -- lowest terms keep the value
 pub reduced_value : (a : Ratio) → IsSame (reduced a) a
 reduced_value a =
