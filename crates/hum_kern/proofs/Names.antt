@@ -1,6 +1,6 @@
 -- The bytes of an interval's name before its size.
-use Rattle.std.proofs.Common.{ℕ, zero, suc, ℤ, ◌<◌, Bool, true, false, List, [], ◌∷◌, ◌++◌, arith}
-use Rattle.std.specs.Prelude.{replicate, cond}
+use Rattle.std.proofs.Common.{◌≡◌, ℕ, zero, suc, ℤ, ◌<◌, Bool, true, false, List, [], ◌∷◌, ◌++◌, ap, ◌∙◌, append_assoc, arith, refl}
+use Rattle.std.specs.Prelude.{replicate, cond, not}
 use Rattle.std.specs.List.{AllByRecursion}
 use Rattle.hum_kern.specs.declared.intervals.Direction.{Direction}
 use Rattle.hum_kern.specs.declared.intervals.Direction.TheVariants.{Up, Down, Level}
@@ -42,3 +42,17 @@ name_over without_direction without_quality d s = both_over (cond without_direct
     (cond without_quality [] (quality_letters (quality d s)))
     (shown_over without_direction (sign (direction d s)) (sign_over (direction d s)))
     (shown_over without_quality (quality_letters (quality d s)) (quality_over (quality d s)))
+
+-- What is shown of a name, part by part, behind a text.
+pub named_behind : (u v : Bool) (text sign letters number : List ℕ)
+    → ((text ++ cond (not u) sign []) ++ cond (not v) letters []) ++ number ≡ text ++ ((cond u [] sign ++ cond v [] letters) ++ number)
+named_behind u v text sign letters number =
+    ap (λ (xs : List ℕ). xs ++ number) (append_assoc text (cond (not u) sign []) (cond (not v) letters []))
+    ∙ append_assoc text (cond (not u) sign [] ++ cond (not v) letters []) number
+    ∙ ap (λ (xs : List ℕ). text ++ (xs ++ number)) (both u v)
+  where
+    both : (u v : Bool) → cond (not u) sign [] ++ cond (not v) letters [] ≡ cond u [] sign ++ cond v [] letters
+    both true true = refl
+    both true false = refl
+    both false true = refl
+    both false false = refl

@@ -5,13 +5,21 @@ use Rattle.std.proofs.lemmas.Bool.{and_parts}
 use Rattle.hum_kern.specs.declared.frac.FracFault.{FracFault}
 use native.Mathlib.Nat.{div-le_self, mul_right_comm, eq_of_mul-eq-mul_right, mul_assoc, mul_comm}
 use native.Mathlib.Nat.{div-lt_iff_lt-mul, le-div_iff_mul-le, add-mul, one-mul, div-add-mod', mul-mod_left}
-use native.Mathlib.Nat.{mul-pos}
+use native.Mathlib.Nat.{mul-pos, mul-le-mul}
 use Rattle.hum_kern.specs.Gcd.{gcd}
 use Rattle.std.specs.Int.{IsGcd}
 use Rattle.std.proofs.lemmas.Nat.Gcd.{same_from_IsGcd}
 use Rattle.hum_kern.specs.Ratio.{Ratio, reduced, sum, plus, IsBefore, IsSame, IsLowest, NoneFits, fits}
 use Rattle.hum_kern.specs.Multiples.{times, IsMultiple, is_multiple, first_after, first_from, multiples_between, AreBetween}
 use Rattle.hum_kern.proofs.Gcds.{gcd_is, gcd-lowest, top_back, bottom_back, bottom_pos, top_pos, same_lowest}
+
+-- a product of two parts of fractions
+pub product_fits : (a b : ℕ) → a < 2 ^ 63 → b < 2 ^ 63 → a * b < 2 ^ 126
+product_fits a b p q = let most = mul-le-mul {n₁ = a} {m₁ = b} {n₂ = 2 ^ 63 - 1} {m₂ = 2 ^ 63 - 1} (omega arith) (omega arith) in omega (arith, most)
+
+-- a product of two small parts
+pub small_product : (a b : ℕ) → a < 2147483648 → b < 2147483648 → a * b < 2 ^ 62
+small_product a b p q = let most = mul-le-mul {n₁ = a} {m₁ = b} {n₂ = 2147483647} {m₂ = 2147483647} (omega arith) (omega arith) in omega (arith, most)
 
 -- lowest terms keep the value
 pub reduced_value : (a : Ratio) → IsSame (reduced a) a

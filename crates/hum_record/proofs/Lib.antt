@@ -13,3 +13,5 @@ pub mod Moved
 pub mod Held
 pub mod Left
 pub mod Selected
+mod Picked
+mod Added

@@ -50,6 +50,30 @@ pub overflow_sub-len : goal.overflow_sub-len
 overflow_sub-len c =
     most _ _ _ _ _ _ _ _ c.loop-j.invariant c.loop-j-test.true c.moved_from-from.result c.moved_from-from.ensures
 
+pub overflow_add-len : goal.overflow_add-len
+overflow_add-len c =
+    let from = c.moved_from-from.ensures in
+    let l = least _ _ _ _ _ _ _ _ c.loop-j.invariant c.loop-j-test.true c.moved_from-from.result from in
+    let m = most _ _ _ _ _ _ _ _ c.loop-j.invariant c.loop-j-test.true c.moved_from-from.result from in
+    let e = end_within _ _ _ _ _ _ _ _ c.loop-j.invariant c.loop-j-test.true in
+    let size = c.loop-j.auto.text in
+    omega (arith, l, m, e, size, c.requires.at_most)
+
+pub overflow_cast-ends-in-loop-j : goal.overflow_cast-ends-in-loop-j
+overflow_cast-ends-in-loop-j c =
+    let from = c.moved_from-from.ensures in
+    let l = least _ _ _ _ _ _ _ _ c.loop-j.invariant c.loop-j-test.true c.moved_from-from.result from in
+    let m = most _ _ _ _ _ _ _ _ c.loop-j.invariant c.loop-j-test.true c.moved_from-from.result from in
+    let e = end_within _ _ _ _ _ _ _ _ c.loop-j.invariant c.loop-j-test.true in
+    let size = c.loop-j.auto.text in
+    omega (arith, l, m, e, size, c.requires.at_most)
+
+pub bounds-ends-count : goal.bounds-ends-count
+bounds-ends-count c =
+    let w = place_within _ _ _ _ _ _ _ _ c.loop-j.invariant c.loop-j-test.true in
+    let b = place_behind _ _ _ _ _ _ _ _ c.loop-j.invariant c.loop-j-test.true in
+    omega (arith, w, b)
+
 pub loop-j-preserved : goal.loop-j-preserved
 loop-j-preserved c =
     turn _ _ _ _ _ _ _ _ c.loop-j.invariant c.loop-j-test.true c.moved_from-from.result c.moved_from-from.ensures

@@ -6,6 +6,10 @@ use Rattle.hum_record.proofs.reading.Record.parse.Goals as goal
 whole : (len : ℕ) (held text : List ℕ) → len ≡ length text → held ≡ text → take len held ≡ text
 whole len held text size is = ap₂ take size is ∙ take_all (length text) text (omega arith)
 
+pub parse_into-requires-clause-one_line : goal.parse_into-requires-clause-one_line
+parse_into-requires-clause-one_line c =
+    rw (whole c.len.result c.deref.result.now c.args.text.items (search rules) c.deref.ensures.value) c.requires.one_line
+
 pub returns-clause-found : goal.returns-clause-found
 returns-clause-found c =
     rw (whole c.len.result c.deref.result.now c.args.text.items (search rules) c.deref.ensures.value) at c.parse_into.ensures.found
@@ -17,3 +21,7 @@ returns-clause-only c =
 pub returns-clause-broken : goal.returns-clause-broken
 returns-clause-broken c =
     rw (whole c.len.result c.deref.result.now c.args.text.items (search rules) c.deref.ensures.value) at c.parse_into.ensures.broken
+
+pub returns-clause-exact : goal.returns-clause-exact
+returns-clause-exact c =
+    rw (whole c.len.result c.deref.result.now c.args.text.items (search rules) c.deref.ensures.value) at c.parse_into.ensures.exact

@@ -1,0 +1,27 @@
+use Rattle.std.proofs.Common.{◌≡◌, ◌<◌, length, arith}
+use Rattle.hum_record.proofs.Added.{counts, added_text, added_ends}
+use Rattle.hum_record.proofs.body.Body.add_near.Goals as goal
+
+pub returns-clause-text : goal.returns-clause-text
+returns-clause-text c _ =
+    let held = c.self.inside.held in
+    let places = c.self.inside.places in
+    let new = c.put_behind-end.new.text in
+    let before = counts _ _ _ _ held.items places.items _ c.self.view_is c.self.invariant.0 c.self.invariant.1 held.ok.0 places.ok.0 in
+    let size : length new ≡ held.len = omega (arith, c.put_behind-end.auto.text, c.deref_mut.ensures.len) in
+    let put = rw c.deref_mut.ensures.value at c.put_behind-end.ensures.text in
+    added_text _ _ _ held.len held.items places.items _ _ new c.args.token.now before size put
+
+pub returns-clause-ends : goal.returns-clause-ends
+returns-clause-ends c _ =
+    let held = c.self.inside.held in
+    let places = c.self.inside.places in
+    let new = c.put_behind-end.new.text in
+    let before = counts _ _ _ _ held.items places.items _ c.self.view_is c.self.invariant.0 c.self.invariant.1 held.ok.0 places.ok.0 in
+    let size : length new ≡ held.len = omega (arith, c.put_behind-end.auto.text, c.deref_mut.ensures.len) in
+    let put = rw c.deref_mut.ensures.value at c.put_behind-end.ensures.text in
+    let most = c.self.invariant.1 in
+    let some = c.if-len-self-2.false in
+    let len = c.len-else-len-self.ensures in
+    let room : c.self.inside.count < length places.items = omega (arith, most, some, len, places.ok.0) in
+    added_ends _ _ _ held.len held.items places.items _ _ new c.args.token.now before size put room c.put_behind-end.ensures.end

@@ -1,0 +1,14 @@
+use Rattle.std.proofs.Common.{arith}
+use Rattle.std.proofs.lemmas.List.{take_all}
+use Rattle.hum_record.proofs.Held.{refilled}
+use Rattle.hum_record.proofs.body.fill_places.Goals as goal
+
+pub returns-in_ok-resize-clause-kept : goal.returns-in_ok-resize-clause-kept
+returns-in_ok-resize-clause-kept c =
+    let places = c.args.places.now in
+    let size = c.len.ensures in
+    let more = c.if-len-count.true in
+    rw c.in_ok-resize.ensures.items (refilled _ c.max-count.result places.items _ (omega (arith, places.ok.0)) (omega (arith, size, more)))
+
+pub returns-else-len-count-clause-kept : goal.returns-else-len-count-clause-kept
+returns-else-len-count-clause-kept c = take_all _ c.args.places.now.items (omega (arith, c.args.places.now.ok.0))
