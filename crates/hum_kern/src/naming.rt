@@ -1,6 +1,6 @@
 //! Intervals as text.
 ghost use Rattle.std.specs.Prelude.{◌≡◌, ◌≤◌, ◌++◌, [], cond, pos, negsuc, replicate};
-ghost use Rattle.std.specs.Prelude.{IfOk, OnOk};
+ghost use Rattle.std.specs.Prelude.{OnOk};
 ghost use Rattle.std.specs.Fmt.{decimal};
 ghost use Rattle.hum_kern.specs.Pitch.{IsWithin};
 ghost use Rattle.hum_kern.specs.Intervals.{direction, upwards, natural_width, excess};
@@ -12,7 +12,7 @@ use crate::intervals::{Direction, Interval, Quality};
 use crate::pitch::natural;
 use crate::spelling::{Repeated, push_repeated};
 use itoa::Buffer;
-use std::alloc::{AllocError, Global};
+use std::alloc::AllocError;
 
 /// Up or down by the steps; where there are none, by the semitones.
 fn direction(interval: Interval) -> Direction
@@ -212,22 +212,4 @@ pub fn push_interval(
         shown(!without_quality, quality_letters(quality(interval))),
     )?;
     push_number(text, interval.steps.unsigned_abs() + 1)
-}
-
-/// The name of an interval, as [`push_interval`] adds it.
-///
-/// # Errors
-/// Want of memory.
-pub fn write_interval(
-    alloc: Global,
-    interval: Interval,
-    without_direction: bool,
-    without_quality: bool,
-) -> Result<Vec<u8>, AllocError>
-    ensures { IfOk result (λ text. text.items
-        ≡ named without_direction without_quality interval.steps interval.semitones) }
-{
-    let mut text = Vec::new(alloc);
-    push_interval(&mut text, interval, without_direction, without_quality)?;
-    Ok(text)
 }

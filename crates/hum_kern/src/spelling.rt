@@ -1,10 +1,10 @@
 //! Pitches as text.
-ghost use Rattle.std.specs.Prelude.{◌≡◌, ◌≤◌, pos, ◌-ℤ◌, ◌++◌, IfOk, OnOk, replicate, Some};
+ghost use Rattle.std.specs.Prelude.{◌≡◌, ◌≤◌, pos, ◌-ℤ◌, ◌++◌, OnOk, replicate, Some};
 ghost use Rattle.hum_kern.specs.Given.{spelled};
 ghost use Rattle.hum_kern.specs.Spelling.{letters_of, accidentals, spelling, read_pitch};
 
 use crate::pitch::Pitch;
-use std::alloc::{AllocError, Global};
+use std::alloc::AllocError;
 
 /// A byte, and how often it is written.
 #[derive(Clone, Copy)]
@@ -59,26 +59,15 @@ pub(crate) fn push_repeated(text: &mut Vec<u8>, repeated: Repeated) -> Result<()
     text.resize(text.len() + repeated.count, repeated.byte)
 }
 
-/// Adds a pitch to a text, as it is written in `**kern`, without the sign of a natural.
+/// Adds a pitch to a text, as it is written in `**kern`, without the sign of a natural. What is written
+/// is read again as the same pitch.
 ///
 /// # Errors
 /// Want of memory.
 pub fn push_pitch(text: &mut Vec<u8>, pitch: Pitch) -> Result<(), AllocError>
-    ensures { OnOk result (text.new.items ≡ text.old.items ++ spelling (spelled pitch)) }
+    ensures written { OnOk result (text.new.items ≡ text.old.items ++ spelling (spelled pitch)) }
+    ensures read { OnOk result (read_pitch (spelling (spelled pitch)) ≡ Some (spelled pitch)) }
 {
     push_repeated(text, letters(pitch))?;
     push_repeated(text, accidentals(pitch))
-}
-
-/// A pitch as it is written in `**kern`, without the sign of a natural.
-///
-/// # Errors
-/// Want of memory.
-pub fn write_pitch(alloc: Global, pitch: Pitch) -> Result<Vec<u8>, AllocError>
-    ensures written { IfOk result (λ text. text.items ≡ spelling (spelled pitch)) }
-    ensures read { IfOk result (λ text. read_pitch text.items ≡ Some (spelled pitch)) }
-{
-    let mut text = Vec::new(alloc);
-    push_pitch(&mut text, pitch)?;
-    Ok(text)
 }

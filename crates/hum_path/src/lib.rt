@@ -25,49 +25,36 @@ pub use moved::{Move, Moves};
 pub use signs::{Sign, steers, token_sign};
 pub use spine_paths::Paths;
 use std::alloc::{AllocError, AllocFailed};
-use thiserror::Error;
 
 /// How many spines a record may have.
 pub const MOST_SPINES: usize = 4096;
 
 /// Which path rule a record breaks, or that memory ran out.
-#[derive(Clone, Copy, Debug, PartialEq, Eq, Error)]
+#[derive(Clone, Copy, Debug, PartialEq, Eq)]
 pub enum PathFault {
     /// The opening record has a token that is no exclusive interpretation.
-    #[error("P1")]
     P1,
     /// There are more or fewer tokens than spines.
-    #[error("P2")]
     P2,
     /// A `*v` stands without a `*v` beside it.
-    #[error("P3")]
     P3,
     /// One `*x` stands alone, or there are more than two.
-    #[error("P4")]
     P4,
     /// Neighbouring `*v` stand under different exclusive interpretations.
-    #[error("P5")]
     P5,
     /// An added spine has no exclusive interpretation in the record behind it.
-    #[error("P6")]
     P6,
     /// A record stands behind the end of the last spine.
-    #[error("P7")]
     P7,
     /// The input ends while a spine is open.
-    #[error("P8")]
     P8,
     /// More than 4,096 spines would be open.
-    #[error("P9")]
     P9,
     /// The token `**` stands alone.
-    #[error("P10")]
     P10,
     /// An exclusive interpretation and a path indicator stand in one record.
-    #[error("P11")]
     P11,
     /// There was no memory.
-    #[error("out of memory")]
     Memory,
 }
 

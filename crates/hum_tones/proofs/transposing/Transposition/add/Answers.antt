@@ -21,7 +21,7 @@ returns-in_ok-push-in-Ok-there c =
     c.in-Ok-there.there c.in-Ok.ensures.read c.in-Some.is c.in-Ok-there.ensures)
     (in_order c.args.text.now.items (take c.in-Ok.note.start c.args.part.now) (spelling (spelled c.in-Ok-there.there))
     (drop c.in-Ok.note.end c.args.part.now) (codes " ") _ _ _ _
-    c.in_ok-extend_from_slice-in-Ok-there.ensures.items c.in_ok-push_pitch-in-Ok-there.ensures
+    c.in_ok-extend_from_slice-in-Ok-there.ensures.items c.in_ok-push_pitch-in-Ok-there.ensures.written
     (c.in_ok-extend_from_slice-in-Ok-there-2.ensures.items
     ∙ ap (λ (l : List ℕ). c.push_pitch.new.text.items ++ l) c.split_at.ensures.back)
     c.in_ok-push-in-Ok-there.ensures.items)
