@@ -177,8 +177,8 @@ fn reads_are_told(rt: HostRuntime) {
     }
 }
 
-/// How many calls were made, whether the last one failed, and whether one has.
-const MARKED: &[(u64, bool, bool)] = &[(1, false, false), (2, true, true), (3, false, true)];
+/// Whether a call fails, and whether one has, call after call.
+const MARKED: &[(bool, bool)] = &[(false, false), (true, true), (false, true)];
 
 #[test]
 fn a_failed_read_is_marked(rt: HostRuntime) {
@@ -189,12 +189,9 @@ fn a_failed_read_is_marked(rt: HostRuntime) {
     });
     let mut buf = [0u8; 4];
     for row in MARKED {
-        let (calls, fails, failed) = *row;
-        let fails_now = source.read(&mut buf).is_err();
-        let found = (source.calls(), fails_now, source.failed());
-        same(&rt, found, (calls, fails, failed), "calls");
+        let fails = source.read(&mut buf).is_err();
+        same(&rt, (fails, source.failed()), *row, "reads");
     }
-    same_bytes(&rt, source.into_inner().text, b"", "what is left");
 }
 
 #[test]
@@ -203,12 +200,7 @@ fn a_failed_write_is_marked(rt: HostRuntime) {
     let _ = sink.write(b"ab");
     let _ = sink.flush();
     let _ = sink.write(b"cd");
-    same(
-        &rt,
-        (sink.calls(), sink.failed()),
-        (3, false),
-        "there was room",
-    );
+    holds(&rt, !sink.failed(), "there was room");
     let _ = sink.write(b"d");
     holds(&rt, sink.failed(), "there is no room");
 

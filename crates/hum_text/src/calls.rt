@@ -119,26 +119,6 @@ impl<T> Marked<T> {
         self.flushed = flushed;
     }
 
-    /// The reader or the writer that it was made of.
-    pub fn into_inner(self) -> T
-        ensures { result ≡ self.inner }
-    {
-        let Marked {
-            inner,
-            calls: _,
-            failed: _,
-            flushed: _,
-        } = self;
-        inner
-    }
-
-    /// How many calls were made; at the greatest number the count stays.
-    pub fn calls(&self) -> u64
-        ensures { result ≡ self.now.calls }
-    {
-        self.calls
-    }
-
     /// Whether a call failed, a write of 0 bytes too.
     pub fn failed(&self) -> bool
         ensures { result ≡ self.now.failed }
