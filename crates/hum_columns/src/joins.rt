@@ -20,7 +20,7 @@ use std::collections::VecDeque;
 ///
 /// # Errors
 /// Want of memory.
-pub fn push_fitting(builder: &mut RecordBuilder, token: &[u8]) -> Result<(), AllocError>
+pub(crate) fn push_fitting(builder: &mut RecordBuilder, token: &[u8]) -> Result<(), AllocError>
     requires lawful { IsToken builder.old.kind token.now }
     requires fits { length (spelled (builder.old.tokens ++ token.now ∷ [])) ≤ 1048576 }
     ensures { OnOk result
@@ -42,7 +42,7 @@ pub fn push_fitting(builder: &mut RecordBuilder, token: &[u8]) -> Result<(), All
 ///
 /// # Errors
 /// Want of memory.
-pub fn spread(
+pub(crate) fn spread(
     alloc: Global,
     pieces: &[Piece<'_>],
     room: u64,

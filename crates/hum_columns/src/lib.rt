@@ -3,7 +3,7 @@
 //!
 //! [`ChosenColumns`] say of each column whether it is chosen, and go on along splits, joins,
 //! exchanges and added spines; [`is_torn`] finds the joins that such a command can't write, and
-//! [`write_pieces`] writes what it makes of an interpretation, by the rule that [`spread`] is.
+//! [`write_pieces`] writes what it makes of an interpretation, joins side by side one after another.
 #![tactic(auto)]
 
 ghost use Rattle.std.specs.Prelude.{◌≡◌, [], Ok, IfOk};
@@ -19,10 +19,10 @@ mod pieces;
 mod torn;
 mod writing;
 
+use crate::joins::spread;
 pub use columns::ChosenColumns;
 use hum_record::Record;
 use hum_stage::Rule;
-pub use joins::{push_fitting, spread};
 pub use pieces::Piece;
 use std::alloc::{AllocError, Global};
 use std::collections::VecDeque;

@@ -2,24 +2,25 @@
 ghost use Rattle.hum_columns.specs.Writing.{Fit};
 
 use crate::compared::{holds, same, same_bytes};
-use hum_columns::{Piece, push_fitting, spread};
-use hum_record::{Record, RecordBuilder, SpinedKind};
+use hum_columns::{Piece, write_pieces};
+use hum_record::Record;
+use hum_stage::Rule;
 use std::alloc::Global;
 use std::collections::VecDeque;
 use std::process::Abort;
 
-// Whether the pieces fit into so much room, and the texts of their records, with LF behind each.
-fn check(rt: &impl Abort, alloc: Global, pieces: &[Piece], room: u64, want: (bool, &[u8]))
+// What is answered where there is room for so many records, and the records, with LF behind each.
+fn check(rt: &impl Abort, alloc: Global, pieces: &[Piece], room: u64, want: (Option<Rule>, &[u8]))
     requires { Fit pieces.now }
 {
     let mut out: VecDeque<Record> = VecDeque::new(alloc);
-    let fits = spread(alloc, pieces, room, &mut out).expect(rt, "memory");
+    let answer = write_pieces(alloc, pieces, room, &mut out).expect(rt, "memory");
     let mut texts = Vec::new(alloc);
     for record in &out {
         texts.extend_from_slice(record.text()).expect(rt, "memory");
         texts.push(b'\n').expect(rt, "memory");
     }
-    same(rt, fits, want.0, room);
+    same(rt, answer, want.0, room);
     same_bytes(rt, &texts, want.1, room);
 }
 
@@ -33,7 +34,7 @@ fn writes_neighbouring_joins_one_after_another(rt: HostRuntime) {
         Piece::new(true, b"*v"),
         Piece::new(false, b"*v"),
     ];
-    check(&rt, alloc, &apart, 1, (true, b"*v\t*v\t*\t*v\t*v\n"));
+    check(&rt, alloc, &apart, 1, (None, b"*v\t*v\t*\t*v\t*v\n"));
     let beside = [
         Piece::new(true, b"*v"),
         Piece::new(false, b"*v"),
@@ -42,18 +43,15 @@ fn writes_neighbouring_joins_one_after_another(rt: HostRuntime) {
         Piece::new(false, b"*^"),
     ];
     let texts = b"*v\t*v\t*\t*\t*\n*\t*v\t*v\t*^\n";
-    check(&rt, alloc, &beside, 2, (true, texts));
+    check(&rt, alloc, &beside, 2, (None, texts));
     // no room, and no tokens
-    check(&rt, alloc, &beside, 1, (false, b""));
-    check(&rt, alloc, &[], 0, (true, b""));
+    check(&rt, alloc, &beside, 1, (Some(Rule::L2), b""));
+    check(&rt, alloc, &[], 0, (None, b""));
 }
 
 #[test]
-fn adds_a_token(rt: HostRuntime) {
+fn a_piece_is_a_token(rt: HostRuntime) {
     let piece = Piece::new(true, b"*v");
     holds(&rt, piece.begins(), "a join begins");
     same_bytes(&rt, piece.token(), b"*v", "a token");
-    let mut builder = RecordBuilder::new(rt.alloc(), SpinedKind::Interpretation);
-    push_fitting(&mut builder, b"*v").expect(&rt, "memory");
-    same_bytes(&rt, builder.finish().text(), b"*v", "a record");
 }
