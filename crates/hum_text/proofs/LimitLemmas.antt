@@ -1,8 +1,9 @@
 -- A line that is handed out is within the limits and holds no LF.
 use Rattle.std.proofs.Common.{◌≡◌, ℕ, zero, suc, ◌+◌, ◌-◌, ◌<◌, ◌≤◌, Bool, true, false, ◌&&◌, ◌==◌, nat_lt}
-use Rattle.std.proofs.Common.{List, [], ◌∷◌, ◌++◌, length, length-append, get_or, take, refl, ap, sym, ◌∙◌, subst, arith, None, Some}
+use Rattle.std.proofs.Common.{List, [], ◌∷◌, ◌++◌, length, length-append, get_or, take, refl, ap, sym, ◌∙◌, subst, arith, Option, None, Some}
 use Rattle.std.proofs.Common.{inl, inr, length-take}
 use Rattle.std.specs.List.{list_any}
+use Rattle.std.specs.Prelude.{IfNone}
 use Rattle.std.proofs.lemmas.Bool.{cases_Bool, cases_lt, eqb-true, or_from, or_parts}
 use Rattle.std.proofs.lemmas.Bool.Decides.{nat_tests}
 use Rattle.std.proofs.lemmas.List.{get_or-take, get_or_append_left, take_all, take_at, take_more, take-append-le}
@@ -45,6 +46,22 @@ fits l n piece ended size none = elim (cases_Bool (ended && length (without_cr p
 
     some-left : {m : ℕ} → (m == 0) ≡ false → 0 < m
     some-left h = grind (arith, nat_tests)
+
+-- the bytes of a lawful line are within their limit
+pub lawful-bytes : (l : Limits) (n t : ℕ) (held : List ℕ) → IsLawful l n t held → 0 < length held → t + length held ≤ l.bytes
+lawful-bytes l n t held lawful some =
+    let k = length held - 1 in
+    let none = lawful (length held - 1) (omega (arith, some)) in
+    elim (cases_Bool (get_or held (length held - 1) 0 == 10)) as (λ _. t + length held ≤ l.bytes) [
+      | inl is ↦ let end = (fits l n (take k held) true (t + (k + 1)) (rw is at none)).end in omega (arith, end, some)
+      | inr other ↦ let end = (fits l n (take (k + 1) held) false (t + (k + 1)) (rw other at none)).end in omega (arith, end, some)
+    ]
+
+-- the same of an answer
+pub none-bytes : {F : Type 0} (l : Limits) (n t : ℕ) (held : List ℕ) (answer : Option F) → IfNone answer (IsLawful l n t held)
+    → IfNone answer (0 < length held → t + length held ≤ l.bytes)
+none-bytes l n t held (Some fault) lawful = tt
+none-bytes l n t held None lawful = lawful-bytes l n t held lawful
 
 -- the line whose LF is at k
 pub whole-short : (l : Limits) (n t : ℕ) (block : List ℕ) (k : ℕ) → IsFirstByte (is_byte 10) block (Some k) →

@@ -1,9 +1,10 @@
 -- Windows of a buffer.
-use Rattle.std.proofs.Common.{◌≡◌, ℕ, zero, suc, ◌+◌, ◌-◌, ◌<◌, ◌≤◌, List, [], ◌∷◌, ◌++◌, length, get_or, take, drop, refl, ap}
-use Rattle.std.proofs.Common.{sym, ◌∙◌, arith, length-take, length-drop, slice_range, Some, inl, inr}
-use Rattle.std.proofs.lemmas.List.{get_or-take, get_or-drop, drop-take, drop-drop}
-use Rattle.std.proofs.Math.Seq.{take-add}
+use Rattle.std.proofs.Common.{◌≡◌, ℕ, zero, suc, ◌+◌, ◌-◌, ◌<◌, ◌≤◌, List, [], ◌∷◌, ◌++◌, length, get_or, take, drop, max, ◌⊎◌, refl, ap}
+use Rattle.std.proofs.Common.{sym, ◌∙◌, arith, append-nil, length-append, length-take, length-drop, slice_range, Some, inl, inr}
+use Rattle.std.proofs.lemmas.List.{get_or-take, get_or-drop, drop-take, drop-drop, take_all, take_at, take-append-le}
+use Rattle.std.proofs.Math.Seq.{take-add, take-paste}
 use Rattle.std.proofs.lemmas.Bool.{eqb-true, eq-eqb, cases_lt}
+use Rattle.std.specs.List.{copy_within}
 use Rattle.memchr.specs.Find.{IsFirstByte, is_byte, Passes, Nowhere}
 use Rattle.hum_text.specs.Window.{IsWindow}
 
@@ -136,6 +137,27 @@ pub IsWindow-grown : (xs : List ℕ) (s m e j : ℕ) → IsWindow xs s m e → e
 IsWindow-grown xs s m e j w h fits =
     record { low = w.low; middle = omega (arith, w.middle); high = fits; searched = w.searched }
 
+-- a window whose first bytes are gone
+pub IsWindow-moved : (xs : List ℕ) (s m e j n : ℕ) → IsWindow xs s m e → s ≤ j → j ≤ n → n ≤ e → (n ≡ j) ⊎ (n ≡ m) → IsWindow xs j n e
+IsWindow-moved xs s m e j n w low middle high which = record {
+  low = middle;
+  middle = high;
+  high = w.high;
+  searched = λ k from below ten. elim which [
+    | inl start ↦ absurd (omega (arith, from, below, start))
+    | inr same ↦ w.searched k (omega (arith, low, from)) (omega (arith, below, same)) ten
+  ];
+}
+
+pub either_max : (m j : ℕ) → (max m j ≡ j) ⊎ (max m j ≡ m)
+either_max m j = elim (cases_lt m j) [ inl less ↦ inl (omega (arith, less)) | inr more ↦ inr (omega (arith, more)) ]
+
+shorter : (n m : ℕ) (zs : List ℕ) → n ≤ m → take n (take m zs) ≡ take n zs
+shorter zero m zs h = refl
+shorter (suc n) zero zs h = absurd (omega arith)
+shorter (suc n) (suc m) [] h = refl
+shorter (suc n) (suc m) (z ∷ zs) h = ap (λ (ys : List ℕ). z ∷ ys) (shorter n m zs (omega arith))
+
 -- the first bytes of a window
 pub front-window : (xs : List ℕ) (s e n : ℕ) → n ≤ e - s → slice_range xs s (s + n) ≡ take n (slice_range xs s e)
 front-window xs s e n h =
@@ -143,8 +165,31 @@ front-window xs s e n h =
       size : (s + n) - s ≡ n
       size = omega arith
 
-      shorter : (n m : ℕ) (zs : List ℕ) → n ≤ m → take n (take m zs) ≡ take n zs
-      shorter zero m zs h = refl
-      shorter (suc n) zero zs h = absurd (omega arith)
-      shorter (suc n) (suc m) [] h = refl
-      shorter (suc n) (suc m) (z ∷ zs) h = ap (λ (ys : List ℕ). z ∷ ys) (shorter n m zs (omega arith))
+-- nothing was read
+pub end-nothing : (xs bs : List ℕ) → length bs ≡ 0 → xs ++ bs ≡ xs
+end-nothing xs [] e = append-nil xs
+end-nothing xs (b ∷ bs) e = absurd (omega (arith, e))
+
+-- what stands in front of what is written
+pub front-stays : (at n : ℕ) (old rest behind : List ℕ) → at ≤ n → at ≤ length old
+    → take at (take n ((take at old ++ rest) ++ behind)) ≡ take at old
+front-stays at n old rest behind low fits =
+    let count : length (take at old) ≡ at = omega (arith, length-take at old, fits) in
+    let more = length-append (take at old) rest in
+    shorter at n _ low ∙ take-append-le at (take at old ++ rest) behind (omega (arith, count, more)) ∙ take_at (take at old) rest at count
+
+-- a window that was moved to the front
+pub moved-window : (xs : List ℕ) (s e : ℕ) → e ≤ length xs → slice_range (copy_within xs s e 0) 0 (0 + (e - s)) ≡ slice_range xs s e
+moved-window xs s e fits =
+    let size : (0 + (e - s)) - 0 ≡ 0 + (e - s) = omega arith in
+    ap (λ (k : ℕ). take k (copy_within xs s e 0)) size
+    ∙ take-paste xs 0 (drop s xs) (e - s) (omega arith) (omega (arith, length-drop s xs, fits))
+
+-- a window of a buffer that grew
+pub wider-window : (xs more : List ℕ) (s e n : ℕ) → s ≤ e → e ≤ length xs → length xs ≤ n
+    → slice_range (take n xs ++ more) s (s + (e - s)) ≡ slice_range xs s e
+wider-window xs more s e n low fits room =
+    let end : s + (e - s) ≡ e = omega (arith, low) in
+    let front : take e (take n xs ++ more) ≡ take e xs =
+    ap (λ (zs : List ℕ). take e (zs ++ more)) (take_all n xs room) ∙ take-append-le e xs more fits in
+    rw end (window-front xs (take n xs ++ more) s e low front)

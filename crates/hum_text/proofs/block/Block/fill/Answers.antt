@@ -39,3 +39,6 @@ returns-in-Err-clause-err g c = (
   window-front _ _ _ _ (omega arith) c.read_at.ensures.front ∙ c.in-Ok.ensures.kept ∙ ap (λ h. h.pending) c.self.view_is,
   c.in-Err.ensures.err,
 )
+
+pub read_at-requires : goal.read_at-requires
+read_at-requires g c = c.in-Ok.ensures.room.1

@@ -2,6 +2,7 @@ use Rattle.std.proofs.Common.{◌<◌, ◌≤◌, ◌+◌, length, ap, sym, ◌�
 use Rattle.hum_text.specs.Reading.{NeedsRead}
 use Rattle.hum_text.proofs.ReadingLemmas.{found-fault, none-free, no-fault, needs-read}
 use Rattle.hum_text.proofs.WayLemmas.{fault-unread, of-text}
+use Rattle.hum_text.proofs.WindowLemmas.{end-nothing}
 use Rattle.hum_text.proofs.ReadLemmas.{same-reading, unread-reading, more-reading, end-reading, fault-reading}
 use Rattle.hum_text.proofs.reader.LineReader.read_on.Goals as goal
 
@@ -49,3 +50,9 @@ returns-in-Ok g c =
     same-reading _ _ _ _ _ _ _ c.self.view_is
     (more-reading _ _ _ _ _ _ _ read.0 _ read.1 needs room c.self.invariant.bytes
     c.in-Ok.ensures.line read.2 c.in-Ok.field-0-test.1 c.in-Ok.ensures.asked read.3 c.in-Ok.ensures.read)
+
+pub last_line-requires-clause-unended : goal.last_line-requires-clause-unended
+last_line-requires-clause-unended g c =
+    let read = c.in-Ok-eq0.ensures.ok in
+    let is = read.1 ∙ end-nothing _ read.0 (read.2 ∙ c.in-Ok-eq0.field-0-test) ∙ ap (λ w. w.pending) c.self.view_is in
+    rw is c.requires.unended

@@ -1,6 +1,7 @@
-use Rattle.std.proofs.Common.{◌+◌, ◌<◌, ◌≤◌, ◌++◌, ◌∷◌, [], length, length-take, subst, take, arith}
+use Rattle.std.proofs.Common.{◌∙◌, ◌+◌, ◌<◌, ◌≤◌, ◌++◌, ◌∷◌, [], length, length-take, get_or, sym, ap, subst, take, arith}
+use Rattle.std.proofs.lemmas.List.{get_or-take}
 use Rattle.hum_text.specs.Text.{IsLawful}
-use Rattle.hum_text.proofs.ReadingLemmas.{to-line}
+use Rattle.hum_text.proofs.ReadingLemmas.{to-line, first-free}
 use Rattle.hum_text.proofs.GivenLine.{given-line}
 use Rattle.hum_text.proofs.reader.LineReader.sound_line.Goals as goal
 
@@ -18,3 +19,10 @@ returns-in-Some-clause-line g c = λ _.
     subst (λ w. w.taken + (length (take c.args.k w.pending) + 1) ≤ w.limits.bytes) c.self.view_is end in
     let bytes : v.taken + (c.args.k + 1) ≤ v.limits.bytes = omega (arith, within, length-take c.args.k v.pending, first.0.high) in
     given-line v _ c.args.k c.requires.sound first lawful records bytes c.hand_out_line.ensures
+
+pub sound_len-requires-clause-one_line : goal.sound_len-requires-clause-one_line
+sound_len-requires-clause-one_line g c = λ j less is.
+    let held = c.pending.ensures ∙ ap (λ w. w.pending) c.self.view_is in
+    let count = length-take c.args.k c.pending.result.now in
+    first-free c.args.self.now.pending c.args.k c.requires.first j (omega (arith, less, count))
+    (ap (λ xs. get_or xs j 0) (sym held) ∙ sym (get_or-take c.args.k c.pending.result.now j 0 (omega (arith, less, count))) ∙ is)
