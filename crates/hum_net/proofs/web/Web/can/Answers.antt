@@ -103,3 +103,10 @@ index-requires-in-Wants g c =
     let count = at.at.stand.count in
     let size = c.args.self.now.nodes.ok.0 in
     omega (arith, less, count, size)
+
+pub source-source-requires-clause-kind : goal.source-source-requires-clause-kind
+source-source-requires-clause-kind g c =
+    let a = c.requires.about.holds in
+    let node = c.index-in-Wants.result.now in
+    c.requires.stage node (node_at (StandsAs g.F.Feeds.stands g.W.Works.stands) c.args.k c.args.self.now
+    c.requires.about.scene node a.less a.at.stand c.index-in-Wants.ensures)
