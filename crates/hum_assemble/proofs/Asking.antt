@@ -1,11 +1,12 @@
 -- What is known of the sources once the record that was wanted is put.
 use Rattle.std.proofs.Common.{◌≡◌, ◌∙◌, refl, sym, ap, ℕ, zero, suc, ◌+◌, ◌<◌, Bool, true, false, cond}
 use Rattle.std.proofs.Common.{◌&&◌, ◌||◌, List, [], ◌∷◌, length, take, drop, set}
-use Rattle.std.proofs.Common.{get_or, arith, add-one}
+use Rattle.std.proofs.Common.{get_or, subst, arith, add-one}
 use Rattle.std.specs.Prelude.{Option, Some, option_map}
 use Rattle.std.specs.List.{list_any, position_from}
 use Rattle.std.proofs.lemmas.Option.{none-some, same_Some}
 use Rattle.hum_record.specs.Row.{Row}
+use Rattle.hum_stage.specs.declared.faults.End.{End}
 use Rattle.hum_assemble.specs.declared.places.Next.TheVariants.{Wants, Over as NothingMore}
 use Rattle.hum_assemble.specs.Source.{Source}
 use Rattle.hum_assemble.specs.Merge.{ahead, ahead_at, ahead_open}
@@ -142,3 +143,10 @@ pub put_lawful : (ss : List Source) (j : ℕ) (s' : Source) → AllLawful ss →
 put_lawful [] j s' h l = tt
 put_lawful (x ∷ ss) zero s' h l = (l, h.1)
 put_lawful (x ∷ ss) (suc j) s' h l = (h.0, put_lawful ss j s' h.1 l)
+
+pub end_lawful : (ss : List Source) (j : ℕ) (s s' : Source) (end : Option End) → AllLawful ss → s ≡ get_or ss j s
+    → s' ≡ record s { ended = end } → AllLawful (set ss j s')
+end_lawful [] j s s' end all at is = tt
+end_lawful (x ∷ ss) zero s s' end all at is =
+    (subst (λ r. AreLawful r.path r.coming) (sym is) (subst (λ r. AreLawful r.path r.coming) (sym at) all.0), all.1)
+end_lawful (x ∷ ss) (suc j) s s' end all at is = (all.0, end_lawful ss j s s' end all.1 at is)

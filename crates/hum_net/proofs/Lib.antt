@@ -10,6 +10,7 @@ pub mod Readying
 pub mod Stepping
 pub mod Sending
 pub mod Reusing
+pub mod Setting
 pub mod Netting
 pub mod Bounds
 pub mod Flags

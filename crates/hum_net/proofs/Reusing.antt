@@ -2,6 +2,7 @@
 use Rattle.std.proofs.Common.{◌≡◌, ◌∙◌, ℕ, Bool, false, List, [], Option, None, sym}
 use Rattle.std.proofs.Common.{ap, subst, slice_get}
 use Rattle.hum_nodes.specs.declared.either.Node.{Node}
+use Rattle.hum_net.specs.declared.web.Web.{Web}
 use Rattle.hum_nodes.specs.Nodes.{remaining_of, ended_of, calls_of, failed_of}
 use Rattle.hum_nodes.specs.Polls.{HasRead}
 use Rattle.hum_nodes.proofs.Followed.{read_none}
@@ -19,6 +20,10 @@ module _ {F W : Type 0} (remaining : F → Option (List ℕ)) (ended : F → Boo
     calls_made = ap (or_none 0 (calls_of calls)) e;
     mark = ap (or_none false (failed_of failed)) e;
   }
+
+  pub shows_nodes : (old new : Web F W) (i : ℕ) → new.nodes ≡ old.nodes
+      → ShowsSame remaining ended calls failed old.nodes.items new.nodes.items i
+  shows_nodes old new i e = shows_alike old.nodes.items new.nodes.items i (ap (λ nodes. slice_get nodes.items i) e)
 
   pub shows_more : (a b c : List (Node F W)) (i : ℕ) → ShowsSame remaining ended calls failed a b i
       → ShowsSame remaining ended calls failed b c i → ShowsSame remaining ended calls failed a c i

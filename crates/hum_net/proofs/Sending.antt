@@ -7,6 +7,7 @@ use Rattle.std.specs.Io.KnownBytes.{Appends}
 use Rattle.hum_record.specs.Row.{Row, text_of}
 use Rattle.hum_stage.specs.declared.faults.End.{End}
 use Rattle.hum_turns.specs.declared.result.RunResult.{RunResult}
+use Rattle.hum_turns.specs.declared.result.RunResult.TheVariants as ends
 use Rattle.hum_turns.specs.Flow.{Flow}
 use Rattle.hum_turns.specs.Plan.{last}
 use Rattle.hum_turns.specs.Links.{Link, has_some}
@@ -20,8 +21,9 @@ use Rattle.hum_net.specs.declared.link.Next.TheVariants as next
 use Rattle.hum_net.specs.Links.{next_of}
 use Rattle.hum_net.specs.declared.web.Web.{Web}
 use Rattle.hum_net.specs.Scene.{Scene, plan_of, Done}
-use Rattle.hum_net.specs.Nets.{Sent, SinkWent}
-use Rattle.hum_net.proofs.Taking.{next_record, next_end}
+use Rattle.hum_net.specs.Nets.{Sent, Failed, SinkWent}
+use Rattle.hum_net.specs.Writing.{WroteFront}
+use Rattle.hum_net.proofs.Taking.{next_record, next_end, next_front}
 
 pub not_heard : (l : Link Row) → has_some l ≡ true → l.heard ≡ None
 not_heard l some = none_by l.heard (and_parts _ _ some).0
@@ -29,6 +31,18 @@ not_heard l some = none_by l.heard (and_parts _ _ some).0
     none_by : (o : Option End) → is_none o ≡ true → o ≡ None
     none_by None e = refl
     none_by (Some x) e = absurd (false≢true e)
+
+-- a write that fails has written a front of the record
+pub writes_front : (s : Scene) (old new : Option (List ℕ)) (answer : Next) (x : Row)
+    → answer ≡ next_of (s.links (last (plan_of s))).waiting (s.links (last (plan_of s))).mark
+    → answer ≡ next.Record x → WroteFront old new (text_of x ++ 10 ∷ []) → Failed s.count ends.Write old new s
+writes_front s old new answer x told is wrote =
+    let l = s.links (last (plan_of s)) in
+    record {
+      part = wrote.bytes;
+      may = (refl, next_front l.waiting l.mark x (sym is ∙ told) wrote.bytes wrote.front);
+      appends = wrote.appends;
+    }
 
 module _ {F W : Type 0} (stands : Node F W → List ℕ → At → Type 0) (web : Web F W) (s : Scene)
     (old new : Option (List ℕ)) (flushed is_over : Bool) where

@@ -7,9 +7,10 @@ use Rattle.std.specs.List.{AllByRecursion}
 use Rattle.std.proofs.lemmas.Bool.{cases_eq, false≢true, and_parts}
 use Rattle.std.proofs.lemmas.Option.{none-some, same_Some, slice_get_within, slice_get-get_or}
 use Rattle.std.proofs.lemmas.List.{length-map}
-use Rattle.hum_record.specs.Row.{Row}
+use Rattle.hum_record.specs.Row.{Row, text_of}
 use Rattle.hum_stage.specs.declared.faults.End.{End}
-use Rattle.hum_turns.specs.Flow.{Flow, AllFine}
+use Rattle.hum_turns.specs.Flow.{Flow, AllFine, Begins}
+use Rattle.hum_turns.specs.Text.{next_text}
 use Rattle.hum_turns.specs.Plan.{Want, Bytes, Source, Nothing, IsPlan, last, end_of}
 use Rattle.hum_turns.specs.Links.{Link, Moment, given, view, has_some, inputs}
 use Rattle.hum_turns.specs.Turns.{Takes, Becomes, popped}
@@ -27,6 +28,7 @@ use Rattle.hum_net.specs.declared.link.Link as port
 use Rattle.hum_net.specs.declared.link.Next.{Next}
 use Rattle.hum_net.specs.declared.link.Next.TheVariants as next
 use Rattle.hum_net.specs.Links.{Goes, next_of}
+use Rattle.hum_net.specs.Writing.{IsFront}
 use Rattle.hum_net.specs.Scene.{Scene, plan_of, at_of, NodesStand, LinksStand, IsTree}
 use Rattle.hum_net.specs.Scene.{IsReached}
 use Rattle.hum_net.proofs.Moving.{Did, put_at, put_becomes, at_with, ins_of, at_same}
@@ -68,6 +70,14 @@ next_record l [] x h = absurd (no_record l.mark x h)
 next_record l (y ∷ ws) x h =
     let e = same_Some x y (ap record_at h) in
     ap (λ i. flow_of (l.taken ++ i ∷ []) l.heard) (sym e)
+
+-- a front of the record is one of what is written next
+pub next_front : (ws : List Row) (mark : Option End) (x : Row) → next.Record x ≡ next_of ws mark
+    → (bytes : List ℕ) → IsFront bytes (text_of x ++ 10 ∷ []) → Begins bytes (next_text text_of ws)
+unfolding record_at
+next_front [] mark x h bytes front = absurd (no_record mark x h)
+next_front (y ∷ ws) mark x h bytes front =
+    subst (λ r. Begins bytes (text_of r ++ 10 ∷ [])) (same_Some x y (ap record_at h)) front
 
 end_is : (o : Option End) (e : End) → next.End e ≡ next_of [] o → o ≡ Some e
 unfolding end_at

@@ -30,7 +30,7 @@ pub enum Doing {
 
 /// What a node does next, without its end: it is as small as a number, and so asked for more quickly.
 /// Kinds that a net treats alike stand side by side: their tests are then fewer.
-#[derive(Clone, Copy, Debug, Drop, PartialEq, Eq)]
+#[derive(Clone, Copy, Drop)]
 pub enum DoingKind {
     Gives,
     Reads,

@@ -7,6 +7,7 @@ pub mod Listing
 mod NameExamples
 pub mod NameItems
 mod NumberExamples
+pub mod PassageEnds
 mod PassageExamples
 pub mod PassageItems
 pub mod Signs

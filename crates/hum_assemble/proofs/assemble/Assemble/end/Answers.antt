@@ -1,4 +1,8 @@
-use Rattle.std.proofs.Common.{◌≡◌, true, arith}
+use Rattle.std.proofs.Common.{◌≡◌, ◌∙◌, List, Some, true, ap, arith}
+use Rattle.hum_assemble.specs.Source.{Source}
+use Rattle.hum_assemble.specs.Round.{any_due}
+use Rattle.hum_assemble.specs.Merge.{ahead}
+use Rattle.hum_assemble.proofs.Asking.{end_lawful}
 use Rattle.hum_assemble.proofs.Calls.{end_within, end_here, not_spent_end, has_grown}
 use Rattle.hum_assemble.proofs.assemble.Assemble.end.Goals as goal
 
@@ -35,3 +39,20 @@ returns-then-self-clause-ended c = λ t h w.
 
 pub returns-clause-stays_spent : goal.returns-clause-stays_spent
 returns-clause-stays_spent c = λ e. let f = rw (← c.self.view_is) at e in let g = c.if-self.false in cc
+
+pub invariant_of-self : goal.invariant_of-self
+invariant_of-self c =
+    let a = c.self.invariant.alive c.if-self.false in
+    record {
+      at_most = c.self.invariant.at_most;
+      alive = λ e. record {
+        due = c.any_due-self-inside.ensures ∙ ap any_due c.deref.ensures.value;
+        next = c.ahead-self-inside.ensures ∙ ap (λ (ss : List Source).
+            ahead (record { sources = ss; given = c.self.inside.given })) c.deref-2.ensures.value;
+        lawful = end_lawful c.self.inside.sources.items c.args.source c.index_mut.result.now c.end.new.self
+            (Some c.args.end) a.lawful c.index_mut.ensures.value c.end.ensures;
+      };
+    }
+
+pub returns-then-self-clause-stays_spent : goal.returns-then-self-clause-stays_spent
+returns-then-self-clause-stays_spent c = λ e. e

@@ -1,5 +1,6 @@
 use Rattle.std.proofs.Common.{refl, ◌∙◌, sym, ap, ◌+◌, List, arith}
-use Rattle.std.proofs.lemmas.Result.{IfOk-from_err}
+use Rattle.std.proofs.lemmas.Bool.{true≢false}
+use Rattle.std.proofs.lemmas.Result.{IfOk-from_err, err_from_is_err_and}
 use Rattle.hum_assemble.specs.Source.{Source}
 use Rattle.hum_assemble.specs.Round.{any_due}
 use Rattle.hum_assemble.specs.Merge.{ahead, given_row, given_on}
@@ -66,3 +67,23 @@ returns-in_err-row-clause-stays_spent c = λ e. c.from_residual.ensures.0
 
 pub returns-clause-stays_spent : goal.returns-clause-stays_spent
 returns-clause-stays_spent c = λ e. let f = rw (← c.self.view_is) at e in let g = c.if-self.false in cc
+
+pub give-requires : goal.give-requires
+give-requires c =
+    let a = c.self.invariant.alive c.if-self.false in
+    rw c.deref_mut.ensures.value (record {
+      going = a.due;
+      ahead = (c.self.inside.given, sym a.next ∙ c.in-Gives.is);
+      lawful = a.lawful;
+    })
+
+pub overflow_add-self : goal.overflow_add-self
+overflow_add-self c = let most = c.self.invariant.at_most in omega (arith, most)
+
+pub invariant_of-self : goal.invariant_of-self
+invariant_of-self c = record { at_most = c.self.invariant.at_most; alive = λ e. absurd (true≢false e) }
+
+pub returns-in_err-row-clause-err : goal.returns-in_err-row-clause-err
+returns-in_err-row-clause-err c =
+    let p = err_from_is_err_and c.from_residual.result c.from_residual.ensures.1 in
+    rw p.1 refl

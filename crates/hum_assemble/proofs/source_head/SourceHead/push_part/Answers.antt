@@ -1,8 +1,10 @@
-use Rattle.std.proofs.Common.{◌≡◌, ◌∙◌, sym, ap, refl, []}
+use Rattle.std.proofs.Common.{◌≡◌, ◌∙◌, sym, ap, refl, [], replicate}
 use Rattle.hum_assemble.specs.Source.{Source}
 use Rattle.hum_assemble.specs.Head.{coming}
 use Rattle.hum_record.specs.Row.{tokens_of}
-use Rattle.hum_assemble.specs.Merge.{part_given}
+use Rattle.hum_path.specs.Spines.{width}
+use Rattle.hum_assemble.specs.Places.{null_at}
+use Rattle.hum_assemble.specs.Merge.{nulls, part_given}
 use Rattle.hum_assemble.proofs.Pushing.{first_added}
 use Rattle.hum_assemble.proofs.Taking.{part_tokens}
 use Rattle.hum_assemble.proofs.source_head.SourceHead.push_part.Goals as goal
@@ -26,3 +28,21 @@ returns-in-Some c =
     let part : part_given c.args.taken c.args.p c.args.self.now ≡ tokens_of c.in-Some.head.row =
     rw (c.if-not-taken.false, coming) refl in
     rw part c.push_tokens.ensures
+
+pub push_nulls-requires-clause-fits : goal.push_nulls-requires-clause-fits
+push_nulls-requires-clause-fits c =
+    let null = c.null_at.ensures ∙ ap null_at c.kind.ensures in
+    let part : part_given c.args.taken c.args.p c.args.self.now ≡ replicate c.width.result c.null_at.result.now =
+    rw c.if-not-taken.true (ap (λ (s : Source). nulls c.args.p s) (sym c.self.view_is)
+    ∙ sym (ap (λ n. replicate n c.null_at.result.now) c.width.ensures.width
+    ∙ ap (λ t. replicate (width c.self.inside.paths.path) t) null)) in
+    rw part at c.requires.fits
+
+pub returns-then-not-taken : goal.returns-then-not-taken
+returns-then-not-taken c =
+    let null = c.null_at.ensures ∙ ap null_at c.kind.ensures in
+    let part : part_given c.args.taken c.args.p c.args.self.now ≡ replicate c.width.result c.null_at.result.now =
+    rw c.if-not-taken.true (ap (λ (s : Source). nulls c.args.p s) (sym c.self.view_is)
+    ∙ sym (ap (λ n. replicate n c.null_at.result.now) c.width.ensures.width
+    ∙ ap (λ t. replicate (width c.self.inside.paths.path) t) null)) in
+    rw part c.push_nulls.ensures

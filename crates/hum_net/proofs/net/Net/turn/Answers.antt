@@ -129,3 +129,12 @@ overflow_add-self-2 g c =
     let counted = m.at.counted in
     let same = c.stage_turn-turned.ensures.turns in
     omega (arith, few, counted, same)
+
+pub stage_turn-turned-requires-clause-doing : goal.stage_turn-turned-requires-clause-doing
+stage_turn-turned-requires-clause-doing g c = c.requires.doing
+
+pub returns-then-k-count-clause-others : goal.returns-then-k-count-clause-others
+returns-then-k-count-clause-others g c i o = c.sink_turn.ensures.shows i
+
+pub returns-clause-calls : goal.returns-clause-calls
+returns-clause-calls g c = c.stage_turn-turned.ensures.calls

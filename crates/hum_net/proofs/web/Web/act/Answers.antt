@@ -1,4 +1,5 @@
 use Rattle.std.proofs.Common.{◌∙◌, refl, slice_index, subst, Some, inl, inr, ⊎_elim}
+use Rattle.std.proofs.lemmas.Result.{err_from_is_err_and}
 use Rattle.hum_nodes.specs.declared.node.Doing.TheVariants as does
 use Rattle.hum_nodes.specs.Nodes.{StandsAs}
 use Rattle.hum_turns.specs.Turns.{Takes}
@@ -96,3 +97,20 @@ close-requires-clause-done g c =
     (λ is. inl (subst (λ d. IsDoing stands k web (Some d)) is c.requires.doing))
     (λ is. inr (subst (λ d. IsDoing stands k web (Some d)) is c.requires.doing))
     c.in-Done.is
+
+pub close-requires-clause-turn : goal.close-requires-clause-turn
+close-requires-clause-turn g c = c.requires.turn
+
+pub returns-in-Wants-clause-nodes : goal.returns-in-Wants-clause-nodes
+returns-in-Wants-clause-nodes g c = c.pass.ensures.nodes
+
+pub returns-in_ok-give-in-Gives-clause-nodes : goal.returns-in_ok-give-in-Gives-clause-nodes
+returns-in_ok-give-in-Gives-clause-nodes g c = c.give.ensures.nodes
+
+pub returns-in_err-give-in-Gives : goal.returns-in_err-give-in-Gives
+returns-in_err-give-in-Gives g c =
+    let p = err_from_is_err_and c.from_residual.result c.from_residual.ensures.1 in
+    record { done = rw p.1 tt; link = rw p.1 tt; nodes = c.give.ensures.nodes }
+
+pub returns-in-Done : goal.returns-in-Done
+returns-in-Done g c = record { done = c.close.ensures.done; link = c.close.ensures.link; nodes = c.close.ensures.nodes }

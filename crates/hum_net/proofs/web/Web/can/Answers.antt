@@ -79,3 +79,34 @@ returns-in-Done g c s a =
     c.is_unset.ensures)
     (λ is. absurd (never stands k web doing s b (reads_of _ (a.does ∙ is))))
     c.in-Done.is
+
+pub index-requires : goal.index-requires
+index-requires g c =
+    let at = c.requires.about.holds in
+    let less = at.less in
+    let count = at.at.stand.as_many in
+    let size = c.args.self.now.links.ok.0 in
+    omega (arith, less, count, size)
+
+pub index-requires-in-Done : goal.index-requires-in-Done
+index-requires-in-Done g c =
+    let at = c.requires.about.holds in
+    let less = at.less in
+    let count = at.at.stand.as_many in
+    let size = c.args.self.now.links.ok.0 in
+    omega (arith, less, count, size)
+
+pub index-requires-in-Wants : goal.index-requires-in-Wants
+index-requires-in-Wants g c =
+    let at = c.requires.about.holds in
+    let less = at.less in
+    let count = at.at.stand.count in
+    let size = c.args.self.now.nodes.ok.0 in
+    omega (arith, less, count, size)
+
+pub source-source-requires-clause-kind : goal.source-source-requires-clause-kind
+source-source-requires-clause-kind g c =
+    let a = c.requires.about.holds in
+    let node = c.index-in-Wants.result.now in
+    c.requires.stage node (node_at (StandsAs g.F.Feeds.stands g.W.Works.stands) c.args.k c.args.self.now
+    c.requires.about.scene node a.less a.at.stand c.index-in-Wants.ensures)

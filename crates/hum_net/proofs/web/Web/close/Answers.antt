@@ -1,4 +1,4 @@
-use Rattle.std.proofs.Common.{◌≡◌, ◌⊎◌, ◌∙◌, ◌<◌, ℕ, List, Some, sym, refl, ⊎_elim}
+use Rattle.std.proofs.Common.{◌≡◌, ◌⊎◌, ◌∙◌, ◌<◌, ℕ, List, Some, arith, ap, slice_get, sym, refl, ⊎_elim}
 use Rattle.hum_stage.specs.declared.faults.End.{End}
 use Rattle.hum_nodes.specs.At.{At, doing_of}
 use Rattle.hum_nodes.specs.declared.either.Node.{Node}
@@ -23,6 +23,14 @@ about_end stands k web s e done at less is = ⊎_elim
     (λ d. about_by stands k web kinds.Done s (d.1 s at less) (does.Done e) (λ h. is))
     (λ d. about_by stands k web kinds.Reads s (d.1 s at less) (does.Done e) (λ h. is))
     done
+
+pub index-requires : goal.index-requires
+index-requires g c =
+    let may = c.requires.turn.holds in
+    let less = may.less in
+    let count = may.at.stand.count in
+    let size = c.args.self.now.nodes.ok.0 in
+    omega (arith, less, count, size)
 
 pub doing-requires : goal.doing-requires
 doing-requires g c =
@@ -73,6 +81,16 @@ returns-in-Done-clause-link g c s actor =
     let told = c.doing.ensures (s.rests k) (at_of s.kinds s.links k) (actor.at.stand.nodes k node there) in
     let about = about_end stands k web s c.in-Done.end c.requires.done actor.at here (sym told ∙ c.in-Done.is) in
     touched_ends stands k web _ s about c.in-Done.end refl
+
+pub returns-in-Done-clause-nodes : goal.returns-in-Done-clause-nodes
+returns-in-Done-clause-nodes g c =
+    let k = c.args.k in
+    let same : (i : ℕ) → slice_get c.finish.new.self.nodes.items i ≡ slice_get c.args.self.now.nodes.items i =
+    λ i. ap (λ nodes. slice_get nodes.items i) c.finish.ensures.nodes in
+    record {
+      others = λ i other. same i;
+      kind = λ node at. ⊎_elim (λ d. d.0 node (sym (same k) ∙ at)) (λ d. d.0 node (sym (same k) ∙ at)) c.requires.done;
+    }
 
 pub returns-in_default : goal.returns-in_default
 returns-in_default g c =

@@ -1,8 +1,32 @@
-use Rattle.std.proofs.Common.{refl}
+use Rattle.std.proofs.Common.{arith, refl}
+use Rattle.std.proofs.lemmas.Result.{err_from_is_err_and}
 use Rattle.hum_nodes.specs.Nodes.{StandsAs}
 use Rattle.hum_net.proofs.Feeding.{node_at, link_at}
 use Rattle.hum_net.proofs.Acting.{keeps, gives_room, gave, gives_some}
 use Rattle.hum_net.proofs.web.Web.give.Goals as goal
+
+pub index_mut-requires : goal.index_mut-requires
+index_mut-requires g c =
+    let may = c.requires.may.holds in
+    let less = may.less in
+    let count = may.at.stand.count in
+    let size = c.args.self.now.nodes.ok.0 in
+    omega (arith, less, count, size)
+
+pub take-requires : goal.take-requires
+take-requires g c =
+    let may = c.requires.may.holds in
+    let node = c.index_mut.result.now in
+    c.requires.stage node (node_at (StandsAs g.F.Feeds.stands g.W.Works.stands) c.args.k c.args.self.now
+    c.requires.may.scene node may.less may.at.stand c.index_mut.ensures.value)
+
+pub index_mut-requires-in-Some : goal.index_mut-requires-in-Some
+index_mut-requires-in-Some g c =
+    let may = c.requires.may.holds in
+    let less = may.less in
+    let count = may.at.stand.as_many in
+    let size = c.args.self.now.links.ok.0 in
+    omega (arith, less, count, size)
 
 pub push-requires : goal.push-requires
 push-requires g c =
@@ -44,3 +68,8 @@ returns-in_default-clause-given g c s may =
 
 pub returns-in_default-clause-nodes : goal.returns-in_default-clause-nodes
 returns-in_default-clause-nodes g c = keeps c.args.k c.args.self.now _ c.take.new.self c.take.ensures.kind refl
+
+pub returns-in_err-row : goal.returns-in_err-row
+returns-in_err-row g c =
+    let p = err_from_is_err_and c.from_residual.result c.from_residual.ensures.1 in
+    record { given = rw p.1 tt; nodes = keeps c.args.k c.args.self.now _ c.take.new.self c.take.ensures.kind refl }

@@ -1,4 +1,4 @@
-use Rattle.std.proofs.Common.{◌∙◌, sym, subst}
+use Rattle.std.proofs.Common.{◌∙◌, arith, sym, subst}
 use Rattle.hum_nodes.specs.Nodes.{StandsAs}
 use Rattle.hum_nodes.specs.At.{doing_of}
 use Rattle.hum_net.specs.Scene.{at_of, IsDoing}
@@ -7,6 +7,46 @@ use Rattle.hum_net.proofs.Feeding.{node_of}
 use Rattle.hum_net.proofs.Turning.{stage_ready}
 use Rattle.hum_net.proofs.Readying.{below, source_ready, by_room, by_mark}
 use Rattle.hum_net.proofs.web.Web.may_go.Goals as goal
+
+pub overflow_sub-k : goal.overflow_sub-k
+overflow_sub-k g c =
+    let at = c.requires.actor.holds.at in
+    let some = at.reached.ok.some in
+    let count = at.stand.count in
+    let is = c.if-k-len.true in
+    let len = c.len.ensures in
+    let size = c.args.self.now.nodes.ok.0 in
+    omega (arith, some, count, is, len, size)
+
+pub index-requires : goal.index-requires
+index-requires g c =
+    let at = c.requires.actor.holds.at in
+    let some = at.reached.ok.some in
+    let count = at.stand.count in
+    let many = at.stand.as_many in
+    let is = c.if-k-len.true in
+    let len = c.len.ensures in
+    let nodes = c.args.self.now.nodes.ok.0 in
+    let links = c.args.self.now.links.ok.0 in
+    omega (arith, some, count, many, is, len, nodes, links)
+
+pub index-requires-in-None : goal.index-requires-in-None
+index-requires-in-None g c =
+    let h = c.requires.actor.holds in
+    let less = below c.args.k c.len.result _ _ h.within h.at.stand.count
+    (c.len.ensures ∙ c.args.self.now.nodes.ok.0) c.if-k-len.false in
+    let many = h.at.stand.as_many in
+    let links = c.args.self.now.links.ok.0 in
+    omega (arith, less, many, links)
+
+pub index-requires-then-is_unset : goal.index-requires-then-is_unset
+index-requires-then-is_unset g c =
+    let h = c.requires.actor.holds in
+    let less = below c.args.k c.len.result _ _ h.within h.at.stand.count
+    (c.len.ensures ∙ c.args.self.now.nodes.ok.0) c.if-k-len.false in
+    let many = h.at.stand.as_many in
+    let links = c.args.self.now.links.ok.0 in
+    omega (arith, less, many, links)
 
 pub returns-then-is_unset : goal.returns-then-is_unset
 returns-then-is_unset g c s h =

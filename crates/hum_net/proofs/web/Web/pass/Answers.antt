@@ -1,5 +1,6 @@
 use Rattle.std.proofs.Common.{◌∙◌, sym, ap, refl, arith}
 use Rattle.std.proofs.lemmas.Bool.{false≢true}
+use Rattle.std.proofs.lemmas.Result.{err_from_is_err_and}
 use Rattle.hum_nodes.specs.At.{with_record, with_end}
 use Rattle.hum_nodes.specs.declared.either.Node.TheVariants as node
 use Rattle.hum_nodes.specs.Nodes.{StandsAs, is_source}
@@ -8,6 +9,14 @@ use Rattle.hum_net.proofs.Feeding.{node_at, stage_at}
 use Rattle.hum_net.proofs.Acting.{keeps, place_within, source_within, passing, may_take}
 use Rattle.hum_net.proofs.Acting.{record_next, end_next, nothing_next, passed}
 use Rattle.hum_net.proofs.web.Web.pass.Goals as goal
+
+pub index_mut-requires : goal.index_mut-requires
+index_mut-requires g c =
+    let may = c.requires.may.holds in
+    let less = may.less in
+    let count = may.at.stand.count in
+    let size = c.args.self.now.nodes.ok.0 in
+    omega (arith, less, count, size)
 
 pub unreachable-requires : goal.unreachable-requires
 unreachable-requires g c =
@@ -180,3 +189,16 @@ returns-in-Nothing-clause-source g c s may =
     c.in-Stage.is in
     let stage = may.at.stand.nodes k (node.Stage c.in-Stage.stage) there in
     c.source-source.ensures (at_of s.kinds s.links k) stage
+
+pub returns-in_err-put-in-Record-clause-passed : goal.returns-in_err-put-in-Record-clause-passed
+returns-in_err-put-in-Record-clause-passed g c =
+    let p = err_from_is_err_and c.from_residual.result c.from_residual.ensures.1 in
+    rw p.1 tt
+
+pub returns-in_err-put-in-Record-clause-source : goal.returns-in_err-put-in-Record-clause-source
+returns-in_err-put-in-Record-clause-source g c =
+    let p = err_from_is_err_and c.from_residual.result c.from_residual.ensures.1 in
+    rw p.1 tt
+
+pub returns-in-Nothing-clause-nodes : goal.returns-in-Nothing-clause-nodes
+returns-in-Nothing-clause-nodes g c = keeps c.args.k c.args.self.now _ (node.Stage c.in-Stage.stage) refl refl

@@ -1,4 +1,4 @@
-use Rattle.std.proofs.Common.{◌∙◌, Some, refl, sym, ap}
+use Rattle.std.proofs.Common.{◌∙◌, Some, arith, refl, sym, ap}
 use Rattle.hum_read.specs.Reading.{Gave, ReadOn, Ended}
 use Rattle.hum_nodes.specs.Nodes.{StandsAs, is_source, stopped_of}
 use Rattle.hum_net.specs.Scene.{at_of}
@@ -210,3 +210,34 @@ returns-in-Some-Err-clause-stays g c =
     ∙ ap Some c.in-Some-Err.field-0-is in
     polled_stays g.F.Feeds.remaining g.F.Feeds.ended g.F.Feeds.calls g.F.Feeds.failed c.args.k
     web.nodes.items node c.next.new.self at (rw (c.in-None.is, told) at c.next.ensures.stays)
+
+pub index_mut-requires : goal.index_mut-requires
+index_mut-requires g c =
+    let at = c.requires.turn.holds in
+    let less = at.less in
+    let count = at.at.stand.count in
+    let size = c.args.self.now.nodes.ok.0 in
+    omega (arith, less, count, size)
+
+pub index_mut-requires-in-Some : goal.index_mut-requires-in-Some
+index_mut-requires-in-Some g c =
+    let at = c.requires.turn.holds in
+    let less = at.less in
+    let count = at.at.stand.as_many in
+    let size = c.args.self.now.links.ok.0 in
+    omega (arith, less, count, size)
+
+pub index_mut-requires-in-Some-Ok : goal.index_mut-requires-in-Some-Ok
+index_mut-requires-in-Some-Ok g c =
+    let at = c.requires.turn.holds in
+    let less = at.less in
+    let count = at.at.stand.as_many in
+    let size = c.args.self.now.links.ok.0 in
+    omega (arith, less, count, size)
+
+pub next-requires : goal.next-requires
+next-requires g c =
+    let may = c.requires.turn.holds in
+    let node = c.index_mut.result.now in
+    c.requires.source node (node_at (StandsAs g.F.Feeds.stands g.W.Works.stands) c.args.k c.args.self.now
+    c.requires.turn.scene node may.less may.at.stand c.index_mut.ensures.value)

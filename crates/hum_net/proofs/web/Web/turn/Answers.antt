@@ -114,3 +114,29 @@ returns-in-None-clause-link g c =
 
 pub returns-in-Ok-clause-link : goal.returns-in-Ok-clause-link
 returns-in-Ok-clause-link g c = c.in-Ok.ensures.link
+
+pub returns-in-None-clause-turned : goal.returns-in-None-clause-turned
+returns-in-None-clause-turned g c = c.poll.ensures.fed
+
+pub returns-in-None-clause-read : goal.returns-in-None-clause-read
+returns-in-None-clause-read g c failed =
+    let stands = StandsAs g.F.Feeds.stands g.W.Works.stands in
+    subst (IsDoing stands c.args.k c.args.self.now) c.in-None.is c.requires.doing
+
+pub returns-in-None-clause-others : goal.returns-in-None-clause-others
+returns-in-None-clause-others g c = c.poll.ensures.others
+
+pub returns-in-None-clause-marks : goal.returns-in-None-clause-marks
+returns-in-None-clause-marks g c = c.poll.ensures.marks
+
+pub returns-in-None-clause-calls : goal.returns-in-None-clause-calls
+returns-in-None-clause-calls g c = c.poll.ensures.calls
+
+pub returns-in-None-clause-stays : goal.returns-in-None-clause-stays
+returns-in-None-clause-stays g c = c.poll.ensures.stays
+
+pub returns-in-Ok-clause-others : goal.returns-in-Ok-clause-others
+returns-in-Ok-clause-others g c = c.in-Ok.ensures.nodes.others
+
+pub returns-in-Err-clause-others : goal.returns-in-Err-clause-others
+returns-in-Err-clause-others g c = c.in-Err.ensures.nodes.others
