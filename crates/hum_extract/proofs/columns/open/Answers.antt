@@ -22,4 +22,5 @@ returns-in_err-marks c =
 
 pub returns-in_err-open-in-Some : goal.returns-in_err-open-in-Some
 returns-in_err-open-in-Some c =
-    let p = err_from_is_err_and c.from_residual-in_err-open-in-Some.result c.from_residual-in_err-open-in-Some.ensures.1 in rw p.1 (record { decided = tt; columns = tt })
+    let p = err_from_is_err_and c.from_residual-in_err-open-in-Some.result c.from_residual-in_err-open-in-Some.ensures.1 in
+    rw p.1 (record { decided = tt; columns = tt })

@@ -38,7 +38,8 @@ pub returns-in_err-new-in-Ok-2 : goal.returns-in_err-new-in-Ok-2
 returns-in_err-new-in-Ok-2 c = out_of_memory c.args.text.now c.from_residual-in_err-new-in-Ok-2.result c.from_residual-in_err-new-in-Ok-2.ensures.1
 
 pub returns-in_err-none_searched-in-Ok : goal.returns-in_err-none_searched-in-Ok
-returns-in_err-none_searched-in-Ok c = out_of_memory c.args.text.now c.from_residual-in_err-none_searched-in-Ok.result c.from_residual-in_err-none_searched-in-Ok.ensures.1
+returns-in_err-none_searched-in-Ok c =
+    let r = c.from_residual-in_err-none_searched-in-Ok in out_of_memory c.args.text.now r.result r.ensures.1
 
 pub returns-in-Err-OutOfMemory : goal.returns-in-Err-OutOfMemory
 returns-in-Err-OutOfMemory c = out_of_memory c.args.text.now (Err Memory) refl

@@ -11,4 +11,5 @@ returns-in_err-marks c =
 
 pub returns-in_err-selection : goal.returns-in_err-selection
 returns-in_err-selection c =
-    let p = err_from_is_err_and c.from_residual-in_err-selection.result c.from_residual-in_err-selection.ensures.1 in rw p.1 (record { passed = tt; sources = tt })
+    let p = err_from_is_err_and c.from_residual-in_err-selection.result c.from_residual-in_err-selection.ensures.1 in
+    rw p.1 (record { passed = tt; sources = tt })

@@ -18,7 +18,8 @@ returns c =
       | then-len-self+in_ok-fill_bytes w ↦
           let more = w.fill_bytes.ensures.more in
           rw w.self-inside-is
-          (more_bytes _ _ _ held.items _ _ _ w.fill_bytes.new.held.items held.ok.0 w.fill_bytes.ensures.kept (omega (arith, more, w.fill_bytes.new.held.ok.0)) before)
+          (more_bytes _ _ _ held.items _ _ _ w.fill_bytes.new.held.items held.ok.0 w.fill_bytes.ensures.kept
+          (omega (arith, more, w.fill_bytes.new.held.ok.0)) before)
       | else-len-self w ↦ rw w.self-inside-is before
     ] in
     let wider : Counts then.len then.count then.held.items then.places.items text ends = elim c.if-len-self-2.branch [
@@ -53,4 +54,5 @@ returns-in_err-fill_bytes c =
 
 pub returns-in_err-fill_places : goal.returns-in_err-fill_places
 returns-in_err-fill_places c =
-    let p = err_from_is_err_and c.from_residual-in_err-fill_places.result c.from_residual-in_err-fill_places.ensures.1 in rw p.1 (record { text = tt; ends = tt })
+    let p = err_from_is_err_and c.from_residual-in_err-fill_places.result c.from_residual-in_err-fill_places.ensures.1 in
+    rw p.1 (record { text = tt; ends = tt })

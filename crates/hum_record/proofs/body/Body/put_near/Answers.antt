@@ -31,4 +31,5 @@ returns-in_err-give_bytes c =
 
 pub returns-in_err-give_places : goal.returns-in_err-give_places
 returns-in_err-give_places c =
-    let p = err_from_is_err_and c.from_residual-in_err-give_places.result c.from_residual-in_err-give_places.ensures.1 in rw p.1 (record { text = tt; ends = tt })
+    let p = err_from_is_err_and c.from_residual-in_err-give_places.result c.from_residual-in_err-give_places.ensures.1 in
+    rw p.1 (record { text = tt; ends = tt })
