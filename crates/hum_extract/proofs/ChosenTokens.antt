@@ -1,5 +1,7 @@
 -- What is chosen of a list, and what is kept of a record.
 use Rattle.std.proofs.Common.{◌≡◌, ◌≢◌, refl, sym, ap, ℕ, Bool, true, false, not, List, [], ◌∷◌, ◌++◌, length, arith, Option, None, Some}
+use Rattle.std.proofs.Common.{◌+◌, ◌<◌, ◌≤◌, ◌∙◌, drop, get_or, drop-cons, add-one, append-nil, append_assoc}
+use Rattle.std.proofs.lemmas.List.{drop_all}
 use Rattle.std.specs.List.{list_any, list_all}
 use Rattle.std.specs.Option.{option_to_list}
 use Rattle.hum_record.specs.declared.SpinedKind.{SpinedKind}
@@ -8,6 +10,7 @@ use Rattle.hum_record.specs.Spelling.{IsTextOf}
 use Rattle.hum_record.proofs.Left.{chosen_filled}
 use Rattle.hum_columns.specs.Spread.{filled}
 use Rattle.hum_columns.specs.Following.{AsWide}
+use Rattle.hum_extract.specs.Choice.{Choice, is_chosen, each_chosen}
 use Rattle.hum_extract.specs.Kept.{kept}
 
 pub chosen_whole : {X : Type 0} (fs : List Bool) (xs : List X) → list_all (λ b. b) fs ≡ true
@@ -61,3 +64,18 @@ was_false false h = cc
 pub no_first : (first : Option Row) (others : List Row) → option_to_list first ++ others ≡ [] → option_to_list first ≡ []
 no_first None others h = refl
 no_first (Some row) others h = cc
+
+-- which columns are chosen, one name after another
+module _ (choice : Choice) (width j : ℕ) (names : List (List ℕ)) (done all : List Bool)
+    (whole : done ++ each_chosen choice width j (drop j names) ≡ all) where
+  pub one_more_flag : j < length names
+      → (done ++ is_chosen choice width (j + 1) (get_or names j []) ∷ []) ++ each_chosen choice width (j + 1) (drop (j + 1) names) ≡ all
+  one_more_flag within =
+      let flag = is_chosen choice width (j + 1) (get_or names j []) in
+      let next : each_chosen choice width j (drop j names) ≡ flag ∷ each_chosen choice width (j + 1) (drop (j + 1) names) =
+      ap (each_chosen choice width j) (drop-cons names j [] within) ∙ rw add-one refl in
+      append_assoc done (flag ∷ []) _ ∙ ap (λ (flags : List Bool). done ++ flags) (sym next) ∙ whole
+
+  pub no_more_flags : length names ≤ j → done ≡ all
+  no_more_flags past =
+      sym (append-nil done) ∙ ap (λ (ns : List (List ℕ)). done ++ each_chosen choice width j ns) (sym (drop_all j names past)) ∙ whole

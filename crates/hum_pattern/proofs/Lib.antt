@@ -3,3 +3,4 @@ pub mod OnLiterals
 pub mod Reading
 pub mod Remembered
 mod Barline
+mod Exits

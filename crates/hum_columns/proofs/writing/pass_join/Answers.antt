@@ -1,5 +1,6 @@
 use Rattle.std.proofs.Common.{◌∙◌, ◌∷◌, [], length-append, arith, sym}
 use lib.Chars.{codes}
+use Rattle.std.proofs.lemmas.Result.{err_from_is_err_and}
 use Rattle.hum_columns.proofs.OneByOne.{fit_here, token_lawful, token_fits, null_fits, passed_join, passed_all, draft_push, drafted}
 use Rattle.hum_columns.proofs.writing.pass_join.Goals as goal
 
@@ -50,3 +51,11 @@ returns c =
       omega arith,
       omega arith,
     )
+
+pub returns-in_err-push_fitting : goal.returns-in_err-push_fitting
+returns-in_err-push_fitting c =
+    let p = err_from_is_err_and c.from_residual.result c.from_residual.ensures.1 in rw p.1 tt
+
+pub returns-in_err-push_fitting-2 : goal.returns-in_err-push_fitting-2
+returns-in_err-push_fitting-2 c =
+    let p = err_from_is_err_and c.from_residual-in_err-push_fitting-2.result c.from_residual-in_err-push_fitting-2.ensures.1 in rw p.1 tt

@@ -1,5 +1,6 @@
 use Rattle.std.proofs.Common.{◌∙◌, arith, drop, sym, subst}
 use Rattle.std.proofs.lemmas.List.{length-drop}
+use Rattle.std.proofs.lemmas.Result.{err_from_is_err_and}
 use Rattle.hum_columns.specs.Writing.{Fit}
 use Rattle.hum_columns.proofs.OneByOne.{alone_fits_behind, alone_filled_behind, left_behind, one_written, last_written, all_fits_behind}
 use Rattle.hum_columns.proofs.OneByOne.{all_filled_behind, done_fit, done_filled}
@@ -44,3 +45,23 @@ returns c =
     rw (c.in_ok-push_back-2.ensures.items, c.finish.ensures, c.in_ok-push_all.ensures, c.split_at-2.ensures.back)
     (last_written c.loop.out.items c.args.records c.loop.counter c.loop.last.tokens (drop c.loop.start c.args.pieces.now) c.loop-test.false
     c.loop.invariant.some ∙ c.loop.invariant.list)
+
+pub returns-in_err-record : goal.returns-in_err-record
+returns-in_err-record c =
+    let p = err_from_is_err_and c.from_residual.result c.from_residual.ensures.1 in rw p.1 tt
+
+pub returns-in_err-push_back : goal.returns-in_err-push_back
+returns-in_err-push_back c =
+    let p = err_from_is_err_and c.from_residual-in_err-push_back.result c.from_residual-in_err-push_back.ensures.1 in rw p.1 tt
+
+pub returns-in_err-passed : goal.returns-in_err-passed
+returns-in_err-passed c =
+    let p = err_from_is_err_and c.from_residual-in_err-passed.result c.from_residual-in_err-passed.ensures.1 in rw p.1 tt
+
+pub returns-in_err-push_all : goal.returns-in_err-push_all
+returns-in_err-push_all c =
+    let p = err_from_is_err_and c.from_residual-in_err-push_all.result c.from_residual-in_err-push_all.ensures.1 in rw p.1 tt
+
+pub returns-in_err-push_back-2 : goal.returns-in_err-push_back-2
+returns-in_err-push_back-2 c =
+    let p = err_from_is_err_and c.from_residual-in_err-push_back-2.result c.from_residual-in_err-push_back-2.ensures.1 in rw p.1 tt

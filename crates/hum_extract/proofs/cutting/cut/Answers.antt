@@ -1,6 +1,7 @@
 use Rattle.std.proofs.Common.{◌∙◌, sym, subst, List}
 use Rattle.hum_columns.specs.Spread.{Piece}
 use Rattle.hum_columns.specs.Writing.{Fit}
+use Rattle.std.proofs.lemmas.Result.{err_from_is_err_and}
 use Rattle.hum_extract.proofs.CutFits.{pieces_fit}
 use Rattle.hum_extract.proofs.cutting.cut.Goals as goal
 
@@ -8,3 +9,7 @@ pub write_pieces-requires-clause-fit : goal.write_pieces-requires-clause-fit
 write_pieces-requires-clause-fit c =
     let is = c.deref.ensures.value ∙ c.in_ok-pieces.ensures in
     subst (λ (ps : List Piece). Fit ps) (sym is) (pieces_fit c.is_lone-lone.result c.args.marks.now c.args.row.now c.requires.kind c.requires.lawful)
+
+pub returns-in_err-pieces : goal.returns-in_err-pieces
+returns-in_err-pieces c =
+    let p = err_from_is_err_and c.from_residual.result c.from_residual.ensures.1 in rw p.1 tt

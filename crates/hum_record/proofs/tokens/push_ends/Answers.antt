@@ -1,6 +1,7 @@
 use Rattle.std.proofs.Common.{◌≡◌, ◌∙◌, sym, ◌++◌, [], length, arith}
 use Rattle.std.proofs.lemmas.List.{take-append-drop, nil_from_length}
 use Rattle.std.proofs.lemmas.Bool.{eqb-true}
+use Rattle.std.proofs.lemmas.Result.{err_from_is_err_and}
 use Rattle.hum_record.proofs.Cuts.{next_block, all_found}
 use Rattle.hum_record.proofs.Plain.{next_marks, head_end, plain_text, some_bytes}
 use Rattle.hum_record.proofs.tokens.push_ends.Goals as goal
@@ -49,3 +50,11 @@ returns-else-is_head c =
       plain_text c.args.text.now c.loop-rest.rest.now c.loop-rest.has_mark c.loop-rest.is_head
           c.loop-rest.invariant.1 done c.if-is_head.false.0 c.if-is_head.false.1,
     )
+
+pub returns-in_err-push_tabs : goal.returns-in_err-push_tabs
+returns-in_err-push_tabs c =
+    let p = err_from_is_err_and c.from_residual.result c.from_residual.ensures.1 in rw p.1 tt
+
+pub returns-in_err-push : goal.returns-in_err-push
+returns-in_err-push c =
+    let p = err_from_is_err_and c.from_residual-in_err-push.result c.from_residual-in_err-push.ensures.1 in rw p.1 tt

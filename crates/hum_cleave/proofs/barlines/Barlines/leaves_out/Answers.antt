@@ -1,4 +1,5 @@
 use Rattle.std.proofs.Common.{sym, ◌∙◌, map}
+use Rattle.std.proofs.lemmas.Result.{err_from_is_err_and}
 use Rattle.hum_cleave.proofs.Known.{tells_again, tells_other, bytes_eq_sym}
 use Rattle.hum_cleave.proofs.barlines.Barlines.leaves_out.Goals as goal
 
@@ -15,3 +16,7 @@ returns-in_ok-is_new-in-Some c =
     (bytes_eq_sym c.args.token.now c.in-Some.first.now ∙ (sym c.eq.ensures ∙ c.if-eq.false))
     c.in_ok-is_new-in-Some.ensures.updates.0 c.in_ok-is_new-in-Some.ensures.added
     (sym c.is_null.ensures ∙ c.if-is_null.false) (sym c.is_barline.ensures ∙ c.if-not-is_barline.false))
+
+pub returns-in_err-is_new-in-Some : goal.returns-in_err-is_new-in-Some
+returns-in_err-is_new-in-Some c =
+    let p = err_from_is_err_and c.from_residual.result c.from_residual.ensures.1 in rw p.1 tt

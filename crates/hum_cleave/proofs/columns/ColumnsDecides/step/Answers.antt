@@ -8,6 +8,7 @@ use Rattle.hum_path.specs.Rules.{is_closed}
 use Rattle.hum_stage.specs.Decided.{HasStepped}
 use Rattle.hum_columns.specs.Following.{Answers, Follows, memory, is_interpretation}
 use Rattle.hum_columns.proofs.Taking.{wide_still, wide_later, steps_opening, steps_later, interpretation_kind, ok_to, both_ok}
+use Rattle.std.proofs.lemmas.Result.{err_from_is_err_and}
 use Rattle.hum_cleave.specs.Cleave.{text_told, column_command}
 use Rattle.hum_cleave.proofs.Taking.{steps_still}
 use Rattle.hum_cleave.proofs.columns.ColumnsDecides.step.Goals as goal
@@ -64,3 +65,11 @@ returns c decide past follows score =
     let answers = rw (c.each.ensures, c.marks.ensures) at c.in_ok-refused.ensures in
     steps_later command row past c.args.room c.merge.new.out.items c.pass.new.self c.in_ok-refused.refused follows score is off answers
     c.in_ok-pass.ensures.passed c.in_ok-pass.ensures.sources
+
+pub returns-in_err-refused : goal.returns-in_err-refused
+returns-in_err-refused c =
+    let p = err_from_is_err_and c.from_residual.result c.from_residual.ensures.1 in rw p.1 tt
+
+pub returns-in_err-pass : goal.returns-in_err-pass
+returns-in_err-pass c =
+    let p = err_from_is_err_and c.from_residual-in_err-pass.result c.from_residual-in_err-pass.ensures.1 in rw p.1 tt

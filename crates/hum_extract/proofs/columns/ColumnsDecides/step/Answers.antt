@@ -8,6 +8,7 @@ use Rattle.hum_path.specs.Rules.{is_closed}
 use Rattle.hum_stage.specs.Decided.{HasStepped}
 use Rattle.hum_columns.specs.Following.{Answers, Follows, memory}
 use Rattle.hum_columns.proofs.Taking.{wide_later, steps_opening, steps_later, both_ok}
+use Rattle.std.proofs.lemmas.Result.{err_from_is_err_and}
 use Rattle.hum_extract.specs.Extract.{column_command}
 use Rattle.hum_extract.specs.Written.{choice_of}
 use Rattle.hum_extract.proofs.ChosenTokens.{no_first}
@@ -63,3 +64,11 @@ returns c decide past follows score =
     let alone : option_to_list c.out.inside.one ≡ [] = no_first c.out.inside.one _ (c.out.view_is ∙ c.requires.empty) in
     rw alone (steps_later command row past c.args.room c.cut.new.out.items c.pass.new.self c.in_ok-refused.refused follows score is off answers
     c.in_ok-pass.ensures.passed c.in_ok-pass.ensures.sources)
+
+pub returns-in_err-refused : goal.returns-in_err-refused
+returns-in_err-refused c =
+    let p = err_from_is_err_and c.from_residual.result c.from_residual.ensures.1 in rw p.1 tt
+
+pub returns-in_err-pass : goal.returns-in_err-pass
+returns-in_err-pass c =
+    let p = err_from_is_err_and c.from_residual-in_err-pass.result c.from_residual-in_err-pass.ensures.1 in rw p.1 tt

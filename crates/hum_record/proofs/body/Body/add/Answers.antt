@@ -1,4 +1,5 @@
 use Rattle.std.proofs.Common.{◌≡◌, ◌<◌, length, arith}
+use Rattle.std.proofs.lemmas.Result.{err_from_is_err_and}
 use Rattle.hum_record.proofs.Added.{Counts, counts, more_bytes, more_places, added_text, added_ends}
 use Rattle.hum_record.proofs.body.Body.add.Goals.{then-len-self+in_ok-fill_bytes, else-len-self}
 use Rattle.hum_record.proofs.body.Body.add.Goals.{then-len-self-2+in_ok-fill_places, else-len-self-2}
@@ -17,7 +18,8 @@ returns c =
       | then-len-self+in_ok-fill_bytes w ↦
           let more = w.fill_bytes.ensures.more in
           rw w.self-inside-is
-          (more_bytes _ _ _ held.items _ _ _ w.fill_bytes.new.held.items held.ok.0 w.fill_bytes.ensures.kept (omega (arith, more, w.fill_bytes.new.held.ok.0)) before)
+          (more_bytes _ _ _ held.items _ _ _ w.fill_bytes.new.held.items held.ok.0 w.fill_bytes.ensures.kept
+          (omega (arith, more, w.fill_bytes.new.held.ok.0)) before)
       | else-len-self w ↦ rw w.self-inside-is before
     ] in
     let wider : Counts then.len then.count then.held.items then.places.items text ends = elim c.if-len-self-2.branch [
@@ -45,3 +47,12 @@ returns c =
       text = added_text _ _ _ then.held.len then.held.items then.places.items _ _ new c.args.token.now wider size put;
       ends = added_ends _ _ _ then.held.len then.held.items then.places.items _ _ new c.args.token.now wider size put room c.put_behind-end.ensures.end;
     }
+
+pub returns-in_err-fill_bytes : goal.returns-in_err-fill_bytes
+returns-in_err-fill_bytes c =
+    let p = err_from_is_err_and c.from_residual.result c.from_residual.ensures.1 in rw p.1 (record { text = tt; ends = tt })
+
+pub returns-in_err-fill_places : goal.returns-in_err-fill_places
+returns-in_err-fill_places c =
+    let p = err_from_is_err_and c.from_residual-in_err-fill_places.result c.from_residual-in_err-fill_places.ensures.1 in
+    rw p.1 (record { text = tt; ends = tt })

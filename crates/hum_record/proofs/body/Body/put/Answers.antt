@@ -1,4 +1,5 @@
 use Rattle.std.proofs.Common.{◌≡◌, ◌∙◌, [], take, sym, ap, subst, arith, take_all}
+use Rattle.std.proofs.lemmas.Result.{err_from_is_err_and}
 use Rattle.hum_record.specs.Fields.{Written, AreFields}
 use Rattle.hum_record.proofs.Held.{none_counts}
 use Rattle.hum_record.proofs.body.Body.put.Goals as goal
@@ -17,3 +18,39 @@ returns-clause-fields c =
     let size = c.len-self-inside.ensures in
     let all = take_all c.len-self-inside.result ends.items (omega (arith, size, ends.ok.0)) in
     subst (AreFields c.args.text.now) (sym all) c.in_ok-cut.ensures.fields
+
+pub returns-in_err-cut-clause-text : goal.returns-in_err-cut-clause-text
+returns-in_err-cut-clause-text c =
+    let p = err_from_is_err_and c.from_residual.result c.from_residual.ensures.1 in rw p.1 tt
+
+pub returns-in_err-cut-clause-fields : goal.returns-in_err-cut-clause-fields
+returns-in_err-cut-clause-fields c =
+    let p = err_from_is_err_and c.from_residual.result c.from_residual.ensures.1 in rw p.1 tt
+
+pub returns-in_err-cut-clause-read : goal.returns-in_err-cut-clause-read
+returns-in_err-cut-clause-read c =
+    let p = err_from_is_err_and c.from_residual.result c.from_residual.ensures.1 in rw p.1 tt
+
+pub returns-in_err-extend_from_slice-clause-text : goal.returns-in_err-extend_from_slice-clause-text
+returns-in_err-extend_from_slice-clause-text c =
+    let p = err_from_is_err_and c.from_residual-in_err-extend_from_slice.result c.from_residual-in_err-extend_from_slice.ensures.1 in rw p.1 tt
+
+pub returns-in_err-extend_from_slice-clause-fields : goal.returns-in_err-extend_from_slice-clause-fields
+returns-in_err-extend_from_slice-clause-fields c =
+    let p = err_from_is_err_and c.from_residual-in_err-extend_from_slice.result c.from_residual-in_err-extend_from_slice.ensures.1 in rw p.1 tt
+
+pub returns-in_err-extend_from_slice-clause-read : goal.returns-in_err-extend_from_slice-clause-read
+returns-in_err-extend_from_slice-clause-read c =
+    let p = err_from_is_err_and c.from_residual-in_err-extend_from_slice.result c.from_residual-in_err-extend_from_slice.ensures.1 in rw p.1 tt
+
+pub returns-in_err-fill_bytes-clause-text : goal.returns-in_err-fill_bytes-clause-text
+returns-in_err-fill_bytes-clause-text c =
+    let p = err_from_is_err_and c.from_residual-in_err-fill_bytes.result c.from_residual-in_err-fill_bytes.ensures.1 in rw p.1 tt
+
+pub returns-in_err-fill_bytes-clause-fields : goal.returns-in_err-fill_bytes-clause-fields
+returns-in_err-fill_bytes-clause-fields c =
+    let p = err_from_is_err_and c.from_residual-in_err-fill_bytes.result c.from_residual-in_err-fill_bytes.ensures.1 in rw p.1 tt
+
+pub returns-in_err-fill_bytes-clause-read : goal.returns-in_err-fill_bytes-clause-read
+returns-in_err-fill_bytes-clause-read c =
+    let p = err_from_is_err_and c.from_residual-in_err-fill_bytes.result c.from_residual-in_err-fill_bytes.ensures.1 in rw p.1 tt

@@ -1,4 +1,5 @@
 use Rattle.std.proofs.Common.{◌≡◌, ◌∙◌, length, take, ap, sym, arith}
+use Rattle.std.proofs.lemmas.Result.{err_from_is_err_and}
 use Rattle.hum_record.proofs.Held.{written_back, front_put}
 use Rattle.hum_record.proofs.Short.{count_places}
 use Rattle.hum_record.proofs.body.Body.put_near.Goals as goal
@@ -23,3 +24,12 @@ returns-clause-ends c =
     ap (take _) (written_back places.len c.put_places.new.places places.items size)
     ∙ ap (λ n. take n c.put_places.new.places) (sym (count_places 64 0 c.args.ends c.ranges.ends.fits))
     ∙ c.put_places.ensures
+
+pub returns-in_err-give_bytes : goal.returns-in_err-give_bytes
+returns-in_err-give_bytes c =
+    let p = err_from_is_err_and c.from_residual.result c.from_residual.ensures.1 in rw p.1 (record { text = tt; ends = tt })
+
+pub returns-in_err-give_places : goal.returns-in_err-give_places
+returns-in_err-give_places c =
+    let p = err_from_is_err_and c.from_residual-in_err-give_places.result c.from_residual-in_err-give_places.ensures.1 in
+    rw p.1 (record { text = tt; ends = tt })

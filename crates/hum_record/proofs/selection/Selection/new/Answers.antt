@@ -1,4 +1,5 @@
 use Rattle.std.proofs.Common.{◌≡◌}
+use Rattle.std.proofs.lemmas.Result.{err_from_is_err_and}
 use Rattle.hum_record.proofs.Picked.{picks, passes, picked}
 use Rattle.hum_record.proofs.selection.Selection.new.Goals.{then-marks-j+in_ok-push, else-marks-j}
 use Rattle.hum_record.proofs.selection.Selection.new.Goals as goal
@@ -18,3 +19,11 @@ invariant_of-result c =
     rw c.new-each.ensures.items at c.in_ok-extend_from_slice.ensures.items in
     let front = c.count_in_front-front.ensures in
     rw each (front, picked c.args.marks.now c.loop-j.j _ c.loop-j.moved.items c.loop-j-test.false front c.loop-j.invariant)
+
+pub returns-in_err-push : goal.returns-in_err-push
+returns-in_err-push c =
+    let p = err_from_is_err_and c.from_residual.result c.from_residual.ensures.1 in rw p.1 tt
+
+pub returns-in_err-extend_from_slice : goal.returns-in_err-extend_from_slice
+returns-in_err-extend_from_slice c =
+    let p = err_from_is_err_and c.from_residual-in_err-extend_from_slice.result c.from_residual-in_err-extend_from_slice.ensures.1 in rw p.1 tt
