@@ -1,3 +1,4 @@
+pub mod ByPlace
 pub mod Carry
 pub mod Cases
 pub mod Examples

@@ -25,51 +25,68 @@ pub use moved::{Move, Moves};
 pub use signs::{Sign, steers, token_sign};
 pub use spine_paths::Paths;
 use std::alloc::{AllocError, AllocFailed};
-use thiserror::Error;
+use std::error::Error;
+use std::fmt;
 
 /// How many spines a record may have.
 pub const MOST_SPINES: usize = 4096;
 
 /// Which path rule a record breaks, or that memory ran out.
-#[derive(Clone, Copy, Debug, PartialEq, Eq, Error)]
+#[derive(Clone, Copy, Debug, PartialEq, Eq)]
 pub enum PathFault {
     /// The opening record has a token that is no exclusive interpretation.
-    #[error("P1")]
     P1,
     /// There are more or fewer tokens than spines.
-    #[error("P2")]
     P2,
     /// A `*v` stands without a `*v` beside it.
-    #[error("P3")]
     P3,
     /// One `*x` stands alone, or there are more than two.
-    #[error("P4")]
     P4,
     /// Neighbouring `*v` stand under different exclusive interpretations.
-    #[error("P5")]
     P5,
     /// An added spine has no exclusive interpretation in the record behind it.
-    #[error("P6")]
     P6,
     /// A record stands behind the end of the last spine.
-    #[error("P7")]
     P7,
     /// The input ends while a spine is open.
-    #[error("P8")]
     P8,
     /// More than 4,096 spines would be open.
-    #[error("P9")]
     P9,
     /// The token `**` stands alone.
-    #[error("P10")]
     P10,
     /// An exclusive interpretation and a path indicator stand in one record.
-    #[error("P11")]
     P11,
     /// There was no memory.
-    #[error("out of memory")]
     Memory,
 }
+
+impl PathFault {
+    /// Its code, as it is printed.
+    fn code(self) -> &'static str {
+        match self {
+            PathFault::P1 => "P1",
+            PathFault::P2 => "P2",
+            PathFault::P3 => "P3",
+            PathFault::P4 => "P4",
+            PathFault::P5 => "P5",
+            PathFault::P6 => "P6",
+            PathFault::P7 => "P7",
+            PathFault::P8 => "P8",
+            PathFault::P9 => "P9",
+            PathFault::P10 => "P10",
+            PathFault::P11 => "P11",
+            PathFault::Memory => "out of memory",
+        }
+    }
+}
+
+impl fmt::Display for PathFault {
+    fn fmt<W: fmt::Write>(&self, f: &mut fmt::Formatter<W>) -> fmt::Result {
+        f.write_str(self.code())
+    }
+}
+
+impl Error for PathFault {}
 
 impl From<AllocError> for PathFault {
     ghost from_gives = { λ _ e. e ≡ Memory };

@@ -1,5 +1,5 @@
 //! What a token asks of the spines.
-ghost use Rattle.std.specs.Prelude.{◌≡◌, not};
+ghost use Rattle.std.specs.Prelude.{◌≡◌, ◌∷◌, [], not};
 ghost use Rattle.std.specs.List.{list_all};
 ghost use Rattle.hum_record.specs.Row.{tokens_of};
 ghost use Rattle.hum_path.specs.Sign.{sign_of, is_join, is_exchange, is_exclusive, is_plain};
@@ -64,24 +64,28 @@ impl Sign {
     }
 }
 
+fn letter_sign(letter: u8) -> Sign
+    ensures { result ≡ sign_of (42 ∷ letter ∷ []) }
+{
+    match letter {
+        b'^' => Sign::Split,
+        b'v' => Sign::Join,
+        b'x' => Sign::Exchange,
+        b'+' => Sign::Add,
+        b'-' => Sign::End,
+        b'*' => Sign::Exclusive,
+        _ => Sign::Plain,
+    }
+}
+
 /// What a token of an interpretation asks.
 pub fn token_sign(token: &[u8]) -> Sign
     ensures { result ≡ sign_of token.now }
 {
-    if token.starts_with(b"**") {
-        Sign::Exclusive
-    } else if token == b"*^".as_slice() {
-        Sign::Split
-    } else if token == b"*v".as_slice() {
-        Sign::Join
-    } else if token == b"*x".as_slice() {
-        Sign::Exchange
-    } else if token == b"*+".as_slice() {
-        Sign::Add
-    } else if token == b"*-".as_slice() {
-        Sign::End
-    } else {
-        Sign::Plain
+    match token {
+        [b'*', b'*', ..] => Sign::Exclusive,
+        [b'*', letter] => letter_sign(*letter),
+        _ => Sign::Plain,
     }
 }
 

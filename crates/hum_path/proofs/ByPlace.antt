@@ -1,0 +1,44 @@
+-- What a loop over places goes by: what is told of a list from a place on, at the place and behind it.
+use Rattle.std.proofs.Common.{◌≡◌, ◌∙◌, ◌+◌, ◌<◌, ◌≤◌, ◌||◌, if◌then◌else◌, ℕ, Bool, false, List, ◌∷◌}
+use Rattle.std.proofs.Common.{length, drop, get_or, refl, sym, ap, arith}
+use Rattle.std.specs.declared.vec.Vec.{Vec}
+use Rattle.std.specs.declared.alloc.Global.{Global}
+use Rattle.std.specs.List.{list_any}
+use Rattle.std.proofs.lemmas.List.{at_drop_more, drop_all}
+use Rattle.hum_record.specs.Spelling.{is_empty}
+use Rattle.hum_path.specs.declared.signs.Sign.{Sign}
+use Rattle.hum_path.specs.Sign.{is_exchange}
+use Rattle.hum_path.specs.Spines.{texts, exchanges}
+use Rattle.hum_path.specs.Rules.{stays_unnamed, has_unnamed}
+
+-- the first of the places left, and those behind it
+pub nameless_at : (names : List (Vec ℕ Global)) (j : ℕ) (name : Vec ℕ Global) {b : Bool}
+    → j < length names → name ≡ get_or names j name → is_empty name.items ≡ b
+    → list_any is_empty (texts (drop j names)) ≡ (b || list_any is_empty (texts (drop (j + 1) names)))
+nameless_at names j name within is test =
+    let rest = list_any is_empty (texts (drop (j + 1) names)) in
+    at_drop_more (λ vs. list_any is_empty (texts vs)) names j name within
+    ∙ ap (λ (v : Vec ℕ Global). is_empty v.items || rest) (sym is)
+    ∙ ap (λ t. t || rest) test
+
+pub unnamed_at : (names : List (Vec ℕ Global)) (signs : List Sign) (j : ℕ) (name : Vec ℕ Global) (d : Sign) {b : Bool}
+    → length names ≡ length signs → j < length signs → name ≡ get_or names j name → stays_unnamed name.items (get_or signs j d) ≡ b
+    → has_unnamed (texts (drop j names)) (drop j signs) ≡ (b || has_unnamed (texts (drop (j + 1) names)) (drop (j + 1) signs))
+unnamed_at names signs j name d same within is test =
+    let rest = has_unnamed (texts (drop (j + 1) names)) (drop (j + 1) signs) in
+    at_drop_more (λ vs. has_unnamed (texts vs) (drop j signs)) names j name (omega (arith, same, within))
+    ∙ at_drop_more (λ ss. has_unnamed (texts (get_or names j name ∷ drop (j + 1) names)) ss) signs j d within
+    ∙ ap (λ (v : Vec ℕ Global). stays_unnamed v.items (get_or signs j d) || rest) (sym is)
+    ∙ ap (λ t. t || rest) test
+
+pub none_unnamed : (names : List (Vec ℕ Global)) (signs : List Sign) (j : ℕ) → length names ≡ length signs → length signs ≤ j
+    → has_unnamed (texts (drop j names)) (drop j signs) ≡ false
+none_unnamed names signs j same past = rw (drop_all j names (omega (arith, same, past))) refl
+
+-- an exchanged spine's place is listed
+pub exchanges_at : (signs : List Sign) (j : ℕ) (d : Sign) {b : Bool} → j < length signs → is_exchange (get_or signs j d) ≡ b
+    → exchanges j (drop j signs)
+    ≡ (if b then j ∷ exchanges (j + 1) (drop (j + 1) signs) else exchanges (j + 1) (drop (j + 1) signs))
+exchanges_at signs j d within test =
+    let rest = exchanges (j + 1) (drop (j + 1) signs) in
+    at_drop_more (exchanges j) signs j d within ∙ ap (λ t. if t then j ∷ rest else rest) test
