@@ -146,8 +146,11 @@ impl<T: Retells> Decides for Cells<T> {
         _room: u64,
         out: &mut UpToTwo,
     ) -> Result<Option<Rule>, AllocError> {
-        let found = self.paths.follow(&next)?;
-        self.teller.follow(&next, &found)?;
+        {
+            // what moved is gone again where more may fail
+            let found = self.paths.follow(&next)?;
+            self.teller.follow(&next, &found)?;
+        }
         let told = tell(
             self.alloc,
             &mut self.teller,
