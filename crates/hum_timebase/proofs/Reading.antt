@@ -4,7 +4,7 @@ use Rattle.std.proofs.Common.{refl, sym, ap, arith, add-one, append_assoc, appen
 use Rattle.std.specs.Prelude.{◌&&◌, ◌||◌, not, is_some, if◌then◌else◌}
 use Rattle.std.specs.List.{list_any, list_all}
 use Rattle.std.proofs.lemmas.Bool.{or_parts}
-use Rattle.std.proofs.lemmas.List.{drop_all}
+use Rattle.std.proofs.lemmas.List.{drop_all, at_drop_more}
 use Rattle.hum_record.specs.Contents.{is_null, is_barline}
 use Rattle.hum_kern.specs.declared.KernFault.{KernFault}
 use Rattle.hum_timebase.specs.Notes.{is_timed, own_name, own_names, is_sounding, note_of, notes_of, is_misread, has_misread}
@@ -158,3 +158,8 @@ sounds_noted timed tokens notes None has read none is some =
     let free = no_notes timed tokens silent in
     let noted = is (notes_of timed tokens) read.1 in
     cc)
+
+-- the first of the tokens left, and those behind it
+pub any_at : (f : List ℕ → Bool) (tokens : List (List ℕ)) (j : ℕ) {b : Bool} → j < length tokens → f (get_or tokens j []) ≡ b
+    → list_any f (drop j tokens) ≡ (b || list_any f (drop (j + 1) tokens))
+any_at f tokens j within test = at_drop_more (list_any f) tokens j [] within ∙ ap (λ t. t || list_any f (drop (j + 1) tokens)) test
