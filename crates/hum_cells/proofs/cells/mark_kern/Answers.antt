@@ -1,7 +1,6 @@
 use Rattle.std.proofs.Common.{[], sym, arith, take_all}
 use Rattle.std.proofs.lemmas.List.{map_more}
 use Rattle.hum_path.specs.Spines.{exclusives}
-use Rattle.std.proofs.lemmas.Result.{err_from_is_err_and}
 use Rattle.hum_cells.specs.Retelling.{is_kern}
 use Rattle.hum_cells.proofs.cells.mark_kern.Goals as goal
 
@@ -17,6 +16,3 @@ returns c =
     let width = c.width-j-end.ensures.width in
     let past = c.loop-j-test.false in
     rw (take_all c.loop-j.j (exclusives c.args.paths.now.path) (omega (arith, width, past))) at c.loop-j.invariant
-
-pub returns-in_err-push : goal.returns-in_err-push
-returns-in_err-push c = let p = err_from_is_err_and c.from_residual.result c.from_residual.ensures.1 in rw p.1 tt

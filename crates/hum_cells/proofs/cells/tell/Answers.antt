@@ -8,9 +8,3 @@ returns-else-any_told g c = λ retelling past h kern sound. (
   same_data retelling past c.args.row.now (sym c.in-Values.ensures.kind) c.in-Values.ensures.at_most
       (rw kern at (sym c.any_told.ensures ∙ c.if-any_told.false)),
 )
-
-pub returns-then-any_told : goal.returns-then-any_told
-returns-then-any_told g c = c.tell_tokens.ensures
-
-pub returns-in-Interpretation : goal.returns-in-Interpretation
-returns-in-Interpretation g c = c.tell_heading.ensures

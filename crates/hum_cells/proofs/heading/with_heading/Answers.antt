@@ -1,7 +1,6 @@
 use Rattle.std.proofs.Common.{◌∙◌, [], arith, take_all}
 use Rattle.std.proofs.lemmas.List.{map_more}
 use Rattle.hum_record.specs.Row.{tokens_of}
-use Rattle.std.proofs.lemmas.Result.{err_from_is_err_and}
 use Rattle.hum_cells.specs.Retelling.{headed}
 use Rattle.hum_cells.specs.Telling.{shown}
 use Rattle.hum_cells.proofs.Headings.{headed_lawful, token_of_sign}
@@ -28,9 +27,3 @@ returns c =
     let width = c.width-j-end.ensures in
     let past = c.loop-j-test.false in
     c.finish.ensures _ _ (rw (take_all c.loop-j.j (tokens_of c.args.row.now) (omega (arith, width, past))) at c.loop-j.invariant.holds)
-
-pub returns-in_err-push : goal.returns-in_err-push
-returns-in_err-push c = let p = err_from_is_err_and c.from_residual.result c.from_residual.ensures.1 in rw p.1 tt
-
-pub loop-j-init : goal.loop-j-init
-loop-j-init c = record { kind = c.new-making.ensures.of_kind; holds = c.new-making.ensures }

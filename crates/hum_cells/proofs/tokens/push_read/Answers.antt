@@ -1,5 +1,4 @@
 use Rattle.std.proofs.Common.{◌∙◌, sym}
-use Rattle.std.proofs.lemmas.Result.{err_from_is_err_and}
 use Rattle.hum_cells.proofs.Telling.{stays, changes}
 use Rattle.hum_cells.proofs.tokens.push_read.Goals as goal
 
@@ -36,18 +35,3 @@ returns-in-Some-clause-pushed g c = λ retelling past above h cell.
       told.0,
       changes retelling.becomes c.args.kern above c.args.token.now (sym c.is_retold.ensures ∙ c.if-not-is_retold.false) ∙ told.1,
     )
-
-pub returns-in_err-push : goal.returns-in_err-push
-returns-in_err-push g c =
-    let p = err_from_is_err_and c.from_residual.result c.from_residual.ensures.1 in
-    record { pushed = rw p.1 tt; kind = rw p.1 tt }
-
-pub returns-in_err-rule : goal.returns-in_err-rule
-returns-in_err-rule g c =
-    let p = err_from_is_err_and c.from_residual-in_err-rule.result c.from_residual-in_err-rule.ensures.1 in
-    record { pushed = rw p.1 tt; kind = rw p.1 tt }
-
-pub returns-in_err-push-in-None : goal.returns-in_err-push-in-None
-returns-in_err-push-in-None g c =
-    let p = err_from_is_err_and c.from_residual-in_err-push-in-None.result c.from_residual-in_err-push-in-None.ensures.1 in
-    record { pushed = rw p.1 tt; kind = rw p.1 tt }

@@ -1,4 +1,3 @@
-use Rattle.std.proofs.lemmas.Result.{err_from_is_err_and}
 use Rattle.hum_cells.proofs.tokens.push_told.Goals as goal
 
 pub push-requires : goal.push-requires
@@ -11,8 +10,3 @@ returns-in-Some-clause-pushed g c = λ retelling past above h cell.
       h,
       (c.in-Some.told.now, told.0, λ tokens held. c.in_ok-push.ensures.pushed _ tokens held),
     )
-
-pub returns-in_err-push : goal.returns-in_err-push
-returns-in_err-push g c =
-    let p = err_from_is_err_and c.from_residual.result c.from_residual.ensures.1 in
-    record { pushed = rw p.1 tt; kind = rw p.1 tt }

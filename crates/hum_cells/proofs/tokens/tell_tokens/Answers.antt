@@ -1,7 +1,6 @@
 use Rattle.std.proofs.Common.{◌≡◌, ◌∙◌, ◌∷◌, refl, length, arith}
 use Rattle.hum_record.specs.Row.{tokens_of, width_of}
 use Rattle.hum_path.specs.Chains.{history}
-use Rattle.std.proofs.lemmas.Result.{err_from_is_err_and}
 use Rattle.hum_cells.proofs.Telling.{done_more, refused_at, done_all, as_wide, wider, last_cell, told_data, fits, too_long, none_done, token_of_data}
 use Rattle.hum_cells.proofs.tokens.tell_tokens.Goals as goal
 
@@ -101,6 +100,3 @@ returns-in-None g c = λ retelling past h kern sound.
       before.0,
       told_data retelling past c.args.row.now c.requires.kind ∙ rw (← kern, all) (too_long d.done made),
     )
-
-pub returns-in_err-refused : goal.returns-in_err-refused
-returns-in_err-refused g c = let p = err_from_is_err_and c.from_residual.result c.from_residual.ensures.1 in rw p.1 tt

@@ -1,5 +1,4 @@
 use Rattle.std.proofs.Common.{ap}
-use Rattle.std.proofs.lemmas.Result.{err_from_is_err_and}
 use Rattle.hum_ditto.proofs.Whole.{data_width}
 use Rattle.hum_ditto.proofs.Steps.{told, stays_given, gives_made, gives_same, refuses_long, follows_on}
 use Rattle.hum_ditto.proofs.RepeatsDecides.step.Goals as goal
@@ -39,17 +38,3 @@ pub returns-in-None : goal.returns-in-None
 returns-in-None c = λ decide past h sound.
     refuses_long _ _ _ decide past h c.args.next c.args._room
     (c.is_to_fill.ensures.kind c.if-not-is_to_fill.false) (rw c.in-None.is at c.in_ok-rebuilt.ensures)
-
-pub returns-in_err-found : goal.returns-in_err-found
-returns-in_err-found c = let p = err_from_is_err_and c.from_residual.result c.from_residual.ensures.1 in rw p.1 tt
-
-pub returns-in_err-follow : goal.returns-in_err-follow
-returns-in_err-follow c = let p = err_from_is_err_and c.from_residual-in_err-follow.result c.from_residual-in_err-follow.ensures.1 in rw p.1 tt
-
-pub returns-in_err-rebuilt : goal.returns-in_err-rebuilt
-returns-in_err-rebuilt c = let p = err_from_is_err_and c.from_residual-in_err-rebuilt.result c.from_residual-in_err-rebuilt.ensures.1 in rw p.1 tt
-
-pub returns-in_err-follow-in-Some : goal.returns-in_err-follow-in-Some
-returns-in_err-follow-in-Some c =
-    let p = err_from_is_err_and c.from_residual-in_err-follow-in-Some.result c.from_residual-in_err-follow-in-Some.ensures.1 in
-    rw p.1 tt

@@ -1,5 +1,4 @@
 use Rattle.std.proofs.Common.{◌∙◌, sym, refl, true, false}
-use Rattle.std.proofs.lemmas.Result.{err_from_is_err_and}
 use Rattle.hum_ditto.proofs.Tokens.{same_token, repeats, in_parentheses, pushes}
 use Rattle.hum_ditto.proofs.filling.push_filled.Goals as goal
 
@@ -45,8 +44,3 @@ returns-else-parentheses c = record {
       (sym c.if-parentheses.false ∙ c.parentheses.ensures))
       c.push-else-parentheses.ensures.pushed;
 }
-
-pub returns-in_err-parenthesize-in-Some : goal.returns-in_err-parenthesize-in-Some
-returns-in_err-parenthesize-in-Some c =
-    let p = err_from_is_err_and c.from_residual.result c.from_residual.ensures.1 in
-    record { pushed = rw p.1 tt; kind = c.requires.kind }

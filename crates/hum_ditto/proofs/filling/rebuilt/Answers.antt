@@ -1,7 +1,6 @@
 use Rattle.std.proofs.Common.{arith}
 use Rattle.hum_record.specs.Row.{tokens_of}
 use Rattle.hum_record.specs.declared.SpinedKind.TheVariants.{Values}
-use Rattle.std.proofs.lemmas.Result.{err_from_is_err_and}
 use Rattle.hum_ditto.proofs.Tokens.{some_filled, fill_more, fill_all}
 use Rattle.hum_ditto.proofs.filling.rebuilt.Goals as goal
 
@@ -35,6 +34,3 @@ returns c =
     let all = fill_all c.args.memory.now.options.parentheses c.args.memory.now.each (tokens_of c.args.row.now) c.loop-j.j
     (omega (arith, past, width)) c.requires.width in
     c.finish.ensures _ _ (rw all at c.loop-j.invariant.made)
-
-pub returns-in_err-push_filled : goal.returns-in_err-push_filled
-returns-in_err-push_filled c = let p = err_from_is_err_and c.from_residual.result c.from_residual.ensures.1 in rw p.1 tt

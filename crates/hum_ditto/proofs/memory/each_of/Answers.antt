@@ -1,6 +1,5 @@
 use Rattle.std.proofs.Common.{◌∙◌, sym, ap}
 use Rattle.hum_path.specs.Spines.{same_upto}
-use Rattle.std.proofs.lemmas.Result.{err_from_is_err_and}
 use Rattle.hum_ditto.proofs.Whole.{comes_same}
 use Rattle.hum_ditto.proofs.Passing.{each_alone}
 use Rattle.hum_ditto.proofs.memory.each_of.Goals as goal
@@ -16,11 +15,3 @@ returns-clause-each c =
     each_alone c.args.skip.now c.follow.new.rule c.args.row.now c.args.next.now c.args.stays.now c.new-each.result.each c.follow.new.self.each
     c.follow-2.new.self.each c.requires.skips_none c.follow.ensures.kept (ap (λ m. m.each) c.new-each.ensures) c.requires.kind c.requires.next
     c.requires.lawful c.requires.width c.requires.stays c.in_ok-follow.ensures.memories c.in_ok-follow-2.ensures.memories
-
-pub returns-in_err-follow : goal.returns-in_err-follow
-returns-in_err-follow c = let p = err_from_is_err_and c.from_residual.result c.from_residual.ensures.1 in record { each = rw p.1 tt; kept = c.follow.ensures.kept }
-
-pub returns-in_err-follow-2 : goal.returns-in_err-follow-2
-returns-in_err-follow-2 c =
-    let p = err_from_is_err_and c.from_residual-in_err-follow-2.result c.from_residual-in_err-follow-2.ensures.1 in
-    record { each = rw p.1 tt; kept = c.follow-2.ensures.kept ∙ c.follow.ensures.kept }

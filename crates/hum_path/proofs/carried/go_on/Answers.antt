@@ -1,4 +1,3 @@
-use Rattle.std.proofs.lemmas.Result.{err_from_is_err_and}
 use Rattle.hum_path.proofs.Carry.{follows_on, sees_on, on_ok}
 use Rattle.hum_path.proofs.carried.go_on.Goals as goal
 
@@ -17,8 +16,3 @@ returns-clause-memories g c =
     sees_on (g.M.ColumnMemory.seen c.args.rule.now) g.M.ColumnMemory.beginning c.args.row.now past
     c.args.memories.now.items c.see_each.new.memories.items c.args.found.now
     c.requires (λ k. rw (len, size) at c.moves_some.ensures.no c.if-moves_some.false k) is h told) c.see_each.ensures.seen
-
-pub returns-in_err-memories : goal.returns-in_err-memories
-returns-in_err-memories g c =
-    let p = err_from_is_err_and c.from_residual.result c.from_residual.ensures.1 in
-    record { memories = rw p.1 tt; kept = c.next_all.ensures.kept }

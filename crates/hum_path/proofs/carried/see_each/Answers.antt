@@ -1,6 +1,5 @@
 use Rattle.std.proofs.Common.{◌∙◌, inl, inr, arith}
 use Rattle.hum_record.specs.Row.{tokens_of}
-use Rattle.std.proofs.lemmas.Result.{err_from_is_err_and}
 use Rattle.hum_path.proofs.Carry.{see_more, seen_all}
 use Rattle.hum_path.proofs.carried.see_each.Goals as goal
 
@@ -33,8 +32,3 @@ returns-clause-seen g c =
     let width = c.width-j-end.ensures in
     let past = c.loop-j-test.false in
     seen_all see (tokens_of c.args.row.now) c.loop-j.memories.items _ c.loop-j.j (inr (omega (arith, width, past))) c.loop-j.invariant.0
-
-pub returns-in_err-see_token : goal.returns-in_err-see_token
-returns-in_err-see_token g c =
-    let p = err_from_is_err_and c.from_residual.result c.from_residual.ensures.1 in
-    record { seen = rw p.1 tt; kept = c.see_token.ensures.kept ∙ c.loop-j.invariant.1 }

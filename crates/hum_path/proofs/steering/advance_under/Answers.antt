@@ -1,7 +1,6 @@
 use Rattle.std.proofs.Common.{◌≡◌, ◌∙◌, sym, length}
 use Rattle.std.proofs.lemmas.List.{length-map}
 use Rattle.hum_record.specs.Row.{tokens_of}
-use Rattle.std.proofs.lemmas.Result.{err_from_is_err_and}
 use Rattle.hum_path.specs.Spines.{texts}
 use Rattle.hum_path.proofs.Refused.{refused, stepped}
 use Rattle.hum_path.proofs.steering.advance_under.Goals as goal
@@ -19,6 +18,3 @@ returns c =
     let size : length names ≡ length c.args.names.now = length-map c.args.names.now (λ v. v.items) in
     stepped names (tokens_of c.args.row.now) c.spines_under.result (λ e. c.requires.some (sym size ∙ e)) (c.requires.wide ∙ sym size)
     (sym c.sign_fault.ensures ∙ c.in-None.is) c.spines_under.ensures
-
-pub returns-in_err-pair : goal.returns-in_err-pair
-returns-in_err-pair c = let p = err_from_is_err_and c.from_residual.result c.from_residual.ensures.1 in rw (p.1, p.2) tt

@@ -1,6 +1,5 @@
 use Rattle.std.proofs.Common.{◌∙◌, ◌++◌, [], ◌∷◌, sym, ap, append-nil, append_assoc, arith}
 use Rattle.std.proofs.lemmas.List.{at_drop_all}
-use Rattle.std.proofs.lemmas.Result.{err_from_is_err_and}
 use Rattle.hum_path.specs.Spines.{exchanges}
 use Rattle.hum_path.proofs.ByPlace.{exchanges_at}
 use Rattle.hum_path.proofs.steering.exchanges.Goals.{then-is_exchange+in_ok-push, else-is_exchange}
@@ -8,9 +7,6 @@ use Rattle.hum_path.proofs.steering.exchanges.Goals as goal
 
 pub overflow_cast-j : goal.overflow_cast-j
 overflow_cast-j c = omega (arith, c.requires, c.loop-j-test.true)
-
-pub returns-in_err-push : goal.returns-in_err-push
-returns-in_err-push c = let p = err_from_is_err_and c.from_residual.result c.from_residual.ensures.1 in rw p.1 tt
 
 pub loop-j-preserved : goal.loop-j-preserved
 loop-j-preserved c =

@@ -1,11 +1,7 @@
 use Rattle.std.proofs.Common.{◌∙◌}
-use Rattle.std.proofs.lemmas.Result.{err_from_is_err_and}
 use Rattle.hum_path.proofs.Steady.{same_more}
 use Rattle.hum_path.proofs.steering.same.Goals as goal
 
 pub loop-j-preserved : goal.loop-j-preserved
 loop-j-preserved c =
     rw c.in_ok-push.ensures.items (same_more c.loop-j.moves.items c.loop-j.j c.args.width c.loop-j-test.true ∙ c.loop-j.invariant)
-
-pub returns-in_err-push : goal.returns-in_err-push
-returns-in_err-push c = let p = err_from_is_err_and c.from_residual.result c.from_residual.ensures.1 in rw p.1 tt

@@ -1,4 +1,3 @@
-use Rattle.std.proofs.lemmas.Result.{err_from_is_err_and}
 use Rattle.hum_timebase.proofs.Around.{null_known, null_made}
 use Rattle.hum_timebase.proofs.Writing.{null_fits}
 use Rattle.hum_timebase.proofs.due.make_null.Goals as goal
@@ -12,8 +11,3 @@ null_record-requires-clause-fits c = null_fits c.args.row.now c.requires.lawful 
 
 pub returns-clause-nulls : goal.returns-clause-nulls
 returns-clause-nulls c = null_made c.args.row.now c.in_ok-made.made c.width-2.result c.in_ok-made.ensures c.width-2.ensures
-
-pub returns-in_err-made : goal.returns-in_err-made
-returns-in_err-made c =
-    let p = err_from_is_err_and c.from_residual.result c.from_residual.ensures.1 in
-    record { made = rw p.1 tt; nulls = c.requires.nulls }

@@ -1,6 +1,5 @@
 use Rattle.std.proofs.Common.{◌∙◌, arith}
 use Rattle.hum_path.proofs.Carry.{map_more}
-use Rattle.std.proofs.lemmas.Result.{err_from_is_err_and}
 use Rattle.hum_timebase.specs.Kept.{end_by}
 use Rattle.hum_timebase.proofs.Lasts.{map_done}
 use Rattle.hum_timebase.proofs.ends.ends_by.Goals as goal
@@ -21,6 +20,3 @@ returns c =
     let end = c.len-i-end.ensures in
     map_done (λ move. end_by 0 move c.args.ends.now) c.loop-i.next.items _ c.args.found.now c.loop-i.i (omega (arith, over, end))
     c.loop-i.invariant
-
-pub returns-in_err-push : goal.returns-in_err-push
-returns-in_err-push c = let p = err_from_is_err_and c.from_residual.result c.from_residual.ensures.1 in rw p.1 tt

@@ -1,4 +1,4 @@
-use Rattle.std.proofs.Common.{◌-◌, sym, arith, length, length-take-le, append-nil, subst, Some, ◌++◌, ◌≡◌, ◌∷◌, []}
+use Rattle.std.proofs.Common.{append-nil, subst, Some, ◌++◌, ◌≡◌, ◌∷◌, []}
 use Rattle.hum_timebase.specs.Ends.{next_end}
 use Rattle.hum_timebase.proofs.Lasts.{passed_more, all_passed, least_more}
 use Rattle.hum_timebase.proofs.ends.least_end.Goals as goal
@@ -20,12 +20,3 @@ pub returns : goal.returns
 returns c behind known =
     let all = all_passed c.loop-left.left.now _ c.args.ends.now c.in_default.len_below c.loop-left.invariant.1 in
     subst (λ ends. next_end c.args.time (ends ++ behind) ≡ Some c.loop-left.least) all (c.loop-left.invariant.2 behind known)
-
-pub slice_bounds-front-length : goal.slice_bounds-front-length
-slice_bounds-front-length c = sym (length-take-le (length c.loop-left.left.now - 1) c.loop-left.left.now (omega arith))
-
-pub loop-left-smaller : goal.loop-left-smaller
-loop-left-smaller c =
-    let left = c.loop-left.left.now in
-    let front = length-take-le (length left - 1) left (omega arith) in
-    omega (arith, front, c.in-len1-up.len_at_least)

@@ -1,4 +1,4 @@
-use Rattle.std.proofs.Common.{◌-◌, sym, arith, length, length-take-le, append-nil, ◌∙◌, ap, refl, ◌∷◌, []}
+use Rattle.std.proofs.Common.{append-nil, ◌∙◌, sym, ap, refl, ◌∷◌, []}
 use Rattle.hum_timebase.specs.Ends.{next_end}
 use Rattle.hum_timebase.proofs.Lasts.{passed_more, all_passed, none_beyond, one_beyond}
 use Rattle.hum_timebase.proofs.ends.next_end.Goals as goal
@@ -28,12 +28,3 @@ pub returns : goal.returns
 returns c =
     sym c.loop-left.invariant.2
     ∙ ap (next_end c.args.time) (all_passed c.loop-left.left.now _ c.args.ends.now c.in_default.len_below c.loop-left.invariant.1)
-
-pub slice_bounds-front-length : goal.slice_bounds-front-length
-slice_bounds-front-length c = sym (length-take-le (length c.loop-left.left.now - 1) c.loop-left.left.now (omega arith))
-
-pub loop-left-smaller : goal.loop-left-smaller
-loop-left-smaller c =
-    let left = c.loop-left.left.now in
-    let front = length-take-le (length left - 1) left (omega arith) in
-    omega (arith, front, c.in-len1-up.len_at_least)

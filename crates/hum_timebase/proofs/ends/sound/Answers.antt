@@ -1,6 +1,5 @@
 use Rattle.std.proofs.Common.{◌≡◌, ◌∙◌, sym, ap, true, false}
 use Rattle.std.specs.List.{list_any}
-use Rattle.std.proofs.lemmas.Result.{err_from_is_err_and}
 use Rattle.hum_timebase.proofs.Placed.{long_of, long_placed, sounded, sounded_placed, sounded_more, short_more}
 use Rattle.hum_timebase.proofs.Placed.{some_here, none_left, all_sounded, on_err}
 use Rattle.hum_timebase.proofs.ends.sound.Goals as goal
@@ -35,9 +34,3 @@ returns-clause-fits c =
     none_left (long_of c.args.time) c.args.notes.now c.loop-note.note-index _ c.loop-note-test.false c.loop-note.invariant.long in
     λ columns is.
     sym (long_placed c.args.time columns 0) ∙ ap (list_any (long_of c.args.time)) (sym is) ∙ none
-
-pub returns-in_err-sound_at-clause-ends : goal.returns-in_err-sound_at-clause-ends
-returns-in_err-sound_at-clause-ends c = let p = err_from_is_err_and c.from_residual.result c.from_residual.ensures.1 in rw p.1 tt
-
-pub returns-in_err-sound_at-clause-fits : goal.returns-in_err-sound_at-clause-fits
-returns-in_err-sound_at-clause-fits c = let p = err_from_is_err_and c.from_residual.result c.from_residual.ensures.1 in rw p.1 tt

@@ -1,7 +1,6 @@
 use Rattle.std.proofs.Common.{refl}
 use Rattle.hum_record.specs.Row.{tokens_of}
 use Rattle.hum_stage.proofs.Moves.{over_room}
-use Rattle.std.proofs.lemmas.Result.{err_from_is_err_and}
 use Rattle.hum_timebase.specs.Timebase.{around}
 use Rattle.hum_timebase.proofs.Striking.{around_length, over_count}
 use Rattle.hum_timebase.proofs.grid.place.Goals as goal
@@ -16,6 +15,3 @@ returns-then-count-room c =
     (rw (around_length made.before made.after made.stays (tokens_of c.args.row), ← s)
     (over_count made.before made.after c.single.result c.args.room c.saturating_add.result
     c.saturating_add-count.result a b c.if-count-room.true))
-
-pub returns-in_err-put_among : goal.returns-in_err-put_among
-returns-in_err-put_among c = let p = err_from_is_err_and c.from_residual.result c.from_residual.ensures.1 in rw p.1 tt

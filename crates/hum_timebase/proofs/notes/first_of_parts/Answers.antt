@@ -71,19 +71,3 @@ pub returns-clause-read : goal.returns-clause-read
 returns-clause-read c =
     let none = none_parts c.loop-left.left.now c.in_default.len_below in
     sym c.loop-left.invariant.read ∙ ap some_refused none
-
-pub returns-in_err-found-clause-value : goal.returns-in_err-found-clause-value
-returns-in_err-found-clause-value c = let p = err_from_is_err_and c.from_residual.result c.from_residual.ensures.1 in rw p.1 tt
-
-pub returns-in_err-found-clause-read : goal.returns-in_err-found-clause-read
-returns-in_err-found-clause-read c = let p = err_from_is_err_and c.from_residual.result c.from_residual.ensures.1 in rw p.1 tt
-
-pub returns-in_err-value-clause-value : goal.returns-in_err-value-clause-value
-returns-in_err-value-clause-value c =
-    let p = err_from_is_err_and c.from_residual-in_err-value.result c.from_residual-in_err-value.ensures.1 in
-    rw p.1 tt
-
-pub returns-in_err-value-clause-read : goal.returns-in_err-value-clause-read
-returns-in_err-value-clause-read c =
-    let p = err_from_is_err_and c.from_residual-in_err-value.result c.from_residual-in_err-value.ensures.1 in
-    rw p.1 tt

@@ -1,5 +1,4 @@
 use Rattle.std.proofs.Common.{◌≡◌, ◌∙◌, sym, ap, [], ◌++◌, append-nil, get_or, false, None, Some, rules}
-use Rattle.std.proofs.lemmas.Result.{err_from_is_err_and}
 use Rattle.hum_record.specs.Row.{tokens_of}
 use Rattle.hum_timebase.specs.Notes.{notes_of, has_misread}
 use Rattle.hum_timebase.specs.Placed.{placed}
@@ -33,14 +32,6 @@ loop-token-preserved c =
     c.in-Some.token.now (Some c.in-Ok-Some.lasting)
     c.in-len1-up.len_at_least c.in-Some.ensures.steps (sym c.in-Ok-Some.field-0-is ∙ c.in-Ok-Some.ensures.value) c.in-Ok-Some.ensures.read
     c.in_ok-put_note-in-Ok-Some.ensures c.loop-token.invariant
-
-pub returns-in_err-put_note : goal.returns-in_err-put_note
-returns-in_err-put_note c = let p = err_from_is_err_and c.from_residual.result c.from_residual.ensures.1 in rw p.1 tt
-
-pub returns-in_err-put_note-in-Ok-Some : goal.returns-in_err-put_note-in-Ok-Some
-returns-in_err-put_note-in-Ok-Some c =
-    let failed = c.from_residual-in_err-put_note-in-Ok-Some in
-    let p = err_from_is_err_and failed.result failed.ensures.1 in rw p.1 tt
 
 pub returns-in-Err : goal.returns-in-Err
 returns-in-Err c =

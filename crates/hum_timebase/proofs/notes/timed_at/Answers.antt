@@ -1,7 +1,6 @@
 use Rattle.std.proofs.Common.{◌∙◌, arith}
 use Rattle.hum_record.specs.Row.{tokens_of}
 use Rattle.hum_path.specs.Spines.{exclusives}
-use Rattle.std.proofs.lemmas.Result.{err_from_is_err_and}
 use Rattle.hum_timebase.proofs.Reading.{names_done, timed_more}
 use Rattle.hum_timebase.proofs.notes.timed_at.Goals as goal
 
@@ -21,6 +20,3 @@ returns c =
     let over = c.loop-j-test.false in
     let width = c.width-j-end.ensures in
     c.new.ensures ∙ names_done names tokens c.loop-j.timed.items _ c.loop-j.j (omega (arith, over, width)) c.loop-j.invariant
-
-pub returns-in_err-push : goal.returns-in_err-push
-returns-in_err-push c = let p = err_from_is_err_and c.from_residual.result c.from_residual.ensures.1 in rw p.1 tt

@@ -1,6 +1,5 @@
 use Rattle.std.proofs.Common.{arith, []}
 use Rattle.hum_path.specs.Spines.{exclusives}
-use Rattle.std.proofs.lemmas.Result.{err_from_is_err_and}
 use Rattle.hum_timebase.specs.Notes.{is_timed}
 use Rattle.hum_timebase.proofs.Lasts.{map_next}
 use Rattle.hum_timebase.proofs.notes.timed_in.Goals as goal
@@ -11,6 +10,3 @@ loop-j-preserved c =
     let end = c.width-j-end.ensures.width in
     rw c.in_ok-push.ensures.items (map_next is_timed c.loop-j.timed.items _ (exclusives c.args.paths.now.path) c.loop-j.j
     c.exclusive.result.now [] c.is_timed.result (omega (arith, test, end)) c.exclusive.ensures c.is_timed.ensures c.loop-j.invariant)
-
-pub returns-in_err-push : goal.returns-in_err-push
-returns-in_err-push c = let p = err_from_is_err_and c.from_residual.result c.from_residual.ensures.1 in rw p.1 tt

@@ -1,7 +1,6 @@
 use Rattle.std.proofs.Common.{refl, arith}
 use lib.Chars.{codes}
 use Rattle.hum_record.specs.Row.{tokens_of}
-use Rattle.std.proofs.lemmas.Result.{err_from_is_err_and}
 use Rattle.hum_timebase.proofs.Writing.{one_more, front_fits, has_made}
 use Rattle.hum_timebase.proofs.records.null_record.Goals as goal
 
@@ -33,6 +32,3 @@ finish-requires-clause-filled c =
     let width = c.width-j-end.ensures in
     has_made (λ _. codes ".") (tokens_of c.args.row.now) c.loop-j.builder.tokens c.loop-j.j c.requires.tokens
     (omega (arith, past, width)) c.loop-j.invariant.made
-
-pub returns-in_err-push_null : goal.returns-in_err-push_null
-returns-in_err-push_null c = let p = err_from_is_err_and c.from_residual.result c.from_residual.ensures.1 in rw p.1 tt

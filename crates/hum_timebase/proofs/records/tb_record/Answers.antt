@@ -1,6 +1,5 @@
 use Rattle.std.proofs.Common.{◌∙◌, arith}
 use Rattle.hum_record.specs.Row.{tokens_of}
-use Rattle.std.proofs.lemmas.Result.{err_from_is_err_and}
 use Rattle.hum_timebase.specs.Timebase.{tb_token}
 use Rattle.hum_timebase.proofs.Writing.{one_more, front_fits, has_made, some_named, named_token, tb_short}
 use Rattle.hum_timebase.proofs.records.tb_record.Goals as goal
@@ -39,11 +38,3 @@ finish-requires-clause-filled c =
     has_made (tb_token c.args.pace.now.text) (tokens_of c.args.row.now) c.loop-j.builder.tokens c.loop-j.j
     (some_named (tokens_of c.args.row.now) c.requires.named) (omega (arith, past, width))
     c.loop-j.invariant.made
-
-pub returns-in_err-named : goal.returns-in_err-named
-returns-in_err-named c = let p = err_from_is_err_and c.from_residual.result c.from_residual.ensures.1 in rw p.1 tt
-
-pub returns-in_err-push_token : goal.returns-in_err-push_token
-returns-in_err-push_token c =
-    let p = err_from_is_err_and c.from_residual-in_err-push_token.result c.from_residual-in_err-push_token.ensures.1 in
-    rw p.1 tt

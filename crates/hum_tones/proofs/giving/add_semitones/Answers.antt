@@ -2,7 +2,6 @@ use Rattle.std.proofs.Common.{◌∙◌, sym, ap}
 use Rattle.std.specs.Prelude.{option_map}
 use Rattle.hum_kern.specs.Given.{spelled}
 use Rattle.hum_kern.specs.Note.{reading}
-use Rattle.std.proofs.lemmas.Result.{err_from_is_err_and}
 use Rattle.hum_tones.proofs.Numbers.{adds_semitones, as_passed}
 use Rattle.hum_tones.proofs.giving.add_semitones.Goals as goal
 
@@ -12,11 +11,3 @@ returns-in_ok-push_number-in-Some c =
     c.in-Ok.ensures.read c.if-note.false (ap (option_map spelled) c.in-Some.is) (sym c.is_left_out.ensures ∙ c.if-is_left_out.false)
     (rw (as_passed _ _ c.semits.ensures.in_range c.semits.ensures.exact) at
     c.in_ok-push_number-in-Some.ensures)
-
-pub returns-in_err-extend_from_slice : goal.returns-in_err-extend_from_slice
-returns-in_err-extend_from_slice c = let p = err_from_is_err_and c.from_residual.result c.from_residual.ensures.1 in rw p.1 tt
-
-pub returns-in_err-push_number-in-Some : goal.returns-in_err-push_number-in-Some
-returns-in_err-push_number-in-Some c =
-    let p = err_from_is_err_and c.from_residual-in_err-push_number-in-Some.result c.from_residual-in_err-push_number-in-Some.ensures.1 in
-    rw p.1 tt

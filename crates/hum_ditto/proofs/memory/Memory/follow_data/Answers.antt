@@ -1,6 +1,5 @@
-use Rattle.std.proofs.Common.{refl, ap}
+use Rattle.std.proofs.Common.{refl}
 use Rattle.hum_path.proofs.Carry.{on_ok}
-use Rattle.std.proofs.lemmas.Result.{err_from_is_err_and}
 use Rattle.hum_ditto.proofs.Passing.{begins_whole, begins_followed, goes_on_whole, goes_on_followed, each_followed}
 use Rattle.hum_ditto.proofs.memory.Memory.follow_data.Goals as goal
 
@@ -34,8 +33,3 @@ returns-clause-memories c =
     on_ok c.follow.result (λ on.
     each_followed c.args.self.now c.self.inside.options c.self.inside.holding c.in-Each.each.each c.follow.new.self.each c.args.row.now c.args.found
     c.self.view_is (rw c.in-Each.is refl) on) c.follow.ensures.memories
-
-pub returns-in_err-copy-in-Each : goal.returns-in_err-copy-in-Each
-returns-in_err-copy-in-Each c =
-    let p = err_from_is_err_and c.from_residual.result c.from_residual.ensures.1 in
-    record { options = ap (λ m. m.options) c.self.view_is; memories = rw p.1 tt }

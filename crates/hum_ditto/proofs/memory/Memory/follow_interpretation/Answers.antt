@@ -1,6 +1,5 @@
-use Rattle.std.proofs.Common.{◌∙◌, refl, ap}
+use Rattle.std.proofs.Common.{refl}
 use Rattle.hum_path.proofs.Carry.{on_ok}
-use Rattle.std.proofs.lemmas.Result.{err_from_is_err_and}
 use Rattle.hum_ditto.proofs.Passing.{stays_followed, steers_width, steers_followed, each_followed}
 use Rattle.hum_ditto.proofs.memory.Memory.follow_interpretation.Goals as goal
 
@@ -26,15 +25,3 @@ returns-clause-memories c =
     on_ok c.follow-in-Each.result (λ on.
     each_followed c.args.self.now c.self.inside.options c.self.inside.holding c.in-Each.each.each c.follow-in-Each.new.self.each c.args.row.now
     c.args.found c.self.view_is (rw c.in-Each.is refl) on) c.follow-in-Each.ensures.memories
-
-pub returns-in_err-each-in-Given : goal.returns-in_err-each-in-Given
-returns-in_err-each-in-Given c =
-    let p = err_from_is_err_and c.from_residual.result c.from_residual.ensures.1 in
-    let same = ap (λ s. record { skip = s; parentheses = c.self.inside.options.parentheses }) c.each_of.ensures.kept in
-    record { options = same ∙ ap (λ m. m.options) c.self.view_is; memories = rw p.1 tt }
-
-pub returns-in_err-follow-in-Given : goal.returns-in_err-follow-in-Given
-returns-in_err-follow-in-Given c =
-    let p = err_from_is_err_and c.from_residual-in_err-follow-in-Given.result c.from_residual-in_err-follow-in-Given.ensures.1 in
-    let same = ap (λ s. record { skip = s; parentheses = c.self.inside.options.parentheses }) (c.follow.ensures.kept ∙ c.each_of.ensures.kept) in
-    record { options = same ∙ ap (λ m. m.options) c.self.view_is; memories = rw p.1 tt }

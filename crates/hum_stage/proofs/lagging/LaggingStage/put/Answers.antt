@@ -1,5 +1,4 @@
-use Rattle.std.proofs.Common.{refl, ◌∙◌, sym}
-use Rattle.std.proofs.lemmas.Result.{err_from_is_err_and}
+use Rattle.std.proofs.Common.{◌∙◌, sym}
 use Rattle.hum_stage.proofs.Moves.{no_fault}
 use Rattle.hum_stage.proofs.Lags.{may_wait, lags_dropped, put_empty, lags_put, lags_put_refused}
 use Rattle.hum_stage.proofs.lagging.LaggingStage.put.Goals as goal
@@ -26,13 +25,3 @@ returns-in-Err-clause-ok g c t h going score = rw c.refuse.ensures.fault
     (put_empty _ _ _ _ _ c.args.next c.if-self.false c.requires)
     (no_fault _ (sym c.is_some.ensures ∙ c.if-is_some.false)) c.in_ok-put.ensures
     (rw c.in-Err.is at c.in_ok-next.ensures.settles))
-
-pub returns-in_err-put : goal.returns-in_err-put
-returns-in_err-put g c =
-    let p = err_from_is_err_and c.from_residual.result c.from_residual.ensures.1 in
-    record { ok = rw p.1 tt; err = rw p.1 refl; stays_spent = λ spent. c.from_residual.ensures.0 }
-
-pub returns-in_err-next : goal.returns-in_err-next
-returns-in_err-next g c =
-    let p = err_from_is_err_and c.from_residual-in_err-next.result c.from_residual-in_err-next.ensures.1 in
-    record { ok = rw p.1 tt; err = rw p.1 refl; stays_spent = λ spent. c.from_residual-in_err-next.ensures.0 }

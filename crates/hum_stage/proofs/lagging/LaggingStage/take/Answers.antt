@@ -1,5 +1,4 @@
-use Rattle.std.proofs.Common.{refl, ◌∙◌, sym}
-use Rattle.std.proofs.lemmas.Result.{err_from_is_err_and}
+use Rattle.std.proofs.Common.{◌∙◌, sym}
 use Rattle.hum_stage.proofs.Lags.{lags_none, lags_take, lags_take_refused}
 use Rattle.hum_stage.proofs.lagging.LaggingStage.take.Goals as goal
 use Rattle.hum_stage.proofs.lagging.LaggingStage.take.Goals.{in-Ok+in-Some-1, in-Ok+in-None-1, in-Err}
@@ -21,8 +20,3 @@ returns-clause-ok g c t h =
           (lags_take_refused 65536 _ _ _ _ _ _ t _ _ w.in-Err.rule h due
           (rw w.in-Err.is at c.in_ok-next.ensures.settles))
     ]
-
-pub returns-in_err-next : goal.returns-in_err-next
-returns-in_err-next g c =
-    let p = err_from_is_err_and c.from_residual.result c.from_residual.ensures.1 in
-    record { ok = rw p.1 tt; fewer = rw p.1 tt; err = rw p.1 refl; stays_spent = λ spent. c.from_residual.ensures.0 }

@@ -1,4 +1,3 @@
-use Rattle.std.proofs.lemmas.Result.{err_from_is_err_and}
 use Rattle.hum_timebase.proofs.Around.{due_among}
 use Rattle.hum_timebase.proofs.due.Around.put_among.Goals as goal
 
@@ -6,6 +5,3 @@ pub returns : goal.returns
 returns c = rw c.kept_if.ensures
     (due_among c.args.before c.args.after c.args.stays c.args.row c.make_null.new.other c.requires.kind
     (λ some. c.in_ok-make_null.ensures.made (c.are_some.ensures some)))
-
-pub returns-in_err-make_null : goal.returns-in_err-make_null
-returns-in_err-make_null c = let p = err_from_is_err_and c.from_residual.result c.from_residual.ensures.1 in rw p.1 tt

@@ -1,5 +1,4 @@
 use Rattle.std.proofs.Common.{◌∙◌, sym}
-use Rattle.std.proofs.lemmas.Result.{err_from_is_err_and}
 use Rattle.hum_timebase.proofs.Striking.{names_none, names_fits}
 use Rattle.hum_timebase.proofs.Writing.{few_tokens}
 use Rattle.hum_timebase.proofs.grid.Grid.interpret.Goals as goal
@@ -19,9 +18,3 @@ returns c = λ room decide past h sound. (
       (sym c.names_some.ensures ∙ c.if-not-names_some.false) (rw c.in_ok-follow.ensures.pace at c.in_ok-other.ensures)),
   c.in_ok-follow.ensures.spines decide past h,
 )
-
-pub returns-in_err-follow : goal.returns-in_err-follow
-returns-in_err-follow c = let p = err_from_is_err_and c.from_residual.result c.from_residual.ensures.1 in rw p.1 tt
-
-pub returns-in_err-other : goal.returns-in_err-other
-returns-in_err-other c = let p = err_from_is_err_and c.from_residual-in_err-other.result c.from_residual-in_err-other.ensures.1 in rw p.1 tt

@@ -1,5 +1,4 @@
 use Rattle.std.proofs.Common.{◌∙◌, sym, ap}
-use Rattle.std.proofs.lemmas.Result.{err_from_is_err_and}
 use Rattle.hum_timebase.proofs.Striking.{goes_nulls, goes_barlines, sounds_on}
 use Rattle.hum_timebase.proofs.grid.Grid.value.Goals as goal
 
@@ -25,11 +24,3 @@ returns-in_ok-refused-in-Sounds c = λ decide past h sound.
 
 pub content_by-requires : goal.content_by-requires
 content_by-requires c = (c.each.result.now, rw c.deref.ensures.value c.in_ok-misread.ensures)
-
-pub returns-in_err-misread : goal.returns-in_err-misread
-returns-in_err-misread c = let p = err_from_is_err_and c.from_residual.result c.from_residual.ensures.1 in rw p.1 tt
-
-pub returns-in_err-refused-in-Sounds : goal.returns-in_err-refused-in-Sounds
-returns-in_err-refused-in-Sounds c =
-    let p = err_from_is_err_and c.from_residual-in_err-refused-in-Sounds.result c.from_residual-in_err-refused-in-Sounds.ensures.1 in
-    rw p.1 tt

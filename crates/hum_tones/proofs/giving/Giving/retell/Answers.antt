@@ -2,7 +2,6 @@ use Rattle.std.proofs.Common.{rules, ◌≡◌, ◌∙◌, refl, ◌==◌, lengt
 use Rattle.std.proofs.lemmas.Iterator.Splits.{YieldsList-from_slice_split}
 use Rattle.std.proofs.lemmas.Iterator.Consumers.{YieldsList-turn, YieldsList-end}
 use Rattle.std.proofs.lemmas.List.{length_push, nil_from_length}
-use Rattle.std.proofs.lemmas.Result.{err_from_is_err_and}
 use Rattle.hum_tones.specs.Subtokens.{subtokens}
 use Rattle.hum_tones.specs.Giving.{gives}
 use Rattle.hum_tones.proofs.SoFar.{nothing_yet, one_more, refused, none_given, some_given}
@@ -60,11 +59,3 @@ returns-in-Some-pop c =
     c.loop-part.text.items c.loop-part.invariant (omega (arith, t.1)) c.pop.new.self.items _
     (rw c.in-Some-pop.is at c.pop.ensures.items) in
     rw given (refl, given_lawful c.args.self c.args.token.now c.pop.new.self.items given c.requires.lawful)
-
-pub returns-in_err-rule : goal.returns-in_err-rule
-returns-in_err-rule c = let p = err_from_is_err_and c.from_residual.result c.from_residual.ensures.1 in rw p.1 tt
-
-pub returns-in_err-push-in-None-pop : goal.returns-in_err-push-in-None-pop
-returns-in_err-push-in-None-pop c =
-    let p = err_from_is_err_and c.from_residual-in_err-push-in-None-pop.result c.from_residual-in_err-push-in-None-pop.ensures.1 in
-    rw p.1 tt

@@ -2,7 +2,6 @@ use Rattle.std.proofs.Common.{◌≡◌, ◌∙◌, refl, ap, List, ℕ, ◌++�
 use Rattle.std.specs.Prelude.{option_map}
 use Rattle.hum_kern.specs.Pitch.{Spelled}
 use Rattle.hum_kern.specs.Given.{spelled}
-use Rattle.std.proofs.lemmas.Result.{err_from_is_err_and}
 use Rattle.hum_tones.specs.Mint.{approached}
 use Rattle.hum_tones.proofs.Heard.{told_anew}
 use Rattle.hum_tones.proofs.MintedLawful.{approached_lawful}
@@ -23,16 +22,3 @@ returns-in_ok-add_tone-in-Some c =
       written,
     )
     (refl, rw c.before-else-tone.ensures at lawful)
-
-pub returns-in_err-push-in-Some : goal.returns-in_err-push-in-Some
-returns-in_err-push-in-Some c = let p = err_from_is_err_and c.from_residual.result c.from_residual.ensures.1 in rw p.1 tt
-
-pub returns-in_err-add_tone-in-Some : goal.returns-in_err-add_tone-in-Some
-returns-in_err-add_tone-in-Some c =
-    let p = err_from_is_err_and c.from_residual-in_err-add_tone-in-Some.result c.from_residual-in_err-add_tone-in-Some.ensures.1 in
-    rw p.1 tt
-
-pub returns-in_err-push-in-None : goal.returns-in_err-push-in-None
-returns-in_err-push-in-None c =
-    let p = err_from_is_err_and c.from_residual-in_err-push-in-None.result c.from_residual-in_err-push-in-None.ensures.1 in
-    rw p.1 tt

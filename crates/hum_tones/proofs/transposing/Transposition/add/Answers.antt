@@ -2,7 +2,6 @@ use Rattle.std.proofs.Common.{refl, take, drop, ap, ◌∙◌, List, ℕ, ◌++�
 use lib.Chars.{codes}
 use Rattle.hum_kern.specs.Given.{spelled}
 use Rattle.hum_kern.specs.Spelling.{spelling}
-use Rattle.std.proofs.lemmas.Result.{err_from_is_err_and}
 use Rattle.hum_tones.proofs.Moving.{too_many_signs, too_far, put_there, in_order}
 use Rattle.hum_tones.proofs.transposing.Transposition.add.Goals as goal
 
@@ -26,31 +25,3 @@ returns-in_ok-push-in-Ok-there c =
     (c.in_ok-extend_from_slice-in-Ok-there-2.ensures.items
     ∙ ap (λ (l : List ℕ). c.push_pitch.new.text.items ++ l) c.split_at.ensures.back)
     c.in_ok-push-in-Ok-there.ensures.items)
-
-pub returns-in_err-extend_from_slice-in-None : goal.returns-in_err-extend_from_slice-in-None
-returns-in_err-extend_from_slice-in-None c = let p = err_from_is_err_and c.from_residual.result c.from_residual.ensures.1 in rw p.1 tt
-
-pub returns-in_err-push-in-None : goal.returns-in_err-push-in-None
-returns-in_err-push-in-None c =
-    let p = err_from_is_err_and c.from_residual-in_err-push-in-None.result c.from_residual-in_err-push-in-None.ensures.1 in
-    rw p.1 tt
-
-pub returns-in_err-extend_from_slice-in-Ok-there : goal.returns-in_err-extend_from_slice-in-Ok-there
-returns-in_err-extend_from_slice-in-Ok-there c =
-    let p = err_from_is_err_and c.from_residual-in_err-extend_from_slice-in-Ok-there.result c.from_residual-in_err-extend_from_slice-in-Ok-there.ensures.1 in
-    rw p.1 tt
-
-pub returns-in_err-push_pitch-in-Ok-there : goal.returns-in_err-push_pitch-in-Ok-there
-returns-in_err-push_pitch-in-Ok-there c =
-    let p = err_from_is_err_and c.from_residual-in_err-push_pitch-in-Ok-there.result c.from_residual-in_err-push_pitch-in-Ok-there.ensures.1 in
-    rw p.1 tt
-
-pub returns-in_err-extend_from_slice-in-Ok-there-2 : goal.returns-in_err-extend_from_slice-in-Ok-there-2
-returns-in_err-extend_from_slice-in-Ok-there-2 c =
-    let p = err_from_is_err_and c.from_residual-in_err-extend_from_slice-in-Ok-there-2.result c.from_residual-in_err-extend_from_slice-in-Ok-there-2.ensures.1 in
-    rw p.1 tt
-
-pub returns-in_err-push-in-Ok-there : goal.returns-in_err-push-in-Ok-there
-returns-in_err-push-in-Ok-there c =
-    let p = err_from_is_err_and c.from_residual-in_err-push-in-Ok-there.result c.from_residual-in_err-push-in-Ok-there.ensures.1 in
-    rw p.1 tt

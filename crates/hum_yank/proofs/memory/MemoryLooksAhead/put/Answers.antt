@@ -1,5 +1,4 @@
 use Rattle.std.proofs.Common.{ap}
-use Rattle.std.proofs.lemmas.Result.{err_from_is_err_and}
 use Rattle.hum_yank.proofs.Going.{few, goes_on}
 use Rattle.hum_yank.proofs.memory.MemoryLooksAhead.put.Goals as goal
 
@@ -17,11 +16,3 @@ returns c = λ look past rows h score.
     rw c.step-number.ensures.kept (goes_on _ _ _ _ _ _ _ _ _ _ look past rows c.args.next h
     (ap (λ p. p.path) c.in_ok-_moves.ensures.after) c.step-number.ensures.after ends keeps
     c.in_ok-push_back.ensures.items)
-
-pub returns-in_err-_moves : goal.returns-in_err-_moves
-returns-in_err-_moves c = let p = err_from_is_err_and c.from_residual.result c.from_residual.ensures.1 in rw p.1 tt
-
-pub returns-in_err-push_back : goal.returns-in_err-push_back
-returns-in_err-push_back c =
-    let p = err_from_is_err_and c.from_residual-in_err-push_back.result c.from_residual-in_err-push_back.ensures.1 in
-    rw p.1 tt
