@@ -64,6 +64,7 @@ impl Sign {
     }
 }
 
+/// What `*` and this letter ask.
 fn letter_sign(letter: u8) -> Sign
     ensures { result ≡ sign_of (42 ∷ letter ∷ []) }
 {
