@@ -26,8 +26,7 @@ invariant_of-self c =
     let held = length-window b.bytes.items b.start b.end w.high in
     let fits : b.start + c.args.size ≤ b.end = omega (arith, is, held, c.requires.within, w.low, w.middle) in
     let most = c.max-self-inside.ensures in
-    let middle = w.middle in
-    (
+    let middle = w.middle in (
       IsWindow-moved _ b.start b.scanned _ _ _ w (omega arith) (omega (arith, most)) (omega (arith, most, fits, middle))
           (rw most (either_max b.scanned (b.start + c.args.size))),
       record { order = omega arith; before = let o = c.requires.order in omega (arith, fits, o) },

@@ -32,8 +32,7 @@ invariant_of-self c =
     let is = ap (λ h. length h.pending) c.self.view_is in
     let w = c.self.invariant.0 in
     let held = length-window b.bytes.items b.start b.end w.high in
-    let fits : b.start + c.args.k + 1 ≤ b.end = omega (arith, is, held, c.requires.within, w.low, w.middle) in
-    (
+    let fits : b.start + c.args.k + 1 ≤ b.end = omega (arith, is, held, c.requires.within, w.low, w.middle) in (
       IsWindow-moved _ b.start b.scanned _ _ _ w (omega arith) (omega arith) fits (inl refl),
       record { order = omega arith; before = let o = c.requires.order in omega (arith, fits, o) },
     )
