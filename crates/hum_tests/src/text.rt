@@ -192,6 +192,7 @@ fn a_failed_read_is_marked(rt: HostRuntime) {
         let fails = source.read(&mut buf).is_err();
         same(&rt, (fails, source.failed()), *row, "reads");
     }
+    same(&rt, buf[0], b'b', "the second read that is good");
 }
 
 #[test]
