@@ -146,11 +146,7 @@ impl<T: Retells> Decides for Cells<T> {
         _room: u64,
         out: &mut UpToTwo,
     ) -> Result<Option<Rule>, AllocError> {
-        {
-            // what moved is gone again where more may fail
-            let found = self.paths.follow(&next)?;
-            self.teller.follow(&next, &found)?;
-        }
+        self.teller.follow(&next, &self.paths.follow(&next)?)?;
         let told = tell(
             self.alloc,
             &mut self.teller,

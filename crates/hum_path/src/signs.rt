@@ -64,28 +64,17 @@ impl Sign {
     }
 }
 
-/// What `*` and this letter ask.
-fn letter_sign(letter: u8) -> Sign
-    ensures { result ≡ sign_of (42 ∷ letter ∷ []) }
-{
-    match letter {
-        b'^' => Sign::Split,
-        b'v' => Sign::Join,
-        b'x' => Sign::Exchange,
-        b'+' => Sign::Add,
-        b'-' => Sign::End,
-        b'*' => Sign::Exclusive,
-        _ => Sign::Plain,
-    }
-}
-
 /// What a token of an interpretation asks.
 pub fn token_sign(token: &[u8]) -> Sign
     ensures { result ≡ sign_of token.now }
 {
     match token {
         [b'*', b'*', ..] => Sign::Exclusive,
-        [b'*', letter] => letter_sign(*letter),
+        b"*^" => Sign::Split,
+        b"*v" => Sign::Join,
+        b"*x" => Sign::Exchange,
+        b"*+" => Sign::Add,
+        b"*-" => Sign::End,
         _ => Sign::Plain,
     }
 }

@@ -6,14 +6,14 @@ pub follow-requires : goal.follow-requires
 follow-requires g c = no_fault c.args.next c.requires.score
 
 pub follow-requires-2-clause-score : goal.follow-requires-2-clause-score
-follow-requires-2-clause-score g c = may_follow c.args.next _ c.in_ok-found.ensures.moves c.requires.score
+follow-requires-2-clause-score g c = may_follow c.args.next _ c.in_ok-follow.ensures.moves c.requires.score
 
 pub tell-requires : goal.tell-requires
 tell-requires g c = record {
-  score = may_tell _ _ c.args.next _ c.deref.ensures.value c.in_ok-found.ensures.moves c.in_ok-follow.ensures c.requires.score;
+  score = may_tell _ _ c.args.next _ c.deref.ensures.value c.in_ok-follow.ensures.moves c.in_ok-follow-2.ensures c.requires.score;
 }
 
 pub returns : goal.returns
 returns g c =
-    stepped _ (g.T.Retells.follows c.follow-2.new.self) _ c.args.next _ _ _ _ _ c.deref.ensures.value c.in_ok-found.ensures.moves (ap (λ p. p.path) c.in_ok-found.ensures.after)
-    c.in_ok-follow.ensures c.in_ok-told.ensures c.in_ok-mark_after.ensures c.put-refused.ensures
+    stepped _ (g.T.Retells.follows c.follow-2.new.self) _ c.args.next _ _ _ _ _ c.deref.ensures.value c.in_ok-follow.ensures.moves (ap (λ p. p.path) c.in_ok-follow.ensures.after)
+    c.in_ok-follow-2.ensures c.in_ok-told.ensures c.in_ok-mark_after.ensures c.put-refused.ensures
