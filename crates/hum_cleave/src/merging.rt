@@ -1,14 +1,12 @@
 //! Interpretations whose cleaved columns become one.
-ghost use Rattle.std.specs.Prelude.{◌≡◌, [], Bool, false, length, map, IfOk};
+ghost use Rattle.std.specs.Prelude.{◌≡◌, Bool, false, length, map, IfOk};
 ghost use Rattle.std.specs.List.{list_any};
-ghost use Rattle.hum_record.specs.Row.{Spined, tokens_of, width_of, text_of, chosen};
-ghost use Rattle.hum_record.specs.declared.SpinedKind.TheVariants.{Interpretation};
-ghost use Rattle.hum_record.specs.Spelling.{IsTextOf};
+ghost use Rattle.hum_record.specs.Row.{tokens_of, width_of, chosen};
 ghost use Rattle.hum_path.specs.Sign.{sign_of, is_exclusive};
 ghost use Rattle.hum_path.specs.declared.signs.Sign.{Sign};
 ghost use Rattle.hum_columns.specs.Spread.{piece};
 ghost use Rattle.hum_columns.specs.Chosen.{each_piece};
-ghost use Rattle.hum_columns.specs.Following.{AnswersInRoom};
+ghost use Rattle.hum_columns.specs.Following.{AnswersInRoom, IsPassed};
 ghost use Rattle.hum_cleave.specs.Columns.{together};
 ghost use Rattle.hum_cleave.specs.Cleave.{is_moved, is_end, ends_apart, is_entangled, merged};
 
@@ -117,10 +115,7 @@ pub fn merge(
     room: u64,
     out: &mut VecDeque<Record>,
 ) -> Result<Option<Rule>, AllocError>
-    requires kind { row.now ≡ Spined Interpretation (tokens_of row.now) }
-    requires lawful { IsTextOf row.now (text_of row.now) }
-    requires as_wide { length marks.now ≡ width_of row.now }
-    requires empty { out.old.items ≡ [] }
+    requires { IsPassed marks.now row.now out.old.items }
     ensures { IfOk result
         (AnswersInRoom (merged marks.now (tokens_of row.now)) room out.new.items) }
 {

@@ -2,7 +2,8 @@
 use Rattle.std.specs.Prelude.{◌≡◌, ℕ, Bool, true, false, List, [], length, map}
 use Rattle.std.specs.Prelude.{slice_index_or, Option, None, Some, Result, Ok, Err}
 use Rattle.hum_record.specs.declared.SpinedKind.TheVariants.{Interpretation}
-use Rattle.hum_record.specs.Row.{Row, Comment, Spined}
+use Rattle.hum_record.specs.Row.{Row, Comment, Spined, tokens_of, text_of, width_of}
+use Rattle.hum_record.specs.Spelling.{IsTextOf}
 use Rattle.hum_path.specs.declared.moved.Move.{Move}
 use Rattle.hum_path.specs.Spines.{Path, source, moves, after}
 use Rattle.hum_path.specs.Score.{path_after}
@@ -44,6 +45,14 @@ abbrev pub is_interpretation : Row → Bool
 is_interpretation (Comment text) = false
 is_interpretation (Spined Interpretation tokens) = true
 is_interpretation (Spined kind tokens) = false
+
+-- What an interpretation after the opening record is taken with: its text, a mark for each of its
+-- tokens, and nothing that is due.
+pub record IsPassed (marks : List Bool) (row : Row) (due : List Row) : Type 0 where
+  pub kind : row ≡ Spined Interpretation (tokens_of row)
+  pub lawful : IsTextOf row (text_of row)
+  pub as_wide : length marks ≡ width_of row
+  pub empty : due ≡ []
 
 -- What is answered of one record: the records that it becomes, or the rule by which it is refused.
 abbrev pub Answers : Result (List Row) Rule → ℕ → List Row → Option Rule → Type 0

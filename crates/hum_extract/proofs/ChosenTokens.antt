@@ -65,6 +65,11 @@ pub no_first : (first : Option Row) (others : List Row) → option_to_list first
 no_first None others h = refl
 no_first (Some row) others h = cc
 
+-- and no other
+pub no_others : (first : Option Row) (others : List Row) → option_to_list first ++ others ≡ [] → others ≡ []
+no_others None others h = h
+no_others (Some row) others h = cc
+
 -- which columns are chosen, one name after another
 module _ (choice : Choice) (width j : ℕ) (names : List (List ℕ)) (done all : List Bool)
     (whole : done ++ each_chosen choice width j (drop j names) ≡ all) where

@@ -1,10 +1,8 @@
 //! Interpretations of which some columns are dropped.
-ghost use Rattle.std.specs.Prelude.{◌≡◌, [], length, map, IfOk};
-ghost use Rattle.hum_record.specs.Row.{Spined, tokens_of, width_of, text_of};
-ghost use Rattle.hum_record.specs.declared.SpinedKind.TheVariants.{Interpretation};
-ghost use Rattle.hum_record.specs.Spelling.{IsTextOf};
+ghost use Rattle.std.specs.Prelude.{◌≡◌, length, map, IfOk};
+ghost use Rattle.hum_record.specs.Row.{tokens_of, width_of};
 ghost use Rattle.hum_path.specs.Sign.{sign_of};
-ghost use Rattle.hum_columns.specs.Following.{AnswersInRoom};
+ghost use Rattle.hum_columns.specs.Following.{AnswersInRoom, IsPassed};
 ghost use Rattle.hum_extract.specs.Extract.{exchanged_flags, is_lone, chosen_between};
 ghost use Rattle.hum_extract.specs.Extract.{softened, pieces, cut};
 
@@ -95,10 +93,7 @@ pub fn cut(
     room: u64,
     out: &mut VecDeque<Record>,
 ) -> Result<Option<Rule>, AllocError>
-    requires kind { row.now ≡ Spined Interpretation (tokens_of row.now) }
-    requires lawful { IsTextOf row.now (text_of row.now) }
-    requires as_wide { length marks.now ≡ width_of row.now }
-    requires empty { out.old.items ≡ [] }
+    requires { IsPassed marks.now row.now out.old.items }
     ensures { IfOk result (AnswersInRoom (cut marks.now (tokens_of row.now)) room out.new.items) }
 {
     if is_torn(marks, row) {

@@ -48,13 +48,18 @@ returns-then-is_unopened c =
     (λ tokens. length-map tokens (bytes_eq options.name)) follows score is on (answers c.args.room) marked)
     c.open.ensures.decided c.open.ensures.columns
 
-pub merge-requires-clause-as_wide : goal.merge-requires-clause-as_wide
-merge-requires-clause-as_wide c =
+pub merge-requires : goal.merge-requires
+merge-requires c =
     let row = c.args.next in
     let is = interpretation_kind row (sym c.is_interpretation.ensures.kind ∙ c.if-not-is_interpretation.false) in
     let off : is_closed c.args.self.now.columns.path ≡ false = sym c.is_unopened.ensures ∙ c.if-is_unopened.false in
     let at = c.requires.score in
-    rw (c.each.ensures, c.marks.ensures) (wide_later (column_command c.args.self.now.options) row at.past at.memory at.score is off)
+    record {
+      kind = is;
+      lawful = c.is_interpretation.ensures.lawful;
+      empty = c.requires.empty;
+      as_wide = rw (c.each.ensures, c.marks.ensures) (wide_later (column_command c.args.self.now.options) row at.past at.memory at.score is off);
+    }
 
 pub returns : goal.returns
 returns c decide past follows score =

@@ -11,7 +11,7 @@ use Rattle.hum_columns.proofs.Taking.{wide_later, steps_opening, steps_later, bo
 use Rattle.std.proofs.lemmas.Result.{err_from_is_err_and}
 use Rattle.hum_extract.specs.Extract.{column_command}
 use Rattle.hum_extract.specs.Written.{choice_of}
-use Rattle.hum_extract.proofs.ChosenTokens.{no_first}
+use Rattle.hum_extract.proofs.ChosenTokens.{no_first, no_others}
 use Rattle.hum_extract.proofs.Taking.{wide_still, gives_still, follows_still, steered_kind, opening_length}
 use Rattle.hum_extract.proofs.columns.ColumnsDecides.step.Goals as goal
 
@@ -46,13 +46,18 @@ returns-then-is_unopened c =
     on (answers c.args.room) marked)
     c.open.ensures.decided c.open.ensures.columns
 
-pub cut-requires-clause-as_wide : goal.cut-requires-clause-as_wide
-cut-requires-clause-as_wide c =
+pub cut-requires : goal.cut-requires
+cut-requires c =
     let row = c.args.next in
     let is = steered_kind row (sym c.asks.ensures.asks ∙ c.if-not-asks.false) in
     let off : is_closed c.args.self.now.columns.path ≡ false = sym c.is_unopened.ensures ∙ c.if-is_unopened.false in
     let at = c.requires.score in
-    rw (c.each.ensures, c.marks.ensures) (wide_later (column_command (choice_of c.args.self.now.choice)) row at.past at.memory at.score is off)
+    record {
+      kind = is;
+      lawful = c.asks.ensures.lawful;
+      empty = no_others c.out.inside.one _ (c.out.view_is ∙ c.requires.empty);
+      as_wide = rw (c.each.ensures, c.marks.ensures) (wide_later (column_command (choice_of c.args.self.now.choice)) row at.past at.memory at.score is off);
+    }
 
 pub returns : goal.returns
 returns c decide past follows score =
