@@ -49,16 +49,18 @@ recip options = record { heading = Renamed (codes "**recip"); becomes = λ above
 abbrev pub given_under : Heading → Giving → Retelling
 given_under heading giving = record { heading = heading; becomes = λ above. given giving }
 
--- what trans keeps: how far its notes go, and the text of what goes behind **kern
-pub record Transposes (giving : Giving) (sign : List ℕ) (retelling : Retelling) (past : List Row)
-    : Type 0 where
-  pub command : retelling ≡ given_under (Followed sign) giving
+-- what a command keeps whose tokens become what their parts give: what becomes of **kern by it, and
+-- what a part gives
+pub record GivesUnder (heading : Heading) (giving : Giving) (retelling : Retelling)
+    (past : List Row) : Type 0 where
+  pub command : retelling ≡ given_under heading giving
   pub lawful : IsHeading retelling.heading
 
 -- what mint keeps: its options, and what it heard of each column
 pub record Mints (options : MintOptions) (memories : List HeardColumn) (retelling : Retelling)
     (past : List Row) : Type 0 where
   pub command : retelling ≡ mint options
+  pub lawful : IsHeading retelling.heading
   pub remembered : Remember (heard_after options.breaks) unheard past memories
 
 -- what the stages of these numbers mean

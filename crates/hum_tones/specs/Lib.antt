@@ -9,4 +9,3 @@ pub mod Mint
 pub mod Hearing
 pub mod Memory
 pub mod Commands
-pub mod Headings

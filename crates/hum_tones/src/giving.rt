@@ -17,7 +17,7 @@ use std::alloc::AllocError;
 
 /// What each part of a token gives.
 #[derive(Clone, Copy)]
-pub(crate) enum Giving {
+pub enum Giving {
     /// Its semitones above middle c, and `r` for a rest. Where `ties_left_out` is set, notes that
     /// go on or end a tie give nothing.
     Semitones { ties_left_out: bool },

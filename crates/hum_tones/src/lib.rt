@@ -5,6 +5,7 @@
 #![tactic(auto)]
 
 mod given_tokens;
+mod gives;
 mod giving;
 mod hearing;
 mod last_note;
@@ -18,11 +19,12 @@ mod short;
 mod trans;
 mod transposing;
 
+pub use gives::{GivenColumns, Gives};
 pub use last_note::LastNote;
 pub use listening::Listening;
 pub use mint::{Mint, MintTokens};
 pub use minting::MintOptions;
-pub use recip::{Recip, RecipOptions, RecipTokens};
-pub use semits::{Semits, SemitsOptions, SemitsTokens};
-pub use trans::{Trans, TransTokens};
+pub use recip::{Recip, RecipName, RecipOptions};
+pub use semits::{Semits, SemitsName, SemitsOptions};
+pub use trans::{Trans, TransSign};
 pub use transposing::Transposition;

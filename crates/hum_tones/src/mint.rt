@@ -25,7 +25,6 @@ impl Retells for MintTokens {
     type Options = MintOptions;
 
     ghost use Rattle.hum_tones.specs.Commands.{mint, Mints};
-    ghost use Rattle.hum_tones.specs.Headings.{mint_heading};
 
     ghost command = { MintCommand };
 
@@ -33,7 +32,7 @@ impl Retells for MintTokens {
 
     ghost follows = { λ s. Mints s.listening s.carried.each };
 
-    ghost lawful = { λ s retelling past h. mint_heading s.listening retelling h.command };
+    ghost lawful = { λ s retelling past h. h.lawful };
 
     fn command() -> Command {
         Command::Mint

@@ -1,13 +1,10 @@
 //! The command semits: notes become their semitones.
 ghost use Rattle.hum_stage.specs.declared.faults.Command.TheVariants.{Semits as SemitsCommand};
 
-use crate::given_tokens::GivenTokens;
+use crate::gives::{GivenColumns, Gives};
 use crate::giving::Giving;
-use hum_cells::{CellStage, Heading, Retells};
-use hum_path::Moves;
-use hum_record::Record;
-use hum_stage::{Command, Rule};
-use std::alloc::{AllocError, Global};
+use hum_cells::{CellStage, Heading};
+use hum_stage::Command;
 
 /// Which notes give their semitones.
 #[derive(Clone, Copy)]
@@ -16,64 +13,36 @@ pub struct SemitsOptions {
     pub ties_left_out: bool,
 }
 
-/// What semits makes of tokens.
+/// `**semits`, which stands in the place of `**kern`.
 #[derive(Drop)]
-pub struct SemitsTokens {
-    tokens: GivenTokens,
-}
+pub struct SemitsName;
 
 /// The command semits, as a stage.
-pub type Semits = CellStage<SemitsTokens>;
+pub type Semits = CellStage<GivenColumns<SemitsName>>;
 
-impl Retells for SemitsTokens {
+impl Gives for SemitsName {
     type Options = SemitsOptions;
 
-    ghost use Rattle.std.specs.Prelude.{◌≡◌, codes};
+    ghost use Rattle.std.specs.Prelude.{codes};
     ghost use Rattle.hum_cells.specs.Retelling.{Renamed};
-    ghost use Rattle.hum_tones.specs.Commands.{semits, given_under};
-    ghost use Rattle.hum_tones.specs.Headings.{semits_heading};
+    ghost use Rattle.hum_tones.specs.Commands.{semits};
 
     ghost command = { SemitsCommand };
 
     ghost retelling = { semits };
 
-    ghost follows = { λ s retelling past. retelling
-        ≡ given_under (Renamed (codes "**semits")) s.tokens };
-
-    ghost lawful = { λ s retelling past h. semits_heading s.tokens retelling h };
+    ghost heading = { λ s. Renamed (codes "**semits") };
 
     fn command() -> Command {
         Command::Semits
     }
 
-    fn begin(alloc: Global, options: SemitsOptions) -> Self {
-        let giving = Giving::Semitones {
-            ties_left_out: options.ties_left_out,
-        };
-        SemitsTokens {
-            tokens: GivenTokens::new(alloc, giving),
-        }
+    fn begin(options: SemitsOptions) -> (SemitsName, Giving) {
+        let ties_left_out = options.ties_left_out;
+        (SemitsName, Giving::Semitones { ties_left_out })
     }
 
     fn heading(&self) -> Heading<'_> {
         Heading::Renamed(b"**semits".as_slice())
-    }
-
-    #[inline(always)]
-    fn known(&self, token: &[u8]) -> Option<&[u8]> {
-        self.tokens.known(token)
-    }
-
-    fn retell(
-        &mut self,
-        _j: usize,
-        token: &[u8],
-        text: &mut Vec<u8>,
-    ) -> Result<Option<Rule>, AllocError> {
-        self.tokens.retell(token, text)
-    }
-
-    fn follow(&mut self, _row: &Record, _found: &Moves) -> Result<(), AllocError> {
-        Ok(())
     }
 }
