@@ -17,7 +17,7 @@ ghost use Rattle.hum_assemble.specs.Merge.{moved, advanced, text_of_first, part_
 use crate::places::{Place, null_at};
 use crate::placing::{place, stand_behind, width_after};
 use hum_path::Paths;
-use hum_record::{Kind, Record, RecordBuilder, RecordFault};
+use hum_record::{Kind, Record, RecordBuilder};
 use hum_stage::End;
 use std::alloc::{AllocError, Global};
 use std::marker::Model;
@@ -75,21 +75,6 @@ impl Model for SourceHead {
     ghost invariant = { λ s. IsKept s.paths.path s.opened s.inside s.head };
 }
 
-/// Adds a token to a record that has room for it.
-fn push_token(builder: &mut RecordBuilder, token: &[u8]) -> Result<(), AllocError>
-    requires token { IsToken builder.old.kind token.now }
-    requires fits { length (spelled (builder.old.tokens ++ token.now ∷ [])) ≤ 1048576 }
-    ensures { OnOk result (builder.new ≡ record builder.old {
-      tokens = builder.old.tokens ++ token.now ∷ [];
-    }) }
-{
-    match builder.push(token) {
-        Ok(()) => Ok(()),
-        Err(RecordFault::Memory) => Err(AllocError),
-        Err(_) => unreachable!(),
-    }
-}
-
 /// Adds a token so many times.
 fn push_nulls(builder: &mut RecordBuilder, null: &[u8], count: usize) -> Result<(), AllocError>
     requires token { IsToken builder.old.kind null.now }
@@ -99,7 +84,7 @@ fn push_nulls(builder: &mut RecordBuilder, null: &[u8], count: usize) -> Result<
     }) }
 {
     for _ in 0..count {
-        push_token(builder, null)?;
+        builder.push_fitting(null)?;
     }
     Ok(())
 }
@@ -113,7 +98,7 @@ fn push_tokens(builder: &mut RecordBuilder, row: &Record) -> Result<(), AllocErr
     }) }
 {
     for j in 0..row.width() {
-        push_token(builder, row.token(j))?;
+        builder.push_fitting(row.token(j))?;
     }
     Ok(())
 }

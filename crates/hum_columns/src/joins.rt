@@ -4,36 +4,15 @@
 //! joins (`*v` side by side; Humdrum Toolkit: Reference Manual, syntax) would then stand next to
 //! each other, a reader would see one join. [`spread`] writes such a record as several, one join in
 //! each.
-ghost use Rattle.std.specs.Prelude.{◌≡◌, ℕ, ◌+◌, ◌≤◌, ◌<◌, [], ◌∷◌, ◌++◌, length, IfOk, OnOk};
-ghost use Rattle.hum_record.specs.Spelling.{IsToken};
-ghost use Rattle.hum_record.specs.Building.{spelled};
+ghost use Rattle.std.specs.Prelude.{◌≡◌, ◌≤◌, ◌<◌, IfOk};
 ghost use Rattle.hum_columns.specs.Spread.{spread, one_by_one, before_last};
 ghost use Rattle.hum_columns.specs.Writing.{Fit, HasSpread};
 
 use crate::pieces::Piece;
 use crate::writing::{joins_in, touches, write_each};
-use hum_record::{Record, RecordBuilder, RecordFault};
+use hum_record::Record;
 use std::alloc::{AllocError, Global};
 use std::collections::VecDeque;
-
-/// Adds a token to a record that stays short enough.
-///
-/// # Errors
-/// Want of memory.
-pub(crate) fn push_fitting(builder: &mut RecordBuilder, token: &[u8]) -> Result<(), AllocError>
-    requires lawful { IsToken builder.old.kind token.now }
-    requires fits { length (spelled (builder.old.tokens ++ token.now ∷ [])) ≤ 1048576 }
-    ensures { OnOk result
-        (builder.new ≡ record builder.old { tokens = builder.old.tokens ++ token.now ∷ [] }) }
-{
-    match builder.push(token) {
-        Ok(()) => Ok(()),
-        Err(fault) => match fault {
-            RecordFault::Memory => Err(AllocError),
-            _ => unreachable!(),
-        },
-    }
-}
 
 /// Writes an interpretation of these tokens: nothing where there are none; where two joins have
 /// come side by side one record for each join, each but the last with its join alone and `*`

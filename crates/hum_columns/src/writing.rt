@@ -9,7 +9,6 @@ ghost use Rattle.hum_columns.specs.Spread.{tokens_in, touches, joins_in, first_a
 ghost use Rattle.hum_columns.specs.Spread.{one_by_one, before_last, filled};
 ghost use Rattle.hum_columns.specs.Writing.{Fit, draft, behind, next_phase, shown, nulls, HasPassed};
 
-use crate::joins::push_fitting;
 use crate::pieces::Piece;
 use hum_record::{Record, RecordBuilder, SpinedKind};
 use std::alloc::{AllocError, Global};
@@ -92,7 +91,7 @@ fn push_nulls(builder: &mut RecordBuilder, count: usize) -> Result<(), AllocErro
     ensures { OnOk result (builder.new ≡ draft (builder.old.tokens ++ nulls count)) }
 {
     for _ in 0..count {
-        push_fitting(builder, b"*")?;
+        builder.push_fitting(b"*")?;
     }
     Ok(())
 }
@@ -107,7 +106,7 @@ fn push_alone(builder: &mut RecordBuilder, pieces: &[Piece<'_>]) -> Result<(), A
     let mut phase = Phase::Before;
     for piece in pieces {
         phase = next_phase(phase, piece);
-        push_fitting(builder, shown(phase, piece))?;
+        builder.push_fitting(shown(phase, piece))?;
     }
     Ok(())
 }
@@ -120,7 +119,7 @@ fn push_all(builder: &mut RecordBuilder, pieces: &[Piece<'_>]) -> Result<(), All
     ensures { OnOk result (builder.new ≡ draft (builder.old.tokens ++ tokens_in pieces.now)) }
 {
     for piece in pieces {
-        push_fitting(builder, piece.token())?;
+        builder.push_fitting(piece.token())?;
     }
     Ok(())
 }
@@ -167,14 +166,14 @@ fn pass_join(last: &mut RecordBuilder, pieces: &[Piece<'_>]) -> Result<Passed, A
 {
     for (i, piece) in pieces.iter().enumerate() {
         if piece.begins() {
-            push_fitting(last, b"*")?;
+            last.push_fitting(b"*")?;
             let right = pieces.split_at(i + 1).1;
             return Ok(Passed {
                 tokens: i + 1,
                 pieces: i + 1 + join_len(right),
             });
         }
-        push_fitting(last, piece.token())?;
+        last.push_fitting(piece.token())?;
     }
     Ok(Passed {
         tokens: pieces.len(),

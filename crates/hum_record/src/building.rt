@@ -1,5 +1,5 @@
 //! A record in the making.
-ghost use Rattle.std.specs.Prelude.{◌≡◌, ◌≢◌, ◌+◌, ◌<◌, ◌≤◌, ◌^◌, [], ◌∷◌, ◌++◌, false, nat_le};
+ghost use Rattle.std.specs.Prelude.{◌≡◌, ◌≢◌, ◌+◌, ◌<◌, ◌≤◌, [], ◌∷◌, ◌++◌, false, nat_le};
 ghost use Rattle.std.specs.Prelude.{length, IsTrue, Err, OnOk, IfErr};
 ghost use Rattle.std.specs.Prelude.{is_some, true, IfOk, if◌then◌else◌};
 ghost use Rattle.hum_record.specs.Spelling.{IsToken};
@@ -105,6 +105,24 @@ impl RecordBuilder {
                 self.spent = true;
                 Err(RecordFault::Memory)
             }
+        }
+    }
+
+    /// Adds a token with which the record stays short enough.
+    ///
+    /// # Errors
+    /// Want of memory.
+    #[inline]
+    pub fn push_fitting(&mut self, token: &[u8]) -> Result<(), AllocError>
+        requires lawful { IsToken self.old.kind token.now }
+        requires fits { length (spelled (self.old.tokens ++ token.now ∷ [])) ≤ 1048576 }
+        ensures { OnOk result
+            (self.new ≡ record self.old { tokens = self.old.tokens ++ token.now ∷ [] }) }
+    {
+        match self.push(token) {
+            Ok(()) => Ok(()),
+            Err(RecordFault::Memory) => Err(AllocError),
+            Err(_) => unreachable!(),
         }
     }
 

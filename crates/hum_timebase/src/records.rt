@@ -1,10 +1,9 @@
 //! The records that are made.
-ghost use Rattle.std.specs.Prelude.{◌≡◌, ◌≢◌, ◌≤◌, ◌++◌, ◌∷◌, [], length, true, false, map};
+ghost use Rattle.std.specs.Prelude.{◌≡◌, ◌≢◌, ◌≤◌, ◌++◌, ◌∷◌, [], length, true, false};
 ghost use Rattle.std.specs.Prelude.{IfOk, OnOk, if◌then◌else◌};
 ghost use lib.Chars.{codes};
-ghost use Rattle.hum_record.specs.declared.Kind.TheVariants.{Values as AnyValues};
 ghost use Rattle.hum_record.specs.declared.SpinedKind.TheVariants.{Interpretation, Values};
-ghost use Rattle.hum_record.specs.Row.{tokens_of, kind_of, text_of};
+ghost use Rattle.hum_record.specs.Row.{tokens_of, text_of};
 ghost use Rattle.hum_record.specs.Spelling.{IsToken};
 ghost use Rattle.hum_record.specs.Building.{spelled};
 ghost use Rattle.hum_path.specs.Sign.{sign_of, is_exclusive};
@@ -12,25 +11,8 @@ ghost use Rattle.hum_timebase.specs.Timebase.{null_row, names_some, tb_token, tb
 
 use crate::pace::Pace;
 use hum_path::token_sign;
-use hum_record::{Record, RecordBuilder, RecordFault, Spare, SpinedKind};
+use hum_record::{Record, RecordBuilder, Spare, SpinedKind};
 use std::alloc::{AllocError, Global};
-
-/// Adds a token, which fits.
-fn push_token(builder: &mut RecordBuilder, token: &[u8]) -> Result<(), AllocError>
-    requires token { IsToken builder.old.kind token.now }
-    requires fits { length (spelled (builder.old.tokens ++ token.now ∷ [])) ≤ 1048576 }
-    ensures { OnOk result (builder.new ≡ record builder.old {
-      tokens = builder.old.tokens ++ token.now ∷ [];
-    }) }
-{
-    match builder.push(token) {
-        Ok(()) => Ok(()),
-        Err(fault) => match fault {
-            RecordFault::Memory => Err(AllocError),
-            _ => unreachable!(),
-        },
-    }
-}
 
 /// Adds a null data token, which fits.
 fn push_null(builder: &mut RecordBuilder) -> Result<(), AllocError>
@@ -40,7 +22,7 @@ fn push_null(builder: &mut RecordBuilder) -> Result<(), AllocError>
       tokens = builder.old.tokens ++ codes "." ∷ [];
     }) }
 {
-    push_token(builder, b".")
+    builder.push_fitting(b".")
 }
 
 /// The null data record as wide as another, which is no longer than that, in the buffers of one that
@@ -99,7 +81,7 @@ pub(crate) fn tb_record(alloc: Global, pace: &Pace, row: &Record) -> Result<Reco
     let named = pace.token(alloc)?;
     let mut builder = RecordBuilder::new(alloc, SpinedKind::Interpretation);
     for j in 0..row.width() {
-        push_token(&mut builder, tb_token(&named, row.token(j)))?;
+        builder.push_fitting(tb_token(&named, row.token(j)))?;
     }
     Ok(builder.finish())
 }

@@ -127,7 +127,6 @@ fn add_semitones(
 }
 
 impl Giving {
-    ghost use Rattle.std.specs.Prelude.{List, ℕ};
     ghost use Rattle.hum_tones.specs.Giving.{gives, given};
 
     /// Adds what a part gives, with a space behind it.

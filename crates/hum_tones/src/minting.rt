@@ -1,7 +1,5 @@
 //! Tokens in whose place stands the interval from the note before.
 ghost use Rattle.std.specs.Prelude.{◌≡◌, ◌++◌, [], IfOk, OnOk, option_map};
-ghost use Rattle.hum_record.specs.declared.SpinedKind.TheVariants.{Values};
-ghost use Rattle.hum_record.specs.Spelling.{IsToken};
 ghost use Rattle.hum_kern.specs.Given.{spelled};
 ghost use Rattle.hum_tones.specs.Subtokens.{IsRetold};
 ghost use Rattle.hum_tones.specs.Mint.{approached};

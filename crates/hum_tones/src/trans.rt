@@ -1,6 +1,5 @@
 //! The command trans: notes are transposed.
-ghost use Rattle.std.specs.Prelude.{◌≡◌, ◌≤◌, ◌+◌, ◌++◌, length};
-ghost use Rattle.arrayvec.specs.ArrayString.{array_string_len};
+ghost use Rattle.std.specs.Prelude.{◌≡◌};
 ghost use Rattle.hum_stage.specs.declared.faults.Command.TheVariants.{Trans as TransCommand};
 ghost use Rattle.hum_tones.specs.Commands.{trans_sign};
 

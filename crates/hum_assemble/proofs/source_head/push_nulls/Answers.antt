@@ -4,22 +4,22 @@ use Rattle.hum_assemble.proofs.Pushing.{first_added, null_added, nulls_added}
 use Rattle.hum_assemble.proofs.Room.{null_fits}
 use Rattle.hum_assemble.proofs.source_head.push_nulls.Goals as goal
 
-pub push_token-requires-clause-fits : goal.push_token-requires-clause-fits
-push_token-requires-clause-fits c =
+pub push_fitting-requires-clause-fits : goal.push_fitting-requires-clause-fits
+push_fitting-requires-clause-fits c =
     rw c.loop.invariant
     (null_fits c.args.builder.now.tokens c.args.null.now c.loop.counter c.args.count c.loop-test.true c.requires.fits)
 
 pub loop-init : goal.loop-init
 loop-init c = first_added c.args.builder.now
 
-pub push_token-requires-clause-token : goal.push_token-requires-clause-token
-push_token-requires-clause-token c =
+pub push_fitting-requires-clause-lawful : goal.push_fitting-requires-clause-lawful
+push_fitting-requires-clause-lawful c =
     let kind = ap (λ (draft : Draft). draft.kind) c.loop.invariant in
     rw kind c.requires.token
 
 pub loop-preserved : goal.loop-preserved
 loop-preserved c =
-    null_added c.args.builder.now c.loop.builder _ c.args.null.now c.loop.counter c.loop.invariant c.in_ok-push_token.ensures
+    null_added c.args.builder.now c.loop.builder _ c.args.null.now c.loop.counter c.loop.invariant c.in_ok-push_fitting.ensures
 
 pub returns : goal.returns
 returns c =

@@ -4,8 +4,8 @@ use Rattle.hum_assemble.proofs.Pushing.{first_added, next_added, all_added, toke
 use Rattle.hum_assemble.proofs.Room.{token_fits}
 use Rattle.hum_assemble.proofs.source_head.push_tokens.Goals as goal
 
-pub push_token-requires-clause-fits : goal.push_token-requires-clause-fits
-push_token-requires-clause-fits c =
+pub push_fitting-requires-clause-fits : goal.push_fitting-requires-clause-fits
+push_fitting-requires-clause-fits c =
     let width = c.width-j-end.ensures in
     let test = c.loop-j-test.true in
     let less : c.loop-j.j < length (tokens_of c.args.row.now) = omega (arith, width, test) in
@@ -21,8 +21,8 @@ token-requires c =
     let test = c.loop-j-test.true in
     omega (arith, width, test)
 
-pub push_token-requires-clause-token : goal.push_token-requires-clause-token
-push_token-requires-clause-token c =
+pub push_fitting-requires-clause-lawful : goal.push_fitting-requires-clause-lawful
+push_fitting-requires-clause-lawful c =
     let width = c.width-j-end.ensures in
     let test = c.loop-j-test.true in
     token_lawful c.loop-j.builder c.args.builder.now _ (tokens_of c.args.row.now) c.token.result.now c.loop-j.j
@@ -33,7 +33,7 @@ loop-j-preserved c =
     let width = c.width-j-end.ensures in
     let test = c.loop-j-test.true in
     next_added c.args.builder.now c.loop-j.builder _ (tokens_of c.args.row.now) c.token.result.now c.loop-j.j
-    c.loop-j.invariant c.in_ok-push_token.ensures c.token.ensures.token (omega (arith, width, test))
+    c.loop-j.invariant c.in_ok-push_fitting.ensures c.token.ensures.token (omega (arith, width, test))
 
 pub returns : goal.returns
 returns c =

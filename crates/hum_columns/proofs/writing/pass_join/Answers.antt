@@ -28,7 +28,7 @@ push_fitting-requires-in-loop-i-clause-fits c =
 pub returns-then-begins : goal.returns-then-begins
 returns-then-begins c =
     let p = c.index-pieces-i.result in
-    let made = draft_push c.loop-i.last c.push_fitting.new.builder (codes "*") c.loop-i.invariant.made c.in_ok-push_fitting.ensures in
+    let made = draft_push c.loop-i.last c.push_fitting.new.self (codes "*") c.loop-i.invariant.made c.in_ok-push_fitting.ensures in
     let back = c.split_at.ensures.back in
     let done = rw back at c.join_len.ensures.pieces in
     let most = c.join_len.ensures.at_most in
@@ -36,7 +36,7 @@ returns-then-begins c =
     let size = length-append c.loop-i.last.tokens (codes "*" ∷ []) in (
       rw made (passed_join c.args.last.now.tokens c.loop-i.last.tokens c.args.pieces.now c.loop-i.i c.join_len.result p c.loop-i-test.true
           c.index-pieces-i.is c.loop-i.invariant.same (sym c.begins.ensures ∙ c.if-begins.true) done),
-      drafted c.push_fitting.new.builder _ made,
+      drafted c.push_fitting.new.self _ made,
       rw made (omega (arith, size, c.loop-i.invariant.count)),
       omega arith,
       omega (arith, most, right),

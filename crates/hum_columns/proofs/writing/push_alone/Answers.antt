@@ -13,10 +13,10 @@ pub loop-piece-preserved : goal.loop-piece-preserved
 loop-piece-preserved c =
     let p = c.piece-item.result in
     let next = alone_at c.loop-piece.phase c.args.pieces.now c.loop-piece.piece-index p c.loop-piece-test.true c.piece-item.is in
-    let made = draft_push c.loop-piece.builder c.push_fitting.new.builder c.shown.result.now c.loop-piece.invariant.made c.in_ok-push_fitting.ensures in
+    let made = draft_push c.loop-piece.builder c.push_fitting.new.self c.shown.result.now c.loop-piece.invariant.made c.in_ok-push_fitting.ensures in
     record {
-      made = drafted c.push_fitting.new.builder _ made;
+      made = drafted c.push_fitting.new.self _ made;
       lawful = (lawful_at c.args.pieces.now c.loop-piece.piece-index p c.loop-piece-test.true c.piece-item.is c.loop-piece.invariant.lawful).1;
-      list = rw c.next_phase-phase.ensures (list_push c.push_fitting.new.builder c.loop-piece.builder.tokens c.shown.result.now _ _ _ made
+      list = rw c.next_phase-phase.ensures (list_push c.push_fitting.new.self c.loop-piece.builder.tokens c.shown.result.now _ _ _ made
           (rw (c.shown.ensures.value, c.next_phase-phase.ensures) next) c.loop-piece.invariant.list);
     }

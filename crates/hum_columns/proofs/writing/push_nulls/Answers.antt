@@ -11,9 +11,9 @@ push_fitting-requires-clause-fits c =
 
 pub loop-preserved : goal.loop-preserved
 loop-preserved c =
-    let made = draft_push c.loop.builder c.push_fitting.new.builder (codes "*") c.loop.invariant.made c.in_ok-push_fitting.ensures in
+    let made = draft_push c.loop.builder c.push_fitting.new.self (codes "*") c.loop.invariant.made c.in_ok-push_fitting.ensures in
     record {
-      made = drafted c.push_fitting.new.builder _ made;
-      list = list_push c.push_fitting.new.builder c.loop.builder.tokens (codes "*") _ _ _ made (nulls_more c.args.count c.loop.counter c.loop-test.true)
+      made = drafted c.push_fitting.new.self _ made;
+      list = list_push c.push_fitting.new.self c.loop.builder.tokens (codes "*") _ _ _ made (nulls_more c.args.count c.loop.counter c.loop-test.true)
           c.loop.invariant.list;
     }

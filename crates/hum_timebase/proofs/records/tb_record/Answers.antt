@@ -4,8 +4,8 @@ use Rattle.hum_timebase.specs.Timebase.{tb_token}
 use Rattle.hum_timebase.proofs.Writing.{one_more, front_fits, has_made, some_named, named_token, tb_short}
 use Rattle.hum_timebase.proofs.records.tb_record.Goals as goal
 
-pub push_token-requires-clause-fits : goal.push_token-requires-clause-fits
-push_token-requires-clause-fits c =
+pub push_fitting-requires-clause-fits : goal.push_fitting-requires-clause-fits
+push_fitting-requires-clause-fits c =
     let below = c.loop-j-test.true in
     let width = c.width-j-end.ensures in
     let made = named_token c.args.pace.now.text c.deref.result.now _ c.token-in-loop-j.result.now
@@ -24,7 +24,7 @@ loop-j-preserved c =
     let made = named_token c.args.pace.now.text c.deref.result.now _ c.token-in-loop-j.result.now
     c.tb_token.result.now (c.deref.ensures.value ∙ c.in_ok-named.ensures.token)
     c.token-in-loop-j.ensures.token c.tb_token.ensures.token in
-    rw c.in_ok-push_token.ensures (record {
+    rw c.in_ok-push_fitting.ensures (record {
       kind = c.loop-j.invariant.kind;
       sound = c.loop-j.invariant.sound;
       made = one_more (tb_token c.args.pace.now.text) (tokens_of c.args.row.now) c.loop-j.builder.tokens _
