@@ -1,5 +1,5 @@
 //! What several sources give side by side.
-ghost use Rattle.std.specs.Prelude.{◌≡◌, ◌≢◌, ◌≤◌, ◌++◌, ℕ, ◌+◌, nat_lt, nat_le, true, not, ◌&&◌};
+ghost use Rattle.std.specs.Prelude.{◌≡◌, ◌≤◌, ◌++◌, ℕ, ◌+◌, nat_lt, nat_le, true, not, ◌&&◌};
 ghost use Rattle.std.specs.Prelude.{◌||◌, None, Some, IfOk, OnOk, length, take};
 ghost use Rattle.std.specs.List.{list_any, position_from};
 ghost use Rattle.hum_record.specs.Building.{spelled};

@@ -1,5 +1,5 @@
 //! The frame round what is a command's own.
-ghost use Rattle.std.specs.Prelude.{◌≡◌, ◌≤◌, [], ◌∷◌, IfOk, OnOk, List, length, map};
+ghost use Rattle.std.specs.Prelude.{◌≡◌, ◌≤◌, ◌∷◌, IfOk, OnOk, List, length, map};
 ghost use Rattle.hum_record.specs.declared.Kind.TheVariants.{Interpretation as AnyInterpretation};
 ghost use Rattle.hum_record.specs.Row.{Row, kind_of, text_of};
 ghost use Rattle.hum_path.specs.Spines.{exclusives};

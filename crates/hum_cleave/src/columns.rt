@@ -1,5 +1,5 @@
 //! The columns of a score, record by record, and which of them are cleaved.
-ghost use Rattle.std.specs.Prelude.{◌≡◌, ℕ, None, true, [], IfOk, IfNone, OnOk};
+ghost use Rattle.std.specs.Prelude.{◌≡◌, ℕ, None, true, [], IfOk, IfNone};
 ghost use Rattle.hum_record.specs.Row.{Spined, tokens_of, text_of};
 ghost use Rattle.hum_record.specs.Spelling.{IsTextOf};
 ghost use Rattle.hum_record.specs.declared.SpinedKind.TheVariants.{Interpretation};
@@ -7,7 +7,7 @@ ghost use Rattle.hum_path.specs.Spines.{after};
 ghost use Rattle.hum_path.specs.Rules.{fault_of};
 ghost use Rattle.hum_columns.specs.Following.{Answers, memory, is_interpretation};
 ghost use Rattle.hum_cleave.specs.Columns.{opening_flags};
-ghost use Rattle.hum_cleave.specs.Cleave.{is_name, opened, cleave, column_command};
+ghost use Rattle.hum_cleave.specs.Cleave.{opened, cleave, column_command};
 
 use crate::merging::merge;
 use crate::options::CleaveOptions;

@@ -1,6 +1,5 @@
 //! The spines of a score, and which of their columns are chosen.
 ghost use Rattle.std.specs.Prelude.{◌≡◌, None, [], OnOk};
-ghost use Rattle.hum_record.specs.Row.{Row};
 ghost use Rattle.hum_path.specs.Spines.{Unopened, moves, after};
 ghost use Rattle.hum_path.specs.Rules.{fault_of, is_closed};
 ghost use Rattle.hum_path.specs.Step.{ComeFrom};

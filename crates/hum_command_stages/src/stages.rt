@@ -1,5 +1,5 @@
 //! The stages of commands.
-ghost use Rattle.std.specs.Prelude.{◌≡◌, ℕ, ◌≤◌, length};
+ghost use Rattle.std.specs.Prelude.{ℕ, ◌≤◌, length};
 ghost use Rattle.hum_stage.specs.Meaning.{Moment, opening, all_of, IsLawful};
 ghost use Rattle.hum_stage.specs.Meaning.{KeepsScore, IsWithinLag};
 ghost use Rattle.hum_command_stages.specs.Asking.{Knows};

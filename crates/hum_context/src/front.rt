@@ -1,9 +1,9 @@
 //! What a record that waits becomes, by those behind it.
-ghost use Rattle.std.specs.Prelude.{◌≡◌, ◌≢◌, ◌<◌, ◌≤◌, ◌+◌, ◌^◌, ◌∷◌, ◌++◌, ℕ, List, [], length};
-ghost use Rattle.std.specs.Prelude.{drop, false, true, slice_index_or};
+ghost use Rattle.std.specs.Prelude.{◌≡◌, ◌<◌, ◌≤◌, ◌+◌, ◌^◌, ◌∷◌, ℕ, List, [], length};
+ghost use Rattle.std.specs.Prelude.{drop, false, true};
 ghost use Rattle.std.specs.Prelude.{Some, None, IfOk, OnOk};
 ghost use Rattle.hum_record.specs.declared.SpinedKind.TheVariants.{Values};
-ghost use Rattle.hum_record.specs.Row.{Row, Spined, token_at, tokens_of};
+ghost use Rattle.hum_record.specs.Row.{Row, Spined, token_at};
 ghost use Rattle.hum_record.specs.Making.{Holds, IsMade};
 ghost use Rattle.hum_path.specs.Spines.{Path};
 ghost use Rattle.hum_context.specs.Context.{Choice, all_some, begins, chain, is_collectable, taken};

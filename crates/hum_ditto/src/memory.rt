@@ -4,7 +4,7 @@ ghost use Rattle.std.specs.Prelude.{IfSome, IfOk, OnOk, OnErr, option_map, lengt
 ghost use Rattle.std.specs.List.{list_any};
 ghost use Rattle.hum_record.specs.declared.Kind.TheVariants.{Interpretation, Values as AnyValues};
 ghost use Rattle.hum_record.specs.declared.SpinedKind.TheVariants.{Values};
-ghost use Rattle.hum_record.specs.Row.{Row, kind_of, tokens_of, width_of, token_at, text_of};
+ghost use Rattle.hum_record.specs.Row.{kind_of, tokens_of, width_of, token_at, text_of};
 ghost use Rattle.hum_record.specs.Spelling.{IsToken, IsTextOf};
 ghost use Rattle.hum_path.specs.Sign.{sign_of, is_exclusive};
 ghost use Rattle.hum_path.specs.Spines.{same_upto};

@@ -1,5 +1,5 @@
 //! Which opening spines are chosen.
-ghost use Rattle.std.specs.Prelude.{◌≡◌, ◌+◌, ◌<◌, true, false, length, map, IfOk, MatchOption};
+ghost use Rattle.std.specs.Prelude.{◌≡◌, ◌+◌, ◌<◌, true, false, map, IfOk, MatchOption};
 ghost use Rattle.hum_record.specs.Row.{tokens_of};
 ghost use Rattle.hum_extract.specs.Choice.{number, holds, is_beyond, is_chosen, names_beyond};
 ghost use Rattle.hum_extract.specs.Choice.{opening_flags, misses};

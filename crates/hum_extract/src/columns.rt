@@ -1,5 +1,5 @@
 //! The chosen columns, record by record.
-ghost use Rattle.std.specs.Prelude.{◌≡◌, ℕ, None, [], IfOk, IfNone, OnOk};
+ghost use Rattle.std.specs.Prelude.{◌≡◌, ℕ, None, [], IfOk, IfNone};
 ghost use Rattle.hum_record.specs.Row.{Spined, tokens_of, text_of};
 ghost use Rattle.hum_record.specs.Spelling.{IsTextOf};
 ghost use Rattle.hum_record.specs.declared.SpinedKind.TheVariants.{Interpretation};

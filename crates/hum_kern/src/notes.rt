@@ -1,15 +1,15 @@
 //! Pitches and marks.
 
-ghost use Rattle.std.specs.Prelude.{◌≡◌, ◌<◌, ◌≤◌, ◌+◌, ◌++◌, ◌^◌, length, true, Ok, Some, []};
+ghost use Rattle.std.specs.Prelude.{◌≡◌, ◌<◌, ◌≤◌, ◌+◌, ◌^◌, length, true, Ok, Some, []};
 ghost use Rattle.std.specs.Prelude.{IfOk, ◌==◌, ◌∷◌, ◌||◌, not, nat_lt};
 ghost use Rattle.std.specs.List.{list_any, list_all};
 ghost use Rattle.hum_kern.specs.Given.{spelled};
 ghost use Rattle.hum_kern.specs.Pitch.{IsOctave, IsAlteration};
 ghost use Rattle.hum_kern.specs.Spelling.{read_letters, natural_note, spelling};
 ghost use Rattle.hum_kern.specs.declared.pitch.Pitch.{Pitch as PitchValue};
-ghost use Rattle.hum_kern.specs.Classes.{is_letter, is_small};
-ghost use Rattle.hum_kern.specs.Classes.{is_rest_sign, is_grace_sign, is_continued_sign, is_mark};
-ghost use Rattle.hum_kern.specs.Note.{Notation, is_uniform, alteration_of, notation, notation_of};
+ghost use Rattle.hum_kern.specs.Classes.{is_letter};
+ghost use Rattle.hum_kern.specs.Classes.{is_mark};
+ghost use Rattle.hum_kern.specs.Note.{Notation, is_uniform, alteration_of, notation};
 ghost use Rattle.hum_kern.specs.Note.{marks_of, with_pitch, pitched, note_by, note};
 ghost use Rattle.hum_kern.specs.Note.{reading, reading_in};
 ghost use Rattle.hum_kern.specs.NoteParts.{AreNoteParts, SaysNote, IsRead, CanBeReplaced};

@@ -1,5 +1,5 @@
 //! Pitches as text.
-ghost use Rattle.std.specs.Prelude.{◌≡◌, ◌≤◌, pos, ◌-ℤ◌, ◌++◌, OnOk, replicate, Some};
+ghost use Rattle.std.specs.Prelude.{◌≡◌, ◌≤◌, ◌++◌, OnOk, replicate, Some};
 ghost use Rattle.hum_kern.specs.Given.{spelled};
 ghost use Rattle.hum_kern.specs.Spelling.{letters_of, accidentals, spelling, read_pitch};
 

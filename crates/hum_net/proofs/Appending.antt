@@ -132,10 +132,6 @@ pub no-ok : {A E : Type 0} (Q : Type 0) (r : Result A E) → IsErr r → OnOk r 
 no-ok Q (Ok x) h = let both : false ≡ true = h in absurd cc
 no-ok Q (Err e) h = tt
 
-pub no-value : {A E : Type 0} (Q : A → Type 0) (r : Result A E) → IsErr r → IfOk r Q
-no-value Q (Ok x) h = let both : false ≡ true = h in absurd cc
-no-value Q (Err e) h = tt
-
 -- the second part behind the first
 pub last-ok : {A E : Type 0} (r : Result A E) (a b c : Option (List ℕ)) (x y : List ℕ) → Appends a b x →
     OnOk r (Appends b c y) → OnOk r (Appends a c (x ++ y))

@@ -1,6 +1,6 @@
 //! A web whose last stage is written.
 ghost use Rattle.std.specs.Prelude.{◌≡◌, ◌≢◌, ◌≤◌, ◌<◌, ◌+◌, ◌||◌, ℕ, List, [], Option, None, Some};
-ghost use Rattle.std.specs.Prelude.{IfSome, IfOk, IfErr, OnErr, length, is_some, true, false};
+ghost use Rattle.std.specs.Prelude.{IfSome, IfOk, IfErr, length, is_some, true, false};
 ghost use Rattle.std.specs.Prelude.{slice_get, slice_set};
 ghost use Rattle.hum_record.specs.Row.{Row, text_of};
 ghost use Rattle.hum_turns.specs.Links.{linked};
@@ -13,7 +13,7 @@ ghost use Rattle.hum_net.specs.Readers.{ShowsSame, remaining_at, ended_at, calls
 ghost use Rattle.hum_net.specs.Readers.{is_read_of, is_write};
 ghost use Rattle.hum_net.specs.Scene.{Scene, plan_of, Somewhere, IsActor, IsAt, IsNetPlan, IsBegun, MayTurn};
 ghost use Rattle.hum_net.specs.Scene.{KeepsOthers, Fed, held_of, HoldsFew, IsDoing};
-ghost use Rattle.hum_net.specs.Nets.{MayWrite, SinkWent, MayTurnFew, MayGo, HasTurned, IsRunning};
+ghost use Rattle.hum_net.specs.Nets.{MayWrite, SinkWent, MayTurnFew, MayGo, IsRunning};
 ghost use Rattle.hum_turns.specs.Counts.{most_in_all};
 ghost use Rattle.hum_turns.specs.Holds.{SomeReady};
 ghost use Rattle.hum_net.specs.Nets.{WroteFront, IsGoing, IsStage, IsChanged, AreAmong, Known, asked};

@@ -1,19 +1,19 @@
 //! Nodes and their links.
-ghost use Rattle.std.specs.Prelude.{◌≡◌, ◌≢◌, ◌≤◌, ◌<◌, ◌⊎◌, ℕ, true, false, slice_index, slice_get, length};
+ghost use Rattle.std.specs.Prelude.{◌≡◌, ◌≤◌, ◌<◌, ◌⊎◌, ℕ, true, false, slice_index, length};
 ghost use Rattle.std.specs.Prelude.{IfOk, OnOk, OnErr, Err, Some, ◌||◌};
 ghost use Rattle.hum_turns.specs.Turns.{Gives, Takes, Ends, state, can, ready};
 ghost use Rattle.hum_turns.specs.Plan.{last};
 ghost use Rattle.hum_turns.specs.Near.{touched};
 ghost use Rattle.hum_turns.specs.Links.{has_some, linked, IsOpening};
 ghost use Rattle.hum_nodes.specs.Nodes.{StandsAs};
-ghost use Rattle.hum_nodes.specs.At.{HoldsOneEach, doing_of, kind_of};
+ghost use Rattle.hum_nodes.specs.At.{HoldsOneEach};
 ghost use Rattle.hum_nodes.specs.declared.node.Doing.TheVariants as does;
 ghost use Rattle.hum_nodes.specs.declared.node.DoingKind.TheVariants as kinds;
 ghost use Rattle.hum_net.specs.Links.{next_of};
 ghost use Rattle.hum_net.specs.Scene.{Scene, plan_of, Somewhere, IsAt, IsActor, MayTurn, MayAct};
 ghost use Rattle.hum_net.specs.Scene.{IsKind, Keeps, KeepsOthers, Fed, Done, IsAbout};
 ghost use Rattle.hum_net.specs.Scene.{IsAboutKind, IsDoing};
-ghost use Rattle.hum_net.specs.Scene.{IsBegun, Stands, HasStage, held_of, at_of};
+ghost use Rattle.hum_net.specs.Scene.{IsBegun, Stands, HasStage, held_of};
 ghost use Rattle.hum_net.specs.Readers.{ShowsSame, remaining_at, ended_at, calls_at, failed_at};
 ghost use Rattle.hum_nodes.specs.Polls.{AsksAtMostOnce, HasStayed, is_failed_read};
 

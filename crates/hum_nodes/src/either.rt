@@ -1,6 +1,6 @@
 //! A node of either kind.
 ghost use Rattle.std.specs.Prelude.{◌≡◌, ℕ, ◌<◌, List, [], true, false, length, slice_index, IfOk};
-ghost use Rattle.hum_nodes.specs.At.{At, MayDo, sources_of, bytes_of, doing_of, holds_of, HasTaken};
+ghost use Rattle.hum_nodes.specs.At.{At, MayDo, sources_of, doing_of, holds_of, HasTaken};
 ghost use Rattle.hum_nodes.specs.At.{HoldsOneEach, kind_of};
 ghost use Rattle.std.specs.Prelude.{OnErr, ◌||◌};
 ghost use Rattle.hum_nodes.specs.Polls.{HasPolled, HasStayed, AsksAtMostOnce, IsKept};

@@ -1,5 +1,5 @@
 //! Several scores side by side as a node.
-ghost use Rattle.std.specs.Prelude.{◌≡◌, ◌≤◌, length, IfOk};
+ghost use Rattle.std.specs.Prelude.{◌≤◌, length, IfOk};
 ghost use Rattle.hum_assemble.specs.Standing.{Stands};
 ghost use Rattle.hum_nodes.specs.At.{fresh};
 ghost use Rattle.hum_nodes.specs.Merging.{IsMerging, merging};

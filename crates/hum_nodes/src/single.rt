@@ -1,5 +1,4 @@
 //! A stage of one input as a node.
-ghost use Rattle.std.specs.Prelude.{◌≡◌};
 ghost use Rattle.hum_stage.specs.Meaning.{Meaning, opening};
 ghost use Rattle.hum_nodes.specs.At.{fresh};
 ghost use Rattle.hum_nodes.specs.Single.{IsSingle, single};

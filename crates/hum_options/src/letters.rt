@@ -1,7 +1,7 @@
 //! The words of rid: each is `-` and letters of what is dropped.
 ghost use Rattle.std.specs.Prelude.{◌≡◌, map};
 ghost use Rattle.std.specs.List.{list_all};
-ghost use Rattle.hum_options.specs.Letters.{letters, is_among, are_letters, is_letter_word};
+ghost use Rattle.hum_options.specs.Letters.{letters, is_among, is_letter_word};
 ghost use Rattle.hum_options.specs.Letters.{has_letter, drops, dropped};
 ghost use Rattle.hum_options.specs.Answers.{has_none, word_fault, rid_fault, text_of_word};
 ghost use Rattle.hum_options.specs.Answers.{rid_answer};

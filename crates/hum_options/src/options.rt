@@ -1,6 +1,5 @@
 //! The options of each command.
 ghost use Rattle.std.specs.Prelude.{◌≡◌, ◌||◌};
-ghost use Rattle.std.specs.List.{find};
 ghost use Rattle.hum_options.specs.Options.{table, is_spelled, option_of, excludes, are_in};
 ghost use Rattle.hum_options.specs.Answers.{is_alone};
 

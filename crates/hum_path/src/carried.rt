@@ -5,7 +5,7 @@ ghost use Rattle.std.specs.List.{AllByRecursion};
 ghost use Rattle.hum_record.specs.declared.SpinedKind.{SpinedKind};
 ghost use Rattle.hum_record.specs.declared.Kind.TheVariants.{Interpretation};
 ghost use Rattle.hum_record.specs.Row.{Row, kind_of, width_of, tokens_of};
-ghost use Rattle.hum_record.specs.Spelling.{IsToken, IsTokenOf};
+ghost use Rattle.hum_record.specs.Spelling.{IsToken};
 ghost use Rattle.hum_path.specs.Spines.{source, same_upto, moves};
 ghost use Rattle.hum_path.specs.Score.{path_after};
 ghost use Rattle.hum_path.specs.Step.{ComeFrom};

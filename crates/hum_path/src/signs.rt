@@ -1,6 +1,5 @@
 //! What a token asks of the spines.
-ghost use Rattle.std.specs.Prelude.{◌≡◌, ◌∷◌, [], not};
-ghost use Rattle.std.specs.List.{list_all};
+ghost use Rattle.std.specs.Prelude.{◌≡◌};
 ghost use Rattle.hum_record.specs.Row.{tokens_of};
 ghost use Rattle.hum_path.specs.Sign.{sign_of, is_join, is_exchange, is_exclusive, is_plain};
 ghost use Rattle.hum_path.specs.Sign.{is_path_indicator, all_plain, steers};

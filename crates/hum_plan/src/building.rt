@@ -1,5 +1,5 @@
 //! The stages of a line, one after another.
-ghost use Rattle.std.specs.Prelude.{◌≡◌, ◌<◌, ◌≤◌, ◌&&◌, nat_le, ℕ, true, false, [], ◌∷◌, length, map};
+ghost use Rattle.std.specs.Prelude.{◌≡◌, ◌<◌, ◌&&◌, nat_le, true, false, [], ◌∷◌, length};
 ghost use Rattle.std.specs.Prelude.{option_map, is_none, string_bytes, IfSome, OnOk, Ok, Err};
 ghost use Rattle.hum_words.specs.Pieces.{items_of};
 ghost use Rattle.hum_options.specs.Seen.{words_of};

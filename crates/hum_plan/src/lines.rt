@@ -1,5 +1,5 @@
 //! The lines of a plan, one after another.
-ghost use Rattle.std.specs.Prelude.{◌≡◌, ◌≤◌, [], ◌∷◌, true, length, OnOk, Some};
+ghost use Rattle.std.specs.Prelude.{◌≡◌, ◌≤◌, true, length, OnOk, Some};
 ghost use Rattle.hum_words.specs.Branches.{branches_of};
 ghost use Rattle.hum_words.specs.Cutting.{cut_line};
 ghost use Rattle.hum_words.specs.Names.{name_in};

@@ -1,6 +1,5 @@
 //! Plans.
 ghost use Rattle.std.specs.Prelude.{◌≡◌, ◌-◌, ◌<◌, ◌≤◌, List, length, option_map, slice_get, Some, IfOk};
-ghost use Rattle.hum_words.specs.Branches.{lines_of};
 ghost use Rattle.hum_plan.specs.Answers.{whole_fault, WholeAnswer, PlanAnswer};
 ghost use Rattle.hum_plan.specs.Grammar.{IsPlanOf};
 ghost use Rattle.hum_plan.specs.Laws.{Agrees};

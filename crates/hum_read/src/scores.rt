@@ -102,7 +102,6 @@ impl<R> Model for ScoreReader<R> {
 }
 
 impl<R: Source> ScoreReader<R> {
-    ghost use Rattle.hum_record.specs.Row.{Row};
     ghost use Rattle.hum_read.specs.Reading.{IsFresh, HasRead, GivesNext};
     ghost use Rattle.hum_read.specs.Reading.{IsCalledAtMostOnce, IsDue, ReadsOnce, Nears};
     ghost use Rattle.hum_read.specs.Reading.{ReadOn, stop_of, answer_of};

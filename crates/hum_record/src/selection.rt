@@ -1,5 +1,5 @@
 //! Which tokens are left of records of one width.
-ghost use Rattle.std.specs.Prelude.{◌≡◌, [], length, not, IfOk};
+ghost use Rattle.std.specs.Prelude.{◌≡◌, [], not, IfOk};
 ghost use Rattle.std.specs.List.{list_any};
 ghost use Rattle.hum_record.specs.Selecting.{front_of, moved_of};
 

@@ -1,6 +1,6 @@
 //! The stage round a command that decides each record at once.
 ghost use Rattle.std.specs.Prelude.{◌≡◌, true, length, []};
-ghost use Rattle.hum_stage.specs.Meaning.{Moment, opening};
+ghost use Rattle.hum_stage.specs.Meaning.{opening};
 ghost use Rattle.hum_stage.specs.Decided.{at_once};
 ghost use Rattle.hum_stage.specs.Standing.{Standing};
 

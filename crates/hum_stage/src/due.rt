@@ -1,5 +1,5 @@
 //! Records that are due.
-ghost use Rattle.std.specs.Prelude.{◌≡◌, [], ◌∷◌, ◌==◌, ◌<◌, ◌^◌, List, length, IfOk};
+ghost use Rattle.std.specs.Prelude.{◌≡◌, [], ◌∷◌, ◌==◌, ◌<◌, List, length, IfOk};
 ghost use Rattle.std.specs.Option.{option_to_list};
 ghost use Rattle.hum_record.specs.Row.{Row};
 ghost use Rattle.hum_stage.specs.Dues.{IsNext};

@@ -1,7 +1,7 @@
 //! The stage round a command whose records wait for later ones.
 ghost use Rattle.std.specs.Prelude.{◌≡◌, ◌-◌, true};
 ghost use Rattle.std.specs.VecDeque.{deque_len};
-ghost use Rattle.hum_stage.specs.Meaning.{Moment, opening};
+ghost use Rattle.hum_stage.specs.Meaning.{opening};
 ghost use Rattle.hum_stage.specs.Look.{looking};
 ghost use Rattle.hum_stage.specs.Lagging.{Lags};
 ghost use Rattle.hum_stage.specs.Settles.{with_due};

@@ -1,5 +1,5 @@
 //! Whole lists through a stage.
-ghost use Rattle.std.specs.Prelude.{◌≡◌, ℕ, ◌≤◌, length, IfOk, OnOk};
+ghost use Rattle.std.specs.Prelude.{◌≡◌, ◌≤◌, length, IfOk, OnOk};
 ghost use Rattle.hum_stage.specs.Score.{IsScore, IsClosed};
 ghost use Rattle.hum_stage.specs.Meaning.{Meaning, Moment, opening, IsWhole, TookAll};
 

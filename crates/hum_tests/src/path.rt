@@ -1,5 +1,5 @@
 //! Spines of small scores, by hand: where they come from, and each rule broken once.
-ghost use Rattle.std.specs.Prelude.{◌≡◌, ◌≤◌, [], length};
+ghost use Rattle.std.specs.Prelude.{[]};
 
 use crate::compared::{holds, same, same_bytes};
 use crate::record::read;

@@ -1,5 +1,5 @@
 //! Readers and writers that show how often they were called and whether a call failed.
-ghost use Rattle.std.specs.Prelude.{◌≡◌, ℕ, Bool, List, ◌||◌, ◌==◌, is_err, is_ok, false, length};
+ghost use Rattle.std.specs.Prelude.{◌≡◌, ℕ, Bool, List, ◌||◌, is_err, is_ok, false, length};
 ghost use Rattle.std.specs.Prelude.{◌<◌, ◌≤◌, Option};
 ghost use Rattle.std.specs.Io.{ReadsAtMost, WritesAtMost};
 ghost use Rattle.std.specs.Io.KnownBytes.{ReadConsumes, WriteAppends, Keeps};

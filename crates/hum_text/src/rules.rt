@@ -1,8 +1,8 @@
 //! The rules that a text may break, line by line.
-ghost use Rattle.std.specs.Prelude.{◌≡◌, ◌≢◌, ℕ, ◌+◌, ◌-◌, ◌<◌, ◌≤◌, Bool, true, false};
-ghost use Rattle.std.specs.Prelude.{length, take, IfSome, IfNone, IsTrue, Some, None, ◌++◌, ◌∷◌, []};
+ghost use Rattle.std.specs.Prelude.{◌≡◌, ◌≢◌, ℕ, ◌+◌, ◌-◌, ◌<◌, ◌≤◌, true, false};
+ghost use Rattle.std.specs.Prelude.{length, IfSome, IfNone, IsTrue, Some, None, ◌++◌, ◌∷◌, []};
 ghost use Rattle.std.specs.Prelude.{slice_index};
-ghost use Rattle.hum_text.specs.Text.{lf, rule_in, rule_of_line, without_cr, ends_in_cr};
+ghost use Rattle.hum_text.specs.Text.{lf, rule_in, rule_of_line, without_cr};
 ghost use Rattle.hum_text.specs.Text.{IsLawful, BreaksFirst};
 
 use crate::{Limits, TextFault};

@@ -1,11 +1,9 @@
 //! Records that are due round one.
-ghost use Rattle.std.specs.Prelude.{◌≡◌, ◌+◌, ◌<◌, ◌^◌, ◌∷◌, [], length, true, is_some, IfOk};
+ghost use Rattle.std.specs.Prelude.{◌≡◌, ◌+◌, ◌<◌, ◌^◌, ◌∷◌, [], true, is_some, IfOk};
 ghost use Rattle.std.specs.Prelude.{None, Some, OnOk, if◌then◌else◌};
-ghost use Rattle.std.specs.Option.{option_to_list};
 ghost use Rattle.hum_record.specs.Row.{kind_of, tokens_of, text_of};
 ghost use Rattle.hum_record.specs.Spelling.{IsTextOf};
 ghost use Rattle.hum_record.specs.declared.Kind.TheVariants.{Values as AnyValues};
-ghost use Rattle.hum_stage.specs.Dues.{IsNext};
 ghost use Rattle.hum_timebase.specs.Dues.{row_in, due_rows, AreNulls};
 ghost use Rattle.hum_timebase.specs.Timebase.{around, null_row};
 

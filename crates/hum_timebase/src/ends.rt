@@ -1,5 +1,5 @@
 //! Ends of notes, one for each column.
-ghost use Rattle.std.specs.Prelude.{◌≡◌, ◌++◌, ℕ, true, false, not, length, map, None, Some};
+ghost use Rattle.std.specs.Prelude.{◌≡◌, ◌++◌, true, false, map, None, Some};
 ghost use Rattle.std.specs.Prelude.{List, Option, IfOk, OnErr, OnOk, slice_index_or, slice_set};
 ghost use Rattle.std.specs.List.{list_any};
 ghost use Rattle.hum_kern.specs.Ratio.{Ratio, plus};

@@ -1,5 +1,5 @@
 //! What each record becomes.
-ghost use Rattle.std.specs.Prelude.{◌≡◌, ◌+◌, [], ◌∷◌, Ok, Err, Some, None, ℕ};
+ghost use Rattle.std.specs.Prelude.{◌≡◌, [], ◌∷◌, Ok, Err, Some, None, ℕ};
 ghost use Rattle.std.specs.Prelude.{IfOk, OnOk, is_some, if◌then◌else◌, List, Bool};
 ghost use Rattle.std.specs.List.{list_any};
 ghost use Rattle.hum_record.specs.Row.{Row, kind_of, tokens_of, text_of};

@@ -1,6 +1,6 @@
 //! Timed columns, and the notes in their cells.
 ghost use Rattle.std.specs.Prelude.{◌≡◌, ◌∷◌, ◌++◌, ◌≤◌, ◌<◌, [], length, true, false};
-ghost use Rattle.std.specs.Prelude.{IfOk, OnOk, OnErr, IfSome, IsTrue, slice_index_or, map, is_some, ◌&&◌};
+ghost use Rattle.std.specs.Prelude.{IfOk, OnOk, OnErr, IfSome, slice_index_or, is_some, ◌&&◌};
 ghost use Rattle.std.specs.List.{list_any};
 ghost use Rattle.hum_record.specs.Row.{tokens_of};
 ghost use Rattle.hum_record.specs.Contents.{is_null, is_barline};
@@ -10,8 +10,8 @@ ghost use Rattle.hum_kern.specs.Runs.{run};
 ghost use Rattle.hum_kern.specs.Subtokens.{leads_shortly};
 ghost use Rattle.hum_timebase.specs.Notes.{is_timed, timed_in, own_name, timed_at};
 ghost use Rattle.hum_timebase.specs.Notes.{is_sounding};
-ghost use Rattle.hum_timebase.specs.Notes.{subtokens, first_duration, note_of, notes_of};
-ghost use Rattle.hum_timebase.specs.Notes.{is_misread, has_misread};
+ghost use Rattle.hum_timebase.specs.Notes.{subtokens, first_duration, note_of};
+ghost use Rattle.hum_timebase.specs.Notes.{is_misread};
 ghost use Rattle.hum_timebase.specs.Reading.{content_of, rest_parts, is_part, Read};
 ghost use Rattle.hum_timebase.specs.Reading.{IsNote};
 

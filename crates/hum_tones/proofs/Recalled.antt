@@ -45,17 +45,6 @@ module _ {A : Type 0} (answers : List ℕ → A → Type 0) (places : List (Plac
         by i place (inl w) = h.each i place w
         by i place (inr w) = rw w answered
 
-  -- the answer in a place that has this token
-  pub answer_at : (at : ℕ) (place : Place A) (token : List ℕ) → AllAnswer answers places → at < length places → place ≡ get_or places at place
-      → place.token ≡ token → token ≢ [] → answers token place.answer
-  answer_at at place token h below is same filled =
-      rw same at (h.each at place (there places at place below is) (rw same filled))
-    where
-      there : (xs : List (Place A)) (i : ℕ) (x : Place A) → i < length xs → x ≡ get_or xs i x → slice_get xs i ≡ Some x
-      there [] i x below is = absurd (omega (arith, below))
-      there (y ∷ ys) zero x below is = ap (λ (z : Place A). Some z) (sym is)
-      there (y ∷ ys) (suc i) x below is = there ys i x (omega (arith, below)) is
-
 -- a token that became something is told so
 told_so : (becomes : Result (List ℕ) Rule) (text : List ℕ) → IsRetold becomes text None → Tells becomes text None
 told_so (Ok token) text h = (ap Ok (sym h.0), h.1)

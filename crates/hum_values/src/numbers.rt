@@ -1,5 +1,5 @@
 //! Numbers.
-ghost use Rattle.std.specs.Prelude.{◌≡◌, ◌≤◌, ◌<◌, ◌^◌, ℕ, ℤ, pos, nat_abs, ◌≤ℤ◌, Some, IfSome};
+ghost use Rattle.std.specs.Prelude.{◌≡◌, ◌≤◌, ◌<◌, ℕ, ℤ, pos, nat_abs, ◌≤ℤ◌, Some, IfSome};
 ghost use Rattle.std.specs.Option.{option_map};
 ghost use Rattle.hum_values.specs.Numbers.{IsNumber, IsSigned};
 ghost use Rattle.hum_values.specs.Numbers.{digits_of, number_of, positive_of, signed_of};

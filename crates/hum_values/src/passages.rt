@@ -1,5 +1,5 @@
 //! Numbers of passages.
-ghost use Rattle.std.specs.Prelude.{◌≡◌, ◌≤◌, ℕ, List, Some, IfSome, IfOk};
+ghost use Rattle.std.specs.Prelude.{◌≡◌, List, Some, IfSome, IfOk};
 ghost use Rattle.std.specs.Option.{option_map};
 ghost use Rattle.hum_yank.specs.declared.options.YankRange.{YankRange};
 ghost use Rattle.hum_values.specs.Numbers.{number_of, positive_of};

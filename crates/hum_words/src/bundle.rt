@@ -3,7 +3,7 @@
 //! A bundle is the plan's lines, then for each score a line `--- NAME` and the score's bytes up to
 //! the next line that begins with `--- ` or the end. A CR at the end of such a line is dropped, and
 //! the first score of a name counts. A bundle has at most 67,108,864 bytes.
-ghost use Rattle.std.specs.Prelude.{◌≡◌, ◌≤◌, ◌<◌, ◌++◌, ◌∷◌, length, option_map, nat_lt};
+ghost use Rattle.std.specs.Prelude.{◌≡◌, ◌<◌, ◌++◌, ◌∷◌, length, option_map, nat_lt};
 ghost use Rattle.hum_words.specs.Bundle.{largest, lines, without_last, name_in, names};
 ghost use Rattle.hum_words.specs.Bundle.{before_name, plan_of, score_of};
 

@@ -1,10 +1,10 @@
 //! The words and bars of a line.
-ghost use Rattle.std.specs.Prelude.{◌≡◌, ◌≢◌, ℕ, ◌+◌, ◌<◌, ◌≤◌, ◌^◌, true, false, length};
-ghost use Rattle.std.specs.Prelude.{List, [], ◌∷◌, ◌++◌, IfOk, IfErr, IfSome, IfNone};
+ghost use Rattle.std.specs.Prelude.{◌≡◌, ◌≢◌, ℕ, ◌+◌, ◌<◌, ◌≤◌, ◌^◌, false, length};
+ghost use Rattle.std.specs.Prelude.{List, ◌∷◌, IfOk, IfErr, IfSome, IfNone};
 ghost use Rattle.std.specs.List.{prefix_len};
-ghost use Rattle.hum_words.specs.Characters.{is_bare, begins_apart, begins_blank};
+ghost use Rattle.hum_words.specs.Characters.{is_bare, begins_blank};
 ghost use Rattle.hum_words.specs.Pieces.{Item, number_of, item_of};
-ghost use Rattle.hum_words.specs.Writing.{IsBare, IsQuotable, BeginsWith, BeginsWithWord};
+ghost use Rattle.hum_words.specs.Writing.{BeginsWith, BeginsWithWord};
 ghost use Rattle.hum_words.specs.Writing.{IsWrong, IsWritten};
 ghost use Rattle.hum_words.specs.Cutting.{Tells, Gives, GivesItems, cut_line};
 ghost use Rattle.hum_words.specs.declared.cutting.LineFault.TheVariants.{Quote, Memory};

@@ -1,8 +1,6 @@
 //! Which records begin and end passages.
 ghost use Rattle.std.specs.Prelude.{◌≡◌, ◌≢◌, true, false, if◌then◌else◌, [], drop, Some, None};
 ghost use Rattle.std.specs.List.{list_any, find, take_while};
-ghost use Rattle.std.specs.Str.{bytes_eq};
-ghost use lib.Chars.{codes};
 ghost use Rattle.hum_record.specs.Row.{tokens_of};
 ghost use Rattle.hum_record.specs.Contents.{is_null};
 ghost use Rattle.hum_pattern.specs.Meaning.{matched, first_end};

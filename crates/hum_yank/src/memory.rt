@@ -1,6 +1,5 @@
 //! What yank remembers of the records so far and of those that wait.
-ghost use Rattle.std.specs.Prelude.{◌≡◌, ◌∷◌, if◌then◌else◌, OnOk, IfOk, List};
-ghost use Rattle.std.specs.VecDeque.{deque_len};
+ghost use Rattle.std.specs.Prelude.{◌≡◌, if◌then◌else◌};
 ghost use Rattle.hum_yank.specs.Options.{form_of};
 ghost use Rattle.hum_yank.specs.Memory.{adds};
 ghost use Rattle.hum_yank.specs.Marks.{last_in};

@@ -1,5 +1,5 @@
 //! The stages of a plan as nodes of a net.
-ghost use Rattle.std.specs.Prelude.{◌≡◌, ◌≤◌, ◌<◌, ◌+◌, ℕ, pred, List, ◌∷◌, ◌++◌, [], map, length};
+ghost use Rattle.std.specs.Prelude.{◌≡◌, ◌≤◌, ◌<◌, ◌+◌, ℕ, pred, List, ◌∷◌, [], map, length};
 ghost use Rattle.std.specs.Prelude.{IfOk, OnOk, Bool, true, false};
 ghost use Rattle.hum_stage.specs.Meaning.{Meaning, opening, IsLawful};
 ghost use Rattle.hum_nodes.specs.At.{fresh};
