@@ -23,9 +23,13 @@ at_most = $(shell awk -v most=$(1) -v each=$(2) -v memory=$(memory) \
 LANES ?= $(call at_most,$(shell nproc),4000000)
 
 log = crates/humpipe/out/log
-# the crates that the program is made of: each line of crates.txt names those that a crate uses, which stand above it
-crates = $(shell tac crates.txt | awk -F'[: ]+' '$$1 == "humpipe" { uses[$$1] } \
-	$$1 in uses { print $$1; for (i = 2; i <= NF; i++) uses[$$i] }')
+# the crates that the program is made of: each line of crates.txt names those that a crate uses
+crates = $(shell awk -F'[: ]+' '{ line[$$1] = $$0 } \
+	function reach(crate, names, n, i) { \
+		if (!(crate in line) || crate in reached) return; \
+		reached[crate]; n = split(line[crate], names); \
+		for (i = 2; i <= n; i++) reach(names[i]); print crate } \
+	END { reach("humpipe") }' crates.txt)
 files = $(shell find crates -name out -prune -o -name must-fail -prune -o -type f -print)
 
 .PHONY: all demo test bench rows docs lint install clean
