@@ -10,6 +10,7 @@ from pathlib import Path
 CRATES = Path(__file__).resolve().parent.parent / 'crates'
 WORD = re.compile(r"[^\s(){}.,;:λ]+")
 LEMMA = re.compile(r'^( *)(?:pub |abbrev |unfoldable )*([^\s(){}]+) : ')
+GHOST_USE = re.compile(r'^ *ghost use [^{]*{([^}]*)};$')
 
 
 def blocks(text):
@@ -26,9 +27,6 @@ def blocks(text):
 
 def is_worked(name, text):
     return text.rstrip().endswith(f'\n{name} = refl')
-
-
-GHOST_USE = re.compile(r'^ *ghost use [^{]*{([^}]*)};$')
 
 
 def said_by(word):
