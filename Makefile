@@ -3,11 +3,15 @@
 #   make            proves each crate and builds ./humpipe
 #   make demo       shows the main job on a score of examples/
 #   make test       the merge gate: make lint, every proof from nothing, the edits that must fail, tests, runs, the rows of tests/,
-#                   the examples of the docs
+#                   the Python package, a release, the examples of the docs; what needs a program that isn't there is left out, and told
 #   make bench      times and peak memory beside other programs on the same score
 #   make install    the program, its man page, the manual (docs/) and completions, into PREFIX=/usr/local
+#   make dist       a release in dist/: a tarball, a Debian package and their checksums
+#   make dist-test  installs them in fresh folders, and runs them there
 #   make rows       runs the rows of tests/ with the program
 #   make docs       runs what the README and docs/ print, with it
+#   make python     runs the tests of the Python package, with it
+#   make plots      draws docs/plots/ anew, by gnuplot
 #   make lint       the man page, the scripts and the grammar, as far as there are programs that read them
 #
 # The first build proves every crate that the program is made of, and tells each one that is proved. Later ones prove what
@@ -15,6 +19,8 @@
 # crates of tests, which the program doesn't need, are proved by make test.
 #
 # Both make as many checks at once as there are processors and memory for; the gate plans on LANES of 4 GB each.
+#
+# dist, dist-test and plots take the program that is there, and prove nothing anew. PROGRAM names another.
 
 PREFIX ?= /usr/local
 memory = $(shell awk '$$1 == "MemAvailable:" { print $$2 }' /proc/meminfo)
@@ -32,7 +38,12 @@ crates = $(shell awk -F'[: ]+' '{ line[$$1] = $$0 } \
 	END { reach("humpipe") }' crates.txt)
 files = $(shell find crates -name out -prune -o -name must-fail -prune -o -type f -print)
 
-.PHONY: all demo test bench rows docs lint install clean
+# the program that is there, for a recipe, and what makes one where none is
+there = $${PROGRAM:-$$(ls humpipe crates/humpipe/out/humpipe 2>/dev/null | head -n 1)}
+export PROGRAM
+needed = $(if $(PROGRAM)$(wildcard humpipe crates/humpipe/out/humpipe),,humpipe)
+
+.PHONY: all demo test bench rows docs python plots lint install dist dist-test clean
 
 all: humpipe
 
@@ -76,13 +87,16 @@ demo: humpipe
 	@echo '$$ ./humpipe examples/no_comments.hpl'
 	@./humpipe examples/no_comments.hpl
 
-# Rows and examples run with the program that is there, the rows as Rattle's own compiler makes it too; DOCS=no leaves them out.
+# Rows, Python, release and examples run with the program that is there, the rows as Rattle's own compiler makes it too; DOCS=no leaves them out.
 test: lint
-	RT_JOBS=$(LANES) rt ci
-	@program=$$(ls humpipe crates/humpipe/out/humpipe 2>/dev/null | head -n 1); \
+	@command -v rt >/dev/null || { echo 'left out: the proofs, the edits and the tests of the crates (no rt)'; exit 0; }; \
+	echo 'RT_JOBS=$(LANES) rt ci'; RT_JOBS=$(LANES) rt ci
+	@program=$(there); \
 	if test "$(DOCS)" = no; then :; \
 	elif test -n "$$program"; then \
 		for made in "$$program" "$$program.by-rattle"; do test ! -x "$$made" || python3 tests/check.py "$$made" || exit 1; done; \
+		HUMPIPE=$$(realpath "$$program") && export HUMPIPE && (cd python && python3 -m tests) && \
+		python3 packaging/check.py "$$program" && \
 		python3 docs/check.py "$$program"; \
 	else echo 'no program at humpipe or crates/humpipe/out/humpipe: make it, or say DOCS=no'; echo '0 passed, 1 failed'; exit 1; fi
 
@@ -95,24 +109,34 @@ rows: humpipe
 docs: humpipe
 	@python3 docs/check.py humpipe
 
+python: humpipe
+	@cd python && HUMPIPE=../humpipe python3 -m tests
+
+# in a folder that has what the plots read
+plots: $(needed)
+	@room=$$(mktemp -d) && trap 'rm -rf "$$room"' EXIT && ln -s "$$PWD/examples" "$$room" && ln -s "$$(realpath $(there))" "$$room/humpipe" && \
+	for plot in intervals contour rhythms reach; do \
+		(cd "$$room" && gnuplot examples/plots/$$plot.gp) >docs/plots/$$plot.svg || exit 1; echo docs/plots/$$plot.svg; done
+
 # A program that isn't there is left out.
 has = command -v $(1) >/dev/null ||
 lint:
 	@$(call has,groff) exit 0; test -z "$$(LC_ALL=C.UTF-8 groff -ww -man -Tutf8 -z man/humpipe.1 2>&1 | tee /dev/stderr)"
 	@$(call has,man) exit 0; test -z "$$(LC_ALL=C.UTF-8 man --warnings -l -Tutf8 -Z man/humpipe.1 2>&1 >/dev/null | tee /dev/stderr)"
 	@$(call has,mandoc) exit 0; mandoc -Tlint man/humpipe.1
-	@sh -n examples/corpus.sh && bash -n completions/humpipe.bash
+	@sh -n examples/corpus.sh && sh -n install.sh && sh -n packaging/dist.sh && bash -n completions/humpipe.bash
 	@$(call has,zsh) exit 0; zsh -n completions/_humpipe
 	@$(call has,fish) exit 0; fish -n completions/humpipe.fish
-	@python3 -m json.tool editors/humpipe.tmLanguage.json /dev/null
+	@for file in editors/vscode/*.json; do python3 -m json.tool "$$file" /dev/null || exit 1; done
 
 install: humpipe
-	install -D -m 755 humpipe $(DESTDIR)$(PREFIX)/bin/humpipe
-	install -D -m 644 man/humpipe.1 $(DESTDIR)$(PREFIX)/share/man/man1/humpipe.1
-	install -D -m 644 -t $(DESTDIR)$(PREFIX)/share/doc/humpipe docs/*.md
-	install -D -m 644 completions/humpipe.bash $(DESTDIR)$(PREFIX)/share/bash-completion/completions/humpipe
-	install -D -m 644 completions/_humpipe $(DESTDIR)$(PREFIX)/share/zsh/site-functions/_humpipe
-	install -D -m 644 completions/humpipe.fish $(DESTDIR)$(PREFIX)/share/fish/vendor_completions.d/humpipe.fish
+	PROGRAM=humpipe ./install.sh $(PREFIX)
+
+dist: $(needed)
+	@packaging/dist.sh $(there)
+
+dist-test: dist
+	@python3 packaging/check.py --whole $(there)
 
 clean:
-	rm -rf humpipe crates/*/out bench/data
+	rm -rf humpipe dist crates/*/out bench/data

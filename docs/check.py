@@ -1,20 +1,22 @@
 #!/usr/bin/env python3
-"""check.py [--slow] PROGRAM: runs what README.md, bench/README.md and docs/*.md print, with PROGRAM as humpipe.
+"""check.py [--slow] PROGRAM: runs what README.md and the other pages print, with PROGRAM as humpipe.
 
 Each page gets a folder of its own with PROGRAM as `humpipe` and the folder `examples` of the repository. Checked are
 
 - transcripts: code blocks that begin with `$ `. `$ cat FILE` shows a file. If the repository has it, it must have the text that
   is printed; else it is written with this text. Any other `$ LINE` is run by bash; a line that ends with a backslash goes on in
-  the next one. Under it stand standard output, then standard error, then `[status N]` if the status isn't 0. A line `..`
-  stands for any lines. The commands in SKIPPED aren't run, nor transcripts with a program of MAY_LACK that isn't on the machine.
+  the next one, and one that ends with <<'EOF' through the line EOF. Under it stand standard output, then standard error, then `[status N]` if the status isn't 0. A line `..`
+  stands for any lines. The commands in SKIPPED aren't run, nor transcripts with a program or a Python module of MAY_LACK that isn't on the
+  machine.
 - tables with a column `Told as`: the plan in front of it must be refused with the row's code, line and word. In the column
   `Instead`, what begins as a plan must be one.
 - pages whose headings begin with a code: the code must be the last word of the last output under it, and every code that the
   program can tell must have its heading. Those under SLOW take long, and run with --slow alone.
 - a plan or a call of the program that stands in a code block outside a transcript is a failure.
-- links: the file, and the heading behind `#`.
+- links inside the repository: the file, and the heading behind `#`.
 
 One line for each page, after what failed there; the last line is `N passed, M failed`. Status 1 if something failed."""
+import functools
 import glob
 import os
 import re
@@ -24,8 +26,8 @@ import sys
 import tempfile
 
 TOP = os.path.dirname(os.path.dirname(os.path.abspath(__file__)))
-SKIPPED = ['cd humpipe', 'make']
-MAY_LACK = ['parallel']
+SKIPPED = re.compile(r'cd humpipe\S*|make|sha256sum -c SHA256SUMS|tar -xzf humpipe-\S+|sudo .*|man humpipe')
+MAY_LACK = ['parallel', 'gnuplot', 'pandas']
 SLOW = ['S3', 'S7', 'L2']
 CODE = re.compile(r'[A-Z]{1,2}[0-9]{1,2}')
 PLAN = re.compile(r'(?!humpipe: )([a-z][A-Za-z0-9_]*:|\./humpipe|humpipe) ')
@@ -65,7 +67,9 @@ def steps(first, block):
     """The commands of a transcript: the number of the line, the command, and the lines under it."""
     found = []
     for number, line in enumerate(block, first + 1):
-        if line.startswith('$ '):
+        if found and found[-1][1][0].endswith("<<'EOF'") and found[-1][1][-1] != 'EOF':
+            found[-1][1].append(line)
+        elif line.startswith('$ '):
             found.append((number, [line[2:]], []))
         elif not found[-1][2] and found[-1][1][-1].endswith('\\'):
             found[-1][1].append(line)
@@ -97,6 +101,12 @@ def is_shown(shown, lines):
     return True
 
 
+@functools.lru_cache(maxsize=None)
+def is_there(name):
+    """Whether the machine has a program, or its Python a module."""
+    return bool(shutil.which(name)) or subprocess.run(['python3', '-c', f'import {name}'], stderr=subprocess.DEVNULL).returncode == 0
+
+
 def folder_with(program):
     folder = tempfile.mkdtemp(prefix='humpipe-docs-')
     shutil.copytree(os.path.join(TOP, 'examples'), os.path.join(folder, 'examples'))
@@ -106,7 +116,8 @@ def folder_with(program):
 
 def run(command, folder):
     """What a command line writes, as lines, with its status as the last if it isn't 0."""
-    surroundings = dict(os.environ, PATH=folder + os.pathsep + os.environ['PATH'], LC_ALL='C.UTF-8', HOME=folder)
+    surroundings = dict(os.environ, PATH=folder + os.pathsep + os.environ['PATH'], LC_ALL='C.UTF-8', HOME=folder,
+                        PYTHONPATH=os.path.join(TOP, 'python'), PYTHONDONTWRITEBYTECODE='1')
     for name in ('MAKEFLAGS', 'MFLAGS', 'MAKELEVEL', 'HUMPIPE'):
         surroundings.pop(name, None)
     try:
@@ -154,7 +165,7 @@ class Page:
         lines = []
         for number, command, shown in steps(first, block):
             words = command.split()
-            if command in SKIPPED:
+            if SKIPPED.fullmatch(command):
                 self.left_out += 1
             elif words[0] == 'cat' and len(words) == 2:
                 self.cat(number, words[1], shown)
@@ -187,7 +198,7 @@ class Page:
         for first, block in blocks(self.lines):
             code = self.code_at(first)
             if block and block[0].startswith('$ '):
-                lacking = [word for word in MAY_LACK if word in ' '.join(block).split() and not shutil.which(word)]
+                lacking = [word for word in MAY_LACK if word in ' '.join(block).split() and not is_there(word)]
                 if lacking or code in SLOW and '--slow' not in sys.argv:
                     self.left_out += 1
                     continue
@@ -215,6 +226,8 @@ class Page:
     def check_links(self):
         for number, line in enumerate(self.lines, 1):
             for target in re.findall(r'\]\(([^)]*)\)', line if not line.startswith('    ') else ''):
+                if '://' in target:
+                    continue
                 path, _, anchor = target.partition('#')
                 place = os.path.normpath(os.path.join(TOP, os.path.dirname(self.path), path)) if path else os.path.join(TOP, self.path)
                 self.tell(number, os.path.exists(place) and (not anchor or anchor in anchors(place)), f'no such place: {target}')
@@ -272,7 +285,7 @@ def main():
         print(f'check.py: no program at {words[0]}')
         print('0 passed, 1 failed')
         sys.exit(1)
-    paths = ['README.md', 'bench/README.md'] + sorted(os.path.relpath(p, TOP) for p in glob.glob(os.path.join(TOP, 'docs', '*.md')))
+    paths = ['README.md', 'CHANGELOG.md', 'CONTRIBUTING.md', 'bench/README.md'] + sorted(os.path.relpath(p, TOP) for p in glob.glob(os.path.join(TOP, 'docs', '*.md')))
     pages = [Page(path, words[0]) for path in paths if os.path.exists(os.path.join(TOP, path))]
     for page in pages:
         page.check()
@@ -281,4 +294,5 @@ def main():
     sys.exit(1 if failed else 0)
 
 
-main()
+if __name__ == '__main__':
+    main()

@@ -1,6 +1,6 @@
 -- The frame goes on from record to record.
 use Rattle.std.proofs.Common.{◌≡◌, ◌∙◌, refl, sym, ap, ℕ, true, false, List, [], ◌∷◌, map}
-use Rattle.std.specs.Prelude.{Option, None, Some, Bool}
+use Rattle.std.specs.Prelude.{None, Bool, Ok, Err}
 use Rattle.std.specs.List.{list_all, find}
 use Rattle.std.proofs.lemmas.Bool.{and_parts, not-false, false≢true}
 use Rattle.hum_record.specs.declared.SpinedKind.TheVariants.{Local, Interpretation, Values}
@@ -16,7 +16,7 @@ use Rattle.hum_stage.specs.declared.faults.Rule.{Rule}
 use Rattle.hum_stage.specs.Decided.{Decision, MayStep, Steps, in_room}
 use Rattle.hum_cells.specs.declared.told.Told.{Told}
 use Rattle.hum_cells.specs.Retelling.{Retelling, is_kern, kern_columns}
-use Rattle.hum_cells.specs.Telling.{Frames, MayFollow, HasFollowed, MayTell, HasTold, decision, Puts}
+use Rattle.hum_cells.specs.Telling.{Frames, MayFollow, HasFollowed, MayTell, HasTold, decision}
 
 quiet : (path : Path) (tokens : List (List ℕ)) → all_plain tokens ≡ true → find (breaks path tokens) in_order ≡ None
     → exclusives path ≡ names_after path tokens
@@ -67,20 +67,27 @@ may_tell before after row found same is follow m = record {
 
 -- What they say together.
 pub stepped : (before followed told : Retelling → List Row → Type 0) {path path' : Path} {kern shown kern' : List Bool} (row : Row)
-    (found : List Move) (answer : Told) (rows : List Row) (refused : Option Rule) (room : ℕ) → shown ≡ kern → found ≡ moves path row
-    → path' ≡ after path row → HasFollowed before followed row found → HasTold followed told shown row answer
+    (found : List Move) (answer : Told) (rows : List Row) (room : ℕ) → shown ≡ kern → found ≡ moves path row
+    → path' ≡ after path row → HasFollowed before followed row found → HasTold followed told shown row (Ok answer)
     → ((past : List Row) → kern ≡ kern_columns past → path' ≡ path_after (row ∷ past) → IsOpen (row ∷ past) → kern' ≡ kern_columns (row ∷ past))
-    → Puts (decision row answer) rows refused
+    → decision row (Ok answer) ≡ Ok rows
     → (decide : Decision) (past : List Row) → Frames before path kern decide past → IsOpen (row ∷ past)
-    → Steps decide past row (Frames told path' kern') room rows refused
-stepped before followed told {path' = path'} row found answer rows None room same is at follow tell mark puts decide past h sound =
+    → Steps decide past row (Frames told path' kern') room rows None
+stepped before followed told {path' = path'} row found answer rows room same is at follow tell mark puts decide past h sound =
     let m = follow h.retelling past h.memory sound (moved row found is h) in
     let t = tell h.retelling past m (same ∙ h.kern_is) sound in
     let spines : path' ≡ path_after (row ∷ past) = at ∙ ap (λ p. after p row) h.spines in (
       ap (λ (d : Decision). d past row) h.command ∙ t.1 ∙ puts,
       record { retelling = h.retelling; command = h.command; memory = t.0; spines = spines; kern_is = mark past h.kern_is spines sound },
     )
-stepped before followed told row found answer rows (Some rule) room same is at follow tell mark puts decide past h sound =
+
+-- The same of a record that is refused.
+pub refused : (before followed told : Retelling → List Row → Type 0) {path : Path} {kern shown : List Bool} (row : Row)
+    (found : List Move) (rule : Rule) (room : ℕ) → shown ≡ kern → found ≡ moves path row
+    → HasFollowed before followed row found → HasTold followed told shown row (Err rule)
+    → (decide : Decision) (past : List Row) → Frames before path kern decide past → IsOpen (row ∷ past)
+    → in_room room (decide past row) ≡ Err rule
+refused before followed told row found rule room same is follow tell decide past h sound =
     let m = follow h.retelling past h.memory sound (moved row found is h) in
     let t = tell h.retelling past m (same ∙ h.kern_is) sound in
-    ap (in_room room) (ap (λ (d : Decision). d past row) h.command ∙ t.1 ∙ puts)
+    ap (in_room room) (ap (λ (d : Decision). d past row) h.command ∙ t.1)

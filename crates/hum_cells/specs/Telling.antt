@@ -14,7 +14,7 @@ use Rattle.hum_cells.specs.declared.retells.Heading.{Heading as Shown}
 use Rattle.hum_cells.specs.declared.retells.Heading.TheVariants.{Renamed as ShownRenamed}
 use Rattle.hum_cells.specs.declared.retells.Heading.TheVariants.{Followed as ShownFollowed}
 use Rattle.hum_cells.specs.declared.told.Told.{Told}
-use Rattle.hum_cells.specs.declared.told.Told.TheVariants.{Same, Other, With, Refused}
+use Rattle.hum_cells.specs.declared.told.Told.TheVariants.{Same, Other, With}
 use Rattle.hum_cells.specs.Retelling.{Heading, Renamed, Followed, Retelling}
 use Rattle.hum_cells.specs.Retelling.{kern_columns, retold, retell}
 
@@ -87,11 +87,11 @@ pub record Frames (follows : Retelling → List Row → Type 0) (path : Path) (k
   pub kern_is : kern ≡ kern_columns past
 
 -- what is decided of a record
-abbrev pub decision : Row → Told → Result (List Row) Rule
-decision row Same = Ok (row ∷ [])
-decision row (Other made) = Ok (made ∷ [])
-decision row (With behind) = Ok (row ∷ behind ∷ [])
-decision row (Refused rule) = Err rule
+abbrev pub decision : Row → Result Told Rule → Result (List Row) Rule
+decision row (Ok Same) = Ok (row ∷ [])
+decision row (Ok (Other made)) = Ok (made ∷ [])
+decision row (Ok (With behind)) = Ok (row ∷ behind ∷ [])
+decision row (Err rule) = Err rule
 
 -- a record that a teller has followed, by which columns were under **kern in front of it
 pub record MayTell (follows : Retelling → List Row → Type 0) (kern : List Bool) (row : Row)
@@ -105,7 +105,7 @@ pub record MayTell (follows : Retelling → List Row → Type 0) (kern : List Bo
 -- What a record becomes by each retelling and each past with which a teller has followed it, and
 -- follows it still.
 abbrev pub HasTold : (Retelling → List Row → Type 0) → (Retelling → List Row → Type 0)
-    → List Bool → Row → Told → Type 0
+    → List Bool → Row → Result Told Rule → Type 0
 HasTold before after kern row told =
     (retelling : Retelling) (past : List Row) → before retelling (row ∷ past)
     → kern ≡ kern_columns past → IsOpen (row ∷ past)
@@ -132,8 +132,3 @@ HasPushed before after j kern token made making refused =
     (retelling : Retelling) (past : List Row) (above : List (List ℕ)) → before retelling past
     → history past j ≡ token ∷ above
     → after retelling past × Pushes (retold retelling.becomes kern above token) made making refused
-
--- the records that were decided, or the rule
-abbrev pub Puts : Result (List Row) Rule → List Row → Option Rule → Type 0
-Puts decided out None = decided ≡ Ok out
-Puts decided out (Some rule) = decided ≡ Err rule

@@ -1,9 +1,10 @@
 //! The frame round what is a command's own.
-ghost use Rattle.std.specs.Prelude.{◌≡◌, ◌≤◌, ◌∷◌, IfOk, OnOk, List, length, map};
+ghost use Rattle.std.specs.Prelude.{◌≡◌, ◌≤◌, ◌∷◌, OnOk, List, length, map};
 ghost use Rattle.hum_record.specs.declared.Kind.TheVariants.{Interpretation as AnyInterpretation};
 ghost use Rattle.hum_record.specs.Row.{Row, kind_of, text_of};
 ghost use Rattle.hum_path.specs.Spines.{exclusives};
 ghost use Rattle.hum_path.specs.Score.{IsOpen, path_after};
+ghost use Rattle.hum_stage.specs.Refusals.{IfAnswered};
 ghost use Rattle.hum_cells.specs.Retelling.{is_kern, kern_columns, retell};
 ghost use Rattle.hum_cells.specs.Telling.{MayTell, HasTold};
 
@@ -13,7 +14,7 @@ use crate::tokens::{any_told, tell_tokens};
 use crate::told::Told;
 use hum_path::{Paths, steers};
 use hum_record::{Kind, Record, Spare};
-use hum_stage::{AtOnce, Command, Decides, Rule, UpToTwo};
+use hum_stage::{AtOnce, Command, Decides, Refusal, Rule, UpToTwo};
 use std::alloc::{AllocError, Global};
 
 /// A command on the tokens of kern columns, as a stage.
@@ -60,24 +61,27 @@ fn mark_after(row: &Record, paths: &Paths, kern: &mut Vec<bool>) -> Result<(), A
 }
 
 /// What an interpretation becomes.
+///
+/// # Errors
+/// L1; or out of memory.
 fn tell_heading<T: Retells>(
     alloc: Global,
     teller: &T,
     kern: &[bool],
     row: &Record,
     spare: &mut Spare,
-) -> Result<Told, AllocError>
+) -> Result<Told, Refusal>
     requires score { MayTell (T.follows teller.now) kern.now row.now }
     requires kind { kind_of row.now ≡ AnyInterpretation }
     requires at_most { length (text_of row.now) ≤ 1048576 }
-    ensures { IfOk result (HasTold (T.follows teller.now) (T.follows teller.now) kern.now row.now) }
+    ensures { IfAnswered result (HasTold (T.follows teller.now) (T.follows teller.now) kern.now row.now) }
 {
     if !has_kern(row) {
         return Ok(Told::Same);
     }
     let heading = teller.heading();
     match with_heading(alloc, heading, row, spare)? {
-        None => Ok(Told::Refused(Rule::L1)),
+        None => Err(Refusal::Rule(Rule::L1)),
         Some(made) => match heading {
             Heading::Renamed(_) => Ok(Told::Other(made)),
             Heading::Followed(_) => Ok(Told::With(made)),
@@ -86,6 +90,9 @@ fn tell_heading<T: Retells>(
 }
 
 /// What a record becomes.
+///
+/// # Errors
+/// The rule by which it is refused; or out of memory.
 #[inline(never)]
 fn tell<T: Retells>(
     alloc: Global,
@@ -94,9 +101,9 @@ fn tell<T: Retells>(
     row: &Record,
     text: &mut Vec<u8>,
     spare: &mut Spare,
-) -> Result<Told, AllocError>
+) -> Result<Told, Refusal>
     requires score { MayTell (T.follows teller.old) kern.now row.now }
-    ensures { IfOk result (HasTold (T.follows teller.old) (T.follows teller.new) kern.now row.now) }
+    ensures { IfAnswered result (HasTold (T.follows teller.old) (T.follows teller.new) kern.now row.now) }
 {
     match row.kind() {
         Kind::Values => {
@@ -140,12 +147,7 @@ impl<T: Retells> Decides for Cells<T> {
         }
     }
 
-    fn step(
-        &mut self,
-        next: Record,
-        _room: u64,
-        out: &mut UpToTwo,
-    ) -> Result<Option<Rule>, AllocError> {
+    fn step(&mut self, next: Record, _room: u64, out: &mut UpToTwo) -> Result<(), Refusal> {
         self.teller.follow(&next, &self.paths.follow(&next)?)?;
         let told = tell(
             self.alloc,
@@ -156,7 +158,7 @@ impl<T: Retells> Decides for Cells<T> {
             &mut self.spare,
         )?;
         mark_after(&next, &self.paths, &mut self.kern)?;
-        let refused = told.put(next, &mut self.spare, out);
-        Ok(refused)
+        told.put(next, &mut self.spare, out);
+        Ok(())
     }
 }

@@ -1,17 +1,18 @@
 //! What is a command's own.
-ghost use Rattle.std.specs.Prelude.{◌≡◌, [], true, List, IfOk, IfSome, OnOk};
+ghost use Rattle.std.specs.Prelude.{◌≡◌, [], true, List, IfSome, OnOk};
 ghost use Rattle.hum_record.specs.declared.SpinedKind.TheVariants.{Values};
 ghost use Rattle.hum_record.specs.Row.{Row};
 ghost use Rattle.hum_record.specs.Spelling.{IsToken};
 ghost use Rattle.hum_path.specs.Step.{ComeFrom};
 ghost use Rattle.hum_stage.specs.declared.faults.Command.{Command};
+ghost use Rattle.hum_stage.specs.Refusals.{IfTold};
 ghost use Rattle.hum_cells.specs.Retelling.{Retelling, IsHeading, is_told};
 ghost use Rattle.hum_cells.specs.Telling.{MayRetell, HasRetold, MayFollow, HasFollowed};
 ghost use Rattle.hum_cells.specs.Telling.{Knows, ShowsHeading};
 
 use hum_path::Moves;
 use hum_record::Record;
-use hum_stage::{Command, Rule};
+use hum_stage::{Command, Refusal};
 use std::alloc::{AllocError, Global};
 
 /// What becomes of `**kern` where it stands in a record.
@@ -58,19 +59,17 @@ pub trait Retells: Drop {
         None
     }
 
-    /// Puts what the last cell of column `j`, a data token, becomes into the empty text, or answers
-    /// the rule by which it is refused. The token is neither null nor a barline.
-    fn retell(
-        &mut self,
-        j: usize,
-        token: &[u8],
-        text: &mut Vec<u8>,
-    ) -> Result<Option<Rule>, AllocError>
+    /// Puts what the last cell of column `j`, a data token, becomes into the empty text. The token is
+    /// neither null nor a barline.
+    ///
+    /// # Errors
+    /// The rule by which it is refused; or out of memory.
+    fn retell(&mut self, j: usize, token: &[u8], text: &mut Vec<u8>) -> Result<(), Refusal>
         requires column { MayRetell (follows self.old) j token.now }
         requires lawful { IsToken Values token.now }
         requires told { is_told token.now ≡ true }
         requires empty { text.old.items ≡ [] }
-        ensures { IfOk result
+        ensures { IfTold result
             (HasRetold (follows self.old) (follows self.new) j token.now text.new.items) };
 
     /// Goes on with the next record, whose moves are known. Its tokens are told behind that.

@@ -1,9 +1,10 @@
 //! Data records with tokens that are told anew.
-ghost use Rattle.std.specs.Prelude.{◌≡◌, ◌&&◌, length, IfOk, IfSome, OnOk};
+ghost use Rattle.std.specs.Prelude.{◌≡◌, ◌&&◌, length, IfSome, OnOk};
 ghost use Rattle.hum_record.specs.declared.Kind.TheVariants.{Values as AnyValues};
 ghost use Rattle.hum_record.specs.declared.SpinedKind.TheVariants.{Values};
 ghost use Rattle.hum_record.specs.Row.{tokens_of, width_of, kind_of};
 ghost use Rattle.hum_record.specs.Spelling.{IsToken};
+ghost use Rattle.hum_stage.specs.Refusals.{IfTold, IfAnswered};
 ghost use Rattle.hum_cells.specs.Retelling.{is_told, any_told};
 ghost use Rattle.hum_cells.specs.Telling.{KnowsCell, MayRetell, HasPushed, MayTell, HasTold};
 ghost use Rattle.hum_record.specs.Making.{Holds};
@@ -11,8 +12,8 @@ ghost use Rattle.hum_record.specs.Making.{Holds};
 use crate::retells::Retells;
 use crate::told::Told;
 use hum_record::{Making, Record, Spare, SpinedKind, is_barline, is_null};
-use hum_stage::Rule;
-use std::alloc::{AllocError, Global};
+use hum_stage::{Refusal, Rule};
+use std::alloc::Global;
 
 /// Whether a data token of a kern column is told anew: it is neither null nor a barline.
 #[inline]
@@ -58,8 +59,10 @@ fn known<'a, T: Retells>(teller: &'a T, kern: bool, token: &'a [u8]) -> Option<&
     }
 }
 
-/// Adds what the token in column `j` becomes, which is read, or answers the rule by which it is
-/// refused.
+/// Adds what the token in column `j` becomes, which is read.
+///
+/// # Errors
+/// The rule by which it is refused; or out of memory.
 #[inline(never)]
 fn push_read<T: Retells>(
     teller: &mut T,
@@ -68,30 +71,29 @@ fn push_read<T: Retells>(
     token: &[u8],
     text: &mut Vec<u8>,
     making: &mut Making,
-) -> Result<Option<Rule>, AllocError>
+) -> Result<(), Refusal>
     requires column { MayRetell (T.follows teller.old) j token.now }
     requires lawful { IsToken Values token.now }
     requires kind { making.old.builder.kind ≡ Values }
-    ensures pushed { IfOk result (HasPushed (T.follows teller.old) (T.follows teller.new) j kern
+    ensures pushed { IfTold result (HasPushed (T.follows teller.old) (T.follows teller.new) j kern
         token.now (Holds Values making.old.builder making.old.is_long)
         (Holds Values making.new.builder making.new.is_long)) }
     ensures kind { OnOk result (making.new.builder.kind ≡ Values) }
 {
     if !is_retold(kern, token) {
         making.push(token)?;
-        return Ok(None);
+        return Ok(());
     }
     text.clear();
-    match teller.retell(j, token, text)? {
-        Some(rule) => Ok(Some(rule)),
-        None => {
-            making.push(text)?;
-            Ok(None)
-        }
-    }
+    teller.retell(j, token, text)?;
+    making.push(text)?;
+    Ok(())
 }
 
-/// Adds what the token in column `j` becomes, or answers the rule by which it is refused.
+/// Adds what the token in column `j` becomes.
+///
+/// # Errors
+/// The rule by which it is refused; or out of memory.
 #[inline]
 fn push_told<T: Retells>(
     teller: &mut T,
@@ -100,23 +102,26 @@ fn push_told<T: Retells>(
     token: &[u8],
     text: &mut Vec<u8>,
     making: &mut Making,
-) -> Result<Option<Rule>, AllocError>
+) -> Result<(), Refusal>
     requires column { MayRetell (T.follows teller.old) j token.now }
     requires lawful { IsToken Values token.now }
     requires kind { making.old.builder.kind ≡ Values }
-    ensures pushed { IfOk result (HasPushed (T.follows teller.old) (T.follows teller.new) j kern
+    ensures pushed { IfTold result (HasPushed (T.follows teller.old) (T.follows teller.new) j kern
         token.now (Holds Values making.old.builder making.old.is_long)
         (Holds Values making.new.builder making.new.is_long)) }
     ensures kind { OnOk result (making.new.builder.kind ≡ Values) }
 {
     if let Some(told) = known(&*teller, kern, token) {
         making.push(told)?;
-        return Ok(None);
+        return Ok(());
     }
     push_read(teller, j, kern, token, text, making)
 }
 
 /// What a data record becomes.
+///
+/// # Errors
+/// The first rule by which one of its tokens is refused, or L1; or out of memory.
 pub(crate) fn tell_tokens<T: Retells>(
     alloc: Global,
     teller: &mut T,
@@ -124,20 +129,17 @@ pub(crate) fn tell_tokens<T: Retells>(
     row: &Record,
     text: &mut Vec<u8>,
     spare: &mut Spare,
-) -> Result<Told, AllocError>
+) -> Result<Told, Refusal>
     requires score { MayTell (T.follows teller.old) kern.now row.now }
     requires kind { kind_of row.now ≡ AnyValues }
-    ensures { IfOk result (HasTold (T.follows teller.old) (T.follows teller.new) kern.now row.now) }
+    ensures { IfAnswered result (HasTold (T.follows teller.old) (T.follows teller.new) kern.now row.now) }
 {
     let mut making = Making::new(alloc, SpinedKind::Values, spare);
     for j in 0..row.width() {
-        let refused = push_told(teller, j, kern[j], row.token(j), text, &mut making)?;
-        if let Some(rule) = refused {
-            return Ok(Told::Refused(rule));
-        }
+        push_told(teller, j, kern[j], row.token(j), text, &mut making)?;
     }
     match making.finish() {
         Some(made) => Ok(Told::Other(made)),
-        None => Ok(Told::Refused(Rule::L1)),
+        None => Err(Refusal::Rule(Rule::L1)),
     }
 }

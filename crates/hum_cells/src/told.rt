@@ -1,10 +1,11 @@
 //! What is decided of a record.
-ghost use Rattle.hum_cells.specs.Telling.{Puts, decision};
+ghost use Rattle.std.specs.Prelude.{◌≡◌, Ok};
+ghost use Rattle.hum_cells.specs.Telling.{decision};
 
 use hum_record::{Record, Spare};
-use hum_stage::{Rule, UpToTwo};
+use hum_stage::UpToTwo;
 
-/// What a record becomes.
+/// What a record becomes that isn't refused.
 pub(crate) enum Told {
     /// itself
     Same,
@@ -12,8 +13,6 @@ pub(crate) enum Told {
     Other(Record),
     /// itself and another behind it
     With(Record),
-    /// nothing, by this rule
-    Refused(Rule),
 }
 
 // Written out, so that a caller's proof sees one call and not the drop of each variant.
@@ -24,7 +23,6 @@ impl Drop for Told {
             Told::Same => {}
             Told::Other(_made) => {}
             Told::With(_behind) => {}
-            Told::Refused(_) => {}
         }
     }
 }
@@ -32,24 +30,16 @@ impl Drop for Told {
 impl Told {
     /// Puts what was decided of a record. One that gives way to another is done with.
     #[inline]
-    pub(crate) fn put(self, row: Record, spare: &mut Spare, out: &mut UpToTwo) -> Option<Rule>
-        ensures { Puts (decision row self) out.new result }
+    pub(crate) fn put(self, row: Record, spare: &mut Spare, out: &mut UpToTwo)
+        ensures { decision row (Ok self) ≡ Ok out.new }
     {
         match self {
-            Told::Same => {
-                out.put(row);
-                None
-            }
+            Told::Same => out.put(row),
             Told::Other(made) => {
                 out.put(made);
                 spare.keep(row);
-                None
             }
-            Told::With(behind) => {
-                out.put_both(row, behind);
-                None
-            }
-            Told::Refused(rule) => Some(rule),
+            Told::With(behind) => out.put_both(row, behind),
         }
     }
 }

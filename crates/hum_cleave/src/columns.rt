@@ -1,10 +1,11 @@
 //! The columns of a score, record by record, and which of them are cleaved.
-ghost use Rattle.std.specs.Prelude.{◌≡◌, ℕ, None, true, [], IfOk, IfNone};
+ghost use Rattle.std.specs.Prelude.{◌≡◌, ℕ, None, true, [], IfOk, OnOk};
 ghost use Rattle.hum_record.specs.Row.{Spined, tokens_of, text_of};
 ghost use Rattle.hum_record.specs.Spelling.{IsTextOf};
 ghost use Rattle.hum_record.specs.declared.SpinedKind.TheVariants.{Interpretation};
 ghost use Rattle.hum_path.specs.Spines.{after};
 ghost use Rattle.hum_path.specs.Rules.{fault_of};
+ghost use Rattle.hum_stage.specs.Refusals.{IfTold};
 ghost use Rattle.hum_columns.specs.Following.{Answers, memory, is_interpretation};
 ghost use Rattle.hum_cleave.specs.Columns.{opening_flags};
 ghost use Rattle.hum_cleave.specs.Cleave.{opened, cleave, column_command};
@@ -15,7 +16,7 @@ use crate::records::{Buffers, give, give_text, opening_record};
 use hum_columns::ChosenColumns;
 use hum_path::Marks;
 use hum_record::{Kind, Record};
-use hum_stage::{Command, Decides, Rule};
+use hum_stage::{Command, Decides, Refusal};
 use std::alloc::{AllocError, Global};
 use std::collections::VecDeque;
 
@@ -38,6 +39,9 @@ fn opening_marks(alloc: Global, name: &[u8], row: &Record) -> Result<Vec<bool>, 
 }
 
 /// What the opening record becomes, and which columns are cleaved.
+///
+/// # Errors
+/// L1; or out of memory.
 fn open(
     alloc: Global,
     options: &CleaveOptions,
@@ -45,16 +49,15 @@ fn open(
     row: Record,
     buffers: &mut Buffers,
     out: &mut VecDeque<Record>,
-) -> Result<Option<Rule>, AllocError>
+) -> Result<(), Refusal>
     requires kind { row ≡ Spined Interpretation (tokens_of row) }
     requires lawful { IsTextOf row (text_of row) }
     requires sound { fault_of columns.old.path row ≡ None }
     requires empty { out.old.items ≡ [] }
-    ensures decided { IfOk result (λ refused. (room : ℕ)
+    ensures decided { IfTold result (λ refused. (room : ℕ)
         → Answers (opened options.now (tokens_of row)) room out.new.items refused) }
-    ensures columns { IfOk result (λ refused. IfNone refused
-        (columns.new ≡ memory (after columns.old.path row)
-        (opening_flags options.now.name (tokens_of row)))) }
+    ensures columns { OnOk result (columns.new ≡ memory (after columns.old.path row)
+        (opening_flags options.now.name (tokens_of row))) }
 {
     let marks = Marks::new(opening_marks(alloc, options.name(), &row)?);
     let made = opening_record(alloc, options.new_name(), marks.each(), &row, buffers)?;
@@ -100,12 +103,7 @@ impl Decides for Columns {
         }
     }
 
-    fn step(
-        &mut self,
-        next: Record,
-        room: u64,
-        out: &mut VecDeque<Record>,
-    ) -> Result<Option<Rule>, AllocError> {
+    fn step(&mut self, next: Record, room: u64, out: &mut VecDeque<Record>) -> Result<(), Refusal> {
         if !is_interpretation(&next) {
             let separator = self.options.separator();
             let marks = self.columns.marks();
@@ -121,8 +119,8 @@ impl Decides for Columns {
                 out,
             );
         }
-        let refused = merge(self.alloc, self.columns.marks().each(), &next, room, out)?;
+        merge(self.alloc, self.columns.marks().each(), &next, room, out)?;
         self.columns.pass(self.alloc, &next)?;
-        Ok(refused)
+        Ok(())
     }
 }

@@ -4,6 +4,7 @@ ghost use Rattle.std.specs.List.{list_any};
 ghost use Rattle.hum_record.specs.Row.{tokens_of, width_of, chosen};
 ghost use Rattle.hum_path.specs.Sign.{sign_of, is_exclusive};
 ghost use Rattle.hum_path.specs.declared.signs.Sign.{Sign};
+ghost use Rattle.hum_stage.specs.Refusals.{IfTold};
 ghost use Rattle.hum_columns.specs.Spread.{piece};
 ghost use Rattle.hum_columns.specs.Chosen.{each_piece};
 ghost use Rattle.hum_columns.specs.Following.{AnswersInRoom, IsPassed};
@@ -14,7 +15,7 @@ use crate::tokens::leftmost_interpretation;
 use hum_columns::{Piece, is_torn, write_pieces};
 use hum_path::{Sign, token_sign};
 use hum_record::Record;
-use hum_stage::Rule;
+use hum_stage::{Refusal, Rule};
 use std::alloc::{AllocError, Global};
 use std::collections::VecDeque;
 
@@ -108,22 +109,25 @@ fn pieces<'r>(
 }
 
 /// What an interpretation after the opening record becomes.
+///
+/// # Errors
+/// C1, C2 or L2; or out of memory.
 pub fn merge(
     alloc: Global,
     marks: &[bool],
     row: &Record,
     room: u64,
     out: &mut VecDeque<Record>,
-) -> Result<Option<Rule>, AllocError>
+) -> Result<(), Refusal>
     requires { IsPassed marks.now row.now out.old.items }
-    ensures { IfOk result
+    ensures { IfTold result
         (AnswersInRoom (merged marks.now (tokens_of row.now)) room out.new.items) }
 {
     if has_exclusive(marks, row) {
-        return Ok(Some(Rule::C2));
+        return Err(Refusal::Rule(Rule::C2));
     }
     if is_entangled(marks, row) {
-        return Ok(Some(Rule::C1));
+        return Err(Refusal::Rule(Rule::C1));
     }
     let one = leftmost_interpretation(marks, row);
     let left = pieces(alloc, marks, one, row)?;

@@ -4,6 +4,7 @@ ghost use Rattle.hum_record.specs.declared.SpinedKind.{SpinedKind};
 ghost use Rattle.hum_record.specs.declared.SpinedKind.TheVariants.{Local, Interpretation, Values};
 ghost use Rattle.hum_record.specs.Row.{Spined, tokens_of, width_of, text_of, chosen};
 ghost use Rattle.hum_record.specs.Spelling.{IsToken, IsTextOf};
+ghost use Rattle.hum_stage.specs.Refusals.{IfTold};
 ghost use Rattle.hum_columns.specs.Following.{AsWide, Answers, is_interpretation};
 ghost use Rattle.hum_cleave.specs.Columns.{together};
 ghost use Rattle.hum_cleave.specs.Tokens.{comment_of, data_of};
@@ -13,7 +14,7 @@ ghost use Rattle.hum_record.specs.Making.{IsMade};
 use crate::tokens::{gather, leftmost_comment};
 use hum_path::Marks;
 use hum_record::{Kind, Making, Record, Spare, SpinedKind};
-use hum_stage::Rule;
+use hum_stage::{Refusal, Rule};
 use std::alloc::{AllocError, Global};
 use std::collections::VecDeque;
 use std::marker::Model;
@@ -150,30 +151,35 @@ pub fn opening_record(
     )
 }
 
-/// Gives what was made of a record, or answers L1 where that would be too long. The record that
-/// gives way is done with.
+/// Gives what was made of a record. The record that gives way is done with.
+///
+/// # Errors
+/// L1 where that would be too long; or out of memory.
 pub fn give(
     row: Record,
     made: Option<Record>,
     buffers: &mut Buffers,
     out: &mut VecDeque<Record>,
-) -> Result<Option<Rule>, AllocError>
+) -> Result<(), Refusal>
     requires empty { out.old.items ≡ [] }
-    ensures { IfOk result (λ refused. (kind : SpinedKind) (tokens : List (List ℕ)) (room : ℕ)
+    ensures { IfTold result (λ refused. (kind : SpinedKind) (tokens : List (List ℕ)) (room : ℕ)
         → IsMade kind tokens made
         → Answers (one_record kind tokens) room out.new.items refused) }
 {
     match made {
-        None => Ok(Some(Rule::L1)),
+        None => Err(Refusal::Rule(Rule::L1)),
         Some(made) => {
             out.push_back(made)?;
             buffers.spare.keep(row);
-            Ok(None)
+            Ok(())
         }
     }
 }
 
 /// Gives what a record becomes that isn't an interpretation.
+///
+/// # Errors
+/// L1; or out of memory.
 pub fn give_text(
     alloc: Global,
     separator: &[u8],
@@ -181,18 +187,18 @@ pub fn give_text(
     row: Record,
     buffers: &mut Buffers,
     out: &mut VecDeque<Record>,
-) -> Result<Option<Rule>, AllocError>
+) -> Result<(), Refusal>
     requires between { fits_in_token separator.now ≡ true }
     requires as_wide { AsWide marks.now row }
     requires empty { out.old.items ≡ [] }
     requires kind { is_interpretation row ≡ false }
     requires lawful { IsTextOf row (text_of row) }
-    ensures { IfOk result (λ refused. (room : ℕ)
+    ensures { IfTold result (λ refused. (room : ℕ)
         → Answers (text_told separator.now marks.now row) room out.new.items refused) }
 {
     if !marks.some() {
         out.push_back(row)?;
-        return Ok(None);
+        return Ok(());
     }
     match row.kind() {
         Kind::Local => {
@@ -205,7 +211,7 @@ pub fn give_text(
         }
         _ => {
             out.push_back(row)?;
-            Ok(None)
+            Ok(())
         }
     }
 }

@@ -12,3 +12,4 @@ pub mod FirstJoin
 pub mod Fitting
 pub mod Leading
 pub mod Spreading
+pub mod OfOrigins

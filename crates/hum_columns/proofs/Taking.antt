@@ -1,7 +1,7 @@
 -- One record more of a score.
 use Rattle.std.proofs.Common.{◌≡◌, ◌∙◌, sym, ap, refl, ℕ, suc, true, false, ◌==◌}
 use Rattle.std.proofs.Common.{List, [], ◌∷◌, length, arith, Option, None, Some}
-use Rattle.std.specs.Prelude.{Result, IfOk, IfNone, Ok, Err, nat_le}
+use Rattle.std.specs.Prelude.{Result, IfNone, OnOk, Ok, Err, nat_le}
 use Rattle.std.proofs.lemmas.Bool.{false≢true}
 use Rattle.std.proofs.lemmas.Bool.Decides.{nat_tests}
 use Rattle.hum_record.specs.declared.SpinedKind.TheVariants.{Local, Interpretation, Values}
@@ -15,7 +15,10 @@ use Rattle.hum_path.proofs.Cases.{by_bool}
 use Rattle.hum_path.proofs.Plain.{sound_width}
 use Rattle.hum_path.proofs.Widths.{text_width}
 use Rattle.hum_stage.specs.declared.faults.Rule.{Rule}
+use Rattle.hum_stage.specs.declared.faults.Refusal.{Refusal}
+use Rattle.hum_stage.specs.declared.faults.Refusal.TheVariants.{Rule as Broken, Memory as OutOfMemory}
 use Rattle.hum_stage.specs.Decided.{Decision, in_room, Steps}
+use Rattle.hum_stage.specs.Refusals.{IfTold}
 use Rattle.hum_columns.specs.Chosen.{flags}
 use Rattle.hum_columns.specs.Deciding.{ColumnCommand, at_path, by_columns}
 use Rattle.hum_columns.specs.Following.{AsWide, moved, Memory, memory, passed, Answers, AnswersInRoom, Follows, is_interpretation}
@@ -120,19 +123,34 @@ module _ (command : ColumnCommand) {m : Memory} {decide : Decision} where
       )
       one (Some rule) answers marked decided marks_then = ap (in_room room) decided ∙ answers
 
-  -- an interpretation after it
-  pub steps_later : (row : Row) (past : List Row) (room : ℕ) (out : List Row) (new : Memory) (refused : Option Rule)
+  -- what is decided of an interpretation after it
+  decided_later : (tokens : List (List ℕ)) (past : List Row) → Follows command m decide past → is_closed m.path ≡ false
+      → at_path (path_after past) (command.opening tokens) (command.later (flags command.choose past) tokens) ≡ command.later m.each tokens
+  decided_later tokens past s off =
+      let path = spines_path (path_after past) (ap is_closed (sym s.spines) ∙ off) in
+      ap (λ (p : Path). at_path p (command.opening tokens) (command.later (flags command.choose past) tokens)) path
+      ∙ ap (λ fs. command.later fs tokens) (sym s.marks)
+
+  -- it is refused
+  pub refuses_later : (row : Row) (past : List Row) (room : ℕ) (out : List Row) (rule : Rule)
+      → Follows command m decide past → row ≡ Spined Interpretation (tokens_of row) → is_closed m.path ≡ false
+      → AnswersInRoom (command.later m.each (tokens_of row)) room out (Some rule)
+      → in_room room (decide past row) ≡ Err rule
+  refuses_later (Comment text) past room out rule s is off answers = cc
+  refuses_later (Spined kind tokens) past room out rule s is off answers =
+      let k : kind ≡ Interpretation = cc in
+      rw (k, s.decides) (ap (in_room room) (decided_later tokens past s off) ∙ answers.0)
+
+  -- it isn't
+  pub steps_later : (row : Row) (past : List Row) (room : ℕ) (out : List Row) (new : Memory)
       → Follows command m decide past → IsOpen (row ∷ past) → row ≡ Spined Interpretation (tokens_of row) → is_closed m.path ≡ false
-      → AnswersInRoom (command.later m.each (tokens_of row)) room out refused → new ≡ passed m row → ComeFrom row (moves m.path row)
-      → Steps decide past row (Follows command new) room out refused
-  steps_later (Comment text) past room out new refused s score is off answers went from = cc
-  steps_later (Spined kind tokens) past room out new refused s score is off answers went from =
+      → AnswersInRoom (command.later m.each (tokens_of row)) room out None → new ≡ passed m row → ComeFrom row (moves m.path row)
+      → Steps decide past row (Follows command new) room out None
+  steps_later (Comment text) past room out new s score is off answers went from = cc
+  steps_later (Spined kind tokens) past room out new s score is off answers went from =
       let k : kind ≡ Interpretation = cc in
       let path = spines_path (path_after past) (ap is_closed (sym s.spines) ∙ off) in
       let sound : fault_of (path_after past) (Spined Interpretation tokens) ≡ None = rw k at score.1 in
-      let decided : at_path (path_after past) (command.opening tokens) (command.later (flags command.choose past) tokens) ≡ command.later m.each tokens =
-      ap (λ (p : Path). at_path p (command.opening tokens) (command.later (flags command.choose past) tokens)) path
-      ∙ ap (λ fs. command.later fs tokens) (sym s.marks) in
       let found : List Move = moves m.path (Spined Interpretation tokens) in
       let told : found ≡ moves (path_after past) (Spined Interpretation tokens) =
       ap (λ (p : Path). moves p (Spined Interpretation tokens)) s.spines in
@@ -141,14 +159,14 @@ module _ (command : ColumnCommand) {m : Memory} {decide : Decision} where
       ap (λ fs. moved fs found) s.marks
       ∙ sym (flags_move command.choose past tokens (names_in (path_after past)) found score.0 path sound told sources) in
       rw (k, s.decides)
-      (one refused (from_room (command.later m.each tokens) room out refused answers) decided (rw k at went) marks_then)
+      (on (from_room (command.later m.each tokens) room out None answers) (decided_later tokens past s off) (rw k at went) marks_then)
     where
-      one : (refused : Option Rule) → Answers (command.later m.each tokens) room out refused
+      on : Answers (command.later m.each tokens) room out None
           → by_columns command past (Spined Interpretation tokens) ≡ command.later m.each tokens
           → new ≡ passed m (Spined Interpretation tokens)
           → moved m.each (moves m.path (Spined Interpretation tokens)) ≡ flags command.choose (Spined Interpretation tokens ∷ past)
-          → Steps (by_columns command) past (Spined Interpretation tokens) (Follows command new) room out refused
-      one None answers decided went marks_then = (
+          → Steps (by_columns command) past (Spined Interpretation tokens) (Follows command new) room out None
+      on answers decided went marks_then = (
         decided ∙ answers,
         record {
           decides = refl;
@@ -156,13 +174,9 @@ module _ (command : ColumnCommand) {m : Memory} {decide : Decision} where
           marks = ap (λ (n : Memory). n.each) went ∙ marks_then;
         },
       )
-      one (Some rule) answers decided went marks_then = ap (in_room room) decided ∙ answers
 
--- from what holds of an answer to what it means
-pub ok_to : {T E : Type 0} (r : Result T E) (P R : T → Type 0) → ((x : T) → P x → R x) → IfOk r P → IfOk r R
-ok_to (Ok x) P R f p = f x p
-ok_to (Err e) P R f p = tt
-
-pub both_ok : {T E : Type 0} (r : Result T E) (P Q R : T → Type 0) → ((x : T) → P x → Q x → R x) → IfOk r P → IfOk r Q → IfOk r R
-both_ok (Ok x) P Q R f p q = f x p q
-both_ok (Err e) P Q R f p q = tt
+-- what holds where nothing is refused
+pub unless_refused : {A : Type 0} (r : Result A Refusal) (P : Type 0) → OnOk r P → IfTold r (λ o. IfNone o P)
+unless_refused (Ok x) P h = h
+unless_refused (Err (Broken rule)) P h = tt
+unless_refused (Err OutOfMemory) P h = tt

@@ -1,12 +1,13 @@
 -- Columns that are chosen by the opening spines that they come from.
-use Rattle.std.specs.Prelude.{ℕ, Bool, true, false, not, ◌&&◌, ◌||◌}
+use Rattle.std.specs.Prelude.{◌≡◌, ◌<◌, ℕ, Bool, true, false, not, ◌&&◌, ◌||◌}
 use Rattle.std.specs.Prelude.{List, [], ◌∷◌, map, slice_index_or}
 use Rattle.hum_record.specs.Row.{Row, Comment, Spined, chosen}
 use Rattle.hum_path.specs.declared.signs.Sign.{Sign}
 use Rattle.hum_path.specs.Sign.{sign_of, is_join}
-use Rattle.hum_path.specs.Spines.{Path, Unopened, Spines}
+use Rattle.hum_path.specs.Spines.{Path, Unopened, Spines, width}
 use Rattle.hum_path.specs.Score.{path_after}
 use Rattle.hum_path.specs.Chains.{origins}
+use Rattle.hum_path.specs.Origins.{origin}
 use Rattle.hum_columns.specs.Spread.{Piece, piece}
 
 -- the tokens of the opening record, of records with the newest first
@@ -23,6 +24,13 @@ opening_of (Spined kind tokens ∷ past) = opening_if (path_after past) tokens (
 abbrev pub flags : (List (List ℕ) → List Bool) → List Row → List Bool
 flags choose past =
     map (λ origin. slice_index_or (choose (opening_of past)) origin false) (origins past)
+
+-- A column is chosen exactly where the opening spine is that one comes to by going up from it.
+abbrev pub AreChosenByOrigin : (List (List ℕ) → List Bool) → List Row → Type 0
+AreChosenByOrigin choose past =
+    (j : ℕ) → j < width (path_after past)
+    → slice_index_or (flags choose past) j false
+    ≡ slice_index_or (choose (opening_of past)) (origin past j) false
 
 -- what stands in the columns that aren't chosen
 abbrev pub others : {X : Type 0} → List Bool → List X → List X

@@ -16,13 +16,15 @@ use Rattle.hum_columns.specs.Deciding.{ColumnCommand, by_columns}
 abbrev pub moved : List Bool → List Move → List Bool
 moved flags moves = map (λ move. slice_index_or flags (source move) false) moves
 
--- the spines so far, and for each of their columns whether it is chosen
+-- the spines so far, for each of their columns whether it is chosen, and whether memory ran out
 pub record Memory : Type 0 where
   pub path : Path
   pub each : List Bool
+  pub spent : Bool
 
+-- the same where memory hasn't run out
 abbrev pub memory : Path → List Bool → Memory
-memory path each = record { path = path; each = each }
+memory path each = record { path = path; each = each; spent = false }
 
 -- one interpretation later
 abbrev pub passed : Memory → Row → Memory

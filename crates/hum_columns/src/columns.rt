@@ -1,5 +1,5 @@
 //! The spines of a score, and which of their columns are chosen.
-ghost use Rattle.std.specs.Prelude.{◌≡◌, None, [], OnOk};
+ghost use Rattle.std.specs.Prelude.{◌≡◌, None, [], OnOk, OnErr, IsTrue, IsErr};
 ghost use Rattle.hum_path.specs.Spines.{Unopened, moves, after};
 ghost use Rattle.hum_path.specs.Rules.{fault_of, is_closed};
 ghost use Rattle.hum_path.specs.Step.{ComeFrom};
@@ -12,6 +12,8 @@ use std::alloc::{AllocError, Global};
 use std::marker::Model;
 
 /// The spines of a score so far, and for each of their columns whether it is chosen.
+///
+/// Once it has run out of memory it is *spent*: each later call that takes a record fails.
 #[derive(Drop)]
 pub struct ChosenColumns {
     alloc: Global,
@@ -19,16 +21,17 @@ pub struct ChosenColumns {
     marks: Marks,
     // the same, for records that are left with these columns alone
     selection: Selection,
+    spent: bool,
 }
 
 impl Model for ChosenColumns {
-    ghost use Rattle.hum_columns.specs.Following.{Memory, memory};
+    ghost use Rattle.hum_columns.specs.Following.{Memory};
 
     ghost Value = { Memory };
 
     ghost use Rattle.std.specs.Prelude.{◌≡◌};
 
-    ghost view = { λ c. memory c.paths.path c.marks };
+    ghost view = { λ c. record { path = c.paths.path; each = c.marks; spent = c.spent } };
 
     ghost invariant = { λ c. c.selection ≡ c.marks };
 }
@@ -43,6 +46,7 @@ impl ChosenColumns {
             paths: Paths::new(alloc),
             marks: Marks::none(alloc),
             selection: Selection::none(alloc),
+            spent: false,
         }
     }
 
@@ -71,32 +75,46 @@ impl ChosenColumns {
     /// Takes the opening record, of which these columns are chosen.
     ///
     /// # Errors
-    /// Want of memory.
+    /// Out of memory, which each later call answers again.
     pub fn open(&mut self, row: &Record, marks: Marks) -> Result<(), AllocError>
         requires { fault_of self.old.path row.now ≡ None }
-        ensures { OnOk result (self.new ≡ memory (after self.old.path row.now) marks) }
+        ensures opened { OnOk result (self.new ≡ memory (after self.old.path row.now) marks) }
+        ensures spent { OnErr result (IsTrue self.new.spent) }
+        ensures again { IsTrue self.old.spent → IsErr result }
     {
+        if self.spent {
+            return Err(AllocError);
+        }
+        self.spent = true;
         let _found = self.paths.follow(row)?;
         let selection = Selection::new(self.alloc, marks.each())?;
         self.marks = marks;
         self.selection = selection;
+        self.spent = false;
         Ok(())
     }
 
     /// Takes a later interpretation: what comes of a chosen column is chosen.
     ///
     /// # Errors
-    /// Want of memory.
+    /// Out of memory, which each later call answers again.
     pub fn pass(&mut self, alloc: Global, row: &Record) -> Result<(), AllocError>
         requires { fault_of self.old.path row.now ≡ None }
         ensures passed { OnOk result (self.new ≡ passed self.old row.now) }
         ensures sources { OnOk result (ComeFrom row.now (moves self.old.path row.now)) }
+        ensures spent { OnErr result (IsTrue self.new.spent) }
+        ensures again { IsTrue self.old.spent → IsErr result }
     {
+        if self.spent {
+            return Err(AllocError);
+        }
+        self.spent = true;
         let found = self.paths.follow(row)?;
         let marks = moved(alloc, &self.marks, &found)?;
         let selection = Selection::new(alloc, marks.each())?;
         self.marks = marks;
         self.selection = selection;
+        self.spent = false;
         Ok(())
     }
 }

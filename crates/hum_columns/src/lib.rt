@@ -6,14 +6,16 @@
 //! [`write_pieces`] writes what it makes of an interpretation, joins side by side one after another.
 #![tactic(auto)]
 
-ghost use Rattle.std.specs.Prelude.{◌≡◌, [], Ok, IfOk};
+ghost use Rattle.std.specs.Prelude.{◌≡◌, [], Ok};
 ghost use Rattle.hum_record.specs.declared.SpinedKind.TheVariants.{Interpretation};
+ghost use Rattle.hum_stage.specs.Refusals.{IfTold};
 ghost use Rattle.hum_columns.specs.Spread.{spread, filled};
 ghost use Rattle.hum_columns.specs.Writing.{Fit};
 ghost use Rattle.hum_columns.specs.Following.{AnswersInRoom};
 
 mod columns;
 mod joins;
+pub mod laws;
 mod marks;
 mod pieces;
 mod torn;
@@ -22,31 +24,30 @@ mod writing;
 use crate::joins::spread;
 pub use columns::ChosenColumns;
 use hum_record::Record;
-use hum_stage::Rule;
+use hum_stage::{Refusal, Rule};
 pub use pieces::Piece;
-use std::alloc::{AllocError, Global};
+use std::alloc::Global;
 use std::collections::VecDeque;
 pub use torn::is_torn;
 
-/// Writes an interpretation of these tokens by the spread rule, or answers L2 where there is no room
-/// for its records.
+/// Writes an interpretation of these tokens by the spread rule.
 ///
 /// # Errors
-/// Want of memory.
+/// L2 where there is no room for its records; or out of memory.
 pub fn write_pieces(
     alloc: Global,
     pieces: &[Piece<'_>],
     room: u64,
     out: &mut VecDeque<Record>,
-) -> Result<Option<Rule>, AllocError>
+) -> Result<(), Refusal>
     requires fit { Fit pieces.now }
     requires empty { out.old.items ≡ [] }
-    ensures { IfOk result
+    ensures { IfTold result
         (AnswersInRoom (Ok (filled Interpretation (spread pieces.now))) room out.new.items) }
 {
     if spread(alloc, pieces, room, out)? {
-        Ok(None)
+        Ok(())
     } else {
-        Ok(Some(Rule::L2))
+        Err(Refusal::Rule(Rule::L2))
     }
 }

@@ -5,22 +5,22 @@ ghost use Rattle.hum_commands.specs.Meaning.{command_of};
 use hum_cleave::CleaveOptions;
 use hum_context::ContextOptions;
 use hum_ditto::DittoOptions;
-use hum_extract::Choice;
+use hum_extract::ExtractOptions;
 use hum_rid::RidOptions;
 use hum_stage::Command;
 use hum_timebase::TimebaseOptions;
-use hum_tones::{MintOptions, RecipOptions, SemitsOptions, Transposition};
+use hum_tones::{MintOptions, RecipOptions, SemitsOptions, TransOptions};
 use hum_yank::YankOptions;
 
 /// A command of one input, and what it is told to do.
 #[derive(Drop)]
 pub enum CommandOptions {
     Rid(RidOptions),
-    Extract(Choice),
+    Extract(ExtractOptions),
     Ditto(DittoOptions),
     Timebase(TimebaseOptions),
     Context(ContextOptions),
-    Trans(Transposition),
+    Trans(TransOptions),
     Semits(SemitsOptions),
     Mint(MintOptions),
     Recip(RecipOptions),

@@ -9,7 +9,7 @@ ghost use Rattle.hum_record.specs.Row.{Row, kind_of, row_of, text_of, token_at, 
 ghost use Rattle.hum_record.specs.Spelling.{IsTextOf, IsTokenOf};
 ghost use Rattle.hum_context.specs.Held.{nulls};
 
-use hum_record::{Kind, Record, RecordBuilder, RecordFault, SpinedKind, is_null};
+use hum_record::{Kind, Record, RecordBuilder, SpinedKind, is_null};
 use std::alloc::{AllocError, Global};
 use std::marker::Model;
 
@@ -66,23 +66,6 @@ fn is_null_data(row: &Record) -> bool
     }
 }
 
-/// Adds a null token, which fits.
-fn push_null(builder: &mut RecordBuilder) -> Result<(), AllocError>
-    requires kind { builder.old.kind ≡ Values }
-    requires fits { length (spelled (builder.old.tokens ++ codes "." ∷ [])) ≤ 1048576 }
-    ensures { OnOk result (builder.new ≡ record builder.old {
-      tokens = builder.old.tokens ++ codes "." ∷ [];
-    }) }
-{
-    match builder.push(b".") {
-        Ok(()) => Ok(()),
-        Err(fault) => match fault {
-            RecordFault::Memory => Err(AllocError),
-            _ => unreachable!(),
-        },
-    }
-}
-
 /// The data record of so many null tokens.
 fn made_of_nulls(alloc: Global, width: usize) -> Result<Record, AllocError>
     requires { IsTextOf (nulls width) (text_of (nulls width)) }
@@ -90,7 +73,7 @@ fn made_of_nulls(alloc: Global, width: usize) -> Result<Record, AllocError>
 {
     let mut builder = RecordBuilder::new(alloc, SpinedKind::Values);
     for _ in 0..width {
-        push_null(&mut builder)?;
+        builder.push_fitting(b".")?;
     }
     Ok(builder.finish())
 }

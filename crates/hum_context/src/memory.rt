@@ -22,7 +22,7 @@ use crate::text::Text;
 use crate::walk::Walk;
 use hum_path::Paths;
 use hum_record::{Kind, Record, Spare};
-use hum_stage::{Command, LooksAhead, MOST_RECORDS, Rule, Verdict};
+use hum_stage::{Command, LooksAhead, MOST_RECORDS, Refusal, Rule, Verdict};
 use std::alloc::{AllocError, Global};
 use std::collections::VecDeque;
 use std::mem;
@@ -111,7 +111,7 @@ impl LooksAhead for Collecting {
         Ok(())
     }
 
-    fn settle(&mut self, held: &mut VecDeque<Queued>) -> Result<Verdict, AllocError> {
+    fn settle(&mut self, held: &mut VecDeque<Queued>) -> Result<Verdict, Refusal> {
         // no score has more records
         if self.gone.saturating_add(held.len() as u64) > MOST_RECORDS {
             return Ok(Verdict::Waits);
@@ -135,7 +135,7 @@ impl LooksAhead for Collecting {
             &mut self.spare,
         )?
         else {
-            return Ok(Verdict::Refuses(Rule::L1));
+            return Err(Refusal::Rule(Rule::L1));
         };
         let row = self.let_go(held)?;
         self.keep(row);

@@ -5,6 +5,8 @@
 //! exclusive interpretation.
 #![tactic(auto)]
 
+ghost use Rattle.std.specs.Prelude.{◌≡◌, IfOk};
+
 mod filling;
 mod last_seen;
 mod memory;
@@ -13,7 +15,7 @@ use filling::{is_to_fill, rebuilt};
 use hum_path::Paths;
 use hum_pattern::Pattern;
 use hum_record::{Record, Spare};
-use hum_stage::{AtOnce, Command, Decides, Rule};
+use hum_stage::{AtOnce, Command, Decides, Refusal, Rule};
 use memory::Memory;
 use std::alloc::{AllocError, Global};
 
@@ -24,6 +26,25 @@ pub struct DittoOptions {
     pub skip: Option<Pattern>,
     /// `-p`: a repeated token stands in parentheses
     pub parentheses: bool,
+}
+
+impl DittoOptions {
+    /// The same options once more.
+    ///
+    /// # Errors
+    /// Out of memory.
+    pub fn copy(&self, alloc: Global) -> Result<DittoOptions, AllocError>
+        ensures { IfOk result (λ copy. copy ≡ self.now) }
+    {
+        let skip = match &self.skip {
+            Some(skip) => Some(skip.copy(alloc)?),
+            None => None,
+        };
+        Ok(DittoOptions {
+            skip,
+            parentheses: self.parentheses,
+        })
+    }
 }
 
 /// The spines, and what is remembered of each.
@@ -67,17 +88,12 @@ impl Decides for Repeats {
         }
     }
 
-    fn step(
-        &mut self,
-        next: Record,
-        _room: u64,
-        out: &mut Option<Record>,
-    ) -> Result<Option<Rule>, AllocError> {
+    fn step(&mut self, next: Record, _room: u64, out: &mut Option<Record>) -> Result<(), Refusal> {
         let found = self.paths.follow(&next)?;
         if !is_to_fill(&next) {
             self.memory.follow(&next, &next, found)?;
             *out = Some(next);
-            return Ok(None);
+            return Ok(());
         }
         let rebuilt = rebuilt(
             self.alloc,
@@ -91,9 +107,9 @@ impl Decides for Repeats {
                 self.memory.follow(&next, &made, found)?;
                 *out = Some(made);
                 self.spare.keep(next);
-                Ok(None)
+                Ok(())
             }
-            None => Ok(Some(Rule::L1)),
+            None => Err(Refusal::Rule(Rule::L1)),
         }
     }
 }

@@ -1,25 +1,26 @@
 //! The chosen columns, record by record.
-ghost use Rattle.std.specs.Prelude.{◌≡◌, ℕ, None, [], IfOk, IfNone};
+ghost use Rattle.std.specs.Prelude.{◌≡◌, ℕ, None, [], OnOk};
 ghost use Rattle.hum_record.specs.Row.{Spined, tokens_of, text_of};
 ghost use Rattle.hum_record.specs.Spelling.{IsTextOf};
 ghost use Rattle.hum_record.specs.declared.SpinedKind.TheVariants.{Interpretation};
 ghost use Rattle.hum_path.specs.Sign.{steers};
 ghost use Rattle.hum_path.specs.Spines.{after};
 ghost use Rattle.hum_path.specs.Rules.{fault_of};
+ghost use Rattle.hum_stage.specs.Refusals.{IfTold};
 ghost use Rattle.hum_columns.specs.Following.{Answers, memory};
 ghost use Rattle.hum_extract.specs.Choice.{opening_flags};
 ghost use Rattle.hum_extract.specs.Extract.{opened, extract, column_command};
 ghost use Rattle.hum_extract.specs.Written.{choice_of};
 
-use crate::choice::Choice;
 use crate::cutting::cut;
 use crate::due::MostlyOne;
 use crate::kept::keep;
+use crate::options::ExtractOptions;
 use hum_columns::ChosenColumns;
 use hum_path::steers;
 use hum_record::{Kind, Record};
-use hum_stage::{Command, Decides, Rule};
-use std::alloc::{AllocError, Global};
+use hum_stage::{Command, Decides, Refusal, Rule};
+use std::alloc::Global;
 
 /// Whether a record asks something of the spines.
 fn asks(row: &Record) -> bool
@@ -32,30 +33,32 @@ fn asks(row: &Record) -> bool
     }
 }
 
-/// What the opening record becomes; and its columns that are chosen, unless it is refused.
+/// What the opening record becomes, and its columns that are chosen.
+///
+/// # Errors
+/// X2; or out of memory.
 fn open(
     alloc: Global,
-    choice: &Choice,
+    choice: &ExtractOptions,
     columns: &mut ChosenColumns,
     row: Record,
     out: &mut MostlyOne,
-) -> Result<Option<Rule>, AllocError>
+) -> Result<(), Refusal>
     requires kind { row ≡ Spined Interpretation (tokens_of row) }
     requires lawful { IsTextOf row (text_of row) }
     requires sound { fault_of columns.old.path row ≡ None }
     requires empty { out.old ≡ [] }
-    ensures decided { IfOk result (λ refused. (room : ℕ)
+    ensures decided { IfTold result (λ refused. (room : ℕ)
         → Answers (opened (choice_of choice.now) (tokens_of row)) room out.new refused) }
-    ensures columns { IfOk result (λ refused. IfNone refused
-        (columns.new ≡ memory (after columns.old.path row)
-        (opening_flags (choice_of choice.now) (tokens_of row)))) }
+    ensures columns { OnOk result (columns.new ≡ memory (after columns.old.path row)
+        (opening_flags (choice_of choice.now) (tokens_of row))) }
 {
     match choice.marks(alloc, &row)? {
-        None => Ok(Some(Rule::X2)),
+        None => Err(Refusal::Rule(Rule::X2)),
         Some(marks) => {
             columns.open(&row, marks)?;
             keep(columns.selection(), row, out);
-            Ok(None)
+            Ok(())
         }
     }
 }
@@ -64,12 +67,12 @@ fn open(
 #[derive(Drop)]
 pub struct Columns {
     alloc: Global,
-    choice: Choice,
+    choice: ExtractOptions,
     columns: ChosenColumns,
 }
 
 impl Decides for Columns {
-    type Options = Choice;
+    type Options = ExtractOptions;
 
     type Due = MostlyOne;
 
@@ -86,7 +89,7 @@ impl Decides for Columns {
         Command::Extract
     }
 
-    fn begin(alloc: Global, choice: Choice) -> Columns {
+    fn begin(alloc: Global, choice: ExtractOptions) -> Columns {
         Columns {
             alloc,
             choice,
@@ -94,20 +97,15 @@ impl Decides for Columns {
         }
     }
 
-    fn step(
-        &mut self,
-        next: Record,
-        room: u64,
-        out: &mut MostlyOne,
-    ) -> Result<Option<Rule>, AllocError> {
+    fn step(&mut self, next: Record, room: u64, out: &mut MostlyOne) -> Result<(), Refusal> {
         if !asks(&next) {
             keep(self.columns.selection(), next, out);
-            return Ok(None);
+            return Ok(());
         }
         if self.columns.is_unopened() {
             return open(self.alloc, &self.choice, &mut self.columns, next, out);
         }
-        let refused = cut(
+        cut(
             self.alloc,
             self.columns.marks().each(),
             &next,
@@ -115,6 +113,6 @@ impl Decides for Columns {
             &mut out.many,
         )?;
         self.columns.pass(self.alloc, &next)?;
-        Ok(refused)
+        Ok(())
     }
 }

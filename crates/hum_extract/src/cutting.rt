@@ -2,6 +2,7 @@
 ghost use Rattle.std.specs.Prelude.{◌≡◌, length, map, IfOk};
 ghost use Rattle.hum_record.specs.Row.{tokens_of, width_of};
 ghost use Rattle.hum_path.specs.Sign.{sign_of};
+ghost use Rattle.hum_stage.specs.Refusals.{IfTold};
 ghost use Rattle.hum_columns.specs.Following.{AnswersInRoom, IsPassed};
 ghost use Rattle.hum_extract.specs.Extract.{exchanged_flags, is_lone, chosen_between};
 ghost use Rattle.hum_extract.specs.Extract.{softened, pieces, cut};
@@ -9,7 +10,7 @@ ghost use Rattle.hum_extract.specs.Extract.{softened, pieces, cut};
 use hum_columns::{Piece, is_torn, write_pieces};
 use hum_path::token_sign;
 use hum_record::Record;
-use hum_stage::Rule;
+use hum_stage::{Refusal, Rule};
 use std::alloc::{AllocError, Global};
 use std::collections::VecDeque;
 
@@ -86,22 +87,25 @@ fn kept_pieces<'r>(
 }
 
 /// What an interpretation after the opening record becomes.
+///
+/// # Errors
+/// X1, X3 or L2; or out of memory.
 pub fn cut(
     alloc: Global,
     marks: &[bool],
     row: &Record,
     room: u64,
     out: &mut VecDeque<Record>,
-) -> Result<Option<Rule>, AllocError>
+) -> Result<(), Refusal>
     requires { IsPassed marks.now row.now out.old.items }
-    ensures { IfOk result (AnswersInRoom (cut marks.now (tokens_of row.now)) room out.new.items) }
+    ensures { IfTold result (AnswersInRoom (cut marks.now (tokens_of row.now)) room out.new.items) }
 {
     if is_torn(marks, row) {
-        return Ok(Some(Rule::X1));
+        return Err(Refusal::Rule(Rule::X1));
     }
     let lone = is_lone(marks, row);
     if lone && chosen_between(marks, row) {
-        return Ok(Some(Rule::X3));
+        return Err(Refusal::Rule(Rule::X3));
     }
     let pieces = kept_pieces(alloc, marks, lone, row)?;
     write_pieces(alloc, &pieces, room, out)

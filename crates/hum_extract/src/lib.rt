@@ -1,18 +1,18 @@
 //! The command extract: chosen columns (Humdrum Toolkit: Reference Manual, extract).
 //!
-//! A [`Choice`] names opening spines; [`Extract`] is the stage that keeps the columns that come of
+//! A [`ExtractOptions`] names opening spines; [`Extract`] is the stage that keeps the columns that come of
 //! them, along splits, joins, exchanges and added spines.
 #![tactic(auto)]
 
-mod choice;
 mod columns;
 mod cutting;
 mod due;
 mod kept;
+mod options;
 
-pub use choice::{Choice, Field, FieldRange};
 pub use columns::Columns;
 use hum_stage::AtOnce;
+pub use options::{ExtractOptions, Field, FieldRange};
 
 /// The command extract, as a stage.
 ///

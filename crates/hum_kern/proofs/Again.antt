@@ -13,7 +13,7 @@ use Rattle.std.proofs.lemmas.Fmt.{decimal_nonempty, first_decimal, digits_decima
 use Rattle.std.proofs.lemmas.Slice.Eq.{bytes_eq-Decides}
 use Rattle.std.proofs.Math.Seq.{take-append_seam, drop-append_seam}
 use Rattle.std.proofs.lemmas.Bool.Decides.{nat_tests}
-use Rattle.hum_kern.specs.Ratio.{Ratio, whole, reduced}
+use Rattle.hum_frac.specs.Ratio.{Ratio, whole, reduced}
 use Rattle.hum_kern.specs.declared.KernFault.{KernFault}
 use Rattle.hum_kern.specs.declared.KernFault.TheVariants.{K3}
 use Rattle.hum_kern.specs.declared.Length.{Length}

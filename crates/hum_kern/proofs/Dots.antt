@@ -2,8 +2,8 @@
 use Rattle.std.proofs.Common.{◌≡◌, ℕ, zero, suc, ◌+◌, ◌*◌, ◌<◌, ◌≤◌, refl, sym, ap, ◌∙◌, arith}
 use Rattle.std.proofs.Math.Nat.{mul_left_comm}
 use native.Mathlib.Nat.{mul_assoc, add-mul, mul-pos}
-use Rattle.hum_kern.specs.Ratio.{Ratio, IsSame, reduced}
-use Rattle.hum_kern.proofs.Ratios.{reduced_positive, reduced_lowest, reduced_value, lowest_of_one, same_trans}
+use Rattle.hum_frac.specs.Ratio.{Ratio, IsSame, reduced}
+use Rattle.hum_frac.proofs.Ratios.{reduced_positive, reduced_lowest, reduced_value, lowest_of_one, same_trans}
 use Rattle.hum_kern.specs.Value.{added, dotted}
 
 pub record IsGreater (value : Ratio) : Type 0 where

@@ -8,10 +8,10 @@ use Rattle.std.proofs.Common.{length-append, append_assoc}
 use Rattle.std.proofs.Math.Seq.{take-append_seam, drop-append_seam}
 use Rattle.std.proofs.lemmas.Bool.{and_parts}
 use Rattle.std.proofs.lemmas.List.Folds.{list_any-append}
-use Rattle.hum_kern.specs.Pitch.{Spelled, IsPitch}
-use Rattle.hum_kern.specs.Given.{spelled}
-use Rattle.hum_kern.specs.declared.pitch.Pitch.{Pitch}
-use Rattle.hum_kern.specs.Spelling.{run, read_letters, read_accidentals, read_pitch, altered_by, spelling}
+use Rattle.hum_pitch.specs.Pitch.{Spelled, IsPitch}
+use Rattle.hum_pitch.specs.Given.{spelled}
+use Rattle.hum_pitch.specs.declared.pitch.Pitch.{Pitch}
+use Rattle.hum_pitch.specs.Spelling.{run, read_letters, read_accidentals, read_pitch, altered_by, spelling}
 use Rattle.hum_kern.specs.declared.KernFault.{KernFault}
 use Rattle.hum_kern.specs.declared.KernFault.TheVariants.{K1, K2}
 use Rattle.hum_kern.specs.declared.notes.Note.{Note}

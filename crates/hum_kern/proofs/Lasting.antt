@@ -8,11 +8,11 @@ use Rattle.std.specs.List.{list_any, AllByRecursion}
 use Rattle.std.proofs.Math.Seq.{drop-append-add}
 use Rattle.std.proofs.lemmas.List.{take-append-le, drop-append-le, length-drop}
 use Rattle.std.proofs.lemmas.Bool.Decides.{nat_tests}
-use Rattle.hum_kern.specs.Ratio.{Ratio, reduced}
-use Rattle.hum_kern.specs.Pitch.{Spelled, IsPitch}
-use Rattle.hum_kern.specs.Given.{spelled}
-use Rattle.hum_kern.specs.declared.pitch.Pitch.{Pitch}
-use Rattle.hum_kern.specs.Spelling.{spelling, letters_of, accidentals}
+use Rattle.hum_frac.specs.Ratio.{Ratio, reduced}
+use Rattle.hum_pitch.specs.Pitch.{Spelled, IsPitch}
+use Rattle.hum_pitch.specs.Given.{spelled}
+use Rattle.hum_pitch.specs.declared.pitch.Pitch.{Pitch}
+use Rattle.hum_pitch.specs.Spelling.{spelling, letters_of, accidentals}
 use Rattle.hum_kern.specs.declared.KernFault.{KernFault}
 use Rattle.hum_kern.specs.declared.KernFault.TheVariants.{K3}
 use Rattle.hum_kern.specs.declared.Length.{Length}

@@ -6,7 +6,7 @@ use Rattle.std.specs.List.{list_any}
 use Rattle.std.proofs.lemmas.Bool.{and_parts}
 use Rattle.std.proofs.lemmas.Bool.Decides.{nat_tests}
 use Rattle.std.proofs.lemmas.List.{take_all}
-use Rattle.hum_kern.specs.Ratio.{Ratio, reduced}
+use Rattle.hum_frac.specs.Ratio.{Ratio, reduced}
 use Rattle.hum_kern.specs.declared.runs.Class.TheVariants.{Digit}
 use Rattle.hum_kern.specs.Classes.{is_in, is_digit, is_dot, is_divider}
 use Rattle.hum_kern.specs.Runs.{run, front, behind}

@@ -1,7 +1,7 @@
 -- Letters of pitches as steps.
 use Rattle.std.proofs.Common.{◌≡◌, ℕ, suc, zero, ◌+◌, ◌-◌, ◌<◌, ◌≤◌, Bool, true, pos, ◌-ℤ◌, List, [], ◌∷◌, Some, refl, ap, ◌∙◌, arith}
 use Rattle.std.specs.Prelude.{slice_index_or, nat_le}
-use Rattle.hum_kern.specs.Spelling.{read_letters, natural_note}
+use Rattle.hum_pitch.specs.Spelling.{read_letters, natural_note}
 use Rattle.hum_kern.specs.Classes.{is_letter}
 
 -- the steps of the letters from a on

@@ -8,11 +8,11 @@ use Rattle.std.proofs.lemmas.List.{length-replicate, append-nil}
 use Rattle.std.proofs.Common.{length-append, append_assoc}
 use Rattle.std.proofs.lemmas.List.Folds.{list_any-append}
 use Rattle.std.proofs.lemmas.Int.{ints}
-use Rattle.hum_kern.specs.Pitch.{Spelled, IsPitch, IsAlteration}
-use Rattle.hum_kern.specs.Spelling.{small_letters, capitals, letters, letters_of, accidentals, spelling, natural_note, read_letters, altered_by}
-use Rattle.hum_kern.specs.Given.{spelled}
-use Rattle.hum_kern.specs.declared.pitch.Pitch.{Pitch}
-use Rattle.hum_kern.proofs.Steps.{same_note}
+use Rattle.hum_pitch.specs.Pitch.{Spelled, IsPitch, IsAlteration}
+use Rattle.hum_pitch.specs.Spelling.{small_letters, capitals, letters, letters_of, accidentals, spelling, natural_note, read_letters, altered_by}
+use Rattle.hum_pitch.specs.Given.{spelled}
+use Rattle.hum_pitch.specs.declared.pitch.Pitch.{Pitch}
+use Rattle.hum_pitch.proofs.Steps.{same_note}
 use Rattle.hum_kern.specs.declared.runs.Class.TheVariants.{NoLetter, Repeat, Sign}
 use Rattle.hum_kern.specs.Classes.{is_in, is_letter, is_sign, is_rest_sign, is_grace_sign, is_continued_sign}
 use Rattle.hum_kern.specs.Parts.{EndsBefore}

@@ -1,7 +1,7 @@
 -- How long a subtoken lasts: its duration, and the text that says it.
 use Rattle.std.specs.Prelude.{◌≡◌, ℕ, List, Option, None, Some, Result, Ok, Err, IfSome}
-use Rattle.hum_kern.specs.Ratio.{Ratio}
-use Rattle.hum_kern.specs.declared.pitch.Pitch.{Pitch}
+use Rattle.hum_frac.specs.Ratio.{Ratio}
+use Rattle.hum_pitch.specs.declared.pitch.Pitch.{Pitch}
 use Rattle.hum_kern.specs.declared.KernFault.{KernFault}
 use Rattle.hum_kern.specs.declared.Length.{Length}
 use Rattle.hum_kern.specs.declared.notes.Note.{Note}

@@ -1,7 +1,7 @@
 -- What holds of durations: a plain number is read in decimal, and what is read is read again.
 use Rattle.std.specs.Prelude.{◌≡◌, ℕ, ◌-◌, ◌<◌, ◌≤◌, ◌↔◌, List, length, take}
 use Rattle.std.specs.Prelude.{drop, Some, Ok, decimal}
-use Rattle.hum_kern.specs.Ratio.{Ratio, reduced}
+use Rattle.hum_frac.specs.Ratio.{Ratio, reduced}
 use Rattle.hum_kern.specs.declared.Length.{Length}
 use Rattle.hum_kern.specs.Value.{part_of}
 use Rattle.hum_kern.specs.Duration.{duration, recip}

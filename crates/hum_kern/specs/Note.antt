@@ -3,9 +3,9 @@ use Rattle.std.specs.Prelude.{ℕ, ◌+◌, ◌==◌, nat_lt, Bool, true, ◌||�
 use Rattle.std.specs.Prelude.{List, [], ◌∷◌, length, Option, None, Some, option_map, Result, Ok, Err}
 use Rattle.std.specs.Prelude.{if◌then◌else◌}
 use Rattle.std.specs.List.{list_any, list_all}
-use Rattle.hum_kern.specs.Pitch.{Spelled}
-use Rattle.hum_kern.specs.Given.{spelled}
-use Rattle.hum_kern.specs.Spelling.{read_letters, altered_by}
+use Rattle.hum_pitch.specs.Pitch.{Spelled}
+use Rattle.hum_pitch.specs.Given.{spelled}
+use Rattle.hum_pitch.specs.Spelling.{read_letters, altered_by}
 use Rattle.hum_kern.specs.declared.KernFault.{KernFault}
 use Rattle.hum_kern.specs.declared.KernFault.TheVariants.{K1, K2}
 use Rattle.hum_kern.specs.declared.notes.Note.{Note}

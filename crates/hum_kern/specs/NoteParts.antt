@@ -3,9 +3,9 @@ use Rattle.std.specs.Prelude.{◌≡◌, ℕ, ◌+◌, ◌-◌, false, List, [],
 use Rattle.std.specs.Prelude.{take, drop}
 use Rattle.std.specs.Prelude.{Some, Result, Ok, IfSome}
 use Rattle.std.specs.List.{list_any}
-use Rattle.hum_kern.specs.Given.{spelled}
-use Rattle.hum_kern.specs.Spelling.{spelling, read_pitch}
-use Rattle.hum_kern.specs.declared.pitch.Pitch.{Pitch}
+use Rattle.hum_pitch.specs.Given.{spelled}
+use Rattle.hum_pitch.specs.Spelling.{spelling, read_pitch}
+use Rattle.hum_pitch.specs.declared.pitch.Pitch.{Pitch}
 use Rattle.hum_kern.specs.declared.KernFault.{KernFault}
 use Rattle.hum_kern.specs.declared.notes.Note.{Note}
 use Rattle.hum_kern.specs.declared.runs.Class.TheVariants.{NoLetter, Repeat, Sign}

@@ -2,7 +2,7 @@
 use Rattle.std.specs.Prelude.{◌≡◌, ℕ, ◌==◌, nat_lt, nat_le, Bool, true, false, not, ◌&&◌}
 use Rattle.std.specs.Prelude.{List, [], ◌∷◌, Some, if◌then◌else◌}
 use Rattle.std.specs.List.{slice_split, list_any}
-use Rattle.hum_kern.specs.Ratio.{Ratio, reduced}
+use Rattle.hum_frac.specs.Ratio.{Ratio, reduced}
 use Rattle.hum_kern.specs.Duration.{duration, value_in, is_refused}
 use Rattle.hum_kern.specs.Classes.{is_digit, is_divider}
 

@@ -4,7 +4,7 @@ use Rattle.std.specs.Prelude.{List, [], ◌∷◌, Option, None, Some, if◌then
 use Rattle.std.specs.Str.{bytes_eq}
 use Rattle.std.proofs.Common.{zero, suc}
 use lib.Chars.{codes}
-use Rattle.hum_kern.specs.Ratio.{Ratio, whole, sum}
+use Rattle.hum_frac.specs.Ratio.{Ratio, whole, sum}
 use Rattle.hum_kern.specs.Runs.{starts_with}
 
 abbrev pub number_from : ℕ → List ℕ → ℕ

@@ -1,11 +1,11 @@
 //! Durations before their dots.
 
 ghost use Rattle.std.specs.Prelude.{◌≡◌, ◌∷◌, ◌<◌, ◌≤◌, IfSome};
-ghost use Rattle.hum_kern.specs.Ratio.{reduced};
+ghost use Rattle.hum_frac.specs.Ratio.{reduced};
 ghost use Rattle.hum_kern.specs.Runs.{starts_with};
 ghost use Rattle.hum_kern.specs.Value.{IsBase, part_of, plain_value, quotient_value, dotted};
 
-use crate::frac::Frac;
+use hum_frac::Frac;
 use std::marker::Model;
 
 /// A duration without dots, in whole notes, as it is written.
@@ -16,7 +16,7 @@ pub(crate) struct Base {
 }
 
 impl Model for Base {
-    ghost use Rattle.hum_kern.specs.Ratio.{Ratio};
+    ghost use Rattle.hum_frac.specs.Ratio.{Ratio};
     ghost use Rattle.hum_kern.specs.Value.{IsBase};
 
     ghost Value = { Ratio };

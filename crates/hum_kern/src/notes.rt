@@ -3,10 +3,10 @@
 ghost use Rattle.std.specs.Prelude.{◌≡◌, ◌<◌, ◌≤◌, ◌+◌, ◌^◌, length, true, Ok, Some, []};
 ghost use Rattle.std.specs.Prelude.{IfOk, ◌==◌, ◌∷◌, ◌||◌, not, nat_lt};
 ghost use Rattle.std.specs.List.{list_any, list_all};
-ghost use Rattle.hum_kern.specs.Given.{spelled};
-ghost use Rattle.hum_kern.specs.Pitch.{IsOctave, IsAlteration};
-ghost use Rattle.hum_kern.specs.Spelling.{read_letters, natural_note, spelling};
-ghost use Rattle.hum_kern.specs.declared.pitch.Pitch.{Pitch as PitchValue};
+ghost use Rattle.hum_pitch.specs.Given.{spelled};
+ghost use Rattle.hum_pitch.specs.Pitch.{IsOctave, IsAlteration};
+ghost use Rattle.hum_pitch.specs.Spelling.{read_letters, natural_note, spelling};
+ghost use Rattle.hum_pitch.specs.declared.pitch.Pitch.{Pitch as PitchValue};
 ghost use Rattle.hum_kern.specs.Classes.{is_letter};
 ghost use Rattle.hum_kern.specs.Classes.{is_mark};
 ghost use Rattle.hum_kern.specs.Note.{Notation, is_uniform, alteration_of, notation};
@@ -16,8 +16,8 @@ ghost use Rattle.hum_kern.specs.NoteParts.{AreNoteParts, SaysNote, IsRead, CanBe
 ghost use Rattle.hum_kern.specs.Lasting.{KeepsDuration};
 
 use crate::KernFault;
-use crate::pitch::Pitch;
 use crate::runs::{Class, is_letter, split_run};
+use hum_pitch::Pitch;
 
 /// What a subtoken says of its pitch, and the marks that it bears.
 #[derive(Clone, Copy)]

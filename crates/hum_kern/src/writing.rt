@@ -1,7 +1,7 @@
 //! What holds of how durations are written, as contracts.
 ghost use Rattle.std.specs.Prelude.{◌≡◌, ℕ, List, true};
 ghost use Rattle.std.specs.Str.{all_ascii_digits};
-ghost use Rattle.hum_kern.specs.Ratio.{Ratio};
+ghost use Rattle.hum_frac.specs.Ratio.{Ratio};
 ghost use Rattle.hum_kern.specs.declared.Length.{Length};
 ghost use Rattle.hum_kern.specs.Laws.{IsPartInDecimal, IsPartOfAWholeNote, IsReadAgain, IsShort};
 

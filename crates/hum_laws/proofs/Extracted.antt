@@ -21,7 +21,7 @@ use Rattle.hum_stage.specs.Meaning.{KeepsScore}
 use Rattle.hum_columns.specs.Spread.{filled, spread}
 use Rattle.hum_columns.specs.Chosen.{is_torn, opening_if, opening_of, flags}
 use Rattle.hum_columns.specs.Deciding.{at_path}
-use Rattle.hum_extract.specs.declared.choice.Choice.{Choice as WrittenChoice}
+use Rattle.hum_extract.specs.declared.options.ExtractOptions.{ExtractOptions}
 use Rattle.hum_extract.specs.Choice.{Choice, opening_flags, misses}
 use Rattle.hum_extract.specs.Extract.{chosen_between, cut, opened, extract}
 use Rattle.hum_extract.specs.Written.{choice_of, meaning as meaning_of_extract}
@@ -266,7 +266,7 @@ module _ (choice : Choice) (options : DittoOptions) where
       nothing (f ∷ fs) = refl
 
 -- extract and then ditto is ditto and then extract.
-pub extracted_filled : (choice : WrittenChoice) (options : DittoOptions) (p : List Row) (one other : Given)
+pub extracted_filled : (choice : ExtractOptions) (options : DittoOptions) (p : List Row) (one other : Given)
     → IsPiped (meaning_of_extract 1 choice) (meaning_of_ditto 2 options) p one → IsPiped (meaning_of_ditto 1 options) (meaning_of_extract 2 choice) p other
     → KeepsScore (meaning_of_extract 1 choice).outcomes → KeepsScore (meaning_of_ditto 1 options).outcomes → IsScore p
     → one.end ≡ Closed → other.end ≡ Closed → one.records.items ≡ other.records.items

@@ -3,10 +3,10 @@ use Rattle.std.proofs.Common.{◌≡◌, refl, sym, ap, ◌∙◌, ℕ, ◌+◌,
 use Rattle.std.proofs.Common.{false, List, [], ◌++◌, length, take, drop, Option, None, Some, subst}
 use Rattle.std.specs.Prelude.{Result, Ok, Err, not, if◌then◌else◌}
 use lib.Chars.{codes}
-use Rattle.hum_kern.specs.Pitch.{Spelled, IsPitch, away}
-use Rattle.hum_kern.specs.Spelling.{spelling}
-use Rattle.hum_kern.proofs.Steps.{away_is}
-use Rattle.hum_kern.specs.Ratio.{Ratio}
+use Rattle.hum_pitch.specs.Pitch.{Spelled, IsPitch, away}
+use Rattle.hum_pitch.specs.Spelling.{spelling}
+use Rattle.hum_pitch.proofs.Steps.{away_is}
+use Rattle.hum_frac.specs.Ratio.{Ratio}
 use Rattle.hum_kern.specs.declared.KernFault.{KernFault}
 use Rattle.hum_kern.specs.declared.Length.{Length}
 use Rattle.hum_kern.specs.Duration.{duration}

@@ -1,11 +1,11 @@
 -- The interval to a pitch leads there.
 use Rattle.std.proofs.Common.{◌≡◌, ◌∙◌, sym, ℤ}
 use Rattle.std.specs.Prelude.{Result, Ok, Err, MatchResult, IfOk, IfErr}
-use Rattle.hum_kern.specs.Pitch.{IsAway}
-use Rattle.hum_kern.specs.Given.{spelled}
-use Rattle.hum_kern.specs.declared.pitch.Pitch.{Pitch}
-use Rattle.hum_kern.specs.declared.pitch.PitchFault.{PitchFault}
-use Rattle.hum_kern.proofs.Steps.{away_only}
+use Rattle.hum_pitch.specs.Pitch.{IsAway}
+use Rattle.hum_pitch.specs.Given.{spelled}
+use Rattle.hum_pitch.specs.declared.pitch.Pitch.{Pitch}
+use Rattle.hum_pitch.specs.declared.pitch.PitchFault.{PitchFault}
+use Rattle.hum_pitch.proofs.Steps.{away_only}
 
 pub leads : (n m : ℤ) (from to : Pitch) (r : Result Pitch PitchFault) → IsAway n m (spelled from) (spelled to)
     → IfOk r (λ q. IsAway n m (spelled from) (spelled q)) → IfErr r (λ _. (q : Pitch) → ¬ IsAway n m (spelled from) (spelled q))

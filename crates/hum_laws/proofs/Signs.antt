@@ -10,8 +10,8 @@ use Rattle.std.proofs.lemmas.Bool.Decides.{nat_tests}
 use Rattle.std.proofs.lemmas.List.{length-replicate}
 use Rattle.std.proofs.lemmas.List.Quantifiers.{position-Some}
 use Rattle.hum_path.proofs.Cases.{by_bool}
-use Rattle.hum_kern.specs.Pitch.{Spelled, IsOctave, IsAlteration, away}
-use Rattle.hum_kern.specs.Spelling.{spelling, small_letters, capitals, letters, accidentals, read_letters, read_small, read_capitals, altered_by, natural_note}
+use Rattle.hum_pitch.specs.Pitch.{Spelled, IsOctave, IsAlteration, away}
+use Rattle.hum_pitch.specs.Spelling.{spelling, small_letters, capitals, letters, accidentals, read_letters, read_small, read_capitals, altered_by, natural_note}
 use Rattle.hum_kern.specs.declared.KernFault.{KernFault}
 use Rattle.hum_kern.specs.Classes.{is_letter, is_sign, is_natural_sign}
 use Rattle.hum_kern.specs.Note.{Notation, Reading, note, notation_of, pitch_of, alteration_of, is_uniform, is_doubtful, is_excessive}

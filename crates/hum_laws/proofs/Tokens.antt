@@ -11,7 +11,7 @@ use lib.Chars.{codes}
 use Rattle.hum_record.specs.Contents.{is_null, is_barline}
 use Rattle.hum_path.proofs.Cases.{by_bool}
 use Rattle.hum_record.specs.Spelling.{has_byte}
-use Rattle.hum_kern.specs.Spelling.{small_letters, capitals, letters, accidentals, spelling}
+use Rattle.hum_pitch.specs.Spelling.{small_letters, capitals, letters, accidentals, spelling}
 use Rattle.hum_stage.specs.declared.faults.Rule.{Rule}
 use Rattle.hum_cells.specs.Retelling.{is_told}
 use Rattle.hum_tones.specs.Subtokens.{given_by, joined, if_given, subtokens, retold}

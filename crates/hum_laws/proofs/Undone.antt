@@ -8,9 +8,9 @@ use Rattle.std.proofs.lemmas.Int.{ints}
 use Rattle.std.proofs.lemmas.Bool.Decides.{nat_tests}
 use Rattle.std.proofs.lemmas.List.Quantifiers.{position-Some}
 use Rattle.std.proofs.Math.Seq.{take-append_seam, drop-append_seam}
-use Rattle.hum_kern.specs.Pitch.{Spelled, IsPitch, IsOctave, IsAlteration, IsAway, away, semitones}
-use Rattle.hum_kern.specs.Spelling.{spelling, small_letters, capitals, read_small, read_capitals, altered_by}
-use Rattle.hum_kern.proofs.Steps.{away_is, away_only}
+use Rattle.hum_pitch.specs.Pitch.{Spelled, IsPitch, IsOctave, IsAlteration, IsAway, away, semitones}
+use Rattle.hum_pitch.specs.Spelling.{spelling, small_letters, capitals, read_small, read_capitals, altered_by}
+use Rattle.hum_pitch.proofs.Steps.{away_is, away_only}
 use Rattle.hum_kern.specs.declared.KernFault.{KernFault}
 use Rattle.hum_kern.specs.Note.{Notation, Reading, note, notation_of, pitch_of, alteration_of}
 use Rattle.hum_kern.proofs.Found.{IsFound, found_in, before_is, placed_there}

@@ -16,44 +16,43 @@ use crate::commands::{again, alone, piped};
 use crate::given::Given;
 use hum_commands::CommandOptions;
 use hum_ditto::DittoOptions;
-use hum_extract::{Choice, Field, FieldRange};
+use hum_extract::{ExtractOptions, Field, FieldRange};
 use hum_record::Record;
 use std::alloc::{AllocError, Global};
 
 /// What is extracted and then filled is what is filled and then extracted:
-/// `extract -f 1 | ditto` is `ditto | extract -f 1`. What the two are told is given twice, once for
-/// each side.
+/// `extract -f 1 | ditto` is `ditto | extract -f 1`.
 ///
 /// # Errors
-/// Want of memory.
+/// Out of memory.
 pub fn extract_ditto(
     alloc: Global,
     records: &[Record],
-    chosen: (Choice, Choice),
-    options: (DittoOptions, DittoOptions),
+    chosen: ExtractOptions,
+    options: DittoOptions,
 ) -> Result<(Given, Given), AllocError>
     requires closed { IsClosed records.now }
     requires few { length records.now ≤ 4294967295 }
-    requires chosen { choice_of chosen.1 ≡ choice_of chosen.0 }
-    requires alike { options.1 ≡ options.0 }
     ensures extracted { IfOk result (λ both.
-        IsPiped (meaning_of_extract 1 chosen.0) (meaning_of_ditto 2 options.0) records.now both.0) }
+        IsPiped (meaning_of_extract 1 chosen) (meaning_of_ditto 2 options) records.now both.0) }
     ensures filled { IfOk result (λ both.
-        IsPiped (meaning_of_ditto 1 options.0) (meaning_of_extract 2 chosen.0) records.now both.1) }
+        IsPiped (meaning_of_ditto 1 options) (meaning_of_extract 2 chosen) records.now both.1) }
     ensures same { IfOk result (λ both. both.0.end ≡ Closed → both.1.end ≡ Closed →
         both.0.records.items ≡ both.1.records.items) }
 {
+    let chosen_too = chosen.copy(alloc)?;
+    let options_too = options.copy(alloc)?;
     let extracted = piped(
         alloc,
         records,
-        CommandOptions::Extract(chosen.0),
-        CommandOptions::Ditto(options.0),
+        CommandOptions::Extract(chosen),
+        CommandOptions::Ditto(options),
     )?;
     let filled = piped(
         alloc,
         records,
-        CommandOptions::Ditto(options.1),
-        CommandOptions::Extract(chosen.1),
+        CommandOptions::Ditto(options_too),
+        CommandOptions::Extract(chosen_too),
     )?;
     Ok((extracted, filled))
 }
@@ -78,23 +77,21 @@ pub fn all_fields(alloc: Global, records: &[Record]) -> Result<Given, AllocError
     alone(
         alloc,
         records,
-        CommandOptions::Extract(Choice::Fields(ranges)),
+        CommandOptions::Extract(ExtractOptions::Fields(ranges)),
     )
 }
 
 /// What is extracted by some names has no others: `extract -i NAMES` twice is once.
 ///
 /// # Errors
-/// Want of memory.
+/// Out of memory.
 pub fn names_twice(
     alloc: Global,
     records: &[Record],
     names: Vec<Vec<u8>>,
-    alike: Vec<Vec<u8>>,
 ) -> Result<(Given, Given), AllocError>
     requires closed { IsClosed records.now }
     requires few { length records.now ≤ 4294967295 }
-    requires alike { texts alike.items ≡ texts names.items }
     ensures once { IfOk result (λ both. IsAlone
         (at_once 1 Extract (extract (Names (texts names.items)))) records.now both.0) }
     ensures twice { IfOk result (λ both. IsPiped
@@ -103,10 +100,12 @@ pub fn names_twice(
     ensures same { IfOk result (λ both. both.0.end ≡ Closed → both.1.end ≡ Closed →
         both.1.records.items ≡ both.0.records.items) }
 {
+    let once = ExtractOptions::Names(names);
+    let twice = once.copy(alloc)?;
     again(
         alloc,
         records,
-        CommandOptions::Extract(Choice::Names(names)),
-        CommandOptions::Extract(Choice::Names(alike)),
+        CommandOptions::Extract(once),
+        CommandOptions::Extract(twice),
     )
 }

@@ -15,26 +15,25 @@ use std::alloc::{AllocError, Global};
 /// What ditto has filled it doesn't fill again: `ditto | ditto` is `ditto`, also with `-p`.
 ///
 /// # Errors
-/// Want of memory.
+/// Out of memory.
 pub fn ditto_twice(
     alloc: Global,
     records: &[Record],
     options: DittoOptions,
-    alike: DittoOptions,
 ) -> Result<(Given, Given), AllocError>
     requires closed { IsClosed records.now }
     requires few { length records.now ≤ 4294967295 }
-    requires alike { alike ≡ options }
     ensures once { IfOk result (λ both. IsAlone (meaning 1 options) records.now both.0) }
     ensures twice { IfOk result (λ both.
         IsPiped (meaning 1 options) (meaning 2 options) records.now both.1) }
     ensures same { IfOk result (λ both. both.0.end ≡ Closed → both.1.end ≡ Closed →
         both.1.records.items ≡ both.0.records.items) }
 {
+    let options_too = options.copy(alloc)?;
     again(
         alloc,
         records,
         CommandOptions::Ditto(options),
-        CommandOptions::Ditto(alike),
+        CommandOptions::Ditto(options_too),
     )
 }

@@ -1,6 +1,6 @@
 //! The command trans, and what comes behind it.
 ghost use Rattle.std.specs.Prelude.{◌≡◌, ◌≤◌, ◌+ℤ◌, neg_ℤ, pos, negsuc, [], ◌∷◌, length, IfOk};
-ghost use Rattle.hum_kern.specs.Pitch.{IsWithin};
+ghost use Rattle.hum_pitch.specs.Pitch.{IsWithin};
 ghost use Rattle.hum_stage.specs.Score.{IsClosed};
 ghost use Rattle.hum_stage.specs.declared.faults.End.TheVariants.{Closed};
 ghost use Rattle.hum_tones.specs.Commands.{trans_sign, meaning_of_semits, meaning_of_recip};
@@ -9,32 +9,32 @@ ghost use Rattle.hum_laws.specs.Unsigned.{unsigned_under};
 ghost use Rattle.hum_laws.specs.Transposing.{moved_by, transposed_under};
 ghost use Rattle.hum_laws.specs.Transposing.{semitones_under, as_semitones, durations_under};
 
-use crate::commands::{piped, piped_and_alone};
+use crate::commands::{again, piped_and_alone};
 use crate::given::Given;
 use hum_commands::CommandOptions;
 use hum_record::Record;
-use hum_tones::{RecipOptions, SemitsOptions, Transposition};
+use hum_tones::{RecipOptions, SemitsOptions, TransOptions};
 use std::alloc::{AllocError, Global};
 
 /// Both ways, one after the other.
-fn sum(some: Transposition, more: Transposition) -> Transposition
+fn sum(some: TransOptions, more: TransOptions) -> TransOptions
     requires steps { IsWithin (negsuc 48) (some.steps +ℤ more.steps) (pos 49) }
     requires semitones { IsWithin (negsuc 83) (some.semitones +ℤ more.semitones) (pos 84) }
     ensures steps { result.steps ≡ some.steps +ℤ more.steps }
     ensures semitones { result.semitones ≡ some.semitones +ℤ more.semitones }
 {
-    Transposition {
+    TransOptions {
         steps: some.steps + more.steps,
         semitones: some.semitones + more.semitones,
     }
 }
 
 /// The way back.
-fn opposite(way: Transposition) -> Transposition
+fn opposite(way: TransOptions) -> TransOptions
     ensures steps { result.steps ≡ neg_ℤ way.steps }
     ensures semitones { result.semitones ≡ neg_ℤ way.semitones }
 {
-    Transposition {
+    TransOptions {
         steps: -way.steps,
         semitones: -way.semitones,
     }
@@ -48,8 +48,8 @@ fn opposite(way: Transposition) -> Transposition
 pub fn transpositions_add_up(
     alloc: Global,
     records: &[Record],
-    some: Transposition,
-    more: Transposition,
+    some: TransOptions,
+    more: TransOptions,
 ) -> Result<(Given, Given), AllocError>
     requires closed { IsClosed records.now }
     requires few { length records.now ≤ 4294967295 }
@@ -90,7 +90,7 @@ pub fn transpositions_add_up(
 pub fn semits_shifted(
     alloc: Global,
     records: &[Record],
-    way: Transposition,
+    way: TransOptions,
     options: SemitsOptions,
 ) -> Result<(Given, Given), AllocError>
     requires closed { IsClosed records.now }
@@ -123,7 +123,7 @@ pub fn semits_shifted(
 pub fn durations_stay(
     alloc: Global,
     records: &[Record],
-    way: Transposition,
+    way: TransOptions,
 ) -> Result<(Given, Given), AllocError>
     requires closed { IsClosed records.now }
     requires few { length records.now ≤ 4294967295 }
@@ -148,26 +148,32 @@ pub fn durations_stay(
 }
 
 /// There and back: `trans -d n -c m | trans -d -n -c -m` is the score, with the accidental `n` dropped
-/// from its pitches, and the records of `*Tr`.
+/// from its pitches, and the records of `*Tr`. Answers what comes there, and what comes back.
 ///
 /// # Errors
-/// Want of memory.
+/// Out of memory.
 pub fn there_and_back(
     alloc: Global,
     records: &[Record],
-    way: Transposition,
-) -> Result<Given, AllocError>
+    way: TransOptions,
+) -> Result<(Given, Given), AllocError>
     requires closed { IsClosed records.now }
     requires few { length records.now ≤ 4294967295 }
-    ensures both_ways { IfOk result (IsPiped (moved_by 1 way.steps way.semitones)
-        (moved_by 2 (neg_ℤ way.steps) (neg_ℤ way.semitones)) records.now) }
-    ensures same { IfOk result (λ given. given.end ≡ Closed →
-        given.records.items
+    ensures there { IfOk result (λ both.
+        IsAlone (moved_by 1 way.steps way.semitones) records.now both.0) }
+    ensures back { IfOk result (λ both. IsPiped (moved_by 1 way.steps way.semitones)
+        (moved_by 2 (neg_ℤ way.steps) (neg_ℤ way.semitones)) records.now both.1) }
+    ensures there_is { IfOk result (λ both. both.0.end ≡ Closed →
+        both.0.records.items
+        ≡ transposed_under (trans_sign way.steps way.semitones ∷ []) way.steps way.semitones
+        records.now) }
+    ensures same { IfOk result (λ both. both.1.end ≡ Closed →
+        both.1.records.items
         ≡ unsigned_under (trans_sign (neg_ℤ way.steps) (neg_ℤ way.semitones)
         ∷ trans_sign way.steps way.semitones ∷ []) records.now) }
 {
     let back = opposite(way);
-    piped(
+    again(
         alloc,
         records,
         CommandOptions::Trans(way),

@@ -5,12 +5,12 @@
 //! `--help` too, is refused.
 #![tactic(auto)]
 
-ghost use Rattle.std.specs.Prelude.{◌≡◌, ◌≤◌, IfOk};
-ghost use Rattle.hum_line.specs.declared.LineFault.TheVariants.{Memory};
+ghost use Rattle.std.specs.Prelude.{◌≤◌, IfOk};
 
 use clap::error::ErrorKind;
 use clap::{Arg, ArgAction, Command};
 use std::alloc::{AllocError, Global};
+use thiserror::Error;
 
 /// How many records a link may hold at most.
 const LARGEST_LINK: u16 = 4096;
@@ -39,20 +39,14 @@ pub struct Choice<'a> {
 }
 
 /// Why a command line asks for nothing.
-#[derive(Clone, Copy)]
+#[derive(Clone, Copy, Debug, Error)]
 pub enum LineFault {
     /// It isn't of the form above.
+    #[error("usage: humpipe [--link N] [--order left|right] [PIPELINE]")]
     Usage,
     /// Memory ran out.
-    Memory,
-}
-
-impl From<AllocError> for LineFault {
-    ghost from_gives = { λ _ e. e ≡ Memory };
-
-    fn from(_e: AllocError) -> LineFault {
-        LineFault::Memory
-    }
+    #[error("out of memory")]
+    Memory(#[from(alloc)] AllocError),
 }
 
 /// An option of one value.
@@ -93,7 +87,9 @@ pub fn read_line<'a>(alloc: Global, words: &'a [String]) -> Result<Choice<'a>, L
 {
     let matches = match arguments(alloc)?.try_get_matches_from(words) {
         Ok(matches) => matches,
-        Err(error) if error.kind() == ErrorKind::OutOfMemory => return Err(LineFault::Memory),
+        Err(error) if error.kind() == ErrorKind::OutOfMemory => return Err(LineFault::Memory(
+            AllocError,
+        )),
         Err(_) => return Err(LineFault::Usage),
     };
     let link = matches.get_one::<u16>("link").unwrap_or(USUAL_LINK);

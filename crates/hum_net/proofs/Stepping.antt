@@ -1,65 +1,67 @@
--- The turn of a stage that isn't a source, by the kind of what it does next.
-use Rattle.std.proofs.Common.{◌≡◌, ◌∙◌, ℕ, ◌<◌, true, false, List, Result, Ok, Err, sym, subst, arith, nat_lt}
-use Rattle.std.proofs.Common.{ap, le-ltb}
-use Rattle.std.proofs.lemmas.Bool.{cond-false}
-use Rattle.std.specs.Prelude.{OnOk, IfOk}
-use Rattle.hum_turns.specs.Plan.{last}
-use Rattle.hum_turns.specs.Near.{touched}
-use Rattle.hum_turns.specs.Turns.{State, state, ready}
-use Rattle.hum_turns.proofs.States.{reads_bytes}
-use Rattle.hum_nodes.specs.declared.node.Doing.{Doing}
-use Rattle.hum_nodes.specs.declared.node.Doing.TheVariants as does
-use Rattle.hum_nodes.specs.declared.node.DoingKind.{DoingKind}
-use Rattle.hum_nodes.specs.At.{At, doing_of, kind_of}
-use Rattle.hum_nodes.specs.declared.either.Node.{Node}
-use Rattle.hum_net.specs.declared.web.Web.{Web}
-use Rattle.hum_net.specs.Scene.{Scene, plan_of, at_of, MayAct, IsAbout, IsAboutKind, Done}
-use Rattle.hum_net.proofs.Polling.{state_reads}
-use Rattle.hum_net.proofs.Turning.{acting}
+-- What a net that lasts may be asked, and that it lasts.
+use Rattle.std.proofs.Common.{refl, ℕ, ◌<◌, ◌≤◌, List, [], length, Option, Bool, arith}
+use Rattle.hum_nodes.specs.At.{At}
+use Rattle.hum_nodes.specs.declared.node.Node.{Node}
+use Rattle.hum_turns.specs.declared.result.RunResult.{RunResult}
+use Rattle.hum_turns.specs.Orders.{Order}
+use Rattle.hum_engine.specs.declared.net.Net.{Net}
+use Rattle.hum_engine.specs.Scene.{before_all}
+use Rattle.hum_engine.specs.Nets.{IsNet, IsRunning, IsAmong, MayGo, HasTurned, HasRun}
+use Rattle.hum_engine.proofs.Lasting.{lasts}
+use Rattle.hum_net.specs.Scenes.{IsReadyNow}
 
-module _ {F W : Type 0} (stands : Node F W → List ℕ → At → Type 0) (k : ℕ) (web : Web F W)
-    (kind : DoingKind) (s : Scene) (a : IsAboutKind stands k kind web s) where
-  pub about_by : (doing : Doing)
-      → (kind_of (doing_of (at_of s.kinds s.links k)) ≡ kind → doing_of (at_of s.kinds s.links k) ≡ doing)
-      → IsAbout stands k doing web s
-  about_by doing find = record { at = a.at; less = a.less; bytes = a.bytes; does = find a.does }
+module _ {S R W : Type 0} {stands : Node S R → List ℕ → At → Type 0}
+    {contents : W → Option (List ℕ)} {flushed : W → Bool} where
+  -- it stands for a moment, as where nothing more is to come
+  pub is_running : (net : Net S R W) → IsNet stands contents flushed net → IsRunning stands contents flushed net
+  is_running net r = record {
+    start = r.start;
+    scene = r.scene (λ i. []);
+    now = r.now (λ i. []);
+    at = r.at (λ i. []) (λ i e. refl);
+  }
 
-  pub may_by : (doing : Doing)
-      → (kind_of (doing_of (at_of s.kinds s.links k)) ≡ kind → doing_of (at_of s.kinds s.links k) ≡ doing)
-      → ready (plan_of s) s.size s.links k ≡ true → MayAct stands k doing web s
-  may_by doing find = acting stands k web doing s (about_by doing find)
+  pub is_among : (k : ℕ) (net : Net S R W) → IsNet stands contents flushed net → k < length net.actors.items
+      → IsAmong stands contents flushed k net
+  is_among k net r less =
+      let m = is_running net r in
+      let count = m.at.actors in
+      record { running = m; within = omega (arith, less, count) }
 
-module _ {F W : Type 0} (stands : Node F W → List ℕ → At → Type 0) (k : ℕ) (old new : Web F W)
-    (doing : Doing) (s : Scene) (may : MayAct stands k doing old s) where
-  pub has_done : (does : State) → state (plan_of s) s.links k ≡ does → Done stands k does new s
-      → Done stands k (state (plan_of s) s.links k) new s
-  has_done does is done = subst (λ d. Done stands k d new s) (sym is) done
+  pub may_go : (k : ℕ) (net : Net S R W) → IsNet stands contents flushed net → k < length net.actors.items
+      → IsReadyNow stands contents flushed k net → MayGo stands contents flushed k net
+  may_go k net r less ready =
+      let m = is_running net r in
+      let count = m.at.actors in
+      record {
+        start = m.start;
+        scene = m.scene;
+        now = m.now;
+        at = m.at;
+        within = omega (arith, less, count);
+        ready = ready m.start m.scene m.now m.at;
+      }
 
-  -- a stage that isn't a source
-  pub never_reads : doing_of (at_of s.kinds s.links k) ≡ does.Reads → ⊥
-  never_reads e =
-      let some = reads_bytes (plan_of s) may.at.reached.ok s.links k may.less
-      (state_reads s s.links k may.less e) in
-      let none = may.bytes in
-      omega (arith, some, none)
+  pub turned_lasts : {remaining : R → Option (List ℕ)} (k : ℕ) (old new : Net S R W) (is_over : Bool) → IsNet stands contents flushed old
+      → k < length old.actors.items → IsReadyNow stands contents flushed k old
+      → HasTurned stands remaining contents flushed k old new is_over → IsNet stands contents flushed new
+  turned_lasts {remaining} k old new is_over r less ready h = lasts stands remaining contents flushed old new r (record {
+    reads = h.reads;
+    read = h.read;
+    goes = λ start s now over at.
+        let count = at.actors in
+        let within : k ≤ s.count = omega (arith, less, count) in
+        let to = h.turns start s now over at within (ready start (before_all h.reads s) now at) in
+        (to.to, to.at);
+  })
 
--- what holds of a call that has passed a record or an end
-pub when_ok : {A E : Type 0} (P Q : Type 0) (r : Result A E) → OnOk r P → (P → Q) → OnOk r Q
-when_ok P Q (Ok x) h f = f h
-when_ok P Q (Err e) h f = h
-
-pub if_ok : {A E : Type 0} (P Q : A → Type 0) (r : Result A E) → IfOk r P → ((x : A) → P x → Q x)
-    → IfOk r Q
-if_ok P Q (Ok x) h f = f x h
-if_ok P Q (Err e) h f = h
-
--- a stage of one scene that is a web's is one of each
-pub here_too : (k nodes a b : ℕ) → k < a → nodes ≡ a → nodes ≡ b → k < b
-here_too k nodes a b less is same = omega (arith, less, is, same)
-
--- the link that the sink takes from
-pub sink_touches : (s : Scene) (k link : ℕ) → k ≡ s.count → link ≡ last (plan_of s)
-    → link ≡ touched k (state (plan_of s) s.links k)
-sink_touches s k link is e =
-    let past : nat_lt k s.count ≡ false = le-ltb k s.count (omega (arith, is)) in
-    e ∙ sym (ap (touched k) (cond-false _ _ _ past))
+  pub ran_lasts : {O : Type 0} {remaining : R → Option (List ℕ)} (order : Order O) (o p : O) (old new : Net S R W) (by : RunResult)
+      → IsNet stands contents flushed old → HasRun stands remaining contents flushed order o p old new by
+      → IsNet stands contents flushed new
+  ran_lasts {O} {remaining} order o p old new by r h = lasts stands remaining contents flushed old new r (record {
+    reads = h.reads;
+    read = h.read;
+    goes = λ start s now over at.
+        let ran = h.runs start s now over at in
+        (ran.leads.to, ran.leads.at);
+  })

@@ -1,7 +1,8 @@
-pub mod Readers
-pub mod Search
-pub mod Scene
-pub mod Nets
-pub mod Traffic
-pub mod Links
-pub mod Writing
+-- What is said of plans as nets, and of their runs.
+pub mod Commands
+pub mod Parts
+pub mod Nodes
+pub mod Runs
+pub mod Scenes
+pub mod Outcomes
+pub mod Bundles

@@ -1,19 +1,20 @@
-//! Nets: nodes and their links, moved turn by turn as hum_turns says.
+//! Pipelines: plans as nets of stages and links, run turn by turn.
 //!
-//! - [`Web`] is the nodes of a plan and the link of each. One turn of it is one step of the plan's
-//!   turns, whatever bytes are still to come.
-//! - [`Link`] is what joins a stage to its reader: a ring of records, and one end, which takes no
-//!   room.
-//! - [`Net`] is a web whose last stage is written, by [`write_record`].
+//! - [`run_bundle`] runs a plan and its scores that come in one stream, and [`run_stages`] a plan's
+//!   stages over readers; an [`Outcome`] is how that ends, with its status and the line that tells it.
+//! - [`Net`] is the net of a plan, which is moved turn by turn, or run in an [`Order`].
 #![tactic(auto)]
 
-mod idle;
-mod link;
+mod bundles;
 mod net;
-mod web;
-mod writing;
+mod nodes;
+mod outcome;
+mod running;
 
-pub use link::{Link, Next};
-pub use net::{Net, Turned};
-pub use web::Web;
-pub use writing::{WriteFailed, write_record};
+pub use bundles::{plan_stages, run_bundle};
+pub use hum_plan::{Plan, PlanError, PlanFault, parse_plan};
+pub use hum_text::calls::{Marked, Sink, Source};
+pub use hum_turns::{Leftmost, Order, Rightmost, RunResult};
+pub use net::Net;
+pub use outcome::Outcome;
+pub use running::run_stages;

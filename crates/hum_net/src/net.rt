@@ -1,606 +1,255 @@
-//! A web whose last stage is written.
-ghost use Rattle.std.specs.Prelude.{◌≡◌, ◌≢◌, ◌≤◌, ◌<◌, ◌+◌, ◌||◌, ℕ, List, [], Option, None, Some};
-ghost use Rattle.std.specs.Prelude.{IfSome, IfOk, IfErr, length, is_some, true, false};
-ghost use Rattle.std.specs.Prelude.{slice_get, slice_set};
-ghost use Rattle.hum_record.specs.Row.{Row, text_of};
+//! The net of a plan, moved turn by turn.
+ghost use Rattle.std.specs.Prelude.{◌≡◌, ◌≤◌, ◌<◌, ◌+◌, ◌||◌, ℕ, List, Option, Some, None, true, length};
+ghost use Rattle.std.specs.Prelude.{IfOk, IfErr, is_some};
+ghost use Rattle.hum_record.specs.Row.{Row};
+ghost use Rattle.hum_turns.specs.Failures.{Now, is_ready, result as ended};
 ghost use Rattle.hum_turns.specs.Links.{linked};
-ghost use Rattle.hum_turns.specs.declared.result.RunResult.TheVariants as ends;
-ghost use Rattle.hum_turns.specs.Failures.{Now, IsFirst, MayFail, is_ready, result as ended};
-ghost use Rattle.hum_turns.specs.Orders.{ready_list};
-ghost use Rattle.hum_nodes.specs.Nodes.{StandsAs};
-ghost use Rattle.hum_nodes.specs.Polls.{AsksAtMostOnce, HasStayed};
-ghost use Rattle.hum_net.specs.Readers.{ShowsSame, remaining_at, ended_at, calls_at, failed_at};
-ghost use Rattle.hum_net.specs.Readers.{is_read_of, is_write};
-ghost use Rattle.hum_net.specs.Scene.{Scene, plan_of, Somewhere, IsActor, IsAt, IsNetPlan, IsBegun, MayTurn};
-ghost use Rattle.hum_net.specs.Scene.{KeepsOthers, Fed, held_of, HoldsFew, IsDoing};
-ghost use Rattle.hum_net.specs.Nets.{MayWrite, SinkWent, MayTurnFew, MayGo, IsRunning};
 ghost use Rattle.hum_turns.specs.Counts.{most_in_all};
 ghost use Rattle.hum_turns.specs.Holds.{SomeReady};
-ghost use Rattle.hum_net.specs.Nets.{WroteFront, IsGoing, IsStage, IsChanged, AreAmong, Known, asked};
-ghost use Rattle.hum_net.specs.Nets.{IsAmong, NetAt, AreBegun, Tells, HasRun, HasRunOn, IsNet};
-ghost use Rattle.hum_net.specs.Search.{beginning, search_by};
-ghost use Rattle.hum_net.specs.Nets.{Sees, MayPick, HasPicked, MayAsk, HasGone};
+ghost use Rattle.hum_nodes.specs.Nodes.{StandsAs};
+ghost use Rattle.hum_plan.specs.Stages.{IsTree, reads_of as read_stages};
+ghost use Rattle.hum_plan.specs.Seen.{stages_of};
+ghost use Rattle.hum_engine.specs.Scene.{Scene, plan_of, held_of, HoldsFew};
+ghost use Rattle.hum_engine.specs.Readers.{failed_at, is_read_of, is_write};
+ghost use Rattle.hum_engine.specs.Nets.{NetAt, Tells, HasTurned, HasRun, HasRunOn, WroteFront};
+ghost use Rattle.hum_net.specs.Nodes.{AreTold, reads_of};
+ghost use Rattle.hum_net.specs.Parts.{AreSoundFrom};
+ghost use Rattle.hum_net.specs.Scenes.{scene_of, first_now, IsReadyNow};
 
-use crate::idle::{Chain, Knows, Tree};
-use crate::link::Next;
-use crate::web::Web;
-use crate::writing::write_record;
-use hum_nodes::{DoingKind, Feeds, Node, Works};
-use hum_read::ReadError;
-use hum_text::calls::Sink;
-use hum_turns::{Order, RunResult, choose};
+use crate::nodes::plan_nodes;
+use hum_command_stages::CommandStage;
+use hum_engine::Net as Engine;
+use hum_plan::{Plan, PlanStage};
+use hum_stage::Stage;
+use hum_text::calls::{Sink, Source};
+use hum_turns::{Order, RunResult};
 use std::alloc::Global;
+use std::marker::Model;
 
-/// Nodes and links, what the last stage is written to, and the failure that has ended the run.
+/// The stages of a plan over readers, the links between them, and the writer behind the last.
+///
+/// Actor `k`, from 0, is stage `k + 1`; the last actor is the sink, which writes. However the bytes go
+/// on that its readers still have, it stands for a moment of the plan's run over them.
 #[derive(Drop)]
-pub struct Net<F, W, S> {
-    web: Web<F, W>,
-    sink: S,
-    failure: Option<RunResult>,
-    turns: u64,
-    // a flag for each actor, which an order picks by
-    actors: Vec<bool>,
-    // who takes from each link, where that was learnt
-    readers: Vec<Option<usize>>,
+pub struct Net<R: Source, W: Sink> {
+    engine: Engine<CommandStage, R, W>,
 }
 
-/// What a turn has come to.
-#[derive(Clone, Copy)]
-pub struct Turned {
-    /// The link that it has changed; its own, where the actor has failed.
-    pub link: usize,
-    /// Whether the run is over.
-    pub is_over: bool,
+impl<R: Source, W: Sink> Model for Net<R, W> {
+    ghost use Rattle.hum_nodes.specs.Nodes.{StandsAs};
+    ghost use Rattle.hum_command_stages.specs.declared.stages.CommandStage.{CommandStage};
+    ghost use Rattle.hum_engine.specs.declared.net.Net.{Net as Engine};
+    ghost use Rattle.hum_engine.specs.Nets.{IsNet};
+
+    ghost Value = { Engine CommandStage R W };
+
+    ghost view = { λ net. net.engine };
+
+    ghost invariant = { λ net. IsNet (StandsAs ⟦<CommandStage as Stage>⟧.stands) W.contents W.flushed
+        net.engine };
 }
 
-impl<F: Feeds, W: Works, S: Sink> Net<F, W, S> {
-    // Both tell in place how they failed: an answer would be taken to pieces as small as a fault's
-    // fields, at each turn.
-
-    // The sink's turn, and whether the run is over.
-    #[inline(always)]
-    fn sink_turn(&mut self) -> bool
-        requires none { self.old.failure ≡ None }
-        requires may { Somewhere (IsAt (StandsAs F.stands W.stands) self.old.web) }
-        ensures went { (s : Scene) → MayWrite (StandsAs F.stands W.stands) self.old.web s
-            → SinkWent (StandsAs F.stands W.stands) self.new.failure (S.contents self.old.sink)
-            (S.contents self.new.sink) (S.flushed self.new.sink) result self.new.web s }
-        ensures marked { S.failed self.new.sink
-            ≡ (S.failed self.old.sink || is_write self.new.failure) }
-        ensures unread { (k : ℕ) → is_read_of k self.new.failure ≡ false }
-        ensures shows { (k : ℕ) → ShowsSame F.remaining F.ended F.calls F.failed
-            self.old.web.nodes.items self.new.web.nodes.items k }
-        ensures turns { self.new.turns ≡ self.old.turns }
-        ensures actors { self.new.actors ≡ self.old.actors }
-        ensures readers { self.new.readers ≡ self.old.readers }
-    {
-        match self.web.take_out() {
-            Next::Record(row) => match write_record(&mut self.sink, row) {
-                Ok(row) => {
-                    self.web.reuse(row);
-                    return false;
-                }
-                Err(_) => self.fail_to_write(),
-            },
-            Next::End(_) => match self.sink.flush() {
-                Ok(()) => {}
-                Err(_) => self.fail_to_write(),
-            },
-            Next::Nothing => {}
-        }
-        true
-    }
-
-    // A read of a stage has failed, or memory is wanting: that ends the run. It happens once, so no turn has
-    // a place for how it ended.
-    #[inline(never)]
-    fn fail_to_read(&mut self, k: usize)
-        requires { k < 255 }
-        ensures { self.new ≡ record self.old { failure = Some (ends.Read (k + 1)) } }
-    {
-        self.failure = Some(RunResult::Read((k + 1) as u8));
-    }
-
-    #[inline(never)]
-    fn fail_to_write(&mut self)
-        ensures { self.new ≡ record self.old { failure = Some ends.Write } }
-    {
-        self.failure = Some(RunResult::Write);
-    }
-
-    #[inline(never)]
-    fn fail_for_memory(&mut self)
-        ensures { self.new ≡ record self.old { failure = Some ends.Memory } }
-    {
-        self.failure = Some(RunResult::Memory);
-    }
-
-    // A stage's turn, where it does this next.
-    #[inline(always)]
-    fn stage_turn(&mut self, k: usize, doing: Option<DoingKind>) -> Turned
-        requires none { self.old.failure ≡ None }
-        requires may { Somewhere (MayTurnFew (StandsAs F.stands W.stands) k self.old.web) }
-        requires doing { IsDoing (StandsAs F.stands W.stands) k self.old.web doing }
-        ensures fed { self.new.failure ≡ None → Fed (StandsAs F.stands W.stands) F.remaining F.ended k
-            self.old.web self.new.web }
-        ensures link { (s : Scene) → IsActor (StandsAs F.stands W.stands) k self.old.web s
-            → IsChanged k s self.new.failure result.link }
-        ensures over { result.is_over ≡ is_some self.new.failure }
-        ensures failed { IfSome self.new.failure (λ by. (s : Scene)
-            → MayTurn (StandsAs F.stands W.stands) k self.old.web s
-            → MayFail (plan_of s) k text_of s.links by []) }
-        ensures others { KeepsOthers k self.old.web self.new.web }
-        ensures marked { failed_at F.failed k self.new.web.nodes.items
-            ≡ (failed_at F.failed k self.old.web.nodes.items || is_read_of k self.new.failure) }
-        ensures unmarked { (i : ℕ) → i ≢ k → is_read_of i self.new.failure ≡ false }
-        ensures unwritten { is_write self.new.failure ≡ false }
-        ensures calls { AsksAtMostOnce (calls_at F.calls k self.old.web.nodes.items)
-            (failed_at F.failed k self.old.web.nodes.items)
-            (calls_at F.calls k self.new.web.nodes.items)
-            (failed_at F.failed k self.new.web.nodes.items) }
-        ensures stays { IfSome self.new.failure (λ by. HasStayed
-            (ended_at F.ended k self.old.web.nodes.items)
-            (ended_at F.ended k self.new.web.nodes.items)
-            (remaining_at F.remaining k self.old.web.nodes.items)
-            (remaining_at F.remaining k self.new.web.nodes.items)) }
-        ensures sink { self.new.sink ≡ self.old.sink }
-        ensures turns { self.new.turns ≡ self.old.turns }
-        ensures actors { self.new.actors ≡ self.old.actors }
-        ensures readers { self.new.readers ≡ self.old.readers }
-    {
-        match self.web.turn(k, doing) {
-            Ok(link) => {
-                return Turned {
-                    link,
-                    is_over: false,
-                };
-            }
-            Err(ReadError::Read) => self.fail_to_read(k),
-            Err(ReadError::Memory) => self.fail_for_memory(),
-        }
-        Turned {
-            link: k,
-            is_over: true,
-        }
-    }
-
-    /// A net of nodes that were asked nothing yet, with links of this size, from 1 to 4,096.
+impl<R: Source + Drop, W: Sink> Net<R, W> {
+    /// The net of a plan, with a reader for each stage that reads a score, in their order, and links
+    /// that hold so many records.
     ///
     /// # Errors
-    /// Want of memory, which hands the sink back.
-    pub fn new(alloc: Global, nodes: Vec<Node<F, W>>, size: u16, sink: S) -> Result<Net<F, W, S>, S>
-        requires few { length nodes.items < 256 }
-        ensures ok { IfOk result (λ net. (s : Scene) (now : Now Row) → IsFirst now
-            → IsNetPlan s.count s.kinds s.size
-            → IsBegun (StandsAs F.stands W.stands) size nodes.items s
-            → NetAt (StandsAs F.stands W.stands) S.contents S.flushed (S.contents sink) s net now) }
-        ensures runs { IfOk result (λ net. (scene : (ℕ → List ℕ) → Scene)
-            → AreBegun (StandsAs F.stands W.stands) size nodes.items scene
-            → IsNet (StandsAs F.stands W.stands) F.ended S.contents S.flushed net) }
-        ensures nodes { IfOk result (λ net. net.web.nodes ≡ nodes) }
-        ensures sink { IfOk result (λ net. net.sink ≡ sink) }
+    /// Out of memory, which hands the writer back.
+    pub fn new(
+        alloc: Global,
+        plan: Plan,
+        readers: Vec<R>,
+        writer: W,
+        link: u16,
+    ) -> Result<Net<R, W>, W>
+        requires readers { length (read_stages plan) ≡ length readers.items }
+        requires link { 1 ≤ link }
+        requires room { link ≤ 4096 }
+
+        // Whatever bytes the readers have, it stands for the plan over them before the first turn.
+        ensures opens { IfOk result (λ net. (bytes : ℕ → List ℕ)
+            → NetAt (StandsAs ⟦<CommandStage as Stage>⟧.stands) W.contents W.flushed
+            (W.contents writer) (scene_of bytes bytes plan link) net first_now) }
+
+        // Where the readers tell their bytes, so do its sources.
+        ensures tells { IfOk result (λ net. (bytes : ℕ → List ℕ)
+            → AreTold R.remaining bytes 0 plan readers.items
+            → Tells R.remaining net.web.nodes.items bytes) }
+        ensures sink { IfOk result (λ net. net.sink ≡ writer) }
         ensures failure { IfOk result (λ net. net.failure ≡ None) }
-        ensures err { IfErr result (λ back. back ≡ sink) }
+        ensures err { IfErr result (λ back. back ≡ writer) }
     {
-        let Ok(actors) = vec![in alloc; false; nodes.len() + 1] else {
-            return Err(sink);
+        Net::of_stages(alloc, plan.into_stages(), readers, writer, link)
+    }
+
+    /// The same of the stages of a plan.
+    pub(crate) fn of_stages(
+        alloc: Global,
+        stages: Vec<PlanStage>,
+        readers: Vec<R>,
+        writer: W,
+        link: u16,
+    ) -> Result<Net<R, W>, W>
+        requires tree { IsTree (stages_of stages.items) }
+        requires readers { reads_of (stages_of stages.items) ≡ length readers.items }
+        requires link { 1 ≤ link }
+        requires room { link ≤ 4096 }
+        ensures opens { IfOk result (λ net. (bytes : ℕ → List ℕ)
+            → NetAt (StandsAs ⟦<CommandStage as Stage>⟧.stands) W.contents W.flushed
+            (W.contents writer) (scene_of bytes bytes (stages_of stages.items) link) net first_now) }
+        ensures tells { IfOk result (λ net. (bytes : ℕ → List ℕ)
+            → AreTold R.remaining bytes 0 (stages_of stages.items) readers.items
+            → Tells R.remaining net.web.nodes.items bytes) }
+        ensures sound { IfOk result (λ net. AreSoundFrom 0 (stages_of stages.items)) }
+        ensures sink { IfOk result (λ net. net.sink ≡ writer) }
+        ensures failure { IfOk result (λ net. net.failure ≡ None) }
+        ensures err { IfErr result (λ back. back ≡ writer) }
+    {
+        let Ok(nodes) = plan_nodes(alloc, stages, readers) else {
+            return Err(writer);
         };
-        let Ok(readers) = vec![in alloc; None; nodes.len()] else {
-            return Err(sink);
-        };
-        match Web::new(alloc, nodes, usize::from(size)) {
-            Ok(web) => Ok(Net {
-                web,
-                sink,
-                failure: None,
-                turns: 0,
-                actors,
-                readers,
-            }),
-            Err(_) => Err(sink),
-        }
+        let engine = Engine::of_nodes(alloc, nodes, link, writer)?;
+        Ok(Net { engine })
     }
 
-    // Sets the flag of each actor: whether it is ready.
-    fn mark(&mut self)
-        requires { IsRunning (StandsAs F.stands W.stands) S.contents S.flushed self.old }
-        ensures same { self.new ≡ record self.old { actors = self.new.actors } }
-        ensures len { length self.new.actors.items ≡ length self.old.actors.items }
-        ensures list { (start : Option (List ℕ)) (s : Scene) (now : Now Row)
-            → NetAt (StandsAs F.stands W.stands) S.contents S.flushed start s self.old now
-            → self.new.actors.items ≡ ready_list (plan_of s) s.size now }
+    /// How many actors there are: the stages and the sink.
+    pub fn actors(&self) -> usize
+        ensures count { result ≡ length self.now.actors.items }
+        ensures stages { (start : Option (List ℕ)) (s : Scene) (now : Now Row)
+            → NetAt (StandsAs ⟦<CommandStage as Stage>⟧.stands) W.contents W.flushed start s self.now now
+            → result ≡ s.count + 1 }
     {
-        for k in 0..self.actors.len() {
-            let is = self.ready(k);
-            self.actors[k] = is;
-        }
+        self.engine.actors()
     }
 
-    // Nothing is known of who takes from which link.
-    fn forget(&mut self)
-        ensures same { self.new ≡ record self.old { readers = self.new.readers } }
-        ensures none { (t r : ℕ) → slice_get self.new.readers.items t ≢ Some (Some r) }
+    /// Whether an actor is ready: it may have a turn. Once the run has ended none is.
+    pub fn ready(&self, k: usize) -> bool
+        requires { k < length self.now.actors.items }
+        ensures { (start : Option (List ℕ)) (s : Scene) (now : Now Row)
+            → NetAt (StandsAs ⟦<CommandStage as Stage>⟧.stands) W.contents W.flushed start s self.now now
+            → result ≡ is_ready (plan_of s) s.size now k }
     {
-        for t in 0..self.readers.len() {
-            self.readers[t] = None;
-        }
+        self.engine.ready(k)
     }
 
-    // Who takes from a link that this actor has just changed, if that is known: the actor itself,
-    // where the link isn't its own.
-    fn reader(&mut self, actor: usize, link: usize) -> Option<usize>
-        ensures same { self.new ≡ record self.old { readers = self.new.readers } }
-        ensures learns { (t r : ℕ) → slice_get self.new.readers.items t ≡ Some (Some r)
-            → Known self.old.readers.items actor link t r }
-        ensures tells { IfSome result (λ r. Known self.old.readers.items actor link link r) }
+    /// One turn of an actor that is ready, and whether the run is over then.
+    pub fn turn(&mut self, k: usize) -> bool
+        requires within { k < length self.old.actors.items }
+        requires ready { IsReadyNow (StandsAs ⟦<CommandStage as Stage>⟧.stands) W.contents W.flushed
+            k self.old }
+
+        // It is one turn of this actor, whatever comes of the bytes that are still to be read.
+        ensures turned { HasTurned (StandsAs ⟦<CommandStage as Stage>⟧.stands) R.remaining W.contents
+            W.flushed k self.old self.new result }
+        ensures turns { self.new.turns ≡ self.old.turns + 1 }
+        ensures actors { self.new.actors ≡ self.old.actors }
+
+        // A failed read or write ends the run exactly where a call has failed.
+        ensures reads { (i : ℕ) → failed_at R.failed i self.new.web.nodes.items
+            ≡ (failed_at R.failed i self.old.web.nodes.items || is_read_of i self.new.failure) }
+        ensures writes { W.failed self.new.sink ≡ (W.failed self.old.sink || is_write self.new.failure) }
     {
-        if actor != link {
-            if let Some(reader) = self.readers.get_mut(link) {
-                *reader = Some(actor);
-            }
-            return Some(actor);
-        }
-        match self.readers.get(link) {
-            Some(reader) => *reader,
-            None => None,
-        }
+        self.engine.turn(k).is_over
     }
 
-    // Sets the flag of an actor. While the run goes on it says whether that one is ready.
-    #[inline(always)]
-    fn ask(&mut self, k: usize)
-        requires { IsGoing (StandsAs F.stands W.stands) S.contents S.flushed k self.old }
-        ensures same { self.new ≡ record self.old { actors = self.new.actors } }
-        ensures len { length self.new.actors.items ≡ length self.old.actors.items }
-        ensures list { (start : Option (List ℕ)) (s : Scene) (now : Now Row)
-            → NetAt (StandsAs F.stands W.stands) S.contents S.flushed start s self.old now
-            → ended (plan_of s) now ≡ None → k ≤ s.count → self.new.actors.items
-            ≡ slice_set self.old.actors.items k (is_ready (plan_of s) s.size now k) }
+    /// Whether the run is over. Until then some actor is ready.
+    pub fn over(&self) -> bool
+        ensures progress { (start : Option (List ℕ)) (s : Scene) (now : Now Row)
+            → NetAt (StandsAs ⟦<CommandStage as Stage>⟧.stands) W.contents W.flushed start s self.now now
+            → ended (plan_of s) now ≡ None → SomeReady (plan_of s) s.size now.links }
+        ensures over { (start : Option (List ℕ)) (s : Scene) (now : Now Row)
+            → NetAt (StandsAs ⟦<CommandStage as Stage>⟧.stands) W.contents W.flushed start s self.now now
+            → result ≡ is_some (ended (plan_of s) now) }
     {
-        let is = self.web.ready(k);
-        self.actors[k] = is;
-    }
-
-    // Sets the flags of the two ends of a link, or all of them where its reader isn't known.
-    fn ask_again(&mut self, link: usize, reader: Option<usize>)
-        requires { AreAmong (StandsAs F.stands W.stands) S.contents S.flushed link reader self.old }
-        ensures same { self.new ≡ record self.old { actors = self.new.actors } }
-        ensures len { length self.new.actors.items ≡ length self.old.actors.items }
-        ensures list { (start : Option (List ℕ)) (s : Scene) (now : Now Row)
-            → NetAt (StandsAs F.stands W.stands) S.contents S.flushed start s self.old now
-            → ended (plan_of s) now ≡ None
-            → link ≤ s.count → IfSome reader (λ r. r ≤ s.count) → self.new.actors.items
-            ≡ asked (is_ready (plan_of s) s.size now) s.count self.old.actors.items link reader }
-    {
-        match reader {
-            Some(reader) => {
-                self.ask(link);
-                self.ask(reader);
-            }
-            None => self.mark(),
-        }
-    }
-
-    // Sets all flags, unless the run is over.
-    fn prepare(&mut self)
-        requires { IsRunning (StandsAs F.stands W.stands) S.contents S.flushed self.old }
-        ensures same { self.new
-            ≡ record self.old { actors = self.new.actors; readers = self.new.readers } }
-        ensures len { length self.new.actors.items ≡ length self.old.actors.items }
-        ensures list { (start : Option (List ℕ)) (s : Scene) (now : Now Row)
-            → NetAt (StandsAs F.stands W.stands) S.contents S.flushed start s self.old now
-            → ended (plan_of s) now ≡ None
-            → (self.new.actors.items ≡ ready_list (plan_of s) s.size now)
-            × ((t r : ℕ) → slice_get self.new.readers.items t ≢ Some (Some r)) }
-        ensures over { (start : Option (List ℕ)) (s : Scene) (now : Now Row) (by : RunResult)
-            → NetAt (StandsAs F.stands W.stands) S.contents S.flushed start s self.old now
-            → ended (plan_of s) now ≡ Some by → self.new ≡ self.old }
-    {
-        if self.result().is_some() {
-            return;
-        }
-        self.forget();
-        self.mark();
-    }
-
-    // How a run ended that is over.
-    #[inline(never)]
-    fn told(&self) -> RunResult
-        requires { IsRunning (StandsAs F.stands W.stands) S.contents S.flushed self.now }
-        ensures { (start : Option (List ℕ)) (s : Scene) (now : Now Row) (by : RunResult)
-            → NetAt (StandsAs F.stands W.stands) S.contents S.flushed start s self.now now
-            → ended (plan_of s) now ≡ Some by → result ≡ by }
-    {
-        match self.result() {
-            Some(result) => result,
-            None => RunResult::Finished,
-        }
-    }
-
-    // The actor that is asked next: the order's pick, by the flags, or of a leftmost order this one, to
-    // the left of which nobody is ready.
-    #[inline(always)]
-    fn next<O: Order>(&self, order: &mut O, is_leftmost: bool, from: usize) -> usize
-        requires { MayPick (StandsAs F.stands W.stands) S.contents S.flushed is_leftmost from
-            self.now }
-        ensures from { is_leftmost ≡ true → result ≡ from }
-        ensures stays { is_leftmost ≡ true → order.new ≡ order.old }
-        ensures picked { is_leftmost ≡ false → (start : Option (List ℕ)) (s : Scene) (now : Now Row)
-            → NetAt (StandsAs F.stands W.stands) S.contents S.flushed start s self.now now
-            → ended (plan_of s) now ≡ None → Sees false from s now self.now
-            → HasPicked (record { pick = O.picks; next = O.after }) (plan_of s) s.size order.old
-            order.new now result }
-    {
-        if is_leftmost {
-            return from;
-        }
-        let pick = order.pick(&self.actors);
-        choose(&self.actors, pick)
-    }
-
-    /// Makes the turns that the order picks, to the end of the run.
-    pub fn run<O: Order>(&mut self, order: &mut O) -> RunResult
-        requires { IsNet (StandsAs F.stands W.stands) F.ended S.contents S.flushed self.old }
-        // Whatever bytes the sources have, and however they go on: the turns are those that the
-        // order picks, and what was written is what the plan means.
-        ensures ran { HasRun (StandsAs F.stands W.stands) F.remaining F.ended S.contents S.flushed
-            (record { pick = O.picks; next = O.after }) order.old order.new self.old self.new
-            result }
-
-        // Where the sources tell their bytes, it is what the plan means over these.
-        ensures whole { (start : Option (List ℕ)) (s : Scene) (now : Now Row)
-            → Tells F.remaining F.ended self.old.web.nodes.items s.rests
-            → NetAt (StandsAs F.stands W.stands) S.contents S.flushed start s self.old now
-            → HasRunOn (StandsAs F.stands W.stands) S.contents S.flushed
-            (record { pick = O.picks; next = O.after }) order.old order.new start s now self.new
-            result }
-
-        // It ends by a failed read or write exactly where a call has failed in it.
-        ensures reads { self.old.failure ≡ None → (i : ℕ)
-            → failed_at F.failed i self.new.web.nodes.items
-            ≡ (failed_at F.failed i self.old.web.nodes.items || is_read_of i (Some result)) }
-        ensures writes { self.old.failure ≡ None
-            → S.failed self.new.sink ≡ (S.failed self.old.sink || is_write (Some result)) }
-
-        // A run that is over answers its result again.
-        ensures again { (start : Option (List ℕ)) (s : Scene) (now : Now Row) (by : RunResult)
-            → NetAt (StandsAs F.stands W.stands) S.contents S.flushed start s self.old now
-            → ended (plan_of s) now ≡ Some by
-            → (result ≡ by) × (self.new ≡ self.old) × (order.new ≡ order.old) }
-    {
-        if self.web.has_several() {
-            return self.run_by(order, Tree::new());
-        }
-        self.run_by(order, Chain)
-    }
-
-    // The same, by what may be known of who isn't ready: more than nothing only in a tree. All that a
-    // stage's turn calls stands in this loop, and the loop in no caller's.
-    #[inline(never)]
-    fn run_by<O: Order, K: Knows>(&mut self, order: &mut O, mut known: K) -> RunResult
-        requires unknown { search_by 0 (K.first known) (K.behind known) ≡ beginning }
-        requires net { IsNet (StandsAs F.stands W.stands) F.ended S.contents S.flushed self.old }
-        // Whatever bytes the sources have, and however they go on: the turns are those that the
-        // order picks, and what was written is what the plan means.
-        ensures ran { HasRun (StandsAs F.stands W.stands) F.remaining F.ended S.contents S.flushed
-            (record { pick = O.picks; next = O.after }) order.old order.new self.old self.new
-            result }
-
-        // Where the sources tell their bytes, it is what the plan means over these.
-        ensures whole { (start : Option (List ℕ)) (s : Scene) (now : Now Row)
-            → Tells F.remaining F.ended self.old.web.nodes.items s.rests
-            → NetAt (StandsAs F.stands W.stands) S.contents S.flushed start s self.old now
-            → HasRunOn (StandsAs F.stands W.stands) S.contents S.flushed
-            (record { pick = O.picks; next = O.after }) order.old order.new start s now self.new
-            result }
-
-        // It ends by a failed read or write exactly where a call has failed in it.
-        ensures reads { self.old.failure ≡ None → (i : ℕ)
-            → failed_at F.failed i self.new.web.nodes.items
-            ≡ (failed_at F.failed i self.old.web.nodes.items || is_read_of i (Some result)) }
-        ensures writes { self.old.failure ≡ None
-            → S.failed self.new.sink ≡ (S.failed self.old.sink || is_write (Some result)) }
-
-        // A run that is over answers its result again.
-        ensures again { (start : Option (List ℕ)) (s : Scene) (now : Now Row) (by : RunResult)
-            → NetAt (StandsAs F.stands W.stands) S.contents S.flushed start s self.old now
-            → ended (plan_of s) now ≡ Some by
-            → (result ≡ by) × (self.new ≡ self.old) × (order.new ≡ order.old) }
-    {
-        let is_leftmost = order.is_leftmost();
-        self.prepare();
-        if self.over() {
-            return self.told();
-        }
-        let mut from = 0;
-        'turns: loop {
-            let actor = self.next(order, is_leftmost, from);
-            let Some(turned) = self.turn_if_ready(actor) else {
-                from = known.right_of(actor);
-                continue 'turns;
-            };
-            if turned.is_over {
-                return self.told();
-            }
-            from = turned.link;
-            known.went(actor, from);
-            if is_leftmost {
-                continue 'turns;
-            }
-            let reader = self.reader(actor, from);
-            self.ask_again(from, reader);
-        }
-    }
-
-    // A turn of this actor, if it is ready. What it does next is asked once for both.
-    #[inline(always)]
-    fn turn_if_ready(&mut self, k: usize) -> Option<Turned>
-        requires { MayAsk (StandsAs F.stands W.stands) S.contents S.flushed k self.old }
-        ensures ready { (start : Option (List ℕ)) (s : Scene) (now : Now Row)
-            → NetAt (StandsAs F.stands W.stands) S.contents S.flushed start s self.old now
-            → ended (plan_of s) now ≡ None → k ≤ s.count
-            → is_some result ≡ is_ready (plan_of s) s.size now k }
-        ensures gone { IfSome result (HasGone (StandsAs F.stands W.stands) F.remaining F.ended
-            F.failed S.contents S.flushed S.failed k self.old self.new) }
-        ensures same { result ≡ None → self.new ≡ self.old }
-    {
-        let doing = self.web.doing(k);
-        if self.web.may_go(k, doing) {
-            return Some(self.turn(k, doing));
-        }
-        None
-    }
-
-    /// What an actor does next, if it is a stage that isn't a source.
-    pub fn doing(&self, k: usize) -> Option<DoingKind>
-        ensures { IsDoing (StandsAs F.stands W.stands) k self.now.web result }
-    {
-        self.web.doing(k)
-    }
-
-    /// One turn of an actor that is ready and does this next: a stage by its number, from 0, or the
-    /// sink by the number of stages.
-    #[inline(always)]
-    pub fn turn(&mut self, k: usize, doing: Option<DoingKind>) -> Turned
-        requires may { MayGo (StandsAs F.stands W.stands) S.contents S.flushed k self.old }
-        requires doing { IsDoing (StandsAs F.stands W.stands) k self.old.web doing }
-        // It is one turn of this actor.
-        ensures gone { HasGone (StandsAs F.stands W.stands) F.remaining F.ended F.failed
-            S.contents S.flushed S.failed k self.old self.new result }
-
-        // It makes at most one call on the actor's reader, and none on another's.
-        ensures others { (i : ℕ) → i ≢ k → ShowsSame F.remaining F.ended F.calls F.failed
-            self.old.web.nodes.items self.new.web.nodes.items i }
-        ensures calls { AsksAtMostOnce (calls_at F.calls k self.old.web.nodes.items)
-            (failed_at F.failed k self.old.web.nodes.items)
-            (calls_at F.calls k self.new.web.nodes.items)
-            (failed_at F.failed k self.new.web.nodes.items) }
-    {
-        if k == self.web.count() {
-            self.turns += 1;
-            return Turned {
-                link: self.web.last(),
-                is_over: self.sink_turn(),
-            };
-        }
-        let turned = self.stage_turn(k, doing);
-        self.turns += 1;
-        turned
+        self.engine.over()
     }
 
     /// How the run ended, once it has.
     pub fn result(&self) -> Option<RunResult>
-        requires { IsRunning (StandsAs F.stands W.stands) S.contents S.flushed self.now }
         ensures { (start : Option (List ℕ)) (s : Scene) (now : Now Row)
-            → NetAt (StandsAs F.stands W.stands) S.contents S.flushed start s self.now now
+            → NetAt (StandsAs ⟦<CommandStage as Stage>⟧.stands) W.contents W.flushed start s self.now now
             → result ≡ ended (plan_of s) now }
     {
-        if let Some(failure) = self.failure {
-            return Some(failure);
-        }
-        match self.web.heard() {
-            Some(end) => Some(RunResult::from_end(end)),
-            None => None,
-        }
-    }
-
-    /// Whether an actor is ready: a stage, or the sink by the number of stages. Once the run has
-    /// ended none is.
-    pub fn ready(&self, k: usize) -> bool
-        requires { IsAmong (StandsAs F.stands W.stands) S.contents S.flushed k self.now }
-        ensures { (start : Option (List ℕ)) (s : Scene) (now : Now Row)
-            → NetAt (StandsAs F.stands W.stands) S.contents S.flushed start s self.now now
-            → k ≤ s.count → result ≡ is_ready (plan_of s) s.size now k }
-    {
-        match self.result() {
-            Some(_) => false,
-            None => self.web.ready(k),
-        }
-    }
-
-    /// The sink, as the turns left it: at each moment a front of the plan's text was written, however
-    /// the bytes go on that are still to come.
-    pub fn into_writer(self) -> S
-        ensures sink { result ≡ self.sink }
-        ensures front { (start : Option (List ℕ)) (s : Scene) (now : Now Row)
-            → NetAt (StandsAs F.stands W.stands) S.contents S.flushed start s self now
-            → WroteFront s start (S.contents result) }
-    {
-        let Net {
-            web: _web,
-            sink,
-            failure: _,
-            turns: _,
-            actors: _actors,
-            readers: _readers,
-        } = self;
-        sink
+        self.engine.result()
     }
 
     /// How many turns were made: until a failure no more than the bytes, the records and the ends
     /// that were moved allow.
     pub fn turns(&self) -> u64
-        ensures turns { (start : Option (List ℕ)) (s : Scene) (now : Now Row)
-            → (at : NetAt (StandsAs F.stands W.stands) S.contents S.flushed start s self.now now)
-            → result ≡ length at.turns }
+        ensures turns { result ≡ self.now.turns }
         ensures most { (start : Option (List ℕ)) (s : Scene) (now : Now Row)
-            → NetAt (StandsAs F.stands W.stands) S.contents S.flushed start s self.now now
+            → NetAt (StandsAs ⟦<CommandStage as Stage>⟧.stands) W.contents W.flushed start s self.now now
             → now.failure ≡ None → result ≤ most_in_all (plan_of s) now.links }
     {
-        self.turns
-    }
-
-    /// The stages and the sink.
-    pub fn actors(&self) -> usize
-        ensures { (start : Option (List ℕ)) (s : Scene) (now : Now Row)
-            → NetAt (StandsAs F.stands W.stands) S.contents S.flushed start s self.now now
-            → result ≡ s.count + 1 }
-    {
-        self.actors.len()
-    }
-
-    /// How many records lie on the link of a stage: those that it gave, less those taken.
-    pub fn linked(&self, k: usize) -> usize
-        requires { IsStage (StandsAs F.stands W.stands) S.contents S.flushed k self.now }
-        ensures { (start : Option (List ℕ)) (s : Scene) (now : Now Row)
-            → NetAt (StandsAs F.stands W.stands) S.contents S.flushed start s self.now now
-            → now.failure ≡ None → k < s.count
-            → (result ≡ linked (now.links k)) × (result ≤ s.size) }
-    {
-        self.web.linked(k)
+        self.engine.turns()
     }
 
     /// How many records wait inside an actor: none in a source or the sink.
     pub fn held(&self, k: usize) -> usize
-        requires { IsGoing (StandsAs F.stands W.stands) S.contents S.flushed k self.now }
         ensures held { (start : Option (List ℕ)) (s : Scene) (now : Now Row)
-            → NetAt (StandsAs F.stands W.stands) S.contents S.flushed start s self.now now
+            → NetAt (StandsAs ⟦<CommandStage as Stage>⟧.stands) W.contents W.flushed start s self.now now
             → now.failure ≡ None → k ≤ s.count → result ≡ held_of s now.links k }
 
         // In a stage of one input at most one more than the greatest lag of its records, in assemble
         // at most one of each source.
         ensures few { (start : Option (List ℕ)) (s : Scene) (now : Now Row)
-            → NetAt (StandsAs F.stands W.stands) S.contents S.flushed start s self.now now
+            → NetAt (StandsAs ⟦<CommandStage as Stage>⟧.stands) W.contents W.flushed start s self.now now
             → now.failure ≡ None → HoldsFew s k result }
     {
-        if k == self.web.count() {
-            0
-        } else {
-            self.web.held(k)
-        }
+        self.engine.held(k)
     }
 
-    /// Whether the run has ended. Until then some actor is ready.
-    #[inline(always)]
-    pub fn over(&self) -> bool
-        requires { IsRunning (StandsAs F.stands W.stands) S.contents S.flushed self.now }
-        ensures progress { (start : Option (List ℕ)) (s : Scene) (now : Now Row)
-            → NetAt (StandsAs F.stands W.stands) S.contents S.flushed start s self.now now
-            → ended (plan_of s) now ≡ None → SomeReady (plan_of s) s.size now.links }
-        ensures over { (start : Option (List ℕ)) (s : Scene) (now : Now Row)
-            → NetAt (StandsAs F.stands W.stands) S.contents S.flushed start s self.now now
-            → result ≡ is_some (ended (plan_of s) now) }
+    /// How many records lie on the link of an actor: those that it gave, less those taken. The sink has
+    /// no link.
+    pub fn linked(&self, k: usize) -> usize
+        ensures { (start : Option (List ℕ)) (s : Scene) (now : Now Row)
+            → NetAt (StandsAs ⟦<CommandStage as Stage>⟧.stands) W.contents W.flushed start s self.now now
+            → now.failure ≡ None → k < s.count
+            → (result ≡ linked (now.links k)) × (result ≤ s.size) }
     {
-        self.result().is_some()
+        self.engine.linked(k)
+    }
+
+    /// The writer, as the turns left it: at each moment a prefix of the plan's text was written, however
+    /// the bytes go on that are still to come.
+    pub fn into_writer(self) -> W
+        ensures sink { result ≡ self.sink }
+        ensures front { (start : Option (List ℕ)) (s : Scene) (now : Now Row)
+            → NetAt (StandsAs ⟦<CommandStage as Stage>⟧.stands) W.contents W.flushed start s self now
+            → WroteFront s start (W.contents result) }
+    {
+        self.engine.into_writer()
+    }
+
+    /// Makes the turns that the order picks, to the end of the run.
+    pub fn run<O: Order>(&mut self, order: &mut O) -> RunResult
+        // Whatever bytes the sources have, and however they go on: the turns are those that the
+        // order picks, and what was written is what the plan means.
+        ensures ran { HasRun (StandsAs ⟦<CommandStage as Stage>⟧.stands) R.remaining W.contents W.flushed
+            (record { pick = O.picks; next = O.after }) order.old order.new self.old self.new
+            result }
+
+        // Where the sources tell their bytes, it is what the plan means over these.
+        ensures whole { (start : Option (List ℕ)) (s : Scene) (now : Now Row)
+            → Tells R.remaining self.old.web.nodes.items s.rests
+            → NetAt (StandsAs ⟦<CommandStage as Stage>⟧.stands) W.contents W.flushed start s self.old now
+            → HasRunOn (StandsAs ⟦<CommandStage as Stage>⟧.stands) W.contents W.flushed
+            (record { pick = O.picks; next = O.after }) order.old order.new start s now self.new
+            result }
+
+        // It ends by a failed read or write exactly where a call has failed in it.
+        ensures reads { self.old.failure ≡ None → (i : ℕ)
+            → failed_at R.failed i self.new.web.nodes.items
+            ≡ (failed_at R.failed i self.old.web.nodes.items || is_read_of i (Some result)) }
+        ensures writes { self.old.failure ≡ None
+            → W.failed self.new.sink ≡ (W.failed self.old.sink || is_write (Some result)) }
+
+        // A run that is over answers its result again.
+        ensures again { (start : Option (List ℕ)) (s : Scene) (now : Now Row) (by : RunResult)
+            → NetAt (StandsAs ⟦<CommandStage as Stage>⟧.stands) W.contents W.flushed start s self.old now
+            → ended (plan_of s) now ≡ Some by
+            → (result ≡ by) × (self.new ≡ self.old) × (order.new ≡ order.old) }
+    {
+        self.engine.run(order)
     }
 }

@@ -18,3 +18,4 @@ pub mod Asks
 pub mod Followed
 pub mod Limits
 pub mod TreeLaws
+pub mod Standing

@@ -18,8 +18,7 @@ use Rattle.hum_assemble.specs.Meaning.{state_of, wants_of, put_of, output, HasTa
 use Rattle.hum_assemble.proofs.Standings.{OpenIn}
 use Rattle.hum_turns.specs.Flow.{Flow, so_far, AllFine}
 use Rattle.hum_turns.specs.Plan.{or_own, inputs_end, end_of}
-use Rattle.hum_nodes.specs.declared.node.Doing.{Doing}
-use Rattle.hum_nodes.specs.declared.node.Doing.TheVariants.{Gives, Reads, Wants, Done}
+use Rattle.hum_nodes.specs.Doing.{Doing, Gives, Reads, Wants, Done}
 use Rattle.hum_nodes.specs.Fine.{fine, IsFine}
 use Rattle.hum_nodes.specs.At.{Kind, At, doing_by, doing_of, output_of, change_at, MayChange}
 use Rattle.hum_nodes.specs.At.{with_record, with_end}
@@ -27,6 +26,7 @@ use Rattle.hum_nodes.specs.At as node
 use Rattle.hum_nodes.specs.Single.{own_end}
 use Rattle.hum_nodes.specs.Merging.{input_of, inputs_of, wanted_of, want_from, merging, IsMerging}
 use Rattle.hum_nodes.proofs.Fining.{fine_is}
+use Rattle.hum_nodes.proofs.Singles.{done_at, end_of_state}
 use Rattle.hum_nodes.proofs.Merges.{wanted_open, unwanted_ended}
 use Rattle.hum_nodes.proofs.MergingLaws.{ends_are, all_over}
 
@@ -234,3 +234,24 @@ fresh_stands stands stage n from count s = record {
       ∙ ap (λ k. replicate k (record { put = []; ended = None })) (sym count);
   given = refl;
 }
+
+-- no place is wanted
+pub unwanted : (o : Option ℕ) → ((place : ℕ) → o ≡ Some place → ⊥) → o ≡ None
+unwanted None h = refl
+unwanted (Some place) h = absurd (h place refl)
+
+-- The end that the state tells.
+
+state_ends : (s : State) (o : Option ℕ) (end : End) → doing_for s o ≡ Done end → end_of_state s ≡ Some end
+unfolding done_at end_of_state
+state_ends s (Some place) end h = absurd (none-some end (ap done_at h))
+state_ends state.Gives None end h = absurd (none-some end (ap done_at h))
+state_ends state.Wants None end h = absurd (none-some end (ap done_at h))
+state_ends (state.Done e) None end h = ap done_at h
+
+pub end_told : (stands : Moment → Type 0) (from : List ℕ) (t : At) (h : IsMerging stands from t)
+    (s : State) (end : End) → s ≡ state_of h.moment → doing_of t ≡ Done end
+    → end_of_state s ≡ Some end
+end_told stands from t h s end is done =
+    ap end_of_state is
+    ∙ state_ends (state_of h.moment) (wants_of h.moment) end (sym (doing_is stands from t h) ∙ done)

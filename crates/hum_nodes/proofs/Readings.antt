@@ -14,8 +14,8 @@ use Rattle.hum_read.specs.Denoted.{Score, score_of, end_at}
 use Rattle.hum_read.specs.Reading.{Scores, HasRead, GivesNext, Gives}
 use Rattle.hum_read.proofs.Denoting.{front-rows}
 use Rattle.hum_turns.specs.Flow.{Begins}
-use Rattle.hum_nodes.specs.declared.node.Doing.{Doing}
-use Rattle.hum_nodes.specs.declared.node.Doing.TheVariants as does
+use Rattle.hum_nodes.specs.Doing.{Doing}
+use Rattle.hum_nodes.specs.Doing as does
 use Rattle.hum_nodes.specs.Settled.{score_so_far}
 use Rattle.hum_nodes.specs.At.{At, doing_of}
 use Rattle.hum_nodes.specs.Reading.{is_ended, settled_at, is_done, reading, HasGiven}

@@ -1,7 +1,7 @@
 -- What a stage of one input stands for, as a node.
 use Rattle.std.proofs.Common.{◌≡◌, ◌∙◌, refl, sym, ap, subst, ℕ, suc, ◌<◌, ◌≤◌, Bool, true}
 use Rattle.std.proofs.Common.{false, if◌then◌else◌, nat_lt, List, [], ◌∷◌, ◌++◌, length, Option, Some}
-use Rattle.std.proofs.Common.{None, unwrap_or, arith, length-append}
+use Rattle.std.proofs.Common.{None, unwrap_or, arith, length-append, ◌⊎◌, ⊎_elim}
 use Rattle.std.proofs.lemmas.Bool.{false≢true}
 use Rattle.hum_record.specs.Row.{Row}
 use Rattle.hum_stage.specs.declared.faults.End.{End}
@@ -12,8 +12,7 @@ use Rattle.hum_stage.specs.declared.faults.State.TheVariants as state
 use Rattle.hum_stage.specs.Meaning.{Moment, output, own_fault, state_of, resting_state}
 use Rattle.hum_turns.specs.Flow.{Flow, AllFine}
 use Rattle.hum_turns.specs.Plan.{lower, or_own, end_of}
-use Rattle.hum_nodes.specs.declared.node.Doing.{Doing}
-use Rattle.hum_nodes.specs.declared.node.Doing.TheVariants.{Gives, Reads, Wants, Done}
+use Rattle.hum_nodes.specs.Doing.{Doing, Gives, Reads, Wants, Done}
 use Rattle.hum_nodes.specs.Fine.{fine, IsFine}
 use Rattle.hum_nodes.specs.At.{Kind, At, doing_by, doing_of, change_at, MayChange}
 use Rattle.hum_nodes.specs.Single.{want_by, own_end, single, IsSingle}
@@ -112,3 +111,43 @@ changes stands from t h change place p =
 pub few_before : (p : List Row) (x : Row) (most : ℕ) → length (p ++ x ∷ []) ≤ most
     → length p < most
 few_before p x most h = let n = length-append p (x ∷ []) in omega arith
+
+-- The end that a state tells.
+
+unfoldable pub done_at : Doing → Option End
+done_at Gives = None
+done_at Reads = None
+done_at (Wants p) = None
+done_at (Done e) = Some e
+
+unfoldable pub end_of_state : State → Option End
+end_of_state state.Gives = None
+end_of_state state.Wants = None
+end_of_state (state.Done e) = Some e
+
+ends : (s : State) → end_of_state s ≡ done_at (doing_for s)
+unfolding doing_for done_at end_of_state
+ends state.Gives = refl
+ends state.Wants = refl
+ends (state.Done e) = refl
+
+pub end_told : (stands : Moment → Type 0) (from : ℕ) (t : At) (h : IsSingle stands from t)
+    (s : State) (end : End) → s ≡ state_of h.moment → doing_of t ≡ Done end
+    → end_of_state s ≡ Some end
+unfolding done_at
+end_told stands from t h s end is done =
+    ends s ∙ ap (λ x. done_at (doing_for x)) is ∙ sym (ap done_at (doing_is stands from t h))
+    ∙ ap done_at done
+
+pub is_done : (s : State) (e end : End) → s ≡ state.Done e → end_of_state s ≡ Some end
+    → Some e ≡ Some end
+unfolding end_of_state
+is_done s e end is told = sym (ap end_of_state is) ∙ told
+
+pub not_done : (s : State) (end : End) → (s ≡ state.Gives) ⊎ (s ≡ state.Wants)
+    → end_of_state s ≡ Some end → ◌≡◌ {A = Option End} None (Some end)
+unfolding end_of_state
+not_done s end is told = ⊎_elim
+    (λ e. sym (ap end_of_state e) ∙ told)
+    (λ e. sym (ap end_of_state e) ∙ told)
+    is

@@ -15,8 +15,8 @@ use Rattle.hum_read.specs.Reading.{Polled, Gave, ReadOn, Ended}
 use Rattle.hum_read.specs.Denoted.{Score, score_of, end_at}
 use Rattle.hum_read.specs.Reading.{Scores, IsFresh, HasRead, GivesNext, Gives, Denotes, answer_of}
 use Rattle.hum_turns.specs.Flow.{Begins}
-use Rattle.hum_nodes.specs.declared.node.Doing.{Doing}
-use Rattle.hum_nodes.specs.declared.node.Doing.TheVariants as does
+use Rattle.hum_nodes.specs.Doing.{Doing}
+use Rattle.hum_nodes.specs.Doing as does
 use Rattle.hum_nodes.specs.At.{At, fresh, doing_of, output_of, read_to, after_take}
 use Rattle.hum_nodes.specs.Polls.{GoesOn, PollsBy, Polls, most_bytes}
 use Rattle.hum_nodes.specs.Reading.{is_ended, settled_at, reading, HasGiven, IsReading}

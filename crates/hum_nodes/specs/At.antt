@@ -6,10 +6,9 @@ use Rattle.hum_record.specs.Row.{Row}
 use Rattle.hum_stage.specs.declared.faults.End.{End}
 use Rattle.hum_turns.specs.Flow.{Flow, so_far, AllFine}
 use Rattle.hum_turns.specs.Plan.{Want, Bytes, Source, Nothing, Stage, AreInputs, end_of}
-use Rattle.hum_nodes.specs.declared.node.Doing.{Doing}
-use Rattle.hum_nodes.specs.declared.node.Doing.TheVariants.{Gives, Reads, Wants, Done}
-use Rattle.hum_nodes.specs.declared.node.DoingKind.{DoingKind}
-use Rattle.hum_nodes.specs.declared.node.DoingKind.TheVariants as kind
+use Rattle.hum_nodes.specs.Doing.{Doing, Gives, Reads, Wants, Done}
+use Rattle.hum_nodes.specs.declared.node.Readiness.{Readiness}
+use Rattle.hum_nodes.specs.declared.node.Readiness.TheVariants as ready
 use Rattle.hum_nodes.specs.Fine.{fine}
 
 -- A stage; how many records wait inside it, by what it has had of its inputs and how many it has
@@ -68,11 +67,11 @@ doing_of t =
     else doing_by (t.kind.stage.wants t.read t.inputs) (ending_of t)
 
 -- the same without the end
-abbrev pub kind_of : Doing → DoingKind
-kind_of Gives = kind.Gives
-kind_of Reads = kind.Reads
-kind_of (Wants place) = kind.Wants place
-kind_of (Done end) = kind.Done
+abbrev pub readiness_of : Doing → Readiness
+readiness_of Gives = ready.Gives
+readiness_of Reads = ready.Reads
+readiness_of (Wants place) = ready.Wants place
+readiness_of (Done end) = ready.Done
 
 -- It gives no more records than a score may have.
 abbrev pub IsLimited : Stage Row → Type 0

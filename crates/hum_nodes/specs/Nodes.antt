@@ -1,38 +1,85 @@
--- What a node of either kind stands for.
-use Rattle.std.specs.Prelude.{ℕ, Bool, true, false, List, Option, None, Result}
+-- What a node stands for.
+use Rattle.std.specs.Prelude.{◌≡◌, ℕ, Bool, true, false, List, Option, None, Result}
 use Rattle.hum_stage.specs.declared.faults.End.{End}
+use Rattle.hum_stage.specs.Meaning.{Moment}
+use Rattle.hum_assemble.specs.Standing.{Stands}
 use Rattle.hum_read.specs.declared.ReadError.{ReadError}
-use Rattle.hum_nodes.specs.At.{At}
-use Rattle.hum_nodes.specs.declared.either.Node.{Node}
-use Rattle.hum_nodes.specs.declared.either.Node.TheVariants.{Source, Stage}
+use Rattle.hum_nodes.specs.declared.node.Node.{Node}
+use Rattle.hum_nodes.specs.declared.node.Readiness.{Readiness}
+use Rattle.hum_nodes.specs.declared.node.Readiness.TheVariants.{Reads}
+use Rattle.hum_nodes.specs.declared.node.Work.{Work}
+use Rattle.hum_nodes.specs.declared.node.Work.TheVariants.{Read, Command, Assemble}
+use Rattle.hum_nodes.specs.Doing.{Doing}
+use Rattle.hum_nodes.specs.At.{At, doing_of, readiness_of}
+use Rattle.hum_nodes.specs.Reading.{IsReading}
+use Rattle.hum_nodes.specs.Single.{IsSingle}
+use Rattle.hum_nodes.specs.Merging.{IsMerging}
 
-abbrev pub is_source : {F W : Type 0} → Node F W → Bool
-is_source (Source f) = true
-is_source (Stage w) = false
+abbrev pub reads : {S R : Type 0} → Work S R → Bool
+reads (Read reader) = true
+reads (Command stage source) = false
+reads (Assemble stage sources) = false
 
--- where these bytes are still to come
-abbrev pub StandsAs : {F W : Type 0} → (F → List ℕ → At → Type 0) → (W → At → Type 0) → Node F W
-    → List ℕ → At → Type 0
-StandsAs feeds works (Source f) rest t = feeds f rest t
-StandsAs feeds works (Stage w) rest t = works w t
+abbrev pub is_source : {S R : Type 0} → Node S R → Bool
+is_source node = reads node.work
 
-abbrev pub remaining_of : {F W : Type 0} → (F → Option (List ℕ)) → Node F W → Option (List ℕ)
-remaining_of tells (Source f) = tells f
-remaining_of tells (Stage w) = None
+-- A source reads at each turn; another stage does what it is about to do.
+abbrev pub readiness_at : Bool → Doing → Readiness
+readiness_at true doing = Reads
+readiness_at false doing = readiness_of doing
 
-abbrev pub ended_of : {F W : Type 0} → (F → Bool) → Node F W → Bool
-ended_of ended (Source f) = ended f
-ended_of ended (Stage w) = false
+-- what a stage of a plan stands for, where these bytes are still to come
+abbrev pub WorksAs : {S R : Type 0} → (S → Moment → Type 0) → Work S R → List ℕ → At → Type 0
+WorksAs stands (Read reader) rest t = IsReading reader rest t
+WorksAs stands (Command stage source) rest t = IsSingle (stands stage) source t
+WorksAs stands (Assemble stage sources) rest t = IsMerging (Stands stage) sources.items t
 
-abbrev pub calls_of : {F W : Type 0} → (F → ℕ) → Node F W → ℕ
-calls_of calls (Source f) = calls f
-calls_of calls (Stage w) = 0
+-- It stands for that, and knows what it does next.
+pub record StandsAs {S R : Type 0} (stands : S → Moment → Type 0) (node : Node S R)
+    (rest : List ℕ) (t : At) : Type 0 where
+  pub works : WorksAs stands node.work rest t
+  pub knows : node.readiness ≡ readiness_at (reads node.work) (doing_of t)
 
-abbrev pub failed_of : {F W : Type 0} → (F → Bool) → Node F W → Bool
-failed_of failed (Source f) = failed f
-failed_of failed (Stage w) = false
+-- What a source shows of its reader: the bytes that its reads will give, where they are known; whether
+-- their end was read; how many calls were made on it, and whether one failed; and why the source has
+-- stopped, once it has.
 
-abbrev pub stopped_of : {F W : Type 0} → (F → Option (Result End ReadError)) → Node F W
-    → Option (Result End ReadError)
-stopped_of stopped (Source f) = stopped f
-stopped_of stopped (Stage w) = None
+abbrev pub remaining_by : {S R : Type 0} → (R → Option (List ℕ)) → Work S R → Option (List ℕ)
+remaining_by tells (Read reader) = tells reader.lines.source
+remaining_by tells (Command stage source) = None
+remaining_by tells (Assemble stage sources) = None
+
+abbrev pub remaining_of : {S R : Type 0} → (R → Option (List ℕ)) → Node S R → Option (List ℕ)
+remaining_of tells node = remaining_by tells node.work
+
+abbrev pub ended_by : {S R : Type 0} → Work S R → Bool
+ended_by (Read reader) = reader.lines.ended
+ended_by (Command stage source) = false
+ended_by (Assemble stage sources) = false
+
+abbrev pub ended_of : {S R : Type 0} → Node S R → Bool
+ended_of node = ended_by node.work
+
+abbrev pub calls_by : {S R : Type 0} → (R → ℕ) → Work S R → ℕ
+calls_by calls (Read reader) = calls reader.lines.source
+calls_by calls (Command stage source) = 0
+calls_by calls (Assemble stage sources) = 0
+
+abbrev pub calls_of : {S R : Type 0} → (R → ℕ) → Node S R → ℕ
+calls_of calls node = calls_by calls node.work
+
+abbrev pub failed_by : {S R : Type 0} → (R → Bool) → Work S R → Bool
+failed_by failed (Read reader) = failed reader.lines.source
+failed_by failed (Command stage source) = false
+failed_by failed (Assemble stage sources) = false
+
+abbrev pub failed_of : {S R : Type 0} → (R → Bool) → Node S R → Bool
+failed_of failed node = failed_by failed node.work
+
+abbrev pub stopped_by : {S R : Type 0} → Work S R → Option (Result End ReadError)
+stopped_by (Read reader) = reader.stopped
+stopped_by (Command stage source) = None
+stopped_by (Assemble stage sources) = None
+
+abbrev pub stopped_of : {S R : Type 0} → Node S R → Option (Result End ReadError)
+stopped_of node = stopped_by node.work

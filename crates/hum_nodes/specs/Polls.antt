@@ -6,8 +6,8 @@ use Rattle.hum_read.specs.declared.ReadError.{ReadError}
 use Rattle.hum_read.specs.declared.ReadError.TheVariants as error
 use Rattle.std.specs.Io.KnownBytes.{Consumes, IsAtEnd}
 use Rattle.hum_text.specs.Calls.{counted}
-use Rattle.hum_nodes.specs.declared.node.Doing.{Doing}
-use Rattle.hum_nodes.specs.declared.node.Doing.TheVariants as does
+use Rattle.hum_nodes.specs.Doing.{Doing}
+use Rattle.hum_nodes.specs.Doing as does
 use Rattle.hum_read.specs.Reading.{Polled, Gave, ReadOn, Ended}
 use Rattle.hum_nodes.specs.At.{At, bytes_of, doing_of, output_of, after_take, read_to}
 

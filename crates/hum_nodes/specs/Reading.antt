@@ -9,7 +9,7 @@ use Rattle.hum_read.specs.declared.ReadError.{ReadError}
 use Rattle.hum_read.specs.Denoted.{Score, score_of, end_at}
 use Rattle.hum_read.specs.Reading.{Scores, HasRead}
 use Rattle.hum_turns.specs.Plan.{Bytes, Nothing}
-use Rattle.hum_nodes.specs.declared.node.Doing.TheVariants.{Done}
+use Rattle.hum_nodes.specs.Doing.{Done}
 use Rattle.hum_nodes.specs.Settled.{score_so_far}
 use Rattle.hum_nodes.specs.At.{Kind, At, doing_of}
 use Rattle.hum_nodes.specs.Polls.{most_bytes}

@@ -1,178 +1,361 @@
-//! The contracts of nodes.
-ghost use Rattle.std.specs.Prelude.{◌≡◌, ℕ, ◌<◌, List, Option, Bool, length, slice_index, IfOk};
-ghost use Rattle.std.specs.Prelude.{Result};
-ghost use Rattle.hum_stage.specs.declared.faults.End.{End};
-ghost use Rattle.hum_read.specs.declared.ReadError.{ReadError};
+//! The stages of a plan as nodes of a net.
+ghost use Rattle.std.specs.Prelude.{◌≡◌, ℕ, ◌<◌, ◌≤◌, ◌||◌, List, [], Some, true, false};
+ghost use Rattle.std.specs.Prelude.{length, slice_index, IfOk, OnOk, OnErr, Ok};
+ghost use Rattle.hum_stage.specs.Meaning.{Meaning, opening, IsLawful};
+ghost use Rattle.hum_assemble.specs.Standing.{Stands};
 ghost use Rattle.hum_read.specs.Steps.{given_by};
-ghost use Rattle.std.specs.Prelude.{OnOk, OnErr, ◌≤◌, ◌||◌};
-ghost use Rattle.hum_nodes.specs.At.{At, MayDo, sources_of, bytes_of, doing_of, holds_of, HasTaken};
-ghost use Rattle.hum_nodes.specs.At.{HoldsOneEach, MayPut, MayStop, HasPut, HasStopped, kind_of};
-ghost use Rattle.hum_nodes.specs.Polls.{HasPolled, AsksAtMostOnce, IsKept};
-ghost use Rattle.hum_nodes.specs.Polls.{HasStayed, is_failed_read, most_bytes};
+ghost use Rattle.hum_nodes.specs.At.{At, fresh, MayDo, sources_of, doing_of, ending_of, holds_of};
+ghost use Rattle.hum_nodes.specs.At.{HoldsOneEach, HasTaken, MayPut, MayStop, HasPut, HasStopped};
+ghost use Rattle.hum_nodes.specs.At.{readiness_of};
+ghost use Rattle.hum_nodes.specs.Doing as does;
+ghost use Rattle.hum_nodes.specs.Single.{IsSingle, single};
+ghost use Rattle.hum_nodes.specs.Merging.{IsMerging, merging};
+ghost use Rattle.hum_nodes.specs.Reading.{reading};
+ghost use Rattle.hum_nodes.specs.Polls.{HasPolled, HasStayed, AsksAtMostOnce, is_failed_read};
+ghost use Rattle.hum_nodes.specs.Polls.{IsKept};
+ghost use Rattle.hum_nodes.specs.Nodes.{StandsAs, is_source, readiness_at};
+ghost use Rattle.hum_nodes.specs.Nodes.{remaining_of, ended_of, calls_of, failed_of, stopped_of};
 
-use hum_read::ReadError;
+use hum_assemble::Assemble;
+use hum_read::{ReadError, ScoreReader};
 use hum_record::Record;
-use hum_stage::End;
-use std::alloc::AllocError;
+use hum_stage::{End, Readiness as StageReadiness, Stage, State};
+use hum_text::calls::Source;
+use std::alloc::{AllocError, Global};
 
-/// What a node does next.
-#[derive(Clone, Copy, Debug, Drop, PartialEq, Eq)]
-pub enum Doing {
+/// What a node does next. It is as small as a number, so a net asks for it quickly; the end is asked
+/// for once, where it is done.
+#[derive(Clone, Copy, Drop)]
+pub enum Readiness {
     /// It gives a record that is settled.
     Gives,
     /// It reads bytes.
     Reads,
-    /// It wants a record or the end of its input at this place, from 0.
-    Wants(usize),
-    /// It has given all, and this is its end.
-    Done(End),
-}
-
-/// What a node does next, without its end: it is as small as a number, and so asked for more quickly.
-/// Kinds that a net treats alike stand side by side: their tests are then fewer.
-#[derive(Clone, Copy, Drop)]
-pub enum DoingKind {
-    Gives,
-    Reads,
+    /// It has given all.
     Done,
+    /// It takes a record or the end of its input at this place, from 0.
     Wants(usize),
 }
 
-impl Doing {
-    /// The same without the end.
-    pub fn kind(self) -> DoingKind
-        ensures { result ≡ kind_of self }
-    {
-        match self {
-            Doing::Gives => DoingKind::Gives,
-            Doing::Reads => DoingKind::Reads,
-            Doing::Wants(place) => DoingKind::Wants(place),
-            Doing::Done(_) => DoingKind::Done,
-        }
+/// A stage of a plan in a net, and what it does next: that is learnt once after each of its calls,
+/// since a net asks for it more often than the stage moves.
+#[derive(Drop)]
+pub struct Node<S, R> {
+    work: Work<S, R>,
+    readiness: Readiness,
+}
+
+/// What a stage of a plan is. Stages are numbered from 0 here.
+#[derive(Drop)]
+enum Work<S, R> {
+    /// A score is read.
+    Read(ScoreReader<R>),
+    /// A command, and the stage that it reads from.
+    Command(S, usize),
+    /// Scores are put side by side, those of these stages.
+    Assemble(Assemble, Vec<usize>),
+}
+
+/// What a command does next, which reads from one stage.
+fn of_stage<S: Stage>(stage: &S) -> Readiness
+    ensures { (from : ℕ) (t : At) → IsSingle (S.stands stage.now) from t
+        → result ≡ readiness_of (doing_of t) }
+{
+    match stage.readiness() {
+        StageReadiness::Gives => Readiness::Gives,
+        StageReadiness::Wants => Readiness::Wants(0),
+        StageReadiness::Done => Readiness::Done,
     }
 }
 
-/// A stage of a plan that reads from other stages.
-pub trait Works: Drop {
-    /// What a state stands for.
-    ghost stands: { Self → At → Type 0 };
+/// What assemble does next.
+fn of_assemble(stage: &Assemble) -> Readiness
+    ensures { (from : List ℕ) (t : At) → IsMerging (Stands stage.now) from t
+        → result ≡ readiness_of (doing_of t) }
+{
+    if let Some(place) = stage.wants() {
+        return Readiness::Wants(place);
+    }
+    match stage.state() {
+        // No input is wanted here, so the second doesn't come up.
+        State::Gives | State::Wants => Readiness::Gives,
+        State::Done(_) => Readiness::Done,
+    }
+}
+
+impl<S: Stage + Drop, R: Source + Drop> Node<S, R> {
+    /// The stage of this number, from 1, that reads a score from a source of which nothing was read yet.
+    pub fn read(alloc: Global, number: u8, source: R) -> Node<S, R>
+        ensures kind { is_source result ≡ true }
+        ensures stands { (all : List ℕ)
+            → StandsAs S.stands result all (fresh (reading number all)) }
+        ensures ended { ended_of result ≡ false }
+        ensures remaining { remaining_of R.remaining result ≡ R.remaining source }
+        ensures calls { calls_of R.calls result ≡ R.calls source }
+        ensures failed { failed_of R.failed result ≡ R.failed source }
+    {
+        Node {
+            work: Work::Read(ScoreReader::new(alloc, number, source)),
+            readiness: Readiness::Reads,
+        }
+    }
+
+    /// A command that was put nothing yet, and reads from the stage of this number, from 0.
+    pub fn command(stage: S, source: usize) -> Node<S, R>
+        ensures kind { is_source result ≡ false }
+        ensures stands { (m : Meaning) (rest : List ℕ) → S.stands stage (opening m)
+            → StandsAs S.stands result rest (fresh (single source m)) }
+
+        // What it stands for keeps to the contract of stages.
+        ensures lawful { (m : Meaning) → S.stands stage (opening m) → IsLawful m }
+    {
+        let readiness = of_stage(&stage);
+        Node {
+            work: Work::Command(stage, source),
+            readiness,
+        }
+    }
+
+    /// The command assemble as the stage of this number, from 1, which reads from the stages of these
+    /// numbers, from 0.
+    ///
+    /// # Errors
+    /// Out of memory.
+    pub fn assemble(
+        alloc: Global,
+        number: u8,
+        sources: Vec<usize>,
+    ) -> Result<Node<S, R>, AllocError>
+        requires { length sources.items ≤ 15 }
+        ensures kind { IfOk result (λ node. is_source node ≡ false) }
+        ensures stands { IfOk result (λ node. (rest : List ℕ)
+            → StandsAs S.stands node rest (fresh (merging number sources.items))) }
+    {
+        let stage = Assemble::new(alloc, number, sources.len())?;
+        let readiness = of_assemble(&stage);
+        Ok(Node {
+            work: Work::Assemble(stage, sources),
+            readiness,
+        })
+    }
+
+    /// Whether it reads bytes.
+    #[inline(always)]
+    pub fn is_source(&self) -> bool
+        ensures { result ≡ is_source self.now }
+    {
+        match &self.work {
+            Work::Read(_) => true,
+            Work::Command(..) | Work::Assemble(..) => false,
+        }
+    }
+
+    /// What it does next. A source reads at each turn.
+    #[inline(always)]
+    pub fn readiness(&self) -> Readiness
+        ensures { (rest : List ℕ) (t : At) → StandsAs S.stands self.now rest t
+            → result ≡ readiness_at (is_source self.now) (doing_of t) }
+    {
+        self.readiness
+    }
+
+    /// Its end, where it is done and isn't a source.
+    #[inline(never)]
+    pub fn end(&self) -> Option<End>
+        requires { is_source self.now ≡ false }
+        ensures { (rest : List ℕ) (t : At) (end : End) → StandsAs S.stands self.now rest t
+            → doing_of t ≡ does.Done end → result ≡ Some end }
+    {
+        let state = match &self.work {
+            Work::Read(_) => unreachable!(),
+            Work::Command(stage, _) => stage.state(),
+            Work::Assemble(stage, _) => stage.state(),
+        };
+        match state {
+            State::Done(end) => Some(end),
+            State::Gives | State::Wants => None,
+        }
+    }
 
     /// The number, from 0, of the stage that it reads from at this place.
-    fn source(&self, place: usize) -> usize
-        requires { MayDo (stands self.now) (λ t. place < length (sources_of t)) }
-        ensures { (t : At) → stands self.now t → result ≡ slice_index (sources_of t) place };
+    #[inline(always)]
+    pub fn source(&self, place: usize) -> usize
+        requires kind { is_source self.now ≡ false }
+        requires place { MayDo (StandsAs S.stands self.now [])
+            (λ t. place < length (sources_of t)) }
+        ensures { (rest : List ℕ) (t : At) → StandsAs S.stands self.now rest t
+            → result ≡ slice_index (sources_of t) place }
+    {
+        match &self.work {
+            Work::Read(_) => unreachable!(),
+            Work::Command(_, source) => *source,
+            Work::Assemble(_, sources) => sources[place],
+        }
+    }
 
-    /// What it does next.
-    fn doing(&self) -> Doing
-        ensures { (t : At) → stands self.now t → result ≡ doing_of t };
-
-    /// The same without the end.
-    fn doing_kind(&self) -> DoingKind
-        ensures { (t : At) → stands self.now t → result ≡ kind_of (doing_of t) };
-
-    /// How many records wait inside.
-    fn held(&self) -> usize
-        ensures held { (t : At) → stands self.now t → result ≡ holds_of t }
+    /// How many records wait inside a stage that isn't a source.
+    pub fn held(&self) -> usize
+        requires { is_source self.now ≡ false }
+        ensures held { (rest : List ℕ) (t : At) → StandsAs S.stands self.now rest t
+            → result ≡ holds_of t }
 
         // Where one of each input is all that waits, they are no more than the inputs.
-        ensures few { (t : At) → stands self.now t
-            → HoldsOneEach t.kind (length t.inputs) result };
+        ensures few { (rest : List ℕ) (t : At) → StandsAs S.stands self.now rest t
+            → HoldsOneEach t.kind (length t.inputs) result }
+    {
+        match &self.work {
+            Work::Read(_) => unreachable!(),
+            Work::Command(stage, _) => stage.held(),
+            Work::Assemble(stage, _) => stage.held(),
+        }
+    }
 
     /// The next record that is settled, if there is one.
     ///
     /// # Errors
-    /// Want of memory.
-    fn take(&mut self) -> Result<Option<Record>, AllocError>
-        ensures { IfOk result (HasTaken (stands self.old) (stands self.new)) };
+    /// Out of memory.
+    #[inline(always)]
+    pub fn take(&mut self) -> Result<Option<Record>, AllocError>
+        requires { is_source self.old ≡ false }
+        ensures kind { is_source self.new ≡ false }
+        ensures taken { IfOk result (λ taken. (rest : List ℕ) → HasTaken
+            (StandsAs S.stands self.old rest) (StandsAs S.stands self.new rest) taken) }
+    {
+        match &mut self.work {
+            Work::Read(_) => unreachable!(),
+            Work::Command(stage, _) => {
+                let taken = stage.take()?;
+                self.readiness = of_stage(stage);
+                Ok(taken)
+            }
+            Work::Assemble(stage, _) => {
+                let taken = stage.take()?;
+                self.readiness = of_assemble(stage);
+                Ok(taken)
+            }
+        }
+    }
 
     /// Puts the next record of the input that it wants.
     ///
     /// # Errors
-    /// Want of memory.
-    fn put(&mut self, place: usize, next: Record) -> Result<(), AllocError>
-        requires { MayPut (stands self.old) place next }
-        ensures { OnOk result (HasPut (stands self.old) (stands self.new) place next) };
+    /// Out of memory.
+    #[inline(always)]
+    pub fn put(&mut self, place: usize, next: Record) -> Result<(), AllocError>
+        requires kind { is_source self.old ≡ false }
+        requires may { MayPut (StandsAs S.stands self.old []) place next }
+        ensures kind { is_source self.new ≡ false }
+        ensures put { OnOk result ((rest : List ℕ) → HasPut (StandsAs S.stands self.old rest)
+            (StandsAs S.stands self.new rest) place next) }
+    {
+        match &mut self.work {
+            Work::Read(_) => unreachable!(),
+            Work::Command(stage, _) => {
+                stage.put(next)?;
+                self.readiness = of_stage(stage);
+            }
+            Work::Assemble(stage, _) => {
+                stage.put(place, next)?;
+                self.readiness = of_assemble(stage);
+            }
+        }
+        Ok(())
+    }
 
     /// Says how the input that it wants ends: closed only after a closed score.
-    fn stop(&mut self, place: usize, end: End)
-        requires { MayStop (stands self.old) place end }
-        ensures { HasStopped (stands self.old) (stands self.new) place end };
-
-    /// Hands out a record that was put and is done with, if there is one: another can be read into it.
-    fn done_with(&mut self) -> Option<Record>
-        ensures { (t : At) → stands self.old t → stands self.new t }
+    pub fn stop(&mut self, place: usize, end: End)
+        requires kind { is_source self.old ≡ false }
+        requires may { MayStop (StandsAs S.stands self.old []) place end }
+        ensures kind { is_source self.new ≡ false }
+        ensures stopped { (rest : List ℕ) → HasStopped (StandsAs S.stands self.old rest)
+            (StandsAs S.stands self.new rest) place end }
     {
-        None
+        match &mut self.work {
+            Work::Read(_) => unreachable!(),
+            Work::Command(stage, _) => {
+                stage.end(end);
+                self.readiness = of_stage(stage);
+            }
+            Work::Assemble(stage, _) => {
+                stage.end(place, end);
+                self.readiness = of_assemble(stage);
+            }
+        }
+    }
+
+    /// A turn of a source: where nothing is settled that it hasn't given, it makes one read. It gives
+    /// the next record, or none where there is nothing yet or it has stopped.
+    #[inline(always)]
+    pub fn next(&mut self) -> Option<Record>
+        requires { is_source self.old ≡ true }
+        ensures kind { is_source self.new ≡ true }
+        ensures polled { IfOk (given_by result (stopped_of self.new))
+            (HasPolled (StandsAs S.stands self.old) (StandsAs S.stands self.new)
+            (ended_of self.old) (ended_of self.new)
+            (remaining_of R.remaining self.old) (remaining_of R.remaining self.new)) }
+
+        // It makes one call on its reader, or none.
+        ensures once { AsksAtMostOnce (calls_of R.calls self.old) (failed_of R.failed self.old)
+            (calls_of R.calls self.new) (failed_of R.failed self.new) }
+
+        // It tells of a failed read exactly where a call failed.
+        ensures marks { (rest : List ℕ) (t : At) → StandsAs S.stands self.old rest t
+            → failed_of R.failed self.new ≡ (failed_of R.failed self.old
+            || is_failed_read (given_by result (stopped_of self.new))) }
+
+        // A turn that fails reads no byte.
+        ensures stays { OnErr (given_by result (stopped_of self.new))
+            (HasStayed (ended_of self.old) (ended_of self.new)
+            (remaining_of R.remaining self.old) (remaining_of R.remaining self.new)) }
+    {
+        match &mut self.work {
+            Work::Read(reader) => reader.next(),
+            Work::Command(..) | Work::Assemble(..) => unreachable!(),
+        }
+    }
+
+    /// Why a source has stopped, once it has: its end, or a failed read or out of memory.
+    pub fn stopped(&self) -> Option<Result<End, ReadError>>
+        requires { is_source self.now ≡ true }
+        ensures { result ≡ stopped_of self.now }
+    {
+        match &self.work {
+            Work::Read(reader) => reader.stopped(),
+            Work::Command(..) | Work::Assemble(..) => unreachable!(),
+        }
     }
 
     /// Takes a record that is done with, if it can make another in it, and else hands it back.
-    fn reuse(&mut self, row: Record) -> Option<Record>
-        ensures { (t : At) → stands self.old t → stands self.new t }
+    pub fn reuse(&mut self, row: Record) -> Option<Record>
+        ensures kind { is_source self.new ≡ is_source self.old }
+        ensures stands { (rest : List ℕ) (t : At) → StandsAs S.stands self.old rest t
+            → StandsAs S.stands self.new rest t }
+        ensures bytes { IsKept (remaining_of R.remaining self.old)
+            (remaining_of R.remaining self.new) (ended_of self.old) (ended_of self.new) }
+        ensures calls { IsKept (calls_of R.calls self.old) (calls_of R.calls self.new)
+            (failed_of R.failed self.old) (failed_of R.failed self.new) }
     {
-        Some(row)
+        match &mut self.work {
+            Work::Read(reader) => reader.reuse(row),
+            Work::Command(stage, _) => stage.reuse(row),
+            Work::Assemble(..) => Some(row),
+        }
     }
 
-    /// It reads no bytes.
-    ghost no_bytes: { (s : Self) (t : At) → stands s t → bytes_of t ≡ 0 };
-}
-
-/// A stage of a plan that reads bytes.
-pub trait Feeds: Drop {
-    /// What a state stands for, where these bytes are still to come.
-    ghost stands: { Self → List ℕ → At → Type 0 };
-
-    /// The bytes that its reads will give, where they are known.
-    ghost remaining: { Self → Option (List ℕ) };
-
-    /// Whether the end of the bytes was read.
-    ghost ended: { Self → Bool };
-
-    /// How many calls were made on its reader.
-    ghost calls: { Self → ℕ };
-
-    /// Whether a call on its reader failed.
-    ghost failed: { Self → Bool };
-
-    /// Why it has stopped, once it has: its end, or a failed read or want of memory.
-    ghost stopped: { Self → Option (Result End ReadError) };
-
-    /// A turn: where nothing is settled that it hasn't given, it makes one read. It gives the next
-    /// record, or none where there is nothing yet or it has stopped.
-    fn next(&mut self) -> Option<Record>
-        ensures polled { IfOk (given_by result (stopped self.new))
-            (HasPolled (stands self.old) (stands self.new) (ended self.old) (ended self.new)
-            (remaining self.old) (remaining self.new)) }
-
-        // It makes one call on its reader, or none.
-        ensures once { AsksAtMostOnce (calls self.old) (failed self.old) (calls self.new)
-            (failed self.new) }
-
-        // It tells of a failed read exactly where a call failed.
-        ensures marks { (rest : List ℕ) (t : At) → stands self.old rest t → failed self.new
-            ≡ (failed self.old || is_failed_read (given_by result (stopped self.new))) }
-
-        // A turn that fails reads no byte.
-        ensures stays { OnErr (given_by result (stopped self.new)) (HasStayed (ended self.old)
-            (ended self.new) (remaining self.old) (remaining self.new)) };
-
-    /// Why it has stopped, once it has: its end, or a failed read or want of memory.
-    fn stopped(&self) -> Option<Result<End, ReadError>>
-        ensures { result ≡ stopped self.now };
-
-    /// Takes a record back that was done with, so that the next one needs no memory of its own. What it
-    /// has no use for it hands back.
-    fn reuse(&mut self, row: Record) -> Option<Record>
-        ensures stands { (rest : List ℕ) (t : At) → stands self.old rest t
-            → stands self.new rest t }
-        ensures bytes { IsKept (remaining self.old) (remaining self.new) (ended self.old)
-            (ended self.new) }
-        ensures calls { IsKept (calls self.old) (calls self.new) (failed self.old)
-            (failed self.new) };
-
-    /// It reads bytes, or their end.
-    ghost some_bytes: { (s : Self) (rest : List ℕ) (t : At) → stands s rest t → 0 < bytes_of t };
-
-    /// It reads no more than so many.
-    ghost few_bytes: { (s : Self) (rest : List ℕ) (t : At) → stands s rest t
-        → t.read ≤ most_bytes };
+    /// Hands out a record that assemble was put and is done with, if there is one: another can be read
+    /// into it.
+    pub fn done_with(&mut self) -> Option<Record>
+        ensures kind { is_source self.new ≡ is_source self.old }
+        ensures stands { (rest : List ℕ) (t : At) → StandsAs S.stands self.old rest t
+            → StandsAs S.stands self.new rest t }
+        ensures bytes { IsKept (remaining_of R.remaining self.old)
+            (remaining_of R.remaining self.new) (ended_of self.old) (ended_of self.new) }
+        ensures calls { IsKept (calls_of R.calls self.old) (calls_of R.calls self.new)
+            (failed_of R.failed self.old) (failed_of R.failed self.new) }
+    {
+        match &mut self.work {
+            Work::Assemble(stage, _) => stage.done_with(),
+            Work::Read(_) | Work::Command(..) => None,
+        }
+    }
 }

@@ -3,7 +3,7 @@ use Rattle.std.proofs.Common.{◌≡◌, ℕ, Bool, List, [], ◌∷◌, Option,
 use Rattle.hum_path.proofs.Cases.{by_bool}
 use Rattle.hum_stage.specs.declared.faults.Command.{Command}
 use Rattle.hum_options.specs.declared.options.CommandOption.{CommandOption}
-use Rattle.hum_options.specs.declared.faults.Refusal.{Refusal}
+use Rattle.hum_options.specs.declared.faults.PatternRefusal.{PatternRefusal}
 use Rattle.hum_options.specs.declared.faults.OptionRule.TheVariants.{N12}
 use Rattle.hum_options.specs.declared.reading.Turn.{Turn}
 use Rattle.hum_options.specs.declared.reading.Turn.TheVariants.{Free, Awaits}
@@ -14,7 +14,7 @@ use Rattle.hum_options.specs.Answers.{Word, Answer, Answers, AtOption, AtValue, 
 -- what else may be answered to words that give options
 abbrev pub Fits : meant.Options → Answer → Type 0
 Fits options (Ok other) = options ≡ other
-Fits options (Err fault) = (refusal : Refusal) × (fault.rule ≡ N12 refusal)
+Fits options (Err fault) = (refusal : PatternRefusal) × (fault.rule ≡ N12 refusal)
 
 fits_same : (options : meant.Options) (fixed answer : Answer) → Ok options ≡ fixed → answer ≡ fixed → Fits options answer
 fits_same options fixed answer first second =

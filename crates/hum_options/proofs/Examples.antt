@@ -6,14 +6,14 @@ use Rattle.std.specs.Prelude.{pos, negsuc}
 use Rattle.std.specs.List.{slice_split}
 use lib.Chars.{codes}
 use Rattle.hum_pattern.specs.Meaning.{IsExpression, IsNone}
-use Rattle.hum_kern.specs.Gcd.{gcd, gcd_in}
+use Rattle.hum_frac.specs.Gcd.{gcd, gcd_in}
 use Rattle.hum_extract.specs.Choice as choice
 use Rattle.hum_yank.specs.declared.options.YankRange.TheVariants.{Through, Onward, FromEnd}
 use Rattle.hum_stage.specs.declared.faults.Command.{Command}
 use Rattle.hum_stage.specs.declared.faults.Command.TheVariants as command
 use Rattle.hum_options.specs.declared.faults.OptionRule.{OptionRule}
 use Rattle.hum_options.specs.declared.faults.OptionRule.TheVariants.{N8, N9, N10, N11, N12}
-use Rattle.hum_options.specs.declared.faults.Refusal.TheVariants.{NoExpression, TooLarge}
+use Rattle.hum_options.specs.declared.faults.PatternRefusal.TheVariants.{NoExpression, TooLarge}
 use Rattle.hum_options.specs.Meant as is
 use Rattle.hum_options.specs.Meant.{Options}
 use Rattle.hum_options.specs.Answers.{Word, Answer, Answers, fault, IsAnswer}

@@ -11,7 +11,7 @@ use Rattle.hum_stage.specs.declared.faults.Command.TheVariants as command
 use Rattle.hum_options.specs.declared.options.Kind.{Kind}
 use Rattle.hum_options.specs.declared.options.Kind.TheVariants as kind
 use Rattle.hum_options.specs.declared.options.CommandOption.{CommandOption}
-use Rattle.hum_options.specs.declared.faults.Refusal.{Refusal}
+use Rattle.hum_options.specs.declared.faults.PatternRefusal.{PatternRefusal}
 use Rattle.hum_options.specs.declared.faults.OptionRule.{OptionRule}
 use Rattle.hum_options.specs.declared.faults.OptionRule.TheVariants.{N8, N9, N10, N11, N12}
 use Rattle.hum_options.specs.declared.faults.OptionFault.{OptionFault}
@@ -77,7 +77,7 @@ AtOption n given Goes (Some option) answer =
 abbrev pub AtValue : ℕ → (Value → Type 0) → Option Value → Answer → Type 0
 AtValue n Goes None answer = answer ≡ fault n N10
 AtValue n Goes (Some (Pattern text)) answer = (IsSound (Pattern text) × Goes (Pattern text))
-    ⊎ ((refusal : Refusal) × IsRefused refusal text × (answer ≡ fault n (N12 refusal)))
+    ⊎ ((refusal : PatternRefusal) × IsRefused refusal text × (answer ≡ fault n (N12 refusal)))
 AtValue n Goes (Some value) answer = Goes value
 
 -- The answer to words, behind options that were given, by the first rule that is broken. The

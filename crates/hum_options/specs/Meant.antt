@@ -4,7 +4,7 @@ use Rattle.std.specs.Prelude.{Option, None, Some, is_some, unwrap_or}
 use Rattle.std.specs.Option.{option_map, option_and_then, option_or}
 use lib.Chars.{codes}
 use Rattle.hum_rid.specs.declared.RidOptions.{RidOptions}
-use Rattle.hum_extract.specs.declared.choice.FieldRange.{FieldRange}
+use Rattle.hum_extract.specs.declared.options.FieldRange.{FieldRange}
 use Rattle.hum_extract.specs.Choice as choice
 use Rattle.hum_extract.specs.Written.{range_of}
 use Rattle.hum_ditto.specs.declared.DittoOptions.{DittoOptions}

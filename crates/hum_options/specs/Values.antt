@@ -2,9 +2,9 @@
 use Rattle.std.specs.Prelude.{ℕ, ℤ, Bool, if◌then◌else◌, List}
 use Rattle.std.specs.Prelude.{Option, None, Some}
 use Rattle.std.specs.Option.{option_map}
-use Rattle.hum_kern.specs.Ratio.{Ratio}
+use Rattle.hum_frac.specs.Ratio.{Ratio}
 use Rattle.hum_pattern.specs.Meaning.{IsExpression, IsNone}
-use Rattle.hum_extract.specs.declared.choice.FieldRange.{FieldRange}
+use Rattle.hum_extract.specs.declared.options.FieldRange.{FieldRange}
 use Rattle.hum_cleave.specs.Cleave.{is_name, fits_in_token}
 use Rattle.hum_yank.specs.declared.options.YankRange.{YankRange}
 use Rattle.hum_timebase.specs.Timebase.{Pace}
@@ -16,8 +16,8 @@ use Rattle.hum_values.specs.Numbers.{signed_of}
 use Rattle.hum_values.specs.Steps.{step_of}
 use Rattle.hum_options.specs.declared.options.Kind.{Kind}
 use Rattle.hum_options.specs.declared.options.Kind.TheVariants as kind
-use Rattle.hum_options.specs.declared.faults.Refusal.{Refusal}
-use Rattle.hum_options.specs.declared.faults.Refusal.TheVariants.{NoExpression, TooLarge}
+use Rattle.hum_options.specs.declared.faults.PatternRefusal.{PatternRefusal}
+use Rattle.hum_options.specs.declared.faults.PatternRefusal.TheVariants.{NoExpression, TooLarge}
 
 -- An option that stands alone has nothing as its value.
 pub data Value : Type 0 where
@@ -62,6 +62,6 @@ IsSound (Pattern text) = IsExpression text
 IsSound _ = Unit {0}
 
 -- a text is refused for this reason: there is no expression, or it is too large
-abbrev pub IsRefused : Refusal → List ℕ → Type 0
+abbrev pub IsRefused : PatternRefusal → List ℕ → Type 0
 IsRefused NoExpression text = IsNone text
 IsRefused TooLarge text = IsExpression text

@@ -3,7 +3,7 @@ ghost use Rattle.std.specs.Prelude.{◌≡◌};
 ghost use Rattle.hum_options.specs.Seen.{GivesValue};
 ghost use Rattle.hum_options.specs.declared.grammar.ValueError.TheVariants.{Memory};
 
-use crate::faults::Refusal;
+use crate::faults::PatternRefusal;
 use crate::options::Kind;
 use crate::values::{Name, Semitones, Separator, Steps, Value};
 use hum_pattern::{Pattern, PatternFault};
@@ -19,7 +19,7 @@ pub(crate) enum ValueError {
     /// It isn't of the kind's grammar.
     Grammar,
     /// It is no pattern.
-    Pattern(Refusal),
+    Pattern(PatternRefusal),
     /// Memory ran out.
     Memory,
 }
@@ -93,8 +93,8 @@ fn read_pattern(alloc: Global, text: &str) -> Result<Value, ValueError>
 {
     match Pattern::new(alloc, text) {
         Ok(pattern) => Ok(Value::Pattern(pattern)),
-        Err(PatternFault::Refused) => Err(ValueError::Pattern(Refusal::NoExpression)),
-        Err(PatternFault::TooLarge) => Err(ValueError::Pattern(Refusal::TooLarge)),
+        Err(PatternFault::Refused) => Err(ValueError::Pattern(PatternRefusal::NoExpression)),
+        Err(PatternFault::TooLarge) => Err(ValueError::Pattern(PatternRefusal::TooLarge)),
         Err(PatternFault::Memory) => Err(ValueError::Memory),
     }
 }

@@ -17,5 +17,5 @@ mod reading;
 mod together;
 mod values;
 
-pub use faults::{OptionError, OptionFault, OptionRule, Refusal};
+pub use faults::{OptionError, OptionFault, OptionRule, PatternRefusal};
 pub use reading::read_options;

@@ -14,19 +14,19 @@ use hum_cleave::CleaveOptions;
 use hum_commands::CommandOptions;
 use hum_context::{ContextOptions, Span};
 use hum_ditto::DittoOptions;
-use hum_extract::Choice;
+use hum_extract::ExtractOptions;
 use hum_stage::Command;
-use hum_tones::{MintOptions, RecipOptions, SemitsOptions, Transposition};
+use hum_tones::{MintOptions, RecipOptions, SemitsOptions, TransOptions};
 use hum_yank::{Markers, YankOptions};
 use std::alloc::{AllocError, Global};
 
-fn choice(given: &mut GivenOptions) -> Option<Choice>
+fn choice(given: &mut GivenOptions) -> Option<ExtractOptions>
     ensures { option_map choice_of result ≡ choice_meant given.old }
 {
     match given.fields(b'f') {
-        Some(ranges) => Some(Choice::Fields(ranges)),
+        Some(ranges) => Some(ExtractOptions::Fields(ranges)),
         None => match given.names(b'i') {
-            Some(names) => Some(Choice::Names(names)),
+            Some(names) => Some(ExtractOptions::Names(names)),
             None => None,
         },
     }
@@ -81,11 +81,11 @@ fn context(given: &mut GivenOptions) -> Option<CommandOptions>
     Some(CommandOptions::Context(ContextOptions { span, omit }))
 }
 
-fn transposition(steps: Steps, semitones: Semitones) -> Transposition
+fn transposition(steps: Steps, semitones: Semitones) -> TransOptions
     ensures steps { result.steps ≡ steps.number }
     ensures semitones { result.semitones ≡ semitones.number }
 {
-    Transposition {
+    TransOptions {
         steps: steps.number,
         semitones: semitones.number,
     }

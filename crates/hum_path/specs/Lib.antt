@@ -9,3 +9,4 @@ pub mod Turned
 pub mod Memories
 pub mod Step
 pub mod Asked
+pub mod Origins

@@ -141,7 +141,7 @@ fn see_each<M: ColumnMemory>(
 }
 
 /// Whether a record moves some of so many spines.
-fn moves_some(row: &Record, found: &Moves, width: usize) -> bool
+pub(crate) fn moves_some(row: &Record, found: &Moves, width: usize) -> bool
     ensures yes { result ≡ true → kind_of row.now ≡ Interpretation }
     ensures no { result ≡ false → kind_of row.now ≡ Interpretation
         → found.now ≡ same_upto 0 width }

@@ -4,6 +4,9 @@ ghost use Rattle.hum_record.specs.Row.{Row};
 ghost use Rattle.hum_path.specs.Spines.{Path};
 ghost use Rattle.hum_path.specs.Places.{AreRulesByPlace};
 ghost use Rattle.hum_path.specs.Turned.{StepsTurn, ColumnsTurn};
+ghost use Rattle.hum_path.specs.Score.{IsOpen};
+ghost use Rattle.hum_path.specs.Chains.{origins};
+ghost use Rattle.hum_path.specs.Origins.{AreOrigins};
 
 /// Of an interpretation after others: P3 is broken exactly where some `*v` has no `*v` beside it;
 /// P4 isn't broken exactly where no `*x` stands in it, or two; P5 is broken exactly where two `*v`
@@ -18,4 +21,9 @@ pub fn rules_hold_by_place()
 pub fn cells_turn_round()
     ensures steps { (path : Path) (tokens : List (List ℕ)) → StepsTurn path tokens }
     ensures columns { (past rows : List Row) → ColumnsTurn past rows }
+{}
+
+/// Origins that are carried down record by record are those that one comes to by going up.
+pub fn origins_go_up()
+    ensures { (past : List Row) → IsOpen past → AreOrigins past (origins past) }
 {}

@@ -16,15 +16,19 @@ use regex::Error as RegexError;
 use regex::bytes::{Matcher, Regex};
 use std::alloc::{AllocError, AllocFailed, Global};
 use std::marker::Model;
+use thiserror::Error;
 
 /// Why a text gives no pattern.
-#[derive(Clone, Copy, Debug, PartialEq, Eq)]
+#[derive(Clone, Copy, Debug, PartialEq, Eq, Error)]
 pub enum PatternFault {
     /// The text is no regular expression, or nests deeper than 250.
+    #[error("no regular expression, or one that nests deeper than 250")]
     Refused,
     /// The expression would take over 10 MiB.
+    #[error("an expression of over 10 MiB")]
     TooLarge,
     /// Memory ran out.
+    #[error("out of memory")]
     Memory,
 }
 
@@ -101,7 +105,7 @@ impl Drop for Pattern {
 
 impl Model for Pattern {
     ghost use Rattle.std.specs.Prelude.{◌≡◌, ℕ, List, box_value};
-    ghost use Rattle.regex.specs.Bytes.{regex_source, matcher_pattern};
+    ghost use Rattle.regex.specs.Bytes.{regex_source, regex_pattern, matcher_pattern};
     ghost use Rattle.hum_pattern.specs.Searching.{SearchesFor, AllFound, MayBeBarline};
 
     ghost Value = { List ℕ };
@@ -110,7 +114,8 @@ impl Model for Pattern {
 
     ghost invariant = { λ p. SearchesFor (regex_source p.regex.now) (matcher_pattern (box_value p.matcher))
         × AllFound (regex_source p.regex.now) p.searched.items
-        × MayBeBarline p.is_barline (regex_source p.regex.now) };
+        × MayBeBarline p.is_barline (regex_source p.regex.now)
+        × SearchesFor (regex_source p.regex.now) (regex_pattern p.regex.now) };
 }
 
 impl Pattern {
@@ -139,6 +144,21 @@ impl Pattern {
             Err(RegexError::CompiledTooBig) => Err(PatternFault::TooLarge),
             Err(RegexError::Internal) => Err(PatternFault::TooLarge),
         }
+    }
+
+    /// The same pattern once more. What was worked out of its text serves both.
+    ///
+    /// # Errors
+    /// Out of memory.
+    pub fn copy(&self, alloc: Global) -> Result<Pattern, AllocError>
+        ensures { IfOk result (λ pattern. pattern ≡ self.now) }
+    {
+        Ok(Pattern {
+            regex: self.regex,
+            matcher: Box::new(alloc, self.regex.matcher(alloc)?)?,
+            searched: none_searched(alloc)?,
+            is_barline: self.is_barline,
+        })
     }
 
     /// Whether the pattern has a match anywhere in a token.

@@ -8,9 +8,10 @@ use hum_options::{OptionFault, OptionRule};
 use hum_words::TextFault;
 use std::alloc::{AllocError, AllocFailed};
 use std::fmt;
+use thiserror::Error;
 
 /// A rule of the grammar of plans.
-#[derive(Clone, Copy)]
+#[derive(Clone, Copy, Debug, Error)]
 pub enum PlanRule {
     /// The plan has over 65,536 bytes, or isn't UTF-8.
     N1,
@@ -71,7 +72,7 @@ impl fmt::Display for PlanRule {
 
 /// A rule that was broken, with the number of the line, from 1, and that of the word in it, from 1,
 /// bars not counted; 0 where it is no word's.
-#[derive(Clone, Copy)]
+#[derive(Clone, Copy, Debug, Error)]
 pub struct PlanFault {
     pub line: u32,
     pub word: u32,
@@ -88,11 +89,13 @@ impl fmt::Display for PlanFault {
 }
 
 /// Why bytes are no plan.
-#[derive(Clone, Copy)]
+#[derive(Clone, Copy, Debug, Error)]
 pub enum PlanError {
     /// The first rule that they break.
+    #[error(transparent)]
     Fault(PlanFault),
     /// Memory ran out.
+    #[error("out of memory")]
     Memory,
 }
 

@@ -6,17 +6,16 @@ use Rattle.hum_text.specs.declared.TextFault.{TextFault}
 use Rattle.hum_text.specs.declared.TextFault.TheVariants as text
 use Rattle.hum_text.specs.Text.{lines, fault_of}
 use Rattle.hum_record.specs.declared.RecordFault.{RecordFault}
-use Rattle.hum_record.specs.declared.RecordFault.TheVariants as of_record
 use Rattle.hum_record.specs.Row.{Row}
 use Rattle.hum_record.specs.Spelling.{reading}
 use Rattle.hum_path.specs.declared.PathFault.{PathFault}
-use Rattle.hum_path.specs.declared.PathFault.TheVariants as of_path
 use Rattle.hum_path.specs.Spines.{Path, Unopened, after}
 use Rattle.hum_path.specs.Rules.{is_unfinished, fault_of as path_fault_of}
 use Rattle.hum_stage.specs.declared.faults.Rule.{Rule}
 use Rattle.hum_stage.specs.declared.faults.Rule.TheVariants as rule
 use Rattle.hum_stage.specs.declared.faults.Command.TheVariants.{Read}
 use Rattle.hum_stage.specs.declared.faults.End.{End}
+pub use Rattle.hum_stage.specs.Refusals.{record_rule, path_rule}
 use Rattle.hum_stage.specs.declared.faults.End.TheVariants.{Closed, Broken}
 
 -- The records of a score, and the first rule that is broken, if one is, with its line, from 1.
@@ -32,30 +31,6 @@ text_rule text.S3 = Some rule.S3
 text_rule text.S7 = Some rule.S7
 text_rule text.Read = None
 text_rule text.Memory = None
-
--- the rule that a line breaks; want of memory breaks none
-abbrev pub record_rule : RecordFault → Option Rule
-record_rule of_record.S4 = Some rule.S4
-record_rule of_record.S5 = Some rule.S5
-record_rule of_record.S6 = Some rule.S6
-record_rule of_record.S8 = Some rule.S8
-record_rule of_record.L1 = Some rule.L1
-record_rule of_record.Memory = None
-
--- the rule of the spines that a record breaks; want of memory breaks none
-abbrev pub path_rule : PathFault → Option Rule
-path_rule of_path.P1 = Some rule.P1
-path_rule of_path.P2 = Some rule.P2
-path_rule of_path.P3 = Some rule.P3
-path_rule of_path.P4 = Some rule.P4
-path_rule of_path.P5 = Some rule.P5
-path_rule of_path.P6 = Some rule.P6
-path_rule of_path.P7 = Some rule.P7
-path_rule of_path.P8 = Some rule.P8
-path_rule of_path.P9 = Some rule.P9
-path_rule of_path.P10 = Some rule.P10
-path_rule of_path.P11 = Some rule.P11
-path_rule of_path.Memory = None
 
 -- a record, unless it breaks a rule of the spines
 abbrev pub unless : Row → Option PathFault → Result Row (Option Rule)

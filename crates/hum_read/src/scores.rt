@@ -6,14 +6,15 @@ ghost use Rattle.hum_path.specs.Rules.{fault_of, Refuses};
 ghost use Rattle.std.specs.Io.KnownBytes.{Consumes, IsAtEnd};
 ghost use Rattle.hum_read.specs.Denoted.{end_at};
 ghost use Rattle.hum_read.specs.Steps.{stop_by};
+ghost use Rattle.hum_stage.specs.Refusals.{rule_in};
 ghost use Rattle.hum_record.specs.Spelling.{has_byte};
 ghost use Rattle.hum_text.specs.Reading.{NeedsRead, IsUnread, IsFed, bytes_read, left_to_do};
 
 use crate::ReadError;
-use crate::rules::{path_rule, record_rule, text_rule};
+use crate::rules::text_rule;
 use hum_path::{PathFault, Paths};
 use hum_record::{Record, Spare};
-use hum_stage::{Command, End, Fault, Rule};
+use hum_stage::{Command, End, Fault, Refusal, Rule};
 use hum_text::calls::{LARGEST_READ, Source};
 use hum_text::reader::LineReader;
 use hum_text::{Limits, TextFault, reader as lines};
@@ -132,17 +133,17 @@ impl<R: Source> ScoreReader<R> {
         self.spare.offer(row)
     }
 
-    /// The last line that was given is refused by a rule, or memory ran out. It happens once, so it
-    /// isn't inlined where each line passes.
+    /// The last line that was given is refused. It happens once, so it isn't inlined where each line
+    /// passes.
     #[inline(never)]
-    fn refuse(&mut self, rule: Option<Rule>)
+    fn refuse(&mut self, why: Refusal)
         ensures { self.new ≡ record self.old {
-          stopped = Some (refusal self.old.stage self.old.lines.given rule);
+          stopped = Some (refusal self.old.stage self.old.lines.given (rule_in why));
         } }
     {
-        self.stopped = Some(match rule {
-            Some(rule) => Ok(broken(self.stage, self.lines.given(), rule)),
-            None => Err(ReadError::Memory),
+        self.stopped = Some(match why {
+            Refusal::Rule(rule) => Ok(broken(self.stage, self.lines.given(), rule)),
+            Refusal::Memory => Err(ReadError::Memory),
         });
     }
 
@@ -164,14 +165,14 @@ impl<R: Source> ScoreReader<R> {
         let record = match Record::parse_into(self.alloc, &mut self.spare, held, len) {
             Ok(record) => record,
             Err(fault) => {
-                self.refuse(record_rule(fault));
+                self.refuse(fault.into());
                 return None;
             }
         };
         match pass(&mut self.paths, &record) {
             Ok(()) => Some(record),
             Err(fault) => {
-                self.refuse(path_rule(fault));
+                self.refuse(fault.into());
                 None
             }
         }

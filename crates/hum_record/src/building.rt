@@ -1,6 +1,7 @@
 //! A record in the making.
 ghost use Rattle.std.specs.Prelude.{◌≡◌, ◌≢◌, ◌+◌, ◌<◌, ◌≤◌, [], ◌∷◌, ◌++◌, false, nat_le};
-ghost use Rattle.std.specs.Prelude.{length, IsTrue, Err, OnOk, IfErr};
+ghost use Rattle.std.specs.Prelude.{length, IsTrue, Err, OnOk, OnErr, IfErr};
+ghost use Rattle.std.specs.Allocator.{alloc_error};
 ghost use Rattle.std.specs.Prelude.{is_some, true, IfOk, if◌then◌else◌};
 ghost use Rattle.hum_record.specs.Spelling.{IsToken};
 ghost use Rattle.hum_record.specs.Building.{tab_between, text_in, ends_in};
@@ -15,8 +16,8 @@ use std::marker::Model;
 
 /// A spined record in the making: its kind, and the tokens so far.
 ///
-/// After a refused growth of memory it is *spent*: each later `push` answers
-/// [`RecordFault::Memory`] again.
+/// Once it has run out of memory it is *spent*: each later `push` answers [`RecordFault::Memory`] again,
+/// and each later `push_fitting` fails.
 pub struct RecordBuilder {
     alloc: Global,
     kind: SpinedKind,
@@ -111,13 +112,16 @@ impl RecordBuilder {
     /// Adds a token with which the record stays short enough.
     ///
     /// # Errors
-    /// Want of memory.
+    /// Out of memory. The builder is then spent: each later call answers it again.
     #[inline]
     pub fn push_fitting(&mut self, token: &[u8]) -> Result<(), AllocError>
         requires lawful { IsToken self.old.kind token.now }
         requires fits { length (spelled (self.old.tokens ++ token.now ∷ [])) ≤ 1048576 }
-        ensures { OnOk result
+        ensures pushed { OnOk result
             (self.new ≡ record self.old { tokens = self.old.tokens ++ token.now ∷ [] }) }
+        ensures spent { OnErr result (IsTrue self.new.spent) }
+        ensures kind { self.new.kind ≡ self.old.kind }
+        ensures again { IsTrue self.old.spent → result ≡ Err alloc_error }
     {
         match self.push(token) {
             Ok(()) => Ok(()),

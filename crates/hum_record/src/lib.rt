@@ -37,6 +37,7 @@ pub use reading::Record;
 pub use selection::Selection;
 pub use spare::Spare;
 use std::alloc::{AllocError, AllocFailed};
+use thiserror::Error;
 
 /// How many bytes the text of a record may have.
 pub const MOST_BYTES: usize = 1_048_576;
@@ -79,19 +80,25 @@ impl From<SpinedKind> for Kind {
 }
 
 /// Why a text is no record, or a token has no place in one.
-#[derive(Clone, Copy, Debug, PartialEq, Eq)]
+#[derive(Clone, Copy, Debug, PartialEq, Eq, Error)]
 pub enum RecordFault {
     /// Two tabs in a row, or a tab at an end of the line.
+    #[error("S4: an empty token")]
     S4,
     /// Comments, interpretations and data side by side.
+    #[error("S5: tokens of different kinds in one record")]
     S5,
     /// A local comment with a token that begins with `!!`.
+    #[error("S6: a local comment with a token that begins with !!")]
     S6,
     /// A carriage return within the line.
+    #[error("S8: a carriage return within the line")]
     S8,
     /// A record of over 1,048,576 bytes.
+    #[error("L1: a record of over 1,048,576 bytes")]
     L1,
     /// Memory ran out.
+    #[error("out of memory")]
     Memory,
 }
 

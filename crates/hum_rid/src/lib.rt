@@ -9,8 +9,8 @@ ghost use Rattle.hum_rid.specs.Rid.{rid, drops, all_are};
 
 use hum_path::steers;
 use hum_record::{Kind, Record};
-use hum_stage::{AtOnce, Command, Decides, Rule};
-use std::alloc::{AllocError, Global};
+use hum_stage::{AtOnce, Command, Decides, Refusal};
+use std::alloc::Global;
 
 /// Which records are dropped, by the letters of the command (several drop what any of them drops).
 #[derive(Clone, Copy)]
@@ -94,16 +94,11 @@ impl Decides for RidOptions {
         options
     }
 
-    fn step(
-        &mut self,
-        next: Record,
-        _room: u64,
-        out: &mut Option<Record>,
-    ) -> Result<Option<Rule>, AllocError> {
+    fn step(&mut self, next: Record, _room: u64, out: &mut Option<Record>) -> Result<(), Refusal> {
         if !self.drops(&next) {
             *out = Some(next);
         }
-        Ok(None)
+        Ok(())
     }
 }
 

@@ -11,7 +11,7 @@ use Rattle.hum_path.specs.Score.{passed}
 use Rattle.hum_stage.specs.Order.{passed-push}
 use Rattle.hum_stage.specs.declared.faults.Rule.{Rule}
 use Rattle.hum_stage.specs.declared.faults.Rule.TheVariants.{H1}
-use Rattle.hum_stage.specs.declared.looks_ahead.Verdict.TheVariants.{Waits, Gives, Refuses}
+use Rattle.hum_stage.specs.declared.looks_ahead.Verdict.TheVariants.{Waits, Gives}
 use Rattle.hum_stage.specs.Outcome.{Becomes}
 use Rattle.hum_stage.specs.Look.{Look, outcome_at, outcomes_from}
 use Rattle.hum_stage.specs.Settles.{Follows, Settles, Drops, NextIs, all_dropped}
@@ -53,7 +53,7 @@ drops_next room look past rows follows then h on = record {
 waits_next : (room : ℕ) (look : Look)
     (follows follows' : List Row → List Row → Type 0) (n : ℕ)
     → ((past : List Row) (row : Row) (rows : List Row) → follows past (row ∷ rows)
-    → Settles look past row rows follows' Waits)
+    → Settles look past row rows follows' (Ok Waits))
     → (past rest : List Row) → follows past rest → 0 < length rest → length rest ≤ room
     → NextIs room look past rest follows' n (Ok None)
 waits_next room look follows follows' n verdict past [] h some few = absurd (omega (arith, some))
@@ -65,7 +65,7 @@ waits_next room look follows follows' n verdict past (row ∷ rows) h some few =
 full_next : (room : ℕ) (look : Look)
     (follows follows' follows'' : List Row → List Row → Type 0) (n : ℕ)
     → ((past : List Row) (row : Row) (rows : List Row) → follows past (row ∷ rows)
-    → Settles look past row rows follows' Waits)
+    → Settles look past row rows follows' (Ok Waits))
     → (past rest : List Row) → follows past rest → length rest ≡ room + 1 → n ≡ length rest
     → NextIs room look past rest follows'' n (Err H1)
 full_next room look follows follows' follows'' n verdict past [] h full count =
@@ -78,7 +78,7 @@ full_next room look follows follows' follows'' n verdict past (row ∷ rows) h f
 gives_next : (room : ℕ) (look : Look)
     (follows follows' : List Row → List Row → Type 0) (n : ℕ) (due : Row)
     → ((past : List Row) (row : Row) (rows : List Row) → follows past (row ∷ rows)
-    → Settles look past row rows follows' (Gives (Some due)))
+    → Settles look past row rows follows' (Ok (Gives (Some due))))
     → (past rest : List Row) → follows past rest → 0 < length rest → length rest ≤ room + 1
     → NextIs room look past rest follows' n (Ok (Some due))
 gives_next room look follows follows' n due verdict past [] h some few =
@@ -90,7 +90,7 @@ gives_next room look follows follows' n due verdict past (row ∷ rows) h some f
 refused_next : (room : ℕ) (look : Look)
     (follows follows' follows'' : List Row → List Row → Type 0) (n : ℕ) (rule : Rule)
     → ((past : List Row) (row : Row) (rows : List Row) → follows past (row ∷ rows)
-    → Settles look past row rows follows' (Refuses rule))
+    → Settles look past row rows follows' (Err rule))
     → (past rest : List Row) → follows past rest → 0 < length rest → length rest ≤ room + 1
     → n ≡ length rest → NextIs room look past rest follows'' n (Err rule)
 refused_next room look follows follows' follows'' n rule verdict past [] h some few count =
@@ -106,7 +106,7 @@ pub drops_more : (room : ℕ) (look : Look) (past rows : List Row)
     → length rows ≤ room + 1
     → ((past rest : List Row) → follows past rest → 0 < length rest)
     → ((past : List Row) (row : Row) (rows : List Row) → follows past (row ∷ rows)
-    → Settles look past row rows follows' (Gives None))
+    → Settles look past row rows follows' (Ok (Gives None)))
     → Drops room look past rows follows'
 drops_more room look past rows follows follows' h few some verdict =
     on h.dropped h.rest h.split h.outcomes h.behind
@@ -142,7 +142,7 @@ pub drops_waits : (room : ℕ) (look : Look) (past rows : List Row)
     → Drops room look past rows follows
     → ((past rest : List Row) → follows past rest → n ≡ length rest) → 0 < n → n ≤ room
     → ((past : List Row) (row : Row) (rows : List Row) → follows past (row ∷ rows)
-    → Settles look past row rows follows' Waits)
+    → Settles look past row rows follows' (Ok Waits))
     → Drops room look past rows (λ past rest. NextIs room look past rest follows' n (Ok None))
 drops_waits room look past rows follows follows' n h each some few verdict =
     drops_next room look past rows follows _ h
@@ -155,7 +155,7 @@ pub drops_full : (room : ℕ) (look : Look) (past rows : List Row)
     → (h : Drops room look past rows follows) → length rows ≤ room + 1
     → ((past rest : List Row) → follows past rest → n ≡ length rest) → room < n
     → ((past : List Row) (row : Row) (rows : List Row) → follows past (row ∷ rows)
-    → Settles look past row rows follows' Waits)
+    → Settles look past row rows follows' (Ok Waits))
     → Drops room look past rows (λ past rest. NextIs room look past rest follows'' n (Err H1))
 drops_full room look past rows follows follows' follows'' n h few each many verdict =
     let most = rest_few (room + 1) rows h.dropped h.rest h.split few in
@@ -169,7 +169,7 @@ pub drops_gives : (room : ℕ) (look : Look) (past rows : List Row)
     → (h : Drops room look past rows follows) → length rows ≤ room + 1
     → ((past rest : List Row) → follows past rest → 0 < length rest)
     → ((past : List Row) (row : Row) (rows : List Row) → follows past (row ∷ rows)
-    → Settles look past row rows follows' (Gives (Some due)))
+    → Settles look past row rows follows' (Ok (Gives (Some due))))
     → Drops room look past rows (λ past rest. NextIs room look past rest follows' n (Ok (Some due)))
 drops_gives room look past rows follows follows' n due h few some verdict =
     let most = rest_few (room + 1) rows h.dropped h.rest h.split few in
@@ -182,7 +182,7 @@ pub drops_refuses : (room : ℕ) (look : Look) (past rows : List Row)
     → (h : Drops room look past rows follows) → length rows ≤ room + 1
     → ((past rest : List Row) → follows past rest → n ≡ length rest) → 0 < n
     → ((past : List Row) (row : Row) (rows : List Row) → follows past (row ∷ rows)
-    → Settles look past row rows follows' (Refuses rule))
+    → Settles look past row rows follows' (Err rule))
     → Drops room look past rows (λ past rest. NextIs room look past rest follows'' n (Err rule))
 drops_refuses room look past rows follows follows' follows'' n rule h few each some verdict =
     let most = rest_few (room + 1) rows h.dropped h.rest h.split few in

@@ -6,7 +6,7 @@ use Rattle.hum_record.specs.Row.{Row}
 use Rattle.hum_path.specs.Score.{IsOpen, passed}
 use Rattle.hum_stage.specs.declared.faults.Rule.{Rule}
 use Rattle.hum_stage.specs.declared.looks_ahead.Verdict.{Verdict}
-use Rattle.hum_stage.specs.declared.looks_ahead.Verdict.TheVariants.{Waits, Gives, Refuses}
+use Rattle.hum_stage.specs.declared.looks_ahead.Verdict.TheVariants.{Waits, Gives}
 use Rattle.hum_stage.specs.Outcome.{Outcome, Becomes, Refused, Undecided}
 use Rattle.hum_stage.specs.Look.{Look, outcome_at, outcomes_from}
 
@@ -33,25 +33,25 @@ HasWaited before after next =
     → after look past (rows ++ next ∷ [])
 
 -- The first of those that wait is undecided, or it is given and gone, or it is refused.
-abbrev pub Settles : Look → List Row → Row → List Row → (List Row → List Row → Type 0) → Verdict
-    → Type 0
-Settles look past row rows follows Waits =
+abbrev pub Settles : Look → List Row → Row → List Row → (List Row → List Row → Type 0)
+    → Result Verdict Rule → Type 0
+Settles look past row rows follows (Ok Waits) =
     (look past row rows ≡ None) × follows past (row ∷ rows)
-Settles look past row rows follows (Gives given) =
+Settles look past row rows follows (Ok (Gives given)) =
     (look past row rows ≡ Some (Ok (option_to_list given)))
     × follows (row ∷ past) rows
-Settles look past row rows follows (Refuses rule) = look past row rows ≡ Some (Err rule)
+Settles look past row rows follows (Err rule) = look past row rows ≡ Some (Err rule)
 
-abbrev pub HasSettled : Follows → Follows → Verdict → Type 0
+abbrev pub HasSettled : Follows → Follows → Result Verdict Rule → Type 0
 HasSettled before after verdict =
     (look : Look) (past : List Row) (row : Row) (rows : List Row) → before look past (row ∷ rows)
     → Settles look past row rows (after look) verdict
 
 -- how many waited before a verdict that left so many
-abbrev pub left_by : Verdict → ℕ → ℕ
-left_by Waits n = n
-left_by (Gives o) n = n + 1
-left_by (Refuses rule) n = n
+abbrev pub left_by : Result Verdict Rule → ℕ → ℕ
+left_by (Ok Waits) n = n
+left_by (Ok (Gives o)) n = n + 1
+left_by (Err rule) n = n
 
 abbrev pub or_stop : Option (Result (List Row) Rule) → ℕ → ℕ
 or_stop None rest = rest + 1

@@ -8,7 +8,7 @@ use crate::MOST_RECORDS;
 use crate::contract::Stage;
 use crate::deciding::Decides;
 use crate::due::Due;
-use crate::faults::{Command, End, Fault, Readiness, Rule, State, resting};
+use crate::faults::{Command, End, Fault, Readiness, Refusal, Rule, State, resting};
 use hum_record::Record;
 use std::alloc::{AllocError, Global};
 
@@ -126,12 +126,16 @@ impl<C: Decides> Stage for AtOnce<C> {
             return Ok(());
         }
         let room = MOST_RECORDS - self.total;
-        self.spent = true;
-        let refused = self.memory.step(next, room, &mut self.due)?;
-        self.spent = false;
-        if let Some(rule) = refused {
-            self.refuse(rule);
-            return Ok(());
+        match self.memory.step(next, room, &mut self.due) {
+            Ok(()) => {}
+            Err(Refusal::Rule(rule)) => {
+                self.refuse(rule);
+                return Ok(());
+            }
+            Err(Refusal::Memory) => {
+                self.spent = true;
+                return Err(AllocError);
+            }
         }
         let count = self.due.count();
         if count > room {

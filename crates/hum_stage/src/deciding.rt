@@ -1,15 +1,16 @@
 //! A command that decides each record at once.
-ghost use Rattle.std.specs.Prelude.{◌≡◌, [], List, Result, IfOk};
+ghost use Rattle.std.specs.Prelude.{◌≡◌, [], List, Result};
 ghost use Rattle.hum_record.specs.Row.{Row};
 ghost use Rattle.hum_stage.specs.declared.faults.Rule.{Rule};
 ghost use Rattle.hum_stage.specs.declared.faults.Command.{Command};
 ghost use Rattle.hum_stage.specs.Meaning.{KeepsScore};
 ghost use Rattle.hum_stage.specs.Decided.{Decision, at_once, MayStep, HasStepped};
+ghost use Rattle.hum_stage.specs.Refusals.{IfTold};
 
 use crate::due::Due;
-use crate::faults::{Command, Rule};
+use crate::faults::{Command, Refusal};
 use hum_record::Record;
-use std::alloc::{AllocError, Global};
+use std::alloc::Global;
 
 /// A command that decides each record at once, with what it remembers of the records so far.
 pub trait Decides {
@@ -43,17 +44,14 @@ pub trait Decides {
         // Of scores it makes scores.
         ensures keeps { keeps options → KeepsScore (at_once 0 command (decide options)).outcomes };
 
-    /// Puts what the next record becomes where nothing is due, or answers the rule by which it is
-    /// refused. There is room for so many records: a command that would give more may stop and
-    /// answer L2.
-    fn step(
-        &mut self,
-        next: Record,
-        room: u64,
-        out: &mut Self::Due,
-    ) -> Result<Option<Rule>, AllocError>
+    /// Puts what the next record becomes where nothing is due. There is room for so many records: a
+    /// command that would give more may stop and refuse by L2.
+    ///
+    /// # Errors
+    /// The rule by which the record is refused; or out of memory.
+    fn step(&mut self, next: Record, room: u64, out: &mut Self::Due) -> Result<(), Refusal>
         requires score { MayStep (follows self.old) next }
         requires empty { Self.Due.rows out.old ≡ [] }
-        ensures { IfOk result
+        ensures { IfTold result
             (HasStepped (follows self.old) (follows self.new) next room (Self.Due.rows out.new)) };
 }

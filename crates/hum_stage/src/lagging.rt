@@ -7,7 +7,7 @@ ghost use Rattle.hum_stage.specs.Lagging.{Lags};
 ghost use Rattle.hum_stage.specs.Settles.{with_due};
 
 use crate::contract::Stage;
-use crate::faults::{Command, End, Fault, Readiness, Rule, State, resting};
+use crate::faults::{Command, End, Fault, Readiness, Refusal, Rule, State, resting};
 use crate::looks_ahead::LooksAhead;
 use crate::settling::settle_next;
 use hum_record::Record;
@@ -135,11 +135,16 @@ impl<C: LooksAhead> Stage for Lagging<C> {
         }
         self.spent = true;
         self.memory.put(next, &mut self.waiting)?;
-        let next = settle_next(&mut self.memory, &mut self.waiting)?;
-        self.spent = false;
-        match next {
-            Ok(due) => self.due = due,
-            Err(rule) => self.refuse(rule),
+        match settle_next(&mut self.memory, &mut self.waiting) {
+            Ok(due) => {
+                self.spent = false;
+                self.due = due;
+            }
+            Err(Refusal::Rule(rule)) => {
+                self.spent = false;
+                self.refuse(rule);
+            }
+            Err(Refusal::Memory) => return Err(AllocError),
         }
         Ok(())
     }
@@ -156,11 +161,16 @@ impl<C: LooksAhead> Stage for Lagging<C> {
             return Ok(None);
         };
         self.spent = true;
-        let next = settle_next(&mut self.memory, &mut self.waiting)?;
-        self.spent = false;
-        match next {
-            Ok(due) => self.due = due,
-            Err(rule) => self.refuse(rule),
+        match settle_next(&mut self.memory, &mut self.waiting) {
+            Ok(due) => {
+                self.spent = false;
+                self.due = due;
+            }
+            Err(Refusal::Rule(rule)) => {
+                self.spent = false;
+                self.refuse(rule);
+            }
+            Err(Refusal::Memory) => return Err(AllocError),
         }
         Ok(Some(row))
     }

@@ -26,7 +26,7 @@ pub use at_once::AtOnce;
 pub use contract::Stage;
 pub use deciding::Decides;
 pub use due::{Due, UpToTwo};
-pub use faults::{Command, End, Fault, Readiness, Rule, State};
+pub use faults::{Command, End, Fault, Readiness, Refusal, Rule, State};
 pub use lagging::Lagging;
 pub use looks_ahead::{LooksAhead, Verdict};
 pub use runs::{drain, whole};

@@ -1,25 +1,24 @@
 //! A command that decides a record by some of those behind it.
-ghost use Rattle.std.specs.Prelude.{◌≡◌, ◌<◌, List, [], IfOk, OnOk, length};
+ghost use Rattle.std.specs.Prelude.{◌≡◌, ◌<◌, List, [], OnOk, length};
 ghost use Rattle.std.specs.VecDeque.{deque_len};
 ghost use Rattle.hum_record.specs.Row.{Row};
 ghost use Rattle.hum_stage.specs.declared.faults.Command.{Command};
 ghost use Rattle.hum_stage.specs.Meaning.{KeepsScore};
 ghost use Rattle.hum_stage.specs.Look.{Look, IsSteady, looking};
+ghost use Rattle.hum_stage.specs.Refusals.{IfAnswered};
 ghost use Rattle.hum_stage.specs.Settles.{MayWait, HasWaited, HasSettled, Lasts, left_by};
 
-use crate::faults::{Command, Rule};
+use crate::faults::{Command, Refusal};
 use hum_record::Record;
 use std::alloc::{AllocError, Global};
 use std::collections::VecDeque;
 
-/// What becomes of the first record that waits.
+/// What becomes of the first record that waits, unless it is refused.
 pub enum Verdict {
     /// It is undecided.
     Waits,
     /// It is decided: it becomes this record, or none.
     Gives(Option<Record>),
-    /// It is refused by this rule.
-    Refuses(Rule),
 }
 
 /// A command that decides a record by some of those behind it, with what it remembers of the
@@ -67,10 +66,14 @@ pub trait LooksAhead {
 
     /// Lets the first record that waits go, if it is decided. What is kept of it is then gone from
     /// the queue.
-    fn settle(&mut self, held: &mut VecDeque<Self::Held>) -> Result<Verdict, AllocError>
+    ///
+    /// # Errors
+    /// The rule by which that record is refused; or out of memory.
+    fn settle(&mut self, held: &mut VecDeque<Self::Held>) -> Result<Verdict, Refusal>
         requires filled { 0 < deque_len held.old }
-        ensures fewer { IfOk result (λ v. deque_len held.old ≡ left_by v (deque_len held.new)) }
-        ensures settles { IfOk result (HasSettled
+        ensures fewer { IfAnswered result (λ v. deque_len held.old
+            ≡ left_by v (deque_len held.new)) }
+        ensures settles { IfAnswered result (HasSettled
             (follows self.old held.old.items) (follows self.new held.new.items)) };
 
     /// How many of those that wait stand before the first that is known to be refused.

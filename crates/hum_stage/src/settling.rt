@@ -1,43 +1,44 @@
 //! Letting records go that waited.
-ghost use Rattle.std.specs.Prelude.{◌≤◌, IfOk};
+ghost use Rattle.std.specs.Prelude.{◌≤◌};
 ghost use Rattle.std.specs.VecDeque.{deque_len};
+ghost use Rattle.hum_stage.specs.Refusals.{IfAnswered};
 ghost use Rattle.hum_stage.specs.Settles.{HasSettledNext, with_next};
 
-use crate::faults::Rule;
+use crate::faults::{Refusal, Rule};
 use crate::looks_ahead::{LooksAhead, Verdict};
 use hum_record::Record;
-use std::alloc::AllocError;
 use std::collections::VecDeque;
 
 // how many records behind it a record may wait for
 const ROOM: usize = 65_536;
 
-/// Lets the first records that wait go, up to one that becomes a record, and answers that record; none
-/// where no more wait or the next is undecided; or the rule by which the next is refused, H1
-/// where it is undecided with 65,536 behind it.
+/// Lets the first records that wait go, up to one that becomes a record, and answers that record;
+/// none where no more wait or the next is undecided.
+///
+/// # Errors
+/// The rule by which the next is refused, H1 where it is undecided with 65,536 behind it; or out of
+/// memory.
 pub fn settle_next<C: LooksAhead>(
     memory: &mut C,
     waiting: &mut VecDeque<C::Held>,
-) -> Result<Result<Option<Record>, Rule>, AllocError>
-    ensures fewer { IfOk result (λ next. with_next next (deque_len waiting.new)
+) -> Result<Option<Record>, Refusal>
+    ensures fewer { IfAnswered result (λ next. with_next next (deque_len waiting.new)
         ≤ deque_len waiting.old) }
-    ensures settles { IfOk result (λ next. HasSettledNext 65536
+    ensures settles { IfAnswered result (λ next. HasSettledNext 65536
         (C.follows memory.old waiting.old.items) (C.follows memory.new waiting.new.items)
         (deque_len waiting.new) next) }
 {
     while !waiting.is_empty() {
-        match memory.settle(waiting) {
-            Err(_) => return Err(AllocError),
-            Ok(Verdict::Waits) => {
+        match memory.settle(waiting)? {
+            Verdict::Waits => {
                 if waiting.len() > ROOM {
-                    return Ok(Err(Rule::H1));
+                    return Err(Refusal::Rule(Rule::H1));
                 }
-                return Ok(Ok(None));
+                return Ok(None);
             }
-            Ok(Verdict::Gives(None)) => {}
-            Ok(Verdict::Gives(Some(due))) => return Ok(Ok(Some(due))),
-            Ok(Verdict::Refuses(rule)) => return Ok(Err(rule)),
+            Verdict::Gives(None) => {}
+            Verdict::Gives(Some(due)) => return Ok(Some(due)),
         }
     }
-    Ok(Ok(None))
+    Ok(None)
 }

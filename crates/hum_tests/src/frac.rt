@@ -1,6 +1,6 @@
 //! Fractions worked by hand, each call.
 use crate::compared::{holds, same};
-use hum_kern::{Frac, FracFault};
+use hum_frac::{Frac, FracFault};
 use std::process::Abort;
 
 /// A numerator and a denominator.
@@ -53,7 +53,7 @@ fn sums_and_order(rt: HostRuntime) {
     for row in PAIRS {
         let (a, b, sum, before) = *row;
         let (one, other) = (frac(&rt, a), frac(&rt, b));
-        let found = (one.add(other), one.is_before(other));
+        let found = (one.add(other), one < other);
         same(&rt, found, (wanted(&rt, sum), before), (a, b));
     }
     holds(&rt, frac(&rt, (1, 3)) != frac(&rt, (3, 8)), "1/3 and 3/8");
@@ -85,7 +85,7 @@ fn multiples_in_between(rt: HostRuntime) {
     let quarter = Frac::new(1, 4);
     for row in BETWEEN {
         let (from, to, count) = *row;
-        let found = frac(&rt, from).multiples_to(frac(&rt, to), quarter).1;
+        let found = frac(&rt, from).multiples_between(frac(&rt, to), quarter);
         same(&rt, found, count, (from, to));
     }
 }

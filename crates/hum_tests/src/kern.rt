@@ -1,7 +1,8 @@
 //! Notes and durations worked by hand.
 use crate::compared::same;
+use hum_frac::Frac;
 use hum_kern::{
-    Frac, KernFault, Length, leading_part, read_duration, read_leading, read_note, read_recip,
+    KernFault, Length, leading_part, read_duration, read_leading, read_note, read_recip,
 };
 use std::process::Abort;
 

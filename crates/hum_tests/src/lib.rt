@@ -1,5 +1,5 @@
-//! Tests of the libraries that know no command: lines, records and spines, columns, patterns, fractions
-//! and durations, turns, nodes and links.
+//! Tests of the libraries: the command line, lines, records and spines, columns, patterns, fractions,
+//! pitches and durations, turns, links, and nets of plans.
 //!
 //! They call what any crate may call, and stand in a crate of their own: so no library is proved once more
 //! with its tests. What the program shows is tested by the rows of the folder `tests`.
@@ -10,17 +10,27 @@ mod chosen;
 #[cfg(test)]
 mod compared;
 #[cfg(test)]
+mod faults;
+#[cfg(test)]
 mod frac;
 #[cfg(test)]
 mod kern;
 #[cfg(test)]
+mod lines;
+#[cfg(test)]
 mod links;
 #[cfg(test)]
+mod nets;
+#[cfg(test)]
 mod nodes;
+#[cfg(test)]
+mod origins;
 #[cfg(test)]
 mod path;
 #[cfg(test)]
 mod pattern;
+#[cfg(test)]
+mod pitch;
 #[cfg(test)]
 mod read;
 #[cfg(test)]

@@ -1,7 +1,7 @@
 //! Links of a net by hand.
 use crate::compared::{same, same_bytes};
 use crate::record::read;
-use hum_net::{Link, Next};
+use hum_engine::{Link, Next};
 use hum_stage::End;
 use std::alloc::Global;
 use std::process::Abort;

@@ -1,19 +1,21 @@
-//! Nodes of a net by hand, call after call.
+//! What a net has of its stages, by hand, call after call: a score that is read, and assemble.
 use crate::compared::{holds, same, same_bytes};
 use crate::sources::Pieces;
-use hum_nodes::{Doing, Feeds, Merging, Reading, Works};
-use hum_read::ReadError;
+use hum_assemble::Assemble;
+use hum_read::{ReadError, ScoreReader};
 use hum_record::Record;
 use hum_stage::End;
 use hum_text::calls::Marked;
 use std::alloc::Global;
 use std::process::Abort;
 
+type Reader = ScoreReader<Marked<Pieces<'static>>>;
+
 // What a turn has given, as text.
-fn shown<'a>(node: &Reading<Marked<Pieces<'static>>>, next: &'a Option<Record>) -> &'a [u8] {
+fn shown<'a>(reader: &Reader, next: &'a Option<Record>) -> &'a [u8] {
     match next {
         Some(record) => record.text(),
-        None => match node.stopped() {
+        None => match reader.stopped() {
             None => b"nothing",
             Some(Ok(End::Closed)) => b"closed",
             Some(Ok(End::Broken(_))) => b"broken",
@@ -38,15 +40,15 @@ const READ: &[(&[u8], usize, &[&[u8]])] = &[
     (b"**x\n*-", 0, &[b"failed", b"failed"]),
 ];
 
-// The node that reads from this source gives so much by each turn. What was given is given back, and
-// the reader keeps it.
+// The reader of this source gives so much by each turn. What was given is given back, and the reader
+// keeps it.
 fn check_turns(rt: &impl Abort, alloc: Global, source: Pieces<'static>, turns: &[&[u8]]) {
-    let mut node = Reading::new(alloc, 1, Marked::new(source));
+    let mut reader = ScoreReader::new(alloc, 1, Marked::new(source));
     for want in turns {
-        let next = node.next();
-        same_bytes(rt, shown(&node, &next), *want, *want);
+        let next = reader.next();
+        same_bytes(rt, shown(&reader, &next), *want, *want);
         if let Some(row) = next {
-            holds(rt, node.reuse(row).is_none(), "the reader keeps it");
+            holds(rt, reader.reuse(row).is_none(), "the reader keeps it");
         }
     }
 }
@@ -62,13 +64,12 @@ fn scores_are_read(rt: HostRuntime) {
 
 #[test]
 fn several_scores_are_wanted_from_the_left(rt: HostRuntime) {
-    let from = vec![in rt.alloc(); 3usize, 5].expect(&rt, "memory");
-    let mut node = Merging::new(rt.alloc(), 6, from).expect(&rt, "memory");
-    same(&rt, node.doing(), Doing::Wants(0), "the leftmost");
-    same(&rt, node.held(), 0, "no record");
+    let mut stage = Assemble::new(rt.alloc(), 6, 3).expect(&rt, "memory");
+    same(&rt, stage.wants(), Some(0), "the leftmost");
+    same(&rt, stage.held(), 0, "no record");
     holds(
         &rt,
-        node.take().expect(&rt, "memory").is_none(),
+        stage.take().expect(&rt, "memory").is_none(),
         "none is given",
     );
 }

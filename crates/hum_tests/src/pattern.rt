@@ -27,6 +27,9 @@ fn matches_anywhere_in_a_token(rt: HostRuntime) {
         let third = pattern.matches(matched);
         let found = (first, second, third, ends);
         same(&rt, found, (true, false, true, (Some(end), None)), text);
+        let mut copy = pattern.copy(rt.alloc()).expect(&rt, "memory");
+        let found = (copy.matches(matched), copy.matches(other));
+        same(&rt, found, (true, false), text);
     }
 }
 

@@ -74,6 +74,7 @@ fn check_read(rt: &impl Abort, alloc: Global, rows: &[Row]) {
 
 const EACH_KIND: &[Row] = &[
     (b"**kern", Kind::Interpretation, &[b"**kern"]),
+    (b"4B-", Kind::Values, &[b"4B-"]),
     (b"4c\t2e", Kind::Values, &[b"4c", b"2e"]),
     (b".\t4B-\t.", Kind::Values, &[b".", b"4B-", b"."]),
     (b"!a\t!", Kind::Local, &[b"!a", b"!"]),

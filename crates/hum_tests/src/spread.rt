@@ -4,17 +4,23 @@ ghost use Rattle.hum_columns.specs.Writing.{Fit};
 use crate::compared::{holds, same, same_bytes};
 use hum_columns::{Piece, write_pieces};
 use hum_record::Record;
-use hum_stage::Rule;
+use hum_stage::{Refusal, Rule};
 use std::alloc::Global;
 use std::collections::VecDeque;
 use std::process::Abort;
 
 // What is answered where there is room for so many records, and the records, with LF behind each.
-fn check(rt: &impl Abort, alloc: Global, pieces: &[Piece], room: u64, want: (Option<Rule>, &[u8]))
+fn check(
+    rt: &impl Abort,
+    alloc: Global,
+    pieces: &[Piece],
+    room: u64,
+    want: (Result<(), Refusal>, &[u8]),
+)
     requires { Fit pieces.now }
 {
     let mut out: VecDeque<Record> = VecDeque::new(alloc);
-    let answer = write_pieces(alloc, pieces, room, &mut out).expect(rt, "memory");
+    let answer = write_pieces(alloc, pieces, room, &mut out);
     let mut texts = Vec::new(alloc);
     for record in &out {
         texts.extend_from_slice(record.text()).expect(rt, "memory");
@@ -34,7 +40,7 @@ fn writes_neighbouring_joins_one_after_another(rt: HostRuntime) {
         Piece::new(true, b"*v"),
         Piece::new(false, b"*v"),
     ];
-    check(&rt, alloc, &apart, 1, (None, b"*v\t*v\t*\t*v\t*v\n"));
+    check(&rt, alloc, &apart, 1, (Ok(()), b"*v\t*v\t*\t*v\t*v\n"));
     let beside = [
         Piece::new(true, b"*v"),
         Piece::new(false, b"*v"),
@@ -43,10 +49,10 @@ fn writes_neighbouring_joins_one_after_another(rt: HostRuntime) {
         Piece::new(false, b"*^"),
     ];
     let texts = b"*v\t*v\t*\t*\t*\n*\t*v\t*v\t*^\n";
-    check(&rt, alloc, &beside, 2, (None, texts));
+    check(&rt, alloc, &beside, 2, (Ok(()), texts));
     // no room, and no tokens
-    check(&rt, alloc, &beside, 1, (Some(Rule::L2), b""));
-    check(&rt, alloc, &[], 0, (None, b""));
+    check(&rt, alloc, &beside, 1, (Err(Refusal::Rule(Rule::L2)), b""));
+    check(&rt, alloc, &[], 0, (Ok(()), b""));
 }
 
 #[test]

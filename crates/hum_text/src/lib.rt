@@ -7,22 +7,30 @@ mod near;
 pub mod reader;
 mod rules;
 
+use thiserror::Error;
+
 /// Why a text is refused, or not read to its end.
 ///
 /// S1 to S7 are rules of Humdrum text: each stands at the first byte that breaks it.
-#[derive(Debug, Clone, Copy, PartialEq, Eq)]
+#[derive(Debug, Clone, Copy, PartialEq, Eq, Error)]
 pub enum TextFault {
     /// An empty line.
+    #[error("S1: an empty line")]
     S1,
     /// A line of more bytes than `Limits::line`; the CR that is dropped from its end isn't counted.
+    #[error("S2: a line of more bytes than a line may have")]
     S2,
     /// More lines than `Limits::records`.
+    #[error("S3: more lines than a text may have")]
     S3,
     /// More bytes than `Limits::bytes`.
+    #[error("S7: more bytes than a text may have")]
     S7,
     /// The source failed, even if it was only interrupted.
+    #[error("read failed")]
     Read,
     /// There was no memory for what is read.
+    #[error("out of memory")]
     Memory,
 }
 

@@ -4,8 +4,8 @@ use Rattle.std.specs.Prelude.{Result}
 use lib.Chars.{codes}
 use Rattle.hum_record.specs.declared.SpinedKind.TheVariants.{Interpretation, Values}
 use Rattle.hum_record.specs.Row.{Row, Spined}
-use Rattle.hum_kern.specs.Gcd.{gcd, gcd_in}
-use Rattle.hum_kern.specs.Ratio.{Ratio}
+use Rattle.hum_frac.specs.Gcd.{gcd, gcd_in}
+use Rattle.hum_frac.specs.Ratio.{Ratio}
 use Rattle.hum_kern.specs.declared.KernFault.{KernFault}
 use Rattle.hum_kern.specs.Duration.{recip}
 use Rattle.hum_stage.specs.declared.faults.Rule.TheVariants.{B1, B2, F1}

@@ -3,7 +3,7 @@ use Rattle.std.proofs.Common.{◌≡◌, ◌∙◌, ◌<◌, ◌≤◌, Bool, tr
 use Rattle.std.proofs.Math.Seq.{take-length}
 use Rattle.std.specs.Prelude.{is_some}
 use Rattle.std.specs.List.{list_any}
-use Rattle.hum_kern.specs.Ratio.{Ratio}
+use Rattle.hum_frac.specs.Ratio.{Ratio}
 use Rattle.hum_kern.specs.Duration.{duration, value_in, is_refused}
 use Rattle.hum_timebase.specs.Notes.{subtokens, first_duration, or_else}
 use Rattle.hum_timebase.specs.Reading.{rest_parts}

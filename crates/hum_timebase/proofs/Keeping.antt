@@ -20,7 +20,7 @@ use Rattle.hum_path.proofs.Obeyed.{opens, obeys, narrow}
 use Rattle.hum_path.proofs.Onwards.{names_onward, swapped_none, each_length}
 use Rattle.hum_path.proofs.Plain.{plain_stays}
 use Rattle.hum_path.proofs.Staying.{plain_breaks}
-use Rattle.hum_kern.specs.Ratio.{Ratio}
+use Rattle.hum_frac.specs.Ratio.{Ratio}
 use Rattle.hum_stage.specs.declared.faults.Rule.{Rule}
 use Rattle.hum_stage.specs.declared.faults.Rule.TheVariants.{K3, B1, B2, F1}
 use Rattle.hum_stage.specs.Score.{through, Follow}

@@ -6,9 +6,9 @@ use Rattle.std.specs.List.{list_any, list_all}
 use mathlib.Core.Logic.{◌⊎◌, inl, inr}
 use Rattle.std.proofs.lemmas.Bool.Decides.{leb_tells}
 use native.Mathlib.Nat.{mul-pos}
-use Rattle.hum_kern.specs.Ratio.{Ratio, plus, is_before, IsBefore}
-use Rattle.hum_kern.proofs.Ratios.{reduced_positive}
-use Rattle.hum_kern.proofs.Order.{before_trans, not_before_trans, NotBefore}
+use Rattle.hum_frac.specs.Ratio.{Ratio, plus, is_before, IsBefore}
+use Rattle.hum_frac.proofs.Ratios.{reduced_positive}
+use Rattle.hum_frac.proofs.Order.{before_trans, not_before_trans, NotBefore}
 use Rattle.hum_record.specs.declared.SpinedKind.TheVariants.{Local, Interpretation, Values}
 use Rattle.hum_record.specs.Row.{Row, Comment, Spined}
 use Rattle.hum_path.specs.declared.moved.Move.{Move}

@@ -3,7 +3,7 @@ use Rattle.std.proofs.Common.{◌≡◌, ◌≢◌, ◌∙◌, ℕ, zero, suc, �
 use Rattle.std.proofs.Common.{refl, sym, ap, arith, append_assoc, append-nil, drop-cons, add-one, Option, None, Some}
 use Rattle.std.proofs.lemmas.Bool.{eq-eqb, ne_eqb}
 use Rattle.std.proofs.lemmas.List.{drop_all}
-use Rattle.hum_kern.specs.Ratio.{Ratio}
+use Rattle.hum_frac.specs.Ratio.{Ratio}
 use Rattle.hum_kern.specs.Runs.{run}
 use Rattle.hum_timebase.specs.Ends.{beyond, sooner, next_end}
 use Rattle.hum_timebase.specs.Reading.{is_part}

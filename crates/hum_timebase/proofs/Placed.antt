@@ -5,7 +5,7 @@ use Rattle.std.specs.Prelude.{◌||◌, ◌==◌, ◌<◌, ◌≤◌, not, is_so
 use Rattle.std.proofs.lemmas.Bool.Decides.{nat_tests}
 use Rattle.std.proofs.lemmas.List.{drop_all}
 use Rattle.std.specs.List.{list_any}
-use Rattle.hum_kern.specs.Ratio.{Ratio, plus}
+use Rattle.hum_frac.specs.Ratio.{Ratio, plus}
 use Rattle.hum_timebase.specs.declared.notes.NoteAt.{NoteAt}
 use Rattle.hum_timebase.specs.Placed.{placed}
 use Rattle.hum_timebase.specs.Kept.{own_end, ends_after}

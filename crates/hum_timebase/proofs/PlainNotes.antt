@@ -4,7 +4,7 @@ use Rattle.std.specs.Prelude.{not, IfSome}
 use Rattle.std.specs.List.{list_any}
 use Rattle.std.proofs.lemmas.Bool.{and_parts, false≢true}
 use Rattle.std.proofs.lemmas.Bool.Decides.{nat_tests}
-use Rattle.hum_kern.specs.Ratio.{Ratio}
+use Rattle.hum_frac.specs.Ratio.{Ratio}
 use Rattle.hum_kern.specs.Classes.{is_digit, is_divider}
 use Rattle.hum_kern.specs.Duration.{duration, is_refused}
 use Rattle.hum_kern.specs.Subtokens.{leads, IsLed}

@@ -2,7 +2,7 @@
 use Rattle.std.proofs.Common.{◌≡◌, ◌∙◌, refl, sym, ap, arith, ℕ, ◌+◌, ◌-◌, ◌≤◌, Bool, true, false, ◌||◌, Option, None, Some}
 use Rattle.std.proofs.Common.{List, [], ◌∷◌, ◌++◌, length, take, drop, get_or, take_all, append_assoc}
 use Rattle.hum_record.specs.Contents.{is_null}
-use Rattle.hum_kern.specs.Ratio.{Ratio}
+use Rattle.hum_frac.specs.Ratio.{Ratio}
 use Rattle.hum_timebase.specs.Notes.{note_of, notes_of, is_misread, has_misread}
 use Rattle.hum_timebase.specs.Placed.{placed}
 use Rattle.hum_timebase.specs.declared.notes.NoteAt.{NoteAt}

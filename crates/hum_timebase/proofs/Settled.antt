@@ -3,8 +3,8 @@ use Rattle.std.proofs.Common.{◌≡◌, ◌∙◌, ℕ, zero, suc, ◌+◌, ◌
 use Rattle.std.specs.Prelude.{Option, Some}
 use Rattle.std.proofs.lemmas.Bool.Decides.{nat_tests}
 use native.Mathlib.Nat.{div-lt_iff_lt-mul, add-mul, one-mul, div-zero}
-use Rattle.hum_kern.specs.Ratio.{Ratio, is_before}
-use Rattle.hum_kern.specs.Multiples.{multiples_between}
+use Rattle.hum_frac.specs.Ratio.{Ratio, is_before}
+use Rattle.hum_frac.specs.Multiples.{multiples_between}
 use Rattle.hum_timebase.specs.Timebase.{multiples_from, count_before}
 
 -- what is rounded up is at most one more than what is rounded down

@@ -11,8 +11,8 @@ use Rattle.hum_record.specs.Row.{Row, Comment, Spined, kind_of, tokens_of}
 use Rattle.hum_path.specs.declared.moved.Move.{Move}
 use Rattle.hum_path.specs.Spines.{Path, after, moves}
 use Rattle.hum_path.specs.Score.{path_after}
-use Rattle.hum_kern.specs.Ratio.{Ratio}
-use Rattle.hum_kern.specs.Multiples.{is_multiple}
+use Rattle.hum_frac.specs.Ratio.{Ratio}
+use Rattle.hum_frac.specs.Multiples.{is_multiple}
 use Rattle.hum_stage.specs.declared.faults.Rule.{Rule}
 use Rattle.hum_stage.specs.declared.faults.Rule.TheVariants.{K3, B1, B2, F1}
 use Rattle.hum_stage.specs.Decided.{Decision, in_room, Steps}

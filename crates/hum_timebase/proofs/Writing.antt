@@ -16,7 +16,7 @@ use Rattle.hum_record.specs.Row.{Row, Comment, Spined, kind_of, tokens_of, text_
 use Rattle.hum_record.specs.Spelling.{IsToken, IsTextOf, has_byte}
 use Rattle.hum_record.specs.Building.{spelled}
 use Rattle.hum_record.proofs.Drafts.{spelled_front}
-use Rattle.hum_kern.specs.Ratio.{Ratio, reduced}
+use Rattle.hum_frac.specs.Ratio.{Ratio, reduced}
 use Rattle.hum_kern.specs.declared.Length.{Length}
 use Rattle.hum_kern.specs.Classes.{is_digit, is_dot, is_grace_sign}
 use Rattle.hum_kern.specs.Value.{value_of, dotted}

@@ -7,7 +7,7 @@ use Rattle.hum_record.specs.Row.{Row, Comment, Spined}
 use Rattle.hum_path.specs.declared.moved.Move.{Move}
 use Rattle.hum_path.specs.Spines.{moves_at}
 use Rattle.hum_path.specs.Score.{path_after}
-use Rattle.hum_kern.specs.Ratio.{Ratio, whole}
+use Rattle.hum_frac.specs.Ratio.{Ratio, whole}
 use Rattle.hum_timebase.specs.Notes.{timed_in, timed_at, notes_of}
 use Rattle.hum_timebase.specs.Ends.{Note, latest, next_end, living_before, living_after, led_by}
 

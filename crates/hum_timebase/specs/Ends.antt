@@ -1,7 +1,7 @@
 -- Notes, where they end, and which of them live at a cell.
 use Rattle.std.specs.Prelude.{ℕ, ◌+◌, Bool, List, [], ◌∷◌, ◌++◌, Option, None, Some}
 use Rattle.std.specs.Prelude.{if◌then◌else◌}
-use Rattle.hum_kern.specs.Ratio.{Ratio, plus, is_before}
+use Rattle.hum_frac.specs.Ratio.{Ratio, plus, is_before}
 use Rattle.hum_path.specs.declared.moved.Move.{Move}
 use Rattle.hum_path.specs.Chains.{goes_on}
 use Rattle.hum_timebase.specs.Pairs.{over}

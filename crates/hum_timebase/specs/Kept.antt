@@ -6,8 +6,8 @@ use Rattle.std.specs.List.{list_any}
 use Rattle.hum_record.specs.Row.{Row}
 use Rattle.hum_path.specs.declared.moved.Move.{Move}
 use Rattle.hum_path.specs.Chains.{goes_on}
-use Rattle.hum_kern.specs.Ratio.{Ratio, plus}
-use Rattle.hum_kern.specs.Multiples.{is_multiple}
+use Rattle.hum_frac.specs.Ratio.{Ratio, plus}
+use Rattle.hum_frac.specs.Multiples.{is_multiple}
 use Rattle.hum_stage.specs.declared.faults.Rule.{Rule}
 use Rattle.hum_stage.specs.declared.faults.Rule.TheVariants.{K3, B1, B2, F1}
 use Rattle.hum_timebase.specs.declared.clock.Strike.{Strike}

@@ -7,7 +7,7 @@ use lib.Chars.{codes}
 use Rattle.hum_record.specs.Contents.{is_null, is_barline}
 use Rattle.hum_path.specs.Sign.{sign_of, is_exclusive}
 use Rattle.hum_path.specs.Spines.{Path, exclusives}
-use Rattle.hum_kern.specs.Ratio.{Ratio}
+use Rattle.hum_frac.specs.Ratio.{Ratio}
 pub use Rattle.hum_kern.specs.Subtokens.{subtokens}
 use Rattle.hum_kern.specs.Duration.{duration, value_in, is_refused}
 use Rattle.hum_timebase.specs.Pairs.{paired}

@@ -1,6 +1,6 @@
 -- The notes of a record alone, each with its column.
 use Rattle.std.specs.Prelude.{◌≡◌, ℕ, ◌+◌, List, [], ◌∷◌, Option, None, Some}
-use Rattle.hum_kern.specs.Ratio.{Ratio}
+use Rattle.hum_frac.specs.Ratio.{Ratio}
 use Rattle.hum_timebase.specs.declared.notes.NoteAt.{NoteAt}
 
 -- those of some columns, from one on

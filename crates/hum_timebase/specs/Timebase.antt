@@ -8,8 +8,8 @@ use Rattle.hum_record.specs.declared.SpinedKind.TheVariants.{Interpretation, Val
 use Rattle.hum_record.specs.Row.{Row, Comment, Spined}
 use Rattle.hum_path.specs.Sign.{sign_of, is_exclusive}
 use Rattle.hum_path.specs.Score.{path_after}
-use Rattle.hum_kern.specs.Ratio.{Ratio, plus, fits, is_before}
-use Rattle.hum_kern.specs.Multiples.{is_multiple, multiples_between}
+use Rattle.hum_frac.specs.Ratio.{Ratio, plus, fits, is_before}
+use Rattle.hum_frac.specs.Multiples.{is_multiple, multiples_between}
 use Rattle.hum_stage.specs.declared.faults.Rule.{Rule}
 use Rattle.hum_stage.specs.declared.faults.Rule.TheVariants.{K3, B1, B2, F1}
 use Rattle.hum_stage.specs.declared.faults.Command.TheVariants.{Timebase}

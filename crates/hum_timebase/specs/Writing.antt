@@ -3,7 +3,7 @@ use Rattle.std.specs.Prelude.{ℕ, ◌<◌, ◌≤◌, List, ◌++◌, length}
 use lib.Chars.{codes}
 use Rattle.hum_record.specs.declared.SpinedKind.TheVariants.{Interpretation}
 use Rattle.hum_record.specs.Spelling.{IsToken}
-use Rattle.hum_kern.specs.Ratio.{Ratio}
+use Rattle.hum_frac.specs.Ratio.{Ratio}
 
 pub record IsPace (step : Ratio) (text : List ℕ) : Type 0 where
   pub positive : 0 < step.top

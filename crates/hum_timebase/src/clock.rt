@@ -1,25 +1,26 @@
 //! The time of each record.
 ghost use Rattle.std.specs.Prelude.{◌≡◌, ◌+◌, ◌<◌, ◌^◌, IfOk, OnOk, IfErr, Ok, Err, None, Some, []};
-ghost use Rattle.hum_kern.specs.Multiples.{is_multiple};
+ghost use Rattle.hum_frac.specs.Multiples.{is_multiple};
 ghost use Rattle.hum_timebase.specs.Clock.{time_after};
 ghost use Rattle.hum_timebase.specs.Placed.{OfColumns};
 ghost use Rattle.hum_timebase.specs.Timebase.{multiples_from, count_before, count_after};
 
 use crate::ends::{drop_untimed, ends_by, has_clash, next_end, sound};
 use crate::notes::NoteAt;
-use hum_kern::Frac;
+use hum_frac::Frac;
 use hum_path::{Marks, Moves};
 use hum_stage::Rule;
 use std::alloc::{AllocError, Global};
 use std::marker::Model;
 
 /// How many multiples of the step there are from `a`, it included, to `b`, that not included.
+#[tactic(auto, using(crate::proofs::Late::none_from))]
 fn multiples_from(a: Frac, b: Frac, step: Frac) -> u128
     requires { 0 < step.top }
     ensures count { result ≡ multiples_from a b step }
     ensures below { result < 2 ^ 127 + 1 }
 {
-    if !a.is_before(b) {
+    if a >= b {
         return 0;
     }
     let (on_grid, count) = a.multiples_to(b, step);

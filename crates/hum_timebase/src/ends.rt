@@ -2,7 +2,7 @@
 ghost use Rattle.std.specs.Prelude.{◌≡◌, ◌++◌, true, false, map, None, Some};
 ghost use Rattle.std.specs.Prelude.{List, Option, IfOk, OnErr, OnOk, slice_index_or, slice_set};
 ghost use Rattle.std.specs.List.{list_any};
-ghost use Rattle.hum_kern.specs.Ratio.{Ratio, plus};
+ghost use Rattle.hum_frac.specs.Ratio.{Ratio, plus};
 ghost use Rattle.hum_timebase.specs.Ends.{later, sooner, beyond, next_end};
 ghost use Rattle.hum_timebase.specs.Kept.{end_if_timed, ends_before, ends_after, end_by};
 ghost use Rattle.hum_timebase.specs.Placed.{OfColumns};
@@ -10,7 +10,7 @@ ghost use Rattle.hum_timebase.specs.Spans.{low_of, high_of};
 ghost use Rattle.hum_timebase.specs.Timebase.{clash, clashes, is_too_long};
 
 use crate::notes::NoteAt;
-use hum_kern::{Frac, FracFault};
+use hum_frac::{Frac, FracFault};
 use hum_path::{Move, Moves};
 use std::alloc::{AllocError, Global};
 
@@ -19,7 +19,7 @@ fn later(a: Option<Frac>, b: Option<Frac>) -> Option<Frac>
     ensures { result ≡ later a b }
 {
     match (a, b) {
-        (Some(x), Some(y)) => { if x.is_before(y) { Some(y) } else { Some(x) } }
+        (Some(x), Some(y)) => { if x < y { Some(y) } else { Some(x) } }
         (Some(x), None) => Some(x),
         (None, other) => other,
     }
@@ -30,7 +30,7 @@ fn beyond(time: Frac, end: Option<Frac>) -> Option<Frac>
     ensures { result ≡ beyond time end }
 {
     match end {
-        Some(end) if time.is_before(end) => Some(end),
+        Some(end) if time < end => Some(end),
         _ => None,
     }
 }
@@ -40,7 +40,7 @@ fn sooner_beyond(time: Frac, end: Option<Frac>, least: Frac) -> Frac
     ensures { Some result ≡ sooner (beyond time end) (Some least) }
 {
     match end {
-        Some(end) if !least.is_before(end) && time.is_before(end) => end,
+        Some(end) if end <= least && time < end => end,
         _ => least,
     }
 }
@@ -171,7 +171,7 @@ fn is_clash(time: Frac, note: NoteAt, ends: &[Option<Frac>]) -> bool
         ≡ clash time (Some note.lasting) (slice_index_or ends.now note.column None) }
 {
     match end_at(ends, note.column) {
-        Some(end) => end != time && time.is_before(end),
+        Some(end) => end != time && time < end,
         None => false,
     }
 }

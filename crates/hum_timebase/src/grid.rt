@@ -1,6 +1,6 @@
 //! What each record becomes.
 ghost use Rattle.std.specs.Prelude.{◌≡◌, [], ◌∷◌, Ok, Err, Some, None, ℕ};
-ghost use Rattle.std.specs.Prelude.{IfOk, OnOk, is_some, if◌then◌else◌, List, Bool};
+ghost use Rattle.std.specs.Prelude.{OnOk, is_some, if◌then◌else◌, List, Bool};
 ghost use Rattle.std.specs.List.{list_any};
 ghost use Rattle.hum_record.specs.Row.{Row, kind_of, tokens_of, text_of};
 ghost use Rattle.hum_record.specs.Spelling.{IsTextOf};
@@ -8,6 +8,7 @@ ghost use Rattle.hum_record.specs.declared.Kind.TheVariants.{Interpretation as A
 ghost use Rattle.hum_record.specs.declared.Kind.TheVariants.{Values as AnyValues};
 ghost use Rattle.hum_path.specs.Spines.{after};
 ghost use Rattle.hum_stage.specs.Decided.{Decision, MayStep, HasStepped};
+ghost use Rattle.hum_stage.specs.Refusals.{IfTold};
 ghost use Rattle.hum_timebase.specs.Timebase.{timebase, around};
 ghost use Rattle.hum_timebase.specs.Following.{Follows, Answers, pace_of};
 ghost use Rattle.hum_timebase.specs.Notes.{notes_of};
@@ -24,7 +25,7 @@ use crate::records::{names_some, tb_record};
 use hum_kern::KernFault;
 use hum_path::{Marks, Paths};
 use hum_record::{Kind, Record};
-use hum_stage::{Command, Decides, Rule};
+use hum_stage::{Command, Decides, Refusal, Rule};
 use std::alloc::{AllocError, Global};
 
 fn has_note(notes: &[NoteAt]) -> bool
@@ -53,13 +54,16 @@ fn content_by(misread: Option<KernFault>, notes: &[NoteAt], row: &Record) -> Con
     content_of(row)
 }
 
-/// Puts what a timed record becomes where it is due, if there is room for it.
+/// Puts what a timed record becomes where it is due.
+///
+/// # Errors
+/// L2 where there is no room for it; or out of memory.
 #[inline(always)]
-fn place(made: Strike, row: Record, room: u64, out: &mut Around) -> Result<Option<Rule>, AllocError>
+fn place(made: Strike, row: Record, room: u64, out: &mut Around) -> Result<(), Refusal>
     requires lawful { IsTextOf row (text_of row) }
     requires kind { kind_of row ≡ AnyValues }
     requires empty { out.old ≡ [] }
-    ensures { IfOk result (Answers
+    ensures { IfTold result (Answers
         (Ok (around made.before made.stays made.after (tokens_of row))) room out.new) }
 {
     let count = made
@@ -67,12 +71,12 @@ fn place(made: Strike, row: Record, room: u64, out: &mut Around) -> Result<Optio
         .saturating_add(made.after)
         .saturating_add(single(made.stays));
     if count > room as u128 {
-        return Ok(Some(Rule::L2));
+        return Err(Refusal::Rule(Rule::L2));
     }
     let before = made.before as u64;
     let after = made.after as u64;
     out.put_among(before, row, made.stays, after)?;
-    Ok(None)
+    Ok(())
 }
 
 /// The spines, which of them are timed, and where the notes end.
@@ -110,76 +114,76 @@ impl Grid {
         Ok(())
     }
 
-    /// Takes an interpretation.
-    fn interpret(&mut self, row: Record, out: &mut Around) -> Result<Option<Rule>, AllocError>
+    /// Takes an interpretation, which is never refused.
+    fn interpret(&mut self, row: Record, out: &mut Around) -> Result<(), AllocError>
         requires kind { kind_of row ≡ AnyInterpretation }
         requires score { MayStep
             (Follows self.old.pace self.old.paths.path self.old.timed self.old.clock) row }
         requires empty { out.old ≡ [] }
-        ensures { IfOk result (λ refused. (room : ℕ) → HasStepped
+        ensures { OnOk result ((room : ℕ) → HasStepped
             (Follows self.old.pace self.old.paths.path self.old.timed self.old.clock)
             (Follows self.new.pace self.new.paths.path self.new.timed self.new.clock)
-            row room out.new refused) }
+            row room out.new None) }
     {
         self.follow(&row)?;
         if !names_some(&row) {
             out.put(row);
-            return Ok(None);
+            return Ok(());
         }
         let other = tb_record(self.alloc, &self.pace, &row)?;
         out.put_both(row, other);
-        Ok(None)
+        Ok(())
     }
 
     /// Takes a data record with a token that is neither null nor a barline, whose columns that
     /// aren't timed have no end any more, and what was read of it.
+    ///
+    /// # Errors
+    /// K3, B1, B2, F1 or L2; or out of memory.
     fn sound(
         &mut self,
         misread: Option<KernFault>,
         row: Record,
         room: u64,
         out: &mut Around,
-    ) -> Result<Option<Rule>, AllocError>
+    ) -> Result<(), Refusal>
         requires lawful { IsTextOf row (text_of row) }
         requires kind { kind_of row ≡ AnyValues }
         requires empty { out.old ≡ [] }
         requires read { Read self.old.timed (tokens_of row) self.old.notes.items misread }
-        ensures decided { IfOk result (Answers (sounding_rows self.old.pace.step self.old.clock
+        ensures decided { IfTold result (Answers (sounding_rows self.old.pace.step self.old.clock
             self.old.timed (tokens_of row)) room out.new) }
-        ensures clock { IfOk result (λ refused. refused ≡ None →
-            self.new.clock
-            ≡ struck (notes_of self.old.timed (tokens_of row)) self.old.clock) }
+        ensures clock { OnOk result
+            (self.new.clock ≡ struck (notes_of self.old.timed (tokens_of row)) self.old.clock) }
         ensures rest { OnOk result (self.new
             ≡ record self.old {
               clock = self.new.clock;
             }) }
     {
         if misread.is_some() {
-            return Ok(Some(Rule::K3));
+            return Err(Refusal::Rule(Rule::K3));
         }
         if !self.timed.some() {
-            return Ok(Some(Rule::B1));
+            return Err(Refusal::Rule(Rule::B1));
         }
         if !has_note(&self.notes) {
-            return Ok(None);
+            return Ok(());
         }
         match self.clock.strike(self.pace.step(), &self.notes) {
             Ok(made) => place(made, row, room, out),
-            Err(rule) => Ok(Some(rule)),
+            Err(rule) => Err(Refusal::Rule(rule)),
         }
     }
 
     /// Takes a data record.
-    fn value(
-        &mut self,
-        row: Record,
-        room: u64,
-        out: &mut Around,
-    ) -> Result<Option<Rule>, AllocError>
+    ///
+    /// # Errors
+    /// The rule by which it is refused; or out of memory.
+    fn value(&mut self, row: Record, room: u64, out: &mut Around) -> Result<(), Refusal>
         requires lawful { IsTextOf row (text_of row) }
         requires kind { kind_of row ≡ AnyValues }
         requires empty { out.old ≡ [] }
-        ensures { IfOk result (HasStepped
+        ensures { IfTold result (HasStepped
             (Follows self.old.pace self.old.paths.path self.old.timed self.old.clock)
             (Follows self.new.pace self.new.paths.path self.new.timed self.new.clock)
             row room out.new) }
@@ -187,14 +191,14 @@ impl Grid {
         self.clock.rest(&self.timed);
         let misread = read_notes(self.timed.each(), &row, &mut self.notes)?;
         match content_by(misread, &self.notes, &row) {
-            Content::Nulls => Ok(None),
+            Content::Nulls => Ok(()),
             Content::Barlines => {
                 out.put(row);
-                Ok(None)
+                Ok(())
             }
             Content::Sounds => {
-                let refused = self.sound(misread, row, room, out)?;
-                Ok(refused)
+                self.sound(misread, row, room, out)?;
+                Ok(())
             }
         }
     }
@@ -228,23 +232,21 @@ impl Decides for Grid {
         }
     }
 
-    fn step(
-        &mut self,
-        next: Record,
-        room: u64,
-        out: &mut Around,
-    ) -> Result<Option<Rule>, AllocError> {
+    fn step(&mut self, next: Record, room: u64, out: &mut Around) -> Result<(), Refusal> {
         match next.kind() {
             Kind::Global => {
                 out.put(next);
-                Ok(None)
+                Ok(())
             }
             Kind::Local => {
                 self.clock.rest(&self.timed);
                 out.put(next);
-                Ok(None)
+                Ok(())
             }
-            Kind::Interpretation => self.interpret(next, out),
+            Kind::Interpretation => {
+                self.interpret(next, out)?;
+                Ok(())
+            }
             Kind::Values => self.value(next, room, out),
         }
     }

@@ -15,7 +15,8 @@ ghost use Rattle.hum_timebase.specs.Notes.{is_misread};
 ghost use Rattle.hum_timebase.specs.Reading.{content_of, rest_parts, is_part, Read};
 ghost use Rattle.hum_timebase.specs.Reading.{IsNote};
 
-use hum_kern::{Frac, KernFault, Length, leading_part, read_duration, read_leading};
+use hum_frac::Frac;
+use hum_kern::{KernFault, Length, leading_part, read_duration, read_leading};
 use hum_path::{Marks, Paths, token_sign};
 use hum_record::{Record, is_barline, is_null};
 use std::alloc::{AllocError, Global};

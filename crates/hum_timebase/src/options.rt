@@ -2,7 +2,7 @@
 ghost use Rattle.std.specs.Prelude.{◌≡◌, Ok};
 ghost use Rattle.hum_kern.specs.Duration.{recip};
 
-use hum_kern::Frac;
+use hum_frac::Frac;
 
 /// How far apart the records stand.
 #[derive(Drop)]

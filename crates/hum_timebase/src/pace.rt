@@ -5,7 +5,7 @@ ghost use Rattle.hum_record.specs.declared.SpinedKind.TheVariants.{Interpretatio
 ghost use Rattle.hum_record.specs.Spelling.{IsToken};
 
 use crate::TimebaseOptions;
-use hum_kern::Frac;
+use hum_frac::Frac;
 use std::alloc::{AllocError, Global};
 use std::marker::Model;
 

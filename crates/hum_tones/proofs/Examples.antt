@@ -3,7 +3,7 @@ use Rattle.std.proofs.Common.{◌≡◌, refl, true, false, ℕ, List}
 use Rattle.std.specs.Prelude.{Result, Ok, Err}
 use Rattle.std.specs.Fmt.{digits}
 use lib.Chars.{codes}
-use Rattle.hum_kern.specs.Pitch.{natural}
+use Rattle.hum_pitch.specs.Pitch.{natural}
 use Rattle.hum_stage.specs.declared.faults.Rule.{Rule}
 use Rattle.hum_stage.specs.declared.faults.Rule.TheVariants.{K1, K2, K3}
 use Rattle.hum_tones.specs.declared.giving.Giving.TheVariants.{Semitones, Durations}

@@ -11,10 +11,10 @@ use Rattle.std.proofs.lemmas.Bool.Decides.{nat_tests}
 use lib.Chars.{codes}
 use Rattle.hum_record.specs.declared.SpinedKind.TheVariants.{Values}
 use Rattle.hum_record.specs.Spelling.{IsToken}
-use Rattle.hum_kern.specs.Ratio.{Ratio}
-use Rattle.hum_kern.specs.Pitch.{Spelled, semitones, natural, IsWithin, IsOctave, IsAlteration}
-use Rattle.hum_kern.specs.Spelling.{small_letters, capitals, read_small, read_capitals, altered_by}
-use Rattle.hum_kern.proofs.Steps.{natural_le}
+use Rattle.hum_frac.specs.Ratio.{Ratio}
+use Rattle.hum_pitch.specs.Pitch.{Spelled, semitones, natural, IsWithin, IsOctave, IsAlteration}
+use Rattle.hum_pitch.specs.Spelling.{small_letters, capitals, read_small, read_capitals, altered_by}
+use Rattle.hum_pitch.proofs.Steps.{natural_le}
 use Rattle.hum_kern.specs.declared.KernFault.{KernFault}
 use Rattle.hum_kern.specs.declared.Length.{Length}
 use Rattle.hum_kern.specs.Duration.{duration}

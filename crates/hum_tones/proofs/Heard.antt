@@ -17,8 +17,8 @@ use Rattle.hum_record.specs.Spelling.{IsToken}
 use Rattle.hum_cells.specs.Retelling.{is_told}
 use Rattle.std.specs.Prelude.{not, ◌&&◌, if◌then◌else◌}
 use Rattle.std.proofs.lemmas.Bool.{and_parts}
-use Rattle.hum_kern.specs.Pitch.{Spelled}
-use Rattle.hum_kern.specs.Given.{spelled}
+use Rattle.hum_pitch.specs.Pitch.{Spelled}
+use Rattle.hum_pitch.specs.Given.{spelled}
 use Rattle.hum_tones.specs.declared.hearing.Tone.{Tone as KeptTone}
 use Rattle.hum_tones.specs.Hearing.{tone_of, hearing, heard_with, heard_in, first_of}
 use Rattle.hum_tones.specs.declared.hearing.Heard.{Heard as Kept}

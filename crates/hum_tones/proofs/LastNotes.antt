@@ -12,7 +12,7 @@ use Rattle.hum_path.specs.Sign.{sign_of, is_exclusive}
 use Rattle.hum_path.specs.Chains.{reach}
 use Rattle.hum_path.specs.Memories.{remembered}
 use Rattle.hum_path.specs.declared.signs.Sign.TheVariants.{Split, Join, Exchange, Add, End, Plain}
-use Rattle.hum_kern.specs.Pitch.{Spelled}
+use Rattle.hum_pitch.specs.Pitch.{Spelled}
 use Rattle.hum_record.specs.Contents.{is_filled}
 use Rattle.hum_tones.specs.Mint.{is_break, is_some, settles, settled, note_before, remembered_of}
 use Rattle.hum_tones.specs.Memory.{note_after, or_before, unheard, heard_after}

@@ -1,22 +1,25 @@
 -- What mint makes of a token, by what it heard.
 use Rattle.std.proofs.Common.{◌≡◌, ◌∙◌, refl, sym, ap, subst, ℕ, zero, suc, ◌<◌, true, List, [], ◌∷◌, length, Option, None, Some, arith}
-use Rattle.std.specs.Prelude.{slice_index_or, map, Result, Ok, Err, IfOk}
-use Rattle.std.specs.declared.alloc.AllocError.{AllocError}
+use Rattle.std.specs.Prelude.{slice_index_or, map, Result, Ok, Err}
 use Rattle.std.proofs.lemmas.List.{length-map}
 use Rattle.hum_record.specs.declared.SpinedKind.TheVariants.{Values}
 use Rattle.hum_record.specs.Row.{Row}
 use Rattle.hum_record.specs.Spelling.{IsToken}
 use Rattle.hum_path.specs.Chains.{columns, history}
 use Rattle.hum_path.specs.Memories.{remembered}
-use Rattle.hum_kern.specs.Pitch.{Spelled}
+use Rattle.hum_pitch.specs.Pitch.{Spelled}
 use Rattle.hum_cells.specs.Retelling.{Retelling, is_told}
 use Rattle.hum_cells.specs.Telling.{MayRetell, HasRetold, Tells}
 use Rattle.hum_stage.specs.declared.faults.Rule.{Rule}
+use Rattle.hum_stage.specs.declared.faults.Refusal.{Refusal}
+use Rattle.hum_stage.specs.Refusals.{IfTold}
+use Rattle.hum_stage.proofs.Telling.{told_to}
 use Rattle.hum_tones.specs.Subtokens.{IsRetold}
 use Rattle.hum_tones.specs.declared.minting.MintOptions.{MintOptions}
 use Rattle.hum_tones.specs.Mint.{note_before}
 use Rattle.hum_tones.specs.Memory.{HeardColumn, unheard, heard_after, heard_of, told_as}
 use Rattle.hum_tones.specs.Commands.{Mints}
+use Rattle.hum_tones.proofs.Recalled.{told_so}
 use Rattle.hum_tones.proofs.Heard.{told_is}
 use Rattle.hum_tones.proofs.LastNotes.{note_kept}
 
@@ -44,25 +47,19 @@ heard_is options memories j token column may is retelling past above h cell =
     ∙ at_map (remembered (heard_after options.breaks) unheard) (columns past) j column below
     ∙ ap (remembered (heard_after options.breaks) unheard) cell
 
--- the token that was told is what the command makes of it
-told_by : (made : Result (List ℕ) Rule) (text : List ℕ) (refused : Option Rule) → IsRetold made text refused → Tells made text refused
-told_by (Ok made) text None h = (ap (λ (t : List ℕ). Ok t) (sym h.0), h.1)
-told_by (Ok made) text (Some rule) h = absurd h
-told_by (Err rule) text None h = absurd h
-told_by (Err rule) text (Some other) h = ap (λ (x : Rule). Err x) (sym h)
-
-pub has_retold : (options : MintOptions) (memories : List HeardColumn) (j : ℕ) (token text : List ℕ) (column : HeardColumn)
+pub has_retold : {A : Type 0} (options : MintOptions) (memories : List HeardColumn) (j : ℕ) (token text : List ℕ) (column : HeardColumn)
     → MayRetell (Mints options memories) j token → IsToken Values token → is_told token ≡ true
-    → column ≡ slice_index_or memories j column → (r : Result (Option Rule) AllocError)
-    → IfOk r (IsRetold (told_as options.signless options.sizeonly column.before column.heard) text)
-    → IfOk r (HasRetold (Mints options memories) (Mints options memories) j token text)
-has_retold options memories j token text column may lawful told is (Err wanting) h = tt
-has_retold options memories j token text column may lawful told is (Ok refused) h =
-    λ retelling past above follows cell. (follows, tells retelling past above follows cell)
+    → column ≡ slice_index_or memories j column → (r : Result A Refusal)
+    → IfTold r (IsRetold (told_as options.signless options.sizeonly column.before column.heard) text)
+    → IfTold r (HasRetold (Mints options memories) (Mints options memories) j token text)
+has_retold options memories j token text column may lawful told is r h =
+    told_to r _ _ (λ refused made retelling past above follows cell.
+    (follows, tells refused made retelling past above follows cell)) h
   where
-    tells : (retelling : Retelling) (past : List Row) (above : List (List ℕ)) → Mints options memories retelling past
+    tells : (refused : Option Rule) → IsRetold (told_as options.signless options.sizeonly column.before column.heard) text refused
+        → (retelling : Retelling) (past : List Row) (above : List (List ℕ)) → Mints options memories retelling past
         → history past j ≡ token ∷ above → Tells (retelling.becomes above token) text refused
-    tells retelling past above follows cell =
+    tells refused made retelling past above follows cell =
         let heard = heard_is options memories j token column may is retelling past above follows cell in
         let before : column.before ≡ note_before options.breaks above = ap (λ (c : HeardColumn). c.before) heard ∙ note_kept options.breaks above in
         let known : told_as options.signless options.sizeonly column.before column.heard ≡ retelling.becomes above token =
@@ -70,4 +67,4 @@ has_retold options memories j token text column may lawful told is (Ok refused) 
         ∙ ap (λ (b : Option Spelled). told_as options.signless options.sizeonly b (heard_of token)) before
         ∙ told_is options.signless options.sizeonly (note_before options.breaks above) token lawful told
         ∙ ap (λ (x : Retelling). x.becomes above token) (sym follows.command) in
-        subst (λ (x : Result (List ℕ) Rule). Tells x text refused) known (told_by _ text refused h)
+        subst (λ (x : Result (List ℕ) Rule). Tells x text refused) known (told_so _ text refused made)

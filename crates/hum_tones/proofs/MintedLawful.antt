@@ -7,12 +7,12 @@ use Rattle.std.proofs.lemmas.Int.{ints}
 use lib.Chars.{codes}
 use Rattle.hum_record.specs.declared.SpinedKind.TheVariants.{Values}
 use Rattle.hum_record.specs.Spelling.{has_byte, kind_of_token, IsToken}
-use Rattle.hum_kern.specs.Pitch.{Spelled, step_number, semitones}
-use Rattle.hum_kern.specs.Given.{spelled}
-use Rattle.hum_kern.specs.Spelling.{spelling}
-use Rattle.hum_kern.specs.Intervals.{direction, sign, quality, quality_letters, size, named}
-use Rattle.hum_kern.specs.declared.pitch.Pitch.{Pitch}
-use Rattle.hum_kern.proofs.Names.{AreOver, name_over}
+use Rattle.hum_pitch.specs.Pitch.{Spelled, step_number, semitones}
+use Rattle.hum_pitch.specs.Given.{spelled}
+use Rattle.hum_pitch.specs.Spelling.{spelling}
+use Rattle.hum_pitch.specs.Intervals.{direction, sign, quality, quality_letters, size, named}
+use Rattle.hum_pitch.specs.declared.pitch.Pitch.{Pitch}
+use Rattle.hum_pitch.proofs.Names.{AreOver, name_over}
 use Rattle.hum_tones.specs.Mint.{approached}
 use Rattle.hum_tones.proofs.Parts.{IsPiece}
 use Rattle.hum_tones.proofs.MovedLawful.{both_lack, spelling_lacks}

@@ -8,9 +8,9 @@ use Rattle.std.proofs.lemmas.List.Folds.{list_any-append}
 use Rattle.hum_record.specs.declared.SpinedKind.TheVariants.{Values}
 use Rattle.hum_record.specs.Spelling.{has_byte, kind_of_token, IsToken}
 use Rattle.hum_path.proofs.Cases.{by_bool}
-use Rattle.hum_kern.specs.Pitch.{Spelled, away}
-use Rattle.hum_kern.specs.Spelling.{small_letters, capitals, letters, letters_of, accidentals, spelling}
-use Rattle.hum_kern.proofs.Steps.{away_is}
+use Rattle.hum_pitch.specs.Pitch.{Spelled, away}
+use Rattle.hum_pitch.specs.Spelling.{small_letters, capitals, letters, letters_of, accidentals, spelling}
+use Rattle.hum_pitch.proofs.Steps.{away_is}
 use Rattle.hum_kern.specs.declared.KernFault.{KernFault}
 use Rattle.hum_kern.specs.Note.{Reading, note}
 use Rattle.hum_stage.specs.declared.faults.Rule.{Rule}

@@ -3,10 +3,10 @@ use Rattle.std.proofs.Common.{◌≡◌, refl, sym, ap, ◌∙◌, ℕ, ℤ, pos
 use Rattle.std.specs.Prelude.{Ok, Err, option_map, nat_le}
 use Rattle.std.proofs.lemmas.Int.{ints}
 use Rattle.std.proofs.Common.{append_assoc}
-use Rattle.hum_kern.specs.Pitch.{Spelled, away, IsAlteration, IsOctave, IsOutside}
-use Rattle.hum_kern.specs.Given.{spelled}
-use Rattle.hum_kern.specs.Spelling.{spelling}
-use Rattle.hum_kern.specs.declared.pitch.Pitch.{Pitch}
+use Rattle.hum_pitch.specs.Pitch.{Spelled, away, IsAlteration, IsOctave, IsOutside}
+use Rattle.hum_pitch.specs.Given.{spelled}
+use Rattle.hum_pitch.specs.Spelling.{spelling}
+use Rattle.hum_pitch.specs.declared.pitch.Pitch.{Pitch}
 use Rattle.hum_kern.specs.declared.notes.Note.{Note}
 use Rattle.hum_kern.specs.Note.{reading, note}
 use Rattle.hum_stage.specs.declared.faults.Rule.TheVariants.{TR1, TR2}

@@ -12,7 +12,7 @@ use Rattle.std.proofs.lemmas.Bool.Decides.{nat_tests, leb_tells}
 use mathlib.Core.Logic.{inl, inr}
 use Rattle.hum_record.specs.declared.SpinedKind.TheVariants.{Interpretation}
 use Rattle.hum_record.specs.Spelling.{has_byte, IsToken}
-use Rattle.hum_kern.specs.Pitch.{Spelled, semitones, IsWithin}
+use Rattle.hum_pitch.specs.Pitch.{Spelled, semitones, IsWithin}
 use Rattle.hum_kern.specs.Note.{Reading, note}
 use Rattle.hum_tones.specs.Subtokens.{HasAdded}
 use Rattle.hum_tones.specs.Semits.{semits_of}

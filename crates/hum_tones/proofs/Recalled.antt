@@ -4,12 +4,15 @@ use Rattle.std.specs.Prelude.{Option, None, Some, IfSome, Result, Ok, Err, slice
 use denote.Ref.{Bor}
 use Rattle.hum_record.specs.Row.{Row}
 use Rattle.hum_stage.specs.declared.faults.Rule.{Rule}
+use Rattle.hum_stage.specs.declared.faults.Refusal.{Refusal}
+use Rattle.hum_stage.specs.Refusals.{IfTold}
+use Rattle.hum_stage.proofs.Telling.{told_to}
 use Rattle.hum_cells.specs.Retelling.{Retelling, Heading}
-use Rattle.hum_cells.specs.Telling.{Knows, Tells}
+use Rattle.hum_cells.specs.Telling.{Knows, Tells, HasRetold}
 use Rattle.hum_tones.specs.declared.giving.Giving.{Giving}
 use Rattle.hum_tones.specs.Giving.{given}
 use Rattle.hum_tones.specs.Subtokens.{IsRetold}
-use Rattle.hum_tones.specs.Commands.{given_under}
+use Rattle.hum_tones.specs.Commands.{given_under, GivesUnder}
 use Rattle.hum_tones.specs.declared.remembered.Place.{Place}
 use Rattle.hum_tones.specs.Remembering.{AllAnswer}
 
@@ -45,10 +48,21 @@ module _ {A : Type 0} (answers : List ℕ → A → Type 0) (places : List (Plac
         by i place (inl w) = h.each i place w
         by i place (inr w) = rw w answered
 
--- a token that became something is told so
-told_so : (becomes : Result (List ℕ) Rule) (text : List ℕ) → IsRetold becomes text None → Tells becomes text None
-told_so (Ok token) text h = (ap Ok (sym h.0), h.1)
-told_so (Err refused) text h = absurd h
+-- what a token became, or the rule by which it is refused, is told so
+pub told_so : (becomes : Result (List ℕ) Rule) (text : List ℕ) (refused : Option Rule) → IsRetold becomes text refused
+    → Tells becomes text refused
+told_so (Ok token) text None h = (ap (λ (t : List ℕ). Ok t) (sym h.0), h.1)
+told_so (Ok token) text (Some rule) h = absurd h
+told_so (Err rule) text None h = absurd h
+told_so (Err rule) text (Some other) h = ap (λ (x : Rule). Err x) (sym h)
+
+-- a token is retold by what its parts give
+pub retold_given : {A : Type 0} (heading : Heading) (giving : Giving) (j : ℕ) (token text : List ℕ) (r : Result A Refusal)
+    → IfTold r (IsRetold (given giving token) text)
+    → IfTold r (HasRetold (GivesUnder heading giving) (GivesUnder heading giving) j token text)
+retold_given heading giving j token text r h =
+    told_to r _ _ (λ refused made retelling past above follows cell.
+    (follows, rw follows.command (told_so (given giving token) text refused made))) h
 
 -- what is remembered of a token is known of it wherever it stands, where it is all by what its parts give
 pub known_given : (follows : Retelling → List Row → Type 0) (heading : Heading) (giving : Giving) (token : List ℕ)
@@ -57,4 +71,4 @@ pub known_given : (follows : Retelling → List Row → Type 0) (heading : Headi
     → IfSome result (λ text. Knows follows token text.now)
 known_given follows heading giving token is None h = tt
 known_given follows heading giving token is (Some text) h =
-    λ retelling past above followed. rw (is retelling past followed) (told_so (given giving token) text.now h)
+    λ retelling past above followed. rw (is retelling past followed) (told_so (given giving token) text.now None h)

@@ -3,7 +3,7 @@ use Rattle.std.proofs.Common.{◌≡◌, ℤ, pos, negsuc, ℕ, [], ◌∷◌, S
 use Rattle.std.specs.Prelude.{Ok, Err}
 use Rattle.std.specs.Fmt.{digits}
 use lib.Chars.{codes}
-use Rattle.hum_kern.specs.Pitch.{Spelled, natural}
+use Rattle.hum_pitch.specs.Pitch.{Spelled, natural}
 use Rattle.hum_stage.specs.declared.faults.Rule.TheVariants.{K1, K2, TR1, TR2}
 use Rattle.hum_tones.specs.Trans.{transposed}
 use Rattle.hum_tones.specs.Mint.{minted, note_before}

@@ -5,7 +5,7 @@ use lib.Chars.{codes}
 use Rattle.hum_record.specs.declared.SpinedKind.TheVariants.{Interpretation, Values}
 use Rattle.hum_record.specs.Row.{Row, Spined}
 use Rattle.hum_pattern.proofs.OnLiterals.{patterns_on_literals}
-use Rattle.hum_kern.specs.Pitch.{natural}
+use Rattle.hum_pitch.specs.Pitch.{natural}
 use Rattle.hum_stage.specs.declared.faults.Command.TheVariants.{Trans, Semits, Mint, Recip}
 use Rattle.hum_stage.specs.Meaning.{output}
 use Rattle.hum_cells.specs.Retelling.{meaning}

@@ -12,7 +12,7 @@ use lib.Chars.{codes}
 use Rattle.hum_record.specs.declared.SpinedKind.TheVariants.{Values}
 use Rattle.hum_record.specs.Spelling.{has_byte, kind_of_token}
 use Rattle.hum_path.proofs.Cases.{by_bool}
-use Rattle.hum_kern.specs.Ratio.{Ratio, reduced}
+use Rattle.hum_frac.specs.Ratio.{Ratio, reduced}
 use Rattle.hum_kern.specs.declared.KernFault.TheVariants.{K3}
 use Rattle.hum_kern.specs.declared.Length.{Length}
 use Rattle.hum_kern.specs.Classes.{is_digit, is_grace_sign}

@@ -9,7 +9,7 @@ use Rattle.hum_stage.specs.Meaning.{Meaning}
 use Rattle.hum_cells.specs.Retelling.{Retelling, Heading, Renamed, Followed, IsHeading, meaning}
 use Rattle.hum_tones.specs.declared.giving.Giving.{Giving}
 use Rattle.hum_tones.specs.declared.giving.Giving.TheVariants.{Semitones, Durations}
-use Rattle.hum_tones.specs.declared.transposing.Transposition.{Transposition}
+use Rattle.hum_tones.specs.declared.transposing.TransOptions.{TransOptions}
 use Rattle.hum_tones.specs.declared.semits.SemitsOptions.{SemitsOptions}
 use Rattle.hum_tones.specs.declared.recip.RecipOptions.{RecipOptions}
 use Rattle.hum_tones.specs.declared.minting.MintOptions.{MintOptions}
@@ -64,7 +64,7 @@ pub record Mints (options : MintOptions) (memories : List HeardColumn) (retellin
   pub remembered : Remember (heard_after options.breaks) unheard past memories
 
 -- what the stages of these numbers mean
-abbrev pub meaning_of_trans : ℕ → Transposition → Meaning
+abbrev pub meaning_of_trans : ℕ → TransOptions → Meaning
 meaning_of_trans stage options = meaning stage Trans (trans options.steps options.semitones)
 
 abbrev pub meaning_of_semits : ℕ → SemitsOptions → Meaning

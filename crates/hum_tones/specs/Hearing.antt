@@ -1,6 +1,6 @@
 -- What is heard of a token, as it is kept.
 use Rattle.std.specs.Prelude.{◌||◌, Option, None, Some, option_map, Result, Ok, Err, List}
-use Rattle.hum_kern.specs.Given.{spelled}
+use Rattle.hum_pitch.specs.Given.{spelled}
 use Rattle.hum_kern.specs.Note.{Reading}
 use Rattle.hum_stage.specs.declared.faults.Rule.{Rule}
 use Rattle.hum_tones.specs.declared.hearing.Tone.{Tone as KeptTone}

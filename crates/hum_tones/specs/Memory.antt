@@ -3,7 +3,7 @@ use Rattle.std.specs.Prelude.{ℕ, Bool, false, not, ◌&&◌, List, Option, Non
 use Rattle.std.specs.Prelude.{if◌then◌else◌}
 use Rattle.hum_record.specs.Contents.{is_filled, is_barline}
 use Rattle.hum_path.specs.Sign.{sign_of, is_exclusive}
-use Rattle.hum_kern.specs.Pitch.{Spelled}
+use Rattle.hum_pitch.specs.Pitch.{Spelled}
 use Rattle.hum_stage.specs.declared.faults.Rule.{Rule}
 use Rattle.hum_tones.specs.Mint.{Heard, readings, remembered_of, is_break, told}
 use Rattle.hum_tones.specs.Hearing.{heard_in}

@@ -7,9 +7,9 @@ use lib.Chars.{codes}
 use Rattle.hum_record.specs.Contents.{is_filled, is_barline}
 use Rattle.hum_path.specs.Chains.{reach}
 use Rattle.hum_pattern.specs.Meaning.{matched}
-use Rattle.hum_kern.specs.Pitch.{Spelled, step_number, semitones}
-use Rattle.hum_kern.specs.Spelling.{spelling}
-use Rattle.hum_kern.specs.Intervals.{named}
+use Rattle.hum_pitch.specs.Pitch.{Spelled, step_number, semitones}
+use Rattle.hum_pitch.specs.Spelling.{spelling}
+use Rattle.hum_pitch.specs.Intervals.{named}
 use Rattle.hum_kern.specs.declared.KernFault.{KernFault}
 use Rattle.hum_kern.specs.Note.{Reading, note}
 use Rattle.hum_stage.specs.declared.faults.Rule.{Rule}

@@ -3,7 +3,7 @@ use Rattle.std.specs.Prelude.{ℕ, Bool, ◌&&◌, List, if◌then◌else◌}
 use Rattle.std.specs.Prelude.{Option, None, Some, Result, Ok, Err}
 use Rattle.std.specs.Fmt.{signed_decimal}
 use lib.Chars.{codes}
-use Rattle.hum_kern.specs.Pitch.{Spelled, semitones}
+use Rattle.hum_pitch.specs.Pitch.{Spelled, semitones}
 use Rattle.hum_kern.specs.declared.KernFault.{KernFault}
 use Rattle.hum_kern.specs.Note.{Reading, note}
 use Rattle.hum_stage.specs.declared.faults.Rule.{Rule}

@@ -1,8 +1,8 @@
 -- What the command trans makes of a token: each pitch in it some steps and some semitones away.
 use Rattle.std.specs.Prelude.{ℕ, ℤ, pos, negsuc, nat_le, Bool, not, List, ◌++◌, take, drop}
 use Rattle.std.specs.Prelude.{Option, None, Some, Result, Ok, Err, if◌then◌else◌}
-use Rattle.hum_kern.specs.Pitch.{Spelled, away}
-use Rattle.hum_kern.specs.Spelling.{spelling}
+use Rattle.hum_pitch.specs.Pitch.{Spelled, away}
+use Rattle.hum_pitch.specs.Spelling.{spelling}
 use Rattle.hum_kern.specs.declared.KernFault.{KernFault}
 use Rattle.hum_kern.specs.Note.{Reading, note}
 use Rattle.hum_stage.specs.declared.faults.Rule.{Rule}

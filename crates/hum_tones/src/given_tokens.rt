@@ -1,15 +1,16 @@
 //! Tokens that become what their parts give, and what they became before.
-ghost use Rattle.std.specs.Prelude.{◌≡◌, [], None, IfSome, IfOk};
+ghost use Rattle.std.specs.Prelude.{◌≡◌, [], None, IfSome};
 ghost use Rattle.hum_record.specs.declared.SpinedKind.TheVariants.{Values};
 ghost use Rattle.hum_record.specs.Spelling.{IsToken};
+ghost use Rattle.hum_stage.specs.Refusals.{IfTold};
 ghost use Rattle.hum_tones.specs.Giving.{given};
 ghost use Rattle.hum_tones.specs.Subtokens.{IsRetold};
 
 use crate::giving::Giving;
 use crate::remembered::{Answer, Remembered};
 use crate::short::Short;
-use hum_stage::Rule;
-use std::alloc::{AllocError, Global};
+use hum_stage::Refusal;
+use std::alloc::Global;
 use std::marker::Model;
 
 impl Answer for Short {
@@ -64,25 +65,20 @@ impl GivenTokens {
         }
     }
 
-    /// Puts what a data token becomes into the empty text, or answers the rule by which it is
-    /// refused.
-    pub(crate) fn retell(
-        &mut self,
-        token: &[u8],
-        text: &mut Vec<u8>,
-    ) -> Result<Option<Rule>, AllocError>
+    /// Puts what a data token becomes into the empty text.
+    ///
+    /// # Errors
+    /// The rule by which it is refused; or out of memory.
+    pub(crate) fn retell(&mut self, token: &[u8], text: &mut Vec<u8>) -> Result<(), Refusal>
         requires empty { text.old.items ≡ [] }
         requires lawful { IsToken Values token.now }
-        ensures told { IfOk result (IsRetold (given self.old token.now) text.new.items) }
+        ensures told { IfTold result (IsRetold (given self.old token.now) text.new.items) }
         ensures same { self.new ≡ self.old }
     {
-        let refused = self.giving.retell(token, text)?;
-        if let Some(rule) = refused {
-            return Ok(Some(rule));
-        }
+        self.giving.retell(token, text)?;
         if let Some(text) = Short::of(text) {
             self.remembered.remember(token, text);
         }
-        Ok(None)
+        Ok(())
     }
 }

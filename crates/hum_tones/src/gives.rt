@@ -10,7 +10,7 @@ use crate::giving::Giving;
 use hum_cells::{Heading, Retells};
 use hum_path::Moves;
 use hum_record::Record;
-use hum_stage::{Command, Rule};
+use hum_stage::{Command, Refusal};
 use std::alloc::{AllocError, Global};
 
 /// What becomes of `**kern` by a command whose tokens become what their parts give.
@@ -82,12 +82,7 @@ impl<G: Gives> Retells for GivenColumns<G> {
         self.tokens.known(token)
     }
 
-    fn retell(
-        &mut self,
-        _j: usize,
-        token: &[u8],
-        text: &mut Vec<u8>,
-    ) -> Result<Option<Rule>, AllocError> {
+    fn retell(&mut self, _j: usize, token: &[u8], text: &mut Vec<u8>) -> Result<(), Refusal> {
         self.tokens.retell(token, text)
     }
 

@@ -1,17 +1,18 @@
 //! Tokens in whose place stands what their parts give.
-ghost use Rattle.std.specs.Prelude.{◌≡◌, ◌++◌, [], codes, ◌&&◌, IfOk, OnOk, Result, Ok, Err};
+ghost use Rattle.std.specs.Prelude.{◌≡◌, ◌++◌, [], codes, ◌&&◌, OnOk, Result, Ok, Err};
 ghost use Rattle.std.specs.Fmt.{signed_decimal};
 ghost use Rattle.hum_record.specs.declared.SpinedKind.TheVariants.{Values};
 ghost use Rattle.hum_record.specs.Spelling.{IsToken};
+ghost use Rattle.hum_stage.specs.Refusals.{IfTold};
 ghost use Rattle.hum_tones.specs.Subtokens.{HasAdded, IsRetold};
 ghost use Rattle.hum_kern.specs.Note.{is_rest};
 ghost use Rattle.hum_tones.specs.Faults.{rule_of};
 ghost use Rattle.hum_tones.specs.Recip.{rest_sign, recip_of};
 ghost use Rattle.hum_tones.specs.Semits.{semits_of};
 
-use crate::transposing::Transposition;
+use crate::transposing::TransOptions;
 use hum_kern::{KernFault, Note, read_duration, read_note};
-use hum_stage::Rule;
+use hum_stage::{Refusal, Rule};
 use itoa::Buffer;
 use std::alloc::AllocError;
 
@@ -24,7 +25,7 @@ pub enum Giving {
     /// Its duration, as it is written.
     Durations,
     /// Itself, with its pitch so far away.
-    Transposed(Transposition),
+    Transposed(TransOptions),
 }
 
 /// The rule by which a part is refused.
@@ -68,24 +69,24 @@ fn behind(part: &[u8]) -> &'static [u8]
 }
 
 /// Adds the duration of a part as it is written.
-fn add_duration(part: &[u8], text: &mut Vec<u8>) -> Result<Option<Rule>, AllocError>
-    ensures { IfOk result (HasAdded (recip_of part.now) text.old.items text.new.items) }
+fn add_duration(part: &[u8], text: &mut Vec<u8>) -> Result<(), Refusal>
+    ensures { IfTold result (HasAdded (recip_of part.now) text.old.items text.new.items) }
 {
     let found = match read_duration(part) {
         Ok(found) => found,
-        Err(fault) => return Ok(Some(rule_of(fault))),
+        Err(fault) => return Err(Refusal::Rule(rule_of(fault))),
     };
     match found.value {
         Some(_) => {
             text.extend_from_slice(&part[found.start..found.end])?;
             text.extend_from_slice(behind(part))?;
-            Ok(None)
+            Ok(())
         }
         None => {
             if is_rest(part) {
                 text.extend_from_slice(b"r ")?;
             }
-            Ok(None)
+            Ok(())
         }
     }
 }
@@ -98,30 +99,26 @@ fn is_left_out(ties_left_out: bool, note: &Note) -> bool
 }
 
 /// Adds the semitones of a part.
-fn add_semitones(
-    part: &[u8],
-    ties_left_out: bool,
-    text: &mut Vec<u8>,
-) -> Result<Option<Rule>, AllocError>
-    ensures { IfOk result
+fn add_semitones(part: &[u8], ties_left_out: bool, text: &mut Vec<u8>) -> Result<(), Refusal>
+    ensures { IfTold result
         (HasAdded (semits_of ties_left_out part.now) text.old.items text.new.items) }
 {
     let note = match read_note(part) {
         Ok(note) => note,
-        Err(fault) => return Ok(Some(rule_of(fault))),
+        Err(fault) => return Err(Refusal::Rule(rule_of(fault))),
     };
     if note.rest {
         text.extend_from_slice(b"r ")?;
-        return Ok(None);
+        return Ok(());
     }
     match note.pitch {
-        None => Ok(None),
+        None => Ok(()),
         Some(pitch) => {
             if is_left_out(ties_left_out, &note) {
-                return Ok(None);
+                return Ok(());
             }
             push_number(pitch.semits(), text)?;
-            Ok(None)
+            Ok(())
         }
     }
 }
@@ -131,8 +128,8 @@ impl Giving {
 
     /// Adds what a part gives, with a space behind it.
     #[inline(always)]
-    fn add(self, part: &[u8], text: &mut Vec<u8>) -> Result<Option<Rule>, AllocError>
-        ensures { IfOk result (HasAdded (gives self part.now) text.old.items text.new.items) }
+    fn add(self, part: &[u8], text: &mut Vec<u8>) -> Result<(), Refusal>
+        ensures { IfTold result (HasAdded (gives self part.now) text.old.items text.new.items) }
     {
         match self {
             Giving::Semitones { ties_left_out } => add_semitones(part, ties_left_out, text),
@@ -141,24 +138,24 @@ impl Giving {
         }
     }
 
-    /// Puts what a data token becomes into the empty text, or answers the rule by which it is
-    /// refused.
+    /// Puts what a data token becomes into the empty text.
+    ///
+    /// # Errors
+    /// The rule by which it is refused; or out of memory.
     #[inline(always)]
-    pub(crate) fn retell(self, token: &[u8], text: &mut Vec<u8>) -> Result<Option<Rule>, AllocError>
+    pub(crate) fn retell(self, token: &[u8], text: &mut Vec<u8>) -> Result<(), Refusal>
         requires empty { text.old.items ≡ [] }
         requires lawful { IsToken Values token.now }
-        ensures { IfOk result (IsRetold (given self token.now) text.new.items) }
+        ensures { IfTold result (IsRetold (given self token.now) text.new.items) }
     {
         for part in token.split(|b| *b == b' ') {
-            if let Some(rule) = self.add(part, text)? {
-                return Ok(Some(rule));
-            }
+            self.add(part, text)?;
         }
         match text.pop() {
-            Some(_) => Ok(None),
+            Some(_) => Ok(()),
             None => {
                 text.push(b'.')?;
-                Ok(None)
+                Ok(())
             }
         }
     }

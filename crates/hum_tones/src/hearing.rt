@@ -1,11 +1,12 @@
 //! The note of a token.
 ghost use Rattle.std.specs.Prelude.{◌≡◌, ◌||◌, None, option_map};
-ghost use Rattle.hum_kern.specs.Given.{spelled};
+ghost use Rattle.hum_pitch.specs.Given.{spelled};
 ghost use Rattle.hum_tones.specs.Mint.{readings, or_tone, new_pitch};
 ghost use Rattle.hum_tones.specs.Hearing.{tone_of, first_of, heard_in, heard_by};
 
 use crate::giving::rule_of;
-use hum_kern::{Note, Pitch, read_note};
+use hum_kern::{Note, read_note};
+use hum_pitch::Pitch;
 use hum_stage::Rule;
 
 /// A note of a token: its pitch, and whether its tie goes on or ends.

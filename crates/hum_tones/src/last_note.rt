@@ -4,13 +4,13 @@ ghost use Rattle.hum_record.specs.Contents.{is_filled};
 ghost use Rattle.hum_tones.specs.Mint.{is_break, remembered_of};
 ghost use Rattle.hum_tones.specs.Memory.{note_after, or_before, heard_of};
 ghost use Rattle.hum_tones.specs.Hearing.{heard_by};
-ghost use Rattle.hum_kern.specs.Given.{spelled};
+ghost use Rattle.hum_pitch.specs.Given.{spelled};
 
 use crate::hearing::Heard;
 use crate::listening::Listening;
-use hum_kern::Pitch;
 use hum_path::ColumnMemory;
 use hum_pattern::Pattern;
+use hum_pitch::Pitch;
 use hum_record::is_filled;
 use hum_stage::Rule;
 use std::alloc::{AllocError, Global};
@@ -88,7 +88,7 @@ pub struct LastNote {
 
 impl Model for LastNote {
     ghost use Rattle.std.specs.Prelude.{option_map};
-    ghost use Rattle.hum_kern.specs.Given.{spelled};
+    ghost use Rattle.hum_pitch.specs.Given.{spelled};
     ghost use Rattle.hum_tones.specs.Hearing.{heard_by};
     ghost use Rattle.hum_tones.specs.Memory.{HeardColumn};
 

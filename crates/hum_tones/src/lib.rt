@@ -27,4 +27,4 @@ pub use minting::MintOptions;
 pub use recip::{Recip, RecipName, RecipOptions};
 pub use semits::{Semits, SemitsName, SemitsOptions};
 pub use trans::{Trans, TransSign};
-pub use transposing::Transposition;
+pub use transposing::TransOptions;

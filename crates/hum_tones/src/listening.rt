@@ -1,6 +1,6 @@
 //! What is heard of tokens, and what was heard of them before.
 ghost use Rattle.std.specs.Prelude.{◌≡◌, ◌≢◌, [], Ok, option_map};
-ghost use Rattle.hum_kern.specs.Given.{spelled};
+ghost use Rattle.hum_pitch.specs.Given.{spelled};
 ghost use Rattle.hum_tones.specs.Mint.{readings};
 ghost use Rattle.hum_tones.specs.Memory.{note_after, heard_of};
 ghost use Rattle.hum_tones.specs.Hearing.{hearing, heard_by, heard_in};
@@ -9,7 +9,7 @@ use crate::hearing::{Heard, hear};
 use crate::last_note::note_after;
 use crate::minting::MintOptions;
 use crate::remembered::{Answer, Remembered};
-use hum_kern::Pitch;
+use hum_pitch::Pitch;
 use hum_record::{is_barline, is_filled};
 use hum_stage::Rule;
 use std::alloc::Global;

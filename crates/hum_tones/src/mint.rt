@@ -7,7 +7,7 @@ use crate::minting::MintOptions;
 use hum_cells::{CellStage, Heading, Retells};
 use hum_path::{Carried, Moves};
 use hum_record::Record;
-use hum_stage::{Command, Rule};
+use hum_stage::{Command, Refusal};
 use std::alloc::{AllocError, Global};
 
 /// What mint makes of tokens.
@@ -49,12 +49,7 @@ impl Retells for MintTokens {
         Heading::Renamed(b"**mint".as_slice())
     }
 
-    fn retell(
-        &mut self,
-        j: usize,
-        _token: &[u8],
-        text: &mut Vec<u8>,
-    ) -> Result<Option<Rule>, AllocError> {
+    fn retell(&mut self, j: usize, _token: &[u8], text: &mut Vec<u8>) -> Result<(), Refusal> {
         self.listening.options().retell(self.carried.at(j), text)
     }
 

@@ -1,15 +1,16 @@
 //! Tokens in whose place stands the interval from the note before.
-ghost use Rattle.std.specs.Prelude.{◌≡◌, ◌++◌, [], IfOk, OnOk, option_map};
-ghost use Rattle.hum_kern.specs.Given.{spelled};
+ghost use Rattle.std.specs.Prelude.{◌≡◌, ◌++◌, [], OnOk, option_map};
+ghost use Rattle.hum_pitch.specs.Given.{spelled};
+ghost use Rattle.hum_stage.specs.Refusals.{IfTold};
 ghost use Rattle.hum_tones.specs.Subtokens.{IsRetold};
 ghost use Rattle.hum_tones.specs.Mint.{approached};
 ghost use Rattle.hum_tones.specs.Memory.{told_as};
 
 use crate::hearing::{Heard, Tone};
 use crate::last_note::LastNote;
-use hum_kern::{Pitch, interval, push_interval, push_pitch};
 use hum_pattern::Pattern;
-use hum_stage::Rule;
+use hum_pitch::{Pitch, interval, push_interval, push_pitch};
+use hum_stage::Refusal;
 use std::alloc::AllocError;
 
 /// How intervals are named, and where they begin anew.
@@ -49,19 +50,19 @@ impl MintOptions {
     }
 
     /// Puts what a column's last cell, a data token, becomes by the note before it into the empty
-    /// text, or answers the rule by which it is refused.
+    /// text.
     ///
     /// # Errors
-    /// Want of memory.
-    pub fn retell(&self, column: &LastNote, text: &mut Vec<u8>) -> Result<Option<Rule>, AllocError>
+    /// The rule by which it is refused; or out of memory.
+    pub fn retell(&self, column: &LastNote, text: &mut Vec<u8>) -> Result<(), Refusal>
         requires empty { text.old.items ≡ [] }
-        ensures { IfOk result (IsRetold
+        ensures { IfTold result (IsRetold
             (told_as self.now.signless self.now.sizeonly column.now.before column.now.heard)
             text.new.items) }
     {
         let heard = match column.heard() {
             Ok(heard) => heard,
-            Err(rule) => return Ok(Some(rule)),
+            Err(rule) => return Err(Refusal::Rule(rule)),
         };
         match heard.tone {
             Some(tone) => {
@@ -73,6 +74,6 @@ impl MintOptions {
             }
             None => text.push(if heard.rest { b'r' } else { b'.' })?,
         }
-        Ok(None)
+        Ok(())
     }
 }

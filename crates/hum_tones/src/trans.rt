@@ -5,7 +5,7 @@ ghost use Rattle.hum_tones.specs.Commands.{trans_sign};
 
 use crate::gives::{GivenColumns, Gives};
 use crate::giving::Giving;
-use crate::transposing::Transposition;
+use crate::transposing::TransOptions;
 use arrayvec::ArrayString;
 use hum_cells::{CellStage, Heading};
 use hum_stage::Command;
@@ -21,7 +21,7 @@ pub struct TransSign {
 pub type Trans = CellStage<GivenColumns<TransSign>>;
 
 /// What goes behind `**kern`.
-fn sign(transposition: Transposition) -> ArrayString<32>
+fn sign(transposition: TransOptions) -> ArrayString<32>
     ensures { result.bytes ≡ trans_sign transposition.steps transposition.semitones }
 {
     let mut number = Buffer::new();
@@ -34,7 +34,7 @@ fn sign(transposition: Transposition) -> ArrayString<32>
 }
 
 impl Gives for TransSign {
-    type Options = Transposition;
+    type Options = TransOptions;
 
     ghost use Rattle.hum_cells.specs.Retelling.{Followed};
     ghost use Rattle.hum_tones.specs.Commands.{trans};
@@ -49,7 +49,7 @@ impl Gives for TransSign {
         Command::Trans
     }
 
-    fn begin(transposition: Transposition) -> (TransSign, Giving) {
+    fn begin(transposition: TransOptions) -> (TransSign, Giving) {
         let text = sign(transposition);
         (TransSign { text }, Giving::Transposed(transposition))
     }

@@ -2,7 +2,7 @@
 use Rattle.std.proofs.Common.{◌≡◌, ℕ, List, [], ◌∷◌, ◌++◌, Option, None, Some, refl, replicate, lit<, lit≤}
 use Rattle.std.specs.Fmt.{digits}
 use lib.Chars.{codes}
-use Rattle.hum_extract.specs.declared.choice.FieldRange.{FieldRange}
+use Rattle.hum_extract.specs.declared.options.FieldRange.{FieldRange}
 use Rattle.hum_values.specs.Fields.{through, onward, last_field, fields_of, IsCount, AreFields, span, to_last}
 use Rattle.hum_values.specs.Fields.{one as one_number}
 use Rattle.hum_values.specs.Items.{items_of, AreListed, one, more}

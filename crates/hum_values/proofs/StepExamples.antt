@@ -1,8 +1,8 @@
 -- Steps of a timebase, worked by the definitions.
 use Rattle.std.proofs.Common.{◌≡◌, ℕ, [], None, Some, refl}
 use lib.Chars.{codes}
-use Rattle.hum_kern.specs.Gcd.{gcd, gcd_in}
-use Rattle.hum_kern.specs.Ratio.{Ratio}
+use Rattle.hum_frac.specs.Gcd.{gcd, gcd_in}
+use Rattle.hum_frac.specs.Ratio.{Ratio}
 use Rattle.hum_values.specs.Steps.{step_of}
 
 abbrev of : ℕ → ℕ → Ratio

@@ -4,8 +4,8 @@ use Rattle.std.specs.Prelude.{if◌then◌else◌}
 use Rattle.std.specs.Option.{option_map}
 use Rattle.std.specs.Str.{bytes_eq}
 use lib.Chars.{codes}
-use Rattle.hum_extract.specs.declared.choice.Field.TheVariants.{Number, Last}
-use Rattle.hum_extract.specs.declared.choice.FieldRange.{FieldRange}
+use Rattle.hum_extract.specs.declared.options.Field.TheVariants.{Number, Last}
+use Rattle.hum_extract.specs.declared.options.FieldRange.{FieldRange}
 use Rattle.hum_values.specs.Cutting.{front, rest}
 use Rattle.hum_values.specs.Numbers.{IsPositive, positive_of}
 

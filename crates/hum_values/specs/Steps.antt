@@ -1,7 +1,7 @@
 -- The step of a timebase, as a duration.
 use Rattle.std.specs.Prelude.{◌≡◌, ℕ, List, Option, Ok}
 use Rattle.std.specs.Result.{result_ok}
-use Rattle.hum_kern.specs.Ratio.{Ratio}
+use Rattle.hum_frac.specs.Ratio.{Ratio}
 use Rattle.hum_kern.specs.Duration.{recip}
 use Rattle.hum_timebase.specs.declared.options.TimebaseOptions.{TimebaseOptions}
 

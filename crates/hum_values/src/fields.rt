@@ -1,7 +1,7 @@
 //! Numbers of fields and of tokens.
 ghost use Rattle.std.specs.Prelude.{◌≡◌, ◌≤◌, ◌<◌, ℕ, List, [], Some, IfSome, IfOk};
 ghost use Rattle.std.specs.Option.{option_map};
-ghost use Rattle.hum_extract.specs.declared.choice.FieldRange.{FieldRange};
+ghost use Rattle.hum_extract.specs.declared.options.FieldRange.{FieldRange};
 ghost use Rattle.hum_values.specs.Fields.{IsCount, AreFields, count_of, fields_of};
 ghost use Rattle.hum_values.specs.Fields.{from_number, by_dash};
 ghost use Rattle.hum_values.specs.Items.{AreListed, items_of};

@@ -11,6 +11,7 @@ ghost use Rattle.hum_words.specs.declared.cutting.LineFault.TheVariants.{Quote, 
 
 use crate::characters::{bare_len, is_apart, skip_blanks};
 use std::alloc::{AllocFailed, Global};
+use thiserror::Error;
 
 /// A word with its number, from 1, or a bar with the number of the last word before it, 0 where
 /// there is none. Bars aren't counted.
@@ -21,12 +22,14 @@ pub enum Piece<'a> {
 }
 
 /// Why a line isn't cut into pieces.
-#[derive(Clone, Copy)]
+#[derive(Clone, Copy, Debug, Error)]
 pub enum LineFault {
     /// The number of a word with a quote that isn't closed, with a quote in it, or with something
     /// else than a blank, a bar or the line's end behind its closing quote.
+    #[error("N2: a quote in word {0} isn't closed, or doesn't stand alone")]
     Quote(u32),
     /// Memory ran out.
+    #[error("out of memory")]
     Memory,
 }
 

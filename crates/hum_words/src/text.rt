@@ -6,16 +6,19 @@ ghost use Rattle.hum_words.specs.Branches.{is_lf};
 ghost use Rattle.hum_words.specs.Text.{longest, IsFault, fault_of};
 
 use std::str;
+use thiserror::Error;
 
 /// How many bytes a plan may have.
 pub const LONGEST_PLAN: usize = 65_536;
 
 /// Why bytes are no text of a plan.
-#[derive(Clone, Copy)]
+#[derive(Clone, Copy, Debug, Error)]
 pub enum TextFault {
     /// There are over 65,536 bytes.
+    #[error("N1: a plan of over 65,536 bytes")]
     TooLong,
-    /// They aren't UTF-8: the line, from 1, of the byte behind the longest front that is.
+    /// They aren't UTF-8: the line, from 1, of the byte behind the longest prefix that is.
+    #[error("N1: line {line} isn't UTF-8")]
     NotUtf8 { line: u32 },
 }
 

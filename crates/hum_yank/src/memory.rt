@@ -9,7 +9,7 @@ use crate::options::{Markers, YankOptions};
 use crate::passages::Passages;
 use hum_path::Paths;
 use hum_record::Record;
-use hum_stage::{Command, LooksAhead, Verdict};
+use hum_stage::{Command, LooksAhead, Refusal, Verdict};
 use std::alloc::{AllocError, Global};
 use std::collections::VecDeque;
 
@@ -84,7 +84,7 @@ impl LooksAhead for Memory {
         Ok(())
     }
 
-    fn settle(&mut self, held: &mut VecDeque<Held>) -> Result<Verdict, AllocError> {
+    fn settle(&mut self, held: &mut VecDeque<Held>) -> Result<Verdict, Refusal> {
         let closed = self.paths.is_closed();
         let Some(first) = held.front() else {
             return Ok(Verdict::Waits)

@@ -1,6 +1,6 @@
 -- How the program ends: its status, and the line that it tells.
 use Rattle.std.specs.Prelude.{ℕ, List, codes}
-use Rattle.humpipe.specs.Outcomes as outcomes
+use Rattle.hum_net.specs.Outcomes as outcomes
 use Rattle.humpipe.specs.declared.ending.Ending.{Ending}
 use Rattle.humpipe.specs.declared.ending.Ending.TheVariants.{Outcome, Usage, CannotRead}
 

@@ -2,8 +2,8 @@
 use Rattle.std.specs.Prelude.{◌≡◌, ℕ, suc, ◌<◌, ◌≤◌, List, Err}
 use Rattle.hum_turns.specs.declared.result.RunResult.TheVariants.{Memory}
 use Rattle.hum_plan.specs.Answers.{PlanAnswer}
-use Rattle.humpipe.specs.declared.outcome.Outcome.{Outcome}
-use Rattle.humpipe.specs.declared.outcome.Outcome.TheVariants as outcome
+use Rattle.hum_net.specs.declared.outcome.Outcome.{Outcome}
+use Rattle.hum_net.specs.declared.outcome.Outcome.TheVariants as outcome
 
 -- The file of stage k, from 0, doesn't open, unless memory is wanting.
 abbrev pub IsShut : ℕ → Outcome → Type 0

@@ -2,8 +2,7 @@
 ghost use Rattle.std.specs.Prelude.{◌≡◌, Some};
 ghost use Rattle.humpipe.specs.Endings.{status_of, line_of};
 
-use crate::outcome::Outcome;
-use hum_turns::RunResult;
+use hum_net::{Outcome, RunResult};
 use std::fmt;
 
 /// How the program ends.

@@ -1,15 +1,13 @@
 //! Runs of plans whose scores are files.
 ghost use Rattle.std.specs.Prelude.{◌≡◌, ◌≤◌, ◌<◌, ◌+◌, ◌||◌, true, length, IfOk, OnOk, IfErr};
-ghost use Rattle.humpipe.specs.Nodes.{reads_by, reads_of};
-ghost use Rattle.humpipe.specs.Bundles.{is_refused, is_failed_write};
+ghost use Rattle.hum_plan.specs.Seen.{options_of, stages_of};
+ghost use Rattle.hum_net.specs.Nodes.{reads_by, reads_of};
+ghost use Rattle.hum_net.specs.Bundles.{is_refused, is_failed_write};
 ghost use Rattle.humpipe.specs.Files.{IsShut, IsOneShut, MayCome};
 
-use crate::bundles::plan_stages;
-use crate::outcome::Outcome;
-use crate::running::run_stages;
+use hum_net::{Order, Outcome, RunResult, plan_stages, run_stages};
 use hum_plan::{Options, PlanStage};
 use hum_text::calls::{Marked, Sink};
-use hum_turns::{Order, RunResult};
 use std::fs::{self, File};
 
 /// Adds the opened file of this name.
@@ -41,7 +39,7 @@ fn add_reader(
 ) -> Result<(), Outcome>
     requires { k < 64 }
     ensures added { OnOk result
-        (length readers.new.items ≡ length readers.old.items + reads_by stage.now.options) }
+        (length readers.new.items ≡ length readers.old.items + reads_by (options_of stage.now.options)) }
     ensures shut { IfErr result (IsShut k) }
 {
     match &stage.options {
@@ -57,7 +55,7 @@ fn add_reader(
 /// What the run ends with: the first stage whose file doesn't open, or want of memory.
 fn open_all(rt: &HostRuntime, stages: &[PlanStage]) -> Result<Vec<Marked<File>>, Outcome>
     requires { length stages.now ≤ 64 }
-    ensures count { IfOk result (λ readers. reads_of stages.now ≡ length readers.items) }
+    ensures count { IfOk result (λ readers. reads_of (stages_of stages.now) ≡ length readers.items) }
     ensures shut { IfErr result (IsOneShut (length stages.now)) }
 {
     let mut readers = Vec::new(rt.alloc());

@@ -6,19 +6,14 @@
 
 ghost use Rattle.std.specs.Prelude.{◌≤◌};
 
-mod bundles;
 mod ending;
 mod files;
-mod nodes;
-mod outcome;
-mod running;
 
-use crate::bundles::run_bundle;
 use crate::ending::Ending;
 use crate::files::run_files;
 use hum_line::{Choice, LineFault, Side, read_line};
+use hum_net::{Leftmost, Order, Rightmost, run_bundle};
 use hum_text::calls::{LARGEST_READ, Marked};
-use hum_turns::{Leftmost, Order, Rightmost};
 use hum_words::{LARGEST_BUNDLE, LONGEST_PLAN};
 use std::alloc::Global;
 use std::io::{self, BufWriter, ErrorKind, Printer, Read};
@@ -106,7 +101,7 @@ fn run_program(rt: &HostRuntime) -> io::Result<Ending> {
             Side::Right => run_choice(rt, choice, &mut Rightmost),
         },
         Err(LineFault::Usage) => Ok(Ending::Usage),
-        Err(LineFault::Memory) => Ok(Ending::memory()),
+        Err(LineFault::Memory(_)) => Ok(Ending::memory()),
     }
 }
 

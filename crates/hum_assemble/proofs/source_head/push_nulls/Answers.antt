@@ -19,7 +19,7 @@ push_fitting-requires-clause-lawful c =
 
 pub loop-preserved : goal.loop-preserved
 loop-preserved c =
-    null_added c.args.builder.now c.loop.builder _ c.args.null.now c.loop.counter c.loop.invariant c.in_ok-push_fitting.ensures
+    null_added c.args.builder.now c.loop.builder _ c.args.null.now c.loop.counter c.loop.invariant c.in_ok-push_fitting.ensures.pushed
 
 pub returns : goal.returns
 returns c =

@@ -33,7 +33,7 @@ loop-j-preserved c =
     let width = c.width-j-end.ensures in
     let test = c.loop-j-test.true in
     next_added c.args.builder.now c.loop-j.builder _ (tokens_of c.args.row.now) c.token.result.now c.loop-j.j
-    c.loop-j.invariant c.in_ok-push_fitting.ensures c.token.ensures.token (omega (arith, width, test))
+    c.loop-j.invariant c.in_ok-push_fitting.ensures.pushed c.token.ensures.token (omega (arith, width, test))
 
 pub returns : goal.returns
 returns c =

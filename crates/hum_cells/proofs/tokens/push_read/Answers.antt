@@ -1,4 +1,5 @@
 use Rattle.std.proofs.Common.{◌∙◌, sym}
+use Rattle.hum_stage.proofs.Telling.{told_on}
 use Rattle.hum_cells.proofs.Telling.{stays, changes}
 use Rattle.hum_cells.proofs.tokens.push_read.Goals as goal
 
@@ -12,26 +13,27 @@ returns-then-not-is_retold-clause-pushed g c = λ retelling past above h cell. (
   ),
 )
 
-pub returns-in_ok-push-in-None-clause-pushed : goal.returns-in_ok-push-in-None-clause-pushed
-returns-in_ok-push-in-None-clause-pushed g c = λ retelling past above h cell.
-    let told = rw c.in-None.is at (c.in_ok-rule.ensures retelling past above h cell) in (
+pub returns-clause-pushed : goal.returns-clause-pushed
+returns-clause-pushed g c = λ retelling past above h cell.
+    let told = c.in_ok-retell.ensures retelling past above h cell in (
       told.0,
       (
         c.retell.new.text.items,
         changes retelling.becomes c.args.kern above c.args.token.now (sym c.is_retold.ensures ∙ c.if-not-is_retold.false) ∙ told.1.0,
-        λ tokens held. rw c.deref.ensures.value at (c.in_ok-push-in-None.ensures.pushed _ tokens held),
+        λ tokens held. rw c.deref.ensures.value at (c.in_ok-push-2.ensures.pushed _ tokens held),
       ),
     )
 
-pub push-requires-in-None : goal.push-requires-in-None
-push-requires-in-None g c =
+pub push-requires-2 : goal.push-requires-2
+push-requires-2 g c =
     let m = c.requires.column in
-    let told = rw c.in-None.is at (c.in_ok-rule.ensures m.retelling m.past m.above m.memory m.cell) in
+    let told = c.in_ok-retell.ensures m.retelling m.past m.above m.memory m.cell in
     rw (c.requires.kind, c.deref.ensures.value) told.1.1
 
-pub returns-in-Some-clause-pushed : goal.returns-in-Some-clause-pushed
-returns-in-Some-clause-pushed g c = λ retelling past above h cell.
-    let told = rw c.in-Some.is at (c.in_ok-rule.ensures retelling past above h cell) in (
+pub returns-in_err-retell-clause-pushed : goal.returns-in_err-retell-clause-pushed
+returns-in_err-retell-clause-pushed g c =
+    told_on c.from_residual-in_err-retell.result c.in_err-retell.field-0.0 _ _ c.from_residual-in_err-retell.ensures.1 c.in_err-retell.ensures
+    (λ rule refused retelling past above h cell. let told = refused retelling past above h cell in (
       told.0,
       changes retelling.becomes c.args.kern above c.args.token.now (sym c.is_retold.ensures ∙ c.if-not-is_retold.false) ∙ told.1,
-    )
+    ))

@@ -1,6 +1,7 @@
 use Rattle.std.proofs.Common.{◌≡◌, ◌∙◌, ◌∷◌, refl, length, arith}
 use Rattle.hum_record.specs.Row.{tokens_of, width_of}
 use Rattle.hum_path.specs.Chains.{history}
+use Rattle.hum_stage.proofs.Telling.{answered_on}
 use Rattle.hum_cells.proofs.Telling.{done_more, refused_at, done_all, as_wide, wider, last_cell, told_data, fits, too_long, none_done, token_of_data}
 use Rattle.hum_cells.proofs.tokens.tell_tokens.Goals as goal
 
@@ -39,32 +40,34 @@ push_told-requires-clause-column g c =
           (omega (arith, width, at)) c.token.ensures.token;
     }
 
-pub returns-in-Some : goal.returns-in-Some
-returns-in-Some g c = λ retelling past h kern sound.
+pub returns-in_err-push_told : goal.returns-in_err-push_told
+returns-in_err-push_told g c =
+    answered_on c.from_residual.result c.in_err-push_told.field-0.0 _ _ c.from_residual.ensures.1 c.in_err-push_told.ensures.pushed
+    (λ rule pushed retelling past h kern sound.
     let before = c.loop-j.invariant.told retelling past h kern sound in
-    let p = rw c.in-Some.is at (c.in_ok-refused.ensures.pushed retelling (c.args.row.now ∷ past) (history past c.loop-j.j) before.0
+    let p = pushed retelling (c.args.row.now ∷ past) (history past c.loop-j.j) before.0
     (last_cell past c.args.row.now c.loop-j.j c.token.result.now sound c.requires.kind
-    (let width = c.width-j-end.ensures in let at = c.loop-j-test.true in omega (arith, width, at)) c.token.ensures.token)) in
+    (let width = c.width-j-end.ensures in let at = c.loop-j-test.true in omega (arith, width, at)) c.token.ensures.token) in
     let wide = as_wide past c.args.row.now sound c.requires.kind in
     let columns = wide.0 in
     let kerns : length c.args.kern.now ≡ width_of c.args.row.now = rw kern wide.1 in
     let width = c.width-j-end.ensures in
     let at = c.loop-j-test.true in
-    let refused = refused_at _ c.args.kern.now _ (tokens_of c.args.row.now) c.loop-j.j _ _ c.in-Some.rule
+    let refused = refused_at _ c.args.kern.now _ (tokens_of c.args.row.now) c.loop-j.j _ _ rule
     (omega (arith, kerns, width, at)) (omega (arith, columns, width, at)) (omega (arith, width, at))
     before.1 (rw c.token.ensures.token at p.1) in (
       p.0,
       told_data retelling past c.args.row.now c.requires.kind ∙ rw (← kern, refused) refl,
-    )
+    ))
 
 pub loop-j-preserved : goal.loop-j-preserved
 loop-j-preserved g c = record {
-  kind = c.in_ok-refused.ensures.kind;
+  kind = c.in_ok-push_told.ensures.kind;
   told = λ retelling past h kern sound.
       let before = c.loop-j.invariant.told retelling past h kern sound in
-      let p = rw c.in_default.is at (c.in_ok-refused.ensures.pushed retelling (c.args.row.now ∷ past) (history past c.loop-j.j) before.0
+      let p = c.in_ok-push_told.ensures.pushed retelling (c.args.row.now ∷ past) (history past c.loop-j.j) before.0
       (last_cell past c.args.row.now c.loop-j.j c.token.result.now sound c.requires.kind
-      (let width = c.width-j-end.ensures in let at = c.loop-j-test.true in omega (arith, width, at)) c.token.ensures.token)) in
+      (let width = c.width-j-end.ensures in let at = c.loop-j-test.true in omega (arith, width, at)) c.token.ensures.token) in
       let wide = as_wide past c.args.row.now sound c.requires.kind in
       let columns = wide.0 in
       let kerns : length c.args.kern.now ≡ width_of c.args.row.now = rw kern wide.1 in
@@ -77,14 +80,14 @@ loop-j-preserved g c = record {
       );
 }
 
-pub returns-in-Some-finish : goal.returns-in-Some-finish
-returns-in-Some-finish g c = λ retelling past h kern sound.
+pub returns-in-Some : goal.returns-in-Some
+returns-in-Some g c = λ retelling past h kern sound.
     let before = c.loop-j.invariant.told retelling past h kern sound in
     let width = c.width-j-end.ensures in
     let at = c.loop-j-test.false in
     let d = before.1 in
     let all = done_all _ _ _ _ _ _ _ (omega (arith, width, at)) d in
-    let made = c.in-Some-finish.ensures _ d.done d.holds in (
+    let made = c.in-Some.ensures _ d.done d.holds in (
       before.0,
       told_data retelling past c.args.row.now c.requires.kind ∙ rw (← kern, all, made.0) (fits d.done made.1),
     )

@@ -1,14 +1,22 @@
-use Rattle.std.proofs.lemmas.Result.{err_from_is_err_and}
+use Rattle.hum_record.specs.declared.SpinedKind.TheVariants.{Interpretation}
+use Rattle.hum_record.specs.Row.{tokens_of}
+use Rattle.hum_cleave.specs.Columns.{together, opening_flags}
+use Rattle.hum_stage.proofs.Telling.{told_none, told_to}
 use Rattle.hum_cleave.proofs.columns.open.Goals as goal
 
-pub returns-in_err-opening_marks : goal.returns-in_err-opening_marks
-returns-in_err-opening_marks c =
-    let p = err_from_is_err_and c.from_residual.result c.from_residual.ensures.1 in rw p.1 (record { decided = tt; columns = tt })
+pub returns-in_err-opening_marks-clause-decided : goal.returns-in_err-opening_marks-clause-decided
+returns-in_err-opening_marks-clause-decided c = told_none c.from_residual.result _ c.from_residual.ensures.1
 
-pub returns-in_err-made : goal.returns-in_err-made
-returns-in_err-made c =
-    let p = err_from_is_err_and c.from_residual-in_err-made.result c.from_residual-in_err-made.ensures.1 in rw p.1 (record { decided = tt; columns = tt })
+pub returns-in_err-made-clause-decided : goal.returns-in_err-made-clause-decided
+returns-in_err-made-clause-decided c = told_none c.from_residual-in_err-made.result _ c.from_residual-in_err-made.ensures.1
 
-pub returns-in_err-open : goal.returns-in_err-open
-returns-in_err-open c =
-    let p = err_from_is_err_and c.from_residual-in_err-open.result c.from_residual-in_err-open.ensures.1 in rw p.1 (record { decided = tt; columns = tt })
+pub returns-in_err-open-clause-decided : goal.returns-in_err-open-clause-decided
+returns-in_err-open-clause-decided c = told_none c.from_residual-in_err-open.result _ c.from_residual-in_err-open.ensures.1
+
+pub returns-clause-decided : goal.returns-clause-decided
+returns-clause-decided c = told_to c.give.result _ _
+    (λ refused given room. given Interpretation
+    (together c.args.options.now.new_name (opening_flags c.args.options.now.name (tokens_of c.args.row)) (tokens_of c.args.row)) room
+    (rw (c.new_name.ensures.name, c.each.ensures, c.new-marks.ensures, c.in_ok-opening_marks.ensures, c.name.ensures)
+    at c.in_ok-made.ensures))
+    c.give.ensures

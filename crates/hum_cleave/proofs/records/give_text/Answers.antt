@@ -1,6 +1,12 @@
-use Rattle.std.proofs.Common.{◌∙◌, ap, sym}
+use Rattle.std.proofs.Common.{◌∙◌, ap, sym, subst}
+use Rattle.hum_record.specs.declared.SpinedKind.TheVariants.{Local, Values}
+use Rattle.hum_record.specs.Row.{Row, tokens_of, chosen}
+use Rattle.hum_columns.specs.Following.{Answers}
+use Rattle.hum_cleave.specs.Cleave.{text_told}
+use Rattle.hum_cleave.specs.Columns.{together}
+use Rattle.hum_cleave.specs.Tokens.{comment_of, data_of}
 use Rattle.std.specs.Prelude.{Ok}
-use Rattle.std.proofs.lemmas.Result.{err_from_is_err_and}
+use Rattle.hum_stage.proofs.Telling.{told_none, told_to}
 use Rattle.hum_cleave.proofs.Fitted.{stays}
 use Rattle.hum_cleave.proofs.records.give_text.Goals as goal
 
@@ -12,16 +18,34 @@ returns-then-not-some c = λ room.
 
 pub returns-in_err-push_back : goal.returns-in_err-push_back
 returns-in_err-push_back c =
-    let p = err_from_is_err_and c.from_residual.result c.from_residual.ensures.1 in rw p.1 tt
+    told_none c.from_residual.result _ c.from_residual.ensures.1
 
 pub returns-in_err-made-in-Local : goal.returns-in_err-made-in-Local
 returns-in_err-made-in-Local c =
-    let p = err_from_is_err_and c.from_residual-in_err-made-in-Local.result c.from_residual-in_err-made-in-Local.ensures.1 in rw p.1 tt
+    told_none c.from_residual-in_err-made-in-Local.result _ c.from_residual-in_err-made-in-Local.ensures.1
 
 pub returns-in_err-made-in-Values : goal.returns-in_err-made-in-Values
 returns-in_err-made-in-Values c =
-    let p = err_from_is_err_and c.from_residual-in_err-made-in-Values.result c.from_residual-in_err-made-in-Values.ensures.1 in rw p.1 tt
+    told_none c.from_residual-in_err-made-in-Values.result _ c.from_residual-in_err-made-in-Values.ensures.1
 
 pub returns-in_err-push_back-in_default : goal.returns-in_err-push_back-in_default
 returns-in_err-push_back-in_default c =
-    let p = err_from_is_err_and c.from_residual-in_err-push_back-in_default.result c.from_residual-in_err-push_back-in_default.ensures.1 in rw p.1 tt
+    told_none c.from_residual-in_err-push_back-in_default.result _ c.from_residual-in_err-push_back-in_default.ensures.1
+
+pub returns-in_ok-made-in-Local : goal.returns-in_ok-made-in-Local
+returns-in_ok-made-in-Local c = told_to c.give.result _ _
+    (λ refused given room. subst
+    (λ (r : Row). Answers (text_told c.args.separator.now c.args.marks.now r) room c.give.new.out.items refused)
+    (sym c.in-Local.ensures.shape) (given Local
+    (together (comment_of (chosen c.args.marks.now (tokens_of c.args.row))) c.args.marks.now (tokens_of c.args.row)) room
+    (rw c.each.ensures at c.in_ok-made-in-Local.ensures)))
+    c.give.ensures
+
+pub returns-in_ok-made-in-Values : goal.returns-in_ok-made-in-Values
+returns-in_ok-made-in-Values c = told_to c.give-in-Values.result _ _
+    (λ refused given room. subst
+    (λ (r : Row). Answers (text_told c.args.separator.now c.args.marks.now r) room c.give-in-Values.new.out.items refused)
+    (sym c.in-Values.ensures.shape) (given Values
+    (together (data_of c.args.separator.now (chosen c.args.marks.now (tokens_of c.args.row))) c.args.marks.now (tokens_of c.args.row))
+    room (rw c.each-in-Values.ensures at c.in_ok-made-in-Values.ensures)))
+    c.give-in-Values.ensures

@@ -28,7 +28,7 @@ push_fitting-requires-in-loop-i-clause-fits c =
 pub returns-then-begins : goal.returns-then-begins
 returns-then-begins c =
     let p = c.index-pieces-i.result in
-    let made = draft_push c.loop-i.last c.push_fitting.new.self (codes "*") c.loop-i.invariant.made c.in_ok-push_fitting.ensures in
+    let made = draft_push c.loop-i.last c.push_fitting.new.self (codes "*") c.loop-i.invariant.made c.in_ok-push_fitting.ensures.pushed in
     let back = c.split_at.ensures.back in
     let done = rw back at c.join_len.ensures.pieces in
     let most = c.join_len.ensures.at_most in

@@ -13,7 +13,7 @@ pub loop-piece-preserved : goal.loop-piece-preserved
 loop-piece-preserved c =
     let p = c.piece-item.result in
     let next = tokens_at c.args.pieces.now c.loop-piece.piece-index p c.loop-piece-test.true c.piece-item.is in
-    let made = draft_push c.loop-piece.builder c.push_fitting.new.self c.token.result.now c.loop-piece.invariant.made c.in_ok-push_fitting.ensures in
+    let made = draft_push c.loop-piece.builder c.push_fitting.new.self c.token.result.now c.loop-piece.invariant.made c.in_ok-push_fitting.ensures.pushed in
     record {
       made = drafted c.push_fitting.new.self _ made;
       lawful = (lawful_at c.args.pieces.now c.loop-piece.piece-index p c.loop-piece-test.true c.piece-item.is c.loop-piece.invariant.lawful).1;

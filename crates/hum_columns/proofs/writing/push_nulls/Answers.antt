@@ -11,7 +11,7 @@ push_fitting-requires-clause-fits c =
 
 pub loop-preserved : goal.loop-preserved
 loop-preserved c =
-    let made = draft_push c.loop.builder c.push_fitting.new.self (codes "*") c.loop.invariant.made c.in_ok-push_fitting.ensures in
+    let made = draft_push c.loop.builder c.push_fitting.new.self (codes "*") c.loop.invariant.made c.in_ok-push_fitting.ensures.pushed in
     record {
       made = drafted c.push_fitting.new.self _ made;
       list = list_push c.push_fitting.new.self c.loop.builder.tokens (codes "*") _ _ _ made (nulls_more c.args.count c.loop.counter c.loop-test.true)

@@ -1,7 +1,7 @@
 use Rattle.std.proofs.Common.{◌∙◌, sym, subst, List}
 use Rattle.hum_columns.specs.Spread.{Piece}
 use Rattle.hum_columns.specs.Writing.{Fit}
-use Rattle.std.proofs.lemmas.Result.{err_from_is_err_and}
+use Rattle.hum_stage.proofs.Telling.{told_none}
 use Rattle.hum_extract.proofs.CutFits.{pieces_fit}
 use Rattle.hum_extract.proofs.cutting.cut.Goals as goal
 
@@ -12,4 +12,4 @@ write_pieces-requires-clause-fit c =
 
 pub returns-in_err-pieces : goal.returns-in_err-pieces
 returns-in_err-pieces c =
-    let p = err_from_is_err_and c.from_residual.result c.from_residual.ensures.1 in rw p.1 tt
+    told_none c.from_residual.result _ c.from_residual.ensures.1

@@ -1,6 +1,6 @@
 use Rattle.std.proofs.Common.{◌≡◌, ℕ, ap, ◌∙◌, arith}
-use Rattle.hum_kern.specs.Ratio.{reduced}
-use Rattle.hum_kern.proofs.Ratios.{same_parts}
+use Rattle.hum_frac.specs.Ratio.{reduced}
+use Rattle.hum_frac.proofs.Ratios.{same_parts}
 use Rattle.hum_kern.specs.Value.{dotted}
 use Rattle.hum_kern.proofs.Dots.{shared_bound, shared_positive, shared_reduced}
 use Rattle.hum_kern.proofs.base.with_dots.Goals as goal

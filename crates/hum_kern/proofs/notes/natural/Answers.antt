@@ -1,7 +1,7 @@
 use Rattle.std.proofs.Common.{◌≡◌, ℤ, pos, ◌-ℤ◌, ◌-◌, Some, arith, ap, ◌∙◌, to_z, of_z, w8, slice_index_or}
 use Rattle.std.specs.Prelude.{ℕ}
 use Rattle.std.proofs.lemmas.Int.{ints}
-use Rattle.hum_kern.specs.Spelling.{natural_note}
+use Rattle.hum_pitch.specs.Spelling.{natural_note}
 use Rattle.hum_kern.proofs.Letters.{steps, capital_is, capital_range}
 use Rattle.hum_kern.proofs.notes.natural.Goals as goal
 

@@ -7,11 +7,11 @@ pub returns-clause-once : goal.returns-clause-once
 returns-clause-once c = IfOk-weaker c.again.result _ _ (λ both h. h.0) c.again.ensures.given
 
 pub returns-clause-twice : goal.returns-clause-twice
-returns-clause-twice c = rw c.requires.alike at (IfOk-weaker c.again.result _ _ (λ both h. h.1) c.again.ensures.given)
+returns-clause-twice c = rw c.in_ok-twice.ensures at (IfOk-weaker c.again.result _ _ (λ both h. h.1) c.again.ensures.given)
 
 pub returns-clause-same : goal.returns-clause-same
 returns-clause-same c =
     IfOk-weaker c.again.result _ _
-    (λ both h. names_twice (texts c.args.names.items) c.args.records.now both.0 both.1 h.0 (rw c.requires.alike at h.1)
+    (λ both h. names_twice (texts c.args.names.items) c.args.records.now both.0 both.1 h.0 (rw c.in_ok-twice.ensures at h.1)
     c.again.ensures.keeps c.requires.closed.0)
     c.again.ensures.given

@@ -16,4 +16,5 @@ invariant_of-self c =
           (sym (c.is_match-found.ensures.found ∙ same_test text c.args.token.now _
           (rw c.deref_mut.ensures.value c.self.invariant.0) (λ k. (c.type_inv.token k).fits))),
       c.self.invariant.2,
+      c.self.invariant.3,
     )

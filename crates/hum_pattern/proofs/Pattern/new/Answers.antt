@@ -11,6 +11,7 @@ invariant_of-result c =
       searches c.in-Ok.regex c.args.text.now made.source made.config made.read,
       c.in_ok-none_searched-in-Ok.ensures c.args.text.now,
       c.is_barline.ensures,
+      searches c.in-Ok.regex c.args.text.now made.source made.config made.read,
     )
 
 pub returns-in_ok-none_searched-in-Ok-clause-sound : goal.returns-in_ok-none_searched-in-Ok-clause-sound

@@ -24,7 +24,7 @@ loop-j-preserved c =
     let made = named_token c.args.pace.now.text c.deref.result.now _ c.token-in-loop-j.result.now
     c.tb_token.result.now (c.deref.ensures.value ∙ c.in_ok-named.ensures.token)
     c.token-in-loop-j.ensures.token c.tb_token.ensures.token in
-    rw c.in_ok-push_fitting.ensures (record {
+    rw c.in_ok-push_fitting.ensures.pushed (record {
       kind = c.loop-j.invariant.kind;
       sound = c.loop-j.invariant.sound;
       made = one_more (tb_token c.args.pace.now.text) (tokens_of c.args.row.now) c.loop-j.builder.tokens _

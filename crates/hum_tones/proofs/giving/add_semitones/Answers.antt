@@ -1,6 +1,6 @@
 use Rattle.std.proofs.Common.{◌∙◌, sym, ap}
 use Rattle.std.specs.Prelude.{option_map}
-use Rattle.hum_kern.specs.Given.{spelled}
+use Rattle.hum_pitch.specs.Given.{spelled}
 use Rattle.hum_kern.specs.Note.{reading}
 use Rattle.hum_tones.proofs.Numbers.{adds_semitones, as_passed}
 use Rattle.hum_tones.proofs.giving.add_semitones.Goals as goal

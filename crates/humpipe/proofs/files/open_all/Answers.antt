@@ -1,6 +1,6 @@
 use Rattle.std.proofs.Common.{◌∙◌, ap, sym, Some, length}
 use Rattle.std.proofs.lemmas.Option.{slice_get-get_or}
-use Rattle.humpipe.proofs.Bundling.{counted_next, counted_all}
+use Rattle.humpipe.proofs.Counting.{counted_next, counted_all}
 use Rattle.humpipe.proofs.files.open_all.Goals as goal
 
 pub loop-k-preserved : goal.loop-k-preserved

@@ -1,6 +1,6 @@
 use Rattle.std.proofs.Common.{◌≡◌, ◌∙◌, sym, ap, arith, subst, ◌∷◌, []}
 use Rattle.std.specs.Prelude.{Ok, Err}
-use Rattle.std.proofs.lemmas.Result.{err_from_is_err_and}
+use Rattle.hum_stage.proofs.Telling.{answered_none}
 use Rattle.hum_record.specs.declared.SpinedKind.TheVariants.{Values}
 use Rattle.hum_record.specs.Row.{Row, Spined, tokens_of}
 use Rattle.hum_path.specs.Score.{path_after}
@@ -193,50 +193,40 @@ returns-clause-fewer c =
 
 pub returns-in_err-row-clause-fewer : goal.returns-in_err-row-clause-fewer
 returns-in_err-row-clause-fewer c =
-    let p = err_from_is_err_and c.from_residual.result c.from_residual.ensures.1 in
-    rw p.1 tt
+    answered_none c.from_residual.result _ c.from_residual.ensures.1
 
 pub returns-in_err-row-clause-settles : goal.returns-in_err-row-clause-settles
 returns-in_err-row-clause-settles c =
-    let p = err_from_is_err_and c.from_residual.result c.from_residual.ensures.1 in
-    rw p.1 tt
+    answered_none c.from_residual.result _ c.from_residual.ensures.1
 
 pub returns-in_err-into_record-clause-fewer : goal.returns-in_err-into_record-clause-fewer
 returns-in_err-into_record-clause-fewer c =
-    let p = err_from_is_err_and c.from_residual-in_err-into_record.result c.from_residual-in_err-into_record.ensures.1 in
-    rw p.1 tt
+    answered_none c.from_residual-in_err-into_record.result _ c.from_residual-in_err-into_record.ensures.1
 
 pub returns-in_err-into_record-clause-settles : goal.returns-in_err-into_record-clause-settles
 returns-in_err-into_record-clause-settles c =
-    let p = err_from_is_err_and c.from_residual-in_err-into_record.result c.from_residual-in_err-into_record.ensures.1 in
-    rw p.1 tt
+    answered_none c.from_residual-in_err-into_record.result _ c.from_residual-in_err-into_record.ensures.1
 
 pub returns-in_err-known-clause-fewer : goal.returns-in_err-known-clause-fewer
 returns-in_err-known-clause-fewer c =
-    let p = err_from_is_err_and c.from_residual-in_err-known.result c.from_residual-in_err-known.ensures.1 in
-    rw p.1 tt
+    answered_none c.from_residual-in_err-known.result _ c.from_residual-in_err-known.ensures.1
 
 pub returns-in_err-known-clause-settles : goal.returns-in_err-known-clause-settles
 returns-in_err-known-clause-settles c =
-    let p = err_from_is_err_and c.from_residual-in_err-known.result c.from_residual-in_err-known.ensures.1 in
-    rw p.1 tt
+    answered_none c.from_residual-in_err-known.result _ c.from_residual-in_err-known.ensures.1
 
 pub returns-in_err-made-clause-fewer : goal.returns-in_err-made-clause-fewer
 returns-in_err-made-clause-fewer c =
-    let p = err_from_is_err_and c.from_residual-in_err-made.result c.from_residual-in_err-made.ensures.1 in
-    rw p.1 tt
+    answered_none c.from_residual-in_err-made.result _ c.from_residual-in_err-made.ensures.1
 
 pub returns-in_err-made-clause-settles : goal.returns-in_err-made-clause-settles
 returns-in_err-made-clause-settles c =
-    let p = err_from_is_err_and c.from_residual-in_err-made.result c.from_residual-in_err-made.ensures.1 in
-    rw p.1 tt
+    answered_none c.from_residual-in_err-made.result _ c.from_residual-in_err-made.ensures.1
 
 pub returns-in_err-row-2-clause-fewer : goal.returns-in_err-row-2-clause-fewer
 returns-in_err-row-2-clause-fewer c =
-    let p = err_from_is_err_and c.from_residual-in_err-row-2.result c.from_residual-in_err-row-2.ensures.1 in
-    rw p.1 tt
+    answered_none c.from_residual-in_err-row-2.result _ c.from_residual-in_err-row-2.ensures.1
 
 pub returns-in_err-row-2-clause-settles : goal.returns-in_err-row-2-clause-settles
 returns-in_err-row-2-clause-settles c =
-    let p = err_from_is_err_and c.from_residual-in_err-row-2.result c.from_residual-in_err-row-2.ensures.1 in
-    rw p.1 tt
+    answered_none c.from_residual-in_err-row-2.result _ c.from_residual-in_err-row-2.ensures.1

@@ -7,8 +7,8 @@ use Rattle.hum_path.specs.Spines.{after}
 use Rattle.hum_path.specs.Rules.{is_closed}
 use Rattle.hum_stage.specs.Decided.{HasStepped}
 use Rattle.hum_columns.specs.Following.{Answers, Follows, memory}
-use Rattle.hum_columns.proofs.Taking.{wide_later, steps_opening, steps_later, both_ok}
-use Rattle.std.proofs.lemmas.Result.{err_from_is_err_and}
+use Rattle.hum_stage.proofs.Telling.{both_told, told_on, told_none}
+use Rattle.hum_columns.proofs.Taking.{wide_later, steps_opening, steps_later, refuses_later, unless_refused}
 use Rattle.hum_extract.specs.Extract.{column_command}
 use Rattle.hum_extract.specs.Written.{choice_of}
 use Rattle.hum_extract.proofs.ChosenTokens.{no_first, no_others}
@@ -39,12 +39,12 @@ returns-then-is_unopened c =
     let on : is_closed c.args.self.now.columns.path ≡ true = sym c.is_unopened.ensures ∙ c.if-is_unopened.true in
     let out = c.open.new.out in
     let new = c.open.new.columns in
-    both_ok c.open.result (λ refused. (room : ℕ) → Answers (command.opening (tokens_of row)) room out refused)
+    both_told c.open.result (λ refused. (room : ℕ) → Answers (command.opening (tokens_of row)) room out refused)
     (λ refused. IfNone refused (new ≡ memory (after c.args.self.now.columns.path row) (command.choose (tokens_of row))))
     (λ refused. HasStepped (Follows command c.args.self.now.columns) (Follows command new) row c.args.room out refused)
     (λ refused answers marked decide past follows score. steps_opening command row past c.args.room out new refused (opening_length choice) follows score is
     on (answers c.args.room) marked)
-    c.open.ensures.decided c.open.ensures.columns
+    c.open.ensures.decided (unless_refused c.open.result _ c.open.ensures.columns)
 
 pub cut-requires : goal.cut-requires
 cut-requires c =
@@ -65,15 +65,20 @@ returns c decide past follows score =
     let row = c.args.next in
     let is = steered_kind row (sym c.asks.ensures.asks ∙ c.if-not-asks.false) in
     let off : is_closed c.args.self.now.columns.path ≡ false = sym c.is_unopened.ensures ∙ c.if-is_unopened.false in
-    let answers = rw (c.each.ensures, c.marks.ensures) at c.in_ok-refused.ensures in
+    let answers = rw (c.each.ensures, c.marks.ensures) at c.in_ok-cut.ensures in
     let alone : option_to_list c.out.inside.one ≡ [] = no_first c.out.inside.one _ (c.out.view_is ∙ c.requires.empty) in
-    rw alone (steps_later command row past c.args.room c.cut.new.out.items c.pass.new.self c.in_ok-refused.refused follows score is off answers
+    rw alone (steps_later command row past c.args.room c.cut.new.out.items c.pass.new.self follows score is off answers
     c.in_ok-pass.ensures.passed c.in_ok-pass.ensures.sources)
 
-pub returns-in_err-refused : goal.returns-in_err-refused
-returns-in_err-refused c =
-    let p = err_from_is_err_and c.from_residual.result c.from_residual.ensures.1 in rw p.1 tt
+pub returns-in_err-cut : goal.returns-in_err-cut
+returns-in_err-cut c =
+    let command = column_command (choice_of c.args.self.now.choice) in
+    let row = c.args.next in
+    let is = steered_kind row (sym c.asks.ensures.asks ∙ c.if-not-asks.false) in
+    let off : is_closed c.args.self.now.columns.path ≡ false = sym c.is_unopened.ensures ∙ c.if-is_unopened.false in
+    told_on c.from_residual.result c.in_err-cut.field-0.0 _ _ c.from_residual.ensures.1 c.in_err-cut.ensures
+    (λ rule answers decide past follows score. refuses_later command row past c.args.room c.cut.new.out.items rule follows is off
+    (rw (c.each.ensures, c.marks.ensures) at answers))
 
 pub returns-in_err-pass : goal.returns-in_err-pass
-returns-in_err-pass c =
-    let p = err_from_is_err_and c.from_residual-in_err-pass.result c.from_residual-in_err-pass.ensures.1 in rw p.1 tt
+returns-in_err-pass c = told_none c.from_residual-in_err-pass.result _ c.from_residual-in_err-pass.ensures.1

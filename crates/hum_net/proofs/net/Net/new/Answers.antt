@@ -1,55 +1,8 @@
-use Rattle.std.proofs.Common.{◌≡◌, ◌∙◌, ◌++◌, [], None, refl, sym, ap, subst, arith}
-use Rattle.std.proofs.lemmas.Option.{none-some}
-use Rattle.std.specs.Io.KnownBytes.{Appends}
-use Rattle.hum_record.specs.Row.{Row, text_of}
-use Rattle.hum_turns.specs.Plan.{last}
-use Rattle.hum_turns.specs.Links.{Link, fresh}
-use Rattle.hum_turns.specs.Failures.{Now}
-use Rattle.hum_turns.specs.Text.{text}
-use Rattle.hum_turns.proofs.Writing.{still}
-use Rattle.hum_net.proofs.Appending.{appends_none}
-use Rattle.hum_net.specs.Scene.{plan_of, moved}
+use Rattle.std.proofs.Common.{◌∙◌, ap, sym}
+use Rattle.hum_net.specs.Nodes.{reads_of}
+use Rattle.hum_net.proofs.Planning.{counted}
 use Rattle.hum_net.proofs.net.Net.new.Goals as goal
 
-pub returns-in-Ok-new-clause-ok : goal.returns-in-Ok-new-clause-ok
-returns-in-Ok-new-clause-ok g c s now first plan begun =
-    let held = g.S.Sink.contents c.args.sink in
-    let l = last (plan_of s) in
-    let none : [] ≡ text text_of (now.links l).taken ++ now.part =
-    sym (ap (λ (j : Link Row). text text_of j.taken ++ now.part) (first.links l) ∙ first.part) in
-    let n = c.in-Ok.ensures.len in
-    let k = c.len.ensures in
-    let o = c.args.nodes.ok.0 in
-    let count = begun.count in
-    let a = c.in-Ok.actors.ok.0 in
-    record {
-      plan = plan;
-      first = now;
-      turns = [];
-      begin = first;
-      walk = still now;
-      counted = refl;
-      actors = omega (arith, n, k, o, count, a);
-      going = λ e. c.in-Ok-new.ensures.stands (moved s now.links) first.links (record {
-        of_size = begun.of_size ∙ sym c.from.ensures;
-        count = begun.count;
-        stand = begun.stand;
-      });
-      failure = sym first.failure;
-      written = subst (Appends held held) none (appends_none held);
-      is_flushed = λ e none heard. absurd (none-some e
-          (sym (ap (λ (j : Link Row). j.heard) (first.links l)) ∙ heard));
-    }
-
-pub returns-in-Ok-new-clause-runs : goal.returns-in-Ok-new-clause-runs
-returns-in-Ok-new-clause-runs g c scene begun =
-    let first : Now Row = record { links = λ k. fresh; part = []; failure = None } in
-    record {
-      start = g.S.Sink.contents c.args.sink;
-      scene = scene;
-      now = λ rests. first;
-      rests = begun.rests;
-      at = λ rests over. returns-in-Ok-new-clause-ok g c (scene rests) first
-          (record { links = λ k. refl; part = refl; failure = refl }) (begun.plan rests)
-          (begun.begun rests);
-    }
+pub of_stages-requires-clause-readers : goal.of_stages-requires-clause-readers
+of_stages-requires-clause-readers g c =
+    ap reads_of c.into_stages.ensures.stages ∙ sym (counted c.args.plan) ∙ c.requires.readers

@@ -1,12 +1,12 @@
-use Rattle.std.proofs.Common.{◌∙◌, ap, is_some}
-use Rattle.hum_nodes.specs.Nodes.{StandsAs}
-use Rattle.hum_net.proofs.Running.{some_actor}
+use Rattle.hum_net.proofs.Stepping.{is_running}
 use Rattle.hum_net.proofs.net.Net.over.Goals as goal
 
+pub over-requires : goal.over-requires
+over-requires g c = is_running _ c.self.invariant
+
 pub returns-clause-progress : goal.returns-clause-progress
-returns-clause-progress g c start s now h none =
-    some_actor (StandsAs g.F.Feeds.stands g.W.Works.stands) g.S.Sink.contents g.S.Sink.flushed start s
-    c.args.self.now now h none
+returns-clause-progress g c start s now here =
+    c.over.ensures.progress start s now (rw (← c.self.view_is) at here)
 
 pub returns-clause-over : goal.returns-clause-over
-returns-clause-over g c start s now h = c.is_some.ensures ∙ ap is_some (c.result.ensures start s now h)
+returns-clause-over g c start s now here = c.over.ensures.over start s now (rw (← c.self.view_is) at here)

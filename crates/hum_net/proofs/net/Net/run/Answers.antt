@@ -1,14 +1,14 @@
-use Rattle.std.proofs.Common.{refl}
+use Rattle.std.proofs.Common.{◌∙◌}
+use Rattle.hum_net.proofs.Stepping.{ran_lasts}
 use Rattle.hum_net.proofs.net.Net.run.Goals as goal
 
-pub run_by-requires : goal.run_by-requires
-run_by-requires g c = record { unknown = rw (c.new.ensures.first, c.new.ensures.behind) refl; net = c.requires }
+pub run-requires : goal.run-requires
+run-requires g c = c.self.invariant
 
-pub run_by-requires-2 : goal.run_by-requires-2
-run_by-requires-2 g c = record { unknown = refl; net = c.requires }
+pub invariant_of-self : goal.invariant_of-self
+invariant_of-self g c = ran_lasts _ _ _ _ _ _ c.self.invariant c.run.ensures.ran
 
-pub returns-then-has_several : goal.returns-then-has_several
-returns-then-has_several g c = c.run_by.ensures
-
-pub returns : goal.returns
-returns g c = c.run_by-2.ensures
+pub returns-clause-again : goal.returns-clause-again
+returns-clause-again g c start s now by here over =
+    let again = c.run.ensures.again start s now by (rw (← c.self.view_is) at here) over in
+    (again.0, again.1 ∙ c.self.view_is, again.2)

@@ -1,11 +1,4 @@
-use Rattle.std.proofs.Common.{arith}
-use Rattle.hum_nodes.specs.Nodes.{StandsAs}
-use Rattle.hum_net.proofs.Running.{turns_at_most}
 use Rattle.hum_net.proofs.net.Net.turns.Goals as goal
 
 pub returns-clause-most : goal.returns-clause-most
-returns-clause-most g c start s now h none =
-    let m = turns_at_most (StandsAs g.F.Feeds.stands g.W.Works.stands) g.S.Sink.contents
-    g.S.Sink.flushed start s c.args.self.now now h none in
-    let n = h.counted in
-    omega (arith, m, n)
+returns-clause-most g c start s now here = c.turns.ensures.most start s now (rw (← c.self.view_is) at here)

@@ -17,11 +17,11 @@ returns-in-Ok-clause-ok g c t h going score =
     lags_put 65536 _ _ _ _ _ _ t c.args.next _ c.in-Ok.due h
     going score (put_empty _ _ _ _ _ c.args.next c.if-self.false c.requires)
     (no_fault _ (sym c.is_some.ensures ∙ c.if-is_some.false)) c.in_ok-put.ensures
-    (rw c.in-Ok.is at c.in_ok-next.ensures.settles)
+    c.in-Ok.ensures.settles
 
-pub returns-in-Err-clause-ok : goal.returns-in-Err-clause-ok
-returns-in-Err-clause-ok g c t h going score = rw c.refuse.ensures.fault
-    (lags_put_refused 65536 _ _ _ _ _ _ _ t c.args.next _ c.in-Err.rule h score
+pub returns-in-Err-Rule-clause-ok : goal.returns-in-Err-Rule-clause-ok
+returns-in-Err-Rule-clause-ok g c t h going score = rw c.refuse.ensures.fault
+    (lags_put_refused 65536 _ _ _ _ _ _ _ t c.args.next _ c.in-Err-Rule.rule h score
     (put_empty _ _ _ _ _ c.args.next c.if-self.false c.requires)
     (no_fault _ (sym c.is_some.ensures ∙ c.if-is_some.false)) c.in_ok-put.ensures
-    (rw c.in-Err.is at c.in_ok-next.ensures.settles))
+    (rw c.in-Err-Rule.field-0-is at c.in-Err-Rule.ensures.settles))

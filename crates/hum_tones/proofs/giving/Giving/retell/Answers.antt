@@ -4,6 +4,7 @@ use Rattle.std.proofs.lemmas.Iterator.Consumers.{YieldsList-turn, YieldsList-end
 use Rattle.std.proofs.lemmas.List.{length_push, nil_from_length}
 use Rattle.hum_tones.specs.Subtokens.{subtokens}
 use Rattle.hum_tones.specs.Giving.{gives}
+use Rattle.hum_stage.proofs.Telling.{told_on}
 use Rattle.hum_tones.proofs.SoFar.{nothing_yet, one_more, refused, none_given, some_given}
 use Rattle.hum_tones.proofs.GivenLawful.{given_lawful}
 use Rattle.hum_tones.proofs.giving.Giving.retell.Goals as goal
@@ -11,16 +12,16 @@ use Rattle.hum_tones.proofs.giving.Giving.retell.Goals as goal
 pub loop-part-init : goal.loop-part-init
 loop-part-init c = rw c.requires.empty (nothing_yet (gives c.args.self) (subtokens c.args.token.now))
 
-pub returns-in-Some-2 : goal.returns-in-Some-2
-returns-in-Some-2 c =
+pub returns-in_err-add : goal.returns-in_err-add
+returns-in_err-add c =
     let start = c.into_iter-part-iterator.ensures.into_iter_gives in
     let t = YieldsList-turn (YieldsList-from_slice_split {s = c.into_iter-part-iterator.result} _ (λ b. b == 32)
     c.args.token.now (rw start c.split-part-items.ensures.rest) (rw start c.split-part-items.ensures.done)
     (rw start c.split-part-items.ensures.closure) (λ x b q k. search rules)) c.loop-part.yielded _
     c.loop-part.yielded_by _ _ c.in-Some.part c.in-Some.is c.next.ensures.steps in
-    rw (refused (gives c.args.self) (subtokens c.args.token.now) (length c.loop-part.yielded)
-    c.loop-part.text.items c.loop-part.invariant c.in-Some.part.now c.add.new.text.items c.in-Some-2.rule t
-    (rw c.in-Some-2.is at c.in_ok-rule.ensures)) refl
+    told_on c.from_residual.result c.in_err-add.field-0.0 _ _ c.from_residual.ensures.1 c.in_err-add.ensures
+    (λ rule added. rw (refused (gives c.args.self) (subtokens c.args.token.now) (length c.loop-part.yielded)
+    c.loop-part.text.items c.loop-part.invariant c.in-Some.part.now c.add.new.text.items rule t added) refl)
 
 pub loop-part-preserved : goal.loop-part-preserved
 loop-part-preserved c =
@@ -32,7 +33,7 @@ loop-part-preserved c =
     rw (length_push c.loop-part.yielded c.in-Some.part)
     (one_more (gives c.args.self) (subtokens c.args.token.now) (length c.loop-part.yielded)
     c.loop-part.text.items c.loop-part.invariant c.in-Some.part.now c.add.new.text.items t
-    (rw c.in_default.is at c.in_ok-rule.ensures))
+    c.in_ok-add.ensures)
 
 pub returns-in_ok-push-in-None-pop : goal.returns-in_ok-push-in-None-pop
 returns-in_ok-push-in-None-pop c =

@@ -1,7 +1,7 @@
 use Rattle.std.proofs.Common.{◌≡◌, ◌∙◌, refl, ap, List, ℕ, ◌++◌, Option}
 use Rattle.std.specs.Prelude.{option_map}
-use Rattle.hum_kern.specs.Pitch.{Spelled}
-use Rattle.hum_kern.specs.Given.{spelled}
+use Rattle.hum_pitch.specs.Pitch.{Spelled}
+use Rattle.hum_pitch.specs.Given.{spelled}
 use Rattle.hum_tones.specs.Mint.{approached}
 use Rattle.hum_tones.proofs.Heard.{told_anew}
 use Rattle.hum_tones.proofs.MintedLawful.{approached_lawful}

@@ -1,0 +1,24 @@
+pub mod Moving
+pub mod Polling
+pub mod Feeding
+pub mod Taking
+pub mod Acting
+pub mod Turning
+pub mod Wanting
+pub mod Doings
+pub mod Readying
+pub mod Stepping
+pub mod Sending
+pub mod Reusing
+pub mod Setting
+pub mod Netting
+pub mod Bounds
+pub mod Flags
+pub mod Leftmost
+pub mod Searching
+pub mod Running
+pub mod Telling
+pub mod Beginning
+mod Examples
+pub mod Appending
+pub mod Lasting

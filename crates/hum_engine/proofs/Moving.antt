@@ -1,0 +1,233 @@
+-- Nodes and links after one of each has changed.
+use Rattle.std.proofs.Common.{◌≡◌, ◌≢◌, ℕ, zero, suc, ◌+◌, ◌<◌, ◌⊎◌}
+use Rattle.std.proofs.Common.{if◌then◌else◌, nat_eq, List, [], ◌∷◌, map, length, Some}
+use Rattle.std.proofs.Common.{slice_get, slice_set, get_or, refl, sym, ap, ◌∙◌, subst, ⊎_elim}
+use Rattle.std.proofs.Common.{inl, inr, arith, append_assoc, length-append, eq-eqb, ne_eqb}
+use Rattle.std.proofs.lemmas.Bool.{cases_eq, cond-true, cond-false}
+use Rattle.std.proofs.lemmas.Option.{none-some, same_Some, slice_get_read}
+use Rattle.hum_record.specs.Row.{Row}
+use Rattle.hum_stage.specs.declared.faults.End.{End}
+use Rattle.hum_turns.specs.Flow.{Flow}
+use Rattle.hum_turns.specs.Plan.{end_of}
+use Rattle.hum_turns.specs.Links.{Link, Moment, given, view, settled}
+use Rattle.hum_turns.specs.Turns.{State, Gives, Ends, Does, Becomes, pushed, marked}
+use Rattle.hum_nodes.specs.At.{Kind, At, after_take, read_to}
+use Rattle.hum_engine.specs.declared.link.Link as port
+use Rattle.hum_engine.specs.Links.{IsLink}
+use Rattle.hum_engine.specs.Scene.{Scene, plan_of, moved, at_of, NodesStand, LinksStand}
+
+pub set_cases : {X : Type 0} (xs : List X) (k : ℕ) (y : X) (i : ℕ) (x : X)
+    → slice_get (slice_set xs k y) i ≡ Some x
+    → ((i ≡ k) × (y ≡ x)) ⊎ ((i ≢ k) × (slice_get xs i ≡ Some x))
+set_cases [] k y i x h = absurd (none-some x h)
+set_cases (z ∷ xs) zero y zero x h = inl (refl, same_Some y x h)
+set_cases (z ∷ xs) zero y (suc i) x h = inr ((λ e. absurd (omega arith)), h)
+set_cases (z ∷ xs) (suc k) y zero x h = inr ((λ e. absurd (omega arith)), h)
+set_cases (z ∷ xs) (suc k) y (suc i) x h =
+    ⊎_elim (λ s. inl (ap suc s.0, s.1)) (λ o. inr ((λ e. o.0 (omega arith)), o.1))
+    (set_cases xs k y i x h)
+
+pub set_other : {X : Type 0} (xs : List X) (k : ℕ) (y : X) (i : ℕ) → i ≢ k
+    → slice_get (slice_set xs k y) i ≡ slice_get xs i
+set_other [] k y i o = refl
+set_other (x ∷ xs) zero y zero o = absurd (o refl)
+set_other (x ∷ xs) zero y (suc i) o = refl
+set_other (x ∷ xs) (suc k) y zero o = refl
+set_other (x ∷ xs) (suc k) y (suc i) o = set_other xs k y i (λ e. o (ap suc e))
+
+pub set_here : {X : Type 0} (xs : List X) (k : ℕ) (y x : X) → slice_get xs k ≡ Some x
+    → slice_get (slice_set xs k y) k ≡ Some y
+set_here [] k y x h = absurd (none-some x h)
+set_here (z ∷ xs) zero y x h = refl
+set_here (z ∷ xs) (suc k) y x h = set_here xs k y x h
+
+pub nth : {X : Type 0} (xs : List X) (i : ℕ) (x : X) → i < length xs → x ≡ get_or xs i x
+    → slice_get xs i ≡ Some x
+nth xs i x h e = slice_get_read xs (length xs) i x refl h e
+
+-- A moment with one link changed.
+
+pub put_at : Moment Row → ℕ → Link Row → Moment Row
+put_at m k l = λ i. if nat_eq i k then l else m i
+
+pub put_becomes : (m : Moment Row) (k : ℕ) (l : Link Row) → Becomes k l m (put_at m k l)
+unfolding put_at
+put_becomes m k l = record {
+  here = cond-true _ _ _ (eq-eqb k k refl);
+  elsewhere = λ i h. cond-false _ _ _ (ne_eqb i k h);
+}
+
+-- What a node stands for, by its parts.
+
+abbrev pub at_with : Kind → List (Flow Row) → ℕ → ℕ → At
+at_with kind a r g = record { kind = kind; inputs = a; read = r; given = g }
+
+abbrev pub ins_of : (ℕ → Kind) → Moment Row → ℕ → List (Flow Row)
+ins_of kinds m k = map (λ i. view (m i)) (kinds k).stage.sources
+
+pub at_same : (kinds : ℕ → Kind) (old new : Moment Row) (i : ℕ)
+    → ins_of kinds new i ≡ ins_of kinds old i → (new i).read ≡ (old i).read
+    → given (new i) ≡ given (old i) → at_of kinds new i ≡ at_of kinds old i
+at_same kinds old new i a r g =
+    ap (λ x. at_with (kinds i) x (new i).read (length (given (new i)))) a
+    ∙ ap (λ x. at_with (kinds i) (ins_of kinds old i) x (length (given (new i)))) r
+    ∙ ap (λ x. at_with (kinds i) (ins_of kinds old i) (old i).read (length x)) g
+
+map_each : {A B : Type 0} (f g : A → B) → ((s : A) → f s ≡ g s) → (ss : List A)
+    → map f ss ≡ map g ss
+map_each f g h [] = refl
+map_each f g h (s ∷ ss) = ap (λ x. x ∷ map f ss) (h s) ∙ ap (λ l. g s ∷ l) (map_each f g h ss)
+
+-- where one link changes but its reader's view doesn't, each stage has its inputs
+pub ins_same : (kinds : ℕ → Kind) (l : Link Row) (old new : Moment Row) (k : ℕ)
+    → Becomes k l old new → view l ≡ view (old k) → (i : ℕ)
+    → ins_of kinds new i ≡ ins_of kinds old i
+ins_same kinds l old new k d v i =
+    map_each (λ s. view (new s)) (λ s. view (old s))
+    (λ s. ⊎_elim (λ e. subst (λ j. view (new j) ≡ view (old j)) (sym e) (ap view d.here ∙ v))
+    (λ o. ap view (d.elsewhere s o)) (cases_eq s k))
+    (kinds i).stage.sources
+
+pub same_but : (kinds : ℕ → Kind) (l : Link Row) (old new : Moment Row) (k : ℕ)
+    → Becomes k l old new → view l ≡ view (old k) → (i : ℕ) → i ≢ k
+    → at_of kinds new i ≡ at_of kinds old i
+same_but kinds l old new k d v i o =
+    at_same kinds old new i (ins_same kinds l old new k d v i)
+    (ap (λ (l : Link Row). l.read) (d.elsewhere i o)) (ap given (d.elsewhere i o))
+
+-- the node of the link that changed
+pub at_here : (kinds : ℕ → Kind) (l : Link Row) (old new : Moment Row) (k : ℕ)
+    → Becomes k l old new → view l ≡ view (old k)
+    → at_of kinds new k ≡ at_with (kinds k) (ins_of kinds old k) l.read (length (given l))
+at_here kinds l old new k d v =
+    ap (λ a. at_with (kinds k) a (new k).read (length (given (new k))))
+    (ins_same kinds l old new k d v k)
+    ∙ ap (λ (j : Link Row). at_with (kinds k) (ins_of kinds old k) j.read (length (given j))) d.here
+
+module _ {N : Type 0} (stands : N → List ℕ → At → Type 0) (s : Scene) where
+  -- each node but one
+  abbrev pub OthersStand : ℕ → Moment Row → List N → Type 0
+  OthersStand k m nodes =
+      (i : ℕ) (y : N) → i ≢ k → slice_get nodes i ≡ Some y → stands y (s.rests i) (at_of s.kinds m i)
+
+  pub nodes_set : (m : Moment Row) (nodes : List N) (k : ℕ) (node : N) → OthersStand k m nodes
+      → stands node (s.rests k) (at_of s.kinds m k)
+      → NodesStand stands (moved s m) (slice_set nodes k node)
+  nodes_set m nodes k node h n i x at =
+      ⊎_elim
+      (λ here. subst (λ y. stands y (s.rests i) (at_of s.kinds m i)) here.1
+      (subst (λ j. stands node (s.rests j) (at_of s.kinds m j)) (sym here.0) n))
+      (λ there. h i x there.0 there.1)
+      (set_cases nodes k node i x at)
+
+  pub others_kept : (l : Link Row) (old new : Moment Row) (nodes : List N) (k : ℕ)
+      → Becomes k l old new → view l ≡ view (old k)
+      → OthersStand k old nodes → OthersStand k new nodes
+  others_kept l old new nodes k d v h i x o at =
+      subst (stands x (s.rests i)) (sym (same_but s.kinds l old new k d v i o)) (h i x o at)
+
+pub links_set : (size : ℕ) (l : Link Row) (old new : Moment Row) (links : List port.Link) (k : ℕ)
+    (link : port.Link) → LinksStand size old links → IsLink size link l → Becomes k l old new
+    → LinksStand size new (slice_set links k link)
+links_set size l old new links k link h p d i x at =
+    ⊎_elim
+    (λ here. subst (λ y. IsLink size y (new i)) here.1
+    (subst (λ j. IsLink size link (new j)) (sym here.0) (subst (IsLink size link) (sym d.here) p)))
+    (λ there. subst (IsLink size x) (sym (d.elsewhere i there.0)) (h i x there.1))
+    (set_cases links k link i x at)
+
+-- a source has read: its link is as it was
+pub links_read : (size : ℕ) (old new : Moment Row) (links : List port.Link) (k n : ℕ)
+    → LinksStand size old links → Becomes k (record (old k) { read = n }) old new
+    → LinksStand size new links
+links_read size old new links k n h d i x at =
+    ⊎_elim
+    (λ e.
+    let p = h i x at in
+    let q : IsLink size x (record (old i) { read = n }) = record {
+      waiting = p.waiting;
+      capacity = p.capacity;
+      mark = p.mark;
+      heard = p.heard;
+    } in
+    subst (IsLink size x) (sym (subst (λ j. new j ≡ record (old j) { read = n }) (sym e) d.here)) q)
+    (λ o. subst (IsLink size x) (sym (d.elsewhere i o)) (h i x at))
+    (cases_eq i k)
+
+-- What is so after an actor has done this.
+pub record Did {N : Type 0} (stands : N → List ℕ → At → Type 0) (s : Scene) (k : ℕ) (doing : State)
+    (m : Moment Row) (nodes : List N) (links : List port.Link) : Type 0 where
+  pub new : Moment Row
+  pub does : Does (plan_of s) k doing m new
+  pub at_nodes : NodesStand stands (moved s new) nodes
+  pub at_links : LinksStand s.size new links
+
+module _ {N : Type 0} (stands : N → List ℕ → At → Type 0) (s : Scene) (k : ℕ) (m : Moment Row)
+    (nodes : List N) (links : List port.Link) (others : OthersStand stands s k m nodes)
+    (hl : LinksStand s.size m links) where
+  -- what the node gave goes onto its link
+  pub did_give : (node : N) (after : port.Link) (x : Row)
+      → slice_get (settled (plan_of s) m k) (length (given (m k))) ≡ Some x
+      → stands node (s.rests k) (after_take (at_of s.kinds m k))
+      → IsLink s.size after (pushed (m k) x)
+      → Did stands s k Gives m (slice_set nodes k node) (slice_set links k after)
+  did_give node after x next n p =
+      let l : Link Row = pushed (m k) x in
+      let new : Moment Row = put_at m k l in
+      let d = put_becomes m k l in
+      let longer : length (given l) ≡ length (given (m k)) + 1 =
+      ap length (sym (append_assoc (m k).taken (m k).waiting (x ∷ [])))
+      ∙ length-append (given (m k)) (x ∷ []) in
+      let at : at_of s.kinds new k ≡ after_take (at_of s.kinds m k) =
+      at_here s.kinds l m new k d refl
+      ∙ ap (λ n. at_with (s.kinds k) (ins_of s.kinds m k) (m k).read n) longer in
+      record {
+        new = new;
+        does = record { next = x; is_next = next; becomes = d };
+        at_nodes = nodes_set stands s new nodes k node
+            (others_kept stands s l m new nodes k d refl others)
+            (subst (stands node (s.rests k)) (sym at) n);
+        at_links = links_set s.size l m new links k after hl p d;
+      }
+
+  -- the node sets its end
+  pub did_end : (node : N) (after : port.Link) (e : End)
+      → e ≡ end_of (s.kinds k).stage (m k).read (ins_of s.kinds m k)
+      → stands node (s.rests k) (at_of s.kinds m k)
+      → IsLink s.size after (record (m k) { mark = Some e })
+      → Did stands s k Ends m (slice_set nodes k node) (slice_set links k after)
+  did_end node after e is n p =
+      let l : Link Row = marked (plan_of s) m k in
+      let new : Moment Row = put_at m k l in
+      let d = put_becomes m k l in
+      let at : at_of s.kinds new k ≡ at_of s.kinds m k = at_here s.kinds l m new k d refl in
+      record {
+        new = new;
+        does = d;
+        at_nodes = nodes_set stands s new nodes k node
+            (others_kept stands s l m new nodes k d refl others)
+            (subst (stands node (s.rests k)) (sym at) n);
+        at_links = links_set s.size l m new links k after hl
+            (subst (λ f. IsLink s.size after (record (m k) { mark = Some f })) is p) d;
+      }
+
+  -- a source has read to n
+  pub record ReadTo (n : ℕ) : Type 0 where
+    pub mid : Moment Row
+    pub becomes : Becomes k (record (m k) { read = n }) m mid
+    pub at : at_of s.kinds mid k ≡ read_to n (at_of s.kinds m k)
+    pub near : OthersStand stands s k mid nodes
+    pub at_links : LinksStand s.size mid links
+
+  pub has_read : (n : ℕ) → ReadTo n
+  has_read n =
+      let l : Link Row = record (m k) { read = n } in
+      let mid : Moment Row = put_at m k l in
+      let d = put_becomes m k l in
+      record {
+        mid = mid;
+        becomes = d;
+        at = at_here s.kinds l m mid k d refl;
+        near = others_kept stands s l m mid nodes k d refl others;
+        at_links = links_read s.size m mid links k n hl d;
+      }

@@ -1,0 +1,216 @@
+-- Each record that a stage of one input has taken was taken when the stage wanted it.
+use Rattle.std.proofs.Common.{◌≡◌, ◌≢◌, ℕ, ◌+◌, ◌<◌, ◌≤◌, Bool, true, false, if◌then◌else◌}
+use Rattle.std.proofs.Common.{List, [], ◌∷◌, ◌++◌, map, length, take, slice_get, Some, is_some, nat_lt}
+use Rattle.std.proofs.Common.{refl, sym, ap, ◌∙◌, subst, ⊎_elim, arith, ltb-false, length-append}
+use Rattle.std.specs.List.{AllByRecursion}
+use Rattle.std.proofs.lemmas.Bool.{cases_eq, cases_lt}
+use Rattle.std.proofs.lemmas.List.{take-append-le, take_all}
+use Rattle.hum_stage.specs.Meaning.{Meaning, IsWithinLag, output}
+use Rattle.hum_stage.specs.Outcome.{held_of as held_by}
+use Rattle.hum_turns.specs.Flow.{Flow, AllFine}
+use Rattle.hum_turns.specs.Plan.{Want, Plan, IsPlan}
+use Rattle.hum_turns.specs.Links.{Link, Moment, given, view, inputs, IsOpening, Same}
+use Rattle.hum_turns.specs.Turns.{State, Gives, Reads, Takes, Ends, by_want, state, popped}
+use Rattle.hum_turns.specs.Turns.{Becomes, Does, Turns, Run}
+use Rattle.hum_turns.proofs.States.{state_is, taker, last_next}
+use Rattle.hum_turns.proofs.Keeping.{fine_inputs}
+use Rattle.hum_turns.proofs.Every.{reached}
+use Rattle.hum_nodes.specs.At.{Kind}
+use Rattle.hum_nodes.specs.Fine.{fine}
+use Rattle.hum_nodes.specs.Single.{single}
+use Rattle.hum_nodes.proofs.Fining.{fine_is}
+use Rattle.hum_engine.specs.Scene.{Scene, plan_of, held_of, IsReached}
+use Rattle.hum_engine.proofs.Turning.{held_some}
+
+-- Each record that was taken from link s was taken when as many had been given onto link k as were
+-- settled of those before it.
+abbrev Wanted : {R : Type 0} → (List R → ℕ) → ℕ → ℕ → Moment R → Type 0
+Wanted many k s m =
+    (j : ℕ) → j < length (m s).taken → many (take j (m s).taken) ≤ length (given (m k))
+
+takes_not : (ss : List ℕ) (s : ℕ) (b : Bool) (w : Want) → (if b then Gives else by_want ss w) ≡ Takes s
+    → b ≡ false
+takes_not ss s true w h = cc
+takes_not ss s false w h = refl
+
+-- the record that is taken was given before
+popped_given : {R : Type 0} (l : Link R) (ws : List R) → l.waiting ≡ ws
+    → length (given (popped l ws)) ≡ length (given l)
+popped_given l [] e = refl
+popped_given l (x ∷ rest) e =
+    let a = length-append (l.taken ++ x ∷ []) rest in
+    let b = length-append l.taken (x ∷ []) in
+    let c = length-append l.taken l.waiting in
+    let d : length l.waiting ≡ length rest + 1 = ap length e ∙ omega arith in
+    omega (arith, a, b, c, d)
+
+module _ {R : Type 0} (many : List R → ℕ) (k s : ℕ) where
+  -- the same was taken, and no less given
+  same_taken : (old new : Moment R) → (new s).taken ≡ (old s).taken
+      → length (given (old k)) ≤ length (given (new k)) → Wanted many k s old → Wanted many k s new
+  same_taken old new e more h j less =
+      let w = h j (subst (λ xs. j < length xs) e less) in
+      let same : many (take j (new s).taken) ≡ many (take j (old s).taken) =
+      ap (λ xs. many (take j xs)) e in
+      omega (arith, w, more, same)
+
+  nothing_moved : (old new : Moment R) → Same old new → Wanted many k s old → Wanted many k s new
+  nothing_moved old new same h =
+      let e = ap (λ (v : Link R). length (given v)) (same k) in
+      same_taken old new (ap (λ (v : Link R). v.taken) (same s)) (omega (arith, e)) h
+
+  -- a link is changed, from which nothing is taken, and onto which no less was given
+  module _ (i : ℕ) (l : Link R) (old new : Moment R) (d : Becomes i l old new)
+      (taken : l.taken ≡ (old i).taken) (more : length (given (old i)) ≤ length (given l)) where
+    taken_at : (j : ℕ) → (new j).taken ≡ (old j).taken
+    taken_at j =
+        ⊎_elim
+        (λ here. subst (λ x. (new x).taken ≡ (old x).taken) (sym here)
+        (ap (λ (v : Link R). v.taken) d.here ∙ taken))
+        (λ there. ap (λ (v : Link R). v.taken) (d.elsewhere j there))
+        (cases_eq j i)
+
+    given_at : (j : ℕ) → length (given (old j)) ≤ length (given (new j))
+    given_at j =
+        ⊎_elim
+        (λ here. subst (λ x. length (given (old x)) ≤ length (given (new x))) (sym here)
+        (subst (λ v. length (given (old i)) ≤ length (given v)) (sym d.here) more))
+        (λ there.
+        let e = ap (λ (v : Link R). length (given v)) (d.elsewhere j there) in
+        omega (arith, e))
+        (cases_eq j i)
+
+    touched : Wanted many k s old → Wanted many k s new
+    touched h = same_taken old new (taken_at s) (given_at k) h
+
+  -- the next record is taken from link s
+  take_here : (ws : List R) (old new : Moment R) → k ≢ s → Becomes s (popped (old s) ws) old new
+      → many (old s).taken ≤ length (given (old k)) → Wanted many k s old → Wanted many k s new
+  take_here [] old new apart d gave h j less =
+      let e = ap (λ (v : Link R). length (given v)) (d.elsewhere k apart) in
+      same_taken old new (ap (λ (v : Link R). v.taken) d.here) (omega (arith, e)) h j less
+  take_here (x ∷ rest) old new apart d gave h j less =
+      let taken : (new s).taken ≡ (old s).taken ++ x ∷ [] = ap (λ (v : Link R). v.taken) d.here in
+      let e = ap (λ (v : Link R). length (given v)) (d.elsewhere k apart) in
+      let size = length-append (old s).taken (x ∷ []) in
+      let within : j < length ((old s).taken ++ x ∷ []) = subst (λ xs. j < length xs) taken less in
+      let front : take j (new s).taken ≡ take j (old s).taken =
+      ap (take j) taken ∙ take-append-le j (old s).taken (x ∷ []) (omega (arith, within, size)) in
+      let same : many (take j (new s).taken) ≡ many (take j (old s).taken) = ap many front in
+      ⊎_elim
+      (λ before. let w = h j before in omega (arith, w, e, same))
+      (λ last.
+      let all : many (take j (old s).taken) ≡ many (old s).taken =
+      ap many (take_all j (old s).taken last) in
+      omega (arith, all, gave, e, same))
+      (cases_lt j (length (old s).taken))
+
+-- Stage k has one source, which no other stage has.
+module _ {R : Type 0} (plan : Plan R) (ok : IsPlan plan) (many : List R → ℕ) (k s : ℕ)
+    (less : k < plan.count) (below : s < k) (one : (plan.stage k).sources ≡ s ∷ [])
+    (alone : (i p : ℕ) → i < plan.count → slice_get (plan.stage i).sources p ≡ Some s → i ≡ k)
+    (counts : (r : ℕ) (f : Flow R) → length ((plan.stage k).output r (f ∷ [])) ≡ many f.items) where
+  -- it has given all that is settled where it takes
+  gave : (m : Moment R) → state plan m k ≡ Takes s → many (m s).taken ≤ length (given (m k))
+  gave m e =
+      let st = plan.stage k in
+      let out = st.output (m k).read (inputs plan m k) in
+      let all = ltb-false (length (given (m k))) (length out)
+      (takes_not st.sources s (nat_lt (length (given (m k))) (length out))
+      (st.wants (m k).read (inputs plan m k)) (sym (state_is plan m k less) ∙ e)) in
+      let size : length out ≡ many (m s).taken =
+      ap (λ ss. length (st.output (m k).read (map (λ t. view (m t)) ss))) one
+      ∙ counts (m k).read (view (m s)) in
+      omega (arith, all, size)
+
+  takes_keep : (i t : ℕ) (old new : Moment R) → state plan old i ≡ Takes t
+      → Becomes t (popped (old t) (old t).waiting) old new → Wanted many k s old
+      → Wanted many k s new
+  takes_keep i t old new e d h =
+      ⊎_elim
+      (λ here.
+      let by : state plan old i ≡ Takes s = e ∙ ap Takes here in
+      let is : i ≡ k =
+      ⊎_elim
+      (λ w. alone i w.1.place w.0 w.1.is_there)
+      (λ w. let l = w.1 in let n = last_next plan.count ok.some in absurd (omega (arith, l, n, less, below)))
+      (taker plan ok old i s by) in
+      take_here many k s (old s).waiting old new (λ same. absurd (omega (arith, same, below)))
+      (subst (λ x. Becomes x (popped (old x) (old x).waiting) old new) here d)
+      (gave old (subst (λ x. state plan old x ≡ Takes s) is by)) h)
+      (λ there.
+      same_taken many k s old new
+      (ap (λ (v : Link R). v.taken) (d.elsewhere s (λ same. there (sym same))))
+      (⊎_elim
+      (λ here.
+      let e : length (given (new k)) ≡ length (given (old k)) =
+      subst (λ x. length (given (new x)) ≡ length (given (old x))) (sym here)
+      (ap (λ (v : Link R). length (given v)) d.here ∙ popped_given (old t) (old t).waiting refl) in
+      omega (arith, e))
+      (λ other.
+      let e = ap (λ (v : Link R). length (given v)) (d.elsewhere k other) in omega (arith, e))
+      (cases_eq k t)) h)
+      (cases_eq t s)
+
+  does_keeps : (i : ℕ) (st : State) (old new : Moment R) → state plan old i ≡ st
+      → Does plan i st old new → Wanted many k s old → Wanted many k s new
+  does_keeps i Gives old new e d h =
+      let l = old i in
+      let a = length-append l.taken (l.waiting ++ d.next ∷ []) in
+      let b = length-append l.waiting (d.next ∷ []) in
+      let c = length-append l.taken l.waiting in
+      touched many k s i _ old new d.becomes refl (omega (arith, a, b, c)) h
+  does_keeps i Reads old new e d h = nothing_moved many k s old new d h
+  does_keeps i (Takes t) old new e d h = takes_keep i t old new e d h
+  does_keeps i Ends old new e d h = touched many k s i _ old new d refl (omega arith) h
+
+  turns_keep : (i : ℕ) (st : State) (old new : Moment R) → state plan old i ≡ st
+      → Turns plan i st old new → Wanted many k s old → Wanted many k s new
+  turns_keep i Gives old new e t h = does_keeps i Gives old new e t h
+  turns_keep i (Takes j) old new e t h = does_keeps i (Takes j) old new e t h
+  turns_keep i Ends old new e t h = does_keeps i Ends old new e t h
+  turns_keep i Reads old new e t h =
+      let w = touched many k s i _ old t.between t.reads.becomes refl (omega arith) h in
+      ⊎_elim
+      (λ same. nothing_moved many k s t.between new same w)
+      (λ does. does_keeps i (state plan t.between i) t.between new refl does w)
+      t.does
+
+  run_keeps : (size : ℕ) (is : List ℕ) (old new : Moment R) → Run plan size old is new
+      → Wanted many k s old → Wanted many k s new
+  run_keeps size [] old new run h = nothing_moved many k s old new run h
+  run_keeps size (i ∷ is) old new run h =
+      run_keeps size is run.0 new run.2 (turns_keep i (state plan old i) old run.0 refl run.1.turns h)
+
+  run_wanted : (size : ℕ) (is : List ℕ) (first m : Moment R) → IsOpening first
+      → Run plan size first is m → Wanted many k s m
+  run_wanted size is first m start run =
+      run_keeps size is first m run
+      (λ j l. absurd (omega (arith, subst (λ (v : Link R). j < length v.taken) (start s) l)))
+
+-- What waits inside a stage of one input is told by its lag.
+pub held_few : (s : Scene) (k from n : ℕ) (m : Meaning) → IsReached s → k < s.count
+    → s.kinds k ≡ single from m → IsWithinLag n m → held_of s s.links k ≤ n + 1
+held_few s k from n m r less is lag =
+    let plan = plan_of s in
+    let one : (s.kinds k).stage.sources ≡ from ∷ [] = ap (λ (kd : Kind). kd.stage.sources) is in
+    let none : (s.kinds k).stage.bytes ≡ 0 = ap (λ (kd : Kind). kd.stage.bytes) is in
+    let taken = (s.links from).taken in
+    let count = length (given (s.links k)) in
+    let below : from < k =
+    (subst (λ ss. AllByRecursion (λ j. j < k) ss) one (r.ok.below k less)).0 in
+    let fine_in = (fine_inputs plan s.size r.ok s.links k
+    (reached plan s.size r.turns r.first s.links r.ok r.start r.run) less).each in
+    let score = fine_is 4294967295 (view (s.links from))
+    (subst (λ ss. AllFine fine (map (λ t. view (s.links t)) ss)) one fine_in).0 in
+    let wanted = run_wanted plan r.ok (λ rows. length (output m rows)) k from less below one
+    (λ i p l h. (r.tree i p k 0 from l less h (ap (λ ss. slice_get ss 0) one)).0)
+    (λ b f. ap (λ (kd : Kind). length (kd.stage.output b (f ∷ []))) is)
+    s.size r.turns r.first s.links r.start r.run in
+    let few : held_by count (is_some (s.links from).heard) (m.outcomes taken) ≤ n + 1 =
+    lag.holds (record { meaning = m; put = taken; given = count; ended = (s.links from).heard })
+    refl score.score wanted in
+    let held : held_of s s.links k ≡ held_by count (is_some (s.links from).heard) (m.outcomes taken) =
+    sym (held_some s s.links k less none)
+    ∙ ap (λ (kd : Kind). kd.holds (map (λ t. view (s.links t)) kd.stage.sources) count) is in
+    omega (arith, few, held)

@@ -1,0 +1,116 @@
+use Rattle.std.proofs.Common.{refl, [], ◌∙◌, ◌||◌, true, false, ap, sym}
+use Rattle.std.proofs.lemmas.Bool.{or_right}
+use Rattle.hum_turns.specs.Plan.{last}
+use Rattle.hum_nodes.specs.Nodes.{StandsAs}
+use Rattle.hum_turns.specs.Turns.{Takes}
+use Rattle.hum_engine.specs.Readers.{is_read_of, is_write}
+use Rattle.hum_engine.specs.Scene.{plan_of, moved, Done}
+use Rattle.hum_engine.proofs.Appending.{keeps_appends}
+use Rattle.hum_engine.proofs.Netting.{or_false}
+use Rattle.hum_engine.proofs.Reusing.{shows_nodes, shows_more}
+use Rattle.hum_engine.proofs.Sending.{went, sent_record, sent_end, not_heard, writes_front}
+use Rattle.hum_engine.proofs.Taking.{next_nothing}
+use Rattle.hum_engine.proofs.net.Net.sink_turn.Goals as goal
+
+pub take_out-requires : goal.take_out-requires
+take_out-requires g c = c.requires.may
+
+pub returns-in-Ok : goal.returns-in-Ok
+returns-in-Ok g c =
+    let net = c.args.self.now in
+    let none = c.requires.none in
+    let stands = StandsAs g.S.Stage.stands in
+    record {
+      went = λ s h.
+          let d = c.take_out.ensures.taken s h.at h.some in
+          let t = c.take_out.ensures.next s h.at in
+          let e : Done stands s.count (Takes (last (plan_of s))) c.reuse.new.self s =
+          record { new = d.new; does = d.does; stand = c.reuse.ensures.stands (moved s d.new) d.stand } in
+          went stands c.reuse.new.self s (g.W.Sink.contents net.sink)
+          (g.W.Sink.contents c.write_record.new.sink) (g.W.Sink.flushed c.write_record.new.sink) false net.failure none
+          (sent_record stands c.reuse.new.self s _ _ _ false c.take_out.result c.in-Record.row e t c.in-Record.is
+          (not_heard (s.links (last (plan_of s))) h.some)
+          c.in-Ok.ensures.ok refl);
+      marked = c.in-Ok.ensures.sound ∙ or_false _ ∙ ap (λ b. g.W.Sink.failed net.sink || b) (sym (ap is_write none));
+      unread = λ k. ap (is_read_of k) none;
+      shows = λ k. shows_more g.R.Source.remaining g.R.Source.calls g.R.Source.failed _
+          c.take_out.new.self.nodes.items _ k
+          (shows_nodes g.R.Source.remaining g.R.Source.calls g.R.Source.failed net.web
+          c.take_out.new.self k c.take_out.ensures.nodes)
+          (c.reuse.ensures.shows k);
+      turns = refl;
+      actors = refl;
+      readers = refl;
+    }
+
+pub returns-in-Err : goal.returns-in-Err
+returns-in-Err g c =
+    let net = c.args.self.now in
+    rw c.fail_to_write.ensures (record {
+      went = λ s h.
+          let t = c.take_out.ensures.next s h.at in (
+            writes_front s _ _ c.take_out.result c.in-Record.row t c.in-Record.is c.in-Err.ensures.err,
+            refl,
+          );
+      marked = c.in-Err.ensures.failed ∙ sym (or_right (g.W.Sink.failed net.sink) true refl);
+      unread = λ k. refl;
+      shows = λ k. shows_nodes g.R.Source.remaining g.R.Source.calls g.R.Source.failed net.web
+          c.take_out.new.self k c.take_out.ensures.nodes;
+      turns = refl;
+      actors = refl;
+      readers = refl;
+    })
+
+pub returns-in-Ok-flush : goal.returns-in-Ok-flush
+returns-in-Ok-flush g c =
+    let net = c.args.self.now in
+    let none = c.requires.none in
+    let stands = StandsAs g.S.Stage.stands in
+    record {
+      went = λ s h.
+          let d = c.take_out.ensures.taken s h.at h.some in
+          let t = c.take_out.ensures.next s h.at in
+          went stands c.take_out.new.self s (g.W.Sink.contents net.sink)
+          (g.W.Sink.contents c.flush.new.self) (g.W.Sink.flushed c.flush.new.self) true net.failure none
+          (sent_end stands c.take_out.new.self s _ _ _ true c.take_out.result c.in-End.field-0 d t c.in-End.is
+          (keeps_appends _ _ c.in-Ok-flush.ensures.bytes) c.in-Ok-flush.ensures.flushed refl);
+      marked = c.in-Ok-flush.ensures.failed ∙ ap (λ b. g.W.Sink.failed net.sink || b) (sym (ap is_write none));
+      unread = λ k. ap (is_read_of k) none;
+      shows = λ k. shows_nodes g.R.Source.remaining g.R.Source.calls g.R.Source.failed net.web
+          c.take_out.new.self k c.take_out.ensures.nodes;
+      turns = refl;
+      actors = refl;
+      readers = refl;
+    }
+
+pub returns-in-Err-flush : goal.returns-in-Err-flush
+returns-in-Err-flush g c =
+    let net = c.args.self.now in
+    rw c.fail_to_write-in-Err-flush.ensures (record {
+      went = λ s h.
+          (record { part = []; may = (refl, (_, refl)); appends = keeps_appends _ _ c.in-Err-flush.ensures.bytes }, refl);
+      marked = c.in-Err-flush.ensures.failed;
+      unread = λ k. refl;
+      shows = λ k. shows_nodes g.R.Source.remaining g.R.Source.calls g.R.Source.failed net.web
+          c.take_out.new.self k c.take_out.ensures.nodes;
+      turns = refl;
+      actors = refl;
+      readers = refl;
+    })
+
+pub returns-in-Nothing : goal.returns-in-Nothing
+returns-in-Nothing g c =
+    let net = c.args.self.now in
+    let none = c.requires.none in
+    record {
+      went = λ s h.
+          let l = s.links (last (plan_of s)) in
+          absurd (next_nothing l l.waiting refl (sym c.in-Nothing.is ∙ c.take_out.ensures.next s h.at) h.some);
+      marked = or_false _ ∙ ap (λ b. g.W.Sink.failed net.sink || b) (sym (ap is_write none));
+      unread = λ k. ap (is_read_of k) none;
+      shows = λ k. shows_nodes g.R.Source.remaining g.R.Source.calls g.R.Source.failed net.web
+          c.take_out.new.self k c.take_out.ensures.nodes;
+      turns = refl;
+      actors = refl;
+      readers = refl;
+    }

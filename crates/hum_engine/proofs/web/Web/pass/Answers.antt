@@ -1,0 +1,228 @@
+use Rattle.std.proofs.Common.{[], refl, arith}
+use Rattle.std.proofs.lemmas.Result.{err_from_is_err_and}
+use Rattle.hum_nodes.specs.At.{with_record, with_end}
+use Rattle.hum_nodes.specs.Nodes.{StandsAs}
+use Rattle.hum_nodes.proofs.Standing.{any_rest}
+use Rattle.hum_engine.specs.Scene.{at_of}
+use Rattle.hum_engine.proofs.Feeding.{node_at}
+use Rattle.hum_engine.proofs.Acting.{keeps, place_within, source_within, passing, may_take}
+use Rattle.hum_engine.proofs.Acting.{record_next, end_next, nothing_next, passed}
+use Rattle.hum_engine.proofs.web.Web.pass.Goals as goal
+
+pub index-requires : goal.index-requires
+index-requires g c =
+    let may = c.requires.may.holds in
+    let less = may.less in
+    let count = may.at.stand.count in
+    let size = c.args.self.now.nodes.ok.0 in
+    omega (arith, less, count, size)
+
+pub source-source-requires-clause-kind : goal.source-source-requires-clause-kind
+source-source-requires-clause-kind g c =
+    let s = c.requires.may.scene in
+    let may = c.requires.may.holds in
+    let node = c.index.result.now in
+    c.requires.stage node (node_at (StandsAs g.S.Stage.stands) c.args.k c.args.self.now s node may.less
+    may.at.stand c.index.ensures)
+
+pub source-source-requires-clause-place : goal.source-source-requires-clause-place
+source-source-requires-clause-place g c =
+    let s = c.requires.may.scene in
+    let may = c.requires.may.holds in
+    let web = c.args.self.now in
+    let k = c.args.k in
+    let stands = StandsAs g.S.Stage.stands in
+    let node = c.index.result.now in
+    let there = node_at stands k web s node may.less may.at.stand c.index.ensures in
+    record {
+      at = at_of s.kinds s.links k;
+      stand = any_rest g.S.Stage.stands node (c.requires.stage node there) (s.rests k) [] _
+          (may.at.stand.nodes k node there);
+      holds = place_within stands k c.args.place web s may;
+    }
+
+pub index_mut-requires : goal.index_mut-requires
+index_mut-requires g c =
+    let s = c.requires.may.scene in
+    let may = c.requires.may.holds in
+    let web = c.args.self.now in
+    let k = c.args.k in
+    let stands = StandsAs g.S.Stage.stands in
+    let node = c.index.result.now in
+    let there = node_at stands k web s node may.less may.at.stand c.index.ensures in
+    let i = c.source-source.result in
+    let e = c.source-source.ensures (s.rests k) (at_of s.kinds s.links k) (may.at.stand.nodes k node there) in
+    let n = source_within stands k c.args.place web s i may e in
+    let l = web.links.ok.0 in
+    omega (arith, n, l)
+
+pub index_mut-requires-in-Record : goal.index_mut-requires-in-Record
+index_mut-requires-in-Record g c =
+    let may = c.requires.may.holds in
+    let less = may.less in
+    let count = may.at.stand.count in
+    let size = c.args.self.now.nodes.ok.0 in
+    omega (arith, less, count, size)
+
+pub index_mut-requires-in-End : goal.index_mut-requires-in-End
+index_mut-requires-in-End g c =
+    let may = c.requires.may.holds in
+    let less = may.less in
+    let count = may.at.stand.count in
+    let size = c.args.self.now.nodes.ok.0 in
+    omega (arith, less, count, size)
+
+pub put-requires-clause-kind : goal.put-requires-clause-kind
+put-requires-clause-kind g c =
+    let s = c.requires.may.scene in
+    let may = c.requires.may.holds in
+    let node = c.index_mut-in-Record.result.now in
+    c.requires.stage node (node_at (StandsAs g.S.Stage.stands) c.args.k c.args.self.now s node may.less
+    may.at.stand c.index_mut-in-Record.ensures.value)
+
+pub put-requires-clause-may : goal.put-requires-clause-may
+put-requires-clause-may g c =
+    let s = c.requires.may.scene in
+    let may = c.requires.may.holds in
+    let web = c.args.self.now in
+    let k = c.args.k in
+    let stands = StandsAs g.S.Stage.stands in
+    let node = c.index.result.now in
+    let there = node_at stands k web s node may.less may.at.stand c.index.ensures in
+    let i = c.source-source.result in
+    let e = c.source-source.ensures (s.rests k) (at_of s.kinds s.links k) (may.at.stand.nodes k node there) in
+    let w = passing stands k c.args.place web s i c.index_mut.result.now may e c.index_mut.ensures.value in
+    let v = record_next stands k c.args.place web s i c.index_mut.result.now c.next.result c.in-Record.row may w
+    c.next.ensures.next c.in-Record.is in
+    let it = c.index_mut-in-Record.result.now in
+    let at = node_at stands k web s it may.less may.at.stand c.index_mut-in-Record.ensures.value in
+    record {
+      at = at_of s.kinds s.links k;
+      stand = any_rest g.S.Stage.stands it (c.requires.stage it at) (s.rests k) [] _
+          (may.at.stand.nodes k it at);
+      holds = may_take stands k c.args.place web s i c.index_mut.result.now (with_record c.in-Record.row) may w v;
+    }
+
+pub stop-requires-clause-kind : goal.stop-requires-clause-kind
+stop-requires-clause-kind g c =
+    let s = c.requires.may.scene in
+    let may = c.requires.may.holds in
+    let node = c.index_mut-in-End.result.now in
+    c.requires.stage node (node_at (StandsAs g.S.Stage.stands) c.args.k c.args.self.now s node may.less
+    may.at.stand c.index_mut-in-End.ensures.value)
+
+pub stop-requires-clause-may : goal.stop-requires-clause-may
+stop-requires-clause-may g c =
+    let s = c.requires.may.scene in
+    let may = c.requires.may.holds in
+    let web = c.args.self.now in
+    let k = c.args.k in
+    let stands = StandsAs g.S.Stage.stands in
+    let node = c.index.result.now in
+    let there = node_at stands k web s node may.less may.at.stand c.index.ensures in
+    let i = c.source-source.result in
+    let e = c.source-source.ensures (s.rests k) (at_of s.kinds s.links k) (may.at.stand.nodes k node there) in
+    let w = passing stands k c.args.place web s i c.index_mut.result.now may e c.index_mut.ensures.value in
+    let v = end_next stands k c.args.place web s i c.index_mut.result.now c.next.result c.in-End.end may w
+    c.next.ensures.next c.in-End.is in
+    let it = c.index_mut-in-End.result.now in
+    let at = node_at stands k web s it may.less may.at.stand c.index_mut-in-End.ensures.value in
+    record {
+      at = at_of s.kinds s.links k;
+      stand = any_rest g.S.Stage.stands it (c.requires.stage it at) (s.rests k) [] _
+          (may.at.stand.nodes k it at);
+      holds = may_take stands k c.args.place web s i c.index_mut.result.now (with_end c.in-End.end) may w v;
+    }
+
+pub returns-in_ok-put-in-Record-clause-passed : goal.returns-in_ok-put-in-Record-clause-passed
+returns-in_ok-put-in-Record-clause-passed g c s may =
+    let web = c.args.self.now in
+    let k = c.args.k in
+    let stands = StandsAs g.S.Stage.stands in
+    let node = c.index.result.now in
+    let there = node_at stands k web s node may.less may.at.stand c.index.ensures in
+    let i = c.source-source.result in
+    let e = c.source-source.ensures (s.rests k) (at_of s.kinds s.links k) (may.at.stand.nodes k node there) in
+    let w = passing stands k c.args.place web s i c.index_mut.result.now may e c.index_mut.ensures.value in
+    let v = record_next stands k c.args.place web s i c.index_mut.result.now c.next.result c.in-Record.row may w
+    c.next.ensures.next c.in-Record.is in
+    let it = c.index_mut-in-Record.result.now in
+    let at = node_at stands k web s it may.less may.at.stand c.index_mut-in-Record.ensures.value in
+    passed stands k c.args.place web s _ it c.put.new.self i
+    c.index_mut.result.now c.next.new.self (with_record c.in-Record.row) may w v at
+    c.in_ok-put-in-Record.ensures.put c.next.ensures.popped refl refl
+
+pub returns-in_ok-put-in-Record-clause-nodes : goal.returns-in_ok-put-in-Record-clause-nodes
+returns-in_ok-put-in-Record-clause-nodes g c = keeps c.args.k c.args.self.now _ c.put.new.self c.put.ensures.kind refl
+
+pub returns-in_ok-put-in-Record-clause-source : goal.returns-in_ok-put-in-Record-clause-source
+returns-in_ok-put-in-Record-clause-source g c s may =
+    let stands = StandsAs g.S.Stage.stands in
+    let node = c.index.result.now in
+    let there = node_at stands c.args.k c.args.self.now s node may.less may.at.stand c.index.ensures in
+    c.source-source.ensures (s.rests c.args.k) (at_of s.kinds s.links c.args.k) (may.at.stand.nodes c.args.k node there)
+
+pub returns-in-End-clause-passed : goal.returns-in-End-clause-passed
+returns-in-End-clause-passed g c s may =
+    let web = c.args.self.now in
+    let k = c.args.k in
+    let stands = StandsAs g.S.Stage.stands in
+    let node = c.index.result.now in
+    let there = node_at stands k web s node may.less may.at.stand c.index.ensures in
+    let i = c.source-source.result in
+    let e = c.source-source.ensures (s.rests k) (at_of s.kinds s.links k) (may.at.stand.nodes k node there) in
+    let w = passing stands k c.args.place web s i c.index_mut.result.now may e c.index_mut.ensures.value in
+    let v = end_next stands k c.args.place web s i c.index_mut.result.now c.next.result c.in-End.end may w
+    c.next.ensures.next c.in-End.is in
+    let it = c.index_mut-in-End.result.now in
+    let at = node_at stands k web s it may.less may.at.stand c.index_mut-in-End.ensures.value in
+    passed stands k c.args.place web s _ it c.stop.new.self i
+    c.index_mut.result.now c.next.new.self (with_end c.in-End.end) may w v at
+    c.stop.ensures.stopped c.next.ensures.popped refl refl
+
+pub returns-in-End-clause-nodes : goal.returns-in-End-clause-nodes
+returns-in-End-clause-nodes g c = keeps c.args.k c.args.self.now _ c.stop.new.self c.stop.ensures.kind refl
+
+pub returns-in-End-clause-source : goal.returns-in-End-clause-source
+returns-in-End-clause-source g c s may =
+    let stands = StandsAs g.S.Stage.stands in
+    let node = c.index.result.now in
+    let there = node_at stands c.args.k c.args.self.now s node may.less may.at.stand c.index.ensures in
+    c.source-source.ensures (s.rests c.args.k) (at_of s.kinds s.links c.args.k) (may.at.stand.nodes c.args.k node there)
+
+pub returns-in_err-put-in-Record-clause-nodes : goal.returns-in_err-put-in-Record-clause-nodes
+returns-in_err-put-in-Record-clause-nodes g c =
+    keeps c.args.k c.args.self.now _ c.put.new.self c.put.ensures.kind refl
+
+pub returns-in-Nothing-clause-passed : goal.returns-in-Nothing-clause-passed
+returns-in-Nothing-clause-passed g c s may =
+    let web = c.args.self.now in
+    let k = c.args.k in
+    let stands = StandsAs g.S.Stage.stands in
+    let node = c.index.result.now in
+    let there = node_at stands k web s node may.less may.at.stand c.index.ensures in
+    let i = c.source-source.result in
+    let e = c.source-source.ensures (s.rests k) (at_of s.kinds s.links k) (may.at.stand.nodes k node there) in
+    let w = passing stands k c.args.place web s i c.index_mut.result.now may e c.index_mut.ensures.value in
+    absurd (nothing_next stands k c.args.place web s i c.index_mut.result.now c.next.result may w
+    c.next.ensures.next c.in-Nothing.is)
+
+pub returns-in-Nothing-clause-source : goal.returns-in-Nothing-clause-source
+returns-in-Nothing-clause-source g c s may =
+    let stands = StandsAs g.S.Stage.stands in
+    let node = c.index.result.now in
+    let there = node_at stands c.args.k c.args.self.now s node may.less may.at.stand c.index.ensures in
+    c.source-source.ensures (s.rests c.args.k) (at_of s.kinds s.links c.args.k) (may.at.stand.nodes c.args.k node there)
+
+pub returns-in_err-put-in-Record-clause-passed : goal.returns-in_err-put-in-Record-clause-passed
+returns-in_err-put-in-Record-clause-passed g c =
+    let p = err_from_is_err_and c.from_residual.result c.from_residual.ensures.1 in
+    rw p.1 tt
+
+pub returns-in_err-put-in-Record-clause-source : goal.returns-in_err-put-in-Record-clause-source
+returns-in_err-put-in-Record-clause-source g c =
+    let p = err_from_is_err_and c.from_residual.result c.from_residual.ensures.1 in
+    rw p.1 tt
+
+pub returns-in-Nothing-clause-nodes : goal.returns-in-Nothing-clause-nodes
+returns-in-Nothing-clause-nodes g c = record { others = λ i other. refl; kind = c.requires.stage }

@@ -1,0 +1,7 @@
+pub mod Readers
+pub mod Search
+pub mod Scene
+pub mod Nets
+pub mod Traffic
+pub mod Links
+pub mod Writing

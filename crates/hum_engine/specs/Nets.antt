@@ -1,0 +1,316 @@
+-- What a net stands for: its web, what was written, and how it failed.
+use Rattle.std.specs.Prelude.{◌≡◌, ◌≢◌, ◌⊎◌, ℕ, ◌+◌, ◌<◌, ◌≤◌}
+use Rattle.std.specs.Prelude.{Bool, true, false, ◌||◌, List, [], ◌++◌, length}
+use Rattle.std.specs.Prelude.{Option, Some, None, IfSome, is_some, map, slice_get, slice_set}
+use Rattle.std.specs.Io.KnownBytes.{Appends}
+use Rattle.hum_record.specs.Row.{Row, text_of}
+use Rattle.hum_stage.specs.declared.faults.End.{End}
+use Rattle.hum_stage.specs.declared.faults.End.TheVariants.{Closed, Broken}
+use Rattle.hum_turns.specs.declared.result.RunResult.{RunResult}
+use Rattle.hum_turns.specs.declared.result.RunResult.TheVariants as ends
+use Rattle.hum_turns.specs.Flow.{Begins}
+use Rattle.hum_turns.specs.Plan.{Plan, KeepsFine, last}
+use Rattle.hum_turns.specs.Meaning.{plan_meaning, first_fault, IsNumbered}
+use Rattle.hum_turns.specs.Orders.{Order, Driven, upto, ready_list, choice}
+use Rattle.hum_turns.specs.Links.{has_some}
+use Rattle.hum_turns.specs.Turns.{Takes, state}
+use Rattle.hum_turns.specs.Near.{touched}
+use Rattle.hum_turns.specs.Text.{text}
+use Rattle.hum_turns.specs.Failures.{Now, MayFail, Turn, Walk, IsFirst, IsFailure}
+use Rattle.hum_turns.specs.Failures.{written, is_ready, result, result_of}
+use Rattle.hum_nodes.specs.At.{At}
+use Rattle.hum_nodes.specs.Fine.{fine, IsFine}
+use Rattle.hum_nodes.specs.Polls.{HasRead}
+use Rattle.hum_nodes.specs.declared.node.Node.{Node}
+use Rattle.hum_nodes.specs.Nodes.{is_source, remaining_of}
+use Rattle.hum_engine.specs.declared.web.Web.{Web}
+use Rattle.hum_engine.specs.declared.net.Net.{Net}
+use Rattle.hum_engine.specs.declared.net.Turned.{Turned}
+use Rattle.hum_engine.specs.Readers.{ended_at, remaining_at, failed_at, is_read_of, is_write}
+use Rattle.hum_engine.specs.Scene.{Scene, plan_of, moved, before_all, Stands, IsAt, IsNetPlan, IsBegun, Done}
+use Rattle.hum_engine.specs.Scene.{MayTurn, IsActor}
+
+-- The sink has taken what came next, and has written the text of that; behind the end it was flushed,
+-- and the run is over.
+pub record Sent {S R : Type 0} (stands : Node S R → List ℕ → At → Type 0) (old new : Option (List ℕ))
+    (flushed is_over : Bool) (web : Web S R) (s : Scene) : Type 0 where
+  pub done : Done stands s.count (Takes (last (plan_of s))) web s
+  pub sent : List ℕ
+  pub appends : Appends old new sent
+  pub taken : text text_of (done.new (last (plan_of s))).taken
+      ≡ text text_of (s.links (last (plan_of s))).taken ++ sent
+  pub over : (e : End) → (done.new (last (plan_of s))).heard ≡ Some e → flushed ≡ true
+  pub tells : is_over ≡ is_some (done.new (last (plan_of s))).heard
+
+-- An actor has failed, and has written this much.
+pub record Failed (k : ℕ) (by : RunResult) (old new : Option (List ℕ)) (s : Scene) : Type 0 where
+  pub part : List ℕ
+  pub may : MayFail (plan_of s) k text_of s.links by part
+  pub appends : Appends old new part
+
+abbrev pub SinkWent : {S R : Type 0} → (Node S R → List ℕ → At → Type 0) → Option RunResult
+    → Option (List ℕ) → Option (List ℕ) → Bool → Bool → Web S R → Scene → Type 0
+SinkWent stands None old new flushed is_over web s = Sent stands old new flushed is_over web s
+SinkWent stands (Some by) old new flushed is_over web s =
+    Failed s.count by old new s × (is_over ≡ true)
+
+-- the sink is ready
+pub record MayWrite {S R : Type 0} (stands : Node S R → List ℕ → At → Type 0) (web : Web S R)
+    (s : Scene) : Type 0 where
+  pub at : IsAt stands web s
+  pub some : has_some (s.links (last (plan_of s))) ≡ true
+
+-- a stage is ready, and a byte can hold its number
+pub record MayTurnFew {S R : Type 0} (stands : Node S R → List ℕ → At → Type 0) (k : ℕ)
+    (web : Web S R) (s : Scene) : Type 0 where
+  pub turn : MayTurn stands k web s
+  pub few : s.count < 256
+
+-- What a net stands for: a moment that turns have led to, written behind what the sink held at
+-- first, and flushed once the end was heard.
+pub record NetAt {S R W : Type 0} (stands : Node S R → List ℕ → At → Type 0)
+    (contents : W → Option (List ℕ)) (flushed : W → Bool) (start : Option (List ℕ)) (s : Scene)
+    (net : Net S R W) (now : Now Row) : Type 0 where
+  pub plan : IsNetPlan s.count s.kinds s.size
+  pub first : Now Row
+  pub turns : List ℕ
+  pub begin : IsFirst first
+  pub walk : Walk (plan_of s) s.size text_of first turns now
+  pub counted : net.turns ≡ length turns
+  pub actors : length net.actors.items ≡ s.count + 1
+  pub going : now.failure ≡ None → Stands stands net.web (moved s now.links)
+  pub failure : net.failure ≡ now.failure
+  pub written : Appends start (contents net.sink) (written (plan_of s) text_of now)
+  pub is_flushed : (e : End) → now.failure ≡ None → (now.links (last (plan_of s))).heard ≡ Some e
+      → flushed net.sink ≡ true
+
+-- Nothing comes behind the end of a source that was read.
+abbrev pub AreOver : {S R : Type 0} → List (Node S R) → (ℕ → List ℕ) → Type 0
+AreOver nodes rests = (k : ℕ) → ended_at k nodes ≡ true → rests k ≡ []
+
+-- an actor that is ready
+pub record MayGo {S R W : Type 0} (stands : Node S R → List ℕ → At → Type 0)
+    (contents : W → Option (List ℕ)) (flushed : W → Bool) (k : ℕ) (net : Net S R W) : Type 0 where
+  pub start : Option (List ℕ)
+  pub scene : Scene
+  pub now : Now Row
+  pub at : NetAt stands contents flushed start scene net now
+  pub within : k ≤ scene.count
+  pub ready : is_ready (plan_of scene) scene.size now k ≡ true
+
+-- a turn, what the net stands for after it, and whether the run is over then
+pub record GoesTo {S R W : Type 0} (stands : Node S R → List ℕ → At → Type 0)
+    (contents : W → Option (List ℕ)) (flushed : W → Bool) (start : Option (List ℕ)) (s : Scene)
+    (k : ℕ) (now : Now Row) (net : Net S R W) (is_over : Bool) : Type 0 where
+  pub to : Now Row
+  pub turn : Turn (plan_of s) s.size text_of k now to
+  pub at : NetAt stands contents flushed start s net to
+  pub tells : is_over ≡ is_some (result (plan_of s) to)
+
+-- The actor has had its turn: a source has read these bytes, no other source any. However they go
+-- on, the plan that the net stood for goes on by one turn of this actor, and is over or isn't.
+pub record HasTurned {S R W : Type 0} (stands : Node S R → List ℕ → At → Type 0)
+    (remaining : R → Option (List ℕ))
+    (contents : W → Option (List ℕ)) (flushed : W → Bool) (k : ℕ) (old new : Net S R W)
+    (is_over : Bool) : Type 0 where
+  pub reads : ℕ → List ℕ
+  pub others : (i : ℕ) → i ≢ k → reads i ≡ []
+  pub read : (i : ℕ)
+      → HasRead (ended_at i old.web.nodes.items) (ended_at i new.web.nodes.items)
+      (remaining_at remaining i old.web.nodes.items) (remaining_at remaining i new.web.nodes.items)
+      (reads i)
+  pub turns : (start : Option (List ℕ)) (s : Scene) (now : Now Row)
+      → AreOver new.web.nodes.items s.rests
+      → NetAt stands contents flushed start (before_all reads s) old now → k ≤ s.count
+      → is_ready (plan_of s) s.size now k ≡ true
+      → GoesTo stands contents flushed start s k now new is_over
+
+-- it stands for some moment
+pub record IsRunning {S R W : Type 0} (stands : Node S R → List ℕ → At → Type 0)
+    (contents : W → Option (List ℕ)) (flushed : W → Bool) (net : Net S R W) : Type 0 where
+  pub start : Option (List ℕ)
+  pub scene : Scene
+  pub now : Now Row
+  pub at : NetAt stands contents flushed start scene net now
+
+-- and this is one of its actors
+pub record IsAmong {S R W : Type 0} (stands : Node S R → List ℕ → At → Type 0)
+    (contents : W → Option (List ℕ)) (flushed : W → Bool) (k : ℕ) (net : Net S R W) : Type 0 where
+  pub running : IsRunning stands contents flushed net
+  pub within : k ≤ running.scene.count
+
+-- What is known of who is ready, by the flags, or of a leftmost order's run that nobody to the left of
+-- this actor is.
+pub record Sees {S R W : Type 0} (leftmost : Bool) (from : ℕ) (s : Scene) (now : Now Row)
+    (net : Net S R W) : Type 0 where
+  pub flags : leftmost ≡ false → net.actors.items ≡ ready_list (plan_of s) s.size now
+  pub left : leftmost ≡ true → (j : ℕ) → j < from → is_ready (plan_of s) s.size now j ≡ false
+
+-- While the run goes on, an actor is picked by that.
+pub record MayPick {S R W : Type 0} (stands : Node S R → List ℕ → At → Type 0)
+    (contents : W → Option (List ℕ)) (flushed : W → Bool) (leftmost : Bool) (from : ℕ)
+    (net : Net S R W) : Type 0 where
+  pub running : IsRunning stands contents flushed net
+  pub going : result (plan_of running.scene) running.now ≡ None
+  pub sees : Sees leftmost from running.scene running.now net
+  pub within : from ≤ running.scene.count
+
+-- While the run goes on, this actor may be asked.
+pub record MayAsk {S R W : Type 0} (stands : Node S R → List ℕ → At → Type 0)
+    (contents : W → Option (List ℕ)) (flushed : W → Bool) (k : ℕ) (net : Net S R W) : Type 0 where
+  pub running : IsRunning stands contents flushed net
+  pub going : result (plan_of running.scene) running.now ≡ None
+  pub within : k ≤ running.scene.count
+
+-- The actor is the order's choice, and the order has gone on by its pick.
+pub record HasPicked {O : Type 0} (order : Order O) (plan : Plan Row) (size : ℕ) (o p : O)
+    (now : Now Row) (actor : ℕ) : Type 0 where
+  pub choice : actor ≡ choice order plan size o now
+  pub next : p ≡ order.next o (ready_list plan size now)
+
+-- The link that a turn of actor k has changed; where it has failed, its own may stand for it.
+abbrev pub IsChanged : ℕ → Scene → Option RunResult → ℕ → Type 0
+IsChanged k s failure link =
+    (link ≡ touched k (state (plan_of s) s.links k)) ⊎ ((link ≡ k) × (failure ≢ None))
+
+-- The actor has had its turn, which tells what it has come to. A failed read or write ends the run
+-- exactly where a call has failed, and nothing else of the net has changed.
+pub record HasGone {S R W : Type 0} (stands : Node S R → List ℕ → At → Type 0)
+    (remaining : R → Option (List ℕ)) (failed : R → Bool) (contents : W → Option (List ℕ))
+    (flushed broken : W → Bool) (k : ℕ) (old new : Net S R W) (answer : Turned) : Type 0 where
+  pub turned : HasTurned stands remaining contents flushed k old new answer.is_over
+  pub link : (s : Scene) → IsActor stands k old.web s → IsChanged k s new.failure answer.link
+  pub reads : (i : ℕ) → failed_at failed i new.web.nodes.items
+      ≡ (failed_at failed i old.web.nodes.items || is_read_of i new.failure)
+  pub writes : broken new.sink ≡ (broken old.sink || is_write new.failure)
+  pub turns : new.turns ≡ old.turns + 1
+  pub actors : new.actors ≡ old.actors
+  pub readers : new.readers ≡ old.readers
+
+-- Actor r is known to take from the link of stage t: it was learnt before, or this actor has just
+-- done so.
+abbrev pub Known : List (Option ℕ) → ℕ → ℕ → ℕ → ℕ → Type 0
+Known readers actor link t r =
+    (slice_get readers t ≡ Some (Some r)) ⊎ ((t ≡ link) × (r ≡ actor) × (actor ≢ link))
+
+-- what the flags are once the two ends of a link were asked again, or everyone
+abbrev pub asked : (ℕ → Bool) → ℕ → List Bool → ℕ → Option ℕ → List Bool
+asked is_ready count flags link None = map is_ready (upto (count + 1))
+asked is_ready count flags link (Some reader) =
+    slice_set (slice_set flags link (is_ready link)) reader (is_ready reader)
+
+-- two of its actors, while no failure has ended the run
+pub record AreAmong {S R W : Type 0} (stands : Node S R → List ℕ → At → Type 0)
+    (contents : W → Option (List ℕ)) (flushed : W → Bool) (link : ℕ) (reader : Option ℕ)
+    (net : Net S R W) : Type 0 where
+  pub running : IsRunning stands contents flushed net
+  pub going : running.now.failure ≡ None
+  pub link_within : link ≤ running.scene.count
+  pub reader_within : IfSome reader (λ r. r ≤ running.scene.count)
+
+-- one of its actors, while no failure has ended the run
+pub record IsGoing {S R W : Type 0} (stands : Node S R → List ℕ → At → Type 0)
+    (contents : W → Option (List ℕ)) (flushed : W → Bool) (k : ℕ) (net : Net S R W) : Type 0 where
+  pub running : IsRunning stands contents flushed net
+  pub going : running.now.failure ≡ None
+  pub within : k ≤ running.scene.count
+
+-- one of its stages
+pub record IsStage {S R W : Type 0} (stands : Node S R → List ℕ → At → Type 0)
+    (contents : W → Option (List ℕ)) (flushed : W → Bool) (k : ℕ) (net : Net S R W) : Type 0 where
+  pub running : IsRunning stands contents flushed net
+  pub going : running.now.failure ≡ None
+  pub less : k < running.scene.count
+
+-- A front of the plan's text was written.
+pub record WroteFront (s : Scene) (start held : Option (List ℕ)) : Type 0 where
+  pub part : List ℕ
+  pub front : Begins part (text text_of (plan_meaning (plan_of s)).items)
+  pub appends : Appends start held part
+
+-- The plan's whole text was written, and flushed, and this is how the plan ends.
+pub record WroteAll (s : Scene) (start held : Option (List ℕ)) (flushed : Bool) (e : End)
+    : Type 0 where
+  pub end : (plan_meaning (plan_of s)).end ≡ Some e
+  pub appends : Appends start held (text text_of (plan_meaning (plan_of s)).items)
+  pub is_flushed : flushed ≡ true
+
+-- What a run has written that ended so.
+abbrev pub Outcome : Scene → Option (List ℕ) → Option (List ℕ) → Bool → RunResult → Type 0
+Outcome s start held flushed ends.Finished = WroteAll s start held flushed Closed
+Outcome s start held flushed (ends.Fault f) = WroteAll s start held flushed (Broken f)
+Outcome s start held flushed (ends.Read k) = WroteFront s start held
+Outcome s start held flushed ends.Write = WroteFront s start held
+Outcome s start held flushed ends.Memory = WroteFront s start held
+
+-- The order's picks have led a net to a moment.
+pub record Leads {S R W O : Type 0} (stands : Node S R → List ℕ → At → Type 0)
+    (contents : W → Option (List ℕ)) (flushed : W → Bool) (order : Order O) (o p : O)
+    (start : Option (List ℕ)) (s : Scene) (now : Now Row) (net : Net S R W) : Type 0 where
+  pub turns : List ℕ
+  pub to : Now Row
+  pub driven : Driven order (plan_of s) s.size text_of o now turns to p
+  pub at : NetAt stands contents flushed start s net to
+
+-- The order's picks have led it to its end. What the plan means is a score, where the last stage too
+-- makes scores of scores; its fault is the lowest-numbered one.
+pub record RunsTo {S R W O : Type 0} (stands : Node S R → List ℕ → At → Type 0)
+    (contents : W → Option (List ℕ)) (flushed : W → Bool) (order : Order O) (o p : O)
+    (start : Option (List ℕ)) (s : Scene) (now : Now Row) (net : Net S R W) (by : RunResult)
+    : Type 0 where
+  pub leads : Leads stands contents flushed order o p start s now net
+  pub over : result (plan_of s) leads.to ≡ Some by
+  pub outcome : Outcome s start (contents net.sink) (flushed net.sink) by
+  pub valid : KeepsFine fine (s.kinds (last (plan_of s))).stage
+      → IsFine 4294967295 (plan_meaning (plan_of s))
+  pub whose : IsNumbered (plan_of s) → IsFailure by
+      ⊎ (by ≡ result_of (first_fault (plan_of s) s.count))
+
+-- The sources have read these bytes. However they go on, the plan that the net stood for goes on by
+-- the turns that the order picks, to the end of its run.
+pub record HasRun {S R W O : Type 0} (stands : Node S R → List ℕ → At → Type 0)
+    (remaining : R → Option (List ℕ)) (contents : W → Option (List ℕ))
+    (flushed : W → Bool) (order : Order O) (o p : O) (old new : Net S R W) (by : RunResult)
+    : Type 0 where
+  pub reads : ℕ → List ℕ
+  pub read : (i : ℕ)
+      → HasRead (ended_at i old.web.nodes.items) (ended_at i new.web.nodes.items)
+      (remaining_at remaining i old.web.nodes.items) (remaining_at remaining i new.web.nodes.items)
+      (reads i)
+  pub runs : (start : Option (List ℕ)) (s : Scene) (now : Now Row)
+      → AreOver new.web.nodes.items s.rests
+      → NetAt stands contents flushed start (before_all reads s) old now
+      → RunsTo stands contents flushed order o p start s now new by
+
+-- However the bytes go on that are still to come, the net stands for a moment of a plan.
+pub record IsNet {S R W : Type 0} (stands : Node S R → List ℕ → At → Type 0)
+    (contents : W → Option (List ℕ)) (flushed : W → Bool) (net : Net S R W) : Type 0 where
+  pub start : Option (List ℕ)
+  pub scene : (ℕ → List ℕ) → Scene
+  pub now : (ℕ → List ℕ) → Now Row
+  pub rests : (rests : ℕ → List ℕ) → (scene rests).rests ≡ rests
+  pub at : (rests : ℕ → List ℕ) → AreOver net.web.nodes.items rests
+      → NetAt stands contents flushed start (scene rests) net (now rests)
+
+-- Nodes that were asked nothing yet, of a plan by what is still to come of the bytes.
+pub record AreBegun {S R : Type 0} (stands : Node S R → List ℕ → At → Type 0) (size : ℕ)
+    (nodes : List (Node S R)) (scene : (ℕ → List ℕ) → Scene) : Type 0 where
+  pub rests : (rests : ℕ → List ℕ) → (scene rests).rests ≡ rests
+  pub plan : (rests : ℕ → List ℕ)
+      → IsNetPlan (scene rests).count (scene rests).kinds (scene rests).size
+  pub begun : (rests : ℕ → List ℕ) → IsBegun stands size nodes (scene rests)
+
+-- Each source tells its bytes: these, and none where it has read their end.
+pub record Tells {S R : Type 0} (remaining : R → Option (List ℕ))
+    (nodes : List (Node S R)) (rests : ℕ → List ℕ) : Type 0 where
+  pub tells : (i : ℕ) (node : Node S R) → slice_get nodes i ≡ Some node → is_source node ≡ true
+      → remaining_of remaining node ≡ Some (rests i)
+  pub over : AreOver nodes rests
+
+-- Of these bytes some are left, and the plan has gone on to its end.
+pub record HasRunOn {S R W O : Type 0} (stands : Node S R → List ℕ → At → Type 0)
+    (contents : W → Option (List ℕ)) (flushed : W → Bool) (order : Order O) (o p : O)
+    (start : Option (List ℕ)) (s : Scene) (now : Now Row) (net : Net S R W) (by : RunResult)
+    : Type 0 where
+  pub left : ℕ → List ℕ
+  pub runs : RunsTo stands contents flushed order o p start (record s { rests = left }) now net by

@@ -1,0 +1,599 @@
+//! A web whose last stage is written.
+ghost use Rattle.std.specs.Prelude.{◌≡◌, ◌≢◌, ◌≤◌, ◌<◌, ◌+◌, ◌||◌, ℕ, List, [], Option, None, Some};
+ghost use Rattle.std.specs.Prelude.{IfSome, IfOk, IfErr, length, is_some, true, false};
+ghost use Rattle.std.specs.Prelude.{slice_get, slice_set};
+ghost use Rattle.hum_record.specs.Row.{Row, text_of};
+ghost use Rattle.hum_turns.specs.Links.{linked};
+ghost use Rattle.hum_turns.specs.declared.result.RunResult.TheVariants as ends;
+ghost use Rattle.hum_turns.specs.Failures.{Now, IsFirst, MayFail, is_ready, result as ended};
+ghost use Rattle.hum_turns.specs.Orders.{ready_list};
+ghost use Rattle.hum_nodes.specs.Nodes.{StandsAs};
+ghost use Rattle.hum_nodes.specs.Polls.{AsksAtMostOnce, HasStayed};
+ghost use Rattle.hum_engine.specs.Readers.{ShowsSame, remaining_at, ended_at, calls_at, failed_at};
+ghost use Rattle.hum_engine.specs.Readers.{is_read_of, is_write};
+ghost use Rattle.hum_engine.specs.Scene.{Scene, plan_of, Somewhere, IsActor, IsAt, IsNetPlan, IsBegun, MayTurn};
+ghost use Rattle.hum_engine.specs.Scene.{KeepsOthers, Fed, held_of, HoldsFew};
+ghost use Rattle.hum_engine.specs.Nets.{MayWrite, SinkWent, MayTurnFew, MayGo, IsRunning};
+ghost use Rattle.hum_turns.specs.Counts.{most_in_all};
+ghost use Rattle.hum_turns.specs.Holds.{SomeReady};
+ghost use Rattle.hum_engine.specs.Nets.{WroteFront, IsGoing, IsStage, IsChanged, AreAmong, Known, asked};
+ghost use Rattle.hum_engine.specs.Nets.{IsAmong, NetAt, AreBegun, Tells, HasRun, HasRunOn, IsNet};
+ghost use Rattle.hum_engine.specs.Search.{beginning, search_by};
+ghost use Rattle.hum_engine.specs.Nets.{Sees, MayPick, HasPicked, MayAsk, HasGone};
+
+use crate::idle::{Chain, Knows, Tree};
+use crate::link::Next;
+use crate::web::Web;
+use crate::writing::write_record;
+use hum_nodes::Node;
+use hum_read::ReadError;
+use hum_stage::Stage;
+use hum_text::calls::{Sink, Source};
+use hum_turns::{Order, RunResult, choose};
+use std::alloc::Global;
+
+/// Nodes and links, what the last stage is written to, and the failure that has ended the run.
+#[derive(Drop)]
+pub struct Net<S, R, W> {
+    web: Web<S, R>,
+    sink: W,
+    failure: Option<RunResult>,
+    turns: u64,
+    // a flag for each actor, which an order picks by
+    actors: Vec<bool>,
+    // who takes from each link, where that was learnt
+    readers: Vec<Option<usize>>,
+}
+
+/// What a turn has come to.
+#[derive(Clone, Copy)]
+pub struct Turned {
+    /// The link that it has changed; its own, where the actor has failed.
+    pub link: usize,
+    /// Whether the run is over.
+    pub is_over: bool,
+}
+
+impl<S: Stage + Drop, R: Source + Drop, W: Sink> Net<S, R, W> {
+    // Both tell in place how they failed: an answer would be taken to pieces as small as a fault's
+    // fields, at each turn.
+
+    // The sink's turn, and whether the run is over.
+    #[inline(always)]
+    fn sink_turn(&mut self) -> bool
+        requires none { self.old.failure ≡ None }
+        requires may { Somewhere (IsAt (StandsAs S.stands) self.old.web) }
+        ensures went { (s : Scene) → MayWrite (StandsAs S.stands) self.old.web s
+            → SinkWent (StandsAs S.stands) self.new.failure (W.contents self.old.sink)
+            (W.contents self.new.sink) (W.flushed self.new.sink) result self.new.web s }
+        ensures marked { W.failed self.new.sink
+            ≡ (W.failed self.old.sink || is_write self.new.failure) }
+        ensures unread { (k : ℕ) → is_read_of k self.new.failure ≡ false }
+        ensures shows { (k : ℕ) → ShowsSame R.remaining R.calls R.failed
+            self.old.web.nodes.items self.new.web.nodes.items k }
+        ensures turns { self.new.turns ≡ self.old.turns }
+        ensures actors { self.new.actors ≡ self.old.actors }
+        ensures readers { self.new.readers ≡ self.old.readers }
+    {
+        match self.web.take_out() {
+            Next::Record(row) => match write_record(&mut self.sink, row) {
+                Ok(row) => {
+                    self.web.reuse(row);
+                    return false;
+                }
+                Err(_) => self.fail_to_write(),
+            },
+            Next::End(_) => match self.sink.flush() {
+                Ok(()) => {}
+                Err(_) => self.fail_to_write(),
+            },
+            Next::Nothing => {}
+        }
+        true
+    }
+
+    // A read of a stage has failed, or memory is wanting: that ends the run. It happens once, so no turn has
+    // a place for how it ended.
+    #[inline(never)]
+    fn fail_to_read(&mut self, k: usize)
+        requires { k < 255 }
+        ensures { self.new ≡ record self.old { failure = Some (ends.Read (k + 1)) } }
+    {
+        self.failure = Some(RunResult::Read((k + 1) as u8));
+    }
+
+    #[inline(never)]
+    fn fail_to_write(&mut self)
+        ensures { self.new ≡ record self.old { failure = Some ends.Write } }
+    {
+        self.failure = Some(RunResult::Write);
+    }
+
+    #[inline(never)]
+    fn fail_for_memory(&mut self)
+        ensures { self.new ≡ record self.old { failure = Some ends.Memory } }
+    {
+        self.failure = Some(RunResult::Memory);
+    }
+
+    // A stage's turn.
+    #[inline(always)]
+    fn stage_turn(&mut self, k: usize) -> Turned
+        requires none { self.old.failure ≡ None }
+        requires may { Somewhere (MayTurnFew (StandsAs S.stands) k self.old.web) }
+        ensures fed { self.new.failure ≡ None → Fed (StandsAs S.stands) R.remaining k
+            self.old.web self.new.web }
+        ensures link { (s : Scene) → IsActor (StandsAs S.stands) k self.old.web s
+            → IsChanged k s self.new.failure result.link }
+        ensures over { result.is_over ≡ is_some self.new.failure }
+        ensures failed { IfSome self.new.failure (λ by. (s : Scene)
+            → MayTurn (StandsAs S.stands) k self.old.web s
+            → MayFail (plan_of s) k text_of s.links by []) }
+        ensures others { KeepsOthers k self.old.web self.new.web }
+        ensures marked { failed_at R.failed k self.new.web.nodes.items
+            ≡ (failed_at R.failed k self.old.web.nodes.items || is_read_of k self.new.failure) }
+        ensures unmarked { (i : ℕ) → i ≢ k → is_read_of i self.new.failure ≡ false }
+        ensures unwritten { is_write self.new.failure ≡ false }
+        ensures calls { AsksAtMostOnce (calls_at R.calls k self.old.web.nodes.items)
+            (failed_at R.failed k self.old.web.nodes.items)
+            (calls_at R.calls k self.new.web.nodes.items)
+            (failed_at R.failed k self.new.web.nodes.items) }
+        ensures stays { IfSome self.new.failure (λ by. HasStayed
+            (ended_at k self.old.web.nodes.items)
+            (ended_at k self.new.web.nodes.items)
+            (remaining_at R.remaining k self.old.web.nodes.items)
+            (remaining_at R.remaining k self.new.web.nodes.items)) }
+        ensures sink { self.new.sink ≡ self.old.sink }
+        ensures turns { self.new.turns ≡ self.old.turns }
+        ensures actors { self.new.actors ≡ self.old.actors }
+        ensures readers { self.new.readers ≡ self.old.readers }
+    {
+        match self.web.turn(k) {
+            Ok(link) => {
+                return Turned {
+                    link,
+                    is_over: false,
+                };
+            }
+            Err(ReadError::Read) => self.fail_to_read(k),
+            Err(ReadError::Memory) => self.fail_for_memory(),
+        }
+        Turned {
+            link: k,
+            is_over: true,
+        }
+    }
+
+    /// A net of nodes that were asked nothing yet, with links of this size, from 1 to 4,096.
+    ///
+    /// # Errors
+    /// Want of memory, which hands the sink back.
+    pub fn of_nodes(
+        alloc: Global,
+        nodes: Vec<Node<S, R>>,
+        size: u16,
+        sink: W,
+    ) -> Result<Net<S, R, W>, W>
+        requires few { length nodes.items < 256 }
+        ensures ok { IfOk result (λ net. (s : Scene) (now : Now Row) → IsFirst now
+            → IsNetPlan s.count s.kinds s.size
+            → IsBegun (StandsAs S.stands) size nodes.items s
+            → NetAt (StandsAs S.stands) W.contents W.flushed (W.contents sink) s net now) }
+        ensures runs { IfOk result (λ net. (scene : (ℕ → List ℕ) → Scene)
+            → AreBegun (StandsAs S.stands) size nodes.items scene
+            → IsNet (StandsAs S.stands) W.contents W.flushed net) }
+        ensures nodes { IfOk result (λ net. net.web.nodes ≡ nodes) }
+        ensures sink { IfOk result (λ net. net.sink ≡ sink) }
+        ensures failure { IfOk result (λ net. net.failure ≡ None) }
+        ensures err { IfErr result (λ back. back ≡ sink) }
+    {
+        let Ok(actors) = vec![in alloc; false; nodes.len() + 1] else {
+            return Err(sink);
+        };
+        let Ok(readers) = vec![in alloc; None; nodes.len()] else {
+            return Err(sink);
+        };
+        match Web::new(alloc, nodes, usize::from(size)) {
+            Ok(web) => Ok(Net {
+                web,
+                sink,
+                failure: None,
+                turns: 0,
+                actors,
+                readers,
+            }),
+            Err(_) => Err(sink),
+        }
+    }
+
+    // Sets the flag of each actor: whether it is ready.
+    fn mark(&mut self)
+        requires { IsRunning (StandsAs S.stands) W.contents W.flushed self.old }
+        ensures same { self.new ≡ record self.old { actors = self.new.actors } }
+        ensures len { length self.new.actors.items ≡ length self.old.actors.items }
+        ensures list { (start : Option (List ℕ)) (s : Scene) (now : Now Row)
+            → NetAt (StandsAs S.stands) W.contents W.flushed start s self.old now
+            → self.new.actors.items ≡ ready_list (plan_of s) s.size now }
+    {
+        for k in 0..self.actors.len() {
+            let is = self.ready(k);
+            self.actors[k] = is;
+        }
+    }
+
+    // Nothing is known of who takes from which link.
+    fn forget(&mut self)
+        ensures same { self.new ≡ record self.old { readers = self.new.readers } }
+        ensures none { (t r : ℕ) → slice_get self.new.readers.items t ≢ Some (Some r) }
+    {
+        for t in 0..self.readers.len() {
+            self.readers[t] = None;
+        }
+    }
+
+    // Who takes from a link that this actor has just changed, if that is known: the actor itself,
+    // where the link isn't its own.
+    fn reader(&mut self, actor: usize, link: usize) -> Option<usize>
+        ensures same { self.new ≡ record self.old { readers = self.new.readers } }
+        ensures learns { (t r : ℕ) → slice_get self.new.readers.items t ≡ Some (Some r)
+            → Known self.old.readers.items actor link t r }
+        ensures tells { IfSome result (λ r. Known self.old.readers.items actor link link r) }
+    {
+        if actor != link {
+            if let Some(reader) = self.readers.get_mut(link) {
+                *reader = Some(actor);
+            }
+            return Some(actor);
+        }
+        match self.readers.get(link) {
+            Some(reader) => *reader,
+            None => None,
+        }
+    }
+
+    // Sets the flag of an actor. While the run goes on it says whether that one is ready.
+    #[inline(always)]
+    fn ask(&mut self, k: usize)
+        requires { IsGoing (StandsAs S.stands) W.contents W.flushed k self.old }
+        ensures same { self.new ≡ record self.old { actors = self.new.actors } }
+        ensures len { length self.new.actors.items ≡ length self.old.actors.items }
+        ensures list { (start : Option (List ℕ)) (s : Scene) (now : Now Row)
+            → NetAt (StandsAs S.stands) W.contents W.flushed start s self.old now
+            → ended (plan_of s) now ≡ None → k ≤ s.count → self.new.actors.items
+            ≡ slice_set self.old.actors.items k (is_ready (plan_of s) s.size now k) }
+    {
+        let is = self.web.ready(k);
+        self.actors[k] = is;
+    }
+
+    // Sets the flags of the two ends of a link, or all of them where its reader isn't known.
+    fn ask_again(&mut self, link: usize, reader: Option<usize>)
+        requires { AreAmong (StandsAs S.stands) W.contents W.flushed link reader self.old }
+        ensures same { self.new ≡ record self.old { actors = self.new.actors } }
+        ensures len { length self.new.actors.items ≡ length self.old.actors.items }
+        ensures list { (start : Option (List ℕ)) (s : Scene) (now : Now Row)
+            → NetAt (StandsAs S.stands) W.contents W.flushed start s self.old now
+            → ended (plan_of s) now ≡ None
+            → link ≤ s.count → IfSome reader (λ r. r ≤ s.count) → self.new.actors.items
+            ≡ asked (is_ready (plan_of s) s.size now) s.count self.old.actors.items link reader }
+    {
+        match reader {
+            Some(reader) => {
+                self.ask(link);
+                self.ask(reader);
+            }
+            None => self.mark(),
+        }
+    }
+
+    // Sets all flags, unless the run is over.
+    fn prepare(&mut self)
+        requires { IsRunning (StandsAs S.stands) W.contents W.flushed self.old }
+        ensures same { self.new
+            ≡ record self.old { actors = self.new.actors; readers = self.new.readers } }
+        ensures len { length self.new.actors.items ≡ length self.old.actors.items }
+        ensures list { (start : Option (List ℕ)) (s : Scene) (now : Now Row)
+            → NetAt (StandsAs S.stands) W.contents W.flushed start s self.old now
+            → ended (plan_of s) now ≡ None
+            → (self.new.actors.items ≡ ready_list (plan_of s) s.size now)
+            × ((t r : ℕ) → slice_get self.new.readers.items t ≢ Some (Some r)) }
+        ensures over { (start : Option (List ℕ)) (s : Scene) (now : Now Row) (by : RunResult)
+            → NetAt (StandsAs S.stands) W.contents W.flushed start s self.old now
+            → ended (plan_of s) now ≡ Some by → self.new ≡ self.old }
+    {
+        if self.result().is_some() {
+            return;
+        }
+        self.forget();
+        self.mark();
+    }
+
+    // How a run ended that is over.
+    #[inline(never)]
+    fn told(&self) -> RunResult
+        requires { IsRunning (StandsAs S.stands) W.contents W.flushed self.now }
+        ensures { (start : Option (List ℕ)) (s : Scene) (now : Now Row) (by : RunResult)
+            → NetAt (StandsAs S.stands) W.contents W.flushed start s self.now now
+            → ended (plan_of s) now ≡ Some by → result ≡ by }
+    {
+        match self.result() {
+            Some(result) => result,
+            None => RunResult::Finished,
+        }
+    }
+
+    // The actor that is asked next: the order's pick, by the flags, or of a leftmost order this one, to
+    // the left of which nobody is ready.
+    #[inline(always)]
+    fn next<O: Order>(&self, order: &mut O, is_leftmost: bool, from: usize) -> usize
+        requires { MayPick (StandsAs S.stands) W.contents W.flushed is_leftmost from
+            self.now }
+        ensures from { is_leftmost ≡ true → result ≡ from }
+        ensures stays { is_leftmost ≡ true → order.new ≡ order.old }
+        ensures picked { is_leftmost ≡ false → (start : Option (List ℕ)) (s : Scene) (now : Now Row)
+            → NetAt (StandsAs S.stands) W.contents W.flushed start s self.now now
+            → ended (plan_of s) now ≡ None → Sees false from s now self.now
+            → HasPicked (record { pick = O.picks; next = O.after }) (plan_of s) s.size order.old
+            order.new now result }
+    {
+        if is_leftmost {
+            return from;
+        }
+        let pick = order.pick(&self.actors);
+        choose(&self.actors, pick)
+    }
+
+    /// Makes the turns that the order picks, to the end of the run.
+    pub fn run<O: Order>(&mut self, order: &mut O) -> RunResult
+        requires { IsNet (StandsAs S.stands) W.contents W.flushed self.old }
+        // Whatever bytes the sources have, and however they go on: the turns are those that the
+        // order picks, and what was written is what the plan means.
+        ensures ran { HasRun (StandsAs S.stands) R.remaining W.contents W.flushed
+            (record { pick = O.picks; next = O.after }) order.old order.new self.old self.new
+            result }
+
+        // Where the sources tell their bytes, it is what the plan means over these.
+        ensures whole { (start : Option (List ℕ)) (s : Scene) (now : Now Row)
+            → Tells R.remaining self.old.web.nodes.items s.rests
+            → NetAt (StandsAs S.stands) W.contents W.flushed start s self.old now
+            → HasRunOn (StandsAs S.stands) W.contents W.flushed
+            (record { pick = O.picks; next = O.after }) order.old order.new start s now self.new
+            result }
+
+        // It ends by a failed read or write exactly where a call has failed in it.
+        ensures reads { self.old.failure ≡ None → (i : ℕ)
+            → failed_at R.failed i self.new.web.nodes.items
+            ≡ (failed_at R.failed i self.old.web.nodes.items || is_read_of i (Some result)) }
+        ensures writes { self.old.failure ≡ None
+            → W.failed self.new.sink ≡ (W.failed self.old.sink || is_write (Some result)) }
+
+        // A run that is over answers its result again.
+        ensures again { (start : Option (List ℕ)) (s : Scene) (now : Now Row) (by : RunResult)
+            → NetAt (StandsAs S.stands) W.contents W.flushed start s self.old now
+            → ended (plan_of s) now ≡ Some by
+            → (result ≡ by) × (self.new ≡ self.old) × (order.new ≡ order.old) }
+    {
+        if self.web.has_several() {
+            return self.run_by(order, Tree::new());
+        }
+        self.run_by(order, Chain)
+    }
+
+    // The same, by what may be known of who isn't ready: more than nothing only in a tree. All that a
+    // stage's turn calls stands in this loop, and the loop in no caller's.
+    #[inline(never)]
+    fn run_by<O: Order, K: Knows>(&mut self, order: &mut O, mut known: K) -> RunResult
+        requires unknown { search_by 0 (K.first known) (K.behind known) ≡ beginning }
+        requires net { IsNet (StandsAs S.stands) W.contents W.flushed self.old }
+        // Whatever bytes the sources have, and however they go on: the turns are those that the
+        // order picks, and what was written is what the plan means.
+        ensures ran { HasRun (StandsAs S.stands) R.remaining W.contents W.flushed
+            (record { pick = O.picks; next = O.after }) order.old order.new self.old self.new
+            result }
+
+        // Where the sources tell their bytes, it is what the plan means over these.
+        ensures whole { (start : Option (List ℕ)) (s : Scene) (now : Now Row)
+            → Tells R.remaining self.old.web.nodes.items s.rests
+            → NetAt (StandsAs S.stands) W.contents W.flushed start s self.old now
+            → HasRunOn (StandsAs S.stands) W.contents W.flushed
+            (record { pick = O.picks; next = O.after }) order.old order.new start s now self.new
+            result }
+
+        // It ends by a failed read or write exactly where a call has failed in it.
+        ensures reads { self.old.failure ≡ None → (i : ℕ)
+            → failed_at R.failed i self.new.web.nodes.items
+            ≡ (failed_at R.failed i self.old.web.nodes.items || is_read_of i (Some result)) }
+        ensures writes { self.old.failure ≡ None
+            → W.failed self.new.sink ≡ (W.failed self.old.sink || is_write (Some result)) }
+
+        // A run that is over answers its result again.
+        ensures again { (start : Option (List ℕ)) (s : Scene) (now : Now Row) (by : RunResult)
+            → NetAt (StandsAs S.stands) W.contents W.flushed start s self.old now
+            → ended (plan_of s) now ≡ Some by
+            → (result ≡ by) × (self.new ≡ self.old) × (order.new ≡ order.old) }
+    {
+        let is_leftmost = order.is_leftmost();
+        self.prepare();
+        if self.over() {
+            return self.told();
+        }
+        let mut from = 0;
+        'turns: loop {
+            let actor = self.next(order, is_leftmost, from);
+            let Some(turned) = self.turn_if_ready(actor) else {
+                from = known.right_of(actor);
+                continue 'turns;
+            };
+            if turned.is_over {
+                return self.told();
+            }
+            from = turned.link;
+            known.went(actor, from);
+            if is_leftmost {
+                continue 'turns;
+            }
+            let reader = self.reader(actor, from);
+            self.ask_again(from, reader);
+        }
+    }
+
+    // A turn of this actor, if it is ready.
+    #[inline(always)]
+    fn turn_if_ready(&mut self, k: usize) -> Option<Turned>
+        requires { MayAsk (StandsAs S.stands) W.contents W.flushed k self.old }
+        ensures ready { (start : Option (List ℕ)) (s : Scene) (now : Now Row)
+            → NetAt (StandsAs S.stands) W.contents W.flushed start s self.old now
+            → ended (plan_of s) now ≡ None → k ≤ s.count
+            → is_some result ≡ is_ready (plan_of s) s.size now k }
+        ensures gone { IfSome result (HasGone (StandsAs S.stands) R.remaining
+            R.failed W.contents W.flushed W.failed k self.old self.new) }
+        ensures same { result ≡ None → self.new ≡ self.old }
+    {
+        if self.web.ready(k) {
+            return Some(self.turn(k));
+        }
+        None
+    }
+
+    /// One turn of an actor that is ready: a stage by its number, from 0, or the sink by the number of
+    /// stages.
+    #[inline(always)]
+    pub fn turn(&mut self, k: usize) -> Turned
+        requires { MayGo (StandsAs S.stands) W.contents W.flushed k self.old }
+        // It is one turn of this actor.
+        ensures gone { HasGone (StandsAs S.stands) R.remaining R.failed
+            W.contents W.flushed W.failed k self.old self.new result }
+
+        // It makes at most one call on the actor's reader, and none on another's.
+        ensures others { (i : ℕ) → i ≢ k → ShowsSame R.remaining R.calls R.failed
+            self.old.web.nodes.items self.new.web.nodes.items i }
+        ensures calls { AsksAtMostOnce (calls_at R.calls k self.old.web.nodes.items)
+            (failed_at R.failed k self.old.web.nodes.items)
+            (calls_at R.calls k self.new.web.nodes.items)
+            (failed_at R.failed k self.new.web.nodes.items) }
+    {
+        if k == self.web.count() {
+            self.turns += 1;
+            return Turned {
+                link: self.web.last(),
+                is_over: self.sink_turn(),
+            };
+        }
+        let turned = self.stage_turn(k);
+        self.turns += 1;
+        turned
+    }
+
+    /// How the run ended, once it has.
+    pub fn result(&self) -> Option<RunResult>
+        requires { IsRunning (StandsAs S.stands) W.contents W.flushed self.now }
+        ensures { (start : Option (List ℕ)) (s : Scene) (now : Now Row)
+            → NetAt (StandsAs S.stands) W.contents W.flushed start s self.now now
+            → result ≡ ended (plan_of s) now }
+    {
+        if let Some(failure) = self.failure {
+            return Some(failure);
+        }
+        match self.web.heard() {
+            Some(end) => Some(RunResult::from_end(end)),
+            None => None,
+        }
+    }
+
+    /// Whether an actor is ready: a stage, or the sink by the number of stages. Once the run has
+    /// ended none is.
+    pub fn ready(&self, k: usize) -> bool
+        requires { IsAmong (StandsAs S.stands) W.contents W.flushed k self.now }
+        ensures { (start : Option (List ℕ)) (s : Scene) (now : Now Row)
+            → NetAt (StandsAs S.stands) W.contents W.flushed start s self.now now
+            → k ≤ s.count → result ≡ is_ready (plan_of s) s.size now k }
+    {
+        match self.result() {
+            Some(_) => false,
+            None => self.web.ready(k),
+        }
+    }
+
+    /// The sink, as the turns left it: at each moment a front of the plan's text was written, however
+    /// the bytes go on that are still to come.
+    pub fn into_writer(self) -> W
+        ensures sink { result ≡ self.sink }
+        ensures front { (start : Option (List ℕ)) (s : Scene) (now : Now Row)
+            → NetAt (StandsAs S.stands) W.contents W.flushed start s self now
+            → WroteFront s start (W.contents result) }
+    {
+        let Net {
+            web: _web,
+            sink,
+            failure: _,
+            turns: _,
+            actors: _actors,
+            readers: _readers,
+        } = self;
+        sink
+    }
+
+    /// How many turns were made: until a failure no more than the bytes, the records and the ends
+    /// that were moved allow.
+    pub fn turns(&self) -> u64
+        ensures count { result ≡ self.now.turns }
+        ensures turns { (start : Option (List ℕ)) (s : Scene) (now : Now Row)
+            → (at : NetAt (StandsAs S.stands) W.contents W.flushed start s self.now now)
+            → result ≡ length at.turns }
+        ensures most { (start : Option (List ℕ)) (s : Scene) (now : Now Row)
+            → NetAt (StandsAs S.stands) W.contents W.flushed start s self.now now
+            → now.failure ≡ None → result ≤ most_in_all (plan_of s) now.links }
+    {
+        self.turns
+    }
+
+    /// The stages and the sink.
+    pub fn actors(&self) -> usize
+        ensures count { result ≡ length self.now.actors.items }
+        ensures stages { (start : Option (List ℕ)) (s : Scene) (now : Now Row)
+            → NetAt (StandsAs S.stands) W.contents W.flushed start s self.now now
+            → result ≡ s.count + 1 }
+    {
+        self.actors.len()
+    }
+
+    /// How many records lie on the link of an actor: those that it gave, less those taken. The sink has
+    /// no link.
+    pub fn linked(&self, k: usize) -> usize
+        ensures { (start : Option (List ℕ)) (s : Scene) (now : Now Row)
+            → NetAt (StandsAs S.stands) W.contents W.flushed start s self.now now
+            → now.failure ≡ None → k < s.count
+            → (result ≡ linked (now.links k)) × (result ≤ s.size) }
+    {
+        self.web.linked(k)
+    }
+
+    /// How many records wait inside an actor: none in a source or the sink.
+    pub fn held(&self, k: usize) -> usize
+        ensures held { (start : Option (List ℕ)) (s : Scene) (now : Now Row)
+            → NetAt (StandsAs S.stands) W.contents W.flushed start s self.now now
+            → now.failure ≡ None → k ≤ s.count → result ≡ held_of s now.links k }
+
+        // In a stage of one input at most one more than the greatest lag of its records, in assemble
+        // at most one of each source.
+        ensures few { (start : Option (List ℕ)) (s : Scene) (now : Now Row)
+            → NetAt (StandsAs S.stands) W.contents W.flushed start s self.now now
+            → now.failure ≡ None → HoldsFew s k result }
+    {
+        self.web.held(k)
+    }
+
+    /// Whether the run has ended. Until then some actor is ready.
+    #[inline(always)]
+    pub fn over(&self) -> bool
+        requires { IsRunning (StandsAs S.stands) W.contents W.flushed self.now }
+        ensures progress { (start : Option (List ℕ)) (s : Scene) (now : Now Row)
+            → NetAt (StandsAs S.stands) W.contents W.flushed start s self.now now
+            → ended (plan_of s) now ≡ None → SomeReady (plan_of s) s.size now.links }
+        ensures over { (start : Option (List ℕ)) (s : Scene) (now : Now Row)
+            → NetAt (StandsAs S.stands) W.contents W.flushed start s self.now now
+            → result ≡ is_some (ended (plan_of s) now) }
+    {
+        self.result().is_some()
+    }
+}

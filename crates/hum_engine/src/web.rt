@@ -1,0 +1,479 @@
+//! Nodes and their links.
+ghost use Rattle.std.specs.Prelude.{◌≡◌, ◌≤◌, ◌<◌, ◌⊎◌, ℕ, true, false, slice_index, length};
+ghost use Rattle.std.specs.Prelude.{IfOk, OnOk, OnErr, Err, Some, ◌||◌};
+ghost use Rattle.hum_turns.specs.Turns.{Gives, Takes, Ends, state, can, ready};
+ghost use Rattle.hum_turns.specs.Plan.{last};
+ghost use Rattle.hum_turns.specs.Near.{touched};
+ghost use Rattle.hum_turns.specs.Links.{has_some, linked, IsOpening};
+ghost use Rattle.hum_nodes.specs.Nodes.{StandsAs};
+ghost use Rattle.hum_nodes.specs.At.{HoldsOneEach};
+ghost use Rattle.hum_nodes.specs.Doing as does;
+ghost use Rattle.hum_nodes.specs.declared.node.Readiness.TheVariants as kinds;
+ghost use Rattle.hum_engine.specs.Links.{next_of};
+ghost use Rattle.hum_engine.specs.Scene.{Scene, plan_of, Somewhere, IsAt, IsActor, MayTurn, MayAct};
+ghost use Rattle.hum_engine.specs.Scene.{IsKind, Keeps, KeepsOthers, Fed, Done, IsAbout};
+ghost use Rattle.hum_engine.specs.Scene.{IsAboutKind, IsDoing};
+ghost use Rattle.hum_engine.specs.Scene.{IsBegun, Stands, HasStage, held_of};
+ghost use Rattle.hum_engine.specs.Readers.{ShowsSame, remaining_at, ended_at, calls_at, failed_at};
+ghost use Rattle.hum_nodes.specs.Polls.{AsksAtMostOnce, HasStayed, is_failed_read};
+
+use crate::link::{Link, Next};
+use hum_nodes::{Node, Readiness};
+use hum_read::ReadError;
+use hum_record::Record;
+use hum_stage::{End, Stage};
+use hum_text::calls::Source;
+use std::alloc::{AllocError, Global};
+
+/// Nodes, and the link of each.
+#[derive(Drop)]
+pub struct Web<S, R> {
+    nodes: Vec<Node<S, R>>,
+    links: Vec<Link>,
+    // the source that gave a record last
+    feeder: usize,
+    // whether there are several sources, and the stage that handed a record out last
+    has_several: bool,
+    spender: usize,
+    // the stage that took a record last that its source had no use for
+    taker: usize,
+}
+
+impl<S: Stage + Drop, R: Source + Drop> Web<S, R> {
+    /// Nodes that were asked nothing yet, each with a link of this size.
+    ///
+    /// # Errors
+    /// Want of memory.
+    pub fn new(alloc: Global, nodes: Vec<Node<S, R>>, size: usize) -> Result<Web<S, R>, AllocError>
+        ensures stands { IfOk result (λ web. (s : Scene) → IsOpening s.links
+            → IsBegun (StandsAs S.stands) size nodes.items s
+            → Stands (StandsAs S.stands) web s) }
+        ensures nodes { IfOk result (λ web. web.nodes ≡ nodes) }
+    {
+        let mut links = Vec::new(alloc);
+        let mut has_one = false;
+        let mut has_several = false;
+        for node in &nodes {
+            links.push(Link::new(alloc, size)?)?;
+            has_several |= has_one && node.is_source();
+            has_one |= node.is_source();
+        }
+        Ok(Web {
+            nodes,
+            links,
+            feeder: 0,
+            has_several,
+            spender: 0,
+            taker: 0,
+        })
+    }
+
+    /// How many stages.
+    pub fn count(&self) -> usize
+        ensures { result ≡ length self.now.nodes.items }
+    {
+        self.nodes.len()
+    }
+
+    /// Whether there are several sources.
+    pub fn has_several(&self) -> bool
+        ensures { result ≡ self.now.has_several }
+    {
+        self.has_several
+    }
+
+    // A turn of a source, which changes its own link.
+    #[inline(always)]
+    fn poll(&mut self, k: usize) -> Result<usize, ReadError>
+        requires turn { Somewhere (MayTurn (StandsAs S.stands) k self.old) }
+        requires source { IsKind true k self.old }
+        ensures fed { OnOk result
+            (Fed (StandsAs S.stands) R.remaining k self.old self.new) }
+        ensures link { IfOk result (λ link. link ≡ k) }
+        ensures others { KeepsOthers k self.old self.new }
+        ensures marks { failed_at R.failed k self.new.nodes.items
+            ≡ (failed_at R.failed k self.old.nodes.items || is_failed_read result) }
+        ensures calls { AsksAtMostOnce (calls_at R.calls k self.old.nodes.items)
+            (failed_at R.failed k self.old.nodes.items) (calls_at R.calls k self.new.nodes.items)
+            (failed_at R.failed k self.new.nodes.items) }
+        ensures stays { OnErr result (HasStayed (ended_at k self.old.nodes.items)
+            (ended_at k self.new.nodes.items)
+            (remaining_at R.remaining k self.old.nodes.items)
+            (remaining_at R.remaining k self.new.nodes.items)) }
+    {
+        match self.nodes[k].next() {
+            Some(row) => {
+                self.feeder = k;
+                self.links[k].push(row);
+            }
+            None => match self.nodes[k].stopped() {
+                Some(Ok(end)) => self.links[k].end(end),
+                Some(Err(error)) => return Err(error),
+                None => {}
+            },
+        }
+        Ok(k)
+    }
+
+    /// What the sink takes: the next record of the last stage, or its end.
+    pub fn take_out(&mut self) -> Next
+        requires { Somewhere (IsAt (StandsAs S.stands) self.old) }
+        ensures taken { (s : Scene) → IsAt (StandsAs S.stands) self.old s
+            → has_some (s.links (last (plan_of s))) ≡ true
+            → Done (StandsAs S.stands) s.count (Takes (last (plan_of s))) self.new s }
+        ensures next { (s : Scene) → IsAt (StandsAs S.stands) self.old s → result
+            ≡ next_of (s.links (last (plan_of s))).waiting (s.links (last (plan_of s))).mark }
+        ensures nodes { self.new.nodes ≡ self.old.nodes }
+    {
+        let last = self.links.len() - 1;
+        self.links[last].next()
+    }
+
+    // Gives a record that is done with to a stage, and hands out what that has no use for.
+    fn feed(&mut self, k: usize, row: Record) -> Option<Record>
+        ensures stands { (s : Scene) → Stands (StandsAs S.stands) self.old s
+            → Stands (StandsAs S.stands) self.new s }
+        ensures shows { (k : ℕ) → ShowsSame R.remaining R.calls R.failed
+            self.old.nodes.items self.new.nodes.items k }
+        ensures count { length self.new.nodes.items ≡ length self.old.nodes.items }
+    {
+        if k < self.nodes.len() {
+            return self.nodes[k].reuse(row);
+        }
+        Some(row)
+    }
+
+    // Offers a record to the stage that took one last. Where that hands it back, the next is asked the
+    // next time.
+    fn offer(&mut self, row: Record) -> Option<Record>
+        ensures stands { (s : Scene) → Stands (StandsAs S.stands) self.old s
+            → Stands (StandsAs S.stands) self.new s }
+        ensures shows { (k : ℕ) → ShowsSame R.remaining R.calls R.failed
+            self.old.nodes.items self.new.nodes.items k }
+        ensures count { length self.new.nodes.items ≡ length self.old.nodes.items }
+    {
+        let k = self.taker;
+        let back = self.feed(k, row);
+        if back.is_some() {
+            let next = k.saturating_add(1);
+            self.taker = if next < self.nodes.len() { next } else { 0 };
+        }
+        back
+    }
+
+    // The same until one takes it. It happens only where a stage gives more records than it is put.
+    #[inline(never)]
+    fn offer_to_all(&mut self, row: Record)
+        ensures stands { (s : Scene) → Stands (StandsAs S.stands) self.old s
+            → Stands (StandsAs S.stands) self.new s }
+        ensures shows { (k : ℕ) → ShowsSame R.remaining R.calls R.failed
+            self.old.nodes.items self.new.nodes.items k }
+        ensures count { length self.new.nodes.items ≡ length self.old.nodes.items }
+    {
+        let mut left = Some(row);
+        for _ in 0..self.nodes.len() {
+            left = match left {
+                Some(row) => self.offer(row),
+                None => return,
+            };
+        }
+    }
+
+    // Gives a record back to the source that gave one last, or where that has no use for it, to one
+    // of the stages.
+    fn give_back(&mut self, row: Record)
+        ensures stands { (s : Scene) → Stands (StandsAs S.stands) self.old s
+            → Stands (StandsAs S.stands) self.new s }
+        ensures shows { (k : ℕ) → ShowsSame R.remaining R.calls R.failed
+            self.old.nodes.items self.new.nodes.items k }
+        ensures count { length self.new.nodes.items ≡ length self.old.nodes.items }
+    {
+        if let Some(row) = self.feed(self.feeder, row) {
+            self.offer_to_all(row);
+        }
+    }
+
+    // A record that a stage was put and is done with, if it isn't a source.
+    fn done_with(&mut self, k: usize) -> Option<Record>
+        ensures stands { (s : Scene) → Stands (StandsAs S.stands) self.old s
+            → Stands (StandsAs S.stands) self.new s }
+        ensures shows { (k : ℕ) → ShowsSame R.remaining R.calls R.failed
+            self.old.nodes.items self.new.nodes.items k }
+        ensures count { length self.new.nodes.items ≡ length self.old.nodes.items }
+    {
+        if k < self.nodes.len() {
+            return self.nodes[k].done_with();
+        }
+        None
+    }
+
+    // The same of the stage that handed one out last; where that has none, of the next the next time.
+    fn spent(&mut self) -> Option<Record>
+        ensures stands { (s : Scene) → Stands (StandsAs S.stands) self.old s
+            → Stands (StandsAs S.stands) self.new s }
+        ensures shows { (k : ℕ) → ShowsSame R.remaining R.calls R.failed
+            self.old.nodes.items self.new.nodes.items k }
+        ensures count { length self.new.nodes.items ≡ length self.old.nodes.items }
+    {
+        let k = self.spender;
+        let row = self.done_with(k);
+        if row.is_none() {
+            self.spender = if k < self.nodes.len() { k + 1 } else { 0 };
+        }
+        row
+    }
+
+    // Gives a source a record that some stage is done with, but for the one that gave one last.
+    fn feed_other(&mut self, k: usize)
+        ensures stands { (s : Scene) → Stands (StandsAs S.stands) self.old s
+            → Stands (StandsAs S.stands) self.new s }
+        ensures shows { (k : ℕ) → ShowsSame R.remaining R.calls R.failed
+            self.old.nodes.items self.new.nodes.items k }
+        ensures count { length self.new.nodes.items ≡ length self.old.nodes.items }
+    {
+        if k == self.feeder || k >= self.nodes.len() || !self.nodes[k].is_source() {
+            return;
+        }
+        if let Some(row) = self.spent() {
+            let _refused = self.feed(k, row);
+        }
+    }
+
+    // The same of each source.
+    #[inline(never)]
+    fn feed_others(&mut self)
+        ensures stands { (s : Scene) → Stands (StandsAs S.stands) self.old s
+            → Stands (StandsAs S.stands) self.new s }
+        ensures shows { (k : ℕ) → ShowsSame R.remaining R.calls R.failed
+            self.old.nodes.items self.new.nodes.items k }
+        ensures count { length self.new.nodes.items ≡ length self.old.nodes.items }
+    {
+        for k in 0..self.nodes.len() {
+            self.feed_other(k);
+        }
+    }
+
+    /// Gives a record back to the source that gave one last, so that its next one needs no memory of
+    /// its own, or where that has no use for it, to a stage that has; and where there are several
+    /// sources, to the others what assemble is done with.
+    pub fn reuse(&mut self, row: Record)
+        ensures stands { (s : Scene) → Stands (StandsAs S.stands) self.old s
+            → Stands (StandsAs S.stands) self.new s }
+        ensures shows { (k : ℕ) → ShowsSame R.remaining R.calls R.failed
+            self.old.nodes.items self.new.nodes.items k }
+        ensures count { length self.new.nodes.items ≡ length self.old.nodes.items }
+    {
+        self.give_back(row);
+        if self.has_several {
+            self.feed_others();
+        }
+    }
+
+    // A stage gives a record onto its link.
+    #[inline(always)]
+    fn give(&mut self, k: usize) -> Result<(), AllocError>
+        requires may { Somewhere (MayAct (StandsAs S.stands) k does.Gives self.old) }
+        requires stage { IsKind false k self.old }
+        ensures given { OnOk result ((s : Scene)
+            → MayAct (StandsAs S.stands) k does.Gives self.old s
+            → Done (StandsAs S.stands) k Gives self.new s) }
+        ensures nodes { Keeps k self.old self.new }
+    {
+        if let Some(row) = self.nodes[k].take()? {
+            self.links[k].push(row);
+        }
+        Ok(())
+    }
+
+    // A stage sets its end.
+    fn finish(&mut self, k: usize, end: End)
+        requires { Somewhere (MayAct (StandsAs S.stands) k (does.Done end) self.old) }
+        ensures ended { (s : Scene)
+            → MayAct (StandsAs S.stands) k (does.Done end) self.old s
+            → Done (StandsAs S.stands) k Ends self.new s }
+        ensures nodes { self.new.nodes ≡ self.old.nodes }
+    {
+        self.links[k].end(end);
+    }
+
+    // A stage that has done all sets its end. It happens once, so the end has no place where each record
+    // passes.
+    #[inline(never)]
+    fn close(&mut self, k: usize)
+        requires turn { Somewhere (MayTurn (StandsAs S.stands) k self.old) }
+        requires done { IsDoing (StandsAs S.stands) k self.old kinds.Done }
+        ensures done { (s : Scene) → MayTurn (StandsAs S.stands) k self.old s
+            → Done (StandsAs S.stands) k (state (plan_of s) s.links k) self.new s }
+        ensures link { (s : Scene) → IsActor (StandsAs S.stands) k self.old s
+            → k ≡ touched k (state (plan_of s) s.links k) }
+        ensures nodes { Keeps k self.old self.new }
+    {
+        if let Some(end) = self.nodes[k].end() {
+            self.finish(k, end);
+        }
+    }
+
+    // A stage takes from the link of its source at a place, whose number it answers.
+    #[inline(always)]
+    fn pass(&mut self, k: usize, place: usize) -> Result<usize, AllocError>
+        requires may { Somewhere (MayAct (StandsAs S.stands) k (does.Wants place)
+            self.old) }
+        requires stage { IsKind false k self.old }
+        ensures passed { OnOk result ((s : Scene)
+            → MayAct (StandsAs S.stands) k (does.Wants place) self.old s
+            → Done (StandsAs S.stands) k
+            (Takes (slice_index (s.kinds k).stage.sources place)) self.new s) }
+        ensures source { IfOk result (λ source. (s : Scene)
+            → IsAbout (StandsAs S.stands) k (does.Wants place) self.old s
+            → source ≡ slice_index (s.kinds k).stage.sources place) }
+        ensures nodes { Keeps k self.old self.new }
+    {
+        let source = self.nodes[k].source(place);
+        match self.links[source].next() {
+            Next::Record(row) => self.nodes[k].put(place, row)?,
+            Next::End(end) => self.nodes[k].stop(place, end),
+            Next::Nothing => {}
+        }
+        Ok(source)
+    }
+
+    // The turn of a stage that isn't a source and does this next, and the link that it has changed: the
+    // one that it took from, or its own.
+    #[inline(always)]
+    fn act(&mut self, k: usize, kind: Readiness) -> Result<usize, AllocError>
+        requires turn { Somewhere (MayTurn (StandsAs S.stands) k self.old) }
+        requires doing { IsDoing (StandsAs S.stands) k self.old kind }
+        ensures done { OnOk result ((s : Scene) → MayTurn (StandsAs S.stands) k self.old s
+            → Done (StandsAs S.stands) k (state (plan_of s) s.links k) self.new s) }
+        ensures link { IfOk result (λ link. (s : Scene)
+            → IsActor (StandsAs S.stands) k self.old s
+            → link ≡ touched k (state (plan_of s) s.links k)) }
+        ensures nodes { Keeps k self.old self.new }
+    {
+        match kind {
+            Readiness::Wants(place) => return self.pass(k, place),
+            Readiness::Gives => self.give(k)?,
+            Readiness::Done => self.close(k),
+            Readiness::Reads => unreachable!(),
+        }
+        Ok(k)
+    }
+
+    /// A turn of a stage that is ready, and the link that it has changed: the one that it took from, or
+    /// its own.
+    ///
+    /// # Errors
+    /// A failed read of a source, and want of memory.
+    #[inline(always)]
+    pub fn turn(&mut self, k: usize) -> Result<usize, ReadError>
+        requires { Somewhere (MayTurn (StandsAs S.stands) k self.old) }
+        ensures turned { OnOk result
+            (Fed (StandsAs S.stands) R.remaining k self.old self.new) }
+        ensures link { IfOk result (λ link. (s : Scene)
+            → IsActor (StandsAs S.stands) k self.old s
+            → link ≡ touched k (state (plan_of s) s.links k)) }
+        ensures read { result ≡ Err ReadError.Read → IsKind true k self.old }
+        ensures others { KeepsOthers k self.old self.new }
+        ensures marks { failed_at R.failed k self.new.nodes.items
+            ≡ (failed_at R.failed k self.old.nodes.items || is_failed_read result) }
+        ensures calls { AsksAtMostOnce (calls_at R.calls k self.old.nodes.items)
+            (failed_at R.failed k self.old.nodes.items) (calls_at R.calls k self.new.nodes.items)
+            (failed_at R.failed k self.new.nodes.items) }
+        ensures stays { OnErr result (HasStayed (ended_at k self.old.nodes.items)
+            (ended_at k self.new.nodes.items)
+            (remaining_at R.remaining k self.old.nodes.items)
+            (remaining_at R.remaining k self.new.nodes.items)) }
+    {
+        match self.nodes[k].readiness() {
+            Readiness::Reads => self.poll(k),
+            kind => match self.act(k, kind) {
+                Ok(link) => Ok(link),
+                Err(_) => Err(ReadError::Memory),
+            },
+        }
+    }
+
+    // Whether a stage that isn't a source can do this.
+    #[inline(always)]
+    fn can(&self, k: usize, kind: Readiness) -> bool
+        requires about { Somewhere (IsAboutKind (StandsAs S.stands) k kind self.now) }
+        requires stage { IsKind false k self.now }
+        ensures { (s : Scene) → IsAboutKind (StandsAs S.stands) k kind self.now s
+            → result ≡ can s.size s.links k (state (plan_of s) s.links k) }
+    {
+        match kind {
+            Readiness::Gives => self.links[k].has_room(),
+            Readiness::Done => self.links[k].is_unset(),
+            // while it wants more, it hasn't heard the end
+            Readiness::Wants(place) => {
+                let source = self.nodes[k].source(place);
+                self.links[source].has_more()
+            }
+            Readiness::Reads => unreachable!(),
+        }
+    }
+
+    /// Whether an actor is ready: a stage, or the sink, whose number is that of the stages.
+    #[inline(always)]
+    pub fn ready(&self, k: usize) -> bool
+        requires { Somewhere (IsActor (StandsAs S.stands) k self.now) }
+        ensures { (s : Scene) → IsActor (StandsAs S.stands) k self.now s
+            → result ≡ ready (plan_of s) s.size s.links k }
+    {
+        if k == self.nodes.len() {
+            return self.links[k - 1].has_some();
+        }
+        match self.nodes[k].readiness() {
+            Readiness::Reads => self.links[k].is_unset() && self.links[k].has_room(),
+            kind => self.can(k, kind),
+        }
+    }
+
+    /// The number of the last stage, whose link the sink takes from.
+    pub fn last(&self) -> usize
+        requires { Somewhere (IsAt (StandsAs S.stands) self.now) }
+        ensures { (s : Scene) → IsAt (StandsAs S.stands) self.now s
+            → result ≡ last (plan_of s) }
+    {
+        self.links.len() - 1
+    }
+
+    /// How many records lie on the link of a stage; none where there is no such stage.
+    pub fn linked(&self, k: usize) -> usize
+        ensures { (s : Scene) → HasStage (StandsAs S.stands) k self.now s
+            → (result ≡ linked (s.links k)) × (result ≤ s.size) }
+    {
+        if k >= self.links.len() {
+            return 0;
+        }
+        self.links[k].len()
+    }
+
+    /// How many records wait inside a stage: none in a source, and none where there is no such stage.
+    pub fn held(&self, k: usize) -> usize
+        ensures held { (s : Scene) → HasStage (StandsAs S.stands) k self.now s
+            → result ≡ held_of s s.links k }
+        ensures few { (s : Scene) → HasStage (StandsAs S.stands) k self.now s
+            → HoldsOneEach (s.kinds k) (length (s.kinds k).stage.sources) result }
+        ensures none { length self.now.nodes.items ≤ k → result ≡ 0 }
+    {
+        if k >= self.nodes.len() {
+            return 0;
+        }
+        let node = &self.nodes[k];
+        if node.is_source() {
+            return 0;
+        }
+        node.held()
+    }
+
+    /// The end that the sink has heard.
+    pub fn heard(&self) -> Option<End>
+        requires { Somewhere (IsAt (StandsAs S.stands) self.now) }
+        ensures { (s : Scene) → IsAt (StandsAs S.stands) self.now s
+            → result ≡ (s.links (last (plan_of s))).heard }
+    {
+        let last = self.links.len() - 1;
+        self.links[last].heard()
+    }
+}

@@ -1,0 +1,94 @@
+//! Writing records.
+ghost use Rattle.std.specs.Prelude.{◌≡◌, ◌++◌, ◌∷◌, [], true, IfOk, OnOk, OnErr};
+ghost use Rattle.std.specs.Io.KnownBytes.{Appends};
+ghost use Rattle.hum_record.specs.Row.{text_of};
+ghost use Rattle.hum_engine.specs.Writing.{WroteFront};
+
+use hum_record::Record;
+use hum_text::calls::Sink;
+
+/// A write or a flush gave an error, or a write took no byte.
+#[derive(Clone, Copy)]
+pub struct WriteFailed;
+
+/// Writes a text by as many writes as it takes.
+///
+/// # Errors
+/// A write that fails, or that takes no byte. A front of the text was written then.
+#[inline(always)]
+fn write_all<W: Sink>(sink: &mut W, text: &[u8]) -> Result<(), WriteFailed>
+    ensures ok { OnOk result (Appends (W.contents sink.old) (W.contents sink.new) text.now) }
+    ensures err { OnErr result (WroteFront (W.contents sink.old) (W.contents sink.new) text.now) }
+    ensures sound { OnOk result (W.failed sink.new ≡ W.failed sink.old) }
+    ensures failed { OnErr result (W.failed sink.new ≡ true) }
+{
+    if text.is_empty() {
+        return Ok(());
+    }
+    match sink.write(text) {
+        Ok(n) if n == text.len() => Ok(()),
+        Ok(0) => Err(WriteFailed),
+        Ok(n) => write_on(sink, &text[n..]),
+        Err(_) => Err(WriteFailed),
+    }
+}
+
+/// The same where one write may not be enough.
+#[inline(never)]
+fn write_on<W: Sink>(sink: &mut W, text: &[u8]) -> Result<(), WriteFailed>
+    ensures ok { OnOk result (Appends (W.contents sink.old) (W.contents sink.new) text.now) }
+    ensures err { OnErr result (WroteFront (W.contents sink.old) (W.contents sink.new) text.now) }
+    ensures sound { OnOk result (W.failed sink.new ≡ W.failed sink.old) }
+    ensures failed { OnErr result (W.failed sink.new ≡ true) }
+{
+    let mut rest = text;
+    while !rest.is_empty() {
+        match sink.write(rest) {
+            Ok(0) => return Err(WriteFailed),
+            Ok(n) => rest = &rest[n..],
+            Err(_) => return Err(WriteFailed),
+        }
+    }
+    Ok(())
+}
+
+/// Writes a record's text and LF, at once where its buffer has room for both, and hands the record
+/// back.
+///
+/// # Errors
+/// As [`write_all`]'s.
+#[inline(always)]
+pub fn write_record<W: Sink>(sink: &mut W, row: Record) -> Result<Record, WriteFailed>
+    ensures ok { OnOk result (Appends (W.contents sink.old) (W.contents sink.new)
+        (text_of row ++ 10 ∷ [])) }
+    ensures err { OnErr result (WroteFront (W.contents sink.old) (W.contents sink.new)
+        (text_of row ++ 10 ∷ [])) }
+    ensures sound { OnOk result (W.failed sink.new ≡ W.failed sink.old) }
+    ensures failed { OnErr result (W.failed sink.new ≡ true) }
+    ensures back { IfOk result (λ back. back ≡ row) }
+{
+    match row.into_line() {
+        Ok(line) => {
+            write_all(sink, line.text())?;
+            Ok(line.into_record())
+        }
+        Err(row) => {
+            write_parts(sink, &row)?;
+            Ok(row)
+        }
+    }
+}
+
+/// Writes a record's text, and then LF.
+#[inline(never)]
+fn write_parts<W: Sink>(sink: &mut W, row: &Record) -> Result<(), WriteFailed>
+    ensures ok { OnOk result (Appends (W.contents sink.old) (W.contents sink.new)
+        (text_of row.now ++ 10 ∷ [])) }
+    ensures err { OnErr result (WroteFront (W.contents sink.old) (W.contents sink.new)
+        (text_of row.now ++ 10 ∷ [])) }
+    ensures sound { OnOk result (W.failed sink.new ≡ W.failed sink.old) }
+    ensures failed { OnErr result (W.failed sink.new ≡ true) }
+{
+    write_all(sink, row.text())?;
+    write_all(sink, b"\n")
+}

@@ -1,0 +1,5 @@
+use Rattle.hum_frac.proofs.Ratios.{multiple_test}
+use Rattle.hum_frac.proofs.frac.Frac.is_multiple.Goals as goal
+
+pub returns-clause-multiple : goal.returns-clause-multiple
+returns-clause-multiple c = rw (c.divided-rest.ensures.rest, ← c.self.view_is, ← c.unit.view_is) (multiple_test _ _)

@@ -1,5 +1,0 @@
-use Rattle.hum_kern.proofs.Ratios.{multiple_test}
-use Rattle.hum_kern.proofs.frac.Frac.is_multiple.Goals as goal
-
-pub returns-clause-multiple : goal.returns-clause-multiple
-returns-clause-multiple c = rw (c.divided-rest.ensures.rest, ← c.self.view_is, ← c.unit.view_is) (multiple_test _ _)

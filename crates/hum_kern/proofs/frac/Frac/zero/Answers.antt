@@ -1,8 +1,0 @@
-use Rattle.std.proofs.Common.{arith}
-use Rattle.hum_kern.specs.Gcd.{gcd, gcd_in}
-use Rattle.hum_kern.proofs.Gcds.{gcd_is}
-use Rattle.hum_kern.proofs.frac.Frac.zero.Goals as goal
-
-pub invariant_of-result : goal.invariant_of-result
-unfolding gcd gcd_in
-invariant_of-result c = record { positive = omega arith; top_fits = omega arith; bottom_fits = omega arith; lowest = gcd_is 0 1 }

@@ -1,9 +1,0 @@
-use Rattle.std.proofs.Common.{◌≡◌}
-use Rattle.hum_kern.specs.Gcd.{gcd}
-use Rattle.hum_kern.proofs.frac.gcd.Given as goal
-
-abbrev pub invariant-loop-y : goal.invariant-loop-y
-invariant-loop-y l = gcd l.x l.y ≡ gcd l.fn.a l.fn.b
-
-abbrev pub decreases-loop-y : goal.decreases-loop-y
-decreases-loop-y l = l.y

@@ -1,9 +1,0 @@
-use Rattle.std.proofs.Common.{◌∙◌, sym, arith}
-use Rattle.hum_kern.proofs.Gcds.{gcd-step, gcd-zero}
-use Rattle.hum_kern.proofs.frac.gcd_64.Goals as goal
-
-pub loop-y-preserved : goal.loop-y-preserved
-loop-y-preserved c = sym (gcd-step c.loop-y.x c.loop-y.y (omega arith)) ∙ c.loop-y.invariant
-
-pub returns : goal.returns
-returns c = let zero = gcd-zero c.loop-y.x in let same = c.loop-y.invariant in cc

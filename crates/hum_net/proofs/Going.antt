@@ -1,0 +1,268 @@
+-- A plan's net, from its beginning to the end of its run.
+use Rattle.std.proofs.Common.{◌≡◌, ◌∙◌, refl, sym, ap, subst, ◌||◌, ℕ, zero, suc, ◌+◌, ◌<◌, ◌≤◌, Bool, true, false}
+use Rattle.std.proofs.Common.{List, [], ◌∷◌, length, arith, ⊎_elim}
+use Rattle.std.proofs.lemmas.Bool.{cases_Bool}
+use Rattle.std.specs.Prelude.{Option, Some, None, slice_get}
+use Rattle.std.proofs.lemmas.Bool.{false≢true}
+use Rattle.std.proofs.lemmas.Option.{same_Some}
+use Rattle.hum_record.specs.Row.{Row}
+use Rattle.hum_stage.specs.declared.faults.End.{End}
+use Rattle.hum_turns.specs.declared.result.RunResult.{RunResult}
+use Rattle.hum_turns.specs.declared.result.RunResult.TheVariants as ends
+use Rattle.hum_turns.specs.Failures.{Now, IsFirst}
+use Rattle.hum_nodes.specs.At.{At, fresh}
+use Rattle.hum_nodes.specs.declared.node.Node.{Node}
+use Rattle.hum_nodes.specs.Nodes.{is_source, remaining_of, ended_of, failed_of}
+use Rattle.hum_nodes.proofs.Standing.{never_failed, no_end}
+use Rattle.hum_engine.specs.Readers.{or_none, failed_at}
+use Rattle.hum_engine.specs.declared.net.Net.{Net}
+use Rattle.hum_engine.specs.Scene.{Scene, IsBegun, IsNetPlan}
+use Rattle.hum_engine.specs.Nets.{AreBegun}
+use Rattle.hum_engine.specs.Nets as net
+use Rattle.hum_nodes.specs.Trees.{Part, kind_of, part_at, plan_of, meaning_of, IsLawfulTree}
+use Rattle.hum_plan.specs.Stages as plan
+use Rattle.hum_plan.specs.Seen.{stages_of, stage_of, options_of}
+use Rattle.hum_plan.specs.declared.stages.Options.{Options}
+use Rattle.hum_plan.specs.declared.stages.Options.TheVariants as told
+use Rattle.hum_plan.specs.declared.stages.PlanStage.{PlanStage}
+use Rattle.hum_net.specs.Parts.{part_by, part_of, parts_of, AreSoundFrom, AllGiveScores}
+use Rattle.hum_net.specs.Nodes.{AllFrom, Fits, Tells}
+use Rattle.hum_engine.proofs.Appending.{appends_none}
+use Rattle.hum_net.specs.Runs.{HasWritten, WroteAll, WroteFront}
+use Rattle.hum_net.specs.Scenes.{scene_of, first_now}
+use Rattle.hum_turns.proofs.Against.{meaning_fine}
+use Rattle.hum_nodes.specs.Fine.{IsFine}
+use Rattle.hum_nodes.proofs.Fining.{fine_is}
+use Rattle.hum_turns.proofs.Faults.{whose_fault}
+use Rattle.hum_nodes.proofs.TreeLaws.{is_plan, is_numbered}
+use Rattle.std.proofs.lemmas.List.{length-map}
+use Rattle.hum_net.proofs.Treeing.{parts_length, part_here, stage_there, is_tree, last_keeps}
+use Rattle.hum_net.proofs.Planning.{is_net_plan}
+use Rattle.hum_net.proofs.Building.{all_length}
+
+pub is_first : IsFirst first_now
+is_first = record { links = λ k. refl; part = refl; failure = refl }
+
+-- Only what a source reads counts.
+
+abbrev pub SameBy : Options → List ℕ → List ℕ → Type 0
+SameBy (told.Read name) a b = a ≡ b
+SameBy told.Assemble a b = Unit {0}
+SameBy (told.Command options) a b = Unit {0}
+
+pub same_self : (options : Options) (a : List ℕ) → SameBy options a a
+same_self (told.Read name) a = refl
+same_self told.Assemble a = tt
+same_self (told.Command options) a = tt
+
+same_part : (k : ℕ) (sources a b : List ℕ) (options : Options) → SameBy options a b
+    → part_by k a sources (options_of options) ≡ part_by k b sources (options_of options)
+same_part k sources a b (told.Read name) e = rw e refl
+same_part k sources a b told.Assemble e = refl
+same_part k sources a b (told.Command options) e = refl
+
+-- the same of each stage
+abbrev pub AreSame : (ℕ → List ℕ) → (ℕ → List ℕ) → List PlanStage → Type 0
+AreSame a b stages = (i : ℕ) (stage : PlanStage) → slice_get stages i ≡ Some stage
+    → SameBy stage.options (a i) (b i)
+
+pub record Pair {N : Type 0} (Holds : ℕ → PlanStage → N → Type 0) (k : ℕ) (stages : List PlanStage) (i : ℕ) (node : N)
+    : Type 0 where
+  pub stage : PlanStage
+  pub is : slice_get stages i ≡ Some stage
+  pub holds : Holds (k + i) stage node
+
+pair_from : {N : Type 0} (Holds : ℕ → PlanStage → N → Type 0) (k : ℕ) (stages : List PlanStage) (nodes : List N)
+    → AllFrom Holds k stages nodes → (i : ℕ) (node : N) → slice_get nodes i ≡ Some node → Pair Holds k stages i node
+pair_from Holds k [] [] h i node e = cc
+pair_from Holds k [] (n ∷ nodes) h i node e = absurd h
+pair_from Holds k (stage ∷ stages) [] h i node e = absurd h
+pair_from {N} Holds k (stage ∷ stages) (n ∷ nodes) h zero node e =
+    let here : n ≡ node = cc in
+    let zeros : k ≡ k + 0 = omega arith in
+    record {
+      stage = stage;
+      is = refl;
+      holds = subst (λ (j : ℕ). Holds j stage node) zeros (subst (λ (x : N). Holds k stage x) here h.0);
+    }
+pair_from Holds k (stage ∷ stages) (n ∷ nodes) h (suc i) node e =
+    let rest = pair_from Holds (suc k) stages nodes h.1 i node e in
+    let next : suc k + i ≡ k + suc i = omega arith in
+    record {
+      stage = rest.stage;
+      is = rest.is;
+      holds = subst (λ (j : ℕ). Holds j rest.stage node) next rest.holds;
+    }
+
+pub pair_at : {N : Type 0} (Holds : ℕ → PlanStage → N → Type 0) (stages : List PlanStage) (nodes : List N)
+    → AllFrom Holds 0 stages nodes → (i : ℕ) (node : N) → slice_get nodes i ≡ Some node
+    → (stage : PlanStage) × (slice_get stages i ≡ Some stage) × Holds i stage node
+pair_at Holds stages nodes h i node e =
+    let p = pair_from Holds 0 stages nodes h i node e in
+    let zeros : 0 + i ≡ i = omega arith in
+    (p.stage, p.is, subst (λ (j : ℕ). Holds j p.stage node) zeros p.holds)
+
+part_there : (bytes : ℕ → List ℕ) (stages : List PlanStage) (i : ℕ) (stage : PlanStage)
+    → slice_get stages i ≡ Some stage
+    → part_at (parts_of bytes (stages_of stages)) i ≡ part_of i (bytes i) (stage_of stage)
+part_there bytes stages i stage e =
+    part_here bytes (stages_of stages) i (stage_of stage) (stage_there stages i stage e)
+
+pub begun : {N : Type 0} {stands : N → List ℕ → At → Type 0} (bytes rests : ℕ → List ℕ) (stages : List PlanStage)
+    (nodes : List N) (size : ℕ) → AllFrom (Fits stands) 0 stages nodes → AreSame rests bytes stages
+    → IsBegun stands size nodes (scene_of bytes rests (stages_of stages) size)
+begun {N} {stands} bytes rests stages nodes size h same = record {
+  of_size = refl;
+  count = all_length (Fits stands) 0 stages nodes h
+      ∙ sym (parts_length 0 bytes (stages_of stages) ∙ length-map stages stage_of);
+  stand = λ k node e.
+      let p = pair_at (Fits stands) stages nodes h k node e in
+      let part : part_of k (rests k) (stage_of p.0) ≡ part_at (parts_of bytes (stages_of stages)) k =
+      same_part k p.0.sources.items (rests k) (bytes k) p.0.options (same k p.0 p.1)
+      ∙ sym (part_there bytes stages k p.0 p.1) in
+      subst (λ (x : Part). stands node (rests k) (fresh (kind_of (k + 1) x))) part (p.2.0 (rests k));
+}
+
+pub sound_from : {N : Type 0} (stands : N → List ℕ → At → Type 0) (k : ℕ) (stages : List PlanStage) (nodes : List N)
+    → AllFrom (Fits stands) k stages nodes → AreSoundFrom k (stages_of stages)
+sound_from stands k [] [] h = tt
+sound_from stands k [] (n ∷ nodes) h = absurd h
+sound_from stands k (stage ∷ stages) [] h = absurd h
+sound_from stands k (stage ∷ stages) (n ∷ nodes) h = (h.0.1, sound_from stands (suc k) stages nodes h.1)
+
+-- What the sources tell.
+
+pub all_tell : {S R : Type 0} (remaining : R → Option (List ℕ)) (bytes : ℕ → List ℕ)
+    (stages : List PlanStage) (nodes : List (Node S R)) → AllFrom (Tells remaining bytes) 0 stages nodes
+    → net.Tells remaining nodes bytes
+all_tell {S} {R} remaining bytes stages nodes h = record {
+  tells = λ i node e is. (at i node e is).0;
+  over = λ i e. by i (slice_get nodes i) refl e;
+}
+  where
+    at : (i : ℕ) (node : Node S R) → slice_get nodes i ≡ Some node → is_source node ≡ true
+        → (remaining_of remaining node ≡ Some (bytes i)) × (ended_of node ≡ false)
+    at i node e is = (pair_at (Tells remaining bytes) stages nodes h i node e).2 is
+
+    by : (i : ℕ) (o : Option (Node S R)) → slice_get nodes i ≡ o → or_none false ended_of o ≡ true
+        → bytes i ≡ []
+    by i None e f = absurd (false≢true f)
+    by i (Some node) e f = ⊎_elim
+        (λ is. absurd (false≢true (sym (at i node e is).1 ∙ f)))
+        (λ isnt. absurd (false≢true (sym (no_end (λ r. None) (λ r. 0) (λ r. false) node isnt) ∙ f)))
+        (cases_Bool (is_source node))
+
+-- The net that is made.
+
+pub all_begun : {S R : Type 0} {stands : Node S R → List ℕ → At → Type 0} (stages : List PlanStage)
+    (nodes : List (Node S R)) (size : ℕ) → plan.IsTree (stages_of stages) → 0 < size
+    → AllFrom (Fits stands) 0 stages nodes
+    → AreBegun stands size nodes (λ rests. scene_of rests rests (stages_of stages) size)
+all_begun {S} {R} {stands} stages nodes size tree some fits = record {
+  rests = λ rests. refl;
+  plan = λ rests. is_net_plan rests (stages_of stages) size tree (sound_from stands 0 stages nodes fits) some;
+  begun = λ rests. begun rests rests stages nodes size fits
+      (λ i stage e. same_self stage.options (rests i));
+}
+
+-- What its run has written.
+
+-- unless interpretations are dropped, it is a score
+abbrev pub IsValid : (ℕ → List ℕ) → List plan.Stage → Type 0
+IsValid bytes stages = AllGiveScores stages → IsFine 4294967295 (meaning_of (parts_of bytes stages))
+
+pub is_valid : (bytes : ℕ → List ℕ) (stages : List plan.Stage) → plan.IsTree stages → AreSoundFrom 0 stages
+    → IsValid bytes stages
+is_valid bytes stages tree sound all =
+    let parts = parts_of bytes stages in
+    fine_is 4294967295 (meaning_of parts) (meaning_fine (plan_of parts)
+    (is_plan parts (is_tree bytes stages tree sound)) (last_keeps bytes stages tree sound all))
+
+whole_of : (bytes rests : ℕ → List ℕ) (stages : List plan.Stage) (size : ℕ) (start held : Option (List ℕ))
+    (flushed : Bool) (end : End) → IsLawfulTree (parts_of bytes stages) → IsValid bytes stages
+    → net.WroteAll (scene_of bytes rests stages size) start held flushed end
+    → WroteAll bytes stages start held flushed end
+whole_of bytes rests stages size start held flushed end law valid o = record {
+  wrote = o.appends;
+  is_flushed = o.is_flushed;
+  means = o.end;
+  first = same_Some _ _ (sym o.end ∙ law.end);
+  valid = valid;
+}
+
+front_of : (bytes rests : ℕ → List ℕ) (stages : List plan.Stage) (size : ℕ) (start held : Option (List ℕ))
+    → net.WroteFront (scene_of bytes rests stages size) start held
+    → WroteFront (parts_of bytes stages) start held
+front_of bytes rests stages size start held o =
+    record { part = o.part; front = o.front; wrote = o.appends }
+
+pub has_written : (bytes rests : ℕ → List ℕ) (stages : List plan.Stage) (size : ℕ)
+    (start held : Option (List ℕ)) (flushed : Bool) (by : RunResult) → IsLawfulTree (parts_of bytes stages)
+    → IsValid bytes stages → net.Outcome (scene_of bytes rests stages size) start held flushed by
+    → HasWritten bytes stages start held flushed by
+has_written bytes rests stages size start held flushed ends.Finished law valid o =
+    whole_of bytes rests stages size start held flushed _ law valid o
+has_written bytes rests stages size start held flushed (ends.Fault f) law valid o =
+    whole_of bytes rests stages size start held flushed _ law valid o
+has_written bytes rests stages size start held flushed (ends.Read k) law valid o =
+    front_of bytes rests stages size start held o
+has_written bytes rests stages size start held flushed ends.Write law valid o =
+    front_of bytes rests stages size start held o
+has_written bytes rests stages size start held flushed ends.Memory law valid o =
+    front_of bytes rests stages size start held o
+
+-- where no turn was made, nothing was written
+pub nothing_written : (bytes : ℕ → List ℕ) (stages : List plan.Stage) (held : Option (List ℕ)) (flushed : Bool)
+    → HasWritten bytes stages held held flushed ends.Memory
+nothing_written bytes stages held flushed =
+    record { part = []; front = (_, refl); wrote = appends_none held }
+
+pub lawful_tree : (bytes : ℕ → List ℕ) (stages : List plan.Stage) → plan.IsTree stages
+    → AreSoundFrom 0 stages → IsLawfulTree (parts_of bytes stages)
+lawful_tree bytes stages tree sound =
+    let parts = parts_of bytes stages in
+    let is = is_tree bytes stages tree sound in
+    record {
+      plan = is_plan parts is;
+      numbered = is_numbered parts is;
+      end = whose_fault _ (is_plan parts is) (is_numbered parts is);
+    }
+
+-- fewer stages than a byte can count
+pub few_nodes : {N : Type 0} (Holds : ℕ → PlanStage → N → Type 0) (stages : List PlanStage) (nodes : List N)
+    → plan.IsTree (stages_of stages) → AllFrom Holds 0 stages nodes → length nodes < 256
+few_nodes Holds stages nodes tree fits =
+    let count = all_length Holds 0 stages nodes fits in
+    let bound : length stages ≤ 64 = rw (length-map stages stage_of) at tree.bound in
+    omega (arith, count, bound)
+
+-- the net that is made stands for the plan's beginning
+pub net_at : {S R W : Type 0} {stands : Node S R → List ℕ → At → Type 0} {contents : W → Option (List ℕ)}
+    {flushed : W → Bool} (bytes : ℕ → List ℕ) (stages : List PlanStage) (nodes : List (Node S R)) (size : ℕ)
+    (start : Option (List ℕ)) (made : Net S R W)
+    → ((s : Scene) (now : Now Row) → IsFirst now → IsNetPlan s.count s.kinds s.size
+    → IsBegun stands size nodes s → net.NetAt stands contents flushed start s made now)
+    → plan.IsTree (stages_of stages) → 0 < size → AllFrom (Fits stands) 0 stages nodes
+    → net.NetAt stands contents flushed start (scene_of bytes bytes (stages_of stages) size) made first_now
+    × AreSoundFrom 0 (stages_of stages)
+net_at {S} {R} {W} {stands} bytes stages nodes size start made ok tree some fits =
+    let sound = sound_from stands 0 stages nodes fits in (
+      ok (scene_of bytes bytes (stages_of stages) size) first_now is_first
+          (is_net_plan bytes (stages_of stages) size tree sound some)
+          (begun bytes bytes stages nodes size fits (λ i stage e. same_self stage.options (bytes i))),
+      sound,
+    )
+
+-- Where no source can fail, none has failed, and no failed read is told.
+none_failed : {S R : Type 0} (failed : R → Bool) → ((r : R) → failed r ≡ false) → (nodes : List (Node S R)) (k : ℕ)
+    → failed_at failed k nodes ≡ false
+none_failed {S} {R} failed never nodes k = by (slice_get nodes k)
+  where
+    by : (o : Option (Node S R)) → or_none false (failed_of failed) o ≡ false
+    by None = refl
+    by (Some node) = never_failed failed never node
+
+pub no_read_failed : {S R : Type 0} (failed : R → Bool) → ((r : R) → failed r ≡ false) → (old new : List (Node S R))
+    (k : ℕ) (told : Bool) → failed_at failed k new ≡ (failed_at failed k old || told) → told ≡ false
+no_read_failed failed never old new k told e =
+    ap (λ b. b || told) (sym (none_failed failed never old k)) ∙ sym e ∙ none_failed failed never new k

@@ -1,0 +1,48 @@
+use Rattle.std.proofs.Common.{◌≡◌, ◌||◌, true, false, refl, inl, inr}
+use Rattle.hum_net.specs.Scenes.{scene_of, first_now}
+use Rattle.hum_net.proofs.Going.{is_first, has_written, is_valid, nothing_written, lawful_tree, no_read_failed}
+use Rattle.hum_plan.specs.Seen.{stages_of}
+use Rattle.hum_net.proofs.running.run_stages.Goals as goal
+
+pub returns-in-Ok-clause-wrote : goal.returns-in-Ok-clause-wrote
+returns-in-Ok-clause-wrote g c bytes told =
+    let stages = stages_of c.args.stages.items in
+    let ran = c.run-result.ensures.whole _ (scene_of bytes bytes stages c.args.link) first_now
+    (c.in-Ok.ensures.tells bytes told) (c.in-Ok.ensures.opens bytes) in
+    rw c.into_writer.ensures.sink
+    (has_written bytes ran.left stages c.args.link _ _ _ _
+    (lawful_tree bytes stages c.requires.tree c.in-Ok.ensures.sound)
+    (is_valid bytes stages c.requires.tree c.in-Ok.ensures.sound) ran.runs.outcome)
+
+pub returns-in-Ok-clause-picked : goal.returns-in-Ok-clause-picked
+returns-in-Ok-clause-picked g c bytes told =
+    let stages = stages_of c.args.stages.items in
+    let ran = c.run-result.ensures.whole _ (scene_of bytes bytes stages c.args.link) first_now
+    (c.in-Ok.ensures.tells bytes told) (c.in-Ok.ensures.opens bytes) in
+    inl (record {
+      turns = ran.runs.leads.turns;
+      first = first_now;
+      last = ran.runs.leads.to;
+      is_first = is_first;
+      driven = ran.runs.leads.driven;
+      over = ran.runs.over;
+    })
+
+pub returns-in-Err-clause-wrote : goal.returns-in-Err-clause-wrote
+returns-in-Err-clause-wrote g c = λ bytes told. rw c.in-Err.ensures.err (nothing_written _ _ _ (g.W.Sink.flushed c.args.sink))
+
+pub returns-in-Err-clause-picked : goal.returns-in-Err-clause-picked
+returns-in-Err-clause-picked g c = λ bytes told. inr (refl, refl)
+
+pub returns-in-Ok-clause-marked : goal.returns-in-Ok-clause-marked
+returns-in-Ok-clause-marked g c =
+    let writes = c.run-result.ensures.writes c.in-Ok.ensures.failure in
+    rw c.into_writer.ensures.sink (rw c.in-Ok.ensures.sink at writes)
+
+pub returns-in-Ok-clause-unread : goal.returns-in-Ok-clause-unread
+returns-in-Ok-clause-unread g c = λ never k.
+    no_read_failed _ never _ _ k _ (c.run-result.ensures.reads c.in-Ok.ensures.failure k)
+
+pub returns-in-Err-clause-marked : goal.returns-in-Err-clause-marked
+returns-in-Err-clause-marked g c =
+    rw c.in-Err.ensures.err (elim (g.W.Sink.failed c.args.sink) as (λ b. b ≡ (b || false)) [ true ↦ refl | false ↦ refl ])

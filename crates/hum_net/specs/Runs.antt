@@ -1,0 +1,65 @@
+-- What a run of a plan has written.
+use Rattle.std.specs.Prelude.{◌≡◌, ℕ, Bool, true, List, Option, Some}
+use Rattle.std.specs.Io.KnownBytes.{Appends}
+use Rattle.hum_record.specs.Row.{Row, text_of}
+use Rattle.hum_stage.specs.declared.faults.End.{End}
+use Rattle.hum_stage.specs.declared.faults.End.TheVariants.{Closed, Broken}
+use Rattle.hum_turns.specs.declared.result.RunResult.{RunResult}
+use Rattle.hum_turns.specs.declared.result.RunResult.TheVariants as ends
+use Rattle.hum_turns.specs.Flow.{Begins}
+use Rattle.hum_turns.specs.Text.{text}
+use Rattle.hum_turns.specs.Failures.{Now, IsFirst, result}
+use Rattle.hum_turns.specs.Orders.{Order, Driven}
+use Rattle.hum_nodes.specs.Fine.{IsFine}
+use Rattle.hum_plan.specs.Stages.{Stage}
+use Rattle.hum_nodes.specs.Trees.{Part, plan_of, meaning_of, ending_of}
+use Rattle.hum_net.specs.Parts.{parts_of, AllGiveScores}
+
+-- the text of what a tree of stages means
+abbrev pub text_of_tree : List Part → List ℕ
+text_of_tree parts = text text_of (meaning_of parts).items
+
+-- The whole text was written, and nothing else, and flushed; it ends so, by the fault of the
+-- lowest-numbered stage that refuses, if one does. Unless interpretations are dropped it is a score,
+-- and a closed one where no stage refuses.
+pub record WroteAll (bytes : ℕ → List ℕ) (stages : List Stage) (old new : Option (List ℕ))
+    (flushed : Bool) (end : End) : Type 0 where
+  pub wrote : Appends old new (text_of_tree (parts_of bytes stages))
+  pub is_flushed : flushed ≡ true
+  pub means : (meaning_of (parts_of bytes stages)).end ≡ Some end
+  pub first : end ≡ ending_of (parts_of bytes stages)
+  pub valid : AllGiveScores stages → IsFine 4294967295 (meaning_of (parts_of bytes stages))
+
+-- A front of the text was written.
+pub record WroteFront (parts : List Part) (old new : Option (List ℕ)) : Type 0 where
+  pub part : List ℕ
+  pub front : Begins part (text_of_tree parts)
+  pub wrote : Appends old new part
+
+-- What was written by a run of a plan's stages, over these bytes, that ended so.
+abbrev pub HasWritten : (ℕ → List ℕ) → List Stage → Option (List ℕ) → Option (List ℕ) → Bool
+    → RunResult → Type 0
+HasWritten bytes stages old new flushed ends.Finished =
+    WroteAll bytes stages old new flushed Closed
+HasWritten bytes stages old new flushed (ends.Fault fault) =
+    WroteAll bytes stages old new flushed (Broken fault)
+HasWritten bytes stages old new flushed (ends.Read number) =
+    WroteFront (parts_of bytes stages) old new
+HasWritten bytes stages old new flushed ends.Write = WroteFront (parts_of bytes stages) old new
+HasWritten bytes stages old new flushed ends.Memory = WroteFront (parts_of bytes stages) old new
+
+-- The turns that an order has picked in a run of a plan's stages with links of this size, which ended so:
+-- from the first moment on it was asked before each turn, and told which actors are ready, until the
+-- run was over; this is what is left of it.
+pub record HasPicked {O : Type 0} (order : Order O) (bytes : ℕ → List ℕ) (stages : List Stage)
+    (link : ℕ) (end : RunResult) (old new : O) : Type 0 where
+  pub turns : List ℕ
+  pub first : Now Row
+  pub last : Now Row
+  pub is_first : IsFirst first
+  pub driven : Driven order (plan_of (parts_of bytes stages)) link text_of old first turns last new
+  pub over : result (plan_of (parts_of bytes stages)) last ≡ Some end
+
+-- Memory was wanting before there was a net, and the order was not asked.
+abbrev pub IsUnasked : {O : Type 0} → RunResult → O → O → Type 0
+IsUnasked end old new = (end ≡ ends.Memory) × (new ≡ old)

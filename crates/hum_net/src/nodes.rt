@@ -1,0 +1,102 @@
+//! The stages of a plan as nodes of a net.
+ghost use Rattle.std.specs.Prelude.{◌≡◌, ◌≤◌, ◌<◌, ◌+◌, ℕ, pred, List, ◌∷◌, map, length, IfOk};
+ghost use Rattle.hum_nodes.specs.Nodes.{StandsAs};
+ghost use Rattle.hum_plan.specs.Stages.{Stage, IsTree};
+ghost use Rattle.hum_plan.specs.Seen.{options_of, stage_of, stages_of};
+ghost use Rattle.hum_net.specs.Parts.{first_of};
+ghost use Rattle.hum_net.specs.Nodes.{AllFrom, Fits, Tells, AreTold, reads_by, reads_of};
+
+use hum_command_stages::CommandStage;
+use hum_nodes::Node;
+use hum_plan::{Options, PlanStage};
+use hum_stage::Stage;
+use hum_text::calls::Source;
+use std::alloc::{AllocError, Global};
+use std::collections::VecDeque;
+
+/// A stage's number, counted from 0 in place of 1.
+fn from_zero(number: u8) -> usize
+    ensures { result ≡ pred number }
+{
+    (number as usize).saturating_sub(1)
+}
+
+fn all_from_zero(alloc: Global, numbers: &[u8]) -> Result<Vec<usize>, AllocError>
+    ensures { IfOk result (λ from. from.items ≡ map pred numbers.now) }
+{
+    numbers
+        .iter()
+        .map(|number| from_zero(*number))
+        .collect(alloc)
+}
+
+fn first_from_zero(numbers: &[u8]) -> usize
+    ensures { result ≡ first_of numbers.now }
+{
+    match numbers {
+        [first, ..] => from_zero(*first),
+        [] => 0,
+    }
+}
+
+/// The node of stage `k`, from 0, whose reader comes first among those that are left.
+fn plan_node<R: Source + Drop>(
+    alloc: Global,
+    k: usize,
+    stage: PlanStage,
+    readers: &mut VecDeque<R>,
+) -> Result<Node<CommandStage, R>, AllocError>
+    requires few { k < 64 }
+    requires narrow { length stage.sources.items ≤ 15 }
+    requires reader { reads_by (options_of stage.options) ≤ length readers.old.items }
+    ensures left { length readers.new.items + reads_by (options_of stage.options)
+        ≡ length readers.old.items }
+    ensures fits { IfOk result (Fits (StandsAs ⟦<CommandStage as Stage>⟧.stands) k stage) }
+    ensures told { IfOk result (λ made. (bytes : ℕ → List ℕ) (stages : List Stage)
+        → AreTold R.remaining bytes k (stage_of stage ∷ stages) readers.old.items
+        → Tells R.remaining bytes k stage made
+        × AreTold R.remaining bytes (k + 1) stages readers.new.items) }
+{
+    let number = k as u8 + 1;
+    let (sources, options) = stage.into_parts();
+    match options {
+        Options::Read(_) => match readers.pop_front() {
+            Some(reader) => Ok(Node::read(alloc, number, reader)),
+            None => unreachable!(),
+        },
+        Options::Assemble => {
+            let sources = all_from_zero(alloc, &sources)?;
+            Node::assemble(alloc, number, sources)
+        }
+        Options::Command(options) => {
+            let stage = CommandStage::new(alloc, number, options);
+            Ok(Node::command(stage, first_from_zero(&sources)))
+        }
+    }
+}
+
+/// The nodes of a plan's stages, with a reader for each that reads a score, in their order.
+pub(crate) fn plan_nodes<R: Source + Drop>(
+    alloc: Global,
+    stages: Vec<PlanStage>,
+    readers: Vec<R>,
+) -> Result<Vec<Node<CommandStage, R>>, AllocError>
+    requires tree { IsTree (stages_of stages.items) }
+    requires readers { reads_of (stages_of stages.items) ≡ length readers.items }
+    ensures fits { IfOk result (λ nodes. AllFrom
+        (Fits (StandsAs ⟦<CommandStage as Stage>⟧.stands)) 0 stages.items nodes.items) }
+    ensures told { IfOk result (λ nodes. (bytes : ℕ → List ℕ)
+        → AreTold R.remaining bytes 0 (stages_of stages.items) readers.items
+        → AllFrom (Tells R.remaining bytes) 0 stages.items nodes.items) }
+{
+    let mut coming = VecDeque::from(stages);
+    let mut left = VecDeque::from(readers);
+    let mut nodes = Vec::new(alloc);
+    'stages: loop {
+        let Some(stage) = coming.pop_front() else {
+            return Ok(nodes);
+        };
+        let node = plan_node(alloc, nodes.len(), stage, &mut left)?;
+        nodes.push(node)?;
+    }
+}

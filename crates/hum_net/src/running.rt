@@ -1,0 +1,57 @@
+//! Runs of plans.
+ghost use Rattle.std.specs.Prelude.{◌≡◌, ◌≤◌, ◌||◌, ◌⊎◌, ℕ, false, List, Some, length};
+ghost use Rattle.hum_plan.specs.Stages.{IsTree};
+ghost use Rattle.hum_plan.specs.Seen.{stages_of};
+ghost use Rattle.hum_engine.specs.Readers.{is_write, is_read_of};
+ghost use Rattle.hum_net.specs.Nodes.{AreTold, reads_of};
+ghost use Rattle.hum_net.specs.Runs.{HasWritten, HasPicked, IsUnasked};
+
+use crate::net::Net;
+use hum_plan::PlanStage;
+use hum_text::calls::{Sink, Source};
+use hum_turns::{Order, RunResult};
+use std::alloc::Global;
+
+/// Runs the stages of a plan, with a reader for each that reads a score, in their order, and links
+/// that hold so many records. The sink is handed back with how the run ended.
+pub fn run_stages<R: Source + Drop, O: Order, W: Sink + Drop>(
+    alloc: Global,
+    stages: Vec<PlanStage>,
+    readers: Vec<R>,
+    link: u16,
+    order: &mut O,
+    sink: W,
+) -> (RunResult, W)
+    requires tree { IsTree (stages_of stages.items) }
+    requires readers { reads_of (stages_of stages.items) ≡ length readers.items }
+    requires link { 1 ≤ link }
+    requires room { link ≤ 4096 }
+
+    // Whatever bytes the readers give, in whatever pieces, and whatever the order: what was written is
+    // the text of what the stages mean over the scores that the bytes denote, and the run ends as
+    // they mean; or a read, a write or want of memory ended it, and a front of that text was written.
+    ensures wrote { (bytes : ℕ → List ℕ) → AreTold R.remaining bytes 0 (stages_of stages.items) readers.items
+        → HasWritten bytes (stages_of stages.items) (W.contents sink) (W.contents result.1)
+        (W.flushed result.1) result.0 }
+
+    // The turns are those that the order picked, to the run's end, and it is left as its picks leave
+    // it; where memory is wanting before the first, it is not asked.
+    ensures picked { (bytes : ℕ → List ℕ) → AreTold R.remaining bytes 0 (stages_of stages.items) readers.items
+        → HasPicked (record { pick = O.picks; next = O.after }) bytes (stages_of stages.items) link
+        result.0 order.old order.new ⊎ IsUnasked result.0 order.old order.new }
+
+    // A failed write or flush is told exactly where one set the sink's mark.
+    ensures marked { W.failed result.1 ≡ (W.failed sink || is_write (Some result.0)) }
+
+    // Where no reader can fail, no failed read is told.
+    ensures unread { ((reader : R) → R.failed reader ≡ false)
+        → (k : ℕ) → is_read_of k (Some result.0) ≡ false }
+{
+    match Net::of_stages(alloc, stages, readers, sink, link) {
+        Ok(mut net) => {
+            let result = net.run(order);
+            (result, net.into_writer())
+        }
+        Err(sink) => (RunResult::Memory, sink),
+    }
+}

@@ -1,0 +1,13 @@
+use Rattle.std.proofs.Common.{arith, ◌≡◌, length}
+use Rattle.hum_assemble.specs.Standing.{Stands}
+use Rattle.hum_nodes.proofs.Mergings.{fresh_stands}
+use Rattle.hum_nodes.proofs.node.Node.assemble.Goals as goal
+
+pub returns-clause-stands : goal.returns-clause-stands
+returns-clause-stands g c rest =
+    let is = c.len.ensures in
+    let l = c.args.sources.ok.0 in
+    let count : c.len.result ≡ length c.args.sources.items = omega (arith, is, l) in
+    let works = fresh_stands (Stands c.in_ok-stage.stage) c.args.number c.len.result c.args.sources.items
+    count c.in_ok-stage.ensures.stands in
+    record { works = works; knows = c.of_assemble-readiness.ensures c.args.sources.items _ works }

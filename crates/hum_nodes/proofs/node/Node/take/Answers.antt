@@ -1,0 +1,26 @@
+use Rattle.std.proofs.Common.{subst}
+use Rattle.hum_assemble.specs.Standing.{Stands}
+use Rattle.hum_nodes.specs.Merging.{IsMerging}
+use Rattle.hum_nodes.specs.declared.node.Work.TheVariants.{Assemble}
+use Rattle.hum_nodes.specs.Nodes.{WorksAs, StandsAs}
+use Rattle.hum_nodes.proofs.Mergings.{taken_stands}
+use Rattle.hum_nodes.proofs.Standing.{taken_as}
+use Rattle.hum_nodes.proofs.node.Node.take.Goals as goal
+
+pub returns-in_ok-taken-in-Assemble-clause-taken : goal.returns-in_ok-taken-in-Assemble-clause-taken
+returns-in_ok-taken-in-Assemble-clause-taken g c rest t h =
+    let w = subst (λ w. WorksAs g.S.Stage.stands w rest t) c.in-Assemble.is h.works in
+    let taken = taken_stands (Stands c.in-Assemble.stage) (Stands c.take-in-Assemble.new.self)
+    c.in-Assemble.field-1.items _ c.in_ok-taken-in-Assemble.ensures.ok t w in (
+      taken.0,
+      taken_as _ t (IsMerging (Stands c.take-in-Assemble.new.self) c.in-Assemble.field-1.items)
+          (StandsAs g.S.Stage.stands (record {
+            work = Assemble c.take-in-Assemble.new.self c.in-Assemble.field-1;
+            readiness = c.of_assemble-self.result;
+          }) rest)
+          (λ u at. record {
+            works = at;
+            knows = c.of_assemble-self.ensures c.in-Assemble.field-1.items u at;
+          })
+          taken.1,
+    )

@@ -1,0 +1,6 @@
+pub mod PitchExamples
+mod Theory
+pub mod Steps
+pub mod Answering
+pub mod Reading
+pub mod Names

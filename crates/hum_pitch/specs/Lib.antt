@@ -1,0 +1,4 @@
+pub mod Pitch
+pub mod Given
+pub mod Spelling
+pub mod Intervals

@@ -1,0 +1,229 @@
+//! Intervals as text.
+ghost use Rattle.std.specs.Prelude.{◌≡◌, ◌≤◌, ◌++◌, [], cond, pos, negsuc, replicate};
+ghost use Rattle.std.specs.Prelude.{OnOk, IfOk};
+ghost use Rattle.std.specs.Fmt.{decimal};
+ghost use Rattle.hum_pitch.specs.Pitch.{IsWithin};
+ghost use Rattle.hum_pitch.specs.Intervals.{direction, upwards, natural_width, excess};
+ghost use Rattle.hum_pitch.specs.Intervals.{can_be_perfect, of_perfect, of_major};
+ghost use Rattle.hum_pitch.specs.Intervals.{quality, sign, quality_letters, IsModest};
+ghost use Rattle.hum_pitch.specs.Intervals.{named};
+
+use crate::intervals::{Direction, Interval, Quality};
+use crate::pitch::natural;
+use crate::spelling::{Repeated, push_repeated};
+use itoa::Buffer;
+use std::alloc::{AllocError, Global};
+
+/// Up or down by the steps; where there are none, by the semitones.
+fn direction(interval: Interval) -> Direction
+    ensures { result ≡ direction interval.d interval.s }
+{
+    let leading = if interval.d == 0 {
+        interval.s
+    } else {
+        interval.d
+    };
+    if leading > 0 {
+        Direction::Up
+    } else if leading < 0 {
+        Direction::Down
+    } else {
+        Direction::Level
+    }
+}
+
+/// The semitones of the interval as it is named, upwards.
+fn upwards(interval: Interval) -> i32
+    ensures exact { result ≡ upwards interval.d interval.s }
+    ensures bounded { IsWithin (negsuc 204) result (pos 205) }
+{
+    if interval.d > 0 {
+        interval.s
+    } else if interval.d < 0 {
+        0 - interval.s
+    } else if interval.s < 0 {
+        0 - interval.s
+    } else {
+        interval.s
+    }
+}
+
+/// The semitones of the perfect or major interval of so many steps.
+fn natural_width(steps: u32) -> u32
+    requires { steps ≤ 111 }
+    ensures exact { result ≡ natural_width steps }
+    ensures bounded { result ≤ 191 }
+{
+    u32::from(natural(steps % 7)) + 12 * (steps / 7)
+}
+
+/// By how many semitones the interval is wider than the perfect or major one.
+fn excess(interval: Interval) -> i32
+    ensures exact { result ≡ excess interval.d interval.s }
+    ensures bounded { IsWithin (negsuc 395) result (pos 205) }
+{
+    upwards(interval) - natural_width(interval.d.unsigned_abs()) as i32
+}
+
+/// Whether intervals of so many steps are perfect, and not major or minor.
+fn can_be_perfect(steps: u32) -> bool
+    ensures { result ≡ can_be_perfect steps }
+{
+    let within_octave = steps % 7;
+    within_octave == 0 || within_octave == 3 || within_octave == 4
+}
+
+/// The quality of an interval that can be perfect.
+fn of_perfect(excess: i32) -> Quality
+    requires { IsWithin (negsuc 395) excess (pos 205) }
+    ensures exact { result ≡ of_perfect excess }
+    ensures modest { IsModest result }
+{
+    if excess > 0 {
+        Quality::Augmented(excess as u32)
+    } else if excess < 0 {
+        Quality::Diminished(excess.unsigned_abs())
+    } else {
+        Quality::Perfect
+    }
+}
+
+/// The quality of an interval that can be major or minor.
+fn of_major(excess: i32) -> Quality
+    requires { IsWithin (negsuc 395) excess (pos 205) }
+    ensures exact { result ≡ of_major excess }
+    ensures modest { IsModest result }
+{
+    if excess > 0 {
+        Quality::Augmented(excess as u32)
+    } else if excess == 0 {
+        Quality::Major
+    } else if excess == -1 {
+        Quality::Minor
+    } else {
+        Quality::Diminished(excess.unsigned_abs() - 1)
+    }
+}
+
+/// The quality of an interval.
+fn quality(interval: Interval) -> Quality
+    ensures exact { result ≡ quality interval.d interval.s }
+    ensures modest { IsModest result }
+{
+    if can_be_perfect(interval.d.unsigned_abs()) {
+        of_perfect(excess(interval))
+    } else {
+        of_major(excess(interval))
+    }
+}
+
+/// The sign of a direction.
+fn sign(direction: Direction) -> Repeated
+    ensures exact { replicate result.count result.byte ≡ sign direction }
+    ensures few { result.count ≤ 1 }
+{
+    match direction {
+        Direction::Up => Repeated {
+            byte: b'+',
+            count: 1,
+        },
+        Direction::Down => Repeated {
+            byte: b'-',
+            count: 1,
+        },
+        Direction::Level => Repeated {
+            byte: b'+',
+            count: 0,
+        },
+    }
+}
+
+/// The letters of a quality.
+fn quality_letters(quality: Quality) -> Repeated
+    requires { IsModest quality }
+    ensures exact { replicate result.count result.byte ≡ quality_letters quality }
+    ensures few { result.count ≤ 400 }
+{
+    match quality {
+        Quality::Perfect => Repeated {
+            byte: b'P',
+            count: 1,
+        },
+        Quality::Major => Repeated {
+            byte: b'M',
+            count: 1,
+        },
+        Quality::Minor => Repeated {
+            byte: b'm',
+            count: 1,
+        },
+        Quality::Augmented(more) => Repeated {
+            byte: b'A',
+            count: more as usize,
+        },
+        Quality::Diminished(less) => Repeated {
+            byte: b'd',
+            count: less as usize,
+        },
+    }
+}
+
+/// What is repeated, if it is shown; else nothing.
+fn shown(is_shown: bool, repeated: Repeated) -> Repeated
+    ensures exact { replicate result.count result.byte ≡
+        cond is_shown (replicate repeated.count repeated.byte) [] }
+    ensures few { result.count ≤ repeated.count }
+{
+    Repeated {
+        count: if is_shown { repeated.count } else { 0 },
+        byte: repeated.byte,
+    }
+}
+
+/// Writes a number behind a text.
+fn push_number(text: &mut Vec<u8>, number: u32) -> Result<(), AllocError>
+    ensures { OnOk result (text.new.items ≡ text.old.items ++ decimal number) }
+{
+    let mut buffer = Buffer::new();
+    text.extend_from_slice(buffer.format(number).as_bytes())
+}
+
+/// Adds the name of an interval to a text: its direction (`+` or `-`), its quality (`P`, `M`, `m`,
+/// or `A` or `d` for each semitone by which it is augmented or diminished) and its size, as in
+/// `+M2`.
+///
+/// `signless` leaves out the direction, `sizeonly` the quality.
+///
+/// # Errors
+/// Out of memory.
+pub fn push_interval(
+    text: &mut Vec<u8>,
+    interval: Interval,
+    signless: bool,
+    sizeonly: bool,
+) -> Result<(), AllocError>
+    ensures { OnOk result (text.new.items
+        ≡ text.old.items ++ named signless sizeonly interval.d interval.s) }
+{
+    push_repeated(text, shown(!signless, sign(direction(interval))))?;
+    push_repeated(text, shown(!sizeonly, quality_letters(quality(interval))))?;
+    push_number(text, interval.d.unsigned_abs() + 1)
+}
+
+/// The name of an interval, as a text of its own.
+///
+/// # Errors
+/// Out of memory.
+pub fn write_interval(
+    alloc: Global,
+    interval: Interval,
+    signless: bool,
+    sizeonly: bool,
+) -> Result<Vec<u8>, AllocError>
+    ensures { IfOk result (λ text.
+        text.items ≡ named signless sizeonly interval.d interval.s) }
+{
+    let mut text = Vec::new(alloc);
+    push_interval(&mut text, interval, signless, sizeonly)?;
+    Ok(text)
+}

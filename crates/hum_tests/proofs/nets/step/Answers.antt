@@ -1,0 +1,5 @@
+use Rattle.std.proofs.Common.{◌∙◌, sym}
+use Rattle.hum_tests.proofs.nets.step.Goals as goal
+
+pub turn-requires-clause-ready : goal.turn-requires-clause-ready
+turn-requires-clause-ready g c start s now here = sym (c.ready.ensures start s now here) ∙ c.if-ready.true
