@@ -1,13 +1,14 @@
 //! The pipeline called as a library: a bundle is run, and a net is moved turn by turn.
 #![tactic(auto)]
 
-ghost use Rattle.std.specs.Prelude.{◌≡◌, ◌||◌, ℕ, false, List, Option};
+ghost use Rattle.std.specs.Prelude.{◌≡◌, ◌||◌, ℕ, false, List, Option, length, nat_lt};
+ghost use Rattle.hum_words.specs.Bundle.{largest, plan_of as plan_of_text, score_of};
 ghost use Rattle.hum_record.specs.Row.{Row};
 ghost use Rattle.hum_turns.specs.Failures.{Now, result as ended};
 ghost use Rattle.hum_nodes.specs.Nodes.{StandsAs};
 ghost use Rattle.hum_engine.specs.Scene.{Scene, plan_of};
 ghost use Rattle.hum_engine.specs.Nets.{NetAt};
-ghost use Rattle.hum_net.specs.Bundles.{is_failed_write, is_read_by};
+ghost use Rattle.hum_net.specs.Bundles.{ComesOfBundle, is_failed_write, is_read_by};
 
 use hum_command_stages::CommandStage;
 use hum_net::{Leftmost, Net, Outcome, RunResult, Sink, Source, run_bundle};
@@ -16,6 +17,9 @@ use std::alloc::Global;
 
 /// Runs a bundle, a plan and its scores in one stream: the leftmost actor that is ready has each turn.
 pub fn run_leftmost<W: Sink + Drop>(alloc: Global, bundle: &[u8], writer: W) -> (Outcome, W)
+    ensures comes { ComesOfBundle (nat_lt largest (length bundle.now)) (plan_of_text bundle.now)
+        (λ name. score_of name bundle.now) (W.contents writer) (W.contents result.1)
+        (W.flushed result.1) result.0 }
     ensures marked { W.failed result.1 ≡ (W.failed writer || is_failed_write result.0) }
     ensures unread { (k : ℕ) → is_read_by k result.0 ≡ false }
 {
