@@ -3,12 +3,14 @@
 #   make            proves each crate and builds ./humpipe
 #   make demo       shows the main job on a score of examples/
 #   make test       the merge gate: make lint, every proof from nothing, the edits that must fail, tests, runs, the rows of tests/,
-#                   the Python package, a release, the examples of the docs; what needs a program that isn't there is left out, and told
+#                   make faults, the Python package, a release, the examples of the docs; what needs a program that isn't there is left
+#                   out, and told
 #   make bench      times and peak memory beside other programs on the same score
 #   make install    the program, its man page, the manual (docs/) and completions, into PREFIX=/usr/local
 #   make dist       a release in dist/: a tarball, a Debian package and their checksums
 #   make dist-test  installs them in fresh folders, and runs them there
 #   make rows       runs the rows of tests/ with the program
+#   make faults     runs small pipelines with it, while one call for memory, read, write or opened file after the other fails
 #   make docs       runs what the README and docs/ print, with it
 #   make python     runs the tests of the Python package, with it
 #   make plots      draws docs/plots/ anew, by gnuplot
@@ -43,7 +45,7 @@ there = $${PROGRAM:-$$(ls humpipe crates/humpipe/out/humpipe 2>/dev/null | head 
 export PROGRAM
 needed = $(if $(PROGRAM)$(wildcard humpipe crates/humpipe/out/humpipe),,humpipe)
 
-.PHONY: all demo test bench rows docs python plots lint install dist dist-test clean
+.PHONY: all demo test bench rows faults docs python plots lint install dist dist-test clean
 
 all: humpipe
 
@@ -87,7 +89,7 @@ demo: humpipe
 	@echo '$$ ./humpipe examples/no_comments.hpl'
 	@./humpipe examples/no_comments.hpl
 
-# Rows, Python, release and examples run with the program that is there, the rows as Rattle's own compiler makes it too; DOCS=no leaves them out.
+# Rows, faults, Python, release and examples run with the program that is there, the rows as Rattle's own compiler makes it too; DOCS=no leaves them out.
 test: lint
 	@command -v rt >/dev/null || { echo 'left out: the proofs, the edits and the tests of the crates (no rt)'; exit 0; }; \
 	echo 'RT_JOBS=$(LANES) rt ci'; RT_JOBS=$(LANES) rt ci
@@ -95,6 +97,7 @@ test: lint
 	if test "$(DOCS)" = no; then :; \
 	elif test -n "$$program"; then \
 		for made in "$$program" "$$program.by-rattle"; do test ! -x "$$made" || python3 tests/check.py "$$made" || exit 1; done; \
+		python3 tests/faults.py "$$program" && \
 		HUMPIPE=$$(realpath "$$program") && export HUMPIPE && (cd python && python3 -m tests) && \
 		python3 packaging/check.py "$$program" && \
 		python3 docs/check.py "$$program"; \
@@ -105,6 +108,9 @@ bench: humpipe
 
 rows: humpipe
 	@python3 tests/check.py humpipe
+
+faults: humpipe
+	@python3 tests/faults.py humpipe
 
 docs: humpipe
 	@python3 docs/check.py humpipe

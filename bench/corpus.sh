@@ -7,9 +7,9 @@ program=$(realpath "$1")
 room=${2:-$top/bench/data}
 mkdir -p "$room"
 cd "$room"
-[ -d small ] || "$top/bench/make_corpus.py" 10000 small
+[ -d small ] || python3 "$top/bench/make_corpus.py" 10000 small
 if [ ! -d archive ]; then
-    "$top/bench/make_corpus.py" 1000 part 180
+    python3 "$top/bench/make_corpus.py" 1000 part 180
     mkdir archive
     for k in $(seq 0 99); do cp -r part "archive/$k"; done
 fi
@@ -20,7 +20,7 @@ least() {
     for _ in 1 2 3; do
         rm -rf results
         begin=$(date +%s%N)
-        HUMPIPE=$2 "$top/examples/corpus.sh" "$3" "$4" results "$5" >told || true
+        HUMPIPE=$2 sh "$top/examples/corpus.sh" "$3" "$4" results "$5" >told || true
         echo "$((($(date +%s%N) - begin) / 10000000))"
     done | sort -n | head -n 1 | awk -v what="$1" '{ printf "%s: %.2f s\n", what, $1 / 100 }'
     cat told

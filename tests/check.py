@@ -21,9 +21,9 @@ A file `NAME.plans` has a plan in each line, behind the rule that it breaks, and
 `ok` and a dash. In it `\\n` and `\\t` are bytes too. What begins with `#` is a comment.
 
 `made.py` makes rows of the same kinds that are too long to be written out, and of the rows such as break off; it tries what a plan
-doesn't say: command lines, files that can't be read, and outputs that take no more.
+doesn't say: command lines, files that can't be read, scores that come through pipes, and outputs that take no more.
 
-Each bundle is run with links of 1, 16 and 4,096 records and both orders of turns, and once more as files. The status of each run
+Each bundle is run with links of 1, 2, 16 and 4,096 records and both orders of turns, and once more as files. The status of each run
 must be the one that the line told goes with. One line for each row that fails; the last line is `N passed, M failed`."""
 import glob
 import os
@@ -35,7 +35,7 @@ from concurrent.futures import ThreadPoolExecutor
 
 HERE = os.path.dirname(os.path.abspath(__file__))
 SECONDS = 60
-WAYS = [['--link', link, '--order', order] for link in ('1', '4096') for order in ('left', 'right')] + [[]]
+WAYS = [['--link', link, '--order', order] for link in ('1', '2', '16', '4096') for order in ('left', 'right')] + [[]]
 
 
 class Row:

@@ -1,11 +1,14 @@
 """Rows that are made: long plans and scores, each front of a score, and what comes of a run from outside its plan."""
 import os
 import resource
+import select
 import signal
 import subprocess
 import tempfile
+import time
 
-from check import Plan, Row, run, shown, write
+import small
+from check import SECONDS, Plan, Row, run, shown, status_of, write
 
 
 def long_scores():
@@ -34,6 +37,9 @@ def long_scores():
     yield 'a token that is refused first', front + sharp + b'\tcd\n*-\t*-\n', text, 'stage 2 (trans), line 2: K1'
 
     scores = b'p: read a\nq: read a\nout: assemble p q\n--- a\n**x\n'
+    notes = b'**kern\n4cd\n' + b'4c\n' * 897
+    yield ('the last of 900 lines is empty, and an earlier stage refuses', b'out: read a | rid -l | mint\n--- a\n' + notes + b'\n',
+           b'**mint\n', 'stage 1 (read), line 900: S1')
     yield ('100,000 data records side by side', scores + b'4c\n' * 100_000 + b'*-\n',
            b'**x\t**x\n' + b'4c\t4c\n' * 100_000 + b'*-\t*-\n', '')
 
@@ -44,15 +50,16 @@ def wide_scores():
     splits = b''.join(record(b'*^', 2 ** k) for k in range(12))
     yield ('4,096 spines are split', b'out: read a\n--- a\n**x\n' + splits + record(b'*^', 4096), b'**x\n' + splits,
            'stage 1 (read), line 14: P9')
-    scores = b'p: read a\nq: read a\nout: assemble p q\n--- a\n'
-    spines = lambda k: b'**x\n' + b''.join(record(b'*^', 2 ** n) for n in range(k)) + record(b'*v', 2 ** k) + b'*-\n'
-    text = b'**x\t**x\n'
+    spines = lambda k, name=b'**x': name + b'\n' + b''.join(record(b'*^', 2 ** n) for n in range(k)) + record(b'*v', 2 ** k) + b'*-\n'
+    yield '4,096 spines are split and joined', b'out: read a | rid -l\n--- a\n' + spines(12), spines(12), ''
+    beside = lambda k: b'p: read a\nq: read b\nout: assemble p q\n--- a\n' + spines(k) + b'--- b\n' + spines(k, b'**y')
+    text = b'**x\t**y\n'
     for k in range(11):
         text += record(b'*^', 2 ** k)[:-1] + b'\t' + record(b'*', 2 ** k)
         text += record(b'*', 2 ** (k + 1))[:-1] + b'\t' + record(b'*^', 2 ** k)
     joins = record(b'*v', 2048)[:-1] + b'\t' + record(b'*', 2048) + b'*\t' + record(b'*v', 2048)
-    yield '4,096 spines side by side', scores + spines(11), text + joins + b'*-\t*-\n', ''
-    yield 'more than 4,096 side by side', scores + spines(12), text, 'stage 3 (assemble), line 24: A1'
+    yield '4,096 spines side by side', beside(11), text + joins + b'*-\t*-\n', ''
+    yield 'more than 4,096 side by side', beside(12), text, 'stage 3 (assemble), line 24: A1'
 
 
 # subtokens that are no note: two runs of letters or different signs come before what is too long
@@ -89,15 +96,20 @@ def long_plans():
 
 
 class Front:
-    """A score that breaks off: the run ends well, or by a fault, and then behind a whole line a front of this text is written."""
+    """A score that breaks off: the run ends well, or by a fault, and then behind a whole line a prefix of this text is
+    written; also where it ends well, if asked for."""
 
-    def __init__(self, bundle, text):
-        self.bundle, self.text = bundle, text
+    def __init__(self, bundle, text, is_prefix_at_all=False):
+        self.bundle, self.text, self.is_prefix_at_all = bundle, text, is_prefix_at_all
 
     def check(self, program):
-        found = run([program], self.bundle)
-        is_front = not self.bundle.endswith(b'\n') or self.text.startswith(found[1])
-        is_right = found[0] == 0 or found[0] == 1 and is_front
+        found = status, text, told = run([program], self.bundle)
+        is_prefix = not self.bundle.endswith(b'\n') or self.text.startswith(text)
+        if status == 0:
+            is_right = told == b'' and (is_prefix or not self.is_prefix_at_all)
+        else:
+            line = told.decode().removeprefix('humpipe: ').removesuffix('\n')
+            is_right = status == status_of(line) == 1 and is_prefix
         return [] if is_right else [f'{self.bundle!r}: {shown(found)}']
 
 
@@ -112,6 +124,13 @@ def fronts(rows):
             yield from (Front(row.bundle[:end], row.text) for end in range(first, len(row.bundle))
                         if file not in cut or row.bundle[end - 1:end] == b'\n')
             cut.add(file)
+
+
+def small_fronts():
+    """The first score of some small bundles, cut anywhere, beside the others as they are."""
+    for one in small.CUT:
+        for size in range(len(one.scores['a'])):
+            yield Front(one.bundle('a', size), one.text, size > 0)
 
 
 class Line:
@@ -210,6 +229,106 @@ class OutOfReach:
         return [] if found == want else [f'what nobody reads or can read: {found}']
 
 
+def give(pipe, data):
+    """Whether a pipe has taken these bytes before the time is up."""
+    end = time.monotonic() + SECONDS / 4
+    while data and time.monotonic() < end:
+        if select.select([], [pipe], [], 0.1)[1]:
+            data = data[os.write(pipe, data):]
+    return not data
+
+
+class Piped:
+    """Two scores side by side that come through pipes. With long links the one that the order has first is taken to its
+    end while the other gives nothing. With short ones the other is taken while the first is open, of which all but the
+    end has come."""
+
+    LINES = 4_000
+
+    def __init__(self, link, order, is_long):
+        self.link, self.order, self.is_long = link, order, is_long
+        first, other = ('a', 'b') if order == 'left' else ('b', 'a')
+        self.taken, self.waiting = (first, other) if is_long else (other, first)
+
+    def check(self, program):
+        with tempfile.TemporaryDirectory(prefix='humpipe-pipes-') as folder:
+            write(f'{folder}/plan', b'p: read a\nq: read b\nout: assemble p q\n')
+            pipes = {}
+            for name in 'ab':
+                os.mkfifo(f'{folder}/{name}')
+                pipes[name] = os.open(f'{folder}/{name}', os.O_RDWR | os.O_NONBLOCK)
+            with open(f'{folder}/text', 'w+b') as text:
+                words = [program, '--link', self.link, '--order', self.order, 'plan']
+                none = subprocess.DEVNULL
+                running = subprocess.Popen(words, cwd=folder, stdin=none, stdout=text, stderr=none)
+                wrong = self.feed(pipes)
+                if wrong:
+                    running.kill()
+                status = running.wait()
+                text.seek(0)
+                if not wrong and (status, text.read()) != (0, self.text()):
+                    wrong = f'status {status} and another text'
+        return [f'pipes, --link {self.link} --order {self.order}: {wrong}'] if wrong else []
+
+    def feed(self, pipes):
+        """Gives both scores, one as far as it goes before the other; what is wrong, or nothing."""
+        head, body = b'**x\n', {self.taken: b'2' * 99 + b'\n', self.waiting: b'1\n'}
+        early = b'' if self.is_long else head + body[self.waiting] * self.LINES
+        late = head + body[self.waiting] * self.LINES + b'*-\n'
+        try:
+            if not give(pipes[self.waiting], early):
+                return f'{self.waiting} is not begun'
+            tail = b'*-\n' if self.is_long else b''
+            if not give(pipes[self.taken], head + body[self.taken] * self.LINES + tail):
+                return f'{self.taken} is not read while {self.waiting} waits'
+            if self.is_long:
+                os.close(pipes.pop(self.taken))
+            else:
+                give(pipes[self.taken], b'*-\n')
+            return '' if give(pipes[self.waiting], late[len(early):]) else f'{self.waiting} is not read'
+        finally:
+            for pipe in pipes.values():
+                os.close(pipe)
+
+    def text(self):
+        tokens = {self.taken: b'2' * 99, self.waiting: b'1'}
+        record = tokens['a'] + b'\t' + tokens['b'] + b'\n'
+        return b'**x\t**x\n' + record * self.LINES + b'*-\t*-\n'
+
+
+class Room:
+    """A bundle takes more memory where its source fills a long link: with a short one, or the other order, it needs
+    less by some megabytes."""
+
+    LIMITED = True
+    RECORDS, MORE = b'1' * 8_000 + b'\n', 16 << 20
+    BUNDLE = b'out: read a | rid -l\n--- a\n**x\n' + RECORDS * 4_000 + b'*-\n'
+
+    def check(self, program):
+        with tempfile.TemporaryFile() as bundle:
+            bundle.write(self.BUNDLE)
+            least = {way: self.least(program, bundle, way.split()) for way in
+                     ('--link 4096 --order left', '--link 4096 --order right', '--link 1 --order left', '--order left')}
+        most = least.pop('--link 4096 --order left')
+        return [f'room, {way}: {size} bytes are needed, and {most} with long links'
+                for way, size in least.items() if size + self.MORE > most]
+
+    def least(self, program, bundle, way):
+        """How many bytes of memory a run needs, nearly."""
+        low, high = 0, 1 << 30
+        while high - low > 1 << 20:
+            room = (low + high) // 2
+            bundle.seek(0)
+            narrow = lambda: resource.setrlimit(resource.RLIMIT_AS, (room, room))
+            none = subprocess.DEVNULL
+            ended = subprocess.run([program, *way], stdin=bundle, stdout=none, stderr=none, preexec_fn=narrow)
+            low, high = (low, room) if ended.returncode == 0 else (room, high)
+        return high
+
+
+PIPED = [Piped(link, order, link == '4096') for order in ('left', 'right') for link in ('4096', '1', '16')]
+
+
 class Large:
     """A bundle of so many bytes, of which 67,108,864 may be."""
 
@@ -229,5 +348,5 @@ def cases(rows):
     return [
         *[Row(f'made.py: {name}', *row) for name, *row in [*long_scores(), *wide_scores(), *no_notes()]],
         *[Plan(f'made.py: {plan[:40]!r}', plan.encode(), told) for plan, told in long_plans()],
-        *fronts(rows), *LINES, *FAILING, *[Full(room) for room in (0, 1, 7, 12, 13)], OutOfReach(), Large(67_108_864), Large(67_108_865),
+        *fronts(rows), *small_fronts(), *LINES, *FAILING, *[Full(room) for room in (0, 1, 7, 12, 13)], OutOfReach(), *PIPED, Room(), Large(67_108_864), Large(67_108_865),
     ]

@@ -1,11 +1,13 @@
 -- What is appended in parts.
-use Rattle.std.proofs.Common.{◌≡◌, ◌∙◌, ◌||◌, Bool, true, false, ℕ, suc, ◌-◌, List, [], ◌∷◌, ◌++◌, length, Option, Some, None}
+use Rattle.std.proofs.Common.{◌≡◌, ◌∙◌, ◌||◌, ◌≤◌, ◌<◌, ◌+◌, Bool, true, false, ℕ, zero, suc, ◌-◌, List, [], ◌∷◌, ◌++◌, length, Option, Some, None}
 use Rattle.std.proofs.Common.{refl, sym, ap, subst, arith, ne_eqb, append_assoc, append-nil, take, drop, length-drop}
 use Rattle.std.specs.Bool.{◌==◌}
 use Rattle.std.specs.Io.KnownBytes.{Appends, Keeps}
 use Rattle.std.specs.Prelude.{Result, Ok, Err, OnOk, OnErr, IsErr}
 use Rattle.std.proofs.Math.Seq.{take-length}
 use Rattle.std.proofs.lemmas.List.{take_all, take-append-drop}
+use Rattle.std.proofs.Math.Nat.{min-le_left}
+use Rattle.hum_text.specs.Calls.{counted}
 use Rattle.hum_engine.specs.Writing.{WroteFront, Wrote}
 
 pub appends_none : (c : Option (List ℕ)) → Appends c c []
@@ -137,3 +139,24 @@ pub last-ok : {A E : Type 0} (r : Result A E) (a b c : Option (List ℕ)) (x y :
     OnOk r (Appends b c y) → OnOk r (Appends a c (x ++ y))
 last-ok (Ok z) a b c x y h k = appends_trans a b c x y h k
 last-ok (Err e) a b c x y h k = tt
+
+-- Calls on the sink.
+
+-- one call more is one at most
+pub one_call : (n m : ℕ) → m ≡ counted n → m ≤ n + 1
+one_call n m is = rw is (min-le_left (n + 1) 18446744073709551615)
+
+pub some_is : (n : ℕ) → (n ≡ 0 → ⊥) → 0 < n
+some_is zero some = absurd (some refl)
+some_is (suc n) some = omega arith
+
+pub some_text : (text : List ℕ) → false ≡ (length text == 0) → 0 < length text
+some_text [] is = cc
+some_text (x ∷ text) is = omega arith
+
+-- what is left of a text behind a call that took some bytes of it
+pub left_behind : (n : ℕ) (text : List ℕ)
+    → length (take (length text - n) (drop n text)) ≡ length text - n
+left_behind n text =
+    let size = length-drop n text in
+    ap length (take_all (length text - n) (drop n text) (omega (arith, size))) ∙ size

@@ -1,9 +1,8 @@
 -- The flags of a net's actors, once a link has changed.
-use Rattle.std.proofs.Common.{◌≡◌, ◌≢◌, ◌∙◌, ℕ, zero, suc, ◌+◌, ◌<◌, ◌≤◌, Bool, false, List, [], ◌∷◌}
-use Rattle.std.proofs.Common.{map, length, Option, Some, None, is_none, ◌&&◌, refl, sym, ap, subst, arith}
+use Rattle.std.proofs.Common.{◌≡◌, ◌≢◌, ◌∙◌, ℕ, zero, suc, ◌<◌, ◌≤◌, Bool, false, List, [], ◌∷◌}
+use Rattle.std.proofs.Common.{map, length, Option, Some, None, refl, sym, ap, subst, arith}
 use Rattle.std.proofs.Common.{inl, inr, ⊎_elim, slice_get, slice_set, get_or, length-append, length-set}
 use Rattle.std.proofs.Common.{get_or-set_same, get_or-set_other}
-use Rattle.std.specs.Prelude.{IfSome}
 use Rattle.std.specs.List.{AllByRecursion}
 use Rattle.std.proofs.lemmas.Bool.{cases_eq}
 use Rattle.std.proofs.lemmas.List.{map-append}
@@ -13,15 +12,13 @@ use Rattle.hum_stage.specs.declared.faults.End.{End}
 use Rattle.hum_turns.specs.declared.result.RunResult.{RunResult}
 use Rattle.hum_turns.specs.Plan.{IsPlan, last}
 use Rattle.hum_turns.specs.Links.{Moment}
-use Rattle.hum_turns.specs.Turns.{State, Gives, Reads, Takes, Ends, state, ready, Step}
-use Rattle.hum_turns.specs.Failures.{Now, Turn, ended_by, result, is_ready}
-use Rattle.hum_turns.specs.Orders.{upto, ready_list}
-use Rattle.hum_turns.specs.Near.{IsOneOf, LooksAt, touched}
-use Rattle.hum_turns.proofs.Near.{ready_untouched}
+use Rattle.hum_turns.specs.Turns.{State, Gives, Reads, Takes, Ends, state, Step}
+use Rattle.hum_turns.specs.Failures.{Now, Turn, ended_by, result}
+use Rattle.hum_turns.specs.Orders.{upto}
+use Rattle.hum_turns.specs.Near.{touched}
 use Rattle.hum_turns.proofs.Picking.{entry}
 use Rattle.hum_turns.proofs.States.{taker, last_next}
 use Rattle.hum_engine.specs.Scene.{Scene, plan_of, TakesFrom, IsNetPlan}
-use Rattle.hum_engine.specs.Nets.{asked}
 
 -- The flags, once the two ends of a link were asked again.
 
@@ -44,7 +41,7 @@ same_flags (x ∷ xs) (y ∷ ys) n h =
     ap (λ b. b ∷ xs) first
     ∙ ap (λ l. y ∷ l) (same_flags xs ys (omega (arith, n)) (λ j less. h (suc j) (omega (arith, less))))
 
-two_set : (f g : ℕ → Bool) (n k r : ℕ) → ((j : ℕ) → j < n → j ≢ k → j ≢ r → g j ≡ f j)
+pub two_set : (f g : ℕ → Bool) (n k r : ℕ) → ((j : ℕ) → j < n → j ≢ k → j ≢ r → g j ≡ f j)
     → slice_set (slice_set (map f (upto n)) k (g k)) r (g r) ≡ map g (upto n)
 two_set f g n k r h =
     let xs = map f (upto n) in
@@ -118,39 +115,3 @@ module _ (s : Scene) (plan : IsNetPlan s.count s.kinds s.size) (k link : ℕ) (o
           → ended_by f o ≡ None → ⊥
       failed None o by e n = none-some by e
       failed (Some x) o by e n = none-some x (sym n)
-
-  below_last : (j t : ℕ) → j < s.count → IsOneOf (s.kinds j).stage.sources t → t + 1 < s.count
-  below_last j t less one =
-      let b = index_all (λ i. i < j) (s.kinds j).stage.sources one.0 t (plan.ok.below j less) one.1 in
-      omega (arith, b, less)
-
-  pub as_ready : (r : ℕ) → TakesFrom s.count s.kinds r link → (j : ℕ) → j < s.count + 1
-      → j ≢ link → j ≢ r
-      → is_ready (plan_of s) s.size new j ≡ is_ready (plan_of s) s.size old j
-  as_ready r takes j within apart other =
-      let top = last_next s.count plan.ok.some in
-      let far : LooksAt (plan_of s) j link → ⊥ = λ looks. ⊎_elim
-      (λ w. ⊎_elim
-      (λ (own : link ≡ j). apart (sym own))
-      (λ (one : IsOneOf (s.kinds j).stage.sources link). ⊎_elim
-      (λ t. other (plan.tree j one.0 r t.1.0 link w.0 t.0 one.1 t.1.1).0)
-      (λ t. let b = below_last j link w.0 one in let e = t.1 in absurd (omega (arith, b, e, top)))
-      takes)
-      w.1)
-      (λ w. ⊎_elim
-      (λ t. let b = below_last r link t.0 t.1 in let e = w.1 in absurd (omega (arith, b, e, top)))
-      (λ t. let p = w.0 in let e = t.0 in absurd (other (omega (arith, p, e, within))))
-      takes)
-      looks in
-      let same = ready_untouched (plan_of s) plan.ok s.size k old.links new.links moves j
-      (subst (λ i. LooksAt (plan_of s) j i → ⊥) link_is far) in
-      ap (λ o. is_none o && ready (plan_of s) s.size new.links j) none
-      ∙ same ∙ sym (ap (λ o. is_none o && ready (plan_of s) s.size old.links j) going)
-
-  pub as_listed : (who : Option ℕ) → IfSome who (λ r. TakesFrom s.count s.kinds r link)
-      → asked (is_ready (plan_of s) s.size new) s.count (ready_list (plan_of s) s.size old) link who
-      ≡ ready_list (plan_of s) s.size new
-  as_listed None t = refl
-  as_listed (Some r) t =
-      two_set (is_ready (plan_of s) s.size old) (is_ready (plan_of s) s.size new) (s.count + 1) link r
-      (as_ready r t)

@@ -14,9 +14,11 @@ pub mod Setting
 pub mod Netting
 pub mod Bounds
 pub mod Flags
+pub mod Noting
 pub mod Leftmost
 pub mod Searching
 pub mod Running
+pub mod Choosing
 pub mod Telling
 pub mod Beginning
 mod Examples

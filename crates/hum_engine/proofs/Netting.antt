@@ -24,7 +24,7 @@ use Rattle.hum_nodes.specs.Nodes.{StandsAs}
 use Rattle.hum_engine.specs.declared.web.Web.{Web}
 use Rattle.hum_engine.specs.declared.net.Net.{Net}
 use Rattle.hum_engine.specs.Scene.{Scene, plan_of, moved, before, before_all, only, at_of, Stands, IsAt}
-use Rattle.hum_engine.specs.Scene.{MayTurn, IsActor, IsKind, KeepsOthers, Fed}
+use Rattle.hum_engine.specs.Scene.{MayTurn, IsActor, IsKind, KeepsOthers, Fed, AreTakers}
 use Rattle.hum_engine.proofs.Reusing.{shows_read}
 use Rattle.hum_engine.specs.Readers.{ShowsSame, remaining_at, ended_at, failed_at, or_none, is_read_of}
 use Rattle.hum_engine.specs.Nets.{NetAt, GoesTo, HasTurned, SinkWent, MayWrite}
@@ -157,9 +157,9 @@ module _ {S R W : Type 0} (stands : Node S R → List ℕ → At → Type 0)
       ≡ text text_of (now.links (last (plan_of s))).taken ++ sent
       → ((e : End) → (to (last (plan_of s))).heard ≡ Some e → flushed new.sink ≡ true)
       → is_over ≡ is_some (to (last (plan_of s))).heard
-      → new.failure ≡ None → new.turns ≡ old.turns + 1 → new.actors ≡ old.actors
+      → new.failure ≡ None → new.turns ≡ old.turns + 1 → new.actors ≡ old.actors → new.takers ≡ old.takers
       → GoesTo stands contents flushed start s k now new is_over
-  goes new to sent is_over step st appends taken over tells none more list =
+  goes new to sent is_over step st appends taken over tells none more list who =
       let next : Now Row = record { links = to; part = []; failure = None } in
       let t : Turn (plan_of s) s.size text_of k now next = record {
         is_ready = r;
@@ -183,6 +183,7 @@ module _ {S R W : Type 0} (stands : Node S R → List ℕ → At → Type 0)
           walk = walk_more (plan_of s) s.size text_of h.turns k h.first now next h.walk t;
           counted = omega (arith, more, counted, one);
           actors = ap (λ v. length v.items) list ∙ h.actors;
+          takers = subst (λ v. AreTakers s.count s.kinds v.items) (sym who) h.takers;
           going = λ e. st;
           failure = none;
           written = subst (Appends start (contents new.sink)) sum
@@ -198,9 +199,9 @@ module _ {S R W : Type 0} (stands : Node S R → List ℕ → At → Type 0)
       → MayFail (plan_of s) k text_of now.links by part
       → Appends (contents old.sink) (contents new.sink) part
       → is_over ≡ true
-      → new.failure ≡ Some by → new.turns ≡ old.turns + 1 → new.actors ≡ old.actors
+      → new.failure ≡ Some by → new.turns ≡ old.turns + 1 → new.actors ≡ old.actors → new.takers ≡ old.takers
       → GoesTo stands contents flushed start s k now new is_over
-  fails new by part is_over within may appends tells failure more list =
+  fails new by part is_over within may appends tells failure more list who =
       let next : Now Row = record { links = now.links; part = part; failure = Some by } in
       let t : Turn (plan_of s) s.size text_of k now next = record {
         is_ready = r;
@@ -229,6 +230,7 @@ module _ {S R W : Type 0} (stands : Node S R → List ℕ → At → Type 0)
           walk = walk_more (plan_of s) s.size text_of h.turns k h.first now next h.walk t;
           counted = omega (arith, more, counted, one);
           actors = ap (λ v. length v.items) list ∙ h.actors;
+          takers = subst (λ v. AreTakers s.count s.kinds v.items) (sym who) h.takers;
           going = λ e. absurd (none-some by (sym e));
           failure = failure;
           written = subst (Appends start (contents new.sink)) sum
@@ -308,9 +310,9 @@ module _ {S R W : Type 0} (stands : Node S R → List ℕ → At → Type 0)
       (remaining_at tells k new.web.nodes.items))
       → KeepsOthers k old.web new.web
       → new.sink ≡ old.sink → new.failure ≡ result → new.turns ≡ old.turns + 1
-      → new.actors ≡ old.actors
+      → new.actors ≡ old.actors → new.takers ≡ old.takers
       → HasTurned stands tells contents flushed k old new is_over
-  stage_turned None told other fed failed stays others sink failure more list =
+  stage_turned None told other fed failed stays others sink failure more list who =
       let f = fed refl in
       record {
         reads = only k f.read;
@@ -333,9 +335,9 @@ module _ {S R W : Type 0} (stands : Node S R → List ℕ → At → Type 0)
             (ap (text text_of) (step_taken (plan_of s) h.plan.ok s.size k less now.links t.new t.step)
             ∙ sym (append-nil _))
             (λ e heard. absurd (none-some e (sym quiet ∙ heard))) (told ∙ sym (ap is_some quiet))
-            failure more list;
+            failure more list who;
       }
-  stage_turned (Some by) told other fed failed stays others sink failure more list = record {
+  stage_turned (Some by) told other fed failed stays others sink failure more list who = record {
     reads = only k [];
     others = only_else k [];
     read = read_by tells k old.web.nodes.items new.web.nodes.items others []
@@ -348,7 +350,7 @@ module _ {S R W : Type 0} (stands : Node S R → List ℕ → At → Type 0)
         (may_turn stands contents flushed start (before_all (only k []) s) old now k h r less))
         (subst (λ x. Appends (contents old.sink) (contents x) []) (sym sink)
         (appends_none (contents old.sink)))
-        told failure more list;
+        told failure more list who;
   }
 
   pub sink_turned : (calls : R → ℕ) (failed : R → Bool) (result : Option RunResult) → k ≡ length old.web.nodes.items
@@ -356,9 +358,9 @@ module _ {S R W : Type 0} (stands : Node S R → List ℕ → At → Type 0)
       → SinkWent stands result (contents old.sink) (contents new.sink) (flushed new.sink) is_over new.web s)
       → ((i : ℕ)
       → ShowsSame tells calls failed old.web.nodes.items new.web.nodes.items i)
-      → new.failure ≡ result → new.turns ≡ old.turns + 1 → new.actors ≡ old.actors
+      → new.failure ≡ result → new.turns ≡ old.turns + 1 → new.actors ≡ old.actors → new.takers ≡ old.takers
       → HasTurned stands tells contents flushed k old new is_over
-  sink_turned calls failed None here went shows failure more list = record {
+  sink_turned calls failed None here went shows failure more list who = record {
     reads = only k [];
     others = only_else k [];
     read = λ i. shows_read tells calls failed k old.web.nodes.items new.web.nodes.items i (shows i)
@@ -376,9 +378,9 @@ module _ {S R W : Type 0} (stands : Node S R → List ℕ → At → Type 0)
         (omega (arith, is)) go (sink_state (plan_of s) now.links k (omega (arith, is))) (λ e. cc)
         t.done.does)
         (nothing_more stands k new.web s t.done.new t.done.stand) t.appends t.taken t.over t.tells failure
-        more list;
+        more list who;
   }
-  sink_turned calls failed (Some by) here went shows failure more list = record {
+  sink_turned calls failed (Some by) here went shows failure more list who = record {
     reads = only k [];
     others = only_else k [];
     read = λ i. shows_read tells calls failed k old.web.nodes.items new.web.nodes.items i (shows i)
@@ -393,7 +395,7 @@ module _ {S R W : Type 0} (stands : Node S R → List ℕ → At → Type 0)
         }) in
         fails stands contents flushed start s old now k [] h r new by t.0.part is_over within
         (subst (λ i. MayFail (plan_of s) i text_of now.links by t.0.part) (sym is) t.0.may) t.0.appends
-        t.1 failure more list;
+        t.1 failure more list who;
   }
 
 pub or_false : (b : Bool) → b ≡ (b || false)

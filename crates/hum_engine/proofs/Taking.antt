@@ -1,5 +1,5 @@
 -- What is taken from a link, by a stage or by the sink.
-use Rattle.std.proofs.Common.{◌≡◌, ◌≢◌, ◌∙◌, ℕ, zero, suc, ◌+◌, ◌<◌, Bool, true, false}
+use Rattle.std.proofs.Common.{◌≡◌, ◌≢◌, ◌∙◌, ℕ, zero, suc, ◌+◌, ◌<◌, ◌≤◌, Bool, true, false}
 use Rattle.std.proofs.Common.{◌||◌, if◌then◌else◌, nat_lt, List, [], ◌∷◌, ◌++◌, map, length, Option, Some, None}
 use Rattle.std.proofs.Common.{is_some, slice_get, slice_set, slice_index, refl, sym, ap, subst}
 use Rattle.std.proofs.Common.{⊎_elim, arith, append_assoc}
@@ -28,6 +28,8 @@ use Rattle.hum_engine.specs.declared.link.Link as port
 use Rattle.hum_engine.specs.declared.link.Next.{Next}
 use Rattle.hum_engine.specs.declared.link.Next.TheVariants as next
 use Rattle.hum_engine.specs.Links.{Goes, next_of}
+use Rattle.hum_text.specs.Calls.{counted}
+use Rattle.hum_engine.specs.Nets.{CallsSink}
 use Rattle.hum_engine.specs.Writing.{IsFront}
 use Rattle.hum_engine.specs.Scene.{Scene, plan_of, at_of, NodesStand, LinksStand, IsTree}
 use Rattle.hum_engine.specs.Scene.{IsReached}
@@ -78,6 +80,21 @@ unfolding record_at
 next_front [] mark x h bytes front = absurd (no_record mark x h)
 next_front (y ∷ ws) mark x h bytes front =
     subst (λ r. Begins bytes (text_of r ++ 10 ∷ [])) (same_Some x y (ap record_at h)) front
+
+-- the calls of a turn that takes it
+pub calls_record : (ws : List Row) (mark : Option End) (x : Row) (old new : ℕ) → next.Record x ≡ next_of ws mark
+    → new ≤ old + length (text_of x ++ 10 ∷ []) → CallsSink old new ws
+unfolding record_at
+calls_record [] mark x old new h few = absurd (no_record mark x h)
+calls_record (y ∷ ws) mark x old new h few =
+    subst (λ r. new ≤ old + length (text_of r ++ 10 ∷ [])) (same_Some x y (ap record_at h)) few
+
+-- and of one that hears the end
+pub calls_end : (ws : List Row) (mark : Option End) (e : End) (old new : ℕ) → next.End e ≡ next_of ws mark
+    → new ≡ counted old → CallsSink old new ws
+unfolding record_at
+calls_end (y ∷ ws) mark e old new h once = absurd (none-some y (ap record_at h))
+calls_end [] mark e old new h once = once
 
 end_is : (o : Option End) (e : End) → next.End e ≡ next_of [] o → o ≡ Some e
 unfolding end_at

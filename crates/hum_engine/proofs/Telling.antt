@@ -46,6 +46,7 @@ module _ {S R W O : Type 0} (stage : S → Moment → Type 0)
     walk = h.walk;
     counted = h.counted;
     actors = h.actors;
+    takers = h.takers;
     going = λ e.
         let st = h.going e in
         record {

@@ -5,7 +5,9 @@ use Rattle.std.proofs.Common.{refl, sym, ap, ◌∙◌, subst, ⊎_elim, arith, 
 use Rattle.std.specs.List.{AllByRecursion}
 use Rattle.std.proofs.lemmas.Bool.{cases_eq, cases_lt}
 use Rattle.std.proofs.lemmas.List.{take-append-le, take_all}
-use Rattle.hum_stage.specs.Meaning.{Meaning, IsWithinLag, output}
+use Rattle.hum_stage.specs.Score.{IsScore}
+use Rattle.hum_stage.specs.Lag.{ArePutAtWants}
+use Rattle.hum_stage.specs.Meaning.{Meaning, output}
 use Rattle.hum_stage.specs.Outcome.{held_of as held_by}
 use Rattle.hum_turns.specs.Flow.{Flow, AllFine}
 use Rattle.hum_turns.specs.Plan.{Want, Plan, IsPlan}
@@ -188,10 +190,15 @@ module _ {R : Type 0} (plan : Plan R) (ok : IsPlan plan) (many : List R → ℕ)
       run_keeps size is first m run
       (λ j l. absurd (omega (arith, subst (λ (v : Link R). j < length v.taken) (start s) l)))
 
--- What waits inside a stage of one input is told by its lag.
-pub held_few : (s : Scene) (k from n : ℕ) (m : Meaning) → IsReached s → k < s.count
-    → s.kinds k ≡ single from m → IsWithinLag n m → held_of s s.links k ≤ n + 1
-held_few s k from n m r less is lag =
+-- What waits inside a stage of one input is what its command holds of records that were put when it
+-- wanted them.
+pub held_few : (s : Scene) (k from most : ℕ) (m : Meaning) → IsReached s → k < s.count
+    → s.kinds k ≡ single from m
+    → (IsScore (s.links from).taken
+    → ArePutAtWants m.outcomes (s.links from).taken (length (given (s.links k)))
+    → held_by (length (given (s.links k))) (is_some (s.links from).heard) (m.outcomes (s.links from).taken) ≤ most)
+    → held_of s s.links k ≤ most
+held_few s k from most m r less is holds =
     let plan = plan_of s in
     let one : (s.kinds k).stage.sources ≡ from ∷ [] = ap (λ (kd : Kind). kd.stage.sources) is in
     let none : (s.kinds k).stage.bytes ≡ 0 = ap (λ (kd : Kind). kd.stage.bytes) is in
@@ -207,9 +214,7 @@ held_few s k from n m r less is lag =
     (λ i p l h. (r.tree i p k 0 from l less h (ap (λ ss. slice_get ss 0) one)).0)
     (λ b f. ap (λ (kd : Kind). length (kd.stage.output b (f ∷ []))) is)
     s.size r.turns r.first s.links r.start r.run in
-    let few : held_by count (is_some (s.links from).heard) (m.outcomes taken) ≤ n + 1 =
-    lag.holds (record { meaning = m; put = taken; given = count; ended = (s.links from).heard })
-    refl score.score wanted in
+    let few = holds score.score wanted in
     let held : held_of s s.links k ≡ held_by count (is_some (s.links from).heard) (m.outcomes taken) =
     sym (held_some s s.links k less none)
     ∙ ap (λ (kd : Kind). kd.holds (map (λ t. view (s.links t)) kd.stage.sources) count) is in

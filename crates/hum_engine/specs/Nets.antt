@@ -1,8 +1,9 @@
 -- What a net stands for: its web, what was written, and how it failed.
 use Rattle.std.specs.Prelude.{◌≡◌, ◌≢◌, ◌⊎◌, ℕ, ◌+◌, ◌<◌, ◌≤◌}
-use Rattle.std.specs.Prelude.{Bool, true, false, ◌||◌, List, [], ◌++◌, length}
-use Rattle.std.specs.Prelude.{Option, Some, None, IfSome, is_some, map, slice_get, slice_set}
+use Rattle.std.specs.Prelude.{Bool, true, false, ◌||◌, List, [], ◌∷◌, ◌++◌, length}
+use Rattle.std.specs.Prelude.{Option, Some, None, is_some, slice_get}
 use Rattle.std.specs.Io.KnownBytes.{Appends}
+use Rattle.hum_text.specs.Calls.{counted}
 use Rattle.hum_record.specs.Row.{Row, text_of}
 use Rattle.hum_stage.specs.declared.faults.End.{End}
 use Rattle.hum_stage.specs.declared.faults.End.TheVariants.{Closed, Broken}
@@ -11,7 +12,7 @@ use Rattle.hum_turns.specs.declared.result.RunResult.TheVariants as ends
 use Rattle.hum_turns.specs.Flow.{Begins}
 use Rattle.hum_turns.specs.Plan.{Plan, KeepsFine, last}
 use Rattle.hum_turns.specs.Meaning.{plan_meaning, first_fault, IsNumbered}
-use Rattle.hum_turns.specs.Orders.{Order, Driven, upto, ready_list, choice}
+use Rattle.hum_turns.specs.Orders.{Order, Driven, ready_list, choice}
 use Rattle.hum_turns.specs.Links.{has_some}
 use Rattle.hum_turns.specs.Turns.{Takes, state}
 use Rattle.hum_turns.specs.Near.{touched}
@@ -28,7 +29,8 @@ use Rattle.hum_engine.specs.declared.net.Net.{Net}
 use Rattle.hum_engine.specs.declared.net.Turned.{Turned}
 use Rattle.hum_engine.specs.Readers.{ended_at, remaining_at, failed_at, is_read_of, is_write}
 use Rattle.hum_engine.specs.Scene.{Scene, plan_of, moved, before_all, Stands, IsAt, IsNetPlan, IsBegun, Done}
-use Rattle.hum_engine.specs.Scene.{MayTurn, IsActor}
+use Rattle.hum_engine.specs.Scene.{MayTurn, IsActor, AreTakers}
+use Rattle.hum_engine.specs.declared.search.Search.{Search}
 
 -- The sink has taken what came next, and has written the text of that; behind the end it was flushed,
 -- and the run is over.
@@ -47,6 +49,12 @@ pub record Failed (k : ℕ) (by : RunResult) (old new : Option (List ℕ)) (s : 
   pub part : List ℕ
   pub may : MayFail (plan_of s) k text_of s.links by part
   pub appends : Appends old new part
+
+-- The calls on the sink in its turn: for the record that comes next no more than it has bytes, with its
+-- LF; for the end one.
+abbrev pub CallsSink : ℕ → ℕ → List Row → Type 0
+CallsSink old new (row ∷ rows) = new ≤ old + length (text_of row ++ 10 ∷ [])
+CallsSink old new [] = new ≡ counted old
 
 abbrev pub SinkWent : {S R : Type 0} → (Node S R → List ℕ → At → Type 0) → Option RunResult
     → Option (List ℕ) → Option (List ℕ) → Bool → Bool → Web S R → Scene → Type 0
@@ -78,6 +86,7 @@ pub record NetAt {S R W : Type 0} (stands : Node S R → List ℕ → At → Typ
   pub walk : Walk (plan_of s) s.size text_of first turns now
   pub counted : net.turns ≡ length turns
   pub actors : length net.actors.items ≡ s.count + 1
+  pub takers : AreTakers s.count s.kinds net.takers.items
   pub going : now.failure ≡ None → Stands stands net.web (moved s now.links)
   pub failure : net.failure ≡ now.failure
   pub written : Appends start (contents net.sink) (written (plan_of s) text_of now)
@@ -139,21 +148,28 @@ pub record IsAmong {S R W : Type 0} (stands : Node S R → List ℕ → At → T
   pub running : IsRunning stands contents flushed net
   pub within : k ≤ running.scene.count
 
--- What is known of who is ready, by the flags, or of a leftmost order's run that nobody to the left of
--- this actor is.
-pub record Sees {S R W : Type 0} (leftmost : Bool) (from : ℕ) (s : Scene) (now : Now Row)
+-- Nobody to the left of the actor that is asked next is ready, nor anyone strictly between it and the
+-- one that is asked behind it.
+pub record IsFront (look : Search) (s : Scene) (now : Now Row) : Type 0 where
+  pub order : look.from < look.right
+  pub within : look.right ≤ s.count + 1
+  pub left : (j : ℕ) → j < look.from → is_ready (plan_of s) s.size now j ≡ false
+  pub between : (j : ℕ) → look.from < j → j < look.right
+      → is_ready (plan_of s) s.size now j ≡ false
+
+-- What is known of who is ready: by the flags, or in a leftmost order's run by where it looks.
+pub record Sees {S R W : Type 0} (leftmost : Bool) (look : Search) (s : Scene) (now : Now Row)
     (net : Net S R W) : Type 0 where
   pub flags : leftmost ≡ false → net.actors.items ≡ ready_list (plan_of s) s.size now
-  pub left : leftmost ≡ true → (j : ℕ) → j < from → is_ready (plan_of s) s.size now j ≡ false
+  pub front : leftmost ≡ true → IsFront look s now
 
 -- While the run goes on, an actor is picked by that.
 pub record MayPick {S R W : Type 0} (stands : Node S R → List ℕ → At → Type 0)
-    (contents : W → Option (List ℕ)) (flushed : W → Bool) (leftmost : Bool) (from : ℕ)
+    (contents : W → Option (List ℕ)) (flushed : W → Bool) (leftmost : Bool) (look : Search)
     (net : Net S R W) : Type 0 where
   pub running : IsRunning stands contents flushed net
   pub going : result (plan_of running.scene) running.now ≡ None
-  pub sees : Sees leftmost from running.scene running.now net
-  pub within : from ≤ running.scene.count
+  pub sees : Sees leftmost look running.scene running.now net
 
 -- While the run goes on, this actor may be asked.
 pub record MayAsk {S R W : Type 0} (stands : Node S R → List ℕ → At → Type 0)
@@ -185,28 +201,7 @@ pub record HasGone {S R W : Type 0} (stands : Node S R → List ℕ → At → T
   pub writes : broken new.sink ≡ (broken old.sink || is_write new.failure)
   pub turns : new.turns ≡ old.turns + 1
   pub actors : new.actors ≡ old.actors
-  pub readers : new.readers ≡ old.readers
-
--- Actor r is known to take from the link of stage t: it was learnt before, or this actor has just
--- done so.
-abbrev pub Known : List (Option ℕ) → ℕ → ℕ → ℕ → ℕ → Type 0
-Known readers actor link t r =
-    (slice_get readers t ≡ Some (Some r)) ⊎ ((t ≡ link) × (r ≡ actor) × (actor ≢ link))
-
--- what the flags are once the two ends of a link were asked again, or everyone
-abbrev pub asked : (ℕ → Bool) → ℕ → List Bool → ℕ → Option ℕ → List Bool
-asked is_ready count flags link None = map is_ready (upto (count + 1))
-asked is_ready count flags link (Some reader) =
-    slice_set (slice_set flags link (is_ready link)) reader (is_ready reader)
-
--- two of its actors, while no failure has ended the run
-pub record AreAmong {S R W : Type 0} (stands : Node S R → List ℕ → At → Type 0)
-    (contents : W → Option (List ℕ)) (flushed : W → Bool) (link : ℕ) (reader : Option ℕ)
-    (net : Net S R W) : Type 0 where
-  pub running : IsRunning stands contents flushed net
-  pub going : running.now.failure ≡ None
-  pub link_within : link ≤ running.scene.count
-  pub reader_within : IfSome reader (λ r. r ≤ running.scene.count)
+  pub takers : new.takers ≡ old.takers
 
 -- one of its actors, while no failure has ended the run
 pub record IsGoing {S R W : Type 0} (stands : Node S R → List ℕ → At → Type 0)
@@ -214,13 +209,6 @@ pub record IsGoing {S R W : Type 0} (stands : Node S R → List ℕ → At → T
   pub running : IsRunning stands contents flushed net
   pub going : running.now.failure ≡ None
   pub within : k ≤ running.scene.count
-
--- one of its stages
-pub record IsStage {S R W : Type 0} (stands : Node S R → List ℕ → At → Type 0)
-    (contents : W → Option (List ℕ)) (flushed : W → Bool) (k : ℕ) (net : Net S R W) : Type 0 where
-  pub running : IsRunning stands contents flushed net
-  pub going : running.now.failure ≡ None
-  pub less : k < running.scene.count
 
 -- A front of the plan's text was written.
 pub record WroteFront (s : Scene) (start held : Option (List ℕ)) : Type 0 where
@@ -251,6 +239,36 @@ pub record Leads {S R W O : Type 0} (stands : Node S R → List ℕ → At → T
   pub to : Now Row
   pub driven : Driven order (plan_of s) s.size text_of o now turns to p
   pub at : NetAt stands contents flushed start s net to
+
+-- It is known whether the run is over and, while it isn't, who is ready.
+pub record Watches {S R W : Type 0} (leftmost : Bool) (look : Search) (is_over : Bool) (s : Scene)
+    (now : Now Row) (net : Net S R W) : Type 0 where
+  pub tells : is_over ≡ is_some (result (plan_of s) now)
+  pub sees : result (plan_of s) now ≡ None → Sees leftmost look s now net
+
+-- A step of a run that goes on: the sources have read these bytes. However they go on, the order's
+-- picks have led the net on, and what is known of who is ready holds still.
+pub record HasStepped {S R W O : Type 0} (stands : Node S R → List ℕ → At → Type 0)
+    (remaining : R → Option (List ℕ)) (contents : W → Option (List ℕ))
+    (flushed : W → Bool) (order : Order O) (o p : O) (leftmost : Bool) (before after : Search)
+    (old new : Net S R W) (is_over : Bool) : Type 0 where
+  pub reads : ℕ → List ℕ
+  pub read : (i : ℕ)
+      → HasRead (ended_at i old.web.nodes.items) (ended_at i new.web.nodes.items)
+      (remaining_at remaining i old.web.nodes.items) (remaining_at remaining i new.web.nodes.items)
+      (reads i)
+  pub goes : (start : Option (List ℕ)) (s : Scene) (now : Now Row)
+      → AreOver new.web.nodes.items s.rests
+      → NetAt stands contents flushed start (before_all reads s) old now
+      → result (plan_of s) now ≡ None → Sees leftmost before s now old
+      → (d : Leads stands contents flushed order o p start s now new)
+      × Watches leftmost after is_over s d.to new
+
+-- A step that doesn't end the run is a turn, or goes on to an actor further right.
+abbrev pub IsCloser : {S R W : Type 0} → Search → Search → Net S R W → Net S R W → Bool → Type 0
+IsCloser before after old new is_over =
+    (is_over ≡ true) ⊎ (new.turns ≡ old.turns + 1)
+    ⊎ ((new.turns ≡ old.turns) × (before.from < after.from) × (before.from < 256))
 
 -- The order's picks have led it to its end. What the plan means is a score, where the last stage too
 -- makes scores of scores; its fault is the lowest-numbered one.
@@ -291,6 +309,22 @@ pub record IsNet {S R W : Type 0} (stands : Node S R → List ℕ → At → Typ
   pub rests : (rests : ℕ → List ℕ) → (scene rests).rests ≡ rests
   pub at : (rests : ℕ → List ℕ) → AreOver net.web.nodes.items rests
       → NetAt stands contents flushed start (scene rests) net (now rests)
+
+-- However they go on behind what was read, the run goes on too, and so much is known of who is ready.
+pub record MayStep {S R W : Type 0} (stands : Node S R → List ℕ → At → Type 0)
+    (contents : W → Option (List ℕ)) (flushed : W → Bool) (leftmost : Bool) (look : Search)
+    (net : Net S R W) : Type 0 where
+  pub start : Option (List ℕ)
+  pub scene : (rests : ℕ → List ℕ) → AreOver net.web.nodes.items rests → Scene
+  pub now : (rests : ℕ → List ℕ) → AreOver net.web.nodes.items rests → Now Row
+  pub rests : (rests : ℕ → List ℕ) (over : AreOver net.web.nodes.items rests)
+      → (scene rests over).rests ≡ rests
+  pub at : (rests : ℕ → List ℕ) (over : AreOver net.web.nodes.items rests)
+      → NetAt stands contents flushed start (scene rests over) net (now rests over)
+  pub going : (rests : ℕ → List ℕ) (over : AreOver net.web.nodes.items rests)
+      → result (plan_of (scene rests over)) (now rests over) ≡ None
+  pub sees : (rests : ℕ → List ℕ) (over : AreOver net.web.nodes.items rests)
+      → Sees leftmost look (scene rests over) (now rests over) net
 
 -- Nodes that were asked nothing yet, of a plan by what is still to come of the bytes.
 pub record AreBegun {S R : Type 0} (stands : Node S R → List ℕ → At → Type 0) (size : ℕ)

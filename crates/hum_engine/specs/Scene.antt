@@ -4,7 +4,8 @@ use Rattle.std.specs.Prelude.{if◌then◌else◌, nat_eq, nat_lt, List, [], ◌
 use Rattle.std.specs.Prelude.{length, map, Option, Some, slice_get}
 use Rattle.std.specs.Io.KnownBytes.{Consumes, IsAtEnd}
 use Rattle.hum_record.specs.Row.{Row}
-use Rattle.hum_stage.specs.Meaning.{Meaning, IsWithinLag}
+use Rattle.hum_stage.specs.Lag.{LagsAtMost}
+use Rattle.hum_stage.specs.Meaning.{Meaning, IsLawful, IsWithinLag}
 use Rattle.hum_turns.specs.Plan.{Plan, IsPlan, last}
 use Rattle.hum_turns.specs.Near.{IsOneOf}
 use Rattle.hum_turns.specs.Links.{Moment, given, view, IsOpening}
@@ -175,6 +176,12 @@ abbrev pub TakesFrom : ℕ → (ℕ → Kind) → ℕ → ℕ → Type 0
 TakesFrom count kinds r t =
     ((r < count) × IsOneOf (kinds r).stage.sources t) ⊎ ((r ≡ count) × (t ≡ last (plan_by count kinds)))
 
+-- These are who takes from each link: an actor behind its stage, and nobody else does.
+pub record AreTakers (count : ℕ) (kinds : ℕ → Kind) (takers : List ℕ) : Type 0 where
+  pub many : length takers ≡ count
+  pub behind : (t r : ℕ) → slice_get takers t ≡ Some r → (t < r) × (r ≤ count)
+  pub alone : (t r k : ℕ) → slice_get takers t ≡ Some r → TakesFrom count kinds k t → k ≡ r
+
 -- how many records wait inside a stage that isn't a source
 abbrev pub held_of : Scene → Moment Row → ℕ → ℕ
 held_of s m k =
@@ -182,11 +189,13 @@ held_of s m k =
     then (if nat_lt 0 (s.kinds k).stage.bytes then 0 else holds_of (at_of s.kinds m k))
     else 0
 
--- So many records are few for stage k: of one input at most one more than the greatest lag of its
--- records, and in assemble at most one of each source.
-pub record HoldsFew (s : Scene) (k many : ℕ) : Type 0 where
-  pub within : (from n : ℕ) (m : Meaning) → k < s.count → s.kinds k ≡ single from m
-      → IsWithinLag n m → many ≤ n + 1
+-- So many records are few for stage k: of one input at most one more than the greatest lag of the
+-- records that it was put, or of any records; and in assemble at most one of each source.
+pub record HoldsFew (s : Scene) (m : Moment Row) (k many : ℕ) : Type 0 where
+  pub own : (from n : ℕ) (meaning : Meaning) → k < s.count → s.kinds k ≡ single from meaning
+      → IsLawful meaning → LagsAtMost meaning.outcomes n (m from).taken → many ≤ n + 1
+  pub within : (from n : ℕ) (meaning : Meaning) → k < s.count → s.kinds k ≡ single from meaning
+      → IsWithinLag n meaning → many ≤ n + 1
   pub each : k < s.count → HoldsOneEach (s.kinds k) (length (s.kinds k).stage.sources) many
 
 -- Only the node of stage k may have changed.

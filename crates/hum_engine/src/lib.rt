@@ -7,9 +7,10 @@
 //! - [`Net`] is a web whose last stage is written, by [`write_record`].
 #![tactic(auto)]
 
-mod idle;
 mod link;
 mod net;
+mod search;
+mod takers;
 mod web;
 mod writing;
 

@@ -1,28 +1,30 @@
 //! A web whose last stage is written.
 ghost use Rattle.std.specs.Prelude.{◌≡◌, ◌≢◌, ◌≤◌, ◌<◌, ◌+◌, ◌||◌, ℕ, List, [], Option, None, Some};
 ghost use Rattle.std.specs.Prelude.{IfSome, IfOk, IfErr, length, is_some, true, false};
-ghost use Rattle.std.specs.Prelude.{slice_get, slice_set};
+ghost use Rattle.std.specs.Prelude.{slice_set};
 ghost use Rattle.hum_record.specs.Row.{Row, text_of};
 ghost use Rattle.hum_turns.specs.Links.{linked};
 ghost use Rattle.hum_turns.specs.declared.result.RunResult.TheVariants as ends;
 ghost use Rattle.hum_turns.specs.Failures.{Now, IsFirst, MayFail, is_ready, result as ended};
-ghost use Rattle.hum_turns.specs.Orders.{ready_list};
+ghost use Rattle.hum_turns.specs.Orders.{ready_list, IsLeftmost};
 ghost use Rattle.hum_nodes.specs.Nodes.{StandsAs};
 ghost use Rattle.hum_nodes.specs.Polls.{AsksAtMostOnce, HasStayed};
 ghost use Rattle.hum_engine.specs.Readers.{ShowsSame, remaining_at, ended_at, calls_at, failed_at};
 ghost use Rattle.hum_engine.specs.Readers.{is_read_of, is_write};
 ghost use Rattle.hum_engine.specs.Scene.{Scene, plan_of, Somewhere, IsActor, IsAt, IsNetPlan, IsBegun, MayTurn};
 ghost use Rattle.hum_engine.specs.Scene.{KeepsOthers, Fed, held_of, HoldsFew};
-ghost use Rattle.hum_engine.specs.Nets.{MayWrite, SinkWent, MayTurnFew, MayGo, IsRunning};
-ghost use Rattle.hum_turns.specs.Counts.{most_in_all};
+ghost use Rattle.hum_turns.specs.Plan.{last};
+ghost use Rattle.hum_engine.specs.Nets.{MayWrite, CallsSink, SinkWent, MayTurnFew, MayGo, IsRunning};
+ghost use Rattle.hum_turns.specs.Counts.{turns_of, most, most_in_all};
 ghost use Rattle.hum_turns.specs.Holds.{SomeReady};
-ghost use Rattle.hum_engine.specs.Nets.{WroteFront, IsGoing, IsStage, IsChanged, AreAmong, Known, asked};
+ghost use Rattle.hum_engine.specs.Nets.{WroteFront, IsGoing, IsChanged};
 ghost use Rattle.hum_engine.specs.Nets.{IsAmong, NetAt, AreBegun, Tells, HasRun, HasRunOn, IsNet};
-ghost use Rattle.hum_engine.specs.Search.{beginning, search_by};
-ghost use Rattle.hum_engine.specs.Nets.{Sees, MayPick, HasPicked, MayAsk, HasGone};
+ghost use Rattle.hum_engine.specs.Nets.{Sees, MayPick, HasPicked, MayAsk, HasGone, MayStep, HasStepped};
+ghost use Rattle.hum_engine.specs.Nets.{IsCloser};
 
-use crate::idle::{Chain, Knows, Tree};
 use crate::link::Next;
+use crate::search::Search;
+use crate::takers::takers_of;
 use crate::web::Web;
 use crate::writing::write_record;
 use hum_nodes::Node;
@@ -41,8 +43,8 @@ pub struct Net<S, R, W> {
     turns: u64,
     // a flag for each actor, which an order picks by
     actors: Vec<bool>,
-    // who takes from each link, where that was learnt
-    readers: Vec<Option<usize>>,
+    // who takes from each link
+    takers: Vec<usize>,
 }
 
 /// What a turn has come to.
@@ -66,6 +68,9 @@ impl<S: Stage + Drop, R: Source + Drop, W: Sink> Net<S, R, W> {
         ensures went { (s : Scene) → MayWrite (StandsAs S.stands) self.old.web s
             → SinkWent (StandsAs S.stands) self.new.failure (W.contents self.old.sink)
             (W.contents self.new.sink) (W.flushed self.new.sink) result self.new.web s }
+        ensures asked { (s : Scene) → MayWrite (StandsAs S.stands) self.old.web s
+            → CallsSink (W.calls self.old.sink) (W.calls self.new.sink)
+            (s.links (last (plan_of s))).waiting }
         ensures marked { W.failed self.new.sink
             ≡ (W.failed self.old.sink || is_write self.new.failure) }
         ensures unread { (k : ℕ) → is_read_of k self.new.failure ≡ false }
@@ -73,7 +78,7 @@ impl<S: Stage + Drop, R: Source + Drop, W: Sink> Net<S, R, W> {
             self.old.web.nodes.items self.new.web.nodes.items k }
         ensures turns { self.new.turns ≡ self.old.turns }
         ensures actors { self.new.actors ≡ self.old.actors }
-        ensures readers { self.new.readers ≡ self.old.readers }
+        ensures takers { self.new.takers ≡ self.old.takers }
     {
         match self.web.take_out() {
             Next::Record(row) => match write_record(&mut self.sink, row) {
@@ -146,7 +151,7 @@ impl<S: Stage + Drop, R: Source + Drop, W: Sink> Net<S, R, W> {
         ensures sink { self.new.sink ≡ self.old.sink }
         ensures turns { self.new.turns ≡ self.old.turns }
         ensures actors { self.new.actors ≡ self.old.actors }
-        ensures readers { self.new.readers ≡ self.old.readers }
+        ensures takers { self.new.takers ≡ self.old.takers }
     {
         match self.web.turn(k) {
             Ok(link) => {
@@ -190,7 +195,7 @@ impl<S: Stage + Drop, R: Source + Drop, W: Sink> Net<S, R, W> {
         let Ok(actors) = vec![in alloc; false; nodes.len() + 1] else {
             return Err(sink);
         };
-        let Ok(readers) = vec![in alloc; None; nodes.len()] else {
+        let Ok(takers) = takers_of(alloc, &nodes) else {
             return Err(sink);
         };
         match Web::new(alloc, nodes, usize::from(size)) {
@@ -200,7 +205,7 @@ impl<S: Stage + Drop, R: Source + Drop, W: Sink> Net<S, R, W> {
                 failure: None,
                 turns: 0,
                 actors,
-                readers,
+                takers,
             }),
             Err(_) => Err(sink),
         }
@@ -221,36 +226,6 @@ impl<S: Stage + Drop, R: Source + Drop, W: Sink> Net<S, R, W> {
         }
     }
 
-    // Nothing is known of who takes from which link.
-    fn forget(&mut self)
-        ensures same { self.new ≡ record self.old { readers = self.new.readers } }
-        ensures none { (t r : ℕ) → slice_get self.new.readers.items t ≢ Some (Some r) }
-    {
-        for t in 0..self.readers.len() {
-            self.readers[t] = None;
-        }
-    }
-
-    // Who takes from a link that this actor has just changed, if that is known: the actor itself,
-    // where the link isn't its own.
-    fn reader(&mut self, actor: usize, link: usize) -> Option<usize>
-        ensures same { self.new ≡ record self.old { readers = self.new.readers } }
-        ensures learns { (t r : ℕ) → slice_get self.new.readers.items t ≡ Some (Some r)
-            → Known self.old.readers.items actor link t r }
-        ensures tells { IfSome result (λ r. Known self.old.readers.items actor link link r) }
-    {
-        if actor != link {
-            if let Some(reader) = self.readers.get_mut(link) {
-                *reader = Some(actor);
-            }
-            return Some(actor);
-        }
-        match self.readers.get(link) {
-            Some(reader) => *reader,
-            None => None,
-        }
-    }
-
     // Sets the flag of an actor. While the run goes on it says whether that one is ready.
     #[inline(always)]
     fn ask(&mut self, k: usize)
@@ -266,46 +241,21 @@ impl<S: Stage + Drop, R: Source + Drop, W: Sink> Net<S, R, W> {
         self.actors[k] = is;
     }
 
-    // Sets the flags of the two ends of a link, or all of them where its reader isn't known.
-    fn ask_again(&mut self, link: usize, reader: Option<usize>)
-        requires { AreAmong (StandsAs S.stands) W.contents W.flushed link reader self.old }
+    // Sets the flags of the two ends of a link.
+    fn ask_both(&mut self, link: usize, taker: usize)
+        requires link { IsGoing (StandsAs S.stands) W.contents W.flushed link self.old }
+        requires taker { IsGoing (StandsAs S.stands) W.contents W.flushed taker self.old }
         ensures same { self.new ≡ record self.old { actors = self.new.actors } }
         ensures len { length self.new.actors.items ≡ length self.old.actors.items }
         ensures list { (start : Option (List ℕ)) (s : Scene) (now : Now Row)
             → NetAt (StandsAs S.stands) W.contents W.flushed start s self.old now
-            → ended (plan_of s) now ≡ None
-            → link ≤ s.count → IfSome reader (λ r. r ≤ s.count) → self.new.actors.items
-            ≡ asked (is_ready (plan_of s) s.size now) s.count self.old.actors.items link reader }
+            → ended (plan_of s) now ≡ None → link ≤ s.count → taker ≤ s.count
+            → self.new.actors.items ≡ slice_set
+            (slice_set self.old.actors.items link (is_ready (plan_of s) s.size now link))
+            taker (is_ready (plan_of s) s.size now taker) }
     {
-        match reader {
-            Some(reader) => {
-                self.ask(link);
-                self.ask(reader);
-            }
-            None => self.mark(),
-        }
-    }
-
-    // Sets all flags, unless the run is over.
-    fn prepare(&mut self)
-        requires { IsRunning (StandsAs S.stands) W.contents W.flushed self.old }
-        ensures same { self.new
-            ≡ record self.old { actors = self.new.actors; readers = self.new.readers } }
-        ensures len { length self.new.actors.items ≡ length self.old.actors.items }
-        ensures list { (start : Option (List ℕ)) (s : Scene) (now : Now Row)
-            → NetAt (StandsAs S.stands) W.contents W.flushed start s self.old now
-            → ended (plan_of s) now ≡ None
-            → (self.new.actors.items ≡ ready_list (plan_of s) s.size now)
-            × ((t r : ℕ) → slice_get self.new.readers.items t ≢ Some (Some r)) }
-        ensures over { (start : Option (List ℕ)) (s : Scene) (now : Now Row) (by : RunResult)
-            → NetAt (StandsAs S.stands) W.contents W.flushed start s self.old now
-            → ended (plan_of s) now ≡ Some by → self.new ≡ self.old }
-    {
-        if self.result().is_some() {
-            return;
-        }
-        self.forget();
-        self.mark();
+        self.ask(link);
+        self.ask(taker);
     }
 
     // How a run ended that is over.
@@ -322,28 +272,63 @@ impl<S: Stage + Drop, R: Source + Drop, W: Sink> Net<S, R, W> {
         }
     }
 
-    // The actor that is asked next: the order's pick, by the flags, or of a leftmost order this one, to
+    // The actor that is asked next: the order's pick, by the flags, or of a leftmost order the one to
     // the left of which nobody is ready.
     #[inline(always)]
-    fn next<O: Order>(&self, order: &mut O, is_leftmost: bool, from: usize) -> usize
-        requires { MayPick (StandsAs S.stands) W.contents W.flushed is_leftmost from
+    fn next<O: Order>(&self, order: &mut O, is_leftmost: bool, search: &Search) -> usize
+        requires { MayPick (StandsAs S.stands) W.contents W.flushed is_leftmost search.now
             self.now }
-        ensures from { is_leftmost ≡ true → result ≡ from }
+        ensures from { is_leftmost ≡ true → result ≡ search.now.from }
         ensures stays { is_leftmost ≡ true → order.new ≡ order.old }
         ensures picked { is_leftmost ≡ false → (start : Option (List ℕ)) (s : Scene) (now : Now Row)
             → NetAt (StandsAs S.stands) W.contents W.flushed start s self.now now
-            → ended (plan_of s) now ≡ None → Sees false from s now self.now
+            → ended (plan_of s) now ≡ None → Sees false search.now s now self.now
             → HasPicked (record { pick = O.picks; next = O.after }) (plan_of s) s.size order.old
             order.new now result }
     {
         if is_leftmost {
-            return from;
+            return search.from();
         }
         let pick = order.pick(&self.actors);
         choose(&self.actors, pick)
     }
 
+    // Asks the actor that is next and, if it is ready, gives it its turn. Tells whether the run is over.
+    #[inline(always)]
+    fn step<O: Order>(&mut self, order: &mut O, is_leftmost: bool, search: &mut Search) -> bool
+        requires may { MayStep (StandsAs S.stands) W.contents W.flushed is_leftmost search.old
+            self.old }
+        requires leans { is_leftmost ≡ true → IsLeftmost O.picks O.after order.old }
+        ensures stepped { HasStepped (StandsAs S.stands) R.remaining W.contents W.flushed
+            (record { pick = O.picks; next = O.after }) order.old order.new is_leftmost search.old
+            search.new self.old self.new result }
+        ensures leans { is_leftmost ≡ true → order.new ≡ order.old }
+        ensures closer { IsCloser search.old search.new self.old self.new result }
+        ensures reads { (i : ℕ) → failed_at R.failed i self.new.web.nodes.items
+            ≡ (failed_at R.failed i self.old.web.nodes.items || is_read_of i self.new.failure) }
+        ensures writes { W.failed self.new.sink
+            ≡ (W.failed self.old.sink || is_write self.new.failure) }
+    {
+        let actor = self.next(order, is_leftmost, search);
+        let Some(turned) = self.turn_if_ready(actor) else {
+            search.pass();
+            return false;
+        };
+        if turned.is_over {
+            return true;
+        }
+        let taker = self.takers[turned.link];
+        if is_leftmost {
+            search.change(turned.link, taker);
+        } else {
+            self.ask_both(turned.link, taker);
+        }
+        false
+    }
+
     /// Makes the turns that the order picks, to the end of the run.
+    // All that a stage's turn calls stands in this loop, and the loop in no caller's.
+    #[inline(never)]
     pub fn run<O: Order>(&mut self, order: &mut O) -> RunResult
         requires { IsNet (StandsAs S.stands) W.contents W.flushed self.old }
         // Whatever bytes the sources have, and however they go on: the turns are those that the
@@ -373,67 +358,16 @@ impl<S: Stage + Drop, R: Source + Drop, W: Sink> Net<S, R, W> {
             → ended (plan_of s) now ≡ Some by
             → (result ≡ by) × (self.new ≡ self.old) × (order.new ≡ order.old) }
     {
-        if self.web.has_several() {
-            return self.run_by(order, Tree::new());
-        }
-        self.run_by(order, Chain)
-    }
-
-    // The same, by what may be known of who isn't ready: more than nothing only in a tree. All that a
-    // stage's turn calls stands in this loop, and the loop in no caller's.
-    #[inline(never)]
-    fn run_by<O: Order, K: Knows>(&mut self, order: &mut O, mut known: K) -> RunResult
-        requires unknown { search_by 0 (K.first known) (K.behind known) ≡ beginning }
-        requires net { IsNet (StandsAs S.stands) W.contents W.flushed self.old }
-        // Whatever bytes the sources have, and however they go on: the turns are those that the
-        // order picks, and what was written is what the plan means.
-        ensures ran { HasRun (StandsAs S.stands) R.remaining W.contents W.flushed
-            (record { pick = O.picks; next = O.after }) order.old order.new self.old self.new
-            result }
-
-        // Where the sources tell their bytes, it is what the plan means over these.
-        ensures whole { (start : Option (List ℕ)) (s : Scene) (now : Now Row)
-            → Tells R.remaining self.old.web.nodes.items s.rests
-            → NetAt (StandsAs S.stands) W.contents W.flushed start s self.old now
-            → HasRunOn (StandsAs S.stands) W.contents W.flushed
-            (record { pick = O.picks; next = O.after }) order.old order.new start s now self.new
-            result }
-
-        // It ends by a failed read or write exactly where a call has failed in it.
-        ensures reads { self.old.failure ≡ None → (i : ℕ)
-            → failed_at R.failed i self.new.web.nodes.items
-            ≡ (failed_at R.failed i self.old.web.nodes.items || is_read_of i (Some result)) }
-        ensures writes { self.old.failure ≡ None
-            → W.failed self.new.sink ≡ (W.failed self.old.sink || is_write (Some result)) }
-
-        // A run that is over answers its result again.
-        ensures again { (start : Option (List ℕ)) (s : Scene) (now : Now Row) (by : RunResult)
-            → NetAt (StandsAs S.stands) W.contents W.flushed start s self.old now
-            → ended (plan_of s) now ≡ Some by
-            → (result ≡ by) × (self.new ≡ self.old) × (order.new ≡ order.old) }
-    {
         let is_leftmost = order.is_leftmost();
-        self.prepare();
         if self.over() {
             return self.told();
         }
-        let mut from = 0;
+        self.mark();
+        let mut search = Search::new();
         'turns: loop {
-            let actor = self.next(order, is_leftmost, from);
-            let Some(turned) = self.turn_if_ready(actor) else {
-                from = known.right_of(actor);
-                continue 'turns;
-            };
-            if turned.is_over {
+            if self.step(order, is_leftmost, &mut search) {
                 return self.told();
             }
-            from = turned.link;
-            known.went(actor, from);
-            if is_leftmost {
-                continue 'turns;
-            }
-            let reader = self.reader(actor, from);
-            self.ask_again(from, reader);
         }
     }
 
@@ -463,6 +397,15 @@ impl<S: Stage + Drop, R: Source + Drop, W: Sink> Net<S, R, W> {
         // It is one turn of this actor.
         ensures gone { HasGone (StandsAs S.stands) R.remaining R.failed
             W.contents W.flushed W.failed k self.old self.new result }
+
+        // The sink is asked for no write but those of the record that it takes, or for one flush at the
+        // end; by a stage for nothing.
+        ensures asked { (start : Option (List ℕ)) (s : Scene) (now : Now Row)
+            → NetAt (StandsAs S.stands) W.contents W.flushed start s self.old now
+            → is_ready (plan_of s) s.size now k ≡ true → k ≡ s.count
+            → CallsSink (W.calls self.old.sink) (W.calls self.new.sink)
+            (now.links (last (plan_of s))).waiting }
+        ensures unasked { k ≢ length self.old.web.nodes.items → self.new.sink ≡ self.old.sink }
 
         // It makes at most one call on the actor's reader, and none on another's.
         ensures others { (i : ℕ) → i ≢ k → ShowsSame R.remaining R.calls R.failed
@@ -528,7 +471,7 @@ impl<S: Stage + Drop, R: Source + Drop, W: Sink> Net<S, R, W> {
             failure: _,
             turns: _,
             actors: _actors,
-            readers: _readers,
+            takers: _takers,
         } = self;
         sink
     }
@@ -543,6 +486,11 @@ impl<S: Stage + Drop, R: Source + Drop, W: Sink> Net<S, R, W> {
         ensures most { (start : Option (List ℕ)) (s : Scene) (now : Now Row)
             → NetAt (StandsAs S.stands) W.contents W.flushed start s self.now now
             → now.failure ≡ None → result ≤ most_in_all (plan_of s) now.links }
+
+        // Each actor has had no more of them than what it moved allows.
+        ensures each { (start : Option (List ℕ)) (s : Scene) (now : Now Row)
+            → (at : NetAt (StandsAs S.stands) W.contents W.flushed start s self.now now)
+            → now.failure ≡ None → (k : ℕ) → turns_of k at.turns ≤ most (plan_of s) now.links k }
     {
         self.turns
     }
@@ -578,7 +526,7 @@ impl<S: Stage + Drop, R: Source + Drop, W: Sink> Net<S, R, W> {
         // at most one of each source.
         ensures few { (start : Option (List ℕ)) (s : Scene) (now : Now Row)
             → NetAt (StandsAs S.stands) W.contents W.flushed start s self.now now
-            → now.failure ≡ None → HoldsFew s k result }
+            → now.failure ≡ None → HoldsFew s now.links k result }
     {
         self.web.held(k)
     }

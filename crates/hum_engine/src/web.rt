@@ -75,13 +75,6 @@ impl<S: Stage + Drop, R: Source + Drop> Web<S, R> {
         self.nodes.len()
     }
 
-    /// Whether there are several sources.
-    pub fn has_several(&self) -> bool
-        ensures { result ≡ self.now.has_several }
-    {
-        self.has_several
-    }
-
     // A turn of a source, which changes its own link.
     #[inline(always)]
     fn poll(&mut self, k: usize) -> Result<usize, ReadError>

@@ -1,5 +1,5 @@
 //! Writing records.
-ghost use Rattle.std.specs.Prelude.{◌≡◌, ◌++◌, ◌∷◌, [], true, IfOk, OnOk, OnErr};
+ghost use Rattle.std.specs.Prelude.{◌≡◌, ◌≤◌, ◌+◌, ◌++◌, ◌∷◌, [], length, true, IfOk, OnOk, OnErr};
 ghost use Rattle.std.specs.Io.KnownBytes.{Appends};
 ghost use Rattle.hum_record.specs.Row.{text_of};
 ghost use Rattle.hum_engine.specs.Writing.{WroteFront};
@@ -21,6 +21,7 @@ fn write_all<W: Sink>(sink: &mut W, text: &[u8]) -> Result<(), WriteFailed>
     ensures err { OnErr result (WroteFront (W.contents sink.old) (W.contents sink.new) text.now) }
     ensures sound { OnOk result (W.failed sink.new ≡ W.failed sink.old) }
     ensures failed { OnErr result (W.failed sink.new ≡ true) }
+    ensures calls { W.calls sink.new ≤ W.calls sink.old + length text.now }
 {
     if text.is_empty() {
         return Ok(());
@@ -40,6 +41,7 @@ fn write_on<W: Sink>(sink: &mut W, text: &[u8]) -> Result<(), WriteFailed>
     ensures err { OnErr result (WroteFront (W.contents sink.old) (W.contents sink.new) text.now) }
     ensures sound { OnOk result (W.failed sink.new ≡ W.failed sink.old) }
     ensures failed { OnErr result (W.failed sink.new ≡ true) }
+    ensures calls { W.calls sink.new ≤ W.calls sink.old + length text.now }
 {
     let mut rest = text;
     while !rest.is_empty() {
@@ -66,6 +68,9 @@ pub fn write_record<W: Sink>(sink: &mut W, row: Record) -> Result<Record, WriteF
     ensures sound { OnOk result (W.failed sink.new ≡ W.failed sink.old) }
     ensures failed { OnErr result (W.failed sink.new ≡ true) }
     ensures back { IfOk result (λ back. back ≡ row) }
+
+    // It makes no call but writes, each of which takes a byte at least, or fails.
+    ensures calls { W.calls sink.new ≤ W.calls sink.old + length (text_of row ++ 10 ∷ []) }
 {
     match row.into_line() {
         Ok(line) => {
@@ -88,6 +93,7 @@ fn write_parts<W: Sink>(sink: &mut W, row: &Record) -> Result<(), WriteFailed>
         (text_of row.now ++ 10 ∷ [])) }
     ensures sound { OnOk result (W.failed sink.new ≡ W.failed sink.old) }
     ensures failed { OnErr result (W.failed sink.new ≡ true) }
+    ensures calls { W.calls sink.new ≤ W.calls sink.old + length (text_of row.now ++ 10 ∷ []) }
 {
     write_all(sink, row.text())?;
     write_all(sink, b"\n")

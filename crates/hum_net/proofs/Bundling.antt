@@ -14,7 +14,7 @@ use Rattle.hum_net.specs.declared.outcome.Outcome.{Outcome}
 use Rattle.hum_net.specs.declared.outcome.Outcome.TheVariants as outcome
 use Rattle.hum_net.specs.Bundles.{score_by, bytes_by, or_empty, first_lacking, Adds, LacksHere}
 use Rattle.hum_net.specs.Bundles.{LacksNow, IsRefusal, Comes, ComesOfBundle}
-use Rattle.hum_net.specs.Bundles.{is_failed_write, is_read_by, Picks}
+use Rattle.hum_net.specs.Bundles.{is_failed_write, is_read_by, Picks, Ends}
 use Rattle.hum_engine.specs.Readers.{is_write, is_read_of}
 use Rattle.std.specs.Prelude.{◌||◌}
 use Rattle.std.proofs.Math.Bool.{or-false}
@@ -22,7 +22,7 @@ use Rattle.hum_plan.specs.Stages.{Stage}
 use Rattle.hum_plan.specs.Grammar.{IsPlanOf}
 use Rattle.hum_turns.specs.declared.result.RunResult.{RunResult}
 use Rattle.hum_turns.specs.Orders.{Order}
-use Rattle.hum_net.specs.Runs.{HasWritten, HasPicked, IsUnasked}
+use Rattle.hum_net.specs.Runs.{HasWritten, HasPicked, HasEnded, IsUnasked}
 use Rattle.std.proofs.Common.{inl, inr, ◌⊎◌}
 
 -- What is left of some stages from stage k on.
@@ -177,6 +177,30 @@ pub pick_plan : {O : Type 0} (order : Order O) (text : List ℕ) (score : List �
 pick_plan order text score link end old new stages plan (inl picked) =
     inl (record { stages = stages; plan = plan; picked = picked })
 pick_plan order text score link end old new stages plan (inr unasked) = inr unasked
+
+pub end_plan : {O : Type 0} (order : Order O) (text : List ℕ) (score : List ℕ → Option (List ℕ)) (link : ℕ)
+    (end : RunResult) (old new : O) (held kept : Option (List ℕ)) (stages : List Stage) → IsPlanOf text stages
+    → HasEnded order (bytes_by score stages) stages link end old new held kept ⊎ IsUnasked end old new
+    → Ends order text score link old new held kept (outcome.Run end)
+end_plan order text score link end old new held kept stages plan (inl ended) =
+    inl (record { stages = stages; plan = plan; ended = ended })
+end_plan order text score link end old new held kept stages plan (inr unasked) = inr unasked
+
+pub refusal_ends : {O : Type 0} (order : Order O) (text other : List ℕ) (score : List ℕ → Option (List ℕ)) (link : ℕ)
+    (o : O) (held kept : Option (List ℕ)) (outcome : Outcome) → IsRefusal text outcome
+    → Ends order other score link o o held kept outcome
+refusal_ends order text other score link o held kept (outcome.Run end) h = inr (h, refl)
+refusal_ends order text other score link o held kept (outcome.Plan fault) h = tt
+refusal_ends order text other score link o held kept (outcome.NoScore number) h = tt
+refusal_ends order text other score link o held kept outcome.TooLarge h = tt
+
+pub lack_ends : {O : Type 0} (order : Order O) (text : List ℕ) (score : List ℕ → Option (List ℕ)) (link : ℕ)
+    (o : O) (held kept : Option (List ℕ)) (stages : List Stage) (outcome : Outcome) → LacksNow score stages outcome
+    → Ends order text score link o o held kept outcome
+lack_ends order text score link o held kept stages (outcome.Run end) h = inr (h, refl)
+lack_ends order text score link o held kept stages (outcome.Plan fault) h = tt
+lack_ends order text score link o held kept stages (outcome.NoScore number) h = tt
+lack_ends order text score link o held kept stages outcome.TooLarge h = tt
 
 -- Without a run no write fails.
 pub refusal_writes_none : (text : List ℕ) (outcome : Outcome) → IsRefusal text outcome → is_failed_write outcome ≡ false

@@ -25,18 +25,19 @@ use Rattle.hum_plan.specs.Seen.{stages_of, stage_of, options_of}
 use Rattle.hum_plan.specs.declared.stages.Options.{Options}
 use Rattle.hum_plan.specs.declared.stages.Options.TheVariants as told
 use Rattle.hum_plan.specs.declared.stages.PlanStage.{PlanStage}
-use Rattle.hum_net.specs.Parts.{part_by, part_of, parts_of, AreSoundFrom, AllGiveScores}
+use Rattle.hum_net.specs.Parts.{part_by, part_of, parts_of, AreSoundFrom, AllGiveScores, AllKeepRecords}
 use Rattle.hum_net.specs.Nodes.{AllFrom, Fits, Tells}
 use Rattle.hum_engine.proofs.Appending.{appends_none}
-use Rattle.hum_net.specs.Runs.{HasWritten, WroteAll, WroteFront}
+use Rattle.hum_valid.specs.Records.{AreRecords}
+use Rattle.hum_net.specs.Runs.{HasWritten, WroteAll, WroteFront, IsValid}
 use Rattle.hum_net.specs.Scenes.{scene_of, first_now}
 use Rattle.hum_turns.proofs.Against.{meaning_fine}
-use Rattle.hum_nodes.specs.Fine.{IsFine}
 use Rattle.hum_nodes.proofs.Fining.{fine_is}
 use Rattle.hum_turns.proofs.Faults.{whose_fault}
 use Rattle.hum_nodes.proofs.TreeLaws.{is_plan, is_numbered}
 use Rattle.std.proofs.lemmas.List.{length-map}
 use Rattle.hum_net.proofs.Treeing.{parts_length, part_here, stage_there, is_tree, last_keeps}
+use Rattle.hum_net.proofs.Valid.{plan_records, valid as is_valid}
 use Rattle.hum_net.proofs.Planning.{is_net_plan}
 use Rattle.hum_net.proofs.Building.{all_length}
 
@@ -167,19 +168,27 @@ all_begun {S} {R} {stands} stages nodes size tree some fits = record {
 
 -- What its run has written.
 
--- unless interpretations are dropped, it is a score
-abbrev pub IsValid : (ℕ → List ℕ) → List plan.Stage → Type 0
-IsValid bytes stages = AllGiveScores stages → IsFine 4294967295 (meaning_of (parts_of bytes stages))
+-- its records are lawful, and unless interpretations are dropped it is valid
+pub record MeansValid (bytes : ℕ → List ℕ) (stages : List plan.Stage) : Type 0 where
+  pub records : AreRecords (meaning_of (parts_of bytes stages)).items
+  pub valid : AllGiveScores stages → IsValid (meaning_of (parts_of bytes stages))
 
-pub is_valid : (bytes : ℕ → List ℕ) (stages : List plan.Stage) → plan.IsTree stages → AreSoundFrom 0 stages
-    → IsValid bytes stages
-is_valid bytes stages tree sound all =
+pub means_valid : (bytes : ℕ → List ℕ) (stages : List plan.Stage) → plan.IsTree stages → AreSoundFrom 0 stages
+    → AllKeepRecords stages → MeansValid bytes stages
+means_valid bytes stages tree sound keeps =
     let parts = parts_of bytes stages in
-    fine_is 4294967295 (meaning_of parts) (meaning_fine (plan_of parts)
-    (is_plan parts (is_tree bytes stages tree sound)) (last_keeps bytes stages tree sound all))
+    let is = is_tree bytes stages tree sound in
+    let records = plan_records bytes stages is keeps in
+    record {
+      records = records;
+      valid = λ all.
+          is_valid (meaning_of parts) records
+          (fine_is 4294967295 (meaning_of parts)
+          (meaning_fine (plan_of parts) (is_plan parts is) (last_keeps bytes stages tree sound all)));
+    }
 
 whole_of : (bytes rests : ℕ → List ℕ) (stages : List plan.Stage) (size : ℕ) (start held : Option (List ℕ))
-    (flushed : Bool) (end : End) → IsLawfulTree (parts_of bytes stages) → IsValid bytes stages
+    (flushed : Bool) (end : End) → IsLawfulTree (parts_of bytes stages) → MeansValid bytes stages
     → net.WroteAll (scene_of bytes rests stages size) start held flushed end
     → WroteAll bytes stages start held flushed end
 whole_of bytes rests stages size start held flushed end law valid o = record {
@@ -187,7 +196,8 @@ whole_of bytes rests stages size start held flushed end law valid o = record {
   is_flushed = o.is_flushed;
   means = o.end;
   first = same_Some _ _ (sym o.end ∙ law.end);
-  valid = valid;
+  records = valid.records;
+  valid = valid.valid;
 }
 
 front_of : (bytes rests : ℕ → List ℕ) (stages : List plan.Stage) (size : ℕ) (start held : Option (List ℕ))
@@ -198,7 +208,7 @@ front_of bytes rests stages size start held o =
 
 pub has_written : (bytes rests : ℕ → List ℕ) (stages : List plan.Stage) (size : ℕ)
     (start held : Option (List ℕ)) (flushed : Bool) (by : RunResult) → IsLawfulTree (parts_of bytes stages)
-    → IsValid bytes stages → net.Outcome (scene_of bytes rests stages size) start held flushed by
+    → MeansValid bytes stages → net.Outcome (scene_of bytes rests stages size) start held flushed by
     → HasWritten bytes stages start held flushed by
 has_written bytes rests stages size start held flushed ends.Finished law valid o =
     whole_of bytes rests stages size start held flushed _ law valid o

@@ -3,5 +3,6 @@ pub mod Treeing
 pub mod Planning
 pub mod Stepping
 pub mod Building
+pub mod Valid
 pub mod Going
 pub mod Bundling

@@ -10,7 +10,7 @@ use Rattle.hum_plan.specs.Grammar.{IsPlanOf}
 use Rattle.hum_plan.specs.Answers.{PlanAnswer}
 use Rattle.hum_net.specs.declared.outcome.Outcome.{Outcome}
 use Rattle.hum_net.specs.declared.outcome.Outcome.TheVariants as outcome
-use Rattle.hum_net.specs.Runs.{HasWritten, HasPicked, IsUnasked}
+use Rattle.hum_net.specs.Runs.{HasWritten, HasPicked, HasEnded, IsUnasked}
 
 -- The score that a stage reads, by its name; a stage that reads none has none.
 abbrev pub score_by : (List ℕ → Option (List ℕ)) → Options → Option (List ℕ)
@@ -58,6 +58,23 @@ Picks order text score link old new (outcome.Run end) =
 Picks order text score link old new (outcome.Plan fault) = new ≡ old
 Picks order text score link old new (outcome.NoScore number) = new ≡ old
 Picks order text score link old new outcome.TooLarge = new ≡ old
+
+-- Its run has ended, and has written what it had written at its last moment.
+pub record HasEndedPlan {O : Type 0} (order : Order O) (text : List ℕ)
+    (score : List ℕ → Option (List ℕ)) (link : ℕ) (end : RunResult) (old new : O)
+    (held kept : Option (List ℕ)) : Type 0 where
+  pub stages : List Stage
+  pub plan : IsPlanOf text stages
+  pub ended : HasEnded order (bytes_by score stages) stages link end old new held kept
+
+-- Where stages were run, that is how.
+abbrev pub Ends : {O : Type 0} → Order O → List ℕ → (List ℕ → Option (List ℕ)) → ℕ → O → O
+    → Option (List ℕ) → Option (List ℕ) → Outcome → Type 0
+Ends order text score link old new held kept (outcome.Run end) =
+    HasEndedPlan order text score link end old new held kept ⊎ IsUnasked end old new
+Ends order text score link old new held kept (outcome.Plan fault) = Unit {0}
+Ends order text score link old new held kept (outcome.NoScore number) = Unit {0}
+Ends order text score link old new held kept outcome.TooLarge = Unit {0}
 
 -- A run that wants memory may do so before there is a net.
 abbrev pub MayLackMemory : Option (List ℕ) → Option (List ℕ) → RunResult → Type 0

@@ -1,9 +1,11 @@
 -- What the stages of a plan read from and do.
 use Rattle.std.specs.Prelude.{◌≡◌, ℕ, suc, pred, ◌+◌, false, List, [], ◌∷◌, map}
+use Rattle.std.specs.List.{AllByRecursion}
 use Rattle.hum_stage.specs.Meaning.{IsLawful, KeepsScore}
 use Rattle.hum_plan.specs.Stages.{Stage, Options, Read, Assemble, Takes}
 use Rattle.hum_plan.specs.Stages.{IsStage, drops_interpretations}
 use Rattle.hum_nodes.specs.Trees.{Part, Reads, Through, Beside}
+use Rattle.hum_valid.specs.Records.{KeepsRecords}
 use Rattle.hum_net.specs.Commands.{means}
 
 -- the first of some numbers, which count from 1, counted from 0
@@ -44,7 +46,15 @@ IsSoundBy number (Takes options) =
     × (drops_interpretations (Takes options) ≡ false → KeepsScore (means number options).outcomes)
 IsSoundBy number _ = Unit {0}
 
--- the same of stage k and those behind it
+-- Of lawful records it makes lawful records.
+abbrev pub KeepsRecordsBy : Options → Type 0
+KeepsRecordsBy (Takes options) = (number : ℕ) → KeepsRecords (means number options).outcomes
+KeepsRecordsBy _ = Unit {0}
+
+abbrev pub AllKeepRecords : List Stage → Type 0
+AllKeepRecords = AllByRecursion (λ stage. KeepsRecordsBy stage.options)
+
+-- what is sound of stage k and those behind it
 abbrev pub AreSoundFrom : ℕ → List Stage → Type 0
 AreSoundFrom k [] = Unit {0}
 AreSoundFrom k (stage ∷ stages) = IsSoundBy (k + 1) stage.options × AreSoundFrom (suc k) stages

@@ -7,7 +7,7 @@ ghost use Rattle.hum_plan.specs.Grammar.{IsPlanOf};
 ghost use Rattle.hum_words.specs.Bundle.{largest, plan_of, score_of};
 ghost use Rattle.hum_net.specs.Nodes.{AreTold, reads_of};
 ghost use Rattle.hum_net.specs.Bundles.{ComesOfBundle, LacksNow, IsRefusal, is_refused};
-ghost use Rattle.hum_net.specs.Bundles.{LacksHere, Adds, bytes_by, first_lacking, Picks};
+ghost use Rattle.hum_net.specs.Bundles.{LacksHere, Adds, bytes_by, first_lacking, Picks, Ends};
 ghost use Rattle.hum_net.specs.Bundles.{is_failed_write, is_read_by};
 
 use crate::outcome::Outcome;
@@ -153,7 +153,8 @@ pub fn run_bundle<O: Order, W: Sink + Drop>(
     // A bundle that is too large is refused, and else a text that is no plan, by its first fault, and
     // else the first stage whose score isn't there. Else the plan's stages are run over the scores of
     // their names: what was written is the text of what they mean, whatever the order and the links,
-    // and the outcome is how that ends; or a failure ended it, and a front of that text was written.
+    // which is valid Humdrum unless interpretations are dropped, and the outcome is how that ends; or a
+    // failure ended it, and a front of that text was written.
     ensures comes { ComesOfBundle (nat_lt largest (length bundle.now)) (plan_of bundle.now)
         (λ name. score_of name bundle.now) (W.contents writer) (W.contents result.1)
         (W.flushed result.1) result.0 }
@@ -162,6 +163,11 @@ pub fn run_bundle<O: Order, W: Sink + Drop>(
     // it; where there is no turn it is not asked.
     ensures picked { Picks (record { pick = O.picks; next = O.after }) (plan_of bundle.now)
         (λ name. score_of name bundle.now) link order.old order.new result.0 }
+
+    // What was written is what the run had written at its last moment, after a failure too.
+    ensures ended { Ends (record { pick = O.picks; next = O.after }) (plan_of bundle.now)
+        (λ name. score_of name bundle.now) link order.old order.new (W.contents writer)
+        (W.contents result.1) result.0 }
 
     // A failed write or flush is told exactly where one set the writer's mark.
     ensures marked { W.failed result.1 ≡ (W.failed writer || is_failed_write result.0) }

@@ -4,7 +4,7 @@ ghost use Rattle.std.specs.Prelude.{IfOk, IfErr, is_some};
 ghost use Rattle.hum_record.specs.Row.{Row};
 ghost use Rattle.hum_turns.specs.Failures.{Now, is_ready, result as ended};
 ghost use Rattle.hum_turns.specs.Links.{linked};
-ghost use Rattle.hum_turns.specs.Counts.{most_in_all};
+ghost use Rattle.hum_turns.specs.Counts.{turns_of, most, most_in_all};
 ghost use Rattle.hum_turns.specs.Holds.{SomeReady};
 ghost use Rattle.hum_nodes.specs.Nodes.{StandsAs};
 ghost use Rattle.hum_plan.specs.Stages.{IsTree, reads_of as read_stages};
@@ -12,6 +12,8 @@ ghost use Rattle.hum_plan.specs.Seen.{stages_of};
 ghost use Rattle.hum_engine.specs.Scene.{Scene, plan_of, held_of, HoldsFew};
 ghost use Rattle.hum_engine.specs.Readers.{failed_at, is_read_of, is_write};
 ghost use Rattle.hum_engine.specs.Nets.{NetAt, Tells, HasTurned, HasRun, HasRunOn, WroteFront};
+ghost use Rattle.hum_engine.specs.Nets.{CallsSink};
+ghost use Rattle.hum_turns.specs.Plan.{last};
 ghost use Rattle.hum_net.specs.Nodes.{AreTold, reads_of};
 ghost use Rattle.hum_net.specs.Parts.{AreSoundFrom};
 ghost use Rattle.hum_net.specs.Scenes.{scene_of, first_now, IsReadyNow};
@@ -148,6 +150,13 @@ impl<R: Source + Drop, W: Sink> Net<R, W> {
         ensures reads { (i : ℕ) → failed_at R.failed i self.new.web.nodes.items
             ≡ (failed_at R.failed i self.old.web.nodes.items || is_read_of i self.new.failure) }
         ensures writes { W.failed self.new.sink ≡ (W.failed self.old.sink || is_write self.new.failure) }
+
+        // The writer is asked for no write but those of the record that the sink takes, or for one flush
+        // at the end.
+        ensures asked { (start : Option (List ℕ)) (s : Scene) (now : Now Row)
+            → NetAt (StandsAs ⟦<CommandStage as Stage>⟧.stands) W.contents W.flushed start s self.old now
+            → k ≡ s.count → CallsSink (W.calls self.old.sink) (W.calls self.new.sink)
+            (now.links (last (plan_of s))).waiting }
     {
         self.engine.turn(k).is_over
     }
@@ -180,6 +189,11 @@ impl<R: Source + Drop, W: Sink> Net<R, W> {
         ensures most { (start : Option (List ℕ)) (s : Scene) (now : Now Row)
             → NetAt (StandsAs ⟦<CommandStage as Stage>⟧.stands) W.contents W.flushed start s self.now now
             → now.failure ≡ None → result ≤ most_in_all (plan_of s) now.links }
+
+        // Each actor has had no more of them than what it moved allows.
+        ensures each { (start : Option (List ℕ)) (s : Scene) (now : Now Row)
+            → (at : NetAt (StandsAs ⟦<CommandStage as Stage>⟧.stands) W.contents W.flushed start s self.now now)
+            → now.failure ≡ None → (k : ℕ) → turns_of k at.turns ≤ most (plan_of s) now.links k }
     {
         self.engine.turns()
     }
@@ -194,7 +208,7 @@ impl<R: Source + Drop, W: Sink> Net<R, W> {
         // at most one of each source.
         ensures few { (start : Option (List ℕ)) (s : Scene) (now : Now Row)
             → NetAt (StandsAs ⟦<CommandStage as Stage>⟧.stands) W.contents W.flushed start s self.now now
-            → now.failure ≡ None → HoldsFew s k result }
+            → now.failure ≡ None → HoldsFew s now.links k result }
     {
         self.engine.held(k)
     }

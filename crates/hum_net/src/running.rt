@@ -1,16 +1,38 @@
 //! Runs of plans.
 ghost use Rattle.std.specs.Prelude.{◌≡◌, ◌≤◌, ◌||◌, ◌⊎◌, ℕ, false, List, Some, length};
 ghost use Rattle.hum_plan.specs.Stages.{IsTree};
-ghost use Rattle.hum_plan.specs.Seen.{stages_of};
+ghost use Rattle.hum_plan.specs.Seen.{stages_of, options_of};
 ghost use Rattle.hum_engine.specs.Readers.{is_write, is_read_of};
 ghost use Rattle.hum_net.specs.Nodes.{AreTold, reads_of};
-ghost use Rattle.hum_net.specs.Runs.{HasWritten, HasPicked, IsUnasked};
+ghost use Rattle.hum_net.specs.Parts.{KeepsRecordsBy, AllKeepRecords};
+ghost use Rattle.hum_net.specs.Runs.{HasWritten, HasPicked, HasEnded, HasDriven, IsUnasked};
 
 use crate::net::Net;
-use hum_plan::PlanStage;
+use hum_plan::{Options, PlanStage};
 use hum_text::calls::{Sink, Source};
 use hum_turns::{Order, RunResult};
+use hum_valid::commands_keep_records;
 use std::alloc::Global;
+
+/// What a stage does makes lawful records of lawful records.
+fn keeps_records(stage: &PlanStage)
+    ensures { KeepsRecordsBy (options_of stage.now.options) }
+{
+    match &stage.options {
+        Options::Command(options) => commands_keep_records(options),
+        Options::Read(_) => (),
+        Options::Assemble => (),
+    }
+}
+
+/// So does each of several stages.
+fn all_keep_records(stages: &[PlanStage])
+    ensures { AllKeepRecords (stages_of stages.now) }
+{
+    for stage in stages {
+        keeps_records(stage);
+    }
+}
 
 /// Runs the stages of a plan, with a reader for each that reads a score, in their order, and links
 /// that hold so many records. The sink is handed back with how the run ended.
@@ -28,8 +50,9 @@ pub fn run_stages<R: Source + Drop, O: Order, W: Sink + Drop>(
     requires room { link ≤ 4096 }
 
     // Whatever bytes the readers give, in whatever pieces, and whatever the order: what was written is
-    // the text of what the stages mean over the scores that the bytes denote, and the run ends as
-    // they mean; or a read, a write or want of memory ended it, and a front of that text was written.
+    // the text of what the stages mean over the scores that the bytes denote, which is valid Humdrum
+    // unless interpretations are dropped, and the run ends as they mean; or a read, a write or want of
+    // memory ended it, and a front of that text was written.
     ensures wrote { (bytes : ℕ → List ℕ) → AreTold R.remaining bytes 0 (stages_of stages.items) readers.items
         → HasWritten bytes (stages_of stages.items) (W.contents sink) (W.contents result.1)
         (W.flushed result.1) result.0 }
@@ -40,6 +63,16 @@ pub fn run_stages<R: Source + Drop, O: Order, W: Sink + Drop>(
         → HasPicked (record { pick = O.picks; next = O.after }) bytes (stages_of stages.items) link
         result.0 order.old order.new ⊎ IsUnasked result.0 order.old order.new }
 
+    // So they are whether the readers tell their bytes or not, and however these go on; and what was
+    // written is what the run had written at its last moment, after a failure too.
+    ensures driven { HasDriven (record { pick = O.picks; next = O.after }) (stages_of stages.items) link
+        result.0 order.old order.new (W.contents sink) (W.contents result.1)
+        ⊎ IsUnasked result.0 order.old order.new }
+    ensures ended { (bytes : ℕ → List ℕ) → AreTold R.remaining bytes 0 (stages_of stages.items) readers.items
+        → HasEnded (record { pick = O.picks; next = O.after }) bytes (stages_of stages.items) link
+        result.0 order.old order.new (W.contents sink) (W.contents result.1)
+        ⊎ IsUnasked result.0 order.old order.new }
+
     // A failed write or flush is told exactly where one set the sink's mark.
     ensures marked { W.failed result.1 ≡ (W.failed sink || is_write (Some result.0)) }
 
@@ -47,6 +80,7 @@ pub fn run_stages<R: Source + Drop, O: Order, W: Sink + Drop>(
     ensures unread { ((reader : R) → R.failed reader ≡ false)
         → (k : ℕ) → is_read_of k (Some result.0) ≡ false }
 {
+    all_keep_records(&stages);
     match Net::of_stages(alloc, stages, readers, sink, link) {
         Ok(mut net) => {
             let result = net.run(order);

@@ -1,7 +1,7 @@
 -- What a node stands for, and what its calls make of that.
 use Rattle.std.specs.Prelude.{◌≡◌, ℕ, zero, suc, ◌+◌, ◌≤◌, Bool, true, if◌then◌else◌, nat_lt}
 use Rattle.std.specs.Prelude.{List, [], ◌∷◌, ◌++◌}
-use Rattle.std.specs.Prelude.{map, length, Option, Some, MatchOption, slice_get}
+use Rattle.std.specs.Prelude.{map, length, Option, Some, MatchOption, slice_get, slice_set}
 use Rattle.hum_record.specs.Row.{Row}
 use Rattle.hum_stage.specs.declared.faults.End.{End}
 use Rattle.hum_turns.specs.Flow.{Flow, so_far, AllFine}
@@ -24,6 +24,11 @@ pub record At : Type 0 where
   pub inputs : List (Flow Row)
   pub read : ℕ
   pub given : ℕ
+
+-- a list in which this is set at each of these places
+abbrev pub set_each : List ℕ → ℕ → List ℕ → List ℕ
+set_each [] k list = list
+set_each (place ∷ places) k list = set_each places k (slice_set list place k)
 
 -- a stage that has had nothing
 abbrev pub fresh : Kind → At

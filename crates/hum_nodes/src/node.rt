@@ -1,12 +1,12 @@
 //! The stages of a plan as nodes of a net.
 ghost use Rattle.std.specs.Prelude.{◌≡◌, ℕ, ◌<◌, ◌≤◌, ◌||◌, List, [], Some, true, false};
-ghost use Rattle.std.specs.Prelude.{length, slice_index, IfOk, OnOk, OnErr, Ok};
+ghost use Rattle.std.specs.Prelude.{length, slice_index, slice_set, IfOk, OnOk, OnErr, Ok};
 ghost use Rattle.hum_stage.specs.Meaning.{Meaning, opening, IsLawful};
 ghost use Rattle.hum_assemble.specs.Standing.{Stands};
 ghost use Rattle.hum_read.specs.Steps.{given_by};
 ghost use Rattle.hum_nodes.specs.At.{At, fresh, MayDo, sources_of, doing_of, ending_of, holds_of};
 ghost use Rattle.hum_nodes.specs.At.{HoldsOneEach, HasTaken, MayPut, MayStop, HasPut, HasStopped};
-ghost use Rattle.hum_nodes.specs.At.{readiness_of};
+ghost use Rattle.hum_nodes.specs.At.{readiness_of, set_each};
 ghost use Rattle.hum_nodes.specs.Doing as does;
 ghost use Rattle.hum_nodes.specs.Single.{IsSingle, single};
 ghost use Rattle.hum_nodes.specs.Merging.{IsMerging, merging};
@@ -65,6 +65,15 @@ fn of_stage<S: Stage>(stage: &S) -> Readiness
         StageReadiness::Gives => Readiness::Gives,
         StageReadiness::Wants => Readiness::Wants(0),
         StageReadiness::Done => Readiness::Done,
+    }
+}
+
+/// Notes who takes from a stage, if there is a place for it.
+fn note(takers: &mut [usize], source: usize, number: usize)
+    ensures { takers.new ≡ slice_set takers.old source number }
+{
+    if source < takers.len() {
+        takers[source] = number;
     }
 }
 
@@ -190,6 +199,23 @@ impl<S: Stage + Drop, R: Source + Drop> Node<S, R> {
             Work::Read(_) => unreachable!(),
             Work::Command(_, source) => *source,
             Work::Assemble(_, sources) => sources[place],
+        }
+    }
+
+    /// Notes as which number, from 0, it takes from each stage that it reads from.
+    pub fn note_sources(&self, number: usize, takers: &mut [usize])
+        ensures len { length takers.new ≡ length takers.old }
+        ensures noted { (rest : List ℕ) (t : At) → StandsAs S.stands self.now rest t
+            → takers.new ≡ set_each (sources_of t) number takers.old }
+    {
+        match &self.work {
+            Work::Read(_) => {}
+            Work::Command(_, source) => note(takers, *source, number),
+            Work::Assemble(_, sources) => {
+                for &source in sources {
+                    note(takers, source, number);
+                }
+            }
         }
     }
 

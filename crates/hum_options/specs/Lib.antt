@@ -5,3 +5,4 @@ pub mod Letters
 pub mod Answers
 pub mod Seen
 pub mod Spelling
+pub mod Refused

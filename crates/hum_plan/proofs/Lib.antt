@@ -6,3 +6,5 @@ pub mod Spelling
 pub mod Written
 pub mod Agreed
 mod Examples
+pub mod Refusing
+pub mod Said

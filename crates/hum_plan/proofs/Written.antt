@@ -66,7 +66,7 @@ name_there line n ((k, other) ∷ ((m, word) ∷ words)) name h = by_bool (lengt
     (λ w. let no = rw w at h in absurd (cc))
     (λ w. let no = rw w at h in absurd (cc))
 
-filled : (name : List ℕ) → name ≢ [] → (length name == 0) ≡ false
+pub filled : (name : List ℕ) → name ≢ [] → (length name == 0) ≡ false
 filled [] some = absurd (some refl)
 filled (b ∷ name) some = grind (arith, nat_tests)
 
@@ -148,26 +148,26 @@ command_known command.Assemble = refl
 
 -- The stages of a line.
 
-beq_true : (a b : Bool) → beq a b ≡ true → a ≡ b
+pub beq_true : (a b : Bool) → beq a b ≡ true → a ≡ b
 beq_true true true h = refl
 beq_true true false h = absurd (cc)
 beq_true false true h = absurd (cc)
 beq_true false false h = refl
 
-beq_self : (a b : Bool) → a ≡ b → beq a b ≡ true
+pub beq_self : (a b : Bool) → a ≡ b → beq a b ≡ true
 beq_self true b h = rw (← h) refl
 beq_self false b h = rw (← h) refl
 
-below_64 : (n : ℕ) → nat_le 64 n ≡ false → n < 64
+pub below_64 : (n : ℕ) → nat_le 64 n ≡ false → n < 64
 below_64 n h = grind (arith, nat_tests)
 
-under_64 : (n : ℕ) → n < 64 → nat_le 64 n ≡ false
+pub under_64 : (n : ℕ) → n < 64 → nat_le 64 n ≡ false
 under_64 n h = grind (arith, nat_tests)
 
-below_16 : (n : ℕ) → nat_le 16 n ≡ false → n < 16
+pub below_16 : (n : ℕ) → nat_le 16 n ≡ false → n < 16
 below_16 n h = grind (arith, nat_tests)
 
-under_16 : (n : ℕ) → n < 16 → nat_le 16 n ≡ false
+pub under_16 : (n : ℕ) → n < 16 → nat_le 16 n ≡ false
 under_16 n h = grind (arith, nat_tests)
 
 onward_ok : {A B : Type 0} (First : Outcome A → Type 0) (Next : A → Outcome B → Type 0) (b : B) (given : Outcome A) → First given
@@ -198,15 +198,15 @@ placed_there line n is_first is_last old new words (Some kind) h = by_bool (beq 
     ))
     (λ w. let no = rw w at h in absurd (cc))
 
-abbrev IsFilled : List Word → Type 0
+abbrev pub IsFilled : List Word → Type 0
 IsFilled [] = ⊥
 IsFilled (word ∷ words) = Unit {0}
 
-abbrev AreFilled : List (List Word) → Type 0
+abbrev pub AreFilled : List (List Word) → Type 0
 AreFilled [] = Unit {0}
 AreFilled (words ∷ groups) = IsFilled words × AreFilled groups
 
-stages_there : (line : ℕ) (is_out is_first : Bool) (old new : Outline) (groups : List (List Word)) → AreFilled groups
+pub stages_there : (line : ℕ) (is_out is_first : Bool) (old new : Outline) (groups : List (List Word)) → AreFilled groups
     → StagesAnswer line is_out is_first old groups (Ok new) → AddStages is_out is_first old groups new
 unfolding StagesAnswer
 stages_there line is_out is_first old new [] filled h = cc
@@ -228,7 +228,7 @@ stages_there line is_out is_first old new (((n, word) ∷ words) ∷ groups) fil
       stages_there line is_out false p.0 new groups filled.1 p.2,
     ))
 
-stage_answer : (line n : ℕ) (is_first is_last : Bool) (old new : Outline) (word : List ℕ) (words : List Word) (kind : Command)
+pub stage_answer : (line n : ℕ) (is_first is_last : Bool) (old new : Outline) (word : List ℕ) (words : List Word) (kind : Command)
     → word ≡ word_of kind → is_source (opening_of kind) ≡ is_first → length old.stages < 64
     → AddsStage is_last old kind words (opening_of kind) new
     → StageAnswer line is_first is_last old ((n, word) ∷ words) (Ok new)
@@ -237,7 +237,7 @@ stage_answer line n is_first is_last old new word words kind is source room h =
     rw (under_64 (length old.stages) room, known, beq_self (is_source (opening_of kind)) is_first source)
     (begun line n is_last old new kind words (opening_of kind) h)
 
-stages_answer : (line : ℕ) (is_out is_first : Bool) (old new : Outline) (groups : List (List Word))
+pub stages_answer : (line : ℕ) (is_out is_first : Bool) (old new : Outline) (groups : List (List Word))
     → AddStages is_out is_first old groups new → StagesAnswer line is_out is_first old groups (Ok new)
 unfolding StagesAnswer
 stages_answer line is_out is_first old new [] h = rw h refl
@@ -248,7 +248,7 @@ stages_answer line is_out is_first old new (((n, word) ∷ words) ∷ groups) h 
   stages_answer line is_out false h.1 new groups h.6,
 )
 
-stages_filled : (is_out is_first : Bool) (old new : Outline) (groups : List (List Word)) → AddStages is_out is_first old groups new
+pub stages_filled : (is_out is_first : Bool) (old new : Outline) (groups : List (List Word)) → AddStages is_out is_first old groups new
     → AreFilled groups
 stages_filled is_out is_first old new [] h = tt
 stages_filled is_out is_first old new ([] ∷ groups) h = absurd h
@@ -257,11 +257,11 @@ stages_filled is_out is_first old new (((n, word) ∷ words) ∷ groups) h =
 
 -- Stages without words.
 
-abbrev FilledIf : Bool → List Word → Type 0
+abbrev pub FilledIf : Bool → List Word → Type 0
 FilledIf true words = IsFilled words
 FilledIf false words = Unit {0}
 
-filled_there : (n : ℕ) (lacks : Bool) (items : List Item) → empty_stage n lacks items ≡ None
+pub filled_there : (n : ℕ) (lacks : Bool) (items : List Item) → empty_stage n lacks items ≡ None
     → FilledIf lacks (words_before_bar items) × AreFilled (groups_behind items)
 filled_there n true [] h = absurd (cc)
 filled_there n false [] h = (tt, tt)
@@ -270,7 +270,7 @@ filled_there n false (item.Bar m ∷ items) h = let rest = filled_there m true i
 filled_there n true (item.Word m word ∷ items) h = (tt, (filled_there m false items h).1)
 filled_there n false (item.Word m word ∷ items) h = (tt, (filled_there m false items h).1)
 
-none_empty : (n : ℕ) (lacks : Bool) (items : List Item) → FilledIf lacks (words_before_bar items) → AreFilled (groups_behind items)
+pub none_empty : (n : ℕ) (lacks : Bool) (items : List Item) → FilledIf lacks (words_before_bar items) → AreFilled (groups_behind items)
     → empty_stage n lacks items ≡ None
 none_empty n true [] first rest = absurd first
 none_empty n false [] first rest = refl
@@ -280,11 +280,11 @@ none_empty n lacks (item.Word m word ∷ items) first rest = none_empty m false 
 
 -- A line.
 
-is_none_at : {A : Type 0} (x : Option A) → is_some x ≡ false → x ≡ None
+pub is_none_at : {A : Type 0} (x : Option A) → is_some x ≡ false → x ≡ None
 is_none_at None h = refl
 is_none_at (Some a) h = absurd (cc)
 
-or_false : (a b : Bool) → (a || b) ≡ false → (a ≡ false) × (b ≡ false)
+pub or_false : (a b : Bool) → (a || b) ≡ false → (a ≡ false) × (b ≡ false)
 or_false true b h = absurd (cc)
 or_false false b h = (refl, h)
 
@@ -319,7 +319,7 @@ free_name : (line : ℕ) (branches : Branches) (name : List ℕ) (items : List I
 free_name line branches name items h =
     rw (h.goes_on, h.is_new, under_16 (length branches) h.room, h.filled) refl
 
-name_spelled : (word name : List ℕ) → name_in word ≡ Some name → (word ≡ name ++ 58 ∷ []) × (is_name name ≡ true)
+pub name_spelled : (word name : List ℕ) → name_in word ≡ Some name → (word ≡ name ++ 58 ∷ []) × (is_name name ≡ true)
 name_spelled word name h = by_bool (slice_index word (length word - 1) == 58)
     (λ w.
     let last : (front : List ℕ) × (word ≡ front ++ 58 ∷ []) = ends_in word 58 (omega arith) (eqb-true _ _ w) in
@@ -371,12 +371,12 @@ cut_there : (line : ℕ) (old new : Outline) (found : Cut) → CutAnswer line ol
 cut_there line old new (Ok items) h = (items, refl, h)
 cut_there line old new (Err k) h = absurd (cc)
 
-line_there : (line : ℕ) (old new : Outline) (text : List ℕ) → CutAnswer line old (cut_line text) (Ok new) → IsBranch old line text new
+pub line_there : (line : ℕ) (old new : Outline) (text : List ℕ) → CutAnswer line old (cut_line text) (Ok new) → IsBranch old line text new
 line_there line old new text h =
     let p = cut_there line old new (cut_line text) h in
     branch_there line old new text p.0 ((cut_as_written text p.0).1 p.1) p.2
 
-line_answer : (line : ℕ) (old new : Outline) (text : List ℕ) → IsBranch old line text new → CutAnswer line old (cut_line text) (Ok new)
+pub line_answer : (line : ℕ) (old new : Outline) (text : List ℕ) → IsBranch old line text new → CutAnswer line old (cut_line text) (Ok new)
 line_answer line old new text b =
     let cut = (cut_as_written text (item.Word b.number (b.name ++ 58 ∷ []) ∷ b.items)).0 b.written in
     let full = stages_filled (is_out b.name) true old b.next (groups b.items) b.stages in
@@ -392,14 +392,14 @@ line_answer line old new text b =
 
 -- The lines of a plan.
 
-lines_there : (old new : Outline) (lines : List (ℕ × List ℕ)) → LinesAnswer old lines (Ok new) → AreBranches old lines new
+pub lines_there : (old new : Outline) (lines : List (ℕ × List ℕ)) → LinesAnswer old lines (Ok new) → AreBranches old lines new
 unfolding LinesAnswer
 lines_there old new [] h = cc
 lines_there old new ((line, text) ∷ lines) h =
     let p = then_ok (CutAnswer line old (cut_line text)) (λ next. LinesAnswer next lines) new h in
     (p.0, line_there line old p.0 text p.1, lines_there p.0 new lines p.2)
 
-lines_answer : (old new : Outline) (lines : List (ℕ × List ℕ)) → AreBranches old lines new → LinesAnswer old lines (Ok new)
+pub lines_answer : (old new : Outline) (lines : List (ℕ × List ℕ)) → AreBranches old lines new → LinesAnswer old lines (Ok new)
 unfolding LinesAnswer
 lines_answer old new [] h = rw h refl
 lines_answer old new ((line, text) ∷ lines) h = (Ok h.0, line_answer line old h.0 text h.1, lines_answer h.0 new lines h.2)

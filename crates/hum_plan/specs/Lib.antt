@@ -7,3 +7,5 @@ pub mod Answers
 pub mod Grammar
 pub mod Tells
 pub mod Laws
+pub mod Refused
+pub mod Said

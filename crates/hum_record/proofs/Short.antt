@@ -142,27 +142,27 @@ tab_behind (x ∷ xs) =
     by c t p q e = omega (arith, e)
 
 -- the same from the bits of more bytes
-pub ends_at : (held : List ℕ) (len bits : ℕ) → len ≤ 32 → 32 ≤ length held → bits ≡ bits_of 9 (chunk 0 32 held)
+pub ends_at : (held : List ℕ) (len bits : ℕ) → len ≤ 62 → 64 ≤ length held → bits ≡ bits_of 9 (chunk 0 64 held)
     → bit_and bits (1 * 2 ^ len % 18446744073709551616 - 1) + 1 * 2 ^ len % 18446744073709551616 ≡ bits_of 9 (take len held ++ 9 ∷ [])
 ends_at held len bits short filled is =
     let text = take len held in
     let size : length text ≡ len = take_count len held (omega (arith, short, filled)) in
-    rw (one_moved len short) (ap (λ n. n + 2 ^ len) (bits_front 9 held len bits short filled is)
+    rw (one_moved len short) (ap (λ n. n + 2 ^ len) (bits_front 9 held len bits (omega (arith, short)) filled is)
     ∙ ap (λ n. bits_of 9 text + 2 ^ n) (sym size) ∙ tab_behind text)
 
-pub ends_few : (held : List ℕ) (len : ℕ) → len ≤ 32 → 32 ≤ length held → bits_of 9 (take len held ++ 9 ∷ []) < 8589934592
+pub ends_few : (held : List ℕ) (len : ℕ) → len ≤ 62 → 64 ≤ length held → bits_of 9 (take len held ++ 9 ∷ []) < 9223372036854775808
 ends_few held len short filled =
     let xs = take len held ++ 9 ∷ [] in
     let size : length xs ≡ len + 1 = omega (arith, length-append (take len held) (9 ∷ []), take_count len held (omega (arith, short, filled))) in
-    let below : length xs ≤ 33 = omega (arith, size, short) in
-    let most : 2 ^ length xs ≤ 2 ^ 33 = pow_mono below in
+    let below : length xs ≤ 63 = omega (arith, size, short) in
+    let most : 2 ^ length xs ≤ 2 ^ 63 = pow_mono below in
     omega (arith, bits_below 9 xs, most)
 
 -- Bytes that seldom stand in data
 
-pub rare_at : (held : List ℕ) (len bits : ℕ) → len ≤ 32 → 32 ≤ length held → bits ≡ mask_l (map is_rare (chunk 0 32 held))
+pub rare_at : (held : List ℕ) (len bits : ℕ) → len ≤ 62 → 64 ≤ length held → bits ≡ mask_l (map is_rare (chunk 0 64 held))
     → bit_and bits (1 * 2 ^ len % 18446744073709551616 - 1) ≡ mask_l (map is_rare (take len held))
-rare_at held len bits short filled is = rw (one_moved len short) (mask_front is_rare held len bits short filled is)
+rare_at held len bits short filled is = rw (one_moved len short) (mask_front is_rare held len bits (omega (arith, short)) filled is)
 
 abbrev pub hit : ℕ → ℕ → ℕ
 hit a b = cond (eqb a b) 255 0
@@ -256,7 +256,7 @@ plain_by_bits text ends rare is_ends is_rare_bits free =
       bits = is_ends;
     }
 
-pub plain_fields : (text all : List ℕ) (ends : ℕ) → length text ≤ 32 → has_byte 10 text ≡ false
+pub plain_fields : (text all : List ℕ) (ends : ℕ) → length text ≤ 62 → has_byte 10 text ≡ false
     → IsPlain text ends → all ≡ set_places 64 0 ends → AreFields text all
 plain_fields text all ends few line plain is =
     let size : length (text ++ 9 ∷ []) ≤ 64 = omega (arith, length-append text (9 ∷ []), few) in

@@ -165,8 +165,8 @@ impl Body {
     /// of where tokens end.
     #[inline]
     pub fn put_near(&mut self, held: &[u8], len: usize, ends: u64) -> Result<(), AllocError>
-        requires filled { 32 ≤ length held.now }
-        requires short { len ≤ 32 }
+        requires filled { 64 ≤ length held.now }
+        requires short { len ≤ 62 }
         ensures text { OnOk result (self.new.text ≡ take len held.now) }
         ensures ends { OnOk result (self.new.ends ≡ set_places 64 0 ends) }
     {

@@ -4,38 +4,42 @@ ghost use Rattle.std.specs.Simd.Lanes.{chunk, mask_l, put_chunk};
 ghost use Rattle.hum_record.specs.Cutting.{set_places};
 ghost use Rattle.hum_record.specs.Plain.{is_rare, IsPlain};
 
-use crate::bits::bits_of_32;
+use crate::bits::bits_of_64;
 use std::simd::prelude::*;
 
-/// How many bytes are looked at at once: most lines are shorter.
-pub const NEAR: usize = 32;
+/// How many bytes are looked at at once.
+pub const NEAR: usize = 64;
+
+/// The longest line that is read by them: where its tokens end and where they begin are bits of one
+/// number.
+pub const SHORT: usize = 62;
 
 /// How many places are copied at once: most lines have fewer tokens.
 pub const FEW: usize = 8;
 
-/// Where a byte that seldom stands in data is among the first 32, as the bits of a number.
+/// Where a byte that seldom stands in data is among the first 64, as the bits of a number.
 #[inline(always)]
 fn rare_bits(held: &[u8]) -> u64
-    requires { 32 ≤ length held.now }
-    ensures { result ≡ mask_l (map is_rare (chunk 0 32 held.now)) }
+    requires { 64 ≤ length held.now }
+    ensures { result ≡ mask_l (map is_rare (chunk 0 64 held.now)) }
 {
-    let lanes = u8x32::from_slice(&held[0..]);
-    (lanes.simd_eq(u8x32::splat(b'!'))
-        | lanes.simd_eq(u8x32::splat(b'*'))
-        | lanes.simd_eq(u8x32::splat(b'\r'))).to_bitmask()
+    let lanes = u8x64::from_slice(&held[0..]);
+    (lanes.simd_eq(u8x64::splat(b'!'))
+        | lanes.simd_eq(u8x64::splat(b'*'))
+        | lanes.simd_eq(u8x64::splat(b'\r'))).to_bitmask()
 }
 
 /// Where the tokens of a line end, as the bits of a number, if its bytes show that it is plain data.
 /// The line is the first `len` bytes of what is held.
 #[inline]
 pub fn plain_ends(held: &[u8], len: usize) -> Option<u64>
-    requires filled { 32 ≤ length held.now }
-    requires short { len ≤ 32 }
+    requires filled { 64 ≤ length held.now }
+    requires short { len ≤ 62 }
     ensures { IfSome result (IsPlain (take len held.now)) }
 {
     let last = 1u64 << len;
     let within = last - 1;
-    let ends = (bits_of_32(held, 0, b'\t') & within) + last;
+    let ends = (bits_of_64(held, 0, b'\t') & within) + last;
     let heads = 1 + 2 * ends;
     let has_empty = heads & ends != 0;
     let has_rare = rare_bits(held) & within != 0;
@@ -63,11 +67,11 @@ pub fn put_places(places: &mut [u32], bits: u64)
 /// Puts the first bytes of what is held in front of what stands in a list.
 #[inline]
 pub fn copy_near(text: &mut [u8], held: &[u8])
-    requires filled { 32 ≤ length held.now }
-    requires room { 32 ≤ length text.old }
-    ensures { text.new ≡ put_chunk 0 text.old (chunk 0 32 held.now) }
+    requires filled { 64 ≤ length held.now }
+    requires room { 64 ≤ length text.old }
+    ensures { text.new ≡ put_chunk 0 text.old (chunk 0 64 held.now) }
 {
-    u8x32::from_slice(held).copy_to_slice(text);
+    u8x64::from_slice(held).copy_to_slice(text);
 }
 
 /// The same of places.

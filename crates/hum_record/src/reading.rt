@@ -12,7 +12,7 @@ ghost use Rattle.hum_record.specs.declared.RecordFault.TheVariants.{Memory};
 
 use crate::body::Body;
 use crate::iter::Tokens;
-use crate::near::{NEAR, plain_ends};
+use crate::near::{NEAR, SHORT, plain_ends};
 use crate::selection::Selection;
 use crate::spare::Spare;
 use crate::tokens::{Cut, lawful_kind, push_ends, token_at_end, token_kind};
@@ -105,7 +105,7 @@ impl Record {
         // Which fault it is.
         ensures exact { Gives result (reading (take len held.now)) }
     {
-        if len <= NEAR && held.len() >= NEAR {
+        if len <= SHORT && held.len() >= NEAR {
             if let Some(ends) = plain_ends(held, len) {
                 return Self::of_plain(alloc, spare, held, len, ends);
             }
@@ -122,8 +122,8 @@ impl Record {
         len: usize,
         ends: u64,
     ) -> Result<Record, RecordFault>
-        requires filled { 32 ≤ length held.now }
-        requires short { len ≤ 32 }
+        requires filled { 64 ≤ length held.now }
+        requires short { len ≤ 62 }
         requires one_line { has_byte 10 (take len held.now) ≡ false }
         requires plain { IsPlain (take len held.now) ends }
         ensures { Gives result (reading (take len held.now)) }

@@ -10,9 +10,11 @@ ghost use Rattle.hum_record.specs.Cutting.{bits_of, tabs_from, IsCut};
 ghost use Rattle.hum_record.specs.Plain.{has_mark};
 
 use crate::bits::{bits_of, holds};
-use crate::near::NEAR;
 use crate::{RecordFault, SpinedKind};
 use std::alloc::AllocError;
+
+/// How many bytes of a long line are looked at at once.
+const BLOCK: usize = 32;
 
 /// The kind that a token's first byte shows.
 #[inline]
@@ -86,7 +88,7 @@ pub fn push_ends(ends: &mut Vec<u32>, text: &[u8]) -> Result<Cut, AllocError>
     let mut start = 0;
     let mut rest = text;
     while !rest.is_empty() {
-        let (block, tail) = rest.split_at(rest.len().min(NEAR));
+        let (block, tail) = rest.split_at(rest.len().min(BLOCK));
         let tabs = bits_of(block, b'\t');
         push_tabs(block, tabs, start as u32, ends)?;
         has_return |= holds(block, b'\r');

@@ -1,5 +1,5 @@
 //! Tests of the libraries: the command line, lines, records and spines, columns, patterns, fractions,
-//! pitches and durations, turns, links, and nets of plans.
+//! pitches and durations, the stages of commands, laws, turns, links, and nets of plans.
 //!
 //! They call what any crate may call, and stand in a crate of their own: so no library is proved once more
 //! with its tests. What the program shows is tested by the rows of the folder `tests`.
@@ -15,6 +15,8 @@ mod faults;
 mod frac;
 #[cfg(test)]
 mod kern;
+#[cfg(test)]
+mod laws;
 #[cfg(test)]
 mod lines;
 #[cfg(test)]
@@ -36,9 +38,15 @@ mod read;
 #[cfg(test)]
 mod record;
 #[cfg(test)]
+mod scores;
+#[cfg(test)]
+mod serving;
+#[cfg(test)]
 mod sources;
 #[cfg(test)]
 mod spread;
+#[cfg(test)]
+mod stages;
 #[cfg(test)]
 mod text;
 #[cfg(test)]

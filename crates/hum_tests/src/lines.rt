@@ -49,6 +49,7 @@ fn is_refused(rt: &(impl Abort + AllocGlobal), texts: &[&'static str]) {
 
 #[test]
 fn words_are_read(rt: HostRuntime) {
+    asks(&rt, &[], 16, true, "");
     asks(&rt, &["humpipe"], 16, true, "");
     asks(&rt, &["humpipe", "x"], 16, true, "x");
     asks(&rt, &["humpipe", "--link", "1"], 1, true, "");

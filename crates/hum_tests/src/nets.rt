@@ -66,9 +66,9 @@ impl Order for Astray {
 }
 
 /// A bundle, what it writes, its status, and the line that is told.
-type Row = (&'static [u8], &'static [u8], u8, &'static str);
+type Row<'a> = (&'a [u8], &'static [u8], u8, &'static str);
 
-const ROWS: &[Row] = &[
+const ROWS: &[Row<'static>] = &[
     (
         b"out: read a | trans -d 1 -c 2\n--- a\n**kern\n*k[]\n4e\n4B-\n8bb\n*-\n",
         b"**kern\n*Trd1c2\n*k[]\n4f#\n4c\n8ccc#\n*-\n",
@@ -116,7 +116,7 @@ const BESIDE_TEXT: &[u8] =
     b"**x\t**y\n*^\t*\n*\t*\t*^\n1\t2\t7\t8\n*v\t*v\t*\t*\n*\t*v\t*v\n.\t9\n*-\t*-\n";
 
 // A bundle in this order writes this and ends so.
-fn check_in<O: Order>(rt: &impl Abort, alloc: Global, row: &Row, link: u16, order: &mut O)
+fn check_in<O: Order>(rt: &impl Abort, alloc: Global, row: &Row<'_>, link: u16, order: &mut O)
     requires least { 1 ≤ link }
     requires most { link ≤ 4096 }
 {
@@ -130,7 +130,7 @@ fn check_in<O: Order>(rt: &impl Abort, alloc: Global, row: &Row, link: u16, orde
 }
 
 // The same in each order.
-fn check_row(rt: &impl Abort, alloc: Global, row: &Row, link: u16)
+fn check_row(rt: &impl Abort, alloc: Global, row: &Row<'_>, link: u16)
     requires least { 1 ≤ link }
     requires most { link ≤ 4096 }
 {
@@ -147,6 +147,23 @@ fn orders_and_links_change_nothing(rt: HostRuntime) {
         check_row(&rt, rt.alloc(), row, 16);
         check_row(&rt, rt.alloc(), row, 4_096);
     }
+}
+
+#[test]
+fn the_lowest_stage_is_told_behind_900_lines(rt: HostRuntime) {
+    let mut bundle = Vec::new(rt.alloc());
+    bundle
+        .extend_from_slice(b"out: read a | rid -l | mint\n--- a\n**kern\n4cd\n")
+        .expect(&rt, "memory");
+    for _ in 0..897 {
+        bundle.extend_from_slice(b"4c\n").expect(&rt, "memory");
+    }
+    bundle.push(b'\n').expect(&rt, "memory");
+    let line = "humpipe: stage 1 (read), line 900: S1";
+    let row: Row<'_> = (&bundle, b"**mint\n", 1, line);
+    check_row(&rt, rt.alloc(), &row, 1);
+    check_row(&rt, rt.alloc(), &row, 2);
+    check_row(&rt, rt.alloc(), &row, 4_096);
 }
 
 /// A plan, and its scores in the order of the stages that read them.

@@ -16,22 +16,22 @@ stops p (x ∷ xs) some = by (p x) refl (stops p xs)
     by true w rest = rw w (omega arith)
     by false w rest = let later = rest (let s = rw w at some in omega (arith, s)) in rw w (omega (arith, later))
 
-pub first-near : (xs : List ℕ) (bits r : ℕ) → 32 ≤ length xs → bits ≡ mask_l (map (is_byte 10) (chunk 0 32 xs))
+pub first-near : (xs : List ℕ) (bits r : ℕ) → 64 ≤ length xs → bits ≡ mask_l (map (is_byte 10) (chunk 0 64 xs))
     → 0 < bits → r ≡ count_trailing_zeros 64 bits → IsFirstByte (is_byte 10) xs (Some r)
 first-near xs bits r room is some at =
-    let size : length (chunk 0 32 xs) ≡ 32 = length-chunk 0 32 xs room in
-    let some_here : 0 < mask_l (map (is_byte 10) (chunk 0 32 xs)) = rw is at some in
-    let counted : r ≡ prefix_len (λ x. not (is_byte 10 x)) (chunk 0 32 xs) =
-    at ∙ ap (count_trailing_zeros 64) is ∙ trailing_mask_l (is_byte 10) 64 (chunk 0 32 xs) (omega (arith, size)) some_here in
-    let before : prefix_len (λ x. not (is_byte 10 x)) (chunk 0 32 xs) < length (chunk 0 32 xs) =
-    stops (is_byte 10) (chunk 0 32 xs) some_here in
+    let size : length (chunk 0 64 xs) ≡ 64 = length-chunk 0 64 xs room in
+    let some_here : 0 < mask_l (map (is_byte 10) (chunk 0 64 xs)) = rw is at some in
+    let counted : r ≡ prefix_len (λ x. not (is_byte 10 x)) (chunk 0 64 xs) =
+    at ∙ ap (count_trailing_zeros 64) is ∙ trailing_mask_l (is_byte 10) 64 (chunk 0 64 xs) (omega (arith, size)) some_here in
+    let before : prefix_len (λ x. not (is_byte 10 x)) (chunk 0 64 xs) < length (chunk 0 64 xs) =
+    stops (is_byte 10) (chunk 0 64 xs) some_here in
     let at_r : r ≡ 0 + r = omega arith in
-    let near : r < 32 = omega (arith, counted, before, size) in (
+    let near : r < 64 = omega (arith, counted, before, size) in (
       record {
         low = omega arith;
         high = omega (arith, near, room);
         before = λ k low high ten.
-            let no = run_in_chunk_fails (is_byte 10) xs 0 32 r 0 room counted k low (omega arith) in cc;
+            let no = run_in_chunk_fails (is_byte 10) xs 0 64 r 0 room counted k low (omega arith) in cc;
       },
-      ap (λ n. is_byte 10 (get_or xs n 0)) at_r ∙ run_in_chunk_stops (is_byte 10) xs 0 32 r 0 room counted near,
+      ap (λ n. is_byte 10 (get_or xs n 0)) at_r ∙ run_in_chunk_stops (is_byte 10) xs 0 64 r 0 room counted near,
     )

@@ -7,20 +7,20 @@ ghost use Rattle.hum_text.specs.Text.{lf};
 use std::simd::prelude::*;
 
 /// How many bytes are looked at at once: most lines are shorter.
-const NEAR: usize = 32;
+const NEAR: usize = 64;
 
-/// Where LF stands in the first 32 bytes, as the bits of a number.
+/// Where LF stands in the first 64 bytes, as the bits of a number.
 #[inline(always)]
 fn near_bits(bytes: &[u8]) -> u64
-    requires { 32 ≤ length bytes.now }
-    ensures { result ≡ mask_l (map (is_byte lf) (chunk 0 32 bytes.now)) }
+    requires { 64 ≤ length bytes.now }
+    ensures { result ≡ mask_l (map (is_byte lf) (chunk 0 64 bytes.now)) }
 {
-    u8x32::from_slice(&bytes[0..])
-        .simd_eq(u8x32::splat(b'\n'))
+    u8x64::from_slice(&bytes[0..])
+        .simd_eq(u8x64::splat(b'\n'))
         .to_bitmask()
 }
 
-/// Where the first LF stands, if it is among the first 32 bytes and as many are there; else none.
+/// Where the first LF stands, if it is among the first 64 bytes and as many are there; else none.
 #[inline]
 pub fn near_lf(bytes: &[u8]) -> Option<usize>
     ensures { IfSome result (λ k. IsFirstByte (is_byte lf) bytes.now (Some k)) }

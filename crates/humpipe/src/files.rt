@@ -1,66 +1,30 @@
 //! Runs of plans whose scores are files.
-ghost use Rattle.std.specs.Prelude.{◌≡◌, ◌≤◌, ◌<◌, ◌+◌, ◌||◌, true, length, IfOk, OnOk, IfErr};
-ghost use Rattle.hum_plan.specs.Seen.{options_of, stages_of};
-ghost use Rattle.hum_net.specs.Nodes.{reads_by, reads_of};
+ghost use Rattle.std.specs.Prelude.{◌≡◌, ◌≤◌, ◌||◌, true, length, IfOk, IfErr};
+ghost use Rattle.hum_plan.specs.Stages.{IsTree, reads_of};
 ghost use Rattle.hum_net.specs.Bundles.{is_refused, is_failed_write};
-ghost use Rattle.humpipe.specs.Files.{IsShut, IsOneShut, MayCome};
+ghost use Rattle.humpipe.specs.Files.{IsOneShut, MayCome, Picks};
 
-use hum_net::{Order, Outcome, RunResult, plan_stages, run_stages};
-use hum_plan::{Options, PlanStage};
+use hum_net::{Net, Order, Outcome, Plan, PlanError, RunResult, parse_plan};
 use hum_text::calls::{Marked, Sink};
 use std::fs::{self, File};
-
-/// Adds the opened file of this name.
-fn add_file(
-    rt: &HostRuntime,
-    k: usize,
-    name: &str,
-    readers: &mut Vec<Marked<File>>,
-) -> Result<(), Outcome>
-    requires { k < 64 }
-    ensures added { OnOk result (length readers.new.items ≡ length readers.old.items + 1) }
-    ensures shut { IfErr result (IsShut k) }
-{
-    match fs::open(rt, name) {
-        Err(_) => Err(Outcome::NoScore(k as u8 + 1)),
-        Ok(file) => match readers.push(Marked::new(file)) {
-            Ok(()) => Ok(()),
-            Err(_) => Err(Outcome::Run(RunResult::Memory)),
-        },
-    }
-}
-
-/// Adds the opened file of stage `k`, from 0, if it reads a score.
-fn add_reader(
-    rt: &HostRuntime,
-    k: usize,
-    stage: &PlanStage,
-    readers: &mut Vec<Marked<File>>,
-) -> Result<(), Outcome>
-    requires { k < 64 }
-    ensures added { OnOk result
-        (length readers.new.items ≡ length readers.old.items + reads_by (options_of stage.now.options)) }
-    ensures shut { IfErr result (IsShut k) }
-{
-    match &stage.options {
-        Options::Read(name) => add_file(rt, k, name.as_str(), readers),
-        Options::Assemble => Ok(()),
-        Options::Command(_) => Ok(()),
-    }
-}
 
 /// The opened file of each stage that reads a score, in their order.
 ///
 /// # Errors
 /// What the run ends with: the first stage whose file doesn't open, or want of memory.
-fn open_all(rt: &HostRuntime, stages: &[PlanStage]) -> Result<Vec<Marked<File>>, Outcome>
-    requires { length stages.now ≤ 64 }
-    ensures count { IfOk result (λ readers. reads_of (stages_of stages.now) ≡ length readers.items) }
-    ensures shut { IfErr result (IsOneShut (length stages.now)) }
+fn open_all(rt: &HostRuntime, plan: &Plan) -> Result<Vec<Marked<File>>, Outcome>
+    requires { IsTree plan.now }
+    ensures count { IfOk result (λ readers. length (reads_of plan.now) ≡ length readers.items) }
+    ensures shut { IfErr result (IsOneShut plan.now) }
 {
     let mut readers = Vec::new(rt.alloc());
-    for (k, stage) in stages.iter().enumerate() {
-        add_reader(rt, k, stage, &mut readers)?;
+    for k in 0..plan.reads() {
+        let Ok(file) = fs::open(rt, plan.file(k)) else {
+            return Err(Outcome::NoScore(plan.read_stage(k)));
+        };
+        if readers.push(Marked::new(file)).is_err() {
+            return Err(Outcome::Run(RunResult::Memory));
+        }
     }
     Ok(readers)
 }
@@ -83,17 +47,27 @@ pub fn run_files<O: Order, W: Sink + Drop>(
     ensures refused { is_refused result.0 ≡ true
         → (result.1 ≡ writer) × (order.new ≡ order.old) }
 
+    // The turns are those that the order picked, over links of this size, to the run's end.
+    ensures picked { Picks (record { pick = O.picks; next = O.after }) plan.now link order.old order.new
+        result.0 }
+
     // A failed write or flush is told exactly where one set the writer's mark.
     ensures marked { W.failed result.1 ≡ (W.failed writer || is_failed_write result.0) }
 {
-    let stages = match plan_stages(rt.alloc(), plan) {
-        Ok(stages) => stages,
-        Err(outcome) => return (outcome, writer),
+    let plan = match parse_plan(rt.alloc(), plan) {
+        Ok(plan) => plan,
+        Err(PlanError::Fault(fault)) => return (Outcome::Plan(fault), writer),
+        Err(PlanError::Memory) => return (Outcome::Run(RunResult::Memory), writer),
     };
-    let readers = match open_all(rt, &stages) {
+    let readers = match open_all(rt, &plan) {
         Ok(readers) => readers,
         Err(outcome) => return (outcome, writer),
     };
-    let (end, writer) = run_stages(rt.alloc(), stages, readers, link, order, writer);
-    (Outcome::Run(end), writer)
+    match Net::new(rt.alloc(), plan, readers, writer, link) {
+        Ok(mut net) => {
+            let end = net.run(order);
+            (Outcome::Run(end), net.into_writer())
+        }
+        Err(writer) => (Outcome::Run(RunResult::Memory), writer),
+    }
 }

@@ -4,7 +4,8 @@
 //! and its bytes. With one that file is the plan, and `read FILE` opens FILE.
 #![tactic(auto)]
 
-ghost use Rattle.std.specs.Prelude.{◌≤◌};
+ghost use Rattle.std.specs.Prelude.{◌≡◌, ◌≤◌, IfOk};
+ghost use Rattle.humpipe.specs.Drives.{Drives};
 
 mod ending;
 mod files;
@@ -39,6 +40,10 @@ fn read_up_to<R: Read + Drop>(alloc: Global, reader: R, most: u64) -> io::Result
 fn run_input<O: Order>(rt: &HostRuntime, link: u16, order: &mut O) -> io::Result<Ending>
     requires link { 1 ≤ link }
     requires room { link ≤ 4096 }
+
+    // The turns are those that the order picked, over links of this size.
+    ensures picked { IfOk result (Drives (record { pick = O.picks; next = O.after }) link
+        order.old order.new) }
 {
     let bundle = match read_up_to(rt.alloc(), rt.reader(), LARGEST_BUNDLE as u64) {
         Ok(bundle) => bundle,
@@ -52,6 +57,10 @@ fn run_input<O: Order>(rt: &HostRuntime, link: u16, order: &mut O) -> io::Result
 fn run_plan<O: Order>(rt: &HostRuntime, plan: &str, link: u16, order: &mut O) -> io::Result<Ending>
     requires link { 1 ≤ link }
     requires room { link ≤ 4096 }
+
+    // The turns are those that the order picked, over links of this size.
+    ensures picked { IfOk result (Drives (record { pick = O.picks; next = O.after }) link
+        order.old order.new) }
 {
     let plan = match fs::open(rt, plan) {
         Ok(file) => read_up_to(rt.alloc(), file, LONGEST_PLAN as u64),
@@ -66,7 +75,9 @@ fn run_plan<O: Order>(rt: &HostRuntime, plan: &str, link: u16, order: &mut O) ->
 }
 
 /// What an error in reading the plan or the bundle ends with.
-fn unread(error: io::Error) -> io::Result<Ending> {
+fn unread(error: io::Error) -> io::Result<Ending>
+    ensures { IfOk result (λ ending. ending ≡ Ending.CannotRead) }
+{
     if error.kind() == ErrorKind::OutOfMemory {
         Err(error)
     } else {
@@ -78,6 +89,10 @@ fn unread(error: io::Error) -> io::Result<Ending> {
 fn run_choice<O: Order>(rt: &HostRuntime, choice: Choice<'_>, order: &mut O) -> io::Result<Ending>
     requires link { 1 ≤ choice.link }
     requires room { choice.link ≤ 4096 }
+
+    // The turns are those that the order picked, over links of this size.
+    ensures picked { IfOk result (Drives (record { pick = O.picks; next = O.after }) choice.entry.link
+        order.old order.new) }
 {
     match choice.file {
         None => run_input(rt, choice.link, order),

@@ -1,6 +1,7 @@
-use Rattle.std.proofs.Common.{◌∙◌, refl}
+use Rattle.std.proofs.Common.{◌∙◌, refl, arith}
 use Rattle.hum_engine.proofs.Appending.{appends-empty, appends-all, front-taken, front-kept, wrote-first, rest-ok, rest-err}
-use Rattle.hum_engine.proofs.Appending.{some-length, no_mark, mark, same-mark, or-true}
+use Rattle.hum_engine.proofs.Appending.{some-length, no_mark, mark, same-mark, or-true, one_call, some_is, some_text}
+use Rattle.hum_engine.proofs.Appending.{left_behind}
 use Rattle.hum_engine.proofs.writing.write_all.Goals as goal
 
 pub returns-then-is_empty : goal.returns-then-is_empty
@@ -9,6 +10,7 @@ returns-then-is_empty g c = record {
   err = tt;
   sound = refl;
   failed = tt;
+  calls = omega arith;
 }
 
 pub returns-in-Ok : goal.returns-in-Ok
@@ -20,6 +22,11 @@ returns-in-Ok g c =
       err = tt;
       sound = wrote.failed ∙ no_mark _ c.in-Ok.n some;
       failed = tt;
+      calls =
+          let one = one_call _ _ wrote.calls in
+          let all = c.if-n-text.true in
+          let more = some_is c.in-Ok.n some in
+          omega (arith, one, all, more);
     }
 
 pub returns-in-Ok-eq0 : goal.returns-in-Ok-eq0
@@ -30,6 +37,10 @@ returns-in-Ok-eq0 g c =
       err = front-taken _ _ c.args.text.now c.in-Ok.n wrote.bytes;
       sound = tt;
       failed = wrote.failed ∙ mark _ c.in-Ok.n c.in-Ok-eq0.field-0-test;
+      calls =
+          let one = one_call _ _ wrote.calls in
+          let some = some_text c.args.text.now c.if-is_empty.ensures in
+          omega (arith, one, some);
     }
 
 pub returns-in-Ok-2 : goal.returns-in-Ok-2
@@ -41,6 +52,12 @@ returns-in-Ok-2 g c =
       err = rest-err c.write_on.result _ _ _ _ _ first c.write_on.ensures.err;
       sound = same-mark c.write_on.result _ _ _ (wrote.failed ∙ no_mark _ c.in-Ok.n c.in-Ok-2.n-test.1) c.write_on.ensures.sound;
       failed = c.write_on.ensures.failed;
+      calls =
+          let one = one_call _ _ wrote.calls in
+          let rest = c.write_on.ensures.calls in
+          let left = left_behind c.in-Ok.n c.args.text.now in
+          let some = some_is c.in-Ok.n c.in-Ok-2.n-test.1 in
+          omega (arith, one, rest, left, some, wrote.bound);
     }
 
 pub returns-in-Err : goal.returns-in-Err
@@ -51,4 +68,8 @@ returns-in-Err g c =
       err = front-kept _ _ c.args.text.now wrote.bytes;
       sound = tt;
       failed = wrote.failed ∙ or-true _;
+      calls =
+          let one = one_call _ _ wrote.calls in
+          let some = some_text c.args.text.now c.if-is_empty.ensures in
+          omega (arith, one, some);
     }

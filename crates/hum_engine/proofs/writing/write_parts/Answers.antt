@@ -1,4 +1,4 @@
-use Rattle.std.proofs.Common.{[], ◌∷◌}
+use Rattle.std.proofs.Common.{[], ◌∷◌, arith, length-append}
 use Rattle.hum_record.specs.Row.{text_of}
 use Rattle.hum_engine.specs.Writing.{WroteFront}
 use Rattle.hum_engine.proofs.Appending.{front_first, err-of, no-ok, last-ok, last-err, same-mark}
@@ -19,6 +19,10 @@ returns-in_err-write_all g c =
       err = err-of _ r (front_first a b text lf front);
       sound = no-ok _ r none;
       failed = err-of _ r wrote.failed;
+      calls =
+          let size = length-append text lf in
+          let some = rw c.text.ensures.text at wrote.calls in
+          omega (arith, size, some);
     }
 
 pub returns : goal.returns
@@ -31,4 +35,8 @@ returns g c =
       err = last-err r _ _ _ _ _ first second.err;
       sound = same-mark r _ _ _ c.in_ok-write_all.ensures.sound second.sound;
       failed = second.failed;
+      calls =
+          let size = length-append (text_of c.args.row.now) (10 ∷ []) in
+          let some = rw c.text.ensures.text at c.in_ok-write_all.ensures.calls in
+          omega (arith, size, some, second.calls);
     }

@@ -5,7 +5,7 @@ use Rattle.hum_plan.specs.Seen.{stages_of}
 use Rattle.hum_plan.specs.Grammar.{IsPlanOf}
 use Rattle.hum_net.specs.Nodes.{AreTold}
 use Rattle.hum_net.specs.Bundles.{bytes_by, first_lacking}
-use Rattle.hum_net.proofs.Bundling.{run_comes, pick_plan, slice_tells, refusal_writes_none, lack_writes_none, unmarked, refusal_reads_none, lack_reads_none}
+use Rattle.hum_net.proofs.Bundling.{run_comes, pick_plan, end_plan, refusal_ends, lack_ends, slice_tells, refusal_writes_none, lack_writes_none, unmarked, refusal_reads_none, lack_reads_none}
 use Rattle.hum_net.proofs.bundles.run_bundle.Goals as goal
 
 pub returns-clause-comes : goal.returns-clause-comes
@@ -46,3 +46,22 @@ returns-in-Err-readers-clause-unread g c =
 
 pub returns-clause-unread : goal.returns-clause-unread
 returns-clause-unread g c = c.run_stages-end.ensures.unread (λ reader. refl)
+
+pub returns-clause-ended : goal.returns-clause-ended
+returns-clause-ended g c =
+    let score = λ (name : List ℕ). score_of name c.args.bundle.now in
+    let plan = subst (λ (text : List ℕ). IsPlanOf text (stages_of c.in-Ok.stages.items)) c.plan_part.ensures c.in-Ok.ensures.plan in
+    let told = subst (λ (s : List PlanStage). AreTold slice_tells (bytes_by score (stages_of s)) 0 (stages_of s)
+    c.in-Ok-readers.readers.items) c.deref.ensures.value c.in-Ok-readers.ensures.told in
+    let ended = c.run_stages-end.ensures.ended (bytes_by score (stages_of c.in-Ok.stages.items)) told in
+    end_plan _ _ score _ _ _ _ _ _ (stages_of c.in-Ok.stages.items) plan ended
+
+pub returns-in-Err-clause-ended : goal.returns-in-Err-clause-ended
+returns-in-Err-clause-ended g c =
+    refusal_ends _ c.plan_part.result.now _ (λ (name : List ℕ). score_of name c.args.bundle.now) _ _ _ _ c.in-Err.outcome
+    c.in-Err.ensures.refused
+
+pub returns-in-Err-readers-clause-ended : goal.returns-in-Err-readers-clause-ended
+returns-in-Err-readers-clause-ended g c =
+    lack_ends _ _ (λ (name : List ℕ). score_of name c.args.bundle.now) _ _ _ _ (stages_of c.deref.result.now) _
+    c.in-Err-readers.ensures.lacks

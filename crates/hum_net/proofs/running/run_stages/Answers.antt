@@ -1,6 +1,7 @@
-use Rattle.std.proofs.Common.{◌≡◌, ◌||◌, true, false, refl, inl, inr}
+use Rattle.std.proofs.Common.{◌≡◌, ◌||◌, ◌++◌, ℕ, List, true, false, refl, inl, inr}
+use Rattle.hum_engine.specs.Readers.{ended_at}
 use Rattle.hum_net.specs.Scenes.{scene_of, first_now}
-use Rattle.hum_net.proofs.Going.{is_first, has_written, is_valid, nothing_written, lawful_tree, no_read_failed}
+use Rattle.hum_net.proofs.Going.{is_first, has_written, means_valid, nothing_written, lawful_tree, no_read_failed}
 use Rattle.hum_plan.specs.Seen.{stages_of}
 use Rattle.hum_net.proofs.running.run_stages.Goals as goal
 
@@ -12,7 +13,7 @@ returns-in-Ok-clause-wrote g c bytes told =
     rw c.into_writer.ensures.sink
     (has_written bytes ran.left stages c.args.link _ _ _ _
     (lawful_tree bytes stages c.requires.tree c.in-Ok.ensures.sound)
-    (is_valid bytes stages c.requires.tree c.in-Ok.ensures.sound) ran.runs.outcome)
+    (means_valid bytes stages c.requires.tree c.in-Ok.ensures.sound (rw (← c.deref.ensures.value) c.all_keep_records.ensures)) ran.runs.outcome)
 
 pub returns-in-Ok-clause-picked : goal.returns-in-Ok-clause-picked
 returns-in-Ok-clause-picked g c bytes told =
@@ -46,3 +47,51 @@ returns-in-Ok-clause-unread g c = λ never k.
 pub returns-in-Err-clause-marked : goal.returns-in-Err-clause-marked
 returns-in-Err-clause-marked g c =
     rw c.in-Err.ensures.err (elim (g.W.Sink.failed c.args.sink) as (λ b. b ≡ (b || false)) [ true ↦ refl | false ↦ refl ])
+
+pub returns-in-Ok-clause-ended : goal.returns-in-Ok-clause-ended
+returns-in-Ok-clause-ended g c bytes told =
+    let stages = stages_of c.args.stages.items in
+    let ran = c.run-result.ensures.whole _ (scene_of bytes bytes stages c.args.link) first_now
+    (c.in-Ok.ensures.tells bytes told) (c.in-Ok.ensures.opens bytes) in
+    rw c.into_writer.ensures.sink
+    (inl (record {
+      picked = record {
+        turns = ran.runs.leads.turns;
+        first = first_now;
+        last = ran.runs.leads.to;
+        is_first = is_first;
+        driven = ran.runs.leads.driven;
+        over = ran.runs.over;
+      };
+      wrote = ran.runs.leads.at.written;
+    }))
+
+pub returns-in-Ok-clause-driven : goal.returns-in-Ok-clause-driven
+returns-in-Ok-clause-driven g c =
+    let stages = stages_of c.args.stages.items in
+    let ran = c.run-result.ensures.ran in
+    rw c.into_writer.ensures.sink
+    (inl (record {
+      reads = ran.reads;
+      over = λ k. ended_at k c.run-result.new.self.web.nodes.items;
+      ends = λ rests over.
+          let bytes : ℕ → List ℕ = λ k. ran.reads k ++ rests k in
+          let to = ran.runs _ (scene_of bytes rests stages c.args.link) first_now over (c.in-Ok.ensures.opens bytes) in
+          record {
+            picked = record {
+              turns = to.leads.turns;
+              first = first_now;
+              last = to.leads.to;
+              is_first = is_first;
+              driven = to.leads.driven;
+              over = to.over;
+            };
+            wrote = to.leads.at.written;
+          };
+    }))
+
+pub returns-in-Err-clause-ended : goal.returns-in-Err-clause-ended
+returns-in-Err-clause-ended g c = λ bytes told. inr (refl, refl)
+
+pub returns-in-Err-clause-driven : goal.returns-in-Err-clause-driven
+returns-in-Err-clause-driven g c = inr (refl, refl)

@@ -4,6 +4,6 @@ use Rattle.hum_text.proofs.near.near_lf.Goals as goal
 
 pub returns : goal.returns
 returns c =
-    let room : 32 ≤ length c.args.bytes.now = omega (arith, c.if-bytes-lt-NEAR.false) in
+    let room : 64 ≤ length c.args.bytes.now = omega (arith, c.if-bytes-lt-NEAR.false) in
     let some : 0 < c.near_bits-near.result = omega (arith, c.if-near-eq0.false) in
     first-near c.args.bytes.now c.near_bits-near.result _ room c.near_bits-near.ensures some refl

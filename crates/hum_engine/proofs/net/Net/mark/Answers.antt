@@ -4,7 +4,7 @@ use Rattle.hum_turns.specs.Orders.{upto}
 use Rattle.hum_turns.specs.Failures.{is_ready}
 use Rattle.hum_nodes.specs.Nodes.{StandsAs}
 use Rattle.hum_engine.specs.Scene.{plan_of}
-use Rattle.hum_engine.proofs.Running.{flags_alone, relist, relisted, set_next}
+use Rattle.hum_engine.proofs.Running.{relist, relisted, set_next}
 use Rattle.hum_engine.proofs.net.Net.mark.Goals as goal
 
 pub ready-is-requires : goal.ready-is-requires
@@ -20,7 +20,7 @@ ready-is-requires g c =
         scene = m.scene;
         now = m.now;
         at = relisted (StandsAs g.S.Stage.stands) g.W.Sink.contents g.W.Sink.flushed
-            m.start m.scene c.args.self.now c.loop-k.self m.now (flags_alone c.loop-k.self c.args.self.now c.loop-k.invariant.same)
+            m.start m.scene c.args.self.now c.loop-k.self m.now c.loop-k.invariant.same
             c.loop-k.invariant.len m.at;
       };
       within = omega (arith, t, e, o, n);
@@ -45,7 +45,7 @@ loop-k-preserved g c =
           (c.ready-is.ensures start s now
           (relisted (StandsAs g.S.Stage.stands) g.W.Sink.contents g.W.Sink.flushed
           start s c.args.self.now c.loop-k.self now
-          (flags_alone c.loop-k.self c.args.self.now c.loop-k.invariant.same) l h)
+          c.loop-k.invariant.same l h)
           (omega (arith, less, l, n)));
     }
 

@@ -30,6 +30,7 @@ returns-in-Ok-new-clause-ok g c s now first plan begun =
       walk = still now;
       counted = refl;
       actors = omega (arith, n, k, o, count, a);
+      takers = c.in-Ok-takers_of.ensures _ s plan begun;
       going = λ e. c.in-Ok-new.ensures.stands (moved s now.links) first.links (record {
         of_size = begun.of_size ∙ sym c.from.ensures;
         count = begun.count;

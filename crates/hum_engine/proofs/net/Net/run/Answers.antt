@@ -1,14 +1,263 @@
-use Rattle.std.proofs.Common.{refl}
+use Rattle.std.proofs.Common.{◌∙◌, ◌||◌, false, refl, sym, ap, subst, arith, ⊎_elim}
+use Rattle.std.proofs.lemmas.Bool.{false≢true}
+use Rattle.std.proofs.lemmas.Option.{none-some}
+use Rattle.hum_turns.specs.Plan.{last}
+use Rattle.hum_turns.specs.Failures.{ended_by}
+use Rattle.hum_turns.specs.Orders.{Order, IsLeftmost}
+use Rattle.hum_nodes.specs.Nodes.{StandsAs}
+use Rattle.hum_nodes.proofs.Standing.{reads_few}
+use Rattle.hum_engine.specs.Readers.{failed_at, is_read_of, is_write}
+use Rattle.hum_engine.specs.Scene.{plan_of}
+use Rattle.hum_engine.proofs.Bounds.{turns_few}
+use Rattle.hum_engine.proofs.Netting.{not_over, has_told, or_false}
+use Rattle.hum_engine.proofs.Running.{Ran, first_running, told_read, told_write, ran_already, ran_none, ran_more, ran_to}
+use Rattle.hum_engine.proofs.Running.{may_step, now_running, told_all}
+use Rattle.hum_engine.proofs.Choosing.{may_pick, unfailed}
+use Rattle.hum_engine.proofs.Telling.{run_on}
 use Rattle.hum_engine.proofs.net.Net.run.Goals as goal
 
-pub run_by-requires : goal.run_by-requires
-run_by-requires g c = record { unknown = rw (c.new.ensures.first, c.new.ensures.behind) refl; net = c.requires }
+pub over-requires : goal.over-requires
+over-requires g c = first_running (StandsAs g.S.Stage.stands) g.W.Sink.contents g.W.Sink.flushed c.args.self.now c.requires
 
-pub run_by-requires-2 : goal.run_by-requires-2
-run_by-requires-2 g c = record { unknown = refl; net = c.requires }
+-- Where it is over from the first.
 
-pub returns-then-has_several : goal.returns-then-has_several
-returns-then-has_several g c = c.run_by.ensures
+pub told-requires : goal.told-requires
+told-requires g c = first_running (StandsAs g.S.Stage.stands) g.W.Sink.contents g.W.Sink.flushed c.args.self.now c.requires
 
-pub returns : goal.returns
-returns g c = c.run_by-2.ensures
+pub returns-then-over-clause-ran : goal.returns-then-over-clause-ran
+returns-then-over-clause-ran g c =
+    let stands = StandsAs g.S.Stage.stands in
+    let contents = g.W.Sink.contents in
+    let flushed = g.W.Sink.flushed in
+    let order : Order g.row.O.Denot = record { pick = g.O.Order.picks; next = g.O.Order.after } in
+    ran_already stands g.R.Source.remaining contents flushed order false c.args.order.now c.args.self.now c.told.result
+    (λ start s now h.
+    has_told _ c.told.result (c.over.ensures.over start s now h) c.if-over.true
+    (λ by e. c.told.ensures start s now by h e))
+
+pub returns-then-over-clause-whole : goal.returns-then-over-clause-whole
+returns-then-over-clause-whole g c start s now tells h =
+    let order : Order g.row.O.Denot = record { pick = g.O.Order.picks; next = g.O.Order.after } in
+    run_on g.S.Stage.stands g.R.Source.remaining g.W.Sink.contents g.W.Sink.flushed order c.args.order.now
+    c.args.order.now c.args.self.now c.args.self.now c.told.result (returns-then-over-clause-ran g c) s.rests tells start
+    s now refl h
+
+pub returns-then-over-clause-reads : goal.returns-then-over-clause-reads
+returns-then-over-clause-reads g c = λ none i.
+    let net = c.args.self.now in
+    let r = first_running (StandsAs g.S.Stage.stands) g.W.Sink.contents g.W.Sink.flushed c.args.self.now c.requires in
+    let heard = (r.now.links (last (plan_of r.scene))).heard in
+    or_false _ ∙ ap (λ f. failed_at g.R.Source.failed i net.web.nodes.items || is_read_of i f) (sym none)
+    ∙ ap (λ b. failed_at g.R.Source.failed i net.web.nodes.items || b)
+    (told_read i net.failure heard c.told.result
+    (ap (λ f. ended_by f heard) r.at.failure
+    ∙ has_told _ c.told.result (c.over.ensures.over r.start r.scene r.now r.at) c.if-over.true
+    (λ by e. c.told.ensures r.start r.scene r.now by r.at e)))
+
+pub returns-then-over-clause-writes : goal.returns-then-over-clause-writes
+returns-then-over-clause-writes g c = λ none.
+    let net = c.args.self.now in
+    let r = first_running (StandsAs g.S.Stage.stands) g.W.Sink.contents g.W.Sink.flushed c.args.self.now c.requires in
+    let heard = (r.now.links (last (plan_of r.scene))).heard in
+    or_false _ ∙ ap (λ f. g.W.Sink.failed net.sink || is_write f) (sym none)
+    ∙ ap (λ b. g.W.Sink.failed net.sink || b)
+    (told_write net.failure heard c.told.result
+    (ap (λ f. ended_by f heard) r.at.failure
+    ∙ has_told _ c.told.result (c.over.ensures.over r.start r.scene r.now r.at) c.if-over.true
+    (λ by e. c.told.ensures r.start r.scene r.now by r.at e)))
+
+pub returns-then-over-clause-again : goal.returns-then-over-clause-again
+returns-then-over-clause-again g c = λ start s now by h e. (c.told.ensures start s now by h e, refl, refl)
+
+-- Step by step.
+
+pub mark-requires : goal.mark-requires
+mark-requires g c = first_running (StandsAs g.S.Stage.stands) g.W.Sink.contents g.W.Sink.flushed c.args.self.now c.requires
+
+pub turns-init : goal.turns-init
+turns-init g c =
+    let stands = StandsAs g.S.Stage.stands in
+    let contents = g.W.Sink.contents in
+    let flushed = g.W.Sink.flushed in
+    let order : Order g.row.O.Denot = record { pick = g.O.Order.picks; next = g.O.Order.after } in
+    let net = c.args.self.now in
+    let same = c.mark.ensures.same in
+    record {
+      ran = rw c.new-search.ensures (ran_none stands g.R.Source.remaining contents flushed order
+          c.is_leftmost-is_leftmost.result c.args.order.now net c.mark.new.self
+          (λ start s now h. sym c.if-over.false ∙ c.over.ensures.over start s now h) same c.mark.ensures.len
+          c.mark.ensures.list);
+      leans = c.is_leftmost-is_leftmost.ensures;
+      reads = λ none i. ap (λ n. failed_at g.R.Source.failed i n.web.nodes.items) same ∙ or_false _
+          ∙ ap (λ f. failed_at g.R.Source.failed i net.web.nodes.items || is_read_of i f)
+          (sym (ap (λ n. n.failure) same ∙ none));
+      writes = λ none. ap (λ n. g.W.Sink.failed n.sink) same ∙ or_false _
+          ∙ ap (λ f. g.W.Sink.failed net.sink || is_write f) (sym (ap (λ n. n.failure) same ∙ none));
+      going = λ start s now h. not_over _ (c.over.ensures.over start s now h) c.if-over.false;
+    }
+
+pub step-requires-clause-may : goal.step-requires-clause-may
+step-requires-clause-may g c =
+    let stands = StandsAs g.S.Stage.stands in
+    let contents = g.W.Sink.contents in
+    let flushed = g.W.Sink.flushed in
+    let order : Order g.row.O.Denot = record { pick = g.O.Order.picks; next = g.O.Order.after } in
+    let may = may_step stands g.R.Source.remaining contents flushed order c.is_leftmost-is_leftmost.result c.turns.search
+    false c.args.order.now c.turns.order c.args.self.now c.turns.self c.turns.invariant.ran c.requires refl in
+    may
+
+pub turns-smaller : goal.turns-smaller
+turns-smaller g c =
+    let stands = StandsAs g.S.Stage.stands in
+    let contents = g.W.Sink.contents in
+    let flushed = g.W.Sink.flushed in
+    let order : Order g.row.O.Denot = record { pick = g.O.Order.picks; next = g.O.Order.after } in
+    let may = may_step stands g.R.Source.remaining contents flushed order c.is_leftmost-is_leftmost.result c.turns.search
+    false c.args.order.now c.turns.order c.args.self.now c.turns.self c.turns.invariant.ran c.requires refl in
+    let m = may_pick stands contents flushed c.is_leftmost-is_leftmost.result c.turns.search c.turns.self may in
+    let w = m.running in
+    let none_yet = unfailed stands contents flushed c.is_leftmost-is_leftmost.result c.turns.search c.turns.self may in
+    let few = turns_few stands contents flushed w.start w.scene c.turns.self w.now (reads_few g.S.Stage.stands) w.at
+    (sym w.at.failure ∙ none_yet) in
+    let counted = w.at.counted in
+    ⊎_elim
+    (λ over. absurd (false≢true (sym c.if-step.false ∙ over)))
+    (λ on. ⊎_elim
+    (λ turned. omega (arith, few, counted, turned))
+    (λ past.
+    let same = past.0 in
+    let less = past.1 in
+    let fits = past.2 in
+    omega (arith, few, counted, same, less, fits))
+    on)
+    c.step.ensures.closer
+
+pub turns-preserved : goal.turns-preserved
+turns-preserved g c =
+    let stands = StandsAs g.S.Stage.stands in
+    let contents = g.W.Sink.contents in
+    let flushed = g.W.Sink.flushed in
+    let order : Order g.row.O.Denot = record { pick = g.O.Order.picks; next = g.O.Order.after } in
+    let ran = ran_more stands g.R.Source.remaining contents flushed order c.is_leftmost-is_leftmost.result c.turns.search c.step.new.search c.step.result c.args.order.now c.turns.order
+    c.step.new.order c.args.self.now c.turns.self c.step.new.self
+    c.turns.invariant.ran c.step.ensures.stepped in
+    let may = may_step stands g.R.Source.remaining contents flushed order c.is_leftmost-is_leftmost.result c.turns.search
+    false c.args.order.now c.turns.order c.args.self.now c.turns.self c.turns.invariant.ran c.requires refl in
+    let none_yet = unfailed stands contents flushed c.is_leftmost-is_leftmost.result c.turns.search c.turns.self may in
+    let inv = c.turns.invariant in
+    let net = c.args.self.now in
+    record {
+      ran = subst (λ b. Ran stands g.R.Source.remaining contents flushed order c.is_leftmost-is_leftmost.result
+          c.step.new.search b c.args.order.now c.step.new.order net c.step.new.self) c.if-step.false ran;
+      leans = λ is. subst (λ o. IsLeftmost g.O.Order.picks g.O.Order.after o) (sym (c.step.ensures.leans is))
+          (inv.leans is);
+      reads = λ none i. c.step.ensures.reads i
+          ∙ ap (λ b. b || is_read_of i c.step.new.self.failure)
+          (inv.reads none i
+          ∙ ap (λ f. failed_at g.R.Source.failed i net.web.nodes.items || is_read_of i f) none_yet
+          ∙ sym (or_false _));
+      writes = λ none. c.step.ensures.writes
+          ∙ ap (λ b. b || is_write c.step.new.self.failure)
+          (inv.writes none
+          ∙ ap (λ f. g.W.Sink.failed net.sink || is_write f) none_yet
+          ∙ sym (or_false _));
+      going = inv.going;
+    }
+
+-- Where a step ends the run.
+
+pub told-requires-then-step : goal.told-requires-then-step
+told-requires-then-step g c =
+    let stands = StandsAs g.S.Stage.stands in
+    let contents = g.W.Sink.contents in
+    let flushed = g.W.Sink.flushed in
+    let order : Order g.row.O.Denot = record { pick = g.O.Order.picks; next = g.O.Order.after } in
+    let ran = ran_more stands g.R.Source.remaining contents flushed order c.is_leftmost-is_leftmost.result c.turns.search c.step.new.search c.step.result c.args.order.now c.turns.order
+    c.step.new.order c.args.self.now c.turns.self c.step.new.self
+    c.turns.invariant.ran c.step.ensures.stepped in
+    now_running stands g.R.Source.remaining contents flushed order c.is_leftmost-is_leftmost.result c.step.new.search c.step.result
+    c.args.order.now c.step.new.order c.args.self.now c.step.new.self ran c.requires
+
+pub returns-then-step-clause-ran : goal.returns-then-step-clause-ran
+returns-then-step-clause-ran g c =
+    let stands = StandsAs g.S.Stage.stands in
+    let contents = g.W.Sink.contents in
+    let flushed = g.W.Sink.flushed in
+    let order : Order g.row.O.Denot = record { pick = g.O.Order.picks; next = g.O.Order.after } in
+    let ran = ran_more stands g.R.Source.remaining contents flushed order c.is_leftmost-is_leftmost.result c.turns.search c.step.new.search c.step.result c.args.order.now c.turns.order
+    c.step.new.order c.args.self.now c.turns.self c.step.new.self
+    c.turns.invariant.ran c.step.ensures.stepped in
+    ran_to stands g.R.Source.remaining contents flushed order c.is_leftmost-is_leftmost.result c.step.new.search c.step.result
+    c.args.order.now c.step.new.order c.args.self.now c.step.new.self ran
+    c.told-then-step.result
+    (λ start s now h.
+    has_told _ c.told-then-step.result (told_all stands g.R.Source.remaining contents flushed order c.is_leftmost-is_leftmost.result c.step.new.search c.step.result
+    c.args.order.now c.step.new.order c.args.self.now c.step.new.self ran c.requires start s now h) c.if-step.true
+    (λ by e. c.told-then-step.ensures start s now by h e))
+
+pub returns-then-step-clause-whole : goal.returns-then-step-clause-whole
+returns-then-step-clause-whole g c start s now tells h =
+    let order : Order g.row.O.Denot = record { pick = g.O.Order.picks; next = g.O.Order.after } in
+    run_on g.S.Stage.stands g.R.Source.remaining g.W.Sink.contents g.W.Sink.flushed order c.args.order.now
+    c.step.new.order c.args.self.now c.step.new.self c.told-then-step.result (returns-then-step-clause-ran g c) s.rests
+    tells start s now refl h
+
+pub returns-then-step-clause-reads : goal.returns-then-step-clause-reads
+returns-then-step-clause-reads g c = λ none i.
+    let stands = StandsAs g.S.Stage.stands in
+    let contents = g.W.Sink.contents in
+    let flushed = g.W.Sink.flushed in
+    let order : Order g.row.O.Denot = record { pick = g.O.Order.picks; next = g.O.Order.after } in
+    let ran = ran_more stands g.R.Source.remaining contents flushed order c.is_leftmost-is_leftmost.result c.turns.search c.step.new.search c.step.result c.args.order.now c.turns.order
+    c.step.new.order c.args.self.now c.turns.self c.step.new.self
+    c.turns.invariant.ran c.step.ensures.stepped in
+    let may = may_step stands g.R.Source.remaining contents flushed order c.is_leftmost-is_leftmost.result c.turns.search
+    false c.args.order.now c.turns.order c.args.self.now c.turns.self c.turns.invariant.ran c.requires refl in
+    let none_yet = unfailed stands contents flushed c.is_leftmost-is_leftmost.result c.turns.search c.turns.self may in
+    let w = now_running stands g.R.Source.remaining contents flushed order c.is_leftmost-is_leftmost.result c.step.new.search c.step.result
+    c.args.order.now c.step.new.order c.args.self.now c.step.new.self ran c.requires in
+    let net = c.args.self.now in
+    let heard = (w.now.links (last (plan_of w.scene))).heard in
+    c.step.ensures.reads i
+    ∙ ap (λ b. b || is_read_of i c.step.new.self.failure)
+    (c.turns.invariant.reads none i
+    ∙ ap (λ f. failed_at g.R.Source.failed i net.web.nodes.items || is_read_of i f) none_yet
+    ∙ sym (or_false _))
+    ∙ ap (λ b. failed_at g.R.Source.failed i net.web.nodes.items || b)
+    (told_read i c.step.new.self.failure heard c.told-then-step.result
+    (ap (λ f. ended_by f heard) w.at.failure
+    ∙ has_told _ c.told-then-step.result (told_all stands g.R.Source.remaining contents flushed order c.is_leftmost-is_leftmost.result c.step.new.search c.step.result
+    c.args.order.now c.step.new.order c.args.self.now c.step.new.self ran c.requires w.start w.scene w.now w.at) c.if-step.true
+    (λ by e. c.told-then-step.ensures w.start w.scene w.now by w.at e)))
+
+pub returns-then-step-clause-writes : goal.returns-then-step-clause-writes
+returns-then-step-clause-writes g c = λ none.
+    let stands = StandsAs g.S.Stage.stands in
+    let contents = g.W.Sink.contents in
+    let flushed = g.W.Sink.flushed in
+    let order : Order g.row.O.Denot = record { pick = g.O.Order.picks; next = g.O.Order.after } in
+    let ran = ran_more stands g.R.Source.remaining contents flushed order c.is_leftmost-is_leftmost.result c.turns.search c.step.new.search c.step.result c.args.order.now c.turns.order
+    c.step.new.order c.args.self.now c.turns.self c.step.new.self
+    c.turns.invariant.ran c.step.ensures.stepped in
+    let may = may_step stands g.R.Source.remaining contents flushed order c.is_leftmost-is_leftmost.result c.turns.search
+    false c.args.order.now c.turns.order c.args.self.now c.turns.self c.turns.invariant.ran c.requires refl in
+    let none_yet = unfailed stands contents flushed c.is_leftmost-is_leftmost.result c.turns.search c.turns.self may in
+    let w = now_running stands g.R.Source.remaining contents flushed order c.is_leftmost-is_leftmost.result c.step.new.search c.step.result
+    c.args.order.now c.step.new.order c.args.self.now c.step.new.self ran c.requires in
+    let net = c.args.self.now in
+    let heard = (w.now.links (last (plan_of w.scene))).heard in
+    c.step.ensures.writes
+    ∙ ap (λ b. b || is_write c.step.new.self.failure)
+    (c.turns.invariant.writes none
+    ∙ ap (λ f. g.W.Sink.failed net.sink || is_write f) none_yet
+    ∙ sym (or_false _))
+    ∙ ap (λ b. g.W.Sink.failed net.sink || b)
+    (told_write c.step.new.self.failure heard c.told-then-step.result
+    (ap (λ f. ended_by f heard) w.at.failure
+    ∙ has_told _ c.told-then-step.result (told_all stands g.R.Source.remaining contents flushed order c.is_leftmost-is_leftmost.result c.step.new.search c.step.result
+    c.args.order.now c.step.new.order c.args.self.now c.step.new.self ran c.requires w.start w.scene w.now w.at) c.if-step.true
+    (λ by e. c.told-then-step.ensures w.start w.scene w.now by w.at e)))
+
+pub returns-then-step-clause-again : goal.returns-then-step-clause-again
+returns-then-step-clause-again g c = λ start s now by h e.
+    absurd (none-some by (sym (c.turns.invariant.going start s now h) ∙ e))

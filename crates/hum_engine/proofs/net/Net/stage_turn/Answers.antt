@@ -29,7 +29,7 @@ returns-in-Ok g c =
       sink = refl;
       turns = refl;
       actors = refl;
-      readers = refl;
+      takers = refl;
     }
 
 pub returns-in-Err-Read : goal.returns-in-Err-Read
@@ -55,7 +55,7 @@ returns-in-Err-Read g c =
       sink = refl;
       turns = refl;
       actors = refl;
-      readers = refl;
+      takers = refl;
     })
 
 pub returns-in-Err-Memory : goal.returns-in-Err-Memory
@@ -77,5 +77,5 @@ returns-in-Err-Memory g c =
       sink = refl;
       turns = refl;
       actors = refl;
-      readers = refl;
+      takers = refl;
     })

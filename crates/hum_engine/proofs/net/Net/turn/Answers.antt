@@ -5,7 +5,8 @@ use Rattle.std.proofs.Common.{◌≡◌, ap, inl, ◌||◌, ◌∙◌, ◌+◌, 
 use Rattle.hum_nodes.proofs.Standing.{reads_few}
 use Rattle.hum_engine.proofs.Bounds.{turns_few}
 use Rattle.hum_nodes.specs.Nodes.{StandsAs}
-use Rattle.hum_engine.specs.Scene.{moved}
+use Rattle.hum_turns.proofs.Near.{ready_sink}
+use Rattle.hum_engine.specs.Scene.{plan_of, moved}
 use Rattle.hum_engine.proofs.Netting.{no_failure, is_at, now_ready, below_count, stage_turned, sink_turned, marks_by}
 use Rattle.hum_engine.proofs.Stepping.{sink_touches}
 use Rattle.hum_engine.proofs.net.Net.turn.Goals as goal
@@ -65,14 +66,14 @@ returns-then-k-count-clause-gone g c =
     record {
       turned = sink_turned stands g.R.Source.remaining g.W.Sink.contents g.W.Sink.flushed c.args.k
           c.args.self.now _ c.sink_turn.result g.R.Source.calls g.R.Source.failed c.sink_turn.new.self.failure here
-          e.went e.shows refl e.turns e.actors;
+          e.went e.shows refl e.turns e.actors e.takers;
       link = λ s h. inl (sink_touches s c.args.k c.last.result (here ∙ h.at.stand.count) (c.last.ensures s h.at));
       reads = λ i. (e.shows i).mark ∙ or_false _
           ∙ ap (λ b. failed_at g.R.Source.failed i c.args.self.now.web.nodes.items || b) (sym (e.unread i));
       writes = e.marked;
       turns = e.turns;
       actors = e.actors;
-      readers = e.readers;
+      takers = e.takers;
     }
 
 pub returns-clause-gone : goal.returns-clause-gone
@@ -86,14 +87,14 @@ returns-clause-gone g c =
       turned = stage_turned stands g.R.Source.remaining g.W.Sink.contents g.W.Sink.flushed c.args.k
           old _ c.stage_turn-turned.result.is_over new.failure e.over
           (λ here. c.if-k-count.false (here ∙ sym c.count.ensures))
-          e.fed e.failed e.stays e.others e.sink refl more e.actors;
+          e.fed e.failed e.stays e.others e.sink refl more e.actors e.takers;
       link = e.link;
       reads = marks_by g.R.Source.failed c.args.k old.web.nodes.items new.web.nodes.items new.failure e.others
           e.marked e.unmarked;
       writes = ap g.W.Sink.failed e.sink ∙ or_false _ ∙ ap (λ b. g.W.Sink.failed old.sink || b) (sym e.unwritten);
       turns = more;
       actors = e.actors;
-      readers = e.readers;
+      takers = e.takers;
     }
 
 pub returns-clause-others : goal.returns-clause-others
@@ -136,3 +137,15 @@ returns-then-k-count-clause-others g c i o = c.sink_turn.ensures.shows i
 
 pub returns-clause-calls : goal.returns-clause-calls
 returns-clause-calls g c = c.stage_turn-turned.ensures.calls
+
+pub returns-then-k-count-clause-asked : goal.returns-then-k-count-clause-asked
+returns-then-k-count-clause-asked g c start s now h ready here =
+    let stands = StandsAs g.S.Stage.stands in
+    let contents = g.W.Sink.contents in
+    let flushed = g.W.Sink.flushed in
+    let net = c.args.self.now in
+    c.sink_turn.ensures.asked (moved s now.links) (record {
+      at = is_at stands contents flushed start s net now c.args.k h ready;
+      some = sym (ready_sink (plan_of s) s.size c.args.k now.links (omega (arith, here)))
+          ∙ now_ready stands contents flushed start s net now c.args.k h ready;
+    })

@@ -8,3 +8,8 @@ turn-requires g c = may_go _ _ c.self.invariant (rw (← c.self.view_is) at c.re
 pub invariant_of-self : goal.invariant_of-self
 invariant_of-self g c = turned_lasts _ _ _ _ c.self.invariant (rw (← c.self.view_is) at c.requires.within)
     (rw (← c.self.view_is) at c.requires.ready) c.turn.ensures.gone.turned
+
+pub returns-clause-asked : goal.returns-clause-asked
+returns-clause-asked g c start s now h here =
+    rw (← c.self.view_is) (c.turn.ensures.asked start s now (rw (← c.self.view_is) at h)
+    (c.requires.ready start s now h) here)

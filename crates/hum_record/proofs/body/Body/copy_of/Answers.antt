@@ -15,7 +15,7 @@ returns-then-len-ge-FEW-2 c =
     let text_is : take other.len (take held.len (bytes ++ drop (length bytes) held.items)) ≡ take other.len other.held.items =
     ap (take other.len) (written_back held.len bytes held.items bytes_size
     ∙ rw (c.deref_mut.ensures.value, c.deref.ensures.value) at c.copy_near.ensures)
-    ∙ front_put held.items other.held.items 32 other.len (omega (arith, held.ok.0)) (omega (arith, other.held.ok.0)) (omega arith) in
+    ∙ front_put held.items other.held.items 64 other.len (omega (arith, held.ok.0)) (omega (arith, other.held.ok.0)) (omega arith) in
     let ends_are : take other.count (take places.len (ends ++ drop (length ends) places.items)) ≡ take other.count other.places.items =
     ap (take other.count) (written_back places.len ends places.items ends_size
     ∙ rw (c.deref_mut-then-len-ge-FEW-2.ensures.value, c.deref-then-len-ge-FEW-2.ensures.value) at c.copy_places.ensures)

@@ -14,8 +14,8 @@ returns-clause-text c =
     let put = rw c.deref_mut.ensures.value at c.copy_near.ensures in
     let size : length c.copy_near.new.text ≡ held.len = omega (arith, c.copy_near.auto.text, c.deref_mut.ensures.len) in
     ap (take c.args.len) (written_back held.len c.copy_near.new.text held.items size ∙ put)
-    ∙ front_put held.items c.args.held.now 32 c.args.len
-    (omega (arith, c.in_ok-give_bytes.ensures.room, held.ok.0)) c.requires.filled c.requires.short
+    ∙ front_put held.items c.args.held.now 64 c.args.len
+    (omega (arith, c.in_ok-give_bytes.ensures.room, held.ok.0)) c.requires.filled (omega (arith, c.requires.short))
 
 pub returns-clause-ends : goal.returns-clause-ends
 returns-clause-ends c =

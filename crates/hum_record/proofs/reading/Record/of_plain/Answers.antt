@@ -6,7 +6,7 @@ use Rattle.hum_record.proofs.reading.Record.of_plain.Goals as goal
 pub invariant_of-result : goal.invariant_of-result
 invariant_of-result c =
     let text = take c.args.len c.args.held.now in
-    let few : length text ≤ 32 =
+    let few : length text ≤ 62 =
     omega (arith, length-take-le c.args.len c.args.held.now (omega (arith, c.requires.filled, c.requires.short)), c.requires.short) in
     rw c.in_ok-put_near.ensures.text
     (plain_fields text c.put_near.new.self.ends c.args.ends few c.requires.one_line c.requires.plain c.in_ok-put_near.ensures.ends)

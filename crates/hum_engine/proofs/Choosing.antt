@@ -1,0 +1,349 @@
+-- One step of a run: the actor that is asked, and what its turn leaves known of who is ready.
+use Rattle.std.proofs.Common.{◌≡◌, ◌∙◌, ℕ, ◌+◌, ◌<◌, ◌≤◌, Bool, true, false, List, [], ◌∷◌, ◌++◌}
+use Rattle.std.proofs.Common.{length, Option, Some, None, refl, sym, ap, subst, arith, ⊎_elim, slice_set, slice_get}
+use Rattle.std.specs.Prelude.{is_some}
+use Rattle.std.proofs.lemmas.Bool.{false≢true, cases_Bool, cases_lt}
+use Rattle.hum_record.specs.Row.{Row}
+use Rattle.hum_turns.specs.Plan.{last}
+use Rattle.hum_turns.specs.Turns.{state}
+use Rattle.hum_turns.specs.Near.{touched}
+use Rattle.hum_turns.specs.Failures.{Now, is_ready, result}
+use Rattle.hum_turns.specs.Orders.{Order, ready_list, IsLeftmost}
+use Rattle.hum_turns.proofs.States.{sink_state, last_less}
+use Rattle.hum_turns.proofs.Writing.{still}
+use Rattle.hum_nodes.specs.At.{At}
+use Rattle.hum_nodes.specs.declared.node.Node.{Node}
+use Rattle.hum_nodes.specs.Polls.{HasRead}
+use Rattle.hum_nodes.proofs.Followed.{read_none}
+use Rattle.hum_engine.specs.declared.net.Net.{Net}
+use Rattle.hum_engine.specs.declared.search.Search.{Search}
+use Rattle.hum_engine.specs.Search.{passed, changed}
+use Rattle.hum_engine.specs.Readers.{ended_at, remaining_at}
+use Rattle.hum_engine.specs.Scene.{Scene, plan_of, moved, before_all, IsActor}
+use Rattle.hum_engine.specs.Nets.{NetAt, AreOver, HasTurned, GoesTo, IsChanged, Sees, MayPick, MayAsk, MayStep, HasPicked}
+use Rattle.hum_engine.specs.Nets.{HasStepped, IsGoing}
+use Rattle.hum_engine.proofs.Flags.{touched_below, two_set}
+use Rattle.hum_engine.proofs.Leftmost.{leftmost_is, leftmost_choice}
+use Rattle.hum_engine.proofs.Netting.{is_at, unfailed_now, not_over}
+use Rattle.hum_engine.proofs.Running.{relisted, picked, some_actor_ready, no_rests}
+use Rattle.hum_engine.proofs.Searching.{front_passed, front_changed, others_as_ready}
+
+-- what is known of who is ready hangs on no bytes that are still to come
+seen : {S R W : Type 0} (leftmost : Bool) (look : Search) (s : Scene) (rests : ℕ → List ℕ) (now : Now Row)
+    (net : Net S R W) → Sees leftmost look s now net → Sees leftmost look (record s { rests = rests }) now net
+seen leftmost look s rests now net sees = record {
+  flags = sees.flags;
+  front = λ is.
+      let f = sees.front is in
+      record { order = f.order; within = f.within; left = f.left; between = f.between };
+}
+
+module _ {S R W : Type 0} (stands : Node S R → List ℕ → At → Type 0) (contents : W → Option (List ℕ))
+    (flushed : W → Bool) (leftmost : Bool) (look : Search) (net : Net S R W)
+    (may : MayStep stands contents flushed leftmost look net) where
+  -- where nothing more is to come
+  pub may_pick : MayPick stands contents flushed leftmost look net
+  may_pick =
+      let rests : ℕ → List ℕ = λ i. [] in
+      let over = no_rests net in
+      record {
+        running = record {
+          start = may.start;
+          scene = may.scene rests over;
+          now = may.now rests over;
+          at = may.at rests over;
+        };
+        going = may.going rests over;
+        sees = may.sees rests over;
+      }
+
+  pub unfailed : net.failure ≡ None
+  unfailed =
+      let m = may_pick in
+      let w = m.running in
+      w.at.failure ∙ unfailed_now stands contents flushed w.start w.scene net w.now 0 w.at m.going
+
+module _ {S R W O : Type 0} (stands : Node S R → List ℕ → At → Type 0)
+    (remaining : R → Option (List ℕ)) (contents : W → Option (List ℕ))
+    (flushed : W → Bool) (order : Order O) (leftmost : Bool) (look : Search) (k : ℕ) (p q : O) (net : Net S R W)
+    (may : MayStep stands contents flushed leftmost look net) where
+  -- The actor that is asked: the order's pick, or of a leftmost order this one.
+  module _ (here : leftmost ≡ true → (k ≡ look.from) × (q ≡ p) × IsLeftmost order.pick order.next p)
+      (picked_by : leftmost ≡ false → (start : Option (List ℕ)) (s : Scene) (now : Now Row)
+      → NetAt stands contents flushed start s net now → result (plan_of s) now ≡ None
+      → Sees false look s now net → HasPicked order (plan_of s) s.size p q now k) where
+    chosen_now : leftmost ≡ false → (start : Option (List ℕ)) (s : Scene) (now : Now Row)
+        → NetAt stands contents flushed start s net now → result (plan_of s) now ≡ None
+        → Sees leftmost look s now net → (k ≤ s.count) × (is_ready (plan_of s) s.size now k ≡ true)
+    chosen_now isnt start s now h none sees =
+        let picks = picked_by isnt start s now h none (subst (λ b. Sees b look s now net) isnt sees) in
+        let list = ready_list (plan_of s) s.size now in
+        picked stands contents flushed start s net now h list (order.pick p list) k none refl picks.choice
+
+    pub may_ask : MayAsk stands contents flushed k net
+    may_ask =
+        let m = may_pick stands contents flushed leftmost look net may in
+        let w = m.running in
+        record {
+          running = w;
+          going = m.going;
+          within = ⊎_elim
+              (λ is.
+              let f = m.sees.front is in
+              let at = (here is).0 in
+              let less = f.order in
+              let fits = f.within in
+              omega (arith, at, less, fits))
+              (λ isnt. (chosen_now isnt w.start w.scene w.now w.at m.going m.sees).0)
+              (cases_Bool leftmost);
+        }
+
+    -- It isn't ready, so the order is a leftmost one.
+    module _ (unready : (start : Option (List ℕ)) (s : Scene) (now : Now Row)
+        → NetAt stands contents flushed start s net now → result (plan_of s) now ≡ None → k ≤ s.count
+        → is_ready (plan_of s) s.size now k ≡ false) where
+      pub is_leftmost : leftmost ≡ true
+      is_leftmost = ⊎_elim
+          (λ is. is)
+          (λ isnt.
+          let m = may_pick stands contents flushed leftmost look net may in
+          let w = m.running in
+          let ready = chosen_now isnt w.start w.scene w.now w.at m.going m.sees in
+          absurd (false≢true (sym (unready w.start w.scene w.now w.at m.going ready.0) ∙ ready.1)))
+          (cases_Bool leftmost)
+
+      pub stepped_past : (new : Net S R W) → new ≡ net
+          → HasStepped stands remaining contents flushed order p q leftmost look (passed look) net new false
+      stepped_past new same =
+          let is = is_leftmost in
+          let at = here is in
+          subst
+          (λ n. HasStepped stands remaining contents flushed order p q leftmost look (passed look) net n false)
+          (sym same) (record {
+            reads = λ i. [];
+            read = λ i. read_none _ _;
+            goes = λ start s now over h none sees.
+                let front = sees.front is in
+                let less = front.order in
+                let fits = front.within in
+                let within : look.from ≤ s.count = omega (arith, less, fits) in
+                let isnt : is_ready (plan_of s) s.size now look.from ≡ false =
+                ap (is_ready (plan_of s) s.size now) (sym at.0)
+                ∙ unready start s now h none (subst (λ i. i ≤ s.count) (sym at.0) within) in
+                let some = some_actor_ready stands contents flushed start s net now h none in (
+                  record { turns = []; to = now; driven = (still now, at.1); at = h },
+                  record {
+                    tells = ap is_some (sym none);
+                    sees = λ none. record {
+                      flags = λ no. absurd (false≢true (sym no ∙ is));
+                      front = λ yes. front_passed look s now some.actor front isnt some.within some.is_ready;
+                    };
+                  },
+                );
+          })
+
+    -- It was ready, and has had its turn.
+    module _ (link : ℕ) (is_over : Bool) (behind : Net S R W)
+        (ready : (start : Option (List ℕ)) (s : Scene) (now : Now Row)
+        → NetAt stands contents flushed start s net now → result (plan_of s) now ≡ None → k ≤ s.count
+        → is_ready (plan_of s) s.size now k ≡ true)
+        (links : (s : Scene) → IsActor stands k net.web s → IsChanged k s behind.failure link)
+        (turned : HasTurned stands remaining contents flushed k net behind is_over) where
+      -- what has come of one moment
+      record Next (start : Option (List ℕ)) (s : Scene) (now : Now Row) : Type 0 where
+        picks : HasPicked order (plan_of s) s.size p q now k
+        within : k ≤ s.count
+        goes : GoesTo stands contents flushed start s k now behind is_over
+        link_is : IsChanged k (moved s now.links) behind.failure link
+
+      next_at : (start : Option (List ℕ)) (s : Scene) (now : Now Row) → AreOver behind.web.nodes.items s.rests
+          → NetAt stands contents flushed start (before_all turned.reads s) net now
+          → result (plan_of s) now ≡ None → Sees leftmost look s now net → Next start s now
+      next_at start s now over h none sees =
+          let mid : Scene = before_all turned.reads s in
+          let seen_mid = seen leftmost look s mid.rests now net sees in
+          let picks : HasPicked order (plan_of s) s.size p q now k = ⊎_elim
+          (λ is.
+          let at = here is in
+          let front = sees.front is in
+          let less = front.order in
+          let fits = front.within in
+          let from = at.0 in
+          let within : k ≤ s.count = omega (arith, from, less, fits) in
+          record {
+            choice = leftmost_is s now k within (ready start mid now h none within)
+                (λ j low. front.left j (subst (λ i. j < i) from low))
+                ∙ sym (leftmost_choice order s p now at.2);
+            next = at.1 ∙ sym (at.2.stays (ready_list (plan_of s) s.size now));
+          })
+          (λ isnt. picked_by isnt start mid now h none (subst (λ b. Sees b look mid now net) isnt seen_mid))
+          (cases_Bool leftmost) in
+          let list = ready_list (plan_of s) s.size now in
+          let may = picked stands contents flushed start mid net now h list (order.pick p list) k none refl
+          picks.choice in
+          let at = is_at stands contents flushed start mid net now k h may.1 in
+          record {
+            picks = picks;
+            within = may.0;
+            goes = turned.turns start s now over h may.0 may.1;
+            link_is = links (moved mid now.links) (record { at = at; within = may.0 });
+          }
+
+      changed_is : (start : Option (List ℕ)) (s : Scene) (now : Now Row) → (n : Next start s now)
+          → result (plan_of s) n.goes.to ≡ None → link ≡ touched k (state (plan_of s) now.links k)
+      changed_is start s now n none = ⊎_elim (λ is. is)
+          (λ own. absurd (own.1 (n.goes.at.failure
+          ∙ unfailed_now stands contents flushed start s behind n.goes.to k n.goes.at none)))
+          n.link_is
+
+      link_within : (start : Option (List ℕ)) (s : Scene) (now : Now Row) → (n : Next start s now)
+          → result (plan_of s) n.goes.to ≡ None → link < s.count
+      link_within start s now n none =
+          let is = changed_is start s now n none in
+          let plan = n.goes.at.plan in
+          let low = touched_below s plan.ok k link now.links n.within is in
+          let within = n.within in
+          ⊎_elim
+          (λ (less : k < s.count). omega (arith, low, less))
+          (λ (more : s.count ≤ k).
+          let at_last : link ≡ last (plan_of s) =
+          is ∙ ap (touched k) (sink_state (plan_of s) now.links k more) in
+          let top = last_less s.count plan.ok.some in
+          omega (arith, at_last, top))
+          (cases_lt k s.count)
+
+      stepped_by : (after : Search) (new : Net S R W) → new ≡ record behind { actors = new.actors }
+          → length new.actors.items ≡ length behind.actors.items
+          → ((start : Option (List ℕ)) (s : Scene) (now : Now Row) → (n : Next start s now)
+          → result (plan_of s) now ≡ None → Sees leftmost look s now net
+          → result (plan_of s) n.goes.to ≡ None → Sees leftmost after s n.goes.to new)
+          → HasStepped stands remaining contents flushed order p q leftmost look after net new is_over
+      stepped_by after new same len known =
+          let nodes : new.web.nodes ≡ behind.web.nodes = ap (λ (n : Net S R W). n.web.nodes) same in
+          record {
+            reads = turned.reads;
+            read = λ i.
+                subst
+                (λ v. HasRead (ended_at i net.web.nodes.items) (ended_at i v.items)
+                (remaining_at remaining i net.web.nodes.items) (remaining_at remaining i v.items) (turned.reads i))
+                (sym nodes) (turned.read i);
+            goes = λ start s now over h none sees.
+                let n = next_at start s now (subst (λ v. AreOver v.items s.rests) nodes over) h none sees in (
+                  record {
+                    turns = k ∷ [];
+                    to = n.goes.to;
+                    driven = (n.goes.to, n.picks.choice, n.goes.turn, (still n.goes.to, n.picks.next));
+                    at = relisted stands contents flushed start s behind new n.goes.to same len n.goes.at;
+                  },
+                  record {
+                    tells = n.goes.tells;
+                    sees = λ goes. known start s now n none sees goes;
+                  },
+                );
+          }
+
+      -- and the run is over
+      pub stepped_over : is_over ≡ true
+          → HasStepped stands remaining contents flushed order p q leftmost look look net behind is_over
+      stepped_over is =
+          stepped_by look behind refl refl
+          (λ start s now n none sees goes.
+          absurd (false≢true (sym (n.goes.tells ∙ ap is_some goes) ∙ is)))
+
+      -- a moment of it, while the run goes on
+      next_now : is_over ≡ false → (start : Option (List ℕ)) × (s : Scene) × (now : Now Row)
+          × (n : Next start s now) × (result (plan_of s) n.goes.to ≡ None)
+      next_now not_yet =
+          let rests : ℕ → List ℕ = λ i. turned.reads i ++ [] in
+          let over : AreOver net.web.nodes.items rests =
+          λ i e. ap (λ l. l ++ []) ((turned.read i).still e).0 in
+          let all = may.scene rests over in
+          let now = may.now rests over in
+          let s : Scene = record all { rests = λ i. [] } in
+          let at : NetAt stands contents flushed may.start (before_all turned.reads s) net now =
+          subst (λ f. NetAt stands contents flushed may.start (record all { rests = f }) net now)
+          (may.rests rests over) (may.at rests over) in
+          let n = next_at may.start s now (no_rests behind) at (may.going rests over)
+          (seen leftmost look all s.rests now net (may.sees rests over)) in
+          (may.start, s, now, n, not_over _ n.goes.tells not_yet)
+
+      pub link_few : is_over ≡ false → link < length behind.takers.items
+      link_few not_yet =
+          let m = next_now not_yet in
+          let n = m.3 in
+          let less = link_within m.0 m.1 m.2 n m.4 in
+          let many = n.goes.at.takers.many in
+          omega (arith, less, many)
+
+      module _ (not_yet : is_over ≡ false) (taker : ℕ) (taker_is : slice_get behind.takers.items link ≡ Some taker) where
+        pub link_going : IsGoing stands contents flushed link behind
+        link_going =
+            let m = next_now not_yet in
+            let n = m.3 in
+            let less = link_within m.0 m.1 m.2 n m.4 in
+            record {
+              running = record { start = m.0; scene = m.1; now = n.goes.to; at = n.goes.at };
+              going = unfailed_now stands contents flushed m.0 m.1 behind n.goes.to 0 n.goes.at m.4;
+              within = omega (arith, less);
+            }
+
+        pub taker_going : IsGoing stands contents flushed taker behind
+        taker_going =
+            let m = next_now not_yet in
+            let n = m.3 in
+            record {
+              running = record { start = m.0; scene = m.1; now = n.goes.to; at = n.goes.at };
+              going = unfailed_now stands contents flushed m.0 m.1 behind n.goes.to 0 n.goes.at m.4;
+              within = (n.goes.at.takers.behind link taker taker_is).1;
+            }
+
+        -- a leftmost order looks further
+        pub stepped_left : leftmost ≡ true
+            → HasStepped stands remaining contents flushed order p q leftmost look (changed look link taker) net behind
+            is_over
+        stepped_left is =
+            stepped_by (changed look link taker) behind refl refl
+            (λ start s now n none sees goes.
+            let takers = n.goes.at.takers in
+            let at = takers.behind link taker taker_is in
+            record {
+              flags = λ isnt. absurd (false≢true (sym isnt ∙ is));
+              front = λ yes.
+                  front_changed s n.goes.at.plan k link taker now n.goes.to n.goes.turn goes none
+                  (changed_is start s now n goes) n.within
+                  (λ j takes. takers.alone link taker j taker_is takes)
+                  look (here is).0 at.0 at.1 (sees.front is);
+            })
+
+        -- of any other the two ends of the link are asked again
+        pub stepped_else : leftmost ≡ false → (new : Net S R W) → behind.actors ≡ net.actors
+            → new ≡ record behind { actors = new.actors }
+            → length new.actors.items ≡ length behind.actors.items
+            → ((start : Option (List ℕ)) (s : Scene) (now : Now Row)
+            → NetAt stands contents flushed start s behind now → result (plan_of s) now ≡ None
+            → link ≤ s.count → taker ≤ s.count
+            → new.actors.items ≡ slice_set
+            (slice_set behind.actors.items link (is_ready (plan_of s) s.size now link))
+            taker (is_ready (plan_of s) s.size now taker))
+            → HasStepped stands remaining contents flushed order p q leftmost look look net new is_over
+        stepped_else isnt new flags same len asked =
+            stepped_by look new same len
+            (λ start s now n none sees goes.
+            let takers = n.goes.at.takers in
+            let at = takers.behind link taker taker_is in
+            let less = link_within start s now n goes in
+            let f = is_ready (plan_of s) s.size now in
+            let g = is_ready (plan_of s) s.size n.goes.to in
+            record {
+              flags = λ no.
+                  asked start s n.goes.to n.goes.at goes (omega (arith, less)) at.1
+                  ∙ ap (λ l. slice_set (slice_set l link (g link)) taker (g taker))
+                  (ap (λ v. v.items) flags ∙ sees.flags isnt)
+                  ∙ two_set f g (s.count + 1) link taker
+                  (λ j low apart other.
+                  others_as_ready s n.goes.at.plan k link taker now n.goes.to n.goes.turn goes none
+                  (changed_is start s now n goes) n.within
+                  (λ i takes. takers.alone link taker i taker_is takes)
+                  j (omega (arith, low)) apart other);
+              front = λ is. absurd (false≢true (sym isnt ∙ is));
+            })

@@ -1,0 +1,49 @@
+-- What a plan means is valid Humdrum.
+use Rattle.std.proofs.Common.{subst, ℕ, suc, ◌+◌, List, [], ◌∷◌}
+use Rattle.hum_record.specs.Row.{Row}
+use Rattle.hum_stage.specs.Meaning.{Meaning}
+use Rattle.hum_commands.specs.Meaning.{meaning as meaning_told}
+use Rattle.hum_commands.specs.declared.options.CommandOptions.{CommandOptions}
+use Rattle.hum_turns.specs.Flow.{Flow}
+use Rattle.hum_options.specs.Seen.{options_of}
+use Rattle.hum_nodes.specs.Fine.{IsFine}
+use Rattle.hum_nodes.specs.Trees.{meaning_of, IsTree}
+use Rattle.hum_valid.specs.Records.{AreRecords, KeepsRecords}
+use Rattle.hum_valid.specs.Trees.{Keeps, AllKeep}
+use Rattle.hum_valid.proofs.Again.{read_again}
+use Rattle.hum_valid.proofs.Trees.{tree_records}
+use Rattle.hum_plan.specs.Stages as plan
+use Rattle.hum_net.specs.Parts.{part_by, parts_from, parts_of, KeepsRecordsBy, AllKeepRecords}
+use Rattle.hum_net.specs.Runs.{IsValid}
+use Rattle.hum_net.proofs.Meaning.{means_is}
+
+-- a command keeps to them by what a plan's text tells it, as by what it is told
+pub command_keeps : (options : CommandOptions) → ((number : ℕ) → KeepsRecords (meaning_told number options).outcomes)
+    → KeepsRecordsBy (plan.Takes (options_of options))
+command_keeps options h =
+    λ number. subst (λ (m : Meaning). KeepsRecords m.outcomes) (means_is number options) (h number)
+
+-- the stages of a plan
+
+keeps_by : (k : ℕ) (bytes sources : List ℕ) (options : plan.Options) → KeepsRecordsBy options → Keeps (part_by k bytes sources options)
+keeps_by k bytes sources (plan.Read name) h = tt
+keeps_by k bytes sources plan.Assemble h = tt
+keeps_by k bytes sources (plan.Takes options) h = h (k + 1)
+
+parts_keep : (from : ℕ) (bytes : ℕ → List ℕ) (stages : List plan.Stage) → AllKeepRecords stages
+    → AllKeep (parts_from from bytes stages)
+parts_keep from bytes [] h = tt
+parts_keep from bytes (stage ∷ stages) h =
+    (keeps_by from (bytes from) stage.sources stage.options h.0, parts_keep (suc from) bytes stages h.1)
+
+pub plan_records : (bytes : ℕ → List ℕ) (stages : List plan.Stage) → IsTree (parts_of bytes stages) → AllKeepRecords stages
+    → AreRecords (meaning_of (parts_of bytes stages)).items
+plan_records bytes stages tree keeps =
+    tree_records (parts_of bytes stages) tree (parts_keep 0 bytes stages keeps)
+
+-- a score of lawful records
+pub valid : (f : Flow Row) → AreRecords f.items → IsFine 4294967295 f → IsValid f
+valid f are h = record {
+  score = h;
+  again = λ small. read_again f.items (record { records = are; score = h.score; few = h.few; small = small });
+}

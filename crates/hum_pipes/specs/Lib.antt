@@ -1,0 +1,3 @@
+pub mod Piped
+pub mod Stages
+pub mod Merges

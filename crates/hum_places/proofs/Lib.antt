@@ -1,0 +1,11 @@
+pub mod Heirs
+pub mod Above
+pub mod OneWay
+pub mod Spreading
+pub mod SpreadRows
+pub mod SpreadPlaces
+pub mod Multiples
+pub mod OnGrid
+pub mod Times
+pub mod OneListing
+pub mod LeastEnds

@@ -1,0 +1,4 @@
+pub mod Heirs
+pub mod Above
+pub mod Spreading
+pub mod Grid

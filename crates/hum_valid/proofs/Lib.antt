@@ -1,0 +1,16 @@
+pub mod Again
+pub mod Lists
+pub mod Stages
+pub mod Single
+pub mod Cells
+pub mod Filling
+pub mod Collecting
+pub mod Spreading
+pub mod Pitches
+pub mod Telling
+pub mod Timed
+pub mod Lines
+pub mod Denoted
+pub mod Merged
+pub mod Commands
+pub mod Trees
