@@ -99,7 +99,7 @@ pub opening_had : (j : ℕ) (change : Change) (xs : List Input)
     → opening (had_at j change xs) ≡ changed_in j change (opening xs)
 opening_had j change xs = ap (λ (ss : List Source). record { sources = ss; given = 0 }) (begun_all j change xs)
 
--- What was given for some inputs is a front of what is given for more.
+-- What was given for some inputs is a prefix of what is given for more.
 front_resting : (j : ℕ) (change : Change) (m : Merge) → is_giving (ahead m) ≡ false
     → (more : List Row) × (all_given m ++ more ≡ all_given (changed_in j change m))
 front_resting j change m r = (all_given (changed_in j change m), rw (all_resting m r).0 refl)
@@ -135,7 +135,7 @@ pub front : (j : ℕ) (change : Change) (m : Merge) → IsOpenAt j m.sources
     → (more : List Row) × (all_given m ++ more ≡ all_given (changed_in j change m))
 front j change m i = front_within (total m.sources) j change m i (omega arith)
 
--- What is given for the inputs so far is a front of what is given with one record more, or an end, of one of them.
+-- What is given for the inputs so far is a prefix of what is given with one record more, or an end, of one of them.
 begun_open : (j : ℕ) (xs : List Input) → IsOpenInput j xs → IsOpenAt j (map begun xs)
 begun_open j [] i = absurd i
 begun_open zero (x ∷ xs) i = i

@@ -182,7 +182,7 @@ impl Assemble {
     /// The stage of this number, from 1, over so many sources, of which nothing was put yet.
     ///
     /// # Errors
-    /// Want of memory.
+    /// Out of memory.
     pub fn new(alloc: Global, stage: u8, sources: usize) -> Result<Assemble, AllocError>
         requires { sources ≤ 15 }
         ensures stands { IfOk result (λ a. Stands a (empty_moment stage sources)) }
@@ -221,7 +221,7 @@ impl Assemble {
     /// Puts the next record of the source that is wanted; those of that source are then a score.
     ///
     /// # Errors
-    /// Want of memory, which each later call that takes memory answers again.
+    /// Out of memory, which each later call that takes memory answers again.
     pub fn put(&mut self, source: usize, next: Record) -> Result<(), AllocError>
         requires { self.old.spent ≡ true ⊎ MayPut (Stands self.old) source next }
         ensures ok { OnOk result
@@ -259,7 +259,7 @@ impl Assemble {
     /// The next record that is settled, if there is one.
     ///
     /// # Errors
-    /// Want of memory, which each later call that takes memory answers again.
+    /// Out of memory, which each later call that takes memory answers again.
     pub fn take(&mut self) -> Result<Option<Record>, AllocError>
         ensures ok { IfOk result (HasTaken (Stands self.old) (Stands self.new)) }
 

@@ -23,7 +23,7 @@ impl Done {
     /// Room for so many, of which there is none yet.
     ///
     /// # Errors
-    /// Want of memory.
+    /// Out of memory.
     pub fn with_room(alloc: Global, room: usize) -> Result<Done, AllocError> {
         Ok(Done {
             rows: Vec::with_capacity(alloc, room)?,

@@ -7,11 +7,11 @@ use Rattle.hum_record.specs.Row.{Row, Comment, Spined}
 use Rattle.hum_stage.specs.declared.faults.Rule.TheVariants.{K2}
 use Rattle.hum_stage.specs.Outcome.{settled, refusal}
 use Rattle.hum_stage.specs.Decided.{decisions}
-use Rattle.hum_cells.specs.Retelling.{Retelling, retell}
+use Rattle.hum_cells.specs.Rewriting.{Rewriting, rewrite}
 use Rattle.hum_cells.specs.Samples.{marked, pursued}
 
-abbrev given : Retelling → List Row → List Row
-given retelling score = settled (decisions (retell retelling) [] score)
+abbrev given : Rewriting → List Row → List Row
+given rewriting score = settled (decisions (rewrite rewriting) [] score)
 
 abbrev one : List ℕ → Row
 one a = Spined Values (a ∷ [])
@@ -50,7 +50,7 @@ exchanged : given marked (signs (codes "**kern") (codes "**b") ∷ signs (codes 
 exchanged = refl
 
 -- the leftmost token that is refused decides
-leftmost : refusal 1 (decisions (retell marked) [] (signs (codes "**kern") (codes "**kern") ∷ two (codes "*") (codes "?") ∷ [])) ≡ Some (2, K2)
+leftmost : refusal 1 (decisions (rewrite marked) [] (signs (codes "**kern") (codes "**kern") ∷ two (codes "*") (codes "?") ∷ [])) ≡ Some (2, K2)
 leftmost = refl
 
 -- a record with **kern is followed by another, and the cells above are seen

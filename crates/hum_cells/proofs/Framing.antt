@@ -14,9 +14,9 @@ use Rattle.hum_path.proofs.Plain.{sound_width, plain_stays, not_exclusive}
 use Rattle.hum_path.proofs.Obeyed.{opens}
 use Rattle.hum_stage.specs.declared.faults.Rule.{Rule}
 use Rattle.hum_stage.specs.Decided.{Decision, MayStep, Steps, in_room}
-use Rattle.hum_cells.specs.declared.told.Told.{Told}
-use Rattle.hum_cells.specs.Retelling.{Retelling, is_kern, kern_columns}
-use Rattle.hum_cells.specs.Telling.{Frames, MayFollow, HasFollowed, MayTell, HasTold, decision}
+use Rattle.hum_cells.specs.declared.rewritten.Rewritten.{Rewritten}
+use Rattle.hum_cells.specs.Rewriting.{Rewriting, is_kern, kern_columns}
+use Rattle.hum_cells.specs.Rewriter.{Frames, MayFollow, HasFollowed, MayTell, HasTold, decision}
 
 quiet : (path : Path) (tokens : List (List ℕ)) → all_plain tokens ≡ true → find (breaks path tokens) in_order ≡ None
     → exclusives path ≡ names_after path tokens
@@ -37,57 +37,57 @@ kern_stays past (Spined Interpretation tokens) quiets sound =
     ap (map is_kern) (quiet (path_after past) tokens (not-false (all_plain tokens) quiets) sound.1)
 
 -- What one step asks of its parts.
-moved : {follows : Retelling → List Row → Type 0} {path : Path} {kern : List Bool} {decide : Decision} {past : List Row} (row : Row) (found : List Move)
+moved : {follows : Rewriting → List Row → Type 0} {path : Path} {kern : List Bool} {decide : Decision} {past : List Row} (row : Row) (found : List Move)
     → found ≡ moves path row → Frames follows path kern decide past → found ≡ moves (path_after past) row
 moved row found is h = is ∙ ap (λ p. moves p row) h.spines
 
-pub no_fault : {follows : Retelling → List Row → Type 0} {path : Path} {kern : List Bool} (row : Row)
+pub no_fault : {follows : Rewriting → List Row → Type 0} {path : Path} {kern : List Bool} (row : Row)
     → MayStep (Frames follows path kern) row → fault_of path row ≡ None
 no_fault row m = ap (λ p. fault_of p row) m.memory.spines ∙ m.score.1
 
-pub may_follow : {follows : Retelling → List Row → Type 0} {path : Path} {kern : List Bool} (row : Row) (found : List Move) → found ≡ moves path row
+pub may_follow : {follows : Rewriting → List Row → Type 0} {path : Path} {kern : List Bool} (row : Row) (found : List Move) → found ≡ moves path row
     → MayStep (Frames follows path kern) row → MayFollow follows row found
 may_follow row found is m = record {
-  retelling = m.memory.retelling;
+  rewriting = m.memory.rewriting;
   past = m.past;
   memory = m.memory.memory;
   score = m.score;
   moved = moved row found is m.memory;
 }
 
-pub may_tell : (before after : Retelling → List Row → Type 0) {path : Path} {kern shown : List Bool} (row : Row) (found : List Move)
+pub may_tell : (before after : Rewriting → List Row → Type 0) {path : Path} {kern shown : List Bool} (row : Row) (found : List Move)
     → shown ≡ kern → found ≡ moves path row → HasFollowed before after row found → MayStep (Frames before path kern) row → MayTell after shown row
 may_tell before after row found same is follow m = record {
-  retelling = m.memory.retelling;
+  rewriting = m.memory.rewriting;
   past = m.past;
-  memory = follow m.memory.retelling m.past m.memory.memory m.score (moved row found is m.memory);
+  memory = follow m.memory.rewriting m.past m.memory.memory m.score (moved row found is m.memory);
   kern_is = same ∙ m.memory.kern_is;
   score = m.score;
 }
 
 -- What they say together.
-pub stepped : (before followed told : Retelling → List Row → Type 0) {path path' : Path} {kern shown kern' : List Bool} (row : Row)
-    (found : List Move) (answer : Told) (rows : List Row) (room : ℕ) → shown ≡ kern → found ≡ moves path row
+pub stepped : (before followed told : Rewriting → List Row → Type 0) {path path' : Path} {kern shown kern' : List Bool} (row : Row)
+    (found : List Move) (answer : Rewritten) (rows : List Row) (room : ℕ) → shown ≡ kern → found ≡ moves path row
     → path' ≡ after path row → HasFollowed before followed row found → HasTold followed told shown row (Ok answer)
     → ((past : List Row) → kern ≡ kern_columns past → path' ≡ path_after (row ∷ past) → IsOpen (row ∷ past) → kern' ≡ kern_columns (row ∷ past))
     → decision row (Ok answer) ≡ Ok rows
     → (decide : Decision) (past : List Row) → Frames before path kern decide past → IsOpen (row ∷ past)
     → Steps decide past row (Frames told path' kern') room rows None
 stepped before followed told {path' = path'} row found answer rows room same is at follow tell mark puts decide past h sound =
-    let m = follow h.retelling past h.memory sound (moved row found is h) in
-    let t = tell h.retelling past m (same ∙ h.kern_is) sound in
+    let m = follow h.rewriting past h.memory sound (moved row found is h) in
+    let t = tell h.rewriting past m (same ∙ h.kern_is) sound in
     let spines : path' ≡ path_after (row ∷ past) = at ∙ ap (λ p. after p row) h.spines in (
       ap (λ (d : Decision). d past row) h.command ∙ t.1 ∙ puts,
-      record { retelling = h.retelling; command = h.command; memory = t.0; spines = spines; kern_is = mark past h.kern_is spines sound },
+      record { rewriting = h.rewriting; command = h.command; memory = t.0; spines = spines; kern_is = mark past h.kern_is spines sound },
     )
 
 -- The same of a record that is refused.
-pub refused : (before followed told : Retelling → List Row → Type 0) {path : Path} {kern shown : List Bool} (row : Row)
+pub refused : (before followed told : Rewriting → List Row → Type 0) {path : Path} {kern shown : List Bool} (row : Row)
     (found : List Move) (rule : Rule) (room : ℕ) → shown ≡ kern → found ≡ moves path row
     → HasFollowed before followed row found → HasTold followed told shown row (Err rule)
     → (decide : Decision) (past : List Row) → Frames before path kern decide past → IsOpen (row ∷ past)
     → in_room room (decide past row) ≡ Err rule
 refused before followed told row found rule room same is follow tell decide past h sound =
-    let m = follow h.retelling past h.memory sound (moved row found is h) in
-    let t = tell h.retelling past m (same ∙ h.kern_is) sound in
+    let m = follow h.rewriting past h.memory sound (moved row found is h) in
+    let t = tell h.rewriting past m (same ∙ h.kern_is) sound in
     ap (in_room room) (ap (λ (d : Decision). d past row) h.command ∙ t.1)

@@ -10,7 +10,7 @@ use Rattle.hum_record.specs.declared.SpinedKind.TheVariants.{Local, Interpretati
 use Rattle.hum_record.specs.Row.{Row, Comment, Spined, kind_of, tokens_of, text_of}
 use Rattle.hum_record.specs.Spelling.{IsToken, IsTokenOf}
 use Rattle.hum_record.specs.Building.{spelled}
-use Rattle.hum_cells.specs.Retelling.{Heading, Renamed, Followed, Retelling, is_kern, headed, with_heading, is_long, if_fit, retell, IsHeading}
+use Rattle.hum_cells.specs.Rewriting.{Heading, Renamed, Followed, Rewriting, is_kern, headed, with_heading, is_long, if_fit, rewrite, IsHeading}
 
 comment_no_sign : Global ≡ AnyInterpretation → ⊥
 comment_no_sign e = cc
@@ -52,9 +52,9 @@ same : (heading : Heading) (tokens : List (List ℕ)) → list_any is_kern token
 same (Renamed name) tokens none within = rw (none_renamed name tokens none, short tokens within) refl
 same (Followed tandem) tokens none within = rw (none, short tokens within) refl
 
-pub sign_same : (retelling : Retelling) (past : List Row) (row : Row) → kind_of row ≡ AnyInterpretation → list_any is_kern (tokens_of row) ≡ false
-    → length (text_of row) ≤ 1048576 → retell retelling past row ≡ Ok (row ∷ [])
-sign_same retelling past (Comment text) k none within = absurd (comment_no_sign k)
-sign_same retelling past (Spined Local tokens) k none within = absurd cc
-sign_same retelling past (Spined Values tokens) k none within = absurd cc
-sign_same retelling past (Spined Interpretation tokens) k none within = same retelling.heading tokens none within
+pub sign_same : (rewriting : Rewriting) (past : List Row) (row : Row) → kind_of row ≡ AnyInterpretation → list_any is_kern (tokens_of row) ≡ false
+    → length (text_of row) ≤ 1048576 → rewrite rewriting past row ≡ Ok (row ∷ [])
+sign_same rewriting past (Comment text) k none within = absurd (comment_no_sign k)
+sign_same rewriting past (Spined Local tokens) k none within = absurd cc
+sign_same rewriting past (Spined Values tokens) k none within = absurd cc
+sign_same rewriting past (Spined Interpretation tokens) k none within = same rewriting.heading tokens none within

@@ -35,9 +35,9 @@ use Rattle.hum_stage.specs.Score.{through, Follow}
 use Rattle.hum_stage.specs.Meaning.{KeepsScore}
 use Rattle.hum_stage.specs.Decided.{decisions, limit}
 use Rattle.hum_stage.proofs.Keeping.{at_once_keeps}
-use Rattle.hum_cells.specs.Retelling.{Heading, Renamed, Followed, Retelling, is_kern, kern_columns, is_long}
-use Rattle.hum_cells.specs.Retelling.{if_fit, data_record, headed, with_heading, beside, retold, all_retold}
-use Rattle.hum_cells.specs.Retelling.{retell, IsHeading}
+use Rattle.hum_cells.specs.Rewriting.{Heading, Renamed, Followed, Rewriting, is_kern, kern_columns, is_long}
+use Rattle.hum_cells.specs.Rewriting.{if_fit, data_record, headed, with_heading, beside, rewritten, all_rewritten}
+use Rattle.hum_cells.specs.Rewriting.{rewrite, IsHeading}
 
 -- the spines of the records that are given
 abbrev pub led : Heading → Path → Path
@@ -348,12 +348,12 @@ beside_size (Ok t) (Err rule) n out h e = cc
 beside_size (Err rule) rest n out h e = cc
 
 told_size : (becomes : List (List ℕ) → List ℕ → Result (List ℕ) Rule) (kerns : List Bool) (columns : List (List (List ℕ))) (tokens out : List (List ℕ))
-    → all_retold becomes kerns columns tokens ≡ Ok out → length out ≡ length tokens
+    → all_rewritten becomes kerns columns tokens ≡ Ok out → length out ≡ length tokens
 told_size becomes [] columns tokens out e = let is : tokens ≡ out = cc in rw is refl
 told_size becomes (k ∷ ks) [] tokens out e = let is : tokens ≡ out = cc in rw is refl
 told_size becomes (k ∷ ks) (c ∷ cs) [] out e = let is : [] ≡ out = cc in rw (← is) refl
 told_size becomes (k ∷ ks) (c ∷ cs) (t ∷ ts) out e =
-    beside_size (retold becomes k c t) (all_retold becomes ks cs ts) (length ts) out (λ more is. told_size becomes ks cs ts more is) e
+    beside_size (rewritten becomes k c t) (all_rewritten becomes ks cs ts) (length ts) out (λ more is. told_size becomes ks cs ts more is) e
 
 data_next : (heading : Heading) (path : Path) (tokens : List (List ℕ)) (told : Result (List (List ℕ)) Rule) (rows : List Row) → IsHeading heading
     → find (breaks_as_text path tokens) in_order ≡ None → ((out : List (List ℕ)) → told ≡ Ok out → length out ≡ length tokens)
@@ -362,20 +362,20 @@ data_next heading path tokens (Ok out) rows lawful h size e =
     rw (← fit_only (Spined Values out ∷ []) rows e) ((text_led heading path tokens out lawful h (size out refl), tt), refl)
 data_next heading path tokens (Err rule) rows lawful h size e = cc
 
-retell_next : (retelling : Retelling) (past : List Row) (row : Row) (given : Path) (rows : List Row) → IsHeading retelling.heading → IsOpen (row ∷ past)
-    → given ≡ led retelling.heading (path_after past) → retell retelling past row ≡ Ok rows
-    → Reach given rows (led retelling.heading (path_after (row ∷ past)))
-retell_next retelling past (Comment text) given rows lawful sound leads e =
+rewrite_next : (rewriting : Rewriting) (past : List Row) (row : Row) (given : Path) (rows : List Row) → IsHeading rewriting.heading → IsOpen (row ∷ past)
+    → given ≡ led rewriting.heading (path_after past) → rewrite rewriting past row ≡ Ok rows
+    → Reach given rows (led rewriting.heading (path_after (row ∷ past)))
+rewrite_next rewriting past (Comment text) given rows lawful sound leads e =
     let one : Comment text ∷ [] ≡ rows = cc in rw (← one, leads) ((refl, tt), refl)
-retell_next retelling past (Spined Local tokens) given rows lawful sound leads e =
+rewrite_next rewriting past (Spined Local tokens) given rows lawful sound leads e =
     let one : Spined Local tokens ∷ [] ≡ rows = cc in
-    rw (← one, leads) ((text_led retelling.heading (path_after past) tokens tokens lawful sound.1 refl, tt), refl)
-retell_next retelling past (Spined Interpretation tokens) given rows lawful sound leads e =
-    rw (← fit_only (with_heading retelling.heading tokens) rows e, leads)
-    (heading_next retelling.heading (path_after past) tokens lawful sound.1)
-retell_next retelling past (Spined Values tokens) given rows lawful sound leads e =
-    rw leads (data_next retelling.heading (path_after past) tokens (all_retold retelling.becomes (kern_columns past) (columns past) tokens) rows lawful sound.1
-    (λ out is. told_size retelling.becomes (kern_columns past) (columns past) tokens out is) e)
+    rw (← one, leads) ((text_led rewriting.heading (path_after past) tokens tokens lawful sound.1 refl, tt), refl)
+rewrite_next rewriting past (Spined Interpretation tokens) given rows lawful sound leads e =
+    rw (← fit_only (with_heading rewriting.heading tokens) rows e, leads)
+    (heading_next rewriting.heading (path_after past) tokens lawful sound.1)
+rewrite_next rewriting past (Spined Values tokens) given rows lawful sound leads e =
+    rw leads (data_next rewriting.heading (path_after past) tokens (all_rewritten rewriting.becomes (kern_columns past) (columns past) tokens) rows lawful sound.1
+    (λ out is. told_size rewriting.becomes (kern_columns past) (columns past) tokens out is) e)
 
 led_closed : (heading : Heading) (path : Path) → is_unfinished path ≡ false → is_unfinished (led heading path) ≡ false
 led_closed (Renamed name) Unopened h = refl
@@ -386,9 +386,9 @@ led_unopened : (heading : Heading) → Unopened ≡ led heading Unopened
 led_unopened (Renamed name) = refl
 led_unopened (Followed tandem) = refl
 
-pub retell_keeps : (retelling : Retelling) → IsHeading retelling.heading → KeepsScore (λ p. limit 4294967295 (decisions (retell retelling) [] p))
-retell_keeps retelling lawful = at_once_keeps (retell retelling) (λ past given. given ≡ led retelling.heading (path_after past)) (record {
-  opening = led_unopened retelling.heading;
-  next = λ past row given rows sound leads e. retell_next retelling past row given rows lawful sound leads e;
-  closing = λ past given sound end leads. rw leads (led_closed retelling.heading (path_after past) end);
+pub rewrite_keeps : (rewriting : Rewriting) → IsHeading rewriting.heading → KeepsScore (λ p. limit 4294967295 (decisions (rewrite rewriting) [] p))
+rewrite_keeps rewriting lawful = at_once_keeps (rewrite rewriting) (λ past given. given ≡ led rewriting.heading (path_after past)) (record {
+  opening = led_unopened rewriting.heading;
+  next = λ past row given rows sound leads e. rewrite_next rewriting past row given rows lawful sound leads e;
+  closing = λ past given sound end leads. rw leads (led_closed rewriting.heading (path_after past) end);
 })

@@ -1,8 +1,7 @@
 -- Tokens of a data record, told one by one.
 use Rattle.std.proofs.Common.{◌≡◌, ◌∙◌, refl, sym, ap, ℕ, zero, suc, ◌+◌, ◌<◌, ◌≤◌, Bool, true, false, ◌&&◌, List, [], ◌∷◌, ◌++◌}
 use Rattle.std.proofs.Common.{length-append, length, drop, get_or, arith, add-one, drop-cons, append_assoc, append-nil}
-use Rattle.std.specs.Prelude.{Option, None, Some, IfSome, Result, Ok, Err, nat_lt}
-use denote.Ref.{Bor}
+use Rattle.std.specs.Prelude.{None, Result, Ok, Err, nat_lt}
 use Rattle.std.proofs.lemmas.List.{drop_all, length-map}
 use Rattle.std.proofs.lemmas.Bool.{or_parts}
 use Rattle.std.proofs.lemmas.Bool.Decides.{nat_tests}
@@ -17,9 +16,9 @@ use Rattle.hum_path.specs.Chains.{columns, longer, history}
 use Rattle.hum_path.proofs.Widths.{columns_width, text_width}
 use Rattle.hum_stage.specs.declared.faults.Rule.{Rule}
 use Rattle.hum_stage.specs.declared.faults.Rule.TheVariants.{L1}
-use Rattle.hum_record.specs.Making.{Holds}
-use Rattle.hum_cells.specs.Telling.{Knows, KnowsCell, Pushes}
-use Rattle.hum_cells.specs.Retelling.{Retelling, is_kern, kern_columns, is_told, any_told, retold, beside, all_retold, if_fit, data_record, retell}
+use Rattle.hum_record.specs.RecordDraft.{Holds}
+use Rattle.hum_cells.specs.Rewriter.{Pushes}
+use Rattle.hum_cells.specs.Rewriting.{Rewriting, is_kern, kern_columns, has_content, any_told, rewritten, beside, all_rewritten, if_fit, data_record, rewrite}
 
 pub none_told : (kerns : List Bool) (tokens : List (List ℕ)) (j : ℕ) → length tokens ≤ j
     → any_told (drop j kerns) (drop j tokens) ≡ false
@@ -44,7 +43,7 @@ pub record Done (becomes : List (List ℕ) → List ℕ → Result (List ℕ) Ru
     (tokens : List (List ℕ)) (j : ℕ) (draft : Draft) (long : Bool) : Type 0 where
   pub done : List (List ℕ)
   pub size : length done ≡ j
-  pub whole : behind done (all_retold becomes (drop j kerns) (drop j columns) (drop j tokens)) ≡ all_retold becomes kerns columns tokens
+  pub whole : behind done (all_rewritten becomes (drop j kerns) (drop j columns) (drop j tokens)) ≡ all_rewritten becomes kerns columns tokens
   pub holds : Holds Values draft long done
 
 behind_nothing : (rest : Result (List (List ℕ)) Rule) → behind [] rest ≡ rest
@@ -54,50 +53,43 @@ behind_nothing (Err rule) = refl
 pub none_done : (becomes : List (List ℕ) → List ℕ → Result (List ℕ) Rule) (kerns : List Bool) (columns : List (List (List ℕ)))
     (tokens : List (List ℕ)) {draft : Draft} {long : Bool} → Holds Values draft long [] → Done becomes kerns columns tokens 0 draft long
 none_done becomes kerns columns tokens held =
-    record { done = []; size = refl; whole = behind_nothing (all_retold becomes kerns columns tokens); holds = held }
+    record { done = []; size = refl; whole = behind_nothing (all_rewritten becomes kerns columns tokens); holds = held }
 
 first_told : (becomes : List (List ℕ) → List ℕ → Result (List ℕ) Rule) (kerns : List Bool) (columns : List (List (List ℕ))) (tokens : List (List ℕ)) (j : ℕ)
     → j < length kerns → j < length columns → j < length tokens
-    → all_retold becomes (drop j kerns) (drop j columns) (drop j tokens)
-    ≡ beside (retold becomes (get_or kerns j false) (get_or columns j []) (get_or tokens j []))
-    (all_retold becomes (drop (j + 1) kerns) (drop (j + 1) columns) (drop (j + 1) tokens))
+    → all_rewritten becomes (drop j kerns) (drop j columns) (drop j tokens)
+    ≡ beside (rewritten becomes (get_or kerns j false) (get_or columns j []) (get_or tokens j []))
+    (all_rewritten becomes (drop (j + 1) kerns) (drop (j + 1) columns) (drop (j + 1) tokens))
 first_told becomes kerns columns tokens j a b c =
     rw (add-one, drop-cons kerns j false a, drop-cons columns j [] b, drop-cons tokens j [] c) refl
 
 none_left : (becomes : List (List ℕ) → List ℕ → Result (List ℕ) Rule) (kerns : List Bool) (columns : List (List (List ℕ))) (tokens : List (List ℕ)) (j : ℕ)
-    → length tokens ≤ j → all_retold becomes (drop j kerns) (drop j columns) (drop j tokens) ≡ Ok []
+    → length tokens ≤ j → all_rewritten becomes (drop j kerns) (drop j columns) (drop j tokens) ≡ Ok []
 none_left becomes kerns columns tokens j past = rw (drop_all j tokens past) (none (drop j kerns) (drop j columns))
   where
-    none : (kerns : List Bool) (columns : List (List (List ℕ))) → all_retold becomes kerns columns [] ≡ Ok []
+    none : (kerns : List Bool) (columns : List (List (List ℕ))) → all_rewritten becomes kerns columns [] ≡ Ok []
     none [] columns = refl
     none (k ∷ ks) [] = refl
     none (k ∷ ks) (c ∷ cs) = refl
 
 -- a token that isn't told anew stays
 pub stays : (becomes : List (List ℕ) → List ℕ → Result (List ℕ) Rule) (kern : Bool) (above : List (List ℕ)) (token : List ℕ)
-    → (kern && is_told token) ≡ false → retold becomes kern above token ≡ Ok token
+    → (kern && has_content token) ≡ false → rewritten becomes kern above token ≡ Ok token
 stays becomes kern above token isnt = rw isnt refl
 
 pub changes : (becomes : List (List ℕ) → List ℕ → Result (List ℕ) Rule) (kern : Bool) (above : List (List ℕ)) (token : List ℕ)
-    → (kern && is_told token) ≡ true → retold becomes kern above token ≡ becomes above token
+    → (kern && has_content token) ≡ true → rewritten becomes kern above token ≡ becomes above token
 changes becomes kern above token is = rw is refl
-
--- what is known of a token that is told anew
-pub known_changes : (follows : Retelling → List Row → Type 0) (kern : Bool) (token : List ℕ) → (kern && is_told token) ≡ true
-    → (known : Option (Bor (List ℕ))) → IfSome known (λ text. Knows follows token text.now)
-    → IfSome known (λ text. KnowsCell follows kern token text.now)
-known_changes follows kern token is None h = tt
-known_changes follows kern token is (Some text) h = λ retelling past above followed. rw is (h retelling past above followed)
 
 module _ (becomes : List (List ℕ) → List ℕ → Result (List ℕ) Rule) (kerns : List Bool) (columns : List (List (List ℕ))) (tokens : List (List ℕ)) (j : ℕ)
     (draft : Draft) (long : Bool) where
   -- one token more
   pub done_more : (draft' : Draft) (long' : Bool) → j < length kerns → j < length columns → j < length tokens
       → Done becomes kerns columns tokens j draft long
-      → Pushes (retold becomes (get_or kerns j false) (get_or columns j []) (get_or tokens j [])) (Holds Values draft long) (Holds Values draft' long') None
+      → Pushes (rewritten becomes (get_or kerns j false) (get_or columns j []) (get_or tokens j [])) (Holds Values draft long) (Holds Values draft' long') None
       → Done becomes kerns columns tokens (j + 1) draft' long'
   done_more draft' long' a b c d p =
-      let rest = all_retold becomes (drop (j + 1) kerns) (drop (j + 1) columns) (drop (j + 1) tokens) in
+      let rest = all_rewritten becomes (drop (j + 1) kerns) (drop (j + 1) columns) (drop (j + 1) tokens) in
       let size = d.size in
       let more = length-append d.done (p.0 ∷ []) in
       record {
@@ -111,12 +103,12 @@ module _ (becomes : List (List ℕ) → List ℕ → Result (List ℕ) Rule) (ke
   -- a token is refused
   pub refused_at : (rule : Rule) → j < length kerns → j < length columns → j < length tokens
       → Done becomes kerns columns tokens j draft long
-      → retold becomes (get_or kerns j false) (get_or columns j []) (get_or tokens j []) ≡ Err rule
-      → all_retold becomes kerns columns tokens ≡ Err rule
+      → rewritten becomes (get_or kerns j false) (get_or columns j []) (get_or tokens j []) ≡ Err rule
+      → all_rewritten becomes kerns columns tokens ≡ Err rule
   refused_at rule a b c d p = sym d.whole ∙ (ap (behind d.done) (first_told becomes kerns columns tokens j a b c) ∙ rw p refl)
 
   -- all were told
-  pub done_all : length tokens ≤ j → (d : Done becomes kerns columns tokens j draft long) → all_retold becomes kerns columns tokens ≡ Ok d.done
+  pub done_all : length tokens ≤ j → (d : Done becomes kerns columns tokens j draft long) → all_rewritten becomes kerns columns tokens ≡ Ok d.done
   done_all past d = sym d.whole ∙ (ap (behind d.done) (none_left becomes kerns columns tokens j past) ∙ ap Ok (append-nil d.done))
 
 comment_no_data : Global ≡ AnyValues → ⊥
@@ -164,12 +156,12 @@ wider past (Spined Local tokens) sound k = absurd cc
 wider past (Spined Interpretation tokens) sound k = absurd cc
 wider past (Spined Values tokens) sound k = columns_width (Spined Values tokens ∷ past) sound ∙ sym (columns_width past sound.0)
 
-pub told_data : (retelling : Retelling) (past : List Row) (row : Row) → kind_of row ≡ AnyValues
-    → retell retelling past row ≡ data_record (all_retold retelling.becomes (kern_columns past) (columns past) (tokens_of row))
-told_data retelling past (Comment text) k = absurd (comment_no_data k)
-told_data retelling past (Spined Local tokens) k = absurd cc
-told_data retelling past (Spined Interpretation tokens) k = absurd cc
-told_data retelling past (Spined Values tokens) k = refl
+pub told_data : (rewriting : Rewriting) (past : List Row) (row : Row) → kind_of row ≡ AnyValues
+    → rewrite rewriting past row ≡ data_record (all_rewritten rewriting.becomes (kern_columns past) (columns past) (tokens_of row))
+told_data rewriting past (Comment text) k = absurd (comment_no_data k)
+told_data rewriting past (Spined Local tokens) k = absurd cc
+told_data rewriting past (Spined Interpretation tokens) k = absurd cc
+told_data rewriting past (Spined Values tokens) k = refl
 
 -- a record that fits, and one that doesn't
 pub fits : (tokens : List (List ℕ)) → length (spelled tokens) ≤ 1048576 → if_fit (Spined Values tokens ∷ []) ≡ Ok (Spined Values tokens ∷ [])
@@ -182,18 +174,18 @@ too_long tokens over =
 
 -- where no token is told anew, all stay
 pub nothing_told : (becomes : List (List ℕ) → List ℕ → Result (List ℕ) Rule) (kerns : List Bool) (columns : List (List (List ℕ))) (tokens : List (List ℕ))
-    → any_told kerns tokens ≡ false → all_retold becomes kerns columns tokens ≡ Ok tokens
+    → any_told kerns tokens ≡ false → all_rewritten becomes kerns columns tokens ≡ Ok tokens
 nothing_told becomes [] columns tokens h = refl
 nothing_told becomes (k ∷ ks) [] tokens h = refl
 nothing_told becomes (k ∷ ks) (c ∷ cs) [] h = refl
 nothing_told becomes (k ∷ ks) (c ∷ cs) (t ∷ ts) h =
-    let both = or_parts (k && is_told t) (any_told ks ts) h in
+    let both = or_parts (k && has_content t) (any_told ks ts) h in
     rw (stays becomes k c t both.0, nothing_told becomes ks cs ts both.1) refl
 
-pub same_data : (retelling : Retelling) (past : List Row) (row : Row) → kind_of row ≡ AnyValues → length (text_of row) ≤ 1048576
-    → any_told (kern_columns past) (tokens_of row) ≡ false → retell retelling past row ≡ Ok (row ∷ [])
-same_data retelling past (Comment text) k within h = absurd (comment_no_data k)
-same_data retelling past (Spined Local tokens) k within h = absurd cc
-same_data retelling past (Spined Interpretation tokens) k within h = absurd cc
-same_data retelling past (Spined Values tokens) k within h =
-    rw (nothing_told retelling.becomes (kern_columns past) (columns past) tokens h) (fits tokens within)
+pub same_data : (rewriting : Rewriting) (past : List Row) (row : Row) → kind_of row ≡ AnyValues → length (text_of row) ≤ 1048576
+    → any_told (kern_columns past) (tokens_of row) ≡ false → rewrite rewriting past row ≡ Ok (row ∷ [])
+same_data rewriting past (Comment text) k within h = absurd (comment_no_data k)
+same_data rewriting past (Spined Local tokens) k within h = absurd cc
+same_data rewriting past (Spined Interpretation tokens) k within h = absurd cc
+same_data rewriting past (Spined Values tokens) k within h =
+    rw (nothing_told rewriting.becomes (kern_columns past) (columns past) tokens h) (fits tokens within)

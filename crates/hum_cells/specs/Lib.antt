@@ -1,3 +1,3 @@
-pub mod Retelling
-pub mod Telling
+pub mod Rewriting
+pub mod Rewriter
 pub mod Samples

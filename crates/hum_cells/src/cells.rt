@@ -5,13 +5,13 @@ ghost use Rattle.hum_record.specs.Row.{Row, kind_of, text_of};
 ghost use Rattle.hum_path.specs.Spines.{exclusives};
 ghost use Rattle.hum_path.specs.Score.{IsOpen, path_after};
 ghost use Rattle.hum_stage.specs.Refusals.{IfAnswered};
-ghost use Rattle.hum_cells.specs.Retelling.{is_kern, kern_columns, retell};
-ghost use Rattle.hum_cells.specs.Telling.{MayTell, HasTold};
+ghost use Rattle.hum_cells.specs.Rewriting.{is_kern, kern_columns, rewrite};
+ghost use Rattle.hum_cells.specs.Rewriter.{MayTell, HasTold};
 
 use crate::heading::{has_kern, is_kern, with_heading};
-use crate::retells::{Heading, Retells};
+use crate::rewriter::{Heading, TokenRewriter};
+use crate::rewritten::Rewritten;
 use crate::tokens::{any_told, tell_tokens};
-use crate::told::Told;
 use hum_path::{Paths, steers};
 use hum_record::{Kind, Record, Spare};
 use hum_stage::{AtOnce, Command, Decides, Refusal, Rule, UpToTwo};
@@ -64,27 +64,27 @@ fn mark_after(row: &Record, paths: &Paths, kern: &mut Vec<bool>) -> Result<(), A
 ///
 /// # Errors
 /// L1; or out of memory.
-fn tell_heading<T: Retells>(
+fn tell_heading<T: TokenRewriter>(
     alloc: Global,
     teller: &T,
     kern: &[bool],
     row: &Record,
     spare: &mut Spare,
-) -> Result<Told, Refusal>
+) -> Result<Rewritten, Refusal>
     requires score { MayTell (T.follows teller.now) kern.now row.now }
     requires kind { kind_of row.now ≡ AnyInterpretation }
     requires at_most { length (text_of row.now) ≤ 1048576 }
     ensures { IfAnswered result (HasTold (T.follows teller.now) (T.follows teller.now) kern.now row.now) }
 {
     if !has_kern(row) {
-        return Ok(Told::Same);
+        return Ok(Rewritten::Same);
     }
     let heading = teller.heading();
     match with_heading(alloc, heading, row, spare)? {
         None => Err(Refusal::Rule(Rule::L1)),
         Some(made) => match heading {
-            Heading::Renamed(_) => Ok(Told::Other(made)),
-            Heading::Followed(_) => Ok(Told::With(made)),
+            Heading::Renamed(_) => Ok(Rewritten::Other(made)),
+            Heading::Followed(_) => Ok(Rewritten::With(made)),
         },
     }
 }
@@ -94,14 +94,14 @@ fn tell_heading<T: Retells>(
 /// # Errors
 /// The rule by which it is refused; or out of memory.
 #[inline(never)]
-fn tell<T: Retells>(
+fn tell<T: TokenRewriter>(
     alloc: Global,
     teller: &mut T,
     kern: &[bool],
     row: &Record,
     text: &mut Vec<u8>,
     spare: &mut Spare,
-) -> Result<Told, Refusal>
+) -> Result<Rewritten, Refusal>
     requires score { MayTell (T.follows teller.old) kern.now row.now }
     ensures { IfAnswered result (HasTold (T.follows teller.old) (T.follows teller.new) kern.now row.now) }
 {
@@ -110,25 +110,25 @@ fn tell<T: Retells>(
             if any_told(kern, row) {
                 tell_tokens(alloc, teller, kern, row, text, spare)
             } else {
-                Ok(Told::Same)
+                Ok(Rewritten::Same)
             }
         }
         Kind::Interpretation => tell_heading(alloc, teller, kern, row, spare),
-        Kind::Local => Ok(Told::Same),
-        Kind::Global => Ok(Told::Same),
+        Kind::Local => Ok(Rewritten::Same),
+        Kind::Global => Ok(Rewritten::Same),
     }
 }
 
-impl<T: Retells> Decides for Cells<T> {
+impl<T: TokenRewriter> Decides for Cells<T> {
     type Options = T::Options;
 
     type Due = UpToTwo;
 
-    ghost use Rattle.hum_cells.specs.Telling.{Frames};
+    ghost use Rattle.hum_cells.specs.Rewriter.{Frames};
 
     ghost command = { T.command };
 
-    ghost decide = { λ options. retell (T.retelling options) };
+    ghost decide = { λ options. rewrite (T.rewriting options) };
 
     ghost follows = { λ s. Frames (T.follows s.teller) s.paths.path s.kern.items };
 

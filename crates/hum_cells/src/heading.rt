@@ -4,13 +4,13 @@ ghost use Rattle.std.specs.List.{list_any};
 ghost use Rattle.hum_record.specs.declared.Kind.TheVariants.{Interpretation as AnyInterpretation};
 ghost use Rattle.hum_record.specs.declared.SpinedKind.TheVariants.{Interpretation};
 ghost use Rattle.hum_record.specs.Row.{tokens_of, kind_of};
-ghost use Rattle.hum_cells.specs.Retelling.{is_kern, headed, IsHeading};
-ghost use Rattle.hum_cells.specs.Telling.{shown};
-ghost use Rattle.hum_record.specs.Making.{IsMade};
+ghost use Rattle.hum_cells.specs.Rewriting.{is_kern, headed, IsHeading};
+ghost use Rattle.hum_cells.specs.Rewriter.{shown};
+ghost use Rattle.hum_record.specs.RecordDraft.{IsMade};
 
-use crate::retells::Heading;
+use crate::rewriter::Heading;
 use hum_path::Paths;
-use hum_record::{Making, Record, Spare, SpinedKind};
+use hum_record::{Record, RecordDraft, Spare, SpinedKind};
 use std::alloc::{AllocError, Global};
 
 /// Whether an exclusive interpretation is `**kern`.
@@ -57,7 +57,7 @@ pub(crate) fn with_heading(
     ensures { IfOk result (IsMade Interpretation
         (map (headed (shown heading.entry)) (tokens_of row.now))) }
 {
-    let mut making = Making::new(alloc, SpinedKind::Interpretation, spare);
+    let mut making = RecordDraft::new(alloc, SpinedKind::Interpretation, spare);
     for j in 0..row.width() {
         making.push(headed(heading, row.token(j)))?;
     }

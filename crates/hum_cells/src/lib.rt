@@ -3,15 +3,15 @@
 //!
 //! Such a command makes another token of each data token of a kern column that is neither null
 //! (`.`) nor a barline (it begins with `=`). It renames `**kern`, or puts a record with a tandem
-//! interpretation behind each record with `**kern`. All else stays. [`Retells`] is what is the
+//! interpretation behind each record with `**kern`. All else stays. [`TokenRewriter`] is what is the
 //! command's own, and [`CellStage`] its stage.
 #![tactic(auto)]
 
 mod cells;
 mod heading;
-mod retells;
+mod rewriter;
+mod rewritten;
 mod tokens;
-mod told;
 
 pub use cells::{CellStage, Cells};
-pub use retells::{Heading, Retells};
+pub use rewriter::{Heading, TokenRewriter};

@@ -8,7 +8,8 @@ use Rattle.hum_stage.specs.declared.faults.Rule.TheVariants.{C1, C2}
 use Rattle.hum_stage.specs.Outcome.{settled, refusal}
 use Rattle.hum_stage.specs.Decided.{decisions}
 use Rattle.hum_cleave.specs.Tokens.{comment_of, interpretation_of, data_of}
-use Rattle.hum_cleave.specs.Cleave.{Options, cleave, merged}
+use Rattle.hum_choices.specs.Cleave.{Options}
+use Rattle.hum_cleave.specs.Cleave.{cleave, merged}
 
 abbrev pub by : List ℕ → Options
 by separator = record { name = codes "**a"; new_name = codes "**b"; separator = separator }

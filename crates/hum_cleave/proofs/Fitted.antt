@@ -23,7 +23,8 @@ use Rattle.hum_columns.specs.Chosen.{others}
 use Rattle.hum_cleave.specs.Columns.{together}
 use Rattle.hum_cleave.specs.Tokens.{leftmost, comment_of, is_silent, interpretation_of, is_left_out, taken, following, joined, data_of}
 use Rattle.hum_columns.specs.Chosen.{each_piece}
-use Rattle.hum_cleave.specs.Cleave.{fits_in_token, pieces, text_told}
+use Rattle.hum_choices.specs.Cleave.{fits_in_token}
+use Rattle.hum_cleave.specs.Cleave.{pieces, text_told}
 use Rattle.hum_columns.specs.Following.{AsWide, is_interpretation}
 use Rattle.hum_columns.proofs.ChosenLists.{chosen_map, chosen_all}
 use Rattle.hum_columns.proofs.ChosenJoins.{each_tokens, each_marks}

@@ -25,7 +25,8 @@ use Rattle.hum_stage.specs.Decided.{decisions, limit}
 use Rattle.hum_columns.specs.Chosen.{others}
 use Rattle.hum_columns.proofs.KeepsScores.{Reach, Selects, text_reaches, text_parts, opening_reaches, columns_keep}
 use Rattle.hum_cleave.specs.Columns.{opening_flags, together}
-use Rattle.hum_cleave.specs.Cleave.{Options, is_name, fits_in_token, one_record, one_of, opened, cleave, column_command}
+use Rattle.hum_choices.specs.Cleave.{Options, is_name, fits_in_token}
+use Rattle.hum_cleave.specs.Cleave.{one_record, one_of, opened, cleave, column_command}
 use Rattle.hum_cleave.proofs.Placewise.{together_filled}
 use Rattle.hum_cleave.proofs.Selecting.{together_length, together_fewer, together_lacks}
 use Rattle.hum_cleave.proofs.MergedLeads.{merged_leads}

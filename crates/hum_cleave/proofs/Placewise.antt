@@ -7,7 +7,7 @@ use Rattle.hum_record.specs.declared.SpinedKind.{SpinedKind}
 use Rattle.hum_record.specs.Building.{Draft}
 use Rattle.hum_columns.specs.Chosen.{others}
 use Rattle.hum_cleave.specs.Columns.{together}
-use Rattle.hum_record.specs.Making.{Holds}
+use Rattle.hum_record.specs.RecordDraft.{Holds}
 
 -- what is left to write, once the one column was written or before
 abbrev pub left_of : {X : Type 0} → Bool → X → List Bool → List X → List X

@@ -7,7 +7,8 @@ use Rattle.hum_stage.specs.declared.faults.Rule.{Rule}
 use Rattle.hum_stage.specs.Decided.{Decision, in_room, Steps}
 use Rattle.hum_columns.specs.Following.{Answers, Memory, Follows, is_interpretation}
 use Rattle.hum_columns.proofs.Taking.{follows_still}
-use Rattle.hum_cleave.specs.Cleave.{Options, text_told, column_command}
+use Rattle.hum_choices.specs.Cleave.{Options}
+use Rattle.hum_cleave.specs.Cleave.{text_told, column_command}
 
 module _ (options : Options) {m : Memory} {decide : Decision} where
   decided_still : (row : Row) (past : List Row) → Follows (column_command options) m decide past → is_interpretation row ≡ false

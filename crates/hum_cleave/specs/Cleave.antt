@@ -12,36 +12,17 @@ use Rattle.hum_record.specs.Spelling.{has_byte}
 use Rattle.hum_path.specs.declared.signs.Sign.{Sign}
 use Rattle.hum_path.specs.declared.signs.Sign.TheVariants.{Exchange, Add, End}
 use Rattle.hum_path.specs.Sign.{sign_of, is_exclusive}
-use Rattle.hum_columns.specs.Spread.{Piece, piece, spread, filled}
+use Rattle.hum_columns.specs.Spread.{JoinedToken, piece, spread, filled}
 use Rattle.hum_stage.specs.declared.faults.Rule.{Rule}
 use Rattle.hum_stage.specs.declared.faults.Rule.TheVariants.{C1, C2, L1}
 use Rattle.hum_stage.specs.declared.faults.Command.TheVariants.{Cleave}
 use Rattle.hum_stage.specs.Meaning.{Meaning}
 use Rattle.hum_stage.specs.Decided.{Decision, at_once}
+use Rattle.hum_choices.specs.Cleave.{Options}
 use Rattle.hum_columns.specs.Chosen.{is_torn, each_piece}
 use Rattle.hum_columns.specs.Deciding.{ColumnCommand, by_columns}
 use Rattle.hum_cleave.specs.Columns.{opening_flags, together}
 use Rattle.hum_cleave.specs.Tokens.{comment_of, interpretation_of, data_of}
-
--- `-i`, `-o` and `-d`
-pub record Options : Type 0 where
-  pub name : List ℕ
-  pub new_name : List ℕ
-  pub separator : List ℕ
-
--- whether a text can stand in a token
-abbrev pub fits_in_token : List ℕ → Bool
-fits_in_token text = not (has_byte 9 text || (has_byte 13 text || has_byte 10 text))
-
--- `**` and at least one more byte
-abbrev pub is_name : List ℕ → Bool
-is_name name =
-    is_exclusive (sign_of name) && (not (bytes_eq (codes "**") name) && fits_in_token name)
-
--- options that a plan may give
-pub record AreLawful (options : Options) : Type 0 where
-  pub named : is_name options.new_name ≡ true
-  pub between : fits_in_token options.separator ≡ true
 
 -- an exchange or an added spine
 abbrev pub is_moved : Sign → Bool
@@ -64,7 +45,7 @@ is_entangled flags signs =
     || (ends_apart (chosen flags signs) || is_torn flags signs)
 
 -- what is written of an interpretation
-abbrev pub pieces : List Bool → List (List ℕ) → List Piece
+abbrev pub pieces : List Bool → List (List ℕ) → List JoinedToken
 pieces flags tokens =
     together (piece false (interpretation_of (chosen flags tokens))) flags (each_piece false tokens)
 

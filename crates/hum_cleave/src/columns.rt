@@ -11,8 +11,8 @@ ghost use Rattle.hum_cleave.specs.Columns.{opening_flags};
 ghost use Rattle.hum_cleave.specs.Cleave.{opened, cleave, column_command};
 
 use crate::merging::merge;
-use crate::options::CleaveOptions;
 use crate::records::{Buffers, give, give_text, opening_record};
+use hum_choices::CleaveOptions;
 use hum_columns::ChosenColumns;
 use hum_path::Marks;
 use hum_record::{Kind, Record};
@@ -67,14 +67,14 @@ fn open(
 
 /// The cleaved columns, and the spines that they are among.
 #[derive(Drop)]
-pub struct Columns {
+pub struct CleaveColumns {
     alloc: Global,
     options: CleaveOptions,
     columns: ChosenColumns,
     buffers: Buffers,
 }
 
-impl Decides for Columns {
+impl Decides for CleaveColumns {
     type Options = CleaveOptions;
 
     type Due = VecDeque<Record>;
@@ -92,10 +92,10 @@ impl Decides for Columns {
         Command::Cleave
     }
 
-    fn begin(alloc: Global, options: CleaveOptions) -> Columns {
+    fn begin(alloc: Global, options: CleaveOptions) -> CleaveColumns {
         // The new name is one.
         let _new_name = options.new_name();
-        Columns {
+        CleaveColumns {
             alloc,
             options,
             columns: ChosenColumns::none(alloc),

@@ -8,13 +8,12 @@
 mod barlines;
 mod columns;
 mod merging;
-mod options;
 mod records;
 mod tokens;
 
-pub use columns::Columns;
+pub use columns::CleaveColumns;
+pub use hum_choices::{CleaveOptions, is_name, is_separator};
 use hum_stage::AtOnce;
-pub use options::{CleaveOptions, is_name, is_separator};
 
 /// The command cleave, as a stage.
 ///
@@ -24,4 +23,4 @@ pub use options::{CleaveOptions, is_name, is_separator};
 /// would be too long; and by L2 what there is no room for.
 ///
 /// What it remembers is one mark for each spine, and the spines' exclusive interpretations.
-pub type Cleave = AtOnce<Columns>;
+pub type Cleave = AtOnce<CleaveColumns>;

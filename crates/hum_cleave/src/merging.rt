@@ -12,7 +12,7 @@ ghost use Rattle.hum_cleave.specs.Columns.{together};
 ghost use Rattle.hum_cleave.specs.Cleave.{is_moved, is_end, ends_apart, is_entangled, merged};
 
 use crate::tokens::leftmost_interpretation;
-use hum_columns::{Piece, is_torn, write_pieces};
+use hum_columns::{JoinedToken, is_torn, write_pieces};
 use hum_path::{Sign, token_sign};
 use hum_record::Record;
 use hum_stage::{Refusal, Rule};
@@ -86,7 +86,7 @@ fn pieces<'r>(
     marks: &[bool],
     one: &'r [u8],
     row: &'r Record,
-) -> Result<Vec<Piece<'r>>, AllocError>
+) -> Result<Vec<JoinedToken<'r>>, AllocError>
     requires { length marks.now ≡ width_of row.now }
     ensures { IfOk result (λ kept. kept.items
         ≡ together (piece false one.now) marks.now (each_piece false (tokens_of row.now))) }
@@ -98,9 +98,9 @@ fn pieces<'r>(
         let token = row.token(j);
         let joins = token_sign(token).is_join();
         if !*mark {
-            kept.push(Piece::new(joins && !after_join, token))?;
+            kept.push(JoinedToken::new(joins && !after_join, token))?;
         } else if !is_done {
-            kept.push(Piece::new(false, one))?;
+            kept.push(JoinedToken::new(false, one))?;
             is_done = true;
         }
         after_join = joins;

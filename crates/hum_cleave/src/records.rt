@@ -8,12 +8,13 @@ ghost use Rattle.hum_stage.specs.Refusals.{IfTold};
 ghost use Rattle.hum_columns.specs.Following.{AsWide, Answers, is_interpretation};
 ghost use Rattle.hum_cleave.specs.Columns.{together};
 ghost use Rattle.hum_cleave.specs.Tokens.{comment_of, data_of};
-ghost use Rattle.hum_cleave.specs.Cleave.{fits_in_token, is_name, one_record, text_told};
-ghost use Rattle.hum_record.specs.Making.{IsMade};
+ghost use Rattle.hum_choices.specs.Cleave.{fits_in_token, is_name};
+ghost use Rattle.hum_cleave.specs.Cleave.{one_record, text_told};
+ghost use Rattle.hum_record.specs.RecordDraft.{IsMade};
 
 use crate::tokens::{gather, leftmost_comment};
 use hum_path::Marks;
-use hum_record::{Kind, Making, Record, Spare, SpinedKind};
+use hum_record::{Kind, Record, RecordDraft, Spare, SpinedKind};
 use hum_stage::{Refusal, Rule};
 use std::alloc::{AllocError, Global};
 use std::collections::VecDeque;
@@ -61,7 +62,7 @@ fn put_together(
     requires as_wide { length marks.now ≡ width_of row.now }
     ensures { IfOk result (IsMade kind (together one.now marks.now (tokens_of row.now))) }
 {
-    let mut making = Making::new(alloc, kind, spare);
+    let mut making = RecordDraft::new(alloc, kind, spare);
     let mut is_done = false;
     for (j, mark) in marks.iter().enumerate() {
         if !*mark {

@@ -8,7 +8,7 @@ use Rattle.hum_path.specs.declared.signs.Sign.TheVariants.{Plain}
 use Rattle.hum_path.specs.Sign.{sign_of, is_join}
 use Rattle.hum_path.specs.Rules.{first_is, has_lone_join, has_mixed_join}
 use Rattle.hum_path.specs.Onward.{beginnings}
-use Rattle.hum_columns.specs.Spread.{Piece, tokens_in}
+use Rattle.hum_columns.specs.Spread.{JoinedToken, tokens_in}
 use Rattle.hum_columns.proofs.Spreading.{marks, next_goes_on, Formed}
 use Rattle.hum_record.specs.Row.{chosen}
 use Rattle.hum_columns.specs.Chosen.{others, differ, is_torn, each_piece}
@@ -25,11 +25,11 @@ each_marks b (t ∷ ts) = ap (λ (bs : List Bool). (is_join (sign_of t) && not b
 
 pub chosen_tokens : (b : Bool) (fs : List Bool) (ts : List (List ℕ)) → tokens_in (chosen fs (each_piece b ts)) ≡ chosen fs ts
 chosen_tokens b fs ts =
-    chosen_map (λ (p : Piece). p.token) fs (each_piece b ts) ∙ ap (λ (us : List (List ℕ)). chosen fs us) (each_tokens b ts)
+    chosen_map (λ (p : JoinedToken). p.token) fs (each_piece b ts) ∙ ap (λ (us : List (List ℕ)). chosen fs us) (each_tokens b ts)
 
 pub chosen_marks : (b : Bool) (fs : List Bool) (ts : List (List ℕ)) → marks (chosen fs (each_piece b ts)) ≡ chosen fs (beginnings b (map sign_of ts))
 chosen_marks b fs ts =
-    chosen_map (λ (p : Piece). p.begins) fs (each_piece b ts) ∙ ap (λ (bs : List Bool). chosen fs bs) (each_marks b ts)
+    chosen_map (λ (p : JoinedToken). p.begins) fs (each_piece b ts) ∙ ap (λ (bs : List Bool). chosen fs bs) (each_marks b ts)
 
 -- the join to the right is as this one
 pub join_too : (j k f g : Bool) → j ≡ true → k ≡ true → (j && (k && differ f g)) ≡ false → g ≡ f

@@ -12,29 +12,29 @@ use Rattle.hum_path.specs.Sign.{sign_of, is_join, is_exchange}
 use Rattle.hum_path.specs.Spines.{exchanges}
 use Rattle.hum_path.specs.Rules.{has_lone_join, first_is, has_mixed_join}
 use Rattle.hum_path.proofs.Cases.{by_bool}
-use Rattle.hum_columns.specs.Spread.{Piece, joins, goes_on, tokens_in, join_alone, first_alone, join_done, first_done}
+use Rattle.hum_columns.specs.Spread.{JoinedToken, joins, goes_on, tokens_in, join_alone, first_alone, join_done, first_done}
 use Rattle.hum_columns.proofs.Spreading.{signs_in, next_goes_on, Formed, formed_length, rest_merged, merged, is_join_at}
 use Rattle.hum_columns.proofs.Fitting.{same_name}
 
 -- as many tokens as pieces
-alone_size : (ps : List Piece) → length (join_alone ps) ≡ length ps
+alone_size : (ps : List JoinedToken) → length (join_alone ps) ≡ length ps
 alone_size [] = refl
 alone_size (p ∷ ps) = by_bool (goes_on p)
     (λ w. rw w (ap suc (alone_size ps)))
     (λ w. rw w (length-map (p ∷ ps) (λ _. codes "*")))
 
-pub first_size : (ps : List Piece) → length (first_alone ps) ≡ length ps
+pub first_size : (ps : List JoinedToken) → length (first_alone ps) ≡ length ps
 first_size [] = refl
 first_size (p ∷ ps) = by_bool p.begins
     (λ w. rw w (ap suc (alone_size ps)))
     (λ w. rw w (ap suc (first_size ps)))
 
 -- what neither null tokens nor joins are, none is
-stars_none : (test : List ℕ → Bool) (ps : List Piece) → test (codes "*") ≡ false → list_any test (map (λ _. codes "*") ps) ≡ false
+stars_none : (test : List ℕ → Bool) (ps : List JoinedToken) → test (codes "*") ≡ false → list_any test (map (λ _. codes "*") ps) ≡ false
 stars_none test [] h = refl
 stars_none test (p ∷ ps) h = or_from (test (codes "*")) (list_any test (map (λ _. codes "*") ps)) h (stars_none test ps h)
 
-alone_none : (test : List ℕ → Bool) (ps : List Piece) → test (codes "*") ≡ false → list_any test (tokens_in ps) ≡ false
+alone_none : (test : List ℕ → Bool) (ps : List JoinedToken) → test (codes "*") ≡ false → list_any test (tokens_in ps) ≡ false
     → list_any test (join_alone ps) ≡ false
 alone_none test [] star h = refl
 alone_none test (p ∷ ps) star h =
@@ -43,7 +43,7 @@ alone_none test (p ∷ ps) star h =
     (λ w. rw w (or_from (test p.token) (list_any test (join_alone ps)) both.0 (alone_none test ps star both.1)))
     (λ w. rw w (stars_none test (p ∷ ps) star))
 
-pub first_none : (test : List ℕ → Bool) (ps : List Piece) → test (codes "*") ≡ false → list_any test (tokens_in ps) ≡ false
+pub first_none : (test : List ℕ → Bool) (ps : List JoinedToken) → test (codes "*") ≡ false → list_any test (tokens_in ps) ≡ false
     → list_any test (first_alone ps) ≡ false
 first_none test [] star h = refl
 first_none test (p ∷ ps) star h =
@@ -53,14 +53,14 @@ first_none test (p ∷ ps) star h =
     (λ w. rw w (or_from (test (codes "*")) (list_any test (first_alone ps)) star (first_none test ps star both.1)))
 
 -- the same of what is left
-left_none : (test : List ℕ → Bool) (ps : List Piece) → list_any test (tokens_in ps) ≡ false
+left_none : (test : List ℕ → Bool) (ps : List JoinedToken) → list_any test (tokens_in ps) ≡ false
     → list_any test (tokens_in (join_done ps)) ≡ false
 left_none test [] h = refl
 left_none test (p ∷ ps) h = by_bool (goes_on p)
     (λ w. rw w (left_none test ps (or_parts (test p.token) (list_any test (tokens_in ps)) h).1))
     (λ w. rw w h)
 
-pub done_none : (test : List ℕ → Bool) (ps : List Piece) → test (codes "*") ≡ false → list_any test (tokens_in ps) ≡ false
+pub done_none : (test : List ℕ → Bool) (ps : List JoinedToken) → test (codes "*") ≡ false → list_any test (tokens_in ps) ≡ false
     → list_any test (tokens_in (first_done ps)) ≡ false
 done_none test [] star h = refl
 done_none test (p ∷ ps) star h =
@@ -69,7 +69,7 @@ done_none test (p ∷ ps) star h =
     (λ w. rw w (or_from (test (codes "*")) (list_any test (tokens_in (join_done ps))) star (left_none test ps both.1)))
     (λ w. rw w (or_from (test p.token) (list_any test (tokens_in (first_done ps))) both.0 (done_none test ps star both.1)))
 
-rest_none : {X : Type 0} (test : X → Bool) (ps : List Piece) (xs : List X) → list_any test xs ≡ false
+rest_none : {X : Type 0} (test : X → Bool) (ps : List JoinedToken) (xs : List X) → list_any test xs ≡ false
     → list_any test (rest_merged ps xs) ≡ false
 rest_none test [] xs h = h
 rest_none test (p ∷ ps) [] h = refl
@@ -77,7 +77,7 @@ rest_none test (p ∷ ps) (x ∷ xs) h = by_bool (goes_on p)
     (λ w. rw w (rest_none test ps xs (or_parts (test x) (list_any test xs) h).1))
     (λ w. rw w h)
 
-pub merged_none : {X : Type 0} (test : X → Bool) (ps : List Piece) (xs : List X) → list_any test xs ≡ false
+pub merged_none : {X : Type 0} (test : X → Bool) (ps : List JoinedToken) (xs : List X) → list_any test xs ≡ false
     → list_any test (merged ps xs) ≡ false
 merged_none test [] xs h = h
 merged_none test (p ∷ ps) [] h = refl
@@ -87,14 +87,14 @@ merged_none test (p ∷ ps) (x ∷ xs) h =
     (λ w. rw w (or_from (test x) (list_any test (rest_merged ps xs)) both.0 (rest_none test ps xs both.1)))
     (λ w. rw w (or_from (test x) (list_any test (merged ps xs)) both.0 (merged_none test ps xs both.1)))
 
-rest_fewer : {X : Type 0} (ps : List Piece) (xs : List X) → length (rest_merged ps xs) ≤ length xs
+rest_fewer : {X : Type 0} (ps : List JoinedToken) (xs : List X) → length (rest_merged ps xs) ≤ length xs
 rest_fewer [] xs = omega arith
 rest_fewer (p ∷ ps) [] = omega arith
 rest_fewer (p ∷ ps) (x ∷ xs) = by_bool (goes_on p)
     (λ w. rw w (let ih = rest_fewer ps xs in omega (arith, ih)))
     (λ w. rw w (omega arith))
 
-pub merged_fewer : {X : Type 0} (ps : List Piece) (xs : List X) → length (merged ps xs) ≤ length xs
+pub merged_fewer : {X : Type 0} (ps : List JoinedToken) (xs : List X) → length (merged ps xs) ≤ length xs
 merged_fewer [] xs = omega arith
 merged_fewer (p ∷ ps) [] = omega arith
 merged_fewer (p ∷ ps) (x ∷ xs) = by_bool p.begins
@@ -102,11 +102,11 @@ merged_fewer (p ∷ ps) (x ∷ xs) = by_bool p.begins
     (λ w. rw w (let ih = merged_fewer ps xs in omega (arith, ih)))
 
 -- its signs
-stars_lone : (b : Bool) (ps : List Piece) → has_lone_join b (map sign_of (map (λ _. codes "*") ps)) ≡ false
+stars_lone : (b : Bool) (ps : List JoinedToken) → has_lone_join b (map sign_of (map (λ _. codes "*") ps)) ≡ false
 stars_lone b [] = refl
 stars_lone b (p ∷ ps) = stars_lone false ps
 
-alone_lone : (ps : List Piece) → has_lone_join true (map sign_of (join_alone ps)) ≡ false
+alone_lone : (ps : List JoinedToken) → has_lone_join true (map sign_of (join_alone ps)) ≡ false
 alone_lone [] = refl
 alone_lone (p ∷ ps) = by_bool (goes_on p)
     (λ w.
@@ -114,11 +114,11 @@ alone_lone (p ∷ ps) = by_bool (goes_on p)
     rw (w, join) (alone_lone ps))
     (λ w. rw w (stars_lone true (p ∷ ps)))
 
-alone_joins : (ps : List Piece) → next_goes_on ps ≡ true → first_is is_join (map sign_of (join_alone ps)) ≡ true
+alone_joins : (ps : List JoinedToken) → next_goes_on ps ≡ true → first_is is_join (map sign_of (join_alone ps)) ≡ true
 alone_joins [] h = h
 alone_joins (p ∷ ps) h = rw h (and_parts (joins p) (not p.begins) h).0
 
-pub first_lone : (b : Bool) (m : List ℕ) (ps : List Piece) (ns : List (List ℕ)) → Formed b m ps ns
+pub first_lone : (b : Bool) (m : List ℕ) (ps : List JoinedToken) (ns : List (List ℕ)) → Formed b m ps ns
     → has_lone_join false (map sign_of (first_alone ps)) ≡ false
 first_lone b m [] ns f = refl
 first_lone b m (p ∷ ps) [] f = absurd f
@@ -129,7 +129,7 @@ first_lone b m (p ∷ ps) (n ∷ ns) f = by_bool p.begins
     rw (w, join, next) (alone_lone ps))
     (λ w. rw w (first_lone (joins p) n ps ns f.1.1))
 
-stars_mixed : (m : List ℕ) (ps : List Piece) (ns : List (List ℕ)) (s : Sign) → length ps ≡ length ns
+stars_mixed : (m : List ℕ) (ps : List JoinedToken) (ns : List (List ℕ)) (s : Sign) → length ps ≡ length ns
     → has_mixed_join (m ∷ ns) (s ∷ map sign_of (map (λ _. codes "*") ps)) ≡ false
 stars_mixed m [] [] s len = refl
 stars_mixed m [] (n ∷ ns) s len = absurd (omega (arith, len))
@@ -142,7 +142,7 @@ stars_mixed m (p ∷ ps) (n ∷ ns) s len =
     never true = refl
     never false = refl
 
-alone_mixed : (b : Bool) (m : List ℕ) (ps : List Piece) (ns : List (List ℕ)) → Formed b m ps ns
+alone_mixed : (b : Bool) (m : List ℕ) (ps : List JoinedToken) (ns : List (List ℕ)) → Formed b m ps ns
     → has_mixed_join (m ∷ ns) (Join ∷ map sign_of (join_alone ps)) ≡ false
 alone_mixed b m [] [] f = refl
 alone_mixed b m [] (n ∷ ns) f = absurd f
@@ -157,7 +157,7 @@ alone_mixed b m (p ∷ ps) (n ∷ ns) f = by_test (goes_on p) refl (alone_mixed 
         rw (is_join_at (sign_of p.token) join, same) rest
     by_test false w rest = stars_mixed m (p ∷ ps) (n ∷ ns) Join (formed_length b m (p ∷ ps) (n ∷ ns) f)
 
-first_mixed : (b : Bool) (m o : List ℕ) (ps : List Piece) (ns : List (List ℕ)) → Formed b m ps ns
+first_mixed : (b : Bool) (m o : List ℕ) (ps : List JoinedToken) (ns : List (List ℕ)) → Formed b m ps ns
     → has_mixed_join (o ∷ ns) (Plain ∷ map sign_of (first_alone ps)) ≡ false
 first_mixed b m o [] [] f = refl
 first_mixed b m o [] (n ∷ ns) f = absurd f
@@ -170,7 +170,7 @@ first_mixed b m o (p ∷ ps) (n ∷ ns) f = by_test p.begins refl (alone_mixed (
     by_test true w alone more = rw (is_join_at (sign_of p.token) (f.0 w).0) alone
     by_test false w alone more = more
 
-pub first_unmixed : (ps : List Piece) (ns : List (List ℕ)) → Formed false [] ps ns
+pub first_unmixed : (ps : List JoinedToken) (ns : List (List ℕ)) → Formed false [] ps ns
     → has_mixed_join ns (map sign_of (first_alone ps)) ≡ false
 first_unmixed [] [] f = refl
 first_unmixed [] (n ∷ ns) f = absurd f
@@ -184,17 +184,17 @@ first_unmixed (p ∷ ps) (n ∷ ns) f = by_test p.begins (first_mixed false [] [
     by_test false h = h
 
 -- it exchanges none
-stars_exchange : (j : ℕ) (ps : List Piece) → exchanges j (map sign_of (map (λ _. codes "*") ps)) ≡ []
+stars_exchange : (j : ℕ) (ps : List JoinedToken) → exchanges j (map sign_of (map (λ _. codes "*") ps)) ≡ []
 stars_exchange j [] = refl
 stars_exchange j (p ∷ ps) = stars_exchange (j + 1) ps
 
-alone_exchange : (j : ℕ) (ps : List Piece) → exchanges j (map sign_of (join_alone ps)) ≡ []
+alone_exchange : (j : ℕ) (ps : List JoinedToken) → exchanges j (map sign_of (join_alone ps)) ≡ []
 alone_exchange j [] = refl
 alone_exchange j (p ∷ ps) = by_bool (goes_on p)
     (λ w. rw (w, is_join_at (sign_of p.token) (and_parts (joins p) (not p.begins) w).0) (alone_exchange (j + 1) ps))
     (λ w. rw w (stars_exchange j (p ∷ ps)))
 
-pub first_exchange : (j : ℕ) (b : Bool) (m : List ℕ) (ps : List Piece) (ns : List (List ℕ)) → Formed b m ps ns
+pub first_exchange : (j : ℕ) (b : Bool) (m : List ℕ) (ps : List JoinedToken) (ns : List (List ℕ)) → Formed b m ps ns
     → exchanges j (map sign_of (first_alone ps)) ≡ []
 first_exchange j b m [] ns f = refl
 first_exchange j b m (p ∷ ps) [] f = absurd f
@@ -209,13 +209,13 @@ as_many i j (s ∷ ss) = by_bool (is_exchange s)
     (λ w. rw w (ap suc (as_many (i + 1) (j + 1) ss)))
     (λ w. rw w (as_many (i + 1) (j + 1) ss))
 
-left_exchanges : (i j : ℕ) (ps : List Piece) → length (exchanges i (signs_in (join_done ps))) ≡ length (exchanges j (signs_in ps))
+left_exchanges : (i j : ℕ) (ps : List JoinedToken) → length (exchanges i (signs_in (join_done ps))) ≡ length (exchanges j (signs_in ps))
 left_exchanges i j [] = refl
 left_exchanges i j (p ∷ ps) = by_bool (goes_on p)
     (λ w. rw (w, is_join_at (sign_of p.token) (and_parts (joins p) (not p.begins) w).0) (left_exchanges i (j + 1) ps))
     (λ w. rw w (as_many i j (signs_in (p ∷ ps))))
 
-pub done_exchanges : (i j : ℕ) (b : Bool) (m : List ℕ) (ps : List Piece) (ns : List (List ℕ)) → Formed b m ps ns
+pub done_exchanges : (i j : ℕ) (b : Bool) (m : List ℕ) (ps : List JoinedToken) (ns : List (List ℕ)) → Formed b m ps ns
     → length (exchanges i (signs_in (first_done ps))) ≡ length (exchanges j (signs_in ps))
 done_exchanges i j b m [] ns f = refl
 done_exchanges i j b m (p ∷ ps) [] f = absurd f

@@ -18,16 +18,16 @@ use Rattle.hum_path.specs.Rules.{has_lone_join, first_is, is_pair_or_none, has_m
 use Rattle.hum_path.specs.Score.{Lead}
 use Rattle.hum_path.specs.Onward.{beginnings, onward, swapped, renamed_each}
 use Rattle.hum_path.proofs.Onwards.{names_onward}
-use Rattle.hum_columns.specs.Spread.{Piece, joins, tokens_in, touches, filled}
+use Rattle.hum_columns.specs.Spread.{JoinedToken, joins, tokens_in, touches, filled}
 use Rattle.hum_columns.proofs.Spreading.{marks, signs_in, next_goes_on, Formed, formed_length}
 
 -- what pieces come to at once
-abbrev pub come_to : List Piece → List (List ℕ) → List (List ℕ)
+abbrev pub come_to : List JoinedToken → List (List ℕ) → List (List ℕ)
 come_to pieces names =
     onward (λ _. []) (marks pieces) (signs_in pieces) (swapped (signs_in pieces) (renamed_each names (tokens_in pieces)))
 
 -- pieces that break no rule but that joins may touch
-pub record Fits (pieces : List Piece) (names : List (List ℕ)) : Type 0 where
+pub record Fits (pieces : List JoinedToken) (names : List (List ℕ)) : Type 0 where
   pub formed : Formed false [] pieces names
   pub unnamed : has_unnamed names (signs_in pieces) ≡ false
   pub bare : has_bare (tokens_in pieces) ≡ false
@@ -47,7 +47,7 @@ sound_by_rules names tokens k some len p6 p10 p11 p3 p4 p5 p9 =
     let few : nat_lt 4096 (length (moves_under (map sign_of tokens))) ≡ false = grind (arith, nat_tests, p9, size) in
     rw (here, same, p6, p10, p11, p3, p4, p5, few) refl
 
-pub pieces_size : (ps : List Piece) → length (tokens_in ps) ≡ length ps
+pub pieces_size : (ps : List JoinedToken) → length (tokens_in ps) ≡ length ps
 pieces_size ps = length-map ps (λ p. p.token)
 
 -- Where no join touches another, each begins where its piece says.
@@ -61,7 +61,7 @@ not_after false true false h g t = h refl
 not_after false false true h g t = sym (g refl)
 not_after false false false h g t = refl
 
-pub begins_marks : (b : Bool) (m : List ℕ) (ps : List Piece) (ns : List (List ℕ)) → Formed b m ps ns → touches b ps ≡ false
+pub begins_marks : (b : Bool) (m : List ℕ) (ps : List JoinedToken) (ns : List (List ℕ)) → Formed b m ps ns → touches b ps ≡ false
     → beginnings b (signs_in ps) ≡ marks ps
 begins_marks b m [] ns f t = refl
 begins_marks b m (p ∷ ps) [] f t = absurd f
@@ -71,7 +71,7 @@ begins_marks b m (p ∷ ps) (n ∷ ns) f t =
     rw (here, begins_marks (joins p) n ps ns f.1.1 both.1) refl
 
 -- no join is lone
-next_joins : (ps : List Piece) → next_goes_on ps ≡ true → first_is is_join (signs_in ps) ≡ true
+next_joins : (ps : List JoinedToken) → next_goes_on ps ≡ true → first_is is_join (signs_in ps) ≡ true
 next_joins [] h = h
 next_joins (p ∷ ps) h = (and_parts (joins p) (not p.begins) h).0
 
@@ -83,7 +83,7 @@ beside false true false next h g = refl
 beside false false true next h g = absurd (false≢true (g refl))
 beside false false false next h g = refl
 
-pub formed_lone : (b : Bool) (m : List ℕ) (ps : List Piece) (ns : List (List ℕ)) → Formed b m ps ns → has_lone_join b (signs_in ps) ≡ false
+pub formed_lone : (b : Bool) (m : List ℕ) (ps : List JoinedToken) (ns : List (List ℕ)) → Formed b m ps ns → has_lone_join b (signs_in ps) ≡ false
 formed_lone b m [] ns f = refl
 formed_lone b m (p ∷ ps) [] f = absurd f
 formed_lone b m (p ∷ ps) (n ∷ ns) f =
@@ -102,7 +102,7 @@ unmixed true true j m n h t = absurd (false≢true (sym t))
 unmixed true false false m n h t = refl
 unmixed true false true m n h t = same_name m n (h refl).1
 
-pub formed_mixed : (s : Sign) (m : List ℕ) (ps : List Piece) (ns : List (List ℕ)) → Formed (is_join s) m ps ns
+pub formed_mixed : (s : Sign) (m : List ℕ) (ps : List JoinedToken) (ns : List (List ℕ)) → Formed (is_join s) m ps ns
     → touches (is_join s) ps ≡ false → has_mixed_join (m ∷ ns) (s ∷ signs_in ps) ≡ false
 formed_mixed s m [] [] f t = refl
 formed_mixed s m [] (n ∷ ns) f t = absurd f
@@ -114,7 +114,7 @@ formed_mixed s m (p ∷ ps) (n ∷ ns) f t =
     (formed_mixed (sign_of p.token) n ps ns f.1.1 both.1)
 
 -- nothing stands to the left of the first
-mixed_first : (ps : List Piece) (ns : List (List ℕ)) → Formed false [] ps ns → touches false ps ≡ false
+mixed_first : (ps : List JoinedToken) (ns : List (List ℕ)) → Formed false [] ps ns → touches false ps ≡ false
     → has_mixed_join ns (signs_in ps) ≡ false
 mixed_first [] [] f t = refl
 mixed_first [] (n ∷ ns) f t = absurd f
@@ -122,7 +122,7 @@ mixed_first (p ∷ ps) [] f t = absurd f
 mixed_first (p ∷ ps) (n ∷ ns) f t = formed_mixed Plain [] (p ∷ ps) (n ∷ ns) f t
 
 -- One record, where no join touches another.
-pub one_comes : (ps : List Piece) (ns : List (List ℕ)) → Fits ps ns → touches false ps ≡ false
+pub one_comes : (ps : List JoinedToken) (ns : List (List ℕ)) → Fits ps ns → touches false ps ≡ false
     → names_after (Spines ns) (tokens_in ps) ≡ come_to ps ns
 one_comes ps ns fits t =
     let len : length ns ≡ length (tokens_in ps) = sym (formed_length false [] ps ns fits.formed) ∙ sym (pieces_size ps) in
@@ -130,7 +130,7 @@ one_comes ps ns fits t =
     ∙ ap (λ (bs : List Bool). onward (λ _. []) bs (signs_in ps) (swapped (signs_in ps) (renamed_each ns (tokens_in ps))))
     (begins_marks false [] ps ns fits.formed t)
 
-pub one_sound : (ps : List Piece) (ns : List (List ℕ)) (k : ℕ) → length ps ≡ suc k → Fits ps ns → touches false ps ≡ false
+pub one_sound : (ps : List JoinedToken) (ns : List (List ℕ)) (k : ℕ) → length ps ≡ suc k → Fits ps ns → touches false ps ≡ false
     → length (come_to ps ns) ≤ 4096
     → find (breaks (Spines ns) (tokens_in ps)) in_order ≡ None
 one_sound ps ns k some fits t few =
@@ -147,7 +147,7 @@ pub one_more : (names tokens end : List (List ℕ)) (rows : List (List (List ℕ
 one_more names [] end rows k some sound more = absurd (omega (arith, some))
 one_more names (t ∷ ts) end rows k some sound more = (sound, more)
 
-pub one_leads : (ps : List Piece) (ns : List (List ℕ)) → Fits ps ns → touches false ps ≡ false → length (come_to ps ns) ≤ 4096
+pub one_leads : (ps : List JoinedToken) (ns : List (List ℕ)) → Fits ps ns → touches false ps ≡ false → length (come_to ps ns) ≤ 4096
     → Lead ns (filled Interpretation (tokens_in ps ∷ [])) (come_to ps ns)
 one_leads [] [] fits t few = refl
 one_leads [] (n ∷ ns) fits t few = absurd fits.formed

@@ -14,7 +14,7 @@ use Rattle.hum_path.specs.Score.{Lead}
 use Rattle.hum_path.specs.Onward.{onward, swapped, renamed_each}
 use Rattle.hum_path.proofs.Onwards.{names_onward, swapped_none}
 use Rattle.hum_path.proofs.Cases.{by_bool}
-use Rattle.hum_columns.specs.Spread.{Piece, joins, tokens_in, touches, joins_in, first_alone}
+use Rattle.hum_columns.specs.Spread.{JoinedToken, joins, tokens_in, touches, joins_in, first_alone}
 use Rattle.hum_columns.specs.Spread.{first_done, one_by_one, before_last, spread, filled}
 use Rattle.hum_columns.proofs.Spreading.{marks, signs_in, Formed, formed_length, merged}
 use Rattle.hum_columns.proofs.Spreading.{first_onward, done_onward, done_formed, done_joins}
@@ -27,7 +27,7 @@ use Rattle.hum_columns.proofs.FirstJoin.{first_exchange, done_exchanges}
 abbrev pub is_nameless : List ℕ → Bool
 is_nameless name = length name == 0
 
-pub record Steady (pieces : List Piece) (names : List (List ℕ)) : Type 0 where
+pub record Steady (pieces : List JoinedToken) (names : List (List ℕ)) : Type 0 where
   pub formed : Formed false [] pieces names
   pub named : list_any is_nameless names ≡ false
   pub bare : has_bare (tokens_in pieces) ≡ false
@@ -49,7 +49,7 @@ none_unnamed (n ∷ ns) (s ∷ ss) h =
 steady_steers : (ts : List (List ℕ)) → list_any (λ t. is_exclusive (sign_of t)) ts ≡ false → names_and_steers (map sign_of ts) ≡ false
 steady_steers ts h = let none = any_sign is_exclusive ts ∙ h in rw none refl
 
-pub steady_fits : (ps : List Piece) (ns : List (List ℕ)) → Steady ps ns → Fits ps ns
+pub steady_fits : (ps : List JoinedToken) (ns : List (List ℕ)) → Steady ps ns → Fits ps ns
 steady_fits ps ns h = record {
   formed = h.formed;
   unnamed = none_unnamed ns (signs_in ps) h.named;
@@ -61,7 +61,7 @@ steady_fits ps ns h = record {
 pair_of : (xs ys : List ℕ) → length xs ≡ length ys → is_pair_or_none ys ≡ true → is_pair_or_none xs ≡ true
 pair_of xs ys e h = rw e h
 
-done_steady : (ps : List Piece) (ns : List (List ℕ)) → Steady ps ns → Steady (first_done ps) (merged ps ns)
+done_steady : (ps : List JoinedToken) (ns : List (List ℕ)) → Steady ps ns → Steady (first_done ps) (merged ps ns)
 done_steady ps ns h = record {
   formed = done_formed false [] ps ns h.formed;
   named = merged_none is_nameless ps ns h.named;
@@ -80,7 +80,7 @@ same_names (n ∷ ns) (t ∷ ts) len h =
     let rest = same_names ns ts (omega (arith, len)) both.1 in
     rw (both.0, rest) refl
 
-steady_comes : (ps : List Piece) (ns : List (List ℕ)) → Steady ps ns
+steady_comes : (ps : List JoinedToken) (ns : List (List ℕ)) → Steady ps ns
     → come_to ps ns ≡ onward (λ _. []) (marks ps) (signs_in ps) (swapped (signs_in ps) ns)
 steady_comes ps ns h =
     let size = pieces_size ps in
@@ -89,7 +89,7 @@ steady_comes ps ns h =
     (same_names ns (tokens_in ps) (omega (arith, size, len)) h.stay)
 
 -- The record with the first join alone, and what is left to do.
-first_comes : (ps : List Piece) (ns : List (List ℕ)) → Steady ps ns → names_after (Spines ns) (first_alone ps) ≡ merged ps ns
+first_comes : (ps : List JoinedToken) (ns : List (List ℕ)) → Steady ps ns → names_after (Spines ns) (first_alone ps) ≡ merged ps ns
 first_comes ps ns h =
     let size = first_size ps in
     let len = formed_length false [] ps ns h.formed in
@@ -100,7 +100,7 @@ first_comes ps ns h =
     ∙ (rw (same_names ns (first_alone ps) wide stay, swapped_none 0 (map sign_of (first_alone ps)) ns none)
     (first_onward (λ _. []) false [] ps ns ns h.formed len))
 
-first_sound : (ps : List Piece) (ns : List (List ℕ)) (k : ℕ) → length ps ≡ suc k → Steady ps ns → length ns ≤ 4096
+first_sound : (ps : List JoinedToken) (ns : List (List ℕ)) (k : ℕ) → length ps ≡ suc k → Steady ps ns → length ns ≤ 4096
     → find (breaks (Spines ns) (first_alone ps)) in_order ≡ None
 first_sound ps ns k some h few =
     let size = first_size ps in
@@ -114,14 +114,14 @@ first_sound ps ns k some h few =
     (first_none (bytes_eq (codes "**")) ps refl h.bare) (steady_steers (first_alone ps) stay)
     (first_lone false [] ps ns h.formed) (rw none refl) (first_unmixed ps ns h.formed) (omega (arith, same, few, fewer))
 
-left_comes : (ps : List Piece) (ns : List (List ℕ)) → Steady ps ns → come_to (first_done ps) (merged ps ns) ≡ come_to ps ns
+left_comes : (ps : List JoinedToken) (ns : List (List ℕ)) → Steady ps ns → come_to (first_done ps) (merged ps ns) ≡ come_to ps ns
 left_comes ps ns h =
     steady_comes (first_done ps) (merged ps ns) (done_steady ps ns h)
     ∙ (rw (done_swapped false [] ps ns ns h.formed) (done_onward (λ _. []) false [] ps ns (swapped (signs_in ps) ns) h.formed)
     ∙ sym (steady_comes ps ns h))
 
 -- Joins that touch are two at least.
-pub touching_joins : (b : Bool) (m : List ℕ) (ps : List Piece) (ns : List (List ℕ)) → Formed b m ps ns → touches b ps ≡ true
+pub touching_joins : (b : Bool) (m : List ℕ) (ps : List JoinedToken) (ns : List (List ℕ)) → Formed b m ps ns → touches b ps ≡ true
     → cond b 1 2 ≤ joins_in ps
 touching_joins b m [] ns f t = absurd (false≢true t)
 touching_joins b m (p ∷ ps) [] f t = absurd f
@@ -138,13 +138,13 @@ touching_joins b m (p ∷ ps) (n ∷ ns) f t =
     by_test false false true f g t more = absurd (false≢true (g refl))
     by_test false false false f g t more = more t
 
-pub one_apart : (ps : List Piece) (ns : List (List ℕ)) → Formed false [] ps ns → joins_in ps ≤ 1 → touches false ps ≡ false
+pub one_apart : (ps : List JoinedToken) (ns : List (List ℕ)) → Formed false [] ps ns → joins_in ps ≤ 1 → touches false ps ≡ false
 one_apart ps ns f few = by_bool (touches false ps)
     (λ w. absurd (let two = touching_joins false [] ps ns f w in omega (arith, two, few)))
     (λ w. w)
 
 -- So many records with one join alone, and the last.
-by_one : (n : ℕ) (ps : List Piece) (ns : List (List ℕ)) → Steady ps ns → joins_in ps ≤ suc n → (1 ≤ n → joins_in ps ≡ suc n)
+by_one : (n : ℕ) (ps : List JoinedToken) (ns : List (List ℕ)) → Steady ps ns → joins_in ps ≤ suc n → (1 ≤ n → joins_in ps ≡ suc n)
     → length ns ≤ 4096 → length (come_to ps ns) ≤ 4096
     → Lead ns (filled Interpretation (one_by_one n ps)) (come_to ps ns)
 by_one zero ps ns h few exact w e = one_leads ps ns (steady_fits ps ns h) (one_apart ps ns h.formed few) e
@@ -163,7 +163,7 @@ by_one (suc n) (p ∷ ps) ns h few exact w e =
     (rw (first_comes (p ∷ ps) ns h, ← left) more)
 
 -- Where joins touch, the record steers: no token names a spine, and no spine waits for its name.
-touching_steers : (b : Bool) (m : List ℕ) (ps : List Piece) (ns : List (List ℕ)) → Formed b m ps ns → touches b ps ≡ true
+touching_steers : (b : Bool) (m : List ℕ) (ps : List JoinedToken) (ns : List (List ℕ)) → Formed b m ps ns → touches b ps ≡ true
     → list_any is_path_indicator (signs_in ps) ≡ true
 touching_steers b m [] ns f t = absurd (false≢true t)
 touching_steers b m (p ∷ ps) [] f t = absurd f
@@ -197,7 +197,7 @@ all_named (n ∷ ns) (t ∷ ts) len u h =
     named true false u h = absurd (false≢true (sym u))
     named false e u h = refl
 
-touching_steady : (ps : List Piece) (ns : List (List ℕ)) → Fits ps ns → touches false ps ≡ true → Steady ps ns
+touching_steady : (ps : List JoinedToken) (ns : List (List ℕ)) → Fits ps ns → touches false ps ≡ true → Steady ps ns
 touching_steady ps ns fits t =
     let steers = touching_steers false [] ps ns fits.formed t in
     let none =
@@ -219,7 +219,7 @@ touching_steady ps ns fits t =
     only_left false c h w = refl
 
 -- The spread rule: its records break no path rule, and lead where the pieces lead at once.
-pub spread_leads : (ps : List Piece) (ns : List (List ℕ)) → Fits ps ns → length ns ≤ 4096 → length (come_to ps ns) ≤ 4096
+pub spread_leads : (ps : List JoinedToken) (ns : List (List ℕ)) → Fits ps ns → length ns ≤ 4096 → length (come_to ps ns) ≤ 4096
     → Lead ns (filled Interpretation (spread ps)) (come_to ps ns)
 spread_leads ps ns fits w e = by_test (touches false ps) refl
   where

@@ -13,12 +13,12 @@ use Rattle.hum_record.specs.Building.{Draft, spelled}
 use Rattle.hum_record.proofs.Drafts.{spelled_front}
 use Rattle.hum_columns.specs.declared.writing.Phase.{Phase}
 use Rattle.hum_columns.specs.declared.writing.Phase.TheVariants.{Before, Inside, After}
-use Rattle.hum_columns.specs.Spread.{Piece, piece, joins, goes_on, tokens_in, touches, joins_in, first_alone, join_alone}
+use Rattle.hum_columns.specs.Spread.{JoinedToken, piece, joins, goes_on, tokens_in, touches, joins_in, first_alone, join_alone}
 use Rattle.hum_columns.specs.Spread.{first_done, join_done, one_by_one, before_last, spread, filled}
 use Rattle.hum_columns.specs.Writing.{Fit, draft, behind, null_each, alone_from, next_phase, shown, nulls}
 use Rattle.hum_columns.proofs.Weights.{weight, no_longer}
 
-abbrev pub Lawful : List Piece → Type 0
+abbrev pub Lawful : List JoinedToken → Type 0
 Lawful = AllByRecursion (λ p. IsToken Interpretation p.token)
 
 pub null_lawful : IsToken Interpretation (codes "*")
@@ -36,7 +36,7 @@ filled_length [] h = absurd (h refl)
 filled_length (b ∷ bs) h = omega arith
 
 -- one piece more of a join alone
-pub alone_step : (phase : Phase) (p : Piece) (ps : List Piece)
+pub alone_step : (phase : Phase) (p : JoinedToken) (ps : List JoinedToken)
     → alone_from phase (p ∷ ps) ≡ shown (next_phase phase p) p ∷ alone_from (next_phase phase p) ps
 alone_step Before p ps = elim (cases_Bool p.begins) as (λ _. alone_from Before (p ∷ ps) ≡ shown (next_phase Before p) p ∷ alone_from (next_phase Before p) ps) [
   | inl w ↦ rw w refl
@@ -50,87 +50,87 @@ alone_step Inside p ps = elim (cases_Bool (goes_on p)) as (λ _. alone_from Insi
 alone_step After p ps = refl
 
 -- the pieces in front
-pub tokens_behind : (front : List (List ℕ)) (ps : List Piece) → tokens_in (behind front ps) ≡ front ++ tokens_in ps
+pub tokens_behind : (front : List (List ℕ)) (ps : List JoinedToken) → tokens_in (behind front ps) ≡ front ++ tokens_in ps
 tokens_behind [] ps = refl
 tokens_behind (t ∷ front) ps = ap (λ rest. t ∷ rest) (tokens_behind front ps)
 
-pub done_behind : (front : List (List ℕ)) (ps : List Piece) → first_done (behind front ps) ≡ behind front (first_done ps)
+pub done_behind : (front : List (List ℕ)) (ps : List JoinedToken) → first_done (behind front ps) ≡ behind front (first_done ps)
 done_behind [] ps = refl
 done_behind (t ∷ front) ps = ap (λ rest. piece false t ∷ rest) (done_behind front ps)
 
-pub alone_behind : (front : List (List ℕ)) (ps : List Piece) → first_alone (behind front ps) ≡ nulls (length front) ++ first_alone ps
+pub alone_behind : (front : List (List ℕ)) (ps : List JoinedToken) → first_alone (behind front ps) ≡ nulls (length front) ++ first_alone ps
 alone_behind [] ps = refl
 alone_behind (t ∷ front) ps = ap (λ rest. codes "*" ∷ rest) (alone_behind front ps)
 
-pub behind_push : (front : List (List ℕ)) (t : List ℕ) (ps : List Piece) → behind (front ++ t ∷ []) ps ≡ behind front (piece false t ∷ ps)
+pub behind_push : (front : List (List ℕ)) (t : List ℕ) (ps : List JoinedToken) → behind (front ++ t ∷ []) ps ≡ behind front (piece false t ∷ ps)
 behind_push [] t ps = refl
 behind_push (x ∷ front) t ps = ap (λ rest. piece false x ∷ rest) (behind_push front t ps)
 
-pub lawful_behind : (front : List (List ℕ)) (ps : List Piece) → Lawful (behind front ps) → Lawful ps
+pub lawful_behind : (front : List (List ℕ)) (ps : List JoinedToken) → Lawful (behind front ps) → Lawful ps
 lawful_behind [] ps h = h
 lawful_behind (t ∷ front) ps h = lawful_behind front ps h.1
 
 -- what becomes of pieces is lawful, and no longer
-null_weight : (ps : List Piece) → Lawful ps → weight (null_each ps) ≤ weight (tokens_in ps)
+null_weight : (ps : List JoinedToken) → Lawful ps → weight (null_each ps) ≤ weight (tokens_in ps)
 null_weight [] h = omega arith
 null_weight (p ∷ ps) h = let ih = null_weight ps h.1 in let one = filled_length p.token h.0.filled in omega (arith, ih, one)
 
-join_alone_weight : (ps : List Piece) → Lawful ps → weight (join_alone ps) ≤ weight (tokens_in ps)
+join_alone_weight : (ps : List JoinedToken) → Lawful ps → weight (join_alone ps) ≤ weight (tokens_in ps)
 join_alone_weight [] h = omega arith
 join_alone_weight (p ∷ ps) h = elim (cases_Bool (goes_on p)) as (λ _. weight (join_alone (p ∷ ps)) ≤ weight (tokens_in (p ∷ ps))) [
   | inl w ↦ rw w (let ih = join_alone_weight ps h.1 in omega (arith, ih))
   | inr w ↦ rw w (null_weight (p ∷ ps) h)
 ]
 
-pub alone_weight : (ps : List Piece) → Lawful ps → weight (first_alone ps) ≤ weight (tokens_in ps)
+pub alone_weight : (ps : List JoinedToken) → Lawful ps → weight (first_alone ps) ≤ weight (tokens_in ps)
 alone_weight [] h = omega arith
 alone_weight (p ∷ ps) h = elim (cases_Bool p.begins) as (λ _. weight (first_alone (p ∷ ps)) ≤ weight (tokens_in (p ∷ ps))) [
   | inl w ↦ rw w (let ih = join_alone_weight ps h.1 in omega (arith, ih))
   | inr w ↦ rw w (let ih = alone_weight ps h.1 in let one = filled_length p.token h.0.filled in omega (arith, ih, one))
 ]
 
-join_done_weight : (ps : List Piece) → weight (tokens_in (join_done ps)) ≤ weight (tokens_in ps)
+join_done_weight : (ps : List JoinedToken) → weight (tokens_in (join_done ps)) ≤ weight (tokens_in ps)
 join_done_weight [] = omega arith
 join_done_weight (p ∷ ps) = elim (cases_Bool (goes_on p)) as (λ _. weight (tokens_in (join_done (p ∷ ps))) ≤ weight (tokens_in (p ∷ ps))) [
   | inl w ↦ rw w (let ih = join_done_weight ps in omega (arith, ih))
   | inr w ↦ rw w (omega arith)
 ]
 
-done_weight : (ps : List Piece) → Lawful ps → weight (tokens_in (first_done ps)) ≤ weight (tokens_in ps)
+done_weight : (ps : List JoinedToken) → Lawful ps → weight (tokens_in (first_done ps)) ≤ weight (tokens_in ps)
 done_weight [] h = omega arith
 done_weight (p ∷ ps) h = elim (cases_Bool p.begins) as (λ _. weight (tokens_in (first_done (p ∷ ps))) ≤ weight (tokens_in (p ∷ ps))) [
   | inl w ↦ rw w (let ih = join_done_weight ps in let one = filled_length p.token h.0.filled in omega (arith, ih, one))
   | inr w ↦ rw w (let ih = done_weight ps h.1 in omega (arith, ih))
 ]
 
-join_done_lawful : (ps : List Piece) → Lawful ps → Lawful (join_done ps)
+join_done_lawful : (ps : List JoinedToken) → Lawful ps → Lawful (join_done ps)
 join_done_lawful [] h = tt
 join_done_lawful (p ∷ ps) h = elim (cases_Bool (goes_on p)) as (λ _. Lawful (join_done (p ∷ ps))) [
   | inl w ↦ rw w (join_done_lawful ps h.1)
   | inr w ↦ rw w h
 ]
 
-done_lawful : (ps : List Piece) → Lawful ps → Lawful (first_done ps)
+done_lawful : (ps : List JoinedToken) → Lawful ps → Lawful (first_done ps)
 done_lawful [] h = tt
 done_lawful (p ∷ ps) h = elim (cases_Bool p.begins) as (λ _. Lawful (first_done (p ∷ ps))) [
   | inl w ↦ rw w (null_lawful, join_done_lawful ps h.1)
   | inr w ↦ rw w (h.0, done_lawful ps h.1)
 ]
 
-pub done_fit : (ps : List Piece) → Fit ps → Fit (first_done ps)
+pub done_fit : (ps : List JoinedToken) → Fit ps → Fit (first_done ps)
 done_fit ps h = record {
   lawful = done_lawful ps h.lawful;
   at_most = let less = no_longer (tokens_in (first_done ps)) (tokens_in ps) (done_weight ps h.lawful) in let most = h.at_most in omega (arith, less, most);
 }
 
-pub alone_fits : (ps : List Piece) → Fit ps → length (spelled (first_alone ps)) ≤ 1048576
+pub alone_fits : (ps : List JoinedToken) → Fit ps → length (spelled (first_alone ps)) ≤ 1048576
 alone_fits ps h =
     let less = no_longer (first_alone ps) (tokens_in ps) (alone_weight ps h.lawful) in
     let most = h.at_most in
     omega (arith, less, most)
 
 -- no record is empty
-pub alone_filled : (ps : List Piece) → ps ≢ [] → first_alone ps ≢ []
+pub alone_filled : (ps : List JoinedToken) → ps ≢ [] → first_alone ps ≢ []
 alone_filled [] h e = h refl
 alone_filled (p ∷ ps) h e = some (p.begins) (p.token ∷ join_alone ps) (codes "*" ∷ first_alone ps) (λ q. cc) (λ q. cc) e
   where
@@ -138,15 +138,15 @@ alone_filled (p ∷ ps) h e = some (p.begins) (p.token ∷ join_alone ps) (codes
     some true xs ys h k = h
     some false xs ys h k = k
 
-pub done_filled : (ps : List Piece) → ps ≢ [] → first_done ps ≢ []
+pub done_filled : (ps : List JoinedToken) → ps ≢ [] → first_done ps ≢ []
 done_filled [] h e = h refl
 done_filled (p ∷ ps) h e = some (p.begins) (piece false (codes "*") ∷ join_done ps) (p ∷ first_done ps) (λ q. cc) (λ q. cc) e
   where
-    some : (b : Bool) (xs ys : List Piece) → xs ≢ [] → ys ≢ [] → cond b xs ys ≢ []
+    some : (b : Bool) (xs ys : List JoinedToken) → xs ≢ [] → ys ≢ [] → cond b xs ys ≢ []
     some true xs ys h k = h
     some false xs ys h k = k
 
-pub tokens_filled : (ps : List Piece) → ps ≢ [] → tokens_in ps ≢ []
+pub tokens_filled : (ps : List JoinedToken) → ps ≢ [] → tokens_in ps ≢ []
 tokens_filled [] h e = h refl
 tokens_filled (p ∷ ps) h e = cc
 
@@ -155,13 +155,13 @@ filled_more kind [] xs h = absurd (h refl)
 filled_more kind (t ∷ ts) xs h = refl
 
 -- as many as one more than those before the last
-pub filled_count : (n : ℕ) (ps : List Piece) → ps ≢ [] → length (filled Interpretation (one_by_one n ps)) ≡ suc n
+pub filled_count : (n : ℕ) (ps : List JoinedToken) → ps ≢ [] → length (filled Interpretation (one_by_one n ps)) ≡ suc n
 filled_count zero ps h = ap length (filled_more Interpretation (tokens_in ps) [] (tokens_filled ps h))
 filled_count (suc n) ps h =
     ap length (filled_more Interpretation (first_alone ps) (one_by_one n (first_done ps)) (alone_filled ps h))
     ∙ ap suc (filled_count n (first_done ps) (done_filled ps h))
 
-pub touches_some : (after : Bool) (ps : List Piece) → touches after ps ≡ true → 1 ≤ joins_in ps
+pub touches_some : (after : Bool) (ps : List JoinedToken) → touches after ps ≡ true → 1 ≤ joins_in ps
 touches_some after [] h = cc
 touches_some after (p ∷ ps) h = elim (cases_Bool p.begins) as (λ _. 1 ≤ joins_in (p ∷ ps)) [
   | inl w ↦ rw w (omega arith)
@@ -196,43 +196,43 @@ list_push new xs x rest rest' all e next list = rw (e, append_assoc) (ap (λ ys.
 pub nulls_more : (n i : ℕ) → i < n → nulls (n - i) ≡ codes "*" ∷ nulls (n - (i + 1))
 nulls_more n i h = let e : n - i ≡ suc (n - (i + 1)) = omega arith in rw e refl
 
-pub alone_at : (phase : Phase) (ps : List Piece) (i : ℕ) (p : Piece) → i < length ps → p ≡ get_or ps i p
+pub alone_at : (phase : Phase) (ps : List JoinedToken) (i : ℕ) (p : JoinedToken) → i < length ps → p ≡ get_or ps i p
     → alone_from phase (drop i ps) ≡ shown (next_phase phase p) p ∷ alone_from (next_phase phase p) (drop (i + 1) ps)
 alone_at phase ps i p h e = rw (drop-cons ps i p h, ← e, add-one) (alone_step phase p (drop (suc i) ps))
 
-pub tokens_at : (ps : List Piece) (i : ℕ) (p : Piece) → i < length ps → p ≡ get_or ps i p
+pub tokens_at : (ps : List JoinedToken) (i : ℕ) (p : JoinedToken) → i < length ps → p ≡ get_or ps i p
     → tokens_in (drop i ps) ≡ p.token ∷ tokens_in (drop (i + 1) ps)
 tokens_at ps i p h e = rw (drop-cons ps i p h, ← e, add-one) refl
 
-pub lawful_at : (ps : List Piece) (i : ℕ) (p : Piece) → i < length ps → p ≡ get_or ps i p → Lawful (drop i ps)
+pub lawful_at : (ps : List JoinedToken) (i : ℕ) (p : JoinedToken) → i < length ps → p ≡ get_or ps i p → Lawful (drop i ps)
     → IsToken Interpretation p.token × Lawful (drop (i + 1) ps)
 lawful_at [] i p h e w = absurd (omega (arith, h))
 lawful_at (q ∷ ps) zero p h e w = let k : p ≡ q = e in rw k (w.0, w.1)
 lawful_at (q ∷ ps) (suc i) p h e w = let ih = lawful_at ps i p (omega (arith, h)) e w in (ih.0, rw add-one (rw add-one at ih.1))
 
 -- the text of a front
-pub nulls_fit : (n : ℕ) (ps : List Piece) → length (spelled (nulls n ++ first_alone ps)) ≤ 1048576 → length (spelled (nulls n)) ≤ 1048576
+pub nulls_fit : (n : ℕ) (ps : List JoinedToken) → length (spelled (nulls n ++ first_alone ps)) ≤ 1048576 → length (spelled (nulls n)) ≤ 1048576
 nulls_fit n ps fits = let less = spelled_front (nulls n) (first_alone ps) in omega (arith, less, fits)
 
 -- passing a join
 
-here : (ps : List Piece) (i : ℕ) (p : Piece) → i < length ps → p ≡ get_or ps i p → drop i ps ≡ p ∷ drop (i + 1) ps
+here : (ps : List JoinedToken) (i : ℕ) (p : JoinedToken) → i < length ps → p ≡ get_or ps i p → drop i ps ≡ p ∷ drop (i + 1) ps
 here ps i p h e = rw (drop-cons ps i p h, ← e, add-one) refl
 
-pub fit_here : (first front : List (List ℕ)) (ps : List Piece) (i : ℕ) (p : Piece) → i < length ps → p ≡ get_or ps i p
+pub fit_here : (first front : List (List ℕ)) (ps : List JoinedToken) (i : ℕ) (p : JoinedToken) → i < length ps → p ≡ get_or ps i p
     → behind front (drop i ps) ≡ behind first ps → Fit (behind first ps) → Fit (behind front (p ∷ drop (i + 1) ps))
 fit_here first front ps i p h e same fit =
-    subst Fit (sym same ∙ ap (λ (rest : List Piece). behind front rest) (here ps i p h e)) fit
+    subst Fit (sym same ∙ ap (λ (rest : List JoinedToken). behind front rest) (here ps i p h e)) fit
 
-pub token_lawful : (front : List (List ℕ)) (p : Piece) (rest : List Piece) → Fit (behind front (p ∷ rest)) → IsToken Interpretation p.token
+pub token_lawful : (front : List (List ℕ)) (p : JoinedToken) (rest : List JoinedToken) → Fit (behind front (p ∷ rest)) → IsToken Interpretation p.token
 token_lawful front p rest fit = (lawful_behind front (p ∷ rest) fit.lawful).0
 
-pub token_fits : (front : List (List ℕ)) (p : Piece) (rest : List Piece) → Fit (behind front (p ∷ rest))
+pub token_fits : (front : List (List ℕ)) (p : JoinedToken) (rest : List JoinedToken) → Fit (behind front (p ∷ rest))
     → length (spelled (front ++ p.token ∷ [])) ≤ 1048576
 token_fits front p rest fit =
     front_of front p.token (tokens_in rest) (tokens_in (behind front (p ∷ rest))) (sym (tokens_behind front (p ∷ rest))) fit.at_most
 
-pub null_fits : (front : List (List ℕ)) (p : Piece) (rest : List Piece) → p.begins ≡ true → Fit (behind front (p ∷ rest))
+pub null_fits : (front : List (List ℕ)) (p : JoinedToken) (rest : List JoinedToken) → p.begins ≡ true → Fit (behind front (p ∷ rest))
     → length (spelled (front ++ codes "*" ∷ [])) ≤ 1048576
 null_fits front p rest begins fit =
     let done = done_fit (behind front (p ∷ rest)) fit in
@@ -241,26 +241,26 @@ null_fits front p rest begins fit =
     ap (λ ps. front ++ tokens_in ps) (sym next) ∙ sym (tokens_behind front (first_done (p ∷ rest))) ∙ ap tokens_in (sym (done_behind front (p ∷ rest))) in
     front_of front (codes "*") (tokens_in (join_done rest)) _ list done.at_most
 
-pub passed_join : (first front : List (List ℕ)) (ps : List Piece) (i n : ℕ) (p : Piece) → i < length ps → p ≡ get_or ps i p
+pub passed_join : (first front : List (List ℕ)) (ps : List JoinedToken) (i n : ℕ) (p : JoinedToken) → i < length ps → p ≡ get_or ps i p
     → behind front (drop i ps) ≡ behind first ps → p.begins ≡ true → drop n (drop (i + 1) ps) ≡ join_done (drop (i + 1) ps)
     → behind (front ++ codes "*" ∷ []) (drop (i + 1 + n) ps) ≡ behind first (first_done ps)
 passed_join first front ps i n p h e same begins done =
     let next : first_done (p ∷ drop (i + 1) ps) ≡ piece false (codes "*") ∷ join_done (drop (i + 1) ps) = rw begins refl in
     behind_push front (codes "*") (drop (i + 1 + n) ps)
-    ∙ ap (λ (rest : List Piece). behind front (piece false (codes "*") ∷ rest)) (sym (drop-drop n (i + 1) ps) ∙ done)
-    ∙ ap (λ (rest : List Piece). behind front rest) (sym next)
+    ∙ ap (λ (rest : List JoinedToken). behind front (piece false (codes "*") ∷ rest)) (sym (drop-drop n (i + 1) ps) ∙ done)
+    ∙ ap (λ (rest : List JoinedToken). behind front rest) (sym next)
     ∙ sym (done_behind front (p ∷ drop (i + 1) ps))
-    ∙ ap first_done (ap (λ (rest : List Piece). behind front rest) (sym (here ps i p h e)) ∙ same)
+    ∙ ap first_done (ap (λ (rest : List JoinedToken). behind front rest) (sym (here ps i p h e)) ∙ same)
     ∙ done_behind first ps
 
-pub passed_all : (first front : List (List ℕ)) (ps : List Piece) (i : ℕ) → length ps ≤ i
+pub passed_all : (first front : List (List ℕ)) (ps : List JoinedToken) (i : ℕ) → length ps ≤ i
     → behind front (drop i ps) ≡ behind first ps → behind front (drop (length ps) ps) ≡ behind first (first_done ps)
 passed_all first front ps i h same =
     let all : drop i ps ≡ [] = drop_all i ps h in
     let end : drop (length ps) ps ≡ [] = drop_all (length ps) ps (omega arith) in
-    ap (λ (rest : List Piece). behind front rest) end
+    ap (λ (rest : List JoinedToken). behind front rest) end
     ∙ sym (done_behind front [])
-    ∙ ap first_done (ap (λ (rest : List Piece). behind front rest) (sym all) ∙ same)
+    ∙ ap first_done (ap (λ (rest : List JoinedToken). behind front rest) (sym all) ∙ same)
     ∙ done_behind first ps
 
 one_more : (n : ℕ) → 1 ≤ n → suc (before_last n) ≡ n
@@ -268,32 +268,32 @@ one_more zero h = absurd (omega arith)
 one_more (suc n) h = refl
 
 -- so many records have no room
-pub too_many : (room n : ℕ) (ps : List Piece) → ps ≢ [] → 1 ≤ n → spread ps ≡ one_by_one (before_last n) ps → room < n
+pub too_many : (room n : ℕ) (ps : List JoinedToken) → ps ≢ [] → 1 ≤ n → spread ps ≡ one_by_one (before_last n) ps → room < n
     → room < length (filled Interpretation (spread ps))
 too_many room n ps some h is over = rw (is, filled_count (before_last n) ps some, one_more n h) over
 
-pub few_enough : (room n : ℕ) (ps : List Piece) → ps ≢ [] → 1 ≤ n → spread ps ≡ one_by_one (before_last n) ps → n ≤ room
+pub few_enough : (room n : ℕ) (ps : List JoinedToken) → ps ≢ [] → 1 ≤ n → spread ps ≡ one_by_one (before_last n) ps → n ≤ room
     → length (filled Interpretation (spread ps)) ≤ room
 few_enough room n ps some h is under = rw (is, filled_count (before_last n) ps some, one_more n h) under
 
 -- one record more
 
-pub alone_fits_behind : (front : List (List ℕ)) (ps : List Piece) → Fit (behind front ps)
+pub alone_fits_behind : (front : List (List ℕ)) (ps : List JoinedToken) → Fit (behind front ps)
     → length (spelled (nulls (length front) ++ first_alone ps)) ≤ 1048576
 alone_fits_behind front ps fit =
     subst (λ (ts : List (List ℕ)). length (spelled ts) ≤ 1048576) (alone_behind front ps) (alone_fits (behind front ps) fit)
 
-pub alone_filled_behind : (front : List (List ℕ)) (ps : List Piece) → behind front ps ≢ []
+pub alone_filled_behind : (front : List (List ℕ)) (ps : List JoinedToken) → behind front ps ≢ []
     → nulls (length front) ++ first_alone ps ≢ []
 alone_filled_behind front ps some none = alone_filled (behind front ps) some (alone_behind front ps ∙ none)
 
-pub left_behind : (front front' : List (List ℕ)) (ps : List Piece) (start n : ℕ)
+pub left_behind : (front front' : List (List ℕ)) (ps : List JoinedToken) (start n : ℕ)
     → behind front' (drop n (drop start ps)) ≡ behind front (first_done (drop start ps))
     → behind front' (drop (start + n) ps) ≡ first_done (behind front (drop start ps))
 left_behind front front' ps start n h =
-    ap (λ (rest : List Piece). behind front' rest) (sym (drop-drop n start ps)) ∙ h ∙ sym (done_behind front (drop start ps))
+    ap (λ (rest : List JoinedToken). behind front' rest) (sym (drop-drop n start ps)) ∙ h ∙ sym (done_behind front (drop start ps))
 
-pub one_written : (out : List Row) (n i : ℕ) (front : List (List ℕ)) (ps left : List Piece) → i < n → behind front ps ≢ []
+pub one_written : (out : List Row) (n i : ℕ) (front : List (List ℕ)) (ps left : List JoinedToken) → i < n → behind front ps ≢ []
     → left ≡ first_done (behind front ps)
     → (out ++ Spined Interpretation (nulls (length front) ++ first_alone ps) ∷ []) ++ filled Interpretation (one_by_one (n - (i + 1)) left)
     ≡ out ++ filled Interpretation (one_by_one (n - i) (behind front ps))
@@ -303,16 +303,16 @@ one_written out n i front ps left h some is =
     let next = filled_more Interpretation (first_alone all) (one_by_one (n - (i + 1)) (first_done all)) (alone_filled all some) in
     rw (append_assoc, ← alone_behind front ps, is, e, next) refl
 
-pub last_written : (out : List Row) (n i : ℕ) (front : List (List ℕ)) (ps : List Piece) → n ≤ i → behind front ps ≢ []
+pub last_written : (out : List Row) (n i : ℕ) (front : List (List ℕ)) (ps : List JoinedToken) → n ≤ i → behind front ps ≢ []
     → out ++ Spined Interpretation (front ++ tokens_in ps) ∷ [] ≡ out ++ filled Interpretation (one_by_one (n - i) (behind front ps))
 last_written out n i front ps h some =
     let e : n - i ≡ 0 = omega arith in
     rw (e, filled_more Interpretation (tokens_in (behind front ps)) [] (tokens_filled (behind front ps) some), tokens_behind front ps) refl
 
-pub all_fits_behind : (front : List (List ℕ)) (ps : List Piece) → Fit (behind front ps) → length (spelled (front ++ tokens_in ps)) ≤ 1048576
+pub all_fits_behind : (front : List (List ℕ)) (ps : List JoinedToken) → Fit (behind front ps) → length (spelled (front ++ tokens_in ps)) ≤ 1048576
 all_fits_behind front ps fit = subst (λ (ts : List (List ℕ)). length (spelled ts) ≤ 1048576) (tokens_behind front ps) fit.at_most
 
-pub all_filled_behind : (front : List (List ℕ)) (ps : List Piece) → behind front ps ≢ [] → front ++ tokens_in ps ≢ []
+pub all_filled_behind : (front : List (List ℕ)) (ps : List JoinedToken) → behind front ps ≢ [] → front ++ tokens_in ps ≢ []
 all_filled_behind front ps some none = tokens_filled (behind front ps) some (tokens_behind front ps ∙ none)
 
 pub not_empty : {X : Type 0} (xs : List X) (b : Bool) → b ≡ length xs == 0 → b ≡ false → xs ≢ []

@@ -9,21 +9,21 @@ use Rattle.hum_path.specs.declared.signs.Sign.TheVariants.{Split, Join, Exchange
 use Rattle.hum_path.specs.Sign.{sign_of, is_join, is_exchange}
 use Rattle.hum_path.specs.Onward.{beginnings, onward_one, onward, at_next, put_next, swapped}
 use Rattle.hum_path.proofs.Cases.{by_bool}
-use Rattle.hum_columns.specs.Spread.{Piece, piece, joins, goes_on, tokens_in, join_alone, first_alone, join_done, first_done, joins_in}
+use Rattle.hum_columns.specs.Spread.{JoinedToken, piece, joins, goes_on, tokens_in, join_alone, first_alone, join_done, first_done, joins_in}
 
-abbrev pub marks : List Piece → List Bool
+abbrev pub marks : List JoinedToken → List Bool
 marks = map (λ p. p.begins)
 
-abbrev pub signs_in : List Piece → List Sign
+abbrev pub signs_in : List JoinedToken → List Sign
 signs_in pieces = map sign_of (tokens_in pieces)
 
-abbrev pub next_goes_on : List Piece → Bool
+abbrev pub next_goes_on : List JoinedToken → Bool
 next_goes_on [] = false
 next_goes_on (p ∷ pieces) = goes_on p
 
 -- Each join begins with a join and goes on with one; what goes on stands beside a join under the
 -- same exclusive interpretation. What stands to the left is told.
-abbrev pub Formed : Bool → List ℕ → List Piece → List (List ℕ) → Type 0
+abbrev pub Formed : Bool → List ℕ → List JoinedToken → List (List ℕ) → Type 0
 Formed after_join before (p ∷ pieces) (name ∷ names) =
     (p.begins ≡ true → (joins p ≡ true) × (next_goes_on pieces ≡ true))
     × ((goes_on p ≡ true → (after_join ≡ true) × (before ≡ name))
@@ -31,19 +31,19 @@ Formed after_join before (p ∷ pieces) (name ∷ names) =
 Formed after_join before [] [] = Unit {0}
 Formed after_join before _ _ = ⊥
 
-pub formed_length : (b : Bool) (m : List ℕ) (ps : List Piece) (ns : List (List ℕ)) → Formed b m ps ns → length ps ≡ length ns
+pub formed_length : (b : Bool) (m : List ℕ) (ps : List JoinedToken) (ns : List (List ℕ)) → Formed b m ps ns → length ps ≡ length ns
 formed_length b m [] [] h = refl
 formed_length b m [] (n ∷ ns) h = absurd h
 formed_length b m (p ∷ ps) [] h = absurd h
 formed_length b m (p ∷ ps) (n ∷ ns) h = ap suc (formed_length (joins p) n ps ns h.1.1)
 
 -- what is left when the first join is done: of each join's the first
-abbrev pub rest_merged : {X : Type 0} → List Piece → List X → List X
+abbrev pub rest_merged : {X : Type 0} → List JoinedToken → List X → List X
 rest_merged [] xs = xs
 rest_merged (p ∷ pieces) [] = []
 rest_merged (p ∷ pieces) (x ∷ xs) = if goes_on p then rest_merged pieces xs else x ∷ xs
 
-abbrev pub merged : {X : Type 0} → List Piece → List X → List X
+abbrev pub merged : {X : Type 0} → List JoinedToken → List X → List X
 merged [] xs = xs
 merged (p ∷ pieces) [] = []
 merged (p ∷ pieces) (x ∷ xs) = if p.begins then x ∷ rest_merged pieces xs else x ∷ merged pieces xs
@@ -58,7 +58,7 @@ is_join_at Exclusive h = cc
 is_join_at Plain h = cc
 
 -- null tokens carry everything on
-stars_onward : {X : Type 0} (added : X → X) (b : Bool) (ps : List Piece) (xs : List X) → length ps ≡ length xs
+stars_onward : {X : Type 0} (added : X → X) (b : Bool) (ps : List JoinedToken) (xs : List X) → length ps ≡ length xs
     → onward added (beginnings b (map sign_of (map (λ _. codes "*") ps))) (map sign_of (map (λ _. codes "*") ps)) xs ≡ xs
 stars_onward added b [] [] h = refl
 stars_onward added b [] (x ∷ xs) h = absurd (omega (arith, h))
@@ -66,7 +66,7 @@ stars_onward added b (p ∷ ps) [] h = absurd (omega (arith, h))
 stars_onward {X} added b (p ∷ ps) (x ∷ xs) h = ap (λ (zs : List X). x ∷ zs) (stars_onward added false ps xs (omega (arith, h)))
 
 -- the record with the first join alone merges it
-rest_onward : {X : Type 0} (added : X → X) (ps : List Piece) (xs : List X) → length ps ≡ length xs
+rest_onward : {X : Type 0} (added : X → X) (ps : List JoinedToken) (xs : List X) → length ps ≡ length xs
     → onward added (beginnings true (map sign_of (join_alone ps))) (map sign_of (join_alone ps)) xs ≡ rest_merged ps xs
 rest_onward added [] [] h = refl
 rest_onward added [] (x ∷ xs) h = absurd (omega (arith, h))
@@ -78,7 +78,7 @@ rest_onward added (p ∷ ps) (x ∷ xs) h =
     rw (w, join) (rest_onward added ps xs (omega (arith, h))))
     (λ w. rw w (stars_onward added true (p ∷ ps) (x ∷ xs) h))
 
-pub first_onward : {X : Type 0} (added : X → X) (b : Bool) (m : List ℕ) (ps : List Piece) (ns : List (List ℕ)) (xs : List X)
+pub first_onward : {X : Type 0} (added : X → X) (b : Bool) (m : List ℕ) (ps : List JoinedToken) (ns : List (List ℕ)) (xs : List X)
     → Formed b m ps ns → length ps ≡ length xs
     → onward added (beginnings false (map sign_of (first_alone ps))) (map sign_of (first_alone ps)) xs ≡ merged ps xs
 first_onward added b m [] ns [] f h = refl
@@ -93,12 +93,12 @@ first_onward {X} added b m (p ∷ ps) (n ∷ ns) (x ∷ xs) f h =
     (λ w. rw w (ap (λ (zs : List X). x ∷ zs) (first_onward added (joins p) n ps ns xs f.1.1 (omega (arith, h)))))
 
 -- the first join, and then what is left
-rest_done_onward : {X : Type 0} (added : X → X) (ps : List Piece) (xs : List X)
+rest_done_onward : {X : Type 0} (added : X → X) (ps : List JoinedToken) (xs : List X)
     → onward added (marks (join_done ps)) (signs_in (join_done ps)) (rest_merged ps xs) ≡ onward added (marks ps) (signs_in ps) xs
 rest_done_onward added [] xs = refl
 rest_done_onward added (p ∷ ps) [] = cases_empty (join_done (p ∷ ps))
   where
-    cases_empty : (qs : List Piece) → onward added (marks qs) (signs_in qs) [] ≡ []
+    cases_empty : (qs : List JoinedToken) → onward added (marks qs) (signs_in qs) [] ≡ []
     cases_empty [] = refl
     cases_empty (q ∷ qs) = refl
 rest_done_onward {X} added (p ∷ ps) (x ∷ xs) =
@@ -114,14 +114,14 @@ rest_done_onward {X} added (p ∷ ps) (x ∷ xs) =
     unmarked true h = cc
     unmarked false h = refl
 
-pub done_onward : {X : Type 0} (added : X → X) (b : Bool) (m : List ℕ) (ps : List Piece) (ns : List (List ℕ)) (xs : List X)
+pub done_onward : {X : Type 0} (added : X → X) (b : Bool) (m : List ℕ) (ps : List JoinedToken) (ns : List (List ℕ)) (xs : List X)
     → Formed b m ps ns
     → onward added (marks (first_done ps)) (signs_in (first_done ps)) (merged ps xs) ≡ onward added (marks ps) (signs_in ps) xs
 done_onward added b m [] ns xs f = refl
 done_onward added b m (p ∷ ps) [] xs f = absurd f
 done_onward added b m (p ∷ ps) (n ∷ ns) [] f = cases_empty (first_done (p ∷ ps))
   where
-    cases_empty : (qs : List Piece) → onward added (marks qs) (signs_in qs) [] ≡ []
+    cases_empty : (qs : List JoinedToken) → onward added (marks qs) (signs_in qs) [] ≡ []
     cases_empty [] = refl
     cases_empty (q ∷ qs) = refl
 done_onward {X} added b m (p ∷ ps) (n ∷ ns) (x ∷ xs) f =
@@ -132,7 +132,7 @@ done_onward {X} added b m (p ∷ ps) (n ∷ ns) (x ∷ xs) f =
     (λ w. rw w (ap (λ (zs : List X). onward_one added false (sign_of p.token) x ++ zs) (done_onward added (joins p) n ps ns xs f.1.1)))
 
 -- what is left is formed
-rest_formed : (b c : Bool) (m o : List ℕ) (ps : List Piece) (ns : List (List ℕ)) → Formed b m ps ns
+rest_formed : (b c : Bool) (m o : List ℕ) (ps : List JoinedToken) (ns : List (List ℕ)) → Formed b m ps ns
     → Formed c o (join_done ps) (rest_merged ps ns)
 rest_formed b c m o [] [] f = tt
 rest_formed b c m o [] (n ∷ ns) f = absurd f
@@ -144,7 +144,7 @@ rest_formed b c m o (p ∷ ps) (n ∷ ns) f = by_test (goes_on p) refl (rest_for
     by_test true w rest = rest
     by_test false w rest = (f.0, (λ e. absurd (false≢true (sym w ∙ e)), f.1.1))
 
-pub done_formed : (b : Bool) (m : List ℕ) (ps : List Piece) (ns : List (List ℕ)) → Formed b m ps ns
+pub done_formed : (b : Bool) (m : List ℕ) (ps : List JoinedToken) (ns : List (List ℕ)) → Formed b m ps ns
     → Formed b m (first_done ps) (merged ps ns)
 done_formed b m [] [] f = tt
 done_formed b m [] (n ∷ ns) f = absurd f
@@ -160,11 +160,11 @@ done_formed b m (p ∷ ps) (n ∷ ns) f =
     by_test false w rest more = (λ e. absurd (false≢true (sym w ∙ e)), (f.1.0, more))
 
 -- one join fewer
-pub done_joins : (ps : List Piece) (n : ℕ) → joins_in ps ≡ suc n → joins_in (first_done ps) ≡ n
+pub done_joins : (ps : List JoinedToken) (n : ℕ) → joins_in ps ≡ suc n → joins_in (first_done ps) ≡ n
 done_joins [] n h = absurd (omega (arith, h))
 done_joins (p ∷ ps) n h = by_test p.begins refl h (λ h. done_joins ps n h)
   where
-    rest : (qs : List Piece) → joins_in (join_done qs) ≡ joins_in qs
+    rest : (qs : List JoinedToken) → joins_in (join_done qs) ≡ joins_in qs
     rest [] = refl
     rest (q ∷ qs) = by_bool (goes_on q)
         (λ w.
@@ -186,12 +186,12 @@ done_joins (p ∷ ps) n h = by_test p.begins refl h (λ h. done_joins ps n h)
 join_stays : (s : Sign) → is_join s ≡ true → is_exchange s ≡ false
 join_stays s h = rw (is_join_at s h) refl
 
-rest_at_next : {X : Type 0} (other : X) (ps : List Piece) (xs : List X)
+rest_at_next : {X : Type 0} (other : X) (ps : List JoinedToken) (xs : List X)
     → at_next other (signs_in (join_done ps)) (rest_merged ps xs) ≡ at_next other (signs_in ps) xs
 rest_at_next other [] xs = refl
 rest_at_next {X} other (p ∷ ps) [] = none (join_done (p ∷ ps))
   where
-    none : (qs : List Piece) → at_next other (signs_in qs) [] ≡ other
+    none : (qs : List JoinedToken) → at_next other (signs_in qs) [] ≡ other
     none [] = refl
     none (q ∷ qs) = refl
 rest_at_next other (p ∷ ps) (x ∷ xs) =
@@ -199,12 +199,12 @@ rest_at_next other (p ∷ ps) (x ∷ xs) =
     (λ w. rw (w, join_stays (sign_of p.token) (and_parts (joins p) (not p.begins) w).0) (rest_at_next other ps xs))
     (λ w. rw w refl)
 
-rest_put_next : {X : Type 0} (other : X) (ps : List Piece) (xs : List X)
+rest_put_next : {X : Type 0} (other : X) (ps : List JoinedToken) (xs : List X)
     → put_next other (signs_in (join_done ps)) (rest_merged ps xs) ≡ rest_merged ps (put_next other (signs_in ps) xs)
 rest_put_next other [] xs = refl
 rest_put_next {X} other (p ∷ ps) [] = none (join_done (p ∷ ps))
   where
-    none : (qs : List Piece) → put_next other (signs_in qs) [] ≡ []
+    none : (qs : List JoinedToken) → put_next other (signs_in qs) [] ≡ []
     none [] = refl
     none (q ∷ qs) = refl
 rest_put_next other (p ∷ ps) (x ∷ xs) =
@@ -215,12 +215,12 @@ rest_put_next other (p ∷ ps) (x ∷ xs) =
     (λ v. rw (w, v) (rw w refl))
     (λ v. rw (w, v) (rw w refl)))
 
-rest_swapped : {X : Type 0} (ps : List Piece) (xs : List X)
+rest_swapped : {X : Type 0} (ps : List JoinedToken) (xs : List X)
     → swapped (signs_in (join_done ps)) (rest_merged ps xs) ≡ rest_merged ps (swapped (signs_in ps) xs)
 rest_swapped [] xs = refl
 rest_swapped (p ∷ ps) [] = none (join_done (p ∷ ps))
   where
-    none : {X : Type 0} (qs : List Piece) → swapped {X = X} (signs_in qs) [] ≡ []
+    none : {X : Type 0} (qs : List JoinedToken) → swapped {X = X} (signs_in qs) [] ≡ []
     none [] = refl
     none (q ∷ qs) = refl
 rest_swapped (p ∷ ps) (x ∷ xs) =
@@ -232,17 +232,17 @@ rest_swapped (p ∷ ps) (x ∷ xs) =
     (λ v. rw (w, v) (rw w refl)))
 
 -- a piece that begins a join
-begin_stays : (b : Bool) (m : List ℕ) (p : Piece) (ps : List Piece) (n : List ℕ) (ns : List (List ℕ)) → Formed b m (p ∷ ps) (n ∷ ns)
+begin_stays : (b : Bool) (m : List ℕ) (p : JoinedToken) (ps : List JoinedToken) (n : List ℕ) (ns : List (List ℕ)) → Formed b m (p ∷ ps) (n ∷ ns)
     → p.begins ≡ true → is_exchange (sign_of p.token) ≡ false
 begin_stays b m p ps n ns f w = join_stays (sign_of p.token) (f.0 w).0
 
-done_at_next : {X : Type 0} (other : X) (b : Bool) (m : List ℕ) (ps : List Piece) (ns : List (List ℕ)) (xs : List X) → Formed b m ps ns
+done_at_next : {X : Type 0} (other : X) (b : Bool) (m : List ℕ) (ps : List JoinedToken) (ns : List (List ℕ)) (xs : List X) → Formed b m ps ns
     → at_next other (signs_in (first_done ps)) (merged ps xs) ≡ at_next other (signs_in ps) xs
 done_at_next other b m [] ns xs f = refl
 done_at_next other b m (p ∷ ps) [] xs f = absurd f
 done_at_next {X} other b m (p ∷ ps) (n ∷ ns) [] f = none (first_done (p ∷ ps))
   where
-    none : (qs : List Piece) → at_next other (signs_in qs) [] ≡ other
+    none : (qs : List JoinedToken) → at_next other (signs_in qs) [] ≡ other
     none [] = refl
     none (q ∷ qs) = refl
 done_at_next {X} other b m (p ∷ ps) (n ∷ ns) (x ∷ xs) f =
@@ -250,13 +250,13 @@ done_at_next {X} other b m (p ∷ ps) (n ∷ ns) (x ∷ xs) f =
     (λ w. rw (w, begin_stays b m p ps n ns f w) (rest_at_next other ps xs))
     (λ w. rw w (ap (λ (y : X). cond (is_exchange (sign_of p.token)) x y) (done_at_next other (joins p) n ps ns xs f.1.1)))
 
-done_put_next : {X : Type 0} (other : X) (b : Bool) (m : List ℕ) (ps : List Piece) (ns : List (List ℕ)) (xs : List X) → Formed b m ps ns
+done_put_next : {X : Type 0} (other : X) (b : Bool) (m : List ℕ) (ps : List JoinedToken) (ns : List (List ℕ)) (xs : List X) → Formed b m ps ns
     → put_next other (signs_in (first_done ps)) (merged ps xs) ≡ merged ps (put_next other (signs_in ps) xs)
 done_put_next other b m [] ns xs f = refl
 done_put_next other b m (p ∷ ps) [] xs f = absurd f
 done_put_next {X} other b m (p ∷ ps) (n ∷ ns) [] f = none (first_done (p ∷ ps))
   where
-    none : (qs : List Piece) → put_next other (signs_in qs) [] ≡ []
+    none : (qs : List JoinedToken) → put_next other (signs_in qs) [] ≡ []
     none [] = refl
     none (q ∷ qs) = refl
 done_put_next {X} other b m (p ∷ ps) (n ∷ ns) (x ∷ xs) f =
@@ -268,13 +268,13 @@ done_put_next {X} other b m (p ∷ ps) (n ∷ ns) (x ∷ xs) f =
     (λ v. rw (w, v) ((ap (λ (ys : List X). x ∷ ys) (done_put_next other (joins p) n ps ns xs f.1.1)))))
 
 -- the first join, and then the exchange: as the other way round
-pub done_swapped : {X : Type 0} (b : Bool) (m : List ℕ) (ps : List Piece) (ns : List (List ℕ)) (xs : List X) → Formed b m ps ns
+pub done_swapped : {X : Type 0} (b : Bool) (m : List ℕ) (ps : List JoinedToken) (ns : List (List ℕ)) (xs : List X) → Formed b m ps ns
     → swapped (signs_in (first_done ps)) (merged ps xs) ≡ merged ps (swapped (signs_in ps) xs)
 done_swapped b m [] ns xs f = refl
 done_swapped b m (p ∷ ps) [] xs f = absurd f
 done_swapped {X} b m (p ∷ ps) (n ∷ ns) [] f = none (first_done (p ∷ ps))
   where
-    none : (qs : List Piece) → swapped {X = X} (signs_in qs) [] ≡ []
+    none : (qs : List JoinedToken) → swapped {X = X} (signs_in qs) [] ≡ []
     none [] = refl
     none (q ∷ qs) = refl
 done_swapped {X} b m (p ∷ ps) (n ∷ ns) (x ∷ xs) f =

@@ -25,7 +25,7 @@ no_longer (u ∷ us) [] h = absurd (omega arith)
 no_longer (u ∷ us) (t ∷ ts) h =
     let a = spelled_weight u us in let b = spelled_weight t ts in omega (arith, a, b, h)
 
--- a front of tokens that fit fits
+-- a prefix of tokens that fit fits
 pub front_fits : (most : ℕ) (xs : List (List ℕ)) (x : List ℕ) (rest all : List (List ℕ))
     → weight (xs ++ x ∷ rest) ≤ weight all → length (spelled all) ≤ most → length (spelled (xs ++ x ∷ [])) ≤ most
 front_fits most xs x rest all h fits =

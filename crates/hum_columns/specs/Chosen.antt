@@ -8,7 +8,7 @@ use Rattle.hum_path.specs.Spines.{Path, Unopened, Spines, width}
 use Rattle.hum_path.specs.Score.{path_after}
 use Rattle.hum_path.specs.Chains.{origins}
 use Rattle.hum_path.specs.Origins.{origin}
-use Rattle.hum_columns.specs.Spread.{Piece, piece}
+use Rattle.hum_columns.specs.Spread.{JoinedToken, piece}
 
 -- the tokens of the opening record, of records with the newest first
 abbrev pub opening_if : Path → List (List ℕ) → List (List ℕ) → List (List ℕ)
@@ -47,7 +47,7 @@ is_torn (f ∷ g ∷ flags) (s ∷ t ∷ signs) =
 is_torn _ _ = false
 
 -- each token of a record, with whether it begins a join there
-abbrev pub each_piece : Bool → List (List ℕ) → List Piece
+abbrev pub each_piece : Bool → List (List ℕ) → List JoinedToken
 each_piece after_join [] = []
 each_piece after_join (token ∷ tokens) =
     piece (is_join (sign_of token) && not after_join) token

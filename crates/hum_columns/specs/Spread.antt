@@ -7,52 +7,52 @@ use Rattle.hum_record.specs.Row.{Row, Spined}
 use Rattle.hum_path.specs.Sign.{sign_of, is_join}
 
 -- A token that an interpretation keeps, and whether it begins a join.
-pub record Piece : Type 0 where
+pub record JoinedToken : Type 0 where
   pub begins : Bool
   pub token : List ℕ
 
-abbrev pub piece : Bool → List ℕ → Piece
+abbrev pub piece : Bool → List ℕ → JoinedToken
 piece begins token = record { begins = begins; token = token }
 
-abbrev pub joins : Piece → Bool
+abbrev pub joins : JoinedToken → Bool
 joins piece = is_join (sign_of piece.token)
 
 -- the tokens of a record that keeps these
-abbrev pub tokens_in : List Piece → List (List ℕ)
+abbrev pub tokens_in : List JoinedToken → List (List ℕ)
 tokens_in = map (λ piece. piece.token)
 
 -- whether a join begins directly after another one
-abbrev pub touches : Bool → List Piece → Bool
+abbrev pub touches : Bool → List JoinedToken → Bool
 touches after_join [] = false
 touches after_join (piece ∷ pieces) = (after_join && piece.begins) || touches (joins piece) pieces
 
 -- how many joins there are
-abbrev pub joins_in : List Piece → ℕ
+abbrev pub joins_in : List JoinedToken → ℕ
 joins_in [] = 0
 joins_in (piece ∷ pieces) = if piece.begins then joins_in pieces + 1 else joins_in pieces
 
 -- whether a token belongs to the join that its left neighbour is of
-abbrev pub goes_on : Piece → Bool
+abbrev pub goes_on : JoinedToken → Bool
 goes_on piece = joins piece && not piece.begins
 
 -- The first join's tokens, and null ones elsewhere: a record with that join alone.
-abbrev pub join_alone : List Piece → List (List ℕ)
+abbrev pub join_alone : List JoinedToken → List (List ℕ)
 join_alone [] = []
 join_alone (piece ∷ pieces) =
     if goes_on piece then piece.token ∷ join_alone pieces
     else map (λ _. codes "*") (piece ∷ pieces)
 
-abbrev pub first_alone : List Piece → List (List ℕ)
+abbrev pub first_alone : List JoinedToken → List (List ℕ)
 first_alone [] = []
 first_alone (piece ∷ pieces) =
     if piece.begins then piece.token ∷ join_alone pieces else codes "*" ∷ first_alone pieces
 
 -- what is left when the first join is done: one null token in its place
-abbrev pub join_done : List Piece → List Piece
+abbrev pub join_done : List JoinedToken → List JoinedToken
 join_done [] = []
 join_done (piece ∷ pieces) = if goes_on piece then join_done pieces else piece ∷ pieces
 
-abbrev pub first_done : List Piece → List Piece
+abbrev pub first_done : List JoinedToken → List JoinedToken
 first_done [] = []
 first_done (next ∷ pieces) =
     if next.begins then piece false (codes "*") ∷ join_done pieces
@@ -60,7 +60,7 @@ first_done (next ∷ pieces) =
 
 -- So many records before the last, each with the first join that is left; all other tokens stand
 -- in the last one.
-abbrev pub one_by_one : ℕ → List Piece → List (List (List ℕ))
+abbrev pub one_by_one : ℕ → List JoinedToken → List (List (List ℕ))
 one_by_one zero pieces = tokens_in pieces ∷ []
 one_by_one (suc n) pieces = first_alone pieces ∷ one_by_one n (first_done pieces)
 
@@ -70,7 +70,7 @@ before_last (suc n) = n
 
 -- The records that these tokens are written in: one for each join where two joins have come side by
 -- side, else one.
-abbrev pub spread : List Piece → List (List (List ℕ))
+abbrev pub spread : List JoinedToken → List (List (List ℕ))
 spread pieces =
     if touches false pieces then one_by_one (before_last (joins_in pieces)) pieces
     else tokens_in pieces ∷ []

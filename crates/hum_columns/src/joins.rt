@@ -8,7 +8,7 @@ ghost use Rattle.std.specs.Prelude.{◌≡◌, ◌≤◌, ◌<◌, IfOk};
 ghost use Rattle.hum_columns.specs.Spread.{spread, one_by_one, before_last};
 ghost use Rattle.hum_columns.specs.Writing.{Fit, HasSpread};
 
-use crate::pieces::Piece;
+use crate::pieces::JoinedToken;
 use crate::writing::{joins_in, touches, write_each};
 use hum_record::Record;
 use std::alloc::{AllocError, Global};
@@ -20,10 +20,10 @@ use std::collections::VecDeque;
 /// nothing is written.
 ///
 /// # Errors
-/// Want of memory.
+/// Out of memory.
 pub(crate) fn spread(
     alloc: Global,
-    pieces: &[Piece<'_>],
+    pieces: &[JoinedToken<'_>],
     room: u64,
     out: &mut VecDeque<Record>,
 ) -> Result<bool, AllocError>
@@ -42,7 +42,7 @@ pub(crate) fn spread(
 }
 
 /// How many records pieces are written in, if there are any.
-fn records_for(pieces: &[Piece<'_>]) -> usize
+fn records_for(pieces: &[JoinedToken<'_>]) -> usize
     ensures records { spread pieces.now ≡ one_by_one (before_last result) pieces.now }
     ensures some { 1 ≤ result }
 {

@@ -25,7 +25,7 @@ use crate::joins::spread;
 pub use columns::ChosenColumns;
 use hum_record::Record;
 use hum_stage::{Refusal, Rule};
-pub use pieces::Piece;
+pub use pieces::JoinedToken;
 use std::alloc::Global;
 use std::collections::VecDeque;
 pub use torn::is_torn;
@@ -36,7 +36,7 @@ pub use torn::is_torn;
 /// L2 where there is no room for its records; or out of memory.
 pub fn write_pieces(
     alloc: Global,
-    pieces: &[Piece<'_>],
+    pieces: &[JoinedToken<'_>],
     room: u64,
     out: &mut VecDeque<Record>,
 ) -> Result<(), Refusal>

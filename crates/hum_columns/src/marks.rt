@@ -20,7 +20,7 @@ fn mark_at(marks: &[bool], from: Move) -> bool
 /// The marks of the columns that come of these by moves.
 ///
 /// # Errors
-/// Want of memory.
+/// Out of memory.
 pub(crate) fn moved(alloc: Global, marks: &Marks, found: &Moves) -> Result<Marks, AllocError>
     ensures { IfOk result (λ next. next ≡ moved marks.now found.now) }
 {

@@ -7,25 +7,25 @@ use std::marker::Model;
 
 /// A token that an interpretation keeps, and whether it begins a join.
 #[derive(Drop)]
-pub struct Piece<'a> {
+pub struct JoinedToken<'a> {
     begins: bool,
     token: &'a [u8],
 }
 
-impl<'a> Model for Piece<'a> {
-    ghost use Rattle.hum_columns.specs.Spread.{Piece, piece};
+impl<'a> Model for JoinedToken<'a> {
+    ghost use Rattle.hum_columns.specs.Spread.{JoinedToken, piece};
 
-    ghost Value = { Piece };
+    ghost Value = { JoinedToken };
 
     ghost view = { λ p. piece p.begins p.token.now };
 }
 
-impl<'a> Piece<'a> {
+impl<'a> JoinedToken<'a> {
     /// A token, and whether it is the first of its join.
-    pub fn new(begins: bool, token: &'a [u8]) -> Piece<'a>
+    pub fn new(begins: bool, token: &'a [u8]) -> JoinedToken<'a>
         ensures { result ≡ piece begins token.now }
     {
-        Piece { begins, token }
+        JoinedToken { begins, token }
     }
 
     /// Whether it begins a join.

@@ -9,7 +9,7 @@ ghost use Rattle.hum_columns.specs.Spread.{tokens_in, touches, joins_in, first_a
 ghost use Rattle.hum_columns.specs.Spread.{one_by_one, before_last, filled};
 ghost use Rattle.hum_columns.specs.Writing.{Fit, draft, behind, next_phase, shown, nulls, HasPassed};
 
-use crate::pieces::Piece;
+use crate::pieces::JoinedToken;
 use hum_record::{Record, RecordBuilder, SpinedKind};
 use std::alloc::{AllocError, Global};
 use std::collections::VecDeque;
@@ -22,7 +22,7 @@ pub enum Phase {
     After,
 }
 
-fn next_phase(phase: Phase, piece: &Piece<'_>) -> Phase
+fn next_phase(phase: Phase, piece: &JoinedToken<'_>) -> Phase
     ensures { result ≡ next_phase phase piece.now }
 {
     match phase {
@@ -45,7 +45,7 @@ fn next_phase(phase: Phase, piece: &Piece<'_>) -> Phase
 }
 
 /// Whether a join begins directly after another one.
-pub fn touches(pieces: &[Piece<'_>]) -> bool
+pub fn touches(pieces: &[JoinedToken<'_>]) -> bool
     ensures { result ≡ touches false pieces.now }
 {
     let mut after_join = false;
@@ -59,7 +59,7 @@ pub fn touches(pieces: &[Piece<'_>]) -> bool
 }
 
 /// How many joins there are.
-pub fn joins_in(pieces: &[Piece<'_>]) -> usize
+pub fn joins_in(pieces: &[JoinedToken<'_>]) -> usize
     ensures count { result ≡ joins_in pieces.now }
     ensures at_most { result ≤ length pieces.now }
 {
@@ -73,7 +73,7 @@ pub fn joins_in(pieces: &[Piece<'_>]) -> usize
 }
 
 /// What is written of a piece that stands there.
-fn shown<'t>(phase: Phase, piece: &Piece<'t>) -> &'t [u8]
+fn shown<'t>(phase: Phase, piece: &JoinedToken<'t>) -> &'t [u8]
     requires { IsToken Interpretation piece.now.token }
     ensures value { result.now ≡ shown phase piece.now }
     ensures lawful { IsToken Interpretation result.now }
@@ -97,7 +97,7 @@ fn push_nulls(builder: &mut RecordBuilder, count: usize) -> Result<(), AllocErro
 }
 
 /// Adds the first join's tokens, and null ones elsewhere.
-fn push_alone(builder: &mut RecordBuilder, pieces: &[Piece<'_>]) -> Result<(), AllocError>
+fn push_alone(builder: &mut RecordBuilder, pieces: &[JoinedToken<'_>]) -> Result<(), AllocError>
     requires made { builder.old ≡ draft builder.old.tokens }
     requires lawful { AllByRecursion (λ piece. IsToken Interpretation piece.token) pieces.now }
     requires fits { length (spelled (builder.old.tokens ++ first_alone pieces.now)) ≤ 1048576 }
@@ -112,7 +112,7 @@ fn push_alone(builder: &mut RecordBuilder, pieces: &[Piece<'_>]) -> Result<(), A
 }
 
 /// Adds all tokens.
-fn push_all(builder: &mut RecordBuilder, pieces: &[Piece<'_>]) -> Result<(), AllocError>
+fn push_all(builder: &mut RecordBuilder, pieces: &[JoinedToken<'_>]) -> Result<(), AllocError>
     requires made { builder.old ≡ draft builder.old.tokens }
     requires lawful { AllByRecursion (λ piece. IsToken Interpretation piece.token) pieces.now }
     requires fits { length (spelled (builder.old.tokens ++ tokens_in pieces.now)) ≤ 1048576 }
@@ -125,7 +125,7 @@ fn push_all(builder: &mut RecordBuilder, pieces: &[Piece<'_>]) -> Result<(), All
 }
 
 /// The record with the first join alone, after so many null tokens.
-fn alone(alloc: Global, before: usize, pieces: &[Piece<'_>]) -> Result<Record, AllocError>
+fn alone(alloc: Global, before: usize, pieces: &[JoinedToken<'_>]) -> Result<Record, AllocError>
     requires lawful { AllByRecursion (λ piece. IsToken Interpretation piece.token) pieces.now }
     requires fits { length (spelled (nulls before ++ first_alone pieces.now)) ≤ 1048576 }
     requires filled { nulls before ++ first_alone pieces.now ≢ [] }
@@ -139,7 +139,7 @@ fn alone(alloc: Global, before: usize, pieces: &[Piece<'_>]) -> Result<Record, A
 }
 
 /// How many pieces go on with a join that has begun.
-fn join_len(pieces: &[Piece<'_>]) -> usize
+fn join_len(pieces: &[JoinedToken<'_>]) -> usize
     ensures pieces { drop result pieces.now ≡ join_done pieces.now }
     ensures at_most { result ≤ length pieces.now }
 {
@@ -159,7 +159,7 @@ struct Passed {
 }
 
 /// Adds the tokens before the first join, and a null one for it.
-fn pass_join(last: &mut RecordBuilder, pieces: &[Piece<'_>]) -> Result<Passed, AllocError>
+fn pass_join(last: &mut RecordBuilder, pieces: &[JoinedToken<'_>]) -> Result<Passed, AllocError>
     requires made { last.old ≡ draft last.old.tokens }
     requires fit { Fit (behind last.old.tokens pieces.now) }
     ensures { IfOk result (HasPassed pieces.now last.old last.new) }
@@ -184,7 +184,7 @@ fn pass_join(last: &mut RecordBuilder, pieces: &[Piece<'_>]) -> Result<Passed, A
 /// Adds so many records: each but the last has one join.
 pub fn write_each(
     alloc: Global,
-    pieces: &[Piece<'_>],
+    pieces: &[JoinedToken<'_>],
     records: usize,
     out: &mut VecDeque<Record>,
 ) -> Result<(), AllocError>

@@ -4,16 +4,16 @@ use Rattle.hum_stage.specs.declared.faults.Command.{Command}
 use Rattle.hum_stage.specs.declared.faults.Command.TheVariants as name
 use Rattle.hum_stage.specs.Meaning.{Meaning}
 use Rattle.hum_rid.specs.Rid as rid
-use Rattle.hum_extract.specs.Written as extract
+use Rattle.hum_extract.specs.Extract as extract
 use Rattle.hum_ditto.specs.Ditto as ditto
 use Rattle.hum_timebase.specs.Timebase as timebase
-use Rattle.hum_timebase.specs.Following.{pace_of}
+use Rattle.hum_choices.specs.Timebase.{pace_of}
 use Rattle.hum_context.specs.Options as context
 use Rattle.hum_tones.specs.Commands as tones
 use Rattle.hum_yank.specs.Options as yank
 use Rattle.hum_cleave.specs.Cleave as cleave
-use Rattle.hum_commands.specs.declared.options.CommandOptions.{CommandOptions}
-use Rattle.hum_commands.specs.declared.options.CommandOptions.TheVariants as told
+use Rattle.hum_choices.specs.declared.commands.CommandOptions.{CommandOptions}
+use Rattle.hum_choices.specs.declared.commands.CommandOptions.TheVariants as told
 
 -- what the stage of this number means, by what it is told to do
 abbrev pub meaning : ℕ → CommandOptions → Meaning

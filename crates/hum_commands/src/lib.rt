@@ -1,9 +1,11 @@
-//! The commands of one input, in one list: what they are told to do, and what they mean.
+//! The commands of one input, in one list: what they mean by their options, and their stages.
 //!
-//! [`CommandOptions`] are a command and what it is told to do. The stage that does it is the
-//! `CommandStage` of the crate `hum_command_stages`.
+//! [`CommandOptions`] are a command and what it is told to do; [`CommandStage`] is the stage of a
+//! command that is told so.
 #![tactic(auto)]
 
-mod options;
+mod asking;
+mod stages;
 
-pub use options::CommandOptions;
+pub use hum_choices::CommandOptions;
+pub use stages::{CommandStage, command_of};

@@ -11,9 +11,9 @@ use Rattle.hum_path.specs.Score.{path_after, passed}
 use Rattle.hum_stage.specs.declared.faults.Rule.{Rule}
 use Rattle.hum_stage.specs.Look.{Look}
 use Rattle.hum_stage.specs.Order.{passed-push}
-use Rattle.hum_context.specs.declared.options.Span.{Span}
-use Rattle.hum_context.specs.declared.options.Span.TheVariants.{Number, Phrase}
-use Rattle.hum_context.specs.declared.options.ContextOptions.{ContextOptions}
+use Rattle.hum_choices.specs.declared.context.Span.{Span}
+use Rattle.hum_choices.specs.declared.context.Span.TheVariants.{Number, Phrase}
+use Rattle.hum_choices.specs.declared.context.ContextOptions.{ContextOptions}
 use Rattle.hum_context.specs.declared.queued.Queued.{Queued}
 use Rattle.hum_context.specs.declared.walk.Walk.{Walk}
 use Rattle.hum_context.specs.Options.{extent_of, choice_of}

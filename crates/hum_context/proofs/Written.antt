@@ -2,7 +2,7 @@
 use Rattle.std.proofs.Common.{◌≡◌, ◌≢◌, ◌∙◌, refl, ℕ, ◌+◌, ◌<◌, ◌≤◌, Bool, true, false, List, [], ◌∷◌, ◌++◌}
 use Rattle.std.proofs.Common.{length, length-append, get_or, arith, inl, inr, ◌⊎◌, subst, ap, sym, Some}
 use Rattle.hum_record.specs.Building.{Draft, spelled}
-use Rattle.hum_record.specs.Making.{Holds}
+use Rattle.hum_record.specs.RecordDraft.{Holds}
 use Rattle.hum_record.specs.declared.SpinedKind.TheVariants.{Local, Interpretation, Values}
 use Rattle.hum_record.specs.declared.Kind.TheVariants.{Values as AnyValues}
 use Rattle.hum_record.specs.Row.{Row, Comment, Spined, kind_of, text_of, token_at, width_of}

@@ -4,9 +4,9 @@ use Rattle.hum_pattern.specs.Meaning.{matched}
 use Rattle.hum_stage.specs.declared.faults.Command.TheVariants.{Context}
 use Rattle.hum_stage.specs.Meaning.{Meaning}
 use Rattle.hum_stage.specs.Look.{looking}
-use Rattle.hum_context.specs.declared.options.Span.{Span}
-use Rattle.hum_context.specs.declared.options.Span.TheVariants.{Number, Phrase}
-use Rattle.hum_context.specs.declared.options.ContextOptions.{ContextOptions}
+use Rattle.hum_choices.specs.declared.context.Span.{Span}
+use Rattle.hum_choices.specs.declared.context.Span.TheVariants.{Number, Phrase}
+use Rattle.hum_choices.specs.declared.context.ContextOptions.{ContextOptions}
 use Rattle.hum_context.specs.Context.{Choice, Extent, First, Between, context}
 
 abbrev pub extent_of : Span → Extent

@@ -4,7 +4,7 @@ ghost use Rattle.std.specs.Prelude.{drop, false, true};
 ghost use Rattle.std.specs.Prelude.{Some, None, IfOk, OnOk};
 ghost use Rattle.hum_record.specs.declared.SpinedKind.TheVariants.{Values};
 ghost use Rattle.hum_record.specs.Row.{Row, Spined, token_at};
-ghost use Rattle.hum_record.specs.Making.{Holds, IsMade};
+ghost use Rattle.hum_record.specs.RecordDraft.{Holds, IsMade};
 ghost use Rattle.hum_path.specs.Spines.{Path};
 ghost use Rattle.hum_context.specs.Context.{Choice, all_some, begins, chain, is_collectable, taken};
 ghost use Rattle.hum_context.specs.Context.{new_tokens};
@@ -19,7 +19,7 @@ use crate::queued::Queued;
 use crate::stepping::is_enough;
 use crate::text::Text;
 use crate::walk::Walk;
-use hum_record::{MOST_BYTES, Making, Record, Spare, SpinedKind};
+use hum_record::{MOST_BYTES, Record, RecordDraft, Spare, SpinedKind};
 use std::alloc::{AllocError, Global};
 use std::collections::VecDeque;
 
@@ -294,7 +294,7 @@ fn write_token(
     wanted: Option<u16>,
     becoming: Becoming,
     text: &mut Text,
-    making: &mut Making,
+    making: &mut RecordDraft,
 ) -> Result<(), AllocError>
     requires kind { making.old.builder.kind ≡ Values }
     requires token { HasToken held.now.items j }
@@ -345,7 +345,7 @@ pub(crate) fn write(
     let row = &held[0].row;
     // Its text is lawful.
     let _kind = row.kind();
-    let mut making = Making::new(alloc, SpinedKind::Values, spare);
+    let mut making = RecordDraft::new(alloc, SpinedKind::Values, spare);
     for j in 0..row.width() {
         let Some(new) = new_at(held, 0, gone, walks, j, wanted) else {
             return Ok(None);

@@ -9,7 +9,7 @@ ghost use Rattle.hum_context.specs.Options.{choice_of, extent_of, omits_of};
 ghost use Rattle.hum_context.specs.Heard.{heard_of, heard_under, is_taken, ends, wanted_of};
 ghost use Rattle.hum_context.specs.declared.hearing.Heard.TheVariants.{Passed};
 
-use crate::options::{ContextOptions, Span};
+use hum_choices::{ContextOptions, Span};
 use hum_pattern::Pattern;
 use hum_record::{Kind, Record, is_null};
 use std::alloc::{AllocError, Global};
@@ -45,37 +45,35 @@ fn is_omitted(omit: &mut Option<Pattern>, token: &[u8]) -> bool
     }
 }
 
-impl Span {
-    /// Whether others are collected from a token on.
-    fn begins(&mut self, token: &[u8]) -> bool
-        ensures found { result ≡ begins (extent_of self.old) token.now }
-        ensures kept { self.new ≡ self.old }
-    {
-        match self {
-            Span::Number(_) => true,
-            Span::Phrase(begin, _) => begin.matches(token),
-        }
+/// Whether others are collected from a token on.
+fn begins(span: &mut Span, token: &[u8]) -> bool
+    ensures found { result ≡ begins (extent_of span.old) token.now }
+    ensures kept { span.new ≡ span.old }
+{
+    match span {
+        Span::Number(_) => true,
+        Span::Phrase(begin, _) => begin.matches(token),
     }
+}
 
-    /// Whether a token is the last of those that are collected from another on.
-    fn ends(&mut self, token: &[u8]) -> bool
-        ensures found { result ≡ ends (extent_of self.old) token.now }
-        ensures kept { self.new ≡ self.old }
-    {
-        match self {
-            Span::Number(_) => false,
-            Span::Phrase(_, end) => end.matches(token),
-        }
+/// Whether a token is the last of those that are collected from another on.
+fn ends(span: &mut Span, token: &[u8]) -> bool
+    ensures found { result ≡ ends (extent_of span.old) token.now }
+    ensures kept { span.new ≡ span.old }
+{
+    match span {
+        Span::Number(_) => false,
+        Span::Phrase(_, end) => end.matches(token),
     }
+}
 
-    /// How many tokens are wanted, where that is known.
-    pub(crate) fn wanted(&self) -> Option<u16>
-        ensures { result ≡ wanted_of (extent_of self.now) }
-    {
-        match self {
-            Span::Number(count) => Some(count.number),
-            Span::Phrase(_, _) => None,
-        }
+/// How many tokens are wanted, where that is known.
+pub(crate) fn wanted(span: &Span) -> Option<u16>
+    ensures { result ≡ wanted_of (extent_of span.now) }
+{
+    match span {
+        Span::Number(count) => Some(count.number),
+        Span::Phrase(_, _) => None,
     }
 }
 
@@ -124,84 +122,86 @@ impl SpareHeard {
     }
 }
 
-impl ContextOptions {
-    /// What is heard of a token. Patterns are never tried on null tokens.
-    fn hear(&mut self, token: &[u8]) -> Heard
-        ensures heard { result ≡ heard_of (choice_of self.old) token.now }
-        ensures kept { self.new ≡ self.old }
-    {
-        if !is_data(token) || is_null(token) {
-            return Heard::Passed;
-        }
-        if is_omitted(&mut self.omit, token) {
-            return Heard::Passed;
-        }
-        let begins = self.span.begins(token);
-        let ends = self.span.ends(token);
-        Heard::Taken { begins, ends }
+/// What is heard of a token. Patterns are never tried on null tokens.
+fn hear(options: &mut ContextOptions, token: &[u8]) -> Heard
+    ensures heard { result ≡ heard_of (choice_of options.old) token.now }
+    ensures kept { options.new ≡ options.old }
+{
+    if !is_data(token) || is_null(token) {
+        return Heard::Passed;
     }
-
-    /// What is heard of each token of a data record, and whether one is collected.
-    fn hear_all(&mut self, row: &Record, heard: &mut Vec<Heard>) -> Result<bool, AllocError>
-        requires { heard.old.items ≡ [] }
-        ensures heard { OnOk result
-            (heard.new.items ≡ map (heard_of (choice_of self.old)) (tokens_of row.now)) }
-        ensures any { IfOk result (λ any. any ≡ list_any is_taken heard.new.items) }
-        ensures kept { self.new ≡ self.old }
-    {
-        let mut any = false;
-        for token in row.tokens() {
-            let one = self.hear(token);
-            if one != Heard::Passed {
-                any = true;
-            }
-            heard.push(one)?;
-        }
-        Ok(any)
+    if is_omitted(&mut options.omit, token) {
+        return Heard::Passed;
     }
+    let begins = begins(&mut options.span, token);
+    let ends = ends(&mut options.span, token);
+    Heard::Taken { begins, ends }
+}
 
-    /// The same; nothing where none is collected.
-    fn hear_values(
-        &mut self,
-        alloc: Global,
-        row: &Record,
-        spare: &mut SpareHeard,
-    ) -> Result<Vec<Heard>, AllocError>
-        requires { kind_of row.now ≡ AnyValues }
-        ensures heard { IfOk result (λ heard. (c : ℕ) → slice_index_or heard.items c Passed
-            ≡ heard_under (choice_of self.old) row.now c) }
-        ensures narrow { IfOk result (λ heard. length heard.items ≤ width_of row.now) }
-        ensures kept { self.new ≡ self.old }
-    {
-        let mut heard = spare.take(alloc);
-        if self.hear_all(row, &mut heard)? {
-            return Ok(heard);
+/// What is heard of each token of a data record, and whether one is collected.
+fn hear_all(
+    options: &mut ContextOptions,
+    row: &Record,
+    heard: &mut Vec<Heard>,
+) -> Result<bool, AllocError>
+    requires { heard.old.items ≡ [] }
+    ensures heard { OnOk result
+        (heard.new.items ≡ map (heard_of (choice_of options.old)) (tokens_of row.now)) }
+    ensures any { IfOk result (λ any. any ≡ list_any is_taken heard.new.items) }
+    ensures kept { options.new ≡ options.old }
+{
+    let mut any = false;
+    for token in row.tokens() {
+        let one = hear(options, token);
+        if one != Heard::Passed {
+            any = true;
         }
-        spare.keep(heard);
-        Ok(Vec::new(alloc))
+        heard.push(one)?;
     }
+    Ok(any)
+}
 
-    /// What is heard of each token of a record; nothing where none is collected.
-    pub(crate) fn hear_row(
-        &mut self,
-        alloc: Global,
-        row: &Record,
-        spare: &mut SpareHeard,
-    ) -> Result<Vec<Heard>, AllocError>
-        ensures heard { IfOk result (λ heard. (c : ℕ) → slice_index_or heard.items c Passed
-            ≡ heard_under (choice_of self.old) row.now c) }
-        ensures valued { IfOk result (λ heard. heard.items ≢ [] → kind_of row.now ≡ AnyValues) }
-        ensures narrow { IfOk result (λ heard. length heard.items ≤ width_of row.now) }
-        ensures kept { self.new ≡ self.old }
-    {
-        match row.kind() {
-            Kind::Values => {
-                let heard = self.hear_values(alloc, row, spare)?;
-                Ok(heard)
-            }
-            Kind::Interpretation => Ok(Vec::new(alloc)),
-            Kind::Local => Ok(Vec::new(alloc)),
-            Kind::Global => Ok(Vec::new(alloc)),
+/// The same; nothing where none is collected.
+fn hear_values(
+    alloc: Global,
+    options: &mut ContextOptions,
+    row: &Record,
+    spare: &mut SpareHeard,
+) -> Result<Vec<Heard>, AllocError>
+    requires { kind_of row.now ≡ AnyValues }
+    ensures heard { IfOk result (λ heard. (c : ℕ) → slice_index_or heard.items c Passed
+        ≡ heard_under (choice_of options.old) row.now c) }
+    ensures narrow { IfOk result (λ heard. length heard.items ≤ width_of row.now) }
+    ensures kept { options.new ≡ options.old }
+{
+    let mut heard = spare.take(alloc);
+    if hear_all(options, row, &mut heard)? {
+        return Ok(heard);
+    }
+    spare.keep(heard);
+    Ok(Vec::new(alloc))
+}
+
+/// What is heard of each token of a record; nothing where none is collected.
+pub(crate) fn hear_row(
+    alloc: Global,
+    options: &mut ContextOptions,
+    row: &Record,
+    spare: &mut SpareHeard,
+) -> Result<Vec<Heard>, AllocError>
+    ensures heard { IfOk result (λ heard. (c : ℕ) → slice_index_or heard.items c Passed
+        ≡ heard_under (choice_of options.old) row.now c) }
+    ensures valued { IfOk result (λ heard. heard.items ≢ [] → kind_of row.now ≡ AnyValues) }
+    ensures narrow { IfOk result (λ heard. length heard.items ≤ width_of row.now) }
+    ensures kept { options.new ≡ options.old }
+{
+    match row.kind() {
+        Kind::Values => {
+            let heard = hear_values(alloc, options, row, spare)?;
+            Ok(heard)
         }
+        Kind::Interpretation => Ok(Vec::new(alloc)),
+        Kind::Local => Ok(Vec::new(alloc)),
+        Kind::Global => Ok(Vec::new(alloc)),
     }
 }

@@ -18,7 +18,7 @@ const FEW_COLUMNS: usize = 64;
 
 /// What is held of a record.
 #[derive(Drop)]
-enum Holding {
+enum HeldForm {
     Whole(Record),
     Nulls(usize),
 }
@@ -26,7 +26,7 @@ enum Holding {
 /// A record that waits. A wide one of null tokens, of which nothing is collected, is held by their
 /// number.
 pub struct HeldRecord {
-    holding: Holding,
+    holding: HeldForm,
 }
 
 // Written out, so that a caller's proof sees one call and not both ways to hold a record.
@@ -85,9 +85,9 @@ impl HeldRecord {
     {
         let width = row.width();
         let holding = if is_quiet && width > FEW_COLUMNS && is_null_data(&row) {
-            Holding::Nulls(width)
+            HeldForm::Nulls(width)
         } else {
-            Holding::Whole(row)
+            HeldForm::Whole(row)
         };
         HeldRecord { holding }
     }
@@ -101,8 +101,8 @@ impl HeldRecord {
         ensures at_most { length (text_of self.now) ≤ 1048576 }
     {
         match &self.holding {
-            Holding::Whole(row) => row.kind(),
-            Holding::Nulls(_) => Kind::Values,
+            HeldForm::Whole(row) => row.kind(),
+            HeldForm::Nulls(_) => Kind::Values,
         }
     }
 
@@ -112,8 +112,8 @@ impl HeldRecord {
         ensures { result ≡ width_of self.now }
     {
         match &self.holding {
-            Holding::Whole(row) => row.width(),
-            Holding::Nulls(width) => *width,
+            HeldForm::Whole(row) => row.width(),
+            HeldForm::Nulls(width) => *width,
         }
     }
 
@@ -125,8 +125,8 @@ impl HeldRecord {
         ensures lawful { IsTokenOf self.now result.now }
     {
         match &self.holding {
-            Holding::Whole(row) => row.token(j),
-            Holding::Nulls(_) => b".",
+            HeldForm::Whole(row) => row.token(j),
+            HeldForm::Nulls(_) => b".",
         }
     }
 
@@ -136,22 +136,22 @@ impl HeldRecord {
     {
         let HeldRecord { holding } = self;
         match holding {
-            Holding::Whole(row) => Some(row),
-            Holding::Nulls(_) => None,
+            HeldForm::Whole(row) => Some(row),
+            HeldForm::Nulls(_) => None,
         }
     }
 
     /// The record itself, made if it wasn't held.
     ///
     /// # Errors
-    /// Want of memory.
+    /// Out of memory.
     pub(crate) fn into_record(self, alloc: Global) -> Result<Record, AllocError>
         ensures { IfOk result (λ row. row ≡ self) }
     {
         let HeldRecord { holding } = self;
         match holding {
-            Holding::Whole(row) => Ok(row),
-            Holding::Nulls(width) => made_of_nulls(alloc, width),
+            HeldForm::Whole(row) => Ok(row),
+            HeldForm::Nulls(width) => made_of_nulls(alloc, width),
         }
     }
 }

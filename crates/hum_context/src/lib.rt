@@ -13,7 +13,6 @@ mod held;
 mod lasting;
 mod measuring;
 mod memory;
-mod options;
 mod queued;
 mod sharing;
 mod stepping;
@@ -21,9 +20,9 @@ mod text;
 mod waiting;
 mod walk;
 
+pub use hum_choices::{ContextOptions, Span, TokenCount};
 use hum_stage::Lagging;
 pub use memory::Collecting;
-pub use options::{ContextOptions, Span, TokenCount};
 
 /// The command context, as a stage.
 pub type Context = Lagging<Collecting>;

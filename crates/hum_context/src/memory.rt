@@ -12,14 +12,14 @@ ghost use Rattle.hum_context.specs.declared.queued.Queued.{Queued};
 
 use crate::below::Below;
 use crate::front::{advance, write};
-use crate::hearing::SpareHeard;
+use crate::hearing::{SpareHeard, wanted};
 use crate::held::HeldRecord;
 use crate::lasting::lasting;
-use crate::options::ContextOptions;
 use crate::queued::Queued;
 use crate::sharing::{share, shorten};
 use crate::text::Text;
 use crate::walk::Walk;
+use hum_choices::ContextOptions;
 use hum_path::Paths;
 use hum_record::{Kind, Record, Spare};
 use hum_stage::{Command, LooksAhead, MOST_RECORDS, Refusal, Rule, Verdict};
@@ -120,7 +120,7 @@ impl LooksAhead for Collecting {
             let row = self.let_go(held)?;
             return Ok(Verdict::Gives(Some(row.into_record(self.alloc)?)));
         }
-        let wanted = self.options.span.wanted();
+        let wanted = wanted(&self.options.span);
         let known = advance(held, self.gone, &mut self.walks, wanted)?;
         if !known {
             return Ok(Verdict::Waits);
@@ -147,7 +147,7 @@ impl LooksAhead for Collecting {
         if held.len() as u64 > MOST_RECORDS {
             return 0;
         }
-        lasting(held, self.options.span.wanted())
+        lasting(held, wanted(&self.options.span))
     }
 }
 
@@ -186,7 +186,7 @@ impl Collecting {
         if kept.is_still() {
             return Ok(());
         }
-        let wanted = self.options.span.wanted();
+        let wanted = wanted(&self.options.span);
         if kept.keeps_columns() {
             shorten(&mut self.walks, kept, wanted);
             return Ok(());

@@ -11,10 +11,10 @@ ghost use Rattle.hum_context.specs.Queue.{IsStill, Known, LeadsBelow, column_in,
 ghost use Rattle.hum_context.specs.declared.hearing.Heard.TheVariants.{Passed};
 
 use crate::below::Below;
-use crate::hearing::{Heard, SpareHeard};
+use crate::hearing::{Heard, SpareHeard, hear_row};
 use crate::held::HeldRecord;
-use crate::options::ContextOptions;
 use crate::queued::Queued;
+use hum_choices::ContextOptions;
 use hum_path::{Sign, token_sign};
 use hum_record::{Kind, Record};
 use std::alloc::{AllocError, Global};
@@ -48,7 +48,7 @@ impl Queued {
     {
         // Its text is lawful.
         let _kind = row.kind();
-        let heard = options.hear_row(alloc, &row, spare)?;
+        let heard = hear_row(alloc, options, &row, spare)?;
         let row = HeldRecord::of(row, heard.is_empty());
         Ok(Queued { row, heard, below })
     }

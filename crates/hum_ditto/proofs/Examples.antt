@@ -6,7 +6,7 @@ use Rattle.hum_record.specs.Row.{Row, Comment, Spined}
 use Rattle.hum_pattern.proofs.OnLiterals.{patterns_on_literals}
 use Rattle.hum_stage.specs.Outcome.{settled}
 use Rattle.hum_stage.specs.Decided.{decisions}
-use Rattle.hum_ditto.specs.declared.DittoOptions.{DittoOptions}
+use Rattle.hum_choices.specs.declared.ditto.DittoOptions.{DittoOptions}
 use Rattle.hum_ditto.specs.Ditto.{ditto}
 
 abbrev given : DittoOptions → List Row → List Row

@@ -12,7 +12,7 @@ use Rattle.hum_path.specs.Spines.{same_upto, moves}
 use Rattle.hum_path.specs.Score.{path_after}
 use Rattle.hum_path.specs.Memories.{Remember}
 use Rattle.hum_path.specs.Step.{ComeFrom}
-use Rattle.hum_ditto.specs.declared.DittoOptions.{DittoOptions}
+use Rattle.hum_choices.specs.declared.ditto.DittoOptions.{DittoOptions}
 use Rattle.hum_ditto.specs.declared.memory.Holding.{Holding}
 use Rattle.hum_ditto.specs.declared.memory.Holding.TheVariants.{Given}
 use Rattle.hum_ditto.specs.Memory.{last_seen}

@@ -14,7 +14,7 @@ use Rattle.hum_path.specs.Chains.{columns}
 use Rattle.hum_path.specs.Memories.{Remember}
 use Rattle.hum_stage.specs.declared.faults.Rule.TheVariants.{L1}
 use Rattle.hum_stage.specs.Decided.{Decision, in_room}
-use Rattle.hum_ditto.specs.declared.DittoOptions.{DittoOptions}
+use Rattle.hum_choices.specs.declared.ditto.DittoOptions.{DittoOptions}
 use Rattle.hum_record.specs.Contents.{is_null}
 use Rattle.hum_ditto.specs.Ditto.{all_filled, if_fits}
 use Rattle.hum_ditto.specs.Memory.{last_seen, Follows}

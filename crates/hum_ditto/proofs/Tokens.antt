@@ -8,7 +8,7 @@ use Rattle.std.proofs.lemmas.List.{take_all}
 use Rattle.hum_record.specs.declared.SpinedKind.{SpinedKind}
 use Rattle.hum_record.specs.declared.SpinedKind.TheVariants.{Values}
 use Rattle.hum_record.specs.Building.{Draft}
-use Rattle.hum_record.specs.Making.{Holds}
+use Rattle.hum_record.specs.RecordDraft.{Holds}
 use Rattle.hum_record.specs.Spelling.{IsToken, has_byte}
 use Rattle.hum_record.specs.Contents.{is_null}
 use Rattle.hum_path.proofs.Carry.{on_ok}

@@ -13,7 +13,7 @@ use Rattle.hum_stage.specs.declared.faults.Rule.TheVariants.{L1}
 use Rattle.hum_stage.specs.declared.faults.Command.TheVariants.{Ditto}
 use Rattle.hum_stage.specs.Meaning.{Meaning}
 use Rattle.hum_stage.specs.Decided.{Decision, at_once}
-use Rattle.hum_ditto.specs.declared.DittoOptions.{DittoOptions}
+use Rattle.hum_choices.specs.declared.ditto.DittoOptions.{DittoOptions}
 
 -- whether a token has a match of the pattern whose tokens are never repeated, if there is one
 abbrev pub is_skipped : Option (List ℕ) → List ℕ → Bool

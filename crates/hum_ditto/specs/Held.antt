@@ -6,7 +6,7 @@ use Rattle.hum_path.specs.declared.moved.Move.{Move}
 use Rattle.hum_path.specs.Spines.{same_upto, moves}
 use Rattle.hum_path.specs.Score.{IsOpen, path_after}
 use Rattle.hum_path.specs.Memories.{Remember}
-use Rattle.hum_ditto.specs.declared.DittoOptions.{DittoOptions}
+use Rattle.hum_choices.specs.declared.ditto.DittoOptions.{DittoOptions}
 use Rattle.hum_ditto.specs.declared.memory.Holding.{Holding}
 use Rattle.hum_ditto.specs.declared.memory.Holding.TheVariants.{Given, Each}
 use Rattle.hum_ditto.specs.Ditto.{all_filled}

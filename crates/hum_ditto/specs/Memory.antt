@@ -6,7 +6,7 @@ use Rattle.hum_path.specs.Spines.{Path}
 use Rattle.hum_path.specs.Score.{path_after}
 use Rattle.hum_path.specs.Memories.{Remember}
 use Rattle.hum_stage.specs.Decided.{Decision}
-use Rattle.hum_ditto.specs.declared.DittoOptions.{DittoOptions}
+use Rattle.hum_choices.specs.declared.ditto.DittoOptions.{DittoOptions}
 use Rattle.hum_ditto.specs.Ditto.{may_repeat, ditto}
 
 -- The token that a null token would repeat, after one cell more.

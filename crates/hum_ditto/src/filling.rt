@@ -7,12 +7,12 @@ ghost use Rattle.hum_record.specs.declared.Kind.TheVariants.{Values as AnyValues
 ghost use Rattle.hum_record.specs.declared.SpinedKind.TheVariants.{Values};
 ghost use Rattle.hum_record.specs.Row.{tokens_of, width_of, kind_of, text_of};
 ghost use Rattle.hum_record.specs.Spelling.{IsToken};
-ghost use Rattle.hum_record.specs.Making.{Holds, IsMade};
+ghost use Rattle.hum_record.specs.RecordDraft.{Holds, IsMade};
 ghost use Rattle.hum_record.specs.Contents.{is_null};
 ghost use Rattle.hum_ditto.specs.Ditto.{written, filled, all_filled};
 
-use crate::memory::Memory;
-use hum_record::{Kind, Making, Record, Spare, SpinedKind, is_null};
+use crate::memory::LastTokens;
+use hum_record::{Kind, Record, RecordDraft, Spare, SpinedKind, is_null};
 use std::alloc::{AllocError, Global};
 
 /// Whether a record has a null data token.
@@ -46,11 +46,11 @@ fn parenthesize(token: &[u8], shown: &mut Vec<u8>) -> Result<(), AllocError>
 
 /// Adds what a token becomes, by what is remembered of its column.
 fn push_filled(
-    memory: &Memory,
+    memory: &LastTokens,
     j: usize,
     token: &[u8],
     shown: &mut Vec<u8>,
-    making: &mut Making,
+    making: &mut RecordDraft,
 ) -> Result<(), AllocError>
     requires within { j < length memory.now.each }
     requires lawful { IsToken Values token.now }
@@ -83,7 +83,7 @@ fn push_filled(
 pub(crate) fn rebuilt(
     alloc: Global,
     row: &Record,
-    memory: &Memory,
+    memory: &LastTokens,
     shown: &mut Vec<u8>,
     spare: &mut Spare,
 ) -> Result<Option<Record>, AllocError>
@@ -94,7 +94,7 @@ pub(crate) fn rebuilt(
         (IsMade Values (all_filled memory.now.options.parentheses memory.now.each
         (tokens_of row.now))) }
 {
-    let mut making = Making::new(alloc, SpinedKind::Values, spare);
+    let mut making = RecordDraft::new(alloc, SpinedKind::Values, spare);
     for j in 0..row.width() {
         push_filled(memory, j, row.token(j), shown, &mut making)?;
     }

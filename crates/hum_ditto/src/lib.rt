@@ -5,54 +5,24 @@
 //! exclusive interpretation.
 #![tactic(auto)]
 
-ghost use Rattle.std.specs.Prelude.{◌≡◌, IfOk};
-
 mod filling;
 mod last_seen;
 mod memory;
 
 use filling::{is_to_fill, rebuilt};
+pub use hum_choices::DittoOptions;
 use hum_path::Paths;
-use hum_pattern::Pattern;
 use hum_record::{Record, Spare};
 use hum_stage::{AtOnce, Command, Decides, Refusal, Rule};
-use memory::Memory;
-use std::alloc::{AllocError, Global};
-
-/// How null data tokens are filled.
-#[derive(Drop)]
-pub struct DittoOptions {
-    /// `-s`: tokens that this pattern matches are never repeated
-    pub skip: Option<Pattern>,
-    /// `-p`: a repeated token stands in parentheses
-    pub parentheses: bool,
-}
-
-impl DittoOptions {
-    /// The same options once more.
-    ///
-    /// # Errors
-    /// Out of memory.
-    pub fn copy(&self, alloc: Global) -> Result<DittoOptions, AllocError>
-        ensures { IfOk result (λ copy. copy ≡ self.now) }
-    {
-        let skip = match &self.skip {
-            Some(skip) => Some(skip.copy(alloc)?),
-            None => None,
-        };
-        Ok(DittoOptions {
-            skip,
-            parentheses: self.parentheses,
-        })
-    }
-}
+use memory::LastTokens;
+use std::alloc::Global;
 
 /// The spines, and what is remembered of each.
 #[derive(Drop)]
 pub struct Repeats {
     alloc: Global,
     paths: Paths,
-    memory: Memory,
+    memory: LastTokens,
     // where a token is written in parentheses
     shown: Vec<u8>,
     // what is left of records that gave way to others
@@ -82,7 +52,7 @@ impl Decides for Repeats {
         Repeats {
             alloc,
             paths: Paths::new(alloc),
-            memory: Memory::new(alloc, options),
+            memory: LastTokens::new(alloc, options),
             shown: Vec::new(alloc),
             spare: Spare::none(alloc),
         }

@@ -34,7 +34,7 @@ enum Holding {
 ///
 /// Where any token may be repeated, and as it is, a data record as it was given tells so by itself,
 /// until spines move or are named anew.
-pub struct Memory {
+pub struct LastTokens {
     alloc: Global,
     options: DittoOptions,
     holding: Holding,
@@ -43,9 +43,9 @@ pub struct Memory {
 }
 
 // Written out, so that a caller's proof sees one call and not both ways to remember.
-impl Drop for Memory {
+impl Drop for LastTokens {
     fn drop(self) {
-        let Memory {
+        let LastTokens {
             alloc: _,
             options: _options,
             holding: _holding,
@@ -54,7 +54,7 @@ impl Drop for Memory {
     }
 }
 
-impl Model for Memory {
+impl Model for LastTokens {
     ghost use Rattle.hum_ditto.specs.Held.{Remembered, remembered_in, MayHold};
 
     ghost Value = { Remembered };
@@ -141,12 +141,12 @@ fn is_plain(options: &DittoOptions) -> bool
     options.skip.is_none() && !options.parentheses
 }
 
-impl Memory {
+impl LastTokens {
     /// No spines yet.
-    pub fn new(alloc: Global, options: DittoOptions) -> Memory
+    pub fn new(alloc: Global, options: DittoOptions) -> LastTokens
         ensures { result ≡ record { options = options; each = [] } }
     {
-        Memory {
+        LastTokens {
             alloc,
             options,
             holding: Holding::Each(Carried::new(alloc)),
@@ -176,7 +176,7 @@ impl Memory {
     /// Goes on under a record, and what it became.
     ///
     /// # Errors
-    /// Want of memory. Then it no longer tells what null tokens would repeat.
+    /// Out of memory. Then it no longer tells what null tokens would repeat.
     #[inline(always)]
     pub fn follow(&mut self, row: &Record, given: &Record, found: Moves) -> Result<(), AllocError>
         requires come { ComeFrom row.now found }

@@ -55,7 +55,7 @@ pub err-of : {A E : Type 0} (Q : Type 0) (r : Result A E) → Q → OnErr r Q
 err-of Q (Ok x) h = tt
 err-of Q (Err e) h = h
 
--- a front of the second part behind the first
+-- a prefix of the second part behind the first
 pub last-err : {A E : Type 0} (r : Result A E) (a b c : Option (List ℕ)) (x y : List ℕ) → Appends a b x →
     OnErr r (WroteFront b c y) → OnErr r (WroteFront a c (x ++ y))
 last-err (Ok z) a b c x y h k = tt

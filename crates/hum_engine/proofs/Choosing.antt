@@ -1,6 +1,7 @@
 -- One step of a run: the actor that is asked, and what its turn leaves known of who is ready.
 use Rattle.std.proofs.Common.{◌≡◌, ◌∙◌, ℕ, ◌+◌, ◌<◌, ◌≤◌, Bool, true, false, List, [], ◌∷◌, ◌++◌}
-use Rattle.std.proofs.Common.{length, Option, Some, None, refl, sym, ap, subst, arith, ⊎_elim, slice_set, slice_get}
+use Rattle.std.proofs.Common.{length, Option, Some, None, refl, sym, ap, subst, arith, ⊎_elim, slice_set, slice_get, get_or}
+use Rattle.std.proofs.lemmas.Option.{slice_get-get_or}
 use Rattle.std.specs.Prelude.{is_some}
 use Rattle.std.proofs.lemmas.Bool.{false≢true, cases_Bool, cases_lt}
 use Rattle.hum_record.specs.Row.{Row}
@@ -275,6 +276,27 @@ module _ {S R W O : Type 0} (stands : Node S R → List ℕ → At → Type 0)
           let many = n.goes.at.takers.many in
           omega (arith, less, many)
 
+      -- a leftmost order looks further
+      pub stepped_left : is_over ≡ false → leftmost ≡ true
+          → HasStepped stands remaining contents flushed order p q leftmost look (changed look link) net behind
+          is_over
+      stepped_left not_yet is =
+          let few = link_few not_yet in
+          let list = behind.takers.items in
+          let taker = get_or list link 0 in
+          let taker_is : slice_get list link ≡ Some taker = slice_get-get_or list link 0 few in
+          stepped_by (changed look link) behind refl refl
+          (λ start s now n none sees goes.
+          let takers = n.goes.at.takers in
+          record {
+            flags = λ isnt. absurd (false≢true (sym isnt ∙ is));
+            front = λ yes.
+                front_changed s n.goes.at.plan k link taker now n.goes.to n.goes.turn goes none
+                (changed_is start s now n goes) n.within
+                (λ j takes. takers.alone link taker j taker_is takes)
+                look (here is).0 (takers.behind link taker taker_is).0 (sees.front is);
+          })
+
       module _ (not_yet : is_over ≡ false) (taker : ℕ) (taker_is : slice_get behind.takers.items link ≡ Some taker) where
         pub link_going : IsGoing stands contents flushed link behind
         link_going =
@@ -296,24 +318,6 @@ module _ {S R W O : Type 0} (stands : Node S R → List ℕ → At → Type 0)
               going = unfailed_now stands contents flushed m.0 m.1 behind n.goes.to 0 n.goes.at m.4;
               within = (n.goes.at.takers.behind link taker taker_is).1;
             }
-
-        -- a leftmost order looks further
-        pub stepped_left : leftmost ≡ true
-            → HasStepped stands remaining contents flushed order p q leftmost look (changed look link taker) net behind
-            is_over
-        stepped_left is =
-            stepped_by (changed look link taker) behind refl refl
-            (λ start s now n none sees goes.
-            let takers = n.goes.at.takers in
-            let at = takers.behind link taker taker_is in
-            record {
-              flags = λ isnt. absurd (false≢true (sym isnt ∙ is));
-              front = λ yes.
-                  front_changed s n.goes.at.plan k link taker now n.goes.to n.goes.turn goes none
-                  (changed_is start s now n goes) n.within
-                  (λ j takes. takers.alone link taker j taker_is takes)
-                  look (here is).0 at.0 at.1 (sees.front is);
-            })
 
         -- of any other the two ends of the link are asked again
         pub stepped_else : leftmost ≡ false → (new : Net S R W) → behind.actors ≡ net.actors

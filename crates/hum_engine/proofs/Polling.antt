@@ -216,22 +216,22 @@ module _ {N : Type 0} (stands : N → List ℕ → At → Type 0) (s : Scene) (k
         }
 
     -- where it reads and leaves the rest to the next turn
-    reads_only : (n : ℕ) → (s.links k).read < n → n ≤ (s.kinds k).stage.bytes
+    reads_only : (n : ℕ) → (s.links k).read < n → n < (s.kinds k).stage.bytes
         → doing_of (at_of s.kinds s.links k) ≡ does.Reads
         → stands node (s.rests k) (read_to n (at_of s.kinds s.links k))
         → Turned stands s k (slice_set nodes k node) links
-    reads_only n more within e h =
+    reads_only n more less_than e h =
         let r = has_read stands s k s.links nodes links others hl n in
         let reads : HasRead (plan_of s) k s.links r.mid = record {
           upto = n;
           more = more;
-          within = within;
+          within = omega (arith, less_than);
           becomes = r.becomes;
         } in
         let turns : ReadsAndDoes (plan_of s) k s.links r.mid = record {
           between = r.mid;
           reads = reads;
-          does = inl (λ i. refl);
+          does = inl (less_than, λ i. refl);
         } in
         record {
           new = r.mid;
@@ -246,13 +246,13 @@ module _ {N : Type 0} (stands : N → List ℕ → At → Type 0) (s : Scene) (k
           at_links = r.at_links;
         }
 
-    only_nothing : (p : Polled) (n : ℕ) → (s.links k).read < n → n ≤ (s.kinds k).stage.bytes
+    only_nothing : (p : Polled) (n : ℕ) → (s.links k).read < n → n < (s.kinds k).stage.bytes
         → doing_of (at_of s.kinds s.links k) ≡ does.Reads → p ≡ ReadOn
         → stands node (s.rests k) (read_to n (at_of s.kinds s.links k))
         → Turned stands s k (slice_set nodes k node) (links_by p links k after)
-    only_nothing (Gave row) n more within e h st = cc
-    only_nothing ReadOn n more within e h st = reads_only n more within e st
-    only_nothing (Ended f) n more within e h st = cc
+    only_nothing (Gave row) n more less_than e h st = cc
+    only_nothing ReadOn n more less_than e h st = reads_only n more less_than e st
+    only_nothing (Ended f) n more less_than e h st = cc
 
     by_doing : (p : Polled) (d : Doing) → doing_of (at_of s.kinds s.links k) ≡ d
         → PollsBy d (at_of s.kinds s.links k) p (stands node (s.rests k)) → LinkGoes p link after
@@ -260,7 +260,7 @@ module _ {N : Type 0} (stands : N → List ℕ → At → Type 0) (s : Scene) (k
     by_doing p does.Reads e h l =
         ⊎_elim
         (λ goes. reads_on p h.upto h.more h.within e goes l)
-        (λ stays. only_nothing p h.upto h.more h.within e stays.0 stays.1)
+        (λ stays. only_nothing p h.upto h.more stays.1 e stays.0 stays.2)
         h.goes
     by_doing p does.Gives e h l = at_once p (λ r. cc) h l
     by_doing p (does.Wants place) e h l = at_once p (λ r. cc) h l

@@ -64,9 +64,9 @@ module _ (s : Scene) (plan : IsNetPlan s.count s.kinds s.size) (k link taker : �
   by_taker apart = alone k (took s plan.ok k link old.links within link_is apart)
 
   -- and it was the actor that was asked
-  pub front_changed : (look : Search) → k ≡ look.from → link < taker → taker ≤ s.count
-      → IsFront look s old → IsFront (changed look link taker) s new
-  front_changed look here behind few front =
+  pub front_changed : (look : Search) → k ≡ look.from → link < taker
+      → IsFront look s old → IsFront (changed look link) s new
+  front_changed look here behind front =
       let low = below in
       let order = front.order in
       let fits = front.within in
@@ -74,29 +74,26 @@ module _ (s : Scene) (plan : IsNetPlan s.count s.kinds s.size) (k link taker : �
       (λ (is : link < look.from).
       let mine = by_taker (λ e. absurd (omega (arith, is, here, e))) in
       subst (λ to. IsFront to s new) (sym (cond-true _ _ _ (lt-ltb link look.from is))) (record {
-        order = behind;
-        within = omega (arith, few);
+        order = is;
+        within = omega (arith, order, fits);
         left = λ j less.
-            others_as_ready j (omega (arith, less, behind, few)) (λ e. absurd (omega (arith, less, e)))
+            others_as_ready j (omega (arith, less, is, order, fits)) (λ e. absurd (omega (arith, less, e)))
             (λ e. absurd (omega (arith, less, e, behind)))
             ∙ front.left j (omega (arith, less, is));
         between = λ j from to.
-            others_as_ready j (omega (arith, to, few)) (λ e. absurd (omega (arith, from, e)))
-            (λ e. absurd (omega (arith, to, e)))
-            ∙ front.left j (omega (arith, to, mine, here));
+            others_as_ready j (omega (arith, to, order, fits)) (λ e. absurd (omega (arith, from, e)))
+            (λ e. absurd (omega (arith, to, e, mine, here)))
+            ∙ front.left j to;
       }))
       (λ (isnt : look.from ≤ link).
       let own : link ≡ look.from = omega (arith, isnt, low, here) in
       subst (λ to. IsFront to s new) (sym (cond-false _ _ _ (le-ltb link look.from isnt))) (record {
-        order = omega (arith, order, own, behind);
-        within = omega (arith, fits);
+        order = omega arith;
+        within = omega (arith, order, fits);
         left = λ j less.
             others_as_ready j (omega (arith, less, order, fits)) (λ e. absurd (omega (arith, less, e, own)))
             (λ e. absurd (omega (arith, less, e, own, behind)))
             ∙ front.left j less;
-        between = λ j from to.
-            others_as_ready j (omega (arith, to, few)) (λ e. absurd (omega (arith, from, e, own)))
-            (λ e. absurd (omega (arith, to, e)))
-            ∙ front.between j from (omega (arith, to));
+        between = λ j from to. absurd (omega (arith, from, to));
       }))
       (cases_lt link look.from)

@@ -32,7 +32,7 @@ not_heard l some = none_by l.heard (and_parts _ _ some).0
     none_by None e = refl
     none_by (Some x) e = absurd (false≢true e)
 
--- a write that fails has written a front of the record
+-- a write that fails has written a prefix of the record
 pub writes_front : (s : Scene) (old new : Option (List ℕ)) (answer : Next) (x : Row)
     → answer ≡ next_of (s.links (last (plan_of s))).waiting (s.links (last (plan_of s))).mark
     → answer ≡ next.Record x → WroteFront old new (text_of x ++ 10 ∷ []) → Failed s.count ends.Write old new s

@@ -73,7 +73,7 @@ next_record l (y ∷ ws) x h =
     let e = same_Some x y (ap record_at h) in
     ap (λ i. flow_of (l.taken ++ i ∷ []) l.heard) (sym e)
 
--- a front of the record is one of what is written next
+-- a prefix of the record is one of what is written next
 pub next_front : (ws : List Row) (mark : Option End) (x : Row) → next.Record x ≡ next_of ws mark
     → (bytes : List ℕ) → IsFront bytes (text_of x ++ 10 ∷ []) → Begins bytes (next_text text_of ws)
 unfolding record_at

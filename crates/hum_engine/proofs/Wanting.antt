@@ -174,7 +174,7 @@ module _ {R : Type 0} (plan : Plan R) (ok : IsPlan plan) (many : List R → ℕ)
   turns_keep i Reads old new e t h =
       let w = touched many k s i _ old t.between t.reads.becomes refl (omega arith) h in
       ⊎_elim
-      (λ same. nothing_moved many k s t.between new same w)
+      (λ stays. nothing_moved many k s t.between new stays.1 w)
       (λ does. does_keeps i (state plan t.between i) t.between new refl does w)
       t.does
 

@@ -210,7 +210,7 @@ pub record IsGoing {S R W : Type 0} (stands : Node S R → List ℕ → At → T
   pub going : running.now.failure ≡ None
   pub within : k ≤ running.scene.count
 
--- A front of the plan's text was written.
+-- A prefix of the plan's text was written.
 pub record WroteFront (s : Scene) (start held : Option (List ℕ)) : Type 0 where
   pub part : List ℕ
   pub front : Begins part (text text_of (plan_meaning (plan_of s)).items)

@@ -37,7 +37,7 @@ impl Link {
     /// A link over which nothing has passed, with room for so many records.
     ///
     /// # Errors
-    /// Want of memory.
+    /// Out of memory.
     pub fn new(alloc: Global, size: usize) -> Result<Link, AllocError>
         ensures { IfOk result (λ link. IsLink size link fresh) }
     {

@@ -172,7 +172,7 @@ impl<S: Stage + Drop, R: Source + Drop, W: Sink> Net<S, R, W> {
     /// A net of nodes that were asked nothing yet, with links of this size, from 1 to 4,096.
     ///
     /// # Errors
-    /// Want of memory, which hands the sink back.
+    /// Out of memory, which hands the sink back.
     pub fn of_nodes(
         alloc: Global,
         nodes: Vec<Node<S, R>>,
@@ -317,10 +317,10 @@ impl<S: Stage + Drop, R: Source + Drop, W: Sink> Net<S, R, W> {
         if turned.is_over {
             return true;
         }
-        let taker = self.takers[turned.link];
         if is_leftmost {
-            search.change(turned.link, taker);
+            search.change(turned.link);
         } else {
+            let taker = self.takers[turned.link];
             self.ask_both(turned.link, taker);
         }
         false
@@ -457,7 +457,7 @@ impl<S: Stage + Drop, R: Source + Drop, W: Sink> Net<S, R, W> {
         }
     }
 
-    /// The sink, as the turns left it: at each moment a front of the plan's text was written, however
+    /// The sink, as the turns left it: at each moment a prefix of the plan's text was written, however
     /// the bytes go on that are still to come.
     pub fn into_writer(self) -> W
         ensures sink { result ≡ self.sink }

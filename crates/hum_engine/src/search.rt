@@ -36,17 +36,18 @@ impl Search {
         self.right += 1;
     }
 
-    /// It has had its turn, which changed this link, from which this actor takes: both its ends may be
-    /// ready now, and nobody else who wasn't.
+    /// It has had its turn, which changed this link: both its ends may be ready now, and nobody else
+    /// who wasn't. It took from the link of a stage to its left, or else it gave onto its own.
     #[inline(always)]
-    pub fn change(&mut self, link: usize, taker: usize)
-        ensures { self.new ≡ changed self.old link taker }
+    pub fn change(&mut self, link: usize)
+        requires { self.old.from < 2 ^ 64 - 1 }
+        ensures { self.new ≡ changed self.old link }
     {
         if link < self.from {
+            self.right = self.from;
             self.from = link;
-            self.right = taker;
         } else {
-            self.right = self.right.min(taker);
+            self.right = self.from + 1;
         }
     }
 }

@@ -43,7 +43,7 @@ impl<S: Stage + Drop, R: Source + Drop> Web<S, R> {
     /// Nodes that were asked nothing yet, each with a link of this size.
     ///
     /// # Errors
-    /// Want of memory.
+    /// Out of memory.
     pub fn new(alloc: Global, nodes: Vec<Node<S, R>>, size: usize) -> Result<Web<S, R>, AllocError>
         ensures stands { IfOk result (λ web. (s : Scene) → IsOpening s.links
             → IsBegun (StandsAs S.stands) size nodes.items s
@@ -356,7 +356,7 @@ impl<S: Stage + Drop, R: Source + Drop> Web<S, R> {
     /// its own.
     ///
     /// # Errors
-    /// A failed read of a source, and want of memory.
+    /// A failed read of a source, and running out of memory.
     #[inline(always)]
     pub fn turn(&mut self, k: usize) -> Result<usize, ReadError>
         requires { Somewhere (MayTurn (StandsAs S.stands) k self.old) }

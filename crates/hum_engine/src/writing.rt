@@ -14,7 +14,7 @@ pub struct WriteFailed;
 /// Writes a text by as many writes as it takes.
 ///
 /// # Errors
-/// A write that fails, or that takes no byte. A front of the text was written then.
+/// A write that fails, or that takes no byte. A prefix of the text was written then.
 #[inline(always)]
 fn write_all<W: Sink>(sink: &mut W, text: &[u8]) -> Result<(), WriteFailed>
     ensures ok { OnOk result (Appends (W.contents sink.old) (W.contents sink.new) text.now) }

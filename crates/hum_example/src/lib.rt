@@ -10,7 +10,7 @@ ghost use Rattle.hum_engine.specs.Scene.{Scene, plan_of};
 ghost use Rattle.hum_engine.specs.Nets.{NetAt};
 ghost use Rattle.hum_net.specs.Bundles.{ComesOfBundle, is_failed_write, is_read_by};
 
-use hum_command_stages::CommandStage;
+use hum_commands::CommandStage;
 use hum_net::{Leftmost, Net, Outcome, RunResult, Sink, Source, run_bundle};
 use hum_stage::Stage;
 use std::alloc::Global;

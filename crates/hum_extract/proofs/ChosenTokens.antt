@@ -2,9 +2,6 @@
 use Rattle.std.proofs.Common.{◌≡◌, ◌≢◌, refl, sym, ap, ℕ, Bool, true, false, not, List, [], ◌∷◌, ◌++◌, length, arith, Option, None, Some}
 use Rattle.std.proofs.Common.{◌+◌, ◌<◌, ◌≤◌, ◌∙◌, drop, get_or, drop-cons, add-one, append-nil, append_assoc}
 use Rattle.std.proofs.lemmas.List.{drop_all, map-append}
-use Rattle.std.specs.declared.vec.Vec.{Vec}
-use Rattle.std.specs.declared.alloc.Global.{Global}
-use Rattle.hum_path.specs.Spines.{texts}
 use Rattle.std.specs.List.{list_any, list_all}
 use Rattle.std.specs.Option.{option_to_list}
 use Rattle.hum_record.specs.declared.SpinedKind.{SpinedKind}
@@ -13,7 +10,8 @@ use Rattle.hum_record.specs.Spelling.{IsTextOf}
 use Rattle.hum_record.proofs.Left.{chosen_filled}
 use Rattle.hum_columns.specs.Spread.{filled}
 use Rattle.hum_columns.specs.Following.{AsWide}
-use Rattle.hum_extract.specs.Choice.{Choice, is_chosen, each_chosen}
+use Rattle.hum_choices.specs.Extract.{Choice}
+use Rattle.hum_extract.specs.Choice.{is_chosen, each_chosen}
 use Rattle.hum_extract.specs.Kept.{kept}
 
 pub chosen_whole : {X : Type 0} (fs : List Bool) (xs : List X) → list_all (λ b. b) fs ≡ true
@@ -87,9 +85,3 @@ module _ (choice : Choice) (width j : ℕ) (names : List (List ℕ)) (done all :
   pub no_more_flags : length names ≤ j → done ≡ all
   no_more_flags past =
       sym (append-nil done) ∙ ap (λ (ns : List (List ℕ)). done ++ each_chosen choice width j ns) (sym (drop_all j names past)) ∙ whole
-
--- one more name is copied
-pub next_text : (done names : List (Vec ℕ Global)) (i : ℕ) (copy name : Vec ℕ Global) → i < length names → name ≡ get_or names i name
-    → copy.items ≡ name.items → texts (done ++ copy ∷ []) ++ texts (drop (i + 1) names) ≡ texts done ++ texts (drop i names)
-next_text done names i copy name below is same =
-    rw (map-append (λ (v : Vec ℕ Global). v.items) done (copy ∷ []), append_assoc, drop-cons names i name below, ← is, same, add-one) refl

@@ -9,7 +9,7 @@ use Rattle.hum_record.specs.Row.{Row, Comment, Spined, tokens_of, text_of, chose
 use Rattle.hum_record.specs.Spelling.{IsToken, IsTextOf}
 use Rattle.hum_record.specs.Building.{spelled}
 use Rattle.hum_path.specs.Sign.{sign_of, is_join, is_exchange}
-use Rattle.hum_columns.specs.Spread.{Piece, tokens_in}
+use Rattle.hum_columns.specs.Spread.{JoinedToken, tokens_in}
 use Rattle.hum_columns.specs.Writing.{Fit}
 use Rattle.hum_columns.proofs.Weights.{weight, no_longer}
 use Rattle.hum_columns.proofs.OneByOne.{Lawful, null_lawful}
@@ -34,7 +34,7 @@ softened_length lone t h = either (lone && is_exchange (sign_of t))
     either true = filled_length t h.filled
     either false = omega arith
 
-abbrev left_of : Bool → Bool → List Bool → List (List ℕ) → List Piece
+abbrev left_of : Bool → Bool → List Bool → List (List ℕ) → List JoinedToken
 left_of lone after fs ts = chosen fs (each_piece after (map (softened lone) ts))
 
 pieces_lawful : (lone after : Bool) (fs : List Bool) (ts : List (List ℕ)) → AllByRecursion (IsToken Interpretation) ts → Lawful (left_of lone after fs ts)

@@ -21,7 +21,7 @@ use Rattle.hum_record.specs.declared.SpinedKind.TheVariants.{Interpretation}
 use Rattle.hum_record.specs.Row.{Row, chosen}
 use Rattle.hum_stage.specs.declared.faults.Rule.{Rule}
 use Rattle.hum_stage.specs.declared.faults.Rule.TheVariants.{X1, X3}
-use Rattle.hum_columns.specs.Spread.{Piece, tokens_in, spread, filled}
+use Rattle.hum_columns.specs.Spread.{JoinedToken, tokens_in, spread, filled}
 use Rattle.hum_columns.proofs.Spreading.{marks, signs_in}
 use Rattle.hum_columns.proofs.Fitting.{Fits, come_to}
 use Rattle.hum_columns.proofs.Leading.{spread_leads}
@@ -229,7 +229,7 @@ abbrev pub has_lone : List Bool → List (List ℕ) → Bool
 has_lone flags tokens = is_lone (exchanged_flags flags (map sign_of tokens))
 
 -- The pieces that are cut out of an interpretation.
-abbrev pub pieces_of : List Bool → List (List ℕ) → List Piece
+abbrev pub pieces_of : List Bool → List (List ℕ) → List JoinedToken
 pieces_of flags tokens =
     pieces flags (map (softened (has_lone flags tokens)) tokens)
 

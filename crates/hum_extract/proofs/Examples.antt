@@ -6,7 +6,7 @@ use Rattle.hum_record.specs.Row.{Row, Spined}
 use Rattle.hum_stage.specs.declared.faults.Rule.TheVariants.{X1, X2, X3}
 use Rattle.hum_stage.specs.Outcome.{settled, refusal}
 use Rattle.hum_stage.specs.Decided.{decisions}
-use Rattle.hum_extract.specs.Choice.{Number, Last, Range, Fields, Names}
+use Rattle.hum_choices.specs.Extract.{Number, Last, Range, Fields, Names}
 use Rattle.hum_extract.specs.Extract.{extract}
 
 abbrev pub only : ℕ → Range

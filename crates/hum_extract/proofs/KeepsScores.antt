@@ -21,7 +21,8 @@ use Rattle.hum_stage.specs.Meaning.{KeepsScore}
 use Rattle.hum_stage.specs.Decided.{decisions, limit}
 use Rattle.hum_columns.proofs.ChosenLists.{chosen_length, chosen_fewer, chosen_none}
 use Rattle.hum_columns.proofs.KeepsScores.{Reach, Selects, text_reaches, text_parts, opening_reaches, columns_keep}
-use Rattle.hum_extract.specs.Choice.{Choice, opening_flags, misses, names_beyond}
+use Rattle.hum_choices.specs.Extract.{Choice}
+use Rattle.hum_extract.specs.Choice.{opening_flags, misses, names_beyond}
 use Rattle.hum_extract.specs.Extract.{opened, extract, column_command}
 use Rattle.hum_extract.proofs.Taking.{opening_length}
 use Rattle.hum_extract.proofs.CutLeads.{cut_leads}

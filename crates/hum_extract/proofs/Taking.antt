@@ -22,7 +22,8 @@ use Rattle.hum_columns.specs.Following.{AsWide, Memory, Follows}
 use Rattle.hum_columns.proofs.ChosenJoins.{chosen_tokens}
 use Rattle.hum_columns.proofs.Flags.{flags_width, flags_plain, opening_steers}
 use Rattle.hum_columns.proofs.Taking.{wide_still as wide_text, follows_still as follows_text, names_in}
-use Rattle.hum_extract.specs.Choice.{Choice, each_chosen, opening_flags}
+use Rattle.hum_choices.specs.Extract.{Choice}
+use Rattle.hum_extract.specs.Choice.{each_chosen, opening_flags}
 use Rattle.hum_extract.specs.Extract.{exchanged_flags, softened, cut, opened, column_command}
 use Rattle.hum_extract.specs.Kept.{kept}
 

@@ -3,21 +3,7 @@ use Rattle.std.specs.Prelude.{ℕ, ◌+◌, nat_lt, nat_le, Bool, false, not, �
 use Rattle.std.specs.Prelude.{List, [], ◌∷◌, length}
 use Rattle.std.specs.List.{list_any}
 use Rattle.std.specs.Str.{bytes_eq}
-
--- a field by its number, from 1, or the last one: `$`
-pub data Field : Type 0 where
-  Number : ℕ → Field
-  Last : Field
-
--- the fields from one to another
-pub record Range : Type 0 where
-  pub first : Field
-  pub last : Field
-
--- opening spines by their fields, or by their exclusive interpretations
-pub data Choice : Type 0 where
-  Fields : List Range → Choice
-  Names : List (List ℕ) → Choice
+use Rattle.hum_choices.specs.Extract.{Field, Number, Last, Range, Choice, Fields, Names}
 
 -- the number of a field of an opening record of this width
 abbrev pub number : ℕ → Field → ℕ

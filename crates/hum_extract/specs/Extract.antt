@@ -6,13 +6,17 @@ use Rattle.hum_record.specs.declared.SpinedKind.TheVariants.{Interpretation}
 use Rattle.hum_record.specs.Row.{Row, chosen}
 use Rattle.hum_path.specs.declared.signs.Sign.{Sign}
 use Rattle.hum_path.specs.Sign.{sign_of, is_exchange}
-use Rattle.hum_columns.specs.Spread.{Piece, spread, filled}
+use Rattle.hum_columns.specs.Spread.{JoinedToken, spread, filled}
 use Rattle.hum_stage.specs.declared.faults.Rule.{Rule}
 use Rattle.hum_stage.specs.declared.faults.Rule.TheVariants.{X1, X2, X3}
-use Rattle.hum_stage.specs.Decided.{Decision}
+use Rattle.hum_stage.specs.declared.faults.Command.TheVariants.{Extract}
+use Rattle.hum_stage.specs.Meaning.{Meaning}
+use Rattle.hum_stage.specs.Decided.{Decision, at_once}
+use Rattle.hum_choices.specs.declared.extract.ExtractOptions.{ExtractOptions}
+use Rattle.hum_choices.specs.Extract.{Choice, choice_of}
 use Rattle.hum_columns.specs.Chosen.{differ, is_torn, each_piece}
 use Rattle.hum_columns.specs.Deciding.{ColumnCommand, by_columns}
-use Rattle.hum_extract.specs.Choice.{Choice, misses, opening_flags}
+use Rattle.hum_extract.specs.Choice.{misses, opening_flags}
 
 -- for each exchanged column whether it is chosen
 abbrev pub exchanged_flags : List Bool → List Sign → List Bool
@@ -41,7 +45,7 @@ abbrev pub softened : Bool → List ℕ → List ℕ
 softened lone token = if lone && is_exchange (sign_of token) then codes "*" else token
 
 -- the chosen tokens, each with whether it begins a join of the record
-abbrev pub pieces : List Bool → List (List ℕ) → List Piece
+abbrev pub pieces : List Bool → List (List ℕ) → List JoinedToken
 pieces flags tokens = chosen flags (each_piece false tokens)
 
 -- what an interpretation becomes where these columns are chosen
@@ -72,3 +76,7 @@ column_command choice = record {
 -- What a record becomes, after those above it, the newest first.
 abbrev pub extract : Choice → Decision
 extract choice = by_columns (column_command choice)
+
+-- what the stage of this number means
+abbrev pub meaning : ℕ → ExtractOptions → Meaning
+meaning stage options = at_once stage Extract (extract (choice_of options))

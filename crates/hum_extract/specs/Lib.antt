@@ -1,4 +1,3 @@
 pub mod Choice
 pub mod Extract
-pub mod Written
 pub mod Kept

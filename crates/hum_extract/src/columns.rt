@@ -10,12 +10,13 @@ ghost use Rattle.hum_stage.specs.Refusals.{IfTold};
 ghost use Rattle.hum_columns.specs.Following.{Answers, memory};
 ghost use Rattle.hum_extract.specs.Choice.{opening_flags};
 ghost use Rattle.hum_extract.specs.Extract.{opened, extract, column_command};
-ghost use Rattle.hum_extract.specs.Written.{choice_of};
+ghost use Rattle.hum_choices.specs.Extract.{choice_of};
 
+use crate::choosing::marks;
 use crate::cutting::cut;
 use crate::due::MostlyOne;
 use crate::kept::keep;
-use crate::options::ExtractOptions;
+use hum_choices::ExtractOptions;
 use hum_columns::ChosenColumns;
 use hum_path::steers;
 use hum_record::{Kind, Record};
@@ -53,7 +54,7 @@ fn open(
     ensures columns { OnOk result (columns.new ≡ memory (after columns.old.path row)
         (opening_flags (choice_of choice.now) (tokens_of row))) }
 {
-    match choice.marks(alloc, &row)? {
+    match marks(alloc, choice, &row)? {
         None => Err(Refusal::Rule(Rule::X2)),
         Some(marks) => {
             columns.open(&row, marks)?;
@@ -65,13 +66,13 @@ fn open(
 
 /// The chosen columns, and the spines that they are among.
 #[derive(Drop)]
-pub struct Columns {
+pub struct ExtractColumns {
     alloc: Global,
     choice: ExtractOptions,
     columns: ChosenColumns,
 }
 
-impl Decides for Columns {
+impl Decides for ExtractColumns {
     type Options = ExtractOptions;
 
     type Due = MostlyOne;
@@ -89,8 +90,8 @@ impl Decides for Columns {
         Command::Extract
     }
 
-    fn begin(alloc: Global, choice: ExtractOptions) -> Columns {
-        Columns {
+    fn begin(alloc: Global, choice: ExtractOptions) -> ExtractColumns {
+        ExtractColumns {
             alloc,
             choice,
             columns: ChosenColumns::none(alloc),

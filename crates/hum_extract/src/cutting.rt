@@ -7,7 +7,7 @@ ghost use Rattle.hum_columns.specs.Following.{AnswersInRoom, IsPassed};
 ghost use Rattle.hum_extract.specs.Extract.{exchanged_flags, is_lone, chosen_between};
 ghost use Rattle.hum_extract.specs.Extract.{softened, pieces, cut};
 
-use hum_columns::{Piece, is_torn, write_pieces};
+use hum_columns::{JoinedToken, is_torn, write_pieces};
 use hum_path::token_sign;
 use hum_record::Record;
 use hum_stage::{Refusal, Rule};
@@ -68,7 +68,7 @@ fn kept_pieces<'r>(
     marks: &[bool],
     lone: bool,
     row: &'r Record,
-) -> Result<Vec<Piece<'r>>, AllocError>
+) -> Result<Vec<JoinedToken<'r>>, AllocError>
     requires { length marks.now ≡ width_of row.now }
     ensures { IfOk result (λ kept. kept.items
         ≡ pieces marks.now (map (softened lone) (tokens_of row.now))) }
@@ -79,7 +79,7 @@ fn kept_pieces<'r>(
         let token = softened(lone, row.token(j));
         let joins = token_sign(token).is_join();
         if *mark {
-            kept.push(Piece::new(joins && !after_join, token))?;
+            kept.push(JoinedToken::new(joins && !after_join, token))?;
         }
         after_join = joins;
     }

@@ -2,7 +2,7 @@
 ghost use Rattle.std.specs.Prelude.{◌≡◌, ◌∷◌, []};
 
 use hum_record::Record;
-use hum_stage::Due;
+use hum_stage::DueRecords;
 use std::alloc::{AllocError, Global};
 use std::collections::VecDeque;
 use std::marker::Model;
@@ -35,7 +35,7 @@ impl MostlyOne {
     }
 }
 
-impl Due for MostlyOne {
+impl DueRecords for MostlyOne {
     ghost rows = { λ s. s };
 
     fn none(alloc: Global) -> Self {

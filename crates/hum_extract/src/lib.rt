@@ -4,15 +4,15 @@
 //! them, along splits, joins, exchanges and added spines.
 #![tactic(auto)]
 
+mod choosing;
 mod columns;
 mod cutting;
 mod due;
 mod kept;
-mod options;
 
-pub use columns::Columns;
+pub use columns::ExtractColumns;
+pub use hum_choices::{ExtractOptions, Field, FieldRange};
 use hum_stage::AtOnce;
-pub use options::{ExtractOptions, Field, FieldRange};
 
 /// The command extract, as a stage.
 ///
@@ -22,4 +22,4 @@ pub use options::{ExtractOptions, Field, FieldRange};
 /// by L2 what there is no room for.
 ///
 /// What it remembers is one mark for each spine, and the spines' exclusive interpretations.
-pub type Extract = AtOnce<Columns>;
+pub type Extract = AtOnce<ExtractColumns>;

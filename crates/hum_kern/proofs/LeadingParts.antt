@@ -21,23 +21,23 @@ not_true : (b : Bool) → not b ≡ true → b ≡ false
 not_true true e = cc
 not_true false e = refl
 
-undivided : (rest : List ℕ) → ends_plainly rest ≡ true → list_any is_divider rest ≡ false
+pub undivided : (rest : List ℕ) → ends_plainly rest ≡ true → list_any is_divider rest ≡ false
 undivided [] plain = refl
 undivided (b ∷ bytes) plain =
     not_true (list_any is_divider (b ∷ bytes)) (and_parts (nat_lt 57 b) (not (list_any is_divider (b ∷ bytes))) plain).1
 
 -- its first byte
-record IsFree (b : ℕ) : Type 0 where
-  digit : is_digit b ≡ false
-  percent : (b == 37) ≡ false
-  dot : is_dot b ≡ false
+pub record IsFree (b : ℕ) : Type 0 where
+  pub digit : is_digit b ≡ false
+  pub percent : (b == 37) ≡ false
+  pub dot : is_dot b ≡ false
 
-free : (b : ℕ) (bytes : List ℕ) → ends_plainly (b ∷ bytes) ≡ true → IsFree b
+pub free : (b : ℕ) (bytes : List ℕ) → ends_plainly (b ∷ bytes) ≡ true → IsFree b
 free b bytes plain =
     let above = (and_parts (nat_lt 57 b) (not (list_any is_divider (b ∷ bytes))) plain).0 in
     record { digit = grind (arith, nat_tests, above); percent = grind (arith, nat_tests, above); dot = grind (arith, nat_tests, above) }
 
-no_run : (rest : List ℕ) → ends_plainly rest ≡ true → run (is_in Digit) rest ≡ 0
+pub no_run : (rest : List ℕ) → ends_plainly rest ≡ true → run (is_in Digit) rest ≡ 0
 no_run [] ends = refl
 no_run (b ∷ bytes) ends = rw (free b bytes ends).digit refl
 
@@ -72,11 +72,11 @@ led token digits rest value in_front at_end some is ends =
 
 -- ---- one digit, and two
 
-digit_is : (a : ℕ) → 48 ≤ a → a ≤ 57 → is_digit a ≡ true
+pub digit_is : (a : ℕ) → 48 ≤ a → a ≤ 57 → is_digit a ≡ true
 digit_is a above below = grind (arith, nat_tests)
 
 -- no zero stands in front, so the number is the denominator
-value_is : (a : ℕ) (digits : List ℕ) → 48 < a → 0 < number (a ∷ digits) → number (a ∷ digits) ≤ 4096
+pub value_is : (a : ℕ) (digits : List ℕ) → 48 < a → 0 < number (a ∷ digits) → number (a ∷ digits) ≤ 4096
     → plain_value (a ∷ digits) ≡ Some (record { top = 1; bottom = number (a ∷ digits) })
 value_is a digits above some few =
     let zero : (a == 48) ≡ false = grind (arith, nat_tests) in

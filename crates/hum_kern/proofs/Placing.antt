@@ -145,22 +145,22 @@ beside test f g before letters signs left p q =
     ∙ sym (list_any-append test before left)
 
 -- no letter and no sign is a mark
-rest_letter : (b : ℕ) → is_letter b ≡ true → is_rest_sign b ≡ false
+pub rest_letter : (b : ℕ) → is_letter b ≡ true → is_rest_sign b ≡ false
 rest_letter b h = grind arith
 
-rest_sign : (b : ℕ) → is_sign b ≡ true → is_rest_sign b ≡ false
+pub rest_sign : (b : ℕ) → is_sign b ≡ true → is_rest_sign b ≡ false
 rest_sign b h = grind arith
 
-grace_letter : (b : ℕ) → is_letter b ≡ true → is_grace_sign b ≡ false
+pub grace_letter : (b : ℕ) → is_letter b ≡ true → is_grace_sign b ≡ false
 grace_letter b h = grind arith
 
-grace_sign : (b : ℕ) → is_sign b ≡ true → is_grace_sign b ≡ false
+pub grace_sign : (b : ℕ) → is_sign b ≡ true → is_grace_sign b ≡ false
 grace_sign b h = grind arith
 
-continued_letter : (b : ℕ) → is_letter b ≡ true → is_continued_sign b ≡ false
+pub continued_letter : (b : ℕ) → is_letter b ≡ true → is_continued_sign b ≡ false
 continued_letter b h = grind arith
 
-continued_sign : (b : ℕ) → is_sign b ≡ true → is_continued_sign b ≡ false
+pub continued_sign : (b : ℕ) → is_sign b ≡ true → is_continued_sign b ≡ false
 continued_sign b h = grind arith
 
 pub same_marks : {a b c d e f : Bool} → a ≡ b → c ≡ d → e ≡ f → ◌≡◌ {A = Reading}
@@ -187,19 +187,19 @@ pub record IsRound (before left : List ℕ) : Type 0 where
   pub no_sign : EndsBefore Sign left
   pub no_rest : is_rest (before ++ left) ≡ false
 
-otherwise : {A : Type 0} (b : Bool) (x y : A) → b ≡ false → (if b then x else y) ≡ y
+pub otherwise : {A : Type 0} (b : Bool) (x y : A) → b ≡ false → (if b then x else y) ≡ y
 otherwise true x y e = cc
 otherwise false x y e = refl
 
-not_over : (k n : ℕ) → n ≤ k → nat_lt k n ≡ false
+pub not_over : (k n : ℕ) → n ≤ k → nat_lt k n ≡ false
 not_over k n h = grind arith
 
-neither : (a b : Bool) → a ≡ false → b ≡ false → (a || b) ≡ false
+pub neither : (a b : Bool) → a ≡ false → b ≡ false → (a || b) ≡ false
 neither false false p q = refl
 neither true b p q = cc
 neither false true p q = cc
 
-not_of : (b : Bool) → b ≡ true → not b ≡ false
+pub not_of : (b : Bool) → b ≡ true → not b ≡ false
 not_of true e = refl
 not_of false e = cc
 

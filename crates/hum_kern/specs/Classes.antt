@@ -2,7 +2,7 @@
 use Rattle.std.specs.Prelude.{ℕ, ◌==◌, nat_le, Bool, ◌&&◌, ◌||◌, not}
 use Rattle.hum_kern.specs.declared.runs.Class.{Class}
 use Rattle.hum_kern.specs.declared.runs.Class.TheVariants.{Digit, Other, Dot}
-use Rattle.hum_kern.specs.declared.runs.Class.TheVariants.{NoLetter, Repeat, Sign}
+use Rattle.hum_kern.specs.declared.runs.Class.TheVariants.{NoLetter, Repeat, Sign, Plain}
 
 abbrev pub is_digit : ℕ → Bool
 is_digit b = nat_le 48 b && nat_le b 57
@@ -48,6 +48,10 @@ is_sign b = b == 35 || (b == 45 || b == 110)
 abbrev pub is_natural_sign : ℕ → Bool
 is_natural_sign b = b == 110
 
+-- what says nothing of a note: neither a letter nor a sign nor a mark
+abbrev pub is_plain : ℕ → Bool
+is_plain b = not (is_letter b || (is_sign b || is_mark b))
+
 abbrev pub is_in : Class → ℕ → Bool
 is_in Digit b = is_digit b
 is_in Other b = not (is_digit b)
@@ -55,3 +59,4 @@ is_in Dot b = is_dot b
 is_in NoLetter b = not (is_letter b)
 is_in (Repeat letter) b = b == letter
 is_in Sign b = is_sign b
+is_in Plain b = is_plain b

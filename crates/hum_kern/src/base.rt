@@ -100,7 +100,21 @@ impl Base {
         }
     }
 
+    /// One divided by a number.
+    #[inline(always)]
+    pub(crate) fn one_over(number: u64) -> Base
+        requires some { 0 < number }
+        requires few { number ≤ 4096 }
+        ensures { result ≡ record { top = 1; bottom = number } }
+    {
+        Base {
+            top: 1,
+            bottom: number,
+        }
+    }
+
     /// The value with so many dots.
+    #[inline(always)]
     pub(crate) fn dotted(self, dots: usize) -> Frac
         requires { dots ≤ 6 }
         ensures { result ≡ reduced (dotted self dots) }
@@ -109,6 +123,7 @@ impl Base {
     }
 }
 
+#[inline(always)]
 fn with_dots(top: u64, bottom: u64, dots: usize) -> Frac
     requires base { IsBase top bottom }
     requires dots { dots ≤ 6 }

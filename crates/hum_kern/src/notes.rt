@@ -8,7 +8,6 @@ ghost use Rattle.hum_pitch.specs.Pitch.{IsOctave, IsAlteration};
 ghost use Rattle.hum_pitch.specs.Spelling.{read_letters, natural_note, spelling};
 ghost use Rattle.hum_pitch.specs.declared.pitch.Pitch.{Pitch as PitchValue};
 ghost use Rattle.hum_kern.specs.Classes.{is_letter};
-ghost use Rattle.hum_kern.specs.Classes.{is_mark};
 ghost use Rattle.hum_kern.specs.Note.{Notation, is_uniform, alteration_of, notation};
 ghost use Rattle.hum_kern.specs.Note.{marks_of, with_pitch, pitched, note_by, note};
 ghost use Rattle.hum_kern.specs.Note.{reading, reading_in};
@@ -17,6 +16,7 @@ ghost use Rattle.hum_kern.specs.Lasting.{KeepsDuration};
 
 use crate::KernFault;
 use crate::runs::{Class, is_letter, split_run};
+use crate::usual::read_usual;
 use hum_pitch::Pitch;
 
 /// What a subtoken says of its pitch, and the marks that it bears.
@@ -38,13 +38,13 @@ pub struct Note {
 
 /// A natural note: its step and its octave.
 #[derive(Clone, Copy)]
-struct NaturalNote {
-    step: u8,
-    octave: i8,
+pub(crate) struct NaturalNote {
+    pub(crate) step: u8,
+    pub(crate) octave: i8,
 }
 
-/// The steps of the letters from a on.
-const STEPS: [u8; 7] = [5, 6, 0, 1, 2, 3, 4];
+/// The steps of the letters from a on, by the rests of the bytes by 8: 1 for `a` and `A`, up to 7.
+const STEPS: [u8; 8] = [0, 5, 6, 0, 1, 2, 3, 4];
 
 fn all_are(bytes: &[u8], byte: u8) -> bool
     ensures { result ≡ list_all (λ x. x == byte) bytes.now }
@@ -95,7 +95,8 @@ fn alteration(signs: &[u8]) -> i8
 }
 
 /// The natural note of a letter that stands so many times.
-fn natural(letter: u8, count: usize) -> NaturalNote
+#[inline(always)]
+pub(crate) fn natural(letter: u8, count: usize) -> NaturalNote
     requires letter { is_letter letter ≡ true }
     requires some { 0 < count }
     requires few { count ≤ 8 }
@@ -105,12 +106,12 @@ fn natural(letter: u8, count: usize) -> NaturalNote
 {
     if letter >= b'a' {
         NaturalNote {
-            step: STEPS[(letter - b'a') as usize],
+            step: STEPS[(letter % 8) as usize],
             octave: 3 + count as i8,
         }
     } else {
         NaturalNote {
-            step: STEPS[(letter - b'A') as usize],
+            step: STEPS[(letter % 8) as usize],
             octave: 4 - count as i8,
         }
     }
@@ -145,41 +146,8 @@ fn read_pitch(marks: Note, before: &[u8], letter: u8, rest: &[u8]) -> Result<Not
     })
 }
 
-/// Whether a byte is a mark: a rest, the sign of a grace note, a tie that goes on or ends. Most bytes are below
-/// all of these.
-fn is_mark(b: u8) -> bool
-    ensures { result ≡ is_mark b }
-{
-    b >= b'Q' && (b == b'r' || b == b'q' || b == b'Q' || b == b'_' || b == b']')
-}
-
-fn has_mark(bytes: &[u8]) -> bool
-    ensures { result ≡ list_any is_mark bytes.now }
-{
-    bytes.iter().any(|b| is_mark(*b))
-}
-
 /// The marks of a subtoken.
-#[inline(always)]
 fn marks(bytes: &[u8]) -> Note
-    ensures { reading result ≡ marks_of bytes.now }
-{
-    if has_mark(bytes) {
-        return some_marks(bytes);
-    }
-    Note {
-        pitch: None,
-        start: 0,
-        end: 0,
-        rest: false,
-        grace: false,
-        continued: false,
-    }
-}
-
-/// The same of a subtoken that has some.
-#[inline(never)]
-fn some_marks(bytes: &[u8]) -> Note
     ensures { reading result ≡ marks_of bytes.now }
 {
     let mut rest = false;
@@ -200,7 +168,9 @@ fn some_marks(bytes: &[u8]) -> Note
     }
 }
 
-fn read_subtoken(bytes: &[u8]) -> Result<Note, KernFault>
+/// What a subtoken says, whatever it holds.
+#[inline(never)]
+fn read_any(bytes: &[u8]) -> Result<Note, KernFault>
     ensures { reading_in result ≡ note bytes.now }
 {
     let marks = marks(bytes);
@@ -214,6 +184,16 @@ fn read_subtoken(bytes: &[u8]) -> Result<Note, KernFault>
     }
 }
 
+#[inline(always)]
+fn read_subtoken(bytes: &[u8]) -> Result<Note, KernFault>
+    ensures { reading_in result ≡ note bytes.now }
+{
+    match read_usual(bytes) {
+        Some(note) => Ok(note),
+        None => read_any(bytes),
+    }
+}
+
 /// The pitch of a subtoken and its marks. A rest, which holds `r`, has no pitch, whatever else it
 /// holds. Else the pitch is the one run of a repeated letter (`a` to `g` or `A` to `G`), with the
 /// run of `#`, `-` or `n` directly behind it: `c` is middle c, `cc` the c an octave higher, `C` an
@@ -223,6 +203,7 @@ fn read_subtoken(bytes: &[u8]) -> Result<Note, KernFault>
 /// # Errors
 /// K1: two runs of letters, or different bytes in the accidental. K2: over 8 letters or over 7
 /// bytes of the accidental. Where both hold it is K1.
+#[inline(always)]
 pub fn read_note(bytes: &[u8]) -> Result<Note, KernFault>
     ensures read { reading_in result ≡ note bytes.now }
     ensures says { SaysNote bytes.now (reading_in result) }

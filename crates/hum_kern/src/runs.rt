@@ -2,7 +2,7 @@
 
 ghost use Rattle.std.specs.Prelude.{◌≡◌, ◌+◌, ◌≤◌, length};
 ghost use Rattle.hum_kern.specs.Runs.{run, front, behind, starts_with};
-ghost use Rattle.hum_kern.specs.Classes.{is_digit, is_letter, is_sign, is_in};
+ghost use Rattle.hum_kern.specs.Classes.{is_digit, is_letter, is_sign, is_plain, is_in};
 
 /// What a run consists of.
 #[derive(Clone, Copy)]
@@ -19,8 +19,32 @@ pub(crate) enum Class {
     Repeat(u8),
     /// The signs of accidentals: `#`, `-` and `n`.
     Sign,
+    /// Bytes that say nothing of a note: neither letters nor signs nor marks.
+    Plain,
 }
 
+/// For each byte, whether it says nothing of a note.
+const PLAIN: [bool; 256] = [
+    true, true, true, true, true, true, true, true, true, true, true, true, true, true, true, true,
+    true, true, true, true, true, true, true, true, true, true, true, true, true, true, true, true,
+    true, true, true, false, true, true, true, true, true, true, true, true, true, false, true,
+    true, true, true, true, true, true, true, true, true, true, true, true, true, true, true, true,
+    true, true, false, false, false, false, false, false, false, true, true, true, true, true,
+    true, true, true, true, false, true, true, true, true, true, true, true, true, true, true,
+    true, false, true, false, true, false, false, false, false, false, false, false, true, true,
+    true, true, true, true, false, true, true, false, false, true, true, true, true, true, true,
+    true, true, true, true, true, true, true, true, true, true, true, true, true, true, true, true,
+    true, true, true, true, true, true, true, true, true, true, true, true, true, true, true, true,
+    true, true, true, true, true, true, true, true, true, true, true, true, true, true, true, true,
+    true, true, true, true, true, true, true, true, true, true, true, true, true, true, true, true,
+    true, true, true, true, true, true, true, true, true, true, true, true, true, true, true, true,
+    true, true, true, true, true, true, true, true, true, true, true, true, true, true, true, true,
+    true, true, true, true, true, true, true, true, true, true, true, true, true, true, true, true,
+    true, true, true, true, true, true, true, true, true, true, true, true, true, true, true, true,
+    true, true, true, true, true, true, true,
+];
+
+#[inline(always)]
 fn is_digit(b: u8) -> bool
     ensures { result ≡ is_digit b }
 {
@@ -28,20 +52,30 @@ fn is_digit(b: u8) -> bool
 }
 
 /// Whether a byte is a letter of pitches.
+#[inline(always)]
 pub(crate) fn is_letter(b: u8) -> bool
     ensures { result ≡ is_letter b }
 {
     (97 <= b && b <= 103) || (65 <= b && b <= 71)
 }
 
+#[inline(always)]
 fn is_sign(b: u8) -> bool
     ensures { result ≡ is_sign b }
 {
     b == b'#' || b == b'-' || b == b'n'
 }
 
+#[inline(always)]
+fn is_plain(b: u8) -> bool
+    ensures { result ≡ is_plain b }
+{
+    PLAIN[b as usize]
+}
+
 impl Class {
     /// Whether a byte is of the class.
+    #[inline(always)]
     fn has(self, b: u8) -> bool
         ensures { result ≡ is_in self b }
     {
@@ -52,11 +86,13 @@ impl Class {
             Class::NoLetter => !is_letter(b),
             Class::Repeat(letter) => b == letter,
             Class::Sign => is_sign(b),
+            Class::Plain => is_plain(b),
         }
     }
 }
 
 /// How long the run at the front is.
+#[inline(always)]
 fn run(bytes: &[u8], class: Class) -> usize
     ensures run { result ≡ run (is_in class) bytes.now }
     ensures within { result ≤ length bytes.now }
@@ -69,6 +105,7 @@ fn run(bytes: &[u8], class: Class) -> usize
 }
 
 /// The run at the front, and what stands behind it.
+#[inline(always)]
 pub(crate) fn split_run(bytes: &[u8], class: Class) -> (&[u8], &[u8])
     ensures front { (result.0).now ≡ front (is_in class) bytes.now }
     ensures behind { (result.1).now ≡ behind (is_in class) bytes.now }

@@ -7,8 +7,8 @@ use Rattle.hum_stage.specs.declared.faults.Command.{Command}
 use Rattle.hum_stage.specs.declared.faults.End.TheVariants.{Closed}
 use Rattle.hum_stage.specs.Outcome.{settled, refusal}
 use Rattle.hum_stage.specs.Look.{Look, outcomes_from, looking}
-use Rattle.hum_yank.specs.declared.options.YankRange.{YankRange}
-use Rattle.hum_yank.specs.declared.options.YankRange.TheVariants.{Onward}
+use Rattle.hum_choices.specs.declared.yank.YankRange.{YankRange}
+use Rattle.hum_choices.specs.declared.yank.YankRange.TheVariants.{Onward}
 use Rattle.hum_yank.specs.Passages.{Lines}
 use Rattle.hum_yank.specs.Yank.{yank}
 use Rattle.hum_laws.specs.declared.given.Given.{Given}

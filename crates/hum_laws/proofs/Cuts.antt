@@ -31,7 +31,8 @@ use Rattle.hum_columns.proofs.ChosenLists.{chosen_length, chosen_map}
 use Rattle.hum_columns.proofs.ChosenJoins.{chosen_tokens, chosen_marks}
 use Rattle.hum_columns.proofs.Flags.{flags_width, flags_open, flags_after, flags_onward, text_opening}
 use Rattle.hum_columns.proofs.KeepsScores.{selected_path, Leads, next}
-use Rattle.hum_extract.specs.Choice.{Choice, opening_flags, misses}
+use Rattle.hum_choices.specs.Extract.{Choice}
+use Rattle.hum_extract.specs.Choice.{opening_flags, misses}
 use Rattle.hum_extract.specs.Extract.{chosen_between, softened, pieces, cut, opened, column_command, extract}
 use Rattle.hum_extract.proofs.CutLeads.{has_lone, pieces_of, soft_signs, soft_begins, cut_signs, chosen_comes, cut_fits}
 use Rattle.hum_extract.proofs.KeepsScores.{extract_selects}

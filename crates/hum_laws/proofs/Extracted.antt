@@ -21,12 +21,14 @@ use Rattle.hum_stage.specs.Meaning.{KeepsScore}
 use Rattle.hum_columns.specs.Spread.{filled, spread}
 use Rattle.hum_columns.specs.Chosen.{is_torn, opening_if, opening_of, flags}
 use Rattle.hum_columns.specs.Deciding.{at_path}
-use Rattle.hum_extract.specs.declared.options.ExtractOptions.{ExtractOptions}
-use Rattle.hum_extract.specs.Choice.{Choice, opening_flags, misses}
+use Rattle.hum_choices.specs.declared.extract.ExtractOptions.{ExtractOptions}
+use Rattle.hum_choices.specs.Extract.{Choice}
+use Rattle.hum_extract.specs.Choice.{opening_flags, misses}
 use Rattle.hum_extract.specs.Extract.{chosen_between, cut, opened, extract}
-use Rattle.hum_extract.specs.Written.{choice_of, meaning as meaning_of_extract}
+use Rattle.hum_choices.specs.Extract.{choice_of}
+use Rattle.hum_extract.specs.Extract.{meaning as meaning_of_extract}
 use Rattle.hum_extract.proofs.CutLeads.{has_lone, pieces_of}
-use Rattle.hum_ditto.specs.declared.DittoOptions.{DittoOptions}
+use Rattle.hum_choices.specs.declared.ditto.DittoOptions.{DittoOptions}
 use Rattle.hum_ditto.specs.Ditto.{repeated, filled as filled_by, all_filled, new_tokens, if_fits, ditto, meaning as meaning_of_ditto}
 use Rattle.hum_ditto.specs.Memory.{last_seen}
 use Rattle.hum_ditto.proofs.Nearest.{all_remembered}

@@ -20,7 +20,8 @@ use Rattle.hum_stage.specs.Decided.{at_once}
 use Rattle.hum_columns.specs.Spread.{filled}
 use Rattle.hum_columns.specs.Chosen.{flags}
 use Rattle.hum_columns.specs.Deciding.{at_path}
-use Rattle.hum_extract.specs.Choice.{Names, each_chosen, opening_flags, misses, names_beyond}
+use Rattle.hum_choices.specs.Extract.{Names}
+use Rattle.hum_extract.specs.Choice.{each_chosen, opening_flags, misses, names_beyond}
 use Rattle.hum_extract.specs.Extract.{cut, opened, extract}
 use Rattle.hum_record.proofs.Left.{chosen_filled}
 use Rattle.hum_extract.proofs.ChosenTokens.{filled_one}

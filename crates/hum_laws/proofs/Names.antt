@@ -14,7 +14,7 @@ use Rattle.hum_path.specs.Chains.{columns}
 use Rattle.hum_path.proofs.Cases.{by_bool}
 use Rattle.hum_stage.specs.declared.faults.Rule.{Rule}
 use Rattle.hum_stage.specs.Score.{IsScore}
-use Rattle.hum_cells.specs.Retelling.{Heading, Renamed, Followed, Retelling, is_kern, kern_columns, all_retold, headed, with_heading, data_record, retell}
+use Rattle.hum_cells.specs.Rewriting.{Heading, Renamed, Followed, Rewriting, is_kern, kern_columns, all_rewritten, headed, with_heading, data_record, rewrite}
 use Rattle.hum_laws.proofs.Runs.{out, Fine, RunsBehind, RunsTo, comes_to, fine_settled}
 use Rattle.hum_laws.proofs.Marks.{Becomes, fit_only, fits_as}
 
@@ -22,7 +22,7 @@ abbrev pub no_kern : List (List ℕ) → Type 0
 no_kern names = list_any is_kern names ≡ false
 
 untold : (becomes : Becomes) (names : List (List ℕ)) (aboves : List (List (List ℕ))) (tokens : List (List ℕ)) → no_kern names
-    → all_retold becomes (map is_kern names) aboves tokens ≡ Ok tokens
+    → all_rewritten becomes (map is_kern names) aboves tokens ≡ Ok tokens
 untold becomes [] aboves tokens h = refl
 untold becomes (n ∷ ns) [] tokens h = refl
 untold becomes (n ∷ ns) (x ∷ xs) [] h = refl
@@ -70,16 +70,16 @@ no_kern_after (Spines names) tokens h k = no_kern_all names tokens (moves_under 
 abbrev Holds : List Row → List Row → Type 0
 Holds past behind = no_kern (exclusives (path_after behind))
 
-abbrev naming : List ℕ → Becomes → Retelling
+abbrev naming : List ℕ → Becomes → Rewriting
 naming name becomes = record { heading = Renamed name; becomes = becomes }
 
-abbrev Step : Retelling → List Row → List Row → Row → Type 0
-Step second behind made row = (out (retell second) behind made ≡ made) × no_kern (exclusives (path_after (passed behind made)))
+abbrev Step : Rewriting → List Row → List Row → Row → Type 0
+Step second behind made row = (out (rewrite second) behind made ≡ made) × no_kern (exclusives (path_after (passed behind made)))
 
-values_step : (name : List ℕ) (first : Becomes) (second : Retelling) (past behind made : List Row)
+values_step : (name : List ℕ) (first : Becomes) (second : Rewriting) (past behind made : List Row)
     (tokens : List (List ℕ)) → no_kern (exclusives (path_after behind))
-    → retell (naming name first) past (Spined Values tokens) ≡ Ok made → Fine (retell second) behind made → Step second behind made (Spined Values tokens)
-values_step name first second past behind made tokens holds e fine = go (all_retold first (kern_columns past) (columns past) tokens) e
+    → rewrite (naming name first) past (Spined Values tokens) ≡ Ok made → Fine (rewrite second) behind made → Step second behind made (Spined Values tokens)
+values_step name first second past behind made tokens holds e fine = go (all_rewritten first (kern_columns past) (columns past) tokens) e
   where
     one : (texts : List (List ℕ)) → Spined Values texts ∷ [] ≡ made → Step second behind made (Spined Values tokens)
     one texts is =
@@ -91,8 +91,8 @@ values_step name first second past behind made tokens holds e fine = go (all_ret
     go (Err rule) e = cc
     go (Ok texts) e = one texts (fit_only (Spined Values texts ∷ []) made e)
 
-steering_step : (name : List ℕ) (first : Becomes) (second : Retelling) (past behind made : List Row) (tokens : List (List ℕ)) → is_kern name ≡ false
-    → no_kern (exclusives (path_after behind)) → retell (naming name first) past (Spined Interpretation tokens) ≡ Ok made → Fine (retell second) behind made
+steering_step : (name : List ℕ) (first : Becomes) (second : Rewriting) (past behind made : List Row) (tokens : List (List ℕ)) → is_kern name ≡ false
+    → no_kern (exclusives (path_after behind)) → rewrite (naming name first) past (Spined Interpretation tokens) ≡ Ok made → Fine (rewrite second) behind made
     → Step second behind made (Spined Interpretation tokens)
 steering_step name first second past behind made tokens other holds e fine =
     let new = map (headed (Renamed name)) tokens in
@@ -102,8 +102,8 @@ steering_step name first second past behind made tokens other holds e fine =
     let took = (rw (← is) at fine).0 in
     rw (← is) (rw (fits_as (with_heading second.heading new) took, same) refl, no_kern_after (path_after behind) new holds none)
 
-step : (name : List ℕ) (first : Becomes) (second : Retelling) (past behind made : List Row) (row : Row) → is_kern name ≡ false
-    → no_kern (exclusives (path_after behind)) → retell (naming name first) past row ≡ Ok made → Fine (retell second) behind made → Step second behind made row
+step : (name : List ℕ) (first : Becomes) (second : Rewriting) (past behind made : List Row) (row : Row) → is_kern name ≡ false
+    → no_kern (exclusives (path_after behind)) → rewrite (naming name first) past row ≡ Ok made → Fine (rewrite second) behind made → Step second behind made row
 step name first second past behind made (Comment text) other holds e fine = let is : Comment text ∷ [] ≡ made = cc in rw (← is) (refl, holds)
 step name first second past behind made (Spined Local tokens) other holds e fine = let is : Spined Local tokens ∷ [] ≡ made = cc in rw (← is) (refl, holds)
 step name first second past behind made (Spined Interpretation tokens) other holds e fine =
@@ -111,15 +111,15 @@ step name first second past behind made (Spined Interpretation tokens) other hol
 step name first second past behind made (Spined Values tokens) other holds e fine = values_step name first second past behind made tokens holds e fine
 
 -- What the first gives is what both give.
-pub left_alone : (name : List ℕ) (first : Becomes) (second : Retelling) (p once twice : List Row) → is_kern name ≡ false → IsScore p
-    → RunsTo (retell (naming name first)) p once → RunsBehind (retell (naming name first)) (retell second) p twice → twice ≡ once
+pub left_alone : (name : List ℕ) (first : Becomes) (second : Rewriting) (p once twice : List Row) → is_kern name ≡ false → IsScore p
+    → RunsTo (rewrite (naming name first)) p once → RunsBehind (rewrite (naming name first)) (rewrite second) p twice → twice ≡ once
 left_alone name first second p once twice other score alone both =
-    comes_to (retell (naming name first)) (retell second) (retell (naming name first)) Holds
+    comes_to (rewrite (naming name first)) (rewrite second) (rewrite (naming name first)) Holds
     (record {
       opening = refl;
       step = λ past behind made row right sound holds e goes fine.
           let s = step name first second past behind made row other holds e fine in
           (e ∙ ap (λ (x : List Row). Ok x) (sym s.0), s.1);
     }) p twice score both
-    ∙ fine_settled (retell (naming name first)) [] p alone.fine
+    ∙ fine_settled (rewrite (naming name first)) [] p alone.fine
     ∙ sym alone.gives

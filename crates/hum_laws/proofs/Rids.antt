@@ -8,7 +8,7 @@ use Rattle.hum_record.specs.declared.SpinedKind.TheVariants.{Local, Interpretati
 use Rattle.hum_record.specs.Row.{Row, Comment, Spined}
 use Rattle.hum_stage.specs.Meaning.{output, own_fault}
 use Rattle.hum_stage.specs.Decided.{decisions}
-use Rattle.hum_rid.specs.declared.RidOptions.{RidOptions}
+use Rattle.hum_choices.specs.declared.rid.RidOptions.{RidOptions}
 use Rattle.hum_rid.specs.Rid.{rid, drops, all_are, has_tandems, meaning}
 use Rattle.hum_laws.specs.declared.given.Given.{Given}
 use Rattle.hum_laws.specs.Piped.{IsAlone, IsPiped, Same}

@@ -7,7 +7,7 @@ use Rattle.hum_path.specs.Onward.{onward, swapped}
 use Rattle.hum_path.specs.Memories.{seen_each}
 use Rattle.hum_path.proofs.Onwards.{swapped_none}
 use Rattle.hum_path.proofs.Cases.{by_bool}
-use Rattle.hum_columns.specs.Spread.{Piece, joins, tokens_in, touches, joins_in, goes_on, join_alone, first_alone, join_done, first_done}
+use Rattle.hum_columns.specs.Spread.{JoinedToken, joins, tokens_in, touches, joins_in, goes_on, join_alone, first_alone, join_done, first_done}
 use Rattle.hum_columns.specs.Spread.{one_by_one, before_last, spread}
 use Rattle.hum_columns.proofs.Spreading.{marks, signs_in, Formed, formed_length, rest_merged, merged, first_onward, done_onward, done_formed}
 use Rattle.hum_columns.proofs.Spreading.{done_joins, done_swapped}
@@ -29,11 +29,11 @@ all_on see fresh ([] ∷ records) ms = all_on see fresh records ms
 all_on see fresh ((t ∷ ts) ∷ records) ms = all_on see fresh records (seen_on see fresh (t ∷ ts) ms)
 
 -- what comes of them under pieces at once
-abbrev pub pieces_on : {M : Type 0} → (List ℕ → M → M) → M → List Piece → List M → List M
+abbrev pub pieces_on : {M : Type 0} → (List ℕ → M → M) → M → List JoinedToken → List M → List M
 pieces_on see fresh pieces ms =
     onward (λ _. fresh) (marks pieces) (signs_in pieces) (swapped (signs_in pieces) (seen_each see (tokens_in pieces) ms))
 
-merged_length : {X Y : Type 0} (ps : List Piece) (xs : List X) (ys : List Y) → length xs ≡ length ys → length (merged ps xs) ≡ length (merged ps ys)
+merged_length : {X Y : Type 0} (ps : List JoinedToken) (xs : List X) (ys : List Y) → length xs ≡ length ys → length (merged ps xs) ≡ length (merged ps ys)
 merged_length [] xs ys e = e
 merged_length (p ∷ ps) [] [] e = refl
 merged_length (p ∷ ps) [] (y ∷ ys) e = absurd (omega (arith, e))
@@ -41,7 +41,7 @@ merged_length (p ∷ ps) (x ∷ xs) [] e = absurd (omega (arith, e))
 merged_length {X} {Y} (p ∷ ps) (x ∷ xs) (y ∷ ys) e =
     by_bool p.begins (λ w. rw w (ap suc (rest ps xs ys (omega (arith, e))))) (λ w. rw w (ap suc (merged_length ps xs ys (omega (arith, e)))))
   where
-    rest : (ps : List Piece) (xs : List X) (ys : List Y) → length xs ≡ length ys → length (rest_merged ps xs) ≡ length (rest_merged ps ys)
+    rest : (ps : List JoinedToken) (xs : List X) (ys : List Y) → length xs ≡ length ys → length (rest_merged ps xs) ≡ length (rest_merged ps ys)
     rest [] xs ys e = e
     rest (p ∷ ps) [] [] e = refl
     rest (p ∷ ps) [] (y ∷ ys) e = absurd (omega (arith, e))
@@ -54,19 +54,19 @@ module _ {M : Type 0} (see : List ℕ → M → M) (fresh : M) (passes : Passes 
   seen_none (t ∷ ts) = refl
 
   -- the record with the first join alone tells nothing
-  nulls_seen : (ps : List Piece) (ms : List M) → seen_each see (map (λ _. codes "*") ps) ms ≡ ms
+  nulls_seen : (ps : List JoinedToken) (ms : List M) → seen_each see (map (λ _. codes "*") ps) ms ≡ ms
   nulls_seen [] ms = refl
   nulls_seen (p ∷ ps) [] = refl
   nulls_seen (p ∷ ps) (m ∷ ms) = let rest = nulls_seen ps ms in rw (passes.null m, rest) refl
 
-  join_seen : (ps : List Piece) (ms : List M) → seen_each see (join_alone ps) ms ≡ ms
+  join_seen : (ps : List JoinedToken) (ms : List M) → seen_each see (join_alone ps) ms ≡ ms
   join_seen [] ms = refl
   join_seen (p ∷ ps) [] = seen_none (join_alone (p ∷ ps))
   join_seen (p ∷ ps) (m ∷ ms) = by_bool (goes_on p)
       (λ w. let rest = join_seen ps ms in let same = passes.join p.token m (and_parts (joins p) (not p.begins) w).0 in rw w (rw (same, rest) refl))
       (λ w. rw w (nulls_seen (p ∷ ps) (m ∷ ms)))
 
-  first_seen : (b : Bool) (n : List ℕ) (ps : List Piece) (ns : List (List ℕ)) (ms : List M) → Formed b n ps ns → seen_each see (first_alone ps) ms ≡ ms
+  first_seen : (b : Bool) (n : List ℕ) (ps : List JoinedToken) (ns : List (List ℕ)) (ms : List M) → Formed b n ps ns → seen_each see (first_alone ps) ms ≡ ms
   first_seen b n [] ns ms f = refl
   first_seen b n (p ∷ ps) [] ms f = absurd f
   first_seen b n (p ∷ ps) (o ∷ ns) [] f = seen_none (first_alone (p ∷ ps))
@@ -75,13 +75,13 @@ module _ {M : Type 0} (see : List ℕ → M → M) (fresh : M) (passes : Passes 
       (λ w. let rest = first_seen (joins p) o ps ns ms f.1.1 in rw w (rw (passes.null m, rest) refl))
 
   -- what is left tells the rest
-  rest_seen : (ps : List Piece) (ms : List M)
+  rest_seen : (ps : List JoinedToken) (ms : List M)
       → seen_each see (tokens_in (join_done ps)) (rest_merged ps ms) ≡ rest_merged ps (seen_each see (tokens_in ps) ms)
   rest_seen [] ms = refl
   rest_seen (p ∷ ps) [] = seen_none (tokens_in (join_done (p ∷ ps)))
   rest_seen (p ∷ ps) (m ∷ ms) = by_bool (goes_on p) (λ w. rw w (rest_seen ps ms)) (λ w. rw w refl)
 
-  done_seen : (b : Bool) (n : List ℕ) (ps : List Piece) (ns : List (List ℕ)) (ms : List M) → Formed b n ps ns
+  done_seen : (b : Bool) (n : List ℕ) (ps : List JoinedToken) (ns : List (List ℕ)) (ms : List M) → Formed b n ps ns
       → seen_each see (tokens_in (first_done ps)) (merged ps ms) ≡ merged ps (seen_each see (tokens_in ps) ms)
   done_seen b n [] ns ms f = refl
   done_seen b n (p ∷ ps) [] ms f = absurd f
@@ -97,7 +97,7 @@ module _ {M : Type 0} (see : List ℕ → M → M) (fresh : M) (passes : Passes 
   one_on (t ∷ ts) records ms k e = refl
 
   -- the last one, or the only one
-  last_on : (ps : List Piece) (ns : List (List ℕ)) (ms : List M) → Formed false [] ps ns → touches false ps ≡ false → length ms ≡ length ps
+  last_on : (ps : List JoinedToken) (ns : List (List ℕ)) (ms : List M) → Formed false [] ps ns → touches false ps ≡ false → length ms ≡ length ps
       → all_on see fresh (tokens_in ps ∷ []) ms ≡ pieces_on see fresh ps ms
   last_on [] ns [] f t e = refl
   last_on [] ns (m ∷ ms) f t e = absurd (omega (arith, e))
@@ -105,14 +105,14 @@ module _ {M : Type 0} (see : List ℕ → M → M) (fresh : M) (passes : Passes 
       ap (λ (bs : List Bool). onward (λ _. fresh) bs (signs_in (p ∷ ps)) (swapped (signs_in (p ∷ ps)) (seen_each see (tokens_in (p ∷ ps)) ms)))
       (begins_marks false [] (p ∷ ps) ns f t)
 
-  first_on : (ps : List Piece) (ns : List (List ℕ)) (ms : List M) → Formed false [] ps ns → length ms ≡ length ps
+  first_on : (ps : List JoinedToken) (ns : List (List ℕ)) (ms : List M) → Formed false [] ps ns → length ms ≡ length ps
       → seen_on see fresh (first_alone ps) ms ≡ merged ps ms
   first_on ps ns ms f e =
       let none = first_exchange 0 false [] ps ns f in
       let same = first_seen false [] ps ns ms f in
       rw (same, swapped_none 0 (map sign_of (first_alone ps)) ms none) (first_onward (λ _. fresh) false [] ps ns ms f (sym e))
 
-  left_on : (ps : List Piece) (ns : List (List ℕ)) (ms : List M) → Formed false [] ps ns
+  left_on : (ps : List JoinedToken) (ns : List (List ℕ)) (ms : List M) → Formed false [] ps ns
       → pieces_on see fresh (first_done ps) (merged ps ms) ≡ pieces_on see fresh ps ms
   left_on ps ns ms f =
       let seen = seen_each see (tokens_in ps) ms in
@@ -121,7 +121,7 @@ module _ {M : Type 0} (see : List ℕ → M → M) (fresh : M) (passes : Passes 
       ∙ ap (λ (xs : List M). onward (λ _. fresh) (marks (first_done ps)) (signs_in (first_done ps)) xs) (done_swapped false [] ps ns seen f)
       ∙ done_onward (λ _. fresh) false [] ps ns (swapped (signs_in ps) seen) f
 
-  by_one : (n : ℕ) (ps : List Piece) (ns : List (List ℕ)) (ms : List M) → Formed false [] ps ns → joins_in ps ≤ suc n → (1 ≤ n → joins_in ps ≡ suc n)
+  by_one : (n : ℕ) (ps : List JoinedToken) (ns : List (List ℕ)) (ms : List M) → Formed false [] ps ns → joins_in ps ≤ suc n → (1 ≤ n → joins_in ps ≡ suc n)
       → length ms ≡ length ps → all_on see fresh (one_by_one n ps) ms ≡ pieces_on see fresh ps ms
   by_one zero ps ns ms f few exact e = last_on ps ns ms f (one_apart ps ns f few) e
   by_one (suc n) [] ns ms f few exact e = let none : 0 ≡ suc (suc n) = exact (omega arith) in absurd (omega (arith, none))
@@ -138,7 +138,7 @@ module _ {M : Type 0} (see : List ℕ → M → M) (fresh : M) (passes : Passes 
       ∙ left_on (p ∷ ps) ns ms f
 
   -- The spread rule: what is remembered goes on as if the pieces stood in one record.
-  pub spread_on : (ps : List Piece) (ns : List (List ℕ)) (ms : List M) → Formed false [] ps ns → length ms ≡ length ps
+  pub spread_on : (ps : List JoinedToken) (ns : List (List ℕ)) (ms : List M) → Formed false [] ps ns → length ms ≡ length ps
       → all_on see fresh (spread ps) ms ≡ pieces_on see fresh ps ms
   spread_on ps ns ms f e = by_test (touches false ps) refl
     where

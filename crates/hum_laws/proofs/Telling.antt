@@ -8,10 +8,10 @@ use Rattle.hum_stage.specs.declared.faults.End.TheVariants.{Closed}
 use Rattle.hum_stage.specs.Score.{IsScore}
 use Rattle.hum_stage.specs.Meaning.{KeepsScore}
 use Rattle.hum_stage.specs.Decided.{at_once}
-use Rattle.hum_cells.specs.Retelling.{Renamed, Retelling, is_kern, retell}
+use Rattle.hum_cells.specs.Rewriting.{Renamed, Rewriting, is_kern, rewrite}
 use Rattle.hum_tones.specs.Commands.{trans, semits, mint, recip}
-use Rattle.hum_commands.specs.declared.options.CommandOptions.{CommandOptions}
-use Rattle.hum_commands.specs.declared.options.CommandOptions.TheVariants.{Rid, Extract, Ditto, Timebase, Context, Trans, Semits, Mint, Recip, Yank, Cleave}
+use Rattle.hum_choices.specs.declared.commands.CommandOptions.{CommandOptions}
+use Rattle.hum_choices.specs.declared.commands.CommandOptions.TheVariants.{Rid, Extract, Ditto, Timebase, Context, Trans, Semits, Mint, Recip, Yank, Cleave}
 use Rattle.hum_commands.specs.Meaning.{meaning, MakesScores}
 use Rattle.hum_laws.specs.declared.given.Given.{Given}
 use Rattle.hum_laws.specs.Piped.{IsAlone, IsPiped}
@@ -25,7 +25,7 @@ record Naming (stage : ℕ) (options : CommandOptions) : Type 0 where
   command : Command
   other : List ℕ
   becomes : Becomes
-  is : meaning stage options ≡ at_once stage command (retell (record { heading = Renamed other; becomes = becomes }))
+  is : meaning stage options ≡ at_once stage command (rewrite (record { heading = Renamed other; becomes = becomes }))
   apart : is_kern other ≡ false
 
 naming : (stage : ℕ) (options : CommandOptions) → NamesColumns options → Naming stage options
@@ -57,14 +57,14 @@ makes_scores (Cleave options) h = absurd h
 
 record Telling (stage : ℕ) (options : CommandOptions) : Type 0 where
   command : Command
-  retelling : Retelling
-  is : meaning stage options ≡ at_once stage command (retell retelling)
+  rewriting : Rewriting
+  is : meaning stage options ≡ at_once stage command (rewrite rewriting)
 
 telling : (stage : ℕ) (options : CommandOptions) → IsOnNotes options → Telling stage options
-telling stage (Trans options) h = record { command = name.Trans; retelling = trans options.steps options.semitones; is = refl }
-telling stage (Semits options) h = record { command = name.Semits; retelling = semits options; is = refl }
-telling stage (Mint options) h = record { command = name.Mint; retelling = mint options; is = refl }
-telling stage (Recip options) h = record { command = name.Recip; retelling = recip options; is = refl }
+telling stage (Trans options) h = record { command = name.Trans; rewriting = trans options.steps options.semitones; is = refl }
+telling stage (Semits options) h = record { command = name.Semits; rewriting = semits options; is = refl }
+telling stage (Mint options) h = record { command = name.Mint; rewriting = mint options; is = refl }
+telling stage (Recip options) h = record { command = name.Recip; rewriting = recip options; is = refl }
 telling stage (Rid options) h = absurd h
 telling stage (Extract options) h = absurd h
 telling stage (Ditto options) h = absurd h
@@ -79,8 +79,8 @@ pub told_once : (first second : CommandOptions) (p : List Row) (once twice : Giv
 told_once first second p once twice names tells h k keeps score one two =
     let a = naming 1 first names in
     let b = telling 2 second tells in
-    let first_is = retell (record { heading = Renamed a.other; becomes = a.becomes }) in
+    let first_is = rewrite (record { heading = Renamed a.other; becomes = a.becomes }) in
     let kept : KeepsScore (at_once 1 a.command first_is).outcomes = rw a.is at keeps in
-    left_alone a.other a.becomes b.retelling p once.records.items twice.records.items a.apart score
+    left_alone a.other a.becomes b.rewriting p once.records.items twice.records.items a.apart score
     (alone_runs 1 a.command first_is p once (rw a.is at h) one)
-    (piped_runs 1 2 a.command b.command first_is (retell b.retelling) p twice (rw (a.is, b.is) at k) kept score two)
+    (piped_runs 1 2 a.command b.command first_is (rewrite b.rewriting) p twice (rw (a.is, b.is) at k) kept score two)

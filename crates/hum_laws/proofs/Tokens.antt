@@ -13,8 +13,8 @@ use Rattle.hum_path.proofs.Cases.{by_bool}
 use Rattle.hum_record.specs.Spelling.{has_byte}
 use Rattle.hum_pitch.specs.Spelling.{small_letters, capitals, letters, accidentals, spelling}
 use Rattle.hum_stage.specs.declared.faults.Rule.{Rule}
-use Rattle.hum_cells.specs.Retelling.{is_told}
-use Rattle.hum_tones.specs.Subtokens.{given_by, joined, if_given, subtokens, retold}
+use Rattle.hum_cells.specs.Rewriting.{has_content}
+use Rattle.hum_tones.specs.Subtokens.{given_by, joined, if_given, subtokens, rewritten}
 use Rattle.hum_tones.specs.Trans.{moved, transposed_part, transposed}
 use Rattle.hum_tones.proofs.Parts.{Lack, onto_lacks}
 use Rattle.hum_tones.proofs.MovedLawful.{small_over, capital_over, Becomes, Stays, Moves, becomes, AllMoved, all_moved, each_becomes, texts_lack, parts_some}
@@ -151,7 +151,7 @@ dot_alone token e = sym (join_with_byte-slice_split 32 token) ∙ ap (join_with_
 
 -- a token that is told anew is so when its pitches have moved
 stays_told : (n m : ℤ) (token : List ℕ) (parts texts : List (List ℕ)) → subtokens token ≡ parts →
-    AllMoved n m parts texts → is_told token ≡ true → is_told (joined texts) ≡ true
+    AllMoved n m parts texts → has_content token ≡ true → has_content (joined texts) ≡ true
 stays_told n m token [] texts cut moved told = absurd (parts_some token cut)
 stays_told n m token (part ∷ parts) [] cut moved told = absurd moved
 stays_told n m token (part ∷ parts) (text ∷ texts) cut moved told =
@@ -194,25 +194,25 @@ stays_told n m token (part ∷ parts) (text ∷ texts) cut moved told =
 -- A token that is transposed and then told part by part.
 pub trans_agree : (n m : ℤ) (second both : List ℕ → Result (Option (List ℕ)) Rule)
     → ((part text : List ℕ) → transposed_part n m part ≡ Ok (Some text) → both part ≡ second text)
-    → Agree (λ above. transposed n m) (retold second) (λ above. retold both)
+    → Agree (λ above. transposed n m) (rewritten second) (λ above. rewritten both)
 trans_agree n m second both h above token text told e = from (given_by (transposed_part n m) (subtokens token)) refl e
   where
     made : (parts texts : List (List ℕ)) → subtokens token ≡ parts → AllMoved n m parts texts → joined texts ≡ text
-        → (is_told text ≡ true) × (retold both token ≡ retold second text)
+        → (has_content text ≡ true) × (rewritten both token ≡ rewritten second text)
     made [] texts cut moved is = absurd (parts_some token cut)
     made (part ∷ parts) [] cut moved is = absurd moved
     made (part ∷ parts) (first ∷ texts) cut moved is =
         let lack = texts_lack 32 (part ∷ parts) (first ∷ texts) (omega arith)
         (each_becomes n m (part ∷ parts) (first ∷ texts) moved) (subst (Lack 32) cut (parts_lack token)) in
         let again : subtokens text ≡ first ∷ texts = ap subtokens (sym is) ∙ cut_again first texts lack in (
-          subst (λ (t : List ℕ). is_told t ≡ true) is (stays_told n m token (part ∷ parts) (first ∷ texts) cut moved told),
+          subst (λ (t : List ℕ). has_content t ≡ true) is (stays_told n m token (part ∷ parts) (first ∷ texts) cut moved told),
           ap (λ (ps : List (List ℕ)). if_given (given_by both ps)) cut
               ∙ ap if_given (given_alike n m second both h (part ∷ parts) (first ∷ texts) moved)
               ∙ ap (λ (ps : List (List ℕ)). if_given (given_by second ps)) (sym again),
         )
 
     from : (r : Result (List (List ℕ)) Rule) → given_by (transposed_part n m) (subtokens token) ≡ r → if_given r ≡ Ok text
-        → (is_told text ≡ true) × (retold both token ≡ retold second text)
+        → (has_content text ≡ true) × (rewritten both token ≡ rewritten second text)
     from (Err rule) is e = cc
     from (Ok texts) is e =
         let same : joined texts ≡ text = cc in

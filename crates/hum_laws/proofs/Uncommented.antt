@@ -22,18 +22,20 @@ use Rattle.hum_rid.specs.Rid.{rid, meaning as meaning_of_rid}
 use Rattle.hum_columns.specs.Spread.{filled, spread}
 use Rattle.hum_columns.specs.Chosen.{opening_of, flags}
 use Rattle.hum_columns.specs.Deciding.{ColumnCommand, at_path, by_columns}
-use Rattle.hum_extract.specs.Written.{choice_of}
-use Rattle.hum_extract.specs.Choice.{Choice, opening_flags}
+use Rattle.hum_choices.specs.Extract.{choice_of}
+use Rattle.hum_choices.specs.Extract.{Choice}
+use Rattle.hum_extract.specs.Choice.{opening_flags}
 use Rattle.hum_extract.specs.Extract.{column_command as extracting, extract}
-use Rattle.hum_cleave.specs.Cleave.{Options, column_command as cleaving, cleave, one_record, one_of, merged, is_entangled, pieces, opened as cleaved_opening}
+use Rattle.hum_choices.specs.Cleave.{Options}
+use Rattle.hum_cleave.specs.Cleave.{column_command as cleaving, cleave, one_record, one_of, merged, is_entangled, pieces, opened as cleaved_opening}
 use Rattle.hum_cleave.specs.Columns.{opening_flags as cleaved_flags, together}
-use Rattle.hum_cells.specs.Retelling.{Retelling, Heading, Renamed, Followed, headed, with_heading, if_fit, is_long, is_kern, data_record}
-use Rattle.hum_cells.specs.Retelling.{all_retold, kern_columns, retell}
-use Rattle.hum_ditto.specs.declared.DittoOptions.{DittoOptions}
+use Rattle.hum_cells.specs.Rewriting.{Rewriting, Heading, Renamed, Followed, headed, with_heading, if_fit, is_long, is_kern, data_record}
+use Rattle.hum_cells.specs.Rewriting.{all_rewritten, kern_columns, rewrite}
+use Rattle.hum_choices.specs.declared.ditto.DittoOptions.{DittoOptions}
 use Rattle.hum_ditto.specs.Ditto.{new_tokens, if_fits, ditto}
 use Rattle.hum_tones.specs.Commands.{trans, semits, mint, recip}
-use Rattle.hum_commands.specs.declared.options.CommandOptions.{CommandOptions}
-use Rattle.hum_commands.specs.declared.options.CommandOptions.TheVariants.{Rid, Extract, Ditto, Timebase, Context, Trans, Semits, Mint, Recip, Yank, Cleave}
+use Rattle.hum_choices.specs.declared.commands.CommandOptions.{CommandOptions}
+use Rattle.hum_choices.specs.declared.commands.CommandOptions.TheVariants.{Rid, Extract, Ditto, Timebase, Context, Trans, Semits, Mint, Recip, Yank, Cleave}
 use Rattle.hum_commands.specs.Meaning.{meaning, MakesScores}
 use Rattle.hum_laws.specs.declared.given.Given.{Given}
 use Rattle.hum_laws.specs.Piped.{IsPiped}
@@ -202,10 +204,10 @@ ditto_by_tokens options = record { comment = λ past text. refl; same = same; sp
     spined past Interpretation tokens made e = let is : Spined Interpretation tokens ∷ [] ≡ made = cc in rw (← is) refl
     spined past Values tokens made e = fits (Spined Values (new_tokens options past tokens)) made e refl
 
-notes_by_tokens : (retelling : Retelling) → ByTokens (retell retelling)
-notes_by_tokens retelling = record { comment = λ past text. refl; same = same; spined = spined }
+notes_by_tokens : (rewriting : Rewriting) → ByTokens (rewrite rewriting)
+notes_by_tokens rewriting = record { comment = λ past text. refl; same = same; spined = spined }
   where
-    same : (past : List Row) (row : Row) → retell retelling (uncommented past) row ≡ retell retelling past row
+    same : (past : List Row) (row : Row) → rewrite rewriting (uncommented past) row ≡ rewrite rewriting past row
     same past (Comment text) = refl
     same past (Spined Local tokens) = refl
     same past (Spined Interpretation tokens) = refl
@@ -232,11 +234,11 @@ notes_by_tokens retelling = record { comment = λ past text. refl; same = same; 
     values (Ok tokens) made e = fits (Spined Values tokens ∷ []) made e refl
     values (Err rule) made e = cc
 
-    spined : (past : List Row) (kind : SpinedKind) (tokens : List (List ℕ)) (made : List Row) → retell retelling past (Spined kind tokens) ≡ Ok made
+    spined : (past : List Row) (kind : SpinedKind) (tokens : List (List ℕ)) (made : List Row) → rewrite rewriting past (Spined kind tokens) ≡ Ok made
         → uncommented made ≡ made
     spined past Local tokens made e = let is : Spined Local tokens ∷ [] ≡ made = cc in rw (← is) refl
-    spined past Interpretation tokens made e = fits (with_heading retelling.heading tokens) made e (heading retelling.heading tokens)
-    spined past Values tokens made e = values (all_retold retelling.becomes (kern_columns past) (columns past) tokens) made e
+    spined past Interpretation tokens made e = fits (with_heading rewriting.heading tokens) made e (heading rewriting.heading tokens)
+    spined past Values tokens made e = values (all_rewritten rewriting.becomes (kern_columns past) (columns past) tokens) made e
 
 -- what it means to be told so
 record Telling (options : CommandOptions) : Type 0 where
@@ -256,18 +258,18 @@ telling (Ditto options) h = record { command = name.Ditto; decide = ditto option
 telling (Cleave options) h = record { command = name.Cleave; decide = cleave options; is = λ stage. refl; by_tokens = cleave_by_tokens options }
 telling (Trans options) h = record {
   command = name.Trans;
-  decide = retell (trans options.steps options.semitones);
+  decide = rewrite (trans options.steps options.semitones);
   is = λ stage. refl;
   by_tokens = notes_by_tokens (trans options.steps options.semitones);
 }
 telling (Semits options) h = record {
   command = name.Semits;
-  decide = retell (semits options);
+  decide = rewrite (semits options);
   is = λ stage. refl;
   by_tokens = notes_by_tokens (semits options);
 }
-telling (Mint options) h = record { command = name.Mint; decide = retell (mint options); is = λ stage. refl; by_tokens = notes_by_tokens (mint options) }
-telling (Recip options) h = record { command = name.Recip; decide = retell (recip options); is = λ stage. refl; by_tokens = notes_by_tokens (recip options) }
+telling (Mint options) h = record { command = name.Mint; decide = rewrite (mint options); is = λ stage. refl; by_tokens = notes_by_tokens (mint options) }
+telling (Recip options) h = record { command = name.Recip; decide = rewrite (recip options); is = λ stage. refl; by_tokens = notes_by_tokens (recip options) }
 telling (Rid options) h = absurd h
 telling (Timebase options) h = absurd h
 telling (Context options) h = absurd h

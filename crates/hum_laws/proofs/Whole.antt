@@ -29,7 +29,8 @@ use Rattle.hum_columns.specs.Deciding.{at_path}
 use Rattle.hum_columns.proofs.ChosenJoins.{each_tokens}
 use Rattle.hum_columns.proofs.Flags.{flags_width, flags_open, flags_after, flags_onward, text_opening}
 use Rattle.hum_columns.proofs.KeepsScores.{text_parts}
-use Rattle.hum_extract.specs.Choice.{Choice, opening_flags, misses, names_beyond}
+use Rattle.hum_choices.specs.Extract.{Choice}
+use Rattle.hum_extract.specs.Choice.{opening_flags, misses, names_beyond}
 use Rattle.hum_extract.specs.Extract.{exchanged_flags, is_lone, cut, opened, extract}
 use Rattle.hum_extract.proofs.ChosenTokens.{chosen_whole}
 use Rattle.hum_extract.proofs.Taking.{opening_length, softened_none}

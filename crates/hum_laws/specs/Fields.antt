@@ -1,6 +1,6 @@
 -- All fields of a score.
 use Rattle.std.specs.Prelude.{[], ◌∷◌}
-use Rattle.hum_extract.specs.Choice.{Choice, Fields, Number, Last}
+use Rattle.hum_choices.specs.Extract.{Choice, Fields, Number, Last}
 
 -- 1-$
 abbrev pub every_field : Choice

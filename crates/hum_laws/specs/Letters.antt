@@ -1,6 +1,6 @@
 -- The letters of the command rid, put together.
 use Rattle.std.specs.Prelude.{◌||◌}
-use Rattle.hum_rid.specs.declared.RidOptions.{RidOptions}
+use Rattle.hum_choices.specs.declared.rid.RidOptions.{RidOptions}
 
 -- the letters of both
 abbrev pub joint : RidOptions → RidOptions → RidOptions

@@ -8,7 +8,7 @@ use Rattle.hum_path.specs.Chains.{columns}
 use Rattle.hum_stage.specs.declared.faults.Rule.{Rule}
 use Rattle.hum_stage.specs.Outcome.{settled}
 use Rattle.hum_stage.specs.Decided.{Decision, decisions}
-use Rattle.hum_cells.specs.Retelling.{Renamed, Followed, headed, is_kern, kern_columns, all_retold}
+use Rattle.hum_cells.specs.Rewriting.{Renamed, Followed, headed, is_kern, kern_columns, all_rewritten}
 
 -- What becomes of kern columns: the name in the place of **kern, if it is another; the tandem
 -- interpretations that go below it, a record for each; and what a data token becomes, by the cells
@@ -40,7 +40,7 @@ marked marking past (Spined Interpretation tokens) =
     Ok (Spined Interpretation (under_name marking.name tokens)
     ∷ (if list_any is_kern tokens then signed marking.signs tokens else []))
 marked marking past (Spined Values tokens) =
-    with_values (all_retold marking.becomes (kern_columns past) (columns past) tokens)
+    with_values (all_rewritten marking.becomes (kern_columns past) (columns past) tokens)
 
 -- What a score becomes.
 abbrev pub all_marked : Marking → List Row → List Row

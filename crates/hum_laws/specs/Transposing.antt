@@ -4,9 +4,9 @@ use lib.Chars.{codes}
 use Rattle.hum_record.specs.Row.{Row}
 use Rattle.hum_stage.specs.declared.faults.Command.TheVariants.{Trans}
 use Rattle.hum_stage.specs.Meaning.{Meaning}
-use Rattle.hum_cells.specs.Retelling.{meaning}
+use Rattle.hum_cells.specs.Rewriting.{meaning}
 use Rattle.hum_tones.specs.Commands.{trans}
-use Rattle.hum_tones.specs.Subtokens.{retold}
+use Rattle.hum_tones.specs.Subtokens.{rewritten}
 use Rattle.hum_tones.specs.Trans.{transposed}
 use Rattle.hum_tones.specs.Semits.{semits_of}
 use Rattle.hum_tones.specs.Recip.{recip_of}
@@ -32,7 +32,7 @@ semitones_under signs m ties_left_out =
     all_marked (record {
       name = Some (codes "**semits");
       signs = signs;
-      becomes = λ above. retold (semits_higher m ties_left_out);
+      becomes = λ above. rewritten (semits_higher m ties_left_out);
     })
 
 -- Its notes as semitones.
@@ -41,7 +41,7 @@ as_semitones ties_left_out =
     all_marked (record {
       name = Some (codes "**semits");
       signs = [];
-      becomes = λ above. retold (semits_of ties_left_out);
+      becomes = λ above. rewritten (semits_of ties_left_out);
     })
 
 -- Its durations as they are written, with these records behind each that had **kern.
@@ -50,5 +50,5 @@ durations_under signs =
     all_marked (record {
       name = Some (codes "**recip");
       signs = signs;
-      becomes = λ above. retold recip_of;
+      becomes = λ above. rewritten recip_of;
     })

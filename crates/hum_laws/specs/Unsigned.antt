@@ -7,7 +7,7 @@ use Rattle.hum_kern.specs.Classes.{is_natural_sign}
 use Rattle.hum_kern.specs.Note.{Notation, Reading, note, notation_of}
 use Rattle.hum_stage.specs.declared.faults.Rule.{Rule}
 use Rattle.hum_tones.specs.Faults.{rule_of}
-use Rattle.hum_tones.specs.Subtokens.{retold}
+use Rattle.hum_tones.specs.Subtokens.{rewritten}
 use Rattle.hum_laws.specs.Marked.{all_marked}
 
 -- all parts, without n among the signs of accidentals
@@ -33,4 +33,4 @@ unsigned part = unsigned_as_read part (note part)
 -- barlines aside, and with these records behind each record with **kern.
 abbrev pub unsigned_under : List (List ℕ) → List Row → List Row
 unsigned_under signs =
-    all_marked (record { name = None; signs = signs; becomes = λ above. retold unsigned })
+    all_marked (record { name = None; signs = signs; becomes = λ above. rewritten unsigned })

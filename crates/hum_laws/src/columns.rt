@@ -5,9 +5,10 @@ ghost use Rattle.hum_stage.specs.declared.faults.Command.TheVariants.{Extract};
 ghost use Rattle.hum_stage.specs.declared.faults.End.TheVariants.{Closed};
 ghost use Rattle.hum_stage.specs.Decided.{at_once};
 ghost use Rattle.hum_path.specs.Spines.{texts};
-ghost use Rattle.hum_extract.specs.Choice.{Names};
+ghost use Rattle.hum_choices.specs.Extract.{Names};
 ghost use Rattle.hum_extract.specs.Extract.{extract};
-ghost use Rattle.hum_extract.specs.Written.{choice_of, meaning as meaning_of_extract};
+ghost use Rattle.hum_choices.specs.Extract.{choice_of};
+ghost use Rattle.hum_extract.specs.Extract.{meaning as meaning_of_extract};
 ghost use Rattle.hum_ditto.specs.Ditto.{meaning as meaning_of_ditto};
 ghost use Rattle.hum_laws.specs.Piped.{IsAlone, IsPiped};
 ghost use Rattle.hum_laws.specs.Fields.{every_field};
@@ -60,7 +61,7 @@ pub fn extract_ditto(
 /// All fields of a score are the score: `extract -f 1-$`.
 ///
 /// # Errors
-/// Want of memory.
+/// Out of memory.
 pub fn all_fields(alloc: Global, records: &[Record]) -> Result<Given, AllocError>
     requires closed { IsClosed records.now }
     requires few { length records.now ≤ 4294967295 }

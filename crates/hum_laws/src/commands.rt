@@ -9,8 +9,7 @@ ghost use Rattle.hum_laws.specs.Piped.{IsAlone, IsPiped};
 
 use crate::given;
 use crate::given::Given;
-use hum_command_stages::CommandStage;
-use hum_commands::CommandOptions;
+use hum_commands::{CommandOptions, CommandStage};
 use hum_record::Record;
 use std::alloc::{AllocError, Global};
 

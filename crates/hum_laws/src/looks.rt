@@ -4,7 +4,7 @@ ghost use Rattle.hum_stage.specs.Score.{IsClosed};
 ghost use Rattle.hum_stage.specs.declared.faults.Command.TheVariants.{Yank as YankCommand};
 ghost use Rattle.hum_stage.specs.declared.faults.End.TheVariants.{Closed};
 ghost use Rattle.hum_stage.specs.Look.{looking};
-ghost use Rattle.hum_yank.specs.declared.options.YankRange.TheVariants.{Onward};
+ghost use Rattle.hum_choices.specs.declared.yank.YankRange.TheVariants.{Onward};
 ghost use Rattle.hum_yank.specs.Passages.{Lines};
 ghost use Rattle.hum_yank.specs.Yank.{yank};
 ghost use Rattle.hum_stage.specs.declared.faults.Command.TheVariants.{Context as ContextCommand};
@@ -24,7 +24,7 @@ use std::alloc::{AllocError, Global};
 /// All lines of a score are the score: `yank -l -r 1-$`.
 ///
 /// # Errors
-/// Want of memory.
+/// Out of memory.
 pub fn all_lines(alloc: Global, records: &[Record]) -> Result<Given, AllocError>
     requires closed { IsClosed records.now }
     requires few { length records.now ≤ 4294967295 }
@@ -45,7 +45,7 @@ pub fn all_lines(alloc: Global, records: &[Record]) -> Result<Given, AllocError>
 /// A context of one token is that token: `context -n 1` leaves a score as it is, with any `-o`.
 ///
 /// # Errors
-/// Want of memory.
+/// Out of memory.
 pub fn context_of_one(
     alloc: Global,
     records: &[Record],

@@ -16,7 +16,7 @@ use std::alloc::{AllocError, Global};
 /// `**kern`.
 ///
 /// # Errors
-/// Want of memory.
+/// Out of memory.
 pub fn told_once(
     alloc: Global,
     records: &[Record],

@@ -42,7 +42,7 @@ fn joint(some: &RidOptions, more: &RidOptions) -> RidOptions
 /// `rid -G | rid -d` is `rid -Gd`.
 ///
 /// # Errors
-/// Want of memory.
+/// Out of memory.
 pub fn rid_by_letters(
     alloc: Global,
     records: &[Record],
@@ -71,7 +71,7 @@ pub fn rid_by_letters(
 /// The same letters of rid twice are the same as once.
 ///
 /// # Errors
-/// Want of memory.
+/// Out of memory.
 pub fn rid_twice(
     alloc: Global,
     records: &[Record],
@@ -112,7 +112,7 @@ fn all_comments() -> RidOptions
 /// side.
 ///
 /// # Errors
-/// Want of memory.
+/// Out of memory.
 pub fn comments_aside(
     alloc: Global,
     records: &[Record],

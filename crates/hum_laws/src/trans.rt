@@ -44,7 +44,7 @@ fn opposite(way: TransOptions) -> TransOptions
 /// records of `*Tr`, of which the one has two and the other one behind each record with `**kern`.
 ///
 /// # Errors
-/// Want of memory.
+/// Out of memory.
 pub fn transpositions_add_up(
     alloc: Global,
     records: &[Record],
@@ -86,7 +86,7 @@ pub fn transpositions_add_up(
 /// `semits` with m added to the number of each pitch, and the records of `*Tr`.
 ///
 /// # Errors
-/// Want of memory.
+/// Out of memory.
 pub fn semits_shifted(
     alloc: Global,
     records: &[Record],
@@ -119,7 +119,7 @@ pub fn semits_shifted(
 /// What is transposed lasts as long as before: `trans | recip` is `recip`, and the records of `*Tr`.
 ///
 /// # Errors
-/// Want of memory.
+/// Out of memory.
 pub fn durations_stay(
     alloc: Global,
     records: &[Record],

@@ -4,18 +4,18 @@ use Rattle.std.specs.Prelude.{pred}
 use Rattle.hum_stage.specs.Meaning.{Meaning, IsLawful, KeepsScore}
 use Rattle.hum_stage.specs.Look.{looking}
 use Rattle.hum_stage.specs.declared.faults.Command.TheVariants as name
-use Rattle.hum_context.specs.declared.options.Span.{Span}
-use Rattle.hum_context.specs.declared.options.Span.TheVariants as span
+use Rattle.hum_choices.specs.declared.context.Span.{Span}
+use Rattle.hum_choices.specs.declared.context.Span.TheVariants as span
 use Rattle.hum_context.specs.Context.{Extent, context}
 use Rattle.hum_context.specs.Options as context
-use Rattle.hum_yank.specs.declared.options.Markers.{Markers}
-use Rattle.hum_yank.specs.declared.options.Markers.TheVariants as markers
+use Rattle.hum_choices.specs.declared.yank.Markers.{Markers}
+use Rattle.hum_choices.specs.declared.yank.Markers.TheVariants as markers
 use Rattle.hum_yank.specs.Passages.{Form}
 use Rattle.hum_yank.specs.Yank.{yank}
 use Rattle.hum_yank.specs.Options as yank
 use Rattle.hum_commands.specs.Meaning.{meaning, MakesScores}
-use Rattle.hum_commands.specs.declared.options.CommandOptions.{CommandOptions}
-use Rattle.hum_commands.specs.declared.options.CommandOptions.TheVariants as told
+use Rattle.hum_choices.specs.declared.commands.CommandOptions.{CommandOptions}
+use Rattle.hum_choices.specs.declared.commands.CommandOptions.TheVariants as told
 use Rattle.hum_nodes.specs.At.{At, fresh}
 use Rattle.hum_nodes.specs.Trees.{kind_of}
 use Rattle.hum_nodes.specs.Single.{single}

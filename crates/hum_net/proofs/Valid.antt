@@ -3,7 +3,7 @@ use Rattle.std.proofs.Common.{subst, ℕ, suc, ◌+◌, List, [], ◌∷◌}
 use Rattle.hum_record.specs.Row.{Row}
 use Rattle.hum_stage.specs.Meaning.{Meaning}
 use Rattle.hum_commands.specs.Meaning.{meaning as meaning_told}
-use Rattle.hum_commands.specs.declared.options.CommandOptions.{CommandOptions}
+use Rattle.hum_choices.specs.declared.commands.CommandOptions.{CommandOptions}
 use Rattle.hum_turns.specs.Flow.{Flow}
 use Rattle.hum_options.specs.Seen.{options_of}
 use Rattle.hum_nodes.specs.Fine.{IsFine}

@@ -11,7 +11,7 @@ use Rattle.hum_ditto.specs.Ditto as ditto
 use Rattle.hum_timebase.specs.Timebase as timebase
 use Rattle.hum_context.specs.Context.{Extent, First, Between, context}
 use Rattle.hum_context.specs.Options.{omits_of}
-use Rattle.hum_cells.specs.Retelling as cells
+use Rattle.hum_cells.specs.Rewriting as cells
 use Rattle.hum_tones.specs.Commands as tones
 use Rattle.hum_yank.specs.Passages as passages
 use Rattle.hum_yank.specs.Options.{matched_by}

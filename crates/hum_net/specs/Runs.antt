@@ -39,7 +39,7 @@ pub record WroteAll (bytes : ℕ → List ℕ) (stages : List Stage) (old new : 
   pub records : AreRecords (meaning_of (parts_of bytes stages)).items
   pub valid : AllGiveScores stages → IsValid (meaning_of (parts_of bytes stages))
 
--- A front of the text was written.
+-- A prefix of the text was written.
 pub record WroteFront (parts : List Part) (old new : Option (List ℕ)) : Type 0 where
   pub part : List ℕ
   pub front : Begins part (text_of_tree parts)

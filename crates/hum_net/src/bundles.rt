@@ -23,7 +23,7 @@ use std::io::Read;
 /// The stages of a plan's text.
 ///
 /// # Errors
-/// What its run ends with: the first rule that it breaks, or want of memory.
+/// What its run ends with: the first rule that it breaks, or running out of memory.
 pub fn plan_stages(alloc: Global, text: &[u8]) -> Result<Vec<PlanStage>, Outcome>
     ensures plan { IfOk result (λ stages. IsPlanOf text.now (stages_of stages.items)) }
     ensures tree { IfOk result (λ stages. IsTree (stages_of stages.items)) }
@@ -116,7 +116,7 @@ fn add_reader<'a>(
 /// A reader for each stage that reads a score of a bundle, in their order.
 ///
 /// # Errors
-/// What the run ends with: the first stage whose score isn't there, or want of memory.
+/// What the run ends with: the first stage whose score isn't there, or running out of memory.
 fn readers<'a>(
     alloc: Global,
     bundle: &'a [u8],
@@ -154,7 +154,7 @@ pub fn run_bundle<O: Order, W: Sink + Drop>(
     // else the first stage whose score isn't there. Else the plan's stages are run over the scores of
     // their names: what was written is the text of what they mean, whatever the order and the links,
     // which is valid Humdrum unless interpretations are dropped, and the outcome is how that ends; or a
-    // failure ended it, and a front of that text was written.
+    // failure ended it, and a prefix of that text was written.
     ensures comes { ComesOfBundle (nat_lt largest (length bundle.now)) (plan_of bundle.now)
         (λ name. score_of name bundle.now) (W.contents writer) (W.contents result.1)
         (W.flushed result.1) result.0 }

@@ -19,7 +19,7 @@ ghost use Rattle.hum_net.specs.Parts.{AreSoundFrom};
 ghost use Rattle.hum_net.specs.Scenes.{scene_of, first_now, IsReadyNow};
 
 use crate::nodes::plan_nodes;
-use hum_command_stages::CommandStage;
+use hum_commands::CommandStage;
 use hum_engine::Net as Engine;
 use hum_plan::{Plan, PlanStage};
 use hum_stage::Stage;
@@ -39,7 +39,7 @@ pub struct Net<R: Source, W: Sink> {
 
 impl<R: Source, W: Sink> Model for Net<R, W> {
     ghost use Rattle.hum_nodes.specs.Nodes.{StandsAs};
-    ghost use Rattle.hum_command_stages.specs.declared.stages.CommandStage.{CommandStage};
+    ghost use Rattle.hum_commands.specs.declared.stages.CommandStage.{CommandStage};
     ghost use Rattle.hum_engine.specs.declared.net.Net.{Net as Engine};
     ghost use Rattle.hum_engine.specs.Nets.{IsNet};
 

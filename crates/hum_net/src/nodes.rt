@@ -6,7 +6,7 @@ ghost use Rattle.hum_plan.specs.Seen.{options_of, stage_of, stages_of};
 ghost use Rattle.hum_net.specs.Parts.{first_of};
 ghost use Rattle.hum_net.specs.Nodes.{AllFrom, Fits, Tells, AreTold, reads_by, reads_of};
 
-use hum_command_stages::CommandStage;
+use hum_commands::CommandStage;
 use hum_nodes::Node;
 use hum_plan::{Options, PlanStage};
 use hum_stage::Stage;

@@ -52,7 +52,7 @@ pub fn run_stages<R: Source + Drop, O: Order, W: Sink + Drop>(
     // Whatever bytes the readers give, in whatever pieces, and whatever the order: what was written is
     // the text of what the stages mean over the scores that the bytes denote, which is valid Humdrum
     // unless interpretations are dropped, and the run ends as they mean; or a read, a write or want of
-    // memory ended it, and a front of that text was written.
+    // memory ended it, and a prefix of that text was written.
     ensures wrote { (bytes : ℕ → List ℕ) → AreTold R.remaining bytes 0 (stages_of stages.items) readers.items
         → HasWritten bytes (stages_of stages.items) (W.contents sink) (W.contents result.1)
         (W.flushed result.1) result.0 }

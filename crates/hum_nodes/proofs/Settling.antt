@@ -19,7 +19,7 @@ use Rattle.hum_nodes.proofs.Pieces.{whole_begins, whole_front}
 use Rattle.hum_nodes.proofs.FrontFaults.{stays_after, stays_within, passes_after, passes_within}
 use Rattle.hum_nodes.proofs.FrontFaults.{line_within, line_after, line_behind}
 
--- Of two scores the records of the first are a front of those of the second, and where a rule is
+-- Of two scores the records of the first are a prefix of those of the second, and where a rule is
 -- broken in the first the second is the same.
 pub record Settles (a b : Score) : Type 0 where
   pub rows : Begins a.rows b.rows

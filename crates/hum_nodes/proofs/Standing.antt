@@ -130,7 +130,7 @@ polls_by does.Reads t p after later f h = record {
   within = h.within;
   goes = elim h.goes [
     | inl goes ↦ inl (goes_as (read_to h.upto t) p after later f goes)
-    | inr on ↦ inr (on.0, f _ on.1)
+    | inr on ↦ inr (on.0, on.1, f _ on.2)
   ];
 }
 polls_by does.Gives t p after later f h = goes_as t p after later f h

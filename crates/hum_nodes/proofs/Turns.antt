@@ -17,7 +17,7 @@ use Rattle.hum_read.specs.Reading.{Scores, IsFresh, HasRead, GivesNext, Gives, D
 use Rattle.hum_turns.specs.Flow.{Begins}
 use Rattle.hum_nodes.specs.Doing.{Doing}
 use Rattle.hum_nodes.specs.Doing as does
-use Rattle.hum_nodes.specs.At.{At, fresh, doing_of, output_of, read_to, after_take}
+use Rattle.hum_nodes.specs.At.{At, fresh, bytes_of, doing_of, output_of, read_to, after_take}
 use Rattle.hum_nodes.specs.Polls.{GoesOn, PollsBy, Polls, most_bytes}
 use Rattle.hum_nodes.specs.Reading.{is_ended, settled_at, reading, HasGiven, IsReading}
 use Rattle.hum_nodes.specs.Reading.{StandsBy, most_seen}
@@ -226,6 +226,11 @@ module _ {R : Type 0} (v w : Scores R)
   within_by false =
       let e = ap length whole in let n = length-append seen left in omega (arith, e, n)
 
+  below_by : (b : Bool) → b ≡ false → upto b seen < length all + 1
+  below_by true e = absurd (false≢true (sym e))
+  below_by false e =
+      let e = ap length whole in let n = length-append seen left in omega (arith, e, n)
+
   -- where no byte was read
   unfed_few : bytes_read v.lines w.lines ≡ [] → length seen ≤ most_seen
   unfed_few e =
@@ -238,7 +243,7 @@ module _ {R : Type 0} (v w : Scores R)
   turn : (p : Polled) (after : At → Type 0) → t.kind ≡ reading v.stage all → t.inputs ≡ []
       → ((NeedsRead v.lines → ⊥) → IsUnread v.lines w.lines)
       → GoesOn (read_to (upto w.lines.ended seen) t) p after
-      ⊎ ((p ≡ ReadOn) × after (read_to (upto w.lines.ended seen) t))
+      ⊎ ((p ≡ ReadOn) × (upto w.lines.ended seen < bytes_of t) × after (read_to (upto w.lines.ended seen) t))
       → (t.read ≡ upto w.lines.ended seen → Polls t p after)
       → Polls t p after
   turn p after kind inputs unread goes still =
@@ -419,7 +424,10 @@ module _ {R : Type 0} (v w : Scores R)
               given = h.given;
             });
       } in
-      turn ReadOn (IsReading w left) kind inputs unread (inr (refl, stands))
+      let going = ap (λ (l : Reader _). l.ended) fed.behind ∙ fed.needed.going in
+      let n = below_by w.lines.ended going in
+      let b = ap (λ k. k.stage.bytes) kind in
+      turn ReadOn (IsReading w left) kind inputs unread (inr (refl, omega (arith, n, b), stands))
       (λ e.
       absurd (never_still v w h.seen (bytes_read v.lines w.lines) h.rows refl
       (no_bytes v.lines.ended w.lines.ended refl refl (sym h.read ∙ e))

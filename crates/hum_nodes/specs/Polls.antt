@@ -18,14 +18,14 @@ GoesOn t (Gave row) after =
 GoesOn t ReadOn after = ⊥
 GoesOn t (Ended end) after = (doing_of t ≡ does.Done end) × after t
 
--- It reads one byte or more, or their end. Then it goes on by what has settled, or it leaves that
--- to the next poll.
+-- It reads one byte or more, or their end. Then it goes on by what has settled; or, where it hasn't
+-- read the end, it leaves that to the next poll.
 pub record Reads (t : At) (polled : Polled) (after : At → Type 0) : Type 0 where
   pub upto : ℕ
   pub more : t.read < upto
   pub within : upto ≤ bytes_of t
   pub goes : GoesOn (read_to upto t) polled after
-      ⊎ ((polled ≡ ReadOn) × after (read_to upto t))
+      ⊎ ((polled ≡ ReadOn) × (upto < bytes_of t) × after (read_to upto t))
 
 abbrev pub PollsBy : Doing → At → Polled → (At → Type 0) → Type 0
 PollsBy does.Reads t polled after = Reads t polled after

@@ -7,8 +7,8 @@ use Rattle.std.specs.List.{slice_split}
 use lib.Chars.{codes}
 use Rattle.hum_pattern.specs.Meaning.{IsExpression, IsNone}
 use Rattle.hum_frac.specs.Gcd.{gcd, gcd_in}
-use Rattle.hum_extract.specs.Choice as choice
-use Rattle.hum_yank.specs.declared.options.YankRange.TheVariants.{Through, Onward, FromEnd}
+use Rattle.hum_choices.specs.Extract as choice
+use Rattle.hum_choices.specs.declared.yank.YankRange.TheVariants.{Through, Onward, FromEnd}
 use Rattle.hum_stage.specs.declared.faults.Command.{Command}
 use Rattle.hum_stage.specs.declared.faults.Command.TheVariants as command
 use Rattle.hum_options.specs.declared.faults.OptionRule.{OptionRule}

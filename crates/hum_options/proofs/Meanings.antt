@@ -2,8 +2,8 @@
 use Rattle.std.proofs.Common.{◌≡◌, ℕ, List, Option, None, Some, codes, refl, ap, ◌∙◌}
 use Rattle.std.specs.Prelude.{ℤ, unwrap_or}
 use Rattle.std.specs.Option.{option_map}
-use Rattle.hum_extract.specs.Choice as choice
-use Rattle.hum_yank.specs.declared.options.YankRange.{YankRange}
+use Rattle.hum_choices.specs.Extract as choice
+use Rattle.hum_choices.specs.declared.yank.YankRange.{YankRange}
 use Rattle.hum_stage.specs.declared.faults.Command.TheVariants as command
 use Rattle.hum_options.specs.Meant.{Given, without, get, Span, Phrase, Markers, Occurrences, Context, Trans, Yank, Cleave, both}
 use Rattle.hum_options.specs.Meant.{as_fields, as_names, as_name, as_text, as_ranges, as_pattern, as_count, as_steps, as_semitones}

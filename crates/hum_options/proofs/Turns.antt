@@ -5,7 +5,7 @@ use denote.Ref.{Bor}
 use Rattle.hum_words.specs.declared.cutting.Piece.{Piece}
 use Rattle.hum_words.specs.declared.cutting.Piece.TheVariants as piece
 use Rattle.hum_stage.specs.declared.faults.Command.{Command}
-use Rattle.hum_options.specs.declared.options.Kind.{Kind}
+use Rattle.hum_options.specs.declared.options.ValueKind.{ValueKind}
 use Rattle.hum_options.specs.declared.options.CommandOption.{CommandOption}
 use Rattle.hum_options.specs.declared.values.Value.{Value as WrittenValue}
 use Rattle.hum_options.specs.declared.grammar.ValueError.{ValueError}
@@ -39,7 +39,7 @@ sound m Goes (Semitones x) answer is goes = goes
 sound m Goes (Duration x) answer is goes = goes
 
 -- a value that was read
-pub valued : (m : ℕ) (Goes : Value → Type 0) (kind : Kind) (text : List ℕ) (value : WrittenValue) (answer : Answer)
+pub valued : (m : ℕ) (Goes : Value → Type 0) (kind : ValueKind) (text : List ℕ) (value : WrittenValue) (answer : Answer)
     → GivesValue kind text (Ok value) → Goes (seen value) → AtValue m Goes (value_of kind text) answer
 valued m Goes kind text value answer read goes =
     rw read.0 (sound m Goes (seen value) answer read.1 goes)
@@ -115,7 +115,7 @@ pub value_lacks : (command : Command) (n k : ℕ) (given : List Given) (option :
 unfolding Answers
 value_lacks command n k given option = refl
 
--- a fault that was found behind a front of the words
+-- a fault that was found behind a prefix of the words
 pub passed : (Lawful Before : Answer → Type 0) (Behind : Turn → Answer → Type 0) (error : OptionError)
     → GoesOn Lawful Behind (Err error) → ((answer : Answer) → Lawful answer → Before answer)
     → Tells Before (Err error)
@@ -130,7 +130,7 @@ word_at pieces i k d word within is =
     ap words_of (drop-cons pieces i d within)
     ∙ ap (λ p. words_of (p ∷ drop (suc i) pieces)) is
 
--- a fault of that word, behind a front of the words
+-- a fault of that word, behind a prefix of the words
 pub word_fails : (Before : Answer → Type 0) (Behind : Turn → Answer → Type 0) (command : Command) (n : ℕ)
     (given : List Given) (turn : Turn) (pieces : List Piece) (i k : ℕ) (d : Piece) (word : Bor (List ℕ))
     (error : OptionError) → i < length pieces → get_or pieces i d ≡ piece.Word k word

@@ -8,8 +8,8 @@ use Rattle.std.specs.Option.{option_or}
 use lib.Chars.{codes}
 use Rattle.hum_stage.specs.declared.faults.Command.{Command}
 use Rattle.hum_stage.specs.declared.faults.Command.TheVariants as command
-use Rattle.hum_options.specs.declared.options.Kind.{Kind}
-use Rattle.hum_options.specs.declared.options.Kind.TheVariants as kind
+use Rattle.hum_options.specs.declared.options.ValueKind.{ValueKind}
+use Rattle.hum_options.specs.declared.options.ValueKind.TheVariants as kind
 use Rattle.hum_options.specs.declared.options.CommandOption.{CommandOption}
 use Rattle.hum_options.specs.declared.faults.PatternRefusal.{PatternRefusal}
 use Rattle.hum_options.specs.declared.faults.OptionRule.{OptionRule}
@@ -50,7 +50,7 @@ unless_barred command given (Some option) =
 abbrev pub next_option : Command → List Given → List ℕ → Option CommandOption
 next_option command given word = unless_barred command given (option_of command word)
 
-abbrev pub is_alone : Kind → Bool
+abbrev pub is_alone : ValueKind → Bool
 is_alone kind.Alone = true
 is_alone _ = false
 

@@ -3,7 +3,7 @@ use Rattle.std.specs.Prelude.{ℕ, Bool, false, not, ◌&&◌, ◌==◌}
 use Rattle.std.specs.Prelude.{List, [], ◌∷◌, length}
 use Rattle.std.specs.List.{list_any, list_all}
 use lib.Chars.{codes}
-use Rattle.hum_rid.specs.declared.RidOptions.{RidOptions}
+use Rattle.hum_choices.specs.declared.rid.RidOptions.{RidOptions}
 use Rattle.hum_options.specs.Options.{letter}
 
 -- what a record may be dropped by

@@ -1,3 +1,10 @@
+pub mod Cutting
+pub mod Fields
+pub mod Items
+pub mod Names
+pub mod Numbers
+pub mod Passages
+pub mod Steps
 pub mod Options
 pub mod Values
 pub mod Meant

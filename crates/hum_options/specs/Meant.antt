@@ -3,16 +3,16 @@ use Rattle.std.specs.Prelude.{ℕ, ℤ, Bool, ◌==◌, if◌then◌else◌, Lis
 use Rattle.std.specs.Prelude.{Option, None, Some, is_some, unwrap_or}
 use Rattle.std.specs.Option.{option_map, option_and_then, option_or}
 use lib.Chars.{codes}
-use Rattle.hum_rid.specs.declared.RidOptions.{RidOptions}
-use Rattle.hum_extract.specs.declared.options.FieldRange.{FieldRange}
-use Rattle.hum_extract.specs.Choice as choice
-use Rattle.hum_extract.specs.Written.{range_of}
-use Rattle.hum_ditto.specs.declared.DittoOptions.{DittoOptions}
-use Rattle.hum_timebase.specs.Timebase.{Pace}
-use Rattle.hum_tones.specs.declared.minting.MintOptions.{MintOptions}
-use Rattle.hum_tones.specs.declared.semits.SemitsOptions.{SemitsOptions}
-use Rattle.hum_yank.specs.declared.options.YankRange.{YankRange}
-use Rattle.hum_cleave.specs.Cleave as cleave
+use Rattle.hum_choices.specs.declared.rid.RidOptions.{RidOptions}
+use Rattle.hum_choices.specs.declared.extract.FieldRange.{FieldRange}
+use Rattle.hum_choices.specs.Extract as choice
+use Rattle.hum_choices.specs.Extract.{range_of}
+use Rattle.hum_choices.specs.declared.ditto.DittoOptions.{DittoOptions}
+use Rattle.hum_choices.specs.Timebase.{Pace}
+use Rattle.hum_choices.specs.declared.mint.MintOptions.{MintOptions}
+use Rattle.hum_choices.specs.declared.semits.SemitsOptions.{SemitsOptions}
+use Rattle.hum_choices.specs.declared.yank.YankRange.{YankRange}
+use Rattle.hum_choices.specs.Cleave as cleave
 use Rattle.hum_stage.specs.declared.faults.Command.{Command}
 use Rattle.hum_stage.specs.declared.faults.Command.TheVariants as command
 use Rattle.hum_options.specs.Options.{letter}

@@ -6,10 +6,10 @@ use Rattle.std.specs.Str.{bytes_eq}
 use lib.Chars.{codes}
 use Rattle.hum_stage.specs.declared.faults.Command.{Command}
 use Rattle.hum_stage.specs.declared.faults.Command.TheVariants as command
-use Rattle.hum_options.specs.declared.options.Kind.{Kind}
-use Rattle.hum_options.specs.declared.options.Kind.TheVariants.{Alone, Fields, Names, Name, Text}
-use Rattle.hum_options.specs.declared.options.Kind.TheVariants.{Ranges, Label, Pattern, Count}
-use Rattle.hum_options.specs.declared.options.Kind.TheVariants.{Steps, Semitones, Duration}
+use Rattle.hum_options.specs.declared.options.ValueKind.{ValueKind}
+use Rattle.hum_options.specs.declared.options.ValueKind.TheVariants.{Alone, Fields, Names, Name, Text}
+use Rattle.hum_options.specs.declared.options.ValueKind.TheVariants.{Ranges, Label, Pattern, Count}
+use Rattle.hum_options.specs.declared.options.ValueKind.TheVariants.{Steps, Semitones, Duration}
 use Rattle.hum_options.specs.declared.options.CommandOption.{CommandOption}
 
 -- a letter by its text
@@ -18,11 +18,11 @@ letter [] = 0
 letter (b ∷ bs) = b
 
 -- an option, by the text of its letter and the kind of its value
-abbrev pub takes : List ℕ → Kind → ℕ × Kind
+abbrev pub takes : List ℕ → ValueKind → ℕ × ValueKind
 takes text kind = (letter text, kind)
 
 -- the options of a command; those of rid are words of letters
-abbrev pub table : Command → List (ℕ × Kind)
+abbrev pub table : Command → List (ℕ × ValueKind)
 table command.Read = []
 table command.Assemble = []
 table command.Rid = []
@@ -63,7 +63,7 @@ groups command.Cleave = []
 abbrev pub is_spelled : List ℕ → CommandOption → Bool
 is_spelled word option = bytes_eq word (45 ∷ option.letter ∷ [])
 
-abbrev pub option : ℕ × Kind → CommandOption
+abbrev pub option : ℕ × ValueKind → CommandOption
 option entry = record { letter = entry.0; kind = entry.1 }
 
 -- the option that a word is, if it is one of the command

@@ -4,21 +4,21 @@ use Rattle.hum_path.specs.Spines.{texts}
 use Rattle.hum_words.specs.Pieces.{Item, items_of}
 use Rattle.hum_words.specs.Pieces as item
 use Rattle.hum_words.specs.declared.cutting.Piece.{Piece}
-use Rattle.hum_extract.specs.Written.{choice_of}
-use Rattle.hum_timebase.specs.Following.{pace_of}
-use Rattle.hum_context.specs.declared.options.Span.{Span as WrittenSpan}
-use Rattle.hum_context.specs.declared.options.Span.TheVariants as span
-use Rattle.hum_yank.specs.declared.options.Markers.{Markers as WrittenMarkers}
-use Rattle.hum_yank.specs.declared.options.Markers.TheVariants as markers
-use Rattle.hum_options.specs.declared.options.Kind.{Kind}
+use Rattle.hum_choices.specs.Extract.{choice_of}
+use Rattle.hum_choices.specs.Timebase.{pace_of}
+use Rattle.hum_choices.specs.declared.context.Span.{Span as WrittenSpan}
+use Rattle.hum_choices.specs.declared.context.Span.TheVariants as span
+use Rattle.hum_choices.specs.declared.yank.Markers.{Markers as WrittenMarkers}
+use Rattle.hum_choices.specs.declared.yank.Markers.TheVariants as markers
+use Rattle.hum_options.specs.declared.options.ValueKind.{ValueKind}
 use Rattle.hum_options.specs.declared.values.Value.{Value as WrittenValue}
 use Rattle.hum_options.specs.declared.values.Value.TheVariants as value
 use Rattle.hum_options.specs.declared.grammar.ValueError.{ValueError}
 use Rattle.hum_options.specs.declared.grammar.ValueError.TheVariants.{Grammar, Pattern as Refused}
 use Rattle.hum_options.specs.declared.grammar.ValueError.TheVariants.{Memory as NoMemory}
 use Rattle.hum_options.specs.declared.given.GivenOption.{GivenOption}
-use Rattle.hum_commands.specs.declared.options.CommandOptions.{CommandOptions}
-use Rattle.hum_commands.specs.declared.options.CommandOptions.TheVariants as told
+use Rattle.hum_choices.specs.declared.commands.CommandOptions.{CommandOptions}
+use Rattle.hum_choices.specs.declared.commands.CommandOptions.TheVariants as told
 use Rattle.hum_options.specs.declared.reading.Turn.{Turn}
 use Rattle.hum_options.specs.declared.faults.OptionError.{OptionError}
 use Rattle.hum_options.specs.declared.faults.OptionError.TheVariants as failed
@@ -48,7 +48,7 @@ seen (value.Semitones semitones) = Semitones semitones.number
 seen (value.Duration options) = Duration (pace_of options)
 
 -- what was read is the value of the kind that the text is, unless memory ran out
-abbrev pub GivesValue : Kind → List ℕ → Result WrittenValue ValueError → Type 0
+abbrev pub GivesValue : ValueKind → List ℕ → Result WrittenValue ValueError → Type 0
 GivesValue kind text (Ok value) = (value_of kind text ≡ Some (seen value)) × IsSound (seen value)
 GivesValue kind text (Err Grammar) = value_of kind text ≡ None
 GivesValue kind text (Err (Refused refusal)) =

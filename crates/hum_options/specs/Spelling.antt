@@ -1,7 +1,7 @@
 -- Words that spell options.
 use Rattle.std.specs.Prelude.{◌≡◌, ◌↔◌, ℕ, true, false, List, [], ◌∷◌, ◌++◌, Some, Ok}
 use Rattle.hum_stage.specs.declared.faults.Command.{Command}
-use Rattle.hum_options.specs.declared.options.Kind.{Kind}
+use Rattle.hum_options.specs.declared.options.ValueKind.{ValueKind}
 use Rattle.hum_options.specs.declared.options.CommandOption.{CommandOption}
 use Rattle.hum_options.specs.declared.reading.Turn.TheVariants.{Free}
 use Rattle.hum_options.specs.Options.{option_of}
@@ -10,7 +10,7 @@ use Rattle.hum_options.specs.Meant.{Given, Options, meant}
 use Rattle.hum_options.specs.Answers.{Word, Answers, is_alone, is_barred}
 
 -- the value of a kind that a text is
-pub record IsValue (kind : Kind) (text : List ℕ) (value : Value) : Type 0 where
+pub record IsValue (kind : ValueKind) (text : List ℕ) (value : Value) : Type 0 where
   pub grammar : value_of kind text ≡ Some value
   pub sound : IsSound value
 

@@ -4,18 +4,18 @@ use Rattle.std.specs.Prelude.{Option, None, Some}
 use Rattle.std.specs.Option.{option_map}
 use Rattle.hum_frac.specs.Ratio.{Ratio}
 use Rattle.hum_pattern.specs.Meaning.{IsExpression, IsNone}
-use Rattle.hum_extract.specs.declared.options.FieldRange.{FieldRange}
-use Rattle.hum_cleave.specs.Cleave.{is_name, fits_in_token}
-use Rattle.hum_yank.specs.declared.options.YankRange.{YankRange}
-use Rattle.hum_timebase.specs.Timebase.{Pace}
-use Rattle.hum_values.specs.Items.{items_of}
-use Rattle.hum_values.specs.Fields.{fields_of, count_of}
-use Rattle.hum_values.specs.Names.{name_of, is_label}
-use Rattle.hum_values.specs.Passages.{passages_of}
-use Rattle.hum_values.specs.Numbers.{signed_of}
-use Rattle.hum_values.specs.Steps.{step_of}
-use Rattle.hum_options.specs.declared.options.Kind.{Kind}
-use Rattle.hum_options.specs.declared.options.Kind.TheVariants as kind
+use Rattle.hum_choices.specs.declared.extract.FieldRange.{FieldRange}
+use Rattle.hum_choices.specs.Cleave.{is_name, fits_in_token}
+use Rattle.hum_choices.specs.declared.yank.YankRange.{YankRange}
+use Rattle.hum_choices.specs.Timebase.{Pace}
+use Rattle.hum_options.specs.Items.{items_of}
+use Rattle.hum_options.specs.Fields.{fields_of, count_of}
+use Rattle.hum_options.specs.Names.{name_of, is_label}
+use Rattle.hum_options.specs.Passages.{passages_of}
+use Rattle.hum_options.specs.Numbers.{signed_of}
+use Rattle.hum_options.specs.Steps.{step_of}
+use Rattle.hum_options.specs.declared.options.ValueKind.{ValueKind}
+use Rattle.hum_options.specs.declared.options.ValueKind.TheVariants as kind
 use Rattle.hum_options.specs.declared.faults.PatternRefusal.{PatternRefusal}
 use Rattle.hum_options.specs.declared.faults.PatternRefusal.TheVariants.{NoExpression, TooLarge}
 
@@ -42,7 +42,7 @@ abbrev pub paced : List ℕ → Ratio → Pace
 paced text step = record { step = step; text = text }
 
 -- The value of a kind that a text is, if it is one. A text is a pattern where regex takes it.
-abbrev pub value_of : Kind → List ℕ → Option Value
+abbrev pub value_of : ValueKind → List ℕ → Option Value
 value_of kind.Alone text = Some Nothing
 value_of kind.Fields text = option_map Fields (items_of fields_of text)
 value_of kind.Names text = option_map Names (items_of name_of text)

@@ -9,16 +9,13 @@ ghost use Rattle.hum_options.specs.Meant.{as_fields, as_names, as_name, as_text,
 ghost use Rattle.hum_options.specs.Meant.{as_label, as_pattern, as_count, as_steps};
 ghost use Rattle.hum_options.specs.Meant.{as_semitones, as_duration};
 ghost use Rattle.hum_options.specs.Seen.{seen, given_of};
-ghost use Rattle.hum_timebase.specs.Following.{pace_of};
+ghost use Rattle.hum_choices.specs.Timebase.{pace_of};
 
 use crate::options::excludes;
 use crate::values::{Name, Semitones, Separator, Steps, Value};
-use hum_context::TokenCount;
-use hum_extract::FieldRange;
+use hum_choices::{FieldRange, TimebaseOptions, TokenCount, YankRange};
 use hum_pattern::Pattern;
 use hum_stage::Command;
-use hum_timebase::TimebaseOptions;
-use hum_yank::YankRange;
 use std::alloc::{AllocError, Global};
 use std::marker::Model;
 

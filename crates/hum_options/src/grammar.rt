@@ -4,13 +4,15 @@ ghost use Rattle.hum_options.specs.Seen.{GivesValue};
 ghost use Rattle.hum_options.specs.declared.grammar.ValueError.TheVariants.{Memory};
 
 use crate::faults::PatternRefusal;
-use crate::options::Kind;
+use crate::fields::{count, field_ranges};
+use crate::naming::{is_label, names};
+use crate::numbers::signed_number;
+use crate::options::ValueKind;
+use crate::passages::passage_ranges;
+use crate::steps::step;
 use crate::values::{Name, Semitones, Separator, Steps, Value};
+use hum_choices::{is_name, is_separator};
 use hum_pattern::{Pattern, PatternFault};
-use hum_values::{
-    count, field_ranges, is_label, is_name, is_separator, names, passage_ranges, signed_number,
-    step,
-};
 use std::alloc::{AllocError, Global};
 
 /// Why a text is no value of a kind.
@@ -33,7 +35,7 @@ impl From<AllocError> for ValueError {
 }
 
 fn read_fields(alloc: Global, text: &[u8]) -> Result<Value, ValueError>
-    ensures { GivesValue Kind.Fields text.now result }
+    ensures { GivesValue ValueKind.Fields text.now result }
 {
     match field_ranges(alloc, text)? {
         Some(ranges) => Ok(Value::Fields(ranges)),
@@ -42,7 +44,7 @@ fn read_fields(alloc: Global, text: &[u8]) -> Result<Value, ValueError>
 }
 
 fn read_names(alloc: Global, text: &[u8]) -> Result<Value, ValueError>
-    ensures { GivesValue Kind.Names text.now result }
+    ensures { GivesValue ValueKind.Names text.now result }
 {
     match names(alloc, text)? {
         Some(names) => Ok(Value::Names(names)),
@@ -51,7 +53,7 @@ fn read_names(alloc: Global, text: &[u8]) -> Result<Value, ValueError>
 }
 
 fn read_name(alloc: Global, text: &[u8]) -> Result<Value, ValueError>
-    ensures { GivesValue Kind.Name text.now result }
+    ensures { GivesValue ValueKind.Name text.now result }
 {
     if !is_name(text) {
         return Err(ValueError::Grammar);
@@ -61,7 +63,7 @@ fn read_name(alloc: Global, text: &[u8]) -> Result<Value, ValueError>
 }
 
 fn read_text(alloc: Global, text: &[u8]) -> Result<Value, ValueError>
-    ensures { GivesValue Kind.Text text.now result }
+    ensures { GivesValue ValueKind.Text text.now result }
 {
     if !is_separator(text) {
         return Err(ValueError::Grammar);
@@ -71,7 +73,7 @@ fn read_text(alloc: Global, text: &[u8]) -> Result<Value, ValueError>
 }
 
 fn read_ranges(alloc: Global, text: &[u8]) -> Result<Value, ValueError>
-    ensures { GivesValue Kind.Ranges text.now result }
+    ensures { GivesValue ValueKind.Ranges text.now result }
 {
     match passage_ranges(alloc, text)? {
         Some(ranges) => Ok(Value::Ranges(ranges)),
@@ -80,7 +82,7 @@ fn read_ranges(alloc: Global, text: &[u8]) -> Result<Value, ValueError>
 }
 
 fn read_label(alloc: Global, text: &[u8]) -> Result<Value, ValueError>
-    ensures { GivesValue Kind.Label text.now result }
+    ensures { GivesValue ValueKind.Label text.now result }
 {
     if !is_label(text) {
         return Err(ValueError::Grammar);
@@ -89,7 +91,7 @@ fn read_label(alloc: Global, text: &[u8]) -> Result<Value, ValueError>
 }
 
 fn read_pattern(alloc: Global, text: &str) -> Result<Value, ValueError>
-    ensures { GivesValue Kind.Pattern text.now result }
+    ensures { GivesValue ValueKind.Pattern text.now result }
 {
     match Pattern::new(alloc, text) {
         Ok(pattern) => Ok(Value::Pattern(pattern)),
@@ -100,7 +102,7 @@ fn read_pattern(alloc: Global, text: &str) -> Result<Value, ValueError>
 }
 
 fn read_count(text: &[u8]) -> Result<Value, ValueError>
-    ensures { GivesValue Kind.Count text.now result }
+    ensures { GivesValue ValueKind.Count text.now result }
 {
     match count(text) {
         Some(count) => Ok(Value::Count(count)),
@@ -109,7 +111,7 @@ fn read_count(text: &[u8]) -> Result<Value, ValueError>
 }
 
 fn read_steps(text: &[u8]) -> Result<Value, ValueError>
-    ensures { GivesValue Kind.Steps text.now result }
+    ensures { GivesValue ValueKind.Steps text.now result }
 {
     match signed_number(text, 49) {
         Some(number) => Ok(Value::Steps(Steps { number })),
@@ -118,7 +120,7 @@ fn read_steps(text: &[u8]) -> Result<Value, ValueError>
 }
 
 fn read_semitones(text: &[u8]) -> Result<Value, ValueError>
-    ensures { GivesValue Kind.Semitones text.now result }
+    ensures { GivesValue ValueKind.Semitones text.now result }
 {
     match signed_number(text, 84) {
         Some(number) => Ok(Value::Semitones(Semitones { number })),
@@ -127,7 +129,7 @@ fn read_semitones(text: &[u8]) -> Result<Value, ValueError>
 }
 
 fn read_duration(alloc: Global, text: &[u8]) -> Result<Value, ValueError>
-    ensures { GivesValue Kind.Duration text.now result }
+    ensures { GivesValue ValueKind.Duration text.now result }
 {
     match step(alloc, text)? {
         Some(options) => Ok(Value::Duration(options)),
@@ -136,22 +138,22 @@ fn read_duration(alloc: Global, text: &[u8]) -> Result<Value, ValueError>
 }
 
 /// The value of a kind that a text is.
-pub(crate) fn read_value(alloc: Global, kind: Kind, text: &str) -> Result<Value, ValueError>
+pub(crate) fn read_value(alloc: Global, kind: ValueKind, text: &str) -> Result<Value, ValueError>
     ensures { GivesValue kind text.now result }
 {
     let bytes = text.as_bytes();
     match kind {
-        Kind::Alone => Ok(Value::Nothing),
-        Kind::Fields => read_fields(alloc, bytes),
-        Kind::Names => read_names(alloc, bytes),
-        Kind::Name => read_name(alloc, bytes),
-        Kind::Text => read_text(alloc, bytes),
-        Kind::Ranges => read_ranges(alloc, bytes),
-        Kind::Label => read_label(alloc, bytes),
-        Kind::Pattern => read_pattern(alloc, text),
-        Kind::Count => read_count(bytes),
-        Kind::Steps => read_steps(bytes),
-        Kind::Semitones => read_semitones(bytes),
-        Kind::Duration => read_duration(alloc, bytes),
+        ValueKind::Alone => Ok(Value::Nothing),
+        ValueKind::Fields => read_fields(alloc, bytes),
+        ValueKind::Names => read_names(alloc, bytes),
+        ValueKind::Name => read_name(alloc, bytes),
+        ValueKind::Text => read_text(alloc, bytes),
+        ValueKind::Ranges => read_ranges(alloc, bytes),
+        ValueKind::Label => read_label(alloc, bytes),
+        ValueKind::Pattern => read_pattern(alloc, text),
+        ValueKind::Count => read_count(bytes),
+        ValueKind::Steps => read_steps(bytes),
+        ValueKind::Semitones => read_semitones(bytes),
+        ValueKind::Duration => read_duration(alloc, bytes),
     }
 }

@@ -8,8 +8,7 @@ ghost use Rattle.hum_options.specs.Answers.{rid_answer};
 ghost use Rattle.hum_options.specs.Seen.{words_of, Tells};
 
 use crate::faults::{OptionError, OptionFault, OptionRule};
-use hum_commands::CommandOptions;
-use hum_rid::RidOptions;
+use hum_choices::{CommandOptions, RidOptions};
 use hum_words::Piece;
 
 fn is_letter(byte: u8) -> bool

@@ -7,7 +7,7 @@ use hum_stage::Command;
 
 /// What an option's value is.
 #[derive(Clone, Copy)]
-pub(crate) enum Kind {
+pub(crate) enum ValueKind {
     /// the option stands alone
     Alone,
     /// LIST: fields
@@ -38,43 +38,47 @@ pub(crate) enum Kind {
 #[derive(Clone, Copy)]
 pub(crate) struct CommandOption {
     pub(crate) letter: u8,
-    pub(crate) kind: Kind,
+    pub(crate) kind: ValueKind,
 }
 
 /// The letter and the kind of each option of a command. Those of rid are words of letters.
-fn table(command: Command) -> &'static [(u8, Kind)]
+fn table(command: Command) -> &'static [(u8, ValueKind)]
     ensures { result.now ≡ table command }
 {
     match command {
         Command::Read => &[],
         Command::Assemble => &[],
         Command::Rid => &[],
-        Command::Extract => &[(b'f', Kind::Fields), (b'i', Kind::Names)],
-        Command::Ditto => &[(b's', Kind::Pattern), (b'p', Kind::Alone)],
-        Command::Timebase => &[(b't', Kind::Duration)],
+        Command::Extract => &[(b'f', ValueKind::Fields), (b'i', ValueKind::Names)],
+        Command::Ditto => &[(b's', ValueKind::Pattern), (b'p', ValueKind::Alone)],
+        Command::Timebase => &[(b't', ValueKind::Duration)],
         Command::Context => &[
-            (b'n', Kind::Count),
-            (b'b', Kind::Pattern),
-            (b'e', Kind::Pattern),
-            (b'o', Kind::Pattern),
+            (b'n', ValueKind::Count),
+            (b'b', ValueKind::Pattern),
+            (b'e', ValueKind::Pattern),
+            (b'o', ValueKind::Pattern),
         ],
-        Command::Trans => &[(b'd', Kind::Steps), (b'c', Kind::Semitones)],
-        Command::Semits => &[(b'x', Kind::Alone), (b't', Kind::Alone)],
+        Command::Trans => &[(b'd', ValueKind::Steps), (b'c', ValueKind::Semitones)],
+        Command::Semits => &[(b'x', ValueKind::Alone), (b't', ValueKind::Alone)],
         Command::Mint => &[
-            (b'a', Kind::Alone),
-            (b'd', Kind::Alone),
-            (b'b', Kind::Pattern),
+            (b'a', ValueKind::Alone),
+            (b'd', ValueKind::Alone),
+            (b'b', ValueKind::Pattern),
         ],
         Command::Recip => &[],
         Command::Yank => &[
-            (b'l', Kind::Alone),
-            (b'n', Kind::Pattern),
-            (b'o', Kind::Pattern),
-            (b'e', Kind::Pattern),
-            (b's', Kind::Label),
-            (b'r', Kind::Ranges),
+            (b'l', ValueKind::Alone),
+            (b'n', ValueKind::Pattern),
+            (b'o', ValueKind::Pattern),
+            (b'e', ValueKind::Pattern),
+            (b's', ValueKind::Label),
+            (b'r', ValueKind::Ranges),
         ],
-        Command::Cleave => &[(b'i', Kind::Name), (b'o', Kind::Name), (b'd', Kind::Text)],
+        Command::Cleave => &[
+            (b'i', ValueKind::Name),
+            (b'o', ValueKind::Name),
+            (b'd', ValueKind::Text),
+        ],
     }
 }
 
@@ -119,13 +123,13 @@ pub(crate) fn excludes(command: Command, a: u8, b: u8) -> bool
     }
 }
 
-impl Kind {
+impl ValueKind {
     /// Whether the option takes no value.
     pub(crate) fn is_alone(self) -> bool
         ensures { result ≡ is_alone self }
     {
         match self {
-            Kind::Alone => true,
+            ValueKind::Alone => true,
             _ => false,
         }
     }

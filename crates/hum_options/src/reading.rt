@@ -12,7 +12,7 @@ use crate::letters::read_letters;
 use crate::options::{CommandOption, option_of};
 use crate::together::put_together;
 use crate::values::Value;
-use hum_commands::CommandOptions;
+use hum_choices::CommandOptions;
 use hum_stage::Command;
 use hum_words::Piece;
 use std::alloc::Global;

@@ -1,7 +1,7 @@
 //! The options of commands, put together from those that were given.
 ghost use Rattle.std.specs.Prelude.{◌≡◌, IfOk, Some};
 ghost use Rattle.std.specs.Option.{option_map};
-ghost use Rattle.hum_extract.specs.Written.{choice_of};
+ghost use Rattle.hum_choices.specs.Extract.{choice_of};
 ghost use Rattle.hum_options.specs.Meant.{choice_meant, phrase_meant, span_meant, meant};
 ghost use Rattle.hum_options.specs.Meant.{labels_meant, occurrences_meant, numbers_meant};
 ghost use Rattle.hum_options.specs.Meant.{markers_meant, separator_meant};
@@ -10,14 +10,11 @@ ghost use Rattle.hum_options.specs.Seen.{span_of, markers_of, options_of};
 
 use crate::given::GivenOptions;
 use crate::values::{Semitones, Separator, Steps};
-use hum_cleave::CleaveOptions;
-use hum_commands::CommandOptions;
-use hum_context::{ContextOptions, Span};
-use hum_ditto::DittoOptions;
-use hum_extract::ExtractOptions;
+use hum_choices::{
+    CleaveOptions, CommandOptions, ContextOptions, DittoOptions, ExtractOptions, Markers,
+    MintOptions, RecipOptions, SemitsOptions, Span, TransOptions, YankOptions,
+};
 use hum_stage::Command;
-use hum_tones::{MintOptions, RecipOptions, SemitsOptions, TransOptions};
-use hum_yank::{Markers, YankOptions};
 use std::alloc::{AllocError, Global};
 
 fn choice(given: &mut GivenOptions) -> Option<ExtractOptions>

@@ -1,12 +1,9 @@
 //! What options are given.
 ghost use Rattle.std.specs.Prelude.{◌≡◌, ◌≤◌, None, nat_abs, true, codes, IfOk};
-ghost use Rattle.hum_cleave.specs.Cleave.{is_name, fits_in_token};
+ghost use Rattle.hum_choices.specs.Cleave.{is_name, fits_in_token};
 
-use hum_context::TokenCount;
-use hum_extract::FieldRange;
+use hum_choices::{FieldRange, TimebaseOptions, TokenCount, YankRange};
 use hum_pattern::Pattern;
-use hum_timebase::TimebaseOptions;
-use hum_yank::YankRange;
 use std::alloc::{AllocError, Global};
 
 /// The name of an exclusive interpretation.

@@ -93,7 +93,7 @@ fault_of path (Comment text) = None
 fault_of path (Spined Interpretation tokens) = find (breaks path tokens) in_order
 fault_of path (Spined kind tokens) = find (breaks_as_text path tokens) in_order
 
--- The fault, if it isn't want of memory, is the first rule that is broken.
+-- The fault, if it isn't running out of memory, is the first rule that is broken.
 abbrev pub Refuses : PathFault → Option PathFault → Type 0
 Refuses Memory broken = Unit {0}
 Refuses fault broken = broken ≡ Some fault

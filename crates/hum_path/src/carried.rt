@@ -208,7 +208,7 @@ impl<M: ColumnMemory> Carried<M> {
     /// the cells above.
     ///
     /// # Errors
-    /// Want of memory, which each later call answers again.
+    /// Out of memory, which each later call answers again.
     pub fn follow(
         &mut self,
         rule: &mut M::Rule,

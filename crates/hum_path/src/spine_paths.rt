@@ -105,7 +105,7 @@ impl Paths {
     /// Whether a record is data with a token for each spine, of which none waits for its exclusive
     /// interpretation: then it breaks no rule, and each spine goes on.
     #[inline]
-    pub fn goes_on(&self, row: &Record) -> bool
+    pub fn keeps_spines(&self, row: &Record) -> bool
         ensures sound { result ≡ true → fault_of self.now.path row.now ≡ None }
         ensures same { result ≡ true → after self.now.path row.now ≡ self.now.path }
     {
@@ -120,7 +120,7 @@ impl Paths {
     /// A record without a path indicator or an exclusive interpretation takes no memory.
     ///
     /// # Errors
-    /// The first path rule that the record breaks, and then nothing changes; or want of memory,
+    /// The first path rule that the record breaks, and then nothing changes; or running out of memory,
     /// which each later call answers again.
     pub fn step(&mut self, row: &Record) -> Result<Moves, PathFault>
         // No rule is broken, and the spines are those after the record.
@@ -152,7 +152,7 @@ impl Paths {
     /// The same of a record that breaks no path rule.
     ///
     /// # Errors
-    /// Want of memory, which each later call answers again.
+    /// Out of memory, which each later call answers again.
     #[inline]
     pub fn follow(&mut self, row: &Record) -> Result<Moves, AllocError>
         requires { fault_of self.old.path row.now ≡ None }

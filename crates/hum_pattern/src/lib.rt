@@ -122,7 +122,7 @@ impl Pattern {
     /// The pattern of a text.
     ///
     /// # Errors
-    /// [`PatternFault::Refused`] and [`PatternFault::TooLarge`] by the text, and want of memory.
+    /// [`PatternFault::Refused`] and [`PatternFault::TooLarge`] by the text, and running out of memory.
     pub fn new(alloc: Global, text: &str) -> Result<Pattern, PatternFault>
         ensures text { IfOk result (λ pattern. pattern ≡ text.now) }
         ensures sound { OnOk result (IsExpression text.now) }

@@ -1,4 +1,4 @@
--- A stage that is broken off makes a front of what it makes else.
+-- A stage that is broken off makes a prefix of what it makes else.
 use Rattle.std.proofs.Common.{◌≡◌, ◌∙◌, refl, sym, ap, subst, ℕ, ◌+◌, true, List, [], ◌∷◌, map, length, append-nil, Option, None, Some, arith}
 use Rattle.std.specs.Prelude.{unwrap_or}
 use Rattle.std.proofs.lemmas.List.{length-map}
@@ -23,7 +23,7 @@ use Rattle.hum_nodes.proofs.MergingLaws as merging
 use Rattle.hum_pipes.specs.Piped.{moved_part, moved_end, moved_flow}
 use Rattle.hum_pipes.proofs.Moving.{AllRelated, IsMoved, IsAlike, same_merge, moved_whole}
 
--- The first is a front of the second, and all of it where it ends closed.
+-- The first is a prefix of the second, and all of it where it ends closed.
 pub record IsUnder (a b : Flow Row) : Type 0 where
   pub front : Begins a.items b.items
   pub closed : a.end ≡ Some Closed → b ≡ a

@@ -63,7 +63,7 @@ pub record ArePiped (first rest : List Part) : Type 0 where
 
 -- The one plan is a plan. Where no stage of the first refuses, it means what the second does, to the
 -- record and to the end; a fault bears its stage's number in the one plan. Where one does, it ends by
--- that fault, and writes a front of what the second writes.
+-- that fault, and writes a prefix of what the second writes.
 pub record IsOnePlan (first rest : List Part) : Type 0 where
   pub plan : IsTree (one_plan first rest)
   pub same : (meaning_of first).end ≡ Some Closed

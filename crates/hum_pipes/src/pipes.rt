@@ -4,7 +4,7 @@ ghost use Rattle.hum_pipes.specs.Stages.{PlansAreJoined};
 
 /// Two plans of which the second reads the first's text write what one plan with all of their stages
 /// writes, where no stage of the first refuses. Where one does, the one plan tells its fault, and
-/// writes a front of that text.
+/// writes a prefix of that text.
 pub fn pipes_are_pipes()
     ensures { PipesArePipes }
 {}

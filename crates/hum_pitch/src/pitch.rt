@@ -31,7 +31,7 @@ pub struct Pitch {
 
 /// A note by its spelling, whether it has one within the limits or not.
 #[derive(Clone, Copy)]
-struct Note {
+struct SpelledNote {
     step: u32,
     octave: i32,
     alteration: i32,
@@ -81,7 +81,7 @@ fn natural_at(number: i32) -> (i32, u32)
     ((above / 7) as i32 - 11, above % 7)
 }
 
-impl Note {
+impl SpelledNote {
     ghost use Rattle.hum_pitch.specs.Given.{noted, Answers};
 
     /// The pitch, if it can be spelled.
@@ -125,7 +125,7 @@ impl Pitch {
     }
 
     /// The note that is some steps and some semitones away, whether it can be spelled or not.
-    fn away(self, steps: i32, semitones: i32) -> Note
+    fn away(self, steps: i32, semitones: i32) -> SpelledNote
         requires steps { IsWithin (negsuc 48) steps (pos 49) }
         requires semitones { IsWithin (negsuc 83) semitones (pos 84) }
         ensures exact { noted result ≡ away steps semitones (spelled self) }
@@ -133,7 +133,7 @@ impl Pitch {
     {
         let (octave, step) = natural_at(self.step_number() + steps);
         let alteration = self.semits() + semitones - natural_semits(octave, step);
-        Note {
+        SpelledNote {
             step,
             octave,
             alteration,

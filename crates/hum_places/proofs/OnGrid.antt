@@ -14,7 +14,8 @@ use Rattle.hum_stage.specs.declared.faults.Rule.{Rule}
 use Rattle.hum_timebase.specs.Notes.{timed_in, notes_of, is_sounding, has_misread}
 use Rattle.hum_timebase.specs.Ends.{Note, latest, next_end, living_before, living_after}
 use Rattle.hum_timebase.specs.Clock.{Clock, clock_after, time_after, time_of, ticked}
-use Rattle.hum_timebase.specs.Timebase.{Pace, null_row, clashes, is_too_long, count_before, count_after}
+use Rattle.hum_choices.specs.Timebase.{Pace}
+use Rattle.hum_timebase.specs.Timebase.{null_row, clashes, is_too_long, count_before, count_after}
 use Rattle.hum_timebase.specs.Timebase.{on_grid, timed_rows, living_at, data_rows}
 use Rattle.hum_timebase.proofs.Lasting.{IsPositive, AllSound, all_sound}
 use Rattle.hum_timebase.proofs.Reading.{sounds_some, no_notes}

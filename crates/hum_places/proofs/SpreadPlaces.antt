@@ -6,7 +6,7 @@ use Rattle.std.specs.Prelude.{nat_le, nat_lt, slice_index_or}
 use Rattle.std.proofs.lemmas.Bool.Decides.{nat_tests}
 use lib.Chars.{codes}
 use Rattle.hum_path.proofs.Cases.{by_bool}
-use Rattle.hum_columns.specs.Spread.{Piece, joins, touches, joins_in, spread, one_by_one, before_last}
+use Rattle.hum_columns.specs.Spread.{JoinedToken, joins, touches, joins_in, spread, one_by_one, before_last}
 use Rattle.hum_places.specs.Spreading.{piece_at, is_joined, join_number, is_gone, place_in, Stands, IsElsewhere}
 use Rattle.hum_places.specs.Spreading.{AreOneByOne, Touch, AreSpread, SpreadsByPlace}
 use Rattle.hum_places.proofs.OneWay.{equal_lists}
@@ -14,7 +14,7 @@ use Rattle.hum_places.proofs.Spreading.{shown, stand, wide, begun_all}
 use Rattle.hum_places.proofs.SpreadRows.{each, so_many}
 
 -- what keeps its place
-kept_own : (ps : List Piece) (t q : ℕ) → join_number ps q ≡ t + 1 → is_gone ps t q ≡ false
+kept_own : (ps : List JoinedToken) (t q : ℕ) → join_number ps q ≡ t + 1 → is_gone ps t q ≡ false
 kept_own ps t q e =
     let above : nat_le (join_number ps q) t ≡ false = grind (arith, nat_tests, e) in
     rw above (neither (is_joined ps q) (not (piece_at ps q).begins))
@@ -24,10 +24,10 @@ kept_own ps t q e =
     neither true false = refl
     neither false b = refl
 
-kept_other : (ps : List Piece) (t q : ℕ) → is_joined ps q ≡ false → is_gone ps t q ≡ false
+kept_other : (ps : List JoinedToken) (t q : ℕ) → is_joined ps q ≡ false → is_gone ps t q ≡ false
 kept_other ps t q e = rw e refl
 
-module _ (ps : List Piece) (m : ℕ) (count : joins_in ps ≡ suc m) where
+module _ (ps : List JoinedToken) (m : ℕ) (count : joins_in ps ≡ suc m) where
   abbrev records : List (List (List ℕ))
   records = one_by_one m ps
 
@@ -82,7 +82,7 @@ module _ (ps : List Piece) (m : ℕ) (count : joins_in ps ≡ suc m) where
   }
 
 -- joins that touch
-found : (after : Bool) (ps : List Piece) → touches after ps ≡ true
+found : (after : Bool) (ps : List JoinedToken) → touches after ps ≡ true
     → ((after ≡ true) × ((piece_at ps 0).begins ≡ true)) ⊎ ((q : ℕ) × Touch ps q)
 found after [] h = cc
 found after (p ∷ ps) h = by_bool (after && p.begins)
@@ -99,7 +99,7 @@ found after (p ∷ ps) h = by_bool (after && p.begins)
         let same : suc h.0 + 1 ≡ suc (h.0 + 1) = omega arith in
         (suc h.0, (h.1.0, ap (λ (k : ℕ). (piece_at (p ∷ ps) k).begins) same ∙ h.1.1))
 
-touching : (after : Bool) (ps : List Piece) (q : ℕ) → Touch ps q → touches after ps ≡ true
+touching : (after : Bool) (ps : List JoinedToken) (q : ℕ) → Touch ps q → touches after ps ≡ true
 touching after [] q h = let w : false ≡ true = nothing q h.1 in cc
   where
     nothing : (q : ℕ) → (piece_at [] (q + 1)).begins ≡ true → false ≡ true
@@ -112,7 +112,7 @@ touching after (p ∷ ps) zero h =
     either true = refl
     either false = refl
 
-    first : (ps : List Piece) → (piece_at ps 0).begins ≡ true → touches (joins p) ps ≡ true
+    first : (ps : List JoinedToken) → (piece_at ps 0).begins ≡ true → touches (joins p) ps ≡ true
     first [] e = cc
     first (n ∷ ns) e = let j : joins p ≡ true = h.0 in rw (j, e) refl
 touching after (p ∷ ps) (suc q) h =
@@ -125,11 +125,11 @@ touching after (p ∷ ps) (suc q) h =
     either false = refl
 
 -- then there are some
-some : (ps : List Piece) → (piece_at ps 0).begins ≡ true → 1 ≤ joins_in ps
+some : (ps : List JoinedToken) → (piece_at ps 0).begins ≡ true → 1 ≤ joins_in ps
 some [] h = cc
 some (p ∷ ps) h = rw h (omega arith)
 
-some_touch : (after : Bool) (ps : List Piece) → touches after ps ≡ true → 1 ≤ joins_in ps
+some_touch : (after : Bool) (ps : List JoinedToken) → touches after ps ≡ true → 1 ≤ joins_in ps
 some_touch after [] h = cc
 some_touch after (p ∷ ps) h = by_bool p.begins
     (λ w. rw w (omega arith))
@@ -143,7 +143,7 @@ before_is : (n : ℕ) → 1 ≤ n → n ≡ suc (before_last n)
 before_is zero h = absurd (omega (arith, h))
 before_is (suc n) h = refl
 
-so_spread : (ps : List Piece) → AreSpread ps (spread ps)
+so_spread : (ps : List JoinedToken) → AreSpread ps (spread ps)
 so_spread ps = record {
   single = λ none. by_bool (touches false ps)
       (λ w. elim (found false ps w) [ inl h ↦ let e = h.0 in cc | inr h ↦ absurd (none h.0 h.1) ])
@@ -165,7 +165,7 @@ by_index d (x ∷ xs) (y ∷ ys) h at =
     rw (first, rest) refl
 
 -- the token that has a place
-token_of : (ps : List Piece) (t i n : ℕ) → i < place_in ps t n
+token_of : (ps : List JoinedToken) (t i n : ℕ) → i < place_in ps t n
     → (q : ℕ) × (q < n) × (is_gone ps t q ≡ false) × (place_in ps t q ≡ i)
 token_of ps t i zero h = absurd (omega (arith, h))
 token_of ps t i (suc n) h = by_bool (is_gone ps t n)
@@ -182,7 +182,7 @@ token_of ps t i (suc n) h = by_bool (is_gone ps t n)
     (r.0, omega (arith, less), r.2, r.3))
     (λ v. let same : place_in ps t n ≡ i = grind (arith, nat_tests, v, below) in (n, omega arith, w, same)))
 
-module _ (ps : List Piece) (a b : List (List (List ℕ))) (x : AreOneByOne ps a) (y : AreOneByOne ps b) where
+module _ (ps : List JoinedToken) (a b : List (List (List ℕ))) (x : AreOneByOne ps a) (y : AreOneByOne ps b) where
   as_many : length a ≡ length b
   as_many = x.count ∙ sym y.count
 
@@ -226,7 +226,7 @@ module _ (ps : List Piece) (a b : List (List (List ℕ))) (x : AreOneByOne ps a)
   pub one_list : a ≡ b
   one_list = by_index [] a b as_many same_row
 
-pub by_place : (pieces : List Piece) → SpreadsByPlace pieces
+pub by_place : (pieces : List JoinedToken) → SpreadsByPlace pieces
 by_place ps = (
   so_spread ps,
   λ records h. by_bool (touches false ps)

@@ -5,7 +5,7 @@ use Rattle.std.specs.Prelude.{nat_le, slice_index_or}
 use Rattle.std.proofs.lemmas.Bool.Decides.{nat_tests}
 use lib.Chars.{codes}
 use Rattle.hum_path.proofs.Cases.{by_bool}
-use Rattle.hum_columns.specs.Spread.{Piece, joins, goes_on, tokens_in, joins_in}
+use Rattle.hum_columns.specs.Spread.{JoinedToken, joins, goes_on, tokens_in, joins_in}
 use Rattle.hum_columns.specs.Spread.{join_alone, first_alone, join_done, first_done, one_by_one}
 use Rattle.hum_places.proofs.Spreading.{one, shown, row}
 
@@ -18,7 +18,7 @@ not_below : (n : ℕ) → 1 ≤ n → nat_le n 0 ≡ false
 not_below n h = grind (arith, nat_tests, h)
 
 -- a token that goes on begins no join
-on_not_begins : (p : Piece) → goes_on p ≡ true → p.begins ≡ false
+on_not_begins : (p : JoinedToken) → goes_on p ≡ true → p.begins ≡ false
 on_not_begins p h = by_bool p.begins (λ w. absurd (neither (joins p) (rw w at h))) (λ w. w)
   where
     neither : (a : Bool) → (a && false) ≡ true → ⊥
@@ -26,12 +26,12 @@ on_not_begins p h = by_bool p.begins (λ w. absurd (neither (joins p) (rw w at h
     neither false h = cc
 
 -- one that doesn't go on is read as behind no join
-not_on : (t : ℕ) (last : Bool) (b : ℕ) (p : Piece) (ps : List Piece) → goes_on p ≡ false
+not_on : (t : ℕ) (last : Bool) (b : ℕ) (p : JoinedToken) (ps : List JoinedToken) → goes_on p ≡ false
     → row t last b true (p ∷ ps) ≡ row t last b false (p ∷ ps)
 not_on t last b p ps h = rw h refl
 
 -- one number further
-later : (t : ℕ) (last : Bool) (b : ℕ) (inside : Bool) (ps : List Piece) → row t last b inside ps ≡ row (suc t) last (suc b) inside ps
+later : (t : ℕ) (last : Bool) (b : ℕ) (inside : Bool) (ps : List JoinedToken) → row t last b inside ps ≡ row (suc t) last (suc b) inside ps
 later t last b inside [] = refl
 later t last b inside (p ∷ ps) =
     let j = p.begins || (inside && goes_on p) in
@@ -52,7 +52,7 @@ later t last b inside (p ∷ ps) =
     shown_later t last n false token e = refl
 
 -- The record of the first join.
-quiet : (b : ℕ) (inside : Bool) (ps : List Piece) → 1 ≤ b → (inside ≡ true → 2 ≤ b) → row 0 false b inside ps ≡ map (λ _. codes "*") ps
+quiet : (b : ℕ) (inside : Bool) (ps : List JoinedToken) → 1 ≤ b → (inside ≡ true → 2 ≤ b) → row 0 false b inside ps ≡ map (λ _. codes "*") ps
 quiet b inside [] some more = refl
 quiet b inside (p ∷ ps) some more =
     let n = b + one p.begins in
@@ -71,7 +71,7 @@ quiet b inside (p ∷ ps) some more =
     shown_null n true h = let two = h refl in let other : (n == 0 + 1) ≡ false = grind (arith, nat_tests, two) in rw other refl
     shown_null n false h = refl
 
-alone_behind : (ps : List Piece) → join_alone ps ≡ row 0 false 1 true ps
+alone_behind : (ps : List JoinedToken) → join_alone ps ≡ row 0 false 1 true ps
 alone_behind [] = refl
 alone_behind (p ∷ ps) = by_bool (goes_on p)
     (λ w. rw (w, on_not_begins p w, alone_behind ps) refl)
@@ -79,14 +79,14 @@ alone_behind (p ∷ ps) = by_bool (goes_on p)
     let nulls : join_alone (p ∷ ps) ≡ map (λ _. codes "*") (p ∷ ps) = rw w refl in
     nulls ∙ sym (quiet 1 false (p ∷ ps) (omega arith) (λ e. cc)) ∙ sym (not_on 0 false 1 p ps w))
 
-first_row : (ps : List Piece) → first_alone ps ≡ row 0 false 0 false ps
+first_row : (ps : List JoinedToken) → first_alone ps ≡ row 0 false 0 false ps
 first_row [] = refl
 first_row (p ∷ ps) = by_bool p.begins
     (λ w. rw (w, alone_behind ps) refl)
     (λ w. rw (w, first_row ps) refl)
 
 -- What is left behind it has the later records.
-skip : (t : ℕ) (last : Bool) (ps : List Piece) → row t last 0 false (join_done ps) ≡ row (suc t) last 1 true ps
+skip : (t : ℕ) (last : Bool) (ps : List JoinedToken) → row t last 0 false (join_done ps) ≡ row (suc t) last 1 true ps
 skip t last [] = refl
 skip t last (p ∷ ps) = by_bool (goes_on p)
     (λ w.
@@ -96,7 +96,7 @@ skip t last (p ∷ ps) = by_bool (goes_on p)
     let left : join_done (p ∷ ps) ≡ p ∷ ps = rw w refl in
     ap (row t last 0 false) left ∙ later t last 0 false (p ∷ ps) ∙ sym (not_on (suc t) last 1 p ps w))
 
-rest_rows : (t : ℕ) (last : Bool) (ps : List Piece) → row t last 0 false (first_done ps) ≡ row (suc t) last 0 false ps
+rest_rows : (t : ℕ) (last : Bool) (ps : List JoinedToken) → row t last 0 false (first_done ps) ≡ row (suc t) last 0 false ps
 rest_rows t last [] = refl
 rest_rows t last (p ∷ ps) = by_bool p.begins
     (λ w.
@@ -109,7 +109,7 @@ rest_rows t last (p ∷ ps) = by_bool p.begins
     either false = refl
 
 -- The last record, where one join is left.
-last_row : (b : ℕ) (inside : Bool) (ps : List Piece) → b + joins_in ps ≤ 1 → (inside ≡ true → 1 ≤ b) → tokens_in ps ≡ row 0 true b inside ps
+last_row : (b : ℕ) (inside : Bool) (ps : List JoinedToken) → b + joins_in ps ≤ 1 → (inside ≡ true → 1 ≤ b) → tokens_in ps ≡ row 0 true b inside ps
 last_row b inside [] few some = refl
 last_row b inside (p ∷ ps) few some =
     let n = b + one p.begins in
@@ -136,18 +136,18 @@ last_row b inside (p ∷ ps) few some =
     shown_own n false most h = refl
 
 -- one join less is left
-joins_done : (ps : List Piece) → joins_in (join_done ps) ≡ joins_in ps
+joins_done : (ps : List JoinedToken) → joins_in (join_done ps) ≡ joins_in ps
 joins_done [] = refl
 joins_done (p ∷ ps) = by_bool (goes_on p) (λ w. rw (w, on_not_begins p w) (joins_done ps)) (λ w. rw w refl)
 
-first_less : (ps : List Piece) → 1 ≤ joins_in ps → joins_in (first_done ps) + 1 ≡ joins_in ps
+first_less : (ps : List JoinedToken) → 1 ≤ joins_in ps → joins_in (first_done ps) + 1 ≡ joins_in ps
 first_less [] h = absurd (omega (arith, h))
 first_less (p ∷ ps) h = by_bool p.begins
     (λ w. let e = joins_done ps in rw w (omega (arith, e)))
     (λ w. let more : 1 ≤ joins_in ps = rw w at h in let e = first_less ps more in rw w e)
 
 -- Of so many records each is its own.
-pub each : (m : ℕ) (ps : List Piece) → joins_in ps ≡ suc m → (t : ℕ) → t < suc m
+pub each : (m : ℕ) (ps : List JoinedToken) → joins_in ps ≡ suc m → (t : ℕ) → t < suc m
     → slice_index_or (one_by_one m ps) t [] ≡ row t (t == m) 0 false ps
 each zero ps count zero h = last_row 0 false ps (omega (arith, count)) (λ e. cc)
 each zero ps count (suc t) h = absurd (omega (arith, h))
@@ -159,6 +159,6 @@ each (suc m) ps count (suc t) h =
     (λ w. let v : (suc t == suc m) ≡ false = grind (arith, nat_tests, w) in v ∙ sym w) in
     rw same (each m (first_done ps) (omega (arith, less, count)) t (omega (arith, h)) ∙ rest_rows t (t == m) ps)
 
-pub so_many : (m : ℕ) (ps : List Piece) → length (one_by_one m ps) ≡ suc m
+pub so_many : (m : ℕ) (ps : List JoinedToken) → length (one_by_one m ps) ≡ suc m
 so_many zero ps = refl
 so_many (suc m) ps = ap suc (so_many m (first_done ps))

@@ -10,7 +10,8 @@ use Rattle.hum_frac.specs.Multiples.{times, IsMultiple}
 use Rattle.hum_timebase.specs.Notes.{timed_in, notes_of}
 use Rattle.hum_timebase.specs.Ends.{latest}
 use Rattle.hum_timebase.specs.Clock.{clock_after}
-use Rattle.hum_timebase.specs.Timebase.{Pace, timebase, null_row}
+use Rattle.hum_choices.specs.Timebase.{Pace}
+use Rattle.hum_timebase.specs.Timebase.{timebase, null_row}
 
 -- These number the multiples of t that pass: each of them once, the least first.
 pub record AreMultiples (t : Ratio) (Passes : Ratio → Type 0) (numbers : List ℕ) : Type 0 where

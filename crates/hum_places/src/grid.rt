@@ -2,7 +2,7 @@
 ghost use Rattle.std.specs.Prelude.{ℕ, List, Option};
 ghost use Rattle.hum_record.specs.Row.{Row};
 ghost use Rattle.hum_frac.specs.Ratio.{Ratio};
-ghost use Rattle.hum_timebase.specs.Timebase.{Pace};
+ghost use Rattle.hum_choices.specs.Timebase.{Pace};
 ghost use Rattle.hum_places.specs.Grid.{GridByMultiples, IsOneGrid};
 
 /// Before a record with notes stands a null record for each multiple of the step from the least end

@@ -14,7 +14,7 @@ use Rattle.hum_words.specs.Pieces.{Item}
 use Rattle.hum_words.specs.Pieces as item
 use Rattle.hum_words.specs.Text.{fault_of}
 use Rattle.hum_words.specs.Writing.{IsWritten}
-use Rattle.hum_words.specs.declared.text.TextFault.{TextFault}
+use Rattle.hum_words.specs.declared.text.PlanTextFault.{PlanTextFault}
 use Rattle.hum_words.proofs.Decided.{cut_as_written, refused_as_wrong}
 use Rattle.hum_words.proofs.Ends.{with_colon}
 use Rattle.hum_stage.specs.Words.{word_of}
@@ -762,7 +762,7 @@ plan_told bytes fault h =
         by_whole (inl e) = at_end none (whole_told bytes r.0 fault (lines_there nothing r.0 (branches_of bytes) r.1) e)
         by_whole (inr s) = not_ok s.1
 
-    by_text : (found : Option TextFault) → fault_of bytes ≡ found
+    by_text : (found : Option PlanTextFault) → fault_of bytes ≡ found
         → Unless (option_map of_text found) (Then (LinesAnswer nothing (branches_of bytes)) (WholeAnswer (length (lines_of bytes)))) (Err fault)
         → BreaksFirstOf bytes fault
     by_text (Some there) e h = subst (BreaksFirstOf bytes) (sym (same h)) (unread e)

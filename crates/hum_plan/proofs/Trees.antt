@@ -15,7 +15,7 @@ use Rattle.hum_path.proofs.Cases.{by_bool}
 use Rattle.hum_stage.specs.declared.faults.Command.{Command}
 use Rattle.hum_stage.specs.declared.faults.Command.TheVariants as command
 use Rattle.hum_options.specs.Answers.{Word, is_rid}
-use Rattle.hum_rid.specs.declared.RidOptions.{RidOptions}
+use Rattle.hum_choices.specs.declared.rid.RidOptions.{RidOptions}
 use Rattle.hum_options.specs.Meant as meant
 use Rattle.hum_plan.specs.declared.branches.Branch.{Branch}
 use Rattle.hum_plan.specs.declared.commands.Opening.{Opening}

@@ -3,7 +3,7 @@ use Rattle.std.proofs.Common.{◌≡◌, ℕ, List, [], ◌∷◌, length, None,
 use Rattle.hum_words.specs.Branches.{lines_of, branches_of}
 use Rattle.hum_words.specs.Cutting.{cut_line}
 use Rattle.hum_words.specs.Text.{fault_of}
-use Rattle.hum_words.specs.declared.text.TextFault.{TextFault}
+use Rattle.hum_words.specs.declared.text.PlanTextFault.{PlanTextFault}
 use Rattle.hum_plan.specs.declared.faults.PlanError.{PlanError}
 use Rattle.hum_plan.specs.Faults.{of_text}
 use Rattle.hum_plan.specs.Stages.{Stage}
@@ -33,7 +33,7 @@ pub lines_end : (outline : Outline) (all : Lines) → all ≡ [] → LinesAnswer
 unfolding LinesAnswer
 lines_end outline all is = rw is refl
 
-pub bytes_fail : (bytes : List ℕ) (fault : TextFault) → fault_of bytes ≡ Some fault → PlanAnswer bytes (Err (of_text fault))
+pub bytes_fail : (bytes : List ℕ) (fault : PlanTextFault) → fault_of bytes ≡ Some fault → PlanAnswer bytes (Err (of_text fault))
 unfolding PlanAnswer
 bytes_fail bytes fault is = rw is refl
 

@@ -1,7 +1,7 @@
 -- Which rule was broken, and where.
 use Rattle.std.specs.Prelude.{ℕ, List, ◌++◌, codes, decimal}
-use Rattle.hum_words.specs.declared.text.TextFault.{TextFault}
-use Rattle.hum_words.specs.declared.text.TextFault.TheVariants.{TooLong, NotUtf8}
+use Rattle.hum_words.specs.declared.text.PlanTextFault.{PlanTextFault}
+use Rattle.hum_words.specs.declared.text.PlanTextFault.TheVariants.{TooLong, NotUtf8}
 use Rattle.hum_options.specs.declared.faults.OptionRule.{OptionRule}
 use Rattle.hum_options.specs.declared.faults.OptionRule.TheVariants as option
 use Rattle.hum_options.specs.declared.faults.OptionFault.{OptionFault}
@@ -48,6 +48,6 @@ abbrev pub in_line : ℕ → OptionFault → PlanFault
 in_line line found = broken line found.word (rule_of found.rule)
 
 -- a plan that is too long is broken in its first line
-abbrev pub of_text : TextFault → PlanFault
+abbrev pub of_text : PlanTextFault → PlanFault
 of_text TooLong = broken 1 0 N1
 of_text (NotUtf8 line) = broken line 0 N1

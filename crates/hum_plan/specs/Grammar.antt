@@ -14,7 +14,7 @@ use Rattle.hum_words.specs.Writing.{IsWritten}
 use Rattle.hum_stage.specs.Words.{word_of}
 use Rattle.hum_stage.specs.declared.faults.Command.{Command}
 use Rattle.hum_stage.specs.declared.faults.Command.TheVariants as command
-use Rattle.hum_rid.specs.declared.RidOptions.{RidOptions}
+use Rattle.hum_choices.specs.declared.rid.RidOptions.{RidOptions}
 use Rattle.hum_options.specs.Answers.{Word, is_rid, has_none, text_of_word}
 use Rattle.hum_options.specs.Letters.{is_letter_word, dropped}
 use Rattle.hum_options.specs.Meant as meant

@@ -8,7 +8,7 @@ use Rattle.hum_words.specs.Pieces.{Item}
 use Rattle.hum_words.specs.Pieces as item
 use Rattle.hum_words.specs.Text.{fault_of}
 use Rattle.hum_words.specs.Writing.{IsWritten, IsWrongAt}
-use Rattle.hum_words.specs.declared.text.TextFault.{TextFault}
+use Rattle.hum_words.specs.declared.text.PlanTextFault.{PlanTextFault}
 use Rattle.hum_stage.specs.Words.{word_of}
 use Rattle.hum_stage.specs.declared.faults.Command.{Command}
 use Rattle.hum_options.specs.Answers.{Word}
@@ -149,7 +149,7 @@ pub data WholeBreaks (bytes : List ℕ) : PlanFault → Type 0 where
 
 -- The rule that a text breaks first.
 pub data BreaksFirstOf (bytes : List ℕ) : PlanFault → Type 0 where
-  unread : {fault : TextFault} → fault_of bytes ≡ Some fault → BreaksFirstOf bytes (of_text fault)
+  unread : {fault : PlanTextFault} → fault_of bytes ≡ Some fault → BreaksFirstOf bytes (of_text fault)
   at_line : {fault : PlanFault} → fault_of bytes ≡ None → BreaksAtLine bytes fault
       → BreaksFirstOf bytes fault
   at_end : {fault : PlanFault} → fault_of bytes ≡ None → WholeBreaks bytes fault

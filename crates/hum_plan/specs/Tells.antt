@@ -11,7 +11,7 @@ use Rattle.hum_plan.specs.Seen.{stages_of}
 abbrev pub outline_of : Draft → Outline
 outline_of draft = record { stages = stages_of draft.stages.items; branches = draft.branches }
 
--- a fault is lawful; want of memory always may be
+-- a fault is lawful; running out of memory always may be
 abbrev pub Fails : (PlanFault → Type 0) → PlanError → Type 0
 Fails Lawful (Fault fault) = Lawful fault
 Fails Lawful Memory = Unit {0}

@@ -31,7 +31,7 @@ const MOST_SOURCES: usize = 15;
 
 /// Where a stage stands.
 #[derive(Clone, Copy)]
-pub(crate) struct Place {
+pub(crate) struct StagePlace {
     /// the number of its line
     pub(crate) line: u32,
     /// whether it is the first of its line
@@ -40,13 +40,13 @@ pub(crate) struct Place {
     pub(crate) is_last: bool,
 }
 
-impl Place {
+impl StagePlace {
     /// The place of a stage with these pieces behind its bar, if it has one.
-    fn new(line: u32, is_first: bool, is_out: bool, behind: Option<&[Piece<'_>]>) -> Place
+    fn new(line: u32, is_first: bool, is_out: bool, behind: Option<&[Piece<'_>]>) -> StagePlace
         ensures { result
             ≡ record { line = line; is_first = is_first; is_last = is_out && is_none behind.entry } }
     {
-        Place {
+        StagePlace {
             line,
             is_first,
             is_last: is_out && behind.is_none(),
@@ -209,7 +209,7 @@ impl<'a> Draft<'a> {
     fn add_command(
         &mut self,
         alloc: Global,
-        place: Place,
+        place: StagePlace,
         command: Command,
         tool: Command,
         number: u32,
@@ -237,7 +237,7 @@ impl<'a> Draft<'a> {
     fn begin(
         &mut self,
         alloc: Global,
-        place: Place,
+        place: StagePlace,
         command: Command,
         number: u32,
         pieces: &[Piece<'a>],
@@ -259,7 +259,7 @@ impl<'a> Draft<'a> {
     fn add_word(
         &mut self,
         alloc: Global,
-        place: Place,
+        place: StagePlace,
         number: u32,
         word: &str,
         pieces: &[Piece<'a>],
@@ -284,7 +284,7 @@ impl<'a> Draft<'a> {
     fn add_stage(
         &mut self,
         alloc: Global,
-        place: Place,
+        place: StagePlace,
         pieces: &[Piece<'a>],
     ) -> Result<(), PlanError>
         ensures { Tells (λ _. outline_of self.new) (StageAnswer place.line place.is_first place.is_last
@@ -313,7 +313,7 @@ impl<'a> Draft<'a> {
         let mut rest = Some(pieces);
         while let Some(stage) = rest {
             rest = behind_bar(stage);
-            let place = Place::new(line, is_first, is_out, rest);
+            let place = StagePlace::new(line, is_first, is_out, rest);
             self.add_stage(alloc, place, stage)?;
             is_first = false;
         }

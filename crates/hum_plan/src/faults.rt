@@ -5,7 +5,7 @@ ghost use Rattle.hum_plan.specs.Faults.{code_of, line_of_fault, rule_of, in_line
 ghost use Rattle.hum_plan.specs.Faults.{broken};
 
 use hum_options::{OptionFault, OptionRule};
-use hum_words::TextFault;
+use hum_words::PlanTextFault;
 use std::alloc::{AllocError, AllocFailed};
 use std::fmt;
 use thiserror::Error;
@@ -124,12 +124,12 @@ pub(crate) fn in_line(line: u32, found: OptionFault) -> PlanFault
 }
 
 /// The fault of a plan's bytes.
-pub(crate) fn of_text(fault: TextFault) -> PlanFault
+pub(crate) fn of_text(fault: PlanTextFault) -> PlanFault
     ensures { result ≡ of_text fault }
 {
     let line = match fault {
-        TextFault::TooLong => 1,
-        TextFault::NotUtf8 { line } => line,
+        PlanTextFault::TooLong => 1,
+        PlanTextFault::NotUtf8 { line } => line,
     };
     PlanFault {
         line,

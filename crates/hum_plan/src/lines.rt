@@ -13,7 +13,7 @@ ghost use Rattle.hum_plan.specs.Tells.{Tells, outline_of};
 use crate::branches::Branch;
 use crate::draft::Draft;
 use crate::faults::{PlanError, PlanFault, PlanRule, broken};
-use hum_words::{Line, LineFault, Lines, Piece, name_of, pieces};
+use hum_words::{Line, Lines, Piece, WordFault, name_of, pieces};
 use std::alloc::{AllocError, Global};
 use std::iter::Iterator;
 
@@ -137,8 +137,8 @@ impl<'a> Draft<'a> {
     {
         match pieces(alloc, line.text) {
             Ok(pieces) => self.add_branch(alloc, line.number, &pieces),
-            Err(LineFault::Quote(word)) => Err(broken(line.number, word, PlanRule::N2)),
-            Err(LineFault::Memory) => Err(PlanError::Memory),
+            Err(WordFault::Quote(word)) => Err(broken(line.number, word, PlanRule::N2)),
+            Err(WordFault::Memory) => Err(PlanError::Memory),
         }
     }
 }

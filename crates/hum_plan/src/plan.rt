@@ -172,7 +172,7 @@ pub fn parse_plan(alloc: Global, bytes: &[u8]) -> Result<Plan, PlanError>
     // By the grammar of plans the bytes are the plan of these stages, and these are a tree.
     ensures written { IfOk result (λ plan. IsPlanOf bytes.now plan) }
 
-    // If by the grammar they are a plan, then that plan is answered, or else N12 or want of memory.
+    // If by the grammar they are a plan, then that plan is answered, or else N12 or running out of memory.
     ensures only { (stages : List Stage) → IsPlanOf bytes.now stages
         → Tells (λ plan. plan) (Agrees stages) result }
     ensures tree { IfOk result (λ plan. IsTree plan) }

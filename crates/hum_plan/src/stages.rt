@@ -1,7 +1,7 @@
 //! The stages of a plan.
 ghost use Rattle.std.specs.Prelude.{◌≡◌};
 
-use hum_commands::CommandOptions;
+use hum_choices::CommandOptions;
 use hum_stage::Command;
 
 /// What a stage does.

@@ -59,7 +59,7 @@ after-lines : (given : List (List ℕ)) (rows : List Row) (all : List ℕ) (more
 after-lines given rows all more are is =
     ap (λ (ls : List (List ℕ)). denoted Unopened 0 ls (fault_of standard all)) is ∙ are more (fault_of standard all)
 
--- The records that were given are a front of those that the bytes denote.
+-- The records that were given are a prefix of those that the bytes denote.
 pub given-rows : {R : Type 0} (v : Scores R) (all : List ℕ) (rows : List Row) (rest : List ℕ)
     → HasRead v all rows rest
     → (more : List (List ℕ))
@@ -183,7 +183,7 @@ denoted-follow path n (line ∷ ls) broken =
 pub score-of : (all : List ℕ) → IsScore (score_of all).rows
 score-of all = denoted-follow Unopened 0 (up_to (fault_of standard all) (lines all)) (fault_of standard all)
 
--- The records that were given are a front of those that the bytes denote.
+-- The records that were given are a prefix of those that the bytes denote.
 pub front-rows : {R : Type 0} (v : Scores R) (all : List ℕ) (rows : List Row) (rest : List ℕ)
     → HasRead v all rows rest → (more : List Row) × ((score_of all).rows ≡ rows ++ more)
 front-rows v all rows rest h =

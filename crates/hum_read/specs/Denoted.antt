@@ -23,7 +23,7 @@ pub record Score : Type 0 where
   pub rows : List Row
   pub fault : Option (ℕ × Rule)
 
--- the rule that a text breaks; a failed read and want of memory break none
+-- the rule that a text breaks; a failed read and running out of memory break none
 abbrev pub text_rule : TextFault → Option Rule
 text_rule text.S1 = Some rule.S1
 text_rule text.S2 = Some rule.S2

@@ -54,7 +54,7 @@ fn pass(paths: &mut Paths, row: &Record) -> Result<(), PathFault>
     ensures after { OnOk result (paths.new.path ≡ after paths.old.path row.now) }
     ensures refused { IfErr result (λ fault. Refuses fault (fault_of paths.old.path row.now)) }
 {
-    if paths.goes_on(row) {
+    if paths.keeps_spines(row) {
         return Ok(());
     }
     step_past(paths, row)
@@ -192,7 +192,7 @@ impl<R: Source> ScoreReader<R> {
         self.stopped = Some(Ok(end));
     }
 
-    /// Why nothing more comes, once it has stopped: the end, or a failed read or want of memory.
+    /// Why nothing more comes, once it has stopped: the end, or a failed read or running out of memory.
     #[inline]
     pub fn stopped(&self) -> Option<Result<End, ReadError>>
         ensures { result ≡ self.now.stopped }

@@ -191,23 +191,23 @@ front_of_front (suc k) (suc m) [] h = refl
 front_of_front (suc k) (suc m) (z ∷ zs) h = ap (λ (ys : List ℕ). z ∷ ys) (front_of_front k m zs (omega arith))
 
 -- the bits of the first bytes are the low ones of those of more bytes
-pub mask_front : (p : ℕ → Bool) (xs : List ℕ) (n bits : ℕ) → n ≤ 64 → 64 ≤ length xs → bits ≡ mask_l (map p (chunk 0 64 xs))
+pub mask_front : (p : ℕ → Bool) (xs : List ℕ) (w n bits : ℕ) → n ≤ w → w ≤ length xs → bits ≡ mask_l (map p (chunk 0 w xs))
     → bit_and bits (2 ^ n - 1) ≡ mask_l (map p (take n xs))
-mask_front p xs n bits few room is =
-    let ys = take 64 xs in
+mask_front p xs w n bits few room is =
+    let ys = take w xs in
     let mask : List ℕ → ℕ = λ zs. mask_l (map p zs) in
-    let size : length ys ≡ 64 = take_count 64 xs room in
+    let size : length ys ≡ w = take_count w xs room in
     let two : mask ys ≡ mask (take n ys) + mask (drop n ys) * 2 ^ n = in_two_by p ys n (omega (arith, size, few)) in
     let below : mask (take n ys) < 2 ^ n =
     subst (λ k. mask (take n ys) < 2 ^ k) (take_count n ys (omega (arith, size, few))) (mask_below p (take n ys)) in
     and_mask bits n ∙ ap (λ m. m % 2 ^ n) (is ∙ two)
     ∙ add-mul-mod_self_right (mask (take n ys)) (mask (drop n ys)) (2 ^ n)
     ∙ mod-eq_of_lt below
-    ∙ ap mask (front_of_front n 64 xs few)
+    ∙ ap mask (front_of_front n w xs few)
 
-pub bits_front : (b : ℕ) (xs : List ℕ) (n bits : ℕ) → n ≤ 64 → 64 ≤ length xs → bits ≡ bits_of b (chunk 0 64 xs)
+pub bits_front : (b : ℕ) (xs : List ℕ) (w n bits : ℕ) → n ≤ w → w ≤ length xs → bits ≡ bits_of b (chunk 0 w xs)
     → bit_and bits (2 ^ n - 1) ≡ bits_of b (take n xs)
-bits_front b xs n bits few room is = mask_front (λ x. x == b) xs n bits few room is
+bits_front b xs w n bits few room is = mask_front (λ x. x == b) xs w n bits few room is
 
 pub one_moved : (n : ℕ) → n ≤ 62 → 1 * 2 ^ n % 18446744073709551616 ≡ 2 ^ n
 one_moved n few =

@@ -141,13 +141,18 @@ tab_behind (x ∷ xs) =
     by : (c t p q : ℕ) → q ≡ p + p → (c + 2 * t) + q ≡ c + 2 * (t + p)
     by c t p q e = omega (arith, e)
 
--- the same from the bits of more bytes
-pub ends_at : (held : List ℕ) (len bits : ℕ) → len ≤ 62 → 64 ≤ length held → bits ≡ bits_of 9 (chunk 0 64 held)
-    → bit_and bits (1 * 2 ^ len % 18446744073709551616 - 1) + 1 * 2 ^ len % 18446744073709551616 ≡ bits_of 9 (take len held ++ 9 ∷ [])
-ends_at held len bits short filled is =
+-- the tabs of a line from the bits of more bytes
+pub tabs_at : (held : List ℕ) (w len bits : ℕ) → len ≤ w → len ≤ 62 → w ≤ length held → bits ≡ bits_of 9 (chunk 0 w held)
+    → bit_and bits (1 * 2 ^ len % 18446744073709551616 - 1) ≡ bits_of 9 (take len held)
+tabs_at held w len bits few short filled is = rw (one_moved len short) (bits_front 9 held w len bits few filled is)
+
+-- and where its tokens end
+pub ends_at : (held : List ℕ) (len tabs : ℕ) → len ≤ 62 → 64 ≤ length held → tabs ≡ bits_of 9 (take len held)
+    → tabs + 1 * 2 ^ len % 18446744073709551616 ≡ bits_of 9 (take len held ++ 9 ∷ [])
+ends_at held len tabs short filled is =
     let text = take len held in
     let size : length text ≡ len = take_count len held (omega (arith, short, filled)) in
-    rw (one_moved len short) (ap (λ n. n + 2 ^ len) (bits_front 9 held len bits (omega (arith, short)) filled is)
+    rw (one_moved len short) (ap (λ n. n + 2 ^ len) is
     ∙ ap (λ n. bits_of 9 text + 2 ^ n) (sym size) ∙ tab_behind text)
 
 pub ends_few : (held : List ℕ) (len : ℕ) → len ≤ 62 → 64 ≤ length held → bits_of 9 (take len held ++ 9 ∷ []) < 9223372036854775808
@@ -160,9 +165,9 @@ ends_few held len short filled =
 
 -- Bytes that seldom stand in data
 
-pub rare_at : (held : List ℕ) (len bits : ℕ) → len ≤ 62 → 64 ≤ length held → bits ≡ mask_l (map is_rare (chunk 0 64 held))
+pub rare_at : (held : List ℕ) (w len bits : ℕ) → len ≤ w → len ≤ 62 → w ≤ length held → bits ≡ mask_l (map is_rare (chunk 0 w held))
     → bit_and bits (1 * 2 ^ len % 18446744073709551616 - 1) ≡ mask_l (map is_rare (take len held))
-rare_at held len bits short filled is = rw (one_moved len short) (mask_front is_rare held len bits (omega (arith, short)) filled is)
+rare_at held w len bits few short filled is = rw (one_moved len short) (mask_front is_rare held w len bits few filled is)
 
 abbrev pub hit : ℕ → ℕ → ℕ
 hit a b = cond (eqb a b) 255 0

@@ -4,7 +4,7 @@ use Rattle.std.proofs.lemmas.Bool.{false≢true}
 use Rattle.hum_record.specs.declared.SpinedKind.{SpinedKind}
 use Rattle.hum_record.specs.Building.{Draft}
 use Rattle.hum_record.proofs.Drafts.{spelled_front}
-use Rattle.hum_record.specs.Making.{Holds}
+use Rattle.hum_record.specs.RecordDraft.{Holds}
 
 pub stays_long : (kind : SpinedKind) (draft : Draft) (long : Bool) (tokens : List (List ℕ)) (token : List ℕ) → long ≡ true
     → Holds kind draft long tokens → Holds kind draft long (tokens ++ token ∷ [])

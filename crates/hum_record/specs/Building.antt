@@ -51,6 +51,6 @@ abbrev pub ends_in : {Z : Type 0} → Option (Box Written Z) → List ℕ
 ends_in None = []
 ends_in (Some body) = body.value.ends
 
--- nothing is known after want of memory
+-- nothing is known after running out of memory
 abbrev pub IsDraftUnless : Bool → SpinedKind → List ℕ → List ℕ → Type 0
 IsDraftUnless spent kind text ends = spent ≡ false → IsDraft kind text ends

@@ -6,6 +6,6 @@ pub mod Lines
 pub mod Cutting
 pub mod Plain
 pub mod Building
-pub mod Making
+pub mod RecordDraft
 pub mod Selecting
 pub mod Contents

@@ -91,7 +91,7 @@ reading text =
     else if is_comment text then Ok (Comment text)
     else spined (kind_of_tokens (parts text)) (parts text)
 
--- What a text breaks that is refused by a code; L1 and want of memory speak of no text.
+-- What a text breaks that is refused by a code; L1 and running out of memory speak of no text.
 abbrev pub Breaks : RecordFault → List ℕ → Type 0
 Breaks S8 text = IsTrue (has_byte 13 text)
 Breaks S4 text = IsTrue (list_any is_empty (parts text))
@@ -100,7 +100,7 @@ Breaks S6 text = (kind_of_first (parts text) ≡ Local) × IsTrue (list_any is_c
 Breaks L1 text = ⊥
 Breaks Memory text = ⊥
 
--- The fault, if it isn't want of memory, is what reading gives.
+-- The fault, if it isn't running out of memory, is what reading gives.
 abbrev pub Fails : {A : Type 0} → RecordFault → Result A RecordFault → Type 0
 Fails Memory read = Unit {0}
 Fails fault read = read ≡ Err fault

@@ -28,6 +28,17 @@ fn bits_of_16(text: &[u8], at: usize, byte: u8) -> u64
         .to_bitmask()
 }
 
+/// The same in thirty-two.
+#[inline(always)]
+pub fn bits_of_32(text: &[u8], at: usize, byte: u8) -> u64
+    requires { at + 32 ≤ length text.now }
+    ensures { result ≡ bits_of byte (chunk at 32 text.now) }
+{
+    u8x32::from_slice(&text[at..])
+        .simd_eq(u8x32::splat(byte))
+        .to_bitmask()
+}
+
 /// The same in sixty-four.
 #[inline(always)]
 pub fn bits_of_64(text: &[u8], at: usize, byte: u8) -> u64

@@ -7,7 +7,7 @@
 //! syntax (<https://www.humdrum.org/guide/ch05/>).
 //!
 //! [`Record::parse_into`] reads a line, and [`Record::retain`] leaves some of its tokens alone;
-//! [`RecordBuilder`] makes a record token by token; [`Making`] does so where it may grow too long.
+//! [`RecordBuilder`] makes a record token by token; [`RecordDraft`] does so where it may grow too long.
 #![tactic(auto)]
 
 ghost use Rattle.std.specs.Prelude.{◌≡◌};
@@ -21,10 +21,10 @@ mod contents;
 pub mod iter;
 mod leaving;
 mod line;
-mod making;
 mod near;
 mod putting;
 mod reading;
+mod record_draft;
 mod selection;
 mod spare;
 mod tokens;
@@ -32,8 +32,8 @@ mod tokens;
 pub use building::RecordBuilder;
 pub use contents::{is_barline, is_data, is_filled, is_null};
 pub use line::RecordLine;
-pub use making::Making;
 pub use reading::Record;
+pub use record_draft::RecordDraft;
 pub use selection::Selection;
 pub use spare::Spare;
 use std::alloc::{AllocError, AllocFailed};

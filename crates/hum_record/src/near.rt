@@ -1,10 +1,10 @@
 //! Short lines of plain data, all of whose bytes are looked at in one go.
 ghost use Rattle.std.specs.Prelude.{◌≡◌, ◌≤◌, length, map, take, IfSome};
 ghost use Rattle.std.specs.Simd.Lanes.{chunk, mask_l, put_chunk};
-ghost use Rattle.hum_record.specs.Cutting.{set_places};
+ghost use Rattle.hum_record.specs.Cutting.{bits_of, set_places};
 ghost use Rattle.hum_record.specs.Plain.{is_rare, IsPlain};
 
-use crate::bits::bits_of_64;
+use crate::bits::{bits_of_32, bits_of_64};
 use std::simd::prelude::*;
 
 /// How many bytes are looked at at once.
@@ -14,12 +14,27 @@ pub const NEAR: usize = 64;
 /// number.
 pub const SHORT: usize = 62;
 
+/// In a shorter line half as many bytes are looked at.
+const SHORTER: usize = 32;
+
 /// How many places are copied at once: most lines have fewer tokens.
 pub const FEW: usize = 8;
 
-/// Where a byte that seldom stands in data is among the first 64, as the bits of a number.
+/// Where a byte that seldom stands in data is among the first 32, as the bits of a number.
 #[inline(always)]
-fn rare_bits(held: &[u8]) -> u64
+fn rare_bits_32(held: &[u8]) -> u64
+    requires { 32 ≤ length held.now }
+    ensures { result ≡ mask_l (map is_rare (chunk 0 32 held.now)) }
+{
+    let lanes = u8x32::from_slice(&held[0..]);
+    (lanes.simd_eq(u8x32::splat(b'!'))
+        | lanes.simd_eq(u8x32::splat(b'*'))
+        | lanes.simd_eq(u8x32::splat(b'\r'))).to_bitmask()
+}
+
+/// The same among the first 64.
+#[inline(always)]
+fn rare_bits_64(held: &[u8]) -> u64
     requires { 64 ≤ length held.now }
     ensures { result ≡ mask_l (map is_rare (chunk 0 64 held.now)) }
 {
@@ -27,6 +42,24 @@ fn rare_bits(held: &[u8]) -> u64
     (lanes.simd_eq(u8x64::splat(b'!'))
         | lanes.simd_eq(u8x64::splat(b'*'))
         | lanes.simd_eq(u8x64::splat(b'\r'))).to_bitmask()
+}
+
+/// Where the tabs of a line stand, and where its bytes that are seldom in data, as the bits of two
+/// numbers. The line is the first `len` bytes of what is held.
+#[inline(always)]
+fn marks(held: &[u8], len: usize) -> (u64, u64)
+    requires filled { 64 ≤ length held.now }
+    requires short { len ≤ 62 }
+    ensures tabs { result.0 ≡ bits_of 9 (take len held.now) }
+    ensures rare { result.1 ≡ mask_l (map is_rare (take len held.now)) }
+{
+    let within = (1u64 << len) - 1;
+    if len < SHORTER {
+        let tabs = bits_of_32(held, 0, b'\t');
+        return (tabs & within, rare_bits_32(held) & within);
+    }
+    let tabs = bits_of_64(held, 0, b'\t');
+    (tabs & within, rare_bits_64(held) & within)
 }
 
 /// Where the tokens of a line end, as the bits of a number, if its bytes show that it is plain data.
@@ -37,12 +70,11 @@ pub fn plain_ends(held: &[u8], len: usize) -> Option<u64>
     requires short { len ≤ 62 }
     ensures { IfSome result (IsPlain (take len held.now)) }
 {
-    let last = 1u64 << len;
-    let within = last - 1;
-    let ends = (bits_of_64(held, 0, b'\t') & within) + last;
+    let (tabs, rare) = marks(held, len);
+    let ends = tabs + (1u64 << len);
     let heads = 1 + 2 * ends;
     let has_empty = heads & ends != 0;
-    let has_rare = rare_bits(held) & within != 0;
+    let has_rare = rare != 0;
     if has_empty | has_rare {
         return None;
     }

@@ -177,7 +177,7 @@ impl Record {
     /// The same in what is left of a record that is done with. Nothing of that record shows.
     ///
     /// # Errors
-    /// Want of memory.
+    /// Out of memory.
     pub fn copy_into(&self, alloc: Global, spare: &mut Spare) -> Result<Record, AllocError>
         ensures { IfOk result (λ r. r ≡ self.now) }
     {

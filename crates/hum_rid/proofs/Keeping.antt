@@ -20,7 +20,7 @@ use Rattle.hum_stage.specs.Score.{through, Follow}
 use Rattle.hum_stage.specs.Meaning.{KeepsScore}
 use Rattle.hum_stage.specs.Decided.{decisions, limit, Keeps}
 use Rattle.hum_stage.proofs.Keeping.{at_once_keeps}
-use Rattle.hum_rid.specs.declared.RidOptions.{RidOptions}
+use Rattle.hum_choices.specs.declared.rid.RidOptions.{RidOptions}
 use Rattle.hum_rid.specs.Rid.{rid, drops}
 
 stars_plain : (tokens : List (List ℕ)) → list_all (bytes_eq (codes "*")) tokens ≡ true → all_plain tokens ≡ true

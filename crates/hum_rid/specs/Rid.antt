@@ -10,7 +10,7 @@ use Rattle.hum_path.specs.Sign.{all_plain}
 use Rattle.hum_stage.specs.declared.faults.Command.TheVariants.{Rid}
 use Rattle.hum_stage.specs.Meaning.{Meaning}
 use Rattle.hum_stage.specs.Decided.{Decision, at_once}
-use Rattle.hum_rid.specs.declared.RidOptions.{RidOptions}
+use Rattle.hum_choices.specs.declared.rid.RidOptions.{RidOptions}
 
 -- each of a record's tokens is this one
 abbrev pub all_are : List ℕ → List (List ℕ) → Bool

@@ -7,7 +7,7 @@ ghost use Rattle.hum_stage.specs.Standing.{Standing};
 use crate::MOST_RECORDS;
 use crate::contract::Stage;
 use crate::deciding::Decides;
-use crate::due::Due;
+use crate::due::DueRecords;
 use crate::faults::{Command, End, Fault, Readiness, Refusal, Rule, State, resting};
 use hum_record::Record;
 use std::alloc::{AllocError, Global};

@@ -2,7 +2,7 @@
 //!
 //! A state stands for a moment: the meaning of its command, the records put so far, how many
 //! of what is settled were given, and the end once it came. Each call is one step from moment to
-//! moment, so whatever calls were made, what a stage has given is a front of what its command makes
+//! moment, so whatever calls were made, what a stage has given is a prefix of what its command makes
 //! of its whole input, and it is all of it once the stage is done.
 ghost use Rattle.std.specs.Prelude.{◌≡◌, ℕ, ◌≤◌, ◌⊎◌, length, IfOk, OnOk, OnErr, IsErr};
 ghost use Rattle.hum_stage.specs.Meaning.{Moment, IsLawful, MayPut, MayEnd, all_of};
@@ -15,7 +15,7 @@ use std::alloc::AllocError;
 
 /// A command over a stream of records.
 ///
-/// After want of memory a stage is spent: each later call that takes memory answers it again.
+/// After running out of memory a stage is spent: each later call that takes memory answers it again.
 pub trait Stage {
     /// What a state stands for.
     ghost stands: { Self → Moment → Type 0 };

@@ -7,7 +7,7 @@ ghost use Rattle.hum_stage.specs.Meaning.{KeepsScore};
 ghost use Rattle.hum_stage.specs.Decided.{Decision, at_once, MayStep, HasStepped};
 ghost use Rattle.hum_stage.specs.Refusals.{IfTold};
 
-use crate::due::Due;
+use crate::due::DueRecords;
 use crate::faults::{Command, Refusal};
 use hum_record::Record;
 use std::alloc::Global;
@@ -18,7 +18,7 @@ pub trait Decides {
     type Options;
 
     /// How the records are held that a record becomes.
-    type Due: Due;
+    type Due: DueRecords;
 
     /// Which command it is.
     ghost command: { Command };

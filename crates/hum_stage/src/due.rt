@@ -14,7 +14,7 @@ use std::marker::Model;
 /// A list of them is one way to hold them. A command that gives at most one record for each that it
 /// takes needs none, nor does one that gives two at the most ([`UpToTwo`]), and one that gives many
 /// alike may count them.
-pub trait Due: Drop {
+pub trait DueRecords: Drop {
     /// The records.
     ghost rows: { Self → List Row };
 
@@ -46,7 +46,7 @@ pub trait Due: Drop {
     }
 }
 
-impl Due for VecDeque<Record> {
+impl DueRecords for VecDeque<Record> {
     ghost rows = { λ s. s.items };
 
     fn none(alloc: Global) -> Self {
@@ -70,7 +70,7 @@ impl Due for VecDeque<Record> {
     }
 }
 
-impl Due for Option<Record> {
+impl DueRecords for Option<Record> {
     ghost rows = { option_to_list };
 
     fn none(_alloc: Global) -> Self {
@@ -130,7 +130,7 @@ impl UpToTwo {
     }
 }
 
-impl Due for UpToTwo {
+impl DueRecords for UpToTwo {
     ghost rows = { λ s. s };
 
     fn none(_alloc: Global) -> Self {

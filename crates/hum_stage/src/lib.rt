@@ -3,7 +3,7 @@
 //!
 //! - [`Stage`] is the contract.
 //! - [`Decides`] is a command that decides each record at once, and [`AtOnce`] the stage round it;
-//!   [`Due`] is what holds the records that it is to give.
+//!   [`DueRecords`] is what holds the records that it is to give.
 //! - [`LooksAhead`] is a command that decides a record by some of those behind it, and [`Lagging`] the
 //!   stage round it.
 //! - [`whole`] runs a list through a stage.
@@ -25,7 +25,7 @@ pub const MOST_RECORDS: u64 = 4_294_967_295;
 pub use at_once::AtOnce;
 pub use contract::Stage;
 pub use deciding::Decides;
-pub use due::{Due, UpToTwo};
+pub use due::{DueRecords, UpToTwo};
 pub use faults::{Command, End, Fault, Readiness, Refusal, Rule, State};
 pub use lagging::Lagging;
 pub use looks_ahead::{LooksAhead, Verdict};

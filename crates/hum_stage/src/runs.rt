@@ -25,7 +25,7 @@ pub fn drain<S: Stage>(stage: &mut S, out: &mut Vec<Record>) -> Result<(), Alloc
 /// command makes of the list, and how that ends.
 ///
 /// # Errors
-/// Want of memory.
+/// Out of memory.
 pub fn whole<S: Stage + Drop>(
     alloc: Global,
     mut stage: S,

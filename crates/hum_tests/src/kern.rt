@@ -2,7 +2,7 @@
 use crate::compared::same;
 use hum_frac::Frac;
 use hum_kern::{
-    KernFault, Length, leading_part, read_duration, read_leading, read_note, read_recip,
+    KernFault, Length, leading_duration, read_duration, read_leading, read_note, read_recip,
 };
 use std::process::Abort;
 
@@ -105,7 +105,7 @@ fn leading_parts(rt: HostRuntime) {
             Ok(found) if tells => found.value,
             _ => None,
         };
-        same(&rt, leading_part(token), want, token);
+        same(&rt, leading_duration(token), want, token);
     }
 }
 

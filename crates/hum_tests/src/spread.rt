@@ -2,7 +2,7 @@
 ghost use Rattle.hum_columns.specs.Writing.{Fit};
 
 use crate::compared::{holds, same, same_bytes};
-use hum_columns::{Piece, write_pieces};
+use hum_columns::{JoinedToken, write_pieces};
 use hum_record::Record;
 use hum_stage::{Refusal, Rule};
 use std::alloc::Global;
@@ -13,7 +13,7 @@ use std::process::Abort;
 fn check(
     rt: &impl Abort,
     alloc: Global,
-    pieces: &[Piece],
+    pieces: &[JoinedToken],
     room: u64,
     want: (Result<(), Refusal>, &[u8]),
 )
@@ -34,19 +34,19 @@ fn check(
 fn writes_neighbouring_joins_one_after_another(rt: HostRuntime) {
     let alloc = rt.alloc();
     let apart = [
-        Piece::new(true, b"*v"),
-        Piece::new(false, b"*v"),
-        Piece::new(false, b"*"),
-        Piece::new(true, b"*v"),
-        Piece::new(false, b"*v"),
+        JoinedToken::new(true, b"*v"),
+        JoinedToken::new(false, b"*v"),
+        JoinedToken::new(false, b"*"),
+        JoinedToken::new(true, b"*v"),
+        JoinedToken::new(false, b"*v"),
     ];
     check(&rt, alloc, &apart, 1, (Ok(()), b"*v\t*v\t*\t*v\t*v\n"));
     let beside = [
-        Piece::new(true, b"*v"),
-        Piece::new(false, b"*v"),
-        Piece::new(true, b"*v"),
-        Piece::new(false, b"*v"),
-        Piece::new(false, b"*^"),
+        JoinedToken::new(true, b"*v"),
+        JoinedToken::new(false, b"*v"),
+        JoinedToken::new(true, b"*v"),
+        JoinedToken::new(false, b"*v"),
+        JoinedToken::new(false, b"*^"),
     ];
     let texts = b"*v\t*v\t*\t*\t*\n*\t*v\t*v\t*^\n";
     check(&rt, alloc, &beside, 2, (Ok(()), texts));
@@ -57,7 +57,7 @@ fn writes_neighbouring_joins_one_after_another(rt: HostRuntime) {
 
 #[test]
 fn a_piece_is_a_token(rt: HostRuntime) {
-    let piece = Piece::new(true, b"*v");
+    let piece = JoinedToken::new(true, b"*v");
     holds(&rt, piece.begins(), "a join begins");
     same_bytes(&rt, piece.token(), b"*v", "a token");
 }

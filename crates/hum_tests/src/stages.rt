@@ -5,7 +5,7 @@ ghost use Rattle.hum_stage.specs.Meaning.{Meaning, Moment, opening, given_to, al
 
 use crate::compared::{holds, same};
 use crate::scores::{Lines, check_lines, score};
-use hum_command_stages::CommandStage;
+use hum_commands::CommandStage;
 use hum_plan::{Options, parse_plan};
 use hum_record::Record;
 use hum_stage::{End, Stage, State, drain, whole};

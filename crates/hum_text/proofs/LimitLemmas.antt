@@ -124,7 +124,7 @@ without-one : (p : List ℕ) → length p ≤ length (without_cr p) + 1
 without-one p = elim (cases_Bool (ends_in_cr p)) as (λ _. length p ≤ length (without_cr p) + 1)
     [ inl is ↦ rw is (omega (arith, length-take (length p - 1) p)) | inr isnt ↦ rw isnt (omega arith) ]
 
--- a front of it isn't longer
+-- a prefix of it isn't longer
 without-front : (k : ℕ) (p : List ℕ) → k < length p → length (without_cr (take (k + 1) p)) ≤ length (without_cr p)
 without-front k p h = elim (cases_lt (k + 1) (length p)) as (λ _. length (without_cr (take (k + 1) p)) ≤ length (without_cr p)) [
   | inl below ↦

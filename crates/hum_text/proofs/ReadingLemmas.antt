@@ -109,7 +109,7 @@ module _ (l : Limits) (all : List ℕ) (gs : List (List ℕ)) (block rest : List
       let S : List ℕ → Type 0 = λ zs. Stands l all gs zs n t in
       step-end l all gs n t (subst S at st)
 
--- What was given is a front of the lines of all.
+-- What was given is a prefix of the lines of all.
 pub given-front : {R : Type 0} (v : Reader R) (all : List ℕ) (given : List (List ℕ)) (rest : List ℕ)
     → Holds v all given rest
     → (more : List (List ℕ)) × (lines all ≡ given ++ more)

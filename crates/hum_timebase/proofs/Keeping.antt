@@ -31,7 +31,8 @@ use Rattle.hum_record.specs.Contents.{is_null}
 use Rattle.hum_timebase.specs.Notes.{timed_in, is_barline_record, notes_of, has_misread}
 use Rattle.hum_timebase.specs.Ends.{latest, next_end, living_before}
 use Rattle.hum_timebase.specs.Clock.{Clock, clock_after, time_after}
-use Rattle.hum_timebase.specs.Timebase.{Pace, timebase, data_rows, timed_rows, on_grid, around, null_row}
+use Rattle.hum_choices.specs.Timebase.{Pace}
+use Rattle.hum_timebase.specs.Timebase.{timebase, data_rows, timed_rows, on_grid, around, null_row}
 use Rattle.hum_timebase.specs.Timebase.{clashes, is_too_long, living_at, names_some, tb_token, tb_row}
 use Rattle.hum_timebase.specs.Timebase.{interpretation_rows}
 use Rattle.hum_timebase.proofs.Writing.{some_named}

@@ -19,7 +19,8 @@ use Rattle.hum_stage.specs.Decided.{Decision, in_room, Steps}
 use Rattle.hum_timebase.specs.Notes.{timed_in, timed_at, notes_of, has_misread, is_sounding}
 use Rattle.hum_timebase.specs.Ends.{latest, next_end, living_before}
 use Rattle.hum_timebase.specs.Clock.{Clock, clock_after, time_after}
-use Rattle.hum_timebase.specs.Timebase.{Pace, data_rows, timed_rows, on_grid, around, null_row, clashes}
+use Rattle.hum_choices.specs.Timebase.{Pace}
+use Rattle.hum_timebase.specs.Timebase.{data_rows, timed_rows, on_grid, around, null_row, clashes}
 use Rattle.hum_timebase.specs.Timebase.{is_too_long, count_before, count_after, living_at, names_some, tb_row}
 use Rattle.hum_timebase.specs.Kept.{Kept, kept_of, rested, led, struck, ends_before, ends_at, ends_after, strike, strike_in, rows_of, sounding_rows}
 use Rattle.hum_timebase.specs.Following.{Follows, Answers, IsAbout}

@@ -5,15 +5,11 @@ use Rattle.hum_path.specs.Spines.{Path}
 use Rattle.hum_path.specs.Score.{path_after}
 use Rattle.hum_stage.specs.declared.faults.Rule.{Rule}
 use Rattle.hum_stage.specs.Decided.{Decision, in_room}
-use Rattle.hum_timebase.specs.declared.options.TimebaseOptions.{TimebaseOptions}
 use Rattle.hum_timebase.specs.Notes.{timed_in}
 use Rattle.hum_timebase.specs.Clock.{clock_after}
-use Rattle.hum_timebase.specs.Timebase.{Pace, timebase, null_row}
+use Rattle.hum_choices.specs.Timebase.{Pace}
+use Rattle.hum_timebase.specs.Timebase.{timebase, null_row}
 use Rattle.hum_timebase.specs.Kept.{Kept, kept_of}
-
--- what the options say
-abbrev pub pace_of : TimebaseOptions → Pace
-pace_of options = record { step = options.step; text = options.text.items }
 
 -- It decides as the command does, has followed the spines, and keeps the ends of what lives there.
 pub record Follows (pace : Pace) (path : Path) (timed : List Bool) (kept : Kept)

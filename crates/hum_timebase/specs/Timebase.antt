@@ -15,16 +15,12 @@ use Rattle.hum_stage.specs.declared.faults.Rule.TheVariants.{K3, B1, B2, F1}
 use Rattle.hum_stage.specs.declared.faults.Command.TheVariants.{Timebase}
 use Rattle.hum_stage.specs.Meaning.{Meaning}
 use Rattle.hum_stage.specs.Decided.{Decision, at_once}
+use Rattle.hum_choices.specs.Timebase.{Pace}
 use Rattle.hum_timebase.specs.Pairs.{paired}
 use Rattle.hum_record.specs.Contents.{is_null}
 use Rattle.hum_timebase.specs.Notes.{timed_in, is_barline_record, notes_of, has_misread}
 use Rattle.hum_timebase.specs.Ends.{Note, latest, next_end, living_before, living_after}
 use Rattle.hum_timebase.specs.Clock.{Clock, clock_after, time_after}
-
--- the duration from one record to the next, and how it is written
-pub record Pace : Type 0 where
-  pub step : Ratio
-  pub text : List ℕ
 
 -- a note at some time in a column whose end is after that
 abbrev pub clash : Ratio → Option Ratio → Option Ratio → Bool

@@ -9,7 +9,7 @@ ghost use Rattle.hum_timebase.specs.Timebase.{around, null_row};
 
 use crate::records::null_record;
 use hum_record::{Record, Spare};
-use hum_stage::Due;
+use hum_stage::DueRecords;
 use std::alloc::{AllocError, Global};
 use std::marker::Model;
 
@@ -150,7 +150,7 @@ impl Around {
     }
 }
 
-impl Due for Around {
+impl DueRecords for Around {
     ghost rows = { λ s. s };
 
     fn none(alloc: Global) -> Self {

@@ -13,13 +13,12 @@ mod due;
 mod ends;
 mod grid;
 mod notes;
-mod options;
 mod pace;
 mod records;
 
 pub use grid::Grid;
+pub use hum_choices::TimebaseOptions;
 use hum_stage::AtOnce;
-pub use options::TimebaseOptions;
 
 /// The command timebase, as a stage.
 ///

@@ -16,7 +16,7 @@ ghost use Rattle.hum_timebase.specs.Reading.{content_of, rest_parts, is_part, Re
 ghost use Rattle.hum_timebase.specs.Reading.{IsNote};
 
 use hum_frac::Frac;
-use hum_kern::{KernFault, Length, leading_part, read_duration, read_leading};
+use hum_kern::{KernFault, Length, leading_duration, read_duration, read_leading};
 use hum_path::{Marks, Paths, token_sign};
 use hum_record::{Record, is_barline, is_null};
 use std::alloc::{AllocError, Global};
@@ -186,7 +186,7 @@ fn plain_note(timed: bool, token: &[u8]) -> Option<Frac>
     ensures which { is_some result ≡ (timed && leads_shortly token.now) }
     ensures note { IfSome result (IsNote timed token.now) }
 {
-    if timed { leading_part(token) } else { None }
+    if timed { leading_duration(token) } else { None }
 }
 
 /// The note of any data token.

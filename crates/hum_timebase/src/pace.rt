@@ -4,7 +4,7 @@ ghost use lib.Chars.{codes};
 ghost use Rattle.hum_record.specs.declared.SpinedKind.TheVariants.{Interpretation};
 ghost use Rattle.hum_record.specs.Spelling.{IsToken};
 
-use crate::TimebaseOptions;
+use hum_choices::TimebaseOptions;
 use hum_frac::Frac;
 use std::alloc::{AllocError, Global};
 use std::marker::Model;
@@ -17,7 +17,7 @@ pub(crate) struct Pace {
 }
 
 impl Model for Pace {
-    ghost use Rattle.hum_timebase.specs.Timebase.{Pace};
+    ghost use Rattle.hum_choices.specs.Timebase.{Pace};
     ghost use Rattle.hum_timebase.specs.Writing.{IsPace};
 
     ghost Value = { Pace };

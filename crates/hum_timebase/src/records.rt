@@ -72,7 +72,7 @@ fn tb_token<'a>(named: &'a [u8], token: &[u8]) -> &'a [u8]
 /// The record that follows one with exclusive interpretations.
 ///
 /// # Errors
-/// Want of memory.
+/// Out of memory.
 pub(crate) fn tb_record(alloc: Global, pace: &Pace, row: &Record) -> Result<Record, AllocError>
     requires named { names_some (tokens_of row.now) ≡ true }
     requires few { length (tokens_of row.now) ≤ 4096 }

@@ -6,8 +6,8 @@ use lib.Chars.{codes}
 use Rattle.hum_pitch.specs.Pitch.{natural}
 use Rattle.hum_stage.specs.declared.faults.Rule.{Rule}
 use Rattle.hum_stage.specs.declared.faults.Rule.TheVariants.{K1, K2, K3}
-use Rattle.hum_tones.specs.declared.giving.Giving.TheVariants.{Semitones, Durations}
-use Rattle.hum_tones.specs.Giving.{given}
+use Rattle.hum_tones.specs.declared.part_rule.PartRule.TheVariants.{Semitones, Durations}
+use Rattle.hum_tones.specs.PartRule.{given}
 
 abbrev recip : List ℕ → Result (List ℕ) Rule
 recip = given Durations

@@ -21,12 +21,12 @@ use Rattle.hum_kern.specs.Duration.{duration}
 use Rattle.hum_kern.specs.Note.{Reading, note, notation_of, is_rest, alteration_of, pitch_of}
 use Rattle.hum_kern.proofs.Found.{found_in}
 use Rattle.hum_stage.specs.declared.faults.Rule.{Rule}
-use Rattle.hum_tones.specs.declared.giving.Giving.{Giving}
-use Rattle.hum_tones.specs.declared.giving.Giving.TheVariants.{Semitones, Durations, Transposed}
-use Rattle.hum_tones.specs.Subtokens.{with_first, given_by, joined, if_given, retold, subtokens}
+use Rattle.hum_tones.specs.declared.part_rule.PartRule.{PartRule}
+use Rattle.hum_tones.specs.declared.part_rule.PartRule.TheVariants.{Semitones, Durations, Transposed}
+use Rattle.hum_tones.specs.Subtokens.{with_first, given_by, joined, if_given, rewritten, subtokens}
 use Rattle.hum_tones.specs.Semits.{of_pitch, of_reading, by_reading, semits_of}
 use Rattle.hum_tones.specs.Recip.{written, rest_sign, by_value, by_length, recip_of}
-use Rattle.hum_tones.specs.Giving.{given}
+use Rattle.hum_tones.specs.PartRule.{given}
 use Rattle.hum_tones.proofs.Parts.{IsPart, IsPiece, parts_lack, are_parts}
 use Rattle.hum_tones.proofs.Written.{written_piece}
 use Rattle.hum_tones.proofs.Numbers.{number_piece, mag_within}
@@ -137,7 +137,7 @@ module _ (gives : List ℕ → Result (Option (List ℕ)) Rule) (piece : (part t
           let two : others ≡ texts = cc in
           (subst IsPiece one (piece part text all.0 is), subst (AllByRecursion IsPiece) two (more others refl))
 
-  joined_pieces : (token text : List ℕ) → retold gives token ≡ Ok text → IsToken Values token → IsToken Values text
+  joined_pieces : (token text : List ℕ) → rewritten gives token ≡ Ok text → IsToken Values token → IsToken Values text
   joined_pieces token text e lawful = go (given_by gives (subtokens token)) refl e
     where
       parts : AllByRecursion IsPart (subtokens token)
@@ -150,7 +150,7 @@ module _ (gives : List ℕ → Result (Option (List ℕ)) Rule) (piece : (part t
           let same : joined texts ≡ text = cc in
           subst (IsToken Values) same (joined_lawful texts (are_pieces (subtokens token) texts parts is))
 
-pub given_lawful : (giving : Giving) (token text : List ℕ) → given giving token ≡ Ok text → IsToken Values token → IsToken Values text
+pub given_lawful : (giving : PartRule) (token text : List ℕ) → given giving token ≡ Ok text → IsToken Values token → IsToken Values text
 given_lawful (Semitones ties) token text e lawful = joined_pieces (semits_of ties) (λ part made is given. semits_piece ties part made given) token text e lawful
 given_lawful Durations token text e lawful = joined_pieces recip_of recip_piece token text e lawful
 given_lawful (Transposed way) token text e lawful = moved_lawful way.steps way.semitones token text e lawful

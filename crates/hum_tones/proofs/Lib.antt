@@ -1,9 +1,9 @@
 mod Examples
 mod ToneExamples
 pub mod Moving
-pub mod Heard
+pub mod TokenTone
 pub mod Parts
-pub mod Recalled
+pub mod Told
 pub mod Written
 pub mod Numbers
 pub mod Joined

@@ -8,19 +8,19 @@ use Rattle.hum_record.specs.Spelling.{IsToken}
 use Rattle.hum_path.specs.Chains.{columns, history}
 use Rattle.hum_path.specs.Memories.{remembered}
 use Rattle.hum_pitch.specs.Pitch.{Spelled}
-use Rattle.hum_cells.specs.Retelling.{Retelling, is_told}
-use Rattle.hum_cells.specs.Telling.{MayRetell, HasRetold, Tells}
+use Rattle.hum_cells.specs.Rewriting.{Rewriting, has_content}
+use Rattle.hum_cells.specs.Rewriter.{MayRewrite, HasRewritten, Tells}
 use Rattle.hum_stage.specs.declared.faults.Rule.{Rule}
 use Rattle.hum_stage.specs.declared.faults.Refusal.{Refusal}
 use Rattle.hum_stage.specs.Refusals.{IfTold}
 use Rattle.hum_stage.proofs.Telling.{told_to}
-use Rattle.hum_tones.specs.Subtokens.{IsRetold}
-use Rattle.hum_tones.specs.declared.minting.MintOptions.{MintOptions}
+use Rattle.hum_tones.specs.Subtokens.{IsRewritten}
+use Rattle.hum_choices.specs.declared.mint.MintOptions.{MintOptions}
 use Rattle.hum_tones.specs.Mint.{note_before}
 use Rattle.hum_tones.specs.Memory.{HeardColumn, unheard, heard_after, heard_of, told_as}
 use Rattle.hum_tones.specs.Commands.{Mints}
-use Rattle.hum_tones.proofs.Recalled.{told_so}
-use Rattle.hum_tones.proofs.Heard.{told_is}
+use Rattle.hum_tones.proofs.Told.{told_so}
+use Rattle.hum_tones.proofs.TokenTone.{told_is}
 use Rattle.hum_tones.proofs.LastNotes.{note_kept}
 
 at_map : (f : List (List ℕ) → HeardColumn) (xs : List (List (List ℕ))) (j : ℕ) (e : HeardColumn) →
@@ -29,42 +29,42 @@ at_map f [] j e h = absurd (omega (arith, h))
 at_map f (x ∷ xs) zero e h = refl
 at_map f (x ∷ xs) (suc j) e h = at_map f xs j e (omega (arith, h))
 
-many : (options : MintOptions) (memories : List HeardColumn) (retelling : Retelling) (past : List Row) →
-    Mints options memories retelling past → length memories ≡ length (columns past)
-many options memories retelling past h = ap length h.remembered ∙ length-map (columns past) (remembered (heard_after options.breaks) unheard)
+many : (options : MintOptions) (memories : List HeardColumn) (rewriting : Rewriting) (past : List Row) →
+    Mints options memories rewriting past → length memories ≡ length (columns past)
+many options memories rewriting past h = ap length h.remembered ∙ length-map (columns past) (remembered (heard_after options.breaks) unheard)
 
 -- What is kept of a column is what was heard of its cells.
 heard_is : (options : MintOptions) (memories : List HeardColumn) (j : ℕ) (token : List ℕ) (column : HeardColumn) →
-    MayRetell (Mints options memories) j token → column ≡ slice_index_or memories j column
-    → (retelling : Retelling) (past : List Row) (above : List (List ℕ)) → Mints options memories retelling past
+    MayRewrite (Mints options memories) j token → column ≡ slice_index_or memories j column
+    → (rewriting : Rewriting) (past : List Row) (above : List (List ℕ)) → Mints options memories rewriting past
     → history past j ≡ token ∷ above → column ≡ heard_after options.breaks token (remembered (heard_after options.breaks) unheard above)
-heard_is options memories j token column may is retelling past above h cell =
-    let one = many options memories may.retelling may.past may.memory in
-    let two = many options memories retelling past h in
+heard_is options memories j token column may is rewriting past above h cell =
+    let one = many options memories may.rewriting may.past may.memory in
+    let two = many options memories rewriting past h in
     let place = may.column in
     let below : j < length (columns past) = omega (arith, one, two, place) in
     is ∙ ap (λ (l : List HeardColumn). slice_index_or l j column) h.remembered
     ∙ at_map (remembered (heard_after options.breaks) unheard) (columns past) j column below
     ∙ ap (remembered (heard_after options.breaks) unheard) cell
 
-pub has_retold : {A : Type 0} (options : MintOptions) (memories : List HeardColumn) (j : ℕ) (token text : List ℕ) (column : HeardColumn)
-    → MayRetell (Mints options memories) j token → IsToken Values token → is_told token ≡ true
+pub has_rewritten : {A : Type 0} (options : MintOptions) (memories : List HeardColumn) (j : ℕ) (token text : List ℕ) (column : HeardColumn)
+    → MayRewrite (Mints options memories) j token → IsToken Values token → has_content token ≡ true
     → column ≡ slice_index_or memories j column → (r : Result A Refusal)
-    → IfTold r (IsRetold (told_as options.signless options.sizeonly column.before column.heard) text)
-    → IfTold r (HasRetold (Mints options memories) (Mints options memories) j token text)
-has_retold options memories j token text column may lawful told is r h =
-    told_to r _ _ (λ refused made retelling past above follows cell.
-    (follows, tells refused made retelling past above follows cell)) h
+    → IfTold r (IsRewritten (told_as options.signless options.sizeonly column.before column.heard) text)
+    → IfTold r (HasRewritten (Mints options memories) (Mints options memories) j token text)
+has_rewritten options memories j token text column may lawful told is r h =
+    told_to r _ _ (λ refused made rewriting past above follows cell.
+    (follows, tells refused made rewriting past above follows cell)) h
   where
-    tells : (refused : Option Rule) → IsRetold (told_as options.signless options.sizeonly column.before column.heard) text refused
-        → (retelling : Retelling) (past : List Row) (above : List (List ℕ)) → Mints options memories retelling past
-        → history past j ≡ token ∷ above → Tells (retelling.becomes above token) text refused
-    tells refused made retelling past above follows cell =
-        let heard = heard_is options memories j token column may is retelling past above follows cell in
+    tells : (refused : Option Rule) → IsRewritten (told_as options.signless options.sizeonly column.before column.heard) text refused
+        → (rewriting : Rewriting) (past : List Row) (above : List (List ℕ)) → Mints options memories rewriting past
+        → history past j ≡ token ∷ above → Tells (rewriting.becomes above token) text refused
+    tells refused made rewriting past above follows cell =
+        let heard = heard_is options memories j token column may is rewriting past above follows cell in
         let before : column.before ≡ note_before options.breaks above = ap (λ (c : HeardColumn). c.before) heard ∙ note_kept options.breaks above in
-        let known : told_as options.signless options.sizeonly column.before column.heard ≡ retelling.becomes above token =
+        let known : told_as options.signless options.sizeonly column.before column.heard ≡ rewriting.becomes above token =
         ap (λ (c : HeardColumn). told_as options.signless options.sizeonly column.before c.heard) heard
         ∙ ap (λ (b : Option Spelled). told_as options.signless options.sizeonly b (heard_of token)) before
         ∙ told_is options.signless options.sizeonly (note_before options.breaks above) token lawful told
-        ∙ ap (λ (x : Retelling). x.becomes above token) (sym follows.command) in
+        ∙ ap (λ (x : Rewriting). x.becomes above token) (sym follows.command) in
         subst (λ (x : Result (List ℕ) Rule). Tells x text refused) known (told_so _ text refused made)

@@ -1,5 +1,5 @@
 -- Numbers, as they are written, may stand in a token.
-use Rattle.std.proofs.Common.{◌≡◌, ◌≢◌, refl, ℕ, zero, suc, ◌+◌, ◌≤◌, ◌<◌, ◌/◌, ◌%◌, ◌^◌, ◌==◌, ◌&&◌, Bool}
+use Rattle.std.proofs.Common.{◌≡◌, ◌≢◌, refl, ap, ◌∙◌, ℕ, zero, suc, ◌+◌, ◌≤◌, ◌<◌, ◌/◌, ◌%◌, ◌^◌, ◌==◌, ◌&&◌, Bool}
 use Rattle.std.proofs.Common.{false, List, [], ◌∷◌, ◌++◌, arith, None, Some, to_z, of_z, w32}
 use Rattle.std.specs.Prelude.{ℤ, pos, negsuc, Ok}
 use Rattle.std.specs.List.{AllByRecursion}
@@ -74,6 +74,14 @@ digits_piece (x ∷ text) h =
       filled = h.some;
       of_kind = rw (not_comment, not_star) refl;
     }
+
+-- numbers of one digit and of two
+pub one_digit : (n : ℕ) → n < 10 → decimal n ≡ (48 + n) ∷ []
+one_digit n small = decimal_digit n (omega (arith, small))
+
+pub two_digits : (n : ℕ) → 10 ≤ n → n < 100 → decimal n ≡ (48 + n / 10) ∷ (48 + n % 10) ∷ []
+two_digits n large small =
+    decimal_step n large (omega (arith, small)) ∙ ap (λ (xs : List ℕ). xs ++ (48 + n % 10) ∷ []) (decimal_digit (n / 10) (omega (arith, small)))
 
 -- a number with its sign
 pub number_piece : (z : ℤ) → mag z < 2 ^ 63 → IsPiece (signed_decimal z)

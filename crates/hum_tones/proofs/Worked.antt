@@ -8,8 +8,8 @@ use Rattle.hum_pattern.proofs.OnLiterals.{patterns_on_literals}
 use Rattle.hum_pitch.specs.Pitch.{natural}
 use Rattle.hum_stage.specs.declared.faults.Command.TheVariants.{Trans, Semits, Mint, Recip}
 use Rattle.hum_stage.specs.Meaning.{output}
-use Rattle.hum_cells.specs.Retelling.{meaning}
-use Rattle.hum_tones.specs.declared.recip.RecipOptions.{RecipOptions}
+use Rattle.hum_cells.specs.Rewriting.{meaning}
+use Rattle.hum_choices.specs.declared.recip.RecipOptions.{RecipOptions}
 use Rattle.hum_tones.specs.Commands.{trans, semits, mint, recip}
 
 abbrev tandem : List ℕ → List Row → List Row

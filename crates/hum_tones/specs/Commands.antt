@@ -6,17 +6,17 @@ use Rattle.hum_record.specs.Row.{Row}
 use Rattle.hum_path.specs.Memories.{Remember}
 use Rattle.hum_stage.specs.declared.faults.Command.TheVariants.{Trans, Semits, Mint, Recip}
 use Rattle.hum_stage.specs.Meaning.{Meaning}
-use Rattle.hum_cells.specs.Retelling.{Retelling, Heading, Renamed, Followed, IsHeading, meaning}
-use Rattle.hum_tones.specs.declared.giving.Giving.{Giving}
-use Rattle.hum_tones.specs.declared.giving.Giving.TheVariants.{Semitones, Durations}
-use Rattle.hum_tones.specs.declared.transposing.TransOptions.{TransOptions}
-use Rattle.hum_tones.specs.declared.semits.SemitsOptions.{SemitsOptions}
-use Rattle.hum_tones.specs.declared.recip.RecipOptions.{RecipOptions}
-use Rattle.hum_tones.specs.declared.minting.MintOptions.{MintOptions}
+use Rattle.hum_cells.specs.Rewriting.{Rewriting, Heading, Renamed, Followed, IsHeading, meaning}
+use Rattle.hum_tones.specs.declared.part_rule.PartRule.{PartRule}
+use Rattle.hum_tones.specs.declared.part_rule.PartRule.TheVariants.{Semitones, Durations}
+use Rattle.hum_choices.specs.declared.trans.TransOptions.{TransOptions}
+use Rattle.hum_choices.specs.declared.semits.SemitsOptions.{SemitsOptions}
+use Rattle.hum_choices.specs.declared.recip.RecipOptions.{RecipOptions}
+use Rattle.hum_choices.specs.declared.mint.MintOptions.{MintOptions}
 use Rattle.hum_tones.specs.Trans.{transposed}
 use Rattle.hum_tones.specs.Mint.{minted_after}
 use Rattle.hum_tones.specs.Memory.{HeardColumn, unheard, heard_after}
-use Rattle.hum_tones.specs.Giving.{given}
+use Rattle.hum_tones.specs.PartRule.{given}
 
 -- what goes behind **kern: by how many steps and semitones its notes were moved
 abbrev pub trans_sign : ℤ → ℤ → List ℕ
@@ -24,43 +24,43 @@ trans_sign steps semitones =
     codes "*Trd" ++ (signed_decimal steps ++ (codes "c" ++ signed_decimal semitones))
 
 -- each note is so many steps and semitones away
-abbrev pub trans : ℤ → ℤ → Retelling
+abbrev pub trans : ℤ → ℤ → Rewriting
 trans steps semitones = record {
   heading = Followed (trans_sign steps semitones);
   becomes = λ above. transposed steps semitones;
 }
 
 -- **kern becomes **semits, and notes their semitones
-abbrev pub semits : SemitsOptions → Retelling
+abbrev pub semits : SemitsOptions → Rewriting
 semits options = record {
   heading = Renamed (codes "**semits");
   becomes = λ above. given (Semitones options.ties_left_out);
 }
 
 -- **kern becomes **mint, and notes the intervals from the notes before
-abbrev pub mint : MintOptions → Retelling
+abbrev pub mint : MintOptions → Rewriting
 mint options = record { heading = Renamed (codes "**mint"); becomes = minted_after options }
 
 -- **kern becomes **recip, and notes their durations
-abbrev pub recip : RecipOptions → Retelling
+abbrev pub recip : RecipOptions → Rewriting
 recip options = record { heading = Renamed (codes "**recip"); becomes = λ above. given Durations }
 
 -- what becomes of kern columns by a heading and by what parts give
-abbrev pub given_under : Heading → Giving → Retelling
+abbrev pub given_under : Heading → PartRule → Rewriting
 given_under heading giving = record { heading = heading; becomes = λ above. given giving }
 
 -- what a command keeps whose tokens become what their parts give: what becomes of **kern by it, and
 -- what a part gives
-pub record GivesUnder (heading : Heading) (giving : Giving) (retelling : Retelling)
+pub record GivesUnder (heading : Heading) (giving : PartRule) (rewriting : Rewriting)
     (past : List Row) : Type 0 where
-  pub command : retelling ≡ given_under heading giving
-  pub lawful : IsHeading retelling.heading
+  pub command : rewriting ≡ given_under heading giving
+  pub lawful : IsHeading rewriting.heading
 
 -- what mint keeps: its options, and what it heard of each column
-pub record Mints (options : MintOptions) (memories : List HeardColumn) (retelling : Retelling)
+pub record Mints (options : MintOptions) (memories : List HeardColumn) (rewriting : Rewriting)
     (past : List Row) : Type 0 where
-  pub command : retelling ≡ mint options
-  pub lawful : IsHeading retelling.heading
+  pub command : rewriting ≡ mint options
+  pub lawful : IsHeading rewriting.heading
   pub remembered : Remember (heard_after options.breaks) unheard past memories
 
 -- what the stages of these numbers mean

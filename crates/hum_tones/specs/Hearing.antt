@@ -4,21 +4,21 @@ use Rattle.hum_pitch.specs.Given.{spelled}
 use Rattle.hum_kern.specs.Note.{Reading}
 use Rattle.hum_stage.specs.declared.faults.Rule.{Rule}
 use Rattle.hum_tones.specs.declared.hearing.Tone.{Tone as KeptTone}
-use Rattle.hum_tones.specs.declared.hearing.Heard.{Heard as Kept}
-use Rattle.hum_tones.specs.Mint.{Tone, Heard, heard, or_tone}
+use Rattle.hum_tones.specs.declared.hearing.TokenTone.{TokenTone as Kept}
+use Rattle.hum_tones.specs.Mint.{Tone, TokenTone, heard, or_tone}
 
 abbrev pub tone_of : KeptTone → Tone
 tone_of kept = record { pitch = spelled kept.pitch; continued = kept.continued }
 
-abbrev pub hearing : Kept → Heard
+abbrev pub hearing : Kept → TokenTone
 hearing kept = record { tone = option_map tone_of kept.tone; rest = kept.rest }
 
 -- what an answer says was heard
-abbrev pub heard_by : Result Kept Rule → Result Heard Rule
+abbrev pub heard_by : Result Kept Rule → Result TokenTone Rule
 heard_by (Ok kept) = Ok (hearing kept)
 heard_by (Err rule) = Err rule
 
-abbrev pub heard_in : Result (List Reading) Rule → Result Heard Rule
+abbrev pub heard_in : Result (List Reading) Rule → Result TokenTone Rule
 heard_in (Ok readings) = Ok (heard readings)
 heard_in (Err rule) = Err rule
 
@@ -27,7 +27,7 @@ first_of (Some tone) other = Some tone
 first_of None other = other
 
 -- what is heard with one part more behind
-abbrev pub heard_with : Heard → Reading → Heard
+abbrev pub heard_with : TokenTone → Reading → TokenTone
 heard_with so_far reading = record {
   tone = first_of so_far.tone (or_tone reading.pitch reading.continued None);
   rest = so_far.rest || reading.rest;

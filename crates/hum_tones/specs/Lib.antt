@@ -2,9 +2,8 @@ pub mod Subtokens
 pub mod Faults
 pub mod Semits
 pub mod Recip
-pub mod Remembering
 pub mod Trans
-pub mod Giving
+pub mod PartRule
 pub mod Mint
 pub mod Hearing
 pub mod Memory

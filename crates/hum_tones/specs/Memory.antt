@@ -5,7 +5,7 @@ use Rattle.hum_record.specs.Contents.{is_filled, is_barline}
 use Rattle.hum_path.specs.Sign.{sign_of, is_exclusive}
 use Rattle.hum_pitch.specs.Pitch.{Spelled}
 use Rattle.hum_stage.specs.declared.faults.Rule.{Rule}
-use Rattle.hum_tones.specs.Mint.{Heard, readings, remembered_of, is_break, told}
+use Rattle.hum_tones.specs.Mint.{TokenTone, readings, remembered_of, is_break, told}
 use Rattle.hum_tones.specs.Hearing.{heard_in}
 
 abbrev pub or_before : Option Spelled → Option Spelled → Option Spelled
@@ -19,16 +19,16 @@ note_after breaks token before =
     else if is_break breaks token then None
     else or_before (remembered_of token) before
 
-abbrev pub silence : Heard
+abbrev pub silence : TokenTone
 silence = record { tone = None; rest = false }
 
 -- What is heard of a cell: nothing of a barline, nor of what is no data.
-abbrev pub heard_of : List ℕ → Result Heard Rule
+abbrev pub heard_of : List ℕ → Result TokenTone Rule
 heard_of token =
     if is_filled token && not (is_barline token) then heard_in (readings token) else Ok silence
 
 -- What a token becomes by the note before it and what was heard of it.
-abbrev pub told_as : Bool → Bool → Option Spelled → Result Heard Rule → Result (List ℕ) Rule
+abbrev pub told_as : Bool → Bool → Option Spelled → Result TokenTone Rule → Result (List ℕ) Rule
 told_as signless sizeonly before (Ok heard) =
     Ok (told signless sizeonly before heard.tone heard.rest)
 told_as signless sizeonly before (Err rule) = Err rule
@@ -37,7 +37,7 @@ told_as signless sizeonly before (Err rule) = Err rule
 -- next cell.
 pub record HeardColumn : Type 0 where
   pub before : Option Spelled
-  pub heard : Result Heard Rule
+  pub heard : Result TokenTone Rule
   pub note : Option Spelled
 
 abbrev pub unheard : HeardColumn

@@ -13,7 +13,7 @@ use Rattle.hum_pitch.specs.Intervals.{named}
 use Rattle.hum_kern.specs.declared.KernFault.{KernFault}
 use Rattle.hum_kern.specs.Note.{Reading, note}
 use Rattle.hum_stage.specs.declared.faults.Rule.{Rule}
-use Rattle.hum_tones.specs.declared.minting.MintOptions.{MintOptions}
+use Rattle.hum_choices.specs.declared.mint.MintOptions.{MintOptions}
 use Rattle.hum_tones.specs.Faults.{rule_of}
 use Rattle.hum_tones.specs.Subtokens.{subtokens}
 
@@ -47,11 +47,11 @@ leading [] = None
 leading (reading ∷ readings) = or_tone reading.pitch reading.continued (leading readings)
 
 -- what is heard of a token: its first note, and whether it has a rest
-pub record Heard : Type 0 where
+pub record TokenTone : Type 0 where
   pub tone : Option Tone
   pub rest : Bool
 
-abbrev pub heard : List Reading → Heard
+abbrev pub heard : List Reading → TokenTone
 heard readings = record {
   tone = leading readings;
   rest = list_any (λ reading. reading.rest) readings;

@@ -32,8 +32,8 @@ if_given (Ok texts) = Ok (joined texts)
 if_given (Err rule) = Err rule
 
 -- A token becomes what its parts give, joined by single spaces.
-abbrev pub retold : (List ℕ → Result (Option (List ℕ)) Rule) → List ℕ → Result (List ℕ) Rule
-retold gives token = if_given (given_by gives (subtokens token))
+abbrev pub rewritten : (List ℕ → Result (Option (List ℕ)) Rule) → List ℕ → Result (List ℕ) Rule
+rewritten gives token = if_given (given_by gives (subtokens token))
 
 -- What a part gives is added, with a space behind it; or the rule is told.
 abbrev pub HasAdded : Result (Option (List ℕ)) Rule → List ℕ → List ℕ → Option Rule → Type 0
@@ -44,8 +44,8 @@ HasAdded (Err refused) before after None = ⊥
 HasAdded (Err refused) before after (Some rule) = rule ≡ refused
 
 -- The text is what a data token becomes, and is a lawful one; or the rule is told.
-abbrev pub IsRetold : Result (List ℕ) Rule → List ℕ → Option Rule → Type 0
-IsRetold (Ok token) text None = (text ≡ token) × IsToken Values text
-IsRetold (Ok token) text (Some rule) = ⊥
-IsRetold (Err refused) text None = ⊥
-IsRetold (Err refused) text (Some rule) = rule ≡ refused
+abbrev pub IsRewritten : Result (List ℕ) Rule → List ℕ → Option Rule → Type 0
+IsRewritten (Ok token) text None = (text ≡ token) × IsToken Values text
+IsRewritten (Ok token) text (Some rule) = ⊥
+IsRewritten (Err refused) text None = ⊥
+IsRewritten (Err refused) text (Some rule) = rule ≡ refused

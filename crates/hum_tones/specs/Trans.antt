@@ -8,7 +8,7 @@ use Rattle.hum_kern.specs.Note.{Reading, note}
 use Rattle.hum_stage.specs.declared.faults.Rule.{Rule}
 use Rattle.hum_stage.specs.declared.faults.Rule.TheVariants.{TR1, TR2}
 use Rattle.hum_tones.specs.Faults.{rule_of}
-use Rattle.hum_tones.specs.Subtokens.{retold}
+use Rattle.hum_tones.specs.Subtokens.{rewritten}
 
 -- at most seven sharps or flats
 abbrev pub is_alteration : ℤ → Bool
@@ -49,4 +49,4 @@ transposed_part n m part = moved_as_read n m part (note part)
 
 -- what a token becomes
 abbrev pub transposed : ℤ → ℤ → List ℕ → Result (List ℕ) Rule
-transposed n m = retold (transposed_part n m)
+transposed n m = rewritten (transposed_part n m)

@@ -2,11 +2,13 @@
 ghost use Rattle.std.specs.Prelude.{◌≡◌, ◌||◌, None, option_map};
 ghost use Rattle.hum_pitch.specs.Given.{spelled};
 ghost use Rattle.hum_tones.specs.Mint.{readings, or_tone, new_pitch};
+ghost use Rattle.hum_tones.specs.Memory.{heard_of};
 ghost use Rattle.hum_tones.specs.Hearing.{tone_of, first_of, heard_in, heard_by};
 
-use crate::giving::rule_of;
+use crate::part_rule::rule_of;
 use hum_kern::{Note, read_note};
 use hum_pitch::Pitch;
+use hum_record::{is_barline, is_filled};
 use hum_stage::Rule;
 
 /// A note of a token: its pitch, and whether its tie goes on or ends.
@@ -18,7 +20,7 @@ pub(crate) struct Tone {
 
 /// What is heard of a token: its first note, and whether it has a rest.
 #[derive(Clone, Copy)]
-pub(crate) struct Heard {
+pub(crate) struct TokenTone {
     pub tone: Option<Tone>,
     pub rest: bool,
 }
@@ -52,21 +54,21 @@ fn either(one: bool, other: bool) -> bool
     one || other
 }
 
-impl Heard {
+impl TokenTone {
     ghost use Rattle.hum_kern.specs.Note.{reading};
     ghost use Rattle.hum_tones.specs.Hearing.{hearing, heard_with};
 
     /// What is heard of no part.
-    pub(crate) const SILENCE: Heard = Heard {
+    pub(crate) const SILENCE: TokenTone = TokenTone {
         tone: None,
         rest: false,
     };
 
     /// What is heard with one part more.
-    fn with(self, note: Note) -> Heard
+    fn with(self, note: Note) -> TokenTone
         ensures { hearing result ≡ heard_with (hearing self) (reading note) }
     {
-        Heard {
+        TokenTone {
             tone: first_of(self.tone, tone_of(note)),
             rest: either(self.rest, note.rest),
         }
@@ -90,10 +92,10 @@ impl Heard {
 }
 
 /// What is heard of a token, or the rule by which a part of it is refused.
-pub(crate) fn hear(token: &[u8]) -> Result<Heard, Rule>
+fn hear(token: &[u8]) -> Result<TokenTone, Rule>
     ensures { heard_by result ≡ heard_in (readings token.now) }
 {
-    let mut heard = Heard::SILENCE;
+    let mut heard = TokenTone::SILENCE;
     for part in token.split(|b| *b == b' ') {
         match read_note(part) {
             Ok(note) => heard = heard.with(note),
@@ -101,4 +103,14 @@ pub(crate) fn hear(token: &[u8]) -> Result<Heard, Rule>
         }
     }
     Ok(heard)
+}
+
+/// What is heard of a cell: nothing of a barline, nor of what is no data.
+pub(crate) fn heard_of(token: &[u8]) -> Result<TokenTone, Rule>
+    ensures { heard_by result ≡ heard_of token.now }
+{
+    if is_filled(token) && !is_barline(token) {
+        return hear(token);
+    }
+    Ok(TokenTone::SILENCE)
 }

@@ -6,8 +6,8 @@ ghost use Rattle.hum_tones.specs.Memory.{note_after, or_before, heard_of};
 ghost use Rattle.hum_tones.specs.Hearing.{heard_by};
 ghost use Rattle.hum_pitch.specs.Given.{spelled};
 
-use crate::hearing::Heard;
-use crate::listening::Listening;
+use crate::hearing::{TokenTone, heard_of};
+use hum_choices::MintOptions;
 use hum_path::ColumnMemory;
 use hum_pattern::Pattern;
 use hum_pitch::Pitch;
@@ -29,7 +29,7 @@ fn is_break(breaks: &mut Option<Pattern>, token: &[u8]) -> bool
 }
 
 /// The pitch that is remembered of a cell, by what was heard of it.
-fn remembered_of(heard: Result<Heard, Rule>) -> Option<Pitch>
+fn remembered_of(heard: Result<TokenTone, Rule>) -> Option<Pitch>
     ensures { (token : List ℕ) → heard_by heard ≡ heard_of token
         → option_map spelled result ≡ remembered_of token }
 {
@@ -51,10 +51,10 @@ fn or_before(pitch: Option<Pitch>, before: Option<Pitch>) -> Option<Pitch>
 }
 
 /// The note before the next cell, by the note before a cell and what was heard of it.
-pub(crate) fn note_after(
+fn note_after(
     breaks: &mut Option<Pattern>,
     token: &[u8],
-    heard: Result<Heard, Rule>,
+    heard: Result<TokenTone, Rule>,
     before: Option<Pitch>,
 ) -> Option<Pitch>
     requires { heard_by heard ≡ heard_of token.now }
@@ -81,7 +81,7 @@ pub(crate) fn note_after(
 pub struct LastNote {
     // the note before the last cell
     before: Option<Pitch>,
-    heard: Result<Heard, Rule>,
+    heard: Result<TokenTone, Rule>,
     // the note before the next cell
     pitch: Option<Pitch>,
 }
@@ -110,7 +110,7 @@ impl LastNote {
     }
 
     /// What was heard of the last cell.
-    pub(crate) fn heard(&self) -> Result<Heard, Rule>
+    pub(crate) fn heard(&self) -> Result<TokenTone, Rule>
         ensures { heard_by result ≡ self.now.heard }
     {
         self.heard
@@ -118,7 +118,7 @@ impl LastNote {
 }
 
 impl ColumnMemory for LastNote {
-    type Rule = Listening;
+    type Rule = MintOptions;
 
     ghost use Rattle.hum_tones.specs.Memory.{unheard, heard_after};
 
@@ -129,14 +129,14 @@ impl ColumnMemory for LastNote {
     fn fresh(_alloc: Global) -> Self {
         LastNote {
             before: None,
-            heard: Ok(Heard::SILENCE),
+            heard: Ok(TokenTone::SILENCE),
             pitch: None,
         }
     }
 
-    fn see(&mut self, listening: &mut Listening, token: &[u8]) -> Result<(), AllocError> {
-        let heard = listening.heard_of(token);
-        let pitch = listening.note_after(token, heard, self.pitch);
+    fn see(&mut self, options: &mut MintOptions, token: &[u8]) -> Result<(), AllocError> {
+        let heard = heard_of(token);
+        let pitch = note_after(&mut options.breaks, token, heard, self.pitch);
         self.before = self.pitch;
         self.heard = heard;
         self.pitch = pitch;

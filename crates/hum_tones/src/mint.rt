@@ -2,9 +2,9 @@
 ghost use Rattle.hum_stage.specs.declared.faults.Command.TheVariants.{Mint as MintCommand};
 
 use crate::last_note::LastNote;
-use crate::listening::Listening;
-use crate::minting::MintOptions;
-use hum_cells::{CellStage, Heading, Retells};
+use crate::minting::put_minted;
+use hum_cells::{CellStage, Heading, TokenRewriter};
+use hum_choices::MintOptions;
 use hum_path::{Carried, Moves};
 use hum_record::Record;
 use hum_stage::{Command, Refusal};
@@ -13,7 +13,7 @@ use std::alloc::{AllocError, Global};
 /// What mint makes of tokens.
 #[derive(Drop)]
 pub struct MintTokens {
-    listening: Listening,
+    options: MintOptions,
     // what was heard of each spine, and the note before
     carried: Carried<LastNote>,
 }
@@ -21,18 +21,18 @@ pub struct MintTokens {
 /// The command mint, as a stage.
 pub type Mint = CellStage<MintTokens>;
 
-impl Retells for MintTokens {
+impl TokenRewriter for MintTokens {
     type Options = MintOptions;
 
     ghost use Rattle.hum_tones.specs.Commands.{mint, Mints};
 
     ghost command = { MintCommand };
 
-    ghost retelling = { mint };
+    ghost rewriting = { mint };
 
-    ghost follows = { λ s. Mints s.listening s.carried.each };
+    ghost follows = { λ s. Mints s.options s.carried.each };
 
-    ghost lawful = { λ s retelling past h. h.lawful };
+    ghost lawful = { λ s rewriting past h. h.lawful };
 
     fn command() -> Command {
         Command::Mint
@@ -40,7 +40,7 @@ impl Retells for MintTokens {
 
     fn begin(alloc: Global, options: MintOptions) -> Self {
         MintTokens {
-            listening: Listening::new(alloc, options),
+            options,
             carried: Carried::new(alloc),
         }
     }
@@ -49,11 +49,11 @@ impl Retells for MintTokens {
         Heading::Renamed(b"**mint".as_slice())
     }
 
-    fn retell(&mut self, j: usize, _token: &[u8], text: &mut Vec<u8>) -> Result<(), Refusal> {
-        self.listening.options().retell(self.carried.at(j), text)
+    fn rewrite(&mut self, j: usize, _token: &[u8], text: &mut Vec<u8>) -> Result<(), Refusal> {
+        put_minted(&self.options, self.carried.at(j), text)
     }
 
     fn follow(&mut self, row: &Record, found: &Moves) -> Result<(), AllocError> {
-        self.carried.follow(&mut self.listening, row, found)
+        self.carried.follow(&mut self.options, row, found)
     }
 }

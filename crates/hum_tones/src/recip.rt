@@ -1,32 +1,29 @@
 //! The command recip: notes become their durations, as they are written.
 ghost use Rattle.hum_stage.specs.declared.faults.Command.TheVariants.{Recip as RecipCommand};
 
-use crate::gives::{GivenColumns, Gives};
-use crate::giving::Giving;
+use crate::part_rule::PartRule;
+use crate::partwise::{Partwise, PartwiseColumns};
 use hum_cells::{CellStage, Heading};
+use hum_choices::RecipOptions;
 use hum_stage::Command;
-
-/// The command takes no options.
-#[derive(Clone, Copy)]
-pub struct RecipOptions;
 
 /// `**recip`, which stands in the place of `**kern`.
 #[derive(Drop)]
 pub struct RecipName;
 
 /// The command recip, as a stage.
-pub type Recip = CellStage<GivenColumns<RecipName>>;
+pub type Recip = CellStage<PartwiseColumns<RecipName>>;
 
-impl Gives for RecipName {
+impl Partwise for RecipName {
     type Options = RecipOptions;
 
     ghost use Rattle.std.specs.Prelude.{codes};
-    ghost use Rattle.hum_cells.specs.Retelling.{Renamed};
+    ghost use Rattle.hum_cells.specs.Rewriting.{Renamed};
     ghost use Rattle.hum_tones.specs.Commands.{recip};
 
     ghost command = { RecipCommand };
 
-    ghost retelling = { recip };
+    ghost rewriting = { recip };
 
     ghost heading = { λ s. Renamed (codes "**recip") };
 
@@ -34,8 +31,8 @@ impl Gives for RecipName {
         Command::Recip
     }
 
-    fn begin(_options: RecipOptions) -> (RecipName, Giving) {
-        (RecipName, Giving::Durations)
+    fn begin(_options: RecipOptions) -> (RecipName, PartRule) {
+        (RecipName, PartRule::Durations)
     }
 
     fn heading(&self) -> Heading<'_> {

@@ -3,11 +3,11 @@ ghost use Rattle.std.specs.Prelude.{◌≡◌};
 ghost use Rattle.hum_stage.specs.declared.faults.Command.TheVariants.{Trans as TransCommand};
 ghost use Rattle.hum_tones.specs.Commands.{trans_sign};
 
-use crate::gives::{GivenColumns, Gives};
-use crate::giving::Giving;
-use crate::transposing::TransOptions;
+use crate::part_rule::PartRule;
+use crate::partwise::{Partwise, PartwiseColumns};
 use arrayvec::ArrayString;
 use hum_cells::{CellStage, Heading};
+use hum_choices::TransOptions;
 use hum_stage::Command;
 use itoa::Buffer;
 
@@ -18,7 +18,7 @@ pub struct TransSign {
 }
 
 /// The command trans, as a stage.
-pub type Trans = CellStage<GivenColumns<TransSign>>;
+pub type Trans = CellStage<PartwiseColumns<TransSign>>;
 
 /// What goes behind `**kern`.
 fn sign(transposition: TransOptions) -> ArrayString<32>
@@ -33,15 +33,15 @@ fn sign(transposition: TransOptions) -> ArrayString<32>
     text
 }
 
-impl Gives for TransSign {
+impl Partwise for TransSign {
     type Options = TransOptions;
 
-    ghost use Rattle.hum_cells.specs.Retelling.{Followed};
+    ghost use Rattle.hum_cells.specs.Rewriting.{Followed};
     ghost use Rattle.hum_tones.specs.Commands.{trans};
 
     ghost command = { TransCommand };
 
-    ghost retelling = { λ options. trans options.steps options.semitones };
+    ghost rewriting = { λ options. trans options.steps options.semitones };
 
     ghost heading = { λ s. Followed s.text.bytes };
 
@@ -49,9 +49,9 @@ impl Gives for TransSign {
         Command::Trans
     }
 
-    fn begin(transposition: TransOptions) -> (TransSign, Giving) {
+    fn begin(transposition: TransOptions) -> (TransSign, PartRule) {
         let text = sign(transposition);
-        (TransSign { text }, Giving::Transposed(transposition))
+        (TransSign { text }, PartRule::Transposed(transposition))
     }
 
     fn heading(&self) -> Heading<'_> {

@@ -1,4 +1,4 @@
--- What is given is a front of the meaning, and at the end all of it.
+-- What is given is a prefix of the meaning, and at the end all of it.
 use Rattle.std.proofs.Common.{◌≡◌, ℕ, zero, suc, ◌+◌, ◌<◌, ◌≤◌, Bool, true, if◌then◌else◌, nat_lt}
 use Rattle.std.proofs.Common.{List, [], ◌++◌, map, length, Option, Some, refl, sym, ap, ◌∙◌, subst}
 use Rattle.std.proofs.Common.{⊎_elim, arith, append-nil, eq-eqb, ne_eqb}

@@ -232,8 +232,8 @@ module _ {R : Type 0} (plan : Plan R) (ok : IsPlan plan) (size : ℕ) where
       (omega arith) (omega arith) in
       let grown : (j : ℕ) → spent plan between j ≤ spent plan new j =
       ⊎_elim
-      (λ same. spent_grows plan between new
-      (λ s. subst (Grown (between s)) (sym (same s)) (unmoved (between s))))
+      (λ stays. spent_grows plan between new
+      (λ s. subst (Grown (between s)) (sym (stays.1 s)) (unmoved (between s))))
       (λ does. (does_adds k (state plan between k) between new refl
       (read_allowed plan ok size old between k src h t.reads) does).others)
       t.does in

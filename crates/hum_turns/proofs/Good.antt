@@ -15,7 +15,7 @@ use Rattle.hum_turns.specs.Turns.{popped}
 use Rattle.hum_turns.proofs.Fronts.{begins_refl, begins_trans, begins_append, begins_next}
 use Rattle.hum_turns.proofs.Fronts.{begins_all, all_same, same_over, has_none}
 
--- How the link of a stage stands to what the stage has had: what was given is a front of what is
+-- How the link of a stage stands to what the stage has had: what was given is a prefix of what is
 -- settled, the end is set only where nothing is left to give, and heard only where none waits.
 pub record GoodAt {R : Type 0} (st : Stage R) (size : ℕ) (l : Link R) (a : List (Flow R))
     : Type 0 where

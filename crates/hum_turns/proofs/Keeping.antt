@@ -164,7 +164,7 @@ module _ {R : Type 0} (plan : Plan R) (size : ℕ) (ok : IsPlan plan) where
       let r = source_ready plan size old k src h in
       let kept = reads_keeps k old t.between inv r.0 t.reads in
       ⊎_elim
-      (λ same. same_keeps t.between new same kept)
+      (λ stays. same_keeps t.between new stays.1 kept)
       (λ does. does_keeps k (state plan t.between k) t.between new kept
       (λ less. sym (state_is plan t.between k less))
       (read_allowed plan ok size old t.between k src h t.reads) does)

@@ -13,3 +13,4 @@ pub mod Ending
 pub mod Places
 pub mod Near
 mod Examples
+pub mod Marking

@@ -41,7 +41,7 @@ module _ {R : Type 0} (plan : Plan R) (ok : IsPlan plan) where
   turns_near k Ends old new e t i far = does_near k Ends old new e t i far
   turns_near k Reads old new e t i far =
       ⊎_elim
-      (λ same. same i)
+      (λ stays. stays.1 i)
       (λ does. does_near k (state plan t.between k) t.between new refl does i far) t.does
       ∙ own_near k _ old t.between (reads_less plan old k e) t.reads.becomes i far
 
@@ -180,7 +180,7 @@ module _ {R : Type 0} (plan : Plan R) (ok : IsPlan plan) (size k : ℕ) (less : 
   turns_view Ends old new e t = does_view Ends old new e t
   turns_view Reads old new e t =
       ⊎_elim
-      (λ same. ap view (same (last plan)))
+      (λ stays. ap view (stays.1 (last plan)))
       (λ does. does_view (state plan t.between k) t.between new refl does) t.does
       ∙ keeps_view _ old t.between t.reads.becomes refl
 
@@ -229,7 +229,7 @@ module _ {R : Type 0} (plan : Plan R) (ok : IsPlan plan) (size k : ℕ) where
   turns_touch Reads old new e t i other =
       let src = reads_source plan ok old k e in
       ⊎_elim
-      (λ same. same i)
+      (λ stays. stays.1 i)
       (λ does. does_touches (state plan t.between k) t.between new does i
       (λ is. other (is ∙ source_touches t.between src)))
       t.does

@@ -175,7 +175,7 @@ module _ {R : Type 0} (plan : Plan R) (ok : IsPlan plan) where
       let n = reads_bytes m k less h in
       source_is plan k less (omega arith)
 
-  source_takes : (m : Moment R) (k s : ℕ) → is_source plan k ≡ true → state plan m k ≡ Takes s → ⊥
+  pub source_takes : (m : Moment R) (k s : ℕ) → is_source plan k ≡ true → state plan m k ≡ Takes s → ⊥
   source_takes m k s src h =
       let p = source_less plan k src in
       let w = wanted m k s p.0 h in

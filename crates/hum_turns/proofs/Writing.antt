@@ -1,4 +1,4 @@
--- What is written is a front of the plan's text, also where a failure ends the run.
+-- What is written is a prefix of the plan's text, also where a failure ends the run.
 use Rattle.std.proofs.Common.{◌≡◌, ℕ, pred, ◌+◌, ◌<◌, ◌⊎◌, inl, inr, true, List, [], ◌∷◌, ◌++◌}
 use Rattle.std.proofs.Common.{length, Option, Some, None, is_some, is_none, refl, sym, ap, ◌∙◌}
 use Rattle.std.proofs.Common.{subst, ⊎_elim, arith, append_assoc, append-nil}
@@ -42,7 +42,7 @@ module _ {R : Type 0} (bytes : R → List ℕ) where
 -- Turns that fail.
 
 module _ {R : Type 0} (plan : Plan R) (k : ℕ) (bytes : R → List ℕ) (m : Moment R) where
-  -- what was written then is a front of what waits
+  -- what was written then is a prefix of what waits
   part_begins : (by : RunResult) (part : List ℕ) → MayFail plan k bytes m by part
       → Begins part (text bytes (m (last plan)).waiting)
   part_begins ends.Finished part h = absurd h
@@ -165,7 +165,7 @@ module _ {R : Type 0} (plan : Plan R) (size : ℕ) (bytes : R → List ℕ) wher
   walk_more (j ∷ ks) k old between new w t =
       (w.0, w.1, walk_more ks k w.0 between new w.2 t)
 
-  -- What was taken and a front of what waits is a front of the text, however the inputs go on.
+  -- What was taken and a prefix of what waits is a prefix of the text, however the inputs go on.
   front_of : (other : Plan R) (now : Now R) → IsPlan other → Inv plan size now.links
       → Agrees plan other now.links
       → Begins now.part (text bytes (now.links (last plan)).waiting)

@@ -1,4 +1,4 @@
--- Runs that a failed read, a failed write or want of memory may end.
+-- Runs that a failed read, a failed write or running out of memory may end.
 use Rattle.std.specs.Prelude.{◌≡◌, ◌⊎◌, ℕ, ◌+◌, ◌<◌, ◌≤◌, Bool, true, ◌&&◌}
 use Rattle.std.specs.Prelude.{List, [], ◌∷◌, ◌++◌}
 use Rattle.std.specs.Prelude.{length, Option, Some, None, is_none}
@@ -29,7 +29,7 @@ abbrev pub result_of : End → RunResult
 result_of Closed = ends.Finished
 result_of (Broken f) = ends.Fault f
 
--- a failed read or write, or want of memory
+-- a failed read or write, or running out of memory
 abbrev pub IsFailure : RunResult → Type 0
 IsFailure ends.Finished = ⊥
 IsFailure (ends.Fault f) = ⊥
@@ -57,7 +57,7 @@ abbrev pub is_ready : {R : Type 0} → Plan R → ℕ → Now R → ℕ → Bool
 is_ready plan size now k = is_none (result plan now) && ready plan size now.links k
 
 -- By what a turn of actor k may fail, and what it has written then: a source by its reader, the
--- sink by its writer, each actor by want of memory.
+-- sink by its writer, each actor by running out of memory.
 abbrev pub MayFail : {R : Type 0} → Plan R → ℕ → (R → List ℕ) → Moment R → RunResult → List ℕ
     → Type 0
 MayFail plan k bytes m ends.Finished part = ⊥
@@ -114,7 +114,7 @@ pub record IsWhole {R : Type 0} (plan : Plan R) (bytes : R → List ℕ) (now : 
 -- What holds at each moment that turns lead to, also once a failure has ended the run.
 pub record HoldsNow {R : Type 0} (plan : Plan R) (size : ℕ) (bytes : R → List ℕ)
     (turns : List ℕ) (now : Now R) : Type 0 where
-  -- what is written is a front of the plan's text, however the inputs go on
+  -- what is written is a prefix of the plan's text, however the inputs go on
   pub front : (other : Plan R) → IsPlan other → Agrees plan other now.links
       → Begins (written plan bytes now) (text bytes (plan_meaning other).items)
   pub agrees : Agrees plan plan now.links

@@ -11,7 +11,7 @@ pub record Flow (R : Type 0) : Type 0 where
 abbrev pub so_far : {R : Type 0} → List R → Flow R
 so_far xs = record { items = xs; end = None }
 
--- A front of a list: what follows it there may be nothing.
+-- A prefix of a list: what follows it there may be nothing.
 abbrev pub Begins : {R : Type 0} → List R → List R → Type 0
 Begins {R} front all = (rest : List R) × (front ++ rest ≡ all)
 

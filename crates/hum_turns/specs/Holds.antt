@@ -18,7 +18,7 @@ pub record HasTurn {R : Type 0} (plan : Plan R) (size : ℕ) (m : Moment R) (k :
 
 pub record Holds {R : Type 0} (plan : Plan R) (size : ℕ) (turns : List ℕ) (m : Moment R)
     : Type 0 where
-  -- what each link has had is a front of what its stage means,
+  -- what each link has had is a prefix of what its stage means,
   pub front : (k : ℕ) → k < plan.count → Begins (given (m k)) (meaning plan k).items
   -- also in every other plan that agrees as far as bytes were read
   pub any_rest : (other : Plan R) → IsPlan other → Agrees plan other m

@@ -10,3 +10,4 @@ pub mod Failures
 pub mod Orders
 pub mod Ends
 pub mod Near
+pub mod Marking

@@ -98,11 +98,13 @@ pub record HasRead {R : Type 0} (plan : Plan R) (k : ℕ) (old new : Moment R) :
   pub within : upto ≤ (plan.stage k).bytes
   pub becomes : Becomes k (record (old k) { read = upto }) old new
 
--- Bytes are read, and then something is done by what these were, or that is left to the next turn.
+-- Bytes are read, and then something is done by what these were. That may be left to the next turn,
+-- but not where the end of the bytes was read.
 pub record ReadsAndDoes {R : Type 0} (plan : Plan R) (k : ℕ) (old new : Moment R) : Type 0 where
   pub between : Moment R
   pub reads : HasRead plan k old between
-  pub does : Same between new ⊎ Does plan k (state plan between k) between new
+  pub does : ((reads.upto < (plan.stage k).bytes) × Same between new)
+      ⊎ Does plan k (state plan between k) between new
 
 abbrev pub Turns : {R : Type 0} → Plan R → ℕ → State → Moment R → Moment R → Type 0
 Turns plan k Gives old new = Does plan k Gives old new

@@ -9,7 +9,7 @@
 //! (a stage or the sink) moves one record, or reads bytes, or passes on its end. Whoever is ready
 //! may be next. The theorem is on every list of such turns, so on every order:
 //!
-//! - what each link has had is a front of what its stage means over its whole inputs, also where
+//! - what each link has had is a prefix of what its stage means over its whole inputs, also where
 //!   the inputs go on in another way than they did ([`every_order`]: `front`, `any_rest`);
 //! - a link never holds more than its size (`links`);
 //! - until the run is over some actor is ready, and whoever is ready has a turn (`progress`,
@@ -20,8 +20,8 @@
 //! - the end that it heard is the fault of the lowest-numbered stage that refuses, the one met
 //!   where the stages are evaluated one after another ([`whose_fault`]);
 //! - where each stage makes scores of scores, what the plan means is one ([`every_meaning_is_fine`]);
-//! - a failed read, a failed write or want of memory may end a run at any turn: what was written
-//!   is still a front of the plan's text, for every way in which the inputs may go on
+//! - a failed read, a failed write or running out of memory may end a run at any turn: what was written
+//!   is still a prefix of the plan's text, for every way in which the inputs may go on
 //!   ([`every_turn`]: `front`);
 //! - so a run that has ended did so by a failure, or it has written exactly the plan's text and
 //!   its result is what the plan means ([`every_end`]);
@@ -29,7 +29,8 @@
 //!   turn while the run goes on ([`every_pick`]), and where nothing fails it comes to the end
 //!   ([`every_order_ends`]);
 //! - a turn changes only links that its actor looks at, so who looks at none of these stays as
-//!   ready as it was ([`every_turn_is_near`]).
+//!   ready as it was ([`every_turn_is_near`]);
+//! - a source sets its end in the turn that meets it ([`every_source_marks`]).
 //!
 //! Each of these is the contract of a function without a body: its statement stands in `specs`,
 //! and what the words mean too. [`Order`] is what code drives a run by, and [`RunResult`] how a
@@ -43,6 +44,6 @@ mod theorems;
 pub use order::{Leftmost, Order, Rightmost, choose};
 pub use result::RunResult;
 pub use theorems::{
-    every_end, every_meaning_is_fine, every_order, every_order_ends, every_pick, every_turn,
-    every_turn_is_near, whose_fault,
+    every_end, every_meaning_is_fine, every_order, every_order_ends, every_pick,
+    every_source_marks, every_turn, every_turn_is_near, whose_fault,
 };

@@ -5,9 +5,10 @@ ghost use Rattle.hum_turns.specs.Failures.{EveryTurn};
 ghost use Rattle.hum_turns.specs.Orders.{EveryPick};
 ghost use Rattle.hum_turns.specs.Ends.{EveryEnd, EveryOrderEnds};
 ghost use Rattle.hum_turns.specs.Near.{EveryTurnIsNear};
+ghost use Rattle.hum_turns.specs.Marking.{EverySourceMarks};
 
 /// At every moment that any turns of ready actors lead to, for links of every size: each link has
-/// had a front of its stage's meaning, the links are bounded, someone is ready until the run is
+/// had a prefix of its stage's meaning, the links are bounded, someone is ready until the run is
 /// over, the turns are bounded, and at the end the whole list was taken.
 pub fn every_order<R>()
     ensures { EveryOrder R }
@@ -25,8 +26,8 @@ pub fn every_meaning_is_fine<R>()
     ensures { EveryMeaningIsFine R }
 {}
 
-/// The same at every moment of a run that a failed read, a failed write or want of memory may
-/// end: what is written is a front of the plan's text, whatever was to be read.
+/// The same at every moment of a run that a failed read, a failed write or running out of memory may
+/// end: what is written is a prefix of the plan's text, whatever was to be read.
 pub fn every_turn<R>()
     ensures { EveryTurn R }
 {}
@@ -52,4 +53,10 @@ pub fn every_order_ends<R, O>()
 /// of its links as ready as they were.
 pub fn every_turn_is_near<R>()
     ensures { EveryTurnIsNear R }
+{}
+
+/// A source's turn gives a record or sets the end, or it has read bytes and not their end: so it sets
+/// the end in the turn that meets it, or meets a fault.
+pub fn every_source_marks<R>()
+    ensures { EverySourceMarks R }
 {}

@@ -12,7 +12,7 @@ use Rattle.hum_record.specs.Contents.{is_data, is_null}
 use Rattle.hum_path.specs.Chains.{reach, columns}
 use Rattle.hum_stage.specs.declared.faults.Rule.{Rule}
 use Rattle.hum_stage.specs.declared.faults.Rule.TheVariants.{L1}
-use Rattle.hum_ditto.specs.declared.DittoOptions.{DittoOptions}
+use Rattle.hum_choices.specs.declared.ditto.DittoOptions.{DittoOptions}
 use Rattle.hum_ditto.specs.Ditto.{is_skipped, may_repeat, repeated, written, filled, all_filled, ditto}
 use Rattle.hum_ditto.proofs.Tokens.{in_parentheses}
 use Rattle.hum_valid.specs.Records.{IsRecord, AreRecords}

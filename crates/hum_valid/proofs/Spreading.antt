@@ -18,7 +18,7 @@ use Rattle.hum_path.specs.Score.{path_after}
 use Rattle.hum_path.proofs.Widths.{text_width}
 use Rattle.hum_stage.specs.declared.faults.Rule.{Rule}
 use Rattle.hum_stage.specs.declared.faults.Rule.TheVariants.{X1, X2, X3, C1, C2, L1}
-use Rattle.hum_columns.specs.Spread.{Piece, tokens_in, goes_on, join_alone, first_alone, first_done, touches, joins_in, before_last, one_by_one, spread, filled}
+use Rattle.hum_columns.specs.Spread.{JoinedToken, tokens_in, goes_on, join_alone, first_alone, first_done, touches, joins_in, before_last, one_by_one, spread, filled}
 use Rattle.hum_columns.specs.Writing.{Fit}
 use Rattle.hum_columns.specs.Chosen.{flags, is_torn, others}
 use Rattle.hum_columns.specs.Deciding.{at_path}
@@ -26,7 +26,9 @@ use Rattle.hum_columns.proofs.Weights.{weight, no_longer}
 use Rattle.hum_columns.proofs.OneByOne.{Lawful, null_lawful, done_fit, alone_fits}
 use Rattle.hum_columns.proofs.ChosenLists.{chosen_all}
 use Rattle.hum_columns.proofs.Flags.{flags_width}
-use Rattle.hum_extract.specs.Choice.{Choice, misses, opening_flags}
+use Rattle.hum_choices.specs.Cleave.{Options, AreLawful, is_name, fits_in_token}
+use Rattle.hum_choices.specs.Extract.{Choice}
+use Rattle.hum_extract.specs.Choice.{misses, opening_flags}
 use Rattle.hum_extract.specs.Extract as extract
 use Rattle.hum_extract.proofs.CutFits as extracted
 use Rattle.hum_cleave.specs.Columns as cleft
@@ -52,15 +54,15 @@ filled_records kind ((t ∷ ts) ∷ records) h =
 
 -- Of the records that some pieces are written in each fits.
 
-piece_tokens : (ps : List Piece) → Lawful ps → AllByRecursion (IsToken Interpretation) (tokens_in ps)
+piece_tokens : (ps : List JoinedToken) → Lawful ps → AllByRecursion (IsToken Interpretation) (tokens_in ps)
 piece_tokens [] h = tt
 piece_tokens (p ∷ ps) h = (h.0, piece_tokens ps h.1)
 
-null_each : (ps : List Piece) → AllByRecursion (IsToken Interpretation) (map (λ _. codes "*") ps)
+null_each : (ps : List JoinedToken) → AllByRecursion (IsToken Interpretation) (map (λ _. codes "*") ps)
 null_each [] = tt
 null_each (p ∷ ps) = (null_lawful, null_each ps)
 
-join_lawful : (ps : List Piece) → Lawful ps → AllByRecursion (IsToken Interpretation) (join_alone ps)
+join_lawful : (ps : List JoinedToken) → Lawful ps → AllByRecursion (IsToken Interpretation) (join_alone ps)
 join_lawful [] h = tt
 join_lawful (p ∷ ps) h = by (goes_on p) (join_lawful ps h.1)
   where
@@ -69,7 +71,7 @@ join_lawful (p ∷ ps) h = by (goes_on p) (join_lawful ps h.1)
     by true more = (h.0, more)
     by false more = null_each (p ∷ ps)
 
-alone_lawful : (ps : List Piece) → Lawful ps → AllByRecursion (IsToken Interpretation) (first_alone ps)
+alone_lawful : (ps : List JoinedToken) → Lawful ps → AllByRecursion (IsToken Interpretation) (first_alone ps)
 alone_lawful [] h = tt
 alone_lawful (p ∷ ps) h = by p.begins (alone_lawful ps h.1)
   where
@@ -78,15 +80,15 @@ alone_lawful (p ∷ ps) h = by p.begins (alone_lawful ps h.1)
     by true more = (h.0, join_lawful ps h.1)
     by false more = (null_lawful, more)
 
-whole_fits : (ps : List Piece) → Fit ps → Fits Interpretation (tokens_in ps)
+whole_fits : (ps : List JoinedToken) → Fit ps → Fits Interpretation (tokens_in ps)
 whole_fits ps h = record { lawful = piece_tokens ps h.lawful; at_most = h.at_most }
 
-each_fits : (n : ℕ) (ps : List Piece) → Fit ps → AllByRecursion (Fits Interpretation) (one_by_one n ps)
+each_fits : (n : ℕ) (ps : List JoinedToken) → Fit ps → AllByRecursion (Fits Interpretation) (one_by_one n ps)
 each_fits zero ps h = (whole_fits ps h, tt)
 each_fits (suc n) ps h =
     (record { lawful = alone_lawful ps h.lawful; at_most = alone_fits ps h }, each_fits n (first_done ps) (done_fit ps h))
 
-spread_fits : (ps : List Piece) → Fit ps → AllByRecursion (Fits Interpretation) (spread ps)
+spread_fits : (ps : List JoinedToken) → Fit ps → AllByRecursion (Fits Interpretation) (spread ps)
 spread_fits ps h = by (touches false ps)
   where
     by : (b : Bool) → AllByRecursion (Fits Interpretation) (cond b (one_by_one (before_last (joins_in ps)) ps) (tokens_in ps ∷ []))
@@ -134,7 +136,7 @@ cut_records fs tokens rows is e =
     lone : Bool
     lone = extract.is_lone (extract.exchanged_flags fs (map sign_of tokens))
 
-    ps : List Piece
+    ps : List JoinedToken
     ps = extract.pieces fs (map (extract.softened lone) tokens)
 
     by : (a b : Bool) → ◌≡◌ {A = Result (List Row) Rule} (cond a (Err X1) (cond b (Err X3) (Ok (filled Interpretation (spread ps))))) (Ok rows)
@@ -182,10 +184,10 @@ not_so : (b : Bool) → not b ≡ true → b ≡ false
 not_so true h = cc
 not_so false h = refl
 
-name_lawful : (name : List ℕ) → cleave.is_name name ≡ true → IsToken Interpretation name
+name_lawful : (name : List ℕ) → is_name name ≡ true → IsToken Interpretation name
 name_lawful name h =
-    let both = and_parts (is_exclusive (sign_of name)) (not (bytes_eq (codes "**") name) && cleave.fits_in_token name) h in
-    let fits = (and_parts (not (bytes_eq (codes "**") name)) (cleave.fits_in_token name) both.1).1 in
+    let both = and_parts (is_exclusive (sign_of name)) (not (bytes_eq (codes "**") name) && fits_in_token name) h in
+    let fits = (and_parts (not (bytes_eq (codes "**") name)) (fits_in_token name) both.1).1 in
     let out = or_parts (has_byte 9 name) (has_byte 13 name || has_byte 10 name) (not_so _ fits) in
     let out2 = or_parts (has_byte 13 name) (has_byte 10 name) out.1 in
     let kind = named name both.0 in
@@ -247,13 +249,13 @@ comment_lawful (t ∷ ts) h = by (is_null_comment t) (comment_lawful ts h.1)
 flags_size : (name : List ℕ) (tokens : List (List ℕ)) → length (cleft.opening_flags name tokens) ≡ length tokens
 flags_size name tokens = length-map tokens _
 
-module _ (options : cleave.Options) (lawful : cleave.AreLawful options) where
+module _ (options : Options) (lawful : AreLawful options) where
   merged_records : (fs : List Bool) (tokens : List (List ℕ)) (rows : List Row) → IsRecord (Spined Interpretation tokens)
       → cleave.merged fs tokens ≡ Ok rows → AreRecords rows
   merged_records fs tokens rows is e =
       by (list_any is_exclusive (chosen fs (map sign_of tokens))) (cleave.is_entangled fs (map sign_of tokens)) e
     where
-      ps : List Piece
+      ps : List JoinedToken
       ps = cleave.pieces fs tokens
 
       by : (a b : Bool) → ◌≡◌ {A = Result (List Row) Rule} (cond a (Err C2) (cond b (Err C1) (Ok (filled Interpretation (spread ps))))) (Ok rows)

@@ -15,13 +15,13 @@ use Rattle.hum_pitch.specs.Pitch.{Spelled, IsWithin}
 use Rattle.hum_kern.specs.Note.{Reading}
 use Rattle.hum_stage.specs.declared.faults.Rule.{Rule}
 use Rattle.hum_stage.specs.declared.faults.Rule.TheVariants.{L1}
-use Rattle.hum_cells.specs.Retelling.{Heading, Renamed, Followed, Retelling, is_kern, kern_columns, is_told, retold, beside, all_retold}
-use Rattle.hum_cells.specs.Retelling.{headed, with_heading, is_long, if_fit, data_record, retell, IsHeading}
+use Rattle.hum_cells.specs.Rewriting.{Heading, Renamed, Followed, Rewriting, is_kern, kern_columns, has_content, rewritten, beside, all_rewritten}
+use Rattle.hum_cells.specs.Rewriting.{headed, with_heading, is_long, if_fit, data_record, rewrite, IsHeading}
 use Rattle.hum_cells.proofs.Headings.{headed_lawful}
-use Rattle.hum_tones.specs.declared.giving.Giving.TheVariants.{Semitones, Durations}
-use Rattle.hum_tones.specs.declared.semits.SemitsOptions.{SemitsOptions}
-use Rattle.hum_tones.specs.declared.recip.RecipOptions.{RecipOptions}
-use Rattle.hum_tones.specs.declared.minting.MintOptions.{MintOptions}
+use Rattle.hum_tones.specs.declared.part_rule.PartRule.TheVariants.{Semitones, Durations}
+use Rattle.hum_choices.specs.declared.semits.SemitsOptions.{SemitsOptions}
+use Rattle.hum_choices.specs.declared.recip.RecipOptions.{RecipOptions}
+use Rattle.hum_choices.specs.declared.mint.MintOptions.{MintOptions}
 use Rattle.hum_tones.specs.Subtokens.{subtokens}
 use Rattle.hum_tones.specs.Mint.{readings, Tone, leading, heard, approached, told, told_of, note_before}
 use Rattle.hum_tones.specs.Commands.{trans, semits, mint, recip}
@@ -36,9 +36,9 @@ use Rattle.hum_valid.proofs.Stages.{DecidesRecords}
 use Rattle.hum_valid.proofs.Pitches.{IsRead, IsReadIf, leading_read, before_read}
 
 -- of a lawful token of data it makes one
-abbrev pub TellsLawful : Retelling → Type 0
-TellsLawful retelling = (above : List (List ℕ)) (token text : List ℕ) → IsToken Values token
-    → retelling.becomes above token ≡ Ok text → IsToken Values text
+abbrev pub TellsLawful : Rewriting → Type 0
+TellsLawful rewriting = (above : List (List ℕ)) (token text : List ℕ) → IsToken Values token
+    → rewriting.becomes above token ≡ Ok text → IsToken Values text
 
 -- records, but for their length
 abbrev pub AreUnmeasured : List Row → Type 0
@@ -93,12 +93,12 @@ heading_records (Followed tandem) tokens h is = by (list_any is_kern tokens)
     )
     by false = ((λ most. is), tt)
 
-module _ (retelling : Retelling) (heading : IsHeading retelling.heading) (sound : TellsLawful retelling) where
+module _ (rewriting : Rewriting) (heading : IsHeading rewriting.heading) (sound : TellsLawful rewriting) where
   one_token : (kern : Bool) (above : List (List ℕ)) (token text : List ℕ) → IsToken Values token
-      → retold retelling.becomes kern above token ≡ Ok text → IsToken Values text
-  one_token kern above token text h e = by (kern && is_told token) e
+      → rewritten rewriting.becomes kern above token ≡ Ok text → IsToken Values text
+  one_token kern above token text h e = by (kern && has_content token) e
     where
-      by : (b : Bool) → cond b (retelling.becomes above token) (Ok token) ≡ Ok text → IsToken Values text
+      by : (b : Bool) → cond b (rewriting.becomes above token) (Ok token) ≡ Ok text → IsToken Values text
       by true e = sound above token text h e
       by false e = let same : token ≡ text = cc in subst (IsToken Values) same h
 
@@ -112,17 +112,17 @@ module _ (retelling : Retelling) (heading : IsHeading retelling.heading) (sound 
       let same : tokens ≡ made = cc in subst (Made tokens) same (h, λ some. some)
 
   all_tokens : (kerns : List Bool) (aboves : List (List (List ℕ))) (tokens made : List (List ℕ)) → AllByRecursion (IsToken Values) tokens
-      → all_retold retelling.becomes kerns aboves tokens ≡ Ok made → Made tokens made
+      → all_rewritten rewriting.becomes kerns aboves tokens ≡ Ok made → Made tokens made
   all_tokens [] aboves tokens made h e = as_they_are tokens made h e
   all_tokens (kern ∷ kerns) [] tokens made h e = as_they_are tokens made h e
   all_tokens (kern ∷ kerns) (above ∷ aboves) [] made h e = as_they_are [] made h e
   all_tokens (kern ∷ kerns) (above ∷ aboves) (token ∷ tokens) made h e =
-      by (retold retelling.becomes kern above token) refl (all_retold retelling.becomes kerns aboves tokens) refl
+      by (rewritten rewriting.becomes kern above token) refl (all_rewritten rewriting.becomes kerns aboves tokens) refl
       (λ more w. (all_tokens kerns aboves tokens more h.1 w).0) e
     where
-      by : (r : Result (List ℕ) Rule) → retold retelling.becomes kern above token ≡ r → (rest : Result (List (List ℕ)) Rule)
-          → all_retold retelling.becomes kerns aboves tokens ≡ rest
-          → ((more : List (List ℕ)) → all_retold retelling.becomes kerns aboves tokens ≡ Ok more → AllByRecursion (IsToken Values) more)
+      by : (r : Result (List ℕ) Rule) → rewritten rewriting.becomes kern above token ≡ r → (rest : Result (List (List ℕ)) Rule)
+          → all_rewritten rewriting.becomes kerns aboves tokens ≡ rest
+          → ((more : List (List ℕ)) → all_rewritten rewriting.becomes kerns aboves tokens ≡ Ok more → AllByRecursion (IsToken Values) more)
           → beside r rest ≡ Ok made → Made (token ∷ tokens) made
       by (Ok text) w (Ok more) x onward e =
           let same : text ∷ more ≡ made = cc in
@@ -130,15 +130,15 @@ module _ (retelling : Retelling) (heading : IsHeading retelling.heading) (sound 
       by (Ok text) w (Err rule) x onward e = cc
       by (Err rule) w rest x onward e = cc
 
-  pub retell_records : DecidesRecords (retell retelling)
-  retell_records past (Comment text) rows opens are e = same_record (Comment text) rows are.0 e
-  retell_records past (Spined Local tokens) rows opens are e = same_record (Spined Local tokens) rows are.0 e
-  retell_records past (Spined Interpretation tokens) rows opens are e =
-      if_fit_records (with_heading retelling.heading tokens) rows (heading_records retelling.heading tokens heading are.0) e
-  retell_records past (Spined Values tokens) rows opens are e =
-      by (all_retold retelling.becomes (kern_columns past) (columns past) tokens) refl e
+  pub rewrite_records : DecidesRecords (rewrite rewriting)
+  rewrite_records past (Comment text) rows opens are e = same_record (Comment text) rows are.0 e
+  rewrite_records past (Spined Local tokens) rows opens are e = same_record (Spined Local tokens) rows are.0 e
+  rewrite_records past (Spined Interpretation tokens) rows opens are e =
+      if_fit_records (with_heading rewriting.heading tokens) rows (heading_records rewriting.heading tokens heading are.0) e
+  rewrite_records past (Spined Values tokens) rows opens are e =
+      by (all_rewritten rewriting.becomes (kern_columns past) (columns past) tokens) refl e
     where
-      by : (r : Result (List (List ℕ)) Rule) → all_retold retelling.becomes (kern_columns past) (columns past) tokens ≡ r
+      by : (r : Result (List (List ℕ)) Rule) → all_rewritten rewriting.becomes (kern_columns past) (columns past) tokens ≡ r
           → data_record r ≡ Ok rows → AreRecords rows
       by (Ok made) w e =
           let is = all_tokens (kern_columns past) (columns past) tokens made are.0.2 w in
@@ -157,19 +157,19 @@ recip_name : IsHeading (Renamed (codes "**recip"))
 recip_name = (record { filled = λ e. cc; one_token = refl; one_line = refl; no_line_end = refl; of_kind = refl; no_comment = refl }, refl, refl)
 
 pub trans_records : (steps semitones : ℤ) → IsWithin (negsuc 48) steps (pos 49) → IsWithin (negsuc 83) semitones (pos 84)
-    → DecidesRecords (retell (trans steps semitones))
+    → DecidesRecords (rewrite (trans steps semitones))
 trans_records steps semitones few less =
-    retell_records (trans steps semitones) (sign_lawful steps semitones few less, refl)
+    rewrite_records (trans steps semitones) (sign_lawful steps semitones few less, refl)
     (λ above token text h e. moved_lawful steps semitones token text e h)
 
-pub semits_records : (options : SemitsOptions) → DecidesRecords (retell (semits options))
+pub semits_records : (options : SemitsOptions) → DecidesRecords (rewrite (semits options))
 semits_records options =
-    retell_records (semits options) semits_name
+    rewrite_records (semits options) semits_name
     (λ above token text h e. given_lawful (Semitones options.ties_left_out) token text e h)
 
-pub recip_records : (options : RecipOptions) → DecidesRecords (retell (recip options))
+pub recip_records : (options : RecipOptions) → DecidesRecords (rewrite (recip options))
 recip_records options =
-    retell_records (recip options) recip_name (λ above token text h e. given_lawful Durations token text e h)
+    rewrite_records (recip options) recip_name (λ above token text h e. given_lawful Durations token text e h)
 
 rest_token : IsToken Values (codes "r")
 rest_token = record { filled = λ e. cc; one_token = refl; one_line = refl; no_line_end = refl; of_kind = refl; no_comment = refl }
@@ -210,5 +210,5 @@ minted_token options above token text h e = by (readings token) refl e
         subst (IsToken Values) same (lead all w (leading all) refl)
     by (Err rule) w e = cc
 
-pub mint_records : (options : MintOptions) → DecidesRecords (retell (mint options))
-mint_records options = retell_records (mint options) mint_name (minted_token options)
+pub mint_records : (options : MintOptions) → DecidesRecords (rewrite (mint options))
+mint_records options = rewrite_records (mint options) mint_name (minted_token options)

@@ -16,7 +16,8 @@ use Rattle.hum_stage.specs.declared.faults.Rule.TheVariants.{K3, B1, B2, F1}
 use Rattle.hum_timebase.specs.Notes.{timed_in, is_barline_record, notes_of, has_misread}
 use Rattle.hum_timebase.specs.Ends.{Note, latest, next_end, living_before}
 use Rattle.hum_timebase.specs.Clock.{Clock, clock_after, time_after}
-use Rattle.hum_timebase.specs.Timebase.{Pace, clashes, is_too_long, null_row, around, on_grid, count_before, count_after, timed_rows, living_at}
+use Rattle.hum_choices.specs.Timebase.{Pace}
+use Rattle.hum_timebase.specs.Timebase.{clashes, is_too_long, null_row, around, on_grid, count_before, count_after, timed_rows, living_at}
 use Rattle.hum_timebase.specs.Timebase.{data_rows, names_some, tb_token, tb_row, timebase}
 use Rattle.hum_timebase.specs.Writing.{IsPace}
 use Rattle.hum_timebase.proofs.Writing.{null_fits, tb_short, few_tokens}

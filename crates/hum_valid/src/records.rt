@@ -1,6 +1,6 @@
 //! What stages make of lawful records, as contracts.
 ghost use Rattle.std.specs.Prelude.{ℕ, List};
-ghost use Rattle.hum_cleave.specs.Cleave.{AreLawful};
+ghost use Rattle.hum_choices.specs.Cleave.{AreLawful};
 ghost use Rattle.hum_commands.specs.Meaning.{meaning};
 ghost use Rattle.hum_nodes.specs.Trees.{Part};
 ghost use Rattle.hum_valid.specs.Records.{KeepsRecords, MergesRecords};

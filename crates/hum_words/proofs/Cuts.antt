@@ -12,8 +12,8 @@ use Rattle.hum_words.specs.Writing.{IsBare, IsQuotable, Plain, Delimited, Begins
 use Rattle.hum_words.specs.Writing.{IsWritten, IsWrong, Unclosed, Within, Joined, IsWrongAt}
 use Rattle.hum_words.specs.Cutting.{Cut, Between, Inside, Quoted, Closed, cut, cut_line, onto, followed_by, Tells, Gives, GivesItems}
 use Rattle.hum_words.specs.declared.cutting.Piece.{Piece}
-use Rattle.hum_words.specs.declared.cutting.LineFault.{LineFault}
-use Rattle.hum_words.specs.declared.cutting.LineFault.TheVariants.{Quote, Memory}
+use Rattle.hum_words.specs.declared.cutting.WordFault.{WordFault}
+use Rattle.hum_words.specs.declared.cutting.WordFault.TheVariants.{Quote, Memory}
 
 -- blanks give nothing
 cut_trimmed : (n : ℕ) (xs : List ℕ) → cut Between n (trimmed xs) ≡ cut Between n xs
@@ -234,13 +234,13 @@ wrong_at k line h =
     ∙ ap (followed_by h.0) (sym (cut_trimmed h.1 h.2) ∙ wrong h.1 (trimmed h.2) h.5)
     ∙ ap Err (sym h.4)
 
-pub exact : (r : Result (Vec Piece Global) LineFault) (line : List ℕ) → Tells r line
+pub exact : (r : Result (Vec Piece Global) WordFault) (line : List ℕ) → Tells r line
     → Gives r (cut_line line)
 exact (Ok pieces) line h = written (items_of pieces.items) line h
 exact (Err (Quote k)) line h = wrong_at k line h
 exact (Err Memory) line h = tt
 
-pub only : (r : Result (Vec Piece Global) LineFault) (line : List ℕ) → Tells r line
+pub only : (r : Result (Vec Piece Global) WordFault) (line : List ℕ) → Tells r line
     → (items : List Item)
     → IsWritten items line → GivesItems r items
 only (Ok pieces) line h items w =

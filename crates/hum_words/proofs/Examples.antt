@@ -8,7 +8,7 @@ use Rattle.hum_words.specs.Pieces.{Word, Bar}
 use Rattle.hum_words.specs.Cutting.{cut, cut_line}
 use Rattle.hum_words.specs.Names.{name_in}
 use Rattle.hum_words.specs.Text.{fault_of}
-use Rattle.hum_words.specs.declared.text.TextFault.TheVariants.{NotUtf8}
+use Rattle.hum_words.specs.declared.text.PlanTextFault.TheVariants.{NotUtf8}
 use Rattle.std.specs.Str.{is_utf8, chars}
 use Rattle.std.specs.Str.Lossy.{utf8_valid_len}
 

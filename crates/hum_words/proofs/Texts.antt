@@ -6,8 +6,8 @@ use Rattle.std.specs.Prelude.{nat_lt, if◌then◌else◌}
 use Rattle.std.specs.Str.{IsUtf8, is_utf8}
 use Rattle.std.specs.Str.Lossy.{utf8_valid_len}
 use Rattle.hum_words.specs.Text.{longest, line_behind, fault_of}
-use Rattle.hum_words.specs.declared.text.TextFault.{TextFault}
-use Rattle.hum_words.specs.declared.text.TextFault.TheVariants.{TooLong, NotUtf8}
+use Rattle.hum_words.specs.declared.text.PlanTextFault.{PlanTextFault}
+use Rattle.hum_words.specs.declared.text.PlanTextFault.TheVariants.{TooLong, NotUtf8}
 
 above : (n : ℕ) → longest < n → nat_lt longest n ≡ true
 above n h = grind (arith, nat_tests)
@@ -29,7 +29,7 @@ pub no_utf8 : (bytes : List ℕ) (n line : ℕ) → length bytes ≤ longest →
 unfolding fault_of
 no_utf8 bytes n line h u e l = rw (within _ h, l, e) (go (is_utf8 bytes) refl)
   where
-    here : TextFault
+    here : PlanTextFault
     here = NotUtf8 (line_behind (take (utf8_valid_len bytes) bytes))
 
     go : (v : Bool) → is_utf8 bytes ≡ v → (if v then None else Some here) ≡ Some here

@@ -7,8 +7,8 @@ use Rattle.hum_words.specs.Characters.{is_blank, is_bar, is_quote}
 use Rattle.hum_words.specs.Pieces.{Item, Word, Bar, items_of}
 use Rattle.hum_words.specs.Writing.{IsWritten, IsWrongAt}
 use Rattle.hum_words.specs.declared.cutting.Piece.{Piece}
-use Rattle.hum_words.specs.declared.cutting.LineFault.{LineFault}
-use Rattle.hum_words.specs.declared.cutting.LineFault.TheVariants.{Quote, Memory}
+use Rattle.hum_words.specs.declared.cutting.WordFault.{WordFault}
+use Rattle.hum_words.specs.declared.cutting.WordFault.TheVariants.{Quote, Memory}
 
 -- the pieces of a line, or the number of the word that is wrong with its quotes
 abbrev pub Cut : Type 0
@@ -60,19 +60,19 @@ abbrev pub cut_line : List ℕ → Cut
 cut_line = cut Between 0
 
 -- What was answered says how a line is written, or which word is wrong, unless memory ran out.
-abbrev pub Tells : Result (Vec Piece Global) LineFault → List ℕ → Type 0
+abbrev pub Tells : Result (Vec Piece Global) WordFault → List ℕ → Type 0
 Tells (Ok pieces) line = IsWritten (items_of pieces.items) line
 Tells (Err (Quote k)) line = IsWrongAt k line
 Tells (Err Memory) line = Unit {0}
 
 -- what was answered is this cut, unless memory ran out
-abbrev pub Gives : Result (Vec Piece Global) LineFault → Cut → Type 0
+abbrev pub Gives : Result (Vec Piece Global) WordFault → Cut → Type 0
 Gives (Ok pieces) read = read ≡ Ok (items_of pieces.items)
 Gives (Err (Quote k)) read = read ≡ Err k
 Gives (Err Memory) read = Unit {0}
 
 -- what was answered are these pieces, unless memory ran out
-abbrev pub GivesItems : Result (Vec Piece Global) LineFault → List Item → Type 0
+abbrev pub GivesItems : Result (Vec Piece Global) WordFault → List Item → Type 0
 GivesItems (Ok pieces) items = items_of pieces.items ≡ items
 GivesItems (Err (Quote k)) items = ⊥
 GivesItems (Err Memory) items = Unit {0}

@@ -7,7 +7,7 @@ ghost use Rattle.hum_words.specs.Pieces.{Item, number_of, item_of};
 ghost use Rattle.hum_words.specs.Writing.{BeginsWith, BeginsWithWord};
 ghost use Rattle.hum_words.specs.Writing.{IsWrong, IsWritten};
 ghost use Rattle.hum_words.specs.Cutting.{Tells, Gives, GivesItems, cut_line};
-ghost use Rattle.hum_words.specs.declared.cutting.LineFault.TheVariants.{Quote, Memory};
+ghost use Rattle.hum_words.specs.declared.cutting.WordFault.TheVariants.{Quote, Memory};
 
 use crate::characters::{bare_len, is_apart, skip_blanks};
 use std::alloc::{AllocFailed, Global};
@@ -23,7 +23,7 @@ pub enum Piece<'a> {
 
 /// Why a line isn't cut into pieces.
 #[derive(Clone, Copy, Debug, Error)]
-pub enum LineFault {
+pub enum WordFault {
     /// The number of a word with a quote that isn't closed, with a quote in it, or with something
     /// else than a blank, a bar or the line's end behind its closing quote.
     #[error("N2: a quote in word {0} isn't closed, or doesn't stand alone")]
@@ -33,11 +33,11 @@ pub enum LineFault {
     Memory,
 }
 
-impl<T: Drop> From<AllocFailed<T>> for LineFault {
+impl<T: Drop> From<AllocFailed<T>> for WordFault {
     ghost from_gives = { λ _ e. e ≡ Memory };
 
-    fn from(_e: AllocFailed<T>) -> LineFault {
-        LineFault::Memory
+    fn from(_e: AllocFailed<T>) -> WordFault {
+        WordFault::Memory
     }
 }
 
@@ -98,7 +98,7 @@ fn first_word(line: &str) -> Option<(&str, &str)>
 }
 
 /// The piece at the front of a line, behind as many words, and what follows it.
-fn first_piece(line: &str, words: u32) -> Result<(Piece<'_>, &str), LineFault>
+fn first_piece(line: &str, words: u32) -> Result<(Piece<'_>, &str), WordFault>
     requires filled { 0 < length line.now }
     requires first { begins_blank line.now ≡ false }
     requires room { words + 1 < 2 ^ 32 }
@@ -113,12 +113,12 @@ fn first_piece(line: &str, words: u32) -> Result<(Piece<'_>, &str), LineFault>
     }
     match first_word(line) {
         Some((word, rest)) => Ok((Piece::Word(words + 1, word), rest)),
-        None => Err(LineFault::Quote(words + 1)),
+        None => Err(WordFault::Quote(words + 1)),
     }
 }
 
 /// The pieces of a line, each cut off its front.
-fn cut(alloc: Global, line: &str) -> Result<Vec<Piece<'_>>, LineFault>
+fn cut(alloc: Global, line: &str) -> Result<Vec<Piece<'_>>, WordFault>
     requires { length line.now ≤ 65536 }
     ensures { Tells result line.now }
 {
@@ -139,7 +139,7 @@ fn cut(alloc: Global, line: &str) -> Result<Vec<Piece<'_>>, LineFault>
 /// # Errors
 /// `Quote` exactly where a word of the line is wrong with its quotes, with the number of the first
 /// such word; `Memory`.
-pub fn pieces(alloc: Global, line: &str) -> Result<Vec<Piece<'_>>, LineFault>
+pub fn pieces(alloc: Global, line: &str) -> Result<Vec<Piece<'_>>, WordFault>
     requires { length line.now ≤ 65536 }
     // The line is written by what is answered, or the word is wrong.
     ensures told { Tells result line.now }

@@ -20,6 +20,6 @@ mod text;
 
 pub use branches::{Line, Lines, line_count};
 pub use bundle::{LARGEST_BUNDLE, is_too_large, plan_part, score};
-pub use cutting::{LineFault, Piece, pieces};
+pub use cutting::{Piece, WordFault, pieces};
 pub use naming::name_of;
-pub use text::{LONGEST_PLAN, TextFault, plan_text};
+pub use text::{LONGEST_PLAN, PlanTextFault, plan_text};

@@ -13,7 +13,7 @@ pub const LONGEST_PLAN: usize = 65_536;
 
 /// Why bytes are no text of a plan.
 #[derive(Clone, Copy, Debug, Error)]
-pub enum TextFault {
+pub enum PlanTextFault {
     /// There are over 65,536 bytes.
     #[error("N1: a plan of over 65,536 bytes")]
     TooLong,
@@ -35,7 +35,7 @@ fn line_ends(bytes: &[u8]) -> usize
 /// # Errors
 /// `TooLong` exactly where there are more bytes, and `NotUtf8` exactly where there aren't and they
 /// are no UTF-8.
-pub fn plan_text(bytes: &[u8]) -> Result<&str, TextFault>
+pub fn plan_text(bytes: &[u8]) -> Result<&str, PlanTextFault>
     // The text is the bytes.
     ensures text { IfOk result (λ text. text.now ≡ bytes.now) }
     ensures short { OnOk result (length bytes.now ≤ longest) }
@@ -47,13 +47,13 @@ pub fn plan_text(bytes: &[u8]) -> Result<&str, TextFault>
         (λ fault. fault_of bytes.now ≡ Some fault) }
 {
     if bytes.len() > LONGEST_PLAN {
-        return Err(TextFault::TooLong);
+        return Err(PlanTextFault::TooLong);
     }
     match str::from_utf8(bytes) {
         Ok(text) => Ok(text),
         Err(error) => {
             let line = line_ends(&bytes[..error.valid_up_to()]) as u32 + 1;
-            Err(TextFault::NotUtf8 { line })
+            Err(PlanTextFault::NotUtf8 { line })
         }
     }
 }

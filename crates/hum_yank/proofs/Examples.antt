@@ -10,8 +10,8 @@ use Rattle.hum_stage.specs.declared.faults.Rule.{Rule}
 use Rattle.hum_stage.specs.declared.faults.Rule.TheVariants.{H1}
 use Rattle.hum_stage.specs.Outcome.{settled, refusal}
 use Rattle.hum_stage.specs.Look.{outcomes_from}
-use Rattle.hum_yank.specs.declared.options.YankRange.{YankRange}
-use Rattle.hum_yank.specs.declared.options.YankRange.TheVariants.{Through, Onward, ToEnd, FromEnd}
+use Rattle.hum_choices.specs.declared.yank.YankRange.{YankRange}
+use Rattle.hum_choices.specs.declared.yank.YankRange.TheVariants.{Through, Onward, ToEnd, FromEnd}
 use Rattle.hum_yank.specs.Passages.{Form, Lines, Numbers, Occurrences, Labels}
 use Rattle.hum_yank.specs.Yank.{yank}
 

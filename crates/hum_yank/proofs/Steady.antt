@@ -17,8 +17,8 @@ use Rattle.hum_stage.specs.Order.{passed-push}
 use Rattle.hum_stage.specs.Look.{IsSteady}
 use Rattle.hum_yank.specs.Passages.{Form, Lines, Numbers, Occurrences, Labels, last_of}
 use Rattle.hum_yank.specs.Passages.{is_counted}
-use Rattle.hum_yank.specs.declared.options.YankRange.{YankRange}
-use Rattle.hum_yank.specs.declared.options.YankRange.TheVariants.{Through, Onward, ToEnd, FromEnd}
+use Rattle.hum_choices.specs.declared.yank.YankRange.{YankRange}
+use Rattle.hum_choices.specs.declared.yank.YankRange.TheVariants.{Through, Onward, ToEnd, FromEnd}
 use Rattle.hum_yank.specs.Yank.{Choice, chosen_by, chooses_early, chooses_late, chooses_now}
 use Rattle.hum_yank.specs.Yank.{drops_now, to_spined, is_chosen, last_at, is_yanked, kept}
 use Rattle.hum_yank.specs.Yank.{yank_numbered, yank}

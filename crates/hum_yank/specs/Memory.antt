@@ -11,8 +11,8 @@ use Rattle.hum_path.specs.Rules.{is_closed}
 use Rattle.hum_path.specs.Score.{path_after, passed}
 use Rattle.hum_stage.specs.declared.faults.Rule.{Rule}
 use Rattle.hum_stage.specs.Look.{Look}
-use Rattle.hum_yank.specs.declared.options.YankOptions.{YankOptions}
-use Rattle.hum_yank.specs.declared.options.YankRange.{YankRange}
+use Rattle.hum_choices.specs.declared.yank.YankOptions.{YankOptions}
+use Rattle.hum_choices.specs.declared.yank.YankRange.{YankRange}
 use Rattle.hum_yank.specs.declared.passages.Passages.{Passages}
 use Rattle.hum_yank.specs.declared.held.Held.{Held}
 use Rattle.hum_yank.specs.declared.held.Held.TheVariants.{Stays, Goes, Waits}

@@ -4,12 +4,12 @@ use Rattle.hum_pattern.specs.Meaning.{matched, first_end}
 use Rattle.hum_stage.specs.declared.faults.Command.TheVariants.{Yank}
 use Rattle.hum_stage.specs.Meaning.{Meaning}
 use Rattle.hum_stage.specs.Look.{looking}
-use Rattle.hum_yank.specs.declared.options.Markers.{Markers}
-use Rattle.hum_yank.specs.declared.options.Markers.TheVariants.{Lines as ByLine}
-use Rattle.hum_yank.specs.declared.options.Markers.TheVariants.{Numbers as ByNumber}
-use Rattle.hum_yank.specs.declared.options.Markers.TheVariants.{Occurrences as ByOccurrence}
-use Rattle.hum_yank.specs.declared.options.Markers.TheVariants.{Labels as ByLabel}
-use Rattle.hum_yank.specs.declared.options.YankOptions.{YankOptions}
+use Rattle.hum_choices.specs.declared.yank.Markers.{Markers}
+use Rattle.hum_choices.specs.declared.yank.Markers.TheVariants.{Lines as ByLine}
+use Rattle.hum_choices.specs.declared.yank.Markers.TheVariants.{Numbers as ByNumber}
+use Rattle.hum_choices.specs.declared.yank.Markers.TheVariants.{Occurrences as ByOccurrence}
+use Rattle.hum_choices.specs.declared.yank.Markers.TheVariants.{Labels as ByLabel}
+use Rattle.hum_choices.specs.declared.yank.YankOptions.{YankOptions}
 use Rattle.hum_yank.specs.Passages.{Form, Lines, Numbers, Occurrences, Labels}
 use Rattle.hum_yank.specs.Yank.{Choice, yank}
 

@@ -7,8 +7,8 @@ use Rattle.hum_record.specs.Row.{Row, Comment, Spined}
 use Rattle.hum_stage.specs.declared.faults.Rule.{Rule}
 use Rattle.hum_path.specs.Rules.{is_unfinished, is_closed}
 use Rattle.hum_path.specs.Score.{path_after, passed}
-use Rattle.hum_yank.specs.declared.options.YankRange.{YankRange}
-use Rattle.hum_yank.specs.declared.options.YankRange.TheVariants.{Through, Onward, ToEnd, FromEnd}
+use Rattle.hum_choices.specs.declared.yank.YankRange.{YankRange}
+use Rattle.hum_choices.specs.declared.yank.YankRange.TheVariants.{Through, Onward, ToEnd, FromEnd}
 use Rattle.hum_yank.specs.Passages.{Form, passage_of, last_of}
 
 -- how passages are marked, and which are chosen

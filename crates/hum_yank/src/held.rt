@@ -2,8 +2,8 @@
 ghost use Rattle.std.specs.Prelude.{◌≡◌};
 ghost use Rattle.hum_yank.specs.Memory.{numbered_held, held_of, decided_of, given, adds};
 
-use crate::options::YankRange;
 use crate::ranges::{any_early, is_chosen};
+use hum_choices::YankRange;
 use hum_record::{Kind, Record};
 
 /// What is kept of a record, whose passage is known.

@@ -9,15 +9,14 @@
 mod held;
 mod marking;
 mod memory;
-mod options;
 mod passages;
 mod ranges;
 
+pub use hum_choices::{Markers, YankOptions, YankRange};
 use hum_stage::Lagging;
-pub use memory::Memory;
-pub use options::{Markers, YankOptions, YankRange};
+pub use memory::PassageMemory;
 
 /// The command yank, as a stage.
 ///
 /// H1: a record that is still undecided with 65,536 records behind it is refused, at its line.
-pub type Yank = Lagging<Memory>;
+pub type Yank = Lagging<PassageMemory>;

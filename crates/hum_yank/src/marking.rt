@@ -10,7 +10,7 @@ ghost use Rattle.hum_yank.specs.Passages.{is_last};
 ghost use Rattle.hum_yank.specs.Options.{form_of, matched_by};
 ghost use Rattle.hum_yank.specs.Marks.{mark_of, marked, labelled};
 
-use crate::options::Markers;
+use hum_choices::Markers;
 use hum_pattern::Pattern;
 use hum_record::{Kind, Record, is_null};
 
@@ -180,35 +180,33 @@ fn first_label(name: &[u8], row: &Record) -> Mark
     Mark::Inside
 }
 
-impl Markers {
-    /// What a record begins.
-    pub(crate) fn mark(&mut self, row: &Record) -> Mark
-        ensures mark { result ≡ mark_of (form_of self.old) row.now }
-        ensures kept { self.new ≡ self.old }
-    {
-        match self {
-            Markers::Lines => Mark::Counted,
-            Markers::Numbers(pattern) => mark_numbers(pattern, row),
-            Markers::Occurrences(begins, _) => if has_value(begins, row) {
-                Mark::Counted
-            } else {
-                Mark::Inside
-            },
-            Markers::Labels(name) => mark_labels(name, row),
-        }
+/// What a record begins.
+pub(crate) fn mark_of(markers: &mut Markers, row: &Record) -> Mark
+    ensures mark { result ≡ mark_of (form_of markers.old) row.now }
+    ensures kept { markers.new ≡ markers.old }
+{
+    match markers {
+        Markers::Lines => Mark::Counted,
+        Markers::Numbers(pattern) => mark_numbers(pattern, row),
+        Markers::Occurrences(begins, _) => if has_value(begins, row) {
+            Mark::Counted
+        } else {
+            Mark::Inside
+        },
+        Markers::Labels(name) => mark_labels(name, row),
     }
+}
 
-    /// Whether a passage ends with a record.
-    pub(crate) fn ends(&mut self, row: &Record) -> bool
-        ensures ends { result ≡ is_last (form_of self.old) row.now }
-        ensures kept { self.new ≡ self.old }
-    {
-        match self {
-            Markers::Lines => false,
-            Markers::Numbers(_) => false,
-            Markers::Occurrences(_, ends) => has_value_if(ends, row),
-            Markers::Labels(_) => false,
-        }
+/// Whether a passage ends with a record.
+pub(crate) fn is_last(markers: &mut Markers, row: &Record) -> bool
+    ensures ends { result ≡ is_last (form_of markers.old) row.now }
+    ensures kept { markers.new ≡ markers.old }
+{
+    match markers {
+        Markers::Lines => false,
+        Markers::Numbers(_) => false,
+        Markers::Occurrences(_, ends) => has_value_if(ends, row),
+        Markers::Labels(_) => false,
     }
 }
 

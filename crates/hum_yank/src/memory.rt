@@ -5,8 +5,8 @@ ghost use Rattle.hum_yank.specs.Memory.{adds};
 ghost use Rattle.hum_yank.specs.Marks.{last_in};
 
 use crate::held::{Held, adds};
-use crate::options::{Markers, YankOptions};
 use crate::passages::Passages;
+use hum_choices::{Markers, YankOptions};
 use hum_path::Paths;
 use hum_record::Record;
 use hum_stage::{Command, LooksAhead, Refusal, Verdict};
@@ -15,7 +15,7 @@ use std::collections::VecDeque;
 
 /// The spines, the passage at hand and the last number.
 #[derive(Drop)]
-pub struct Memory {
+pub struct PassageMemory {
     options: YankOptions,
     paths: Paths,
     passages: Passages,
@@ -35,7 +35,7 @@ fn last_after(passages: &Passages, markers: &Markers, row: &Record, closed: bool
     }
 }
 
-impl LooksAhead for Memory {
+impl LooksAhead for PassageMemory {
     type Options = YankOptions;
 
     type Held = Held;
@@ -58,9 +58,9 @@ impl LooksAhead for Memory {
         Command::Yank
     }
 
-    fn begin(alloc: Global, options: YankOptions) -> Memory {
+    fn begin(alloc: Global, options: YankOptions) -> PassageMemory {
         let passages = Passages::new(&options.markers);
-        Memory {
+        PassageMemory {
             options,
             paths: Paths::new(alloc),
             passages,

@@ -5,8 +5,8 @@ ghost use Rattle.hum_yank.specs.Options.{form_of};
 ghost use Rattle.hum_yank.specs.Marks.{mark_of, passages_of, inside, begun};
 ghost use Rattle.hum_yank.specs.Marks.{next_passages, number_in, last_in};
 
-use crate::marking::Mark;
-use crate::options::Markers;
+use crate::marking::{Mark, is_last, mark_of};
+use hum_choices::Markers;
 use hum_record::Record;
 
 /// What is remembered of passages.
@@ -75,8 +75,8 @@ impl Passages {
         ensures kept { markers.new ≡ markers.old }
     {
         let before = *self;
-        let ends = markers.ends(row);
-        match markers.mark(row) {
+        let ends = is_last(markers, row);
+        match mark_of(markers, row) {
             Mark::Inside => {
                 *self = before.inside(ends);
                 if before.ended { None } else { before.number }

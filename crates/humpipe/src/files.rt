@@ -11,7 +11,7 @@ use std::fs::{self, File};
 /// The opened file of each stage that reads a score, in their order.
 ///
 /// # Errors
-/// What the run ends with: the first stage whose file doesn't open, or want of memory.
+/// What the run ends with: the first stage whose file doesn't open, or running out of memory.
 fn open_all(rt: &HostRuntime, plan: &Plan) -> Result<Vec<Marked<File>>, Outcome>
     requires { IsTree plan.now }
     ensures count { IfOk result (λ readers. length (reads_of plan.now) ≡ length readers.items) }

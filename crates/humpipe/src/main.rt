@@ -103,7 +103,7 @@ fn run_choice<O: Order>(rt: &HostRuntime, choice: Choice<'_>, order: &mut O) -> 
 /// Runs what the command line asks for.
 ///
 /// # Errors
-/// Want of memory.
+/// Out of memory.
 fn run_program(rt: &HostRuntime) -> io::Result<Ending> {
     let words: Vec<String> = match env::args(rt) {
         Ok(words) => words.collect(rt.alloc())?,

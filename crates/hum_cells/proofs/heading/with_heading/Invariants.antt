@@ -1,9 +1,9 @@
 use Rattle.std.proofs.Common.{◌≡◌, map, take}
 use Rattle.hum_record.specs.declared.SpinedKind.TheVariants.{Interpretation}
 use Rattle.hum_record.specs.Row.{tokens_of}
-use Rattle.hum_cells.specs.Retelling.{headed}
-use Rattle.hum_cells.specs.Telling.{shown}
-use Rattle.hum_record.specs.Making.{Holds}
+use Rattle.hum_cells.specs.Rewriting.{headed}
+use Rattle.hum_cells.specs.Rewriter.{shown}
+use Rattle.hum_record.specs.RecordDraft.{Holds}
 use Rattle.hum_cells.proofs.heading.with_heading.Given as goal
 
 abbrev pub invariant-loop-j : goal.invariant-loop-j

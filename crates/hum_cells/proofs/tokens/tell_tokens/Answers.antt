@@ -8,7 +8,7 @@ use Rattle.hum_cells.proofs.tokens.tell_tokens.Goals as goal
 pub loop-j-init : goal.loop-j-init
 loop-j-init g c = record {
   kind = c.new-making.ensures.of_kind;
-  told = λ retelling past h kern sound. (h, none_done retelling.becomes _ _ _ c.new-making.ensures);
+  told = λ rewriting past h kern sound. (h, none_done rewriting.becomes _ _ _ c.new-making.ensures);
 }
 
 pub bounds-kern-j : goal.bounds-kern-j
@@ -31,10 +31,10 @@ push_told-requires-clause-column g c =
     let at = c.loop-j-test.true in
     let size = wider m.past c.args.row.now m.score c.requires.kind in
     record {
-      retelling = m.retelling;
+      rewriting = m.rewriting;
       past = c.args.row.now ∷ m.past;
       above = history m.past c.loop-j.j;
-      memory = (c.loop-j.invariant.told m.retelling m.past m.memory m.kern_is m.score).0;
+      memory = (c.loop-j.invariant.told m.rewriting m.past m.memory m.kern_is m.score).0;
       column = omega (arith, wide, width, at, size);
       cell = last_cell m.past c.args.row.now c.loop-j.j c.token.result.now m.score c.requires.kind
           (omega (arith, width, at)) c.token.ensures.token;
@@ -43,9 +43,9 @@ push_told-requires-clause-column g c =
 pub returns-in_err-push_told : goal.returns-in_err-push_told
 returns-in_err-push_told g c =
     answered_on c.from_residual.result c.in_err-push_told.field-0.0 _ _ c.from_residual.ensures.1 c.in_err-push_told.ensures.pushed
-    (λ rule pushed retelling past h kern sound.
-    let before = c.loop-j.invariant.told retelling past h kern sound in
-    let p = pushed retelling (c.args.row.now ∷ past) (history past c.loop-j.j) before.0
+    (λ rule pushed rewriting past h kern sound.
+    let before = c.loop-j.invariant.told rewriting past h kern sound in
+    let p = pushed rewriting (c.args.row.now ∷ past) (history past c.loop-j.j) before.0
     (last_cell past c.args.row.now c.loop-j.j c.token.result.now sound c.requires.kind
     (let width = c.width-j-end.ensures in let at = c.loop-j-test.true in omega (arith, width, at)) c.token.ensures.token) in
     let wide = as_wide past c.args.row.now sound c.requires.kind in
@@ -57,15 +57,15 @@ returns-in_err-push_told g c =
     (omega (arith, kerns, width, at)) (omega (arith, columns, width, at)) (omega (arith, width, at))
     before.1 (rw c.token.ensures.token at p.1) in (
       p.0,
-      told_data retelling past c.args.row.now c.requires.kind ∙ rw (← kern, refused) refl,
+      told_data rewriting past c.args.row.now c.requires.kind ∙ rw (← kern, refused) refl,
     ))
 
 pub loop-j-preserved : goal.loop-j-preserved
 loop-j-preserved g c = record {
   kind = c.in_ok-push_told.ensures.kind;
-  told = λ retelling past h kern sound.
-      let before = c.loop-j.invariant.told retelling past h kern sound in
-      let p = c.in_ok-push_told.ensures.pushed retelling (c.args.row.now ∷ past) (history past c.loop-j.j) before.0
+  told = λ rewriting past h kern sound.
+      let before = c.loop-j.invariant.told rewriting past h kern sound in
+      let p = c.in_ok-push_told.ensures.pushed rewriting (c.args.row.now ∷ past) (history past c.loop-j.j) before.0
       (last_cell past c.args.row.now c.loop-j.j c.token.result.now sound c.requires.kind
       (let width = c.width-j-end.ensures in let at = c.loop-j-test.true in omega (arith, width, at)) c.token.ensures.token) in
       let wide = as_wide past c.args.row.now sound c.requires.kind in
@@ -81,25 +81,25 @@ loop-j-preserved g c = record {
 }
 
 pub returns-in-Some : goal.returns-in-Some
-returns-in-Some g c = λ retelling past h kern sound.
-    let before = c.loop-j.invariant.told retelling past h kern sound in
+returns-in-Some g c = λ rewriting past h kern sound.
+    let before = c.loop-j.invariant.told rewriting past h kern sound in
     let width = c.width-j-end.ensures in
     let at = c.loop-j-test.false in
     let d = before.1 in
     let all = done_all _ _ _ _ _ _ _ (omega (arith, width, at)) d in
     let made = c.in-Some.ensures _ d.done d.holds in (
       before.0,
-      told_data retelling past c.args.row.now c.requires.kind ∙ rw (← kern, all, made.0) (fits d.done made.1),
+      told_data rewriting past c.args.row.now c.requires.kind ∙ rw (← kern, all, made.0) (fits d.done made.1),
     )
 
 pub returns-in-None : goal.returns-in-None
-returns-in-None g c = λ retelling past h kern sound.
-    let before = c.loop-j.invariant.told retelling past h kern sound in
+returns-in-None g c = λ rewriting past h kern sound.
+    let before = c.loop-j.invariant.told rewriting past h kern sound in
     let width = c.width-j-end.ensures in
     let at = c.loop-j-test.false in
     let d = before.1 in
     let all = done_all _ _ _ _ _ _ _ (omega (arith, width, at)) d in
     let made = c.in-None.ensures _ d.done d.holds in (
       before.0,
-      told_data retelling past c.args.row.now c.requires.kind ∙ rw (← kern, all) (too_long d.done made),
+      told_data rewriting past c.args.row.now c.requires.kind ∙ rw (← kern, all) (too_long d.done made),
     )

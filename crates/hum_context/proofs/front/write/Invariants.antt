@@ -1,5 +1,5 @@
 use Rattle.std.proofs.Common.{◌≡◌, ℕ, List, [], ◌∷◌, None, length}
-use Rattle.hum_record.specs.Making.{Holds}
+use Rattle.hum_record.specs.RecordDraft.{Holds}
 use Rattle.hum_record.specs.declared.SpinedKind.TheVariants.{Values}
 use Rattle.hum_record.specs.Row.{Row, Spined}
 use Rattle.hum_path.specs.Spines.{Path}

@@ -1,6 +1,6 @@
 use Rattle.std.proofs.Common.{◌≡◌, take}
 use Rattle.hum_record.specs.Row.{tokens_of}
-use Rattle.hum_record.specs.Making.{Holds}
+use Rattle.hum_record.specs.RecordDraft.{Holds}
 use Rattle.hum_record.specs.declared.SpinedKind.TheVariants.{Values}
 use Rattle.hum_ditto.specs.Ditto.{all_filled}
 use Rattle.hum_ditto.proofs.filling.rebuilt.Given as goal

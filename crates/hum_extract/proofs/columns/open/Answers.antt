@@ -4,7 +4,7 @@ use Rattle.hum_columns.specs.Following.{Memory}
 use Rattle.hum_columns.proofs.Flags.{opening_wide}
 use Rattle.hum_stage.proofs.Telling.{told_none}
 use Rattle.hum_extract.specs.Choice.{opening_flags}
-use Rattle.hum_extract.specs.Written.{choice_of}
+use Rattle.hum_choices.specs.Extract.{choice_of}
 use Rattle.hum_extract.proofs.Taking.{opening_length}
 use Rattle.hum_extract.proofs.columns.open.Goals as goal
 

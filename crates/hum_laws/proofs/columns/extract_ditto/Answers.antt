@@ -1,4 +1,4 @@
-use Rattle.hum_extract.specs.Written.{meaning as meaning_of_extract}
+use Rattle.hum_extract.specs.Extract.{meaning as meaning_of_extract}
 use Rattle.hum_ditto.specs.Ditto.{meaning as meaning_of_ditto}
 use Rattle.hum_laws.specs.Piped.{IsPiped}
 use Rattle.hum_laws.proofs.Extracted.{extracted_filled}

@@ -1,7 +1,7 @@
 use Rattle.std.proofs.Common.{refl, ap, sym, ◌∙◌, map}
 use Rattle.std.specs.Prelude.{pred}
 use Rattle.std.proofs.lemmas.Result.{IfOk-weaker}
-use Rattle.hum_command_stages.specs.contracts.stages.CommandStageStage.TheImpl as command
+use Rattle.hum_commands.specs.contracts.stages.CommandStageStage.TheImpl as command
 use Rattle.hum_nodes.specs.Nodes.{StandsAs}
 use Rattle.hum_net.specs.Parts.{first_of}
 use Rattle.hum_net.proofs.Meaning.{command_fits, assemble_fits}

@@ -1,6 +1,6 @@
 use Rattle.std.proofs.Common.{◌∙◌, ap, subst, length, length-append, arith}
 use Rattle.std.proofs.lemmas.List.{length-map, nil_from_length}
-use Rattle.hum_command_stages.specs.contracts.stages.CommandStageStage.TheImpl as command
+use Rattle.hum_commands.specs.contracts.stages.CommandStageStage.TheImpl as command
 use Rattle.hum_nodes.specs.Nodes.{StandsAs}
 use Rattle.hum_plan.specs.Seen.{stage_of, stages_of}
 use Rattle.hum_net.specs.Nodes.{AllFrom, Fits, Tells, reads_of}

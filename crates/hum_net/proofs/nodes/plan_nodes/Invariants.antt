@@ -1,5 +1,5 @@
 use Rattle.std.proofs.Common.{length}
-use Rattle.hum_command_stages.specs.contracts.stages.CommandStageStage.TheImpl as command
+use Rattle.hum_commands.specs.contracts.stages.CommandStageStage.TheImpl as command
 use Rattle.hum_nodes.specs.Nodes.{StandsAs}
 use Rattle.hum_net.specs.Nodes.{Fits, Tells}
 use Rattle.hum_net.proofs.Building.{Built}

@@ -5,4 +5,5 @@ use Rattle.hum_text.proofs.near.near_bits.Goals as goal
 
 pub returns : goal.returns
 returns c =
-    bitmask_splat w8 eqb (chunk 0 64 c.args.bytes.now) 64 10 (length-chunk 0 64 c.args.bytes.now c.requires) (omega arith)
+    bitmask_splat w8 eqb (chunk c.args.at 32 c.args.bytes.now) 32 10
+    (length-chunk c.args.at 32 c.args.bytes.now c.requires) (omega arith)

@@ -4,7 +4,7 @@ use Rattle.std.proofs.lemmas.Iterator.Consumers.{YieldsList-turn, YieldsList-end
 use Rattle.std.proofs.lemmas.List.{length_push}
 use Rattle.hum_kern.specs.Note.{reading}
 use Rattle.hum_tones.specs.Subtokens.{subtokens}
-use Rattle.hum_tones.proofs.Heard.{one_more, refused, all_heard}
+use Rattle.hum_tones.proofs.TokenTone.{one_more, refused, all_heard}
 use Rattle.hum_tones.proofs.hearing.hear.Goals as goal
 
 pub loop-part-preserved : goal.loop-part-preserved

@@ -1,6 +1,6 @@
 use Rattle.std.proofs.Common.{length}
 use Rattle.hum_tones.specs.Subtokens.{subtokens}
-use Rattle.hum_tones.proofs.Heard.{HeardSoFar}
+use Rattle.hum_tones.proofs.TokenTone.{HeardSoFar}
 use Rattle.hum_tones.proofs.hearing.hear.Given as goal
 
 abbrev pub invariant-loop-part : goal.invariant-loop-part

@@ -1,5 +1,5 @@
 use Rattle.std.proofs.Common.{◌∙◌, ap}
-use Rattle.hum_tones.proofs.Heard.{pitch_heard, remembered_is}
+use Rattle.hum_tones.proofs.TokenTone.{pitch_heard, remembered_is}
 use Rattle.hum_tones.proofs.last_note.remembered_of.Goals as goal
 
 pub returns-in-Ok : goal.returns-in-Ok

@@ -16,11 +16,11 @@ tell-requires g c = record {
 
 pub returns : goal.returns
 returns g c =
-    stepped _ (g.T.Retells.follows c.follow-2.new.self) _ c.args.next _ _ _ c.args._room c.deref.ensures.value c.in_ok-follow.ensures.moves (ap (λ p. p.path) c.in_ok-follow.ensures.after)
+    stepped _ (g.T.TokenRewriter.follows c.follow-2.new.self) _ c.args.next _ _ _ c.args._room c.deref.ensures.value c.in_ok-follow.ensures.moves (ap (λ p. p.path) c.in_ok-follow.ensures.after)
     c.in_ok-follow-2.ensures c.in_ok-told.ensures c.in_ok-mark_after.ensures c.put.ensures
 
 pub returns-in_err-told : goal.returns-in_err-told
 returns-in_err-told g c =
     told_on c.from_residual-in_err-told.result c.in_err-told.field-0.0 _ _ c.from_residual-in_err-told.ensures.1 c.in_err-told.ensures
-    (λ rule told decide past h score. refused _ (g.T.Retells.follows c.follow-2.new.self) (g.T.Retells.follows c.tell.new.teller) c.args.next _ rule c.args._room
+    (λ rule told decide past h score. refused _ (g.T.TokenRewriter.follows c.follow-2.new.self) (g.T.TokenRewriter.follows c.tell.new.teller) c.args.next _ rule c.args._room
     c.deref.ensures.value c.in_ok-follow.ensures.moves c.in_ok-follow-2.ensures told decide past h score)

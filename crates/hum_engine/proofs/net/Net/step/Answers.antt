@@ -163,6 +163,18 @@ ask_both-requires-clause-taker g c =
     (λ start s now h none within. sym (c.turn_if_ready.ensures.ready start s now h none within) ∙ ap is_some c.in-Some.is)
     c.in-Some.ensures.gone.link c.in-Some.ensures.gone.turned c.if-turned.false c.index-taker.result.now at
 
+pub change-requires : goal.change-requires
+change-requires g c =
+    let stands = StandsAs g.S.Stage.stands in
+    let contents = g.W.Sink.contents in
+    let flushed = g.W.Sink.flushed in
+    let m = may_pick stands contents flushed c.args.is_leftmost c.args.search.now c.args.self.now c.requires.may in
+    let front = m.sees.front c.if-is_leftmost.true in
+    let less = front.order in
+    let fits = front.within in
+    let few = m.running.at.plan.few in
+    omega (arith, less, fits, few)
+
 pub returns-then-is_leftmost-clause-stepped : goal.returns-then-is_leftmost-clause-stepped
 returns-then-is_leftmost-clause-stepped g c =
     let stands = StandsAs g.S.Stage.stands in
@@ -170,21 +182,13 @@ returns-then-is_leftmost-clause-stepped g c =
     let flushed = g.W.Sink.flushed in
     let order : Order g.row.O.Denot = record { pick = g.O.Order.picks; next = g.O.Order.after } in
     let e = c.next-actor.ensures in
-    let takers = c.turn_if_ready.new.self.takers.items in
-    let less = link_few stands g.R.Source.remaining contents flushed order c.args.is_leftmost c.args.search.now c.next-actor.result c.args.order.now c.next-actor.new.order c.args.self.now c.requires.may
-    (λ is. (e.from is, e.stays is, c.requires.leans is)) e.picked
-    c.in-Some.turned.link c.in-Some.turned.is_over c.turn_if_ready.new.self
-    (λ start s now h none within. sym (c.turn_if_ready.ensures.ready start s now h none within) ∙ ap is_some c.in-Some.is)
-    c.in-Some.ensures.gone.link c.in-Some.ensures.gone.turned c.if-turned.false in
-    let at = nth takers c.in-Some.turned.link c.index-taker.result.now less c.index-taker.ensures in
     subst (λ b. HasStepped stands g.R.Source.remaining contents flushed order c.args.order.now c.next-actor.new.order
     c.args.is_leftmost c.args.search.now c.change.new.self c.args.self.now c.turn_if_ready.new.self b) c.if-turned.false
     (rw c.change.ensures (stepped_left stands g.R.Source.remaining contents flushed order c.args.is_leftmost c.args.search.now c.next-actor.result c.args.order.now c.next-actor.new.order c.args.self.now c.requires.may
     (λ is. (e.from is, e.stays is, c.requires.leans is)) e.picked
     c.in-Some.turned.link c.in-Some.turned.is_over c.turn_if_ready.new.self
     (λ start s now h none within. sym (c.turn_if_ready.ensures.ready start s now h none within) ∙ ap is_some c.in-Some.is)
-    c.in-Some.ensures.gone.link c.in-Some.ensures.gone.turned c.if-turned.false c.index-taker.result.now at
-    c.if-is_leftmost.true))
+    c.in-Some.ensures.gone.link c.in-Some.ensures.gone.turned c.if-turned.false c.if-is_leftmost.true))
 
 pub returns-else-is_leftmost-clause-stepped : goal.returns-else-is_leftmost-clause-stepped
 returns-else-is_leftmost-clause-stepped g c =

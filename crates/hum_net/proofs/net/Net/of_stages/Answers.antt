@@ -1,5 +1,5 @@
 use Rattle.std.proofs.Common.{◌<◌, arith}
-use Rattle.hum_command_stages.specs.contracts.stages.CommandStageStage.TheImpl as command
+use Rattle.hum_commands.specs.contracts.stages.CommandStageStage.TheImpl as command
 use Rattle.hum_nodes.specs.Nodes.{StandsAs}
 use Rattle.hum_plan.specs.Seen.{stages_of}
 use Rattle.hum_net.specs.Scenes.{scene_of}

@@ -3,7 +3,7 @@ use Rattle.hum_turns.specs.Counts.{turns_of, most}
 use Rattle.hum_nodes.specs.Nodes.{StandsAs}
 use Rattle.hum_engine.specs.Scene.{plan_of}
 use Rattle.hum_engine.specs.Nets.{NetAt}
-use Rattle.hum_command_stages.specs.contracts.stages.CommandStageStage.TheImpl as command
+use Rattle.hum_commands.specs.contracts.stages.CommandStageStage.TheImpl as command
 use Rattle.hum_net.proofs.net.Net.turns.Goals as goal
 
 pub returns-clause-most : goal.returns-clause-most

@@ -1,4 +1,4 @@
-use Rattle.hum_timebase.specs.Following.{pace_of}
+use Rattle.hum_choices.specs.Timebase.{pace_of}
 use Rattle.hum_timebase.proofs.Keeping.{timebase_keeps}
 use Rattle.hum_timebase.proofs.grid.GridDecides.begin.Goals as goal
 

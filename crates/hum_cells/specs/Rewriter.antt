@@ -1,0 +1,121 @@
+-- What a teller of tokens is asked for, and what it answers.
+use Rattle.std.specs.Prelude.{◌≡◌, ℕ, ◌<◌, Bool, List, [], ◌∷◌, ◌++◌, length}
+use Rattle.std.specs.Prelude.{Option, None, Some, Result, Ok, Err}
+use Rattle.hum_record.specs.declared.SpinedKind.TheVariants.{Values}
+use Rattle.hum_record.specs.Row.{Row}
+use Rattle.hum_record.specs.Spelling.{IsToken}
+use Rattle.hum_path.specs.declared.moved.Move.{Move}
+use Rattle.hum_path.specs.Spines.{Path, moves}
+use Rattle.hum_path.specs.Score.{IsOpen, path_after}
+use Rattle.hum_path.specs.Chains.{columns, history}
+use Rattle.hum_stage.specs.declared.faults.Rule.{Rule}
+use Rattle.hum_stage.specs.Decided.{Decision}
+use Rattle.hum_cells.specs.declared.rewriter.Heading.{Heading as Shown}
+use Rattle.hum_cells.specs.declared.rewriter.Heading.TheVariants.{Renamed as ShownRenamed}
+use Rattle.hum_cells.specs.declared.rewriter.Heading.TheVariants.{Followed as ShownFollowed}
+use Rattle.hum_cells.specs.declared.rewritten.Rewritten.{Rewritten}
+use Rattle.hum_cells.specs.declared.rewritten.Rewritten.TheVariants.{Same, Other, With}
+use Rattle.hum_cells.specs.Rewriting.{Heading, Renamed, Followed, Rewriting}
+use Rattle.hum_cells.specs.Rewriting.{kern_columns, rewritten, rewrite}
+
+-- what a heading shows, by its text
+abbrev pub shown : Shown → Heading
+shown (ShownRenamed name) = Renamed name.now
+shown (ShownFollowed tandem) = Followed tandem.now
+
+-- a column after records that a teller follows, and its last cell
+pub record MayRewrite (follows : Rewriting → List Row → Type 0) (j : ℕ) (token : List ℕ)
+    : Type 0 where
+  pub rewriting : Rewriting
+  pub past : List Row
+  pub above : List (List ℕ)
+  pub memory : follows rewriting past
+  pub column : j < length (columns past)
+  pub cell : history past j ≡ token ∷ above
+
+-- the text that a token becomes, which is a data token, or the rule by which it is refused
+abbrev pub Tells : Result (List ℕ) Rule → List ℕ → Option Rule → Type 0
+Tells becomes text None = (becomes ≡ Ok text) × IsToken Values text
+Tells becomes text (Some rule) = becomes ≡ Err rule
+
+-- The last cell of a column was told by each rewriting and each past that the teller follows, and it
+-- still follows.
+abbrev pub HasRewritten : (Rewriting → List Row → Type 0) → (Rewriting → List Row → Type 0) → ℕ
+    → List ℕ → List ℕ → Option Rule → Type 0
+HasRewritten before after j token text refused =
+    (rewriting : Rewriting) (past : List Row) (above : List (List ℕ)) → before rewriting past
+    → history past j ≡ token ∷ above
+    → after rewriting past × Tells (rewriting.becomes above token) text refused
+
+-- a record after records that a teller follows, and where the spines come from
+pub record MayFollow (follows : Rewriting → List Row → Type 0) (row : Row) (found : List Move)
+    : Type 0 where
+  pub rewriting : Rewriting
+  pub past : List Row
+  pub memory : follows rewriting past
+  pub score : IsOpen (row ∷ past)
+  pub moved : found ≡ moves (path_after past) row
+
+-- What followed records follows them with this one.
+abbrev pub HasFollowed : (Rewriting → List Row → Type 0) → (Rewriting → List Row → Type 0) → Row
+    → List Move → Type 0
+HasFollowed before after row found =
+    (rewriting : Rewriting) (past : List Row) → before rewriting past → IsOpen (row ∷ past)
+    → found ≡ moves (path_after past) row → after rewriting (row ∷ past)
+
+-- the heading is that of each rewriting
+abbrev pub ShowsHeading : (Rewriting → List Row → Type 0) → Shown → Type 0
+ShowsHeading follows heading =
+    (rewriting : Rewriting) (past : List Row) → follows rewriting past
+    → shown heading ≡ rewriting.heading
+
+-- The fields of the frame: it decides by a rewriting that its teller follows, has followed the
+-- spines, and knows which of them are under **kern.
+pub record Frames (follows : Rewriting → List Row → Type 0) (path : Path) (kern : List Bool)
+    (decide : Decision) (past : List Row) : Type 0 where
+  pub rewriting : Rewriting
+  pub command : decide ≡ rewrite rewriting
+  pub memory : follows rewriting past
+  pub spines : path ≡ path_after past
+  pub kern_is : kern ≡ kern_columns past
+
+-- what is decided of a record
+abbrev pub decision : Row → Result Rewritten Rule → Result (List Row) Rule
+decision row (Ok Same) = Ok (row ∷ [])
+decision row (Ok (Other made)) = Ok (made ∷ [])
+decision row (Ok (With behind)) = Ok (row ∷ behind ∷ [])
+decision row (Err rule) = Err rule
+
+-- a record that a teller has followed, by which columns were under **kern in front of it
+pub record MayTell (follows : Rewriting → List Row → Type 0) (kern : List Bool) (row : Row)
+    : Type 0 where
+  pub rewriting : Rewriting
+  pub past : List Row
+  pub memory : follows rewriting (row ∷ past)
+  pub kern_is : kern ≡ kern_columns past
+  pub score : IsOpen (row ∷ past)
+
+-- What a record becomes by each rewriting and each past with which a teller has followed it, and
+-- follows it still.
+abbrev pub HasTold : (Rewriting → List Row → Type 0) → (Rewriting → List Row → Type 0)
+    → List Bool → Row → Result Rewritten Rule → Type 0
+HasTold before after kern row told =
+    (rewriting : Rewriting) (past : List Row) → before rewriting (row ∷ past)
+    → kern ≡ kern_columns past → IsOpen (row ∷ past)
+    → after rewriting (row ∷ past) × (rewrite rewriting past row ≡ decision row told)
+
+-- what a token became stands behind the others, or it is refused
+abbrev pub Pushes : Result (List ℕ) Rule → (List (List ℕ) → Type 0) → (List (List ℕ) → Type 0)
+    → Option Rule → Type 0
+Pushes becomes before after None =
+    (text : List ℕ) × (becomes ≡ Ok text)
+    × ((tokens : List (List ℕ)) → before tokens → after (tokens ++ text ∷ []))
+Pushes becomes before after (Some rule) = becomes ≡ Err rule
+
+-- The same by each rewriting and each past.
+abbrev pub HasPushed : (Rewriting → List Row → Type 0) → (Rewriting → List Row → Type 0) → ℕ → Bool
+    → List ℕ → (List (List ℕ) → Type 0) → (List (List ℕ) → Type 0) → Option Rule → Type 0
+HasPushed before after j kern token made making refused =
+    (rewriting : Rewriting) (past : List Row) (above : List (List ℕ)) → before rewriting past
+    → history past j ≡ token ∷ above
+    → after rewriting past × Pushes (rewritten rewriting.becomes kern above token) made making refused

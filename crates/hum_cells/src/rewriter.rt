@@ -1,0 +1,76 @@
+//! What is a command's own.
+ghost use Rattle.std.specs.Prelude.{◌≡◌, [], true, List, OnOk};
+ghost use Rattle.hum_record.specs.declared.SpinedKind.TheVariants.{Values};
+ghost use Rattle.hum_record.specs.Row.{Row};
+ghost use Rattle.hum_record.specs.Spelling.{IsToken};
+ghost use Rattle.hum_path.specs.Step.{ComeFrom};
+ghost use Rattle.hum_stage.specs.declared.faults.Command.{Command};
+ghost use Rattle.hum_stage.specs.Refusals.{IfTold};
+ghost use Rattle.hum_cells.specs.Rewriting.{Rewriting, IsHeading, has_content};
+ghost use Rattle.hum_cells.specs.Rewriter.{MayRewrite, HasRewritten, MayFollow, HasFollowed};
+ghost use Rattle.hum_cells.specs.Rewriter.{ShowsHeading};
+
+use hum_path::Moves;
+use hum_record::Record;
+use hum_stage::{Command, Refusal};
+use std::alloc::{AllocError, Global};
+
+/// What becomes of `**kern` where it stands in a record.
+#[derive(Clone, Copy)]
+pub enum Heading<'t> {
+    /// This exclusive interpretation stands in its place.
+    Renamed(&'t [u8]),
+    /// Behind the record goes one with this tandem interpretation below it, and `*` elsewhere.
+    Followed(&'t [u8]),
+}
+
+/// What a command makes of the tokens of kern columns, and what it remembers for it.
+pub trait TokenRewriter: Drop {
+    /// What the command was told to do.
+    type Options;
+
+    /// The command.
+    ghost command: { Command };
+
+    /// What it makes of kern columns.
+    ghost rewriting: { Self.Options → Rewriting };
+
+    /// It stands for these records, the newest first, and makes this of kern columns.
+    ghost follows: { Self → Rewriting → List Row → Type 0 };
+
+    /// Which command it is.
+    fn command() -> Command
+        ensures { result ≡ command };
+
+    /// Nothing has passed yet.
+    fn begin(alloc: Global, options: Self::Options) -> Self
+        ensures { follows result (rewriting options) [] };
+
+    /// What becomes of `**kern`.
+    fn heading(&self) -> Heading<'_>
+        ensures { ShowsHeading (follows self.now) result };
+
+    /// Puts what the last cell of column `j`, a data token, becomes into the empty text. The token is
+    /// neither null nor a barline.
+    ///
+    /// # Errors
+    /// The rule by which it is refused; or out of memory.
+    fn rewrite(&mut self, j: usize, token: &[u8], text: &mut Vec<u8>) -> Result<(), Refusal>
+        requires column { MayRewrite (follows self.old) j token.now }
+        requires lawful { IsToken Values token.now }
+        requires told { has_content token.now ≡ true }
+        requires empty { text.old.items ≡ [] }
+        ensures { IfTold result
+            (HasRewritten (follows self.old) (follows self.new) j token.now text.new.items) };
+
+    /// Goes on with the next record, whose moves are known. Its tokens are told behind that.
+    fn follow(&mut self, row: &Record, found: &Moves) -> Result<(), AllocError>
+        requires score { MayFollow (follows self.old) row.now found.now }
+        requires sources { ComeFrom row.now found.now }
+        ensures { OnOk result
+            (HasFollowed (follows self.old) (follows self.new) row.now found.now) };
+
+    /// The heading is lawful.
+    ghost lawful: { (s : Self) (rewriting : Rewriting) (past : List Row)
+        → follows s rewriting past → IsHeading rewriting.heading };
+}

@@ -1,0 +1,3 @@
+pub mod Extract
+pub mod Cleave
+pub mod Timebase

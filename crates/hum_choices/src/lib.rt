@@ -1,0 +1,31 @@
+//! What each command of one input is told to do: the types of all commands' options.
+//!
+//! A file for each command has its options, and what makes them; [`CommandOptions`] are a command
+//! and its options. What a command makes of records by them is said in the crate of the command.
+#![tactic(auto)]
+
+mod cleave;
+mod commands;
+mod context;
+mod ditto;
+mod extract;
+mod mint;
+mod recip;
+mod rid;
+mod semits;
+mod timebase;
+mod trans;
+mod yank;
+
+pub use cleave::{CleaveOptions, is_name, is_separator};
+pub use commands::CommandOptions;
+pub use context::{ContextOptions, Span, TokenCount};
+pub use ditto::DittoOptions;
+pub use extract::{ExtractOptions, Field, FieldRange};
+pub use mint::MintOptions;
+pub use recip::RecipOptions;
+pub use rid::RidOptions;
+pub use semits::SemitsOptions;
+pub use timebase::TimebaseOptions;
+pub use trans::TransOptions;
+pub use yank::{Markers, YankOptions, YankRange};

@@ -1,9 +1,0 @@
-use Rattle.std.proofs.Common.{◌≡◌, ◌++◌, drop}
-use Rattle.hum_record.specs.Row.{tokens_of, width_of}
-use Rattle.hum_extract.specs.Choice.{each_chosen, opening_flags}
-use Rattle.hum_extract.specs.Written.{choice_of}
-use Rattle.hum_extract.proofs.options.ExtractOptions.opening_marks.Given as goal
-
-abbrev pub invariant-loop-j : goal.invariant-loop-j
-invariant-loop-j l =
-    l.marks.items ++ each_chosen (choice_of l.self) (width_of l.row) l.j (drop l.j (tokens_of l.row)) ≡ opening_flags (choice_of l.self) (tokens_of l.row)

@@ -1,6 +1,0 @@
-use Rattle.std.proofs.Common.{◌≡◌, ◌++◌, drop}
-use Rattle.hum_path.specs.Spines.{texts}
-use Rattle.hum_extract.proofs.options.copied_names.Given as goal
-
-abbrev pub invariant-loop-name : goal.invariant-loop-name
-invariant-loop-name l = texts l.copy.items ++ texts (drop l.name-index l.names) ≡ texts l.names

@@ -1,0 +1,192 @@
+-- Items between commas.
+use Rattle.std.proofs.Common.{◌≡◌, ◌<◌, ◌≤◌, ◌+◌, ◌==◌, ◌-◌, take, drop, refl, ap, sym, ◌∙◌, subst, ℕ, suc, Bool, true, false}
+use Rattle.std.proofs.Common.{List, [], ◌∷◌, ◌++◌, length, arith, None, Some, Option, append_assoc, length-append, map}
+use Rattle.std.specs.Prelude.{if◌then◌else◌, nat_le}
+use Rattle.std.specs.Option.{option_map, option_and_then}
+use Rattle.std.specs.List.{AllByRecursion, join_with_byte}
+use Rattle.std.proofs.lemmas.Bool.{leb-true, le-leb, lt-leb}
+use Rattle.std.proofs.lemmas.List.{append-nil, map-append, take_all}
+use Rattle.std.proofs.lemmas.List.Splits.{join_with_byte-slice_split, length-slice_split}
+use Rattle.hum_record.specs.Spelling.{has_byte}
+use Rattle.hum_path.proofs.Cases.{by_bool}
+use Rattle.hum_options.specs.Cutting.{front, rest, parts}
+use Rattle.hum_options.specs.Items.{AreItems, one, more, AreListed, with_first, all_of, items_of}
+use Rattle.hum_options.proofs.Choices.{chosen}
+use Rattle.hum_options.proofs.Cuts.{parts_lack, parts_alone, parts_before}
+
+-- the values of what is still to come, behind those that are done
+abbrev pub behind : {A : Type 0} → List A → Option (List A) → Option (List A)
+behind done values = option_map (λ more. done ++ more) values
+
+-- the parts behind the first, by what stands from its end on
+abbrev pub parts_behind : List ℕ → List (List ℕ)
+parts_behind [] = []
+parts_behind (comma ∷ text) = parts 44 text
+
+-- Some parts of a text were read as these items, at most 64, and some are left.
+pub record IsListing {A B : Type 0} (value_of : List ℕ → Option A) (view : B → A) (text : List ℕ) (left : List (List ℕ))
+    (items : List B) : Type 0 where
+  pub few : length items ≤ 64
+  pub count : length (parts 44 text) ≡ length items + length left
+  pub values : all_of value_of (parts 44 text) ≡ behind (map view items) (all_of value_of left)
+
+first_part : (text : List ℕ) → parts 44 text ≡ front 44 text ∷ parts_behind (rest 44 text)
+first_part [] = refl
+first_part (b ∷ bytes) = by_bool (b == 44) (λ w. rw w refl) (λ w. rw (w, first_part bytes) refl)
+
+-- what stands behind the comma, if there is one
+pub left_behind : (left : List ℕ) → 1 ≤ length left → parts_behind left ≡ parts 44 (take (length left - 1) (drop 1 left))
+left_behind [] some = absurd (omega (arith, some))
+left_behind (comma ∷ text) some =
+    let next : length (comma ∷ text) - 1 ≡ length text = omega arith in
+    rw (next, take_all (length text) text (omega arith)) refl
+
+pub none_behind : (left : List ℕ) → length left < 1 → parts_behind left ≡ []
+none_behind [] none = refl
+none_behind (comma ∷ text) none = absurd (omega (arith, none))
+
+all_left : {A : Type 0} (o : Option (List A)) → o ≡ behind [] o
+all_left None = refl
+all_left (Some values) = refl
+
+-- nothing is read yet
+pub listing_begins : {A B : Type 0} {value_of : List ℕ → Option A} {view : B → A} (text : List ℕ)
+    → IsListing value_of view text (parts 44 text) []
+listing_begins {A} {B} {value_of} text =
+    record { few = omega arith; count = omega arith; values = all_left (all_of value_of (parts 44 text)) }
+
+-- the next part, and what is behind it
+pub next_part : {A B : Type 0} {value_of : List ℕ → Option A} {view : B → A} {text part left : List ℕ} {items : List B}
+    (here : List ℕ) → IsListing value_of view text (parts 44 here) items → part ≡ front 44 here → left ≡ rest 44 here
+    → IsListing value_of view text (part ∷ parts_behind left) items
+next_part here h part_is left_is = rw (part_is, left_is) (rw (first_part here) at h)
+
+behind_one : {A : Type 0} (done : List A) (value : A) (o : Option (List A))
+    → behind done (with_first o value) ≡ behind (done ++ value ∷ []) o
+behind_one done value None = refl
+behind_one done value (Some values) =
+    ap (λ (xs : List _). Some xs) (sym (append_assoc done (value ∷ []) values))
+
+module _ {A B : Type 0} {value_of : List ℕ → Option A} {view : B → A} {text part : List ℕ} {left : List (List ℕ)}
+    {items : List B} (h : IsListing value_of view text (part ∷ left) items) where
+  -- what is done and what is to come, the next part first
+  next_values : (o : Option A) → o ≡ value_of part
+      → all_of value_of (parts 44 text) ≡ behind (map view items) (option_and_then (with_first (all_of value_of left)) o)
+  next_values o is =
+      h.values ∙ ap (λ (x : Option A). behind (map view items) (option_and_then (with_first (all_of value_of left)) x)) (sym is)
+
+  -- one more is read
+  pub listing_goes_on : (item : B) → Some (view item) ≡ value_of part → length items < 64
+      → IsListing value_of view text left (items ++ item ∷ [])
+  listing_goes_on item read few =
+      let longer = length-append items (item ∷ []) in
+      record {
+        few = omega (arith, few, longer);
+        count = omega (arith, h.count, longer);
+        values = rw (map-append view items (item ∷ []))
+            (next_values (Some (view item)) read ∙ behind_one (map view items) (view item) (all_of value_of left));
+      }
+
+  -- a part that isn't read
+  pub listing_refused : None ≡ value_of part → None ≡ items_of value_of text
+  listing_refused none = either_none (nat_le (length (parts 44 text)) 64) (all_of value_of (parts 44 text)) (next_values None none)
+    where
+      either_none : (b : Bool) (o : Option (List A)) → o ≡ None → None ≡ (if b then o else None)
+      either_none true o is = sym is
+      either_none false o is = refl
+
+  -- a part behind 64 others
+  pub listing_full : 64 ≤ length items → None ≡ items_of value_of text
+  listing_full full =
+      let over : 64 < length (parts 44 text) = omega (arith, h.count, full) in
+      rw (lt-leb (length (parts 44 text)) 64 over) refl
+
+-- all are read
+pub listing_ends : {A B : Type 0} {value_of : List ℕ → Option A} {view : B → A} {text : List ℕ} {items : List B}
+    → IsListing value_of view text [] items → Some (map view items) ≡ items_of value_of text
+listing_ends {A} {B} {value_of} {view} {text} {items} h =
+    let within : length (parts 44 text) ≤ 64 = omega (arith, h.count, h.few) in
+    let all : all_of value_of (parts 44 text) ≡ Some (map view items)
+    = h.values ∙ ap (λ (xs : List A). Some xs) (append-nil (map view items)) in
+    rw (le-leb (length (parts 44 text)) 64 within, all) refl
+
+-- what the first of some answers is, and the others
+record IsFirst {A : Type 0} (o : Option A) (others : Option (List A)) (values : List A) : Type 0 where
+  value : A
+  more_values : List A
+  is : o ≡ Some value
+  others_are : others ≡ Some more_values
+  all : value ∷ more_values ≡ values
+
+first_is : {A : Type 0} (o : Option A) (others : Option (List A)) (values : List A)
+    → option_and_then (with_first others) o ≡ Some values → IsFirst o others values
+first_is None others values e = cc
+first_is (Some x) None values e = cc
+first_is (Some x) (Some xs) values e = record { value = x; more_values = xs; is = refl; others_are = refl; all = cc }
+
+module _ {A : Type 0} (value_of : List ℕ → Option A) (IsItem : List ℕ → A → Type 0)
+    (is : (item : List ℕ) (value : A) → has_byte 44 item ≡ false → value_of item ≡ Some value → IsItem item value) where
+  record AreAll (texts : List (List ℕ)) (values : List A) : Type 0 where
+    items : AreItems IsItem (join_with_byte 44 texts) values
+    count : length values ≡ length texts
+
+  all_are : (texts : List (List ℕ)) (values : List A) → AllByRecursion (λ text. has_byte 44 text ≡ false) texts
+      → 0 < length texts → all_of value_of texts ≡ Some values → AreAll texts values
+  all_are [] values lack some e = absurd (omega (arith, some))
+  all_are (text ∷ []) values lack some e =
+      let first = first_is (value_of text) (Some []) values e in
+      let none : [] ≡ first.more_values = cc in
+      let same : first.value ∷ [] ≡ values = rw (← none) at first.all in
+      let P : List A → Type 0 = λ vs. AreAll (text ∷ []) vs in
+      subst P same (record { items = one (is text first.value lack.0 first.is); count = refl })
+  all_are (text ∷ next ∷ texts) values lack some e =
+      let first = first_is (value_of text) (all_of value_of (next ∷ texts)) values e in
+      let others = all_are (next ∷ texts) first.more_values lack.1 (omega arith) first.others_are in
+      let P : List A → Type 0 = λ vs. AreAll (text ∷ next ∷ texts) vs in
+      subst P first.all (record {
+        items = more (is text first.value lack.0 first.is) others.items;
+        count = ap suc others.count;
+      })
+
+  -- a list that is read has these items
+  pub items_are : (text : List ℕ) (values : List A) → items_of value_of text ≡ Some values → AreListed IsItem text values
+  items_are text values e =
+      let test = chosen (nat_le (length (parts 44 text)) 64) (all_of value_of (parts 44 text)) values e in
+      let some : 0 < length (parts 44 text) = omega (arith, length-slice_split (λ b. b == 44) text) in
+      let all = all_are (parts 44 text) values (parts_lack 44 text) some test.1 in
+      let P : List ℕ → Type 0 = λ t. AreItems IsItem t values in
+      record {
+        items = subst P (join_with_byte-slice_split 44 text) all.items;
+        most = omega (arith, all.count, leb-true (length (parts 44 text)) 64 test.0);
+      }
+
+module _ {A : Type 0} (value_of : List ℕ → Option A) (IsItem : List ℕ → A → Type 0)
+    (alone : (item : List ℕ) (value : A) → IsItem item value → value_of item ≡ Some value)
+    (lacks : (item : List ℕ) (value : A) → IsItem item value → has_byte 44 item ≡ false) where
+  record AreRead (text : List ℕ) (values : List A) : Type 0 where
+    values_are : all_of value_of (parts 44 text) ≡ Some values
+    count : length (parts 44 text) ≡ length values
+
+  all_alone : (text : List ℕ) (values : List A) → AreItems IsItem text values → AreRead text values
+  all_alone _ _ (one {item} {value} h) =
+      let cut = parts_alone 44 item (lacks item value h) in
+      record {
+        values_are = ap (all_of value_of) cut ∙ ap (option_and_then (with_first (Some []))) (alone item value h);
+        count = ap length cut;
+      }
+  all_alone _ _ (more {item} {text} {value} {values} h hs) =
+      let cut = parts_before 44 item text (lacks item value h) refl in
+      let rest_read = all_alone text values hs in
+      record {
+        values_are = ap (all_of value_of) cut
+            ∙ ap (option_and_then (with_first (all_of value_of (parts 44 text)))) (alone item value h)
+            ∙ ap (λ (o : Option (List A)). with_first o value) rest_read.values_are;
+        count = ap length cut ∙ ap suc rest_read.count;
+      }
+
+  -- a list of these items is read
+  pub items_alone : (text : List ℕ) (values : List A) → AreListed IsItem text values → items_of value_of text ≡ Some values
+  items_alone text values h =
+      let read = all_alone text values h.items in
+      let within : length (parts 44 text) ≤ 64 = omega (arith, read.count, h.most) in
+      rw (le-leb (length (parts 44 text)) 64 within, read.values_are) refl

@@ -1,5 +1,0 @@
-use Rattle.hum_record.proofs.TooLong.{stays_long}
-use Rattle.hum_record.proofs.making.Making.push.Goals as goal
-
-pub returns-then-self-clause-pushed : goal.returns-then-self-clause-pushed
-returns-then-self-clause-pushed c = λ kind tokens h. stays_long kind _ _ tokens c.args.token.now c.if-self.true h
