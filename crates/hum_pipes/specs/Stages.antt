@@ -1,5 +1,6 @@
 -- The stages of two plans as those of one.
-use Rattle.std.specs.Prelude.{◌≡◌, ℕ, pred, ◌+◌, ◌-◌, ◌<◌, nat_lt, if◌then◌else◌, List, ◌∷◌, ◌++◌, map, length}
+use Rattle.std.specs.Prelude.{◌≡◌, ℕ, pred, ◌+◌, ◌-◌, ◌<◌, nat_lt, if◌then◌else◌}
+use Rattle.std.specs.Prelude.{List, ◌∷◌, ◌++◌, map, length}
 use Rattle.hum_plan.specs.Stages.{Stage, IsTree}
 use Rattle.hum_net.specs.Parts.{parts_of, parts_from}
 use Rattle.hum_pipes.specs.Piped.{one_plan}
