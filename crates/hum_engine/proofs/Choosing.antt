@@ -1,15 +1,15 @@
 -- One step of a run: the actor that is asked, and what its turn leaves known of who is ready.
 use Rattle.std.proofs.Common.{◌≡◌, ◌∙◌, ℕ, ◌+◌, ◌<◌, ◌≤◌, Bool, true, false, List, [], ◌∷◌, ◌++◌}
-use Rattle.std.proofs.Common.{length, Option, Some, None, refl, sym, ap, subst, arith, ⊎_elim, slice_set, slice_get, get_or}
-use Rattle.std.proofs.lemmas.Option.{slice_get-get_or}
-use Rattle.std.specs.Prelude.{is_some}
+use Rattle.std.proofs.Common.{length, Option, Some, None, refl, sym, ap, subst, arith, ⊎_elim, ◌⊎◌, inl, inr, slice_set, slice_get, get_or}
+use Rattle.std.proofs.lemmas.Option.{slice_get-get_or, same_Some, none-some}
+use Rattle.std.specs.Prelude.{is_some, IfSome}
 use Rattle.std.proofs.lemmas.Bool.{false≢true, cases_Bool, cases_lt}
 use Rattle.hum_record.specs.Row.{Row}
 use Rattle.hum_turns.specs.Plan.{last}
 use Rattle.hum_turns.specs.Turns.{state}
 use Rattle.hum_turns.specs.Near.{touched}
 use Rattle.hum_turns.specs.Failures.{Now, is_ready, result}
-use Rattle.hum_turns.specs.Orders.{Order, ready_list, IsLeftmost}
+use Rattle.hum_turns.specs.Orders.{Order, ready_list, LeansTo}
 use Rattle.hum_turns.proofs.States.{sink_state, last_less}
 use Rattle.hum_turns.proofs.Writing.{still}
 use Rattle.hum_nodes.specs.At.{At}
@@ -18,32 +18,45 @@ use Rattle.hum_nodes.specs.Polls.{HasRead}
 use Rattle.hum_nodes.proofs.Followed.{read_none}
 use Rattle.hum_engine.specs.declared.net.Net.{Net}
 use Rattle.hum_engine.specs.declared.search.Search.{Search}
-use Rattle.hum_engine.specs.Search.{passed, changed}
+use Rattle.hum_engine.specs.Search.{IsNearer, outer, passed, changed, left_to_ask}
 use Rattle.hum_engine.specs.Readers.{ended_at, remaining_at}
 use Rattle.hum_engine.specs.Scene.{Scene, plan_of, moved, before_all, IsActor}
 use Rattle.hum_engine.specs.Nets.{NetAt, AreOver, HasTurned, GoesTo, IsChanged, Sees, MayPick, MayAsk, MayStep, HasPicked}
-use Rattle.hum_engine.specs.Nets.{HasStepped, IsGoing}
+use Rattle.hum_engine.specs.Nets.{HasStepped, IsGoing, IsFront}
 use Rattle.hum_engine.proofs.Flags.{touched_below, two_set}
-use Rattle.hum_engine.proofs.Leftmost.{leftmost_is, leftmost_choice}
+use Rattle.hum_engine.proofs.Leaning.{leaning_choice}
 use Rattle.hum_engine.proofs.Netting.{is_at, unfailed_now, not_over}
-use Rattle.hum_engine.proofs.Running.{relisted, picked, some_actor_ready, no_rests}
-use Rattle.hum_engine.proofs.Searching.{front_passed, front_changed, others_as_ready}
+use Rattle.hum_engine.proofs.Running.{relisted, picked, some_actor_ready, no_rests, seen}
+use Rattle.hum_engine.proofs.Searching.{front_passed, passed_fewer, front_changed, others_as_ready}
 
--- what is known of who is ready hangs on no bytes that are still to come
-seen : {S R W : Type 0} (leftmost : Bool) (look : Search) (s : Scene) (rests : ℕ → List ℕ) (now : Now Row)
-    (net : Net S R W) → Sees leftmost look s now net → Sees leftmost look (record s { rests = rests }) now net
-seen leftmost look s rests now net sees = record {
-  flags = sees.flags;
-  front = λ is.
-      let f = sees.front is in
-      record { order = f.order; within = f.within; left = f.left; between = f.between };
-}
+-- a search, or none
+searches : (look : Option Search) → ((by : Search) × (look ≡ Some by)) ⊎ (look ≡ None)
+searches (Some by) = inl (by, refl)
+searches None = inr refl
+
+-- where it stands is asked, and an order that leans to its side stays as it is
+pub asks : {O : Type 0} (order : Order O) (look : Option Search) (k : ℕ) (p q : O)
+    → IfSome look (λ by. (k ≡ by.from) × (q ≡ p))
+    → IfSome look (λ by. LeansTo by.side order.pick order.next p)
+    → (by : Search) → look ≡ Some by → (k ≡ by.from) × (q ≡ p) × LeansTo by.side order.pick order.next p
+asks {O} order (Some x) k p q from leans by is =
+    let e = same_Some x by is in (
+      from.0 ∙ ap (λ (b : Search). b.from) e,
+      from.1,
+      subst (λ (b : Search). LeansTo b.side order.pick order.next p) e leans,
+    )
+asks order None k p q from leans by is = absurd (none-some by is)
+
+-- what one knows
+pub front_of : {S R W : Type 0} (look : Option Search) (by : Search) (s : Scene) (now : Now Row) (net : Net S R W)
+    → look ≡ Some by → Sees look s now net → IsFront by s now
+front_of look by s now net is sees = subst (λ l. Sees l s now net) is sees
 
 module _ {S R W : Type 0} (stands : Node S R → List ℕ → At → Type 0) (contents : W → Option (List ℕ))
-    (flushed : W → Bool) (leftmost : Bool) (look : Search) (net : Net S R W)
-    (may : MayStep stands contents flushed leftmost look net) where
+    (flushed : W → Bool) (look : Option Search) (net : Net S R W)
+    (may : MayStep stands contents flushed look net) where
   -- where nothing more is to come
-  pub may_pick : MayPick stands contents flushed leftmost look net
+  pub may_pick : MayPick stands contents flushed look net
   may_pick =
       let rests : ℕ → List ℕ = λ i. [] in
       let over = no_rests net in
@@ -66,79 +79,90 @@ module _ {S R W : Type 0} (stands : Node S R → List ℕ → At → Type 0) (co
 
 module _ {S R W O : Type 0} (stands : Node S R → List ℕ → At → Type 0)
     (remaining : R → Option (List ℕ)) (contents : W → Option (List ℕ))
-    (flushed : W → Bool) (order : Order O) (leftmost : Bool) (look : Search) (k : ℕ) (p q : O) (net : Net S R W)
-    (may : MayStep stands contents flushed leftmost look net) where
-  -- The actor that is asked: the order's pick, or of a leftmost order this one.
-  module _ (here : leftmost ≡ true → (k ≡ look.from) × (q ≡ p) × IsLeftmost order.pick order.next p)
-      (picked_by : leftmost ≡ false → (start : Option (List ℕ)) (s : Scene) (now : Now Row)
+    (flushed : W → Bool) (order : Order O) (look : Option Search) (k : ℕ) (p q : O) (net : Net S R W)
+    (may : MayStep stands contents flushed look net) where
+  -- The actor that is asked: the order's pick, or where a search stands.
+  module _ (here : (by : Search) → look ≡ Some by
+      → (k ≡ by.from) × (q ≡ p) × LeansTo by.side order.pick order.next p)
+      (picked_by : look ≡ None → (start : Option (List ℕ)) (s : Scene) (now : Now Row)
       → NetAt stands contents flushed start s net now → result (plan_of s) now ≡ None
-      → Sees false look s now net → HasPicked order (plan_of s) s.size p q now k) where
-    chosen_now : leftmost ≡ false → (start : Option (List ℕ)) (s : Scene) (now : Now Row)
+      → Sees None s now net → HasPicked order (plan_of s) s.size p q now k) where
+    chosen_now : look ≡ None → (start : Option (List ℕ)) (s : Scene) (now : Now Row)
         → NetAt stands contents flushed start s net now → result (plan_of s) now ≡ None
-        → Sees leftmost look s now net → (k ≤ s.count) × (is_ready (plan_of s) s.size now k ≡ true)
+        → Sees look s now net → (k ≤ s.count) × (is_ready (plan_of s) s.size now k ≡ true)
     chosen_now isnt start s now h none sees =
-        let picks = picked_by isnt start s now h none (subst (λ b. Sees b look s now net) isnt sees) in
+        let picks = picked_by isnt start s now h none (subst (λ l. Sees l s now net) isnt sees) in
         let list = ready_list (plan_of s) s.size now in
         picked stands contents flushed start s net now h list (order.pick p list) k none refl picks.choice
 
     pub may_ask : MayAsk stands contents flushed k net
     may_ask =
-        let m = may_pick stands contents flushed leftmost look net may in
+        let m = may_pick stands contents flushed look net may in
         let w = m.running in
         record {
           running = w;
           going = m.going;
           within = ⊎_elim
               (λ is.
-              let f = m.sees.front is in
-              let at = (here is).0 in
-              let less = f.order in
+              let f = front_of look is.0 w.scene w.now net is.1 m.sees in
+              let at = (here is.0 is.1).0 in
               let fits = f.within in
-              omega (arith, at, less, fits))
+              omega (arith, at, fits))
               (λ isnt. (chosen_now isnt w.start w.scene w.now w.at m.going m.sees).0)
-              (cases_Bool leftmost);
+              (searches look);
         }
 
-    -- It isn't ready, so the order is a leftmost one.
+    -- It isn't ready, so there is a search.
     module _ (unready : (start : Option (List ℕ)) (s : Scene) (now : Now Row)
         → NetAt stands contents flushed start s net now → result (plan_of s) now ≡ None → k ≤ s.count
         → is_ready (plan_of s) s.size now k ≡ false) where
-      pub is_leftmost : leftmost ≡ true
-      is_leftmost = ⊎_elim
-          (λ is. is)
-          (λ isnt.
-          let m = may_pick stands contents flushed leftmost look net may in
+      pub never_picked : look ≡ None → ⊥
+      never_picked isnt =
+          let m = may_pick stands contents flushed look net may in
           let w = m.running in
           let ready = chosen_now isnt w.start w.scene w.now w.at m.going m.sees in
-          absurd (false≢true (sym (unready w.start w.scene w.now w.at m.going ready.0) ∙ ready.1)))
-          (cases_Bool leftmost)
+          false≢true (sym (unready w.start w.scene w.now w.at m.going ready.0) ∙ ready.1)
 
-      pub stepped_past : (new : Net S R W) → new ≡ net
-          → HasStepped stands remaining contents flushed order p q leftmost look (passed look) net new false
-      stepped_past new same =
-          let is = is_leftmost in
-          let at = here is in
+      unready_at : (by : Search) → look ≡ Some by → (start : Option (List ℕ)) (s : Scene) (now : Now Row)
+          → NetAt stands contents flushed start s net now → result (plan_of s) now ≡ None → IsFront by s now
+          → is_ready (plan_of s) s.size now by.from ≡ false
+      unready_at by is start s now h none front =
+          let at = (here by is).0 in
+          ap (is_ready (plan_of s) s.size now) (sym at)
+          ∙ unready start s now h none (subst (λ i. i ≤ s.count) (sym at) front.within)
+
+      -- the search goes on
+      pub asks_fewer : (by : Search) → look ≡ Some by
+          → (by.behind < 256) × (left_to_ask by.side by.behind < left_to_ask by.side by.from)
+      asks_fewer by is =
+          let m = may_pick stands contents flushed look net may in
+          let w = m.running in
+          let s = w.scene in
+          let front = front_of look by s w.now net is m.sees in
+          let some = some_actor_ready stands contents flushed w.start s net w.now w.at m.going in
+          let isnt = unready_at by is w.start s w.now w.at m.going front in
+          let few = w.at.plan.few in
+          let fits = (front_passed by s w.now some.actor front isnt some.within some.is_ready).within in (
+            omega (arith, fits, few),
+            passed_fewer by s w.now some.actor front isnt some.within some.is_ready few,
+          )
+
+      pub stepped_past : (by : Search) → look ≡ Some by → (new : Net S R W) → new ≡ net
+          → HasStepped stands remaining contents flushed order p q look (Some (passed by)) net new false
+      stepped_past by is new same =
           subst
-          (λ n. HasStepped stands remaining contents flushed order p q leftmost look (passed look) net n false)
+          (λ n. HasStepped stands remaining contents flushed order p q look (Some (passed by)) net n false)
           (sym same) (record {
             reads = λ i. [];
             read = λ i. read_none _ _;
             goes = λ start s now over h none sees.
-                let front = sees.front is in
-                let less = front.order in
-                let fits = front.within in
-                let within : look.from ≤ s.count = omega (arith, less, fits) in
-                let isnt : is_ready (plan_of s) s.size now look.from ≡ false =
-                ap (is_ready (plan_of s) s.size now) (sym at.0)
-                ∙ unready start s now h none (subst (λ i. i ≤ s.count) (sym at.0) within) in
+                let front = front_of look by s now net is sees in
+                let isnt = unready_at by is start s now h none front in
                 let some = some_actor_ready stands contents flushed start s net now h none in (
-                  record { turns = []; to = now; driven = (still now, at.1); at = h },
+                  record { turns = []; to = now; driven = (still now, (here by is).1); at = h },
                   record {
                     tells = ap is_some (sym none);
-                    sees = λ none. record {
-                      flags = λ no. absurd (false≢true (sym no ∙ is));
-                      front = λ yes. front_passed look s now some.actor front isnt some.within some.is_ready;
-                    };
+                    sees = λ none. front_passed by s now some.actor front isnt some.within some.is_ready;
                   },
                 );
           })
@@ -159,26 +183,25 @@ module _ {S R W O : Type 0} (stands : Node S R → List ℕ → At → Type 0)
 
       next_at : (start : Option (List ℕ)) (s : Scene) (now : Now Row) → AreOver behind.web.nodes.items s.rests
           → NetAt stands contents flushed start (before_all turned.reads s) net now
-          → result (plan_of s) now ≡ None → Sees leftmost look s now net → Next start s now
+          → result (plan_of s) now ≡ None → Sees look s now net → Next start s now
       next_at start s now over h none sees =
           let mid : Scene = before_all turned.reads s in
-          let seen_mid = seen leftmost look s mid.rests now net sees in
+          let seen_mid = seen look s mid.rests now net sees in
           let picks : HasPicked order (plan_of s) s.size p q now k = ⊎_elim
           (λ is.
-          let at = here is in
-          let front = sees.front is in
-          let less = front.order in
-          let fits = front.within in
+          let by = is.0 in
+          let at = here by is.1 in
+          let front = front_of look by s now net is.1 sees in
           let from = at.0 in
-          let within : k ≤ s.count = omega (arith, from, less, fits) in
+          let fits = front.within in
+          let within : k ≤ s.count = omega (arith, from, fits) in
           record {
-            choice = leftmost_is s now k within (ready start mid now h none within)
-                (λ j low. front.left j (subst (λ i. j < i) from low))
-                ∙ sym (leftmost_choice order s p now at.2);
+            choice = leaning_choice s now k within (ready start mid now h none within) order p by.side at.2
+                (λ j less near. front.nearer j less (subst (IsNearer by.side j) from near));
             next = at.1 ∙ sym (at.2.stays (ready_list (plan_of s) s.size now));
           })
-          (λ isnt. picked_by isnt start mid now h none (subst (λ b. Sees b look mid now net) isnt seen_mid))
-          (cases_Bool leftmost) in
+          (λ isnt. picked_by isnt start mid now h none (subst (λ l. Sees l mid now net) isnt seen_mid))
+          (searches look) in
           let list = ready_list (plan_of s) s.size now in
           let may = picked stands contents flushed start mid net now h list (order.pick p list) k none refl
           picks.choice in
@@ -213,12 +236,12 @@ module _ {S R W O : Type 0} (stands : Node S R → List ℕ → At → Type 0)
           omega (arith, at_last, top))
           (cases_lt k s.count)
 
-      stepped_by : (after : Search) (new : Net S R W) → new ≡ record behind { actors = new.actors }
+      stepped_by : (after : Option Search) (new : Net S R W) → new ≡ record behind { actors = new.actors }
           → length new.actors.items ≡ length behind.actors.items
           → ((start : Option (List ℕ)) (s : Scene) (now : Now Row) → (n : Next start s now)
-          → result (plan_of s) now ≡ None → Sees leftmost look s now net
-          → result (plan_of s) n.goes.to ≡ None → Sees leftmost after s n.goes.to new)
-          → HasStepped stands remaining contents flushed order p q leftmost look after net new is_over
+          → result (plan_of s) now ≡ None → Sees look s now net
+          → result (plan_of s) n.goes.to ≡ None → Sees after s n.goes.to new)
+          → HasStepped stands remaining contents flushed order p q look after net new is_over
       stepped_by after new same len known =
           let nodes : new.web.nodes ≡ behind.web.nodes = ap (λ (n : Net S R W). n.web.nodes) same in
           record {
@@ -245,7 +268,7 @@ module _ {S R W O : Type 0} (stands : Node S R → List ℕ → At → Type 0)
 
       -- and the run is over
       pub stepped_over : is_over ≡ true
-          → HasStepped stands remaining contents flushed order p q leftmost look look net behind is_over
+          → HasStepped stands remaining contents flushed order p q look look net behind is_over
       stepped_over is =
           stepped_by look behind refl refl
           (λ start s now n none sees goes.
@@ -265,7 +288,7 @@ module _ {S R W O : Type 0} (stands : Node S R → List ℕ → At → Type 0)
           subst (λ f. NetAt stands contents flushed may.start (record all { rests = f }) net now)
           (may.rests rests over) (may.at rests over) in
           let n = next_at may.start s now (no_rests behind) at (may.going rests over)
-          (seen leftmost look all s.rests now net (may.sees rests over)) in
+          (seen look all s.rests now net (may.sees rests over)) in
           (may.start, s, now, n, not_over _ n.goes.tells not_yet)
 
       pub link_few : is_over ≡ false → link < length behind.takers.items
@@ -276,26 +299,25 @@ module _ {S R W O : Type 0} (stands : Node S R → List ℕ → At → Type 0)
           let many = n.goes.at.takers.many in
           omega (arith, less, many)
 
-      -- a leftmost order looks further
-      pub stepped_left : is_over ≡ false → leftmost ≡ true
-          → HasStepped stands remaining contents flushed order p q leftmost look (changed look link) net behind
-          is_over
-      stepped_left not_yet is =
+      -- a search looks further
+      pub stepped_on : is_over ≡ false → (by after : Search) → look ≡ Some by
+          → ((taker : ℕ) → slice_get behind.takers.items link ≡ Some taker
+          → after ≡ changed by (outer by.side link taker))
+          → HasStepped stands remaining contents flushed order p q look (Some after) net behind is_over
+      stepped_on not_yet by after is goes_to =
           let few = link_few not_yet in
           let list = behind.takers.items in
           let taker = get_or list link 0 in
           let taker_is : slice_get list link ≡ Some taker = slice_get-get_or list link 0 few in
-          stepped_by (changed look link) behind refl refl
+          stepped_by (Some after) behind refl refl
           (λ start s now n none sees goes.
           let takers = n.goes.at.takers in
-          record {
-            flags = λ isnt. absurd (false≢true (sym isnt ∙ is));
-            front = λ yes.
-                front_changed s n.goes.at.plan k link taker now n.goes.to n.goes.turn goes none
-                (changed_is start s now n goes) n.within
-                (λ j takes. takers.alone link taker j taker_is takes)
-                look (here is).0 (takers.behind link taker taker_is).0 (sees.front is);
-          })
+          let at = takers.behind link taker taker_is in
+          subst (λ l. IsFront l s n.goes.to) (sym (goes_to taker taker_is))
+          (front_changed s n.goes.at.plan k link taker now n.goes.to n.goes.turn goes none
+          (changed_is start s now n goes) n.within
+          (λ j takes. takers.alone link taker j taker_is takes)
+          by (here by is).0 at.0 at.1 (front_of look by s now net is sees)))
 
       module _ (not_yet : is_over ≡ false) (taker : ℕ) (taker_is : slice_get behind.takers.items link ≡ Some taker) where
         pub link_going : IsGoing stands contents flushed link behind
@@ -320,7 +342,7 @@ module _ {S R W O : Type 0} (stands : Node S R → List ℕ → At → Type 0)
             }
 
         -- of any other the two ends of the link are asked again
-        pub stepped_else : leftmost ≡ false → (new : Net S R W) → behind.actors ≡ net.actors
+        pub stepped_else : look ≡ None → (new : Net S R W) → behind.actors ≡ net.actors
             → new ≡ record behind { actors = new.actors }
             → length new.actors.items ≡ length behind.actors.items
             → ((start : Option (List ℕ)) (s : Scene) (now : Now Row)
@@ -329,7 +351,7 @@ module _ {S R W O : Type 0} (stands : Node S R → List ℕ → At → Type 0)
             → new.actors.items ≡ slice_set
             (slice_set behind.actors.items link (is_ready (plan_of s) s.size now link))
             taker (is_ready (plan_of s) s.size now taker))
-            → HasStepped stands remaining contents flushed order p q leftmost look look net new is_over
+            → HasStepped stands remaining contents flushed order p q look look net new is_over
         stepped_else isnt new flags same len asked =
             stepped_by look new same len
             (λ start s now n none sees goes.
@@ -338,16 +360,13 @@ module _ {S R W O : Type 0} (stands : Node S R → List ℕ → At → Type 0)
             let less = link_within start s now n goes in
             let f = is_ready (plan_of s) s.size now in
             let g = is_ready (plan_of s) s.size n.goes.to in
-            record {
-              flags = λ no.
-                  asked start s n.goes.to n.goes.at goes (omega (arith, less)) at.1
-                  ∙ ap (λ l. slice_set (slice_set l link (g link)) taker (g taker))
-                  (ap (λ v. v.items) flags ∙ sees.flags isnt)
-                  ∙ two_set f g (s.count + 1) link taker
-                  (λ j low apart other.
-                  others_as_ready s n.goes.at.plan k link taker now n.goes.to n.goes.turn goes none
-                  (changed_is start s now n goes) n.within
-                  (λ i takes. takers.alone link taker i taker_is takes)
-                  j (omega (arith, low)) apart other);
-              front = λ is. absurd (false≢true (sym isnt ∙ is));
-            })
+            subst (λ l. Sees l s n.goes.to new) (sym isnt)
+            (asked start s n.goes.to n.goes.at goes (omega (arith, less)) at.1
+            ∙ ap (λ l. slice_set (slice_set l link (g link)) taker (g taker))
+            (ap (λ v. v.items) flags ∙ subst (λ l. Sees l s now net) isnt sees)
+            ∙ two_set f g (s.count + 1) link taker
+            (λ j low apart other.
+            others_as_ready s n.goes.at.plan k link taker now n.goes.to n.goes.turn goes none
+            (changed_is start s now n goes) n.within
+            (λ i takes. takers.alone link taker i taker_is takes)
+            j (omega (arith, low)) apart other)))

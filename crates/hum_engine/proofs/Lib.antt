@@ -15,7 +15,7 @@ pub mod Netting
 pub mod Bounds
 pub mod Flags
 pub mod Noting
-pub mod Leftmost
+pub mod Leaning
 pub mod Searching
 pub mod Running
 pub mod Choosing

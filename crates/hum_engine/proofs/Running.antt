@@ -36,15 +36,14 @@ use Rattle.hum_turns.proofs.Against.{meaning_fine}
 use Rattle.hum_turns.specs.Meaning.{plan_meaning}
 use Rattle.hum_nodes.specs.Fine.{fine, IsFine}
 use Rattle.hum_nodes.proofs.Fining.{fine_is}
-use Rattle.hum_engine.specs.Nets.{Watches, HasStepped, MayStep}
-use Rattle.hum_engine.specs.Search.{beginning}
+use Rattle.hum_engine.specs.Nets.{Watches, HasStepped, MayStep, Sees}
 use Rattle.hum_engine.specs.declared.search.Search.{Search}
 use Rattle.hum_engine.proofs.Netting.{ends_alike, not_over}
 
 -- What the turns so far have led to, however the bytes go on.
 pub record Ran {S R W O : Type 0} (stands : Node S R → List ℕ → At → Type 0)
     (remaining : R → Option (List ℕ)) (contents : W → Option (List ℕ))
-    (flushed : W → Bool) (order : Order O) (leftmost : Bool) (look : Search) (is_over : Bool) (o p : O)
+    (flushed : W → Bool) (order : Order O) (look : Option Search) (is_over : Bool) (o p : O)
     (old new : Net S R W) : Type 0 where
   pub reads : ℕ → List ℕ
   pub read : (i : ℕ)
@@ -54,14 +53,21 @@ pub record Ran {S R W O : Type 0} (stands : Node S R → List ℕ → At → Typ
   pub leads : (start : Option (List ℕ)) (s : Scene) (now : Now Row)
       → AreOver new.web.nodes.items s.rests
       → NetAt stands contents flushed start (before_all reads s) old now
-      → (d : Leads stands contents flushed order o p start s now new) × Watches leftmost look is_over s d.to new
+      → (d : Leads stands contents flushed order o p start s now new) × Watches look is_over s d.to new
+
+-- What is known of who is ready hangs on no bytes that are still to come.
+pub seen : {S R W : Type 0} (look : Option Search) (s : Scene) (rests : ℕ → List ℕ) (now : Now Row)
+    (net : Net S R W) → Sees look s now net → Sees look (record s { rests = rests }) now net
+seen None s rests now net sees = sees
+seen (Some look) s rests now net f =
+    record { within = f.within; nearer = f.nearer; between = f.between; beyond = f.beyond }
 
 -- what changes in a net but for its flags
 pub relist : {S R W : Type 0} (a b : Net S R W) (list : Vec Bool Global)
     → a ≡ record b { actors = a.actors } → record a { actors = list } ≡ record b { actors = list }
 relist {S} {R} {W} a b list e = ap (λ (n : Net S R W). record n { actors = list }) e
 
-some_at : (bs : List Bool) (k : ℕ) → get_or bs k false ≡ true → some_true bs ≡ true
+pub some_at : (bs : List Bool) (k : ℕ) → get_or bs k false ≡ true → some_true bs ≡ true
 some_at [] k h = absurd (false≢true h)
 some_at (true ∷ bs) k h = refl
 some_at (false ∷ bs) zero h = absurd (false≢true h)
@@ -264,7 +270,7 @@ module _ {S R W : Type 0} (stands : Node S R → List ℕ → At → Type 0)
 
 module _ {S R W O : Type 0} (stands : Node S R → List ℕ → At → Type 0)
     (remaining : R → Option (List ℕ)) (contents : W → Option (List ℕ))
-    (flushed : W → Bool) (order : Order O) (leftmost : Bool) where
+    (flushed : W → Bool) (order : Order O) where
   -- nothing has moved, and the flags were set
   pub ran_none : (o : O) (old new : Net S R W)
       → ((start : Option (List ℕ)) (s : Scene) (now : Now Row)
@@ -274,8 +280,12 @@ module _ {S R W O : Type 0} (stands : Node S R → List ℕ → At → Type 0)
       → ((start : Option (List ℕ)) (s : Scene) (now : Now Row)
       → NetAt stands contents flushed start s old now
       → new.actors.items ≡ ready_list (plan_of s) s.size now)
-      → Ran stands remaining contents flushed order leftmost beginning false o o old new
-  ran_none o old new tells same len list = record {
+      → (look : Option Search)
+      → ((start : Option (List ℕ)) (s : Scene) (now : Now Row)
+      → NetAt stands contents flushed start s new now → result (plan_of s) now ≡ None
+      → new.actors.items ≡ ready_list (plan_of s) s.size now → Sees look s now new)
+      → Ran stands remaining contents flushed order look false o o old new
+  ran_none o old new tells same len list look opens = record {
     reads = λ i. [];
     read = λ i.
         subst
@@ -292,21 +302,15 @@ module _ {S R W O : Type 0} (stands : Node S R → List ℕ → At → Type 0)
       },
       record {
         tells = tells start s now h;
-        sees = λ none. record {
-          flags = λ isnt. list start s now h;
-          front = λ is. record {
-            order = omega arith;
-            within = omega arith;
-            left = λ j less. absurd (omega (arith, less));
-            between = λ j low high. absurd (omega (arith, low, high));
-          };
-        };
+        sees = λ none.
+            opens start s now (relisted stands contents flushed start s old new now same len h) none
+            (list start s now h);
       },
     );
   }
 
-  module _ (look : Search) (is_over : Bool) (o p : O) (old net : Net S R W)
-      (ran : Ran stands remaining contents flushed order leftmost look is_over o p old net) where
+  module _ (look : Option Search) (is_over : Bool) (o p : O) (old net : Net S R W)
+      (ran : Ran stands remaining contents flushed order look is_over o p old net) where
     opened : (r : IsNet stands contents flushed old) (rests : ℕ → List ℕ) → AreOver net.web.nodes.items rests
         → NetAt stands contents flushed r.start
         (before_all ran.reads (record (r.scene (λ i. ran.reads i ++ rests i)) { rests = rests })) old
@@ -320,12 +324,12 @@ module _ {S R W O : Type 0} (stands : Node S R → List ℕ → At → Type 0)
 
     led : (r : IsNet stands contents flushed old) (rests : ℕ → List ℕ) (over : AreOver net.web.nodes.items rests)
         → (d : Leads stands contents flushed order o p r.start (scene_now r rests)
-        (r.now (λ i. ran.reads i ++ rests i)) net) × Watches leftmost look is_over (scene_now r rests) d.to net
+        (r.now (λ i. ran.reads i ++ rests i)) net) × Watches look is_over (scene_now r rests) d.to net
     unfolding scene_now
     led r rests over = ran.leads r.start (scene_now r rests) (r.now (λ i. ran.reads i ++ rests i)) over (opened r rests over)
 
     pub may_step : IsNet stands contents flushed old → is_over ≡ false
-        → MayStep stands contents flushed leftmost look net
+        → MayStep stands contents flushed look net
     unfolding scene_now
     may_step r not_yet = record {
       start = r.start;
@@ -391,10 +395,10 @@ module _ {S R W O : Type 0} (stands : Node S R → List ℕ → At → Type 0)
   }
 
   -- a step more
-  pub ran_more : (look after : Search) (is_over : Bool) (o p q : O) (old net new : Net S R W)
-      → Ran stands remaining contents flushed order leftmost look false o p old net
-      → HasStepped stands remaining contents flushed order p q leftmost look after net new is_over
-      → Ran stands remaining contents flushed order leftmost after is_over o q old new
+  pub ran_more : (look after : Option Search) (is_over : Bool) (o p q : O) (old net new : Net S R W)
+      → Ran stands remaining contents flushed order look false o p old net
+      → HasStepped stands remaining contents flushed order p q look after net new is_over
+      → Ran stands remaining contents flushed order after is_over o q old new
   ran_more look after is_over o p q old net new ran stepped = record {
     reads = λ i. ran.reads i ++ stepped.reads i;
     read = λ i. read_more _ _ _ _ _ _ _ _ (ran.read i) (stepped.read i);
@@ -409,13 +413,8 @@ module _ {S R W O : Type 0} (stands : Node S R → List ℕ → At → Type 0)
         ap (λ l. l ++ s.rests i) t.0 ∙ over i t.1 in
         let d = ran.leads start mid now over_mid before in
         let none = not_over _ d.1.tells refl in
-        let sees = d.1.sees none in
-        let g = stepped.goes start s d.0.to over d.0.at none (record {
-          flags = sees.flags;
-          front = λ is.
-              let f = sees.front is in
-              record { order = f.order; within = f.within; left = f.left; between = f.between };
-        }) in (
+        let g = stepped.goes start s d.0.to over d.0.at none
+        (seen look mid s.rests d.0.to net (d.1.sees none)) in (
           record {
             turns = d.0.turns ++ g.0.turns;
             to = g.0.to;

@@ -2,7 +2,7 @@
 use Rattle.std.proofs.Common.{◌≡◌, ◌∙◌, ℕ, ◌<◌, true, false, List, Result, Ok, Err, sym, subst, arith, nat_lt}
 use Rattle.std.proofs.Common.{ap, le-ltb}
 use Rattle.std.proofs.lemmas.Bool.{cond-false}
-use Rattle.std.specs.Prelude.{OnOk, IfOk}
+use Rattle.std.specs.Prelude.{OnOk, IfOk, IfSome, Option, Some, None}
 use Rattle.hum_turns.specs.Plan.{last}
 use Rattle.hum_turns.specs.Near.{touched}
 use Rattle.hum_turns.specs.Turns.{State, state, ready}
@@ -52,6 +52,10 @@ pub if_ok : {A E : Type 0} (P Q : A → Type 0) (r : Result A E) → IfOk r P �
     → IfOk r Q
 if_ok P Q (Ok x) h f = f x h
 if_ok P Q (Err e) h f = h
+
+pub if_some : {A : Type 0} (P Q : A → Type 0) (o : Option A) → IfSome o P → ((x : A) → P x → Q x) → IfSome o Q
+if_some P Q (Some x) h f = f x h
+if_some P Q None h f = h
 
 -- a stage of one scene that is a web's is one of each
 pub here_too : (k nodes a b : ℕ) → k < a → nodes ≡ a → nodes ≡ b → k < b

@@ -21,16 +21,17 @@ use Rattle.hum_turns.specs.Failures.{Now, MayFail, Turn, Walk, IsFirst, IsFailur
 use Rattle.hum_turns.specs.Failures.{written, is_ready, result, result_of}
 use Rattle.hum_nodes.specs.At.{At}
 use Rattle.hum_nodes.specs.Fine.{fine, IsFine}
-use Rattle.hum_nodes.specs.Polls.{HasRead}
+use Rattle.hum_nodes.specs.Polls.{HasRead, AsksAtMostOnce}
 use Rattle.hum_nodes.specs.declared.node.Node.{Node}
 use Rattle.hum_nodes.specs.Nodes.{is_source, remaining_of}
 use Rattle.hum_engine.specs.declared.web.Web.{Web}
 use Rattle.hum_engine.specs.declared.net.Net.{Net}
 use Rattle.hum_engine.specs.declared.net.Turned.{Turned}
-use Rattle.hum_engine.specs.Readers.{ended_at, remaining_at, failed_at, is_read_of, is_write}
+use Rattle.hum_engine.specs.Readers.{ended_at, remaining_at, calls_at, failed_at, is_read_of, is_write, ShowsSame}
 use Rattle.hum_engine.specs.Scene.{Scene, plan_of, moved, before_all, Stands, IsAt, IsNetPlan, IsBegun, Done}
 use Rattle.hum_engine.specs.Scene.{MayTurn, IsActor, AreTakers}
 use Rattle.hum_engine.specs.declared.search.Search.{Search}
+use Rattle.hum_engine.specs.Search.{IsNearer, left_to_ask}
 
 -- The sink has taken what came next, and has written the text of that; behind the end it was flushed,
 -- and the run is over.
@@ -148,28 +149,29 @@ pub record IsAmong {S R W : Type 0} (stands : Node S R → List ℕ → At → T
   pub running : IsRunning stands contents flushed net
   pub within : k ≤ running.scene.count
 
--- Nobody to the left of the actor that is asked next is ready, nor anyone strictly between it and the
--- one that is asked behind it.
+-- Nobody nearer to the side than the actor that is asked next is ready, nor anyone between it and the
+-- one that is asked behind it, which stands further from the side where anyone does.
 pub record IsFront (look : Search) (s : Scene) (now : Now Row) : Type 0 where
-  pub order : look.from < look.right
-  pub within : look.right ≤ s.count + 1
-  pub left : (j : ℕ) → j < look.from → is_ready (plan_of s) s.size now j ≡ false
-  pub between : (j : ℕ) → look.from < j → j < look.right
+  pub within : look.from ≤ s.count
+  pub nearer : (j : ℕ) → j ≤ s.count → IsNearer look.side j look.from
       → is_ready (plan_of s) s.size now j ≡ false
+  pub between : (j : ℕ) → j ≤ s.count → IsNearer look.side look.from j
+      → IsNearer look.side j look.behind → is_ready (plan_of s) s.size now j ≡ false
+  pub beyond : (j : ℕ) → j ≤ s.count → IsNearer look.side look.from j
+      → IsNearer look.side look.from look.behind
 
--- What is known of who is ready: by the flags, or in a leftmost order's run by where it looks.
-pub record Sees {S R W : Type 0} (leftmost : Bool) (look : Search) (s : Scene) (now : Now Row)
-    (net : Net S R W) : Type 0 where
-  pub flags : leftmost ≡ false → net.actors.items ≡ ready_list (plan_of s) s.size now
-  pub front : leftmost ≡ true → IsFront look s now
+-- What is known of who is ready: of each by the flags, or what a search knows.
+abbrev pub Sees : {S R W : Type 0} → Option Search → Scene → Now Row → Net S R W → Type 0
+Sees None s now net = net.actors.items ≡ ready_list (plan_of s) s.size now
+Sees (Some look) s now net = IsFront look s now
 
 -- While the run goes on, an actor is picked by that.
 pub record MayPick {S R W : Type 0} (stands : Node S R → List ℕ → At → Type 0)
-    (contents : W → Option (List ℕ)) (flushed : W → Bool) (leftmost : Bool) (look : Search)
+    (contents : W → Option (List ℕ)) (flushed : W → Bool) (look : Option Search)
     (net : Net S R W) : Type 0 where
   pub running : IsRunning stands contents flushed net
   pub going : result (plan_of running.scene) running.now ≡ None
-  pub sees : Sees leftmost look running.scene running.now net
+  pub sees : Sees look running.scene running.now net
 
 -- While the run goes on, this actor may be asked.
 pub record MayAsk {S R W : Type 0} (stands : Node S R → List ℕ → At → Type 0)
@@ -202,6 +204,23 @@ pub record HasGone {S R W : Type 0} (stands : Node S R → List ℕ → At → T
   pub turns : new.turns ≡ old.turns + 1
   pub actors : new.actors ≡ old.actors
   pub takers : new.takers ≡ old.takers
+
+-- In a turn of an actor its reader is called once at most, and no other. The sink is asked for no write
+-- but those of the record that it takes, or for one flush at the end; by a stage for nothing.
+pub record AsksLittle {S R W : Type 0} (stands : Node S R → List ℕ → At → Type 0)
+    (remaining : R → Option (List ℕ)) (calls : R → ℕ) (failed : R → Bool)
+    (contents : W → Option (List ℕ)) (flushed : W → Bool) (asked : W → ℕ) (k : ℕ)
+    (old new : Net S R W) : Type 0 where
+  pub once : AsksAtMostOnce (calls_at calls k old.web.nodes.items)
+      (failed_at failed k old.web.nodes.items) (calls_at calls k new.web.nodes.items)
+      (failed_at failed k new.web.nodes.items)
+  pub others : (i : ℕ) → i ≢ k
+      → ShowsSame remaining calls failed old.web.nodes.items new.web.nodes.items i
+  pub sink : (start : Option (List ℕ)) (s : Scene) (now : Now Row)
+      → NetAt stands contents flushed start s old now → is_ready (plan_of s) s.size now k ≡ true
+      → k ≡ s.count
+      → CallsSink (asked old.sink) (asked new.sink) (now.links (last (plan_of s))).waiting
+  pub unasked : k ≢ length old.web.nodes.items → new.sink ≡ old.sink
 
 -- one of its actors, while no failure has ended the run
 pub record IsGoing {S R W : Type 0} (stands : Node S R → List ℕ → At → Type 0)
@@ -241,16 +260,16 @@ pub record Leads {S R W O : Type 0} (stands : Node S R → List ℕ → At → T
   pub at : NetAt stands contents flushed start s net to
 
 -- It is known whether the run is over and, while it isn't, who is ready.
-pub record Watches {S R W : Type 0} (leftmost : Bool) (look : Search) (is_over : Bool) (s : Scene)
+pub record Watches {S R W : Type 0} (look : Option Search) (is_over : Bool) (s : Scene)
     (now : Now Row) (net : Net S R W) : Type 0 where
   pub tells : is_over ≡ is_some (result (plan_of s) now)
-  pub sees : result (plan_of s) now ≡ None → Sees leftmost look s now net
+  pub sees : result (plan_of s) now ≡ None → Sees look s now net
 
 -- A step of a run that goes on: the sources have read these bytes. However they go on, the order's
 -- picks have led the net on, and what is known of who is ready holds still.
 pub record HasStepped {S R W O : Type 0} (stands : Node S R → List ℕ → At → Type 0)
     (remaining : R → Option (List ℕ)) (contents : W → Option (List ℕ))
-    (flushed : W → Bool) (order : Order O) (o p : O) (leftmost : Bool) (before after : Search)
+    (flushed : W → Bool) (order : Order O) (o p : O) (before after : Option Search)
     (old new : Net S R W) (is_over : Bool) : Type 0 where
   pub reads : ℕ → List ℕ
   pub read : (i : ℕ)
@@ -260,15 +279,21 @@ pub record HasStepped {S R W O : Type 0} (stands : Node S R → List ℕ → At 
   pub goes : (start : Option (List ℕ)) (s : Scene) (now : Now Row)
       → AreOver new.web.nodes.items s.rests
       → NetAt stands contents flushed start (before_all reads s) old now
-      → result (plan_of s) now ≡ None → Sees leftmost before s now old
+      → result (plan_of s) now ≡ None → Sees before s now old
       → (d : Leads stands contents flushed order o p start s now new)
-      × Watches leftmost after is_over s d.to new
+      × Watches after is_over s d.to new
 
--- A step that doesn't end the run is a turn, or goes on to an actor further right.
-abbrev pub IsCloser : {S R W : Type 0} → Search → Search → Net S R W → Net S R W → Bool → Type 0
+-- how many actors are still asked at most before one is ready
+abbrev pub still_to_ask : Option Search → ℕ
+still_to_ask None = 0
+still_to_ask (Some look) = left_to_ask look.side look.from
+
+-- A step that doesn't end the run is a turn, or leaves fewer actors to ask.
+abbrev pub IsCloser : {S R W : Type 0} → Option Search → Option Search → Net S R W → Net S R W
+    → Bool → Type 0
 IsCloser before after old new is_over =
     (is_over ≡ true) ⊎ (new.turns ≡ old.turns + 1)
-    ⊎ ((new.turns ≡ old.turns) × (before.from < after.from) × (before.from < 256))
+    ⊎ ((new.turns ≡ old.turns) × (still_to_ask after < still_to_ask before))
 
 -- The order's picks have led it to its end. What the plan means is a score, where the last stage too
 -- makes scores of scores; its fault is the lowest-numbered one.
@@ -312,7 +337,7 @@ pub record IsNet {S R W : Type 0} (stands : Node S R → List ℕ → At → Typ
 
 -- However they go on behind what was read, the run goes on too, and so much is known of who is ready.
 pub record MayStep {S R W : Type 0} (stands : Node S R → List ℕ → At → Type 0)
-    (contents : W → Option (List ℕ)) (flushed : W → Bool) (leftmost : Bool) (look : Search)
+    (contents : W → Option (List ℕ)) (flushed : W → Bool) (look : Option Search)
     (net : Net S R W) : Type 0 where
   pub start : Option (List ℕ)
   pub scene : (rests : ℕ → List ℕ) → AreOver net.web.nodes.items rests → Scene
@@ -324,7 +349,7 @@ pub record MayStep {S R W : Type 0} (stands : Node S R → List ℕ → At → T
   pub going : (rests : ℕ → List ℕ) (over : AreOver net.web.nodes.items rests)
       → result (plan_of (scene rests over)) (now rests over) ≡ None
   pub sees : (rests : ℕ → List ℕ) (over : AreOver net.web.nodes.items rests)
-      → Sees leftmost look (scene rests over) (now rests over) net
+      → Sees look (scene rests over) (now rests over) net
 
 -- Nodes that were asked nothing yet, of a plan by what is still to come of the bytes.
 pub record AreBegun {S R : Type 0} (stands : Node S R → List ℕ → At → Type 0) (size : ℕ)

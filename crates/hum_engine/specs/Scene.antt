@@ -16,6 +16,7 @@ use Rattle.hum_nodes.specs.At.{fresh as fresh_at}
 use Rattle.hum_nodes.specs.Single.{single}
 use Rattle.hum_nodes.specs.Doing.{Doing}
 use Rattle.hum_nodes.specs.declared.node.Readiness.{Readiness}
+use Rattle.hum_nodes.specs.declared.node.Readiness.TheVariants as kinds
 use Rattle.hum_nodes.specs.declared.node.Node.{Node}
 use Rattle.hum_nodes.specs.Nodes.{is_source, remaining_of, ended_of}
 use Rattle.hum_engine.specs.declared.link.Link.{Link}
@@ -214,6 +215,12 @@ pub record IsActor {S R : Type 0} (stands : Node S R → List ℕ → At → Typ
   pub at : IsAt stands web s
   pub within : k ≤ s.count
 
+-- An actor that is a stage.
+pub record HasActor {S R : Type 0} (stands : Node S R → List ℕ → At → Type 0) (k : ℕ) (web : Web S R)
+    (s : Scene) : Type 0 where
+  pub at : IsAt stands web s
+  pub less : k < s.count
+
 -- Stage k, which isn't a source, is about to do this.
 pub record IsAbout {S R : Type 0} (stands : Node S R → List ℕ → At → Type 0) (k : ℕ) (doing : Doing)
     (web : Web S R) (s : Scene) : Type 0 where
@@ -236,6 +243,14 @@ abbrev pub IsDoing : {S R : Type 0} → (Node S R → List ℕ → At → Type 0
 IsDoing stands k web kind =
     IsKind false k web
     × ((s : Scene) → IsAt stands web s → k < s.count → IsAboutKind stands k kind web s)
+
+-- This is what stage k does next, a source or another.
+abbrev pub DoesNext : {S R : Type 0} → (Node S R → List ℕ → At → Type 0) → ℕ → Web S R → Readiness
+    → Type 0
+DoesNext stands k web kinds.Reads = IsKind true k web
+DoesNext stands k web kinds.Gives = IsDoing stands k web kinds.Gives
+DoesNext stands k web (kinds.Wants place) = IsDoing stands k web (kinds.Wants place)
+DoesNext stands k web kinds.Done = IsDoing stands k web kinds.Done
 
 -- Stage k has read these bytes, and the turn is what follows from them however they go on. A stage
 -- that isn't a source reads none.

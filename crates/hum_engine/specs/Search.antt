@@ -1,18 +1,47 @@
--- Where a leftmost order's run looks for an actor that is ready.
-use Rattle.std.specs.Prelude.{ℕ, ◌+◌, nat_lt, if◌then◌else◌}
+-- Where a run by an order that leans to a side looks for an actor that is ready.
+use Rattle.std.specs.Prelude.{ℕ, ◌+◌, ◌-◌, ◌<◌, nat_eq, if◌then◌else◌, Option, None, Some}
+use Rattle.hum_turns.specs.declared.order.Side.{Side}
+use Rattle.hum_turns.specs.declared.order.Side.TheVariants as side
 use Rattle.hum_engine.specs.declared.search.Search.{Search}
 
--- the first actor is asked, and of no other anything is known
-abbrev pub beginning : Search
-beginning = record { from = 0; right = 1 }
+-- actor a stands nearer to this side than actor b
+abbrev pub IsNearer : Side → ℕ → ℕ → Type 0
+IsNearer side.Left a b = a < b
+IsNearer side.Right a b = b < a
 
--- Behind an actor that isn't ready comes the one in front of which nobody is.
+-- the actor next to this one, away from the side
+abbrev pub away : Side → ℕ → ℕ
+away side.Left k = k + 1
+away side.Right k = k - 1
+
+-- of a link's two ends, of which the taker stands further right, the one nearer to the side
+abbrev pub outer : Side → ℕ → ℕ → ℕ
+outer side.Left link taker = link
+outer side.Right link taker = taker
+
+-- the actor furthest to a side
+abbrev pub end_of : Side → ℕ → ℕ
+end_of side.Left sink = 0
+end_of side.Right sink = sink
+
+-- An order that leans to a side asks it first, and knows nothing of any other.
+abbrev pub beginning : Option Side → ℕ → Option Search
+beginning None sink = None
+beginning (Some to) sink =
+    Some (record { side = to; from = end_of to sink; behind = away to (end_of to sink) })
+
+-- Behind an actor that isn't ready comes the next one that may be.
 abbrev pub passed : Search → Search
-passed look = record { from = look.right; right = look.right + 1 }
+passed look = record look { from = look.behind; behind = away look.side look.behind }
 
--- A turn of the actor that was asked has changed the link of this stage. Where it took from it, nobody
--- strictly between the two is ready: they weren't, and the turn was nothing to them.
+-- A turn of the actor that was asked has changed a link, of which this is the outer end. Where that is
+-- another actor, nobody between the two is ready: they weren't, and the turn was nothing to them.
 abbrev pub changed : Search → ℕ → Search
-changed look link =
-    if nat_lt link look.from then record { from = link; right = look.from }
-    else record { from = look.from; right = look.from + 1 }
+changed look end =
+    if nat_eq end look.from then record look { behind = away look.side look.from }
+    else record look { from = end; behind = look.from }
+
+-- How many actors at most are asked before one of 256 is ready.
+abbrev pub left_to_ask : Side → ℕ → ℕ
+left_to_ask side.Left from = 256 - from
+left_to_ask side.Right from = 256 - (256 - from)

@@ -6,13 +6,13 @@ ghost use Rattle.hum_record.specs.Row.{Row, text_of};
 ghost use Rattle.hum_turns.specs.Links.{linked};
 ghost use Rattle.hum_turns.specs.declared.result.RunResult.TheVariants as ends;
 ghost use Rattle.hum_turns.specs.Failures.{Now, IsFirst, MayFail, is_ready, result as ended};
-ghost use Rattle.hum_turns.specs.Orders.{ready_list, IsLeftmost};
+ghost use Rattle.hum_turns.specs.Orders.{ready_list, LeansTo};
 ghost use Rattle.hum_nodes.specs.Nodes.{StandsAs};
 ghost use Rattle.hum_nodes.specs.Polls.{AsksAtMostOnce, HasStayed};
 ghost use Rattle.hum_engine.specs.Readers.{ShowsSame, remaining_at, ended_at, calls_at, failed_at};
 ghost use Rattle.hum_engine.specs.Readers.{is_read_of, is_write};
 ghost use Rattle.hum_engine.specs.Scene.{Scene, plan_of, Somewhere, IsActor, IsAt, IsNetPlan, IsBegun, MayTurn};
-ghost use Rattle.hum_engine.specs.Scene.{KeepsOthers, Fed, held_of, HoldsFew};
+ghost use Rattle.hum_engine.specs.Scene.{KeepsOthers, Fed, held_of, HoldsFew, DoesNext};
 ghost use Rattle.hum_turns.specs.Plan.{last};
 ghost use Rattle.hum_engine.specs.Nets.{MayWrite, CallsSink, SinkWent, MayTurnFew, MayGo, IsRunning};
 ghost use Rattle.hum_turns.specs.Counts.{turns_of, most, most_in_all};
@@ -20,14 +20,14 @@ ghost use Rattle.hum_turns.specs.Holds.{SomeReady};
 ghost use Rattle.hum_engine.specs.Nets.{WroteFront, IsGoing, IsChanged};
 ghost use Rattle.hum_engine.specs.Nets.{IsAmong, NetAt, AreBegun, Tells, HasRun, HasRunOn, IsNet};
 ghost use Rattle.hum_engine.specs.Nets.{Sees, MayPick, HasPicked, MayAsk, HasGone, MayStep, HasStepped};
-ghost use Rattle.hum_engine.specs.Nets.{IsCloser};
+ghost use Rattle.hum_engine.specs.Nets.{IsCloser, AsksLittle};
 
 use crate::link::Next;
 use crate::search::Search;
 use crate::takers::takers_of;
 use crate::web::Web;
 use crate::writing::write_record;
-use hum_nodes::Node;
+use hum_nodes::{Node, Readiness};
 use hum_read::ReadError;
 use hum_stage::Stage;
 use hum_text::calls::{Sink, Source};
@@ -121,10 +121,11 @@ impl<S: Stage + Drop, R: Source + Drop, W: Sink> Net<S, R, W> {
         self.failure = Some(RunResult::Memory);
     }
 
-    // A stage's turn.
+    // The turn of a stage that does this next.
     #[inline(always)]
-    fn stage_turn(&mut self, k: usize) -> Turned
+    fn stage_turn(&mut self, k: usize, kind: Readiness) -> Turned
         requires none { self.old.failure ≡ None }
+        requires doing { DoesNext (StandsAs S.stands) k self.old.web kind }
         requires may { Somewhere (MayTurnFew (StandsAs S.stands) k self.old.web) }
         ensures fed { self.new.failure ≡ None → Fed (StandsAs S.stands) R.remaining k
             self.old.web self.new.web }
@@ -153,7 +154,7 @@ impl<S: Stage + Drop, R: Source + Drop, W: Sink> Net<S, R, W> {
         ensures actors { self.new.actors ≡ self.old.actors }
         ensures takers { self.new.takers ≡ self.old.takers }
     {
-        match self.web.turn(k) {
+        match self.web.turn(k, kind) {
             Ok(link) => {
                 return Turned {
                     link,
@@ -272,21 +273,19 @@ impl<S: Stage + Drop, R: Source + Drop, W: Sink> Net<S, R, W> {
         }
     }
 
-    // The actor that is asked next: the order's pick, by the flags, or of a leftmost order the one to
-    // the left of which nobody is ready.
+    // The actor that is asked next: where a search stands, or else the order's pick by the flags.
     #[inline(always)]
-    fn next<O: Order>(&self, order: &mut O, is_leftmost: bool, search: &Search) -> usize
-        requires { MayPick (StandsAs S.stands) W.contents W.flushed is_leftmost search.now
-            self.now }
-        ensures from { is_leftmost ≡ true → result ≡ search.now.from }
-        ensures stays { is_leftmost ≡ true → order.new ≡ order.old }
-        ensures picked { is_leftmost ≡ false → (start : Option (List ℕ)) (s : Scene) (now : Now Row)
+    fn next<O: Order>(&self, order: &mut O, search: &Option<Search>) -> usize
+        requires { MayPick (StandsAs S.stands) W.contents W.flushed search.now self.now }
+        ensures from { IfSome search.now
+            (λ search. (result ≡ search.from) × (order.new ≡ order.old)) }
+        ensures picked { search.now ≡ None → (start : Option (List ℕ)) (s : Scene) (now : Now Row)
             → NetAt (StandsAs S.stands) W.contents W.flushed start s self.now now
-            → ended (plan_of s) now ≡ None → Sees false search.now s now self.now
+            → ended (plan_of s) now ≡ None → Sees None s now self.now
             → HasPicked (record { pick = O.picks; next = O.after }) (plan_of s) s.size order.old
             order.new now result }
     {
-        if is_leftmost {
+        if let Some(search) = search {
             return search.from();
         }
         let pick = order.pick(&self.actors);
@@ -295,33 +294,37 @@ impl<S: Stage + Drop, R: Source + Drop, W: Sink> Net<S, R, W> {
 
     // Asks the actor that is next and, if it is ready, gives it its turn. Tells whether the run is over.
     #[inline(always)]
-    fn step<O: Order>(&mut self, order: &mut O, is_leftmost: bool, search: &mut Search) -> bool
-        requires may { MayStep (StandsAs S.stands) W.contents W.flushed is_leftmost search.old
-            self.old }
-        requires leans { is_leftmost ≡ true → IsLeftmost O.picks O.after order.old }
+    fn step<O: Order>(&mut self, order: &mut O, search: &mut Option<Search>) -> bool
+        requires may { MayStep (StandsAs S.stands) W.contents W.flushed search.old self.old }
+        requires leans { IfSome search.old
+            (λ search. LeansTo search.side O.picks O.after order.old) }
         ensures stepped { HasStepped (StandsAs S.stands) R.remaining W.contents W.flushed
-            (record { pick = O.picks; next = O.after }) order.old order.new is_leftmost search.old
+            (record { pick = O.picks; next = O.after }) order.old order.new search.old
             search.new self.old self.new result }
-        ensures leans { is_leftmost ≡ true → order.new ≡ order.old }
+        ensures leans { IfSome search.new
+            (λ search. LeansTo search.side O.picks O.after order.new) }
         ensures closer { IsCloser search.old search.new self.old self.new result }
         ensures reads { (i : ℕ) → failed_at R.failed i self.new.web.nodes.items
             ≡ (failed_at R.failed i self.old.web.nodes.items || is_read_of i self.new.failure) }
         ensures writes { W.failed self.new.sink
             ≡ (W.failed self.old.sink || is_write self.new.failure) }
     {
-        let actor = self.next(order, is_leftmost, search);
+        let actor = self.next(order, search);
         let Some(turned) = self.turn_if_ready(actor) else {
-            search.pass();
+            if let Some(search) = search {
+                search.pass();
+            }
             return false;
         };
         if turned.is_over {
             return true;
         }
-        if is_leftmost {
-            search.change(turned.link);
-        } else {
-            let taker = self.takers[turned.link];
-            self.ask_both(turned.link, taker);
+        match search {
+            Some(search) => search.change(turned.link, &self.takers),
+            None => {
+                let taker = self.takers[turned.link];
+                self.ask_both(turned.link, taker);
+            }
         }
         false
     }
@@ -358,14 +361,13 @@ impl<S: Stage + Drop, R: Source + Drop, W: Sink> Net<S, R, W> {
             → ended (plan_of s) now ≡ Some by
             → (result ≡ by) × (self.new ≡ self.old) × (order.new ≡ order.old) }
     {
-        let is_leftmost = order.is_leftmost();
         if self.over() {
             return self.told();
         }
         self.mark();
-        let mut search = Search::new();
+        let mut search = Search::new(order.side(), self.web.count());
         'turns: loop {
-            if self.step(order, is_leftmost, &mut search) {
+            if self.step(order, &mut search) {
                 return self.told();
             }
         }
@@ -383,37 +385,35 @@ impl<S: Stage + Drop, R: Source + Drop, W: Sink> Net<S, R, W> {
             R.failed W.contents W.flushed W.failed k self.old self.new) }
         ensures same { result ≡ None → self.new ≡ self.old }
     {
-        if self.web.ready(k) {
-            return Some(self.turn(k));
-        }
-        None
+        let kind = self.web.ready_for(k)?;
+        Some(self.turn_as(k, kind))
     }
 
     /// One turn of an actor that is ready: a stage by its number, from 0, or the sink by the number of
     /// stages.
-    #[inline(always)]
     pub fn turn(&mut self, k: usize) -> Turned
         requires { MayGo (StandsAs S.stands) W.contents W.flushed k self.old }
-        // It is one turn of this actor.
         ensures gone { HasGone (StandsAs S.stands) R.remaining R.failed
             W.contents W.flushed W.failed k self.old self.new result }
+        ensures little { AsksLittle (StandsAs S.stands) R.remaining R.calls R.failed
+            W.contents W.flushed W.calls k self.old self.new }
+    {
+        match self.web.ready_for(k) {
+            Some(kind) => self.turn_as(k, kind),
+            None => unreachable!(),
+        }
+    }
 
-        // The sink is asked for no write but those of the record that it takes, or for one flush at the
-        // end; by a stage for nothing.
-        ensures asked { (start : Option (List ℕ)) (s : Scene) (now : Now Row)
-            → NetAt (StandsAs S.stands) W.contents W.flushed start s self.old now
-            → is_ready (plan_of s) s.size now k ≡ true → k ≡ s.count
-            → CallsSink (W.calls self.old.sink) (W.calls self.new.sink)
-            (now.links (last (plan_of s))).waiting }
-        ensures unasked { k ≢ length self.old.web.nodes.items → self.new.sink ≡ self.old.sink }
-
-        // It makes at most one call on the actor's reader, and none on another's.
-        ensures others { (i : ℕ) → i ≢ k → ShowsSame R.remaining R.calls R.failed
-            self.old.web.nodes.items self.new.web.nodes.items i }
-        ensures calls { AsksAtMostOnce (calls_at R.calls k self.old.web.nodes.items)
-            (failed_at R.failed k self.old.web.nodes.items)
-            (calls_at R.calls k self.new.web.nodes.items)
-            (failed_at R.failed k self.new.web.nodes.items) }
+    // The same of one that is known to do this next, if it isn't the sink.
+    #[inline(always)]
+    fn turn_as(&mut self, k: usize, kind: Readiness) -> Turned
+        requires may { MayGo (StandsAs S.stands) W.contents W.flushed k self.old }
+        requires doing { k ≢ length self.old.web.nodes.items
+            → DoesNext (StandsAs S.stands) k self.old.web kind }
+        ensures gone { HasGone (StandsAs S.stands) R.remaining R.failed
+            W.contents W.flushed W.failed k self.old self.new result }
+        ensures little { AsksLittle (StandsAs S.stands) R.remaining R.calls R.failed
+            W.contents W.flushed W.calls k self.old self.new }
     {
         if k == self.web.count() {
             self.turns += 1;
@@ -422,7 +422,7 @@ impl<S: Stage + Drop, R: Source + Drop, W: Sink> Net<S, R, W> {
                 is_over: self.sink_turn(),
             };
         }
-        let turned = self.stage_turn(k);
+        let turned = self.stage_turn(k, kind);
         self.turns += 1;
         turned
     }

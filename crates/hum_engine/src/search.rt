@@ -1,21 +1,47 @@
-//! Where a leftmost order's run looks for an actor that is ready.
-ghost use Rattle.std.specs.Prelude.{◌≡◌, ◌<◌, ◌-◌, ◌^◌};
-ghost use Rattle.hum_engine.specs.Search.{beginning, passed, changed};
+//! Where a run by an order that leans to a side looks for an actor that is ready.
+ghost use Rattle.std.specs.Prelude.{◌≡◌, ◌<◌, ◌-◌, ◌^◌, ℕ, Some, length, slice_get};
+ghost use Rattle.hum_engine.specs.Search.{beginning, away, outer, passed, changed};
 
-/// Nobody to the left of the actor that is asked next is ready, nor anyone strictly between it and the
-/// one that is asked behind it.
+use hum_turns::Side;
+
+/// Nobody nearer to the side than the actor that is asked next is ready, nor anyone between it and
+/// the one that is asked behind it.
 #[derive(Clone, Copy)]
 pub struct Search {
+    side: Side,
     from: usize,
-    right: usize,
+    behind: usize,
+}
+
+/// The actor next to this one, away from the side.
+#[inline(always)]
+fn away(side: Side, actor: usize) -> usize
+    requires { actor < 2 ^ 64 - 1 }
+    ensures { result ≡ away side actor }
+{
+    match side {
+        Side::Left => actor + 1,
+        Side::Right => actor.saturating_sub(1),
+    }
 }
 
 impl Search {
-    /// The first actor is asked, and of no other anything is known.
-    pub fn new() -> Search
-        ensures { result ≡ beginning }
+    /// Where a run begins to look, by an order that leans to this side, if it does: the actor furthest
+    /// to it is asked first, and of no other anything is known. The sink has the number of stages.
+    pub fn new(side: Option<Side>, sink: usize) -> Option<Search>
+        requires { sink < 2 ^ 64 - 1 }
+        ensures { result ≡ beginning side sink }
     {
-        Search { from: 0, right: 1 }
+        let side = side?;
+        let from = match side {
+            Side::Left => 0,
+            Side::Right => sink,
+        };
+        Some(Search {
+            side,
+            from,
+            behind: away(side, from),
+        })
     }
 
     /// The actor that is asked next.
@@ -29,25 +55,32 @@ impl Search {
     /// The actor that was asked isn't ready.
     #[inline(always)]
     pub fn pass(&mut self)
-        requires { self.old.right < 2 ^ 64 - 1 }
+        requires { self.old.behind < 2 ^ 64 - 1 }
         ensures { self.new ≡ passed self.old }
     {
-        self.from = self.right;
-        self.right += 1;
+        self.from = self.behind;
+        self.behind = away(self.side, self.behind);
     }
 
-    /// It has had its turn, which changed this link: both its ends may be ready now, and nobody else
-    /// who wasn't. It took from the link of a stage to its left, or else it gave onto its own.
+    /// It has had its turn, which changed a link between a stage of this number and who takes from
+    /// it: these two may be ready now, one of which it is, and nobody else who wasn't.
     #[inline(always)]
-    pub fn change(&mut self, link: usize)
-        requires { self.old.from < 2 ^ 64 - 1 }
-        ensures { self.new ≡ changed self.old link }
+    pub fn change(&mut self, link: usize, takers: &[usize])
+        requires from { self.old.from < 2 ^ 64 - 1 }
+        requires link { link < length takers.now }
+        ensures changed { (taker : ℕ) → slice_get takers.now link ≡ Some taker
+            → self.new ≡ changed self.old (outer self.old.side link taker) }
+        ensures side { self.new.side ≡ self.old.side }
     {
-        if link < self.from {
-            self.right = self.from;
-            self.from = link;
+        let outer = match self.side {
+            Side::Left => link,
+            Side::Right => takers[link],
+        };
+        if outer == self.from {
+            self.behind = away(self.side, self.from);
         } else {
-            self.right = self.from + 1;
+            self.behind = self.from;
+            self.from = outer;
         }
     }
 }

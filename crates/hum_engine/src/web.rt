@@ -1,5 +1,6 @@
 //! Nodes and their links.
-ghost use Rattle.std.specs.Prelude.{◌≡◌, ◌≤◌, ◌<◌, ◌⊎◌, ℕ, true, false, slice_index, length};
+ghost use Rattle.std.specs.Prelude.{◌≡◌, ◌≢◌, ◌≤◌, ◌<◌, ◌⊎◌, ℕ, true, false, slice_index, length};
+ghost use Rattle.std.specs.Prelude.{IfSome, is_some};
 ghost use Rattle.std.specs.Prelude.{IfOk, OnOk, OnErr, Err, Some, ◌||◌};
 ghost use Rattle.hum_turns.specs.Turns.{Gives, Takes, Ends, state, can, ready};
 ghost use Rattle.hum_turns.specs.Plan.{last};
@@ -12,7 +13,7 @@ ghost use Rattle.hum_nodes.specs.declared.node.Readiness.TheVariants as kinds;
 ghost use Rattle.hum_engine.specs.Links.{next_of};
 ghost use Rattle.hum_engine.specs.Scene.{Scene, plan_of, Somewhere, IsAt, IsActor, MayTurn, MayAct};
 ghost use Rattle.hum_engine.specs.Scene.{IsKind, Keeps, KeepsOthers, Fed, Done, IsAbout};
-ghost use Rattle.hum_engine.specs.Scene.{IsAboutKind, IsDoing};
+ghost use Rattle.hum_engine.specs.Scene.{IsAboutKind, IsDoing, DoesNext, HasActor};
 ghost use Rattle.hum_engine.specs.Scene.{IsBegun, Stands, HasStage, held_of};
 ghost use Rattle.hum_engine.specs.Readers.{ShowsSame, remaining_at, ended_at, calls_at, failed_at};
 ghost use Rattle.hum_nodes.specs.Polls.{AsksAtMostOnce, HasStayed, is_failed_read};
@@ -352,14 +353,15 @@ impl<S: Stage + Drop, R: Source + Drop> Web<S, R> {
         Ok(k)
     }
 
-    /// A turn of a stage that is ready, and the link that it has changed: the one that it took from, or
+    /// The turn of a stage that is ready and does this next, and the link that it has changed: the one that it took from, or
     /// its own.
     ///
     /// # Errors
     /// A failed read of a source, and running out of memory.
     #[inline(always)]
-    pub fn turn(&mut self, k: usize) -> Result<usize, ReadError>
-        requires { Somewhere (MayTurn (StandsAs S.stands) k self.old) }
+    pub fn turn(&mut self, k: usize, kind: Readiness) -> Result<usize, ReadError>
+        requires turn { Somewhere (MayTurn (StandsAs S.stands) k self.old) }
+        requires doing { DoesNext (StandsAs S.stands) k self.old kind }
         ensures turned { OnOk result
             (Fed (StandsAs S.stands) R.remaining k self.old self.new) }
         ensures link { IfOk result (λ link. (s : Scene)
@@ -377,7 +379,7 @@ impl<S: Stage + Drop, R: Source + Drop> Web<S, R> {
             (remaining_at R.remaining k self.old.nodes.items)
             (remaining_at R.remaining k self.new.nodes.items)) }
     {
-        match self.nodes[k].readiness() {
+        match kind {
             Readiness::Reads => self.poll(k),
             kind => match self.act(k, kind) {
                 Ok(link) => Ok(link),
@@ -406,20 +408,72 @@ impl<S: Stage + Drop, R: Source + Drop> Web<S, R> {
         }
     }
 
-    /// Whether an actor is ready: a stage, or the sink, whose number is that of the stages.
+    // This, if a stage that isn't a source can do it.
+    #[inline(always)]
+    fn if_able(&self, k: usize, kind: Readiness) -> Option<Readiness>
+        requires about { Somewhere (IsAboutKind (StandsAs S.stands) k kind self.now) }
+        requires stage { IsKind false k self.now }
+        ensures kind { IfSome result (λ able. able ≡ kind) }
+        ensures able { (s : Scene) → IsAboutKind (StandsAs S.stands) k kind self.now s
+            → is_some result ≡ can s.size s.links k (state (plan_of s) s.links k) }
+    {
+        if self.can(k, kind) {
+            return Some(kind);
+        }
+        None
+    }
+
+    // The same of a source.
+    #[inline(always)]
+    fn if_may_read(&self, k: usize) -> Option<Readiness>
+        requires stage { Somewhere (HasActor (StandsAs S.stands) k self.now) }
+        requires source { IsKind true k self.now }
+        ensures kind { IfSome result (λ able. able ≡ kinds.Reads) }
+        ensures able { (s : Scene) → HasActor (StandsAs S.stands) k self.now s
+            → is_some result ≡ ready (plan_of s) s.size s.links k }
+    {
+        if !self.links[k].is_unset() {
+            return None;
+        }
+        if self.links[k].has_room() {
+            return Some(Readiness::Reads);
+        }
+        None
+    }
+
+    /// What an actor does next, if it is ready: a stage, or the sink, whose number is that of the
+    /// stages and which wants.
+    // Each kind has an arm, so that the turn that follows is compiled for each.
+    #[inline(always)]
+    pub fn ready_for(&self, k: usize) -> Option<Readiness>
+        requires { Somewhere (IsActor (StandsAs S.stands) k self.now) }
+        ensures ready { (s : Scene) → IsActor (StandsAs S.stands) k self.now s
+            → is_some result ≡ ready (plan_of s) s.size s.links k }
+        ensures doing { k ≢ length self.now.nodes.items
+            → IfSome result (DoesNext (StandsAs S.stands) k self.now) }
+    {
+        if k == self.nodes.len() {
+            if self.links[k - 1].has_some() {
+                return Some(Readiness::Wants(0));
+            }
+            return None;
+        }
+        match self.nodes[k].readiness() {
+            Readiness::Reads => self.if_may_read(k),
+            Readiness::Gives => self.if_able(k, Readiness::Gives),
+            Readiness::Wants(place) => self.if_able(k, Readiness::Wants(place)),
+            Readiness::Done => self.if_able(k, Readiness::Done),
+        }
+    }
+
+    /// Whether an actor is ready.
     #[inline(always)]
     pub fn ready(&self, k: usize) -> bool
         requires { Somewhere (IsActor (StandsAs S.stands) k self.now) }
         ensures { (s : Scene) → IsActor (StandsAs S.stands) k self.now s
             → result ≡ ready (plan_of s) s.size s.links k }
     {
-        if k == self.nodes.len() {
-            return self.links[k - 1].has_some();
-        }
-        match self.nodes[k].readiness() {
-            Readiness::Reads => self.links[k].is_unset() && self.links[k].has_room(),
-            kind => self.can(k, kind),
-        }
+        self.ready_for(k).is_some()
     }
 
     /// The number of the last stage, whose link the sink takes from.

@@ -2,6 +2,8 @@
 use Rattle.std.specs.Prelude.{◌≡◌, ℕ, zero, suc, ◌+◌, ◌≤◌, ◌<◌}
 use Rattle.std.specs.Prelude.{Bool, true, false, ◌||◌, List, []}
 use Rattle.std.specs.Prelude.{◌∷◌, ◌++◌, map, get_or, None, if◌then◌else◌}
+use Rattle.hum_turns.specs.declared.order.Side.{Side}
+use Rattle.hum_turns.specs.declared.order.Side.TheVariants as side
 use Rattle.hum_turns.specs.Plan.{Plan, IsPlan}
 use Rattle.hum_turns.specs.Failures.{Now, result, is_ready, SameNow, Turn, IsFirst, HoldsNow}
 
@@ -32,10 +34,16 @@ abbrev pub last_true : List Bool → ℕ
 last_true [] = 0
 last_true (b ∷ bs) = if some_true bs then suc (last_true bs) else 0
 
--- An order that picks the leftmost actor that is ready, at each moment, and remembers nothing.
-pub record IsLeftmost {O : Type 0} (picks : O → List Bool → ℕ) (after : O → List Bool → O) (o : O)
-    : Type 0 where
-  pub leftmost : (ready : List Bool) → picks o ready ≡ first_true ready
+-- the one furthest to a side
+abbrev pub outermost : Side → List Bool → ℕ
+outermost side.Left bs = first_true bs
+outermost side.Right bs = last_true bs
+
+-- An order that picks the actor furthest to this side that is ready, at each moment, and remembers
+-- nothing.
+pub record LeansTo {O : Type 0} (to : Side) (picks : O → List Bool → ℕ) (after : O → List Bool → O)
+    (o : O) : Type 0 where
+  pub outermost_is : (ready : List Bool) → picks o ready ≡ outermost to ready
   pub stays : (ready : List Bool) → after o ready ≡ o
 
 -- A pick that isn't ready counts as the leftmost actor that is.

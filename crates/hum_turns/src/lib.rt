@@ -41,7 +41,7 @@ mod order;
 mod result;
 mod theorems;
 
-pub use order::{Leftmost, Order, Rightmost, choose};
+pub use order::{Leftmost, Order, Rightmost, Side, choose};
 pub use result::RunResult;
 pub use theorems::{
     every_end, every_meaning_is_fine, every_order, every_order_ends, every_pick,

@@ -1,6 +1,15 @@
 //! Orders of turns.
-ghost use Rattle.std.specs.Prelude.{◌≡◌, ℕ, List, Bool, true, false, get_or};
-ghost use Rattle.hum_turns.specs.Orders.{first_true, last_true, some_true, chosen, IsLeftmost};
+ghost use Rattle.std.specs.Prelude.{◌≡◌, ℕ, List, Bool, true, false, get_or, IfSome};
+ghost use Rattle.hum_turns.specs.Orders.{first_true, last_true, some_true, chosen, LeansTo};
+
+/// A side of the row of actors, in which the stages stand by their numbers and the sink behind them.
+#[derive(Clone, Copy, Debug, PartialEq, Eq)]
+pub enum Side {
+    /// Where the first stage stands.
+    Left,
+    /// Where the sink stands.
+    Right,
+}
 
 /// A rule for whose turn is next, which may remember what it has seen.
 ///
@@ -19,12 +28,13 @@ pub trait Order {
         ensures picks { result ≡ picks self.old ready.now }
         ensures after { self.new ≡ after self.old ready.now };
 
-    /// Whether it picks the leftmost actor that is ready, at each moment, and stays as it is. Whoever
-    /// drives a run by it may then look for that actor without it.
-    fn is_leftmost(&self) -> bool
-        ensures { result ≡ true → IsLeftmost picks after self.now }
+    /// The side that it leans to, if of the actors that are ready it picks the one furthest to that
+    /// side, at each moment, and stays as it is. Whoever drives a run by it may then look for that
+    /// actor without it.
+    fn side(&self) -> Option<Side>
+        ensures { IfSome result (λ side. LeansTo side picks after self.now) }
     {
-        false
+        None
     }
 }
 
@@ -58,8 +68,8 @@ impl Order for Leftmost {
         choose(ready, ready.len())
     }
 
-    fn is_leftmost(&self) -> bool {
-        true
+    fn side(&self) -> Option<Side> {
+        Some(Side::Left)
     }
 }
 
@@ -81,5 +91,9 @@ impl Order for Rightmost {
             }
         }
         0
+    }
+
+    fn side(&self) -> Option<Side> {
+        Some(Side::Right)
     }
 }

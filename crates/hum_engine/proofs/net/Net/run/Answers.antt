@@ -3,13 +3,15 @@ use Rattle.std.proofs.lemmas.Bool.{false≢true}
 use Rattle.std.proofs.lemmas.Option.{none-some}
 use Rattle.hum_turns.specs.Plan.{last}
 use Rattle.hum_turns.specs.Failures.{ended_by}
-use Rattle.hum_turns.specs.Orders.{Order, IsLeftmost}
+use Rattle.hum_turns.specs.Orders.{Order}
 use Rattle.hum_nodes.specs.Nodes.{StandsAs}
 use Rattle.hum_nodes.proofs.Standing.{reads_few}
 use Rattle.hum_engine.specs.Readers.{failed_at, is_read_of, is_write}
 use Rattle.hum_engine.specs.Scene.{plan_of}
 use Rattle.hum_engine.proofs.Bounds.{turns_few}
-use Rattle.hum_engine.proofs.Netting.{not_over, has_told, or_false}
+use Rattle.hum_engine.specs.Search.{beginning}
+use Rattle.hum_engine.proofs.Netting.{not_over, has_told, or_false, unfailed_now}
+use Rattle.hum_engine.proofs.Searching.{sees_first, leans_first, few_still}
 use Rattle.hum_engine.proofs.Running.{Ran, first_running, told_read, told_write, ran_already, ran_none, ran_more, ran_to}
 use Rattle.hum_engine.proofs.Running.{may_step, now_running, told_all}
 use Rattle.hum_engine.proofs.Choosing.{may_pick, unfailed}
@@ -30,7 +32,7 @@ returns-then-over-clause-ran g c =
     let contents = g.W.Sink.contents in
     let flushed = g.W.Sink.flushed in
     let order : Order g.row.O.Denot = record { pick = g.O.Order.picks; next = g.O.Order.after } in
-    ran_already stands g.R.Source.remaining contents flushed order false c.args.order.now c.args.self.now c.told.result
+    ran_already stands g.R.Source.remaining contents flushed order c.args.order.now c.args.self.now c.told.result
     (λ start s now h.
     has_told _ c.told.result (c.over.ensures.over start s now h) c.if-over.true
     (λ by e. c.told.ensures start s now by h e))
@@ -84,10 +86,15 @@ turns-init g c =
     let same = c.mark.ensures.same in
     record {
       ran = rw c.new-search.ensures (ran_none stands g.R.Source.remaining contents flushed order
-          c.is_leftmost-is_leftmost.result c.args.order.now net c.mark.new.self
+          c.args.order.now net c.mark.new.self
           (λ start s now h. sym c.if-over.false ∙ c.over.ensures.over start s now h) same c.mark.ensures.len
-          c.mark.ensures.list);
-      leans = c.is_leftmost-is_leftmost.ensures;
+          c.mark.ensures.list (beginning c.side.result c.count.result)
+          (λ start s now h none list.
+          sees_first c.side.result c.count.result s now c.mark.new.self
+          (c.count.ensures ∙ (h.going (unfailed_now stands contents flushed start s c.mark.new.self now 0 h none)).count)
+          list));
+      leans = rw c.new-search.ensures (leans_first c.side.result c.count.result g.O.Order.picks g.O.Order.after
+          c.args.order.now c.side.ensures);
       reads = λ none i. ap (λ n. failed_at g.R.Source.failed i n.web.nodes.items) same ∙ or_false _
           ∙ ap (λ f. failed_at g.R.Source.failed i net.web.nodes.items || is_read_of i f)
           (sym (ap (λ n. n.failure) same ∙ none));
@@ -102,7 +109,7 @@ step-requires-clause-may g c =
     let contents = g.W.Sink.contents in
     let flushed = g.W.Sink.flushed in
     let order : Order g.row.O.Denot = record { pick = g.O.Order.picks; next = g.O.Order.after } in
-    let may = may_step stands g.R.Source.remaining contents flushed order c.is_leftmost-is_leftmost.result c.turns.search
+    let may = may_step stands g.R.Source.remaining contents flushed order c.turns.search
     false c.args.order.now c.turns.order c.args.self.now c.turns.self c.turns.invariant.ran c.requires refl in
     may
 
@@ -112,23 +119,23 @@ turns-smaller g c =
     let contents = g.W.Sink.contents in
     let flushed = g.W.Sink.flushed in
     let order : Order g.row.O.Denot = record { pick = g.O.Order.picks; next = g.O.Order.after } in
-    let may = may_step stands g.R.Source.remaining contents flushed order c.is_leftmost-is_leftmost.result c.turns.search
+    let may = may_step stands g.R.Source.remaining contents flushed order c.turns.search
     false c.args.order.now c.turns.order c.args.self.now c.turns.self c.turns.invariant.ran c.requires refl in
-    let m = may_pick stands contents flushed c.is_leftmost-is_leftmost.result c.turns.search c.turns.self may in
+    let m = may_pick stands contents flushed c.turns.search c.turns.self may in
     let w = m.running in
-    let none_yet = unfailed stands contents flushed c.is_leftmost-is_leftmost.result c.turns.search c.turns.self may in
+    let none_yet = unfailed stands contents flushed c.turns.search c.turns.self may in
     let few = turns_few stands contents flushed w.start w.scene c.turns.self w.now (reads_few g.S.Stage.stands) w.at
     (sym w.at.failure ∙ none_yet) in
     let counted = w.at.counted in
+    let most = few_still c.step.new.search in
     ⊎_elim
     (λ over. absurd (false≢true (sym c.if-step.false ∙ over)))
     (λ on. ⊎_elim
-    (λ turned. omega (arith, few, counted, turned))
+    (λ turned. omega (arith, few, counted, turned, most))
     (λ past.
     let same = past.0 in
-    let less = past.1 in
-    let fits = past.2 in
-    omega (arith, few, counted, same, less, fits))
+    let fewer = past.1 in
+    omega (arith, few, counted, same, fewer))
     on)
     c.step.ensures.closer
 
@@ -138,19 +145,17 @@ turns-preserved g c =
     let contents = g.W.Sink.contents in
     let flushed = g.W.Sink.flushed in
     let order : Order g.row.O.Denot = record { pick = g.O.Order.picks; next = g.O.Order.after } in
-    let ran = ran_more stands g.R.Source.remaining contents flushed order c.is_leftmost-is_leftmost.result c.turns.search c.step.new.search c.step.result c.args.order.now c.turns.order
+    let ran = ran_more stands g.R.Source.remaining contents flushed order c.turns.search c.step.new.search c.step.result c.args.order.now c.turns.order
     c.step.new.order c.args.self.now c.turns.self c.step.new.self
     c.turns.invariant.ran c.step.ensures.stepped in
-    let may = may_step stands g.R.Source.remaining contents flushed order c.is_leftmost-is_leftmost.result c.turns.search
+    let may = may_step stands g.R.Source.remaining contents flushed order c.turns.search
     false c.args.order.now c.turns.order c.args.self.now c.turns.self c.turns.invariant.ran c.requires refl in
-    let none_yet = unfailed stands contents flushed c.is_leftmost-is_leftmost.result c.turns.search c.turns.self may in
+    let none_yet = unfailed stands contents flushed c.turns.search c.turns.self may in
     let inv = c.turns.invariant in
     let net = c.args.self.now in
     record {
-      ran = subst (λ b. Ran stands g.R.Source.remaining contents flushed order c.is_leftmost-is_leftmost.result
-          c.step.new.search b c.args.order.now c.step.new.order net c.step.new.self) c.if-step.false ran;
-      leans = λ is. subst (λ o. IsLeftmost g.O.Order.picks g.O.Order.after o) (sym (c.step.ensures.leans is))
-          (inv.leans is);
+      ran = subst (λ b. Ran stands g.R.Source.remaining contents flushed order c.step.new.search b c.args.order.now c.step.new.order net c.step.new.self) c.if-step.false ran;
+      leans = c.step.ensures.leans;
       reads = λ none i. c.step.ensures.reads i
           ∙ ap (λ b. b || is_read_of i c.step.new.self.failure)
           (inv.reads none i
@@ -172,10 +177,10 @@ told-requires-then-step g c =
     let contents = g.W.Sink.contents in
     let flushed = g.W.Sink.flushed in
     let order : Order g.row.O.Denot = record { pick = g.O.Order.picks; next = g.O.Order.after } in
-    let ran = ran_more stands g.R.Source.remaining contents flushed order c.is_leftmost-is_leftmost.result c.turns.search c.step.new.search c.step.result c.args.order.now c.turns.order
+    let ran = ran_more stands g.R.Source.remaining contents flushed order c.turns.search c.step.new.search c.step.result c.args.order.now c.turns.order
     c.step.new.order c.args.self.now c.turns.self c.step.new.self
     c.turns.invariant.ran c.step.ensures.stepped in
-    now_running stands g.R.Source.remaining contents flushed order c.is_leftmost-is_leftmost.result c.step.new.search c.step.result
+    now_running stands g.R.Source.remaining contents flushed order c.step.new.search c.step.result
     c.args.order.now c.step.new.order c.args.self.now c.step.new.self ran c.requires
 
 pub returns-then-step-clause-ran : goal.returns-then-step-clause-ran
@@ -184,14 +189,14 @@ returns-then-step-clause-ran g c =
     let contents = g.W.Sink.contents in
     let flushed = g.W.Sink.flushed in
     let order : Order g.row.O.Denot = record { pick = g.O.Order.picks; next = g.O.Order.after } in
-    let ran = ran_more stands g.R.Source.remaining contents flushed order c.is_leftmost-is_leftmost.result c.turns.search c.step.new.search c.step.result c.args.order.now c.turns.order
+    let ran = ran_more stands g.R.Source.remaining contents flushed order c.turns.search c.step.new.search c.step.result c.args.order.now c.turns.order
     c.step.new.order c.args.self.now c.turns.self c.step.new.self
     c.turns.invariant.ran c.step.ensures.stepped in
-    ran_to stands g.R.Source.remaining contents flushed order c.is_leftmost-is_leftmost.result c.step.new.search c.step.result
+    ran_to stands g.R.Source.remaining contents flushed order c.step.new.search c.step.result
     c.args.order.now c.step.new.order c.args.self.now c.step.new.self ran
     c.told-then-step.result
     (λ start s now h.
-    has_told _ c.told-then-step.result (told_all stands g.R.Source.remaining contents flushed order c.is_leftmost-is_leftmost.result c.step.new.search c.step.result
+    has_told _ c.told-then-step.result (told_all stands g.R.Source.remaining contents flushed order c.step.new.search c.step.result
     c.args.order.now c.step.new.order c.args.self.now c.step.new.self ran c.requires start s now h) c.if-step.true
     (λ by e. c.told-then-step.ensures start s now by h e))
 
@@ -208,13 +213,13 @@ returns-then-step-clause-reads g c = λ none i.
     let contents = g.W.Sink.contents in
     let flushed = g.W.Sink.flushed in
     let order : Order g.row.O.Denot = record { pick = g.O.Order.picks; next = g.O.Order.after } in
-    let ran = ran_more stands g.R.Source.remaining contents flushed order c.is_leftmost-is_leftmost.result c.turns.search c.step.new.search c.step.result c.args.order.now c.turns.order
+    let ran = ran_more stands g.R.Source.remaining contents flushed order c.turns.search c.step.new.search c.step.result c.args.order.now c.turns.order
     c.step.new.order c.args.self.now c.turns.self c.step.new.self
     c.turns.invariant.ran c.step.ensures.stepped in
-    let may = may_step stands g.R.Source.remaining contents flushed order c.is_leftmost-is_leftmost.result c.turns.search
+    let may = may_step stands g.R.Source.remaining contents flushed order c.turns.search
     false c.args.order.now c.turns.order c.args.self.now c.turns.self c.turns.invariant.ran c.requires refl in
-    let none_yet = unfailed stands contents flushed c.is_leftmost-is_leftmost.result c.turns.search c.turns.self may in
-    let w = now_running stands g.R.Source.remaining contents flushed order c.is_leftmost-is_leftmost.result c.step.new.search c.step.result
+    let none_yet = unfailed stands contents flushed c.turns.search c.turns.self may in
+    let w = now_running stands g.R.Source.remaining contents flushed order c.step.new.search c.step.result
     c.args.order.now c.step.new.order c.args.self.now c.step.new.self ran c.requires in
     let net = c.args.self.now in
     let heard = (w.now.links (last (plan_of w.scene))).heard in
@@ -226,7 +231,7 @@ returns-then-step-clause-reads g c = λ none i.
     ∙ ap (λ b. failed_at g.R.Source.failed i net.web.nodes.items || b)
     (told_read i c.step.new.self.failure heard c.told-then-step.result
     (ap (λ f. ended_by f heard) w.at.failure
-    ∙ has_told _ c.told-then-step.result (told_all stands g.R.Source.remaining contents flushed order c.is_leftmost-is_leftmost.result c.step.new.search c.step.result
+    ∙ has_told _ c.told-then-step.result (told_all stands g.R.Source.remaining contents flushed order c.step.new.search c.step.result
     c.args.order.now c.step.new.order c.args.self.now c.step.new.self ran c.requires w.start w.scene w.now w.at) c.if-step.true
     (λ by e. c.told-then-step.ensures w.start w.scene w.now by w.at e)))
 
@@ -236,13 +241,13 @@ returns-then-step-clause-writes g c = λ none.
     let contents = g.W.Sink.contents in
     let flushed = g.W.Sink.flushed in
     let order : Order g.row.O.Denot = record { pick = g.O.Order.picks; next = g.O.Order.after } in
-    let ran = ran_more stands g.R.Source.remaining contents flushed order c.is_leftmost-is_leftmost.result c.turns.search c.step.new.search c.step.result c.args.order.now c.turns.order
+    let ran = ran_more stands g.R.Source.remaining contents flushed order c.turns.search c.step.new.search c.step.result c.args.order.now c.turns.order
     c.step.new.order c.args.self.now c.turns.self c.step.new.self
     c.turns.invariant.ran c.step.ensures.stepped in
-    let may = may_step stands g.R.Source.remaining contents flushed order c.is_leftmost-is_leftmost.result c.turns.search
+    let may = may_step stands g.R.Source.remaining contents flushed order c.turns.search
     false c.args.order.now c.turns.order c.args.self.now c.turns.self c.turns.invariant.ran c.requires refl in
-    let none_yet = unfailed stands contents flushed c.is_leftmost-is_leftmost.result c.turns.search c.turns.self may in
-    let w = now_running stands g.R.Source.remaining contents flushed order c.is_leftmost-is_leftmost.result c.step.new.search c.step.result
+    let none_yet = unfailed stands contents flushed c.turns.search c.turns.self may in
+    let w = now_running stands g.R.Source.remaining contents flushed order c.step.new.search c.step.result
     c.args.order.now c.step.new.order c.args.self.now c.step.new.self ran c.requires in
     let net = c.args.self.now in
     let heard = (w.now.links (last (plan_of w.scene))).heard in
@@ -254,7 +259,7 @@ returns-then-step-clause-writes g c = λ none.
     ∙ ap (λ b. g.W.Sink.failed net.sink || b)
     (told_write c.step.new.self.failure heard c.told-then-step.result
     (ap (λ f. ended_by f heard) w.at.failure
-    ∙ has_told _ c.told-then-step.result (told_all stands g.R.Source.remaining contents flushed order c.is_leftmost-is_leftmost.result c.step.new.search c.step.result
+    ∙ has_told _ c.told-then-step.result (told_all stands g.R.Source.remaining contents flushed order c.step.new.search c.step.result
     c.args.order.now c.step.new.order c.args.self.now c.step.new.self ran c.requires w.start w.scene w.now w.at) c.if-step.true
     (λ by e. c.told-then-step.ensures w.start w.scene w.now by w.at e)))
 

@@ -1,11 +1,12 @@
-use Rattle.std.proofs.Common.{◌≡◌, ◌||◌, ℕ, ◌+◌, ◌-◌, ◌*◌, true, false, List, Option, None}
-use Rattle.hum_turns.specs.Orders.{IsLeftmost}
+use Rattle.std.proofs.Common.{◌≡◌, ◌||◌, ℕ, ◌+◌, ◌-◌, ◌*◌, false, List, Option, None}
+use Rattle.std.specs.Prelude.{IfSome}
+use Rattle.hum_turns.specs.Orders.{LeansTo}
 use Rattle.hum_record.specs.Row.{Row}
 use Rattle.hum_turns.specs.Failures.{Now, result}
 use Rattle.hum_nodes.specs.Nodes.{StandsAs}
 use Rattle.hum_engine.specs.Readers.{failed_at, is_read_of, is_write}
 use Rattle.hum_engine.specs.Scene.{Scene, plan_of}
-use Rattle.hum_engine.specs.Nets.{NetAt}
+use Rattle.hum_engine.specs.Nets.{NetAt, still_to_ask}
 use Rattle.hum_engine.proofs.Running.{Ran}
 use Rattle.hum_engine.proofs.net.Net.run.Given as goal
 
@@ -13,8 +14,8 @@ abbrev pub invariant-turns : goal.invariant-turns
 invariant-turns g l = record {
   ran : Ran (StandsAs g.S.Stage.stands) g.R.Source.remaining
       g.W.Sink.contents g.W.Sink.flushed (record { pick = g.O.Order.picks; next = g.O.Order.after })
-      l.is_leftmost l.search false l.fn.order l.order l.fn.self l.self;
-  leans : l.is_leftmost ≡ true → IsLeftmost g.O.Order.picks g.O.Order.after l.order;
+      l.search false l.fn.order l.order l.fn.self l.self;
+  leans : IfSome l.search (λ search. LeansTo search.side g.O.Order.picks g.O.Order.after l.order);
   reads : l.fn.self.failure ≡ None → (i : ℕ) → failed_at g.R.Source.failed i l.self.web.nodes.items
       ≡ (failed_at g.R.Source.failed i l.fn.self.web.nodes.items || is_read_of i l.self.failure);
   writes : l.fn.self.failure ≡ None → g.W.Sink.failed l.self.sink
@@ -25,4 +26,4 @@ invariant-turns g l = record {
 }
 
 abbrev pub decreases-turns : goal.decreases-turns
-decreases-turns g l = (18446744073709551616 - l.self.turns) * 257 + (256 - l.search.from)
+decreases-turns g l = (18446744073709551616 - l.self.turns) * 257 + still_to_ask l.search

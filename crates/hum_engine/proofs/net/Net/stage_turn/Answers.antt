@@ -6,8 +6,11 @@ use Rattle.hum_engine.specs.Readers.{failed_at, is_read_of, is_write}
 use Rattle.hum_engine.proofs.Netting.{source_here}
 use Rattle.hum_engine.proofs.net.Net.stage_turn.Goals as goal
 
-pub turn-requires : goal.turn-requires
-turn-requires g c = record { scene = c.requires.may.scene; holds = c.requires.may.holds.turn }
+pub turn-requires-clause-turn : goal.turn-requires-clause-turn
+turn-requires-clause-turn g c = record { scene = c.requires.may.scene; holds = c.requires.may.holds.turn }
+
+pub turn-requires-clause-doing : goal.turn-requires-clause-doing
+turn-requires-clause-doing g c = c.requires.doing
 
 pub returns-in-Ok : goal.returns-in-Ok
 returns-in-Ok g c =

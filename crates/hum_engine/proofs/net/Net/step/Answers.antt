@@ -1,17 +1,17 @@
-use Rattle.std.proofs.Common.{◌∙◌, ◌||◌, sym, ap, subst, arith, is_some, inr}
+use Rattle.std.proofs.Common.{◌∙◌, ◌||◌, sym, ap, subst, arith, is_some, inr, slice_get, Some}
 use Rattle.hum_turns.specs.Orders.{Order}
 use Rattle.hum_nodes.specs.Nodes.{StandsAs}
 use Rattle.hum_engine.specs.Readers.{failed_at, is_read_of, is_write}
 use Rattle.hum_engine.specs.Nets.{HasStepped}
 use Rattle.hum_engine.proofs.Moving.{nth}
-use Rattle.hum_engine.proofs.Netting.{none_of, or_false}
-use Rattle.hum_engine.proofs.Choosing.{may_pick, unfailed, may_ask, is_leftmost, stepped_past, stepped_over, stepped_left, stepped_else}
-use Rattle.hum_engine.proofs.Choosing.{link_few, link_going, taker_going}
+use Rattle.hum_engine.proofs.Netting.{or_false}
+use Rattle.hum_engine.proofs.Choosing.{asks, may_pick, unfailed, may_ask, never_picked, asks_fewer, front_of}
+use Rattle.hum_engine.proofs.Choosing.{stepped_past, stepped_over, stepped_on, stepped_else, link_few, link_going, taker_going}
 use Rattle.hum_engine.proofs.net.Net.step.Goals as goal
 
 pub next-actor-requires : goal.next-actor-requires
 next-actor-requires g c =
-    may_pick (StandsAs g.S.Stage.stands) g.W.Sink.contents g.W.Sink.flushed c.args.is_leftmost c.args.search.now
+    may_pick (StandsAs g.S.Stage.stands) g.W.Sink.contents g.W.Sink.flushed c.args.search.now
     c.args.self.now c.requires.may
 
 pub turn_if_ready-requires : goal.turn_if_ready-requires
@@ -21,8 +21,9 @@ turn_if_ready-requires g c =
     let flushed = g.W.Sink.flushed in
     let order : Order g.row.O.Denot = record { pick = g.O.Order.picks; next = g.O.Order.after } in
     let e = c.next-actor.ensures in
-    may_ask stands g.R.Source.remaining contents flushed order c.args.is_leftmost c.args.search.now c.next-actor.result c.args.order.now c.next-actor.new.order c.args.self.now c.requires.may
-    (λ is. (e.from is, e.stays is, c.requires.leans is)) e.picked
+    let look = c.args.search.now in
+    let who = asks order look c.next-actor.result c.args.order.now c.next-actor.new.order e.from c.requires.leans in
+    may_ask stands g.R.Source.remaining contents flushed order look c.next-actor.result c.args.order.now c.next-actor.new.order c.args.self.now c.requires.may who e.picked
 
 -- Where the actor isn't ready.
 
@@ -33,64 +34,102 @@ pass-requires g c =
     let flushed = g.W.Sink.flushed in
     let order : Order g.row.O.Denot = record { pick = g.O.Order.picks; next = g.O.Order.after } in
     let e = c.next-actor.ensures in
-    let silent = none_of c.turn_if_ready.result c.in_default.not-Some in
-    let m = may_pick stands contents flushed c.args.is_leftmost c.args.search.now c.args.self.now c.requires.may in
-    let is = is_leftmost stands g.R.Source.remaining contents flushed order c.args.is_leftmost c.args.search.now c.next-actor.result c.args.order.now c.next-actor.new.order c.args.self.now c.requires.may
-    (λ is. (e.from is, e.stays is, c.requires.leans is)) e.picked
-    (λ start s now h none within. sym (c.turn_if_ready.ensures.ready start s now h none within) ∙ ap is_some silent) in
-    let fits = (m.sees.front is).within in
-    let few = m.running.at.plan.few in
-    omega (arith, fits, few)
+    let look = c.args.search.now in
+    let who = asks order look c.next-actor.result c.args.order.now c.next-actor.new.order e.from c.requires.leans in
+    let few = (asks_fewer stands g.R.Source.remaining contents flushed order look c.next-actor.result c.args.order.now c.next-actor.new.order c.args.self.now c.requires.may who e.picked
+    (λ start s now h none within. sym (c.turn_if_ready.ensures.ready start s now h none within) ∙ ap is_some c.in_default.is) c.in-Some-search.search c.in-Some-search.is).0 in
+    omega (arith, few)
 
-pub returns-in_default-clause-stepped : goal.returns-in_default-clause-stepped
-returns-in_default-clause-stepped g c =
+pub returns-in-Some-search-clause-stepped : goal.returns-in-Some-search-clause-stepped
+returns-in-Some-search-clause-stepped g c =
     let stands = StandsAs g.S.Stage.stands in
     let contents = g.W.Sink.contents in
     let flushed = g.W.Sink.flushed in
     let order : Order g.row.O.Denot = record { pick = g.O.Order.picks; next = g.O.Order.after } in
     let e = c.next-actor.ensures in
-    let silent = none_of c.turn_if_ready.result c.in_default.not-Some in
-    rw c.pass.ensures (stepped_past stands g.R.Source.remaining contents flushed order c.args.is_leftmost c.args.search.now c.next-actor.result c.args.order.now c.next-actor.new.order c.args.self.now c.requires.may
-    (λ is. (e.from is, e.stays is, c.requires.leans is)) e.picked
-    (λ start s now h none within. sym (c.turn_if_ready.ensures.ready start s now h none within) ∙ ap is_some silent)
-    c.turn_if_ready.new.self (c.turn_if_ready.ensures.same silent))
+    let look = c.args.search.now in
+    let who = asks order look c.next-actor.result c.args.order.now c.next-actor.new.order e.from c.requires.leans in
+    rw c.pass.ensures (stepped_past stands g.R.Source.remaining contents flushed order look c.next-actor.result c.args.order.now c.next-actor.new.order c.args.self.now c.requires.may who e.picked
+    (λ start s now h none within. sym (c.turn_if_ready.ensures.ready start s now h none within) ∙ ap is_some c.in_default.is) c.in-Some-search.search c.in-Some-search.is
+    c.turn_if_ready.new.self (c.turn_if_ready.ensures.same c.in_default.is))
 
-pub returns-in_default-clause-closer : goal.returns-in_default-clause-closer
-returns-in_default-clause-closer g c =
+pub returns-in-Some-search-clause-closer : goal.returns-in-Some-search-clause-closer
+returns-in-Some-search-clause-closer g c =
     let stands = StandsAs g.S.Stage.stands in
     let contents = g.W.Sink.contents in
     let flushed = g.W.Sink.flushed in
     let order : Order g.row.O.Denot = record { pick = g.O.Order.picks; next = g.O.Order.after } in
     let e = c.next-actor.ensures in
-    let silent = none_of c.turn_if_ready.result c.in_default.not-Some in
-    let m = may_pick stands contents flushed c.args.is_leftmost c.args.search.now c.args.self.now c.requires.may in
-    let is = is_leftmost stands g.R.Source.remaining contents flushed order c.args.is_leftmost c.args.search.now c.next-actor.result c.args.order.now c.next-actor.new.order c.args.self.now c.requires.may
-    (λ is. (e.from is, e.stays is, c.requires.leans is)) e.picked
-    (λ start s now h none within. sym (c.turn_if_ready.ensures.ready start s now h none within) ∙ ap is_some silent) in
-    let less = (m.sees.front is).order in
-    let fits = (m.sees.front is).within in
-    let few = m.running.at.plan.few in
-    let to = ap (λ x. x.from) c.pass.ensures in
-    inr (inr (ap (λ n. n.turns) (c.turn_if_ready.ensures.same silent), omega (arith, less, to), omega (arith, less, fits, few)))
+    let look = c.args.search.now in
+    let who = asks order look c.next-actor.result c.args.order.now c.next-actor.new.order e.from c.requires.leans in
+    let fewer = (asks_fewer stands g.R.Source.remaining contents flushed order look c.next-actor.result c.args.order.now c.next-actor.new.order c.args.self.now c.requires.may who e.picked
+    (λ start s now h none within. sym (c.turn_if_ready.ensures.ready start s now h none within) ∙ ap is_some c.in_default.is) c.in-Some-search.search c.in-Some-search.is).1 in
+    rw (c.pass.ensures, c.in-Some-search.is) (inr (inr (ap (λ n. n.turns) (c.turn_if_ready.ensures.same c.in_default.is), fewer)))
 
-pub returns-in_default-clause-reads : goal.returns-in_default-clause-reads
-returns-in_default-clause-reads g c i =
-    let silent = none_of c.turn_if_ready.result c.in_default.not-Some in
-    let same = c.turn_if_ready.ensures.same silent in
-    let none = unfailed (StandsAs g.S.Stage.stands) g.W.Sink.contents g.W.Sink.flushed c.args.is_leftmost c.args.search.now
+pub returns-in-Some-search-clause-reads : goal.returns-in-Some-search-clause-reads
+returns-in-Some-search-clause-reads g c i =
+    let same = c.turn_if_ready.ensures.same c.in_default.is in
+    let none = unfailed (StandsAs g.S.Stage.stands) g.W.Sink.contents g.W.Sink.flushed c.args.search.now
     c.args.self.now c.requires.may in
     ap (λ n. failed_at g.R.Source.failed i n.web.nodes.items) same ∙ or_false _
     ∙ ap (λ f. failed_at g.R.Source.failed i c.args.self.now.web.nodes.items || is_read_of i f)
     (sym (ap (λ n. n.failure) same ∙ none))
 
-pub returns-in_default-clause-writes : goal.returns-in_default-clause-writes
-returns-in_default-clause-writes g c =
-    let silent = none_of c.turn_if_ready.result c.in_default.not-Some in
-    let same = c.turn_if_ready.ensures.same silent in
-    let none = unfailed (StandsAs g.S.Stage.stands) g.W.Sink.contents g.W.Sink.flushed c.args.is_leftmost c.args.search.now
+pub returns-in-Some-search-clause-writes : goal.returns-in-Some-search-clause-writes
+returns-in-Some-search-clause-writes g c =
+    let same = c.turn_if_ready.ensures.same c.in_default.is in
+    let none = unfailed (StandsAs g.S.Stage.stands) g.W.Sink.contents g.W.Sink.flushed c.args.search.now
     c.args.self.now c.requires.may in
     ap (λ n. g.W.Sink.failed n.sink) same ∙ or_false _
     ∙ ap (λ f. g.W.Sink.failed c.args.self.now.sink || is_write f) (sym (ap (λ n. n.failure) same ∙ none))
+
+pub returns-in_default-search-clause-stepped : goal.returns-in_default-search-clause-stepped
+returns-in_default-search-clause-stepped g c =
+    let stands = StandsAs g.S.Stage.stands in
+    let contents = g.W.Sink.contents in
+    let flushed = g.W.Sink.flushed in
+    let order : Order g.row.O.Denot = record { pick = g.O.Order.picks; next = g.O.Order.after } in
+    let e = c.next-actor.ensures in
+    let look = c.args.search.now in
+    let who = asks order look c.next-actor.result c.args.order.now c.next-actor.new.order e.from c.requires.leans in
+    absurd (never_picked stands g.R.Source.remaining contents flushed order look c.next-actor.result c.args.order.now c.next-actor.new.order c.args.self.now c.requires.may who e.picked
+    (λ start s now h none within. sym (c.turn_if_ready.ensures.ready start s now h none within) ∙ ap is_some c.in_default.is) c.in_default-search.is)
+
+pub returns-in_default-search-clause-closer : goal.returns-in_default-search-clause-closer
+returns-in_default-search-clause-closer g c =
+    let stands = StandsAs g.S.Stage.stands in
+    let contents = g.W.Sink.contents in
+    let flushed = g.W.Sink.flushed in
+    let order : Order g.row.O.Denot = record { pick = g.O.Order.picks; next = g.O.Order.after } in
+    let e = c.next-actor.ensures in
+    let look = c.args.search.now in
+    let who = asks order look c.next-actor.result c.args.order.now c.next-actor.new.order e.from c.requires.leans in
+    absurd (never_picked stands g.R.Source.remaining contents flushed order look c.next-actor.result c.args.order.now c.next-actor.new.order c.args.self.now c.requires.may who e.picked
+    (λ start s now h none within. sym (c.turn_if_ready.ensures.ready start s now h none within) ∙ ap is_some c.in_default.is) c.in_default-search.is)
+
+pub returns-in_default-search-clause-reads : goal.returns-in_default-search-clause-reads
+returns-in_default-search-clause-reads g c i =
+    let stands = StandsAs g.S.Stage.stands in
+    let contents = g.W.Sink.contents in
+    let flushed = g.W.Sink.flushed in
+    let order : Order g.row.O.Denot = record { pick = g.O.Order.picks; next = g.O.Order.after } in
+    let e = c.next-actor.ensures in
+    let look = c.args.search.now in
+    let who = asks order look c.next-actor.result c.args.order.now c.next-actor.new.order e.from c.requires.leans in
+    absurd (never_picked stands g.R.Source.remaining contents flushed order look c.next-actor.result c.args.order.now c.next-actor.new.order c.args.self.now c.requires.may who e.picked
+    (λ start s now h none within. sym (c.turn_if_ready.ensures.ready start s now h none within) ∙ ap is_some c.in_default.is) c.in_default-search.is)
+
+pub returns-in_default-search-clause-writes : goal.returns-in_default-search-clause-writes
+returns-in_default-search-clause-writes g c =
+    let stands = StandsAs g.S.Stage.stands in
+    let contents = g.W.Sink.contents in
+    let flushed = g.W.Sink.flushed in
+    let order : Order g.row.O.Denot = record { pick = g.O.Order.picks; next = g.O.Order.after } in
+    let e = c.next-actor.ensures in
+    let look = c.args.search.now in
+    let who = asks order look c.next-actor.result c.args.order.now c.next-actor.new.order e.from c.requires.leans in
+    absurd (never_picked stands g.R.Source.remaining contents flushed order look c.next-actor.result c.args.order.now c.next-actor.new.order c.args.self.now c.requires.may who e.picked
+    (λ start s now h none within. sym (c.turn_if_ready.ensures.ready start s now h none within) ∙ ap is_some c.in_default.is) c.in_default-search.is)
 
 -- Where it has had its turn.
 
@@ -101,12 +140,67 @@ returns-then-turned-clause-stepped g c =
     let flushed = g.W.Sink.flushed in
     let order : Order g.row.O.Denot = record { pick = g.O.Order.picks; next = g.O.Order.after } in
     let e = c.next-actor.ensures in
+    let look = c.args.search.now in
+    let who = asks order look c.next-actor.result c.args.order.now c.next-actor.new.order e.from c.requires.leans in
     subst (λ b. HasStepped stands g.R.Source.remaining contents flushed order c.args.order.now c.next-actor.new.order
-    c.args.is_leftmost c.args.search.now c.args.search.now c.args.self.now c.turn_if_ready.new.self b) c.if-turned.true (stepped_over stands g.R.Source.remaining contents flushed order c.args.is_leftmost c.args.search.now c.next-actor.result c.args.order.now c.next-actor.new.order c.args.self.now c.requires.may
-    (λ is. (e.from is, e.stays is, c.requires.leans is)) e.picked
+    look look c.args.self.now c.turn_if_ready.new.self b) c.if-turned.true (stepped_over stands g.R.Source.remaining contents flushed order look c.next-actor.result c.args.order.now c.next-actor.new.order c.args.self.now c.requires.may who e.picked
     c.in-Some.turned.link c.in-Some.turned.is_over c.turn_if_ready.new.self
     (λ start s now h none within. sym (c.turn_if_ready.ensures.ready start s now h none within) ∙ ap is_some c.in-Some.is)
     c.in-Some.ensures.gone.link c.in-Some.ensures.gone.turned c.if-turned.true)
+
+pub change-requires-clause-from : goal.change-requires-clause-from
+change-requires-clause-from g c =
+    let stands = StandsAs g.S.Stage.stands in
+    let contents = g.W.Sink.contents in
+    let flushed = g.W.Sink.flushed in
+    let order : Order g.row.O.Denot = record { pick = g.O.Order.picks; next = g.O.Order.after } in
+    let e = c.next-actor.ensures in
+    let look = c.args.search.now in
+    let who = asks order look c.next-actor.result c.args.order.now c.next-actor.new.order e.from c.requires.leans in
+    let m = may_pick stands contents flushed look c.args.self.now c.requires.may in
+    let fits = (front_of look c.in-Some-search-2.search m.running.scene m.running.now c.args.self.now c.in-Some-search-2.is m.sees).within in
+    let few = m.running.at.plan.few in
+    omega (arith, fits, few)
+
+pub change-requires-clause-link : goal.change-requires-clause-link
+change-requires-clause-link g c =
+    let stands = StandsAs g.S.Stage.stands in
+    let contents = g.W.Sink.contents in
+    let flushed = g.W.Sink.flushed in
+    let order : Order g.row.O.Denot = record { pick = g.O.Order.picks; next = g.O.Order.after } in
+    let e = c.next-actor.ensures in
+    let look = c.args.search.now in
+    let who = asks order look c.next-actor.result c.args.order.now c.next-actor.new.order e.from c.requires.leans in
+    let less = link_few stands g.R.Source.remaining contents flushed order look c.next-actor.result c.args.order.now c.next-actor.new.order c.args.self.now c.requires.may who e.picked
+    c.in-Some.turned.link c.in-Some.turned.is_over c.turn_if_ready.new.self
+    (λ start s now h none within. sym (c.turn_if_ready.ensures.ready start s now h none within) ∙ ap is_some c.in-Some.is)
+    c.in-Some.ensures.gone.link c.in-Some.ensures.gone.turned c.if-turned.false in
+    rw c.deref.ensures.value less
+
+pub returns-in-Some-search-2-clause-stepped : goal.returns-in-Some-search-2-clause-stepped
+returns-in-Some-search-2-clause-stepped g c =
+    let stands = StandsAs g.S.Stage.stands in
+    let contents = g.W.Sink.contents in
+    let flushed = g.W.Sink.flushed in
+    let order : Order g.row.O.Denot = record { pick = g.O.Order.picks; next = g.O.Order.after } in
+    let e = c.next-actor.ensures in
+    let look = c.args.search.now in
+    let who = asks order look c.next-actor.result c.args.order.now c.next-actor.new.order e.from c.requires.leans in
+    subst (λ b. HasStepped stands g.R.Source.remaining contents flushed order c.args.order.now c.next-actor.new.order
+    look (Some c.change.new.self) c.args.self.now c.turn_if_ready.new.self b) c.if-turned.false (stepped_on stands g.R.Source.remaining contents flushed order look c.next-actor.result c.args.order.now c.next-actor.new.order c.args.self.now c.requires.may who e.picked
+    c.in-Some.turned.link c.in-Some.turned.is_over c.turn_if_ready.new.self
+    (λ start s now h none within. sym (c.turn_if_ready.ensures.ready start s now h none within) ∙ ap is_some c.in-Some.is)
+    c.in-Some.ensures.gone.link c.in-Some.ensures.gone.turned c.if-turned.false c.in-Some-search-2.search c.change.new.self c.in-Some-search-2.is
+    (λ taker at. c.change.ensures.changed taker (ap (λ l. slice_get l c.in-Some.turned.link) c.deref.ensures.value ∙ at)))
+
+pub returns-in-Some-search-2-clause-leans : goal.returns-in-Some-search-2-clause-leans
+returns-in-Some-search-2-clause-leans g c =
+    let order : Order g.row.O.Denot = record { pick = g.O.Order.picks; next = g.O.Order.after } in
+    let e = c.next-actor.ensures in
+    let look = c.args.search.now in
+    let who = asks order look c.next-actor.result c.args.order.now c.next-actor.new.order e.from c.requires.leans in
+    let w = who c.in-Some-search-2.search c.in-Some-search-2.is in
+    rw (c.change.ensures.side, w.1) w.2
 
 pub index-taker-requires : goal.index-taker-requires
 index-taker-requires g c =
@@ -115,8 +209,9 @@ index-taker-requires g c =
     let flushed = g.W.Sink.flushed in
     let order : Order g.row.O.Denot = record { pick = g.O.Order.picks; next = g.O.Order.after } in
     let e = c.next-actor.ensures in
-    let less = link_few stands g.R.Source.remaining contents flushed order c.args.is_leftmost c.args.search.now c.next-actor.result c.args.order.now c.next-actor.new.order c.args.self.now c.requires.may
-    (λ is. (e.from is, e.stays is, c.requires.leans is)) e.picked
+    let look = c.args.search.now in
+    let who = asks order look c.next-actor.result c.args.order.now c.next-actor.new.order e.from c.requires.leans in
+    let less = link_few stands g.R.Source.remaining contents flushed order look c.next-actor.result c.args.order.now c.next-actor.new.order c.args.self.now c.requires.may who e.picked
     c.in-Some.turned.link c.in-Some.turned.is_over c.turn_if_ready.new.self
     (λ start s now h none within. sym (c.turn_if_ready.ensures.ready start s now h none within) ∙ ap is_some c.in-Some.is)
     c.in-Some.ensures.gone.link c.in-Some.ensures.gone.turned c.if-turned.false in
@@ -130,15 +225,15 @@ ask_both-requires-clause-link g c =
     let flushed = g.W.Sink.flushed in
     let order : Order g.row.O.Denot = record { pick = g.O.Order.picks; next = g.O.Order.after } in
     let e = c.next-actor.ensures in
+    let look = c.args.search.now in
+    let who = asks order look c.next-actor.result c.args.order.now c.next-actor.new.order e.from c.requires.leans in
     let takers = c.turn_if_ready.new.self.takers.items in
-    let less = link_few stands g.R.Source.remaining contents flushed order c.args.is_leftmost c.args.search.now c.next-actor.result c.args.order.now c.next-actor.new.order c.args.self.now c.requires.may
-    (λ is. (e.from is, e.stays is, c.requires.leans is)) e.picked
+    let less = link_few stands g.R.Source.remaining contents flushed order look c.next-actor.result c.args.order.now c.next-actor.new.order c.args.self.now c.requires.may who e.picked
     c.in-Some.turned.link c.in-Some.turned.is_over c.turn_if_ready.new.self
     (λ start s now h none within. sym (c.turn_if_ready.ensures.ready start s now h none within) ∙ ap is_some c.in-Some.is)
     c.in-Some.ensures.gone.link c.in-Some.ensures.gone.turned c.if-turned.false in
     let at = nth takers c.in-Some.turned.link c.index-taker.result.now less c.index-taker.ensures in
-    link_going stands g.R.Source.remaining contents flushed order c.args.is_leftmost c.args.search.now c.next-actor.result c.args.order.now c.next-actor.new.order c.args.self.now c.requires.may
-    (λ is. (e.from is, e.stays is, c.requires.leans is)) e.picked
+    link_going stands g.R.Source.remaining contents flushed order look c.next-actor.result c.args.order.now c.next-actor.new.order c.args.self.now c.requires.may who e.picked
     c.in-Some.turned.link c.in-Some.turned.is_over c.turn_if_ready.new.self
     (λ start s now h none within. sym (c.turn_if_ready.ensures.ready start s now h none within) ∙ ap is_some c.in-Some.is)
     c.in-Some.ensures.gone.link c.in-Some.ensures.gone.turned c.if-turned.false c.index-taker.result.now at
@@ -150,65 +245,39 @@ ask_both-requires-clause-taker g c =
     let flushed = g.W.Sink.flushed in
     let order : Order g.row.O.Denot = record { pick = g.O.Order.picks; next = g.O.Order.after } in
     let e = c.next-actor.ensures in
+    let look = c.args.search.now in
+    let who = asks order look c.next-actor.result c.args.order.now c.next-actor.new.order e.from c.requires.leans in
     let takers = c.turn_if_ready.new.self.takers.items in
-    let less = link_few stands g.R.Source.remaining contents flushed order c.args.is_leftmost c.args.search.now c.next-actor.result c.args.order.now c.next-actor.new.order c.args.self.now c.requires.may
-    (λ is. (e.from is, e.stays is, c.requires.leans is)) e.picked
+    let less = link_few stands g.R.Source.remaining contents flushed order look c.next-actor.result c.args.order.now c.next-actor.new.order c.args.self.now c.requires.may who e.picked
     c.in-Some.turned.link c.in-Some.turned.is_over c.turn_if_ready.new.self
     (λ start s now h none within. sym (c.turn_if_ready.ensures.ready start s now h none within) ∙ ap is_some c.in-Some.is)
     c.in-Some.ensures.gone.link c.in-Some.ensures.gone.turned c.if-turned.false in
     let at = nth takers c.in-Some.turned.link c.index-taker.result.now less c.index-taker.ensures in
-    taker_going stands g.R.Source.remaining contents flushed order c.args.is_leftmost c.args.search.now c.next-actor.result c.args.order.now c.next-actor.new.order c.args.self.now c.requires.may
-    (λ is. (e.from is, e.stays is, c.requires.leans is)) e.picked
+    taker_going stands g.R.Source.remaining contents flushed order look c.next-actor.result c.args.order.now c.next-actor.new.order c.args.self.now c.requires.may who e.picked
     c.in-Some.turned.link c.in-Some.turned.is_over c.turn_if_ready.new.self
     (λ start s now h none within. sym (c.turn_if_ready.ensures.ready start s now h none within) ∙ ap is_some c.in-Some.is)
     c.in-Some.ensures.gone.link c.in-Some.ensures.gone.turned c.if-turned.false c.index-taker.result.now at
 
-pub change-requires : goal.change-requires
-change-requires g c =
-    let stands = StandsAs g.S.Stage.stands in
-    let contents = g.W.Sink.contents in
-    let flushed = g.W.Sink.flushed in
-    let m = may_pick stands contents flushed c.args.is_leftmost c.args.search.now c.args.self.now c.requires.may in
-    let front = m.sees.front c.if-is_leftmost.true in
-    let less = front.order in
-    let fits = front.within in
-    let few = m.running.at.plan.few in
-    omega (arith, less, fits, few)
-
-pub returns-then-is_leftmost-clause-stepped : goal.returns-then-is_leftmost-clause-stepped
-returns-then-is_leftmost-clause-stepped g c =
+pub returns-in-None-clause-stepped : goal.returns-in-None-clause-stepped
+returns-in-None-clause-stepped g c =
     let stands = StandsAs g.S.Stage.stands in
     let contents = g.W.Sink.contents in
     let flushed = g.W.Sink.flushed in
     let order : Order g.row.O.Denot = record { pick = g.O.Order.picks; next = g.O.Order.after } in
     let e = c.next-actor.ensures in
-    subst (λ b. HasStepped stands g.R.Source.remaining contents flushed order c.args.order.now c.next-actor.new.order
-    c.args.is_leftmost c.args.search.now c.change.new.self c.args.self.now c.turn_if_ready.new.self b) c.if-turned.false
-    (rw c.change.ensures (stepped_left stands g.R.Source.remaining contents flushed order c.args.is_leftmost c.args.search.now c.next-actor.result c.args.order.now c.next-actor.new.order c.args.self.now c.requires.may
-    (λ is. (e.from is, e.stays is, c.requires.leans is)) e.picked
-    c.in-Some.turned.link c.in-Some.turned.is_over c.turn_if_ready.new.self
-    (λ start s now h none within. sym (c.turn_if_ready.ensures.ready start s now h none within) ∙ ap is_some c.in-Some.is)
-    c.in-Some.ensures.gone.link c.in-Some.ensures.gone.turned c.if-turned.false c.if-is_leftmost.true))
-
-pub returns-else-is_leftmost-clause-stepped : goal.returns-else-is_leftmost-clause-stepped
-returns-else-is_leftmost-clause-stepped g c =
-    let stands = StandsAs g.S.Stage.stands in
-    let contents = g.W.Sink.contents in
-    let flushed = g.W.Sink.flushed in
-    let order : Order g.row.O.Denot = record { pick = g.O.Order.picks; next = g.O.Order.after } in
-    let e = c.next-actor.ensures in
+    let look = c.args.search.now in
+    let who = asks order look c.next-actor.result c.args.order.now c.next-actor.new.order e.from c.requires.leans in
     let takers = c.turn_if_ready.new.self.takers.items in
-    let less = link_few stands g.R.Source.remaining contents flushed order c.args.is_leftmost c.args.search.now c.next-actor.result c.args.order.now c.next-actor.new.order c.args.self.now c.requires.may
-    (λ is. (e.from is, e.stays is, c.requires.leans is)) e.picked
+    let less = link_few stands g.R.Source.remaining contents flushed order look c.next-actor.result c.args.order.now c.next-actor.new.order c.args.self.now c.requires.may who e.picked
     c.in-Some.turned.link c.in-Some.turned.is_over c.turn_if_ready.new.self
     (λ start s now h none within. sym (c.turn_if_ready.ensures.ready start s now h none within) ∙ ap is_some c.in-Some.is)
     c.in-Some.ensures.gone.link c.in-Some.ensures.gone.turned c.if-turned.false in
     let at = nth takers c.in-Some.turned.link c.index-taker.result.now less c.index-taker.ensures in
     subst (λ b. HasStepped stands g.R.Source.remaining contents flushed order c.args.order.now c.next-actor.new.order
-    c.args.is_leftmost c.args.search.now c.args.search.now c.args.self.now c.ask_both.new.self b) c.if-turned.false (stepped_else stands g.R.Source.remaining contents flushed order c.args.is_leftmost c.args.search.now c.next-actor.result c.args.order.now c.next-actor.new.order c.args.self.now c.requires.may
-    (λ is. (e.from is, e.stays is, c.requires.leans is)) e.picked
+    look look c.args.self.now c.ask_both.new.self b) c.if-turned.false (stepped_else stands g.R.Source.remaining contents flushed order look c.next-actor.result c.args.order.now c.next-actor.new.order c.args.self.now c.requires.may who e.picked
     c.in-Some.turned.link c.in-Some.turned.is_over c.turn_if_ready.new.self
     (λ start s now h none within. sym (c.turn_if_ready.ensures.ready start s now h none within) ∙ ap is_some c.in-Some.is)
     c.in-Some.ensures.gone.link c.in-Some.ensures.gone.turned c.if-turned.false c.index-taker.result.now at
-    c.if-is_leftmost.false c.ask_both.new.self c.in-Some.ensures.gone.actors c.ask_both.ensures.same c.ask_both.ensures.len
+    c.in-None.is c.ask_both.new.self c.in-Some.ensures.gone.actors c.ask_both.ensures.same c.ask_both.ensures.len
     c.ask_both.ensures.list)
+

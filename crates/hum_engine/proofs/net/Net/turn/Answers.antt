@@ -1,151 +1,30 @@
-use Rattle.hum_engine.specs.Readers.{failed_at}
-use Rattle.hum_engine.proofs.Reusing.{shows_alike}
-use Rattle.hum_engine.proofs.Netting.{or_false}
-use Rattle.std.proofs.Common.{◌≡◌, ap, inl, ◌||◌, ◌∙◌, ◌+◌, refl, sym, arith}
-use Rattle.hum_nodes.proofs.Standing.{reads_few}
-use Rattle.hum_engine.proofs.Bounds.{turns_few}
+use Rattle.std.proofs.Common.{◌∙◌, sym, ap, is_some}
+use Rattle.std.proofs.lemmas.Bool.{false≢true}
 use Rattle.hum_nodes.specs.Nodes.{StandsAs}
-use Rattle.hum_turns.proofs.Near.{ready_sink}
-use Rattle.hum_engine.specs.Scene.{plan_of, moved}
-use Rattle.hum_engine.proofs.Netting.{no_failure, is_at, now_ready, below_count, stage_turned, sink_turned, marks_by}
-use Rattle.hum_engine.proofs.Stepping.{sink_touches}
+use Rattle.hum_engine.specs.Scene.{moved}
+use Rattle.hum_engine.proofs.Netting.{is_at, now_ready}
 use Rattle.hum_engine.proofs.net.Net.turn.Goals as goal
 
-pub sink_turn-requires-clause-none : goal.sink_turn-requires-clause-none
-sink_turn-requires-clause-none g c =
+pub ready_for-requires : goal.ready_for-requires
+ready_for-requires g c =
     let m = c.requires in
-    m.at.failure ∙ no_failure (StandsAs g.S.Stage.stands) g.W.Sink.contents g.W.Sink.flushed
-    m.start m.scene c.args.self.now m.now c.args.k m.at m.ready
-
-pub stage_turn-turned-requires-clause-none : goal.stage_turn-turned-requires-clause-none
-stage_turn-turned-requires-clause-none g c =
-    let m = c.requires in
-    m.at.failure ∙ no_failure (StandsAs g.S.Stage.stands) g.W.Sink.contents g.W.Sink.flushed
-    m.start m.scene c.args.self.now m.now c.args.k m.at m.ready
-
-pub sink_turn-requires-clause-may : goal.sink_turn-requires-clause-may
-sink_turn-requires-clause-may g c =
-    let m = c.requires in
-    let at = is_at (StandsAs g.S.Stage.stands) g.W.Sink.contents g.W.Sink.flushed m.start
-    m.scene c.args.self.now m.now c.args.k m.at m.ready in
-    record { scene = moved m.scene m.now.links; holds = at }
-
-pub stage_turn-turned-requires-clause-may : goal.stage_turn-turned-requires-clause-may
-stage_turn-turned-requires-clause-may g c =
-    let m = c.requires in
-    let s = m.scene in
-    let stands = StandsAs g.S.Stage.stands in
-    let at = is_at stands g.W.Sink.contents g.W.Sink.flushed m.start s c.args.self.now m.now c.args.k m.at
-    m.ready in
     record {
-      scene = moved s m.now.links;
+      scene = moved m.scene m.now.links;
       holds = record {
-        turn = record {
-          at = at;
-          less = below_count c.args.k c.count.result s.count m.within
-              (c.count.ensures ∙ at.stand.count) c.if-k-count.false;
-          ready = now_ready stands g.W.Sink.contents g.W.Sink.flushed m.start s c.args.self.now m.now
-              c.args.k m.at m.ready;
-        };
-        few = m.at.plan.few;
+        at = is_at (StandsAs g.S.Stage.stands) g.W.Sink.contents g.W.Sink.flushed m.start m.scene c.args.self.now m.now
+            c.args.k m.at m.ready;
+        within = m.within;
       };
     }
 
-pub last-requires : goal.last-requires
-last-requires g c =
-    let m = c.requires in
-    let at = is_at (StandsAs g.S.Stage.stands) g.W.Sink.contents g.W.Sink.flushed m.start
-    m.scene c.args.self.now m.now c.args.k m.at m.ready in
-    record { scene = moved m.scene m.now.links; holds = at }
+pub turn_as-requires-clause-doing : goal.turn_as-requires-clause-doing
+turn_as-requires-clause-doing g c = c.in-Some.ensures.doing
 
-pub returns-then-k-count-clause-gone : goal.returns-then-k-count-clause-gone
-returns-then-k-count-clause-gone g c =
-    let stands = StandsAs g.S.Stage.stands in
-    let here = c.if-k-count.true ∙ c.count.ensures in
-    let e = c.sink_turn.ensures in
-    record {
-      turned = sink_turned stands g.R.Source.remaining g.W.Sink.contents g.W.Sink.flushed c.args.k
-          c.args.self.now _ c.sink_turn.result g.R.Source.calls g.R.Source.failed c.sink_turn.new.self.failure here
-          e.went e.shows refl e.turns e.actors e.takers;
-      link = λ s h. inl (sink_touches s c.args.k c.last.result (here ∙ h.at.stand.count) (c.last.ensures s h.at));
-      reads = λ i. (e.shows i).mark ∙ or_false _
-          ∙ ap (λ b. failed_at g.R.Source.failed i c.args.self.now.web.nodes.items || b) (sym (e.unread i));
-      writes = e.marked;
-      turns = e.turns;
-      actors = e.actors;
-      takers = e.takers;
-    }
-
-pub returns-clause-gone : goal.returns-clause-gone
-returns-clause-gone g c =
-    let stands = StandsAs g.S.Stage.stands in
-    let old = c.args.self.now in
-    let new = c.stage_turn-turned.new.self in
-    let e = c.stage_turn-turned.ensures in
-    let more : new.turns + 1 ≡ old.turns + 1 = ap (λ n. n + 1) e.turns in
-    record {
-      turned = stage_turned stands g.R.Source.remaining g.W.Sink.contents g.W.Sink.flushed c.args.k
-          old _ c.stage_turn-turned.result.is_over new.failure e.over
-          (λ here. c.if-k-count.false (here ∙ sym c.count.ensures))
-          e.fed e.failed e.stays e.others e.sink refl more e.actors e.takers;
-      link = e.link;
-      reads = marks_by g.R.Source.failed c.args.k old.web.nodes.items new.web.nodes.items new.failure e.others
-          e.marked e.unmarked;
-      writes = ap g.W.Sink.failed e.sink ∙ or_false _ ∙ ap (λ b. g.W.Sink.failed old.sink || b) (sym e.unwritten);
-      turns = more;
-      actors = e.actors;
-      takers = e.takers;
-    }
-
-pub returns-clause-others : goal.returns-clause-others
-returns-clause-others g c i o =
-    shows_alike g.R.Source.remaining g.R.Source.calls g.R.Source.failed
-    c.args.self.now.web.nodes.items c.stage_turn-turned.new.self.web.nodes.items i
-    (c.stage_turn-turned.ensures.others i o)
-
-pub returns-then-k-count-clause-calls : goal.returns-then-k-count-clause-calls
-returns-then-k-count-clause-calls g c =
-    let h = c.sink_turn.ensures.shows c.args.k in inl (h.calls_made, h.mark)
-
-pub overflow_add-self : goal.overflow_add-self
-overflow_add-self g c =
+pub unreachable-requires : goal.unreachable-requires
+unreachable-requires g c =
     let m = c.requires in
     let stands = StandsAs g.S.Stage.stands in
-    let none = no_failure stands g.W.Sink.contents g.W.Sink.flushed m.start m.scene c.args.self.now m.now
-    c.args.k m.at m.ready in
-    let few = turns_few stands g.W.Sink.contents g.W.Sink.flushed m.start m.scene c.args.self.now m.now
-    (reads_few g.S.Stage.stands) m.at
-    none in
-    let counted = m.at.counted in
-    omega (arith, few, counted)
-
-pub overflow_add-self-2 : goal.overflow_add-self-2
-overflow_add-self-2 g c =
-    let m = c.requires in
-    let stands = StandsAs g.S.Stage.stands in
-    let none = no_failure stands g.W.Sink.contents g.W.Sink.flushed m.start m.scene c.args.self.now m.now
-    c.args.k m.at m.ready in
-    let few = turns_few stands g.W.Sink.contents g.W.Sink.flushed m.start m.scene c.args.self.now m.now
-    (reads_few g.S.Stage.stands) m.at
-    none in
-    let counted = m.at.counted in
-    let same = c.stage_turn-turned.ensures.turns in
-    omega (arith, few, counted, same)
-
-pub returns-then-k-count-clause-others : goal.returns-then-k-count-clause-others
-returns-then-k-count-clause-others g c i o = c.sink_turn.ensures.shows i
-
-pub returns-clause-calls : goal.returns-clause-calls
-returns-clause-calls g c = c.stage_turn-turned.ensures.calls
-
-pub returns-then-k-count-clause-asked : goal.returns-then-k-count-clause-asked
-returns-then-k-count-clause-asked g c start s now h ready here =
-    let stands = StandsAs g.S.Stage.stands in
-    let contents = g.W.Sink.contents in
-    let flushed = g.W.Sink.flushed in
-    let net = c.args.self.now in
-    c.sink_turn.ensures.asked (moved s now.links) (record {
-      at = is_at stands contents flushed start s net now c.args.k h ready;
-      some = sym (ready_sink (plan_of s) s.size c.args.k now.links (omega (arith, here)))
-          ∙ now_ready stands contents flushed start s net now c.args.k h ready;
-    })
+    let at = is_at stands g.W.Sink.contents g.W.Sink.flushed m.start m.scene c.args.self.now m.now c.args.k m.at m.ready in
+    absurd (false≢true (sym (ap is_some c.in-None.is)
+    ∙ c.ready_for.ensures.ready (moved m.scene m.now.links) (record { at = at; within = m.within })
+    ∙ now_ready stands g.W.Sink.contents g.W.Sink.flushed m.start m.scene c.args.self.now m.now c.args.k m.at m.ready))

@@ -7,8 +7,8 @@ use Rattle.hum_turns.proofs.States.{source_is}
 use Rattle.hum_turns.specs.Turns.{state}
 use Rattle.hum_turns.specs.Near.{touched}
 use Rattle.hum_engine.specs.Scene.{Scene, IsActor, plan_of, at_of}
-use Rattle.hum_engine.proofs.Doings.{doing_is, reader_is}
-use Rattle.hum_engine.proofs.Feeding.{node_at}
+use Rattle.hum_engine.proofs.Doings.{reads_is, does_is}
+use Rattle.hum_engine.proofs.Feeding.{node_of}
 use Rattle.hum_engine.proofs.Turning.{stage_fed, act_marks, act_calls, act_stays}
 use Rattle.hum_engine.proofs.web.Web.turn.Goals as goal
 
@@ -16,118 +16,68 @@ on_ok : {E : Type 0} (P Q : ℕ → Type 0) (r : Result ℕ E) → IfOk r P → 
 on_ok P Q (Ok n) h f = f n h
 on_ok P Q (Err e) h f = h
 
-pub index-requires : goal.index-requires
-index-requires g c =
-    let may = c.requires.holds in
-    let less = may.less in
-    let count = may.at.stand.count in
-    let size = c.args.self.now.nodes.ok.0 in
-    omega (arith, less, count, size)
-
 pub poll-requires-clause-turn : goal.poll-requires-clause-turn
-poll-requires-clause-turn g c = c.requires
+poll-requires-clause-turn g c = c.requires.turn
 
 pub poll-requires-clause-source : goal.poll-requires-clause-source
-poll-requires-clause-source g c =
-    let s = c.requires.scene in
-    let may = c.requires.holds in
-    let web = c.args.self.now in
-    let k = c.args.k in
-    let node = c.index.result.now in
-    let there = node_at (StandsAs g.S.Stage.stands) k web s node may.less may.at.stand c.index.ensures in
-    reader_is g.S.Stage.stands k web node c.readiness.result c.readiness.ensures there s may.at may.less
-    c.in-Reads.is
+poll-requires-clause-source g c = reads_is (StandsAs g.S.Stage.stands) c.args.k c.args.self.now c.args.kind c.in-Reads.is c.requires.doing
 
 pub act-requires-clause-turn : goal.act-requires-clause-turn
-act-requires-clause-turn g c = c.requires
+act-requires-clause-turn g c = c.requires.turn
 
 pub act-requires-clause-doing : goal.act-requires-clause-doing
-act-requires-clause-doing g c =
-    let s = c.requires.scene in
-    let may = c.requires.holds in
-    let web = c.args.self.now in
-    let k = c.args.k in
-    let node = c.index.result.now in
-    let there = node_at (StandsAs g.S.Stage.stands) k web s node may.less may.at.stand c.index.ensures in
-    doing_is g.S.Stage.stands k web node c.readiness.result c.readiness.ensures there s may.at may.less
-    c.in_default.not-Reads
+act-requires-clause-doing g c = does_is (StandsAs g.S.Stage.stands) c.args.k c.args.self.now c.args.kind c.in_default.not-Reads c.requires.doing
 
 pub returns-in-Ok-clause-turned : goal.returns-in-Ok-clause-turned
 returns-in-Ok-clause-turned g c =
-    let s = c.requires.scene in
-    let may = c.requires.holds in
+    let s = c.requires.turn.scene in
+    let may = c.requires.turn.holds in
     let web = c.args.self.now in
     let k = c.args.k in
-    let node = c.index.result.now in
-    let there = node_at (StandsAs g.S.Stage.stands) k web s node may.less may.at.stand c.index.ensures in
-    let doing = doing_is g.S.Stage.stands k web node c.readiness.result c.readiness.ensures there s may.at may.less
-    c.in_default.not-Reads in
+    let stands = StandsAs g.S.Stage.stands in
+    let node = node_of stands k web s may.less may.at.stand in
+    let doing = does_is stands k web c.args.kind c.in_default.not-Reads c.requires.doing in
     stage_fed g.S.Stage.stands k g.R.Source.remaining web c.act.new.self
-    node s may there (doing.0 node there)
+    node.0 s may node.1 (doing.0 node.0 node.1)
     c.in-Ok.ensures.done c.in-Ok.ensures.nodes
 
 pub returns-in-Ok-clause-marks : goal.returns-in-Ok-clause-marks
 returns-in-Ok-clause-marks g c =
-    let s = c.requires.scene in
-    let may = c.requires.holds in
     let web = c.args.self.now in
     let k = c.args.k in
-    let node = c.index.result.now in
-    let there = node_at (StandsAs g.S.Stage.stands) k web s node may.less may.at.stand c.index.ensures in
-    let doing = doing_is g.S.Stage.stands k web node c.readiness.result c.readiness.ensures there s may.at may.less
-    c.in_default.not-Reads in
+    let doing = does_is (StandsAs g.S.Stage.stands) k web c.args.kind c.in_default.not-Reads c.requires.doing in
     act_marks g.R.Source.remaining g.R.Source.calls g.R.Source.failed k web
     c.act.new.self doing.0 c.in-Ok.ensures.nodes.kind
 
 pub returns-in-Ok-clause-calls : goal.returns-in-Ok-clause-calls
 returns-in-Ok-clause-calls g c =
-    let s = c.requires.scene in
-    let may = c.requires.holds in
     let web = c.args.self.now in
     let k = c.args.k in
-    let node = c.index.result.now in
-    let there = node_at (StandsAs g.S.Stage.stands) k web s node may.less may.at.stand c.index.ensures in
-    let doing = doing_is g.S.Stage.stands k web node c.readiness.result c.readiness.ensures there s may.at may.less
-    c.in_default.not-Reads in
+    let doing = does_is (StandsAs g.S.Stage.stands) k web c.args.kind c.in_default.not-Reads c.requires.doing in
     act_calls g.R.Source.remaining g.R.Source.calls g.R.Source.failed k web
     c.act.new.self doing.0 c.in-Ok.ensures.nodes.kind
 
 pub returns-in-Err-clause-marks : goal.returns-in-Err-clause-marks
 returns-in-Err-clause-marks g c =
-    let s = c.requires.scene in
-    let may = c.requires.holds in
     let web = c.args.self.now in
     let k = c.args.k in
-    let node = c.index.result.now in
-    let there = node_at (StandsAs g.S.Stage.stands) k web s node may.less may.at.stand c.index.ensures in
-    let doing = doing_is g.S.Stage.stands k web node c.readiness.result c.readiness.ensures there s may.at may.less
-    c.in_default.not-Reads in
+    let doing = does_is (StandsAs g.S.Stage.stands) k web c.args.kind c.in_default.not-Reads c.requires.doing in
     act_marks g.R.Source.remaining g.R.Source.calls g.R.Source.failed k web
     c.act.new.self doing.0 c.in-Err.ensures.nodes.kind
 
 pub returns-in-Err-clause-calls : goal.returns-in-Err-clause-calls
 returns-in-Err-clause-calls g c =
-    let s = c.requires.scene in
-    let may = c.requires.holds in
     let web = c.args.self.now in
     let k = c.args.k in
-    let node = c.index.result.now in
-    let there = node_at (StandsAs g.S.Stage.stands) k web s node may.less may.at.stand c.index.ensures in
-    let doing = doing_is g.S.Stage.stands k web node c.readiness.result c.readiness.ensures there s may.at may.less
-    c.in_default.not-Reads in
+    let doing = does_is (StandsAs g.S.Stage.stands) k web c.args.kind c.in_default.not-Reads c.requires.doing in
     act_calls g.R.Source.remaining g.R.Source.calls g.R.Source.failed k web
     c.act.new.self doing.0 c.in-Err.ensures.nodes.kind
 
 pub returns-in-Err-clause-stays : goal.returns-in-Err-clause-stays
 returns-in-Err-clause-stays g c =
-    let s = c.requires.scene in
-    let may = c.requires.holds in
     let web = c.args.self.now in
     let k = c.args.k in
-    let node = c.index.result.now in
-    let there = node_at (StandsAs g.S.Stage.stands) k web s node may.less may.at.stand c.index.ensures in
-    let doing = doing_is g.S.Stage.stands k web node c.readiness.result c.readiness.ensures there s may.at may.less
-    c.in_default.not-Reads in
+    let doing = does_is (StandsAs g.S.Stage.stands) k web c.args.kind c.in_default.not-Reads c.requires.doing in
     act_stays g.R.Source.remaining g.R.Source.calls g.R.Source.failed k web
     c.act.new.self doing.0 c.in-Err.ensures.nodes.kind
 
@@ -142,15 +92,13 @@ returns-in-Reads-clause-link g c =
     let web = c.args.self.now in
     let k = c.args.k in
     let stands = StandsAs g.S.Stage.stands in
-    let less = c.requires.holds.less in
-    let count = sym c.requires.holds.at.stand.count ∙ h.at.stand.count in
+    let less = c.requires.turn.holds.less in
+    let count = sym c.requires.turn.holds.at.stand.count ∙ h.at.stand.count in
     let here : k < s.count = omega (arith, less, count) in
-    let node = c.index.result.now in
-    let there = node_at stands k web s node here h.at.stand c.index.ensures in
-    let kind = reader_is g.S.Stage.stands k web node c.readiness.result c.readiness.ensures there s h.at here
-    c.in-Reads.is in
-    let some = source_bytes g.S.Stage.stands node (s.rests k)
-    (at_of s.kinds s.links k) (kind node there) (h.at.stand.nodes k node there) in
+    let node = node_of stands k web s here h.at.stand in
+    let kind = reads_is stands k web c.args.kind c.in-Reads.is c.requires.doing in
+    let some = source_bytes g.S.Stage.stands node.0 (s.rests k)
+    (at_of s.kinds s.links k) (kind node.0 node.1) (h.at.stand.nodes k node.0 node.1) in
     is ∙ sym (source_touches (plan_of s) h.at.reached.ok s.size k s.links (source_is (plan_of s) k here some)))
 
 pub returns-in-Ok-clause-link : goal.returns-in-Ok-clause-link
@@ -160,15 +108,7 @@ pub returns-in-Reads-clause-turned : goal.returns-in-Reads-clause-turned
 returns-in-Reads-clause-turned g c = c.poll.ensures.fed
 
 pub returns-in-Reads-clause-read : goal.returns-in-Reads-clause-read
-returns-in-Reads-clause-read g c failed =
-    let s = c.requires.scene in
-    let may = c.requires.holds in
-    let web = c.args.self.now in
-    let k = c.args.k in
-    let node = c.index.result.now in
-    let there = node_at (StandsAs g.S.Stage.stands) k web s node may.less may.at.stand c.index.ensures in
-    reader_is g.S.Stage.stands k web node c.readiness.result c.readiness.ensures there s may.at may.less
-    c.in-Reads.is
+returns-in-Reads-clause-read g c failed = reads_is (StandsAs g.S.Stage.stands) c.args.k c.args.self.now c.args.kind c.in-Reads.is c.requires.doing
 
 pub returns-in-Reads-clause-others : goal.returns-in-Reads-clause-others
 returns-in-Reads-clause-others g c = c.poll.ensures.others

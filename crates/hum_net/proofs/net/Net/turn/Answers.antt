@@ -11,5 +11,5 @@ invariant_of-self g c = turned_lasts _ _ _ _ c.self.invariant (rw (← c.self.vi
 
 pub returns-clause-asked : goal.returns-clause-asked
 returns-clause-asked g c start s now h here =
-    rw (← c.self.view_is) (c.turn.ensures.asked start s now (rw (← c.self.view_is) at h)
+    rw (← c.self.view_is) (c.turn.ensures.little.sink start s now (rw (← c.self.view_is) at h)
     (c.requires.ready start s now h) here)
