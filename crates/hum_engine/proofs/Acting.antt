@@ -1,10 +1,10 @@
 -- What a web stands for after an actor has done something.
 use Rattle.std.proofs.Common.{◌≡◌, ◌∙◌, ℕ, zero, suc, pred, ◌-◌, ◌<◌, Bool, true, false}
-use Rattle.std.proofs.Common.{if◌then◌else◌, nat_lt, List, length, Option, Some, refl, sym, ap, subst}
+use Rattle.std.proofs.Common.{if◌then◌else◌, nat_lt, List, length, Option, Some, None, refl, sym, ap, subst}
 use Rattle.std.proofs.Common.{arith, get_or, slice_get, slice_set, slice_index, length-set, ⊎_elim, ltb-true}
 use Rattle.std.specs.Prelude.{MatchOption}
 use Rattle.std.proofs.lemmas.Bool.{cases_eq}
-use Rattle.std.proofs.lemmas.Option.{slice_get_cases}
+use Rattle.std.proofs.lemmas.Option.{slice_get_cases, none-some}
 use Rattle.hum_record.specs.Row.{Row}
 use Rattle.hum_stage.specs.declared.faults.End.{End}
 use Rattle.hum_turns.specs.Flow.{Flow}
@@ -17,8 +17,6 @@ use Rattle.hum_nodes.specs.At.{with_record, with_end}
 use Rattle.hum_nodes.specs.declared.node.Node.{Node}
 use Rattle.hum_nodes.specs.Nodes.{is_source}
 use Rattle.hum_engine.specs.declared.link.Link as port
-use Rattle.hum_engine.specs.declared.link.Next.{Next}
-use Rattle.hum_engine.specs.declared.link.Next.TheVariants as next
 use Rattle.hum_engine.specs.Links.{IsLink, Goes, Tells, next_of, room}
 use Rattle.hum_engine.specs.Traffic.{ended}
 use Rattle.hum_engine.specs.declared.web.Web.{Web}
@@ -29,7 +27,7 @@ use Rattle.hum_engine.proofs.Moving.{did_give, set_cases, set_other}
 use Rattle.hum_engine.proofs.Polling.{done_end, state_gives, state_takes}
 use Rattle.hum_engine.proofs.Feeding.{room_at}
 use Rattle.hum_engine.proofs.Taking.{did_sink, did_take, left, may_change, wants_at, next_record, next_end}
-use Rattle.hum_engine.proofs.Taking.{next_nothing}
+use Rattle.hum_engine.proofs.Taking.{hears, some_mark}
 
 module _ {S R : Type 0} (stands : Node S R → List ℕ → At → Type 0) (k : ℕ) (doing : State)
     (old new : Web S R) (s : Scene) where
@@ -80,10 +78,10 @@ module _ {S R : Type 0} (stands : Node S R → List ℕ → At → Type 0) (old 
       last_there goes at.reached.ok is_last)
       en el)
 
-  pub told : (answer : Next) → Tells link answer (λ size l. next_of l.waiting l.mark)
-      → answer ≡ next_of (s.links (last (plan_of s))).waiting (s.links (last (plan_of s))).mark
+  pub told : (answer : Option Row) → Tells link answer (λ size l. next_of l.waiting)
+      → answer ≡ next_of (s.links (last (plan_of s))).waiting
   told answer tells =
-      subst (λ i. answer ≡ next_of (s.links i).waiting (s.links i).mark) is_last
+      subst (λ i. answer ≡ next_of (s.links i).waiting) is_last
       (tells s.size (s.links (n - 1)) (at.stand.links (n - 1) link last_there))
 
 module _ {S R : Type 0} (stands : Node S R → List ℕ → At → Type 0) (web : Web S R) (s : Scene)
@@ -249,28 +247,31 @@ module _ {S R : Type 0} (stands : Node S R → List ℕ → At → Type 0) (k pl
   may_take i link change may w v =
       may_change s k place i change may.at.reached may.less w.lower w.at w.some v may.does
 
-  pub record_next : (i : ℕ) (link : port.Link) (answer : Next) (x : Row)
-      → MayAct stands k (does.Wants place) old s → Passing i link
-      → Tells link answer (λ size l. next_of l.waiting l.mark) → answer ≡ next.Record x
-      → view (left s i) ≡ with_record x (view (s.links i))
-  record_next i link answer x may w tells e =
-      next_record (s.links i) (s.links i).waiting x
-      (sym e ∙ tells s.size (s.links i) (may.at.stand.links i link w.at_link))
+  module _ (i : ℕ) (link : port.Link) (answer : Option Row) (may : MayAct stands k (does.Wants place) old s)
+      (w : Passing i link) (tells : Tells link answer (λ size l. next_of l.waiting)) where
+    here : IsLink s.size link (s.links i)
+    here = may.at.stand.links i link w.at_link
 
-  pub end_next : (i : ℕ) (link : port.Link) (answer : Next) (e : End)
-      → MayAct stands k (does.Wants place) old s → Passing i link
-      → Tells link answer (λ size l. next_of l.waiting l.mark) → answer ≡ next.End e
-      → view (left s i) ≡ with_end e (view (s.links i))
-  end_next i link answer e may w tells is =
-      next_end (s.links i) (s.links i).waiting e
-      (sym is ∙ tells s.size (s.links i) (may.at.stand.links i link w.at_link))
+    pub record_next : (x : Row) → answer ≡ Some x → view (left s i) ≡ with_record x (view (s.links i))
+    record_next x e = next_record (s.links i) (s.links i).waiting x (sym e ∙ tells s.size (s.links i) here)
 
-  pub nothing_next : (i : ℕ) (link : port.Link) (answer : Next)
-      → MayAct stands k (does.Wants place) old s → Passing i link
-      → Tells link answer (λ size l. next_of l.waiting l.mark) → answer ≡ next.Nothing → ⊥
-  nothing_next i link answer may w tells is =
-      next_nothing (s.links i) (s.links i).waiting refl
-      (sym is ∙ tells s.size (s.links i) (may.at.stand.links i link w.at_link)) w.some
+    -- where no record waits, the end is heard
+    module _ (is : answer ≡ None) (after : port.Link) (goes : Goes link after (λ l. popped l l.waiting))
+        (heard : Option End) (told : Tells after heard (λ size l. l.heard)) where
+      no_record : None ≡ next_of (s.links i).waiting
+      no_record = sym is ∙ tells s.size (s.links i) here
+
+      heard_is : heard ≡ (s.links i).mark
+      heard_is = told s.size (popped (s.links i) (s.links i).waiting) (goes s.size (s.links i) here)
+          ∙ hears (s.links i) (s.links i).waiting no_record
+
+      pub end_next : (e : End) → heard ≡ Some e → view (left s i) ≡ with_end e (view (s.links i))
+      end_next e some = next_end (s.links i) (s.links i).waiting e no_record (sym heard_is ∙ some)
+
+      pub nothing_next : heard ≡ None → ⊥
+      nothing_next none =
+          let e = some_mark (s.links i) (s.links i).waiting refl no_record w.some in
+          none-some e.0 (sym none ∙ heard_is ∙ e.1)
 
   pub passed : (new : Web S R) (node after : Node S R) (i : ℕ) (link put : port.Link)
       (change : Flow Row → Flow Row) → MayAct stands k (does.Wants place) old s → Passing i link

@@ -3,7 +3,7 @@ use Rattle.std.proofs.Common.{◌≡◌, ◌∙◌, ℕ, ◌+◌, ◌<◌, ◌�
 use Rattle.std.proofs.Common.{length, Option, Some, None, refl, sym, ap, subst, arith, ⊎_elim, ◌⊎◌, inl, inr, slice_set, slice_get, get_or}
 use Rattle.std.proofs.lemmas.Option.{slice_get-get_or, same_Some, none-some}
 use Rattle.std.specs.Prelude.{is_some, IfSome}
-use Rattle.std.proofs.lemmas.Bool.{false≢true, cases_Bool, cases_lt}
+use Rattle.std.proofs.lemmas.Bool.{false≢true, cases_lt}
 use Rattle.hum_record.specs.Row.{Row}
 use Rattle.hum_turns.specs.Plan.{last}
 use Rattle.hum_turns.specs.Turns.{state}

@@ -7,7 +7,6 @@ use Rattle.hum_turns.specs.Links.{fresh, linked, has_room, has_some}
 use Rattle.hum_turns.specs.Turns.{pushed, popped}
 use Rattle.hum_engine.specs.Traffic.{Traffic, ended}
 use Rattle.hum_engine.specs.Links.{next_of}
-use Rattle.hum_engine.specs.declared.link.Next.TheVariants as next
 
 abbrev a : Row
 a = Comment (codes "!!a")
@@ -23,16 +22,16 @@ two = ended Closed (pushed (pushed fresh a) b)
 abbrev later : Traffic → Traffic
 later l = popped l l.waiting
 
-nothing_comes_of_a_fresh_link : next_of [] None ≡ next.Nothing
+nothing_comes_of_a_fresh_link : next_of [] ≡ None
 nothing_comes_of_a_fresh_link = refl
 
-records_come_in_their_order : next_of two.waiting two.mark ≡ next.Record a
+records_come_in_their_order : next_of two.waiting ≡ Some a
 records_come_in_their_order = refl
 
-the_second_comes_next : next_of (later two).waiting two.mark ≡ next.Record b
+the_second_comes_next : next_of (later two).waiting ≡ Some b
 the_second_comes_next = refl
 
-the_end_comes_last : next_of (later (later two)).waiting two.mark ≡ next.End Closed
+the_end_comes_last : (later (later (later two))).heard ≡ Some Closed
 the_end_comes_last = refl
 
 one_waits_after_a_step : linked (later two) ≡ 1

@@ -16,14 +16,12 @@ use Rattle.hum_turns.specs.Text.{text}
 use Rattle.hum_turns.proofs.Writing.{text_append}
 use Rattle.hum_nodes.specs.At.{At}
 use Rattle.hum_nodes.specs.declared.node.Node.{Node}
-use Rattle.hum_engine.specs.declared.link.Next.{Next}
-use Rattle.hum_engine.specs.declared.link.Next.TheVariants as next
 use Rattle.hum_engine.specs.Links.{next_of}
 use Rattle.hum_engine.specs.declared.web.Web.{Web}
 use Rattle.hum_engine.specs.Scene.{Scene, plan_of, Done}
 use Rattle.hum_engine.specs.Nets.{Sent, Failed, SinkWent}
 use Rattle.hum_engine.specs.Writing.{WroteFront}
-use Rattle.hum_engine.proofs.Taking.{next_record, next_end, next_front}
+use Rattle.hum_engine.proofs.Taking.{next_record, next_end, next_front, some_mark}
 
 pub not_heard : (l : Link Row) → has_some l ≡ true → l.heard ≡ None
 not_heard l some = none_by l.heard (and_parts _ _ some).0
@@ -33,14 +31,14 @@ not_heard l some = none_by l.heard (and_parts _ _ some).0
     none_by (Some x) e = absurd (false≢true e)
 
 -- a write that fails has written a prefix of the record
-pub writes_front : (s : Scene) (old new : Option (List ℕ)) (answer : Next) (x : Row)
-    → answer ≡ next_of (s.links (last (plan_of s))).waiting (s.links (last (plan_of s))).mark
-    → answer ≡ next.Record x → WroteFront old new (text_of x ++ 10 ∷ []) → Failed s.count ends.Write old new s
+pub writes_front : (s : Scene) (old new : Option (List ℕ)) (answer : Option Row) (x : Row)
+    → answer ≡ next_of (s.links (last (plan_of s))).waiting
+    → answer ≡ Some x → WroteFront old new (text_of x ++ 10 ∷ []) → Failed s.count ends.Write old new s
 writes_front s old new answer x told is wrote =
     let l = s.links (last (plan_of s)) in
     record {
       part = wrote.bytes;
-      may = (refl, next_front l.waiting l.mark x (sym is ∙ told) wrote.bytes wrote.front);
+      may = (refl, next_front l.waiting x (sym is ∙ told) wrote.bytes wrote.front);
       appends = wrote.appends;
     }
 
@@ -54,9 +52,9 @@ module _ {S R : Type 0} (stands : Node S R → List ℕ → At → Type 0) (web 
       → SinkWent stands failure old new flushed is_over web s
   went failure none sent = subst (λ f. SinkWent stands f old new flushed is_over web s) (sym none) sent
 
-  pub sent_record : (answer : Next) (x : Row)
-      → Done stands s.count (Takes (last (plan_of s))) web s → answer ≡ next_of l.waiting l.mark
-      → answer ≡ next.Record x → l.heard ≡ None → Appends old new (text_of x ++ 10 ∷ []) → is_over ≡ false
+  pub sent_record : (answer : Option Row) (x : Row)
+      → Done stands s.count (Takes (last (plan_of s))) web s → answer ≡ next_of l.waiting
+      → answer ≡ Some x → l.heard ≡ None → Appends old new (text_of x ++ 10 ∷ []) → is_over ≡ false
       → Sent stands old new flushed is_over web s
   sent_record answer x d told is none a goes =
       let v = next_record l l.waiting x (sym is ∙ told) in
@@ -74,12 +72,12 @@ module _ {S R : Type 0} (stands : Node S R → List ℕ → At → Type 0) (web 
         tells = goes ∙ sym (ap is_some still);
       }
 
-  pub sent_end : (answer : Next) (e : End)
-      → Done stands s.count (Takes (last (plan_of s))) web s → answer ≡ next_of l.waiting l.mark
-      → answer ≡ next.End e → Appends old new [] → flushed ≡ true → is_over ≡ true
+  pub sent_end : (answer : Option Row) → Done stands s.count (Takes (last (plan_of s))) web s
+      → answer ≡ next_of l.waiting → answer ≡ None → has_some l ≡ true → Appends old new [] → flushed ≡ true → is_over ≡ true
       → Sent stands old new flushed is_over web s
-  sent_end answer e d told is a done ends =
-      let v = next_end l l.waiting e (sym is ∙ told) in
+  sent_end answer d told is some a done ends =
+      let e = some_mark l l.waiting refl (sym is ∙ told) some in
+      let v = next_end l l.waiting e.0 (sym is ∙ told) e.1 in
       record {
         done = d;
         sent = [];

@@ -25,8 +25,6 @@ use Rattle.hum_nodes.specs.Fine.{fine}
 use Rattle.hum_nodes.specs.At.{At, doing_by, doing_of, change_at, after_change, MayChange}
 use Rattle.hum_nodes.specs.At.{with_record, with_end}
 use Rattle.hum_engine.specs.declared.link.Link as port
-use Rattle.hum_engine.specs.declared.link.Next.{Next}
-use Rattle.hum_engine.specs.declared.link.Next.TheVariants as next
 use Rattle.hum_engine.specs.Links.{Goes, next_of}
 use Rattle.hum_text.specs.Calls.{counted}
 use Rattle.hum_engine.specs.Nets.{CallsSink}
@@ -37,16 +35,6 @@ use Rattle.hum_engine.proofs.Moving.{Did, put_at, put_becomes, at_with, ins_of, 
 use Rattle.hum_engine.proofs.Moving.{nodes_set, links_set}
 
 -- What comes next from a link.
-
-record_at : Next → Option Row
-record_at (next.Record x) = Some x
-record_at (next.End e) = None
-record_at next.Nothing = None
-
-end_at : Next → Option End
-end_at (next.Record x) = None
-end_at (next.End e) = Some e
-end_at next.Nothing = None
 
 pub popped_read : (l : Link Row) (ws : List Row) → (popped l ws).read ≡ l.read
 popped_read l [] = refl
@@ -60,65 +48,52 @@ popped_given l (x ∷ ws) w =
 abbrev flow_of : List Row → Option End → Flow Row
 flow_of xs o = record { items = xs; end = o }
 
-no_record : (o : Option End) (x : Row) → next.Record x ≡ next_of [] o → ⊥
-unfolding record_at
-no_record None x h = none-some x (sym (ap record_at h))
-no_record (Some e) x h = none-some x (sym (ap record_at h))
-
-pub next_record : (l : Link Row) (ws : List Row) (x : Row) → next.Record x ≡ next_of ws l.mark
+pub next_record : (l : Link Row) (ws : List Row) (x : Row) → Some x ≡ next_of ws
     → view (popped l ws) ≡ with_record x (view l)
-unfolding record_at
-next_record l [] x h = absurd (no_record l.mark x h)
+next_record l [] x h = absurd (none-some x (sym h))
 next_record l (y ∷ ws) x h =
-    let e = same_Some x y (ap record_at h) in
+    let e = same_Some x y h in
     ap (λ i. flow_of (l.taken ++ i ∷ []) l.heard) (sym e)
 
 -- a prefix of the record is one of what is written next
-pub next_front : (ws : List Row) (mark : Option End) (x : Row) → next.Record x ≡ next_of ws mark
+pub next_front : (ws : List Row) (x : Row) → Some x ≡ next_of ws
     → (bytes : List ℕ) → IsFront bytes (text_of x ++ 10 ∷ []) → Begins bytes (next_text text_of ws)
-unfolding record_at
-next_front [] mark x h bytes front = absurd (no_record mark x h)
-next_front (y ∷ ws) mark x h bytes front =
-    subst (λ r. Begins bytes (text_of r ++ 10 ∷ [])) (same_Some x y (ap record_at h)) front
+next_front [] x h bytes front = absurd (none-some x (sym h))
+next_front (y ∷ ws) x h bytes front =
+    subst (λ r. Begins bytes (text_of r ++ 10 ∷ [])) (same_Some x y h) front
 
 -- the calls of a turn that takes it
-pub calls_record : (ws : List Row) (mark : Option End) (x : Row) (old new : ℕ) → next.Record x ≡ next_of ws mark
+pub calls_record : (ws : List Row) (x : Row) (old new : ℕ) → Some x ≡ next_of ws
     → new ≤ old + length (text_of x ++ 10 ∷ []) → CallsSink old new ws
-unfolding record_at
-calls_record [] mark x old new h few = absurd (no_record mark x h)
-calls_record (y ∷ ws) mark x old new h few =
-    subst (λ r. new ≤ old + length (text_of r ++ 10 ∷ [])) (same_Some x y (ap record_at h)) few
+calls_record [] x old new h few = absurd (none-some x (sym h))
+calls_record (y ∷ ws) x old new h few =
+    subst (λ r. new ≤ old + length (text_of r ++ 10 ∷ [])) (same_Some x y h) few
 
 -- and of one that hears the end
-pub calls_end : (ws : List Row) (mark : Option End) (e : End) (old new : ℕ) → next.End e ≡ next_of ws mark
-    → new ≡ counted old → CallsSink old new ws
-unfolding record_at
-calls_end (y ∷ ws) mark e old new h once = absurd (none-some y (ap record_at h))
-calls_end [] mark e old new h once = once
+pub calls_end : (ws : List Row) (old new : ℕ) → None ≡ next_of ws → new ≡ counted old → CallsSink old new ws
+calls_end (y ∷ ws) old new h once = absurd (none-some y h)
+calls_end [] old new h once = once
 
-end_is : (o : Option End) (e : End) → next.End e ≡ next_of [] o → o ≡ Some e
-unfolding end_at
-end_is None e h = sym (ap end_at h)
-end_is (Some f) e h = sym (ap end_at h)
+-- where no record waits the end is heard
+pub hears : (l : Link Row) (ws : List Row) → None ≡ next_of ws → (popped l ws).heard ≡ l.mark
+hears l (y ∷ ws) h = absurd (none-some y h)
+hears l [] h = refl
 
-pub next_end : (l : Link Row) (ws : List Row) (e : End) → next.End e ≡ next_of ws l.mark
+pub next_end : (l : Link Row) (ws : List Row) (e : End) → None ≡ next_of ws → l.mark ≡ Some e
     → view (popped l ws) ≡ with_end e (view l)
-unfolding record_at
-next_end l (y ∷ ws) e h = absurd (none-some y (ap record_at h))
-next_end l [] e h = ap (λ o. flow_of l.taken o) (end_is l.mark e h)
+next_end l (y ∷ ws) e h is = absurd (none-some y h)
+next_end l [] e h is = ap (λ o. flow_of l.taken o) is
 
-no_end : (o : Option End) → next.Nothing ≡ next_of [] o → o ≡ None
-unfolding end_at
-no_end None h = refl
-no_end (Some e) h = absurd (none-some e (ap end_at h))
+mark_of : (o : Option End) → is_some o ≡ true → (e : End) × (o ≡ Some e)
+mark_of None h = absurd (false≢true h)
+mark_of (Some e) h = (e, refl)
 
-pub next_nothing : (l : Link Row) (ws : List Row) → l.waiting ≡ ws
-    → next.Nothing ≡ next_of ws l.mark → has_some l ≡ true → ⊥
-unfolding record_at
-next_nothing l (y ∷ ws) w h some = none-some y (ap record_at h)
-next_nothing l [] w h some =
-    false≢true (sym (ap (λ o. nat_lt 0 (length l.waiting) || is_some o) (no_end l.mark h)
-    ∙ ap (λ v. nat_lt 0 (length v) || false) w) ∙ (and_parts _ _ some).1)
+-- and there is one, where there is something to take
+pub some_mark : (l : Link Row) (ws : List Row) → l.waiting ≡ ws → None ≡ next_of ws → has_some l ≡ true
+    → (e : End) × (l.mark ≡ Some e)
+some_mark l (y ∷ ws) w h some = absurd (none-some y h)
+some_mark l [] w h some =
+    mark_of l.mark (sym (ap (λ v. nat_lt 0 (length v) || is_some l.mark) w) ∙ (and_parts _ _ some).1)
 
 -- One place of a list of inputs.
 

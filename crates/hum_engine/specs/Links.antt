@@ -1,11 +1,8 @@
 -- How a link stands for what has passed over it.
 use Rattle.std.specs.Prelude.{◌≡◌, ℕ, Bool, nat_lt, List, [], ◌∷◌, length, Option, Some, None}
 use Rattle.hum_record.specs.Row.{Row}
-use Rattle.hum_stage.specs.declared.faults.End.{End}
 use Rattle.hum_engine.specs.Traffic.{Traffic}
 use Rattle.hum_engine.specs.declared.link.Link.{Link}
-use Rattle.hum_engine.specs.declared.link.Next.{Next}
-use Rattle.hum_engine.specs.declared.link.Next.TheVariants as next
 
 -- It holds what waits, in room for so many records, and the two ends. What was taken, and the bytes
 -- that its stage has read, it doesn't know.
@@ -19,11 +16,10 @@ pub record IsLink (size : ℕ) (link : Link) (l : Traffic) : Type 0 where
 abbrev pub room : Link → Bool
 room link = nat_lt (length link.waiting.items) link.waiting.capacity
 
--- What comes next: the records in their order, then the end.
-abbrev pub next_of : List Row → Option End → Next
-next_of (row ∷ rows) mark = next.Record row
-next_of [] (Some end) = next.End end
-next_of [] None = next.Nothing
+-- the record that comes next, if one waits
+abbrev pub next_of : List Row → Option Row
+next_of (row ∷ rows) = Some row
+next_of [] = None
 
 -- It tells this of all that it may stand for.
 abbrev pub Tells : {A : Type 0} → Link → A → (ℕ → Traffic → A) → Type 0

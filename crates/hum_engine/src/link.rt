@@ -22,17 +22,6 @@ pub struct Link {
     heard: Option<End>,
 }
 
-/// What comes next from a link.
-#[derive(Drop)]
-pub enum Next {
-    /// The record that has waited longest.
-    Record(Record),
-    /// No record waits, and this is the end.
-    End(End),
-    /// No record waits, and no end was set.
-    Nothing,
-}
-
 impl Link {
     /// A link over which nothing has passed, with room for so many records.
     ///
@@ -58,19 +47,16 @@ impl Link {
         let _refused = self.waiting.try_push_back(row);
     }
 
-    /// Takes the next record, or where none waits hears the end.
-    pub fn next(&mut self) -> Next
+    /// Takes the record that has waited longest. Where none waits the end is heard, if it was set.
+    pub fn next(&mut self) -> Option<Record>
         ensures popped { Goes self.old self.new (λ l. popped l l.waiting) }
-        ensures next { Tells self.old result (λ size l. next_of l.waiting l.mark) }
+        ensures next { Tells self.old result (λ size l. next_of l.waiting) }
     {
         if let Some(row) = self.waiting.pop_front() {
-            return Next::Record(row);
+            return Some(row);
         }
         self.heard = self.mark;
-        match self.mark {
-            Some(end) => Next::End(end),
-            None => Next::Nothing,
-        }
+        None
     }
 
     /// Sets the end. The records that wait come before it.

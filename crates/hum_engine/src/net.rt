@@ -22,7 +22,6 @@ ghost use Rattle.hum_engine.specs.Nets.{IsAmong, NetAt, AreBegun, Tells, HasRun,
 ghost use Rattle.hum_engine.specs.Nets.{Sees, MayPick, HasPicked, MayAsk, HasGone, MayStep, HasStepped};
 ghost use Rattle.hum_engine.specs.Nets.{IsCloser, AsksLittle};
 
-use crate::link::Next;
 use crate::search::Search;
 use crate::takers::takers_of;
 use crate::web::Web;
@@ -81,18 +80,17 @@ impl<S: Stage + Drop, R: Source + Drop, W: Sink> Net<S, R, W> {
         ensures takers { self.new.takers ≡ self.old.takers }
     {
         match self.web.take_out() {
-            Next::Record(row) => match write_record(&mut self.sink, row) {
+            Some(row) => match write_record(&mut self.sink, row) {
                 Ok(row) => {
                     self.web.reuse(row);
                     return false;
                 }
                 Err(_) => self.fail_to_write(),
             },
-            Next::End(_) => match self.sink.flush() {
+            None => match self.sink.flush() {
                 Ok(()) => {}
                 Err(_) => self.fail_to_write(),
             },
-            Next::Nothing => {}
         }
         true
     }

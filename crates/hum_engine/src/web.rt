@@ -18,7 +18,7 @@ ghost use Rattle.hum_engine.specs.Scene.{IsBegun, Stands, HasStage, held_of};
 ghost use Rattle.hum_engine.specs.Readers.{ShowsSame, remaining_at, ended_at, calls_at, failed_at};
 ghost use Rattle.hum_nodes.specs.Polls.{AsksAtMostOnce, HasStayed, is_failed_read};
 
-use crate::link::{Link, Next};
+use crate::link::Link;
 use hum_nodes::{Node, Readiness};
 use hum_read::ReadError;
 use hum_record::Record;
@@ -109,14 +109,14 @@ impl<S: Stage + Drop, R: Source + Drop> Web<S, R> {
         Ok(k)
     }
 
-    /// What the sink takes: the next record of the last stage, or its end.
-    pub fn take_out(&mut self) -> Next
+    /// What the sink takes: the next record of the last stage, or none where it hears its end.
+    pub fn take_out(&mut self) -> Option<Record>
         requires { Somewhere (IsAt (StandsAs S.stands) self.old) }
         ensures taken { (s : Scene) → IsAt (StandsAs S.stands) self.old s
             → has_some (s.links (last (plan_of s))) ≡ true
             → Done (StandsAs S.stands) s.count (Takes (last (plan_of s))) self.new s }
-        ensures next { (s : Scene) → IsAt (StandsAs S.stands) self.old s → result
-            ≡ next_of (s.links (last (plan_of s))).waiting (s.links (last (plan_of s))).mark }
+        ensures next { (s : Scene) → IsAt (StandsAs S.stands) self.old s
+            → result ≡ next_of (s.links (last (plan_of s))).waiting }
         ensures nodes { self.new.nodes ≡ self.old.nodes }
     {
         let last = self.links.len() - 1;
@@ -324,9 +324,12 @@ impl<S: Stage + Drop, R: Source + Drop> Web<S, R> {
     {
         let source = self.nodes[k].source(place);
         match self.links[source].next() {
-            Next::Record(row) => self.nodes[k].put(place, row)?,
-            Next::End(end) => self.nodes[k].stop(place, end),
-            Next::Nothing => {}
+            Some(row) => self.nodes[k].put(place, row)?,
+            None => {
+                if let Some(end) = self.links[source].heard() {
+                    self.nodes[k].stop(place, end);
+                }
+            }
         }
         Ok(source)
     }

@@ -9,7 +9,7 @@ use Rattle.hum_engine.proofs.Appending.{keeps_appends}
 use Rattle.hum_engine.proofs.Netting.{or_false}
 use Rattle.hum_engine.proofs.Reusing.{shows_nodes, shows_more}
 use Rattle.hum_engine.proofs.Sending.{went, sent_record, sent_end, not_heard, writes_front}
-use Rattle.hum_engine.proofs.Taking.{next_nothing, calls_record, calls_end}
+use Rattle.hum_engine.proofs.Taking.{calls_record, calls_end}
 use Rattle.hum_engine.proofs.net.Net.sink_turn.Goals as goal
 
 pub take_out-requires : goal.take_out-requires
@@ -28,13 +28,13 @@ returns-in-Ok g c =
           record { new = d.new; does = d.does; stand = c.reuse.ensures.stands (moved s d.new) d.stand } in
           went stands c.reuse.new.self s (g.W.Sink.contents net.sink)
           (g.W.Sink.contents c.write_record.new.sink) (g.W.Sink.flushed c.write_record.new.sink) false net.failure none
-          (sent_record stands c.reuse.new.self s _ _ _ false c.take_out.result c.in-Record.row e t c.in-Record.is
+          (sent_record stands c.reuse.new.self s _ _ _ false c.take_out.result c.in-Some.row e t c.in-Some.is
           (not_heard (s.links (last (plan_of s))) h.some)
           c.in-Ok.ensures.ok refl);
       asked = λ s h.
           let t = c.take_out.ensures.next s h.at in
-          calls_record (s.links (last (plan_of s))).waiting (s.links (last (plan_of s))).mark c.in-Record.row _ _
-          (sym c.in-Record.is ∙ t) c.in-Ok.ensures.calls;
+          calls_record (s.links (last (plan_of s))).waiting c.in-Some.row _ _
+          (sym c.in-Some.is ∙ t) c.in-Ok.ensures.calls;
       marked = c.in-Ok.ensures.sound ∙ or_false _ ∙ ap (λ b. g.W.Sink.failed net.sink || b) (sym (ap is_write none));
       unread = λ k. ap (is_read_of k) none;
       shows = λ k. shows_more g.R.Source.remaining g.R.Source.calls g.R.Source.failed _
@@ -53,13 +53,13 @@ returns-in-Err g c =
     rw c.fail_to_write.ensures (record {
       went = λ s h.
           let t = c.take_out.ensures.next s h.at in (
-            writes_front s _ _ c.take_out.result c.in-Record.row t c.in-Record.is c.in-Err.ensures.err,
+            writes_front s _ _ c.take_out.result c.in-Some.row t c.in-Some.is c.in-Err.ensures.err,
             refl,
           );
       asked = λ s h.
           let t = c.take_out.ensures.next s h.at in
-          calls_record (s.links (last (plan_of s))).waiting (s.links (last (plan_of s))).mark c.in-Record.row _ _
-          (sym c.in-Record.is ∙ t) c.in-Err.ensures.calls;
+          calls_record (s.links (last (plan_of s))).waiting c.in-Some.row _ _
+          (sym c.in-Some.is ∙ t) c.in-Err.ensures.calls;
       marked = c.in-Err.ensures.failed ∙ sym (or_right (g.W.Sink.failed net.sink) true refl);
       unread = λ k. refl;
       shows = λ k. shows_nodes g.R.Source.remaining g.R.Source.calls g.R.Source.failed net.web
@@ -80,11 +80,11 @@ returns-in-Ok-flush g c =
           let t = c.take_out.ensures.next s h.at in
           went stands c.take_out.new.self s (g.W.Sink.contents net.sink)
           (g.W.Sink.contents c.flush.new.self) (g.W.Sink.flushed c.flush.new.self) true net.failure none
-          (sent_end stands c.take_out.new.self s _ _ _ true c.take_out.result c.in-End.field-0 d t c.in-End.is
+          (sent_end stands c.take_out.new.self s _ _ _ true c.take_out.result d t c.in-None.is h.some
           (keeps_appends _ _ c.in-Ok-flush.ensures.bytes) c.in-Ok-flush.ensures.flushed refl);
       asked = λ s h.
-          calls_end (s.links (last (plan_of s))).waiting (s.links (last (plan_of s))).mark c.in-End.field-0 _ _
-          (sym c.in-End.is ∙ c.take_out.ensures.next s h.at) c.in-Ok-flush.ensures.calls;
+          calls_end (s.links (last (plan_of s))).waiting _ _
+          (sym c.in-None.is ∙ c.take_out.ensures.next s h.at) c.in-Ok-flush.ensures.calls;
       marked = c.in-Ok-flush.ensures.failed ∙ ap (λ b. g.W.Sink.failed net.sink || b) (sym (ap is_write none));
       unread = λ k. ap (is_read_of k) none;
       shows = λ k. shows_nodes g.R.Source.remaining g.R.Source.calls g.R.Source.failed net.web
@@ -101,8 +101,8 @@ returns-in-Err-flush g c =
       went = λ s h.
           (record { part = []; may = (refl, (_, refl)); appends = keeps_appends _ _ c.in-Err-flush.ensures.bytes }, refl);
       asked = λ s h.
-          calls_end (s.links (last (plan_of s))).waiting (s.links (last (plan_of s))).mark c.in-End.field-0 _ _
-          (sym c.in-End.is ∙ c.take_out.ensures.next s h.at) c.in-Err-flush.ensures.calls;
+          calls_end (s.links (last (plan_of s))).waiting _ _
+          (sym c.in-None.is ∙ c.take_out.ensures.next s h.at) c.in-Err-flush.ensures.calls;
       marked = c.in-Err-flush.ensures.failed;
       unread = λ k. refl;
       shows = λ k. shows_nodes g.R.Source.remaining g.R.Source.calls g.R.Source.failed net.web
@@ -111,23 +111,3 @@ returns-in-Err-flush g c =
       actors = refl;
       takers = refl;
     })
-
-pub returns-in-Nothing : goal.returns-in-Nothing
-returns-in-Nothing g c =
-    let net = c.args.self.now in
-    let none = c.requires.none in
-    record {
-      went = λ s h.
-          let l = s.links (last (plan_of s)) in
-          absurd (next_nothing l l.waiting refl (sym c.in-Nothing.is ∙ c.take_out.ensures.next s h.at) h.some);
-      asked = λ s h.
-          let l = s.links (last (plan_of s)) in
-          absurd (next_nothing l l.waiting refl (sym c.in-Nothing.is ∙ c.take_out.ensures.next s h.at) h.some);
-      marked = or_false _ ∙ ap (λ b. g.W.Sink.failed net.sink || b) (sym (ap is_write none));
-      unread = λ k. ap (is_read_of k) none;
-      shows = λ k. shows_nodes g.R.Source.remaining g.R.Source.calls g.R.Source.failed net.web
-          c.take_out.new.self k c.take_out.ensures.nodes;
-      turns = refl;
-      actors = refl;
-      takers = refl;
-    }

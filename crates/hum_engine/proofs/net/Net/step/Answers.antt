@@ -280,4 +280,3 @@ returns-in-None-clause-stepped g c =
     c.in-Some.ensures.gone.link c.in-Some.ensures.gone.turned c.if-turned.false c.index-taker.result.now at
     c.in-None.is c.ask_both.new.self c.in-Some.ensures.gone.actors c.ask_both.ensures.same c.ask_both.ensures.len
     c.ask_both.ensures.list)
-

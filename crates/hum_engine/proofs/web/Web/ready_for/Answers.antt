@@ -1,4 +1,4 @@
-use Rattle.std.proofs.Common.{◌≡◌, ◌∙◌, ◌<◌, ℕ, List, Option, sym, subst, arith}
+use Rattle.std.proofs.Common.{◌≡◌, ◌∙◌, ◌<◌, ℕ, List, Option, sym, subst}
 use Rattle.std.specs.Prelude.{IfSome, is_some}
 use Rattle.hum_turns.specs.Turns.{ready, can, state}
 use Rattle.hum_nodes.specs.Nodes.{StandsAs}
@@ -7,7 +7,7 @@ use Rattle.hum_nodes.specs.declared.node.Node.{Node}
 use Rattle.hum_nodes.specs.declared.node.Readiness.{Readiness}
 use Rattle.hum_nodes.specs.declared.node.Readiness.TheVariants as kinds
 use Rattle.hum_engine.specs.declared.web.Web.{Web}
-use Rattle.hum_engine.specs.Scene.{Scene, plan_of, at_of, IsActor, IsAboutKind, IsDoing, IsKind, DoesNext}
+use Rattle.hum_engine.specs.Scene.{Scene, plan_of, at_of, IsActor, IsAboutKind, IsDoing, DoesNext}
 use Rattle.hum_engine.proofs.Doings.{about_it, doing_is, reader_is, gives_not_reads, wants_not_reads, done_not_reads}
 use Rattle.hum_engine.proofs.Feeding.{node_at}
 use Rattle.hum_engine.proofs.Readying.{below}
@@ -265,4 +265,3 @@ returns-in-Done-clause-doing g c other =
     (doing_is g.S.Stage.stands k web node c.readiness.result c.readiness.ensures there s h.at less
     (λ e. done_not_reads (sym c.in-Done.is ∙ e))) in
     as_does stands k web kinds.Done does c.if_able-in-Done.result c.if_able-in-Done.ensures.kind does
-
