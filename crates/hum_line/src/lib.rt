@@ -9,6 +9,7 @@ ghost use Rattle.std.specs.Prelude.{◌≤◌, IfOk};
 
 use clap::error::ErrorKind;
 use clap::{Arg, ArgAction, Command};
+pub use hum_turns::Side;
 use std::alloc::{AllocError, Global};
 use thiserror::Error;
 
@@ -18,21 +19,12 @@ const LARGEST_LINK: u16 = 4096;
 /// How many it holds where the line doesn't say.
 const USUAL_LINK: u16 = 16;
 
-/// Which of the actors that are ready takes its turn.
-#[derive(Clone, Copy)]
-pub enum Side {
-    /// The one that comes first.
-    Left,
-    /// The one that comes last.
-    Right,
-}
-
 /// What a command line asks for.
 #[derive(Clone, Copy)]
 pub struct Choice<'a> {
     /// how many records a link holds
     pub link: u16,
-    /// the order of turns
+    /// the side from which the actor is picked that takes its turn
     pub order: Side,
     /// the plan's file; without it a bundle is read
     pub file: Option<&'a str>,
@@ -68,7 +60,7 @@ fn arguments<'a>(alloc: Global) -> Result<Command<'a>, AllocError> {
         .arg(Arg::new(alloc, "PIPELINE").action(ArgAction::Set))
 }
 
-/// The order that a word is.
+/// The side that a word names.
 fn order_of(word: Option<&str>) -> Option<Side> {
     match word {
         None | Some("left") => Some(Side::Left),
