@@ -15,3 +15,4 @@ pub mod Left
 pub mod Selected
 mod Picked
 mod Added
+mod Runs
