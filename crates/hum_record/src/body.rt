@@ -1,9 +1,10 @@
 //! The text of a record, and where its tokens end in it.
 ghost use Rattle.std.specs.Prelude.{◌≡◌, ◌≤◌, ◌<◌, ◌+◌, ◌-◌, ◌^◌, ◌++◌, ◌∷◌, [], length, take};
-ghost use Rattle.std.specs.Prelude.{ℕ, map, OnOk, IfErr, Ok, true, false, vec_len, slice_index};
+ghost use Rattle.std.specs.Prelude.{ℕ, map, IfOk, OnOk, IfErr, Ok, true, false, vec_len, slice_index};
 ghost use Rattle.hum_record.specs.Building.{tab_between, spelled};
 ghost use Rattle.hum_record.specs.Cutting.{set_places};
 ghost use Rattle.hum_record.specs.Fields.{AreFields, ends_from, row_in, written};
+ghost use Rattle.hum_record.specs.Plain.{HasPlaces};
 ghost use Rattle.hum_record.specs.Row.{chosen};
 ghost use Rattle.hum_record.specs.Spelling.{has_byte, reading, parts, Fails};
 
@@ -12,6 +13,7 @@ use crate::near::{FEW, NEAR, copy_near, copy_places, put_places};
 use crate::putting::{put_behind, put_moved};
 use crate::reading::cut;
 use crate::selection::Selection;
+use crate::wide::{copy_words, put_ends};
 use crate::{MOST_BYTES, RecordFault};
 use std::alloc::{AllocError, Global};
 use std::marker::Model;
@@ -98,7 +100,7 @@ fn give_bytes(held: &mut Vec<u8>, count: usize) -> Result<(), AllocError>
 }
 
 #[inline]
-fn give_places(places: &mut Vec<u32>, count: usize) -> Result<(), AllocError>
+pub fn give_places(places: &mut Vec<u32>, count: usize) -> Result<(), AllocError>
     ensures kept { take (vec_len places.old) places.new.items ≡ places.old.items }
     ensures more { vec_len places.old ≤ vec_len places.new }
     ensures room { OnOk result (count ≤ vec_len places.new) }
@@ -175,9 +177,31 @@ impl Body {
         give_places(&mut self.places, count)?;
         copy_near(&mut self.held, held);
         self.len = len;
-        put_places(&mut self.places, ends);
+        put_places(&mut self.places, 0, 0, ends);
         self.count = count;
         Ok(())
+    }
+
+    /// Puts a longer line of plain data in place of the text, and where its tokens end; or tells that
+    /// its bytes don't show that it is one. The line is the first `len` bytes of what is held.
+    pub fn put_wide(&mut self, held: &[u8], len: usize) -> Result<bool, AllocError>
+        requires filled { len + 64 ≤ length held.now }
+        requires at_most { len ≤ 1048576 }
+        ensures text { IfOk result (λ is_plain. is_plain ≡ true
+            → self.new.text ≡ take len held.now) }
+        ensures plain { IfOk result (λ is_plain. is_plain ≡ true
+            → HasPlaces (take len held.now) self.new.ends) }
+    {
+        self.clear();
+        let count = put_ends(&mut self.places, held, len)?;
+        if count == 0 {
+            return Ok(false);
+        }
+        give_bytes(&mut self.held, len + NEAR)?;
+        copy_words(&mut self.held, held, len);
+        self.len = len;
+        self.count = count;
+        Ok(true)
     }
 
     /// Puts a line in place of the text, and where its tokens end; or finds the first rule that it

@@ -4,7 +4,7 @@ ghost use Rattle.std.specs.Prelude.{length, take};
 ghost use Rattle.hum_record.specs.Spelling.{IsTokenOf, IsTextOf, has_byte, is_comment, reading};
 ghost use Rattle.hum_record.specs.Spelling.{Gives, Fails, Breaks};
 ghost use Rattle.hum_record.specs.Fields.{AreFields, row_in};
-ghost use Rattle.hum_record.specs.Plain.{IsPlain};
+ghost use Rattle.hum_record.specs.Plain.{HasEnds};
 ghost use Rattle.hum_record.specs.Row.{Row, kind_of, row_of, tokens_of, width_of, token_at, text_of};
 ghost use Rattle.hum_record.specs.Row.{with_chosen};
 ghost use Rattle.std.specs.List.{list_any};
@@ -110,7 +110,7 @@ impl Record {
                 return Self::of_plain(alloc, spare, held, len, ends);
             }
         }
-        Self::of_any(alloc, spare, &held[..len])
+        Self::of_any(alloc, spare, held, len)
     }
 
     /// The same of plain data in a short line, by the bits of where its tokens end.
@@ -125,7 +125,7 @@ impl Record {
         requires filled { 64 ≤ length held.now }
         requires short { len ≤ 62 }
         requires one_line { has_byte 10 (take len held.now) ≡ false }
-        requires plain { IsPlain (take len held.now) ends }
+        requires plain { HasEnds (take len held.now) ends }
         ensures { Gives result (reading (take len held.now)) }
     {
         let mut body = spare.take_or_new(alloc)?;
@@ -133,15 +133,24 @@ impl Record {
         Ok(Record { body })
     }
 
-    /// The same of any text.
+    /// The same of any line.
     #[inline(never)]
-    fn of_any(alloc: Global, spare: &mut Spare, text: &[u8]) -> Result<Record, RecordFault>
-        requires at_most { length text.now ≤ 1048576 }
-        requires one_line { has_byte 10 text.now ≡ false }
-        ensures { Gives result (reading text.now) }
+    fn of_any(
+        alloc: Global,
+        spare: &mut Spare,
+        held: &[u8],
+        len: usize,
+    ) -> Result<Record, RecordFault>
+        requires within { len ≤ length held.now }
+        requires at_most { length (take len held.now) ≤ 1048576 }
+        requires one_line { has_byte 10 (take len held.now) ≡ false }
+        ensures { Gives result (reading (take len held.now)) }
     {
         let mut body = spare.take_or_new(alloc)?;
-        body.put(text)?;
+        if len > SHORT && held.len() - len >= NEAR && body.put_wide(held, len)? {
+            return Ok(Record { body });
+        }
+        body.put(&held[..len])?;
         Ok(Record { body })
     }
 
