@@ -164,22 +164,23 @@ impl Body {
     }
 
     /// Puts the first `len` bytes of what is held in place of the text, and the places of bits in place
-    /// of where tokens end.
+    /// of where tokens end, if there is room for these; and tells whether there was.
     #[inline]
-    pub fn put_near(&mut self, held: &[u8], len: usize, ends: u64) -> Result<(), AllocError>
+    pub fn put_near(&mut self, held: &[u8], len: usize, ends: u64) -> bool
         requires filled { 64 ≤ length held.now }
         requires short { len ≤ 62 }
-        ensures text { OnOk result (self.new.text ≡ take len held.now) }
-        ensures ends { OnOk result (self.new.ends ≡ set_places 64 0 ends) }
+        ensures text { result ≡ true → self.new.text ≡ take len held.now }
+        ensures ends { result ≡ true → self.new.ends ≡ set_places 64 0 ends }
     {
         let count = ends.count_ones() as usize;
-        give_bytes(&mut self.held, NEAR)?;
-        give_places(&mut self.places, count)?;
+        if self.held.len() < NEAR || self.places.len() < count {
+            return false;
+        }
         copy_near(&mut self.held, held);
         self.len = len;
         put_places(&mut self.places, 0, 0, ends);
         self.count = count;
-        Ok(())
+        true
     }
 
     /// Puts a longer line of plain data in place of the text, and where its tokens end; or tells that

@@ -1,10 +1,10 @@
 //! A record, and how a line is read as one.
 ghost use Rattle.std.specs.Prelude.{◌≡◌, ◌≢◌, ◌<◌, ◌≤◌, true, false, Ok, IfOk, IfErr, OnOk, MatchResult};
+ghost use Rattle.std.specs.Prelude.{IfSome};
 ghost use Rattle.std.specs.Prelude.{length, take};
 ghost use Rattle.hum_record.specs.Spelling.{IsTokenOf, IsTextOf, has_byte, is_comment, reading};
 ghost use Rattle.hum_record.specs.Spelling.{Gives, Fails, Breaks};
 ghost use Rattle.hum_record.specs.Fields.{AreFields, row_in};
-ghost use Rattle.hum_record.specs.Plain.{HasEnds};
 ghost use Rattle.hum_record.specs.Row.{Row, kind_of, row_of, tokens_of, width_of, token_at, text_of};
 ghost use Rattle.hum_record.specs.Row.{with_chosen};
 ghost use Rattle.std.specs.List.{list_any};
@@ -105,32 +105,30 @@ impl Record {
         // Which fault it is.
         ensures exact { Gives result (reading (take len held.now)) }
     {
-        if len <= SHORT && held.len() >= NEAR {
-            if let Some(ends) = plain_ends(held, len) {
-                return Self::of_plain(alloc, spare, held, len, ends);
-            }
+        if let Some(record) = Self::parse_near(spare, held, len) {
+            return Ok(record);
         }
         Self::of_any(alloc, spare, held, len)
     }
 
-    /// The same of plain data in a short line, by the bits of where its tokens end.
+    /// Reads plain data in a short line into what is left of the record that was done with last, if
+    /// there is one and it has room. Where it answers none, [`Record::parse_into`] reads the line.
     #[inline]
-    fn of_plain(
-        alloc: Global,
-        spare: &mut Spare,
-        held: &[u8],
-        len: usize,
-        ends: u64,
-    ) -> Result<Record, RecordFault>
-        requires filled { 64 ≤ length held.now }
-        requires short { len ≤ 62 }
+    pub fn parse_near(spare: &mut Spare, held: &[u8], len: usize) -> Option<Record>
+        requires within { len ≤ length held.now }
         requires one_line { has_byte 10 (take len held.now) ≡ false }
-        requires plain { HasEnds (take len held.now) ends }
-        ensures { Gives result (reading (take len held.now)) }
+        ensures { IfSome result (λ read. reading (take len held.now) ≡ Ok read) }
     {
-        let mut body = spare.take_or_new(alloc)?;
-        body.put_near(held, len, ends)?;
-        Ok(Record { body })
+        if len > SHORT || held.len() < NEAR {
+            return None;
+        }
+        let ends = plain_ends(held, len)?;
+        let mut body = spare.take_first()?;
+        if body.put_near(held, len, ends) {
+            return Some(Record { body });
+        }
+        spare.put_back(body);
+        None
     }
 
     /// The same of any line.
@@ -147,7 +145,7 @@ impl Record {
         ensures { Gives result (reading (take len held.now)) }
     {
         let mut body = spare.take_or_new(alloc)?;
-        if len > SHORT && held.len() - len >= NEAR && body.put_wide(held, len)? {
+        if held.len() - len >= NEAR && body.put_wide(held, len)? {
             return Ok(Record { body });
         }
         body.put(&held[..len])?;
