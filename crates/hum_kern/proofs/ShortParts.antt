@@ -1,12 +1,12 @@
 -- Durations of one or two digits and at most one dot.
 use Rattle.std.proofs.Common.{◌≡◌, ◌∙◌, ℕ, ◌+◌, ◌-◌, ◌*◌, ◌<◌, ◌≤◌, ◌==◌, List, [], ◌∷◌, length, take, drop, get_or, refl, sym, ap, arith, subst}
-use Rattle.std.proofs.Common.{Bool, true, false, Option, None, Some, Ok, add-one}
+use Rattle.std.proofs.Common.{Bool, true, false, Option, None, Some, Ok}
 use Rattle.std.specs.Prelude.{IfSome, option_map, if◌then◌else◌}
 use Rattle.std.specs.List.{list_any}
 use Rattle.std.proofs.lemmas.List.{take_all}
 use Rattle.hum_kern.specs.declared.Length.{Length}
 use Rattle.hum_kern.specs.declared.runs.Class.TheVariants.{Digit, Dot}
-use Rattle.hum_kern.specs.Classes.{is_in, is_digit, is_divider}
+use Rattle.hum_kern.specs.Classes.{is_in, is_divider}
 use Rattle.hum_kern.specs.Runs.{run, front, behind}
 use Rattle.hum_kern.specs.Value.{number, plain_value}
 use Rattle.hum_kern.specs.Duration.{spelling, said, duration, is_empty}

@@ -1,10 +1,16 @@
 -- What subtokens say that are as most are.
-use Rattle.std.specs.Prelude.{◌+◌, ◌==◌, ℕ, Bool, true, false, List, [], ◌∷◌, Option, None, Some, if◌then◌else◌}
+use Rattle.std.specs.Prelude.{◌≡◌, ◌+◌, ◌==◌, ℕ, Bool, true, false, List, [], ◌∷◌, Option, None, Some, Ok, if◌then◌else◌}
 use Rattle.hum_frac.specs.Ratio.{reduced}
 use Rattle.hum_kern.specs.declared.Length.{Length}
 use Rattle.hum_kern.specs.Classes.{is_continued_sign}
 use Rattle.hum_kern.specs.Value.{dotted}
-use Rattle.hum_kern.specs.Subtokens.{ends_plainly}
+use Rattle.hum_kern.specs.Note.{Reading, note}
+use Rattle.hum_kern.specs.Subtokens.{subtokens, ends_plainly}
+
+-- A token is one subtoken, and that says this.
+pub record IsReadAlone (token : List ℕ) (found : Reading) : Type 0 where
+  pub read : Ok found ≡ note token
+  pub alone : subtokens token ≡ token ∷ []
 
 -- whether the last byte, if there is one, says that a tie goes on or ends; none where it is another, or
 -- more stand there

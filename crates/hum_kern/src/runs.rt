@@ -19,7 +19,7 @@ pub(crate) enum Class {
     Repeat(u8),
     /// The signs of accidentals: `#`, `-` and `n`.
     Sign,
-    /// Bytes that say nothing of a note: neither letters nor signs nor marks.
+    /// Bytes that say nothing of a note: neither letters nor signs nor marks, nor spaces.
     Plain,
 }
 
@@ -27,7 +27,7 @@ pub(crate) enum Class {
 const PLAIN: [bool; 256] = [
     true, true, true, true, true, true, true, true, true, true, true, true, true, true, true, true,
     true, true, true, true, true, true, true, true, true, true, true, true, true, true, true, true,
-    true, true, true, false, true, true, true, true, true, true, true, true, true, false, true,
+    false, true, true, false, true, true, true, true, true, true, true, true, true, false, true,
     true, true, true, true, true, true, true, true, true, true, true, true, true, true, true, true,
     true, true, false, false, false, false, false, false, false, true, true, true, true, true,
     true, true, true, true, false, true, true, true, true, true, true, true, true, true, true,
