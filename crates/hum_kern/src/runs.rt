@@ -44,8 +44,9 @@ const PLAIN: [bool; 256] = [
     true, true, true, true, true, true, true,
 ];
 
+/// Whether a byte is a digit.
 #[inline(always)]
-fn is_digit(b: u8) -> bool
+pub(crate) fn is_digit(b: u8) -> bool
     ensures { result ≡ is_digit b }
 {
     48 <= b && b <= 57
