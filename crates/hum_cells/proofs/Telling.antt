@@ -1,5 +1,5 @@
 -- Tokens of a data record, told one by one.
-use Rattle.std.proofs.Common.{◌≡◌, ◌∙◌, refl, sym, ap, ℕ, zero, suc, ◌+◌, ◌<◌, ◌≤◌, Bool, true, false, ◌&&◌, List, [], ◌∷◌, ◌++◌}
+use Rattle.std.proofs.Common.{◌≡◌, ◌∙◌, refl, sym, ap, subst, ℕ, zero, suc, ◌+◌, ◌<◌, ◌≤◌, Bool, true, false, ◌&&◌, List, [], ◌∷◌, ◌++◌}
 use Rattle.std.proofs.Common.{length-append, length, drop, get_or, arith, add-one, drop-cons, append_assoc, append-nil}
 use Rattle.std.specs.Prelude.{None, Result, Ok, Err, nat_lt}
 use Rattle.std.proofs.lemmas.List.{drop_all, length-map}
@@ -17,7 +17,10 @@ use Rattle.hum_path.proofs.Widths.{columns_width, text_width}
 use Rattle.hum_stage.specs.declared.faults.Rule.{Rule}
 use Rattle.hum_stage.specs.declared.faults.Rule.TheVariants.{L1}
 use Rattle.hum_record.specs.RecordDraft.{Holds}
-use Rattle.hum_cells.specs.Rewriter.{Pushes}
+use Rattle.hum_stage.specs.declared.faults.Refusal.{Refusal}
+use Rattle.hum_stage.specs.Refusals.{IfTold}
+use Rattle.hum_stage.proofs.Telling.{told_to}
+use Rattle.hum_cells.specs.Rewriter.{Pushes, HasRewritten, HasPushed}
 use Rattle.hum_cells.specs.Rewriting.{Rewriting, is_kern, kern_columns, has_content, any_told, rewritten, beside, all_rewritten, if_fit, data_record, rewrite}
 
 pub none_told : (kerns : List Bool) (tokens : List (List ℕ)) (j : ℕ) → length tokens ≤ j
@@ -80,6 +83,17 @@ stays becomes kern above token isnt = rw isnt refl
 pub changes : (becomes : List (List ℕ) → List ℕ → Result (List ℕ) Rule) (kern : Bool) (above : List (List ℕ)) (token : List ℕ)
     → (kern && has_content token) ≡ true → rewritten becomes kern above token ≡ becomes above token
 changes becomes kern above token is = rw is refl
+
+-- what was added of a token that is told anew
+pub pushed_on : {A : Type 0} (r : Result A Refusal) (before after : Rewriting → List Row → Type 0) (j : ℕ) (kern : Bool) (token : List ℕ)
+    (made making : List (List ℕ) → Type 0) → (kern && has_content token) ≡ true → IfTold r (HasRewritten before after j token made making)
+    → IfTold r (HasPushed before after j kern token made making)
+pushed_on r before after j kern token made making is h =
+    told_to r _ _ (λ refused told rewriting past above follows cell.
+    let t = told rewriting past above follows cell in (
+      t.0,
+      subst (λ (x : Result (List ℕ) Rule). Pushes x made making refused) (sym (changes rewriting.becomes kern above token is)) t.1,
+    )) h
 
 module _ (becomes : List (List ℕ) → List ℕ → Result (List ℕ) Rule) (kerns : List Bool) (columns : List (List (List ℕ))) (tokens : List (List ℕ)) (j : ℕ)
     (draft : Draft) (long : Bool) where

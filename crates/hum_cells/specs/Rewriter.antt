@@ -1,9 +1,7 @@
 -- What a teller of tokens is asked for, and what it answers.
 use Rattle.std.specs.Prelude.{◌≡◌, ℕ, ◌<◌, Bool, List, [], ◌∷◌, ◌++◌, length}
 use Rattle.std.specs.Prelude.{Option, None, Some, Result, Ok, Err}
-use Rattle.hum_record.specs.declared.SpinedKind.TheVariants.{Values}
 use Rattle.hum_record.specs.Row.{Row}
-use Rattle.hum_record.specs.Spelling.{IsToken}
 use Rattle.hum_path.specs.declared.moved.Move.{Move}
 use Rattle.hum_path.specs.Spines.{Path, moves}
 use Rattle.hum_path.specs.Score.{IsOpen, path_after}
@@ -33,19 +31,22 @@ pub record MayRewrite (follows : Rewriting → List Row → Type 0) (j : ℕ) (t
   pub column : j < length (columns past)
   pub cell : history past j ≡ token ∷ above
 
--- the text that a token becomes, which is a data token, or the rule by which it is refused
-abbrev pub Tells : Result (List ℕ) Rule → List ℕ → Option Rule → Type 0
-Tells becomes text None = (becomes ≡ Ok text) × IsToken Values text
-Tells becomes text (Some rule) = becomes ≡ Err rule
+-- what a token became stands behind the others, or it is refused
+abbrev pub Pushes : Result (List ℕ) Rule → (List (List ℕ) → Type 0) → (List (List ℕ) → Type 0)
+    → Option Rule → Type 0
+Pushes becomes before after None =
+    (text : List ℕ) × (becomes ≡ Ok text)
+    × ((tokens : List (List ℕ)) → before tokens → after (tokens ++ text ∷ []))
+Pushes becomes before after (Some rule) = becomes ≡ Err rule
 
--- The last cell of a column was told by each rewriting and each past that the teller follows, and it
--- still follows.
+-- What the last cell of a column becomes was added to a record in the making, by each rewriting and each
+-- past that the teller follows, and it still follows.
 abbrev pub HasRewritten : (Rewriting → List Row → Type 0) → (Rewriting → List Row → Type 0) → ℕ
-    → List ℕ → List ℕ → Option Rule → Type 0
-HasRewritten before after j token text refused =
+    → List ℕ → (List (List ℕ) → Type 0) → (List (List ℕ) → Type 0) → Option Rule → Type 0
+HasRewritten before after j token made making refused =
     (rewriting : Rewriting) (past : List Row) (above : List (List ℕ)) → before rewriting past
     → history past j ≡ token ∷ above
-    → after rewriting past × Tells (rewriting.becomes above token) text refused
+    → after rewriting past × Pushes (rewriting.becomes above token) made making refused
 
 -- a record after records that a teller follows, and where the spines come from
 pub record MayFollow (follows : Rewriting → List Row → Type 0) (row : Row) (found : List Move)
@@ -104,15 +105,7 @@ HasTold before after kern row told =
     → kern ≡ kern_columns past → IsOpen (row ∷ past)
     → after rewriting (row ∷ past) × (rewrite rewriting past row ≡ decision row told)
 
--- what a token became stands behind the others, or it is refused
-abbrev pub Pushes : Result (List ℕ) Rule → (List (List ℕ) → Type 0) → (List (List ℕ) → Type 0)
-    → Option Rule → Type 0
-Pushes becomes before after None =
-    (text : List ℕ) × (becomes ≡ Ok text)
-    × ((tokens : List (List ℕ)) → before tokens → after (tokens ++ text ∷ []))
-Pushes becomes before after (Some rule) = becomes ≡ Err rule
-
--- The same by each rewriting and each past.
+-- The same of a token of any column, by whether that is under **kern.
 abbrev pub HasPushed : (Rewriting → List Row → Type 0) → (Rewriting → List Row → Type 0) → ℕ → Bool
     → List ℕ → (List (List ℕ) → Type 0) → (List (List ℕ) → Type 0) → Option Rule → Type 0
 HasPushed before after j kern token made making refused =

@@ -28,8 +28,6 @@ pub struct Cells<T> {
     paths: Paths,
     // for each spine, whether it is under **kern
     kern: Vec<bool>,
-    // where the text of a new token is made
-    text: Vec<u8>,
     // what is left of records that gave way to others
     spare: Spare,
 }
@@ -99,7 +97,6 @@ fn tell<T: TokenRewriter>(
     teller: &mut T,
     kern: &[bool],
     row: &Record,
-    text: &mut Vec<u8>,
     spare: &mut Spare,
 ) -> Result<Rewritten, Refusal>
     requires score { MayTell (T.follows teller.old) kern.now row.now }
@@ -108,7 +105,7 @@ fn tell<T: TokenRewriter>(
     match row.kind() {
         Kind::Values => {
             if any_told(kern, row) {
-                tell_tokens(alloc, teller, kern, row, text, spare)
+                tell_tokens(alloc, teller, kern, row, spare)
             } else {
                 Ok(Rewritten::Same)
             }
@@ -142,7 +139,6 @@ impl<T: TokenRewriter> Decides for Cells<T> {
             teller: T::begin(alloc, options),
             paths: Paths::new(alloc),
             kern: Vec::new(alloc),
-            text: Vec::new(alloc),
             spare: Spare::none(alloc),
         }
     }
@@ -154,7 +150,6 @@ impl<T: TokenRewriter> Decides for Cells<T> {
             &mut self.teller,
             &self.kern,
             &next,
-            &mut self.text,
             &mut self.spare,
         )?;
         mark_after(&next, &self.paths, &mut self.kern)?;

@@ -3,6 +3,7 @@ ghost use Rattle.std.specs.Prelude.{◌≡◌, [], true, List, OnOk};
 ghost use Rattle.hum_record.specs.declared.SpinedKind.TheVariants.{Values};
 ghost use Rattle.hum_record.specs.Row.{Row};
 ghost use Rattle.hum_record.specs.Spelling.{IsToken};
+ghost use Rattle.hum_record.specs.RecordDraft.{Holds};
 ghost use Rattle.hum_path.specs.Step.{ComeFrom};
 ghost use Rattle.hum_stage.specs.declared.faults.Command.{Command};
 ghost use Rattle.hum_stage.specs.Refusals.{IfTold};
@@ -11,7 +12,7 @@ ghost use Rattle.hum_cells.specs.Rewriter.{MayRewrite, HasRewritten, MayFollow, 
 ghost use Rattle.hum_cells.specs.Rewriter.{ShowsHeading};
 
 use hum_path::Moves;
-use hum_record::Record;
+use hum_record::{Record, RecordDraft};
 use hum_stage::{Command, Refusal};
 use std::alloc::{AllocError, Global};
 
@@ -50,18 +51,21 @@ pub trait TokenRewriter: Drop {
     fn heading(&self) -> Heading<'_>
         ensures { ShowsHeading (follows self.now) result };
 
-    /// Puts what the last cell of column `j`, a data token, becomes into the empty text. The token is
+    /// Adds what the last cell of column `j`, a data token, becomes to a record in the making. The token is
     /// neither null nor a barline.
     ///
     /// # Errors
     /// The rule by which it is refused; or out of memory.
-    fn rewrite(&mut self, j: usize, token: &[u8], text: &mut Vec<u8>) -> Result<(), Refusal>
+    fn rewrite(&mut self, j: usize, token: &[u8], making: &mut RecordDraft) -> Result<(), Refusal>
         requires column { MayRewrite (follows self.old) j token.now }
         requires lawful { IsToken Values token.now }
         requires told { has_content token.now ≡ true }
-        requires empty { text.old.items ≡ [] }
-        ensures { IfTold result
-            (HasRewritten (follows self.old) (follows self.new) j token.now text.new.items) };
+        requires kind { making.old.builder.kind ≡ Values }
+        ensures rewritten { IfTold result
+            (HasRewritten (follows self.old) (follows self.new) j token.now
+            (Holds Values making.old.builder making.old.is_long)
+            (Holds Values making.new.builder making.new.is_long)) }
+        ensures kind { OnOk result (making.new.builder.kind ≡ Values) };
 
     /// Goes on with the next record, whose moves are known. Its tokens are told behind that.
     fn follow(&mut self, row: &Record, found: &Moves) -> Result<(), AllocError>

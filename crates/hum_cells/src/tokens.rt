@@ -55,7 +55,6 @@ fn push_told<T: TokenRewriter>(
     j: usize,
     kern: bool,
     token: &[u8],
-    text: &mut Vec<u8>,
     making: &mut RecordDraft,
 ) -> Result<(), Refusal>
     requires column { MayRewrite (T.follows teller.old) j token.now }
@@ -70,10 +69,7 @@ fn push_told<T: TokenRewriter>(
         making.push(token)?;
         return Ok(());
     }
-    text.clear();
-    teller.rewrite(j, token, text)?;
-    making.push(text)?;
-    Ok(())
+    teller.rewrite(j, token, making)
 }
 
 /// What a data record becomes.
@@ -85,7 +81,6 @@ pub(crate) fn tell_tokens<T: TokenRewriter>(
     teller: &mut T,
     kern: &[bool],
     row: &Record,
-    text: &mut Vec<u8>,
     spare: &mut Spare,
 ) -> Result<Rewritten, Refusal>
     requires score { MayTell (T.follows teller.old) kern.now row.now }
@@ -94,7 +89,7 @@ pub(crate) fn tell_tokens<T: TokenRewriter>(
 {
     let mut making = RecordDraft::new(alloc, SpinedKind::Values, spare);
     for j in 0..row.width() {
-        push_told(teller, j, kern[j], row.token(j), text, &mut making)?;
+        push_told(teller, j, kern[j], row.token(j), &mut making)?;
     }
     match making.finish() {
         Some(made) => Ok(Rewritten::Other(made)),

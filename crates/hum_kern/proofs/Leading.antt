@@ -1,7 +1,7 @@
 -- Tokens that are one subtoken and begin with their digits.
-use Rattle.std.proofs.Common.{◌≡◌, ℕ, ◌==◌, Bool, true, false, List, [], ◌∷◌, length, take, drop, refl, sym, ap, ◌∙◌, arith}
+use Rattle.std.proofs.Common.{◌≡◌, ℕ, ◌==◌, Bool, true, false, List, [], ◌∷◌, ◌++◌, length, take, drop, refl, sym, ap, ◌∙◌, arith}
 use Rattle.std.proofs.Common.{add-one, rules, not, ◌&&◌}
-use Rattle.std.specs.List.{list_any}
+use Rattle.std.specs.List.{list_any, AllByRecursion}
 use Rattle.hum_kern.specs.declared.runs.Class.TheVariants.{Digit, Other}
 use Rattle.hum_kern.specs.Runs.{run, front, behind}
 use Rattle.hum_kern.specs.Classes.{is_in, is_digit, is_grace_sign, is_divider}
@@ -32,6 +32,12 @@ undivided (b ∷ bytes) none = go (undivided bytes) (b == 32) refl (is_grace_sig
 -- a digit is neither
 digit_plain : (b : ℕ) → is_digit b ≡ true → ((b == 32) ≡ false) × (is_grace_sign b ≡ false)
 digit_plain b digit = (grind (arith, digit), grind (arith, digit))
+
+-- nor is it where digits stand in front
+pub digits_plain : (digits rest : List ℕ) → AllByRecursion (λ b. is_digit b ≡ true) digits → list_any is_divider rest ≡ false → IsPlain (digits ++ rest)
+digits_plain [] rest all none = undivided rest none
+digits_plain (b ∷ digits) rest all none =
+    let plain = digit_plain b all.0 in more_plain b (digits ++ rest) plain.0 plain.1 (digits_plain digits rest all.1 none)
 
 behind_more : (b : ℕ) (bytes : List ℕ) → is_digit b ≡ true
     → behind (is_in Digit) (b ∷ bytes) ≡ behind (is_in Digit) bytes

@@ -1,18 +1,19 @@
 -- Durations that one or two digits at the front of a token tell.
 use Rattle.std.proofs.Common.{◌≡◌, ◌∙◌, ℕ, ◌+◌, ◌-◌, ◌*◌, ◌<◌, ◌≤◌, ◌==◌, List, [], ◌∷◌, length, take, drop, get_or, refl, sym, ap, arith, subst}
 use Rattle.std.proofs.Common.{Bool, true, false, Option, None, Some}
-use Rattle.std.specs.Prelude.{not, nat_lt, nat_le, is_some, IfSome}
+use Rattle.std.specs.Prelude.{not, nat_lt, nat_le, is_some, IfSome, ◌&&◌, ◌++◌, if◌then◌else◌}
 use Rattle.std.specs.List.{list_any}
 use Rattle.std.proofs.lemmas.Bool.{and_parts}
 use Rattle.std.proofs.lemmas.Bool.Decides.{nat_tests}
 use Rattle.std.proofs.lemmas.List.{take_all}
 use Rattle.hum_frac.specs.Ratio.{Ratio, reduced}
 use Rattle.hum_kern.specs.declared.runs.Class.TheVariants.{Digit}
-use Rattle.hum_kern.specs.Classes.{is_in, is_digit, is_dot, is_divider}
+use Rattle.hum_kern.specs.Classes.{is_in, is_digit, is_dot, is_divider, is_rest_sign}
 use Rattle.hum_kern.specs.Runs.{run, front, behind}
 use Rattle.hum_kern.specs.Value.{number, breves, one_by, plain_value}
 use Rattle.hum_kern.specs.Duration.{spelling, said, duration, value_in, is_refused, is_empty}
-use Rattle.hum_kern.specs.Subtokens.{ends_plainly, part_of_whole, IsLed}
+use Rattle.hum_kern.specs.Subtokens.{ends_plainly, ends_shortly, leads_shortly, part_of_whole, IsLed}
+use Rattle.hum_kern.specs.Usual.{Leading, behind_digit, leading}
 use Rattle.hum_kern.proofs.Leading.{leading_plain, leading_duration, leads_by}
 
 -- ---- what stands behind the digits
@@ -114,22 +115,114 @@ two_digits a b n rest above below least most is ends =
     let same : number (a ∷ b ∷ []) ≡ n = omega (arith, is) in
     subst (λ k. IsLed (a ∷ b ∷ rest) (part_of_whole k)) same (two_numbers a b rest above below least most ends)
 
+-- ---- what a token begins with
+
+-- one digit or two
+abbrev chosen : Bool → ℕ → ℕ → List ℕ → Leading
+chosen two a b bytes =
+    if two then record { number = 10 * (a - 48) + (b - 48); digits = 2; rest = bytes }
+    else record { number = a - 48; digits = 1; rest = b ∷ bytes }
+
+pub two_behind : (a : ℕ) (rest : List ℕ) → 1 ≤ length rest → is_digit (get_or rest 0 0) ≡ true
+    → record { number = 10 * (a - 48) + (get_or rest 0 0 - 48); digits = 2; rest = take (length rest - 1) (drop 1 rest) } ≡ behind_digit a rest
+two_behind a [] filled digit = absurd (omega (arith, filled))
+two_behind a (b ∷ rest) filled digit =
+    let whole : take (length (b ∷ rest) - 1) rest ≡ rest = take_all (length (b ∷ rest) - 1) rest (omega arith) in
+    rw (whole, digit) refl
+
+pub one_behind : (a b : ℕ) (rest : List ℕ) → is_digit b ≡ false → record { number = a - 48; digits = 1; rest = b ∷ rest } ≡ behind_digit a (b ∷ rest)
+one_behind a b rest other = rw other refl
+
+digit_range : (b : ℕ) → is_digit b ≡ true → (48 ≤ b) × (b ≤ 57)
+digit_range b digit =
+    let both = and_parts (nat_le 48 b) (nat_le b 57) digit in
+    (grind (arith, nat_tests, both.0), grind (arith, nat_tests, both.1))
+
+first_range : (a : ℕ) → (nat_lt 48 a && nat_le a 57) ≡ true → (48 < a) × (a ≤ 57)
+first_range a digit =
+    let both = and_parts (nat_lt 48 a) (nat_le a 57) digit in
+    (grind (arith, nat_tests, both.0), grind (arith, nat_tests, both.1))
+
+-- how a token is cut that begins so
+pub record IsCut (token : List ℕ) (found : Leading) : Type 0 where
+  pub front : List ℕ
+  pub whole : token ≡ front ++ found.rest
+  pub size : length front ≡ found.digits
+  pub restless : list_any is_rest_sign front ≡ false
+
+digit_restless : (b : ℕ) → b ≤ 57 → is_rest_sign b ≡ false
+digit_restless b below = grind (arith, nat_tests)
+
+-- What holds of each such token holds of what a token begins with.
+module _ (P : List ℕ → Leading → Type 0)
+    (one : (a : ℕ) (rest : List ℕ) → 48 < a → a ≤ 57 → P (a ∷ rest) (record { number = a - 48; digits = 1; rest = rest }))
+    (two : (a b : ℕ) (rest : List ℕ) → 48 < a → a ≤ 57 → 48 ≤ b → b ≤ 57
+    → P (a ∷ b ∷ rest) (record { number = 10 * (a - 48) + (b - 48); digits = 2; rest = rest })) where
+  behind_holds : (a : ℕ) (bytes : List ℕ) → 48 < a → a ≤ 57 → P (a ∷ bytes) (behind_digit a bytes)
+  behind_holds a [] above below = one a [] above below
+  behind_holds a (b ∷ bytes) above below = go (is_digit b) refl
+    where
+      go : (t : Bool) → is_digit b ≡ t → P (a ∷ b ∷ bytes) (chosen t a b bytes)
+      go true digit = let range = digit_range b digit in two a b bytes above below range.0 range.1
+      go false digit = one a (b ∷ bytes) above below
+
+  pub leading_holds : (token : List ℕ) (found : Leading) → leading token ≡ Some found → P token found
+  leading_holds [] found is = cc
+  leading_holds (a ∷ bytes) found is = go (nat_lt 48 a && nat_le a 57) refl is
+    where
+      go : (t : Bool) → (nat_lt 48 a && nat_le a 57) ≡ t → (if t then Some (behind_digit a bytes) else None) ≡ Some found → P (a ∷ bytes) found
+      go true digit e =
+          let same : behind_digit a bytes ≡ found = cc in
+          let range = first_range a digit in
+          subst (P (a ∷ bytes)) same (behind_holds a bytes range.0 range.1)
+      go false digit e = cc
+
+pub leading_cut : (token : List ℕ) (found : Leading) → leading token ≡ Some found → IsCut token found
+leading_cut token found is =
+    leading_holds IsCut
+    (λ a rest above below. record { front = a ∷ []; whole = refl; size = refl; restless = rw (digit_restless a below) refl })
+    (λ a b rest above below least most. record {
+      front = a ∷ b ∷ [];
+      whole = refl;
+      size = refl;
+      restless = rw (digit_restless a below, digit_restless b most) refl;
+    }) token found is
+
+pub leading_led : (token : List ℕ) (found : Leading) → leading token ≡ Some found → ends_plainly found.rest ≡ true
+    → IsLed token (part_of_whole found.number)
+leading_led token found is =
+    leading_holds (λ token found. ends_plainly found.rest ≡ true → IsLed token (part_of_whole found.number))
+    (λ a rest above below ends. one_digit a (a - 48) rest above below refl ends)
+    (λ a b rest above below least most ends. two_digits a b (10 * (a - 48) + (b - 48)) rest above below least most refl ends) token found is
+
+-- whether what it begins with ends plainly
+abbrev ends_by : Option Leading → Bool
+ends_by (Some found) = ends_plainly found.rest
+ends_by None = false
+
+shortly_is : (token : List ℕ) → leads_shortly token ≡ ends_by (leading token)
+shortly_is [] = refl
+shortly_is (a ∷ bytes) = go (nat_lt 48 a && nat_le a 57) bytes
+  where
+    go : (t : Bool) (bytes : List ℕ) → (t && ends_shortly bytes) ≡ ends_by (if t then Some (behind_digit a bytes) else None)
+    go false bytes = refl
+    go true [] = refl
+    go true (b ∷ bytes) = two (is_digit b)
+      where
+        two : (d : Bool) → (if d then ends_plainly bytes else ends_plainly (b ∷ bytes)) ≡ ends_plainly (chosen d a b bytes).rest
+        two true = refl
+        two false = refl
+
 -- ---- what is answered
 
-answered : (token rest : List ℕ) (n : ℕ) (result : Option Ratio) → is_some result ≡ ends_plainly rest
-    → IfSome result (λ part. part ≡ part_of_whole n) → (ends_plainly rest ≡ true → IsLed token (part_of_whole n))
-    → IfSome result (IsLed token)
-answered token rest n None some is holds = tt
-answered token rest n (Some part) some is holds = subst (IsLed token) (sym is) (holds (sym some))
+pub none_leads : (token : List ℕ) → None ≡ leading token → false ≡ leads_shortly token
+none_leads token is = ap ends_by is ∙ sym (shortly_is token)
 
-pub one_answered : (a n : ℕ) (rest : List ℕ) (result : Option Ratio) → 48 < a → a ≤ 57 → is_some result ≡ ends_plainly rest
-    → IfSome result (λ part. part ≡ part_of_whole n) → n ≡ a - 48 → IfSome result (IsLed (a ∷ rest))
-one_answered a n rest result above below some is number = answered (a ∷ rest) rest n result some is (one_digit a n rest above below number)
+pub some_leads : (token : List ℕ) (found : Leading) (part : Option Ratio) → Some found ≡ leading token → is_some part ≡ ends_plainly found.rest
+    → is_some part ≡ leads_shortly token
+some_leads token found part is ends = ends ∙ ap ends_by is ∙ sym (shortly_is token)
 
-pub two_answered : (a n : ℕ) (rest : List ℕ) (result : Option Ratio) → 48 < a → a ≤ 57 → 1 ≤ length rest → 48 ≤ get_or rest 0 0
-    → get_or rest 0 0 ≤ 57 → is_some result ≡ ends_plainly (take (length rest - 1) (drop 1 rest))
-    → IfSome result (λ part. part ≡ part_of_whole n) → n ≡ 10 * (a - 48) + (get_or rest 0 0 - 48) → IfSome result (IsLed (a ∷ rest))
-two_answered a n [] result above below filled least most some is number = absurd (omega (arith, filled))
-two_answered a n (b ∷ rest) result above below filled least most some is number =
-    let whole : take (length (b ∷ rest) - 1) rest ≡ rest = take_all (length (b ∷ rest) - 1) rest (omega arith) in
-    answered (a ∷ b ∷ rest) rest n result (some ∙ ap ends_plainly whole) is (two_digits a b n rest above below least most number)
+pub answered_led : (token : List ℕ) (found : Leading) (part : Option Ratio) → Some found ≡ leading token → is_some part ≡ ends_plainly found.rest
+    → IfSome part (λ lasting. lasting ≡ part_of_whole found.number) → IfSome part (IsLed token)
+answered_led token found None is some holds = tt
+answered_led token found (Some lasting) is some holds = subst (IsLed token) (sym holds) (leading_led token found (sym is) (sym some))

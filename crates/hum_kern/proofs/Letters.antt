@@ -1,5 +1,5 @@
 -- Letters of pitches as steps.
-use Rattle.std.proofs.Common.{◌≡◌, ℕ, suc, zero, ◌+◌, ◌-◌, ◌<◌, ◌≤◌, Bool, true, pos, ◌+ℤ◌, ◌-ℤ◌, ◌%◌, List, [], ◌∷◌, Some, refl, ap, ◌∙◌, arith}
+use Rattle.std.proofs.Common.{◌≡◌, ℕ, suc, zero, ◌+◌, ◌-◌, ◌<◌, ◌≤◌, Bool, true, pos, ◌+ℤ◌, ◌-ℤ◌, ◌%◌, List, [], ◌∷◌, Some, refl, arith}
 use Rattle.std.specs.Prelude.{slice_index_or, nat_le}
 use Rattle.hum_pitch.specs.Spelling.{read_letters, natural_note}
 use Rattle.hum_kern.specs.Classes.{is_letter}

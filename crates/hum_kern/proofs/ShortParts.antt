@@ -1,19 +1,24 @@
 -- Durations of one or two digits and at most one dot.
-use Rattle.std.proofs.Common.{◌≡◌, ◌∙◌, ℕ, ◌+◌, ◌-◌, ◌*◌, ◌<◌, ◌≤◌, ◌==◌, List, [], ◌∷◌, length, take, drop, get_or, refl, sym, ap, arith, subst}
-use Rattle.std.proofs.Common.{Bool, true, false, Option, None, Some, Ok, add-one}
-use Rattle.std.specs.Prelude.{IfSome, option_map, if◌then◌else◌}
+use Rattle.std.proofs.Common.{◌≡◌, ◌∙◌, ℕ, ◌+◌, ◌-◌, ◌*◌, ◌<◌, ◌≤◌, ◌==◌, List, [], ◌∷◌, ◌++◌, append_assoc, append-nil, length, take, drop, get_or, refl, sym, ap, arith, subst}
+use Rattle.std.proofs.Common.{Bool, true, false, Option, None, Some, Ok}
+use Rattle.std.specs.Prelude.{IfSome, option_map, if◌then◌else◌, not, nat_lt, ◌&&◌}
+use Rattle.std.proofs.Math.Seq.{take-append_seam}
+use Rattle.std.proofs.lemmas.Bool.{and_parts, or_parts}
+use Rattle.std.proofs.lemmas.Bool.Decides.{nat_tests}
+use Rattle.std.proofs.lemmas.List.{length-append}
+use Rattle.std.proofs.lemmas.List.Folds.{list_any-append}
 use Rattle.std.specs.List.{list_any}
 use Rattle.std.proofs.lemmas.List.{take_all}
 use Rattle.hum_kern.specs.declared.Length.{Length}
 use Rattle.hum_kern.specs.declared.runs.Class.TheVariants.{Digit, Dot}
-use Rattle.hum_kern.specs.Classes.{is_in, is_digit, is_divider}
+use Rattle.hum_kern.specs.Classes.{is_in, is_divider, is_rest_sign}
 use Rattle.hum_kern.specs.Runs.{run, front, behind}
 use Rattle.hum_kern.specs.Value.{number, plain_value}
 use Rattle.hum_kern.specs.Duration.{spelling, said, duration, is_empty}
-use Rattle.hum_kern.specs.Subtokens.{ends_plainly}
-use Rattle.hum_kern.specs.Usual.{short_dots, short_length}
-use Rattle.hum_kern.proofs.Leading.{leading_duration}
-use Rattle.hum_kern.proofs.LeadingParts.{undivided, free, no_run, digit_is, value_is}
+use Rattle.hum_kern.specs.Subtokens.{subtokens, ends_plainly}
+use Rattle.hum_kern.specs.Usual.{Leading, leading, short_dots, short_length, is_stop, short_rest, text_up_to, IsLastingText}
+use Rattle.hum_kern.proofs.Leading.{leading_duration, digits_plain}
+use Rattle.hum_kern.proofs.LeadingParts.{undivided, free, no_run, digit_is, value_is, leading_holds, leading_cut}
 
 no_dots : (rest : List ℕ) → ends_plainly rest ≡ true → run (is_in Dot) rest ≡ 0
 no_dots [] ends = refl
@@ -100,31 +105,158 @@ two_short a b n rest dots above below least most is ends =
     (short_read (a ∷ b ∷ rest) (a ∷ b ∷ []) rest dots (number (a ∷ b ∷ [])) (rw (first, second, none) refl) (rw (first, second, none) refl)
     refl (value_is a (b ∷ []) above (omega (arith, above)) (omega (arith, below, most))) end)
 
+-- a token by what it begins with
+pub leading_short : (token : List ℕ) (found : Leading) (dots : ℕ) → leading token ≡ Some found → short_dots found.rest ≡ Some dots
+    → Ok (short_length found.number found.digits dots) ≡ duration token
+leading_short token found dots is =
+    leading_holds (λ token found. short_dots found.rest ≡ Some dots → Ok (short_length found.number found.digits dots) ≡ duration token)
+    (λ a rest above below ends. one_short a (a - 48) rest dots above below refl ends)
+    (λ a b rest above below least most ends. two_short a b (10 * (a - 48) + (b - 48)) rest dots above below least most refl ends) token found is
+
+pub leading_alone : (token : List ℕ) (found : Leading) → leading token ≡ Some found → list_any is_divider found.rest ≡ false
+    → subtokens token ≡ token ∷ []
+leading_alone token found is =
+    leading_holds (λ token found. list_any is_divider found.rest ≡ false → subtokens token ≡ token ∷ [])
+    (λ a rest above below none. (digits_plain (a ∷ []) rest (digit_is a (omega (arith, above)) below, tt) none).alone)
+    (λ a b rest above below least most none.
+    (digits_plain (a ∷ b ∷ []) rest (digit_is a (omega (arith, above)) below, (digit_is b least most, tt)) none).alone) token found is
+
 -- what is answered
-answered : (token : List ℕ) (n digits : ℕ) (rest : List ℕ) (result : Option Length) → result ≡ option_map (short_length n digits) (short_dots rest)
-    → ((dots : ℕ) → short_dots rest ≡ Some dots → Ok (short_length n digits dots) ≡ duration token)
-    → IfSome result (λ found. Ok found ≡ duration token)
-answered token n digits rest result is reads = go (short_dots rest) refl result is
+pub answered_short : (token : List ℕ) (found : Leading) (result : Option Length) → Some found ≡ leading token
+    → result ≡ option_map (short_length found.number found.digits) (short_dots found.rest)
+    → IfSome result (λ length. Ok length ≡ duration token)
+answered_short token found result begins is = go (short_dots found.rest) refl result is
   where
-    go : (o : Option ℕ) → short_dots rest ≡ o → (result : Option Length) → result ≡ option_map (short_length n digits) o
-        → IfSome result (λ found. Ok found ≡ duration token)
+    go : (o : Option ℕ) → short_dots found.rest ≡ o → (result : Option Length) → result ≡ option_map (short_length found.number found.digits) o
+        → IfSome result (λ length. Ok length ≡ duration token)
     go None e None w = tt
-    go None e (Some found) w = cc
+    go None e (Some length) w = cc
     go (Some dots) e None w = cc
-    go (Some dots) e (Some found) w =
-        let same : found ≡ short_length n digits dots = cc in ap Ok same ∙ reads dots e
+    go (Some dots) e (Some length) w =
+        let same : length ≡ short_length found.number found.digits dots = cc in ap Ok same ∙ leading_short token found dots (sym begins) e
 
-pub one_answered_short : (a n : ℕ) (rest : List ℕ) (result : Option Length) → 48 < a → a ≤ 57 → n ≡ a - 48
-    → result ≡ option_map (short_length n 1) (short_dots rest) → IfSome result (λ found. Ok found ≡ duration (a ∷ rest))
-one_answered_short a n rest result above below number is =
-    answered (a ∷ rest) n 1 rest result is (λ dots ends. one_short a n rest dots above below number ends)
+-- ---- a duration as it is written
 
-pub two_answered_short : (a n : ℕ) (rest : List ℕ) (result : Option Length) → 48 < a → a ≤ 57 → 1 ≤ length rest → 48 ≤ get_or rest 0 0
-    → get_or rest 0 0 ≤ 57 → n ≡ 10 * (a - 48) + (get_or rest 0 0 - 48)
-    → result ≡ option_map (short_length n 2) (short_dots (take (length rest - 1) (drop 1 rest)))
-    → IfSome result (λ found. Ok found ≡ duration (a ∷ rest))
-two_answered_short a n [] result above below filled least most number is = absurd (omega (arith, filled))
-two_answered_short a n (b ∷ rest) result above below filled least most number is =
-    let whole : take (length (b ∷ rest) - 1) rest ≡ rest = take_all (length (b ∷ rest) - 1) rest (omega arith) in
-    answered (a ∷ b ∷ rest) n 2 rest result (is ∙ ap (λ xs. option_map (short_length n 2) (short_dots xs)) whole)
-    (λ dots ends. two_short a b n rest dots above below least most number ends)
+stopless : (bytes : List ℕ) → list_any is_stop bytes ≡ false → (list_any is_divider bytes ≡ false) × (list_any is_rest_sign bytes ≡ false)
+stopless [] none = (refl, refl)
+stopless (b ∷ bytes) none =
+    let both = or_parts (is_stop b) (list_any is_stop bytes) none in
+    let one = or_parts (is_divider b) (is_rest_sign b) both.0 in
+    let more = stopless bytes both.1 in
+    (rw (one.0, more.0) refl, rw (one.1, more.1) refl)
+
+-- what is known of what stands behind digits and dots
+record IsEnd (rest : List ℕ) (is_rest : Bool) : Type 0 where
+  plainly : ends_plainly rest ≡ true
+  sign : list_any is_rest_sign rest ≡ is_rest
+  alone : is_rest ≡ true → rest ≡ 114 ∷ []
+
+ended : (rest : List ℕ) (is_rest : Bool) → short_rest rest ≡ Some is_rest → IsEnd rest is_rest
+ended [] is_rest h =
+    let is : false ≡ is_rest = cc in rw (← is) (record { plainly = refl; sign = refl; alone = λ e. cc })
+ended (b ∷ rest) is_rest h = go (is_rest_sign b && is_empty rest) refl (nat_lt 57 b && not (list_any is_stop (b ∷ rest))) refl h
+  where
+    nothing : (bytes : List ℕ) → is_empty bytes ≡ true → bytes ≡ []
+    nothing [] e = refl
+    nothing (x ∷ bytes) e = cc
+
+    is_not : (x : Bool) → not x ≡ true → x ≡ false
+    is_not true e = cc
+    is_not false e = refl
+
+    go : (t : Bool) → (is_rest_sign b && is_empty rest) ≡ t → (u : Bool) → (nat_lt 57 b && not (list_any is_stop (b ∷ rest))) ≡ u
+        → (if t then Some true else if u then Some false else None) ≡ Some is_rest → IsEnd (b ∷ rest) is_rest
+    go true w u v e =
+        let is : true ≡ is_rest = cc in
+        let both = and_parts (is_rest_sign b) (is_empty rest) w in
+        let first = both.0 in
+        let byte : b ≡ 114 = grind (arith, nat_tests, first) in
+        rw (← is, byte, nothing rest both.1) (record { plainly = refl; sign = refl; alone = λ e. refl })
+    go false w true v e =
+        let is : false ≡ is_rest = cc in
+        let both = and_parts (nat_lt 57 b) (not (list_any is_stop (b ∷ rest))) v in
+        let none = stopless (b ∷ rest) (is_not (list_any is_stop (b ∷ rest)) both.1) in
+        subst (IsEnd (b ∷ rest)) is (record { plainly = rw (both.0, none.0) refl; sign = none.1; alone = λ e. cc })
+    go false w false v e = cc
+
+-- a token by what stands in front of its end, and its end
+lasting : (token : List ℕ) (found : Leading) (front rest : List ℕ) (dots : ℕ) (is_rest : Bool) → leading token ≡ Some found
+    → short_dots found.rest ≡ Some dots → list_any is_divider found.rest ≡ false
+    → token ≡ front ++ rest → length front ≡ found.digits + dots → list_any is_rest_sign front ≡ false → IsEnd rest is_rest
+    → IsLastingText token (text_up_to token (found.digits + dots) is_rest)
+lasting token found before rest dots is_rest begins ends none whole size restless end =
+    record {
+      found = short_length found.number found.digits dots;
+      value = _;
+      read = sym (leading_short token found dots begins ends);
+      valued = refl;
+      alone = leading_alone token found begins none;
+      text_is = let same : found.digits + dots - 0 ≡ found.digits + dots = omega arith in rw same (go is_rest end.sign end.alone);
+    }
+  where
+    sign_is : list_any is_rest_sign token ≡ list_any is_rest_sign rest
+    sign_is = rw (whole, list_any-append is_rest_sign before rest, restless) refl
+
+    front_is : take (found.digits + dots) token ≡ before
+    front_is = rw (← size, whole) (take-append_seam before rest)
+
+    go : (b : Bool) → list_any is_rest_sign rest ≡ b → (b ≡ true → rest ≡ 114 ∷ []) → text_up_to token (found.digits + dots) b
+        ≡ take (found.digits + dots) token ++ (if list_any is_rest_sign token then 114 ∷ [] else [])
+    go true sign alone = rw (sign_is, sign, front_is) (whole ∙ ap (λ (xs : List ℕ). before ++ xs) (alone refl))
+    go false sign alone = rw (sign_is, sign) (sym (append-nil (take (found.digits + dots) token)))
+
+-- what is answered
+texts : (token : List ℕ) (found : Leading) (front rest : List ℕ) (dots : ℕ) (result : Option (List ℕ)) → Some found ≡ leading token
+    → (ends_plainly rest ≡ true → (short_dots found.rest ≡ Some dots) × (list_any is_divider found.rest ≡ false))
+    → token ≡ front ++ rest → length front ≡ found.digits + dots → list_any is_rest_sign front ≡ false
+    → result ≡ option_map (text_up_to token (found.digits + dots)) (short_rest rest) → IfSome result (IsLastingText token)
+texts token found before rest dots result begins ends whole size restless is = go (short_rest rest) refl result is
+  where
+    go : (o : Option Bool) → short_rest rest ≡ o → (result : Option (List ℕ)) → result ≡ option_map (text_up_to token (found.digits + dots)) o
+        → IfSome result (IsLastingText token)
+    go None e None w = tt
+    go None e (Some text) w = cc
+    go (Some is_rest) e None w = cc
+    go (Some is_rest) e (Some text) w =
+        let same : text_up_to token (found.digits + dots) is_rest ≡ text = cc in
+        let end = ended rest is_rest e in
+        let both = ends end.plainly in
+        subst (IsLastingText token) same (lasting token found before rest dots is_rest (sym begins) both.0 both.1 whole size restless end)
+
+unmap : {A B : Type 0} (f : A → B) (r : Option A) (P : B → Type 0) → IfSome (option_map f r) P → IfSome r (λ x. P (f x))
+unmap f None P h = tt
+unmap f (Some x) P h = h
+
+pub plain_text : {A : Type 0} (f : A → List ℕ) (token : List ℕ) (found : Leading) (result : Option A) → Some found ≡ leading token
+    → option_map f result ≡ option_map (text_up_to token found.digits) (short_rest found.rest) → IfSome result (λ text. IsLastingText token (f text))
+plain_text f token found result begins is =
+    let cut = leading_cut token found (sym begins) in
+    let size = cut.size in
+    let none : found.digits + 0 ≡ found.digits = omega arith in
+    unmap f result (IsLastingText token)
+    (texts token found cut.front found.rest 0 (option_map f result) begins (λ plainly. (dotless found.rest plainly, undivided found.rest plainly))
+    cut.whole (omega (arith, size)) cut.restless (rw none is))
+  where
+    dotless : (rest : List ℕ) → ends_plainly rest ≡ true → short_dots rest ≡ Some 0
+    dotless [] ends = refl
+    dotless (b ∷ rest) ends = let dot = (free b rest ends).dot in rw (dot, ends) refl
+
+pub dotted_text : {A : Type 0} (f : A → List ℕ) (token : List ℕ) (found : Leading) (rest : List ℕ) (result : Option A) → Some found ≡ leading token
+    → 1 ≤ length found.rest → get_or found.rest 0 0 ≡ 46 → rest ≡ take (length found.rest - 1) (drop 1 found.rest)
+    → option_map f result ≡ option_map (text_up_to token (found.digits + 1)) (short_rest rest) → IfSome result (λ text. IsLastingText token (f text))
+dotted_text f token found rest result begins filled dot rest_is is =
+    let cut = leading_cut token found (sym begins) in
+    let size = cut.size in
+    let behind = behind_dot found.rest filled dot rest_is in
+    let longer = length-append cut.front (46 ∷ []) in
+    unmap f result (IsLastingText token)
+    (texts token found (cut.front ++ 46 ∷ []) rest 1 (option_map f result) begins
+    (λ plainly. (rw (behind, plainly) refl, rw behind (undivided rest plainly)))
+    (cut.whole ∙ ap (λ (xs : List ℕ). cut.front ++ xs) behind ∙ sym (append_assoc cut.front (46 ∷ []) rest)) (omega (arith, size, longer))
+    (rw (list_any-append is_rest_sign cut.front (46 ∷ []), cut.restless) refl) is)
+  where
+    behind_dot : (all : List ℕ) → 1 ≤ length all → get_or all 0 0 ≡ 46 → rest ≡ take (length all - 1) (drop 1 all) → all ≡ 46 ∷ rest
+    behind_dot [] filled dot is = absurd (omega (arith, filled))
+    behind_dot (b ∷ all) filled dot is =
+        let whole : take (length (b ∷ all) - 1) all ≡ all = take_all (length (b ∷ all) - 1) all (omega arith) in
+        rw (dot, is, whole) refl

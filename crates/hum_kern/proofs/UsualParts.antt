@@ -1,7 +1,7 @@
 -- Subtokens as most are.
-use Rattle.std.proofs.Common.{◌≡◌, ℕ, ℤ, zero, suc, ◌+◌, ◌==◌, ◌<◌, ◌≤◌, Bool, true, false, List, [], ◌∷◌, ◌++◌, append_assoc}
+use Rattle.std.proofs.Common.{◌≡◌, ℕ, ℤ, zero, suc, ◌+◌, ◌==◌, ◌<◌, ◌≤◌, Bool, true, false, List, [], ◌∷◌, ◌++◌}
 use Rattle.std.proofs.Common.{Option, Some, None, Ok, length, take, drop, refl, sym, ap, ◌∙◌, arith, subst, slice_index_or}
-use Rattle.std.specs.Prelude.{nat_lt, ◌||◌, not, if◌then◌else◌, IfSome}
+use Rattle.std.specs.Prelude.{nat_lt, ◌||◌, not, if◌then◌else◌}
 use Rattle.std.specs.List.{list_any, AllByRecursion}
 use Rattle.std.proofs.lemmas.List.Folds.{list_any-append}
 use Rattle.std.proofs.lemmas.List.{take-append-drop, length-take-le}
@@ -9,11 +9,12 @@ use Rattle.hum_pitch.specs.Pitch.{Spelled}
 use Rattle.hum_pitch.specs.Spelling.{read_letters, natural_note, altered_by}
 use Rattle.hum_kern.specs.declared.runs.Class.TheVariants.{NoLetter, Repeat, Sign, Plain}
 use Rattle.hum_kern.specs.Runs.{front, behind}
-use Rattle.hum_kern.specs.Classes.{is_in, is_letter, is_sign, is_mark, is_rest_sign, is_grace_sign, is_continued_sign, is_plain}
+use Rattle.hum_kern.specs.Classes.{is_in, is_letter, is_sign, is_mark, is_rest_sign, is_grace_sign, is_continued_sign, is_space, is_plain}
 use Rattle.hum_kern.specs.Parts.{IsMaximal, EndsBefore}
 use Rattle.hum_kern.specs.Note.{Notation, Reading, is_uniform, alteration_of, pitch_of, is_doubtful, is_excessive, is_rest, marks_of, with_pitch, note_by, note}
 use Rattle.hum_kern.specs.NoteParts.{AreNoteParts}
-use Rattle.hum_kern.specs.Usual.{tie_at_end}
+use Rattle.hum_kern.specs.Subtokens.{subtokens}
+use Rattle.hum_kern.specs.Usual.{tie_at_end, IsReadAlone}
 use Rattle.hum_kern.proofs.Leading.{empty_is}
 use Rattle.hum_kern.proofs.Notations.{one_notation}
 use Rattle.hum_kern.proofs.Parts.{run_maximal, front-behind}
@@ -34,24 +35,35 @@ at_plain (suc n) k (suc i) default below =
 pub plain_at : (b : ℕ) → b < 256 → slice_index_or (plain_from 0 256) b false ≡ is_plain b
 plain_at b below = let same : 0 + b ≡ b = omega arith in at_plain 256 0 b false below ∙ ap is_plain same
 
-plain_parts : (b : ℕ) → is_plain b ≡ true → (is_letter b ≡ false) × (is_sign b ≡ false) × (is_mark b ≡ false)
-plain_parts b h = go (is_letter b) refl (is_sign b) refl (is_mark b) refl h
+-- what a plain byte is not
+record IsPlainByte (b : ℕ) : Type 0 where
+  letter : is_letter b ≡ false
+  sign : is_sign b ≡ false
+  mark : is_mark b ≡ false
+  space : is_space b ≡ false
+
+plain_parts : (b : ℕ) → is_plain b ≡ true → IsPlainByte b
+plain_parts b h =
+    let letter = no_more (is_letter b) (is_sign b || (is_mark b || is_space b)) (is_not _ h) in
+    let sign = no_more (is_sign b) (is_mark b || is_space b) letter.1 in
+    let mark = no_more (is_mark b) (is_space b) sign.1 in
+    record { letter = letter.0; sign = sign.0; mark = mark.0; space = mark.1 }
   where
-    go : (x : Bool) → is_letter b ≡ x → (y : Bool) → is_sign b ≡ y → (z : Bool) → is_mark b ≡ z → not (x || (y || z)) ≡ true
-        → (is_letter b ≡ false) × (is_sign b ≡ false) × (is_mark b ≡ false)
-    go false p false q false r e = (p, q, r)
-    go true p y q z r e = cc
-    go false p true q z r e = cc
-    go false p false q true r e = cc
+    is_not : (x : Bool) → not x ≡ true → x ≡ false
+    is_not true e = cc
+    is_not false e = refl
 
 plain_letter : (b : ℕ) → is_plain b ≡ true → is_letter b ≡ false
-plain_letter b h = (plain_parts b h).0
+plain_letter b h = (plain_parts b h).letter
 
 plain_sign : (b : ℕ) → is_plain b ≡ true → is_sign b ≡ false
-plain_sign b h = (plain_parts b h).1
+plain_sign b h = (plain_parts b h).sign
 
 plain_mark : (b : ℕ) → is_plain b ≡ true → is_mark b ≡ false
-plain_mark b h = (plain_parts b h).2
+plain_mark b h = (plain_parts b h).mark
+
+plain_space : (b : ℕ) → is_plain b ≡ true → is_space b ≡ false
+plain_space b h = (plain_parts b h).space
 
 plain_rest : (b : ℕ) → is_plain b ≡ true → is_rest_sign b ≡ false
 plain_rest b h = (no_more (is_rest_sign b) (is_grace_sign b || is_continued_sign b) (plain_mark b h)).0
@@ -64,12 +76,25 @@ plain_continued : (b : ℕ) → is_plain b ≡ true → is_continued_sign b ≡ 
 plain_continued b h =
     (no_more (is_grace_sign b) (is_continued_sign b) (no_more (is_rest_sign b) (is_grace_sign b || is_continued_sign b) (plain_mark b h)).1).1
 
+space_letter : (b : ℕ) → is_letter b ≡ true → is_space b ≡ false
+space_letter b h = grind arith
+
+space_sign : (b : ℕ) → is_sign b ≡ true → is_space b ≡ false
+space_sign b h = grind arith
+
+-- a text without spaces is one subtoken
+one_part : (bytes : List ℕ) → list_any is_space bytes ≡ false → subtokens bytes ≡ bytes ∷ []
+one_part [] none = refl
+one_part (b ∷ bytes) none =
+    let both = no_more (is_space b) (list_any is_space bytes) none in rw (both.0, one_part bytes both.1) refl
+
 -- what is known of the last byte, if it is at most a tie's mark
 record IsTieAtEnd (last : List ℕ) (continued : Bool) : Type 0 where
   no_rest : list_any is_rest_sign last ≡ false
   no_grace : list_any is_grace_sign last ≡ false
   held : list_any is_continued_sign last ≡ continued
   no_letter : list_any is_letter last ≡ false
+  no_space : list_any is_space last ≡ false
   no_sign : EndsBefore Sign last
 
 tie : (b : ℕ) → is_continued_sign b ≡ true → IsTieAtEnd (b ∷ []) true
@@ -77,13 +102,13 @@ tie b h = go (b == 95) refl h
   where
     go : (x : Bool) → (b == 95) ≡ x → (x || (b == 93)) ≡ true → IsTieAtEnd (b ∷ []) true
     go true e w =
-        let is : b ≡ 95 = grind arith in rw is (record { no_rest = refl; no_grace = refl; held = refl; no_letter = refl; no_sign = refl })
+        let is : b ≡ 95 = grind arith in rw is (record { no_rest = refl; no_grace = refl; held = refl; no_letter = refl; no_space = refl; no_sign = refl })
     go false e w =
-        let is : b ≡ 93 = grind arith in rw is (record { no_rest = refl; no_grace = refl; held = refl; no_letter = refl; no_sign = refl })
+        let is : b ≡ 93 = grind arith in rw is (record { no_rest = refl; no_grace = refl; held = refl; no_letter = refl; no_space = refl; no_sign = refl })
 
 tied : (last : List ℕ) (continued : Bool) → Some continued ≡ tie_at_end last → IsTieAtEnd last continued
 tied [] continued h =
-    let is : continued ≡ false = cc in rw is (record { no_rest = refl; no_grace = refl; held = refl; no_letter = refl; no_sign = tt })
+    let is : continued ≡ false = cc in rw is (record { no_rest = refl; no_grace = refl; held = refl; no_letter = refl; no_space = refl; no_sign = tt })
 tied (b ∷ []) continued h = go (is_continued_sign b) refl h
   where
     go : (x : Bool) → is_continued_sign b ≡ x → Some continued ≡ (if x then Some true else None) → IsTieAtEnd (b ∷ []) continued
@@ -186,6 +211,28 @@ usual_note before letter more signs plain last continued h =
     ∙ ap (λ (m : Reading). Ok (with_pitch m (pitch_of (letter ∷ more) signs) (length before)
     (length before + length (letter ∷ more) + length signs))) (same_marks rest grace held)
 
+-- such a text is one subtoken
+pub usual_alone : (before : List ℕ) (letter : ℕ) (more signs plain last : List ℕ) (continued : Bool)
+    → IsUsual before letter more signs plain last continued
+    → subtokens (before ++ ((letter ∷ more) ++ (signs ++ (plain ++ last))))
+    ≡ (before ++ ((letter ∷ more) ++ (signs ++ (plain ++ last)))) ∷ []
+usual_alone before letter more signs plain last continued h =
+    let letters : AllByRecursion (λ b. is_letter b ≡ true) (letter ∷ more) = (h.letter_is, repeats letter more h.letter_is h.repeated.all_in) in
+    one_part _
+    (none_but_last is_space plain_space space_letter space_sign before (letter ∷ more) signs plain last h.plain_before letters h.signs_are h.plain_behind
+    ∙ (tied last continued h.tie).no_space)
+
+-- what is read of it
+abbrev usual_reading : List ℕ → ℕ → List ℕ → List ℕ → Bool → Reading
+usual_reading before letter more signs continued = record {
+  pitch = pitch_of (letter ∷ more) signs;
+  start = length before;
+  end = length before + length (letter ∷ more) + length signs;
+  rest = false;
+  grace = false;
+  continued = continued;
+}
+
 -- the pieces that such a text is cut into
 pub usual_read : (before : List ℕ) (letter : ℕ) (rest more next : List ℕ) (signs : ℕ) (plain last : List ℕ) (continued : Bool)
     → AllByRecursion (λ b. is_plain b ≡ true) before → is_letter letter ≡ true
@@ -193,7 +240,7 @@ pub usual_read : (before : List ℕ) (letter : ℕ) (rest more next : List ℕ) 
     → signs ≤ length next → AllByRecursion (λ b. is_sign b ≡ true) (take signs next) → signs ≤ 1
     → plain ≡ front (is_in Plain) (drop signs next) → last ≡ behind (is_in Plain) (drop signs next)
     → Some continued ≡ tie_at_end last → length more ≤ 7
-    → note (before ++ (letter ∷ rest)) ≡ Ok (record {
+    → IsReadAlone (before ++ (letter ∷ rest)) (record {
       pitch = pitch_of (letter ∷ more) (take signs next);
       start = length before;
       end = length before + length (letter ∷ more) + length (take signs next);
@@ -214,8 +261,7 @@ usual_read before letter rest more next signs plain last continued p q more_is n
     (subst (λ (xs : List ℕ). IsMaximal (Repeat letter) xs (behind (is_in (Repeat letter)) rest)) (sym more_is) (run_maximal (Repeat letter) rest)) in
     let plain_behind : AllByRecursion (λ b. is_plain b ≡ true) plain =
     subst (AllByRecursion (λ b. is_plain b ≡ true)) (sym plain_is) (run_maximal Plain (drop signs next)).all_in in
-    ap (λ (xs : List ℕ). note (before ++ (letter ∷ xs))) whole
-    ∙ usual_note before letter more (take signs next) plain last continued (record {
+    let usual : IsUsual before letter more (take signs next) plain last continued = record {
       plain_before = p;
       letter_is = q;
       repeated = repeated;
@@ -224,6 +270,10 @@ usual_read before letter rest more next signs plain last continued p q more_is n
       plain_behind = plain_behind;
       tie = t;
       few = few;
+    } in
+    subst (λ (xs : List ℕ). IsReadAlone (before ++ (letter ∷ xs)) (usual_reading before letter more (take signs next) continued)) (sym whole) (record {
+      read = sym (usual_note before letter more (take signs next) plain last continued usual);
+      alone = usual_alone before letter more (take signs next) plain last continued usual;
     })
 
 -- the pitch by one letter and its signs
@@ -236,15 +286,11 @@ pitch_is letter more signs step octave alteration read is =
     ∙ ap (λ (o : Option Spelled). altered_by o (Some (alteration_of signs))) read
     ∙ ap (λ (a : ℤ). altered_by (Some (natural_note step octave)) (Some a)) (sym is)
 
--- a rest whose sign stands last
-pub rest_at_end : (before : List ℕ) → AllByRecursion (λ b. is_plain b ≡ true) before → note (before ++ (114 ∷ [])) ≡ Ok (record {
-  pitch = None;
-  start = 0;
-  end = 0;
-  rest = true;
-  grace = false;
-  continued = false;
-})
+-- what is read of a rest whose sign stands last
+abbrev lone_rest : Reading
+lone_rest = record { pitch = None; start = 0; end = 0; rest = true; grace = false; continued = false }
+
+rest_at_end : (before : List ℕ) → AllByRecursion (λ b. is_plain b ≡ true) before → IsReadAlone (before ++ (114 ∷ [])) lone_rest
 rest_at_end before h =
     let rest : is_rest (before ++ (114 ∷ [])) ≡ true =
     rw (list_any-append is_rest_sign before (114 ∷ []), off is_rest_sign is_plain plain_rest before h) refl in
@@ -252,10 +298,12 @@ rest_at_end before h =
     rw (list_any-append is_grace_sign before (114 ∷ []), off is_grace_sign is_plain plain_grace before h) refl in
     let continued : list_any is_continued_sign (before ++ (114 ∷ [])) ≡ false =
     rw (list_any-append is_continued_sign before (114 ∷ []), off is_continued_sign is_plain plain_continued before h) refl in
-    rw (rest, grace, continued) refl
+    let space : list_any is_space (before ++ (114 ∷ [])) ≡ false =
+    rw (list_any-append is_space before (114 ∷ []), off is_space is_plain plain_space before h) refl in
+    record { read = rw (rest, grace, continued) refl; alone = one_part (before ++ (114 ∷ [])) space }
 
 -- the same where the sign was tested
 pub rest_alone : (before : List ℕ) (first : ℕ) (rest : List ℕ) → AllByRecursion (λ b. is_plain b ≡ true) before → first ≡ 114 → (length rest == 0) ≡ true
-    → note (before ++ (first ∷ rest)) ≡ Ok (record { pitch = None; start = 0; end = 0; rest = true; grace = false; continued = false })
+    → IsReadAlone (before ++ (first ∷ rest)) lone_rest
 rest_alone before first [] h is none = rw is (rest_at_end before h)
 rest_alone before first (b ∷ rest) h is none = let no : true ≡ false = sym none ∙ empty_is (b ∷ rest) in cc

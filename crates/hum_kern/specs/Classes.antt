@@ -48,9 +48,13 @@ is_sign b = b == 35 || (b == 45 || b == 110)
 abbrev pub is_natural_sign : ℕ → Bool
 is_natural_sign b = b == 110
 
--- what says nothing of a note: neither a letter nor a sign nor a mark
+-- what parts subtokens
+abbrev pub is_space : ℕ → Bool
+is_space b = b == 32
+
+-- what says nothing of a note: neither a letter nor a sign nor a mark, nor what parts notes
 abbrev pub is_plain : ℕ → Bool
-is_plain b = not (is_letter b || (is_sign b || is_mark b))
+is_plain b = not (is_letter b || (is_sign b || (is_mark b || is_space b)))
 
 abbrev pub is_in : Class → ℕ → Bool
 is_in Digit b = is_digit b

@@ -16,7 +16,7 @@ ghost use Rattle.hum_kern.specs.Lasting.{KeepsDuration};
 
 use crate::KernFault;
 use crate::runs::{Class, is_letter, split_run};
-use crate::usual::read_usual;
+use crate::usual::read_lone;
 use hum_pitch::Pitch;
 
 /// What a subtoken says of its pitch, and the marks that it bears.
@@ -188,7 +188,7 @@ fn read_any(bytes: &[u8]) -> Result<Note, KernFault>
 fn read_subtoken(bytes: &[u8]) -> Result<Note, KernFault>
     ensures { reading_in result ≡ note bytes.now }
 {
-    match read_usual(bytes) {
+    match read_lone(bytes) {
         Some(note) => Ok(note),
         None => read_any(bytes),
     }

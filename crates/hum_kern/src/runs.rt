@@ -1,7 +1,7 @@
 //! Maximal runs of bytes of one class.
 
-ghost use Rattle.std.specs.Prelude.{◌≡◌, ◌+◌, ◌≤◌, length};
-ghost use Rattle.hum_kern.specs.Runs.{run, front, behind, starts_with};
+ghost use Rattle.std.specs.Prelude.{◌≡◌, ◌+◌, length};
+ghost use Rattle.hum_kern.specs.Runs.{front, behind, starts_with};
 ghost use Rattle.hum_kern.specs.Classes.{is_digit, is_letter, is_sign, is_plain, is_in};
 
 /// What a run consists of.
@@ -19,7 +19,7 @@ pub(crate) enum Class {
     Repeat(u8),
     /// The signs of accidentals: `#`, `-` and `n`.
     Sign,
-    /// Bytes that say nothing of a note: neither letters nor signs nor marks.
+    /// Bytes that say nothing of a note: neither letters nor signs nor marks, nor spaces.
     Plain,
 }
 
@@ -27,7 +27,7 @@ pub(crate) enum Class {
 const PLAIN: [bool; 256] = [
     true, true, true, true, true, true, true, true, true, true, true, true, true, true, true, true,
     true, true, true, true, true, true, true, true, true, true, true, true, true, true, true, true,
-    true, true, true, false, true, true, true, true, true, true, true, true, true, false, true,
+    false, true, true, false, true, true, true, true, true, true, true, true, true, false, true,
     true, true, true, true, true, true, true, true, true, true, true, true, true, true, true, true,
     true, true, false, false, false, false, false, false, false, true, true, true, true, true,
     true, true, true, true, false, true, true, true, true, true, true, true, true, true, true,
@@ -44,8 +44,9 @@ const PLAIN: [bool; 256] = [
     true, true, true, true, true, true, true,
 ];
 
+/// Whether a byte is a digit.
 #[inline(always)]
-fn is_digit(b: u8) -> bool
+pub(crate) fn is_digit(b: u8) -> bool
     ensures { result ≡ is_digit b }
 {
     48 <= b && b <= 57
@@ -91,17 +92,19 @@ impl Class {
     }
 }
 
-/// How long the run at the front is.
+/// What stands behind the run at the front.
 #[inline(always)]
-fn run(bytes: &[u8], class: Class) -> usize
-    ensures run { result ≡ run (is_in class) bytes.now }
-    ensures within { result ≤ length bytes.now }
+fn behind_run(bytes: &[u8], class: Class) -> &[u8]
+    ensures { result.now ≡ behind (is_in class) bytes.now }
 {
-    let mut n = 0;
-    while n < bytes.len() && class.has(bytes[n]) {
-        n += 1;
+    let mut rest = bytes;
+    while let [b, more @ ..] = rest {
+        if !class.has(*b) {
+            return rest;
+        }
+        rest = more;
     }
-    n
+    rest
 }
 
 /// The run at the front, and what stands behind it.
@@ -111,7 +114,8 @@ pub(crate) fn split_run(bytes: &[u8], class: Class) -> (&[u8], &[u8])
     ensures behind { (result.1).now ≡ behind (is_in class) bytes.now }
     ensures whole { length (result.0).now + length (result.1).now ≡ length bytes.now }
 {
-    bytes.split_at(run(bytes, class))
+    let rest = behind_run(bytes, class);
+    (bytes.split_at(bytes.len() - rest.len()).0, rest)
 }
 
 /// Whether a percent sign stands at the front.

@@ -1,10 +1,10 @@
 //! Subtokens as most are: a pitch with at most one sign, among bytes that say nothing of a note.
-ghost use Rattle.std.specs.Prelude.{◌≡◌, ◌∷◌, ◌++◌, ◌+◌, ◌<◌, ◌≤◌, ◌^◌, length, take, true, IfSome, Ok};
+ghost use Rattle.std.specs.Prelude.{◌≡◌, ◌∷◌, ◌++◌, ◌+◌, ◌<◌, ◌≤◌, ◌^◌, length, take, true, IfSome};
 ghost use Rattle.std.specs.List.{AllByRecursion};
 ghost use Rattle.hum_kern.specs.Classes.{is_letter, is_sign, is_plain};
 ghost use Rattle.hum_pitch.specs.Pitch.{IsAlteration};
-ghost use Rattle.hum_kern.specs.Note.{note, reading, alteration_of};
-ghost use Rattle.hum_kern.specs.Usual.{tie_at_end};
+ghost use Rattle.hum_kern.specs.Note.{reading, alteration_of};
+ghost use Rattle.hum_kern.specs.Usual.{tie_at_end, IsReadAlone};
 
 use crate::notes::{Note, natural};
 use crate::runs::{Class, is_letter, split_run};
@@ -52,7 +52,7 @@ fn read_pitch(before: &[u8], letter: u8, rest: &[u8]) -> Option<Note>
     requires fits { length before.now + 1 + length rest.now < 2 ^ 64 }
     requires plain { AllByRecursion (λ b. is_plain b ≡ true) before.now }
     requires letter { is_letter letter ≡ true }
-    ensures { IfSome result (λ found. Ok (reading found) ≡ note (before.now ++ (letter ∷ rest.now))) }
+    ensures { IfSome result (λ found. IsReadAlone (before.now ++ (letter ∷ rest.now)) (reading found)) }
 {
     let (more, behind) = split_run(rest, Class::Repeat(letter));
     let (alteration, signs) = read_sign(behind);
@@ -85,7 +85,7 @@ fn read_pitch(before: &[u8], letter: u8, rest: &[u8]) -> Option<Note>
 fn read_behind(before: &[u8], first: u8, rest: &[u8]) -> Option<Note>
     requires fits { length before.now + 1 + length rest.now < 2 ^ 64 }
     requires plain { AllByRecursion (λ b. is_plain b ≡ true) before.now }
-    ensures { IfSome result (λ found. Ok (reading found) ≡ note (before.now ++ (first ∷ rest.now))) }
+    ensures { IfSome result (λ found. IsReadAlone (before.now ++ (first ∷ rest.now)) (reading found)) }
 {
     if first == b'r' && rest.is_empty() {
         return Some(Note {
@@ -103,11 +103,12 @@ fn read_behind(before: &[u8], first: u8, rest: &[u8]) -> Option<Note>
     None
 }
 
-/// What a subtoken says, if it is as most are: a rest whose sign is the last byte, or one run of a
-/// repeated letter with at most one sign, and at most a tie's mark, which is the last byte.
+/// What a token says that is one subtoken and as most are: a rest whose sign is the last byte, or one run
+/// of a repeated letter with at most one sign, and at most a tie's mark, which is the last byte; or none
+/// where it isn't such a one.
 #[inline(always)]
-pub(crate) fn read_usual(bytes: &[u8]) -> Option<Note>
-    ensures { IfSome result (λ found. Ok (reading found) ≡ note bytes.now) }
+pub fn read_lone(bytes: &[u8]) -> Option<Note>
+    ensures { IfSome result (λ found. IsReadAlone bytes.now (reading found)) }
 {
     let (before, rest) = split_run(bytes, Class::Plain);
     match rest {

@@ -123,18 +123,9 @@ fn sign(direction: Direction) -> Repeated
     ensures few { result.count ≤ 1 }
 {
     match direction {
-        Direction::Up => Repeated {
-            byte: b'+',
-            count: 1,
-        },
-        Direction::Down => Repeated {
-            byte: b'-',
-            count: 1,
-        },
-        Direction::Level => Repeated {
-            byte: b'+',
-            count: 0,
-        },
+        Direction::Up => Repeated::times(1, b'+'),
+        Direction::Down => Repeated::times(1, b'-'),
+        Direction::Level => Repeated::times(0, b'+'),
     }
 }
 
@@ -145,26 +136,11 @@ fn quality_letters(quality: Quality) -> Repeated
     ensures few { result.count ≤ 400 }
 {
     match quality {
-        Quality::Perfect => Repeated {
-            byte: b'P',
-            count: 1,
-        },
-        Quality::Major => Repeated {
-            byte: b'M',
-            count: 1,
-        },
-        Quality::Minor => Repeated {
-            byte: b'm',
-            count: 1,
-        },
-        Quality::Augmented(more) => Repeated {
-            byte: b'A',
-            count: more as usize,
-        },
-        Quality::Diminished(less) => Repeated {
-            byte: b'd',
-            count: less as usize,
-        },
+        Quality::Perfect => Repeated::times(1, b'P'),
+        Quality::Major => Repeated::times(1, b'M'),
+        Quality::Minor => Repeated::times(1, b'm'),
+        Quality::Augmented(more) => Repeated::times(more as usize, b'A'),
+        Quality::Diminished(less) => Repeated::times(less as usize, b'd'),
     }
 }
 
@@ -180,12 +156,25 @@ fn shown(is_shown: bool, repeated: Repeated) -> Repeated
     }
 }
 
-/// Writes a number behind a text.
-fn push_number(text: &mut Vec<u8>, number: u32) -> Result<(), AllocError>
+/// Writes a number of any size behind a text.
+#[inline(never)]
+fn push_large(text: &mut Vec<u8>, number: u32) -> Result<(), AllocError>
     ensures { OnOk result (text.new.items ≡ text.old.items ++ decimal number) }
 {
     let mut buffer = Buffer::new();
     text.extend_from_slice(buffer.format(number).as_bytes())
+}
+
+/// Writes a number behind a text. Most have one digit.
+#[inline(always)]
+fn push_number(text: &mut Vec<u8>, number: u32) -> Result<(), AllocError>
+    ensures { OnOk result (text.new.items ≡ text.old.items ++ decimal number) }
+{
+    if number < 10 {
+        text.push(b'0' + number as u8)?;
+        return Ok(());
+    }
+    push_large(text, number)
 }
 
 /// Adds the name of an interval to a text: its direction (`+` or `-`), its quality (`P`, `M`, `m`,

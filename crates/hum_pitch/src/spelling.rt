@@ -13,6 +13,16 @@ pub(crate) struct Repeated {
     pub count: usize,
 }
 
+impl Repeated {
+    /// A byte so many times.
+    #[inline(always)]
+    pub(crate) fn times(count: usize, byte: u8) -> Repeated
+        ensures { result ≡ record { byte = byte; count = count } }
+    {
+        Repeated { byte, count }
+    }
+}
+
 /// The letters of a pitch.
 fn letters(pitch: Pitch) -> Repeated
     ensures exact { replicate result.count result.byte ≡ letters_of (spelled pitch) }
@@ -50,13 +60,21 @@ fn accidentals(pitch: Pitch) -> Repeated
     }
 }
 
-/// Adds a byte some times.
+/// Adds a byte some times, mostly once or not at all.
+#[inline(always)]
 pub(crate) fn push_repeated(text: &mut Vec<u8>, repeated: Repeated) -> Result<(), AllocError>
     requires { repeated.count ≤ 1000 }
     ensures { OnOk result (text.new.items
         ≡ text.old.items ++ replicate repeated.count repeated.byte) }
 {
-    text.resize(text.len() + repeated.count, repeated.byte)
+    match repeated.count {
+        0 => Ok(()),
+        1 => {
+            text.push(repeated.byte)?;
+            Ok(())
+        }
+        count => text.resize(text.len() + count, repeated.byte),
+    }
 }
 
 /// Adds a pitch to a text, as it is written in `**kern`, without the sign of a natural. What is written

@@ -7,6 +7,7 @@ pub mod Told
 pub mod Written
 pub mod Numbers
 pub mod Joined
+pub mod Lone
 pub mod SoFar
 pub mod MovedLawful
 pub mod GivenLawful

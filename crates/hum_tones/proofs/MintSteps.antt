@@ -1,6 +1,6 @@
 -- What mint makes of a token, by what it heard.
-use Rattle.std.proofs.Common.{◌≡◌, ◌∙◌, refl, sym, ap, subst, ℕ, zero, suc, ◌<◌, true, List, [], ◌∷◌, length, Option, None, Some, arith}
-use Rattle.std.specs.Prelude.{slice_index_or, map, Result, Ok, Err}
+use Rattle.std.proofs.Common.{◌≡◌, ◌∙◌, refl, sym, ap, subst, ℕ, zero, suc, ◌<◌, true, List, [], ◌∷◌, length, Option, arith}
+use Rattle.std.specs.Prelude.{slice_index_or, map, Result}
 use Rattle.std.proofs.lemmas.List.{length-map}
 use Rattle.hum_record.specs.declared.SpinedKind.TheVariants.{Values}
 use Rattle.hum_record.specs.Row.{Row}
@@ -9,17 +9,15 @@ use Rattle.hum_path.specs.Chains.{columns, history}
 use Rattle.hum_path.specs.Memories.{remembered}
 use Rattle.hum_pitch.specs.Pitch.{Spelled}
 use Rattle.hum_cells.specs.Rewriting.{Rewriting, has_content}
-use Rattle.hum_cells.specs.Rewriter.{MayRewrite, HasRewritten, Tells}
+use Rattle.hum_cells.specs.Rewriter.{MayRewrite, HasRewritten, Pushes}
 use Rattle.hum_stage.specs.declared.faults.Rule.{Rule}
 use Rattle.hum_stage.specs.declared.faults.Refusal.{Refusal}
 use Rattle.hum_stage.specs.Refusals.{IfTold}
 use Rattle.hum_stage.proofs.Telling.{told_to}
-use Rattle.hum_tones.specs.Subtokens.{IsRewritten}
 use Rattle.hum_choices.specs.declared.mint.MintOptions.{MintOptions}
 use Rattle.hum_tones.specs.Mint.{note_before}
 use Rattle.hum_tones.specs.Memory.{HeardColumn, unheard, heard_after, heard_of, told_as}
 use Rattle.hum_tones.specs.Commands.{Mints}
-use Rattle.hum_tones.proofs.Told.{told_so}
 use Rattle.hum_tones.proofs.TokenTone.{told_is}
 use Rattle.hum_tones.proofs.LastNotes.{note_kept}
 
@@ -47,19 +45,19 @@ heard_is options memories j token column may is rewriting past above h cell =
     ∙ at_map (remembered (heard_after options.breaks) unheard) (columns past) j column below
     ∙ ap (remembered (heard_after options.breaks) unheard) cell
 
-pub has_rewritten : {A : Type 0} (options : MintOptions) (memories : List HeardColumn) (j : ℕ) (token text : List ℕ) (column : HeardColumn)
-    → MayRewrite (Mints options memories) j token → IsToken Values token → has_content token ≡ true
+pub has_rewritten : {A : Type 0} (options : MintOptions) (memories : List HeardColumn) (j : ℕ) (token : List ℕ) (column : HeardColumn)
+    (made making : List (List ℕ) → Type 0) → MayRewrite (Mints options memories) j token → IsToken Values token → has_content token ≡ true
     → column ≡ slice_index_or memories j column → (r : Result A Refusal)
-    → IfTold r (IsRewritten (told_as options.signless options.sizeonly column.before column.heard) text)
-    → IfTold r (HasRewritten (Mints options memories) (Mints options memories) j token text)
-has_rewritten options memories j token text column may lawful told is r h =
-    told_to r _ _ (λ refused made rewriting past above follows cell.
-    (follows, tells refused made rewriting past above follows cell)) h
+    → IfTold r (Pushes (told_as options.signless options.sizeonly column.before column.heard) made making)
+    → IfTold r (HasRewritten (Mints options memories) (Mints options memories) j token made making)
+has_rewritten options memories j token column made making may lawful told is r h =
+    told_to r _ _ (λ refused pushed rewriting past above follows cell.
+    (follows, pushes refused pushed rewriting past above follows cell)) h
   where
-    tells : (refused : Option Rule) → IsRewritten (told_as options.signless options.sizeonly column.before column.heard) text refused
+    pushes : (refused : Option Rule) → Pushes (told_as options.signless options.sizeonly column.before column.heard) made making refused
         → (rewriting : Rewriting) (past : List Row) (above : List (List ℕ)) → Mints options memories rewriting past
-        → history past j ≡ token ∷ above → Tells (rewriting.becomes above token) text refused
-    tells refused made rewriting past above follows cell =
+        → history past j ≡ token ∷ above → Pushes (rewriting.becomes above token) made making refused
+    pushes refused pushed rewriting past above follows cell =
         let heard = heard_is options memories j token column may is rewriting past above follows cell in
         let before : column.before ≡ note_before options.breaks above = ap (λ (c : HeardColumn). c.before) heard ∙ note_kept options.breaks above in
         let known : told_as options.signless options.sizeonly column.before column.heard ≡ rewriting.becomes above token =
@@ -67,4 +65,4 @@ has_rewritten options memories j token text column may lawful told is r h =
         ∙ ap (λ (b : Option Spelled). told_as options.signless options.sizeonly b (heard_of token)) before
         ∙ told_is options.signless options.sizeonly (note_before options.breaks above) token lawful told
         ∙ ap (λ (x : Rewriting). x.becomes above token) (sym follows.command) in
-        subst (λ (x : Result (List ℕ) Rule). Tells x text refused) known (told_so _ text refused made)
+        subst (λ (x : Result (List ℕ) Rule). Pushes x made making refused) known pushed

@@ -1,7 +1,7 @@
 -- Numbers, as they are written, may stand in a token.
-use Rattle.std.proofs.Common.{◌≡◌, ◌≢◌, refl, ap, ◌∙◌, ℕ, zero, suc, ◌+◌, ◌≤◌, ◌<◌, ◌/◌, ◌%◌, ◌^◌, ◌==◌, ◌&&◌, Bool}
-use Rattle.std.proofs.Common.{false, List, [], ◌∷◌, ◌++◌, arith, None, Some, to_z, of_z, w32}
-use Rattle.std.specs.Prelude.{ℤ, pos, negsuc, Ok}
+use Rattle.std.proofs.Common.{◌≡◌, ◌≢◌, refl, ap, ◌∙◌, ℕ, zero, suc, ◌+◌, ◌≤◌, ◌<◌, ◌/◌, ◌%◌, ◌^◌, ◌==◌, Bool}
+use Rattle.std.proofs.Common.{true, false, List, [], ◌∷◌, ◌++◌, drop, ◌-◌, arith}
+use Rattle.std.specs.Prelude.{ℤ, pos, negsuc, if◌then◌else◌}
 use Rattle.std.specs.List.{AllByRecursion}
 use Rattle.std.specs.Fmt.{decimal, signed_decimal}
 use Rattle.std.specs.Int.Signed.{mag}
@@ -12,10 +12,7 @@ use Rattle.std.proofs.lemmas.Bool.Decides.{nat_tests, leb_tells}
 use mathlib.Core.Logic.{inl, inr}
 use Rattle.hum_record.specs.declared.SpinedKind.TheVariants.{Interpretation}
 use Rattle.hum_record.specs.Spelling.{has_byte, IsToken}
-use Rattle.hum_pitch.specs.Pitch.{Spelled, semitones, IsWithin}
-use Rattle.hum_kern.specs.Note.{Reading, note}
-use Rattle.hum_tones.specs.Subtokens.{HasAdded}
-use Rattle.hum_tones.specs.Semits.{semits_of}
+use Rattle.hum_pitch.specs.Pitch.{IsWithin}
 use Rattle.hum_tones.proofs.Parts.{IsPiece}
 use lib.Chars.{codes}
 
@@ -83,6 +80,42 @@ pub two_digits : (n : ℕ) → 10 ≤ n → n < 100 → decimal n ≡ (48 + n / 
 two_digits n large small =
     decimal_step n large (omega (arith, small)) ∙ ap (λ (xs : List ℕ). xs ++ (48 + n % 10) ∷ []) (decimal_digit (n / 10) (omega (arith, small)))
 
+pub three_digits : (n : ℕ) → 100 ≤ n → n < 1000 → decimal n ≡ (48 + n / 10 / 10) ∷ (48 + n / 10 % 10) ∷ (48 + n % 10) ∷ []
+three_digits n large small =
+    decimal_step n (omega (arith, large)) (omega (arith, small))
+    ∙ ap (λ (xs : List ℕ). xs ++ (48 + n % 10) ∷ []) (two_digits (n / 10) (omega (arith, large)) (omega (arith, small)))
+
+-- the same with a sign in front
+pub one_text : (negative : Bool) (n from : ℕ) → n < 10 → from ≡ (if negative then 3 - 1 else 3)
+    → drop from (0 ∷ 0 ∷ 45 ∷ (48 + n % 10) ∷ []) ≡ (if negative then 45 ∷ decimal n else decimal n)
+one_text negative n from small is =
+    let digit : n % 10 ≡ n = omega (arith, small) in
+    rw (is, digit, one_digit n small) (go negative)
+  where
+    go : (negative : Bool) → drop (if negative then 3 - 1 else 3) (0 ∷ 0 ∷ 45 ∷ (48 + n) ∷ []) ≡ (if negative then 45 ∷ (48 + n) ∷ [] else (48 + n) ∷ [])
+    go true = refl
+    go false = refl
+
+pub two_text : (negative : Bool) (n from : ℕ) → 10 ≤ n → n < 100 → from ≡ (if negative then 2 - 1 else 2)
+    → drop from (0 ∷ 45 ∷ (48 + n / 10 % 10) ∷ (48 + n % 10) ∷ []) ≡ (if negative then 45 ∷ decimal n else decimal n)
+two_text negative n from large small is =
+    let digit : n / 10 % 10 ≡ n / 10 = omega (arith, small) in
+    rw (is, digit, two_digits n large small) (go negative)
+  where
+    go : (negative : Bool) → drop (if negative then 2 - 1 else 2) (0 ∷ 45 ∷ (48 + n / 10) ∷ (48 + n % 10) ∷ [])
+        ≡ (if negative then 45 ∷ (48 + n / 10) ∷ (48 + n % 10) ∷ [] else (48 + n / 10) ∷ (48 + n % 10) ∷ [])
+    go true = refl
+    go false = refl
+
+pub three_text : (negative : Bool) (n from : ℕ) → 100 ≤ n → n < 1000 → from ≡ (if negative then 1 - 1 else 1)
+    → drop from (45 ∷ (48 + n / 10 / 10) ∷ (48 + n / 10 % 10) ∷ (48 + n % 10) ∷ []) ≡ (if negative then 45 ∷ decimal n else decimal n)
+three_text negative n from large small is = rw (is, three_digits n large small) (go negative)
+  where
+    go : (negative : Bool) → drop (if negative then 1 - 1 else 1) (45 ∷ (48 + n / 10 / 10) ∷ (48 + n / 10 % 10) ∷ (48 + n % 10) ∷ [])
+        ≡ (if negative then 45 ∷ (48 + n / 10 / 10) ∷ (48 + n / 10 % 10) ∷ (48 + n % 10) ∷ [] else (48 + n / 10 / 10) ∷ (48 + n / 10 % 10) ∷ (48 + n % 10) ∷ [])
+    go true = refl
+    go false = refl
+
 -- a number with its sign
 pub number_piece : (z : ℤ) → mag z < 2 ^ 63 → IsPiece (signed_decimal z)
 number_piece (pos n) fits = digits_piece (decimal n) (digits_of (suc n) n (omega arith) (omega (arith, fits)))
@@ -100,20 +133,9 @@ number_piece (negsuc n) fits =
       of_kind = refl;
     }
 
--- the semitones of a part
-pub adds_semitones : (ties : Bool) (part : List ℕ) (reading : Reading) (pitch : Spelled) (before after : List ℕ)
-    → Ok reading ≡ note part → reading.rest ≡ false → reading.pitch ≡ Some pitch
-    → (ties && reading.continued) ≡ false → after ≡ before ++ (signed_decimal (semitones pitch) ++ codes " ") → HasAdded (semits_of ties part) before after None
-adds_semitones ties part reading pitch before after is no_rest some kept made =
-    rw (← is) (rw no_rest (rw some (rw kept made)))
-
 pub mag_within : (z : ℤ) → IsWithin (negsuc 102) z (pos 102) → mag z < 2 ^ 63
 mag_within (pos n) within = omega (arith, ints)
 mag_within (negsuc n) within = omega (arith, ints)
-
--- a small number as it is handed to a function
-pub as_passed : (z a : ℤ) → IsWithin (negsuc 102) z (pos 102) → z ≡ a → to_z w32 (of_z w32 z) ≡ a
-as_passed z a within is = omega (arith, ints)
 
 lacks_number : (c : ℕ) (z : ℤ) → c < 45 → mag z < 2 ^ 63 → has_byte c (signed_decimal z) ≡ false
 lacks_number c (pos n) low fits = digits_lack c (decimal n) (omega (arith, low)) (digits_of (suc n) n (omega arith) (omega (arith, fits))).all

@@ -17,6 +17,7 @@ use Rattle.hum_record.specs.Spelling.{IsToken}
 use Rattle.hum_cells.specs.Rewriting.{has_content}
 use Rattle.std.specs.Prelude.{not, ◌&&◌, if◌then◌else◌}
 use Rattle.std.proofs.lemmas.Bool.{and_parts}
+use lib.Chars.{codes}
 use Rattle.hum_pitch.specs.Pitch.{Spelled}
 use Rattle.hum_pitch.specs.Given.{spelled}
 use Rattle.hum_tones.specs.declared.hearing.Tone.{Tone as KeptTone}
@@ -110,6 +111,20 @@ told_anew signless sizeonly before r kept tone e is anew =
     ap (told_as signless sizeonly before) (sym e)
     ∙ ap (λ (t : Option KeptTone). Ok (told signless sizeonly before (option_map tone_of t) kept.rest)) is
     ∙ rw anew refl
+
+-- a token with a note whose tie goes on, and one without a note
+pub told_on : (signless sizeonly : Bool) (before : Option Spelled) (r : Result TokenTone Rule) (kept : Kept) (tone : KeptTone)
+    → Ok (hearing kept) ≡ r → kept.tone ≡ Some tone → tone.continued ≡ true → told_as signless sizeonly before r ≡ Ok (codes ".")
+told_on signless sizeonly before r kept tone e is on =
+    ap (told_as signless sizeonly before) (sym e)
+    ∙ ap (λ (t : Option KeptTone). Ok (told signless sizeonly before (option_map tone_of t) kept.rest)) is
+    ∙ rw on refl
+
+pub told_still : (signless sizeonly : Bool) (before : Option Spelled) (r : Result TokenTone Rule) (kept : Kept)
+    → Ok (hearing kept) ≡ r → kept.tone ≡ None → told_as signless sizeonly before r ≡ Ok (if kept.rest then codes "r" else codes ".")
+told_still signless sizeonly before r kept e is =
+    ap (told_as signless sizeonly before) (sym e)
+    ∙ ap (λ (t : Option KeptTone). Ok (told signless sizeonly before (option_map tone_of t) kept.rest)) is
 
 -- what is remembered of a cell, by what is heard of it
 abbrev pub pitch_heard : Result TokenTone Rule → Option Spelled

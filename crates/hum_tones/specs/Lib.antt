@@ -1,4 +1,5 @@
 pub mod Subtokens
+pub mod ShortText
 pub mod Faults
 pub mod Semits
 pub mod Recip

@@ -27,6 +27,11 @@ abbrev pub joined : List (List ℕ) → List ℕ
 joined [] = codes "."
 joined (text ∷ texts) = join_with_byte 32 (text ∷ texts)
 
+-- what a token of one part becomes by what that gives
+abbrev pub lone_text : Option (List ℕ) → List ℕ
+lone_text (Some text) = text
+lone_text None = codes "."
+
 abbrev pub if_given : Result (List (List ℕ)) Rule → Result (List ℕ) Rule
 if_given (Ok texts) = Ok (joined texts)
 if_given (Err rule) = Err rule

@@ -12,6 +12,7 @@ mod part_rule;
 mod partwise;
 mod recip;
 mod semits;
+mod short_text;
 mod trans;
 mod transposing;
 

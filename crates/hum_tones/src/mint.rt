@@ -2,11 +2,11 @@
 ghost use Rattle.hum_stage.specs.declared.faults.Command.TheVariants.{Mint as MintCommand};
 
 use crate::last_note::LastNote;
-use crate::minting::put_minted;
+use crate::minting::push_minted;
 use hum_cells::{CellStage, Heading, TokenRewriter};
 use hum_choices::MintOptions;
 use hum_path::{Carried, Moves};
-use hum_record::Record;
+use hum_record::{Record, RecordDraft};
 use hum_stage::{Command, Refusal};
 use std::alloc::{AllocError, Global};
 
@@ -16,6 +16,8 @@ pub struct MintTokens {
     options: MintOptions,
     // what was heard of each spine, and the note before
     carried: Carried<LastNote>,
+    // where the text of a token is made
+    text: Vec<u8>,
 }
 
 /// The command mint, as a stage.
@@ -42,6 +44,7 @@ impl TokenRewriter for MintTokens {
         MintTokens {
             options,
             carried: Carried::new(alloc),
+            text: Vec::new(alloc),
         }
     }
 
@@ -49,8 +52,14 @@ impl TokenRewriter for MintTokens {
         Heading::Renamed(b"**mint".as_slice())
     }
 
-    fn rewrite(&mut self, j: usize, _token: &[u8], text: &mut Vec<u8>) -> Result<(), Refusal> {
-        put_minted(&self.options, self.carried.at(j), text)
+    #[inline]
+    fn rewrite(
+        &mut self,
+        j: usize,
+        _token: &[u8],
+        making: &mut RecordDraft,
+    ) -> Result<(), Refusal> {
+        push_minted(&self.options, self.carried.at(j), &mut self.text, making)
     }
 
     fn follow(&mut self, row: &Record, found: &Moves) -> Result<(), AllocError> {

@@ -1,8 +1,10 @@
 //! Tokens in whose place stands the interval from the note before.
-ghost use Rattle.std.specs.Prelude.{◌≡◌, ◌++◌, [], OnOk, option_map};
+ghost use Rattle.std.specs.Prelude.{◌≡◌, ◌++◌, OnOk, option_map};
+ghost use Rattle.hum_record.specs.declared.SpinedKind.TheVariants.{Values};
+ghost use Rattle.hum_record.specs.RecordDraft.{Holds};
 ghost use Rattle.hum_pitch.specs.Given.{spelled};
 ghost use Rattle.hum_stage.specs.Refusals.{IfTold};
-ghost use Rattle.hum_tones.specs.Subtokens.{IsRewritten};
+ghost use Rattle.hum_cells.specs.Rewriter.{Pushes};
 ghost use Rattle.hum_tones.specs.Mint.{approached};
 ghost use Rattle.hum_tones.specs.Memory.{told_as};
 
@@ -10,6 +12,7 @@ use crate::hearing::{TokenTone, Tone};
 use crate::last_note::LastNote;
 use hum_choices::MintOptions;
 use hum_pitch::{Pitch, interval, push_interval, push_pitch};
+use hum_record::RecordDraft;
 use hum_stage::Refusal;
 use std::alloc::AllocError;
 
@@ -42,20 +45,24 @@ fn add_tone(
     Ok(())
 }
 
-/// Puts what a column's last cell, a data token, becomes by the note before it into the empty
-/// text.
+/// Adds what a column's last cell, a data token, becomes by the note before it to a record in the making. An
+/// interval's name is made in `text`.
 ///
 /// # Errors
 /// The rule by which it is refused; or out of memory.
-pub(crate) fn put_minted(
+#[inline(always)]
+pub(crate) fn push_minted(
     options: &MintOptions,
     column: &LastNote,
     text: &mut Vec<u8>,
+    making: &mut RecordDraft,
 ) -> Result<(), Refusal>
-    requires empty { text.old.items ≡ [] }
-    ensures { IfTold result (IsRewritten
+    requires { making.old.builder.kind ≡ Values }
+    ensures pushed { IfTold result (Pushes
         (told_as options.now.signless options.now.sizeonly column.now.before column.now.heard)
-        text.new.items) }
+        (Holds Values making.old.builder making.old.is_long)
+        (Holds Values making.new.builder making.new.is_long)) }
+    ensures kind { OnOk result (making.new.builder.kind ≡ Values) }
 {
     let heard = match column.heard() {
         Ok(heard) => heard,
@@ -64,12 +71,17 @@ pub(crate) fn put_minted(
     match heard.tone {
         Some(tone) => {
             if tone.continued {
-                text.push(b'.')?;
-            } else {
-                add_tone(options, column.before(), tone.pitch, text)?;
+                making.push(b".")?;
+                return Ok(());
             }
+            text.clear();
+            add_tone(options, column.before(), tone.pitch, text)?;
+            making.push(text)?;
+            Ok(())
         }
-        None => text.push(if heard.rest { b'r' } else { b'.' })?,
+        None => {
+            making.push(if heard.rest { b"r" } else { b"." })?;
+            Ok(())
+        }
     }
-    Ok(())
 }

@@ -1,21 +1,23 @@
 //! Tokens in whose place stands what their parts give.
-ghost use Rattle.std.specs.Prelude.{◌≡◌, ◌++◌, [], codes, ◌&&◌, OnOk, Result, Ok, Err};
-ghost use Rattle.std.specs.Fmt.{decimal, signed_decimal};
+ghost use Rattle.std.specs.Prelude.{◌≡◌, ◌++◌, [], codes, ◌&&◌, OnOk, option_map};
 ghost use Rattle.hum_record.specs.declared.SpinedKind.TheVariants.{Values};
 ghost use Rattle.hum_record.specs.Spelling.{IsToken};
+ghost use Rattle.hum_record.specs.RecordDraft.{Holds};
 ghost use Rattle.hum_stage.specs.Refusals.{IfTold};
-ghost use Rattle.hum_tones.specs.Subtokens.{HasAdded, IsRewritten};
-ghost use Rattle.hum_kern.specs.Note.{is_rest};
+ghost use Rattle.hum_cells.specs.Rewriter.{Pushes};
+ghost use Rattle.hum_tones.specs.Subtokens.{lone_text, HasAdded, IsRewritten};
+ghost use Rattle.hum_tones.specs.ShortText.{text_of};
+ghost use Rattle.hum_kern.specs.Note.{reading, is_rest};
 ghost use Rattle.hum_tones.specs.Faults.{rule_of};
 ghost use Rattle.hum_tones.specs.Recip.{rest_sign, recip_of};
-ghost use Rattle.hum_tones.specs.Semits.{semits_of};
+ghost use Rattle.hum_tones.specs.Semits.{of_reading, semits_of};
 
+use crate::short_text::ShortText;
 use crate::transposing::add_transposed;
 use hum_choices::TransOptions;
-use hum_kern::{KernFault, Note, read_duration, read_note};
+use hum_kern::{KernFault, Note, leading_text, read_duration, read_lone, read_note};
+use hum_record::RecordDraft;
 use hum_stage::{Refusal, Rule};
-use itoa::Buffer;
-use std::alloc::AllocError;
 
 /// What each part of a token gives.
 #[derive(Clone, Copy)]
@@ -45,45 +47,6 @@ fn is_rest(part: &[u8]) -> bool
     ensures { result ≡ is_rest part.now }
 {
     part.contains(&b'r')
-}
-
-/// Adds a number of any size and the space behind it.
-#[inline(never)]
-fn push_large(size: u32, text: &mut Vec<u8>) -> Result<(), AllocError>
-    ensures { OnOk result (text.new.items ≡ text.old.items ++ (decimal size ++ codes " ")) }
-{
-    let mut buffer = Buffer::new();
-    text.extend_from_slice(buffer.format(size).as_bytes())?;
-    text.push(b' ')?;
-    Ok(())
-}
-
-/// Adds a number and the space behind it: most have one digit or two.
-#[inline(always)]
-fn push_size(size: u32, text: &mut Vec<u8>) -> Result<(), AllocError>
-    ensures { OnOk result (text.new.items ≡ text.old.items ++ (decimal size ++ codes " ")) }
-{
-    if size < 10 {
-        text.extend_from_slice(&[b'0' + size as u8, b' '])?;
-        return Ok(());
-    }
-    if size < 100 {
-        text.extend_from_slice(&[b'0' + (size / 10) as u8, b'0' + (size % 10) as u8, b' '])?;
-        return Ok(());
-    }
-    push_large(size, text)
-}
-
-/// Adds a number with its sign and the space behind it.
-#[inline(always)]
-fn push_number(number: i32, text: &mut Vec<u8>) -> Result<(), AllocError>
-    ensures { OnOk result
-        (text.new.items ≡ text.old.items ++ (signed_decimal number ++ codes " ")) }
-{
-    if number < 0 {
-        text.push(b'-')?;
-    }
-    push_size(number.unsigned_abs(), text)
 }
 
 /// The sign of a rest, where a part is one, and the space behind what the part gives.
@@ -127,6 +90,36 @@ fn is_left_out(ties_left_out: bool, note: &Note) -> bool
     ties_left_out && note.continued
 }
 
+/// What a part gives by what it says: the semitones of its note, unless that is left out, or `r` for a rest.
+#[inline(always)]
+fn note_text(note: Note, ties_left_out: bool) -> Option<ShortText>
+    ensures { option_map text_of result ≡ of_reading ties_left_out (reading note) }
+{
+    if note.rest {
+        return Some(ShortText::of_byte(b'r'));
+    }
+    match note.pitch {
+        None => None,
+        Some(pitch) => {
+            if is_left_out(ties_left_out, &note) {
+                return None;
+            }
+            Some(ShortText::of_semitones(pitch.semits()))
+        }
+    }
+}
+
+/// A text, or a null token where there is none.
+#[inline(always)]
+fn or_null(text: Option<ShortText>) -> ShortText
+    ensures { text_of result ≡ lone_text (option_map text_of text) }
+{
+    match text {
+        Some(text) => text,
+        None => ShortText::of_byte(b'.'),
+    }
+}
+
 /// Adds the semitones of a part.
 fn add_semitones(part: &[u8], ties_left_out: bool, text: &mut Vec<u8>) -> Result<(), Refusal>
     ensures { IfTold result
@@ -136,17 +129,11 @@ fn add_semitones(part: &[u8], ties_left_out: bool, text: &mut Vec<u8>) -> Result
         Ok(note) => note,
         Err(fault) => return Err(Refusal::Rule(rule_of(fault))),
     };
-    if note.rest {
-        text.extend_from_slice(b"r ")?;
-        return Ok(());
-    }
-    match note.pitch {
+    match note_text(note, ties_left_out) {
         None => Ok(()),
-        Some(pitch) => {
-            if is_left_out(ties_left_out, &note) {
-                return Ok(());
-            }
-            push_number(pitch.semits(), text)?;
+        Some(given) => {
+            text.extend_from_slice(given.as_bytes())?;
+            text.push(b' ')?;
             Ok(())
         }
     }
@@ -167,12 +154,12 @@ impl PartRule {
         }
     }
 
-    /// Puts what a data token becomes into the empty text.
+    /// Puts what a data token becomes into the empty text, part by part.
     ///
     /// # Errors
     /// The rule by which it is refused; or out of memory.
-    #[inline(always)]
-    pub(crate) fn rewrite(self, token: &[u8], text: &mut Vec<u8>) -> Result<(), Refusal>
+    #[inline(never)]
+    fn join_parts(self, token: &[u8], text: &mut Vec<u8>) -> Result<(), Refusal>
         requires empty { text.old.items ≡ [] }
         requires lawful { IsToken Values token.now }
         ensures { IfTold result (IsRewritten (given self token.now) text.new.items) }
@@ -186,6 +173,65 @@ impl PartRule {
                 text.push(b'.')?;
                 Ok(())
             }
+        }
+    }
+
+    /// Adds what a data token becomes by its parts to a record in the making. Its text is made in `text`.
+    ///
+    /// # Errors
+    /// The rule by which it is refused; or out of memory.
+    #[inline(never)]
+    fn push_parts(
+        self,
+        token: &[u8],
+        text: &mut Vec<u8>,
+        making: &mut RecordDraft,
+    ) -> Result<(), Refusal>
+        requires lawful { IsToken Values token.now }
+        requires kind { making.old.builder.kind ≡ Values }
+        ensures pushed { IfTold result (Pushes (given self token.now)
+            (Holds Values making.old.builder making.old.is_long)
+            (Holds Values making.new.builder making.new.is_long)) }
+        ensures kind { OnOk result (making.new.builder.kind ≡ Values) }
+    {
+        text.clear();
+        self.join_parts(token, text)?;
+        making.push(text)?;
+        Ok(())
+    }
+
+    /// Adds what a data token becomes to a record in the making. Where its text has to be made, it is made in
+    /// `text`.
+    ///
+    /// # Errors
+    /// The rule by which it is refused; or out of memory.
+    #[inline(always)]
+    pub(crate) fn push(
+        self,
+        token: &[u8],
+        text: &mut Vec<u8>,
+        making: &mut RecordDraft,
+    ) -> Result<(), Refusal>
+        requires lawful { IsToken Values token.now }
+        requires kind { making.old.builder.kind ≡ Values }
+        ensures pushed { IfTold result (Pushes (given self token.now)
+            (Holds Values making.old.builder making.old.is_long)
+            (Holds Values making.new.builder making.new.is_long)) }
+        ensures kind { OnOk result (making.new.builder.kind ≡ Values) }
+    {
+        match self {
+            PartRule::Semitones { ties_left_out } => match read_lone(token) {
+                Some(note) => {
+                    let given = or_null(note_text(note, ties_left_out));
+                    Ok(making.push(given.as_bytes())?)
+                }
+                None => self.push_parts(token, text, making),
+            },
+            PartRule::Durations => match leading_text(token) {
+                Some(given) => Ok(making.push(given)?),
+                None => self.push_parts(token, text, making),
+            },
+            PartRule::Transposed(_) => self.push_parts(token, text, making),
         }
     }
 }

@@ -8,7 +8,7 @@ ghost use Rattle.hum_tones.specs.Commands.{given_under};
 use crate::part_rule::PartRule;
 use hum_cells::{Heading, TokenRewriter};
 use hum_path::Moves;
-use hum_record::Record;
+use hum_record::{Record, RecordDraft};
 use hum_stage::{Command, Refusal};
 use std::alloc::{AllocError, Global};
 
@@ -45,6 +45,8 @@ pub trait Partwise: Drop {
 pub struct PartwiseColumns<G> {
     heading: G,
     giving: PartRule,
+    // where the text of a token is made
+    text: Vec<u8>,
 }
 
 impl<G: Partwise> TokenRewriter for PartwiseColumns<G> {
@@ -64,17 +66,27 @@ impl<G: Partwise> TokenRewriter for PartwiseColumns<G> {
         G::command()
     }
 
-    fn begin(_alloc: Global, options: G::Options) -> Self {
+    fn begin(alloc: Global, options: G::Options) -> Self {
         let (heading, giving) = G::begin(options);
-        PartwiseColumns { heading, giving }
+        PartwiseColumns {
+            heading,
+            giving,
+            text: Vec::new(alloc),
+        }
     }
 
     fn heading(&self) -> Heading<'_> {
         self.heading.heading()
     }
 
-    fn rewrite(&mut self, _j: usize, token: &[u8], text: &mut Vec<u8>) -> Result<(), Refusal> {
-        self.giving.rewrite(token, text)
+    #[inline]
+    fn rewrite(
+        &mut self,
+        _j: usize,
+        token: &[u8],
+        making: &mut RecordDraft,
+    ) -> Result<(), Refusal> {
+        self.giving.push(token, &mut self.text, making)
     }
 
     fn follow(&mut self, _row: &Record, _found: &Moves) -> Result<(), AllocError> {

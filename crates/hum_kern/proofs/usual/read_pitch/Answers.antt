@@ -1,4 +1,4 @@
-use Rattle.std.proofs.Common.{◌≡◌, ◌∙◌, sym, ap, arith, to_z, of_z, w8, Option, Ok, ℕ, ◌+◌, List, length, take, ◌∷◌}
+use Rattle.std.proofs.Common.{◌≡◌, ◌∙◌, ap, subst, arith, to_z, of_z, w8, Option, ◌+◌, length, take, ◌∷◌, ◌++◌}
 use Rattle.std.specs.Prelude.{false}
 use Rattle.std.proofs.lemmas.Int.{ints}
 use Rattle.std.proofs.lemmas.List.{length-take-le}
@@ -6,6 +6,7 @@ use Rattle.hum_pitch.specs.Pitch.{Spelled}
 use Rattle.hum_kern.specs.declared.runs.Class.TheVariants.{Plain}
 use Rattle.hum_kern.specs.Runs.{front, behind}
 use Rattle.hum_kern.specs.Classes.{is_in}
+use Rattle.hum_kern.specs.Usual.{IsReadAlone}
 use Rattle.hum_kern.proofs.UsualParts.{usual_read, pitch_is}
 use Rattle.hum_kern.proofs.usual.read_pitch.Goals as goal
 
@@ -27,11 +28,11 @@ returns c =
     (c.split_run-2.ensures.behind ∙ ap (behind (is_in Plain)) c.split_at.ensures.back) c.in-Some.ensures (omega (arith, within)) in
     let pitch = pitch_is c.args.letter more (take signs next) _ _ _ c.natural-note.ensures.exact c.read_sign-alteration.ensures.alteration in
     let end : length before + (length more + 1) + signs ≡ length before + length (c.args.letter ∷ more) + length (take signs next) = omega (arith, counted) in
-    rw (octave, alteration, end) (sym (read ∙ ap (λ (p : Option Spelled). Ok (record {
+    rw (octave, alteration, end) (subst (IsReadAlone (before ++ (c.args.letter ∷ c.args.rest.now))) (ap (λ (p : Option Spelled). record {
       pitch = p;
       start = length before;
       end = length before + length (c.args.letter ∷ more) + length (take signs next);
       rest = false;
       grace = false;
       continued = c.in-Some.continued;
-    })) pitch))
+    }) pitch) read)

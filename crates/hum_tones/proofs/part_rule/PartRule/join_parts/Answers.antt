@@ -7,7 +7,7 @@ use Rattle.hum_tones.specs.PartRule.{gives}
 use Rattle.hum_stage.proofs.Telling.{told_on}
 use Rattle.hum_tones.proofs.SoFar.{nothing_yet, one_more, refused, none_given, some_given}
 use Rattle.hum_tones.proofs.GivenLawful.{given_lawful}
-use Rattle.hum_tones.proofs.part_rule.PartRule.rewrite.Goals as goal
+use Rattle.hum_tones.proofs.part_rule.PartRule.join_parts.Goals as goal
 
 pub loop-part-init : goal.loop-part-init
 loop-part-init c = rw c.requires.empty (nothing_yet (gives c.args.self) (subtokens c.args.token.now))
