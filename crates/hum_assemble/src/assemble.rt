@@ -27,6 +27,7 @@ use std::marker::Model;
 ///
 /// It is served as a stage is, but that it names the source whose record it wants
 /// ([`Assemble::wants`]). It wants until every source has ended, also after a fault of its own.
+#[derive(Drop)]
 pub struct Assemble {
     alloc: Global,
     stage: u8,
@@ -38,22 +39,6 @@ pub struct Assemble {
     // records of the sources that were done with
     done: Done,
     spent: bool,
-}
-
-// Written out, so that a caller's proof sees one call and not the drop of each field.
-impl Drop for Assemble {
-    fn drop(self) {
-        let Assemble {
-            alloc: _,
-            stage: _,
-            sources: _sources,
-            given: _,
-            going: _,
-            next: _,
-            done: _done,
-            spent: _,
-        } = self;
-    }
 }
 
 impl Model for Assemble {

@@ -32,6 +32,7 @@ pub struct Head {
 
 /// One source: the spines before its next record, whether it takes part in the round that goes on,
 /// that record, and how the source ends, once that is known.
+#[derive(Drop)]
 pub struct SourceHead {
     alloc: Global,
     paths: Paths,
@@ -41,21 +42,6 @@ pub struct SourceHead {
     due: bool,
     head: Option<Head>,
     ended: Option<End>,
-}
-
-// Written out, so that a caller's proof sees one call and not the drop of each field.
-impl Drop for SourceHead {
-    fn drop(self) {
-        let SourceHead {
-            alloc: _,
-            paths: _paths,
-            opened: _,
-            inside: _,
-            due: _,
-            head: _head,
-            ended: _,
-        } = self;
-    }
 }
 
 impl Model for SourceHead {
