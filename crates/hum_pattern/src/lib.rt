@@ -5,7 +5,7 @@
 #![tactic(auto)]
 
 ghost use Rattle.std.specs.Prelude.{◌≡◌, IfOk, IfErr, OnOk, Some, None, if◌then◌else◌};
-ghost use Rattle.hum_pattern.specs.Meaning.{IsExpression, IsNone, matched, first_end};
+ghost use Rattle.hum_pattern.specs.Meaning.{IsExpression, IsNone, matched, matched_by, first_end};
 ghost use Rattle.hum_pattern.specs.Searching.{begins_with, MayBeBarline};
 ghost use Rattle.hum_pattern.specs.declared.PatternFault.TheVariants.{Refused, TooLarge};
 
@@ -200,5 +200,17 @@ impl Pattern {
             return barline_end(token);
         }
         self.matcher.shortest_match(token)
+    }
+}
+
+/// Whether a pattern that may be there has a match anywhere in a token.
+#[inline]
+pub fn is_matched(pattern: &mut Option<Pattern>, token: &[u8]) -> bool
+    ensures found { result ≡ matched_by pattern.old token.now }
+    ensures same { pattern.new ≡ pattern.old }
+{
+    match pattern {
+        None => false,
+        Some(pattern) => pattern.matches(token),
     }
 }
