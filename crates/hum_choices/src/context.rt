@@ -5,7 +5,7 @@ ghost use Rattle.hum_choices.specs.declared.context.TheConstants.{GREATEST_COUNT
 use hum_pattern::Pattern;
 
 /// The greatest number of a field, and of tokens.
-pub const GREATEST_COUNT: u16 = 4_096;
+pub const GREATEST_COUNT: u64 = 4_096;
 
 /// A number of tokens, from 1 to 4,096.
 #[derive(Clone, Copy)]

@@ -18,7 +18,7 @@ pub enum Markers {
 }
 
 /// The greatest number of a passage.
-pub const GREATEST_PASSAGE: u32 = 4_294_967_295;
+pub const GREATEST_PASSAGE: u64 = 4_294_967_295;
 
 /// One item of `-r`: the numbers of passages that are chosen.
 #[derive(Clone, Copy)]
