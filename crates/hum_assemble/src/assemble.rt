@@ -19,7 +19,7 @@ use crate::places::Next;
 use crate::round::{ahead, ahead_open, any_due, give};
 use crate::source_head::SourceHead;
 use hum_record::Record;
-use hum_stage::{Command, End, Fault, Rule, State};
+use hum_stage::{Command, End, Fault, MOST_RECORDS, Rule, State};
 use std::alloc::{AllocError, Global};
 use std::marker::Model;
 
@@ -102,7 +102,7 @@ fn count(sources: &[SourceHead]) -> usize
 
 /// The own fault, if no source is broken, once all have ended.
 fn refused(end: Option<End>, stage: u8, given: u64, rule: Rule) -> State
-    requires { given ≤ 4294967295 }
+    requires { given ≤ MOST_RECORDS }
     ensures { result
         ≡ resting_state (fault_at stage AssembleCommand (Some (given + 1, rule))) end }
 {
@@ -120,7 +120,7 @@ fn refused(end: Option<End>, stage: u8, given: u64, rule: Rule) -> State
 
 /// What an assembler is ready for, by what can be done next.
 fn state_by(sources: &[SourceHead], stage: u8, given: u64, next: Next) -> State
-    requires { given ≤ 4294967295 }
+    requires { given ≤ MOST_RECORDS }
     ensures { result
         ≡ state_by stage (record { sources = sources.now; given = given }) next }
 {
@@ -183,7 +183,7 @@ impl Assemble {
         ensures one { GivesOneAsItIs }
 
         // It gives no more records than a score may have.
-        ensures few { (xs : List Input) → length (output xs) ≤ 4294967295 }
+        ensures few { (xs : List Input) → length (output xs) ≤ MOST_RECORDS }
     {
         let mut heads = Vec::new(alloc);
         for _ in 0..sources {
