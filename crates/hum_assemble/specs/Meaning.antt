@@ -19,6 +19,7 @@ use Rattle.hum_assemble.specs.declared.places.Next.TheVariants.{Wants as WantsOf
 use Rattle.hum_assemble.specs.Source.{Source, untouched}
 use Rattle.hum_assemble.specs.Change.{Input, Change, had_at}
 use Rattle.hum_assemble.specs.Merge.{Merge, ahead, given_row, given_on}
+use Rattle.hum_stage.specs.declared.TheConstants.{MOST_RECORDS}
 
 abbrev pub begun : Input → Source
 begun x = untouched x.ended x.put
@@ -157,7 +158,7 @@ pub record MayPut (stands : Moment → Type 0) (j : ℕ) (row : Row) : Type 0 wh
   pub stand : stands at
   pub wants : wants_of at ≡ Some j
   pub score : IsScore (put_of j at.inputs ++ row ∷ [])
-  pub few : length (put_of j at.inputs) < 4294967295
+  pub few : length (put_of j at.inputs) < MOST_RECORDS
 
 -- And this end.
 pub record MayEnd (stands : Moment → Type 0) (j : ℕ) (e : end.End) : Type 0 where

@@ -15,6 +15,9 @@ use Rattle.hum_assemble.specs.Source.{Source, is_inside}
 use Rattle.hum_assemble.specs.Places.{kind_at, null_at, is_over}
 use Rattle.hum_assemble.specs.Round.{any_due, is_lost, is_missing, earliest, takes, still_free}
 use Rattle.hum_assemble.specs.Round.{in_round}
+use Rattle.hum_stage.specs.declared.TheConstants.{MOST_RECORDS}
+use Rattle.hum_path.specs.declared.TheConstants.{MOST_SPINES}
+use Rattle.hum_record.specs.declared.TheConstants.{MOST_BYTES}
 
 abbrev pub tokens_of_first : List Row → List (List ℕ)
 tokens_of_first [] = []
@@ -87,9 +90,9 @@ pub record Merge : Type 0 where
 -- were given before.
 abbrev pub rule_broken : ℕ → ℕ → ℕ → Option Rule
 rule_broken spines bytes given =
-    if nat_lt 4096 spines then Some A1
-    else if nat_lt 1048576 bytes then Some L1
-    else if nat_le 4294967295 given then Some L2
+    if nat_lt MOST_SPINES spines then Some A1
+    else if nat_lt MOST_BYTES bytes then Some L1
+    else if nat_le MOST_RECORDS given then Some L2
     else None
 
 abbrev pub unless_broken : Place → Option Rule → next.Next

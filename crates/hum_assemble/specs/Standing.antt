@@ -16,6 +16,7 @@ use Rattle.hum_assemble.specs.Head.{AllLawful}
 use Rattle.hum_assemble.specs.Round.{any_due}
 use Rattle.hum_assemble.specs.Merge.{Merge, ahead, given_on}
 use Rattle.hum_assemble.specs.Meaning.{Moment, opening, is_stopped, inputs_end}
+use Rattle.hum_stage.specs.declared.TheConstants.{MOST_RECORDS}
 
 -- So many records can be given, and then the merge is this.
 abbrev pub Reaches : ℕ → Merge → Merge → Type 0
@@ -73,7 +74,7 @@ pub record IsToldAt (sources : List Source) (given : ℕ) (going : Bool) (told :
 
 pub record IsTold (sources : List Source) (given : ℕ) (going : Bool) (told : next.Next)
     (spent : Bool) : Type 0 where
-  pub at_most : given ≤ 4294967295
+  pub at_most : given ≤ MOST_RECORDS
   pub alive : spent ≡ false → IsToldAt sources given going told
 
 -- of each source one record at most waits

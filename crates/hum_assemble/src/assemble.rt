@@ -19,7 +19,7 @@ use crate::places::Next;
 use crate::round::{ahead, ahead_open, any_due, give};
 use crate::source_head::SourceHead;
 use hum_record::Record;
-use hum_stage::{Command, End, Fault, Rule, State};
+use hum_stage::{Command, End, Fault, MOST_RECORDS, Rule, State};
 use std::alloc::{AllocError, Global};
 use std::marker::Model;
 
@@ -27,6 +27,7 @@ use std::marker::Model;
 ///
 /// It is served as a stage is, but that it names the source whose record it wants
 /// ([`Assemble::wants`]). It wants until every source has ended, also after a fault of its own.
+#[derive(Drop)]
 pub struct Assemble {
     alloc: Global,
     stage: u8,
@@ -38,22 +39,6 @@ pub struct Assemble {
     // records of the sources that were done with
     done: Done,
     spent: bool,
-}
-
-// Written out, so that a caller's proof sees one call and not the drop of each field.
-impl Drop for Assemble {
-    fn drop(self) {
-        let Assemble {
-            alloc: _,
-            stage: _,
-            sources: _sources,
-            given: _,
-            going: _,
-            next: _,
-            done: _done,
-            spent: _,
-        } = self;
-    }
 }
 
 impl Model for Assemble {
@@ -117,7 +102,7 @@ fn count(sources: &[SourceHead]) -> usize
 
 /// The own fault, if no source is broken, once all have ended.
 fn refused(end: Option<End>, stage: u8, given: u64, rule: Rule) -> State
-    requires { given ≤ 4294967295 }
+    requires { given ≤ MOST_RECORDS }
     ensures { result
         ≡ resting_state (fault_at stage AssembleCommand (Some (given + 1, rule))) end }
 {
@@ -135,7 +120,7 @@ fn refused(end: Option<End>, stage: u8, given: u64, rule: Rule) -> State
 
 /// What an assembler is ready for, by what can be done next.
 fn state_by(sources: &[SourceHead], stage: u8, given: u64, next: Next) -> State
-    requires { given ≤ 4294967295 }
+    requires { given ≤ MOST_RECORDS }
     ensures { result
         ≡ state_by stage (record { sources = sources.now; given = given }) next }
 {
@@ -198,7 +183,7 @@ impl Assemble {
         ensures one { GivesOneAsItIs }
 
         // It gives no more records than a score may have.
-        ensures few { (xs : List Input) → length (output xs) ≤ 4294967295 }
+        ensures few { (xs : List Input) → length (output xs) ≤ MOST_RECORDS }
     {
         let mut heads = Vec::new(alloc);
         for _ in 0..sources {

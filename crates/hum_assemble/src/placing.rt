@@ -12,7 +12,7 @@ ghost use Rattle.hum_assemble.specs.Head.{is_opened};
 ghost use Rattle.hum_assemble.specs.Sizes.{width_under, heirs_count};
 
 use crate::places::Place;
-use hum_path::{Paths, Sign, steers, token_sign};
+use hum_path::{MOST_SPINES, Paths, Sign, steers, token_sign};
 use hum_record::{Kind, Record};
 
 /// Whether each token ends its spine.
@@ -118,7 +118,7 @@ fn heirs_count(after_join: bool, sign: Sign) -> usize
 
 /// How many spines come of those under a record's tokens.
 fn width_under(row: &Record) -> usize
-    requires { length (tokens_of row.now) ≤ 4096 }
+    requires { length (tokens_of row.now) ≤ MOST_SPINES }
     ensures { result ≡ width_under false (map sign_of (tokens_of row.now)) }
 {
     let mut count = 0usize;

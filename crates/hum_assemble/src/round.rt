@@ -128,7 +128,7 @@ fn are_more_bytes(sources: &[SourceHead], free: bool, going: bool, p: Place, lef
 
 /// Whether the record at this place is too long.
 fn is_too_long(sources: &[SourceHead], going: bool, p: Place) -> bool
-    ensures { result ≡ nat_lt 1048576 (length (text_of (made going p sources.now))) }
+    ensures { result ≡ nat_lt MOST_BYTES (length (text_of (made going p sources.now))) }
 {
     match p.kind() {
         None => comment_len(sources, going, p) > MOST_BYTES,
@@ -208,7 +208,7 @@ fn push_parts(
     requires lawful { AllLawful sources.now }
     requires kind { kind_at p ≡ Some builder.old.kind }
     requires fits { length (spelled (builder.old.tokens
-        ++ tokens_given true going p sources.now)) ≤ 1048576 }
+        ++ tokens_given true going p sources.now)) ≤ MOST_BYTES }
     ensures { OnOk result (builder.new ≡ record builder.old {
       tokens = builder.old.tokens ++ tokens_given true going p sources.now;
     }) }
@@ -297,7 +297,7 @@ fn side_by_side(
     requires kind { kind_at p ≡ Some kind }
     requires giving { IsGiving going p sources.now }
     requires lawful { AllLawful sources.now }
-    requires fits { length (text_of (made going p sources.now)) ≤ 1048576 }
+    requires fits { length (text_of (made going p sources.now)) ≤ MOST_BYTES }
     ensures { IfOk result (λ row. row ≡ made going p sources.now) }
 {
     let mut spare = spare_of(alloc, done);
@@ -318,7 +318,7 @@ fn give_side_by_side(
     requires kind { kind_at p ≡ Some kind }
     requires giving { IsGiving going p sources.old }
     requires lawful { AllLawful sources.old }
-    requires fits { length (text_of (made going p sources.old)) ≤ 1048576 }
+    requires fits { length (text_of (made going p sources.old)) ≤ MOST_BYTES }
     ensures row { IfOk result (λ row. row ≡ made going p sources.old) }
     ensures sources { OnOk result (sources.new ≡ all_moved true going p sources.old) }
 {
@@ -339,7 +339,7 @@ fn give_at(
 ) -> Result<Record, AllocError>
     requires giving { IsGiving going p sources.old }
     requires lawful { AllLawful sources.old }
-    requires fits { length (text_of (made going p sources.old)) ≤ 1048576 }
+    requires fits { length (text_of (made going p sources.old)) ≤ MOST_BYTES }
     ensures row { IfOk result (λ row. row ≡ made going p sources.old) }
     ensures sources { OnOk result (sources.new ≡ all_moved true going p sources.old) }
 {

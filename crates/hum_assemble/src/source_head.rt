@@ -16,8 +16,8 @@ ghost use Rattle.hum_assemble.specs.Merge.{moved, advanced, text_of_first, part_
 
 use crate::places::{Place, null_at};
 use crate::placing::{place, stand_behind, width_after};
-use hum_path::Paths;
-use hum_record::{Kind, Record, RecordBuilder};
+use hum_path::{MOST_SPINES, Paths};
+use hum_record::{Kind, MOST_BYTES, Record, RecordBuilder};
 use hum_stage::End;
 use std::alloc::{AllocError, Global};
 use std::marker::Model;
@@ -32,6 +32,7 @@ pub struct Head {
 
 /// One source: the spines before its next record, whether it takes part in the round that goes on,
 /// that record, and how the source ends, once that is known.
+#[derive(Drop)]
 pub struct SourceHead {
     alloc: Global,
     paths: Paths,
@@ -41,21 +42,6 @@ pub struct SourceHead {
     due: bool,
     head: Option<Head>,
     ended: Option<End>,
-}
-
-// Written out, so that a caller's proof sees one call and not the drop of each field.
-impl Drop for SourceHead {
-    fn drop(self) {
-        let SourceHead {
-            alloc: _,
-            paths: _paths,
-            opened: _,
-            inside: _,
-            due: _,
-            head: _head,
-            ended: _,
-        } = self;
-    }
 }
 
 impl Model for SourceHead {
@@ -78,7 +64,7 @@ impl Model for SourceHead {
 /// Adds a token so many times.
 fn push_nulls(builder: &mut RecordBuilder, null: &[u8], count: usize) -> Result<(), AllocError>
     requires token { IsToken builder.old.kind null.now }
-    requires fits { length (spelled (builder.old.tokens ++ replicate count null.now)) ≤ 1048576 }
+    requires fits { length (spelled (builder.old.tokens ++ replicate count null.now)) ≤ MOST_BYTES }
     ensures { OnOk result (builder.new ≡ record builder.old {
       tokens = builder.old.tokens ++ replicate count null.now;
     }) }
@@ -92,7 +78,7 @@ fn push_nulls(builder: &mut RecordBuilder, null: &[u8], count: usize) -> Result<
 /// Adds the tokens of a record.
 fn push_tokens(builder: &mut RecordBuilder, row: &Record) -> Result<(), AllocError>
     requires tokens { AllByRecursion (IsToken builder.old.kind) (tokens_of row.now) }
-    requires fits { length (spelled (builder.old.tokens ++ tokens_of row.now)) ≤ 1048576 }
+    requires fits { length (spelled (builder.old.tokens ++ tokens_of row.now)) ≤ MOST_BYTES }
     ensures { OnOk result (builder.new ≡ record builder.old {
       tokens = builder.old.tokens ++ tokens_of row.now;
     }) }
@@ -168,7 +154,7 @@ impl SourceHead {
     /// How many spines stand.
     pub fn width(&self) -> usize
         ensures width { result ≡ width self.now.path }
-        ensures at_most { result ≤ 4096 }
+        ensures at_most { result ≤ MOST_SPINES }
     {
         self.paths.width()
     }
@@ -259,7 +245,7 @@ impl SourceHead {
         requires lawful { AreLawful self.now.path self.now.coming }
         requires kind { kind_at p ≡ Some builder.old.kind }
         requires fits { length (spelled (builder.old.tokens
-            ++ part_given taken p self.now)) ≤ 1048576 }
+            ++ part_given taken p self.now)) ≤ MOST_BYTES }
         ensures { OnOk result (builder.new ≡ record builder.old {
           tokens = builder.old.tokens ++ part_given taken p self.now;
         }) }

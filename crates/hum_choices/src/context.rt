@@ -1,14 +1,18 @@
 //! Which tokens are collected.
 ghost use Rattle.std.specs.Prelude.{◌≤◌};
+ghost use Rattle.hum_choices.specs.declared.context.TheConstants.{GREATEST_COUNT};
 
 use hum_pattern::Pattern;
+
+/// The greatest number of a field, and of tokens.
+pub const GREATEST_COUNT: u64 = 4_096;
 
 /// A number of tokens, from 1 to 4,096.
 #[derive(Clone, Copy)]
 pub struct TokenCount {
     /// The number.
     pub number: u16,
-    pub ghost within: { (1 ≤ number) × (number ≤ 4096) },
+    pub ghost within: { (1 ≤ number) × (number ≤ GREATEST_COUNT) },
 }
 
 /// How many tokens are collected.

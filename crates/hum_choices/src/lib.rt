@@ -19,7 +19,7 @@ mod yank;
 
 pub use cleave::{CleaveOptions, is_name, is_separator};
 pub use commands::CommandOptions;
-pub use context::{ContextOptions, Span, TokenCount};
+pub use context::{ContextOptions, GREATEST_COUNT, Span, TokenCount};
 pub use ditto::DittoOptions;
 pub use extract::{ExtractOptions, Field, FieldRange};
 pub use mint::MintOptions;
@@ -28,4 +28,4 @@ pub use rid::RidOptions;
 pub use semits::SemitsOptions;
 pub use timebase::TimebaseOptions;
 pub use trans::TransOptions;
-pub use yank::{Markers, YankOptions, YankRange};
+pub use yank::{GREATEST_PASSAGE, Markers, YankOptions, YankRange};

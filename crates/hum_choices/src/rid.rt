@@ -1,4 +1,5 @@
 //! Which records are dropped.
+
 /// Which records are dropped, by the letters of the command (several drop what any of them drops).
 #[derive(Clone, Copy)]
 pub struct RidOptions {

@@ -1,4 +1,5 @@
 //! Which notes give their semitones.
+
 /// Which notes give their semitones.
 #[derive(Clone, Copy)]
 pub struct SemitsOptions {

@@ -17,6 +17,9 @@ pub enum Markers {
     Labels(Vec<u8>),
 }
 
+/// The greatest number of a passage.
+pub const GREATEST_PASSAGE: u64 = 4_294_967_295;
+
 /// One item of `-r`: the numbers of passages that are chosen.
 #[derive(Clone, Copy)]
 pub enum YankRange {

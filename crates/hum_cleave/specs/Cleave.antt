@@ -23,6 +23,7 @@ use Rattle.hum_columns.specs.Chosen.{is_torn, each_piece}
 use Rattle.hum_columns.specs.Deciding.{ColumnCommand, by_columns}
 use Rattle.hum_cleave.specs.Columns.{opening_flags, together}
 use Rattle.hum_cleave.specs.Tokens.{comment_of, interpretation_of, data_of}
+use Rattle.hum_record.specs.declared.TheConstants.{MOST_BYTES}
 
 -- an exchange or an added spine
 abbrev pub is_moved : Sign → Bool
@@ -59,7 +60,7 @@ merged flags tokens =
 -- the record of these tokens, unless it is too long
 abbrev pub one_record : SpinedKind → List (List ℕ) → Result (List Row) Rule
 one_record kind tokens =
-    if nat_lt 1048576 (length (spelled tokens)) then Err L1 else Ok (Spined kind tokens ∷ [])
+    if nat_lt MOST_BYTES (length (spelled tokens)) then Err L1 else Ok (Spined kind tokens ∷ [])
 
 -- what the tokens of the cleaved columns become in a record of this kind
 abbrev pub one_of : List ℕ → SpinedKind → List (List ℕ) → List ℕ

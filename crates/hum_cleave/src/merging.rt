@@ -20,7 +20,6 @@ use std::alloc::{AllocError, Global};
 use std::collections::VecDeque;
 
 /// Whether what a cleaved column asks of its spine passes a test.
-#[inline]
 fn any_cleaved<F: Fn(Sign) -> bool>(marks: &[bool], row: &Record, test: F) -> bool
     requires as_wide { length marks.now ≡ width_of row.now }
     requires test { F.IsAlwaysCallable test }

@@ -1,5 +1,5 @@
 -- What is chosen is so by its origin.
-use Rattle.std.proofs.Common.{◌≡◌, ℕ, zero, suc, ◌<◌, Bool, false, List, [], ◌∷◌, length, map, Some, slice_get, get_or, sym, arith}
+use Rattle.std.proofs.Common.{◌≡◌, ℕ, zero, suc, Bool, false, List, [], ◌∷◌, map, Some, slice_get, get_or, arith}
 use Rattle.hum_record.specs.Row.{Row}
 use Rattle.hum_path.specs.Score.{IsOpen}
 use Rattle.hum_path.specs.Chains.{origins}

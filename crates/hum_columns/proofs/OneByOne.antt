@@ -5,6 +5,7 @@ use Rattle.std.specs.List.{AllByRecursion}
 use Rattle.std.proofs.lemmas.Bool.{cases_Bool, false≢true}
 use Rattle.std.proofs.lemmas.List.{drop_all, drop-drop}
 use lib.Chars.{codes}
+use Rattle.hum_record.specs.declared.TheConstants.{MOST_BYTES}
 use Rattle.hum_record.specs.declared.SpinedKind.{SpinedKind}
 use Rattle.hum_record.specs.declared.SpinedKind.TheVariants.{Interpretation}
 use Rattle.hum_record.specs.Row.{Row, Spined}
@@ -123,7 +124,7 @@ done_fit ps h = record {
   at_most = let less = no_longer (tokens_in (first_done ps)) (tokens_in ps) (done_weight ps h.lawful) in let most = h.at_most in omega (arith, less, most);
 }
 
-pub alone_fits : (ps : List JoinedToken) → Fit ps → length (spelled (first_alone ps)) ≤ 1048576
+pub alone_fits : (ps : List JoinedToken) → Fit ps → length (spelled (first_alone ps)) ≤ MOST_BYTES
 alone_fits ps h =
     let less = no_longer (first_alone ps) (tokens_in ps) (alone_weight ps h.lawful) in
     let most = h.at_most in
@@ -175,7 +176,7 @@ touches_some after (p ∷ ps) h = elim (cases_Bool p.begins) as (λ _. 1 ≤ joi
 -- records in the making
 
 pub front_of : (xs : List (List ℕ)) (x : List ℕ) (rest all : List (List ℕ)) → xs ++ (x ∷ rest) ≡ all
-    → length (spelled all) ≤ 1048576 → length (spelled (xs ++ x ∷ [])) ≤ 1048576
+    → length (spelled all) ≤ MOST_BYTES → length (spelled (xs ++ x ∷ [])) ≤ MOST_BYTES
 front_of xs x rest all e fits =
     let more : length (spelled (xs ++ x ∷ [])) ≤ length (spelled all) =
     subst (λ (ys : List (List ℕ)). length (spelled (xs ++ x ∷ [])) ≤ length (spelled ys)) (append_assoc xs (x ∷ []) rest
@@ -211,7 +212,7 @@ lawful_at (q ∷ ps) zero p h e w = let k : p ≡ q = e in rw k (w.0, w.1)
 lawful_at (q ∷ ps) (suc i) p h e w = let ih = lawful_at ps i p (omega (arith, h)) e w in (ih.0, rw add-one (rw add-one at ih.1))
 
 -- the text of a front
-pub nulls_fit : (n : ℕ) (ps : List JoinedToken) → length (spelled (nulls n ++ first_alone ps)) ≤ 1048576 → length (spelled (nulls n)) ≤ 1048576
+pub nulls_fit : (n : ℕ) (ps : List JoinedToken) → length (spelled (nulls n ++ first_alone ps)) ≤ MOST_BYTES → length (spelled (nulls n)) ≤ MOST_BYTES
 nulls_fit n ps fits = let less = spelled_front (nulls n) (first_alone ps) in omega (arith, less, fits)
 
 -- passing a join
@@ -228,12 +229,12 @@ pub token_lawful : (front : List (List ℕ)) (p : JoinedToken) (rest : List Join
 token_lawful front p rest fit = (lawful_behind front (p ∷ rest) fit.lawful).0
 
 pub token_fits : (front : List (List ℕ)) (p : JoinedToken) (rest : List JoinedToken) → Fit (behind front (p ∷ rest))
-    → length (spelled (front ++ p.token ∷ [])) ≤ 1048576
+    → length (spelled (front ++ p.token ∷ [])) ≤ MOST_BYTES
 token_fits front p rest fit =
     front_of front p.token (tokens_in rest) (tokens_in (behind front (p ∷ rest))) (sym (tokens_behind front (p ∷ rest))) fit.at_most
 
 pub null_fits : (front : List (List ℕ)) (p : JoinedToken) (rest : List JoinedToken) → p.begins ≡ true → Fit (behind front (p ∷ rest))
-    → length (spelled (front ++ codes "*" ∷ [])) ≤ 1048576
+    → length (spelled (front ++ codes "*" ∷ [])) ≤ MOST_BYTES
 null_fits front p rest begins fit =
     let done = done_fit (behind front (p ∷ rest)) fit in
     let next : first_done (p ∷ rest) ≡ piece false (codes "*") ∷ join_done rest = rw begins refl in
@@ -279,9 +280,9 @@ few_enough room n ps some h is under = rw (is, filled_count (before_last n) ps s
 -- one record more
 
 pub alone_fits_behind : (front : List (List ℕ)) (ps : List JoinedToken) → Fit (behind front ps)
-    → length (spelled (nulls (length front) ++ first_alone ps)) ≤ 1048576
+    → length (spelled (nulls (length front) ++ first_alone ps)) ≤ MOST_BYTES
 alone_fits_behind front ps fit =
-    subst (λ (ts : List (List ℕ)). length (spelled ts) ≤ 1048576) (alone_behind front ps) (alone_fits (behind front ps) fit)
+    subst (λ (ts : List (List ℕ)). length (spelled ts) ≤ MOST_BYTES) (alone_behind front ps) (alone_fits (behind front ps) fit)
 
 pub alone_filled_behind : (front : List (List ℕ)) (ps : List JoinedToken) → behind front ps ≢ []
     → nulls (length front) ++ first_alone ps ≢ []
@@ -309,8 +310,8 @@ last_written out n i front ps h some =
     let e : n - i ≡ 0 = omega arith in
     rw (e, filled_more Interpretation (tokens_in (behind front ps)) [] (tokens_filled (behind front ps) some), tokens_behind front ps) refl
 
-pub all_fits_behind : (front : List (List ℕ)) (ps : List JoinedToken) → Fit (behind front ps) → length (spelled (front ++ tokens_in ps)) ≤ 1048576
-all_fits_behind front ps fit = subst (λ (ts : List (List ℕ)). length (spelled ts) ≤ 1048576) (tokens_behind front ps) fit.at_most
+pub all_fits_behind : (front : List (List ℕ)) (ps : List JoinedToken) → Fit (behind front ps) → length (spelled (front ++ tokens_in ps)) ≤ MOST_BYTES
+all_fits_behind front ps fit = subst (λ (ts : List (List ℕ)). length (spelled ts) ≤ MOST_BYTES) (tokens_behind front ps) fit.at_most
 
 pub all_filled_behind : (front : List (List ℕ)) (ps : List JoinedToken) → behind front ps ≢ [] → front ++ tokens_in ps ≢ []
 all_filled_behind front ps some none = tokens_filled (behind front ps) some (tokens_behind front ps ∙ none)

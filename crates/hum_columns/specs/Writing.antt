@@ -4,6 +4,7 @@ use Rattle.std.specs.Prelude.{if◌then◌else◌}
 use Rattle.std.specs.Prelude.{List, [], ◌∷◌, ◌++◌, map, length, drop}
 use Rattle.std.specs.List.{AllByRecursion}
 use lib.Chars.{codes}
+use Rattle.hum_record.specs.declared.TheConstants.{MOST_BYTES}
 use Rattle.hum_record.specs.declared.SpinedKind.TheVariants.{Interpretation}
 use Rattle.hum_record.specs.Row.{Row}
 use Rattle.hum_record.specs.Spelling.{IsToken}
@@ -18,7 +19,7 @@ use Rattle.hum_columns.specs.Spread.{spread, filled}
 -- tokens of an interpretation that isn't too long
 pub record Fit (pieces : List JoinedToken) : Type 0 where
   pub lawful : AllByRecursion (λ piece. IsToken Interpretation piece.token) pieces
-  pub at_most : length (spelled (tokens_in pieces)) ≤ 1048576
+  pub at_most : length (spelled (tokens_in pieces)) ≤ MOST_BYTES
 
 -- Where there is room for the records that pieces are written in, they are added; else nothing is.
 abbrev pub HasSpread : List JoinedToken → ℕ → List Row → List Row → Bool → Type 0

@@ -1,12 +1,12 @@
 //! The spines of a score, and which of their columns are chosen.
-ghost use Rattle.std.specs.Prelude.{◌≡◌, None, [], OnOk, OnErr, IsTrue, IsErr};
+ghost use Rattle.std.specs.Prelude.{◌≡◌, None, [], true, IfOk, OnOk, OnErr, IsTrue, IsErr};
 ghost use Rattle.hum_path.specs.Spines.{Unopened, moves, after};
 ghost use Rattle.hum_path.specs.Rules.{fault_of, is_closed};
 ghost use Rattle.hum_path.specs.Step.{ComeFrom};
 ghost use Rattle.hum_columns.specs.Following.{memory, passed};
 
 use crate::marks::moved;
-use hum_path::{Marks, Paths};
+use hum_path::{Marks, Moves, Paths};
 use hum_record::{Record, Selection};
 use std::alloc::{AllocError, Global};
 use std::marker::Model;
@@ -72,6 +72,36 @@ impl ChosenColumns {
         &self.selection
     }
 
+    /// Follows the spines. It counts as spent until its columns are chosen anew.
+    fn follow(&mut self, row: &Record) -> Result<Moves, AllocError>
+        requires { fault_of self.old.path row.now ≡ None }
+        ensures moves { IfOk result (λ found. found ≡ moves self.old.path row.now) }
+        ensures after { OnOk result (self.new ≡ record self.old {
+          path = after self.old.path row.now;
+          spent = true;
+        }) }
+        ensures sources { IfOk result (ComeFrom row.now) }
+        ensures spent { OnErr result (IsTrue self.new.spent) }
+        ensures again { IsTrue self.old.spent → IsErr result }
+    {
+        if self.spent {
+            return Err(AllocError);
+        }
+        self.spent = true;
+        self.paths.follow(row)
+    }
+
+    /// These columns are chosen from now on, and it isn't spent.
+    fn choose(&mut self, marks: Marks) -> Result<(), AllocError>
+        ensures chosen { OnOk result (self.new ≡ memory self.old.path marks) }
+        ensures kept { OnErr result (self.new ≡ self.old) }
+    {
+        self.selection = Selection::new(self.alloc, marks.each())?;
+        self.marks = marks;
+        self.spent = false;
+        Ok(())
+    }
+
     /// Takes the opening record, of which these columns are chosen.
     ///
     /// # Errors
@@ -82,16 +112,8 @@ impl ChosenColumns {
         ensures spent { OnErr result (IsTrue self.new.spent) }
         ensures again { IsTrue self.old.spent → IsErr result }
     {
-        if self.spent {
-            return Err(AllocError);
-        }
-        self.spent = true;
-        let _found = self.paths.follow(row)?;
-        let selection = Selection::new(self.alloc, marks.each())?;
-        self.marks = marks;
-        self.selection = selection;
-        self.spent = false;
-        Ok(())
+        let _found = self.follow(row)?;
+        self.choose(marks)
     }
 
     /// Takes a later interpretation: what comes of a chosen column is chosen.
@@ -105,16 +127,8 @@ impl ChosenColumns {
         ensures spent { OnErr result (IsTrue self.new.spent) }
         ensures again { IsTrue self.old.spent → IsErr result }
     {
-        if self.spent {
-            return Err(AllocError);
-        }
-        self.spent = true;
-        let found = self.paths.follow(row)?;
+        let found = self.follow(row)?;
         let marks = moved(alloc, &self.marks, &found)?;
-        let selection = Selection::new(alloc, marks.each())?;
-        self.marks = marks;
-        self.selection = selection;
-        self.spent = false;
-        Ok(())
+        self.choose(marks)
     }
 }

@@ -10,7 +10,7 @@ ghost use Rattle.hum_columns.specs.Spread.{one_by_one, before_last, filled};
 ghost use Rattle.hum_columns.specs.Writing.{Fit, draft, behind, next_phase, shown, nulls, HasPassed};
 
 use crate::pieces::JoinedToken;
-use hum_record::{Record, RecordBuilder, SpinedKind};
+use hum_record::{MOST_BYTES, Record, RecordBuilder, SpinedKind};
 use std::alloc::{AllocError, Global};
 use std::collections::VecDeque;
 
@@ -87,7 +87,7 @@ fn shown<'t>(phase: Phase, piece: &JoinedToken<'t>) -> &'t [u8]
 /// Adds so many null tokens.
 fn push_nulls(builder: &mut RecordBuilder, count: usize) -> Result<(), AllocError>
     requires made { builder.old ≡ draft builder.old.tokens }
-    requires fits { length (spelled (builder.old.tokens ++ nulls count)) ≤ 1048576 }
+    requires fits { length (spelled (builder.old.tokens ++ nulls count)) ≤ MOST_BYTES }
     ensures { OnOk result (builder.new ≡ draft (builder.old.tokens ++ nulls count)) }
 {
     for _ in 0..count {
@@ -100,7 +100,7 @@ fn push_nulls(builder: &mut RecordBuilder, count: usize) -> Result<(), AllocErro
 fn push_alone(builder: &mut RecordBuilder, pieces: &[JoinedToken<'_>]) -> Result<(), AllocError>
     requires made { builder.old ≡ draft builder.old.tokens }
     requires lawful { AllByRecursion (λ piece. IsToken Interpretation piece.token) pieces.now }
-    requires fits { length (spelled (builder.old.tokens ++ first_alone pieces.now)) ≤ 1048576 }
+    requires fits { length (spelled (builder.old.tokens ++ first_alone pieces.now)) ≤ MOST_BYTES }
     ensures { OnOk result (builder.new ≡ draft (builder.old.tokens ++ first_alone pieces.now)) }
 {
     let mut phase = Phase::Before;
@@ -115,7 +115,7 @@ fn push_alone(builder: &mut RecordBuilder, pieces: &[JoinedToken<'_>]) -> Result
 fn push_all(builder: &mut RecordBuilder, pieces: &[JoinedToken<'_>]) -> Result<(), AllocError>
     requires made { builder.old ≡ draft builder.old.tokens }
     requires lawful { AllByRecursion (λ piece. IsToken Interpretation piece.token) pieces.now }
-    requires fits { length (spelled (builder.old.tokens ++ tokens_in pieces.now)) ≤ 1048576 }
+    requires fits { length (spelled (builder.old.tokens ++ tokens_in pieces.now)) ≤ MOST_BYTES }
     ensures { OnOk result (builder.new ≡ draft (builder.old.tokens ++ tokens_in pieces.now)) }
 {
     for piece in pieces {
@@ -127,7 +127,7 @@ fn push_all(builder: &mut RecordBuilder, pieces: &[JoinedToken<'_>]) -> Result<(
 /// The record with the first join alone, after so many null tokens.
 fn alone(alloc: Global, before: usize, pieces: &[JoinedToken<'_>]) -> Result<Record, AllocError>
     requires lawful { AllByRecursion (λ piece. IsToken Interpretation piece.token) pieces.now }
-    requires fits { length (spelled (nulls before ++ first_alone pieces.now)) ≤ 1048576 }
+    requires fits { length (spelled (nulls before ++ first_alone pieces.now)) ≤ MOST_BYTES }
     requires filled { nulls before ++ first_alone pieces.now ≢ [] }
     ensures { IfOk result
         (λ made. made ≡ Spined Interpretation (nulls before ++ first_alone pieces.now)) }

@@ -7,8 +7,8 @@ use Rattle.std.specs.List.{join_with_byte}
 use Rattle.std.proofs.lemmas.Bool.Decides.{nat_tests}
 use Rattle.hum_record.specs.Row.{Row, token_at}
 use Rattle.hum_path.specs.Spines.{Path}
-use Rattle.hum_context.specs.declared.hearing.Heard.{Heard}
-use Rattle.hum_context.specs.declared.hearing.Heard.TheVariants.{Passed, Taken}
+use Rattle.hum_context.specs.declared.heard.Heard.{Heard}
+use Rattle.hum_context.specs.declared.heard.Heard.TheVariants.{Passed, Taken}
 use Rattle.hum_context.specs.declared.queued.Queued.{Queued}
 use Rattle.hum_context.specs.Context.{Choice, Extent, chain, is_collectable, taken}
 use Rattle.hum_context.specs.Columns.{column_after}

@@ -8,8 +8,8 @@ use Rattle.hum_path.specs.Score.{path_after, passed}
 use Rattle.hum_stage.specs.declared.faults.Rule.TheVariants.{L1}
 use Rattle.hum_stage.specs.Order.{passed-push}
 use Rattle.hum_stage.specs.Settles.{lasting, or_stop}
-use Rattle.hum_context.specs.declared.front.Weight.{Weight}
-use Rattle.hum_context.specs.declared.front.Weight.TheVariants.{Undecided, Long, Fits}
+use Rattle.hum_context.specs.declared.becoming.Weight.{Weight}
+use Rattle.hum_context.specs.declared.becoming.Weight.TheVariants.{Undecided, Long, Fits}
 use Rattle.hum_context.specs.declared.queued.Queued.{Queued}
 use Rattle.hum_context.specs.Context.{Choice, context, all_some, new_tokens}
 use Rattle.hum_stage.specs.Score.{through}

@@ -12,8 +12,8 @@ use Rattle.hum_record.specs.declared.Kind.TheVariants.{Values as AnyValues}
 use Rattle.hum_record.specs.Row.{Row, Comment, Spined, kind_of, token_at}
 use Rattle.hum_path.specs.Spines.{Path, after}
 use Rattle.hum_path.specs.Chains.{below_at, future}
-use Rattle.hum_context.specs.declared.hearing.Heard.{Heard}
-use Rattle.hum_context.specs.declared.hearing.Heard.TheVariants.{Passed, Taken}
+use Rattle.hum_context.specs.declared.heard.Heard.{Heard}
+use Rattle.hum_context.specs.declared.heard.Heard.TheVariants.{Passed, Taken}
 use Rattle.hum_context.specs.declared.queued.Queued.{Queued}
 use Rattle.hum_context.specs.declared.walk.Walk.{Walk}
 use Rattle.hum_context.specs.Context.{Choice, Extent, First, Between, is_collectable, is_last, taken}
@@ -23,8 +23,8 @@ use Rattle.hum_stage.specs.Score.{through}
 use Rattle.hum_context.specs.Heard.{heard_of, heard_under, ends, enough_by, wanted_of}
 use Rattle.hum_context.specs.Queue.{Known, column_in, is_last_in, heard_token}
 use Rattle.hum_context.specs.Walking.{Becomes, Has, Halts, Stands, collected, bytes_of}
-use Rattle.hum_context.specs.declared.front.Becoming.{Becoming}
-use Rattle.hum_context.specs.declared.front.Becoming.TheVariants.{Collects}
+use Rattle.hum_context.specs.declared.becoming.Becoming.{Becoming}
+use Rattle.hum_context.specs.declared.becoming.Becoming.TheVariants.{Collects}
 use Rattle.hum_context.proofs.Growth.{chain_step, chain_push, column_push, ended_none, taken_next}
 use Rattle.hum_context.proofs.Growth.{taken_stays, is_enough_by}
 use Rattle.hum_context.proofs.Measured.{longer_taken}

@@ -11,7 +11,7 @@ use Rattle.hum_record.specs.Spelling.{IsTextOf}
 use Rattle.hum_path.specs.declared.moved.Move.{Move}
 use Rattle.hum_path.specs.Spines.{Path, after, moves}
 use Rattle.hum_path.specs.Chains.{goes_on}
-use Rattle.hum_context.specs.declared.hearing.Heard.TheVariants.{Passed, Taken}
+use Rattle.hum_context.specs.declared.heard.Heard.TheVariants.{Passed, Taken}
 use Rattle.hum_context.specs.declared.queued.Queued.{Queued}
 use Rattle.hum_context.specs.declared.walk.Walk.{Walk}
 use Rattle.hum_context.specs.Context.{Choice, is_collectable, is_last, begins}

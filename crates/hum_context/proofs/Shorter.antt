@@ -12,8 +12,8 @@ use Rattle.std.proofs.lemmas.List.Elements.{filter-append}
 use Rattle.std.proofs.lemmas.List.Folds.{list_any-append}
 use Rattle.hum_record.specs.Row.{Row, token_at}
 use Rattle.hum_path.specs.Spines.{Path, after}
-use Rattle.hum_context.specs.declared.hearing.Heard.{Heard}
-use Rattle.hum_context.specs.declared.hearing.Heard.TheVariants.{Passed, Taken}
+use Rattle.hum_context.specs.declared.heard.Heard.{Heard}
+use Rattle.hum_context.specs.declared.heard.Heard.TheVariants.{Passed, Taken}
 use Rattle.hum_context.specs.declared.queued.Queued.{Queued}
 use Rattle.hum_context.specs.declared.walk.Walk.{Walk}
 use Rattle.hum_context.specs.Context.{Choice, Extent, First, Between, is_collectable, is_last, taken}

@@ -10,10 +10,10 @@ use Rattle.hum_record.specs.declared.SpinedKind.TheVariants.{Local, Interpretati
 use Rattle.hum_record.specs.Row.{Row, Comment, Spined, kind_of, text_of, tokens_of, width_of}
 use Rattle.hum_record.specs.declared.Kind.TheVariants.{Values as AnyValues}
 use Rattle.hum_record.specs.Spelling.{IsToken, kind_of_token}
-use Rattle.hum_context.specs.declared.hearing.Heard.TheVariants.{Passed, Taken}
+use Rattle.hum_context.specs.declared.heard.Heard.TheVariants.{Passed, Taken}
 use Rattle.hum_context.specs.Context.{Choice, is_data, is_collectable, is_last, begins}
 use Rattle.hum_context.specs.Heard.{heard_of, heard_under, is_taken, ends}
-use Rattle.hum_context.specs.declared.hearing.Heard.{Heard}
+use Rattle.hum_context.specs.declared.heard.Heard.{Heard}
 use Rattle.hum_context.proofs.Growth.{value_goes_on}
 
 -- a token in a column, or none beyond the last

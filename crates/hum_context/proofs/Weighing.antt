@@ -15,9 +15,9 @@ use Rattle.hum_record.specs.Row.{Row, Comment, Spined, kind_of, text_of, tokens_
 use Rattle.hum_path.specs.Spines.{Path}
 use Rattle.hum_path.specs.Score.{path_after}
 use Rattle.hum_stage.specs.declared.faults.Rule.TheVariants.{L1}
-use Rattle.hum_context.specs.declared.front.Becoming.{Becoming}
-use Rattle.hum_context.specs.declared.front.Becoming.TheVariants.{Stays, Null, Collects}
-use Rattle.hum_context.specs.declared.hearing.Heard.TheVariants.{Passed, Taken}
+use Rattle.hum_context.specs.declared.becoming.Becoming.{Becoming}
+use Rattle.hum_context.specs.declared.becoming.Becoming.TheVariants.{Stays, Null, Collects}
+use Rattle.hum_context.specs.declared.heard.Heard.TheVariants.{Passed, Taken}
 use Rattle.hum_context.specs.declared.queued.Queued.{Queued}
 use Rattle.hum_context.specs.Context.{Choice, all_some, push_front, chain, new_token, new_tokens}
 use Rattle.hum_context.specs.Context.{if_fits, context, is_collectable, begins}

@@ -9,7 +9,7 @@ use Rattle.hum_record.specs.Row.{Row, Comment, Spined, kind_of, text_of, token_a
 use Rattle.hum_record.specs.Spelling.{IsTextOf, IsToken, IsTokenOf}
 use Rattle.hum_path.specs.Spines.{Path}
 use Rattle.hum_context.specs.declared.queued.Queued.{Queued}
-use Rattle.hum_context.specs.declared.front.Becoming.TheVariants.{Stays}
+use Rattle.hum_context.specs.declared.becoming.Becoming.TheVariants.{Stays}
 use Rattle.hum_context.specs.Context.{Choice, chain}
 use Rattle.hum_context.specs.Queue.{HasToken, FirstIsData, Knows}
 use Rattle.hum_context.specs.Walking.{Becomes, Writes}

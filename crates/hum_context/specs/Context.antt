@@ -16,6 +16,7 @@ use Rattle.hum_path.specs.Score.{path_after}
 use Rattle.hum_path.specs.Chains.{future}
 use Rattle.hum_stage.specs.declared.faults.Rule.{Rule}
 use Rattle.hum_stage.specs.declared.faults.Rule.TheVariants.{L1}
+use Rattle.hum_record.specs.declared.TheConstants.{MOST_BYTES}
 
 -- How many tokens are collected: so many, or, from one that begins, those through the first that
 -- ends.
@@ -109,7 +110,7 @@ all_some (x ∷ xs) = push_front x (all_some xs)
 
 -- a record, unless it is too long
 abbrev pub if_fits : Row → Result (List Row) Rule
-if_fits row = if nat_le (length (text_of row)) 1048576 then Ok (row ∷ []) else Err L1
+if_fits row = if nat_le (length (text_of row)) MOST_BYTES then Ok (row ∷ []) else Err L1
 
 -- a data record once each of its tokens is decided
 abbrev pub data_of : Option (List (List ℕ)) → Option (Result (List Row) Rule)

@@ -3,8 +3,8 @@ use Rattle.std.specs.Prelude.{ℕ, Bool, true, false, List, if◌then◌else◌,
 use Rattle.std.specs.Prelude.{[], Option, Some, None}
 use Rattle.hum_record.specs.declared.SpinedKind.TheVariants.{Values}
 use Rattle.hum_record.specs.Row.{Row, Spined}
-use Rattle.hum_context.specs.declared.hearing.Heard.{Heard}
-use Rattle.hum_context.specs.declared.hearing.Heard.TheVariants.{Passed, Taken}
+use Rattle.hum_context.specs.declared.heard.Heard.{Heard}
+use Rattle.hum_context.specs.declared.heard.Heard.TheVariants.{Passed, Taken}
 use Rattle.hum_context.specs.Context.{Choice, Extent, First, Between, is_collectable, begins}
 
 -- how many tokens are wanted, where that is known

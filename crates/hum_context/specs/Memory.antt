@@ -10,6 +10,7 @@ use Rattle.hum_context.specs.declared.walk.Walk.{Walk}
 use Rattle.hum_context.specs.Context.{Choice, context, taken}
 use Rattle.hum_context.specs.Queue.{Knows}
 use Rattle.hum_context.specs.Walking.{AllStand}
+use Rattle.hum_stage.specs.declared.TheConstants.{MOST_RECORDS}
 
 -- The state follows the command over the spines. It has the records that wait, and walks from the
 -- cells of the first of them; so many are gone.
@@ -22,7 +23,7 @@ pub record Follows (o : Choice) (path : Path) (gone : ℕ) (walks : List Walk) (
   pub waits : Knows o (path_after past) held rows
   pub stand : AllStand o (path_after past) gone rows walks
   pub counted : gone + length rows ≡ length (passed past rows)
-  pub few : length (passed past rows) ≤ 4294967295
+  pub few : length (passed past rows) ≤ MOST_RECORDS
 
 pub knows_each : (o : Choice) (path : Path) (held : List Queued) (rows : List Row)
     → Knows o path held rows → length held ≡ length rows

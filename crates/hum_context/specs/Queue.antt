@@ -10,12 +10,13 @@ use Rattle.hum_path.specs.Spines.{Path, after, moves}
 use Rattle.hum_path.specs.Chains.{goes_on}
 use Rattle.hum_context.specs.declared.below.Below.{Below}
 use Rattle.hum_context.specs.declared.below.Below.TheVariants.{Same, Listed}
-use Rattle.hum_context.specs.declared.hearing.Heard.{Heard}
-use Rattle.hum_context.specs.declared.hearing.Heard.TheVariants.{Passed, Taken}
+use Rattle.hum_context.specs.declared.heard.Heard.{Heard}
+use Rattle.hum_context.specs.declared.heard.Heard.TheVariants.{Passed, Taken}
 use Rattle.hum_context.specs.declared.queued.Queued.{Queued}
 use Rattle.hum_context.specs.Context.{Choice, is_collectable, is_last}
 use Rattle.hum_context.specs.Columns.{column_below, under}
 use Rattle.hum_context.specs.Heard.{heard_under}
+use Rattle.hum_record.specs.declared.TheConstants.{MOST_BYTES}
 
 -- the place at which the spine at place c goes on
 abbrev pub place_in : Below → ℕ → Option ℕ
@@ -57,7 +58,7 @@ HasToken (kept ∷ held) j = FirstIsData (kept ∷ held) × (j < width_of kept.r
 -- and which of them end there.
 pub record Known (o : Choice) (path : Path) (row : Row) (kept : Queued) : Type 0 where
   pub is : kept.row ≡ row
-  pub short : length (text_of row) ≤ 1048576
+  pub short : length (text_of row) ≤ MOST_BYTES
   pub heard : (c : ℕ) → slice_index_or kept.heard.items c Passed ≡ heard_under o row c
   pub collected : (c : ℕ) → filter (is_collectable o) (under row (Some c))
       ≡ heard_token (heard_under o row c) (token_at row c)

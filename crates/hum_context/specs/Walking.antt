@@ -8,13 +8,14 @@ use lib.Chars.{codes}
 use Rattle.hum_record.specs.Row.{Row}
 use Rattle.hum_path.specs.Spines.{Path}
 use Rattle.hum_context.specs.declared.walk.Walk.{Walk}
-use Rattle.hum_context.specs.declared.front.Becoming.{Becoming}
-use Rattle.hum_context.specs.declared.front.Becoming.TheVariants.{Stays, Null, Collects}
-use Rattle.hum_context.specs.declared.front.Weight.{Weight}
-use Rattle.hum_context.specs.declared.front.Weight.TheVariants.{Undecided, Long, Fits}
+use Rattle.hum_context.specs.declared.becoming.Becoming.{Becoming}
+use Rattle.hum_context.specs.declared.becoming.Becoming.TheVariants.{Stays, Null, Collects}
+use Rattle.hum_context.specs.declared.becoming.Weight.{Weight}
+use Rattle.hum_context.specs.declared.becoming.Weight.TheVariants.{Undecided, Long, Fits}
 use Rattle.hum_context.specs.Context.{Choice, is_collectable, is_last, taken, chain}
 use Rattle.hum_context.specs.Context.{new_token}
 use Rattle.hum_context.specs.Columns.{column_after}
+use Rattle.hum_record.specs.declared.TheConstants.{MOST_BYTES}
 
 -- the bytes of some tokens, with one behind each
 abbrev pub bytes_of : List (List ℕ) → ℕ
@@ -76,7 +77,7 @@ Takes o token chain bytes =
 -- the text of some tokens, joined by spaces, or the front of one that no record holds
 abbrev pub IsJoined : List ℕ → List (List ℕ) → Type 0
 IsJoined text tokens = (text ≢ []) × ((text ≡ join_with_byte 32 tokens)
-    ⊎ ((1048576 < length text) × (1048576 < length (join_with_byte 32 tokens))))
+    ⊎ ((MOST_BYTES < length text) × (MOST_BYTES < length (join_with_byte 32 tokens))))
 
 -- whether some new tokens are known
 abbrev pub AreKnown : Option (List (List ℕ)) → Bool → Type 0

@@ -5,7 +5,7 @@ ghost use Rattle.std.specs.List.{position};
 ghost use Rattle.hum_path.specs.Chains.{goes_on};
 ghost use Rattle.hum_context.specs.Queue.{place_in};
 
-use hum_path::{Move, Moves};
+use hum_path::{MOST_SPINES, Move, Moves};
 use std::alloc::{AllocError, Global};
 
 /// For each spine under a record the place of the one that goes on from it.
@@ -74,7 +74,7 @@ fn mark_move(places: &mut Vec<Option<u32>>, from: Move, place: u32) -> Result<()
 
 /// The places at which spines go on by some moves.
 fn places_below(alloc: Global, moves: &[Move]) -> Result<Vec<Option<u32>>, AllocError>
-    requires { length moves.now ≤ 4096 }
+    requires { length moves.now ≤ MOST_SPINES }
     ensures { IfOk result (λ places. (c : ℕ) → slice_index_or places.items c None
         ≡ position (goes_on c) moves.now) }
 {
@@ -90,7 +90,7 @@ fn places_below(alloc: Global, moves: &[Move]) -> Result<Vec<Option<u32>>, Alloc
 impl Below {
     /// By these moves.
     pub(crate) fn by(alloc: Global, found: &Moves) -> Result<Below, AllocError>
-        requires { length found.now ≤ 4096 }
+        requires { length found.now ≤ MOST_SPINES }
         ensures { IfOk result (λ below. (c : ℕ) → place_in below c
             ≡ position (goes_on c) found.now) }
     {

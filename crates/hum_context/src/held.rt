@@ -9,7 +9,7 @@ ghost use Rattle.hum_record.specs.Row.{Row, kind_of, row_of, text_of, token_at, 
 ghost use Rattle.hum_record.specs.Spelling.{IsTextOf, IsTokenOf};
 ghost use Rattle.hum_context.specs.Held.{nulls};
 
-use hum_record::{Kind, Record, RecordBuilder, SpinedKind, is_null};
+use hum_record::{Kind, MOST_BYTES, Record, RecordBuilder, SpinedKind, is_null};
 use std::alloc::{AllocError, Global};
 use std::marker::Model;
 
@@ -98,7 +98,7 @@ impl HeldRecord {
         ensures kind { result ≡ kind_of self.now }
         ensures lawful { IsTextOf self.now (text_of self.now) }
         ensures shape { self.now ≡ row_of result (text_of self.now) (tokens_of self.now) }
-        ensures at_most { length (text_of self.now) ≤ 1048576 }
+        ensures at_most { length (text_of self.now) ≤ MOST_BYTES }
     {
         match &self.holding {
             HeldForm::Whole(row) => row.kind(),

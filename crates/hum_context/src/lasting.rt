@@ -7,13 +7,14 @@ ghost use Rattle.hum_context.specs.Context.{Choice, context, taken};
 ghost use Rattle.hum_context.specs.Heard.{wanted_of};
 ghost use Rattle.hum_context.specs.Queue.{Knows};
 
-use crate::front::{Weight, weigh};
+use crate::becoming::{Weight, weigh};
 use crate::queued::Queued;
+use hum_stage::MOST_RECORDS;
 use std::collections::VecDeque;
 
 /// Whether the k-th record that waits is known to be too long.
 fn is_refused(held: &VecDeque<Queued>, k: usize, wanted: Option<u16>) -> bool
-    requires few { length held.now.items ≤ 4294967295 }
+    requires few { length held.now.items ≤ MOST_RECORDS }
     requires within { k < length held.now.items }
     ensures { (o : Choice) (past : List Row) (row : Row) (rows : List Row)
         → wanted ≡ wanted_of o.extent → taken o.extent [] ≡ None
@@ -32,7 +33,7 @@ fn is_refused(held: &VecDeque<Queued>, k: usize, wanted: Option<u16>) -> bool
 
 /// How many records stand before the first that is known to be refused.
 pub(crate) fn lasting(held: &VecDeque<Queued>, wanted: Option<u16>) -> usize
-    requires few { length held.now.items ≤ 4294967295 }
+    requires few { length held.now.items ≤ MOST_RECORDS }
     ensures { (o : Choice) (past rows : List Row) → wanted ≡ wanted_of o.extent
         → taken o.extent [] ≡ None → Knows o (path_after past) held.now.items rows
         → result ≡ lasting (context o) past rows }

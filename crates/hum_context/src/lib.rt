@@ -6,9 +6,9 @@
 //! next exclusive interpretation.
 #![tactic(auto)]
 
+mod becoming;
 mod below;
-mod front;
-mod hearing;
+mod heard;
 mod held;
 mod lasting;
 mod measuring;

@@ -7,15 +7,16 @@ ghost use Rattle.hum_context.specs.Heard.{wanted_of};
 ghost use Rattle.hum_context.specs.Queue.{Knows};
 ghost use Rattle.hum_context.specs.Walking.{bytes_of, collected};
 
-use crate::hearing::Heard;
+use crate::heard::Heard;
 use crate::queued::Queued;
 use crate::stepping::is_enough;
+use hum_stage::MOST_RECORDS;
 use std::collections::VecDeque;
 
 /// How many bytes the tokens have that are collected from a cell of the k-th record that waits, with
 /// one behind each, where they are enough.
 pub(crate) fn measure(held: &VecDeque<Queued>, k: usize, j: usize, wanted: Option<u16>) -> u64
-    requires few { length held.now.items ≤ 4294967295 }
+    requires few { length held.now.items ≤ MOST_RECORDS }
     requires within { k < length held.now.items }
     ensures few { result ≤ 2 ^ 53 }
     ensures size { (o : Choice) (path : Path) (rows : List Row) → wanted ≡ wanted_of o.extent

@@ -10,9 +10,9 @@ ghost use Rattle.hum_context.specs.Queue.{Known, Knows, LeadsBelow};
 ghost use Rattle.hum_context.specs.Walking.{AllStand};
 ghost use Rattle.hum_context.specs.declared.queued.Queued.{Queued};
 
+use crate::becoming::{advance, write};
 use crate::below::Below;
-use crate::front::{advance, write};
-use crate::hearing::{SpareHeard, wanted};
+use crate::heard::{SpareHeard, wanted};
 use crate::held::HeldRecord;
 use crate::lasting::lasting;
 use crate::queued::Queued;
@@ -20,7 +20,7 @@ use crate::sharing::{share, shorten};
 use crate::text::Text;
 use crate::walk::Walk;
 use hum_choices::ContextOptions;
-use hum_path::Paths;
+use hum_path::{MOST_SPINES, Paths};
 use hum_record::{Kind, Record, Spare};
 use hum_stage::{Command, LooksAhead, MOST_RECORDS, Refusal, Rule, Verdict};
 use std::alloc::{AllocError, Global};
@@ -52,7 +52,7 @@ pub struct Collecting {
 #[inline]
 fn below_row(alloc: Global, paths: &mut Paths, row: &Record) -> Result<Below, AllocError>
     requires sound { fault_of paths.old.path row.now ≡ None }
-    requires narrow { width (after paths.old.path row.now) ≤ 4096 }
+    requires narrow { width (after paths.old.path row.now) ≤ MOST_SPINES }
     ensures after { OnOk result (paths.new.path ≡ after paths.old.path row.now) }
     ensures below { IfOk result (LeadsBelow paths.old.path row.now) }
 {
@@ -199,7 +199,7 @@ impl Collecting {
 
     /// The first record that waits is gone.
     fn let_go(&mut self, held: &mut VecDeque<Queued>) -> Result<HeldRecord, AllocError>
-        requires few { self.old.gone < 4294967295 }
+        requires few { self.old.gone < MOST_RECORDS }
         requires some { 0 < deque_len held.old }
         ensures kept { OnOk result (self.new ≡ record self.old {
           gone = self.new.gone;

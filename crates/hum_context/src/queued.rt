@@ -4,7 +4,7 @@ ghost use Rattle.hum_record.specs.declared.Kind.TheVariants.{Values as AnyValues
 ghost use Rattle.hum_record.specs.Row.{kind_of, width_of};
 
 use crate::below::Below;
-use crate::hearing::Heard;
+use crate::heard::Heard;
 use crate::held::HeldRecord;
 
 /// A record that waits, what was heard of its tokens, and where the spines under it go.

@@ -8,7 +8,7 @@ ghost use Rattle.hum_context.specs.Heard.{wanted_of};
 ghost use Rattle.hum_context.specs.Queue.{Known, column_in};
 ghost use Rattle.hum_context.specs.Walking.{AllStand, Has, Shortens, Stands};
 
-use crate::hearing::Heard;
+use crate::heard::Heard;
 use crate::queued::Queued;
 use crate::walk::Walk;
 use std::alloc::AllocError;

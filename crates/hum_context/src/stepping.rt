@@ -8,11 +8,12 @@ ghost use Rattle.hum_stage.specs.Score.{through};
 ghost use Rattle.hum_context.specs.Heard.{wanted_of, enough_by};
 ghost use Rattle.hum_context.specs.Queue.{Known, Knows, column_in, is_last_in};
 ghost use Rattle.hum_context.specs.Walking.{Has, Stands, Halts};
-ghost use Rattle.hum_context.specs.declared.hearing.Heard.TheVariants.{Passed};
+ghost use Rattle.hum_context.specs.declared.heard.Heard.TheVariants.{Passed};
 
-use crate::hearing::Heard;
+use crate::heard::Heard;
 use crate::queued::Queued;
 use crate::walk::Walk;
+use hum_stage::MOST_RECORDS;
 use std::collections::VecDeque;
 
 /// Whether so many tokens are enough, the last of which ends a group or doesn't.
@@ -30,7 +31,7 @@ impl Walk {
     /// A walk that is still at the cell in a column.
     #[inline(always)]
     pub(crate) fn from(at: u64, column: usize) -> Walk
-        requires { at ≤ 4294967295 }
+        requires { at ≤ MOST_RECORDS }
         ensures at { result.at ≡ at }
         ensures column { result.column ≡ Some column }
         ensures none { result.count ≡ 0 }
@@ -62,7 +63,7 @@ impl Walk {
     /// One record more, whose token in its column isn't collected.
     #[inline(always)]
     fn pass_by(&mut self, c: usize, next: &Queued)
-        requires few { self.old.at < 4294967295 }
+        requires few { self.old.at < MOST_RECORDS }
         ensures at { self.new.at ≡ self.old.at + 1 }
         ensures column { self.new.column ≡ column_in next.now.row next.now.below c }
         ensures ended { self.new.ended ≡ is_last_in next.now.row c }
@@ -79,7 +80,7 @@ impl Walk {
     /// data, so that the column goes on.
     #[inline(always)]
     fn collect(&mut self, c: usize, next: &Queued, wanted: Option<u16>, ends: bool)
-        requires few { self.old.at < 4294967295 }
+        requires few { self.old.at < MOST_RECORDS }
         requires taken { slice_index_or next.now.heard.items c Passed ≢ Passed }
         ensures at { self.new.at ≡ self.old.at + 1 }
         ensures column { self.new.column ≡ column_in next.now.row next.now.below c }
@@ -97,7 +98,7 @@ impl Walk {
     /// One record more, on which it stands in a column.
     #[inline(always)]
     pub(crate) fn pass(&mut self, c: usize, next: &Queued, wanted: Option<u16>)
-        requires few { self.old.at < 4294967295 }
+        requires few { self.old.at < MOST_RECORDS }
         ensures at { self.new.at ≡ self.old.at + 1 }
         ensures has { (o : Choice) (path : Path) (rows : List Row) (row : Row) (j : ℕ)
             → wanted ≡ wanted_of o.extent → Known o (through path rows) row next.now
@@ -115,23 +116,7 @@ impl Walk {
     #[inline(always)]
     pub(crate) fn go_on(self, held: &VecDeque<Queued>, gone: u64, wanted: Option<u16>) -> Walk
         requires behind { gone ≤ self.at }
-        requires few { gone + length held.now.items ≤ 4294967295 }
-        ensures behind { gone ≤ result.at }
-        ensures halts { (o : Choice) (path : Path) (k : ℕ) (rows : List Row) (j : ℕ)
-            → wanted ≡ wanted_of o.extent → Knows o path (drop k held.now.items) rows
-            → Stands o path (gone + k) rows j self → Halts o path (gone + k) rows j result }
-    {
-        if self.enough {
-            return self;
-        }
-        self.go_further(held, gone, wanted)
-    }
-
-    // The same, by a look at its records.
-    #[inline(always)]
-    fn go_further(self, held: &VecDeque<Queued>, gone: u64, wanted: Option<u16>) -> Walk
-        requires behind { gone ≤ self.at }
-        requires few { gone + length held.now.items ≤ 4294967295 }
+        requires few { gone + length held.now.items ≤ MOST_RECORDS }
         ensures behind { gone ≤ result.at }
         ensures halts { (o : Choice) (path : Path) (k : ℕ) (rows : List Row) (j : ℕ)
             → wanted ≡ wanted_of o.extent → Knows o path (drop k held.now.items) rows

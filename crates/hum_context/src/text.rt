@@ -73,7 +73,7 @@ impl Text {
     /// Whether they make more than a record holds.
     #[inline]
     pub(crate) fn is_long(&self) -> bool
-        ensures { result ≡ nat_lt 1048576 (length self.now) }
+        ensures { result ≡ nat_lt MOST_BYTES (length self.now) }
     {
         self.bytes.len() > MOST_BYTES
     }

@@ -8,10 +8,10 @@ ghost use Rattle.hum_path.specs.Spines.{Path};
 ghost use Rattle.hum_context.specs.Context.{is_last};
 ghost use Rattle.hum_context.specs.Options.{choice_of};
 ghost use Rattle.hum_context.specs.Queue.{IsStill, Known, LeadsBelow, column_in, is_last_in};
-ghost use Rattle.hum_context.specs.declared.hearing.Heard.TheVariants.{Passed};
+ghost use Rattle.hum_context.specs.declared.heard.Heard.TheVariants.{Passed};
 
 use crate::below::Below;
-use crate::hearing::{Heard, SpareHeard, hear_row};
+use crate::heard::{Heard, SpareHeard, hear_row};
 use crate::held::HeldRecord;
 use crate::queued::Queued;
 use hum_choices::ContextOptions;

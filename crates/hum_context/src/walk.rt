@@ -1,5 +1,8 @@
 //! What a walk down a spine has come to.
 ghost use Rattle.std.specs.Prelude.{◌≤◌};
+ghost use Rattle.hum_stage.specs.declared.TheConstants.{MOST_RECORDS};
+
+use hum_stage::MOST_RECORDS;
 
 /// What a walk from a cell down its spine has come to.
 #[derive(Clone, Copy)]
@@ -14,5 +17,5 @@ pub(crate) struct Walk {
     pub(crate) enough: bool,
     /// Whether the future is ended.
     pub(crate) ended: bool,
-    pub ghost within: { (at ≤ 4294967295) × (count ≤ at) },
+    pub ghost within: { (at ≤ MOST_RECORDS) × (count ≤ at) },
 }

@@ -8,13 +8,14 @@ use Rattle.hum_choices.specs.declared.extract.Field.TheVariants.{Number, Last}
 use Rattle.hum_choices.specs.declared.extract.FieldRange.{FieldRange}
 use Rattle.hum_options.specs.Cutting.{front, rest}
 use Rattle.hum_options.specs.Numbers.{IsPositive, positive_of}
+use Rattle.hum_choices.specs.declared.context.TheConstants.{GREATEST_COUNT}
 
 -- the number of a field, or of tokens: from 1 to 4,096
 abbrev pub IsCount : List ℕ → ℕ → Type 0
-IsCount = IsPositive 4096
+IsCount = IsPositive GREATEST_COUNT
 
 abbrev pub count_of : List ℕ → Option ℕ
-count_of = positive_of 4096
+count_of = positive_of GREATEST_COUNT
 
 -- the fields from one number through another
 abbrev pub through : ℕ → ℕ → FieldRange

@@ -6,10 +6,11 @@ use Rattle.hum_choices.specs.declared.yank.YankRange.{YankRange}
 use Rattle.hum_choices.specs.declared.yank.YankRange.TheVariants.{Through, Onward, ToEnd, FromEnd}
 use Rattle.hum_options.specs.Cutting.{front, rest}
 use Rattle.hum_options.specs.Numbers.{IsNumber, IsPositive, number_of, positive_of}
+use Rattle.hum_choices.specs.declared.yank.TheConstants.{GREATEST_PASSAGE}
 
 -- the greatest number of a passage
 abbrev pub greatest : ℕ
-greatest = 4294967295
+greatest = GREATEST_PASSAGE
 
 -- the number of a passage
 abbrev pub IsPassage : List ℕ → ℕ → Type 0

@@ -2,8 +2,19 @@
 ghost use Rattle.std.specs.Prelude.{◌≡◌};
 ghost use Rattle.hum_options.specs.declared.faults.OptionError.TheVariants.{Memory};
 
-use std::alloc::{AllocError, AllocFailed};
+use std::alloc::AllocError;
 use thiserror::Error;
+
+/// Why words give no options.
+#[derive(Clone, Copy, Debug, Error)]
+pub enum OptionError {
+    /// The first rule that they break.
+    #[error(transparent)]
+    Fault(OptionFault),
+    /// Memory ran out.
+    #[error("out of memory")]
+    Memory,
+}
 
 /// Why a text is refused as a pattern.
 #[derive(Clone, Copy, Debug, Error)]
@@ -44,29 +55,10 @@ pub struct OptionFault {
     pub rule: OptionRule,
 }
 
-/// Why words give no options.
-#[derive(Clone, Copy, Debug, Error)]
-pub enum OptionError {
-    /// The first rule that they break.
-    #[error(transparent)]
-    Fault(OptionFault),
-    /// Memory ran out.
-    #[error("out of memory")]
-    Memory,
-}
-
 impl From<AllocError> for OptionError {
     ghost from_gives = { λ _ e. e ≡ Memory };
 
     fn from(_e: AllocError) -> OptionError {
-        OptionError::Memory
-    }
-}
-
-impl<T: Drop> From<AllocFailed<T>> for OptionError {
-    ghost from_gives = { λ _ e. e ≡ Memory };
-
-    fn from(_e: AllocFailed<T>) -> OptionError {
         OptionError::Memory
     }
 }

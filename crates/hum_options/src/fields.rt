@@ -9,17 +9,14 @@ ghost use Rattle.hum_options.specs.Items.{AreListed, items_of};
 use crate::cutting::cut;
 use crate::items::{Item, read_items};
 use crate::numbers::positive;
-use hum_choices::{Field, FieldRange, TokenCount};
+use hum_choices::{Field, FieldRange, GREATEST_COUNT, TokenCount};
 use std::alloc::{AllocError, Global};
-
-/// The greatest number of a field, and of tokens.
-const MOST: u64 = 4096;
 
 fn small_count(text: &[u8]) -> Option<u16>
     ensures read { result ≡ count_of text.now }
-    ensures within { IfSome result (λ n. (0 < n) × (n ≤ 4096)) }
+    ensures within { IfSome result (λ n. (0 < n) × (n ≤ GREATEST_COUNT)) }
 {
-    Some(positive(text, MOST)? as u16)
+    Some(positive(text, GREATEST_COUNT)? as u16)
 }
 
 fn read_count(text: &[u8]) -> Option<TokenCount>

@@ -10,22 +10,19 @@ ghost use Rattle.hum_options.specs.Items.{AreListed, items_of};
 use crate::cutting::cut;
 use crate::items::{Item, read_items};
 use crate::numbers::{number, positive};
-use hum_choices::YankRange;
+use hum_choices::{GREATEST_PASSAGE, YankRange};
 use std::alloc::{AllocError, Global};
-
-/// The greatest number of a passage.
-const GREATEST: u64 = 4_294_967_295;
 
 fn passage(text: &[u8]) -> Option<u32>
     ensures { result ≡ number_of greatest text.now }
 {
-    Some(number(text, GREATEST)? as u32)
+    Some(number(text, GREATEST_PASSAGE)? as u32)
 }
 
 fn so_many(text: &[u8]) -> Option<u32>
     ensures { result ≡ positive_of greatest text.now }
 {
-    Some(positive(text, GREATEST)? as u32)
+    Some(positive(text, GREATEST_PASSAGE)? as u32)
 }
 
 /// How far before the last number a text is: `$` is 0, `$-n` is n.

@@ -31,6 +31,11 @@ expression text = expression_in (read over_bytes (chars text))
 unfoldable pub matched : List ℕ → List ℕ → Bool
 matched text token = is_some (find (expression text) token 0)
 
+-- the same where there may be no pattern
+abbrev pub matched_by : Option (List ℕ) → List ℕ → Bool
+matched_by None token = false
+matched_by (Some text) token = matched text token
+
 -- where its leftmost match ends
 unfoldable pub first_end : List ℕ → List ℕ → Option ℕ
 first_end text token = option_map (λ m. m.trace.end) (find (expression text) token 0)

@@ -5,16 +5,16 @@
 #![tactic(auto)]
 
 ghost use Rattle.std.specs.Prelude.{◌≡◌, IfOk, IfErr, OnOk, Some, None, if◌then◌else◌};
-ghost use Rattle.hum_pattern.specs.Meaning.{IsExpression, IsNone, matched, first_end};
+ghost use Rattle.hum_pattern.specs.Meaning.{IsExpression, IsNone, matched, matched_by, first_end};
 ghost use Rattle.hum_pattern.specs.Searching.{begins_with, MayBeBarline};
-ghost use Rattle.hum_pattern.specs.declared.PatternFault.TheVariants.{Refused, TooLarge, Memory};
+ghost use Rattle.hum_pattern.specs.declared.PatternFault.TheVariants.{Refused, TooLarge};
 
 mod searched;
 
 use crate::searched::{Searched, none_searched, recalled, remember};
 use regex::Error as RegexError;
 use regex::bytes::{Matcher, Regex};
-use std::alloc::{AllocError, AllocFailed, Global};
+use std::alloc::{AllocError, Global};
 use std::marker::Model;
 use thiserror::Error;
 
@@ -30,22 +30,6 @@ pub enum PatternFault {
     /// Memory ran out.
     #[error("out of memory")]
     Memory,
-}
-
-impl From<AllocError> for PatternFault {
-    ghost from_gives = { λ _ e. e ≡ Memory };
-
-    fn from(_e: AllocError) -> PatternFault {
-        PatternFault::Memory
-    }
-}
-
-impl<T: Drop> From<AllocFailed<T>> for PatternFault {
-    ghost from_gives = { λ _ e. e ≡ Memory };
-
-    fn from(_e: AllocFailed<T>) -> PatternFault {
-        PatternFault::Memory
-    }
 }
 
 /// The pattern of barlines. Where it is given it is asked of each token of a score.
@@ -70,7 +54,6 @@ fn begins_barline(token: &[u8]) -> bool
 }
 
 /// Where that beginning ends, if there is one.
-#[inline]
 fn barline_end(token: &[u8]) -> Option<usize>
     ensures { result ≡ (if begins_with 61 token.now then Some 1 else None) }
 {
@@ -119,6 +102,37 @@ impl Model for Pattern {
 }
 
 impl Pattern {
+    ghost use Rattle.regex.specs.Bytes.{regex_source, regex_pattern};
+    ghost use Rattle.hum_pattern.specs.Searching.{SearchesFor};
+
+    /// The pattern of an expression, with what its searches write to.
+    fn searching(
+        alloc: Global,
+        regex: &'static Regex,
+        is_barline: bool,
+    ) -> Result<Pattern, AllocError>
+        requires searches { SearchesFor (regex_source regex.now) (regex_pattern regex.now) }
+        requires barline { MayBeBarline is_barline (regex_source regex.now) }
+        ensures { IfOk result (λ pattern. pattern ≡ regex_source regex.now) }
+    {
+        Ok(Pattern {
+            regex,
+            matcher: Box::new(alloc, regex.matcher(alloc)?)?,
+            searched: none_searched(alloc)?,
+            is_barline,
+        })
+    }
+
+    /// The same of an expression that stays in memory from now on.
+    fn lasting(alloc: Global, regex: Regex, is_barline: bool) -> Result<Pattern, AllocError>
+        requires searches { SearchesFor (regex_source regex) (regex_pattern regex) }
+        requires barline { MayBeBarline is_barline (regex_source regex) }
+        ensures { IfOk result (λ pattern. pattern ≡ regex_source regex) }
+    {
+        let regex: &'static Regex = Box::leak(Box::new(alloc, regex)?);
+        Pattern::searching(alloc, regex, is_barline)
+    }
+
     /// The pattern of a text.
     ///
     /// # Errors
@@ -130,15 +144,10 @@ impl Pattern {
         ensures too_large { IfErr result (λ fault. fault ≡ TooLarge → IsExpression text.now) }
     {
         match Regex::new(alloc, text) {
-            Ok(regex) => {
-                let regex: &'static Regex = Box::leak(Box::new(alloc, regex)?);
-                Ok(Pattern {
-                    regex,
-                    matcher: Box::new(alloc, regex.matcher(alloc)?)?,
-                    searched: none_searched(alloc)?,
-                    is_barline: is_barline(text),
-                })
-            }
+            Ok(regex) => match Pattern::lasting(alloc, regex, is_barline(text)) {
+                Ok(pattern) => Ok(pattern),
+                Err(_) => Err(PatternFault::Memory),
+            },
             Err(RegexError::Syntax(_)) => Err(PatternFault::Refused),
             Err(RegexError::OutOfMemory) => Err(PatternFault::Memory),
             Err(RegexError::CompiledTooBig) => Err(PatternFault::TooLarge),
@@ -153,12 +162,7 @@ impl Pattern {
     pub fn copy(&self, alloc: Global) -> Result<Pattern, AllocError>
         ensures { IfOk result (λ pattern. pattern ≡ self.now) }
     {
-        Ok(Pattern {
-            regex: self.regex,
-            matcher: Box::new(alloc, self.regex.matcher(alloc)?)?,
-            searched: none_searched(alloc)?,
-            is_barline: self.is_barline,
-        })
+        Pattern::searching(alloc, self.regex, self.is_barline)
     }
 
     /// Whether the pattern has a match anywhere in a token.
@@ -196,5 +200,17 @@ impl Pattern {
             return barline_end(token);
         }
         self.matcher.shortest_match(token)
+    }
+}
+
+/// Whether a pattern that may be there has a match anywhere in a token.
+#[inline]
+pub fn is_matched(pattern: &mut Option<Pattern>, token: &[u8]) -> bool
+    ensures found { result ≡ matched_by pattern.old token.now }
+    ensures same { pattern.new ≡ pattern.old }
+{
+    match pattern {
+        None => false,
+        Some(pattern) => pattern.matches(token),
     }
 }

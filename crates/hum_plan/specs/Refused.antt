@@ -1,5 +1,6 @@
 -- The first rule that the text of a plan breaks, in the order in which it is written.
-use Rattle.std.specs.Prelude.{◌≡◌, ◌≢◌, ◌↔◌, ◌⊎◌, ℕ, ◌+◌, ◌<◌, ◌≤◌, Bool, true, false, ◌&&◌, max}
+use Rattle.std.specs.Prelude.{◌≡◌, ◌≢◌, ◌↔◌, ◌⊎◌, ℕ, ◌+◌}
+use Rattle.std.specs.Prelude.{◌<◌, ◌≤◌, Bool, true, false, ◌&&◌, max}
 use Rattle.std.specs.Prelude.{List, [], ◌∷◌, ◌++◌, length, None, Some, IsSome, Err}
 use lib.Chars.{codes}
 use Rattle.hum_words.specs.Branches.{lines_of, branches_of}

@@ -1,6 +1,6 @@
 //! The stages of a line, one after another.
-ghost use Rattle.std.specs.Prelude.{◌≡◌, ◌<◌, ◌&&◌, nat_le, true, false, [], ◌∷◌, length};
-ghost use Rattle.std.specs.Prelude.{option_map, is_none, string_bytes, IfSome, OnOk, Ok, Err};
+ghost use Rattle.std.specs.Prelude.{◌≡◌, ◌<◌, ◌&&◌, nat_le, true, false, [], ◌∷◌, ◌++◌, length};
+ghost use Rattle.std.specs.Prelude.{option_map, is_none, string_bytes, IfSome, IfOk, OnOk, Ok, Err};
 ghost use Rattle.hum_words.specs.Pieces.{items_of};
 ghost use Rattle.hum_options.specs.Seen.{words_of};
 ghost use Rattle.hum_options.specs.Answers.{Answer, IsAnswer};
@@ -9,7 +9,7 @@ ghost use Rattle.hum_plan.specs.Lines.{behind_bar, groups};
 ghost use Rattle.hum_plan.specs.Answers.{name_read, with_read, joined, name_joined, names_joined};
 ghost use Rattle.hum_plan.specs.Answers.{with_joined, with_stage, with_command, Begins};
 ghost use Rattle.hum_plan.specs.Answers.{StageAnswer, StagesAnswer, opening_of, nothing};
-ghost use Rattle.hum_plan.specs.Branches.{Branches};
+ghost use Rattle.hum_plan.specs.Branches.{Branches, with_branch, taken};
 ghost use Rattle.hum_plan.specs.Seen.{options_of};
 ghost use Rattle.hum_plan.specs.Tells.{Tells, outline_of};
 
@@ -76,6 +76,21 @@ fn read_name(
     Ok(String::from_str(alloc, name)?)
 }
 
+/// Takes a branch, whose last stage is one source more.
+fn take_branch<'a>(
+    branches: &mut Branches<'a>,
+    sources: &mut Vec<u8>,
+    name: &'a str,
+    branch: Branch,
+) -> Result<(), AllocError>
+    ensures sources { OnOk result (sources.new.items ≡ sources.old.items ++ branch.last ∷ []) }
+    ensures branches { OnOk result (branches.new
+        ≡ with_branch branches.old name.entry.now (taken branch)) }
+{
+    sources.push(branch.last)?;
+    branches.put(name, branch.taken())
+}
+
 /// Takes the branch that a word behind `assemble` names.
 fn join_name<'a>(
     branches: &mut Branches<'a>,
@@ -94,8 +109,7 @@ fn join_name<'a>(
         Some(branch) if !branch.taken => branch,
         _ => return Err(broken(line, place, PlanRule::N11)),
     };
-    sources.push(branch.last)?;
-    branches.put(name, branch.taken())?;
+    take_branch(branches, sources, name, branch)?;
     Ok(())
 }
 
@@ -133,12 +147,22 @@ fn join_names<'a>(
     some_sources(line, number, sources)
 }
 
+/// The stage of this number alone.
+fn one_source(alloc: Global, stage: u8) -> Result<Vec<u8>, AllocError>
+    ensures { IfOk result (λ sources. sources.items ≡ stage ∷ []) }
+{
+    let mut sources = Vec::new(alloc);
+    sources.push(stage)?;
+    Ok(sources)
+}
+
 impl<'a> Draft<'a> {
     /// No line so far.
     pub(crate) fn new(alloc: Global) -> Draft<'a>
         ensures { outline_of result ≡ nothing }
     {
         Draft {
+            alloc,
             stages: Vec::new(alloc),
             branches: Branches::new(alloc),
         }
@@ -172,26 +196,19 @@ impl<'a> Draft<'a> {
     }
 
     /// The stage `read`, which is word `number`.
-    fn add_read(
-        &mut self,
-        alloc: Global,
-        line: u32,
-        number: u32,
-        pieces: &[Piece<'a>],
-    ) -> Result<(), PlanError>
+    fn add_read(&mut self, line: u32, number: u32, pieces: &[Piece<'a>]) -> Result<(), PlanError>
         requires { length self.old.stages.items < 64 }
         ensures { Tells (λ _. outline_of self.new) (λ answer. answer
             ≡ with_read (outline_of self.old) (name_read line number (words_of pieces.entry.now))) result }
     {
-        let name = read_name(alloc, line, number, pieces)?;
-        self.push(Command::Read, Vec::new(alloc), Options::Read(name))?;
+        let name = read_name(self.alloc, line, number, pieces)?;
+        self.push(Command::Read, Vec::new(self.alloc), Options::Read(name))?;
         Ok(())
     }
 
     /// The stage `assemble`, which is word `number`.
     fn add_assemble(
         &mut self,
-        alloc: Global,
         line: u32,
         number: u32,
         pieces: &[Piece<'a>],
@@ -200,7 +217,7 @@ impl<'a> Draft<'a> {
         ensures { Tells (λ _. outline_of self.new) (λ answer. answer ≡ with_joined (outline_of self.old)
             (names_joined line number (joined [] self.old.branches) (words_of pieces.entry.now))) result }
     {
-        let sources = join_names(alloc, &mut self.branches, line, number, pieces)?;
+        let sources = join_names(self.alloc, &mut self.branches, line, number, pieces)?;
         self.push(Command::Assemble, sources, Options::Assemble)?;
         Ok(())
     }
@@ -208,7 +225,6 @@ impl<'a> Draft<'a> {
     /// A command that reads from the stage before it, and is word `number`.
     fn add_command(
         &mut self,
-        alloc: Global,
         place: StagePlace,
         command: Command,
         tool: Command,
@@ -220,9 +236,8 @@ impl<'a> Draft<'a> {
             × IsAnswer tool number place.is_last (words_of pieces.entry.now) found
             × (answer ≡ with_command place.line (outline_of self.old) command found)) result }
     {
-        let mut sources = Vec::new(alloc);
-        sources.push(self.stages.len() as u8)?;
-        let options = match read_options(alloc, tool, number, pieces, place.is_last) {
+        let sources = one_source(self.alloc, self.stages.len() as u8)?;
+        let options = match read_options(self.alloc, tool, number, pieces, place.is_last) {
             Ok(options) => options,
             Err(OptionError::Fault(found)) => {
                 return Err(PlanError::Fault(in_line(place.line, found)));
@@ -236,7 +251,6 @@ impl<'a> Draft<'a> {
     /// A stage that begins with a command, which is word `number`, and goes on with the pieces.
     fn begin(
         &mut self,
-        alloc: Global,
         place: StagePlace,
         command: Command,
         number: u32,
@@ -247,18 +261,15 @@ impl<'a> Draft<'a> {
             (outline_of self.old) command number (words_of pieces.entry.now) (opening_of command)) result }
     {
         match opening_of(command) {
-            Opening::Read => self.add_read(alloc, place.line, number, pieces),
-            Opening::Assemble => self.add_assemble(alloc, place.line, number, pieces),
-            Opening::Takes(tool) => {
-                self.add_command(alloc, place, command, tool, number, pieces)
-            }
+            Opening::Read => self.add_read(place.line, number, pieces),
+            Opening::Assemble => self.add_assemble(place.line, number, pieces),
+            Opening::Takes(tool) => { self.add_command(place, command, tool, number, pieces) }
         }
     }
 
     /// The stage whose first word, word `number`, should be a command.
     fn add_word(
         &mut self,
-        alloc: Global,
         place: StagePlace,
         number: u32,
         word: &str,
@@ -274,26 +285,19 @@ impl<'a> Draft<'a> {
             return Err(broken(place.line, number, PlanRule::N7));
         };
         if opening_of(command).is_source() == place.is_first {
-            self.begin(alloc, place, command, number, pieces)
+            self.begin(place, command, number, pieces)
         } else {
             Err(broken(place.line, number, PlanRule::N6))
         }
     }
 
     /// The stage that pieces begin with.
-    fn add_stage(
-        &mut self,
-        alloc: Global,
-        place: StagePlace,
-        pieces: &[Piece<'a>],
-    ) -> Result<(), PlanError>
+    fn add_stage(&mut self, place: StagePlace, pieces: &[Piece<'a>]) -> Result<(), PlanError>
         ensures { Tells (λ _. outline_of self.new) (StageAnswer place.line place.is_first place.is_last
             (outline_of self.old) (words_of pieces.entry.now)) result }
     {
         match pieces {
-            [Piece::Word(number, word), rest @ ..] => {
-                self.add_word(alloc, place, *number, word, rest)
-            }
+            [Piece::Word(number, word), rest @ ..] => { self.add_word(place, *number, word, rest) }
             _ => Ok(()),
         }
     }
@@ -301,7 +305,6 @@ impl<'a> Draft<'a> {
     /// The stages of a line, whose pieces behind its name these are.
     pub(crate) fn add_stages(
         &mut self,
-        alloc: Global,
         line: u32,
         is_out: bool,
         pieces: &[Piece<'a>],
@@ -314,7 +317,7 @@ impl<'a> Draft<'a> {
         while let Some(stage) = rest {
             rest = behind_bar(stage);
             let place = StagePlace::new(line, is_first, is_out, rest);
-            self.add_stage(alloc, place, stage)?;
+            self.add_stage(place, stage)?;
             is_first = false;
         }
         Ok(())

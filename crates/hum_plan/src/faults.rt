@@ -6,7 +6,7 @@ ghost use Rattle.hum_plan.specs.Faults.{broken};
 
 use hum_options::{OptionFault, OptionRule};
 use hum_words::PlanTextFault;
-use std::alloc::{AllocError, AllocFailed};
+use std::alloc::AllocError;
 use std::fmt;
 use thiserror::Error;
 
@@ -142,14 +142,6 @@ impl From<AllocError> for PlanError {
     ghost from_gives = { λ _ e. e ≡ Memory };
 
     fn from(_e: AllocError) -> PlanError {
-        PlanError::Memory
-    }
-}
-
-impl<T: Drop> From<AllocFailed<T>> for PlanError {
-    ghost from_gives = { λ _ e. e ≡ Memory };
-
-    fn from(_e: AllocFailed<T>) -> PlanError {
         PlanError::Memory
     }
 }

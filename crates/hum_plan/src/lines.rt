@@ -13,7 +13,7 @@ ghost use Rattle.hum_plan.specs.Tells.{Tells, outline_of};
 use crate::branches::Branch;
 use crate::draft::Draft;
 use crate::faults::{PlanError, PlanFault, PlanRule, broken};
-use hum_words::{Line, Lines, Piece, WordFault, name_of, pieces};
+use hum_words::{LONGEST_PLAN, Line, Lines, Piece, WordFault, name_of, pieces};
 use std::alloc::{AllocError, Global};
 use std::iter::Iterator;
 
@@ -79,64 +79,47 @@ impl<'a> Draft<'a> {
     }
 
     /// The branch of a name, whose stages these are.
-    fn add_named(
-        &mut self,
-        alloc: Global,
-        line: u32,
-        name: &'a str,
-        pieces: &[Piece<'a>],
-    ) -> Result<(), PlanError>
+    fn add_named(&mut self, line: u32, name: &'a str, pieces: &[Piece<'a>]) -> Result<(), PlanError>
         ensures { Tells (λ _. outline_of self.new) (NameAnswer line (outline_of self.old)
             (items_of pieces.entry.now) (Some name.entry.now)) result }
     {
         if let Some(fault) = self.name_fault(line, name, pieces) {
             return Err(PlanError::Fault(fault));
         }
-        self.add_stages(alloc, line, name == OUT, pieces)?;
+        self.add_stages(line, name == OUT, pieces)?;
         self.end(line, name)?;
         Ok(())
     }
 
     /// The branch whose first word should be a name and a colon.
-    fn add_first(
-        &mut self,
-        alloc: Global,
-        line: u32,
-        word: &'a str,
-        pieces: &[Piece<'a>],
-    ) -> Result<(), PlanError>
+    fn add_first(&mut self, line: u32, word: &'a str, pieces: &[Piece<'a>]) -> Result<(), PlanError>
         ensures { Tells (λ _. outline_of self.new) (NameAnswer line (outline_of self.old)
             (items_of pieces.entry.now) (name_in word.entry.now)) result }
     {
         match name_of(word) {
-            Some(name) => self.add_named(alloc, line, name, pieces),
+            Some(name) => self.add_named(line, name, pieces),
             None => Err(broken(line, 1, PlanRule::N3)),
         }
     }
 
     /// The branch that pieces are.
-    fn add_branch(
-        &mut self,
-        alloc: Global,
-        line: u32,
-        pieces: &[Piece<'a>],
-    ) -> Result<(), PlanError>
+    fn add_branch(&mut self, line: u32, pieces: &[Piece<'a>]) -> Result<(), PlanError>
         ensures { Tells (λ _. outline_of self.new)
             (BranchAnswer line (outline_of self.old) (items_of pieces.entry.now)) result }
     {
         match pieces {
-            [Piece::Word(_, word), rest @ ..] => self.add_first(alloc, line, word, rest),
+            [Piece::Word(_, word), rest @ ..] => self.add_first(line, word, rest),
             _ => Err(broken(line, 1, PlanRule::N3)),
         }
     }
 
     /// A line that is a branch.
-    fn add_line(&mut self, alloc: Global, line: Line<'a>) -> Result<(), PlanError>
+    fn add_line(&mut self, line: Line<'a>) -> Result<(), PlanError>
         ensures { Tells (λ _. outline_of self.new) (CutAnswer line.entry.number (outline_of self.old)
             (cut_line line.entry.text.now)) result }
     {
-        match pieces(alloc, line.text) {
-            Ok(pieces) => self.add_branch(alloc, line.number, &pieces),
+        match pieces(self.alloc, line.text) {
+            Ok(pieces) => self.add_branch(line.number, &pieces),
             Err(WordFault::Quote(word)) => Err(broken(line.number, word, PlanRule::N2)),
             Err(WordFault::Memory) => Err(PlanError::Memory),
         }
@@ -145,13 +128,13 @@ impl<'a> Draft<'a> {
 
 /// The stages and branches of a plan's text.
 pub(crate) fn read_lines<'a>(alloc: Global, text: &'a str) -> Result<Draft<'a>, PlanError>
-    requires { length text.now ≤ 65536 }
+    requires { length text.now ≤ LONGEST_PLAN }
     ensures { Tells outline_of (LinesAnswer nothing (branches_of text.entry.now)) result }
 {
     let mut draft = Draft::new(alloc);
     let mut lines = Lines::new(text);
     while let Some(line) = lines.next() {
-        draft.add_line(alloc, line)?;
+        draft.add_line(line)?;
     }
     Ok(draft)
 }

@@ -37,7 +37,11 @@ fn finish(draft: Draft<'_>, count: u32) -> Result<Vec<PlanStage>, PlanError>
     ensures { Tells (λ stages. stages_of stages.items)
         (WholeAnswer count (outline_of draft.entry)) result }
 {
-    let Draft { stages, branches } = draft;
+    let Draft {
+        alloc: _,
+        stages,
+        branches,
+    } = draft;
     match whole_fault(count, &branches) {
         Some(fault) => Err(PlanError::Fault(fault)),
         None => Ok(stages),

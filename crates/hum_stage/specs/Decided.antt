@@ -12,6 +12,7 @@ use Rattle.hum_stage.specs.declared.faults.Rule.{Rule}
 use Rattle.hum_stage.specs.declared.faults.Rule.TheVariants.{L2}
 use Rattle.hum_stage.specs.Outcome.{Outcome, Becomes, Refused, Undecided}
 use Rattle.hum_stage.specs.Meaning.{Meaning}
+use Rattle.hum_stage.specs.declared.TheConstants.{MOST_RECORDS}
 
 -- What becomes of a record behind those before it, the newest first: the records that it becomes, or
 -- the rule by which it is refused.
@@ -48,7 +49,7 @@ abbrev pub at_once : ℕ → Command → Decision → Meaning
 at_once stage command decide = record {
   stage = stage;
   command = command;
-  outcomes = λ p. limit 4294967295 (decisions decide [] p);
+  outcomes = λ p. limit MOST_RECORDS (decisions decide [] p);
 }
 
 -- a memory that stands for records may be given one that goes on with them as a score
@@ -58,7 +59,7 @@ pub record MayStep (follows : Decision → List Row → Type 0)
   pub past : List Row
   pub memory : follows decide past
   pub score : IsOpen (row ∷ past)
-  pub few : length past < 4294967295
+  pub few : length past < MOST_RECORDS
 
 -- What one step answered and put out: the records that the record becomes, and the memory goes on;
 -- or the rule by which it is refused.

@@ -24,6 +24,7 @@ use Rattle.hum_stage.specs.Laws.{decisions_each, decisions_decided}
 use Rattle.hum_stage.specs.Look.{Look, outcome_of, outcome_at, outcomes_from, IsSteady}
 use Rattle.hum_stage.specs.LookLaws.{looks_each, outcome_stays}
 use Rattle.hum_stage.specs.Lag.{is_decided, decided_at, decided_with, lag, LagsAtMost, ArePutAtWants, HoldsByLag}
+use Rattle.hum_stage.specs.declared.TheConstants.{MOST_RECORDS}
 
 waiting_few : (ended : Bool) (os : List Outcome) → waiting ended os ≤ length os
 waiting_few ended [] = omega arith
@@ -191,23 +192,23 @@ lag_most outcomes p i n h =
     clash false x y = cc
 
 pub at_once_lags : (decide : Decision) (p : List Row)
-    → LagsAtMost (λ p. limit 4294967295 (decisions decide [] p)) 0 p
+    → LagsAtMost (λ p. limit MOST_RECORDS (decisions decide [] p)) 0 p
 at_once_lags decide p i less =
-    lag_most (λ p. limit 4294967295 (decisions decide [] p)) p i 0 (λ _.
+    lag_most (λ p. limit MOST_RECORDS (decisions decide [] p)) p i 0 (λ _.
     let few : i + 1 + 0 ≤ length p = omega (arith, less) in
     let size = length-take-le (i + 1 + 0) p few in
     let each = decisions_each decide [] (take (i + 1 + 0) p) in
-    limit_decided_at 4294967295 i (decisions decide [] (take (i + 1 + 0) p))
+    limit_decided_at MOST_RECORDS i (decisions decide [] (take (i + 1 + 0) p))
     (decisions_decided decide [] (take (i + 1 + 0) p)) (omega (arith, size, each)))
 
 pub at_once_holds : (decide : Decision)
-    → ((p : List Row) → length (limit 4294967295 (decisions decide [] p)) ≡ length p)
+    → ((p : List Row) → length (limit MOST_RECORDS (decisions decide [] p)) ≡ length p)
     → ((p : List Row) (r : Row) → IsScore (p ++ r ∷ [])
-    → Goes (limit 4294967295 (decisions decide [] p)) (limit 4294967295 (decisions decide [] (p ++ r ∷ []))))
-    → HoldsByLag (λ p. limit 4294967295 (decisions decide [] p))
+    → Goes (limit MOST_RECORDS (decisions decide [] p)) (limit MOST_RECORDS (decisions decide [] (p ++ r ∷ []))))
+    → HoldsByLag (λ p. limit MOST_RECORDS (decisions decide [] p))
 at_once_holds decide each grows =
-    holds_by_lag (λ p. limit 4294967295 (decisions decide [] p)) each grows
-    (λ q r score. inl (behind_decided 4294967295 (decisions decide [] q) (decisions_decided decide [] q)))
+    holds_by_lag (λ p. limit MOST_RECORDS (decisions decide [] p)) each grows
+    (λ q r score. inl (behind_decided MOST_RECORDS (decisions decide [] q) (decisions_decided decide [] q)))
 
 -- commands that look ahead
 

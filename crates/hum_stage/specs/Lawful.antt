@@ -24,6 +24,7 @@ use Rattle.hum_stage.specs.Lag.{LagsAtMost}
 use Rattle.hum_stage.specs.Lagging.{Lagged, Lags}
 use Rattle.hum_stage.specs.LookLaws.{looks_each, looks_grow, looks_few}
 use Rattle.hum_stage.specs.LagLaws.{at_once_holds, at_once_lags, looking_holds, looking_lags}
+use Rattle.hum_stage.specs.declared.TheConstants.{MOST_RECORDS}
 
 -- under the limit too
 limit_decides : (n : ℕ) (os : List Outcome) → AllDecided os → AllDecided (limit n os)
@@ -72,14 +73,14 @@ looking_decides room look steady p closed =
 pub at_once_lawful : (stage : ℕ) (command : Command) (decide : Decision)
     → IsLawful (at_once stage command decide)
 at_once_lawful stage command decide = record {
-  each = λ p. limit-length 4294967295 (decisions decide [] p) ∙ decisions_each decide [] p;
-  grows = λ p r s. limit-Goes 4294967295 (decisions decide [] p)
+  each = λ p. limit-length MOST_RECORDS (decisions decide [] p) ∙ decisions_each decide [] p;
+  grows = λ p r s. limit-Goes MOST_RECORDS (decisions decide [] p)
       (decisions decide [] (p ++ r ∷ [])) (decisions_grow decide [] p r);
-  holds = at_once_holds decide (λ p. limit-length 4294967295 (decisions decide [] p) ∙ decisions_each decide [] p)
-      (λ p r s. limit-Goes 4294967295 (decisions decide [] p)
+  holds = at_once_holds decide (λ p. limit-length MOST_RECORDS (decisions decide [] p) ∙ decisions_each decide [] p)
+      (λ p r s. limit-Goes MOST_RECORDS (decisions decide [] p)
       (decisions decide [] (p ++ r ∷ [])) (decisions_grow decide [] p r));
-  decides = λ p closed. limit_decides 4294967295 (decisions decide [] p) (decisions_decided decide [] p);
-  limited = λ p few. settled-limit_le 4294967295 (decisions decide [] p);
+  decides = λ p closed. limit_decides MOST_RECORDS (decisions decide [] p) (decisions_decided decide [] p);
+  limited = λ p few. settled-limit_le MOST_RECORDS (decisions decide [] p);
 }
 
 pub standing_lawful : (follows : Decision → List Row → Type 0)

@@ -16,6 +16,7 @@ use Rattle.hum_record.specs.Row.{Row}
 use Rattle.hum_stage.specs.Score.{IsScore, IsClosed}
 use Rattle.hum_stage.specs.Lag.{LagsAtMost, ArePutAtWants, HoldsByLag}
 use Rattle.hum_stage.specs.Outcome.{Outcome, Becomes, Refused, Undecided, AllDecided, settled, refusal, held_of}
+use Rattle.hum_stage.specs.declared.TheConstants.{MOST_RECORDS}
 
 -- the number of the stage, its command, and what that makes of each record of a list
 pub record Meaning : Type 0 where
@@ -101,7 +102,7 @@ pub record MayPut (stands : Moment → Type 0) (r : Row) : Type 0 where
   pub stand : stands at
   pub wants : state_of at ≡ Wants
   pub score : IsScore (at.put ++ r ∷ [])
-  pub few : length at.put < 4294967295
+  pub few : length at.put < MOST_RECORDS
 
 -- a stage that wants may be given this end
 pub record MayEnd (stands : Moment → Type 0) (e : End) : Type 0 where
@@ -164,7 +165,7 @@ pub record IsLawful (m : Meaning) : Type 0 where
   -- lag.
   pub holds : HoldsByLag m.outcomes
   pub decides : DecidesClosed m.outcomes
-  pub limited : (p : List Row) → length p ≤ 4294967295 → length (output m p) ≤ 4294967295
+  pub limited : (p : List Row) → length p ≤ MOST_RECORDS → length (output m p) ≤ MOST_RECORDS
 
 -- Of scores it makes scores: of a closed one a closed one, unless it refuses.
 pub record KeepsScore (outcomes : List Row → List Outcome) : Type 0 where

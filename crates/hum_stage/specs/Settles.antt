@@ -9,6 +9,7 @@ use Rattle.hum_stage.specs.declared.looks_ahead.Verdict.{Verdict}
 use Rattle.hum_stage.specs.declared.looks_ahead.Verdict.TheVariants.{Waits, Gives}
 use Rattle.hum_stage.specs.Outcome.{Outcome, Becomes, Refused, Undecided}
 use Rattle.hum_stage.specs.Look.{Look, outcome_at, outcomes_from}
+use Rattle.hum_stage.specs.declared.TheConstants.{MOST_RECORDS}
 
 -- What a memory follows: a command, the records before those that wait, the newest first, and
 -- those that wait, in their order.
@@ -23,7 +24,7 @@ pub record MayWait (room : ℕ) (follows : Follows) (next : Row) : Type 0 where
   pub rows : List Row
   pub memory : follows look past rows
   pub score : IsOpen (next ∷ passed past rows)
-  pub few : length (passed past rows) < 4294967295
+  pub few : length (passed past rows) < MOST_RECORDS
   pub within : length rows ≤ room
 
 -- and it then waits behind the others

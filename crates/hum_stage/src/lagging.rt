@@ -6,6 +6,7 @@ ghost use Rattle.hum_stage.specs.Look.{looking};
 ghost use Rattle.hum_stage.specs.Lagging.{Lags};
 ghost use Rattle.hum_stage.specs.Settles.{with_due};
 
+use crate::MOST_WAITING;
 use crate::contract::Stage;
 use crate::faults::{Command, End, Fault, Readiness, Refusal, Rule, State, resting};
 use crate::looks_ahead::LooksAhead;
@@ -56,16 +57,19 @@ impl<C: LooksAhead> Lagging<C> {
     pub fn new(alloc: Global, stage: u8, options: C::Options) -> Lagging<C>
         // It stands for what the options say, with nothing put yet.
         ensures stands { ⟦<Lagging<C> as Stage>⟧.stands result
-            (opening (looking 65536 stage C.command (C.look options))) }
+            (opening (looking MOST_WAITING stage C.command (C.look options))) }
 
         // Of scores it makes scores.
-        ensures keeps { KeepsScore (looking 65536 stage C.command (C.look options)).outcomes }
+        ensures keeps { KeepsScore
+            (looking MOST_WAITING stage C.command (C.look options)).outcomes }
 
         // In a closed score none is undecided.
-        ensures decides { DecidesClosed (looking 65536 stage C.command (C.look options)).outcomes }
+        ensures decides { DecidesClosed
+            (looking MOST_WAITING stage C.command (C.look options)).outcomes }
 
         // No record waits for more than 65,536 later ones.
-        ensures within { IsWithinLag 65536 (looking 65536 stage C.command (C.look options)) }
+        ensures within { IsWithinLag MOST_WAITING
+            (looking MOST_WAITING stage C.command (C.look options)) }
     {
         Lagging {
             memory: C::begin(alloc, options),
@@ -106,7 +110,9 @@ impl<C: LooksAhead> Lagging<C> {
 }
 
 impl<C: LooksAhead> Stage for Lagging<C> {
-    ghost stands = { λ s t. Lags 65536 (C.follows s.memory s.waiting.items) (record {
+    ghost use Rattle.hum_stage.specs.declared.TheConstants.{MOST_WAITING};
+
+    ghost stands = { λ s t. Lags MOST_WAITING (C.follows s.memory s.waiting.items) (record {
       stage = s.stage;
       command = s.command;
       line = s.line;

@@ -22,6 +22,9 @@ mod settling;
 /// How many records a score may have, and a stage may give.
 pub const MOST_RECORDS: u64 = 4_294_967_295;
 
+/// How many records may stand behind one that is undecided.
+pub const MOST_WAITING: usize = 65_536;
+
 pub use at_once::AtOnce;
 pub use contract::Stage;
 pub use deciding::Decides;

@@ -8,6 +8,7 @@ ghost use Rattle.hum_stage.specs.Look.{Look, IsSteady, looking};
 ghost use Rattle.hum_stage.specs.Refusals.{IfAnswered};
 ghost use Rattle.hum_stage.specs.Settles.{MayWait, HasWaited, HasSettled, Lasts, left_by};
 
+use crate::MOST_WAITING;
 use crate::faults::{Command, Refusal};
 use hum_record::Record;
 use std::alloc::{AllocError, Global};
@@ -56,11 +57,11 @@ pub trait LooksAhead {
         ensures steady { IsSteady (look options) }
 
         // Of scores it makes scores.
-        ensures keeps { KeepsScore (looking 65536 0 command (look options)).outcomes };
+        ensures keeps { KeepsScore (looking MOST_WAITING 0 command (look options)).outcomes };
 
     /// Takes one record more, behind those that wait, of which there are 65,536 at most.
     fn put(&mut self, next: Record, held: &mut VecDeque<Self::Held>) -> Result<(), AllocError>
-        requires { MayWait 65536 (follows self.old held.old.items) next }
+        requires { MayWait MOST_WAITING (follows self.old held.old.items) next }
         ensures { OnOk result (HasWaited
             (follows self.old held.old.items) (follows self.new held.new.items) next) };
 

@@ -3,6 +3,7 @@ ghost use Rattle.std.specs.Prelude.{◌≡◌, ◌≤◌, length, IfOk, OnOk};
 ghost use Rattle.hum_stage.specs.Score.{IsScore, IsClosed};
 ghost use Rattle.hum_stage.specs.Meaning.{Meaning, Moment, opening, IsWhole, TookAll};
 
+use crate::MOST_RECORDS;
 use crate::contract::Stage;
 use crate::faults::{End, State};
 use hum_record::Record;
@@ -35,7 +36,7 @@ pub fn whole<S: Stage + Drop>(
     requires fresh { (m : Meaning) × S.stands stage (opening m) }
     requires score { IsScore records.items }
     requires closed { end ≡ End.Closed → IsClosed records.items }
-    requires few { length records.items ≤ 4294967295 }
+    requires few { length records.items ≤ MOST_RECORDS }
     ensures { IfOk result (λ r. (m : Meaning) → S.stands stage (opening m)
         → IsWhole m records.items end r.0.items r.1) }
 {

@@ -4,13 +4,11 @@ ghost use Rattle.std.specs.VecDeque.{deque_len};
 ghost use Rattle.hum_stage.specs.Refusals.{IfAnswered};
 ghost use Rattle.hum_stage.specs.Settles.{HasSettledNext, with_next};
 
+use crate::MOST_WAITING;
 use crate::faults::{Refusal, Rule};
 use crate::looks_ahead::{LooksAhead, Verdict};
 use hum_record::Record;
 use std::collections::VecDeque;
-
-// how many records behind it a record may wait for
-const ROOM: usize = 65_536;
 
 /// Lets the first records that wait go, up to one that becomes a record, and answers that record;
 /// none where no more wait or the next is undecided.
@@ -24,14 +22,14 @@ pub fn settle_next<C: LooksAhead>(
 ) -> Result<Option<Record>, Refusal>
     ensures fewer { IfAnswered result (λ next. with_next next (deque_len waiting.new)
         ≤ deque_len waiting.old) }
-    ensures settles { IfAnswered result (λ next. HasSettledNext 65536
+    ensures settles { IfAnswered result (λ next. HasSettledNext MOST_WAITING
         (C.follows memory.old waiting.old.items) (C.follows memory.new waiting.new.items)
         (deque_len waiting.new) next) }
 {
     while !waiting.is_empty() {
         match memory.settle(waiting)? {
             Verdict::Waits => {
-                if waiting.len() > ROOM {
+                if waiting.len() > MOST_WAITING {
                     return Err(Refusal::Rule(Rule::H1));
                 }
                 return Ok(None);

@@ -10,14 +10,14 @@ ghost use Rattle.hum_path.specs.Sign.{sign_of, is_exclusive};
 ghost use Rattle.hum_timebase.specs.Timebase.{null_row, names_some, tb_token, tb_row};
 
 use crate::pace::Pace;
-use hum_path::token_sign;
-use hum_record::{Record, RecordBuilder, Spare, SpinedKind};
+use hum_path::{MOST_SPINES, token_sign};
+use hum_record::{MOST_BYTES, Record, RecordBuilder, Spare, SpinedKind};
 use std::alloc::{AllocError, Global};
 
 /// Adds a null data token, which fits.
 fn push_null(builder: &mut RecordBuilder) -> Result<(), AllocError>
     requires kind { builder.old.kind ≡ Values }
-    requires fits { length (spelled (builder.old.tokens ++ codes "." ∷ [])) ≤ 1048576 }
+    requires fits { length (spelled (builder.old.tokens ++ codes "." ∷ [])) ≤ MOST_BYTES }
     ensures { OnOk result (builder.new ≡ record builder.old {
       tokens = builder.old.tokens ++ codes "." ∷ [];
     }) }
@@ -33,7 +33,7 @@ pub(crate) fn null_record(
     spare: &mut Spare,
 ) -> Result<Record, AllocError>
     requires tokens { tokens_of row.now ≢ [] }
-    requires fits { length (text_of (null_row (tokens_of row.now))) ≤ 1048576 }
+    requires fits { length (text_of (null_row (tokens_of row.now))) ≤ MOST_BYTES }
     ensures { IfOk result (λ made. made ≡ null_row (tokens_of row.now)) }
 {
     let mut builder = RecordBuilder::reusing(alloc, SpinedKind::Values, spare);
@@ -75,7 +75,7 @@ fn tb_token<'a>(named: &'a [u8], token: &[u8]) -> &'a [u8]
 /// Out of memory.
 pub(crate) fn tb_record(alloc: Global, pace: &Pace, row: &Record) -> Result<Record, AllocError>
     requires named { names_some (tokens_of row.now) ≡ true }
-    requires few { length (tokens_of row.now) ≤ 4096 }
+    requires few { length (tokens_of row.now) ≤ MOST_SPINES }
     ensures { IfOk result (λ made. made ≡ tb_row pace.now.text (tokens_of row.now)) }
 {
     let named = pace.token(alloc)?;

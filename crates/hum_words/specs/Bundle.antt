@@ -3,11 +3,12 @@ use Rattle.std.specs.Prelude.{ℕ, ◌-◌, Bool, false, ◌==◌, if◌then◌e
 use Rattle.std.specs.Prelude.{List, [], ◌∷◌, ◌++◌, length, take, drop, slice_index}
 use Rattle.std.specs.Prelude.{Option, None, Some}
 use Rattle.std.specs.Str.{bytes_eq}
+use Rattle.hum_words.specs.declared.bundle.TheConstants.{LARGEST_BUNDLE}
 use lib.Chars.{codes}
 
 -- how many bytes a bundle may have
 abbrev pub largest : ℕ
-largest = 67108864
+largest = LARGEST_BUNDLE
 
 -- a byte in front of the first line of what follows it
 abbrev pub onto_line : ℕ → List (List ℕ) → List (List ℕ)

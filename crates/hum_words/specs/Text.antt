@@ -4,12 +4,13 @@ use Rattle.std.specs.Prelude.{nat_lt, if◌then◌else◌, Option, None, Some}
 use Rattle.std.specs.Str.{is_utf8, IsValidUpTo}
 use Rattle.std.specs.Str.Lossy.{utf8_valid_len}
 use Rattle.hum_words.specs.Branches.{is_lf}
+use Rattle.hum_words.specs.declared.text.TheConstants.{LONGEST_PLAN}
 use Rattle.hum_words.specs.declared.text.PlanTextFault.{PlanTextFault}
 use Rattle.hum_words.specs.declared.text.PlanTextFault.TheVariants.{TooLong, NotUtf8}
 
 -- how many bytes a plan may have
 abbrev pub longest : ℕ
-longest = 65536
+longest = LONGEST_PLAN
 
 -- the number of the line that the byte behind a front stands in
 abbrev pub line_behind : List ℕ → ℕ

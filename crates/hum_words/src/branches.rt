@@ -1,8 +1,10 @@
 //! The lines of a plan that are branches.
 ghost use Rattle.std.specs.Prelude.{◌≡◌, ◌+◌, ◌<◌, ◌≤◌, ◌∷◌, length};
 ghost use Rattle.hum_words.specs.Branches.{lines_of, without_cr, is_skipped};
+ghost use Rattle.hum_words.specs.declared.text.TheConstants.{LONGEST_PLAN};
 
 use crate::characters::skip_blanks;
+use crate::text::LONGEST_PLAN;
 use std::iter::Iterator;
 
 /// A line that is a branch, with its number, from 1, among all lines.
@@ -10,7 +12,7 @@ use std::iter::Iterator;
 pub struct Line<'a> {
     pub number: u32,
     pub text: &'a str,
-    pub ghost in_range: { length text.now ≤ 65536 },
+    pub ghost in_range: { length text.now ≤ LONGEST_PLAN },
 }
 
 /// The branches of a plan, in order.
@@ -18,7 +20,7 @@ pub struct Line<'a> {
 pub struct Lines<'a> {
     rest: &'a str,
     number: u32,
-    ghost in_range: { number + length rest.now ≤ 65536 },
+    ghost in_range: { number + length rest.now ≤ LONGEST_PLAN },
 }
 
 /// The first line of a text that isn't empty, and what follows it.
@@ -54,7 +56,7 @@ fn is_skipped(line: &str) -> bool
 
 /// How many lines a plan has, those that are skipped among them.
 pub fn line_count(plan: &str) -> u32
-    requires { length plan.now ≤ 65536 }
+    requires { length plan.now ≤ LONGEST_PLAN }
     ensures { result ≡ length (lines_of plan.now) }
 {
     let mut count = 0;
@@ -72,7 +74,7 @@ impl<'a> Lines<'a> {
 
     /// The branches of a plan.
     pub fn new(plan: &'a str) -> Lines<'a>
-        requires { length plan.now ≤ 65536 }
+        requires { length plan.now ≤ LONGEST_PLAN }
         ensures { branches_left result ≡ branches_of plan.now }
     {
         Lines {

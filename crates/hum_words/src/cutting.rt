@@ -10,6 +10,7 @@ ghost use Rattle.hum_words.specs.Cutting.{Tells, Gives, GivesItems, cut_line};
 ghost use Rattle.hum_words.specs.declared.cutting.WordFault.TheVariants.{Quote, Memory};
 
 use crate::characters::{bare_len, is_apart, skip_blanks};
+use crate::text::LONGEST_PLAN;
 use std::alloc::{AllocFailed, Global};
 use thiserror::Error;
 
@@ -119,7 +120,7 @@ fn first_piece(line: &str, words: u32) -> Result<(Piece<'_>, &str), WordFault>
 
 /// The pieces of a line, each cut off its front.
 fn cut(alloc: Global, line: &str) -> Result<Vec<Piece<'_>>, WordFault>
-    requires { length line.now ≤ 65536 }
+    requires { length line.now ≤ LONGEST_PLAN }
     ensures { Tells result line.now }
 {
     let mut pieces = Vec::new(alloc);
@@ -140,7 +141,7 @@ fn cut(alloc: Global, line: &str) -> Result<Vec<Piece<'_>>, WordFault>
 /// `Quote` exactly where a word of the line is wrong with its quotes, with the number of the first
 /// such word; `Memory`.
 pub fn pieces(alloc: Global, line: &str) -> Result<Vec<Piece<'_>>, WordFault>
-    requires { length line.now ≤ 65536 }
+    requires { length line.now ≤ LONGEST_PLAN }
     // The line is written by what is answered, or the word is wrong.
     ensures told { Tells result line.now }
 

@@ -12,6 +12,7 @@ use Rattle.hum_choices.specs.declared.yank.Markers.TheVariants.{Labels as ByLabe
 use Rattle.hum_choices.specs.declared.yank.YankOptions.{YankOptions}
 use Rattle.hum_yank.specs.Passages.{Form, Lines, Numbers, Occurrences, Labels}
 use Rattle.hum_yank.specs.Yank.{Choice, yank}
+use Rattle.hum_stage.specs.declared.TheConstants.{MOST_WAITING}
 
 -- tokens that match the pattern, if there is one
 abbrev pub matched_by : Option (List ℕ) → List ℕ → Bool
@@ -29,4 +30,4 @@ choice_of options = record { form = form_of options.markers; ranges = options.ra
 
 -- what the stage of this number means
 abbrev pub meaning : ℕ → YankOptions → Meaning
-meaning stage options = looking 65536 stage Yank (yank (choice_of options))
+meaning stage options = looking MOST_WAITING stage Yank (yank (choice_of options))

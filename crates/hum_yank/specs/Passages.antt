@@ -11,6 +11,7 @@ use lib.Chars.{codes}
 use Rattle.hum_record.specs.declared.SpinedKind.TheVariants.{Local, Interpretation, Values}
 use Rattle.hum_record.specs.Row.{Row, Comment, Spined}
 use Rattle.hum_record.specs.Contents.{is_null}
+use Rattle.hum_choices.specs.declared.yank.TheConstants.{GREATEST_PASSAGE}
 
 -- How passages are marked: by each line; by a test that also tells where its match in a token ends;
 -- by a test that begins them and one that ends them; by labels of sections.
@@ -62,7 +63,7 @@ value_of n (digit ∷ digits) = value_of (10 * n + (digit - 48)) digits
 
 -- none that is greater
 abbrev pub at_most : ℕ → Option ℕ
-at_most n = if nat_le n 4294967295 then Some n else None
+at_most n = if nat_le n GREATEST_PASSAGE then Some n else None
 
 -- The number that digits bear, unless it is too great.
 abbrev pub number_of : List ℕ → Option ℕ

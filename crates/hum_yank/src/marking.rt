@@ -10,7 +10,7 @@ ghost use Rattle.hum_yank.specs.Passages.{is_last};
 ghost use Rattle.hum_yank.specs.Options.{form_of, matched_by};
 ghost use Rattle.hum_yank.specs.Marks.{mark_of, marked, labelled};
 
-use hum_choices::Markers;
+use hum_choices::{GREATEST_PASSAGE, Markers};
 use hum_pattern::Pattern;
 use hum_record::{Kind, Record, is_null};
 
@@ -88,7 +88,7 @@ fn value_at_front(text: &[u8]) -> Option<u32>
             return Some(value as u32);
         }
         value = value * 10 + (*byte - b'0') as u64;
-        if value > 4_294_967_295 {
+        if value > GREATEST_PASSAGE {
             return None;
         }
         rest = behind;

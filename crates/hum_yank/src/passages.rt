@@ -8,6 +8,7 @@ ghost use Rattle.hum_yank.specs.Marks.{next_passages, number_in, last_in};
 use crate::marking::{Mark, is_last, mark_of};
 use hum_choices::Markers;
 use hum_record::Record;
+use hum_stage::MOST_RECORDS;
 
 /// What is remembered of passages.
 #[derive(Clone, Copy)]
@@ -68,7 +69,7 @@ impl Passages {
     /// Takes one record more, and answers the number of the passage in which it lies, if it lies in
     /// one with a number.
     pub(crate) fn step(&mut self, markers: &mut Markers, row: &Record) -> Option<u32>
-        requires few { self.old.counted < 4294967295 }
+        requires few { self.old.counted < MOST_RECORDS }
         ensures number { result ≡ number_in self.old (mark_of (form_of markers.old) row.now) }
         ensures after { self.new ≡ next_passages self.old (mark_of (form_of markers.old) row.now)
             (is_last (form_of markers.old) row.now) }

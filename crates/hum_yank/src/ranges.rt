@@ -20,8 +20,7 @@ fn chooses_early(range: &YankRange, number: u32) -> bool
     match range {
         YankRange::Through { first, last } => *first <= number && number <= *last,
         YankRange::Onward { first } => *first <= number,
-        YankRange::ToEnd { .. } => false,
-        YankRange::FromEnd { .. } => false,
+        _ => false,
     }
 }
 
@@ -30,14 +29,13 @@ fn chooses_late(range: &YankRange, last: u32, number: u32) -> bool
     ensures { result ≡ chooses_late last number range.now }
 {
     match range {
-        YankRange::Through { .. } => false,
-        YankRange::Onward { .. } => false,
         YankRange::ToEnd { first, before } => {
             *first <= number && above(number, *before) <= last as u64
         }
         YankRange::FromEnd { from, to } => {
             last as u64 <= above(number, *from) && above(number, *to) <= last as u64
         }
+        _ => false,
     }
 }
 
@@ -46,12 +44,10 @@ fn chooses_now(range: &YankRange, least: u32, number: u32) -> bool
     ensures { result ≡ chooses_now least number range.now }
 {
     match range {
-        YankRange::Through { .. } => false,
-        YankRange::Onward { .. } => false,
         YankRange::ToEnd { first, before } => {
             *first <= number && above(number, *before) <= least as u64
         }
-        YankRange::FromEnd { .. } => false,
+        _ => false,
     }
 }
 
@@ -60,10 +56,9 @@ fn drops_now(range: &YankRange, least: u32, number: u32) -> bool
     ensures { result ≡ drops_now least number range.now }
 {
     match range {
-        YankRange::Through { .. } => true,
-        YankRange::Onward { .. } => true,
-        YankRange::ToEnd { first, before: _ } => number < *first,
-        YankRange::FromEnd { from, to: _ } => above(number, *from) < least as u64,
+        YankRange::ToEnd { first, .. } => number < *first,
+        YankRange::FromEnd { from, .. } => above(number, *from) < least as u64,
+        _ => true,
     }
 }
 

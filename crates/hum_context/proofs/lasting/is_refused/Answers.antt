@@ -2,7 +2,7 @@ use Rattle.std.proofs.Common.{◌∙◌, sym, ap, subst, ◌∷◌, ◌+◌, con
 use Rattle.hum_record.specs.Row.{Row, tokens_of}
 use Rattle.hum_path.specs.Score.{path_after}
 use Rattle.hum_stage.specs.Settles.{or_stop}
-use Rattle.hum_context.specs.declared.front.Weight.{Weight}
+use Rattle.hum_context.specs.declared.becoming.Weight.{Weight}
 use Rattle.hum_context.specs.Queue.{Knows}
 use Rattle.std.proofs.Common.{drop}
 use Rattle.hum_context.proofs.Weighing.{kept_at, quiet_stays}

@@ -1,5 +1,5 @@
 use Rattle.std.proofs.Common.{◌≡◌, ◌∙◌, sym, get_or}
-use Rattle.hum_context.specs.declared.hearing.Heard.TheVariants.{Passed, Taken}
+use Rattle.hum_context.specs.declared.heard.Heard.TheVariants.{Passed, Taken}
 use Rattle.hum_context.proofs.Passing.{data_goes_on}
 use Rattle.hum_context.proofs.queued.Queued.below.Goals as goal
 

@@ -1,0 +1,17 @@
+use Rattle.std.proofs.Common.{◌≡◌, ◌≤◌, List, [], None, false}
+use Rattle.std.specs.List.{join_with_byte}
+use Rattle.hum_record.specs.Row.{Row}
+use Rattle.hum_path.specs.Spines.{Path}
+use Rattle.hum_context.specs.Context.{Choice, taken}
+use Rattle.hum_context.specs.Heard.{wanted_of}
+use Rattle.hum_context.specs.Queue.{Knows}
+use Rattle.hum_context.proofs.Gathering.{Gathers}
+use Rattle.hum_context.proofs.becoming.gather.Given as goal
+
+abbrev pub invariant-loop-n : goal.invariant-loop-n
+invariant-loop-n l = record {
+  few : l.count ≤ l.n;
+  text : (o : Choice) (path : Path) (rows : List Row) → l.wanted ≡ wanted_of o.extent
+      → taken o.extent [] ≡ None → Knows o path l.held.items rows
+      → Gathers o path rows l.j l.n l.column l.count (λ ts. l.text ≡ join_with_byte 32 ts) false;
+}

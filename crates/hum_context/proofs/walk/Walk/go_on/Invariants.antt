@@ -1,0 +1,16 @@
+use Rattle.std.proofs.Common.{◌≡◌, ◌+◌, ℕ, List, drop}
+use Rattle.hum_record.specs.Row.{Row}
+use Rattle.hum_path.specs.Spines.{Path}
+use Rattle.hum_context.specs.Context.{Choice}
+use Rattle.hum_context.specs.Heard.{wanted_of}
+use Rattle.hum_context.specs.Queue.{Knows}
+use Rattle.hum_context.specs.Walking.{Stands}
+use Rattle.hum_context.proofs.walk.Walk.go_on.Given as goal
+
+abbrev pub invariant-loop-n : goal.invariant-loop-n
+invariant-loop-n l = record {
+  at : l.walk.at ≡ l.gone + l.n;
+  stands : (o : Choice) (path : Path) (k : ℕ) (rows : List Row) (j : ℕ)
+      → l.wanted ≡ wanted_of o.extent → Knows o path (drop k l.held.items) rows
+      → Stands o path (l.gone + k) rows j l.fn.self → Stands o path (l.gone + k) rows j l.walk;
+}
