@@ -147,9 +147,35 @@ impl<R: Source> ScoreReader<R> {
         });
     }
 
-    /// The record of the line that was just read, or none where it is refused.
+    /// The record of the line that was just read, or none where it is refused. Most lines are short and
+    /// plain data, with a token for each spine.
     #[inline(always)]
     fn read_line(&mut self) -> Option<Record>
+        requires going { self.old.stopped ≡ None }
+        requires short { length self.old.lines.line ≤ 1048576 }
+        requires one_line { has_byte 10 self.old.lines.line ≡ false }
+        requires few { self.old.lines.given ≤ 4294967295 }
+        ensures gives { ReadsLine self.old (given_by result self.new.stopped) self.new }
+        ensures lines { self.new.lines ≡ self.old.lines }
+        ensures stage { self.new.stage ≡ self.old.stage }
+        ensures stops { self.new.stopped ≡ stop_of (given_by result self.new.stopped) }
+        ensures told { given_by result self.new.stopped ≢ Ok ReadOn }
+        ensures not_read { given_by result self.new.stopped ≢ Err ReadError.Read }
+    {
+        let (held, len) = self.lines.from_line();
+        let Some(record) = Record::parse_near(&mut self.spare, held, len) else {
+            return self.read_any_line();
+        };
+        if self.paths.keeps_spines(&record) {
+            return Some(record);
+        }
+        self.spare.keep(record);
+        self.read_any_line()
+    }
+
+    /// The same of any line.
+    #[inline(never)]
+    fn read_any_line(&mut self) -> Option<Record>
         requires going { self.old.stopped ≡ None }
         requires short { length self.old.lines.line ≤ 1048576 }
         requires one_line { has_byte 10 self.old.lines.line ≡ false }

@@ -1,5 +1,6 @@
 -- A record in the making keeps its text and where its tokens end.
 use Rattle.std.proofs.Common.{◌≡◌, ◌≢◌, ℕ, ◌+◌, ◌≤◌, List, [], ◌∷◌, ◌++◌, length, refl, sym, ap, ◌∙◌, arith, append_assoc, length-append}
+use Rattle.std.specs.Prelude.{Bool, true, false}
 use Rattle.std.specs.List.{AllByRecursion}
 use Rattle.hum_record.specs.declared.Kind.TheVariants.{Global}
 use Rattle.hum_record.specs.declared.SpinedKind.{SpinedKind}
@@ -90,3 +91,8 @@ spelled_front (x ∷ xs) ys = spelled_grows x xs ys
 pub filled_tokens : (row : Row) (text : List ℕ) → IsTextOf row text → (kind_of row ≡ Global → ⊥) → tokens_of row ≢ []
 filled_tokens (Comment comment) text h spined = absurd (spined refl)
 filled_tokens (Spined kind tokens) text h spined = h.1
+
+-- a builder that has a body isn't spent
+pub not_spent : (spent there : Bool) → (spent ≡ true → there ≡ false) → there ≡ true → spent ≡ false
+not_spent false there none some = refl
+not_spent true there none some = let no = none refl in cc

@@ -22,17 +22,17 @@ pub record Lies (text t : List ℕ) (from to : ℕ) : Type 0 where
   pub reads : slice_range text from to ≡ t
 
 -- where the token begins, if the first begins at a place
-abbrev begins_from : ℕ → List ℕ → ℕ → ℕ
+abbrev pub begins_from : ℕ → List ℕ → ℕ → ℕ
 begins_from start ends zero = start
 begins_from start ends (suc j) = get_or ends j 0 + 1
 
-begins_next : (start : ℕ) (t : List ℕ) (ts : List (List ℕ)) (j : ℕ) →
+pub begins_next : (start : ℕ) (t : List ℕ) (ts : List (List ℕ)) (j : ℕ) →
     begins_from start (ends_from start (t ∷ ts)) (suc j) ≡ begins_from (start + length t + 1)
     (ends_from (start + length t + 1) ts) j
 begins_next start t ts zero = refl
 begins_next start t ts (suc j) = refl
 
-first_lies : (text front t rest : List ℕ) (start : ℕ) → length front ≡ start → text ≡ front ++ (t ++ rest) → Lies text t start (start + length t)
+pub first_lies : (text front t rest : List ℕ) (start : ℕ) → length front ≡ start → text ≡ front ++ (t ++ rest) → Lies text t start (start + length t)
 first_lies text front t rest start at e =
     let size : (start + length t) - start ≡ length t = omega arith in
     let all : length text ≡ length front + (length t + length rest) = ap length e ∙ omega (arith, length-append front (t ++ rest), length-append t rest) in
@@ -56,7 +56,7 @@ lies_from text front start (t ∷ u ∷ us) (suc j) at e below =
     subst (λ (from : ℕ). Lies text (get_or (u ∷ us) j []) from
     (get_or (ends_from (start + length t + 1) (u ∷ us)) j 0)) (sym (begins_next start t (u ∷ us) j)) ih
 
-begins_same : (ends : List ℕ) (j : ℕ) → begins_from 0 ends j ≡ begins_at ends j
+pub begins_same : (ends : List ℕ) (j : ℕ) → begins_from 0 ends j ≡ begins_at ends j
 begins_same ends zero = refl
 begins_same ends (suc j) = refl
 

@@ -15,3 +15,5 @@ pub mod Left
 pub mod Selected
 mod Picked
 mod Added
+mod Runs
+mod Words

@@ -209,8 +209,8 @@ pub bits_front : (b : ℕ) (xs : List ℕ) (w n bits : ℕ) → n ≤ w → w �
     → bit_and bits (2 ^ n - 1) ≡ bits_of b (take n xs)
 bits_front b xs w n bits few room is = mask_front (λ x. x == b) xs w n bits few room is
 
-pub one_moved : (n : ℕ) → n ≤ 62 → 1 * 2 ^ n % 18446744073709551616 ≡ 2 ^ n
+pub one_moved : (n : ℕ) → n ≤ 63 → 1 * 2 ^ n % 18446744073709551616 ≡ 2 ^ n
 one_moved n few =
-    let bound : 2 ^ n ≤ 2 ^ 62 = pow_mono few in
+    let bound : 2 ^ n ≤ 2 ^ 63 = pow_mono few in
     let same : 1 * 2 ^ n ≡ 2 ^ n = omega arith in
     ap (λ m. m % 18446744073709551616) same ∙ mod-eq_of_lt (omega (arith, bound))

@@ -12,10 +12,10 @@ use lib.Count.{count_trailing_zeros, under, ones, ones_step}
 use lib.Pow.{pow_mono}
 use native.Mathlib.Nat.{two-pow-succ}
 use Rattle.hum_record.specs.declared.SpinedKind.TheVariants.{Values}
-use Rattle.hum_record.specs.Spelling.{has_byte, is_comment, reading}
-use Rattle.hum_record.specs.Fields.{AreFields, row_in}
+use Rattle.hum_record.specs.Spelling.{has_byte, is_comment, reading, parts}
+use Rattle.hum_record.specs.Fields.{AreFields, ends_from, row_in}
 use Rattle.hum_record.specs.Cutting.{bits_of, set_places, tabs_from}
-use Rattle.hum_record.specs.Plain.{is_rare, has_mark, head_after, IsPlain}
+use Rattle.hum_record.specs.Plain.{is_rare, has_mark, head_after, IsPlain, HasEnds, HasPlaces}
 use Rattle.hum_record.proofs.Laws.{spined_fields, reads_row, reads_spined}
 use Rattle.hum_record.proofs.Cuts.{tabs_append, ends_tabs}
 use Rattle.hum_record.proofs.Places.{any_bit, take_count, one_moved, bits_front, mask_front, bits_below}
@@ -77,12 +77,11 @@ lowest (suc k) b x some h =
         ∙ ap₂ (λ u v. u ∷ v) (place ∙ sym (ap (λ r. b + under r t) e)) (sym (ap₂ (turn k b) p q))
 
 -- one place more in a list
-pub next_place : (front all : List ℕ) (x : ℕ) → 0 < x → x < 2 ^ 64 → front ++ set_places 64 0 x ≡ all
-    → (front ++ count_trailing_zeros 64 x ∷ []) ++ set_places 64 0 (bit_and x (x - 1)) ≡ all
-next_place front all x some fits e =
-    let place : 0 + count_trailing_zeros 64 x ≡ count_trailing_zeros 64 x = omega arith in
-    append_assoc front (count_trailing_zeros 64 x ∷ []) (set_places 64 0 (bit_and x (x - 1)))
-    ∙ ap (λ ys. front ++ ys) (ap (λ n. n ∷ set_places 64 0 (bit_and x (x - 1))) (sym place) ∙ sym (lowest 64 0 x some fits))
+pub next_place : (front all : List ℕ) (b x : ℕ) → 0 < x → x < 2 ^ 64 → front ++ set_places 64 b x ≡ all
+    → (front ++ (b + count_trailing_zeros 64 x) ∷ []) ++ set_places 64 b (bit_and x (x - 1)) ≡ all
+next_place front all b x some fits e =
+    append_assoc front ((b + count_trailing_zeros 64 x) ∷ []) (set_places 64 b (bit_and x (x - 1)))
+    ∙ ap (λ ys. front ++ ys) (sym (lowest 64 b x some fits))
     ∙ e
 
 -- there are as many places as bits
@@ -94,23 +93,31 @@ count_places (suc k) b x h =
     bit_cases (λ r. length (if r == 1 then b ∷ rest else rest) ≡ r + length rest) (omega arith) (omega arith) (x % 2) (mod-lt x (zero-lt-suc 1))
     ∙ ap (λ n. x % 2 + n) (count_places k (b + 1) (x / 2) (omega (arith, pow-suc 2 k))) ∙ sym (ones_step x)
 
+-- and no more of them than bits were looked at
+pub most_places : (k b x : ℕ) → length (set_places k b x) ≤ k
+unfolding set_places
+most_places zero b x = omega arith
+most_places (suc k) b x =
+    let ih = most_places k (b + 1) (x / 2) in
+    let rest = set_places k (b + 1) (x / 2) in
+    bit_cases (λ r. length (if r == 1 then b ∷ rest else rest) ≤ suc k) (omega (arith, ih)) (omega (arith, ih)) (x % 2) (mod-lt x (zero-lt-suc 1))
+
 -- where a bit is left there is room for its place
-pub room_left : (places all : List ℕ) (j x : ℕ) → 0 < x → x < 2 ^ 64 → j ≤ length places → length all ≤ length places
-    → take j places ++ set_places 64 0 x ≡ all → j < length places
-room_left places all j x some fits within size e =
+pub room_left : (places all : List ℕ) (j b x : ℕ) → 0 < x → x < 2 ^ 64 → j ≤ length places → length all ≤ length places
+    → take j places ++ set_places 64 b x ≡ all → j < length places
+room_left places all j b x some fits within size e =
     let front = take_count j places within in
-    let later : length (set_places 64 0 x) ≡ suc (length (set_places 64 0 (bit_and x (x - 1)))) = ap length (lowest 64 0 x some fits) in
-    let whole : length (take j places) + length (set_places 64 0 x) ≡ length all = sym (length-append (take j places) (set_places 64 0 x)) ∙ ap length e in
+    let later : length (set_places 64 b x) ≡ suc (length (set_places 64 b (bit_and x (x - 1)))) = ap length (lowest 64 b x some fits) in
+    let whole : length (take j places) + length (set_places 64 b x) ≡ length all = sym (length-append (take j places) (set_places 64 b x)) ∙ ap length e in
     omega (arith, front, later, whole, size)
 
 -- where none is left all places are put
-pub all_put : (places all : List ℕ) (j x : ℕ) → x ≡ 0 → j ≤ length places
-    → take j places ++ set_places 64 0 x ≡ all → take (length all) places ≡ all
-all_put places all j x none within e =
+pub all_put : (places all : List ℕ) (j b x : ℕ) → x ≡ 0 → j ≤ length places
+    → take j places ++ set_places 64 b x ≡ all → (j ≡ length all) × (take j places ≡ all)
+all_put places all j b x none within e =
     let front : take j places ≡ all =
-    sym (append-nil (take j places)) ∙ ap (λ ys. take j places ++ ys) (sym (ap (set_places 64 0) none ∙ no_places 64 0)) ∙ e in
-    let count : length all ≡ j = sym (ap length front) ∙ take_count j places within in
-    ap (λ n. take n places) count ∙ front
+    sym (append-nil (take j places)) ∙ ap (λ ys. take j places ++ ys) (sym (ap (set_places 64 b) none ∙ no_places 64 b)) ∙ e in
+    (sym (take_count j places within) ∙ ap length front, front)
 
 one_step : (k b n m : ℕ) (t : Bool) → n ≡ cond t 1 0 + 2 * m → set_places (suc k) b n ≡ (if t then b ∷ set_places k (b + 1) m else set_places k (b + 1) m)
 unfolding set_places
@@ -142,12 +149,12 @@ tab_behind (x ∷ xs) =
     by c t p q e = omega (arith, e)
 
 -- the tabs of a line from the bits of more bytes
-pub tabs_at : (held : List ℕ) (w len bits : ℕ) → len ≤ w → len ≤ 62 → w ≤ length held → bits ≡ bits_of 9 (chunk 0 w held)
+pub tabs_at : (held : List ℕ) (w len bits : ℕ) → len ≤ w → len ≤ 63 → w ≤ length held → bits ≡ bits_of 9 (chunk 0 w held)
     → bit_and bits (1 * 2 ^ len % 18446744073709551616 - 1) ≡ bits_of 9 (take len held)
 tabs_at held w len bits few short filled is = rw (one_moved len short) (bits_front 9 held w len bits few filled is)
 
 -- and where its tokens end
-pub ends_at : (held : List ℕ) (len tabs : ℕ) → len ≤ 62 → 64 ≤ length held → tabs ≡ bits_of 9 (take len held)
+pub ends_at : (held : List ℕ) (len tabs : ℕ) → len ≤ 63 → 64 ≤ length held → tabs ≡ bits_of 9 (take len held)
     → tabs + 1 * 2 ^ len % 18446744073709551616 ≡ bits_of 9 (take len held ++ 9 ∷ [])
 ends_at held len tabs short filled is =
     let text = take len held in
@@ -165,7 +172,7 @@ ends_few held len short filled =
 
 -- Bytes that seldom stand in data
 
-pub rare_at : (held : List ℕ) (w len bits : ℕ) → len ≤ w → len ≤ 62 → w ≤ length held → bits ≡ mask_l (map is_rare (chunk 0 w held))
+pub rare_at : (held : List ℕ) (w len bits : ℕ) → len ≤ w → len ≤ 63 → w ≤ length held → bits ≡ mask_l (map is_rare (chunk 0 w held))
     → bit_and bits (1 * 2 ^ len % 18446744073709551616 - 1) ≡ mask_l (map is_rare (take len held))
 rare_at held w len bits few short filled is = rw (one_moved len short) (mask_front is_rare held w len bits few filled is)
 
@@ -195,20 +202,20 @@ rare_mask v z short e =
     ∙ mask_l-mod (map is_rare v) 64 (omega (arith, length-map v is_rare, short))
 
 -- no bit is set of a byte
-record NoneRare (xs : List ℕ) : Type 0 where
-  bangs : bits_of 33 xs ≡ 0
-  stars : bits_of 42 xs ≡ 0
-  returns : bits_of 13 xs ≡ 0
+pub record NoneRare (xs : List ℕ) : Type 0 where
+  pub bangs : bits_of 33 xs ≡ 0
+  pub stars : bits_of 42 xs ≡ 0
+  pub returns : bits_of 13 xs ≡ 0
 
-not_set : (t : Bool) (n : ℕ) → cond t 1 0 + 2 * n ≡ 0 → (t ≡ false) × (n ≡ 0)
+pub not_set : (t : Bool) (n : ℕ) → cond t 1 0 + 2 * n ≡ 0 → (t ≡ false) × (n ≡ 0)
 not_set true n h = absurd (omega (arith, h))
 not_set false n h = (refl, omega (arith, h))
 
-unset : (t : Bool) (n : ℕ) → t ≡ false → n ≡ 0 → cond t 1 0 + 2 * n ≡ 0
+pub unset : (t : Bool) (n : ℕ) → t ≡ false → n ≡ 0 → cond t 1 0 + 2 * n ≡ 0
 unset true n e z = let w = e in cc
 unset false n e z = omega (arith, z)
 
-none_rare : (xs : List ℕ) → mask_l (map is_rare xs) ≡ 0 → NoneRare xs
+pub none_rare : (xs : List ℕ) → mask_l (map is_rare xs) ≡ 0 → NoneRare xs
 none_rare [] h = record { bangs = refl; stars = refl; returns = refl }
 none_rare (x ∷ xs) h =
     let here = not_set (is_rare x) (mask_l (map is_rare xs)) h in
@@ -243,30 +250,48 @@ no_head false e = refl
 
 -- Plain data, by the bits of where its tokens end
 
-pub plain_by_bits : (text : List ℕ) (ends rare : ℕ) → ends ≡ bits_of 9 (text ++ 9 ∷ []) → rare ≡ mask_l (map is_rare text)
-    → (not (bit_and (1 + 2 * ends) ends == 0) || not (rare == 0)) ≡ false → IsPlain text ends
-plain_by_bits text ends rare is_ends is_rare_bits free =
-    let xs = text ++ 9 ∷ [] in
-    let heads = mask_l (true ∷ map (λ x. x == 9) xs) in
-    let none = none_rare text (sym is_rare_bits ∙ none_set rare (or_right _ _ free)) in
-    let apart : bit_and heads (bits_of 9 xs) ≡ 0 = ap (λ n. bit_and (1 + 2 * n) n) (sym is_ends) ∙ none_set _ (or_left _ _ free) in
-    let bangs : bit_and heads (bits_of 33 xs) ≡ 0 = ap (bit_and heads) (unset_behind 33 text refl none.bangs) ∙ and_zero_r heads in
-    let stars : bit_and heads (bits_of 42 xs) ≡ 0 = ap (bit_and heads) (unset_behind 42 text refl none.stars) ∙ and_zero_r heads in
-    let clear : (has_mark true text || has_mark (head_after true text) (9 ∷ [])) ≡ false =
-    sym (mark_append true text (9 ∷ [])) ∙ no_marks true xs apart bangs stars in
+-- no byte of it seldom stands in data, and no token that begins in it shows another kind
+pub plain_by_marks : (text : List ℕ) → mask_l (map is_rare text) ≡ 0 → has_mark true (text ++ 9 ∷ []) ≡ false → IsPlain text
+plain_by_marks text free none_marked =
+    let none = none_rare text free in
+    let clear : (has_mark true text || has_mark (head_after true text) (9 ∷ [])) ≡ false = sym (mark_append true text (9 ∷ [])) ∙ none_marked in
     record {
       unbroken = sym (any_bit 13 text) ∙ ap (λ n. not (n == 0)) none.returns;
       spined = no_bang text none.bangs;
       lawful = plain_data text (or_left _ _ clear) (no_head (head_after true text) (or_right _ _ clear));
+    }
+
+-- by the bits of a text, where those that may begin a token have none in common with those of marks
+pub unmarked_by : (head : Bool) (xs : List ℕ) → bit_and (cond head 1 0 + 2 * bits_of 9 xs) (bits_of 9 xs) ≡ 0
+    → bits_of 33 xs ≡ 0 → bits_of 42 xs ≡ 0 → has_mark head xs ≡ false
+unmarked_by head xs apart bangs stars =
+    let heads = mask_l (head ∷ map (λ x. x == 9) xs) in
+    no_marks head xs apart (ap (bit_and heads) bangs ∙ and_zero_r heads) (ap (bit_and heads) stars ∙ and_zero_r heads)
+
+pub plain_by_bits : (text : List ℕ) (ends rare : ℕ) → ends ≡ bits_of 9 (text ++ 9 ∷ []) → rare ≡ mask_l (map is_rare text)
+    → (not (bit_and (1 + 2 * ends) ends == 0) || not (rare == 0)) ≡ false → HasEnds text ends
+plain_by_bits text ends rare is_ends is_rare_bits free =
+    let rare_none = sym is_rare_bits ∙ none_set rare (or_right _ _ free) in
+    let none = none_rare text rare_none in
+    let apart = ap (λ n. bit_and (1 + 2 * n) n) (sym is_ends) ∙ none_set _ (or_left _ _ free) in
+    record {
+      plain = plain_by_marks text rare_none (unmarked_by true (text ++ 9 ∷ []) apart
+          (unset_behind 33 text refl none.bangs) (unset_behind 42 text refl none.stars));
       bits = is_ends;
     }
 
-pub plain_fields : (text all : List ℕ) (ends : ℕ) → length text ≤ 62 → has_byte 10 text ≡ false
-    → IsPlain text ends → all ≡ set_places 64 0 ends → AreFields text all
-plain_fields text all ends few line plain is =
-    let size : length (text ++ 9 ∷ []) ≤ 64 = omega (arith, length-append text (9 ∷ []), few) in
-    spined_fields text all Values (omega (arith, few)) line plain.unbroken plain.spined plain.lawful
-    (is ∙ ap (set_places 64 0) plain.bits ∙ set_tabs 64 0 (text ++ 9 ∷ []) size ∙ tabs_append 0 text (9 ∷ []) ∙ sym (ends_tabs 0 text))
+pub plain_fields : (text ends : List ℕ) → length text ≤ 1048576 → has_byte 10 text ≡ false → HasPlaces text ends → AreFields text ends
+plain_fields text ends few line is =
+    spined_fields text ends Values few line is.plain.unbroken is.plain.spined is.plain.lawful is.cut
 
-pub plain_reads : (text : List ℕ) (ends : ℕ) → IsPlain text ends → reading text ≡ Ok (row_in text)
-plain_reads text ends plain = reads_row text _ (reads_spined text Values plain.unbroken plain.spined plain.lawful)
+-- where the tabs stand, and one behind the text, its tokens end
+pub tabs_cut : (text : List ℕ) → tabs_from 0 (text ++ 9 ∷ []) ≡ ends_from 0 (parts text)
+tabs_cut text = tabs_append 0 text (9 ∷ []) ∙ sym (ends_tabs 0 text)
+
+pub short_places : (text all : List ℕ) (ends : ℕ) → length text ≤ 62 → HasEnds text ends → all ≡ set_places 64 0 ends → HasPlaces text all
+short_places text all ends few h is =
+    let size : length (text ++ 9 ∷ []) ≤ 64 = omega (arith, length-append text (9 ∷ []), few) in
+    record { plain = h.plain; cut = is ∙ ap (set_places 64 0) h.bits ∙ set_tabs 64 0 (text ++ 9 ∷ []) size ∙ tabs_cut text }
+
+pub plain_reads : (text : List ℕ) → IsPlain text → reading text ≡ Ok (row_in text)
+plain_reads text plain = reads_row text _ (reads_spined text Values plain.unbroken plain.spined plain.lawful)

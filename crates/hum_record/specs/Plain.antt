@@ -4,6 +4,7 @@ use Rattle.std.specs.Prelude.{◌++◌, Ok}
 use Rattle.hum_record.specs.declared.SpinedKind.TheVariants.{Values}
 use Rattle.hum_record.specs.Spelling.{has_byte, is_comment, kind_of_tokens, parts}
 use Rattle.hum_record.specs.Cutting.{bits_of}
+use Rattle.hum_record.specs.Fields.{ends_from}
 
 -- a byte with which no token of data begins: a tab, since then it is empty, `!` and `*`
 abbrev pub is_mark : ℕ → Bool
@@ -23,9 +24,18 @@ head_after head (byte ∷ text) = head_after (byte == 9) text
 abbrev pub is_rare : ℕ → Bool
 is_rare byte = (byte == 33 || byte == 42) || byte == 13
 
--- A text is plain data, and these bits say where its tokens end, as if a tab stood behind it.
-pub record IsPlain (text : List ℕ) (ends : ℕ) : Type 0 where
+-- A text is plain data.
+pub record IsPlain (text : List ℕ) : Type 0 where
   pub unbroken : has_byte 13 text ≡ false
   pub spined : is_comment text ≡ false
   pub lawful : kind_of_tokens (parts text) ≡ Ok Values
+
+-- These bits say where its tokens end, as if a tab stood behind it.
+pub record HasEnds (text : List ℕ) (ends : ℕ) : Type 0 where
+  pub plain : IsPlain text
   pub bits : ends ≡ bits_of 9 (text ++ 9 ∷ [])
+
+-- These are the places where its tokens end.
+pub record HasPlaces (text places : List ℕ) : Type 0 where
+  pub plain : IsPlain text
+  pub cut : places ≡ ends_from 0 (parts text)

@@ -1,17 +1,19 @@
 //! The text of a record, and where its tokens end in it.
 ghost use Rattle.std.specs.Prelude.{◌≡◌, ◌≤◌, ◌<◌, ◌+◌, ◌-◌, ◌^◌, ◌++◌, ◌∷◌, [], length, take};
-ghost use Rattle.std.specs.Prelude.{OnOk, IfErr, Ok, true, false, vec_len};
+ghost use Rattle.std.specs.Prelude.{ℕ, map, IfOk, OnOk, IfErr, Ok, true, false, vec_len, slice_index};
 ghost use Rattle.hum_record.specs.Building.{tab_between, spelled};
 ghost use Rattle.hum_record.specs.Cutting.{set_places};
 ghost use Rattle.hum_record.specs.Fields.{AreFields, ends_from, row_in, written};
+ghost use Rattle.hum_record.specs.Plain.{HasPlaces};
 ghost use Rattle.hum_record.specs.Row.{chosen};
 ghost use Rattle.hum_record.specs.Spelling.{has_byte, reading, parts, Fails};
 
 use crate::leaving::move_in_front;
 use crate::near::{FEW, NEAR, copy_near, copy_places, put_places};
-use crate::putting::put_behind;
+use crate::putting::{put_behind, put_moved};
 use crate::reading::cut;
 use crate::selection::Selection;
+use crate::wide::{copy_words, put_ends};
 use crate::{MOST_BYTES, RecordFault};
 use std::alloc::{AllocError, Global};
 use std::marker::Model;
@@ -98,7 +100,7 @@ fn give_bytes(held: &mut Vec<u8>, count: usize) -> Result<(), AllocError>
 }
 
 #[inline]
-fn give_places(places: &mut Vec<u32>, count: usize) -> Result<(), AllocError>
+pub fn give_places(places: &mut Vec<u32>, count: usize) -> Result<(), AllocError>
     ensures kept { take (vec_len places.old) places.new.items ≡ places.old.items }
     ensures more { vec_len places.old ≤ vec_len places.new }
     ensures room { OnOk result (count ≤ vec_len places.new) }
@@ -162,22 +164,45 @@ impl Body {
     }
 
     /// Puts the first `len` bytes of what is held in place of the text, and the places of bits in place
-    /// of where tokens end.
+    /// of where tokens end, if there is room for these; and tells whether there was.
     #[inline]
-    pub fn put_near(&mut self, held: &[u8], len: usize, ends: u64) -> Result<(), AllocError>
+    pub fn put_near(&mut self, held: &[u8], len: usize, ends: u64) -> bool
         requires filled { 64 ≤ length held.now }
         requires short { len ≤ 62 }
-        ensures text { OnOk result (self.new.text ≡ take len held.now) }
-        ensures ends { OnOk result (self.new.ends ≡ set_places 64 0 ends) }
+        ensures text { result ≡ true → self.new.text ≡ take len held.now }
+        ensures ends { result ≡ true → self.new.ends ≡ set_places 64 0 ends }
     {
         let count = ends.count_ones() as usize;
-        give_bytes(&mut self.held, NEAR)?;
-        give_places(&mut self.places, count)?;
+        if self.held.len() < NEAR || self.places.len() < count {
+            return false;
+        }
         copy_near(&mut self.held, held);
         self.len = len;
-        put_places(&mut self.places, ends);
+        put_places(&mut self.places, 0, 0, ends);
         self.count = count;
-        Ok(())
+        true
+    }
+
+    /// Puts a longer line of plain data in place of the text, and where its tokens end; or tells that
+    /// its bytes don't show that it is one. The line is the first `len` bytes of what is held.
+    pub fn put_wide(&mut self, held: &[u8], len: usize) -> Result<bool, AllocError>
+        requires filled { len + 64 ≤ length held.now }
+        requires at_most { len ≤ 1048576 }
+        ensures text { IfOk result (λ is_plain. is_plain ≡ true
+            → self.new.text ≡ take len held.now) }
+        ensures plain { IfOk result (λ is_plain. is_plain ≡ true
+            → HasPlaces (take len held.now) self.new.ends) }
+    {
+        self.clear();
+        let count = put_ends(&mut self.places, held, len)?;
+        if count == 0 {
+            return Ok(false);
+        }
+        give_bytes(&mut self.held, len + NEAR)?;
+        copy_words(&mut self.held, held, len);
+        self.len = len;
+        self.count = count;
+        Ok(true)
     }
 
     /// Puts a line in place of the text, and where its tokens end; or finds the first rule that it
@@ -288,17 +313,45 @@ impl Body {
             + length (tab_between self.old.ends) + length token.now ≤ 1048576 }
         ensures kept { result ≡ false → self.new ≡ self.old }
     {
+        let count = self.count;
         if self.held.len() > MOST_BYTES
             || self.held.len() - self.len <= token.len()
-            || self.places.len() == self.count
+            || self.places.len() == count
         {
             return false;
         }
-        let end = put_behind(&mut self.held, self.len, self.count, token);
+        let end = put_behind(&mut self.held, self.len, count, token);
+        self.places[count] = end as u32;
         self.len = end;
-        self.places[self.count] = end as u32;
-        self.count += 1;
+        self.count = count + 1;
         true
+    }
+
+    /// Adds tokens with the tabs between them behind the others, and a tab before them if there are any;
+    /// they are told by where each ends in the text that they stand in.
+    pub fn add_run(&mut self, run: &[u8], ends: &[u32]) -> Result<(), AllocError>
+        requires some { 0 < length ends.now }
+        requires few { length self.old.text + length (tab_between self.old.ends)
+            + length run.now ≤ 1048576 }
+        requires order { (k : ℕ) → k < length ends.now
+            → slice_index ends.now k ≤ slice_index ends.now (length ends.now - 1) }
+        requires within { (k : ℕ) → k < length ends.now
+            → slice_index ends.now (length ends.now - 1) ≤ slice_index ends.now k + length run.now }
+        ensures text { OnOk result
+            (self.new.text ≡ self.old.text ++ (tab_between self.old.ends ++ run.now)) }
+        ensures ends { OnOk result (self.new.ends ≡ self.old.ends
+            ++ map (λ e. e + length self.new.text - slice_index ends.now (length ends.now - 1))
+            ends.now) }
+    {
+        let last = ends[ends.len() - 1] as usize;
+        let count = self.count + ends.len();
+        give_bytes(&mut self.held, self.len + 2 + run.len())?;
+        give_places(&mut self.places, count)?;
+        let end = put_behind(&mut self.held, self.len, self.count, run);
+        put_moved(&mut self.places, self.count, ends, last, end);
+        self.len = end;
+        self.count = count;
+        Ok(())
     }
 
     /// Adds LF at the end, where there is room, and tells whether there was.

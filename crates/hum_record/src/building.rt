@@ -3,13 +3,17 @@ ghost use Rattle.std.specs.Prelude.{◌≡◌, ◌≢◌, ◌+◌, ◌<◌, ◌�
 ghost use Rattle.std.specs.Prelude.{length, IsTrue, Err, OnOk, OnErr, IfErr};
 ghost use Rattle.std.specs.Allocator.{alloc_error};
 ghost use Rattle.std.specs.Prelude.{is_some, true, IfOk, if◌then◌else◌};
-ghost use Rattle.hum_record.specs.Spelling.{IsToken};
-ghost use Rattle.hum_record.specs.Building.{tab_between, text_in, ends_in};
+ghost use Rattle.std.specs.Prelude.{slice_range};
+ghost use Rattle.hum_record.specs.Row.{as_kind, kind_of, width_of};
+ghost use Rattle.hum_record.specs.Spelling.{IsToken, parts};
+ghost use Rattle.hum_record.specs.Fields.{ends_from};
+ghost use Rattle.hum_record.specs.Building.{spelled, tab_between, text_in, ends_in, run_of, with_more};
 ghost use Rattle.hum_record.specs.declared.RecordFault.TheVariants.{L1, Memory};
 
 use crate::body::Body;
 use crate::reading::Record;
 use crate::spare::{Spare, new_body};
+use crate::tokens::run_at_ends;
 use crate::{MOST_BYTES, RecordFault, SpinedKind};
 use std::alloc::{AllocError, Global};
 use std::marker::Model;
@@ -21,7 +25,8 @@ use std::marker::Model;
 pub struct RecordBuilder {
     alloc: Global,
     kind: SpinedKind,
-    // what the record will be: there with the first token, and before it where buffers are used again
+    // what the record will be: there with the first token, and before it where buffers are used again,
+    // but not once the builder is spent
     body: Option<Box<Body>>,
     spent: bool,
 }
@@ -44,11 +49,13 @@ impl Model for RecordBuilder {
 
     ghost Value = { Draft };
 
+    ghost use Rattle.std.specs.Prelude.{◌≡◌, true, false, is_some};
     ghost use Rattle.hum_record.specs.Building.{draft_of, text_in, ends_in, IsDraftUnless};
 
     ghost view = { λ b. draft_of b.kind (text_in b.body) (ends_in b.body) b.spent };
 
-    ghost invariant = { λ b. IsDraftUnless b.spent b.kind (text_in b.body) (ends_in b.body) };
+    ghost invariant = { λ b. IsDraftUnless b.spent b.kind (text_in b.body) (ends_in b.body)
+        × (b.spent ≡ true → is_some b.body ≡ false) };
 }
 
 impl RecordBuilder {
@@ -96,13 +103,53 @@ impl RecordBuilder {
         ensures kind { self.new.kind ≡ self.old.kind }
         ensures again { IsTrue self.old.spent → result ≡ Err Memory }
     {
+        if self.push_near(token) {
+            return Ok(());
+        }
+        self.push_far(token)
+    }
+
+    /// Adds a token at the end where there is room for it, or else nothing; and tells which.
+    #[inline]
+    pub(crate) fn push_near(&mut self, token: &[u8]) -> bool
+        requires { IsToken self.old.kind token.now }
+        ensures pushed { result ≡ true
+            → self.new ≡ record self.old { tokens = self.old.tokens ++ token.now ∷ [] } }
+        ensures fits { result ≡ true
+            → length (spelled (self.old.tokens ++ token.now ∷ [])) ≤ 1048576 }
+        ensures sound { result ≡ true → self.old.spent ≡ false }
+        ensures kept { result ≡ false → self.new ≡ self.old }
+    {
+        if add_near(&mut self.body, token) {
+            return true;
+        }
+        false
+    }
+
+    /// Adds a token at the end, as [`RecordBuilder::push`] does.
+    #[inline(never)]
+    pub(crate) fn push_far(&mut self, token: &[u8]) -> Result<(), RecordFault>
+        requires { IsToken self.old.kind token.now }
+        ensures pushed { OnOk result
+            (self.new ≡ record self.old { tokens = self.old.tokens ++ token.now ∷ [] }) }
+        ensures fits { OnOk result
+            (length (spelled (self.old.tokens ++ token.now ∷ [])) ≤ 1048576) }
+        ensures refused { IfErr result (λ fault. fault ≢ Memory →
+            (fault ≡ L1)
+            × (1048576 < length (spelled (self.old.tokens ++ token.now ∷ [])))
+            × (self.new ≡ self.old)) }
+        ensures spent { IfErr result (λ fault. fault ≡ Memory → IsTrue self.new.spent) }
+        ensures kind { self.new.kind ≡ self.old.kind }
+        ensures again { IsTrue self.old.spent → result ≡ Err Memory }
+    {
         if self.spent {
             return Err(RecordFault::Memory);
         }
-        match add(self.alloc, &mut self.body, token) {
+        match add_far(self.alloc, &mut self.body, token) {
             Ok(true) => Ok(()),
             Ok(false) => Err(RecordFault::L1),
             Err(_) => {
+                self.body = None;
                 self.spent = true;
                 Err(RecordFault::Memory)
             }
@@ -127,6 +174,39 @@ impl RecordBuilder {
             Ok(()) => Ok(()),
             Err(RecordFault::Memory) => Err(AllocError),
             Err(_) => unreachable!(),
+        }
+    }
+
+    /// Adds the tokens `from..to` of a record of the same kind at the end, in one piece.
+    ///
+    /// The fault is [`RecordFault::L1`] where the text would pass 1,048,576 bytes. The builder is
+    /// then as it was.
+    pub fn push_run(&mut self, row: &Record, from: usize, to: usize) -> Result<(), RecordFault>
+        requires of_kind { kind_of row.now ≡ as_kind self.old.kind }
+        requires some { from < to }
+        requires within { to ≤ width_of row.now }
+        ensures pushed { OnOk result (self.new ≡ with_more self.old (run_of row.now from to)) }
+        ensures fits { OnOk result
+            (length (spelled (self.old.tokens ++ run_of row.now from to)) ≤ 1048576) }
+        ensures refused { IfErr result (λ fault. fault ≢ Memory →
+            (fault ≡ L1)
+            × (1048576 < length (spelled (self.old.tokens ++ run_of row.now from to)))
+            × (self.new ≡ self.old)) }
+        ensures spent { IfErr result (λ fault. fault ≡ Memory → IsTrue self.new.spent) }
+        ensures kind { self.new.kind ≡ self.old.kind }
+        ensures again { IsTrue self.old.spent → result ≡ Err Memory }
+    {
+        if self.spent {
+            return Err(RecordFault::Memory);
+        }
+        match add_run(self.alloc, &mut self.body, row.body(), from, to) {
+            Ok(true) => Ok(()),
+            Ok(false) => Err(RecordFault::L1),
+            Err(_) => {
+                self.body = None;
+                self.spent = true;
+                Err(RecordFault::Memory)
+            }
         }
     }
 
@@ -196,7 +276,8 @@ fn add_near(body: &mut Option<Box<Body>>, token: &[u8]) -> bool
         ≡ ends_in body.old ++ length (text_in body.new) ∷ [] }
     ensures fits { result ≡ true → length (text_in body.old)
         + length (tab_between (ends_in body.old)) + length token.now ≤ 1048576 }
-    ensures there { result ≡ true → is_some body.new ≡ true }
+    ensures some { result ≡ true → is_some body.old ≡ true }
+    ensures there { is_some body.new ≡ is_some body.old }
     ensures same_text { result ≡ false → text_in body.new ≡ text_in body.old }
     ensures same_ends { result ≡ false → ends_in body.new ≡ ends_in body.old }
 {
@@ -206,8 +287,8 @@ fn add_near(body: &mut Option<Box<Body>>, token: &[u8]) -> bool
     }
 }
 
-/// The same in any body, or in one that is made where there is none as yet.
-#[inline(never)]
+/// Adds a token behind the others, in a body that is made where there is none as yet; or answers that
+/// it doesn't fit.
 fn add_far(alloc: Global, body: &mut Option<Box<Body>>, token: &[u8]) -> Result<bool, AllocError>
     requires { length (text_in body.old) ≤ 1048576 }
     ensures fits { IfOk result (λ fits. fits
@@ -232,24 +313,38 @@ fn add_far(alloc: Global, body: &mut Option<Box<Body>>, token: &[u8]) -> Result<
     Ok(true)
 }
 
-/// Adds a token behind the others, in a body that is made where there is none as yet; or answers that
-/// it doesn't fit.
-#[inline]
-fn add(alloc: Global, body: &mut Option<Box<Body>>, token: &[u8]) -> Result<bool, AllocError>
-    requires { length (text_in body.old) ≤ 1048576 }
+/// Adds tokens of another text behind the others, in a body that is made where there is none as yet; or
+/// answers that they don't fit.
+fn add_run(
+    alloc: Global,
+    body: &mut Option<Box<Body>>,
+    other: &Body,
+    from: usize,
+    to: usize,
+) -> Result<bool, AllocError>
+    requires short { length (text_in body.old) ≤ 1048576 }
+    requires cut { other.now.ends ≡ ends_from 0 (parts other.now.text) }
+    requires some { from < to }
+    requires within { to ≤ length other.now.ends }
     ensures fits { IfOk result (λ fits. fits
         ≡ nat_le (length (text_in body.old) + length (tab_between (ends_in body.old))
-        + length token.now) 1048576) }
-    ensures text { IfOk result (λ fits. text_in body.new
-        ≡ (if fits then text_in body.old ++ (tab_between (ends_in body.old) ++ token.now)
+        + length (spelled (slice_range (parts other.now.text) from to))) 1048576) }
+    ensures text { IfOk result (λ fits. text_in body.new ≡ (if fits then text_in body.old
+        ++ (tab_between (ends_in body.old) ++ spelled (slice_range (parts other.now.text) from to))
         else text_in body.old)) }
-    ensures ends { IfOk result (λ fits. ends_in body.new
-        ≡ (if fits then ends_in body.old ++ length (text_in body.new) ∷ []
-        else ends_in body.old)) }
+    ensures ends { IfOk result (λ fits. ends_in body.new ≡ (if fits then ends_in body.old
+        ++ ends_from (length (text_in body.old) + length (tab_between (ends_in body.old)))
+        (slice_range (parts other.now.text) from to) else ends_in body.old)) }
     ensures there { OnOk result (is_some body.new ≡ true) }
 {
-    if add_near(body, token) {
-        return Ok(true);
+    provide(alloc, body)?;
+    let Some(body) = body else {
+        unreachable!();
+    };
+    let run = run_at_ends(other.text(), other.ends(), from, to);
+    if !has_room(body.text(), body.ends(), run) {
+        return Ok(false);
     }
-    add_far(alloc, body, token)
+    body.add_run(run, &other.ends()[from..to])?;
+    Ok(true)
 }

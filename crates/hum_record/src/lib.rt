@@ -28,6 +28,7 @@ mod record_draft;
 mod selection;
 mod spare;
 mod tokens;
+mod wide;
 
 pub use building::RecordBuilder;
 pub use contents::{is_barline, is_data, is_filled, is_null};

@@ -1,8 +1,8 @@
 //! Short lines of plain data, all of whose bytes are looked at in one go.
-ghost use Rattle.std.specs.Prelude.{◌≡◌, ◌≤◌, length, map, take, IfSome};
+ghost use Rattle.std.specs.Prelude.{◌≡◌, ◌≤◌, ◌<◌, ◌+◌, ◌^◌, ◌++◌, length, map, take, IfSome};
 ghost use Rattle.std.specs.Simd.Lanes.{chunk, mask_l, put_chunk};
 ghost use Rattle.hum_record.specs.Cutting.{bits_of, set_places};
-ghost use Rattle.hum_record.specs.Plain.{is_rare, IsPlain};
+ghost use Rattle.hum_record.specs.Plain.{is_rare, HasEnds};
 
 use crate::bits::{bits_of_32, bits_of_64};
 use std::simd::prelude::*;
@@ -20,46 +20,46 @@ const SHORTER: usize = 32;
 /// How many places are copied at once: most lines have fewer tokens.
 pub const FEW: usize = 8;
 
-/// Where a byte that seldom stands in data is among the first 32, as the bits of a number.
+/// Where a byte that seldom stands in data is among 32, as the bits of a number.
 #[inline(always)]
-fn rare_bits_32(held: &[u8]) -> u64
-    requires { 32 ≤ length held.now }
-    ensures { result ≡ mask_l (map is_rare (chunk 0 32 held.now)) }
+fn rare_bits_32(held: &[u8], at: usize) -> u64
+    requires { at + 32 ≤ length held.now }
+    ensures { result ≡ mask_l (map is_rare (chunk at 32 held.now)) }
 {
-    let lanes = u8x32::from_slice(&held[0..]);
+    let lanes = u8x32::from_slice(&held[at..]);
     (lanes.simd_eq(u8x32::splat(b'!'))
         | lanes.simd_eq(u8x32::splat(b'*'))
         | lanes.simd_eq(u8x32::splat(b'\r'))).to_bitmask()
 }
 
-/// The same among the first 64.
+/// The same among 64.
 #[inline(always)]
-fn rare_bits_64(held: &[u8]) -> u64
-    requires { 64 ≤ length held.now }
-    ensures { result ≡ mask_l (map is_rare (chunk 0 64 held.now)) }
+pub fn rare_bits_64(held: &[u8], at: usize) -> u64
+    requires { at + 64 ≤ length held.now }
+    ensures { result ≡ mask_l (map is_rare (chunk at 64 held.now)) }
 {
-    let lanes = u8x64::from_slice(&held[0..]);
+    let lanes = u8x64::from_slice(&held[at..]);
     (lanes.simd_eq(u8x64::splat(b'!'))
         | lanes.simd_eq(u8x64::splat(b'*'))
         | lanes.simd_eq(u8x64::splat(b'\r'))).to_bitmask()
 }
 
-/// Where the tabs of a line stand, and where its bytes that are seldom in data, as the bits of two
-/// numbers. The line is the first `len` bytes of what is held.
+/// Where tabs stand among `len` bytes of what is held, and where bytes that are seldom in data, as the
+/// bits of two numbers.
 #[inline(always)]
-fn marks(held: &[u8], len: usize) -> (u64, u64)
-    requires filled { 64 ≤ length held.now }
-    requires short { len ≤ 62 }
-    ensures tabs { result.0 ≡ bits_of 9 (take len held.now) }
-    ensures rare { result.1 ≡ mask_l (map is_rare (take len held.now)) }
+pub fn marks(held: &[u8], at: usize, len: usize) -> (u64, u64)
+    requires filled { at + 64 ≤ length held.now }
+    requires short { len ≤ 63 }
+    ensures tabs { result.0 ≡ bits_of 9 (chunk at len held.now) }
+    ensures rare { result.1 ≡ mask_l (map is_rare (chunk at len held.now)) }
 {
     let within = (1u64 << len) - 1;
     if len < SHORTER {
-        let tabs = bits_of_32(held, 0, b'\t');
-        return (tabs & within, rare_bits_32(held) & within);
+        let tabs = bits_of_32(held, at, b'\t');
+        return (tabs & within, rare_bits_32(held, at) & within);
     }
-    let tabs = bits_of_64(held, 0, b'\t');
-    (tabs & within, rare_bits_64(held) & within)
+    let tabs = bits_of_64(held, at, b'\t');
+    (tabs & within, rare_bits_64(held, at) & within)
 }
 
 /// Where the tokens of a line end, as the bits of a number, if its bytes show that it is plain data.
@@ -68,9 +68,9 @@ fn marks(held: &[u8], len: usize) -> (u64, u64)
 pub fn plain_ends(held: &[u8], len: usize) -> Option<u64>
     requires filled { 64 ≤ length held.now }
     requires short { len ≤ 62 }
-    ensures { IfSome result (IsPlain (take len held.now)) }
+    ensures { IfSome result (HasEnds (take len held.now)) }
 {
-    let (tabs, rare) = marks(held, len);
+    let (tabs, rare) = marks(held, 0, len);
     let ends = tabs + (1u64 << len);
     let heads = 1 + 2 * ends;
     let has_empty = heads & ends != 0;
@@ -81,19 +81,23 @@ pub fn plain_ends(held: &[u8], len: usize) -> Option<u64>
     Some(ends)
 }
 
-/// Puts the places of bits in front of what stands in a list.
+/// Puts the places of bits, of which the lowest has this place, behind the first `count` of a list, and
+/// answers how many there are then.
 #[inline]
-pub fn put_places(places: &mut [u32], bits: u64)
-    requires { length (set_places 64 0 bits) ≤ length places.old }
-    ensures { take (length (set_places 64 0 bits)) places.new ≡ set_places 64 0 bits }
+pub fn put_places(places: &mut [u32], count: usize, start: u32, bits: u64) -> usize
+    requires room { count + length (set_places 64 start bits) ≤ length places.old }
+    requires few { start + 64 < 2 ^ 32 }
+    ensures count { result ≡ count + length (set_places 64 start bits) }
+    ensures places { take result places.new ≡ take count places.old ++ set_places 64 start bits }
 {
     let mut rest = bits;
-    let mut j = 0;
+    let mut j = count;
     while rest != 0 {
-        places[j] = rest.trailing_zeros();
+        places[j] = start + rest.trailing_zeros();
         j += 1;
         rest &= rest - 1;
     }
+    j
 }
 
 /// Puts the first bytes of what is held in front of what stands in a list.

@@ -1,10 +1,10 @@
 //! A record, and how a line is read as one.
 ghost use Rattle.std.specs.Prelude.{◌≡◌, ◌≢◌, ◌<◌, ◌≤◌, true, false, Ok, IfOk, IfErr, OnOk, MatchResult};
+ghost use Rattle.std.specs.Prelude.{IfSome};
 ghost use Rattle.std.specs.Prelude.{length, take};
 ghost use Rattle.hum_record.specs.Spelling.{IsTokenOf, IsTextOf, has_byte, is_comment, reading};
 ghost use Rattle.hum_record.specs.Spelling.{Gives, Fails, Breaks};
 ghost use Rattle.hum_record.specs.Fields.{AreFields, row_in};
-ghost use Rattle.hum_record.specs.Plain.{IsPlain};
 ghost use Rattle.hum_record.specs.Row.{Row, kind_of, row_of, tokens_of, width_of, token_at, text_of};
 ghost use Rattle.hum_record.specs.Row.{with_chosen};
 ghost use Rattle.std.specs.List.{list_any};
@@ -105,43 +105,50 @@ impl Record {
         // Which fault it is.
         ensures exact { Gives result (reading (take len held.now)) }
     {
-        if len <= SHORT && held.len() >= NEAR {
-            if let Some(ends) = plain_ends(held, len) {
-                return Self::of_plain(alloc, spare, held, len, ends);
-            }
+        if let Some(record) = Self::parse_near(spare, held, len) {
+            return Ok(record);
         }
-        Self::of_any(alloc, spare, &held[..len])
+        Self::of_any(alloc, spare, held, len)
     }
 
-    /// The same of plain data in a short line, by the bits of where its tokens end.
+    /// Reads plain data in a short line into what is left of the record that was done with last, if
+    /// there is one and it has room. Where it answers none, [`Record::parse_into`] reads the line.
     #[inline]
-    fn of_plain(
+    pub fn parse_near(spare: &mut Spare, held: &[u8], len: usize) -> Option<Record>
+        requires within { len ≤ length held.now }
+        requires one_line { has_byte 10 (take len held.now) ≡ false }
+        ensures { IfSome result (λ read. reading (take len held.now) ≡ Ok read) }
+    {
+        if len > SHORT || held.len() < NEAR {
+            return None;
+        }
+        let ends = plain_ends(held, len)?;
+        let mut body = spare.take_first()?;
+        if body.put_near(held, len, ends) {
+            return Some(Record { body });
+        }
+        spare.put_back(body);
+        None
+    }
+
+    /// The same of any line.
+    #[inline(never)]
+    fn of_any(
         alloc: Global,
         spare: &mut Spare,
         held: &[u8],
         len: usize,
-        ends: u64,
     ) -> Result<Record, RecordFault>
-        requires filled { 64 ≤ length held.now }
-        requires short { len ≤ 62 }
+        requires within { len ≤ length held.now }
+        requires at_most { length (take len held.now) ≤ 1048576 }
         requires one_line { has_byte 10 (take len held.now) ≡ false }
-        requires plain { IsPlain (take len held.now) ends }
         ensures { Gives result (reading (take len held.now)) }
     {
         let mut body = spare.take_or_new(alloc)?;
-        body.put_near(held, len, ends)?;
-        Ok(Record { body })
-    }
-
-    /// The same of any text.
-    #[inline(never)]
-    fn of_any(alloc: Global, spare: &mut Spare, text: &[u8]) -> Result<Record, RecordFault>
-        requires at_most { length text.now ≤ 1048576 }
-        requires one_line { has_byte 10 text.now ≡ false }
-        ensures { Gives result (reading text.now) }
-    {
-        let mut body = spare.take_or_new(alloc)?;
-        body.put(text)?;
+        if held.len() - len >= NEAR && body.put_wide(held, len)? {
+            return Ok(Record { body });
+        }
+        body.put(&held[..len])?;
         Ok(Record { body })
     }
 
@@ -151,6 +158,15 @@ impl Record {
         ensures { result ≡ row_in body.value.text }
     {
         Record { body }
+    }
+
+    /// Its text, and where its tokens end.
+    #[inline]
+    pub(crate) fn body(&self) -> &Body
+        ensures fields { AreFields result.now.text result.now.ends }
+        ensures text { self.now ≡ row_in result.now.text }
+    {
+        &self.body
     }
 
     /// What is left of a record that is done with.

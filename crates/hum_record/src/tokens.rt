@@ -5,6 +5,7 @@ ghost use Rattle.std.specs.List.{list_any};
 ghost use Rattle.hum_record.specs.Spelling.{kind_of_token, kind_of_tokens, parts};
 ghost use Rattle.hum_record.specs.Spelling.{is_comment, same_kind};
 ghost use Rattle.hum_record.specs.declared.SpinedKind.TheVariants.{Local};
+ghost use Rattle.hum_record.specs.Building.{spelled};
 ghost use Rattle.hum_record.specs.Fields.{begins_at, ends_from};
 ghost use Rattle.hum_record.specs.Cutting.{bits_of, tabs_from, IsCut};
 ghost use Rattle.hum_record.specs.Plain.{has_mark};
@@ -157,7 +158,19 @@ fn has_comment(text: &[u8], ends: &[u32]) -> bool
     false
 }
 
-/// The token `j` of a text, by where each token ends: it begins past the tab behind the one before.
+/// Where the token `j` of a text begins, by where each token ends: past the tab behind the one before.
+#[inline]
+fn begin_at(ends: &[u32], j: usize) -> usize
+    requires { j < length ends.now }
+    ensures { result ≡ begins_at ends.now j }
+{
+    match j.checked_sub(1) {
+        None => 0,
+        Some(before) => ends[before] as usize + 1,
+    }
+}
+
+/// The token `j` of a text, by where each token ends.
 #[inline]
 pub fn token_at_end<'t>(text: &'t [u8], ends: &[u32], j: usize) -> &'t [u8]
     requires counted { j < length ends.now }
@@ -165,9 +178,16 @@ pub fn token_at_end<'t>(text: &'t [u8], ends: &[u32], j: usize) -> &'t [u8]
     requires within { slice_index ends.now j ≤ length text.now }
     ensures { result.now ≡ slice_range text.now (begins_at ends.now j) (slice_index ends.now j) }
 {
-    let begin = match j.checked_sub(1) {
-        None => 0,
-        Some(before) => ends[before] as usize + 1,
-    };
-    &text[begin..ends[j] as usize]
+    &text[begin_at(ends, j)..ends[j] as usize]
+}
+
+/// The tokens `from..to` of a text with the tabs between them, by where each token ends.
+#[inline]
+pub fn run_at_ends<'t>(text: &'t [u8], ends: &[u32], from: usize, to: usize) -> &'t [u8]
+    requires cut { ends.now ≡ ends_from 0 (parts text.now) }
+    requires some { from < to }
+    requires within { to ≤ length ends.now }
+    ensures { result.now ≡ spelled (slice_range (parts text.now) from to) }
+{
+    &text[begin_at(ends, from)..ends[to - 1] as usize]
 }

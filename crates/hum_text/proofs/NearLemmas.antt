@@ -17,16 +17,18 @@ stops p (x ∷ xs) some = by (p x) refl (stops p xs)
     by true w rest = rw w (omega arith)
     by false w rest = let later = rest (let s = rw w at some in omega (arith, s)) in rw w (omega (arith, later))
 
--- no LF stands in the first bytes, where no bit is set
-pub none-near : (xs : List ℕ) (bits : ℕ) → 32 ≤ length xs → bits ≡ mask_l (map (is_byte 10) (chunk 0 32 xs)) → bits ≡ 0
-    → (k : ℕ) → k < 32 → is_byte 10 (get_or xs k 0) ≡ false
-none-near xs bits room is none k low =
-    let size : length (chunk 0 32 xs) ≡ 32 = length-chunk 0 32 xs room in
-    let zero : mask_l (map (is_byte 10) (chunk 0 32 xs)) ≡ 0 = sym is ∙ none in
-    let counted : 32 ≡ prefix_len (λ x. not (is_byte 10 x)) (chunk 0 32 xs) =
-    sym (cond-true (eqb (mask_l (map (is_byte 10) (chunk 0 32 xs))) 0) _ _ (ap (λ m. eqb m 0) zero))
-    ∙ first_set_mask_l (is_byte 10) (chunk 0 32 xs) 32 size (omega arith) in
-    run_in_chunk_fails (is_byte 10) xs 0 32 32 0 room counted k (omega arith) low
+-- no LF stands in these bytes either, where no bit is set
+pub none-near : (xs : List ℕ) (at bits : ℕ) → at + 32 ≤ length xs
+    → ((k : ℕ) → k < at → is_byte 10 (get_or xs k 0) ≡ false)
+    → bits ≡ mask_l (map (is_byte 10) (chunk at 32 xs)) → bits ≡ 0
+    → (k : ℕ) → k < at + 32 → is_byte 10 (get_or xs k 0) ≡ false
+none-near xs at bits room earlier is none k low =
+    let size : length (chunk at 32 xs) ≡ 32 = length-chunk at 32 xs room in
+    let zero : mask_l (map (is_byte 10) (chunk at 32 xs)) ≡ 0 = sym is ∙ none in
+    let counted : 32 ≡ prefix_len (λ x. not (is_byte 10 x)) (chunk at 32 xs) =
+    sym (cond-true (eqb (mask_l (map (is_byte 10) (chunk at 32 xs))) 0) _ _ (ap (λ m. eqb m 0) zero))
+    ∙ first_set_mask_l (is_byte 10) (chunk at 32 xs) 32 size (omega arith) in
+    ⊎_elim (λ less. earlier k less) (λ more. run_in_chunk_fails (is_byte 10) xs at 32 32 0 room counted k more low) (cases_lt k at)
 
 -- the lowest bit is the first LF, where none stands before these bytes
 pub first-near : (xs : List ℕ) (at bits r : ℕ) → at + 32 ≤ length xs

@@ -6,8 +6,11 @@ ghost use Rattle.hum_text.specs.Text.{lf};
 
 use std::simd::prelude::*;
 
-/// How many bytes are looked at: most lines are shorter.
-const NEAR: usize = 64;
+/// How many bytes are looked at: hardly a line is longer.
+const NEAR: usize = 256;
+
+/// How many of them at once: most lines are shorter still.
+const STEP: usize = 32;
 
 /// Where LF stands in 32 bytes from a place on, as the bits of a number.
 #[inline(always)]
@@ -20,22 +23,19 @@ fn near_bits(bytes: &[u8], at: usize) -> u64
         .to_bitmask()
 }
 
-/// Where the first LF stands, if it is among the first 64 bytes and as many are there; else none.
-// Half of them are looked at first, since most lines are shorter still.
+/// Where the first LF stands, if it is found by looking at the first 256 bytes step by step, as far as
+/// there are whole steps; else none.
 #[inline]
 pub fn near_lf(bytes: &[u8]) -> Option<usize>
     ensures { IfSome result (λ k. IsFirstByte (is_byte lf) bytes.now (Some k)) }
 {
-    if bytes.len() < NEAR {
-        return None;
-    }
-    let near = near_bits(bytes, 0);
-    if near != 0 {
-        return Some(near.trailing_zeros() as usize);
-    }
-    let further = near_bits(bytes, 32);
-    if further != 0 {
-        return Some(32 + further.trailing_zeros() as usize);
+    let mut at = 0;
+    while at < NEAR && bytes.len() - at >= STEP {
+        let near = near_bits(bytes, at);
+        if near != 0 {
+            return Some(at + near.trailing_zeros() as usize);
+        }
+        at += STEP;
     }
     None
 }

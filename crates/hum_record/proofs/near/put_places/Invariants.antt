@@ -4,8 +4,8 @@ use Rattle.hum_record.proofs.near.put_places.Given as goal
 
 abbrev pub invariant-loop-rest : goal.invariant-loop-rest
 invariant-loop-rest l =
-    (take l.j l.places ++ set_places 64 0 l.rest ≡ set_places 64 0 l.bits)
-    × (length (set_places 64 0 l.bits) ≤ length l.places) × (l.j ≤ length l.places)
+    (take l.j l.places ++ set_places 64 l.start l.rest ≡ take l.count l.fn.places ++ set_places 64 l.start l.bits)
+    × (length (take l.count l.fn.places ++ set_places 64 l.start l.bits) ≤ length l.places) × (l.j ≤ length l.places)
 
 abbrev pub decreases-loop-rest : goal.decreases-loop-rest
 decreases-loop-rest l = l.rest

@@ -7,7 +7,7 @@ use Rattle.hum_record.proofs.near.rare_bits_64.Goals as goal
 
 pub returns : goal.returns
 returns c =
-    let v = chunk 0 64 c.args.held.now in
-    let long : length v ≡ 64 = length-chunk 0 64 c.args.held.now c.requires in
+    let v = chunk c.args.at 64 c.args.held.now in
+    let long : length v ≡ 64 = length-chunk c.args.at 64 c.args.held.now c.requires in
     rare_mask v _ (omega (arith, long)) (zip2_of_maps bit_or _ _ v
     (zip2_of_maps bit_or _ _ v (zip2_splat hit v 64 33 long) (zip2_splat hit v 64 42 long)) (zip2_splat hit v 64 13 long))

@@ -21,7 +21,7 @@ returns-clause-ends c _ =
     let size : length new ≡ held.len = omega (arith, c.put_behind-end.auto.text, c.deref_mut.ensures.len) in
     let put = rw c.deref_mut.ensures.value at c.put_behind-end.ensures.text in
     let most = c.self.invariant.1 in
-    let some = c.if-len-self-2.false in
+    let some = c.if-len-count.false in
     let len = c.len-else-len-self.ensures in
     let room : c.self.inside.count < length places.items = omega (arith, most, some, len, places.ok.0) in
     added_ends _ _ _ held.len held.items places.items _ _ new c.args.token.now before size put room c.put_behind-end.ensures.end

@@ -1,5 +1,9 @@
-use Rattle.hum_record.proofs.TooLong.{stays_long}
+use Rattle.std.proofs.Common.{refl}
+use Rattle.std.specs.Prelude.{[], ◌∷◌}
+use Rattle.hum_record.proofs.TooLong.{holds_more}
 use Rattle.hum_record.proofs.record_draft.RecordDraft.push.Goals as goal
 
-pub returns-then-self-clause-pushed : goal.returns-then-self-clause-pushed
-returns-then-self-clause-pushed c = λ kind tokens h. stays_long kind _ _ tokens c.args.token.now c.if-self.true h
+pub returns-then-push_near-clause-pushed : goal.returns-then-push_near-clause-pushed
+returns-then-push_near-clause-pushed c = λ kind tokens h.
+    let added = c.if-push_near.ensures in
+    holds_more kind _ _ _ tokens (c.args.token.now ∷ []) (added.pushed refl) (added.fits refl) (added.sound refl) h
