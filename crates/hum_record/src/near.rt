@@ -4,7 +4,7 @@ ghost use Rattle.std.specs.Simd.Lanes.{chunk, mask_l, put_chunk};
 ghost use Rattle.hum_record.specs.Cutting.{bits_of, set_places};
 ghost use Rattle.hum_record.specs.Plain.{is_rare, HasEnds};
 
-use crate::bits::{bits_of_32, bits_of_64};
+use crate::bits::bits_at;
 use std::simd::prelude::*;
 
 /// How many bytes are looked at at once.
@@ -20,28 +20,17 @@ const SHORTER: usize = 32;
 /// How many places are copied at once: most lines have fewer tokens.
 pub const FEW: usize = 8;
 
-/// Where a byte that seldom stands in data is among 32, as the bits of a number.
+/// Where a byte that seldom stands in data is among `N`, as the bits of a number.
 #[inline(always)]
-fn rare_bits_32(held: &[u8], at: usize) -> u64
-    requires { at + 32 ≤ length held.now }
-    ensures { result ≡ mask_l (map is_rare (chunk at 32 held.now)) }
+pub fn rare_bits<const N: usize>(held: &[u8], at: usize) -> u64
+    requires few { N ≤ 64 }
+    requires within { at + N ≤ length held.now }
+    ensures { result ≡ mask_l (map is_rare (chunk at N held.now)) }
 {
-    let lanes = u8x32::from_slice(&held[at..]);
-    (lanes.simd_eq(u8x32::splat(b'!'))
-        | lanes.simd_eq(u8x32::splat(b'*'))
-        | lanes.simd_eq(u8x32::splat(b'\r'))).to_bitmask()
-}
-
-/// The same among 64.
-#[inline(always)]
-pub fn rare_bits_64(held: &[u8], at: usize) -> u64
-    requires { at + 64 ≤ length held.now }
-    ensures { result ≡ mask_l (map is_rare (chunk at 64 held.now)) }
-{
-    let lanes = u8x64::from_slice(&held[at..]);
-    (lanes.simd_eq(u8x64::splat(b'!'))
-        | lanes.simd_eq(u8x64::splat(b'*'))
-        | lanes.simd_eq(u8x64::splat(b'\r'))).to_bitmask()
+    let lanes = Simd::<u8, N>::from_slice(&held[at..]);
+    (lanes.simd_eq(Simd::splat(b'!'))
+        | lanes.simd_eq(Simd::splat(b'*'))
+        | lanes.simd_eq(Simd::splat(b'\r'))).to_bitmask()
 }
 
 /// Where tabs stand among `len` bytes of what is held, and where bytes that are seldom in data, as the
@@ -55,11 +44,11 @@ pub fn marks(held: &[u8], at: usize, len: usize) -> (u64, u64)
 {
     let within = (1u64 << len) - 1;
     if len < SHORTER {
-        let tabs = bits_of_32(held, at, b'\t');
-        return (tabs & within, rare_bits_32(held, at) & within);
+        let tabs = bits_at::<32>(held, at, b'\t');
+        return (tabs & within, rare_bits::<32>(held, at) & within);
     }
-    let tabs = bits_of_64(held, at, b'\t');
-    (tabs & within, rare_bits_64(held, at) & within)
+    let tabs = bits_at::<64>(held, at, b'\t');
+    (tabs & within, rare_bits::<64>(held, at) & within)
 }
 
 /// Where the tokens of a line end, as the bits of a number, if its bytes show that it is plain data.
