@@ -53,7 +53,7 @@ pub fn marks(held: &[u8], at: usize, len: usize) -> (u64, u64)
 
 /// Where the tokens of a line end, as the bits of a number, if its bytes show that it is plain data.
 /// The line is the first `len` bytes of what is held.
-#[inline]
+#[inline(always)]
 pub fn plain_ends(held: &[u8], len: usize) -> Option<u64>
     requires filled { 64 ≤ length held.now }
     requires short { len ≤ 62 }
@@ -72,7 +72,7 @@ pub fn plain_ends(held: &[u8], len: usize) -> Option<u64>
 
 /// Puts the places of bits, of which the lowest has this place, behind the first `count` of a list, and
 /// answers how many there are then.
-#[inline]
+#[inline(always)]
 pub fn put_places(places: &mut [u32], count: usize, start: u32, bits: u64) -> usize
     requires room { count + length (set_places 64 start bits) ≤ length places.old }
     requires few { start + 64 < 2 ^ 32 }
@@ -90,7 +90,7 @@ pub fn put_places(places: &mut [u32], count: usize, start: u32, bits: u64) -> us
 }
 
 /// Puts the first bytes of what is held in front of what stands in a list.
-#[inline]
+#[inline(always)]
 pub fn copy_near(text: &mut [u8], held: &[u8])
     requires filled { 64 ≤ length held.now }
     requires room { 64 ≤ length text.old }
