@@ -79,14 +79,13 @@ pub fn put_places(places: &mut [u32], count: usize, start: u32, bits: u64) -> us
     ensures count { result ≡ count + length (set_places 64 start bits) }
     ensures places { take result places.new ≡ take count places.old ++ set_places 64 start bits }
 {
+    let end = count + bits.count_ones() as usize;
     let mut rest = bits;
-    let mut j = count;
-    while rest != 0 {
+    for j in count..end {
         places[j] = start + rest.trailing_zeros();
-        j += 1;
         rest &= rest - 1;
     }
-    j
+    end
 }
 
 /// Puts the first bytes of what is held in front of what stands in a list.
