@@ -113,7 +113,7 @@ impl Record {
 
     /// Reads plain data in a short line into what is left of the record that was done with last, if
     /// there is one and it has room. Where it answers none, [`Record::parse_into`] reads the line.
-    #[inline]
+    #[inline(always)]
     pub fn parse_near(spare: &mut Spare, held: &[u8], len: usize) -> Option<Record>
         requires within { len ≤ length held.now }
         requires one_line { has_byte 10 (take len held.now) ≡ false }
