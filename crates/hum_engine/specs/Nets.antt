@@ -94,6 +94,14 @@ pub record NetAt {S R W : Type 0} (stands : Node S R → List ℕ → At → Typ
   pub is_flushed : (e : End) → now.failure ≡ None → (now.links (last (plan_of s))).heard ≡ Some e
       → flushed net.sink ≡ true
 
+-- This holds of each moment that a net stands for: of what the sink held at first, the scene and the
+-- moment.
+abbrev pub AtEach : {S R W : Type 0} → (Node S R → List ℕ → At → Type 0) → (W → Option (List ℕ))
+    → (W → Bool) → Net S R W → (Option (List ℕ) → Scene → Now Row → Type 0) → Type 0
+AtEach stands contents flushed net Holds =
+    (start : Option (List ℕ)) (s : Scene) (now : Now Row)
+    → NetAt stands contents flushed start s net now → Holds start s now
+
 -- Nothing comes behind the end of a source that was read.
 abbrev pub AreOver : {S R : Type 0} → List (Node S R) → (ℕ → List ℕ) → Type 0
 AreOver nodes rests = (k : ℕ) → ended_at k nodes ≡ true → rests k ≡ []

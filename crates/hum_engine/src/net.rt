@@ -20,7 +20,7 @@ ghost use Rattle.hum_turns.specs.Holds.{SomeReady};
 ghost use Rattle.hum_engine.specs.Nets.{WroteFront, IsGoing, IsChanged};
 ghost use Rattle.hum_engine.specs.Nets.{IsAmong, NetAt, AreBegun, Tells, HasRun, HasRunOn, IsNet};
 ghost use Rattle.hum_engine.specs.Nets.{Sees, MayPick, HasPicked, MayAsk, HasGone, MayStep, HasStepped};
-ghost use Rattle.hum_engine.specs.Nets.{IsCloser, AsksLittle};
+ghost use Rattle.hum_engine.specs.Nets.{IsCloser, AsksLittle, AtEach};
 
 use crate::search::Search;
 use crate::takers::takers_of;
@@ -215,9 +215,8 @@ impl<S: Stage + Drop, R: Source + Drop, W: Sink> Net<S, R, W> {
         requires { IsRunning (StandsAs S.stands) W.contents W.flushed self.old }
         ensures same { self.new ≡ record self.old { actors = self.new.actors } }
         ensures len { length self.new.actors.items ≡ length self.old.actors.items }
-        ensures list { (start : Option (List ℕ)) (s : Scene) (now : Now Row)
-            → NetAt (StandsAs S.stands) W.contents W.flushed start s self.old now
-            → self.new.actors.items ≡ ready_list (plan_of s) s.size now }
+        ensures list { AtEach (StandsAs S.stands) W.contents W.flushed self.old
+            (λ start s now. self.new.actors.items ≡ ready_list (plan_of s) s.size now) }
     {
         for k in 0..self.actors.len() {
             let is = self.ready(k);
@@ -231,10 +230,9 @@ impl<S: Stage + Drop, R: Source + Drop, W: Sink> Net<S, R, W> {
         requires { IsGoing (StandsAs S.stands) W.contents W.flushed k self.old }
         ensures same { self.new ≡ record self.old { actors = self.new.actors } }
         ensures len { length self.new.actors.items ≡ length self.old.actors.items }
-        ensures list { (start : Option (List ℕ)) (s : Scene) (now : Now Row)
-            → NetAt (StandsAs S.stands) W.contents W.flushed start s self.old now
-            → ended (plan_of s) now ≡ None → k ≤ s.count → self.new.actors.items
-            ≡ slice_set self.old.actors.items k (is_ready (plan_of s) s.size now k) }
+        ensures list { AtEach (StandsAs S.stands) W.contents W.flushed self.old
+            (λ start s now. ended (plan_of s) now ≡ None → k ≤ s.count → self.new.actors.items
+            ≡ slice_set self.old.actors.items k (is_ready (plan_of s) s.size now k)) }
     {
         let is = self.web.ready(k);
         self.actors[k] = is;
@@ -246,12 +244,11 @@ impl<S: Stage + Drop, R: Source + Drop, W: Sink> Net<S, R, W> {
         requires taker { IsGoing (StandsAs S.stands) W.contents W.flushed taker self.old }
         ensures same { self.new ≡ record self.old { actors = self.new.actors } }
         ensures len { length self.new.actors.items ≡ length self.old.actors.items }
-        ensures list { (start : Option (List ℕ)) (s : Scene) (now : Now Row)
-            → NetAt (StandsAs S.stands) W.contents W.flushed start s self.old now
-            → ended (plan_of s) now ≡ None → link ≤ s.count → taker ≤ s.count
+        ensures list { AtEach (StandsAs S.stands) W.contents W.flushed self.old
+            (λ start s now. ended (plan_of s) now ≡ None → link ≤ s.count → taker ≤ s.count
             → self.new.actors.items ≡ slice_set
             (slice_set self.old.actors.items link (is_ready (plan_of s) s.size now link))
-            taker (is_ready (plan_of s) s.size now taker) }
+            taker (is_ready (plan_of s) s.size now taker)) }
     {
         self.ask(link);
         self.ask(taker);
@@ -261,9 +258,8 @@ impl<S: Stage + Drop, R: Source + Drop, W: Sink> Net<S, R, W> {
     #[inline(never)]
     fn told(&self) -> RunResult
         requires { IsRunning (StandsAs S.stands) W.contents W.flushed self.now }
-        ensures { (start : Option (List ℕ)) (s : Scene) (now : Now Row) (by : RunResult)
-            → NetAt (StandsAs S.stands) W.contents W.flushed start s self.now now
-            → ended (plan_of s) now ≡ Some by → result ≡ by }
+        ensures { AtEach (StandsAs S.stands) W.contents W.flushed self.now
+            (λ start s now. (by : RunResult) → ended (plan_of s) now ≡ Some by → result ≡ by) }
     {
         match self.result() {
             Some(result) => result,
@@ -354,10 +350,9 @@ impl<S: Stage + Drop, R: Source + Drop, W: Sink> Net<S, R, W> {
             → W.failed self.new.sink ≡ (W.failed self.old.sink || is_write (Some result)) }
 
         // A run that is over answers its result again.
-        ensures again { (start : Option (List ℕ)) (s : Scene) (now : Now Row) (by : RunResult)
-            → NetAt (StandsAs S.stands) W.contents W.flushed start s self.old now
-            → ended (plan_of s) now ≡ Some by
-            → (result ≡ by) × (self.new ≡ self.old) × (order.new ≡ order.old) }
+        ensures again { AtEach (StandsAs S.stands) W.contents W.flushed self.old
+            (λ start s now. (by : RunResult) → ended (plan_of s) now ≡ Some by
+            → (result ≡ by) × (self.new ≡ self.old) × (order.new ≡ order.old)) }
     {
         if self.over() {
             return self.told();
@@ -375,10 +370,9 @@ impl<S: Stage + Drop, R: Source + Drop, W: Sink> Net<S, R, W> {
     #[inline(always)]
     fn turn_if_ready(&mut self, k: usize) -> Option<Turned>
         requires { MayAsk (StandsAs S.stands) W.contents W.flushed k self.old }
-        ensures ready { (start : Option (List ℕ)) (s : Scene) (now : Now Row)
-            → NetAt (StandsAs S.stands) W.contents W.flushed start s self.old now
-            → ended (plan_of s) now ≡ None → k ≤ s.count
-            → is_some result ≡ is_ready (plan_of s) s.size now k }
+        ensures ready { AtEach (StandsAs S.stands) W.contents W.flushed self.old
+            (λ start s now. ended (plan_of s) now ≡ None → k ≤ s.count
+            → is_some result ≡ is_ready (plan_of s) s.size now k) }
         ensures gone { IfSome result (HasGone (StandsAs S.stands) R.remaining
             R.failed W.contents W.flushed W.failed k self.old self.new) }
         ensures same { result ≡ None → self.new ≡ self.old }
@@ -428,9 +422,8 @@ impl<S: Stage + Drop, R: Source + Drop, W: Sink> Net<S, R, W> {
     /// How the run ended, once it has.
     pub fn result(&self) -> Option<RunResult>
         requires { IsRunning (StandsAs S.stands) W.contents W.flushed self.now }
-        ensures { (start : Option (List ℕ)) (s : Scene) (now : Now Row)
-            → NetAt (StandsAs S.stands) W.contents W.flushed start s self.now now
-            → result ≡ ended (plan_of s) now }
+        ensures { AtEach (StandsAs S.stands) W.contents W.flushed self.now
+            (λ start s now. result ≡ ended (plan_of s) now) }
     {
         if let Some(failure) = self.failure {
             return Some(failure);
@@ -445,9 +438,8 @@ impl<S: Stage + Drop, R: Source + Drop, W: Sink> Net<S, R, W> {
     /// ended none is.
     pub fn ready(&self, k: usize) -> bool
         requires { IsAmong (StandsAs S.stands) W.contents W.flushed k self.now }
-        ensures { (start : Option (List ℕ)) (s : Scene) (now : Now Row)
-            → NetAt (StandsAs S.stands) W.contents W.flushed start s self.now now
-            → k ≤ s.count → result ≡ is_ready (plan_of s) s.size now k }
+        ensures { AtEach (StandsAs S.stands) W.contents W.flushed self.now
+            (λ start s now. k ≤ s.count → result ≡ is_ready (plan_of s) s.size now k) }
     {
         match self.result() {
             Some(_) => false,
@@ -459,9 +451,8 @@ impl<S: Stage + Drop, R: Source + Drop, W: Sink> Net<S, R, W> {
     /// the bytes go on that are still to come.
     pub fn into_writer(self) -> W
         ensures sink { result ≡ self.sink }
-        ensures front { (start : Option (List ℕ)) (s : Scene) (now : Now Row)
-            → NetAt (StandsAs S.stands) W.contents W.flushed start s self now
-            → WroteFront s start (W.contents result) }
+        ensures front { AtEach (StandsAs S.stands) W.contents W.flushed self
+            (λ start s now. WroteFront s start (W.contents result)) }
     {
         let Net {
             web: _web,
@@ -481,9 +472,8 @@ impl<S: Stage + Drop, R: Source + Drop, W: Sink> Net<S, R, W> {
         ensures turns { (start : Option (List ℕ)) (s : Scene) (now : Now Row)
             → (at : NetAt (StandsAs S.stands) W.contents W.flushed start s self.now now)
             → result ≡ length at.turns }
-        ensures most { (start : Option (List ℕ)) (s : Scene) (now : Now Row)
-            → NetAt (StandsAs S.stands) W.contents W.flushed start s self.now now
-            → now.failure ≡ None → result ≤ most_in_all (plan_of s) now.links }
+        ensures most { AtEach (StandsAs S.stands) W.contents W.flushed self.now
+            (λ start s now. now.failure ≡ None → result ≤ most_in_all (plan_of s) now.links) }
 
         // Each actor has had no more of them than what it moved allows.
         ensures each { (start : Option (List ℕ)) (s : Scene) (now : Now Row)
@@ -496,9 +486,8 @@ impl<S: Stage + Drop, R: Source + Drop, W: Sink> Net<S, R, W> {
     /// The stages and the sink.
     pub fn actors(&self) -> usize
         ensures count { result ≡ length self.now.actors.items }
-        ensures stages { (start : Option (List ℕ)) (s : Scene) (now : Now Row)
-            → NetAt (StandsAs S.stands) W.contents W.flushed start s self.now now
-            → result ≡ s.count + 1 }
+        ensures stages { AtEach (StandsAs S.stands) W.contents W.flushed self.now
+            (λ start s now. result ≡ s.count + 1) }
     {
         self.actors.len()
     }
@@ -506,25 +495,22 @@ impl<S: Stage + Drop, R: Source + Drop, W: Sink> Net<S, R, W> {
     /// How many records lie on the link of an actor: those that it gave, less those taken. The sink has
     /// no link.
     pub fn linked(&self, k: usize) -> usize
-        ensures { (start : Option (List ℕ)) (s : Scene) (now : Now Row)
-            → NetAt (StandsAs S.stands) W.contents W.flushed start s self.now now
-            → now.failure ≡ None → k < s.count
-            → (result ≡ linked (now.links k)) × (result ≤ s.size) }
+        ensures { AtEach (StandsAs S.stands) W.contents W.flushed self.now
+            (λ start s now. now.failure ≡ None → k < s.count
+            → (result ≡ linked (now.links k)) × (result ≤ s.size)) }
     {
         self.web.linked(k)
     }
 
     /// How many records wait inside an actor: none in a source or the sink.
     pub fn held(&self, k: usize) -> usize
-        ensures held { (start : Option (List ℕ)) (s : Scene) (now : Now Row)
-            → NetAt (StandsAs S.stands) W.contents W.flushed start s self.now now
-            → now.failure ≡ None → k ≤ s.count → result ≡ held_of s now.links k }
+        ensures held { AtEach (StandsAs S.stands) W.contents W.flushed self.now
+            (λ start s now. now.failure ≡ None → k ≤ s.count → result ≡ held_of s now.links k) }
 
         // In a stage of one input at most one more than the greatest lag of its records, in assemble
         // at most one of each source.
-        ensures few { (start : Option (List ℕ)) (s : Scene) (now : Now Row)
-            → NetAt (StandsAs S.stands) W.contents W.flushed start s self.now now
-            → now.failure ≡ None → HoldsFew s now.links k result }
+        ensures few { AtEach (StandsAs S.stands) W.contents W.flushed self.now
+            (λ start s now. now.failure ≡ None → HoldsFew s now.links k result) }
     {
         self.web.held(k)
     }
@@ -533,12 +519,10 @@ impl<S: Stage + Drop, R: Source + Drop, W: Sink> Net<S, R, W> {
     #[inline(always)]
     pub fn over(&self) -> bool
         requires { IsRunning (StandsAs S.stands) W.contents W.flushed self.now }
-        ensures progress { (start : Option (List ℕ)) (s : Scene) (now : Now Row)
-            → NetAt (StandsAs S.stands) W.contents W.flushed start s self.now now
-            → ended (plan_of s) now ≡ None → SomeReady (plan_of s) s.size now.links }
-        ensures over { (start : Option (List ℕ)) (s : Scene) (now : Now Row)
-            → NetAt (StandsAs S.stands) W.contents W.flushed start s self.now now
-            → result ≡ is_some (ended (plan_of s) now) }
+        ensures progress { AtEach (StandsAs S.stands) W.contents W.flushed self.now
+            (λ start s now. ended (plan_of s) now ≡ None → SomeReady (plan_of s) s.size now.links) }
+        ensures over { AtEach (StandsAs S.stands) W.contents W.flushed self.now
+            (λ start s now. result ≡ is_some (ended (plan_of s) now)) }
     {
         self.result().is_some()
     }

@@ -21,7 +21,7 @@ ghost use Rattle.hum_nodes.specs.Polls.{AsksAtMostOnce, HasStayed, is_failed_rea
 use crate::link::Link;
 use hum_nodes::{Node, Readiness};
 use hum_read::ReadError;
-use hum_record::Record;
+use hum_record::{Record, Spare};
 use hum_stage::{End, Stage};
 use hum_text::calls::Source;
 use std::alloc::{AllocError, Global};
@@ -31,12 +31,9 @@ use std::alloc::{AllocError, Global};
 pub struct Web<S, R> {
     nodes: Vec<Node<S, R>>,
     links: Vec<Link>,
-    // the source that gave a record last
-    feeder: usize,
-    // whether there are several sources, and the stage that handed a record out last
-    has_several: bool,
-    spender: usize,
-    // the stage that took a record last that its source had no use for
+    // records that are done with, into which sources read
+    pool: Spare,
+    // the stage that took a record last of which the pool had enough
     taker: usize,
 }
 
@@ -52,19 +49,13 @@ impl<S: Stage + Drop, R: Source + Drop> Web<S, R> {
         ensures nodes { IfOk result (λ web. web.nodes ≡ nodes) }
     {
         let mut links = Vec::new(alloc);
-        let mut has_one = false;
-        let mut has_several = false;
-        for node in &nodes {
+        for _ in 0..nodes.len() {
             links.push(Link::new(alloc, size)?)?;
-            has_several |= has_one && node.is_source();
-            has_one |= node.is_source();
         }
         Ok(Web {
             nodes,
             links,
-            feeder: 0,
-            has_several,
-            spender: 0,
+            pool: Spare::none(alloc),
             taker: 0,
         })
     }
@@ -95,11 +86,8 @@ impl<S: Stage + Drop, R: Source + Drop> Web<S, R> {
             (remaining_at R.remaining k self.old.nodes.items)
             (remaining_at R.remaining k self.new.nodes.items)) }
     {
-        match self.nodes[k].next() {
-            Some(row) => {
-                self.feeder = k;
-                self.links[k].push(row);
-            }
+        match self.nodes[k].next(&mut self.pool) {
+            Some(row) => self.links[k].push(row),
             None => match self.nodes[k].stopped() {
                 Some(Ok(end)) => self.links[k].end(end),
                 Some(Err(error)) => return Err(error),
@@ -173,83 +161,8 @@ impl<S: Stage + Drop, R: Source + Drop> Web<S, R> {
         }
     }
 
-    // Gives a record back to the source that gave one last, or where that has no use for it, to one
-    // of the stages.
-    fn give_back(&mut self, row: Record)
-        ensures stands { (s : Scene) → Stands (StandsAs S.stands) self.old s
-            → Stands (StandsAs S.stands) self.new s }
-        ensures shows { (k : ℕ) → ShowsSame R.remaining R.calls R.failed
-            self.old.nodes.items self.new.nodes.items k }
-        ensures count { length self.new.nodes.items ≡ length self.old.nodes.items }
-    {
-        if let Some(row) = self.feed(self.feeder, row) {
-            self.offer_to_all(row);
-        }
-    }
-
-    // A record that a stage was put and is done with, if it isn't a source.
-    fn done_with(&mut self, k: usize) -> Option<Record>
-        ensures stands { (s : Scene) → Stands (StandsAs S.stands) self.old s
-            → Stands (StandsAs S.stands) self.new s }
-        ensures shows { (k : ℕ) → ShowsSame R.remaining R.calls R.failed
-            self.old.nodes.items self.new.nodes.items k }
-        ensures count { length self.new.nodes.items ≡ length self.old.nodes.items }
-    {
-        if k < self.nodes.len() {
-            return self.nodes[k].done_with();
-        }
-        None
-    }
-
-    // The same of the stage that handed one out last; where that has none, of the next the next time.
-    fn spent(&mut self) -> Option<Record>
-        ensures stands { (s : Scene) → Stands (StandsAs S.stands) self.old s
-            → Stands (StandsAs S.stands) self.new s }
-        ensures shows { (k : ℕ) → ShowsSame R.remaining R.calls R.failed
-            self.old.nodes.items self.new.nodes.items k }
-        ensures count { length self.new.nodes.items ≡ length self.old.nodes.items }
-    {
-        let k = self.spender;
-        let row = self.done_with(k);
-        if row.is_none() {
-            self.spender = if k < self.nodes.len() { k + 1 } else { 0 };
-        }
-        row
-    }
-
-    // Gives a source a record that some stage is done with, but for the one that gave one last.
-    fn feed_other(&mut self, k: usize)
-        ensures stands { (s : Scene) → Stands (StandsAs S.stands) self.old s
-            → Stands (StandsAs S.stands) self.new s }
-        ensures shows { (k : ℕ) → ShowsSame R.remaining R.calls R.failed
-            self.old.nodes.items self.new.nodes.items k }
-        ensures count { length self.new.nodes.items ≡ length self.old.nodes.items }
-    {
-        if k == self.feeder || k >= self.nodes.len() || !self.nodes[k].is_source() {
-            return;
-        }
-        if let Some(row) = self.spent() {
-            let _refused = self.feed(k, row);
-        }
-    }
-
-    // The same of each source.
-    #[inline(never)]
-    fn feed_others(&mut self)
-        ensures stands { (s : Scene) → Stands (StandsAs S.stands) self.old s
-            → Stands (StandsAs S.stands) self.new s }
-        ensures shows { (k : ℕ) → ShowsSame R.remaining R.calls R.failed
-            self.old.nodes.items self.new.nodes.items k }
-        ensures count { length self.new.nodes.items ≡ length self.old.nodes.items }
-    {
-        for k in 0..self.nodes.len() {
-            self.feed_other(k);
-        }
-    }
-
-    /// Gives a record back to the source that gave one last, so that its next one needs no memory of
-    /// its own, or where that has no use for it, to a stage that has; and where there are several
-    /// sources, to the others what assemble is done with.
+    /// Keeps a record that is done with or, where there are enough, offers it to the stages.
+    #[inline(always)]
     pub fn reuse(&mut self, row: Record)
         ensures stands { (s : Scene) → Stands (StandsAs S.stands) self.old s
             → Stands (StandsAs S.stands) self.new s }
@@ -257,9 +170,8 @@ impl<S: Stage + Drop, R: Source + Drop> Web<S, R> {
             self.old.nodes.items self.new.nodes.items k }
         ensures count { length self.new.nodes.items ≡ length self.old.nodes.items }
     {
-        self.give_back(row);
-        if self.has_several {
-            self.feed_others();
+        if let Some(row) = self.pool.offer(row) {
+            self.offer_to_all(row);
         }
     }
 
@@ -324,7 +236,7 @@ impl<S: Stage + Drop, R: Source + Drop> Web<S, R> {
     {
         let source = self.nodes[k].source(place);
         match self.links[source].next() {
-            Some(row) => self.nodes[k].put(place, row)?,
+            Some(row) => self.nodes[k].put(place, row, &mut self.pool)?,
             None => {
                 if let Some(end) = self.links[source].heard() {
                     self.nodes[k].stop(place, end);

@@ -12,7 +12,7 @@ ghost use Rattle.hum_plan.specs.Seen.{stages_of};
 ghost use Rattle.hum_engine.specs.Scene.{Scene, plan_of, held_of, HoldsFew};
 ghost use Rattle.hum_engine.specs.Readers.{failed_at, is_read_of, is_write};
 ghost use Rattle.hum_engine.specs.Nets.{NetAt, Tells, HasTurned, HasRun, HasRunOn, WroteFront};
-ghost use Rattle.hum_engine.specs.Nets.{CallsSink};
+ghost use Rattle.hum_engine.specs.Nets.{CallsSink, AtEach};
 ghost use Rattle.hum_turns.specs.Plan.{last};
 ghost use Rattle.hum_net.specs.Nodes.{AreTold, reads_of};
 ghost use Rattle.hum_net.specs.Parts.{AreSoundFrom};
@@ -117,9 +117,8 @@ impl<R: Source + Drop, W: Sink> Net<R, W> {
     /// How many actors there are: the stages and the sink.
     pub fn actors(&self) -> usize
         ensures count { result ≡ length self.now.actors.items }
-        ensures stages { (start : Option (List ℕ)) (s : Scene) (now : Now Row)
-            → NetAt (StandsAs ⟦<CommandStage as Stage>⟧.stands) W.contents W.flushed start s self.now now
-            → result ≡ s.count + 1 }
+        ensures stages { AtEach (StandsAs ⟦<CommandStage as Stage>⟧.stands) W.contents W.flushed self.now
+            (λ start s now. result ≡ s.count + 1) }
     {
         self.engine.actors()
     }
@@ -127,9 +126,8 @@ impl<R: Source + Drop, W: Sink> Net<R, W> {
     /// Whether an actor is ready: it may have a turn. Once the run has ended none is.
     pub fn ready(&self, k: usize) -> bool
         requires { k < length self.now.actors.items }
-        ensures { (start : Option (List ℕ)) (s : Scene) (now : Now Row)
-            → NetAt (StandsAs ⟦<CommandStage as Stage>⟧.stands) W.contents W.flushed start s self.now now
-            → result ≡ is_ready (plan_of s) s.size now k }
+        ensures { AtEach (StandsAs ⟦<CommandStage as Stage>⟧.stands) W.contents W.flushed self.now
+            (λ start s now. result ≡ is_ready (plan_of s) s.size now k) }
     {
         self.engine.ready(k)
     }
@@ -153,31 +151,27 @@ impl<R: Source + Drop, W: Sink> Net<R, W> {
 
         // The writer is asked for no write but those of the record that the sink takes, or for one flush
         // at the end.
-        ensures asked { (start : Option (List ℕ)) (s : Scene) (now : Now Row)
-            → NetAt (StandsAs ⟦<CommandStage as Stage>⟧.stands) W.contents W.flushed start s self.old now
-            → k ≡ s.count → CallsSink (W.calls self.old.sink) (W.calls self.new.sink)
-            (now.links (last (plan_of s))).waiting }
+        ensures asked { AtEach (StandsAs ⟦<CommandStage as Stage>⟧.stands) W.contents W.flushed self.old
+            (λ start s now. k ≡ s.count → CallsSink (W.calls self.old.sink) (W.calls self.new.sink)
+            (now.links (last (plan_of s))).waiting) }
     {
         self.engine.turn(k).is_over
     }
 
     /// Whether the run is over. Until then some actor is ready.
     pub fn over(&self) -> bool
-        ensures progress { (start : Option (List ℕ)) (s : Scene) (now : Now Row)
-            → NetAt (StandsAs ⟦<CommandStage as Stage>⟧.stands) W.contents W.flushed start s self.now now
-            → ended (plan_of s) now ≡ None → SomeReady (plan_of s) s.size now.links }
-        ensures over { (start : Option (List ℕ)) (s : Scene) (now : Now Row)
-            → NetAt (StandsAs ⟦<CommandStage as Stage>⟧.stands) W.contents W.flushed start s self.now now
-            → result ≡ is_some (ended (plan_of s) now) }
+        ensures progress { AtEach (StandsAs ⟦<CommandStage as Stage>⟧.stands) W.contents W.flushed self.now
+            (λ start s now. ended (plan_of s) now ≡ None → SomeReady (plan_of s) s.size now.links) }
+        ensures over { AtEach (StandsAs ⟦<CommandStage as Stage>⟧.stands) W.contents W.flushed self.now
+            (λ start s now. result ≡ is_some (ended (plan_of s) now)) }
     {
         self.engine.over()
     }
 
     /// How the run ended, once it has.
     pub fn result(&self) -> Option<RunResult>
-        ensures { (start : Option (List ℕ)) (s : Scene) (now : Now Row)
-            → NetAt (StandsAs ⟦<CommandStage as Stage>⟧.stands) W.contents W.flushed start s self.now now
-            → result ≡ ended (plan_of s) now }
+        ensures { AtEach (StandsAs ⟦<CommandStage as Stage>⟧.stands) W.contents W.flushed self.now
+            (λ start s now. result ≡ ended (plan_of s) now) }
     {
         self.engine.result()
     }
@@ -186,9 +180,8 @@ impl<R: Source + Drop, W: Sink> Net<R, W> {
     /// that were moved allow.
     pub fn turns(&self) -> u64
         ensures turns { result ≡ self.now.turns }
-        ensures most { (start : Option (List ℕ)) (s : Scene) (now : Now Row)
-            → NetAt (StandsAs ⟦<CommandStage as Stage>⟧.stands) W.contents W.flushed start s self.now now
-            → now.failure ≡ None → result ≤ most_in_all (plan_of s) now.links }
+        ensures most { AtEach (StandsAs ⟦<CommandStage as Stage>⟧.stands) W.contents W.flushed self.now
+            (λ start s now. now.failure ≡ None → result ≤ most_in_all (plan_of s) now.links) }
 
         // Each actor has had no more of them than what it moved allows.
         ensures each { (start : Option (List ℕ)) (s : Scene) (now : Now Row)
@@ -200,15 +193,13 @@ impl<R: Source + Drop, W: Sink> Net<R, W> {
 
     /// How many records wait inside an actor: none in a source or the sink.
     pub fn held(&self, k: usize) -> usize
-        ensures held { (start : Option (List ℕ)) (s : Scene) (now : Now Row)
-            → NetAt (StandsAs ⟦<CommandStage as Stage>⟧.stands) W.contents W.flushed start s self.now now
-            → now.failure ≡ None → k ≤ s.count → result ≡ held_of s now.links k }
+        ensures held { AtEach (StandsAs ⟦<CommandStage as Stage>⟧.stands) W.contents W.flushed self.now
+            (λ start s now. now.failure ≡ None → k ≤ s.count → result ≡ held_of s now.links k) }
 
         // In a stage of one input at most one more than the greatest lag of its records, in assemble
         // at most one of each source.
-        ensures few { (start : Option (List ℕ)) (s : Scene) (now : Now Row)
-            → NetAt (StandsAs ⟦<CommandStage as Stage>⟧.stands) W.contents W.flushed start s self.now now
-            → now.failure ≡ None → HoldsFew s now.links k result }
+        ensures few { AtEach (StandsAs ⟦<CommandStage as Stage>⟧.stands) W.contents W.flushed self.now
+            (λ start s now. now.failure ≡ None → HoldsFew s now.links k result) }
     {
         self.engine.held(k)
     }
@@ -216,10 +207,9 @@ impl<R: Source + Drop, W: Sink> Net<R, W> {
     /// How many records lie on the link of an actor: those that it gave, less those taken. The sink has
     /// no link.
     pub fn linked(&self, k: usize) -> usize
-        ensures { (start : Option (List ℕ)) (s : Scene) (now : Now Row)
-            → NetAt (StandsAs ⟦<CommandStage as Stage>⟧.stands) W.contents W.flushed start s self.now now
-            → now.failure ≡ None → k < s.count
-            → (result ≡ linked (now.links k)) × (result ≤ s.size) }
+        ensures { AtEach (StandsAs ⟦<CommandStage as Stage>⟧.stands) W.contents W.flushed self.now
+            (λ start s now. now.failure ≡ None → k < s.count
+            → (result ≡ linked (now.links k)) × (result ≤ s.size)) }
     {
         self.engine.linked(k)
     }
@@ -228,9 +218,8 @@ impl<R: Source + Drop, W: Sink> Net<R, W> {
     /// the bytes go on that are still to come.
     pub fn into_writer(self) -> W
         ensures sink { result ≡ self.sink }
-        ensures front { (start : Option (List ℕ)) (s : Scene) (now : Now Row)
-            → NetAt (StandsAs ⟦<CommandStage as Stage>⟧.stands) W.contents W.flushed start s self now
-            → WroteFront s start (W.contents result) }
+        ensures front { AtEach (StandsAs ⟦<CommandStage as Stage>⟧.stands) W.contents W.flushed self
+            (λ start s now. WroteFront s start (W.contents result)) }
     {
         self.engine.into_writer()
     }
@@ -259,10 +248,9 @@ impl<R: Source + Drop, W: Sink> Net<R, W> {
             → W.failed self.new.sink ≡ (W.failed self.old.sink || is_write (Some result)) }
 
         // A run that is over answers its result again.
-        ensures again { (start : Option (List ℕ)) (s : Scene) (now : Now Row) (by : RunResult)
-            → NetAt (StandsAs ⟦<CommandStage as Stage>⟧.stands) W.contents W.flushed start s self.old now
-            → ended (plan_of s) now ≡ Some by
-            → (result ≡ by) × (self.new ≡ self.old) × (order.new ≡ order.old) }
+        ensures again { AtEach (StandsAs ⟦<CommandStage as Stage>⟧.stands) W.contents W.flushed self.old
+            (λ start s now. (by : RunResult) → ended (plan_of s) now ≡ Some by
+            → (result ≡ by) × (self.new ≡ self.old) × (order.new ≡ order.old)) }
     {
         self.engine.run(order)
     }

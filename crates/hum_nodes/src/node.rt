@@ -18,7 +18,7 @@ ghost use Rattle.hum_nodes.specs.Nodes.{remaining_of, ended_of, calls_of, failed
 
 use hum_assemble::Assemble;
 use hum_read::{ReadError, ScoreReader};
-use hum_record::Record;
+use hum_record::{Record, Spare};
 use hum_stage::{End, Readiness as StageReadiness, Stage, State};
 use hum_text::calls::Source;
 use std::alloc::{AllocError, Global};
@@ -262,12 +262,13 @@ impl<S: Stage + Drop, R: Source + Drop> Node<S, R> {
         }
     }
 
-    /// Puts the next record of the input that it wants.
+    /// Puts the next record of the input that it wants. A record of which assemble is done goes to the
+    /// pool.
     ///
     /// # Errors
     /// Out of memory.
     #[inline(always)]
-    pub fn put(&mut self, place: usize, next: Record) -> Result<(), AllocError>
+    pub fn put(&mut self, place: usize, next: Record, pool: &mut Spare) -> Result<(), AllocError>
         requires kind { is_source self.old ≡ false }
         requires may { MayPut (StandsAs S.stands self.old []) place next }
         ensures kind { is_source self.new ≡ false }
@@ -282,6 +283,9 @@ impl<S: Stage + Drop, R: Source + Drop> Node<S, R> {
             }
             Work::Assemble(stage, _) => {
                 stage.put(place, next)?;
+                if let Some(row) = stage.done_with() {
+                    pool.keep(row);
+                }
                 self.readiness = of_assemble(stage);
             }
         }
@@ -312,7 +316,7 @@ impl<S: Stage + Drop, R: Source + Drop> Node<S, R> {
     /// A turn of a source: where nothing is settled that it hasn't given, it makes one read. It gives
     /// the next record, or none where there is nothing yet or it has stopped.
     #[inline(always)]
-    pub fn next(&mut self) -> Option<Record>
+    pub fn next(&mut self, pool: &mut Spare) -> Option<Record>
         requires { is_source self.old ≡ true }
         ensures kind { is_source self.new ≡ true }
         ensures polled { IfOk (given_by result (stopped_of self.new))
@@ -335,7 +339,7 @@ impl<S: Stage + Drop, R: Source + Drop> Node<S, R> {
             (remaining_of R.remaining self.old) (remaining_of R.remaining self.new)) }
     {
         match &mut self.work {
-            Work::Read(reader) => reader.next(),
+            Work::Read(reader) => reader.next(pool),
             Work::Command(..) | Work::Assemble(..) => unreachable!(),
         }
     }
@@ -351,7 +355,8 @@ impl<S: Stage + Drop, R: Source + Drop> Node<S, R> {
         }
     }
 
-    /// Takes a record that is done with, if it can make another in it, and else hands it back.
+    /// Takes a record that is done with, if it is a command that can make another in it, and else hands
+    /// it back.
     pub fn reuse(&mut self, row: Record) -> Option<Record>
         ensures kind { is_source self.new ≡ is_source self.old }
         ensures stands { (rest : List ℕ) (t : At) → StandsAs S.stands self.old rest t
@@ -362,26 +367,8 @@ impl<S: Stage + Drop, R: Source + Drop> Node<S, R> {
             (failed_of R.failed self.old) (failed_of R.failed self.new) }
     {
         match &mut self.work {
-            Work::Read(reader) => reader.reuse(row),
             Work::Command(stage, _) => stage.reuse(row),
-            Work::Assemble(..) => Some(row),
-        }
-    }
-
-    /// Hands out a record that assemble was put and is done with, if there is one: another can be read
-    /// into it.
-    pub fn done_with(&mut self) -> Option<Record>
-        ensures kind { is_source self.new ≡ is_source self.old }
-        ensures stands { (rest : List ℕ) (t : At) → StandsAs S.stands self.old rest t
-            → StandsAs S.stands self.new rest t }
-        ensures bytes { IsKept (remaining_of R.remaining self.old)
-            (remaining_of R.remaining self.new) (ended_of self.old) (ended_of self.new) }
-        ensures calls { IsKept (calls_of R.calls self.old) (calls_of R.calls self.new)
-            (failed_of R.failed self.old) (failed_of R.failed self.new) }
-    {
-        match &mut self.work {
-            Work::Assemble(stage, _) => stage.done_with(),
-            Work::Read(_) | Work::Command(..) => None,
+            Work::Read(_) | Work::Assemble(..) => Some(row),
         }
     }
 }

@@ -82,8 +82,6 @@ pub struct ScoreReader<R> {
     paths: Paths,
     // the end that was told, or why nothing more can be read
     stopped: Option<Result<End, ReadError>>,
-    // what the next record is read into
-    spare: Spare,
 }
 
 impl<R> Model for ScoreReader<R> {
@@ -121,16 +119,7 @@ impl<R: Source> ScoreReader<R> {
             lines: LineReader::new(alloc, source, Limits::standard()),
             paths: Paths::new(alloc),
             stopped: None,
-            spare: Spare::none(alloc),
         }
-    }
-
-    /// Takes a record that was done with, so that the next one needs no memory of its own. What it has
-    /// no use for it hands back.
-    pub fn reuse(&mut self, row: Record) -> Option<Record>
-        ensures { self.new ≡ self.old }
-    {
-        self.spare.offer(row)
     }
 
     /// The last line that was given is refused. It happens once, so it isn't inlined where each line
@@ -150,7 +139,7 @@ impl<R: Source> ScoreReader<R> {
     /// The record of the line that was just read, or none where it is refused. Most lines are short and
     /// plain data, with a token for each spine.
     #[inline(always)]
-    fn read_line(&mut self) -> Option<Record>
+    fn read_line(&mut self, pool: &mut Spare) -> Option<Record>
         requires going { self.old.stopped ≡ None }
         requires short { length self.old.lines.line ≤ 1048576 }
         requires one_line { has_byte 10 self.old.lines.line ≡ false }
@@ -163,19 +152,19 @@ impl<R: Source> ScoreReader<R> {
         ensures not_read { given_by result self.new.stopped ≢ Err ReadError.Read }
     {
         let (held, len) = self.lines.from_line();
-        let Some(record) = Record::parse_near(&mut self.spare, held, len) else {
-            return self.read_any_line();
+        let Some(record) = Record::parse_near(pool, held, len) else {
+            return self.read_any_line(pool);
         };
         if self.paths.keeps_spines(&record) {
             return Some(record);
         }
-        self.spare.keep(record);
-        self.read_any_line()
+        pool.keep(record);
+        self.read_any_line(pool)
     }
 
     /// The same of any line.
     #[inline(never)]
-    fn read_any_line(&mut self) -> Option<Record>
+    fn read_any_line(&mut self, pool: &mut Spare) -> Option<Record>
         requires going { self.old.stopped ≡ None }
         requires short { length self.old.lines.line ≤ 1048576 }
         requires one_line { has_byte 10 self.old.lines.line ≡ false }
@@ -188,7 +177,7 @@ impl<R: Source> ScoreReader<R> {
         ensures not_read { given_by result self.new.stopped ≢ Err ReadError.Read }
     {
         let (held, len) = self.lines.from_line();
-        let record = match Record::parse_into(self.alloc, &mut self.spare, held, len) {
+        let record = match Record::parse_into(self.alloc, pool, held, len) {
             Ok(record) => record,
             Err(fault) => {
                 self.refuse(fault.into());
@@ -227,11 +216,12 @@ impl<R: Source> ScoreReader<R> {
     }
 
     /// The next record, or none where there is nothing yet or it has stopped: [`ScoreReader::stopped`]
-    /// tells which. Once it has stopped each later call gives none.
+    /// tells which. Once it has stopped each later call gives none. The record is read into what the
+    /// pool has left of one that is done with, if it has any.
     // Inlined, or with an end and an error in its answer, that would be taken to pieces as small as a
     // fault's fields.
     #[inline(never)]
-    pub fn next(&mut self) -> Option<Record>
+    pub fn next(&mut self, pool: &mut Spare) -> Option<Record>
         // What is given depends on the bytes read so far alone, however the input goes on.
         ensures gives { self.old.stopped ≡ None
             → GivesNext self.old (given_by result self.new.stopped) self.new }
@@ -279,7 +269,7 @@ impl<R: Source> ScoreReader<R> {
             return None;
         }
         match self.lines.poll() {
-            Ok(lines::Step::Line) => self.read_line(),
+            Ok(lines::Step::Line) => self.read_line(pool),
             Ok(lines::Step::More) => None,
             Ok(lines::Step::End) => {
                 self.close();

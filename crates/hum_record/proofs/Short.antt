@@ -5,7 +5,7 @@ use Rattle.std.proofs.Common.{mod-lt, zero-lt-suc, pow-suc, add-zero}
 use Rattle.std.specs.Prelude.{◌==◌, if◌then◌else◌}
 use Rattle.std.specs.Simd.Lanes.{chunk, mask_l, top}
 use Rattle.std.proofs.lemmas.Simd.{mask_l-mod}
-use Rattle.std.proofs.lemmas.List.{length-map, append-nil}
+use Rattle.std.proofs.lemmas.List.{length-map, append-nil, nil_from_length}
 use Rattle.std.proofs.lemmas.Bool.{eqb-true, eq-eqb, and_parts}
 use lib.Bits.{bit_and, bit_or, and_step, and_self, and_zero_r}
 use lib.Count.{count_trailing_zeros, under, ones, ones_step}
@@ -111,13 +111,20 @@ room_left places all j b x some fits within size e =
     let whole : length (take j places) + length (set_places 64 b x) ≡ length all = sym (length-append (take j places) (set_places 64 b x)) ∙ ap length e in
     omega (arith, front, later, whole, size)
 
+-- where places are still to be put, a bit is left
+pub some_left : (places all : List ℕ) (j b x : ℕ) → j ≤ length places → take j places ++ set_places 64 b x ≡ all → j < length all → 0 < x
+some_left places all j b zero within e more =
+    let size = length-append (take j places) (set_places 64 b 0) in
+    let none = ap length (no_places 64 b) in
+    absurd (omega (arith, size, none, take_count j places within, ap length e, more))
+some_left places all j b (suc x) within e more = omega arith
+
 -- where none is left all places are put
-pub all_put : (places all : List ℕ) (j b x : ℕ) → x ≡ 0 → j ≤ length places
-    → take j places ++ set_places 64 b x ≡ all → (j ≡ length all) × (take j places ≡ all)
-all_put places all j b x none within e =
-    let front : take j places ≡ all =
-    sym (append-nil (take j places)) ∙ ap (λ ys. take j places ++ ys) (sym (ap (set_places 64 b) none ∙ no_places 64 b)) ∙ e in
-    (sym (take_count j places within) ∙ ap length front, front)
+pub all_put : (places all : List ℕ) (j b x : ℕ) → j ≤ length places → take j places ++ set_places 64 b x ≡ all → length all ≤ j → take j places ≡ all
+all_put places all j b x within e done =
+    let size = length-append (take j places) (set_places 64 b x) in
+    let none : set_places 64 b x ≡ [] = nil_from_length _ (omega (arith, size, take_count j places within, ap length e, done)) in
+    sym (append-nil (take j places)) ∙ ap (λ ys. take j places ++ ys) (sym none) ∙ e
 
 one_step : (k b n m : ℕ) (t : Bool) → n ≡ cond t 1 0 + 2 * m → set_places (suc k) b n ≡ (if t then b ∷ set_places k (b + 1) m else set_places k (b + 1) m)
 unfolding set_places

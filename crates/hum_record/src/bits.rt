@@ -6,47 +6,15 @@ ghost use Rattle.hum_record.specs.Spelling.{has_byte};
 
 use std::simd::prelude::*;
 
-/// The bits of a byte in eight bytes of a text.
+/// The bits of a byte in `N` bytes of a text.
 #[inline(always)]
-fn bits_of_8(text: &[u8], at: usize, byte: u8) -> u64
-    requires { at + 8 ≤ length text.now }
-    ensures { result ≡ bits_of byte (chunk at 8 text.now) }
+pub fn bits_at<const N: usize>(text: &[u8], at: usize, byte: u8) -> u64
+    requires few { N ≤ 64 }
+    requires within { at + N ≤ length text.now }
+    ensures { result ≡ bits_of byte (chunk at N text.now) }
 {
-    u8x8::from_slice(&text[at..])
-        .simd_eq(u8x8::splat(byte))
-        .to_bitmask()
-}
-
-/// The same in sixteen.
-#[inline(always)]
-fn bits_of_16(text: &[u8], at: usize, byte: u8) -> u64
-    requires { at + 16 ≤ length text.now }
-    ensures { result ≡ bits_of byte (chunk at 16 text.now) }
-{
-    u8x16::from_slice(&text[at..])
-        .simd_eq(u8x16::splat(byte))
-        .to_bitmask()
-}
-
-/// The same in thirty-two.
-#[inline(always)]
-pub fn bits_of_32(text: &[u8], at: usize, byte: u8) -> u64
-    requires { at + 32 ≤ length text.now }
-    ensures { result ≡ bits_of byte (chunk at 32 text.now) }
-{
-    u8x32::from_slice(&text[at..])
-        .simd_eq(u8x32::splat(byte))
-        .to_bitmask()
-}
-
-/// The same in sixty-four.
-#[inline(always)]
-pub fn bits_of_64(text: &[u8], at: usize, byte: u8) -> u64
-    requires { at + 64 ≤ length text.now }
-    ensures { result ≡ bits_of byte (chunk at 64 text.now) }
-{
-    u8x64::from_slice(&text[at..])
-        .simd_eq(u8x64::splat(byte))
+    Simd::<u8, N>::from_slice(&text[at..])
+        .simd_eq(Simd::splat(byte))
         .to_bitmask()
 }
 
@@ -87,12 +55,12 @@ pub fn bits_of(text: &[u8], byte: u8) -> u64
 {
     let count = text.len();
     if count >= 16 {
-        let first = bits_of_16(text, 0, byte);
-        return joined(text, byte, 16, first, bits_of_16(text, count - 16, byte));
+        let first = bits_at::<16>(text, 0, byte);
+        return joined(text, byte, 16, first, bits_at::<16>(text, count - 16, byte));
     }
     if count >= 8 {
-        let first = bits_of_8(text, 0, byte);
-        return joined(text, byte, 8, first, bits_of_8(text, count - 8, byte));
+        let first = bits_at::<8>(text, 0, byte);
+        return joined(text, byte, 8, first, bits_at::<8>(text, count - 8, byte));
     }
     bits_one_by_one(text, byte)
 }

@@ -165,7 +165,7 @@ impl Body {
 
     /// Puts the first `len` bytes of what is held in place of the text, and the places of bits in place
     /// of where tokens end, if there is room for these; and tells whether there was.
-    #[inline]
+    #[inline(always)]
     pub fn put_near(&mut self, held: &[u8], len: usize, ends: u64) -> bool
         requires filled { 64 ≤ length held.now }
         requires short { len ≤ 62 }

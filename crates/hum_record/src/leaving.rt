@@ -1,5 +1,5 @@
 //! Tokens that are left of a record, in its own memory.
-ghost use Rattle.std.specs.Prelude.{◌≡◌, ◌<◌, ◌≤◌, ◌+◌, ◌-◌, ◌^◌, ◌==◌, length, take, if◌then◌else◌};
+ghost use Rattle.std.specs.Prelude.{◌≡◌, ◌<◌, ◌≤◌, ◌+◌, ◌-◌, ◌*◌, ◌^◌, ◌==◌, length, take, if◌then◌else◌};
 ghost use Rattle.std.specs.List.{copy_within};
 ghost use Rattle.hum_record.specs.Row.{chosen};
 ghost use Rattle.hum_record.specs.Spelling.{parts};
@@ -9,49 +9,19 @@ ghost use Rattle.hum_record.specs.Fields.{begins_at, ends_from};
 use crate::selection::Selection;
 use std::simd::prelude::*;
 
-/// Moves two to four bytes to the left, by the first two and the last two.
-#[inline]
-fn move_by_2(text: &mut [u8], from: usize, end: usize, to: usize)
+/// Moves `N` to twice as many bytes to the left, by the first `N` of them and the last.
+#[inline(always)]
+fn move_by<const N: usize>(text: &mut [u8], from: usize, end: usize, to: usize)
     requires leftward { to ≤ from }
-    requires few { from + 2 ≤ end }
-    requires many { end ≤ from + 4 }
+    requires few { from + N ≤ end }
+    requires many { end ≤ from + 2 * N }
     requires within { end ≤ length text.old }
     ensures { text.new ≡ copy_within text.old from end to }
 {
-    let first = u8x2::from_slice(&text[from..]);
-    let last = u8x2::from_slice(&text[end - 2..]);
+    let first = Simd::<u8, N>::from_slice(&text[from..]);
+    let last = Simd::<u8, N>::from_slice(&text[end - N..]);
     first.copy_to_slice(&mut text[to..]);
-    last.copy_to_slice(&mut text[to + (end - 2 - from)..]);
-}
-
-/// Moves four to eight bytes to the left, by the first four and the last four.
-#[inline]
-fn move_by_4(text: &mut [u8], from: usize, end: usize, to: usize)
-    requires leftward { to ≤ from }
-    requires few { from + 4 ≤ end }
-    requires many { end ≤ from + 8 }
-    requires within { end ≤ length text.old }
-    ensures { text.new ≡ copy_within text.old from end to }
-{
-    let first = u8x4::from_slice(&text[from..]);
-    let last = u8x4::from_slice(&text[end - 4..]);
-    first.copy_to_slice(&mut text[to..]);
-    last.copy_to_slice(&mut text[to + (end - 4 - from)..]);
-}
-
-/// Moves eight to sixteen bytes to the left, by the first eight and the last eight.
-#[inline]
-fn move_by_8(text: &mut [u8], from: usize, end: usize, to: usize)
-    requires leftward { to ≤ from }
-    requires few { from + 8 ≤ end }
-    requires many { end ≤ from + 16 }
-    requires within { end ≤ length text.old }
-    ensures { text.new ≡ copy_within text.old from end to }
-{
-    let first = u8x8::from_slice(&text[from..]);
-    let last = u8x8::from_slice(&text[end - 8..]);
-    first.copy_to_slice(&mut text[to..]);
-    last.copy_to_slice(&mut text[to + (end - 8 - from)..]);
+    last.copy_to_slice(&mut text[to + (end - N - from)..]);
 }
 
 /// Moves any number of bytes to the left.
@@ -78,12 +48,12 @@ fn move_left(text: &mut [u8], from: usize, end: usize, to: usize)
         if size < 2 {
             move_any(text, from, end, to);
         } else {
-            move_by_2(text, from, end, to);
+            move_by::<2>(text, from, end, to);
         }
     } else if size <= 8 {
-        move_by_4(text, from, end, to);
+        move_by::<4>(text, from, end, to);
     } else if size <= 16 {
-        move_by_8(text, from, end, to);
+        move_by::<8>(text, from, end, to);
     } else {
         move_any(text, from, end, to);
     }

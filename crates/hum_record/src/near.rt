@@ -4,7 +4,7 @@ ghost use Rattle.std.specs.Simd.Lanes.{chunk, mask_l, put_chunk};
 ghost use Rattle.hum_record.specs.Cutting.{bits_of, set_places};
 ghost use Rattle.hum_record.specs.Plain.{is_rare, HasEnds};
 
-use crate::bits::{bits_of_32, bits_of_64};
+use crate::bits::bits_at;
 use std::simd::prelude::*;
 
 /// How many bytes are looked at at once.
@@ -20,28 +20,17 @@ const SHORTER: usize = 32;
 /// How many places are copied at once: most lines have fewer tokens.
 pub const FEW: usize = 8;
 
-/// Where a byte that seldom stands in data is among 32, as the bits of a number.
+/// Where a byte that seldom stands in data is among `N`, as the bits of a number.
 #[inline(always)]
-fn rare_bits_32(held: &[u8], at: usize) -> u64
-    requires { at + 32 ≤ length held.now }
-    ensures { result ≡ mask_l (map is_rare (chunk at 32 held.now)) }
+pub fn rare_bits<const N: usize>(held: &[u8], at: usize) -> u64
+    requires few { N ≤ 64 }
+    requires within { at + N ≤ length held.now }
+    ensures { result ≡ mask_l (map is_rare (chunk at N held.now)) }
 {
-    let lanes = u8x32::from_slice(&held[at..]);
-    (lanes.simd_eq(u8x32::splat(b'!'))
-        | lanes.simd_eq(u8x32::splat(b'*'))
-        | lanes.simd_eq(u8x32::splat(b'\r'))).to_bitmask()
-}
-
-/// The same among 64.
-#[inline(always)]
-pub fn rare_bits_64(held: &[u8], at: usize) -> u64
-    requires { at + 64 ≤ length held.now }
-    ensures { result ≡ mask_l (map is_rare (chunk at 64 held.now)) }
-{
-    let lanes = u8x64::from_slice(&held[at..]);
-    (lanes.simd_eq(u8x64::splat(b'!'))
-        | lanes.simd_eq(u8x64::splat(b'*'))
-        | lanes.simd_eq(u8x64::splat(b'\r'))).to_bitmask()
+    let lanes = Simd::<u8, N>::from_slice(&held[at..]);
+    (lanes.simd_eq(Simd::splat(b'!'))
+        | lanes.simd_eq(Simd::splat(b'*'))
+        | lanes.simd_eq(Simd::splat(b'\r'))).to_bitmask()
 }
 
 /// Where tabs stand among `len` bytes of what is held, and where bytes that are seldom in data, as the
@@ -55,16 +44,16 @@ pub fn marks(held: &[u8], at: usize, len: usize) -> (u64, u64)
 {
     let within = (1u64 << len) - 1;
     if len < SHORTER {
-        let tabs = bits_of_32(held, at, b'\t');
-        return (tabs & within, rare_bits_32(held, at) & within);
+        let tabs = bits_at::<32>(held, at, b'\t');
+        return (tabs & within, rare_bits::<32>(held, at) & within);
     }
-    let tabs = bits_of_64(held, at, b'\t');
-    (tabs & within, rare_bits_64(held, at) & within)
+    let tabs = bits_at::<64>(held, at, b'\t');
+    (tabs & within, rare_bits::<64>(held, at) & within)
 }
 
 /// Where the tokens of a line end, as the bits of a number, if its bytes show that it is plain data.
 /// The line is the first `len` bytes of what is held.
-#[inline]
+#[inline(always)]
 pub fn plain_ends(held: &[u8], len: usize) -> Option<u64>
     requires filled { 64 ≤ length held.now }
     requires short { len ≤ 62 }
@@ -83,25 +72,24 @@ pub fn plain_ends(held: &[u8], len: usize) -> Option<u64>
 
 /// Puts the places of bits, of which the lowest has this place, behind the first `count` of a list, and
 /// answers how many there are then.
-#[inline]
+#[inline(always)]
 pub fn put_places(places: &mut [u32], count: usize, start: u32, bits: u64) -> usize
     requires room { count + length (set_places 64 start bits) ≤ length places.old }
     requires few { start + 64 < 2 ^ 32 }
     ensures count { result ≡ count + length (set_places 64 start bits) }
     ensures places { take result places.new ≡ take count places.old ++ set_places 64 start bits }
 {
+    let end = count + bits.count_ones() as usize;
     let mut rest = bits;
-    let mut j = count;
-    while rest != 0 {
+    for j in count..end {
         places[j] = start + rest.trailing_zeros();
-        j += 1;
         rest &= rest - 1;
     }
-    j
+    end
 }
 
 /// Puts the first bytes of what is held in front of what stands in a list.
-#[inline]
+#[inline(always)]
 pub fn copy_near(text: &mut [u8], held: &[u8])
     requires filled { 64 ≤ length held.now }
     requires room { 64 ≤ length text.old }

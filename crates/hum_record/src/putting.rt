@@ -1,5 +1,5 @@
 //! Tokens that are put behind others.
-ghost use Rattle.std.specs.Prelude.{◌≡◌, ◌≤◌, ◌<◌, ◌+◌, ◌-◌, ◌^◌, ℕ, ◌++◌, length, take, map, slice_index};
+ghost use Rattle.std.specs.Prelude.{◌≡◌, ◌≤◌, ◌<◌, ◌+◌, ◌-◌, ◌*◌, ◌^◌, ℕ, ◌++◌, length, take, map, slice_index};
 ghost use Rattle.hum_record.specs.Building.{between};
 ghost use lib.Seq.{paste};
 
@@ -15,46 +15,19 @@ fn put_one(text: &mut [u8], at: usize, token: &[u8])
     text[at] = token[0];
 }
 
-/// Puts two to four bytes at a place, by the first two and the last two.
-#[inline]
-fn put_by_2(text: &mut [u8], at: usize, token: &[u8])
-    requires few { 2 ≤ length token.now }
-    requires many { length token.now ≤ 4 }
+/// Puts `N` to twice as many bytes at a place, by the first `N` of them and the last.
+#[inline(always)]
+fn put_by<const N: usize>(text: &mut [u8], at: usize, token: &[u8])
+    requires few { N ≤ length token.now }
+    requires many { length token.now ≤ 2 * N }
     requires within { at + length token.now ≤ length text.old }
     ensures { text.new ≡ paste text.old at token.now (length token.now) }
 {
-    let first = u8x2::from_slice(token);
-    let last = u8x2::from_slice(&token[token.len() - 2..]);
+    let behind = token.len() - N;
+    let first = Simd::<u8, N>::from_slice(token);
+    let last = Simd::<u8, N>::from_slice(&token[behind..]);
     first.copy_to_slice(&mut text[at..]);
-    last.copy_to_slice(&mut text[at + (token.len() - 2)..]);
-}
-
-/// Puts four to eight bytes at a place, by the first four and the last four.
-#[inline]
-fn put_by_4(text: &mut [u8], at: usize, token: &[u8])
-    requires few { 4 ≤ length token.now }
-    requires many { length token.now ≤ 8 }
-    requires within { at + length token.now ≤ length text.old }
-    ensures { text.new ≡ paste text.old at token.now (length token.now) }
-{
-    let first = u8x4::from_slice(token);
-    let last = u8x4::from_slice(&token[token.len() - 4..]);
-    first.copy_to_slice(&mut text[at..]);
-    last.copy_to_slice(&mut text[at + (token.len() - 4)..]);
-}
-
-/// Puts eight to sixteen bytes at a place, by the first eight and the last eight.
-#[inline]
-fn put_by_8(text: &mut [u8], at: usize, token: &[u8])
-    requires few { 8 ≤ length token.now }
-    requires many { length token.now ≤ 16 }
-    requires within { at + length token.now ≤ length text.old }
-    ensures { text.new ≡ paste text.old at token.now (length token.now) }
-{
-    let first = u8x8::from_slice(token);
-    let last = u8x8::from_slice(&token[token.len() - 8..]);
-    first.copy_to_slice(&mut text[at..]);
-    last.copy_to_slice(&mut text[at + (token.len() - 8)..]);
+    last.copy_to_slice(&mut text[at + behind..]);
 }
 
 /// Puts any number of bytes at a place.
@@ -76,16 +49,16 @@ fn put_token(text: &mut [u8], at: usize, token: &[u8]) -> usize
     let size = token.len();
     if size < 4 {
         if size >= 2 {
-            put_by_2(text, at, token);
+            put_by::<2>(text, at, token);
         } else if size == 1 {
             put_one(text, at, token);
         } else {
             put_any(text, at, token);
         }
     } else if size <= 8 {
-        put_by_4(text, at, token);
+        put_by::<4>(text, at, token);
     } else if size <= 16 {
-        put_by_8(text, at, token);
+        put_by::<8>(text, at, token);
     } else {
         put_any(text, at, token);
     }

@@ -111,9 +111,9 @@ impl Record {
         Self::of_any(alloc, spare, held, len)
     }
 
-    /// Reads plain data in a short line into what is left of the record that was done with last, if
-    /// there is one and it has room. Where it answers none, [`Record::parse_into`] reads the line.
-    #[inline]
+    /// Reads plain data in a short line into what is left of a record that is done with, if there is one
+    /// and it has room. Where it answers none, [`Record::parse_into`] reads the line.
+    #[inline(always)]
     pub fn parse_near(spare: &mut Spare, held: &[u8], len: usize) -> Option<Record>
         requires within { len ≤ length held.now }
         requires one_line { has_byte 10 (take len held.now) ≡ false }
@@ -123,7 +123,7 @@ impl Record {
             return None;
         }
         let ends = plain_ends(held, len)?;
-        let mut body = spare.take_first()?;
+        let mut body = spare.take()?;
         if body.put_near(held, len, ends) {
             return Some(Record { body });
         }

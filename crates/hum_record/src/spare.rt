@@ -76,12 +76,6 @@ impl Spare {
         }
     }
 
-    /// The same of the first alone.
-    #[inline]
-    pub(crate) fn take_first(&mut self) -> Option<Box<Body>> {
-        self.first.take()
-    }
-
     /// Keeps what was taken in vain.
     #[inline(never)]
     pub(crate) fn put_back(&mut self, body: Box<Body>) {

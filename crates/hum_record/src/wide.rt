@@ -4,9 +4,9 @@ ghost use Rattle.std.specs.Prelude.{bit_and};
 ghost use Rattle.hum_record.specs.Cutting.{set_places};
 ghost use Rattle.hum_record.specs.Plain.{HasPlaces};
 
-use crate::bits::bits_of_64;
+use crate::bits::bits_at;
 use crate::body::give_places;
-use crate::near::{NEAR, marks, put_places, rare_bits_64};
+use crate::near::{NEAR, marks, put_places, rare_bits};
 use std::alloc::AllocError;
 use std::simd::prelude::*;
 
@@ -63,8 +63,8 @@ pub fn put_ends(places: &mut Vec<u32>, held: &[u8], len: usize) -> Result<usize,
     let mut head = 1;
     let mut at = 0;
     while len - at >= NEAR {
-        let ends = bits_of_64(held, at, b'\t');
-        let rare = rare_bits_64(held, at);
+        let ends = bits_at::<64>(held, at, b'\t');
+        let rare = rare_bits::<64>(held, at);
         count = put_word(places, count, at as u32, head, ends, rare)?;
         if count == 0 {
             return Ok(0);

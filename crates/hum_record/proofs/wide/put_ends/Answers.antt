@@ -14,7 +14,7 @@ loop-at-preserved c =
     let some : 0 < c.in_ok-count.count = omega (arith, none) in
     let word = c.in_ok-count.ensures in (
       whole_word held (take l.count l.places.items) _ l.at l.head _ _ room l.invariant.0
-          c.bits_of_64-ends.ensures c.rare_bits_64-rare.ensures (word.none some) (word.apart some) (word.places some),
+          c.bits_at-ends.ensures c.rare_bits-rare.ensures (word.none some) (word.apart some) (word.places some),
       omega (arith, within, test),
       word.within,
     )

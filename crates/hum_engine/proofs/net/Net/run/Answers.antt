@@ -35,7 +35,7 @@ returns-then-over-clause-ran g c =
     ran_already stands g.R.Source.remaining contents flushed order c.args.order.now c.args.self.now c.told.result
     (λ start s now h.
     has_told _ c.told.result (c.over.ensures.over start s now h) c.if-over.true
-    (λ by e. c.told.ensures start s now by h e))
+    (λ by e. c.told.ensures start s now h by e))
 
 pub returns-then-over-clause-whole : goal.returns-then-over-clause-whole
 returns-then-over-clause-whole g c start s now tells h =
@@ -54,7 +54,7 @@ returns-then-over-clause-reads g c = λ none i.
     (told_read i net.failure heard c.told.result
     (ap (λ f. ended_by f heard) r.at.failure
     ∙ has_told _ c.told.result (c.over.ensures.over r.start r.scene r.now r.at) c.if-over.true
-    (λ by e. c.told.ensures r.start r.scene r.now by r.at e)))
+    (λ by e. c.told.ensures r.start r.scene r.now r.at by e)))
 
 pub returns-then-over-clause-writes : goal.returns-then-over-clause-writes
 returns-then-over-clause-writes g c = λ none.
@@ -66,10 +66,10 @@ returns-then-over-clause-writes g c = λ none.
     (told_write net.failure heard c.told.result
     (ap (λ f. ended_by f heard) r.at.failure
     ∙ has_told _ c.told.result (c.over.ensures.over r.start r.scene r.now r.at) c.if-over.true
-    (λ by e. c.told.ensures r.start r.scene r.now by r.at e)))
+    (λ by e. c.told.ensures r.start r.scene r.now r.at by e)))
 
 pub returns-then-over-clause-again : goal.returns-then-over-clause-again
-returns-then-over-clause-again g c = λ start s now by h e. (c.told.ensures start s now by h e, refl, refl)
+returns-then-over-clause-again g c = λ start s now h by e. (c.told.ensures start s now h by e, refl, refl)
 
 -- Step by step.
 
@@ -198,7 +198,7 @@ returns-then-step-clause-ran g c =
     (λ start s now h.
     has_told _ c.told-then-step.result (told_all stands g.R.Source.remaining contents flushed order c.step.new.search c.step.result
     c.args.order.now c.step.new.order c.args.self.now c.step.new.self ran c.requires start s now h) c.if-step.true
-    (λ by e. c.told-then-step.ensures start s now by h e))
+    (λ by e. c.told-then-step.ensures start s now h by e))
 
 pub returns-then-step-clause-whole : goal.returns-then-step-clause-whole
 returns-then-step-clause-whole g c start s now tells h =
@@ -233,7 +233,7 @@ returns-then-step-clause-reads g c = λ none i.
     (ap (λ f. ended_by f heard) w.at.failure
     ∙ has_told _ c.told-then-step.result (told_all stands g.R.Source.remaining contents flushed order c.step.new.search c.step.result
     c.args.order.now c.step.new.order c.args.self.now c.step.new.self ran c.requires w.start w.scene w.now w.at) c.if-step.true
-    (λ by e. c.told-then-step.ensures w.start w.scene w.now by w.at e)))
+    (λ by e. c.told-then-step.ensures w.start w.scene w.now w.at by e)))
 
 pub returns-then-step-clause-writes : goal.returns-then-step-clause-writes
 returns-then-step-clause-writes g c = λ none.
@@ -261,8 +261,8 @@ returns-then-step-clause-writes g c = λ none.
     (ap (λ f. ended_by f heard) w.at.failure
     ∙ has_told _ c.told-then-step.result (told_all stands g.R.Source.remaining contents flushed order c.step.new.search c.step.result
     c.args.order.now c.step.new.order c.args.self.now c.step.new.self ran c.requires w.start w.scene w.now w.at) c.if-step.true
-    (λ by e. c.told-then-step.ensures w.start w.scene w.now by w.at e)))
+    (λ by e. c.told-then-step.ensures w.start w.scene w.now w.at by e)))
 
 pub returns-then-step-clause-again : goal.returns-then-step-clause-again
-returns-then-step-clause-again g c = λ start s now by h e.
+returns-then-step-clause-again g c = λ start s now h by e.
     absurd (none-some by (sym (c.turns.invariant.going start s now h) ∙ e))

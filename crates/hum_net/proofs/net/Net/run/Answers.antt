@@ -9,6 +9,6 @@ pub invariant_of-self : goal.invariant_of-self
 invariant_of-self g c = ran_lasts _ _ _ _ _ _ c.self.invariant c.run.ensures.ran
 
 pub returns-clause-again : goal.returns-clause-again
-returns-clause-again g c start s now by here over =
-    let again = c.run.ensures.again start s now by (rw (← c.self.view_is) at here) over in
+returns-clause-again g c start s now here by over =
+    let again = c.run.ensures.again start s now (rw (← c.self.view_is) at here) by over in
     (again.0, again.1 ∙ c.self.view_is, again.2)

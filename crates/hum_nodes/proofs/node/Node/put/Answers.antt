@@ -56,13 +56,13 @@ returns-in_ok-put-in-Command-clause-put g c rest t h may =
     } in
     record { works = works; knows = c.of_stage-self.ensures c.in-Command.field-1 _ works }
 
-pub returns-in_ok-put-in-Assemble-clause-put : goal.returns-in_ok-put-in-Assemble-clause-put
-returns-in_ok-put-in-Assemble-clause-put g c rest t h may =
+pub returns-after-done_with-clause-put : goal.returns-after-done_with-clause-put
+returns-after-done_with-clause-put g c rest t h may =
     let stands = Stands c.in-Assemble.stage in
     let w = subst (λ w. WorksAs g.S.Stage.stands w rest t) c.in-Assemble.is h.works in
     let k = merging.changes stands c.in-Assemble.field-1.items t w (with_record c.args.next)
     c.args.place may in
-    let works = merging.put_stands (Stands c.put-in-Assemble.new.self) c.in-Assemble.field-1.items t
+    let works = merging.put_stands (Stands c.done_with.new.self) c.in-Assemble.field-1.items t
     c.args.place c.args.next w.moment w.kind w.inputs w.given
-    (c.in_ok-put-in-Assemble.ensures.ok w.moment w.stand k.wants) in
+    (rw c.done_with.ensures (c.in_ok-put-in-Assemble.ensures.ok w.moment w.stand k.wants)) in
     record { works = works; knows = c.of_assemble-self.ensures c.in-Assemble.field-1.items _ works }

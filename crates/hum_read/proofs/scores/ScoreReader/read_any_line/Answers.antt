@@ -1,6 +1,6 @@
-use Rattle.std.proofs.Common.{None, Ok, ◌≤◌, ◌≡◌, sym, subst}
+use Rattle.std.proofs.Common.{None, Some, Ok, ◌≤◌, ◌≡◌, sym, subst}
 use Rattle.hum_read.specs.Reading.{Scores, Gave}
-use Rattle.hum_read.specs.Steps.{given_by}
+use Rattle.hum_read.specs.Steps.{given_by, refusal}
 use Rattle.hum_stage.specs.Refusals.{rule_in}
 use Rattle.hum_read.proofs.LineRead.{LineReads, text-reads, record-reads, given-reads}
 use Rattle.hum_read.proofs.scores.ScoreReader.read_any_line.Goals as goal
@@ -8,9 +8,12 @@ use Rattle.hum_read.proofs.scores.ScoreReader.read_any_line.Goals as goal
 pub returns-in-Err : goal.returns-in-Err
 returns-in-Err g c =
     let w = c.refuse.new.self in
+    let rule = rule_in c.into.result in
+    let refused = subst (λ v. w ≡ record v { stopped = Some (refusal v.stage v.lines.given rule) }) (sym c.self.view_is)
+    c.refuse.ensures in
     subst (λ v. LineReads v (given_by None w.stopped) w) c.self.view_is
-    (text-reads _ w _ c.in-Err.fault (rule_in c.into.result) (rw c.from_line-len.ensures.line at c.in-Err.ensures.exact)
-    c.into.ensures c.refuse.ensures)
+    (text-reads _ w _ c.in-Err.fault rule (rw c.from_line-len.ensures.line at c.in-Err.ensures.exact)
+    c.into.ensures refused)
 
 pub returns-in-Ok-pass : goal.returns-in-Ok-pass
 returns-in-Ok-pass g c =

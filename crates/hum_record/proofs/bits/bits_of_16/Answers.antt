@@ -1,7 +1,0 @@
-use Rattle.std.proofs.Common.{eqb, w8, arith}
-use Rattle.std.proofs.lemmas.Simd.{length-chunk, bitmask_splat}
-use Rattle.std.specs.Simd.Lanes.{chunk}
-use Rattle.hum_record.proofs.bits.bits_of_16.Goals as goal
-
-pub returns : goal.returns
-returns c = bitmask_splat w8 eqb (chunk c.args.at 16 c.args.text.now) 16 c.args.byte (length-chunk c.args.at 16 c.args.text.now c.requires) (omega arith)

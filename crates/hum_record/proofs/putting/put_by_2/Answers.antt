@@ -1,6 +1,0 @@
-use Rattle.hum_record.proofs.Moved.{whole_by_both}
-use Rattle.hum_record.proofs.putting.put_by_2.Goals as goal
-
-pub returns : goal.returns
-returns c =
-    whole_by_both c.args.token.now c.args.text.now c.args.at 2 c.requires.few c.requires.many c.requires.within
