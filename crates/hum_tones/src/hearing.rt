@@ -3,7 +3,7 @@ ghost use Rattle.std.specs.Prelude.{◌≡◌, ◌||◌, None, option_map};
 ghost use Rattle.hum_pitch.specs.Given.{spelled};
 ghost use Rattle.hum_tones.specs.Mint.{readings, or_tone, new_pitch};
 ghost use Rattle.hum_tones.specs.Memory.{heard_of};
-ghost use Rattle.hum_tones.specs.Hearing.{tone_of, first_of, heard_in, heard_by};
+ghost use Rattle.hum_tones.specs.Hearing.{tone_of, heard_in, heard_by};
 
 use crate::part_rule::rule_of;
 use hum_kern::{Note, read_lone, read_note};
@@ -38,16 +38,6 @@ fn tone_of(note: Note) -> Option<Tone>
     }
 }
 
-fn first_of(tone: Option<Tone>, other: Option<Tone>) -> Option<Tone>
-    ensures { option_map tone_of result
-        ≡ first_of (option_map tone_of tone) (option_map tone_of other) }
-{
-    match tone {
-        Some(tone) => Some(tone),
-        None => other,
-    }
-}
-
 fn either(one: bool, other: bool) -> bool
     ensures { result ≡ (one || other) }
 {
@@ -65,11 +55,12 @@ impl TokenTone {
     };
 
     /// What is heard with one part more.
+    #[inline(always)]
     fn with(self, note: Note) -> TokenTone
         ensures { hearing result ≡ heard_with (hearing self) (reading note) }
     {
         TokenTone {
-            tone: first_of(self.tone, tone_of(note)),
+            tone: self.tone.or(tone_of(note)),
             rest: either(self.rest, note.rest),
         }
     }
