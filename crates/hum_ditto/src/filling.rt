@@ -16,6 +16,7 @@ use hum_record::{Kind, Record, RecordDraft, Spare, SpinedKind, is_null};
 use std::alloc::{AllocError, Global};
 
 /// Whether a record has a null data token.
+#[inline]
 fn has_null(row: &Record) -> bool
     ensures { result ≡ list_any is_null (tokens_of row.now) }
 {
@@ -23,6 +24,7 @@ fn has_null(row: &Record) -> bool
 }
 
 /// Whether a record is data with a null token.
+#[inline]
 pub(crate) fn is_to_fill(row: &Record) -> bool
     ensures kind { result ≡ true → kind_of row.now ≡ AnyValues }
     ensures tokens { result ≡ true → tokens_of row.now ≢ [] }
@@ -45,6 +47,7 @@ fn parenthesize(token: &[u8], shown: &mut Vec<u8>) -> Result<(), AllocError>
 }
 
 /// Adds what a token becomes, by what is remembered of its column.
+#[inline(always)]
 fn push_filled(
     memory: &LastTokens,
     j: usize,

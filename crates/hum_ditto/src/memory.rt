@@ -65,6 +65,7 @@ impl Model for LastTokens {
 }
 
 /// A token of a data record, unless it is null.
+#[inline]
 fn filled_token(row: &Record, j: usize) -> Option<&[u8]>
     requires kind { kind_of row.now ≡ AnyValues }
     requires within { j < width_of row.now }
@@ -162,6 +163,7 @@ impl LastTokens {
     }
 
     /// The token that a null token of a column would repeat.
+    #[inline]
     pub fn token(&self, j: usize) -> Option<&[u8]>
         requires { j < length self.now.each }
         ensures token { option_map (λ t. t.now) result ≡ slice_index_or self.now.each j None }

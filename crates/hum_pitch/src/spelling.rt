@@ -60,7 +60,7 @@ fn accidentals(pitch: Pitch) -> Repeated
     }
 }
 
-/// Adds a byte some times, mostly once or not at all.
+/// Adds a byte some times, mostly twice at most.
 #[inline(always)]
 pub(crate) fn push_repeated(text: &mut Vec<u8>, repeated: Repeated) -> Result<(), AllocError>
     requires { repeated.count ≤ 1000 }
@@ -73,6 +73,7 @@ pub(crate) fn push_repeated(text: &mut Vec<u8>, repeated: Repeated) -> Result<()
             text.push(repeated.byte)?;
             Ok(())
         }
+        2 => text.extend_from_slice(&[repeated.byte, repeated.byte]),
         count => text.resize(text.len() + count, repeated.byte),
     }
 }
@@ -82,6 +83,7 @@ pub(crate) fn push_repeated(text: &mut Vec<u8>, repeated: Repeated) -> Result<()
 ///
 /// # Errors
 /// Out of memory.
+#[inline]
 pub fn push_pitch(text: &mut Vec<u8>, pitch: Pitch) -> Result<(), AllocError>
     ensures written { OnOk result (text.new.items ≡ text.old.items ++ spelling (spelled pitch)) }
     ensures read { OnOk result (read_pitch (spelling (spelled pitch)) ≡ Some (spelled pitch)) }

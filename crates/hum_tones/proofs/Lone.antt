@@ -1,13 +1,16 @@
 -- Tokens of one part become what that gives.
-use Rattle.std.proofs.Common.{◌≡◌, ◌∙◌, refl, sym, ap, Bool, List, ℕ, [], ◌∷◌, ◌++◌, Option, None, Some}
-use Rattle.std.specs.Prelude.{Result, Ok}
+use Rattle.std.proofs.Common.{◌≡◌, ◌∙◌, refl, sym, ap, Bool, List, ℕ, [], ◌∷◌, ◌++◌, append_assoc, Option, None, Some}
+use Rattle.std.specs.Prelude.{Result, Ok, Err}
+use lib.Chars.{codes}
 use Rattle.hum_kern.specs.Note.{Reading}
 use Rattle.hum_kern.specs.Usual.{IsReadAlone, IsLastingText}
 use Rattle.hum_stage.specs.declared.faults.Rule.{Rule}
-use Rattle.hum_tones.specs.declared.part_rule.PartRule.TheVariants.{Semitones, Durations}
-use Rattle.hum_tones.specs.Subtokens.{subtokens, lone_text, rewritten}
+use Rattle.hum_tones.specs.declared.part_rule.PartRule.TheVariants.{Semitones, Durations, Transposed}
+use Rattle.hum_tones.specs.Subtokens.{subtokens, lone_text, rewritten, HasPut, HasAdded}
 use Rattle.hum_tones.specs.Semits.{of_reading, by_reading, semits_of}
 use Rattle.hum_tones.specs.Recip.{written, rest_sign, recip_of}
+use Rattle.hum_tones.specs.Trans.{transposed_part}
+use Rattle.hum_choices.specs.declared.trans.TransOptions.{TransOptions}
 use Rattle.hum_tones.specs.PartRule.{given}
 
 lone : (gives : List ℕ → Result (Option (List ℕ)) Rule) (token : List ℕ) (o : Option (List ℕ)) → subtokens token ≡ token ∷ []
@@ -24,3 +27,38 @@ pub recip_lone : (token text : List ℕ) → IsLastingText token text → given 
 recip_lone token text h =
     lone recip_of token (Some (written h.found token ++ rest_sign token)) h.alone (rw (h.read, h.valued) refl)
     ∙ ap (λ (t : List ℕ). Ok t) (sym h.text_is)
+
+pub trans_lone : (way : TransOptions) (token text : List ℕ) → subtokens token ≡ token ∷ []
+    → HasPut (transposed_part way.steps way.semitones token) [] text None → given (Transposed way) token ≡ Ok text
+trans_lone way token text alone put = go (transposed_part way.steps way.semitones token) refl put
+  where
+    go : (r : Result (Option (List ℕ)) Rule) → transposed_part way.steps way.semitones token ≡ r → HasPut r [] text None
+        → given (Transposed way) token ≡ Ok text
+    go (Ok None) is put = absurd put
+    go (Ok (Some made)) is put =
+        lone (transposed_part way.steps way.semitones) token (Some made) alone is ∙ ap (λ (t : List ℕ). Ok t) (sym put)
+    go (Err rule) is put = absurd put
+
+pub trans_refused : (way : TransOptions) (token text : List ℕ) (rule : Rule) → subtokens token ≡ token ∷ []
+    → HasPut (transposed_part way.steps way.semitones token) [] text (Some rule) → given (Transposed way) token ≡ Err rule
+trans_refused way token text rule alone put = go (transposed_part way.steps way.semitones token) refl put
+  where
+    go : (r : Result (Option (List ℕ)) Rule) → transposed_part way.steps way.semitones token ≡ r → HasPut r [] text (Some rule)
+        → given (Transposed way) token ≡ Err rule
+    go (Ok None) is put = absurd put
+    go (Ok (Some made)) is put = absurd put
+    go (Err other) is put = rw (alone, is) (ap (λ (x : Rule). Err x) (sym put))
+
+-- a part with a space behind it
+pub spaced : (given : Result (Option (List ℕ)) Rule) (before middle after : List ℕ) → HasPut given before middle None
+    → after ≡ middle ++ codes " " → HasAdded given before after None
+spaced (Ok None) before middle after put is = absurd put
+spaced (Ok (Some text)) before middle after put is =
+    is ∙ ap (λ (xs : List ℕ). xs ++ codes " ") put ∙ append_assoc before text (codes " ")
+spaced (Err rule) before middle after put is = absurd put
+
+pub refused_on : (given : Result (Option (List ℕ)) Rule) (before after after' : List ℕ) (rule : Rule) → HasPut given before after (Some rule)
+    → HasAdded given before after' (Some rule)
+refused_on (Ok None) before after after' rule put = absurd put
+refused_on (Ok (Some text)) before after after' rule put = absurd put
+refused_on (Err other) before after after' rule put = put

@@ -75,8 +75,7 @@ put_there n m part found pitch q read there h =
     ∙ ap (λ (p : Spelled). put part (reading found) (if_spelled p)) (sym h)
     ∙ ap (put part (reading found)) (can_be_spelled (spelled q) q.in_range.2 q.in_range.1)
 
-pub in_order : (t x y z s a b d e : List ℕ) → a ≡ t ++ x → b ≡ a ++ y → d ≡ b ++ z → e ≡ d ++ s → e ≡ t ++ ((x ++ (y ++ z)) ++ s)
-in_order t x y z s a b d e p q r u =
-    u ∙ ap (λ (l : List ℕ). l ++ s) (r ∙ ap (λ (l : List ℕ). l ++ z) (q ∙ ap (λ (l : List ℕ). l ++ y) p))
-    ∙ ap (λ (l : List ℕ). l ++ s) (append_assoc (t ++ x) y z ∙ append_assoc t x (y ++ z))
-    ∙ append_assoc t (x ++ (y ++ z)) s
+pub in_order : (t x y z a b d : List ℕ) → a ≡ t ++ x → b ≡ a ++ y → d ≡ b ++ z → d ≡ t ++ (x ++ (y ++ z))
+in_order t x y z a b d p q r =
+    r ∙ ap (λ (l : List ℕ). l ++ z) (q ∙ ap (λ (l : List ℕ). l ++ y) p)
+    ∙ append_assoc (t ++ x) y z ∙ append_assoc t x (y ++ z)

@@ -6,6 +6,7 @@ use Rattle.std.specs.List.{list_any}
 use Rattle.std.proofs.lemmas.List.{at_drop_more, drop_all}
 use Rattle.hum_kern.specs.declared.KernFault.{KernFault}
 use Rattle.hum_kern.specs.Note.{Reading, note}
+use Rattle.hum_kern.specs.Usual.{IsReadAlone}
 use Rattle.hum_stage.specs.declared.faults.Rule.{Rule}
 use Rattle.hum_tones.specs.Faults.{rule_of}
 use Rattle.hum_tones.specs.Mint.{readings, told, told_of, minted, approached, readings_of, with_reading, Tone, or_tone, leading, TokenTone, heard}
@@ -102,6 +103,18 @@ module _ (parts : List (List ℕ)) (n : ℕ) (kept : Kept) (h : HeardSoFar parts
   all_heard past =
       let all : readings_of parts ≡ Ok h.done = h.rest ∙ rw (drop_all n parts past, append-nil h.done) refl in
       ap (λ (x : TokenTone). Ok x) h.is ∙ sym (ap heard_in all)
+
+-- a token of one part
+pub one_heard : (token : List ℕ) (reading : Reading) (kept : Kept) → IsReadAlone token reading → hearing kept ≡ heard_with silence reading
+    → Ok (hearing kept) ≡ heard_in (readings token)
+one_heard token reading kept h is =
+    let read : readings token ≡ Ok (reading ∷ []) = rw (h.alone, ← h.read) refl in
+    ap (λ (x : TokenTone). Ok x) (is ∙ ap (λ (b : Bool). record { tone = or_tone reading.pitch reading.continued None; rest = b }) (by reading.rest))
+    ∙ sym (ap heard_in read)
+  where
+    by : (b : Bool) → b ≡ (b || false)
+    by true = refl
+    by false = refl
 
 -- a token with a note that begins anew
 pub told_anew : (signless sizeonly : Bool) (before : Option Spelled) (r : Result TokenTone Rule) (kept : Kept) (tone : KeptTone)

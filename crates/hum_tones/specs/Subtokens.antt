@@ -48,6 +48,14 @@ HasAdded (Ok given) before after (Some rule) = ⊥
 HasAdded (Err refused) before after None = ⊥
 HasAdded (Err refused) before after (Some rule) = rule ≡ refused
 
+-- The same without the space, of a part that gives something.
+abbrev pub HasPut : Result (Option (List ℕ)) Rule → List ℕ → List ℕ → Option Rule → Type 0
+HasPut (Ok None) before after refused = ⊥
+HasPut (Ok (Some text)) before after None = after ≡ before ++ text
+HasPut (Ok (Some text)) before after (Some rule) = ⊥
+HasPut (Err refused) before after None = ⊥
+HasPut (Err refused) before after (Some rule) = rule ≡ refused
+
 -- The text is what a data token becomes, and is a lawful one; or the rule is told.
 abbrev pub IsRewritten : Result (List ℕ) Rule → List ℕ → Option Rule → Type 0
 IsRewritten (Ok token) text None = (text ≡ token) × IsToken Values text

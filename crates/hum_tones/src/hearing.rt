@@ -3,10 +3,10 @@ ghost use Rattle.std.specs.Prelude.{◌≡◌, ◌||◌, None, option_map};
 ghost use Rattle.hum_pitch.specs.Given.{spelled};
 ghost use Rattle.hum_tones.specs.Mint.{readings, or_tone, new_pitch};
 ghost use Rattle.hum_tones.specs.Memory.{heard_of};
-ghost use Rattle.hum_tones.specs.Hearing.{tone_of, first_of, heard_in, heard_by};
+ghost use Rattle.hum_tones.specs.Hearing.{tone_of, heard_in, heard_by};
 
 use crate::part_rule::rule_of;
-use hum_kern::{Note, read_note};
+use hum_kern::{Note, read_lone, read_note};
 use hum_pitch::Pitch;
 use hum_record::{is_barline, is_filled};
 use hum_stage::Rule;
@@ -38,16 +38,6 @@ fn tone_of(note: Note) -> Option<Tone>
     }
 }
 
-fn first_of(tone: Option<Tone>, other: Option<Tone>) -> Option<Tone>
-    ensures { option_map tone_of result
-        ≡ first_of (option_map tone_of tone) (option_map tone_of other) }
-{
-    match tone {
-        Some(tone) => Some(tone),
-        None => other,
-    }
-}
-
 fn either(one: bool, other: bool) -> bool
     ensures { result ≡ (one || other) }
 {
@@ -65,11 +55,12 @@ impl TokenTone {
     };
 
     /// What is heard with one part more.
+    #[inline(always)]
     fn with(self, note: Note) -> TokenTone
         ensures { hearing result ≡ heard_with (hearing self) (reading note) }
     {
         TokenTone {
-            tone: first_of(self.tone, tone_of(note)),
+            tone: self.tone.or(tone_of(note)),
             rest: either(self.rest, note.rest),
         }
     }
@@ -91,8 +82,9 @@ impl TokenTone {
     }
 }
 
-/// What is heard of a token, or the rule by which a part of it is refused.
-fn hear(token: &[u8]) -> Result<TokenTone, Rule>
+/// What is heard of the parts of a token, or the rule by which one is refused.
+#[inline(never)]
+fn hear_parts(token: &[u8]) -> Result<TokenTone, Rule>
     ensures { heard_by result ≡ heard_in (readings token.now) }
 {
     let mut heard = TokenTone::SILENCE;
@@ -105,7 +97,19 @@ fn hear(token: &[u8]) -> Result<TokenTone, Rule>
     Ok(heard)
 }
 
+/// What is heard of a token, or the rule by which a part of it is refused.
+#[inline(always)]
+fn hear(token: &[u8]) -> Result<TokenTone, Rule>
+    ensures { heard_by result ≡ heard_in (readings token.now) }
+{
+    match read_lone(token) {
+        Some(note) => Ok(TokenTone::SILENCE.with(note)),
+        None => hear_parts(token),
+    }
+}
+
 /// What is heard of a cell: nothing of a barline, nor of what is no data.
+#[inline(always)]
 pub(crate) fn heard_of(token: &[u8]) -> Result<TokenTone, Rule>
     ensures { heard_by result ≡ heard_of token.now }
 {

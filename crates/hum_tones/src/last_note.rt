@@ -2,7 +2,7 @@
 ghost use Rattle.std.specs.Prelude.{◌≡◌, ℕ, true, List, option_map};
 ghost use Rattle.hum_record.specs.Contents.{is_filled};
 ghost use Rattle.hum_tones.specs.Mint.{is_break, remembered_of};
-ghost use Rattle.hum_tones.specs.Memory.{note_after, or_before, heard_of};
+ghost use Rattle.hum_tones.specs.Memory.{note_after, heard_of};
 ghost use Rattle.hum_tones.specs.Hearing.{heard_by};
 ghost use Rattle.hum_pitch.specs.Given.{spelled};
 
@@ -39,17 +39,6 @@ fn remembered_of(heard: Result<TokenTone, Rule>) -> Option<Pitch>
     }
 }
 
-/// A pitch, or the one before where there is none.
-fn or_before(pitch: Option<Pitch>, before: Option<Pitch>) -> Option<Pitch>
-    ensures { option_map spelled result
-        ≡ or_before (option_map spelled pitch) (option_map spelled before) }
-{
-    match pitch {
-        Some(pitch) => Some(pitch),
-        None => before,
-    }
-}
-
 /// The note before the next cell, by the note before a cell and what was heard of it.
 fn note_after(
     breaks: &mut Option<Pattern>,
@@ -66,7 +55,7 @@ fn note_after(
         if is_break(breaks, token) {
             return None;
         }
-        return or_before(remembered_of(heard), before);
+        return remembered_of(heard).or(before);
     }
     if token.starts_with(b"**") {
         None

@@ -13,7 +13,7 @@ ghost use Rattle.hum_tones.specs.Recip.{rest_sign, recip_of};
 ghost use Rattle.hum_tones.specs.Semits.{of_reading, semits_of};
 
 use crate::short_text::ShortText;
-use crate::transposing::add_transposed;
+use crate::transposing::{add_transposed, push_transposed};
 use hum_choices::TransOptions;
 use hum_kern::{KernFault, Note, leading_text, read_duration, read_lone, read_note};
 use hum_record::RecordDraft;
@@ -231,7 +231,10 @@ impl PartRule {
                 Some(given) => Ok(making.push(given)?),
                 None => self.push_parts(token, text, making),
             },
-            PartRule::Transposed(_) => self.push_parts(token, text, making),
+            PartRule::Transposed(options) => match read_lone(token) {
+                Some(note) => push_transposed(options, token, &note, text, making),
+                None => self.push_parts(token, text, making),
+            },
         }
     }
 }

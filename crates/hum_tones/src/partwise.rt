@@ -4,6 +4,7 @@ ghost use Rattle.hum_stage.specs.declared.faults.Command.{Command};
 ghost use Rattle.hum_cells.specs.Rewriting.{Rewriting, Heading, IsHeading};
 ghost use Rattle.hum_cells.specs.Rewriter.{shown};
 ghost use Rattle.hum_tones.specs.Commands.{given_under};
+ghost use Rattle.hum_tones.specs.declared.part_rule.PartRule.{PartRule};
 
 use crate::part_rule::PartRule;
 use hum_cells::{Heading, TokenRewriter};
@@ -12,7 +13,8 @@ use hum_record::{Record, RecordDraft};
 use hum_stage::{Command, Refusal};
 use std::alloc::{AllocError, Global};
 
-/// What becomes of `**kern` by a command whose tokens become what their parts give.
+/// A command whose tokens become what their parts give. What each part gives is asked for at each token, so
+/// that the code for one command has no other's in it.
 pub trait Partwise: Drop {
     /// What the command was told to do.
     type Options;
@@ -26,25 +28,31 @@ pub trait Partwise: Drop {
     /// What becomes of `**kern`.
     ghost heading: { Self → Heading };
 
+    /// What each part of a token gives.
+    ghost giving: { Self → PartRule };
+
     /// Which command it is.
     fn command() -> Command
         ensures { result ≡ command };
 
-    /// What becomes of `**kern`, and what each part of a token gives.
-    fn begin(options: Self::Options) -> (Self, PartRule)
-        ensures given { rewriting options ≡ given_under (heading result.0) result.1 }
-        ensures lawful { IsHeading (heading result.0) };
+    /// The command that is told so.
+    fn begin(options: Self::Options) -> Self
+        ensures given { rewriting options ≡ given_under (heading result) (giving result) }
+        ensures lawful { IsHeading (heading result) };
 
     /// What becomes of `**kern`.
     fn heading(&self) -> Heading<'_>
         ensures { shown result ≡ heading self.now };
+
+    /// What each part of a token gives.
+    fn giving(&self) -> PartRule
+        ensures { result ≡ giving self.now };
 }
 
 /// What such a command makes of kern columns.
 #[derive(Drop)]
 pub struct PartwiseColumns<G> {
-    heading: G,
-    giving: PartRule,
+    command: G,
     // where the text of a token is made
     text: Vec<u8>,
 }
@@ -58,7 +66,7 @@ impl<G: Partwise> TokenRewriter for PartwiseColumns<G> {
 
     ghost rewriting = { G.rewriting };
 
-    ghost follows = { λ s. GivesUnder (G.heading s.heading) s.giving };
+    ghost follows = { λ s. GivesUnder (G.heading s.command) (G.giving s.command) };
 
     ghost lawful = { λ s rewriting past h. h.lawful };
 
@@ -67,16 +75,14 @@ impl<G: Partwise> TokenRewriter for PartwiseColumns<G> {
     }
 
     fn begin(alloc: Global, options: G::Options) -> Self {
-        let (heading, giving) = G::begin(options);
         PartwiseColumns {
-            heading,
-            giving,
+            command: G::begin(options),
             text: Vec::new(alloc),
         }
     }
 
     fn heading(&self) -> Heading<'_> {
-        self.heading.heading()
+        self.command.heading()
     }
 
     #[inline]
@@ -86,7 +92,7 @@ impl<G: Partwise> TokenRewriter for PartwiseColumns<G> {
         token: &[u8],
         making: &mut RecordDraft,
     ) -> Result<(), Refusal> {
-        self.giving.push(token, &mut self.text, making)
+        self.command.giving().push(token, &mut self.text, making)
     }
 
     fn follow(&mut self, _row: &Record, _found: &Moves) -> Result<(), AllocError> {

@@ -19,6 +19,7 @@ impl Partwise for RecipName {
 
     ghost use Rattle.std.specs.Prelude.{codes};
     ghost use Rattle.hum_cells.specs.Rewriting.{Renamed};
+    ghost use Rattle.hum_tones.specs.declared.part_rule.PartRule.TheVariants.{Durations};
     ghost use Rattle.hum_tones.specs.Commands.{recip};
 
     ghost command = { RecipCommand };
@@ -27,15 +28,22 @@ impl Partwise for RecipName {
 
     ghost heading = { λ s. Renamed (codes "**recip") };
 
+    ghost giving = { λ s. Durations };
+
     fn command() -> Command {
         Command::Recip
     }
 
-    fn begin(_options: RecipOptions) -> (RecipName, PartRule) {
-        (RecipName, PartRule::Durations)
+    fn begin(_options: RecipOptions) -> RecipName {
+        RecipName
     }
 
     fn heading(&self) -> Heading<'_> {
         Heading::Renamed(b"**recip".as_slice())
+    }
+
+    #[inline(always)]
+    fn giving(&self) -> PartRule {
+        PartRule::Durations
     }
 }

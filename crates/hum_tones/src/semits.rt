@@ -7,9 +7,11 @@ use hum_cells::{CellStage, Heading};
 use hum_choices::SemitsOptions;
 use hum_stage::Command;
 
-/// `**semits`, which stands in the place of `**kern`.
+/// `**semits`, which stands in the place of `**kern`, and which notes give their semitones.
 #[derive(Drop)]
-pub struct SemitsName;
+pub struct SemitsName {
+    options: SemitsOptions,
+}
 
 /// The command semits, as a stage.
 pub type Semits = CellStage<PartwiseColumns<SemitsName>>;
@@ -19,6 +21,7 @@ impl Partwise for SemitsName {
 
     ghost use Rattle.std.specs.Prelude.{codes};
     ghost use Rattle.hum_cells.specs.Rewriting.{Renamed};
+    ghost use Rattle.hum_tones.specs.declared.part_rule.PartRule.TheVariants.{Semitones};
     ghost use Rattle.hum_tones.specs.Commands.{semits};
 
     ghost command = { SemitsCommand };
@@ -27,16 +30,24 @@ impl Partwise for SemitsName {
 
     ghost heading = { λ s. Renamed (codes "**semits") };
 
+    ghost giving = { λ s. Semitones s.options.ties_left_out };
+
     fn command() -> Command {
         Command::Semits
     }
 
-    fn begin(options: SemitsOptions) -> (SemitsName, PartRule) {
-        let ties_left_out = options.ties_left_out;
-        (SemitsName, PartRule::Semitones { ties_left_out })
+    fn begin(options: SemitsOptions) -> SemitsName {
+        SemitsName { options }
     }
 
     fn heading(&self) -> Heading<'_> {
         Heading::Renamed(b"**semits".as_slice())
+    }
+
+    #[inline(always)]
+    fn giving(&self) -> PartRule {
+        PartRule::Semitones {
+            ties_left_out: self.options.ties_left_out,
+        }
     }
 }

@@ -11,10 +11,11 @@ use hum_choices::TransOptions;
 use hum_stage::Command;
 use itoa::Buffer;
 
-/// `*Trd1c2` and its like, which goes behind `**kern`.
+/// `*Trd1c2` and its like, which goes behind `**kern`, and how far pitches go.
 #[derive(Drop)]
 pub struct TransSign {
     text: ArrayString<32>,
+    transposition: TransOptions,
 }
 
 /// The command trans, as a stage.
@@ -37,6 +38,7 @@ impl Partwise for TransSign {
     type Options = TransOptions;
 
     ghost use Rattle.hum_cells.specs.Rewriting.{Followed};
+    ghost use Rattle.hum_tones.specs.declared.part_rule.PartRule.TheVariants.{Transposed};
     ghost use Rattle.hum_tones.specs.Commands.{trans};
 
     ghost command = { TransCommand };
@@ -45,16 +47,25 @@ impl Partwise for TransSign {
 
     ghost heading = { λ s. Followed s.text.bytes };
 
+    ghost giving = { λ s. Transposed s.transposition };
+
     fn command() -> Command {
         Command::Trans
     }
 
-    fn begin(transposition: TransOptions) -> (TransSign, PartRule) {
-        let text = sign(transposition);
-        (TransSign { text }, PartRule::Transposed(transposition))
+    fn begin(transposition: TransOptions) -> TransSign {
+        TransSign {
+            text: sign(transposition),
+            transposition,
+        }
     }
 
     fn heading(&self) -> Heading<'_> {
         Heading::Followed(self.text.as_str().as_bytes())
+    }
+
+    #[inline(always)]
+    fn giving(&self) -> PartRule {
+        PartRule::Transposed(self.transposition)
     }
 }

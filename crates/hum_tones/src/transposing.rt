@@ -1,25 +1,83 @@
 //! Tokens whose pitches are some steps and some semitones away.
+ghost use Rattle.std.specs.Prelude.{◌≡◌, ◌++◌, OnOk, Ok};
+ghost use Rattle.hum_record.specs.declared.SpinedKind.TheVariants.{Values};
+ghost use Rattle.hum_record.specs.Spelling.{IsToken};
+ghost use Rattle.hum_record.specs.RecordDraft.{Holds};
 ghost use Rattle.hum_pitch.specs.Pitch.{away};
 ghost use Rattle.hum_pitch.specs.Given.{spelled, Answers};
+ghost use Rattle.hum_kern.specs.Note.{reading, note};
+ghost use Rattle.hum_kern.specs.Usual.{IsReadAlone};
 ghost use Rattle.hum_stage.specs.Refusals.{IfTold};
-ghost use Rattle.hum_tones.specs.Subtokens.{HasAdded};
+ghost use Rattle.hum_cells.specs.Rewriter.{Pushes};
+ghost use Rattle.hum_tones.specs.Subtokens.{HasPut, HasAdded};
 ghost use Rattle.hum_tones.specs.Trans.{transposed_part};
+ghost use Rattle.hum_tones.specs.declared.part_rule.PartRule.TheVariants.{Transposed};
+ghost use Rattle.hum_tones.specs.PartRule.{given};
 
 use crate::part_rule::rule_of;
 use hum_choices::TransOptions;
-use hum_kern::read_note;
+use hum_kern::{Note, read_note};
 use hum_pitch::{Pitch, PitchFault, push_pitch};
+use hum_record::RecordDraft;
 use hum_stage::{Refusal, Rule};
+use std::alloc::AllocError;
 
 /// The pitch so far away, where it can be spelled.
+#[inline(always)]
 fn there(options: TransOptions, pitch: Pitch) -> Result<Pitch, PitchFault>
     ensures { Answers (away options.steps options.semitones (spelled pitch)) result }
 {
     pitch.transpose(options.steps, options.semitones)
 }
 
-/// Adds what a part becomes, with a space behind it.
+/// Adds bytes, of which there are mostly one or two.
 #[inline(always)]
+fn push_few(text: &mut Vec<u8>, bytes: &[u8]) -> Result<(), AllocError>
+    ensures { OnOk result (text.new.items ≡ text.old.items ++ bytes.now) }
+{
+    match bytes {
+        [] => Ok(()),
+        [a] => {
+            text.push(*a)?;
+            Ok(())
+        }
+        [a, b] => text.extend_from_slice(&[*a, *b]),
+        _ => text.extend_from_slice(bytes),
+    }
+}
+
+/// Adds what a part becomes, by what was read of it.
+#[inline(always)]
+fn put_transposed(
+    options: TransOptions,
+    part: &[u8],
+    found: &Note,
+    text: &mut Vec<u8>,
+) -> Result<(), Refusal>
+    requires { Ok (reading found.now) ≡ note part.now }
+    ensures { IfTold result (HasPut
+        (transposed_part options.steps options.semitones part.now) text.old.items text.new.items) }
+{
+    let pitch = match found.pitch {
+        Some(pitch) => pitch,
+        None => {
+            text.extend_from_slice(part)?;
+            return Ok(());
+        }
+    };
+    match there(options, pitch) {
+        Err(PitchFault::TR1) => Err(Refusal::Rule(Rule::TR1)),
+        Err(PitchFault::TR2) => Err(Refusal::Rule(Rule::TR2)),
+        Ok(there) => {
+            push_few(text, &part[..found.start])?;
+            push_pitch(text, there)?;
+            push_few(text, part.split_at(found.end).1)?;
+            Ok(())
+        }
+    }
+}
+
+/// Adds what a part becomes, with a space behind it.
 pub(crate) fn add_transposed(
     options: TransOptions,
     part: &[u8],
@@ -28,27 +86,36 @@ pub(crate) fn add_transposed(
     ensures { IfTold result (HasAdded
         (transposed_part options.steps options.semitones part.now) text.old.items text.new.items) }
 {
-    let note = match read_note(part) {
-        Ok(note) => note,
+    let found = match read_note(part) {
+        Ok(found) => found,
         Err(fault) => return Err(Refusal::Rule(rule_of(fault))),
     };
-    let pitch = match note.pitch {
-        Some(pitch) => pitch,
-        None => {
-            text.extend_from_slice(part)?;
-            text.push(b' ')?;
-            return Ok(());
-        }
-    };
-    match there(options, pitch) {
-        Err(PitchFault::TR1) => Err(Refusal::Rule(Rule::TR1)),
-        Err(PitchFault::TR2) => Err(Refusal::Rule(Rule::TR2)),
-        Ok(there) => {
-            text.extend_from_slice(&part[..note.start])?;
-            push_pitch(text, there)?;
-            text.extend_from_slice(part.split_at(note.end).1)?;
-            text.push(b' ')?;
-            Ok(())
-        }
-    }
+    put_transposed(options, part, &found, text)?;
+    text.push(b' ')?;
+    Ok(())
+}
+
+/// Adds what a token becomes that is one subtoken, by what was read of it, to a record in the making. Its
+/// text is made in `text`.
+#[inline(always)]
+pub(crate) fn push_transposed(
+    options: TransOptions,
+    token: &[u8],
+    found: &Note,
+    text: &mut Vec<u8>,
+    making: &mut RecordDraft,
+) -> Result<(), Refusal>
+    requires lawful { IsToken Values token.now }
+    requires read { IsReadAlone token.now (reading found.now) }
+    requires kind { making.old.builder.kind ≡ Values }
+    ensures pushed { IfTold result
+        (Pushes (given (Transposed options) token.now)
+        (Holds Values making.old.builder making.old.is_long)
+        (Holds Values making.new.builder making.new.is_long)) }
+    ensures kind { OnOk result (making.new.builder.kind ≡ Values) }
+{
+    text.clear();
+    put_transposed(options, token, found, text)?;
+    making.push(text)?;
+    Ok(())
 }

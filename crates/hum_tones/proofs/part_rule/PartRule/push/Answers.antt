@@ -33,3 +33,6 @@ returns-in_ok-push-in-Some-leading_text-clause-pushed c = (
   rw c.in-Durations.is (recip_lone c.args.token.now c.in-Some-leading_text.given.now c.in-Some-leading_text.ensures),
   λ tokens held. c.in_ok-push-in-Some-leading_text.ensures.pushed _ tokens held,
 )
+
+pub returns-in-Some-read_lone-clause-pushed : goal.returns-in-Some-read_lone-clause-pushed
+returns-in-Some-read_lone-clause-pushed c = rw c.in-Transposed.is c.push_transposed.ensures.pushed

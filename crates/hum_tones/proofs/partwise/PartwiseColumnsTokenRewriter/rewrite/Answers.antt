@@ -5,6 +5,6 @@ use Rattle.hum_tones.proofs.partwise.PartwiseColumnsTokenRewriter.rewrite.Goals 
 
 pub returns-clause-rewritten : goal.returns-clause-rewritten
 returns-clause-rewritten g c =
-    rewritten_given (g.G.Partwise.heading c.args.self.now.heading) c.args.self.now.giving c.args._j c.args.token.now
+    rewritten_given (g.G.Partwise.heading c.args.self.now.command) (g.G.Partwise.giving c.args.self.now.command) c.args._j c.args.token.now
     (Holds Values c.args.making.now.builder c.args.making.now.is_long) (Holds Values c.push.new.making.builder c.push.new.making.is_long)
-    c.push.result c.push.ensures.pushed
+    c.push.result (rw c.giving.ensures at c.push.ensures.pushed)
