@@ -14,6 +14,7 @@ use Rattle.hum_yank.specs.Options as yank
 use Rattle.hum_cleave.specs.Cleave as cleave
 use Rattle.hum_choices.specs.declared.commands.CommandOptions.{CommandOptions}
 use Rattle.hum_choices.specs.declared.commands.CommandOptions.TheVariants as told
+use Rattle.hum_stage.specs.declared.TheConstants.{MOST_WAITING}
 
 -- what the stage of this number means, by what it is told to do
 abbrev pub meaning : ℕ → CommandOptions → Meaning
@@ -36,8 +37,8 @@ MakesScores _ = Unit {0}
 
 -- how many records behind it a record may wait for
 abbrev pub most_lag : CommandOptions → ℕ
-most_lag (told.Context options) = 65536
-most_lag (told.Yank options) = 65536
+most_lag (told.Context options) = MOST_WAITING
+most_lag (told.Yank options) = MOST_WAITING
 most_lag _ = 0
 
 -- which command it is

@@ -1,5 +1,5 @@
 -- The command, by its options.
-use Rattle.std.specs.Prelude.{ℕ, Bool, false, List, Option, Some, None}
+use Rattle.std.specs.Prelude.{ℕ, Bool, List, Option}
 use Rattle.hum_pattern.specs.Meaning.{matched, matched_by}
 use Rattle.hum_stage.specs.declared.faults.Command.TheVariants.{Context}
 use Rattle.hum_stage.specs.Meaning.{Meaning}

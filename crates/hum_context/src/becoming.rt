@@ -16,8 +16,8 @@ ghost use Rattle.hum_context.specs.Walking.{Stands, Takes, Weighs, Writes, bytes
 use crate::heard::Heard;
 use crate::measuring::measure;
 use crate::queued::Queued;
-use crate::text::Text;
 use crate::stepping::is_enough;
+use crate::text::Text;
 use crate::walk::Walk;
 use hum_record::{MOST_BYTES, Record, RecordDraft, Spare, SpinedKind};
 use hum_stage::MOST_RECORDS;

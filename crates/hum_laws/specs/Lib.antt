@@ -1,3 +1,4 @@
+pub mod Closed
 pub mod Piped
 pub mod Letters
 pub mod Shifting

@@ -1,7 +1,6 @@
 //! Columns that are extracted, beside other commands.
-ghost use Rattle.std.specs.Prelude.{◌≡◌, ◌≤◌, length, IfOk};
-ghost use Rattle.hum_stage.specs.Score.{IsClosed};
-ghost use Rattle.hum_stage.specs.declared.faults.Command.TheVariants.{Extract};
+ghost use Rattle.std.specs.Prelude.{◌≡◌, IfOk};
+ghost use Rattle.hum_stage.specs.declared.faults.Command.TheVariants.{Extract as ExtractCommand};
 ghost use Rattle.hum_stage.specs.declared.faults.End.TheVariants.{Closed};
 ghost use Rattle.hum_stage.specs.Decided.{at_once};
 ghost use Rattle.hum_path.specs.Spines.{texts};
@@ -14,47 +13,29 @@ ghost use Rattle.hum_laws.specs.Piped.{IsAlone, IsPiped};
 ghost use Rattle.hum_laws.specs.Fields.{every_field};
 
 use crate::commands::{again, alone, piped};
-use crate::given::Given;
-use hum_commands::CommandOptions;
+use crate::given::{ClosedScore, Given, Sides};
+use hum_commands::CommandOptions::{Ditto, Extract};
 use hum_ditto::DittoOptions;
 use hum_extract::{ExtractOptions, Field, FieldRange};
-use hum_record::Record;
-use std::alloc::{AllocError, Global};
+use std::alloc::AllocError;
 
 /// What is extracted and then filled is what is filled and then extracted:
 /// `extract -f 1 | ditto` is `ditto | extract -f 1`.
 ///
 /// # Errors
 /// Out of memory.
-pub fn extract_ditto(
-    alloc: Global,
-    records: &[Record],
-    chosen: ExtractOptions,
-    options: DittoOptions,
-) -> Result<(Given, Given), AllocError>
-    requires closed { IsClosed records.now }
-    requires few { length records.now ≤ 4294967295 }
+pub fn extract_ditto(score: ClosedScore<'_>, chosen: ExtractOptions, options: DittoOptions) -> Sides
     ensures extracted { IfOk result (λ both.
-        IsPiped (meaning_of_extract 1 chosen) (meaning_of_ditto 2 options) records.now both.0) }
+        IsPiped (meaning_of_extract 1 chosen) (meaning_of_ditto 2 options) score.entry.records.now both.0) }
     ensures filled { IfOk result (λ both.
-        IsPiped (meaning_of_ditto 1 options) (meaning_of_extract 2 chosen) records.now both.1) }
+        IsPiped (meaning_of_ditto 1 options) (meaning_of_extract 2 chosen) score.entry.records.now both.1) }
     ensures same { IfOk result (λ both. both.0.end ≡ Closed → both.1.end ≡ Closed →
         both.0.records.items ≡ both.1.records.items) }
 {
-    let chosen_too = chosen.copy(alloc)?;
-    let options_too = options.copy(alloc)?;
-    let extracted = piped(
-        alloc,
-        records,
-        CommandOptions::Extract(chosen),
-        CommandOptions::Ditto(options),
-    )?;
-    let filled = piped(
-        alloc,
-        records,
-        CommandOptions::Ditto(options_too),
-        CommandOptions::Extract(chosen_too),
-    )?;
+    let chosen_too = chosen.copy(score.alloc)?;
+    let options_too = options.copy(score.alloc)?;
+    let extracted = piped(score, Extract(chosen), Ditto(options))?;
+    let filled = piped(score, Ditto(options_too), Extract(chosen_too))?;
     Ok((extracted, filled))
 }
 
@@ -62,51 +43,34 @@ pub fn extract_ditto(
 ///
 /// # Errors
 /// Out of memory.
-pub fn all_fields(alloc: Global, records: &[Record]) -> Result<Given, AllocError>
-    requires closed { IsClosed records.now }
-    requires few { length records.now ≤ 4294967295 }
+pub fn all_fields(score: ClosedScore<'_>) -> Result<Given, AllocError>
     ensures extracted { IfOk result (IsAlone
-        (at_once 1 Extract (extract every_field)) records.now) }
+        (at_once 1 ExtractCommand (extract every_field)) score.entry.records.now) }
     ensures same { IfOk result (λ given. given.end ≡ Closed →
-        given.records.items ≡ records.now) }
+        given.records.items ≡ score.entry.records.now) }
 {
-    let mut ranges = Vec::new(alloc);
+    let mut ranges = Vec::new(score.alloc);
     ranges.push(FieldRange {
         first: Field::Number(1),
         last: Field::Last,
     })?;
-    alone(
-        alloc,
-        records,
-        CommandOptions::Extract(ExtractOptions::Fields(ranges)),
-    )
+    alone(score, Extract(ExtractOptions::Fields(ranges)))
 }
 
 /// What is extracted by some names has no others: `extract -i NAMES` twice is once.
 ///
 /// # Errors
 /// Out of memory.
-pub fn names_twice(
-    alloc: Global,
-    records: &[Record],
-    names: Vec<Vec<u8>>,
-) -> Result<(Given, Given), AllocError>
-    requires closed { IsClosed records.now }
-    requires few { length records.now ≤ 4294967295 }
+pub fn names_twice(score: ClosedScore<'_>, names: Vec<Vec<u8>>) -> Sides
     ensures once { IfOk result (λ both. IsAlone
-        (at_once 1 Extract (extract (Names (texts names.items)))) records.now both.0) }
+        (at_once 1 ExtractCommand (extract (Names (texts names.items)))) score.entry.records.now both.0) }
     ensures twice { IfOk result (λ both. IsPiped
-        (at_once 1 Extract (extract (Names (texts names.items))))
-        (at_once 2 Extract (extract (Names (texts names.items)))) records.now both.1) }
+        (at_once 1 ExtractCommand (extract (Names (texts names.items))))
+        (at_once 2 ExtractCommand (extract (Names (texts names.items)))) score.entry.records.now both.1) }
     ensures same { IfOk result (λ both. both.0.end ≡ Closed → both.1.end ≡ Closed →
         both.1.records.items ≡ both.0.records.items) }
 {
     let once = ExtractOptions::Names(names);
-    let twice = once.copy(alloc)?;
-    again(
-        alloc,
-        records,
-        CommandOptions::Extract(once),
-        CommandOptions::Extract(twice),
-    )
+    let twice = once.copy(score.alloc)?;
+    again(score, Extract(once), Extract(twice))
 }

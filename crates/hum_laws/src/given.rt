@@ -4,11 +4,22 @@
 ghost use Rattle.std.specs.Prelude.{◌≡◌, ◌≤◌, length, IfOk};
 ghost use Rattle.hum_stage.specs.Score.{IsClosed};
 ghost use Rattle.hum_stage.specs.Meaning.{Meaning, opening};
+ghost use Rattle.hum_stage.specs.declared.TheConstants.{MOST_RECORDS};
+ghost use Rattle.hum_laws.specs.Closed.{IsClosed-prop};
 ghost use Rattle.hum_laws.specs.Piped.{IsAlone, IsPiped, IsFirst};
 
 use hum_record::Record;
-use hum_stage::{End, Stage, whole};
+use hum_stage::{End, MOST_RECORDS, Stage, whole};
 use std::alloc::{AllocError, Global};
+
+/// A closed score that a law is tried on, and what lends the memory for it.
+#[derive(Clone, Copy)]
+pub struct ClosedScore<'a> {
+    pub alloc: Global,
+    pub records: &'a [Record],
+    pub ghost closed: { IsClosed records.now } by { IsClosed-prop records.now },
+    pub ghost few: { length records.now ≤ MOST_RECORDS },
+}
 
 /// The records that come of a score, and how they end.
 #[derive(Drop)]
@@ -16,6 +27,9 @@ pub struct Given {
     pub records: Vec<Record>,
     pub end: End,
 }
+
+/// What both sides of a law give; or out of memory.
+pub type Sides = Result<(Given, Given), AllocError>;
 
 // A second list that is the same.
 fn copied(alloc: Global, records: &[Record]) -> Result<Vec<Record>, AllocError>
@@ -29,37 +43,30 @@ fn copied(alloc: Global, records: &[Record]) -> Result<Vec<Record>, AllocError>
 }
 
 /// What a stage gives of a closed score.
-pub(crate) fn alone<S: Stage + Drop>(
-    alloc: Global,
-    records: &[Record],
-    stage: S,
-) -> Result<Given, AllocError>
+pub(crate) fn alone<S: Stage + Drop>(score: ClosedScore<'_>, stage: S) -> Result<Given, AllocError>
     requires fresh { (m : Meaning) × S.stands stage (opening m) }
-    requires closed { IsClosed records.now }
-    requires few { length records.now ≤ 4294967295 }
     ensures { IfOk result (λ given. (m : Meaning) → S.stands stage (opening m)
-        → IsAlone m records.now given) }
+        → IsAlone m score.entry.records.now given) }
 {
-    let (records, end) = whole(alloc, stage, copied(alloc, records)?, End::Closed)?;
+    let (records, end) = whole(
+        score.alloc,
+        stage,
+        copied(score.alloc, score.records)?,
+        End::Closed,
+    )?;
     Ok(Given { records, end })
 }
 
 /// What a closed score becomes by a stage, and what that becomes by another one.
-pub(crate) fn again<S: Stage + Drop>(
-    alloc: Global,
-    records: &[Record],
-    first: S,
-    second: S,
-) -> Result<(Given, Given), AllocError>
+pub(crate) fn again<S: Stage + Drop>(score: ClosedScore<'_>, first: S, second: S) -> Sides
     requires first { IsFirst (S.stands first) }
     requires second { (n : Meaning) × S.stands second (opening n) }
-    requires closed { IsClosed records.now }
-    requires few { length records.now ≤ 4294967295 }
     ensures { IfOk result (λ both. (m n : Meaning) → S.stands first (opening m)
         → S.stands second (opening n)
-        → IsAlone m records.now both.0 × IsPiped m n records.now both.1) }
+        → IsAlone m score.entry.records.now both.0 × IsPiped m n score.entry.records.now both.1) }
 {
-    let once = alone(alloc, records, first)?;
+    let alloc = score.alloc;
+    let once = alone(score, first)?;
     let (again, end) = whole(alloc, second, copied(alloc, &once.records)?, once.end)?;
     let twice = Given {
         records: again,

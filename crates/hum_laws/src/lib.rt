@@ -17,7 +17,7 @@ mod trans;
 
 pub use columns::{all_fields, extract_ditto, names_twice};
 pub use fill::ditto_twice;
-pub use given::Given;
+pub use given::{ClosedScore, Given, Sides};
 pub use looks::{all_lines, context_of_one};
 pub use notes::told_once;
 pub use pitches::{interval_leads, intervals_add_up};

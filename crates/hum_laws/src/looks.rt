@@ -1,6 +1,5 @@
 //! Commands that look ahead, where they leave a score as it is.
-ghost use Rattle.std.specs.Prelude.{◌≡◌, ◌≤◌, length, IfOk, [], ◌∷◌};
-ghost use Rattle.hum_stage.specs.Score.{IsClosed};
+ghost use Rattle.std.specs.Prelude.{◌≡◌, IfOk, [], ◌∷◌};
 ghost use Rattle.hum_stage.specs.declared.faults.Command.TheVariants.{Yank as YankCommand};
 ghost use Rattle.hum_stage.specs.declared.faults.End.TheVariants.{Closed};
 ghost use Rattle.hum_stage.specs.Look.{looking};
@@ -13,54 +12,46 @@ ghost use Rattle.hum_context.specs.Options.{omits_of};
 ghost use Rattle.hum_laws.specs.Piped.{IsAlone};
 
 use crate::commands::alone;
-use crate::given::Given;
+use crate::given::{ClosedScore, Given};
 use hum_commands::CommandOptions;
 use hum_context::{ContextOptions, Span, TokenCount};
 use hum_pattern::Pattern;
-use hum_record::Record;
+use hum_stage::MOST_WAITING;
 use hum_yank::{Markers, YankOptions, YankRange};
-use std::alloc::{AllocError, Global};
+use std::alloc::AllocError;
 
 /// All lines of a score are the score: `yank -l -r 1-$`.
 ///
 /// # Errors
 /// Out of memory.
-pub fn all_lines(alloc: Global, records: &[Record]) -> Result<Given, AllocError>
-    requires closed { IsClosed records.now }
-    requires few { length records.now ≤ 4294967295 }
-    ensures yanked { IfOk result (IsAlone (looking 65536 1 YankCommand
-        (yank (record { form = Lines; ranges = Onward 1 ∷ [] }))) records.now) }
-    ensures same { IfOk result (λ given. given.records.items ≡ records.now) }
+pub fn all_lines(score: ClosedScore<'_>) -> Result<Given, AllocError>
+    ensures yanked { IfOk result (IsAlone (looking MOST_WAITING 1 YankCommand
+        (yank (record { form = Lines; ranges = Onward 1 ∷ [] }))) score.entry.records.now) }
+    ensures same { IfOk result (λ given. given.records.items ≡ score.entry.records.now) }
     ensures end { IfOk result (λ given. given.end ≡ Closed) }
 {
-    let mut ranges = Vec::new(alloc);
+    let mut ranges = Vec::new(score.alloc);
     ranges.push(YankRange::Onward { first: 1 })?;
     let options = YankOptions {
         markers: Markers::Lines,
         ranges,
     };
-    alone(alloc, records, CommandOptions::Yank(options))
+    alone(score, CommandOptions::Yank(options))
 }
 
 /// A context of one token is that token: `context -n 1` leaves a score as it is, with any `-o`.
 ///
 /// # Errors
 /// Out of memory.
-pub fn context_of_one(
-    alloc: Global,
-    records: &[Record],
-    omit: Option<Pattern>,
-) -> Result<Given, AllocError>
-    requires closed { IsClosed records.now }
-    requires few { length records.now ≤ 4294967295 }
-    ensures collected { IfOk result (IsAlone (looking 65536 1 ContextCommand
-        (context (record { extent = First 1; omits = omits_of omit }))) records.now) }
+pub fn context_of_one(score: ClosedScore<'_>, omit: Option<Pattern>) -> Result<Given, AllocError>
+    ensures collected { IfOk result (IsAlone (looking MOST_WAITING 1 ContextCommand
+        (context (record { extent = First 1; omits = omits_of omit }))) score.entry.records.now) }
     ensures same { IfOk result (λ given. given.end ≡ Closed →
-        given.records.items ≡ records.now) }
+        given.records.items ≡ score.entry.records.now) }
 {
     let options = ContextOptions {
         span: Span::Number(TokenCount { number: 1 }),
         omit,
     };
-    alone(alloc, records, CommandOptions::Context(options))
+    alone(score, CommandOptions::Context(options))
 }

@@ -1,37 +1,27 @@
 //! Commands on notes, one behind another.
-ghost use Rattle.std.specs.Prelude.{◌≡◌, ◌≤◌, length, IfOk};
-ghost use Rattle.hum_stage.specs.Score.{IsClosed};
+ghost use Rattle.std.specs.Prelude.{◌≡◌, IfOk};
 ghost use Rattle.hum_stage.specs.declared.faults.End.TheVariants.{Closed};
 ghost use Rattle.hum_commands.specs.Meaning.{meaning};
 ghost use Rattle.hum_laws.specs.Piped.{IsAlone, IsPiped};
 ghost use Rattle.hum_laws.specs.Notes.{NamesColumns, IsOnNotes};
 
 use crate::commands::again;
-use crate::given::Given;
+use crate::given::{ClosedScore, Sides};
 use hum_commands::CommandOptions;
-use hum_record::Record;
-use std::alloc::{AllocError, Global};
 
 /// What semits, mint or recip wrote, no command on notes changes: the columns are no longer
 /// `**kern`.
 ///
 /// # Errors
 /// Out of memory.
-pub fn told_once(
-    alloc: Global,
-    records: &[Record],
-    first: CommandOptions,
-    second: CommandOptions,
-) -> Result<(Given, Given), AllocError>
-    requires closed { IsClosed records.now }
-    requires few { length records.now ≤ 4294967295 }
+pub fn told_once(score: ClosedScore<'_>, first: CommandOptions, second: CommandOptions) -> Sides
     requires names { NamesColumns first }
     requires tells { IsOnNotes second }
-    ensures once { IfOk result (λ both. IsAlone (meaning 1 first) records.now both.0) }
+    ensures once { IfOk result (λ both. IsAlone (meaning 1 first) score.entry.records.now both.0) }
     ensures twice { IfOk result (λ both.
-        IsPiped (meaning 1 first) (meaning 2 second) records.now both.1) }
+        IsPiped (meaning 1 first) (meaning 2 second) score.entry.records.now both.1) }
     ensures same { IfOk result (λ both. both.0.end ≡ Closed → both.1.end ≡ Closed →
         both.1.records.items ≡ both.0.records.items) }
 {
-    again(alloc, records, first, second)
+    again(score, first, second)
 }

@@ -1,6 +1,5 @@
 //! The command rid, again and again.
-ghost use Rattle.std.specs.Prelude.{◌≡◌, ◌≤◌, ◌||◌, false, length, IfOk};
-ghost use Rattle.hum_stage.specs.Score.{IsClosed};
+ghost use Rattle.std.specs.Prelude.{◌≡◌, ◌||◌, false, IfOk};
 ghost use Rattle.hum_stage.specs.declared.faults.End.TheVariants.{Closed};
 ghost use Rattle.hum_rid.specs.Rid.{meaning};
 ghost use Rattle.hum_commands.specs.Meaning.{meaning as meaning_of};
@@ -9,11 +8,10 @@ ghost use Rattle.hum_laws.specs.Letters.{joint};
 ghost use Rattle.hum_laws.specs.Comments.{all_comments, TellsByTokens, MeanTheSame};
 
 use crate::commands::{again, piped, piped_and_alone};
-use crate::given::Given;
+use crate::given::{ClosedScore, Sides};
 use hum_commands::CommandOptions;
-use hum_record::Record;
+use hum_commands::CommandOptions::Rid;
 use hum_rid::RidOptions;
-use std::alloc::{AllocError, Global};
 
 fn either(one: bool, other: bool) -> bool
     ensures { result ≡ one || other }
@@ -43,51 +41,32 @@ fn joint(some: &RidOptions, more: &RidOptions) -> RidOptions
 ///
 /// # Errors
 /// Out of memory.
-pub fn rid_by_letters(
-    alloc: Global,
-    records: &[Record],
-    some: RidOptions,
-    more: RidOptions,
-) -> Result<(Given, Given), AllocError>
-    requires closed { IsClosed records.now }
-    requires few { length records.now ≤ 4294967295 }
+pub fn rid_by_letters(score: ClosedScore<'_>, some: RidOptions, more: RidOptions) -> Sides
     requires interpretations { some.interpretations ≡ false }
     ensures in_turn { IfOk result (λ both.
-        IsPiped (meaning 1 some) (meaning 2 more) records.now both.0) }
+        IsPiped (meaning 1 some) (meaning 2 more) score.entry.records.now both.0) }
     ensures at_once { IfOk result (λ both.
-        IsAlone (meaning 1 (joint some more)) records.now both.1) }
+        IsAlone (meaning 1 (joint some more)) score.entry.records.now both.1) }
     ensures same { IfOk result (λ both. Same both.0 both.1) }
 {
     let all = joint(&some, &more);
-    piped_and_alone(
-        alloc,
-        records,
-        CommandOptions::Rid(some),
-        CommandOptions::Rid(more),
-        CommandOptions::Rid(all),
-    )
+    piped_and_alone(score, Rid(some), Rid(more), Rid(all))
 }
 
 /// The same letters of rid twice are the same as once.
 ///
 /// # Errors
 /// Out of memory.
-pub fn rid_twice(
-    alloc: Global,
-    records: &[Record],
-    options: RidOptions,
-) -> Result<(Given, Given), AllocError>
-    requires closed { IsClosed records.now }
-    requires few { length records.now ≤ 4294967295 }
+pub fn rid_twice(score: ClosedScore<'_>, options: RidOptions) -> Sides
     requires interpretations { options.interpretations ≡ false }
-    ensures once { IfOk result (λ both. IsAlone (meaning 1 options) records.now both.0) }
+    ensures once { IfOk result (λ both. IsAlone (meaning 1 options) score.entry.records.now both.0) }
     ensures twice { IfOk result (λ both.
-        IsPiped (meaning 1 options) (meaning 2 options) records.now both.1) }
+        IsPiped (meaning 1 options) (meaning 2 options) score.entry.records.now both.1) }
     ensures same { IfOk result (λ both. Same both.0 both.1) }
 {
-    let first = CommandOptions::Rid(options);
-    let second = CommandOptions::Rid(options);
-    again(alloc, records, first, second)
+    let first = Rid(options);
+    let second = Rid(options);
+    again(score, first, second)
 }
 
 /// The letter `G` alone.
@@ -114,25 +93,22 @@ fn all_comments() -> RidOptions
 /// # Errors
 /// Out of memory.
 pub fn comments_aside(
-    alloc: Global,
-    records: &[Record],
+    score: ClosedScore<'_>,
     command: CommandOptions,
     alike: CommandOptions,
-) -> Result<(Given, Given), AllocError>
-    requires closed { IsClosed records.now }
-    requires few { length records.now ≤ 4294967295 }
+) -> Sides
     requires tells { TellsByTokens command }
     requires tells_too { TellsByTokens alike }
     requires alike { MeanTheSame command alike }
     ensures first { IfOk result (λ both.
-        IsPiped (meaning 1 all_comments) (meaning_of 2 command) records.now both.0) }
+        IsPiped (meaning 1 all_comments) (meaning_of 2 command) score.entry.records.now both.0) }
     ensures last { IfOk result (λ both.
-        IsPiped (meaning_of 1 command) (meaning 2 all_comments) records.now both.1) }
+        IsPiped (meaning_of 1 command) (meaning 2 all_comments) score.entry.records.now both.1) }
     ensures same { IfOk result (λ both. both.0.end ≡ Closed → both.1.end ≡ Closed →
         both.0.records.items ≡ both.1.records.items) }
 {
     let letter = all_comments();
-    let first = piped(alloc, records, CommandOptions::Rid(letter), command)?;
-    let last = piped(alloc, records, alike, CommandOptions::Rid(letter))?;
+    let first = piped(score, Rid(letter), command)?;
+    let last = piped(score, alike, Rid(letter))?;
     Ok((first, last))
 }

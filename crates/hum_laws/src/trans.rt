@@ -1,7 +1,6 @@
 //! The command trans, and what comes behind it.
-ghost use Rattle.std.specs.Prelude.{◌≡◌, ◌≤◌, ◌+ℤ◌, neg_ℤ, pos, negsuc, [], ◌∷◌, length, IfOk};
+ghost use Rattle.std.specs.Prelude.{◌≡◌, ◌+ℤ◌, neg_ℤ, pos, negsuc, [], ◌∷◌, IfOk};
 ghost use Rattle.hum_pitch.specs.Pitch.{IsWithin};
-ghost use Rattle.hum_stage.specs.Score.{IsClosed};
 ghost use Rattle.hum_stage.specs.declared.faults.End.TheVariants.{Closed};
 ghost use Rattle.hum_tones.specs.Commands.{trans_sign, meaning_of_semits, meaning_of_recip};
 ghost use Rattle.hum_laws.specs.Piped.{IsAlone, IsPiped};
@@ -10,11 +9,9 @@ ghost use Rattle.hum_laws.specs.Transposing.{moved_by, transposed_under};
 ghost use Rattle.hum_laws.specs.Transposing.{semitones_under, as_semitones, durations_under};
 
 use crate::commands::{again, piped_and_alone};
-use crate::given::Given;
-use hum_commands::CommandOptions;
-use hum_record::Record;
+use crate::given::{ClosedScore, Sides};
+use hum_commands::CommandOptions::{Recip, Semits, Trans};
 use hum_tones::{RecipOptions, SemitsOptions, TransOptions};
-use std::alloc::{AllocError, Global};
 
 /// Both ways, one after the other.
 fn sum(some: TransOptions, more: TransOptions) -> TransOptions
@@ -46,40 +43,31 @@ fn opposite(way: TransOptions) -> TransOptions
 /// # Errors
 /// Out of memory.
 pub fn transpositions_add_up(
-    alloc: Global,
-    records: &[Record],
+    score: ClosedScore<'_>,
     some: TransOptions,
     more: TransOptions,
-) -> Result<(Given, Given), AllocError>
-    requires closed { IsClosed records.now }
-    requires few { length records.now ≤ 4294967295 }
+) -> Sides
     requires steps { IsWithin (negsuc 48) (some.steps +ℤ more.steps) (pos 49) }
     requires semitones { IsWithin (negsuc 83) (some.semitones +ℤ more.semitones) (pos 84) }
     ensures in_turn { IfOk result (λ both.
         IsPiped (moved_by 1 some.steps some.semitones) (moved_by 2 more.steps more.semitones)
-        records.now both.0) }
+        score.entry.records.now both.0) }
     ensures at_once { IfOk result (λ both.
         IsAlone (moved_by 1 (some.steps +ℤ more.steps) (some.semitones +ℤ more.semitones))
-        records.now both.1) }
+        score.entry.records.now both.1) }
     ensures in_turn_is { IfOk result (λ both. both.0.end ≡ Closed →
         both.0.records.items
         ≡ transposed_under (trans_sign more.steps more.semitones
         ∷ trans_sign some.steps some.semitones ∷ []) (some.steps +ℤ more.steps)
-        (some.semitones +ℤ more.semitones) records.now) }
+        (some.semitones +ℤ more.semitones) score.entry.records.now) }
     ensures at_once_is { IfOk result (λ both. both.1.end ≡ Closed →
         both.1.records.items
         ≡ transposed_under (trans_sign (some.steps +ℤ more.steps)
         (some.semitones +ℤ more.semitones) ∷ []) (some.steps +ℤ more.steps)
-        (some.semitones +ℤ more.semitones) records.now) }
+        (some.semitones +ℤ more.semitones) score.entry.records.now) }
 {
     let all = sum(some, more);
-    piped_and_alone(
-        alloc,
-        records,
-        CommandOptions::Trans(some),
-        CommandOptions::Trans(more),
-        CommandOptions::Trans(all),
-    )
+    piped_and_alone(score, Trans(some), Trans(more), Trans(all))
 }
 
 /// What is transposed by m semitones has each of its semitones m higher: `trans -c m | semits` is
@@ -87,64 +75,39 @@ pub fn transpositions_add_up(
 ///
 /// # Errors
 /// Out of memory.
-pub fn semits_shifted(
-    alloc: Global,
-    records: &[Record],
-    way: TransOptions,
-    options: SemitsOptions,
-) -> Result<(Given, Given), AllocError>
-    requires closed { IsClosed records.now }
-    requires few { length records.now ≤ 4294967295 }
+pub fn semits_shifted(score: ClosedScore<'_>, way: TransOptions, options: SemitsOptions) -> Sides
     ensures moved { IfOk result (λ both.
         IsPiped (moved_by 1 way.steps way.semitones) (meaning_of_semits 2 options)
-        records.now both.0) }
+        score.entry.records.now both.0) }
     ensures still { IfOk result (λ both.
-        IsAlone (meaning_of_semits 1 options) records.now both.1) }
+        IsAlone (meaning_of_semits 1 options) score.entry.records.now both.1) }
     ensures moved_is { IfOk result (λ both. both.0.end ≡ Closed →
         both.0.records.items
         ≡ semitones_under (trans_sign way.steps way.semitones ∷ []) way.semitones
-        options.ties_left_out records.now) }
+        options.ties_left_out score.entry.records.now) }
     ensures still_is { IfOk result (λ both. both.1.end ≡ Closed →
-        both.1.records.items ≡ as_semitones options.ties_left_out records.now) }
+        both.1.records.items ≡ as_semitones options.ties_left_out score.entry.records.now) }
 {
-    piped_and_alone(
-        alloc,
-        records,
-        CommandOptions::Trans(way),
-        CommandOptions::Semits(options),
-        CommandOptions::Semits(options),
-    )
+    piped_and_alone(score, Trans(way), Semits(options), Semits(options))
 }
 
 /// What is transposed lasts as long as before: `trans | recip` is `recip`, and the records of `*Tr`.
 ///
 /// # Errors
 /// Out of memory.
-pub fn durations_stay(
-    alloc: Global,
-    records: &[Record],
-    way: TransOptions,
-) -> Result<(Given, Given), AllocError>
-    requires closed { IsClosed records.now }
-    requires few { length records.now ≤ 4294967295 }
+pub fn durations_stay(score: ClosedScore<'_>, way: TransOptions) -> Sides
     ensures moved { IfOk result (λ both.
         IsPiped (moved_by 1 way.steps way.semitones) (meaning_of_recip 2 (record {}))
-        records.now both.0) }
+        score.entry.records.now both.0) }
     ensures still { IfOk result (λ both.
-        IsAlone (meaning_of_recip 1 (record {})) records.now both.1) }
+        IsAlone (meaning_of_recip 1 (record {})) score.entry.records.now both.1) }
     ensures moved_is { IfOk result (λ both. both.0.end ≡ Closed →
         both.0.records.items
-        ≡ durations_under (trans_sign way.steps way.semitones ∷ []) records.now) }
+        ≡ durations_under (trans_sign way.steps way.semitones ∷ []) score.entry.records.now) }
     ensures still_is { IfOk result (λ both. both.1.end ≡ Closed →
-        both.1.records.items ≡ durations_under [] records.now) }
+        both.1.records.items ≡ durations_under [] score.entry.records.now) }
 {
-    piped_and_alone(
-        alloc,
-        records,
-        CommandOptions::Trans(way),
-        CommandOptions::Recip(RecipOptions),
-        CommandOptions::Recip(RecipOptions),
-    )
+    piped_and_alone(score, Trans(way), Recip(RecipOptions), Recip(RecipOptions))
 }
 
 /// There and back: `trans -d n -c m | trans -d -n -c -m` is the score, with the accidental `n` dropped
@@ -152,31 +115,20 @@ pub fn durations_stay(
 ///
 /// # Errors
 /// Out of memory.
-pub fn there_and_back(
-    alloc: Global,
-    records: &[Record],
-    way: TransOptions,
-) -> Result<(Given, Given), AllocError>
-    requires closed { IsClosed records.now }
-    requires few { length records.now ≤ 4294967295 }
+pub fn there_and_back(score: ClosedScore<'_>, way: TransOptions) -> Sides
     ensures there { IfOk result (λ both.
-        IsAlone (moved_by 1 way.steps way.semitones) records.now both.0) }
+        IsAlone (moved_by 1 way.steps way.semitones) score.entry.records.now both.0) }
     ensures back { IfOk result (λ both. IsPiped (moved_by 1 way.steps way.semitones)
-        (moved_by 2 (neg_ℤ way.steps) (neg_ℤ way.semitones)) records.now both.1) }
+        (moved_by 2 (neg_ℤ way.steps) (neg_ℤ way.semitones)) score.entry.records.now both.1) }
     ensures there_is { IfOk result (λ both. both.0.end ≡ Closed →
         both.0.records.items
         ≡ transposed_under (trans_sign way.steps way.semitones ∷ []) way.steps way.semitones
-        records.now) }
+        score.entry.records.now) }
     ensures same { IfOk result (λ both. both.1.end ≡ Closed →
         both.1.records.items
         ≡ unsigned_under (trans_sign (neg_ℤ way.steps) (neg_ℤ way.semitones)
-        ∷ trans_sign way.steps way.semitones ∷ []) records.now) }
+        ∷ trans_sign way.steps way.semitones ∷ []) score.entry.records.now) }
 {
     let back = opposite(way);
-    again(
-        alloc,
-        records,
-        CommandOptions::Trans(way),
-        CommandOptions::Trans(back),
-    )
+    again(score, Trans(way), Trans(back))
 }

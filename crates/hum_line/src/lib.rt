@@ -75,7 +75,7 @@ fn order_of(word: Option<&str>) -> Option<Side> {
 /// `Usage` where the line isn't of the program's form; `Memory`.
 pub fn read_line<'a>(alloc: Global, words: &'a [String]) -> Result<Choice<'a>, LineFault>
     // A link holds 1 to 4,096 records.
-    ensures { IfOk result (λ choice. (1 ≤ choice.link) × (choice.link ≤ 4096)) }
+    ensures { IfOk result (λ choice. (1 ≤ choice.link) × (choice.link ≤ LARGEST_LINK)) }
 {
     let matches = match arguments(alloc)?.try_get_matches_from(words) {
         Ok(matches) => matches,

@@ -1,5 +1,6 @@
 -- The records that timebase makes of one with notes, by the multiples of the step that they stand at.
-use Rattle.std.specs.Prelude.{◌≡◌, ℕ, ◌+◌, ◌<◌, ◌↔◌, true, List, [], ◌∷◌, ◌++◌, length, map}
+use Rattle.std.specs.Prelude.{◌≡◌, ℕ, ◌+◌, ◌<◌, ◌↔◌, true}
+use Rattle.std.specs.Prelude.{List, [], ◌∷◌, ◌++◌, length, map}
 use Rattle.std.specs.Prelude.{slice_index_or, Option, None, Some, is_some, Ok, slice_get}
 use Rattle.std.specs.List.{list_any, Contains}
 use Rattle.hum_record.specs.declared.SpinedKind.TheVariants.{Values}

@@ -1,5 +1,6 @@
 -- The records of the spread rule, by the places of the tokens that are kept.
-use Rattle.std.specs.Prelude.{◌≡◌, ◌≢◌, ℕ, zero, suc, ◌+◌, ◌<◌, ◌⊎◌, nat_le, Bool, true, false, not, ◌&&◌, ◌||◌}
+use Rattle.std.specs.Prelude.{◌≡◌, ◌≢◌, ℕ, zero, suc, ◌+◌, ◌<◌}
+use Rattle.std.specs.Prelude.{◌⊎◌, nat_le, Bool, true, false, not, ◌&&◌, ◌||◌}
 use Rattle.std.specs.Prelude.{if◌then◌else◌, List, [], ◌∷◌, length, Some, slice_get, slice_index_or}
 use lib.Chars.{codes}
 use Rattle.hum_columns.specs.Spread.{JoinedToken, piece, joins, goes_on, tokens_in, spread}

@@ -54,28 +54,6 @@ impl StagePlace {
     }
 }
 
-/// The name of the score behind `read`, which is word `number`.
-fn read_name(
-    alloc: Global,
-    line: u32,
-    number: u32,
-    pieces: &[Piece<'_>],
-) -> Result<String, PlanError>
-    ensures { Tells string_bytes
-        (λ answer. answer ≡ name_read line number (words_of pieces.now)) result }
-{
-    let [Piece::Word(place, name), rest @ ..] = pieces else {
-        return Err(broken(line, number, PlanRule::N9));
-    };
-    if name.is_empty() {
-        return Err(broken(line, *place, PlanRule::N10));
-    }
-    if let [Piece::Word(extra, _), ..] = rest {
-        return Err(broken(line, *extra, PlanRule::N8));
-    }
-    Ok(String::from_str(alloc, name)?)
-}
-
 /// Takes a branch, whose last stage is one source more.
 fn take_branch<'a>(
     branches: &mut Branches<'a>,
@@ -195,13 +173,30 @@ impl<'a> Draft<'a> {
         Ok(())
     }
 
+    /// The name of the score behind `read`, which is word `number`.
+    fn read_name(&self, line: u32, number: u32, pieces: &[Piece<'_>]) -> Result<String, PlanError>
+        ensures { Tells string_bytes
+            (λ answer. answer ≡ name_read line number (words_of pieces.now)) result }
+    {
+        let [Piece::Word(place, name), rest @ ..] = pieces else {
+            return Err(broken(line, number, PlanRule::N9));
+        };
+        if name.is_empty() {
+            return Err(broken(line, *place, PlanRule::N10));
+        }
+        if let [Piece::Word(extra, _), ..] = rest {
+            return Err(broken(line, *extra, PlanRule::N8));
+        }
+        Ok(String::from_str(self.alloc, name)?)
+    }
+
     /// The stage `read`, which is word `number`.
     fn add_read(&mut self, line: u32, number: u32, pieces: &[Piece<'a>]) -> Result<(), PlanError>
         requires { length self.old.stages.items < 64 }
         ensures { Tells (λ _. outline_of self.new) (λ answer. answer
             ≡ with_read (outline_of self.old) (name_read line number (words_of pieces.entry.now))) result }
     {
-        let name = read_name(self.alloc, line, number, pieces)?;
+        let name = self.read_name(line, number, pieces)?;
         self.push(Command::Read, Vec::new(self.alloc), Options::Read(name))?;
         Ok(())
     }

@@ -6,6 +6,7 @@ use Rattle.hum_stage.specs.declared.faults.End.TheVariants.{Closed}
 use Rattle.hum_stage.specs.Score.{IsScore, IsClosed}
 use Rattle.hum_assemble.specs.Change.{Change, More, Ends}
 use Rattle.hum_assemble.specs.Meaning.{Moment, after, put_of, wants_of}
+use Rattle.hum_stage.specs.declared.TheConstants.{MOST_RECORDS}
 
 -- It is wanted, and what was put with what is still to come is a score, a closed one where it ends so.
 pub record MayServe (stands : Moment → Type 0) (j : ℕ) (coming : List Row) (end : End) : Type 0 where
@@ -14,7 +15,7 @@ pub record MayServe (stands : Moment → Type 0) (j : ℕ) (coming : List Row) (
   pub wants : wants_of at ≡ Some j
   pub score : IsScore (put_of j at.inputs ++ coming)
   pub closed : end ≡ Closed → IsClosed (put_of j at.inputs ++ coming)
-  pub few : length (put_of j at.inputs ++ coming) ≤ 4294967295
+  pub few : length (put_of j at.inputs ++ coming) ≤ MOST_RECORDS
 
 -- the first of what was to come was put, or there was none, and the end was told
 abbrev pub Goes : Change → List Row → List Row → Type 0

@@ -10,11 +10,13 @@ use hum_text::TextFault;
 use std::fmt::Display;
 use std::process::Abort;
 
-// A fault's text begins with its code and a colon.
-fn check_code(rt: &(impl Abort + AllocGlobal), fault: impl Display + Drop, code: &'static str) {
-    let text = format!(in rt.alloc(); "{fault}").expect(rt, "memory");
-    let rest = text.strip_prefix(code).unwrap_or("");
-    holds(rt, rest.starts_with(": "), code);
+// The text of each fault begins with its code and a colon.
+fn check_codes<F: Display>(rt: &(impl Abort + AllocGlobal), faults: &[(F, &'static str)]) {
+    for (fault, code) in faults {
+        let text = format!(in rt.alloc(); "{fault}").expect(rt, "memory");
+        let rest = text.strip_prefix(*code).unwrap_or("");
+        holds(rt, rest.starts_with(": "), *code);
+    }
 }
 
 // A fault prints this text.
@@ -25,16 +27,17 @@ fn check_text(rt: &(impl Abort + AllocGlobal), fault: impl Display + Drop, want:
 
 #[test]
 fn faults_print_their_code(rt: HostRuntime) {
-    check_code(&rt, FracFault::F1, "F1");
-    check_code(&rt, KernFault::K1, "K1");
-    check_code(&rt, KernFault::K2, "K2");
-    check_code(&rt, KernFault::K3, "K3");
-    check_code(&rt, PitchFault::TR1, "TR1");
-    check_code(&rt, PitchFault::TR2, "TR2");
-    check_code(&rt, TextFault::S2, "S2");
-    check_code(&rt, RecordFault::S8, "S8");
-    check_code(&rt, RecordFault::L1, "L1");
-    check_code(&rt, PathFault::P10, "P10");
+    check_codes(&rt, &[(FracFault::F1, "F1")]);
+    let kern = [
+        (KernFault::K1, "K1"),
+        (KernFault::K2, "K2"),
+        (KernFault::K3, "K3"),
+    ];
+    check_codes(&rt, &kern);
+    check_codes(&rt, &[(PitchFault::TR1, "TR1"), (PitchFault::TR2, "TR2")]);
+    check_codes(&rt, &[(TextFault::S2, "S2")]);
+    check_codes(&rt, &[(RecordFault::S8, "S8"), (RecordFault::L1, "L1")]);
+    check_codes(&rt, &[(PathFault::P10, "P10")]);
 }
 
 #[test]

@@ -3,7 +3,7 @@ use crate::compared::same;
 use crate::scores::{Lines, check_lines, score};
 use hum_ditto::DittoOptions;
 use hum_extract::{ExtractOptions, Field, FieldRange};
-use hum_laws::{Given, extract_ditto, semits_shifted, there_and_back};
+use hum_laws::{ClosedScore, Given, extract_ditto, semits_shifted, there_and_back};
 use hum_stage::End;
 use hum_tones::{SemitsOptions, TransOptions};
 use std::process::Abort;
@@ -24,7 +24,11 @@ fn check_given(rt: &impl Abort, given: &Given, want: Lines) {
 fn a_score_is_transposed_there_and_back(rt: HostRuntime) {
     let lines: Lines = &[b"**kern", b"*k[]", b"4e", b"4B-", b"8bb", b"*-"];
     let records = score(&rt, rt.alloc(), lines);
-    let (there, back) = there_and_back(rt.alloc(), &records, UP).expect(&rt, "memory");
+    let closed = ClosedScore {
+        alloc: rt.alloc(),
+        records: &records,
+    };
+    let (there, back) = there_and_back(closed, UP).expect(&rt, "memory");
     check_given(
         &rt,
         &there,
@@ -55,7 +59,11 @@ fn semitones_are_shifted(rt: HostRuntime) {
     let options = SemitsOptions {
         ties_left_out: false,
     };
-    let (moved, still) = semits_shifted(rt.alloc(), &records, UP, options).expect(&rt, "memory");
+    let closed = ClosedScore {
+        alloc: rt.alloc(),
+        records: &records,
+    };
+    let (moved, still) = semits_shifted(closed, UP, options).expect(&rt, "memory");
     check_given(
         &rt,
         &moved,
@@ -91,9 +99,11 @@ fn columns_are_extracted_and_filled_in_any_order(rt: HostRuntime) {
         parentheses: false,
     };
     let chosen = ExtractOptions::Fields(ranges);
-    let (extracted, filled) = extract_ditto(rt.alloc(), &records, chosen, options).expect(
-        &rt, "memory",
-    );
+    let closed = ClosedScore {
+        alloc: rt.alloc(),
+        records: &records,
+    };
+    let (extracted, filled) = extract_ditto(closed, chosen, options).expect(&rt, "memory");
     check_given(&rt, &extracted, &[b"**a", b"1", b"1", b"*-"]);
     check_given(&rt, &filled, &[b"**a", b"1", b"1", b"*-"]);
 }

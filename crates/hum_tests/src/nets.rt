@@ -421,6 +421,14 @@ fn the_order_says_which_read_fails_first(rt: HostRuntime) {
     holds(&rt, matches!(astray, RunResult::Read(1)), "astray");
 }
 
+// A run that fails has status 3 and prints this.
+fn check_failure(rt: &(impl Abort + AllocGlobal), ended: RunResult, want: &'static [u8]) {
+    let outcome = Outcome::Run(ended);
+    same(rt, outcome.status(), 3, want);
+    let told = format!(in rt.alloc(); "{outcome}").expect(rt, "memory");
+    same_bytes(rt, told.as_bytes(), want, want);
+}
+
 #[test]
 fn failures_are_told(rt: HostRuntime) {
     let asked = (TWO, &[SPLIT, OTHER] as &[Score], BESIDE_TEXT);
@@ -431,15 +439,7 @@ fn failures_are_told(rt: HostRuntime) {
         good: 0,
     };
     let result = run_on(&rt, rt.alloc(), &asked, reads, &mut page, &mut Leftmost);
-    let outcome = Outcome::Run(result);
-    same(&rt, outcome.status(), 3, "a failed read");
-    let told = format!(in rt.alloc(); "{outcome}").expect(&rt, "memory");
-    same_bytes(
-        &rt,
-        told.as_bytes(),
-        b"humpipe: stage 2 (read): read failed",
-        "a failed read",
-    );
+    check_failure(&rt, result, b"humpipe: stage 2 (read): read failed");
     same_bytes(&rt, &page.text, b"", "nothing is written");
     let mut page = Page {
         text: Vec::new(rt.alloc()),
@@ -447,15 +447,7 @@ fn failures_are_told(rt: HostRuntime) {
         good: 1,
     };
     let result = run_on(&rt, rt.alloc(), &asked, GOOD, &mut page, &mut Leftmost);
-    let outcome = Outcome::Run(result);
-    same(&rt, outcome.status(), 3, "a failed write");
-    let told = format!(in rt.alloc(); "{outcome}").expect(&rt, "memory");
-    same_bytes(
-        &rt,
-        told.as_bytes(),
-        b"humpipe: write failed",
-        "a failed write",
-    );
+    check_failure(&rt, result, b"humpipe: write failed");
     same_bytes(&rt, &page.text, b"*", "one byte is written");
 }
 

@@ -30,12 +30,11 @@ fn check_origins(rt: &impl Abort, origins: &Origins, want: &[u16]) {
 
 #[test]
 fn origins_are_followed(rt: HostRuntime) {
-    let alloc = rt.alloc();
-    let mut paths = Paths::new(alloc);
-    let mut origins = Origins::new(alloc);
+    let mut paths = Paths::new(rt.alloc());
+    let mut origins = Origins::new(rt.alloc());
     for line in TRACED {
         let (text, want) = *line;
-        let row = read(&rt, alloc, text);
+        let row = read(&rt, rt.alloc(), text);
         let found = paths.step(&row).expect(&rt, "moves");
         origins.follow(&row, &found).expect(&rt, "memory");
         check_origins(&rt, &origins, want);

@@ -4,7 +4,9 @@ ghost use Rattle.hum_record.specs.Spelling.{has_byte, IsToken};
 ghost use Rattle.hum_record.specs.declared.SpinedKind.TheVariants.{Values};
 
 use crate::compared::{same, same_bytes};
-use hum_record::{Kind, Record, RecordBuilder, RecordFault, Selection, Spare, SpinedKind};
+use hum_record::{
+    Kind, MOST_BYTES, Record, RecordBuilder, RecordFault, Selection, Spare, SpinedKind,
+};
 use std::alloc::{AllocError, Global};
 use std::process::Abort;
 
@@ -16,7 +18,7 @@ fn has_line_feed(text: &[u8]) -> bool
 
 // What a line is read as.
 fn parse(rt: &impl Abort, alloc: Global, line: &[u8]) -> Result<Record, RecordFault> {
-    assert!(rt; line.len() <= 1_048_576 && !has_line_feed(line));
+    assert!(rt; line.len() <= MOST_BYTES && !has_line_feed(line));
     Record::parse(alloc, line.to_vec(alloc).expect(rt, "memory"))
 }
 
@@ -130,32 +132,21 @@ const MANY_TOKENS: &[Row] = &[(
 
 /// Texts of 7, 8, 11, 16, 24, 32 and 35 bytes: the tabs of up to 7 bytes, of 8 to 15 and of 16 to 32
 /// are found in three ways, and those of longer texts in pieces of 32 bytes.
-const SHORT_AND_LONG: &[Row] = &[
-    (b"12345\t7", Kind::Values, &[b"12345", b"7"]),
-    (b"1\t345678", Kind::Values, &[b"1", b"345678"]),
-    (
-        b"1\t3\t567\t9AB",
-        Kind::Values,
-        &[b"1", b"3", b"567", b"9AB"],
-    ),
-    (
-        b"1234567\t9ABCDE\tG",
-        Kind::Values,
-        &[b"1234567", b"9ABCDE", b"G"],
-    ),
+const SHORT_AND_LONG: &[(&[u8], &[&[u8]])] = &[
+    (b"12345\t7", &[b"12345", b"7"]),
+    (b"1\t345678", &[b"1", b"345678"]),
+    (b"1\t3\t567\t9AB", &[b"1", b"3", b"567", b"9AB"]),
+    (b"1234567\t9ABCDE\tG", &[b"1234567", b"9ABCDE", b"G"]),
     (
         b"123456789ABCDEF\tH\tJKLMNO\tQ",
-        Kind::Values,
         &[b"123456789ABCDEF", b"H", b"JKLMNO", b"Q"],
     ),
     (
         b"1\t3456789ABCDEFGHIJKLMNOPQRSTUV\tW",
-        Kind::Values,
         &[b"1", b"3456789ABCDEFGHIJKLMNOPQRSTUV", b"W"],
     ),
     (
         b"123456789ABCDEFGHIJKLMNOPQRSTUV\tX\tZ",
-        Kind::Values,
         &[b"123456789ABCDEFGHIJKLMNOPQRSTUV", b"X", b"Z"],
     ),
 ];
@@ -164,7 +155,13 @@ const SHORT_AND_LONG: &[Row] = &[
 fn reads_records(rt: HostRuntime) {
     check_read(&rt, rt.alloc(), EACH_KIND);
     check_read(&rt, rt.alloc(), MANY_TOKENS);
-    check_read(&rt, rt.alloc(), SHORT_AND_LONG);
+    let mut data = Vec::new(rt.alloc());
+    for row in SHORT_AND_LONG {
+        let (text, tokens) = *row;
+        data.push((text, Kind::Values, tokens))
+            .expect(&rt, "memory");
+    }
+    check_read(&rt, rt.alloc(), &data);
 }
 
 const REFUSED: &[(&[u8], RecordFault)] = &[

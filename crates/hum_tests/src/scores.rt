@@ -6,6 +6,7 @@ use crate::compared::same_bytes;
 use crate::record::read;
 use hum_path::Paths;
 use hum_record::Record;
+use hum_stage::MOST_RECORDS;
 use std::alloc::Global;
 use std::process::Abort;
 
@@ -15,7 +16,7 @@ pub(crate) type Lines = &'static [&'static [u8]];
 /// The records of these lines, which are a closed score.
 pub(crate) fn score(rt: &impl Abort, alloc: Global, lines: &[&'static [u8]]) -> Vec<Record>
     ensures closed { IsClosed result.items }
-    ensures few { length result.items ≤ 4294967295 }
+    ensures few { length result.items ≤ MOST_RECORDS }
 {
     let mut paths = Paths::new(alloc);
     let mut records = Vec::new(alloc);

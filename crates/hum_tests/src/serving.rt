@@ -10,7 +10,7 @@ use crate::compared::same;
 use crate::scores::{Lines, check_lines, score};
 use hum_assemble::Assemble;
 use hum_record::Record;
-use hum_stage::{Command, End, Fault, Rule, State};
+use hum_stage::{Command, End, Fault, MOST_RECORDS, Rule, State};
 use std::alloc::Global;
 use std::collections::VecDeque;
 use std::process::Abort;
@@ -49,10 +49,10 @@ fn serve(
     end: End,
 ) -> (Vec<Record>, End)
     requires first { IsClosed first.items }
-    requires few { length first.items ≤ 4294967295 }
+    requires few { length first.items ≤ MOST_RECORDS }
     requires second { IsScore second.items }
     requires closed { end ≡ ends.Closed → IsClosed second.items }
-    requires few_too { length second.items ≤ 4294967295 }
+    requires few_too { length second.items ≤ MOST_RECORDS }
 {
     let rounds = first.len() + second.len() + 2;
     let mut left = VecDeque::from_vec(first);
@@ -76,9 +76,9 @@ fn serve(
 // A closed score that breaks off in front of its last record.
 fn without_last(mut records: Vec<Record>) -> Vec<Record>
     requires closed { IsClosed records.items }
-    requires few { length records.items ≤ 4294967295 }
+    requires few { length records.items ≤ MOST_RECORDS }
     ensures score { IsScore result.items }
-    ensures few { length result.items ≤ 4294967295 }
+    ensures few { length result.items ≤ MOST_RECORDS }
 {
     let len = records.len().saturating_sub(1);
     records.truncate(len);

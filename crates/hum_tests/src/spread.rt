@@ -1,4 +1,7 @@
 //! The spread rule on interpretations of some tokens, by hand.
+ghost use Rattle.std.specs.Prelude.{◌≡◌};
+ghost use lib.Chars.{codes};
+ghost use Rattle.hum_columns.specs.Spread.{piece};
 ghost use Rattle.hum_columns.specs.Writing.{Fit};
 
 use crate::compared::{holds, same, same_bytes};
@@ -30,23 +33,32 @@ fn check(
     same_bytes(rt, &texts, want.1, room);
 }
 
+// A `*v`, which may be the first of its join.
+fn of_join(begins: bool) -> JoinedToken<'static>
+    ensures { result ≡ piece begins (codes "*v") }
+{
+    JoinedToken::new(begins, b"*v")
+}
+
 #[test]
 fn writes_neighbouring_joins_one_after_another(rt: HostRuntime) {
     let alloc = rt.alloc();
+    let null = JoinedToken::new(false, b"*");
     let apart = [
-        JoinedToken::new(true, b"*v"),
-        JoinedToken::new(false, b"*v"),
-        JoinedToken::new(false, b"*"),
-        JoinedToken::new(true, b"*v"),
-        JoinedToken::new(false, b"*v"),
+        of_join(true),
+        of_join(false),
+        null,
+        of_join(true),
+        of_join(false),
     ];
     check(&rt, alloc, &apart, 1, (Ok(()), b"*v\t*v\t*\t*v\t*v\n"));
+    let split = JoinedToken::new(false, b"*^");
     let beside = [
-        JoinedToken::new(true, b"*v"),
-        JoinedToken::new(false, b"*v"),
-        JoinedToken::new(true, b"*v"),
-        JoinedToken::new(false, b"*v"),
-        JoinedToken::new(false, b"*^"),
+        of_join(true),
+        of_join(false),
+        of_join(true),
+        of_join(false),
+        split,
     ];
     let texts = b"*v\t*v\t*\t*\t*\n*\t*v\t*v\t*^\n";
     check(&rt, alloc, &beside, 2, (Ok(()), texts));

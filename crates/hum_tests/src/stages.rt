@@ -8,7 +8,7 @@ use crate::scores::{Lines, check_lines, score};
 use hum_commands::CommandStage;
 use hum_plan::{Options, parse_plan};
 use hum_record::Record;
-use hum_stage::{End, Stage, State, drain, whole};
+use hum_stage::{End, MOST_RECORDS, Stage, State, drain, whole};
 use std::alloc::Global;
 use std::collections::VecDeque;
 use std::process::Abort;
@@ -208,7 +208,7 @@ fn check_puts<S: Stage + Drop>(
 )
     requires fresh { (m : Meaning) × S.stands stage (opening m) }
     requires closed { IsClosed records.items }
-    requires few { length records.items ≤ 4294967295 }
+    requires few { length records.items ≤ MOST_RECORDS }
 {
     let mut rest = VecDeque::from_vec(records);
     let mut left = puts.iter();

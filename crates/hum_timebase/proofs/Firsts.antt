@@ -1,16 +1,11 @@
 -- The first duration of some subtokens.
-use Rattle.std.proofs.Common.{◌≡◌, ◌∙◌, ◌<◌, ◌≤◌, Bool, true, false, List, [], ◌∷◌, length, take, drop, ◌-◌, suc, refl, sym, ap, arith, ℕ, Option, None, Some}
+use Rattle.std.proofs.Common.{◌≡◌, ◌∙◌, ◌<◌, ◌≤◌, true, false, List, [], ◌∷◌, length, take, drop, ◌-◌, suc, refl, sym, ap, arith, ℕ, Option, None, Some}
 use Rattle.std.proofs.Math.Seq.{take-length}
 use Rattle.std.specs.Prelude.{is_some}
-use Rattle.std.specs.List.{list_any}
 use Rattle.hum_frac.specs.Ratio.{Ratio}
 use Rattle.hum_kern.specs.Duration.{duration, value_in, is_refused}
-use Rattle.hum_timebase.specs.Notes.{subtokens, first_duration, or_else}
+use Rattle.hum_timebase.specs.Notes.{subtokens, first_duration, some_refused, or_else}
 use Rattle.hum_timebase.specs.Reading.{rest_parts}
-
--- whether some part is refused
-abbrev pub some_refused : List (List ℕ) → Bool
-some_refused parts = list_any (λ part. is_refused (duration part)) parts
 
 pub first_is : (found : Option Ratio) (part : List ℕ) (parts all : List (List ℕ)) → all ≡ part ∷ parts
     → found ≡ value_in (duration part) → or_else found (first_duration parts) ≡ first_duration all

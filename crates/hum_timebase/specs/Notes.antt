@@ -51,6 +51,10 @@ abbrev pub first_duration : List (List ℕ) → Option Ratio
 first_duration [] = None
 first_duration (part ∷ parts) = or_else (value_in (duration part)) (first_duration parts)
 
+-- whether one of them is refused
+abbrev pub some_refused : List (List ℕ) → Bool
+some_refused = list_any (λ part. is_refused (duration part))
+
 -- The note of a data token: a duration in whole notes. It has one in a timed column alone.
 abbrev pub note_of : Bool → List ℕ → Option Ratio
 note_of timed token =
@@ -61,8 +65,7 @@ notes_of = paired note_of
 
 -- a subtoken of it is refused
 abbrev pub is_misread : Bool → List ℕ → Bool
-is_misread timed token =
-    timed && (is_sounding token && list_any (λ part. is_refused (duration part)) (subtokens token))
+is_misread timed token = timed && (is_sounding token && some_refused (subtokens token))
 
 abbrev pub has_misread : List Bool → List (List ℕ) → Bool
 has_misread timed tokens = list_any (λ misread. misread) (paired is_misread timed tokens)

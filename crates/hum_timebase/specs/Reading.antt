@@ -1,6 +1,6 @@
 -- What is read of a data record.
 use Rattle.std.specs.Prelude.{◌≡◌, ℕ, ◌==◌, Bool, true, false, not, List, [], ◌∷◌}
-use Rattle.std.specs.Prelude.{Option, None, Some, if◌then◌else◌}
+use Rattle.std.specs.Prelude.{Option, None, Some, Result, Ok, Err, if◌then◌else◌}
 use Rattle.std.specs.List.{list_any}
 use Rattle.hum_frac.specs.Ratio.{Ratio}
 use Rattle.hum_kern.specs.declared.KernFault.{KernFault}
@@ -30,6 +30,11 @@ rest_parts (space ∷ bytes) = subtokens bytes
 abbrev pub IsNote : Bool → List ℕ → Ratio → Type 0
 IsNote timed token lasting =
     (note_of timed token ≡ Some lasting) × (is_misread timed token ≡ false)
+
+-- this was read, and nothing was refused; or something was
+abbrev pub Reads : Option Ratio → Bool → Result (Option Ratio) KernFault → Type 0
+Reads value refused (Ok found) = (found ≡ value) × (refused ≡ false)
+Reads value refused (Err fault) = refused ≡ true
 
 -- all durations were read, and these are the notes; or one was refused
 abbrev pub Read : List Bool → List (List ℕ) → List NoteAt → Option KernFault → Type 0

@@ -1,19 +1,18 @@
 //! Timed columns, and the notes in their cells.
 ghost use Rattle.std.specs.Prelude.{◌≡◌, ◌∷◌, ◌++◌, ◌≤◌, ◌<◌, [], length, true, false};
-ghost use Rattle.std.specs.Prelude.{IfOk, OnOk, OnErr, IfSome, slice_index_or, is_some, ◌&&◌};
-ghost use Rattle.std.specs.List.{list_any};
+ghost use Rattle.std.specs.Prelude.{IfOk, OnOk, IfSome, slice_index_or, is_some, ◌&&◌};
 ghost use Rattle.hum_record.specs.Row.{tokens_of};
 ghost use Rattle.hum_record.specs.Contents.{is_null, is_barline};
 ghost use Rattle.hum_path.specs.Spines.{exclusives};
-ghost use Rattle.hum_kern.specs.Duration.{duration, value_in, is_refused};
+ghost use Rattle.hum_kern.specs.Duration.{value_in, is_refused};
 ghost use Rattle.hum_kern.specs.Runs.{run};
 ghost use Rattle.hum_kern.specs.Subtokens.{leads_shortly};
 ghost use Rattle.hum_timebase.specs.Notes.{is_timed, timed_in, own_name, timed_at};
 ghost use Rattle.hum_timebase.specs.Notes.{is_sounding};
-ghost use Rattle.hum_timebase.specs.Notes.{subtokens, first_duration, note_of};
+ghost use Rattle.hum_timebase.specs.Notes.{subtokens, first_duration, some_refused, note_of};
 ghost use Rattle.hum_timebase.specs.Notes.{is_misread};
 ghost use Rattle.hum_timebase.specs.Reading.{content_of, rest_parts, is_part, Read};
-ghost use Rattle.hum_timebase.specs.Reading.{IsNote};
+ghost use Rattle.hum_timebase.specs.Reading.{IsNote, Reads};
 
 use hum_frac::Frac;
 use hum_kern::{KernFault, Length, leading_duration, read_duration, read_leading};
@@ -130,9 +129,7 @@ fn cut(text: &[u8]) -> (&[u8], &[u8])
 /// The value of a duration that was read.
 #[inline(always)]
 fn value_in(read: Result<Length, KernFault>) -> Result<Option<Frac>, KernFault>
-    ensures value { IfOk result (λ value. value ≡ value_in read) }
-    ensures read { OnOk result (is_refused read ≡ false) }
-    ensures refused { OnErr result (is_refused read ≡ true) }
+    ensures { Reads (value_in read) (is_refused read) result }
 {
     match read {
         Ok(found) => Ok(found.value),
@@ -146,11 +143,8 @@ fn value_in(read: Result<Length, KernFault>) -> Result<Option<Frac>, KernFault>
 /// K3 where one of them is refused.
 #[inline(always)]
 fn first_duration(token: &[u8]) -> Result<Option<Frac>, KernFault>
-    ensures value { IfOk result (λ value. value ≡ first_duration (subtokens token.now)) }
-    ensures read { OnOk result
-        (list_any (λ part. is_refused (duration part)) (subtokens token.now) ≡ false) }
-    ensures refused { OnErr result
-        (list_any (λ part. is_refused (duration part)) (subtokens token.now) ≡ true) }
+    ensures { Reads (first_duration (subtokens token.now)) (some_refused (subtokens token.now))
+        result }
 {
     match read_leading(token) {
         Some(read) => value_in(read),
@@ -161,11 +155,8 @@ fn first_duration(token: &[u8]) -> Result<Option<Frac>, KernFault>
 /// The same by one subtoken after another.
 #[inline(never)]
 fn first_of_parts(token: &[u8]) -> Result<Option<Frac>, KernFault>
-    ensures value { IfOk result (λ value. value ≡ first_duration (subtokens token.now)) }
-    ensures read { OnOk result
-        (list_any (λ part. is_refused (duration part)) (subtokens token.now) ≡ false) }
-    ensures refused { OnErr result
-        (list_any (λ part. is_refused (duration part)) (subtokens token.now) ≡ true) }
+    ensures { Reads (first_duration (subtokens token.now)) (some_refused (subtokens token.now))
+        result }
 {
     let (part, mut left) = cut(token);
     let mut found = value_in(read_duration(part))?;
@@ -195,9 +186,7 @@ fn plain_note(timed: bool, token: &[u8]) -> Option<Frac>
 /// K3 where a duration of it is refused.
 #[inline(never)]
 fn note(timed: bool, token: &[u8]) -> Result<Option<Frac>, KernFault>
-    ensures value { IfOk result (λ value. value ≡ note_of timed token.now) }
-    ensures read { OnOk result (is_misread timed token.now ≡ false) }
-    ensures refused { OnErr result (is_misread timed token.now ≡ true) }
+    ensures { Reads (note_of timed token.now) (is_misread timed token.now) result }
 {
     if timed && is_sounding(token) {
         first_duration(token)

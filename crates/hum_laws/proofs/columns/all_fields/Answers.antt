@@ -8,5 +8,5 @@ returns-clause-extracted c = rw (c.in_ok-push.ensures.items, c.new-ranges.ensure
 pub returns-clause-same : goal.returns-clause-same
 returns-clause-same c =
     IfOk-weaker c.alone.result _ _
-    (λ given h. all_fields_stay c.args.records.now given (rw (c.in_ok-push.ensures.items, c.new-ranges.ensures.items) at h) c.requires.closed.0)
+    (λ given h. all_fields_stay c.args.score.records.now given (rw (c.in_ok-push.ensures.items, c.new-ranges.ensures.items) at h) c.args.score.closed.0)
     c.alone.ensures

@@ -12,6 +12,6 @@ returns-clause-twice c = rw c.in_ok-twice.ensures at (IfOk-weaker c.again.result
 pub returns-clause-same : goal.returns-clause-same
 returns-clause-same c =
     IfOk-weaker c.again.result _ _
-    (λ both h. names_twice (texts c.args.names.items) c.args.records.now both.0 both.1 h.0 (rw c.in_ok-twice.ensures at h.1)
-    c.again.ensures.keeps c.requires.closed.0)
+    (λ both h. names_twice (texts c.args.names.items) c.args.score.records.now both.0 both.1 h.0 (rw c.in_ok-twice.ensures at h.1)
+    c.again.ensures.keeps c.args.score.closed.0)
     c.again.ensures.given

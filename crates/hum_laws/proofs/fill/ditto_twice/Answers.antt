@@ -11,5 +11,5 @@ returns-clause-twice c = rw c.in_ok-options_too.ensures at (IfOk-weaker c.again.
 pub returns-clause-same : goal.returns-clause-same
 returns-clause-same c =
     IfOk-weaker c.again.result _ _
-    (λ both h. filled_twice c.args.options c.args.records.now both.0 both.1 h.0 (rw c.in_ok-options_too.ensures at h.1) c.again.ensures.keeps c.requires.closed.0)
+    (λ both h. filled_twice c.args.options c.args.score.records.now both.0 both.1 h.0 (rw c.in_ok-options_too.ensures at h.1) c.again.ensures.keeps c.args.score.closed.0)
     c.again.ensures.given

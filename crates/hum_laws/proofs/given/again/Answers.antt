@@ -5,7 +5,7 @@ use Rattle.hum_laws.proofs.given.again.Goals as goal
 pub alone-requires : goal.alone-requires
 alone-requires g c =
     let first = c.requires.first in
-    record { fresh = (first.meaning, first.stand); closed = c.requires.closed; few = c.requires.few }
+    record { fresh = (first.meaning, first.stand) }
 
 pub returns-in_err-once : goal.returns-in_err-once
 returns-in_err-once g c =

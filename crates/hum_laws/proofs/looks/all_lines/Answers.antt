@@ -14,13 +14,13 @@ returns-clause-yanked c = rw (c.in_ok-push.ensures.items, c.new-ranges.ensures.i
 pub returns-clause-same : goal.returns-clause-same
 returns-clause-same c =
     IfOk-weaker c.alone.result _ _
-    (λ given h. (stays_whole 65536 1 Yank (yank (record { form = Lines; ranges = Onward 1 ∷ [] })) c.args.records.now given (all_lines _ refl)
+    (λ given h. (stays_whole 65536 1 Yank (yank (record { form = Lines; ranges = Onward 1 ∷ [] })) c.args.score.records.now given (all_lines _ refl)
     (rw (c.in_ok-push.ensures.items, c.new-ranges.ensures.items) at h)).0)
     c.alone.ensures
 
 pub returns-clause-end : goal.returns-clause-end
 returns-clause-end c =
     IfOk-weaker c.alone.result _ _
-    (λ given h. (stays_whole 65536 1 Yank (yank (record { form = Lines; ranges = Onward 1 ∷ [] })) c.args.records.now given (all_lines _ refl)
+    (λ given h. (stays_whole 65536 1 Yank (yank (record { form = Lines; ranges = Onward 1 ∷ [] })) c.args.score.records.now given (all_lines _ refl)
     (rw (c.in_ok-push.ensures.items, c.new-ranges.ensures.items) at h)).1)
     c.alone.ensures

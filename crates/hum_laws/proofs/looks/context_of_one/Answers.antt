@@ -11,5 +11,5 @@ returns-clause-collected c = c.alone.ensures
 pub returns-clause-same : goal.returns-clause-same
 returns-clause-same c =
     IfOk-weaker c.alone.result _ _
-    (λ given h. fine_whole 65536 1 Context (context (one (omits_of c.args.omit))) c.args.records.now given (own_context (omits_of c.args.omit)) h)
+    (λ given h. fine_whole 65536 1 Context (context (one (omits_of c.args.omit))) c.args.score.records.now given (own_context (omits_of c.args.omit)) h)
     c.alone.ensures

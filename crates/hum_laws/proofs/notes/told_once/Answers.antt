@@ -2,8 +2,8 @@ use Rattle.std.proofs.lemmas.Result.{IfOk-weaker}
 use Rattle.hum_laws.proofs.Telling.{makes_scores, told_once}
 use Rattle.hum_laws.proofs.notes.told_once.Goals as goal
 
-pub again-requires-clause-scores : goal.again-requires-clause-scores
-again-requires-clause-scores c = makes_scores c.args.first c.requires.names
+pub again-requires : goal.again-requires
+again-requires c = record { scores = makes_scores c.args.first c.requires.names }
 
 pub returns-clause-once : goal.returns-clause-once
 returns-clause-once c = IfOk-weaker c.again.result _ _ (λ both h. h.0) c.again.ensures.given
@@ -14,6 +14,6 @@ returns-clause-twice c = IfOk-weaker c.again.result _ _ (λ both h. h.1) c.again
 pub returns-clause-same : goal.returns-clause-same
 returns-clause-same c =
     IfOk-weaker c.again.result _ _
-    (λ both h. told_once c.args.first c.args.second c.args.records.now both.0 both.1 c.requires.names c.requires.tells h.0 h.1
-    c.again.ensures.keeps c.requires.closed.0)
+    (λ both h. told_once c.args.first c.args.second c.args.score.records.now both.0 both.1 c.requires.names c.requires.tells h.0 h.1
+    c.again.ensures.keeps c.args.score.closed.0)
     c.again.ensures.given

@@ -12,5 +12,5 @@ returns-clause-at_once c =
 pub returns-clause-same : goal.returns-clause-same
 returns-clause-same c =
     IfOk-weaker c.piped_and_alone.result _ _
-    (λ both h. in_turn_same c.args.some c.args.more c.args.records.now both.0 both.1 c.requires.few h.0 (rw (← c.joint-all.ensures) h.1))
+    (λ both h. in_turn_same c.args.some c.args.more c.args.score.records.now both.0 both.1 c.args.score.few h.0 (rw (← c.joint-all.ensures) h.1))
     c.piped_and_alone.ensures.given

@@ -11,4 +11,4 @@ returns-clause-twice c = IfOk-weaker c.again.result _ _ (λ both h. h.1) c.again
 pub returns-clause-same : goal.returns-clause-same
 returns-clause-same c =
     IfOk-weaker c.again.result _ _
-    (λ both h. twice_same c.args.options c.args.records.now both.0 both.1 c.requires.few h.0 h.1) c.again.ensures.given
+    (λ both h. twice_same c.args.options c.args.score.records.now both.0 both.1 c.args.score.few h.0 h.1) c.again.ensures.given

@@ -11,9 +11,9 @@ returns-clause-still c = IfOk-weaker c.piped_and_alone.result _ _ (λ both h. h.
 pub returns-clause-moved_is : goal.returns-clause-moved_is
 returns-clause-moved_is c =
     IfOk-weaker c.piped_and_alone.result _ _
-    (λ both h. recip_behind c.args.way.steps c.args.way.semitones _ c.args.records.now both.0 h.0 c.piped_and_alone.ensures.keeps c.requires.closed.0)
+    (λ both h. recip_behind c.args.way.steps c.args.way.semitones _ c.args.score.records.now both.0 h.0 c.piped_and_alone.ensures.keeps c.args.score.closed.0)
     c.piped_and_alone.ensures.given
 
 pub returns-clause-still_is : goal.returns-clause-still_is
 returns-clause-still_is c =
-    IfOk-weaker c.piped_and_alone.result _ _ (λ both h. recip_alone _ c.args.records.now both.1 h.1) c.piped_and_alone.ensures.given
+    IfOk-weaker c.piped_and_alone.result _ _ (λ both h. recip_alone _ c.args.score.records.now both.1 h.1) c.piped_and_alone.ensures.given

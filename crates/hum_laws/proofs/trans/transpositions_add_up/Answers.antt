@@ -14,13 +14,13 @@ returns-clause-at_once c =
 pub returns-clause-in_turn_is : goal.returns-clause-in_turn_is
 returns-clause-in_turn_is c =
     IfOk-weaker c.piped_and_alone.result _ _
-    (λ both h. adds_up c.args.some.steps c.args.some.semitones c.args.more.steps c.args.more.semitones c.args.records.now both.0 h.0
-    c.piped_and_alone.ensures.keeps c.requires.closed.0)
+    (λ both h. adds_up c.args.some.steps c.args.some.semitones c.args.more.steps c.args.more.semitones c.args.score.records.now both.0 h.0
+    c.piped_and_alone.ensures.keeps c.args.score.closed.0)
     c.piped_and_alone.ensures.given
 
 pub returns-clause-at_once_is : goal.returns-clause-at_once_is
 returns-clause-at_once_is c =
     IfOk-weaker c.piped_and_alone.result _ _
-    (λ both h. moves_alone (c.args.some.steps +ℤ c.args.more.steps) (c.args.some.semitones +ℤ c.args.more.semitones) c.args.records.now both.1
+    (λ both h. moves_alone (c.args.some.steps +ℤ c.args.more.steps) (c.args.some.semitones +ℤ c.args.more.semitones) c.args.score.records.now both.1
     (rw (c.sum-all.ensures.steps, c.sum-all.ensures.semitones) at h.1))
     c.piped_and_alone.ensures.given

@@ -23,20 +23,20 @@ loop-token-preserved-in-Some-plain_note c =
 pub loop-token-preserved-in-Ok-None : goal.loop-token-preserved-in-Ok-None
 loop-token-preserved-in-Ok-None c =
     noted_more c.args.timed.now (tokens_of c.args.row.now) c.loop-token.notes.items c.loop-token.column c.loop-token.columns.now _ c.in-Some.token.now None
-    c.in-len1-up.len_at_least c.in-Some.ensures.steps (sym c.in-Ok-None.field-0-is ∙ c.in-Ok-None.ensures.value) c.in-Ok-None.ensures.read
+    c.in-len1-up.len_at_least c.in-Some.ensures.steps (sym c.in-Ok-None.field-0-is ∙ c.in-Ok-None.ensures.0) c.in-Ok-None.ensures.1
     (sym (append-nil c.loop-token.notes.items)) c.loop-token.invariant
 
 pub loop-token-preserved : goal.loop-token-preserved
 loop-token-preserved c =
     noted_more c.args.timed.now (tokens_of c.args.row.now) c.loop-token.notes.items c.loop-token.column c.loop-token.columns.now _
     c.in-Some.token.now (Some c.in-Ok-Some.lasting)
-    c.in-len1-up.len_at_least c.in-Some.ensures.steps (sym c.in-Ok-Some.field-0-is ∙ c.in-Ok-Some.ensures.value) c.in-Ok-Some.ensures.read
+    c.in-len1-up.len_at_least c.in-Some.ensures.steps (sym c.in-Ok-Some.field-0-is ∙ c.in-Ok-Some.ensures.0) c.in-Ok-Some.ensures.1
     c.in_ok-put_note-in-Ok-Some.ensures c.loop-token.invariant
 
 pub returns-in-Err : goal.returns-in-Err
 returns-in-Err c =
     refused_here c.args.timed.now (tokens_of c.args.row.now) c.loop-token.notes.items c.loop-token.column c.loop-token.columns.now _ c.in-Some.token.now
-    c.in-len1-up.len_at_least c.in-Some.ensures.steps c.in-Err.ensures.refused c.loop-token.invariant
+    c.in-len1-up.len_at_least c.in-Some.ensures.steps c.in-Err.ensures c.loop-token.invariant
 
 pub returns : goal.returns
 returns c =
