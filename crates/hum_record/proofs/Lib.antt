@@ -15,5 +15,4 @@ pub mod Left
 pub mod Selected
 mod Picked
 mod Added
-mod Runs
 mod Words

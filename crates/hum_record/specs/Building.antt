@@ -1,10 +1,9 @@
 -- A record in the making.
 use Rattle.std.specs.Prelude.{◌≡◌, ℕ, ◌≤◌, Bool, false, List, [], ◌∷◌, length}
-use Rattle.std.specs.Prelude.{◌==◌, ◌++◌, slice_range, if◌then◌else◌}
+use Rattle.std.specs.Prelude.{◌==◌, if◌then◌else◌}
 use Rattle.std.specs.Prelude.{Option, None, Some, Box}
 use Rattle.std.specs.List.{join_with_byte, AllByRecursion}
 use Rattle.hum_record.specs.declared.SpinedKind.{SpinedKind}
-use Rattle.hum_record.specs.Row.{Row, tokens_of}
 use Rattle.hum_record.specs.Spelling.{IsToken, parts}
 use Rattle.hum_record.specs.Fields.{ends_from, Written}
 
@@ -22,14 +21,6 @@ tokens_in text (end ∷ ends) = parts text
 -- what the fields of a builder stand for
 abbrev pub draft_of : SpinedKind → List ℕ → List ℕ → Bool → Draft
 draft_of kind text ends spent = record { kind = kind; tokens = tokens_in text ends; spent = spent }
-
--- a record in the making with more tokens behind
-abbrev pub with_more : Draft → List (List ℕ) → Draft
-with_more draft more = record draft { tokens = draft.tokens ++ more }
-
--- the tokens of a record at the places from one up to another, without that
-abbrev pub run_of : Row → ℕ → ℕ → List (List ℕ)
-run_of row from to = slice_range (tokens_of row) from to
 
 -- tokens, joined by tabs
 abbrev pub spelled : List (List ℕ) → List ℕ

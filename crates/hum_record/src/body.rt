@@ -1,6 +1,6 @@
 //! The text of a record, and where its tokens end in it.
 ghost use Rattle.std.specs.Prelude.{◌≡◌, ◌≤◌, ◌<◌, ◌+◌, ◌-◌, ◌^◌, ◌++◌, ◌∷◌, [], length, take};
-ghost use Rattle.std.specs.Prelude.{ℕ, map, IfOk, OnOk, IfErr, Ok, true, false, vec_len, slice_index};
+ghost use Rattle.std.specs.Prelude.{IfOk, OnOk, IfErr, Ok, true, false, vec_len};
 ghost use Rattle.hum_record.specs.Building.{tab_between, spelled};
 ghost use Rattle.hum_record.specs.Cutting.{set_places};
 ghost use Rattle.hum_record.specs.Fields.{AreFields, ends_from, row_in, written};
@@ -10,7 +10,7 @@ ghost use Rattle.hum_record.specs.Spelling.{has_byte, reading, parts, Fails};
 
 use crate::leaving::move_in_front;
 use crate::near::{FEW, NEAR, copy_near, copy_places, put_places};
-use crate::putting::{put_behind, put_moved};
+use crate::putting::put_behind;
 use crate::reading::cut;
 use crate::selection::Selection;
 use crate::wide::{copy_words, put_ends};
@@ -325,33 +325,6 @@ impl Body {
         self.len = end;
         self.count = count + 1;
         true
-    }
-
-    /// Adds tokens with the tabs between them behind the others, and a tab before them if there are any;
-    /// they are told by where each ends in the text that they stand in.
-    pub fn add_run(&mut self, run: &[u8], ends: &[u32]) -> Result<(), AllocError>
-        requires some { 0 < length ends.now }
-        requires few { length self.old.text + length (tab_between self.old.ends)
-            + length run.now ≤ 1048576 }
-        requires order { (k : ℕ) → k < length ends.now
-            → slice_index ends.now k ≤ slice_index ends.now (length ends.now - 1) }
-        requires within { (k : ℕ) → k < length ends.now
-            → slice_index ends.now (length ends.now - 1) ≤ slice_index ends.now k + length run.now }
-        ensures text { OnOk result
-            (self.new.text ≡ self.old.text ++ (tab_between self.old.ends ++ run.now)) }
-        ensures ends { OnOk result (self.new.ends ≡ self.old.ends
-            ++ map (λ e. e + length self.new.text - slice_index ends.now (length ends.now - 1))
-            ends.now) }
-    {
-        let last = ends[ends.len() - 1] as usize;
-        let count = self.count + ends.len();
-        give_bytes(&mut self.held, self.len + 2 + run.len())?;
-        give_places(&mut self.places, count)?;
-        let end = put_behind(&mut self.held, self.len, self.count, run);
-        put_moved(&mut self.places, self.count, ends, last, end);
-        self.len = end;
-        self.count = count;
-        Ok(())
     }
 
     /// Adds LF at the end, where there is room, and tells whether there was.

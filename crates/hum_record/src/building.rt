@@ -3,17 +3,13 @@ ghost use Rattle.std.specs.Prelude.{◌≡◌, ◌≢◌, ◌+◌, ◌<◌, ◌�
 ghost use Rattle.std.specs.Prelude.{length, IsTrue, Err, OnOk, OnErr, IfErr};
 ghost use Rattle.std.specs.Allocator.{alloc_error};
 ghost use Rattle.std.specs.Prelude.{is_some, true, IfOk, if◌then◌else◌};
-ghost use Rattle.std.specs.Prelude.{slice_range};
-ghost use Rattle.hum_record.specs.Row.{as_kind, kind_of, width_of};
-ghost use Rattle.hum_record.specs.Spelling.{IsToken, parts};
-ghost use Rattle.hum_record.specs.Fields.{ends_from};
-ghost use Rattle.hum_record.specs.Building.{spelled, tab_between, text_in, ends_in, run_of, with_more};
+ghost use Rattle.hum_record.specs.Spelling.{IsToken};
+ghost use Rattle.hum_record.specs.Building.{tab_between, text_in, ends_in};
 ghost use Rattle.hum_record.specs.declared.RecordFault.TheVariants.{L1, Memory};
 
 use crate::body::Body;
 use crate::reading::Record;
 use crate::spare::{Spare, new_body};
-use crate::tokens::run_at_ends;
 use crate::{MOST_BYTES, RecordFault, SpinedKind};
 use std::alloc::{AllocError, Global};
 use std::marker::Model;
@@ -177,39 +173,6 @@ impl RecordBuilder {
         }
     }
 
-    /// Adds the tokens `from..to` of a record of the same kind at the end, in one piece.
-    ///
-    /// The fault is [`RecordFault::L1`] where the text would pass 1,048,576 bytes. The builder is
-    /// then as it was.
-    pub fn push_run(&mut self, row: &Record, from: usize, to: usize) -> Result<(), RecordFault>
-        requires of_kind { kind_of row.now ≡ as_kind self.old.kind }
-        requires some { from < to }
-        requires within { to ≤ width_of row.now }
-        ensures pushed { OnOk result (self.new ≡ with_more self.old (run_of row.now from to)) }
-        ensures fits { OnOk result
-            (length (spelled (self.old.tokens ++ run_of row.now from to)) ≤ 1048576) }
-        ensures refused { IfErr result (λ fault. fault ≢ Memory →
-            (fault ≡ L1)
-            × (1048576 < length (spelled (self.old.tokens ++ run_of row.now from to)))
-            × (self.new ≡ self.old)) }
-        ensures spent { IfErr result (λ fault. fault ≡ Memory → IsTrue self.new.spent) }
-        ensures kind { self.new.kind ≡ self.old.kind }
-        ensures again { IsTrue self.old.spent → result ≡ Err Memory }
-    {
-        if self.spent {
-            return Err(RecordFault::Memory);
-        }
-        match add_run(self.alloc, &mut self.body, row.body(), from, to) {
-            Ok(true) => Ok(()),
-            Ok(false) => Err(RecordFault::L1),
-            Err(_) => {
-                self.body = None;
-                self.spent = true;
-                Err(RecordFault::Memory)
-            }
-        }
-    }
-
     /// The record of the tokens that were added.
     pub fn finish(self) -> Record
         requires filled { self.tokens ≢ [] }
@@ -310,41 +273,5 @@ fn add_far(alloc: Global, body: &mut Option<Box<Body>>, token: &[u8]) -> Result<
         return Ok(false);
     }
     body.add(token)?;
-    Ok(true)
-}
-
-/// Adds tokens of another text behind the others, in a body that is made where there is none as yet; or
-/// answers that they don't fit.
-fn add_run(
-    alloc: Global,
-    body: &mut Option<Box<Body>>,
-    other: &Body,
-    from: usize,
-    to: usize,
-) -> Result<bool, AllocError>
-    requires short { length (text_in body.old) ≤ 1048576 }
-    requires cut { other.now.ends ≡ ends_from 0 (parts other.now.text) }
-    requires some { from < to }
-    requires within { to ≤ length other.now.ends }
-    ensures fits { IfOk result (λ fits. fits
-        ≡ nat_le (length (text_in body.old) + length (tab_between (ends_in body.old))
-        + length (spelled (slice_range (parts other.now.text) from to))) 1048576) }
-    ensures text { IfOk result (λ fits. text_in body.new ≡ (if fits then text_in body.old
-        ++ (tab_between (ends_in body.old) ++ spelled (slice_range (parts other.now.text) from to))
-        else text_in body.old)) }
-    ensures ends { IfOk result (λ fits. ends_in body.new ≡ (if fits then ends_in body.old
-        ++ ends_from (length (text_in body.old) + length (tab_between (ends_in body.old)))
-        (slice_range (parts other.now.text) from to) else ends_in body.old)) }
-    ensures there { OnOk result (is_some body.new ≡ true) }
-{
-    provide(alloc, body)?;
-    let Some(body) = body else {
-        unreachable!();
-    };
-    let run = run_at_ends(other.text(), other.ends(), from, to);
-    if !has_room(body.text(), body.ends(), run) {
-        return Ok(false);
-    }
-    body.add_run(run, &other.ends()[from..to])?;
     Ok(true)
 }

@@ -1,5 +1,5 @@
 //! Tokens that are put behind others.
-ghost use Rattle.std.specs.Prelude.{◌≡◌, ◌≤◌, ◌<◌, ◌+◌, ◌-◌, ◌*◌, ◌^◌, ℕ, ◌++◌, length, take, map, slice_index};
+ghost use Rattle.std.specs.Prelude.{◌≡◌, ◌≤◌, ◌<◌, ◌+◌, ◌-◌, ◌*◌, ◌++◌, length, take};
 ghost use Rattle.hum_record.specs.Building.{between};
 ghost use lib.Seq.{paste};
 
@@ -79,20 +79,4 @@ pub fn put_behind(text: &mut [u8], len: usize, count: usize, token: &[u8]) -> us
         begin += 1;
     }
     put_token(text, begin, token)
-}
-
-/// Puts places behind the first `count` of a list: where tokens end that stand somewhere else, where the
-/// last of them ends at `last`, and here at `end`.
-#[inline]
-pub fn put_moved(places: &mut [u32], count: usize, ends: &[u32], last: usize, end: usize)
-    requires room { count + length ends.now ≤ length places.old }
-    requires order { (k : ℕ) → k < length ends.now → slice_index ends.now k ≤ last }
-    requires reach { (k : ℕ) → k < length ends.now → last ≤ slice_index ends.now k + end }
-    requires few { end < 2 ^ 32 }
-    ensures { take (count + length ends.now) places.new
-        ≡ take count places.old ++ map (λ e. e + end - last) ends.now }
-{
-    for j in 0..ends.len() {
-        places[count + j] = (ends[j] as usize + end - last) as u32;
-    }
 }

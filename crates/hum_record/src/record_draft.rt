@@ -2,9 +2,7 @@
 ghost use Rattle.std.specs.Prelude.{◌≡◌, ◌≢◌, ℕ, List, [], ◌∷◌, ◌++◌, Err, OnOk, IfErr};
 ghost use Rattle.std.specs.Allocator.{alloc_error};
 ghost use Rattle.hum_record.specs.declared.SpinedKind.{SpinedKind};
-ghost use Rattle.std.specs.Prelude.{◌<◌, ◌≤◌, true};
-ghost use Rattle.hum_record.specs.Building.{run_of};
-ghost use Rattle.hum_record.specs.Row.{as_kind, kind_of, width_of};
+ghost use Rattle.std.specs.Prelude.{◌<◌, true};
 ghost use Rattle.hum_record.specs.Spelling.{IsToken};
 ghost use Rattle.hum_record.specs.RecordDraft.{Holds, IsMade, IsSpent};
 
@@ -80,47 +78,11 @@ impl RecordDraft {
         match self.builder.push_far(token) {
             Ok(()) => Ok(()),
             Err(RecordFault::L1) => {
-                self.pass_limit();
+                self.is_long = true;
                 Ok(())
             }
             Err(_) => Err(AllocError),
         }
-    }
-
-    /// The tokens `from..to` of a record of the same kind more, at the end.
-    ///
-    /// # Errors
-    /// Out of memory; each later call answers it again.
-    pub fn push_run(&mut self, row: &Record, from: usize, to: usize) -> Result<(), AllocError>
-        requires of_kind { kind_of row.now ≡ as_kind self.old.builder.kind }
-        requires some { from < to }
-        requires within { to ≤ width_of row.now }
-        ensures kind { self.new.builder.kind ≡ self.old.builder.kind }
-        ensures pushed { OnOk result ((kind : SpinedKind) (tokens : List (List ℕ))
-            → Holds kind self.old.builder self.old.is_long tokens
-            → Holds kind self.new.builder self.new.is_long (tokens ++ run_of row.now from to)) }
-        ensures spent { IfErr result (λ _. IsSpent self.new.builder self.new.is_long) }
-        ensures again { IsSpent self.old.builder self.old.is_long → result ≡ Err alloc_error }
-    {
-        if self.is_long {
-            return Ok(());
-        }
-        match self.builder.push_run(row, from, to) {
-            Ok(()) => Ok(()),
-            Err(RecordFault::L1) => {
-                self.pass_limit();
-                Ok(())
-            }
-            Err(_) => Err(AllocError),
-        }
-    }
-
-    /// Takes note that the tokens are too long.
-    fn pass_limit(&mut self)
-        ensures long { self.new.is_long ≡ true }
-        ensures builder { self.new.builder ≡ self.old.builder }
-    {
-        self.is_long = true;
     }
 
     /// The record, unless it is too long.

@@ -5,7 +5,6 @@ ghost use Rattle.std.specs.List.{list_any};
 ghost use Rattle.hum_record.specs.Spelling.{kind_of_token, kind_of_tokens, parts};
 ghost use Rattle.hum_record.specs.Spelling.{is_comment, same_kind};
 ghost use Rattle.hum_record.specs.declared.SpinedKind.TheVariants.{Local};
-ghost use Rattle.hum_record.specs.Building.{spelled};
 ghost use Rattle.hum_record.specs.Fields.{begins_at, ends_from};
 ghost use Rattle.hum_record.specs.Cutting.{bits_of, tabs_from, IsCut};
 ghost use Rattle.hum_record.specs.Plain.{has_mark};
@@ -179,15 +178,4 @@ pub fn token_at_end<'t>(text: &'t [u8], ends: &[u32], j: usize) -> &'t [u8]
     ensures { result.now ≡ slice_range text.now (begins_at ends.now j) (slice_index ends.now j) }
 {
     &text[begin_at(ends, j)..ends[j] as usize]
-}
-
-/// The tokens `from..to` of a text with the tabs between them, by where each token ends.
-#[inline]
-pub fn run_at_ends<'t>(text: &'t [u8], ends: &[u32], from: usize, to: usize) -> &'t [u8]
-    requires cut { ends.now ≡ ends_from 0 (parts text.now) }
-    requires some { from < to }
-    requires within { to ≤ length ends.now }
-    ensures { result.now ≡ spelled (slice_range (parts text.now) from to) }
-{
-    &text[begin_at(ends, from)..ends[to - 1] as usize]
 }
