@@ -1,7 +1,7 @@
 //! Links of a net by hand.
 use crate::compared::{same, same_bytes};
 use crate::record::read;
-use hum_engine::{Link, Next};
+use hum_engine::Link;
 use hum_stage::End;
 use std::alloc::Global;
 use std::process::Abort;
@@ -33,9 +33,11 @@ fn check(rt: &impl Abort, alloc: Global, size: usize, steps: &[Step]) {
             }
             Call::End => link.end(End::Closed),
             Call::Next(want) => match link.next() {
-                Next::Record(record) => same_bytes(rt, record.text(), want, "a record"),
-                Next::End(_) => same_bytes(rt, b"end", want, "the end"),
-                Next::Nothing => same_bytes(rt, b"", want, "nothing"),
+                Some(record) => same_bytes(rt, record.text(), want, "a record"),
+                None => {
+                    let told = link.heard().is_some();
+                    same_bytes(rt, if told { b"end" } else { b"" }, want, "no record");
+                }
             },
         }
         let (len, room) = (link.len(), link.has_room());

@@ -2,6 +2,7 @@
 use crate::compared::{holds, same, same_bytes};
 use crate::sources::Pieces;
 use hum_read::{ReadError, ScoreReader};
+use hum_record::Spare;
 use hum_stage::{Command, End, Fault, Rule};
 use hum_text::calls::Marked;
 use std::alloc::Global;
@@ -14,8 +15,9 @@ fn read_all(
     reader: &mut ScoreReader<Marked<Pieces<'static>>>,
 ) -> (Vec<u8>, Result<End, ReadError>) {
     let mut texts = Vec::new(alloc);
+    let mut pool = Spare::none(alloc);
     for _ in 0..1_000 {
-        if let Some(record) = reader.next() {
+        if let Some(record) = reader.next(&mut pool) {
             texts.extend_from_slice(record.text()).expect(rt, "memory");
             texts.push(b'\n').expect(rt, "memory");
         }
@@ -38,7 +40,8 @@ fn check_read(
     let (texts, found) = read_all(rt, alloc, &mut reader);
     same_bytes(rt, &texts, want, want);
     same(rt, found, stop, want);
-    holds(rt, reader.next().is_none(), "it has stopped");
+    let mut pool = Spare::none(alloc);
+    holds(rt, reader.next(&mut pool).is_none(), "it has stopped");
     same(rt, reader.stopped(), Some(stop), want);
 }
 
