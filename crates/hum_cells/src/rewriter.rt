@@ -51,8 +51,8 @@ pub trait TokenRewriter: Drop {
     fn heading(&self) -> Heading<'_>
         ensures { ShowsHeading (follows self.now) result };
 
-    /// Adds what the last cell of column `j`, a data token, becomes to a record in the making. The token is
-    /// neither null nor a barline.
+    /// Adds what the last cell of column `j`, a data token, becomes to a record in the making. The
+    /// token is neither null nor a barline.
     ///
     /// # Errors
     /// The rule by which it is refused; or out of memory.

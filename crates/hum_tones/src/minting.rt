@@ -45,8 +45,8 @@ fn add_tone(
     Ok(())
 }
 
-/// Adds what a column's last cell, a data token, becomes by the note before it to a record in the making. An
-/// interval's name is made in `text`.
+/// Adds what a column's last cell, a data token, becomes by the note before it to a record in the
+/// making. An interval's name is made in `text`.
 ///
 /// # Errors
 /// The rule by which it is refused; or out of memory.

@@ -90,7 +90,8 @@ fn is_left_out(ties_left_out: bool, note: &Note) -> bool
     ties_left_out && note.continued
 }
 
-/// What a part gives by what it says: the semitones of its note, unless that is left out, or `r` for a rest.
+/// What a part gives by what it says: the semitones of its note, unless that is left out, or `r`
+/// for a rest.
 #[inline(always)]
 fn note_text(note: Note, ties_left_out: bool) -> Option<ShortText>
     ensures { option_map text_of result ≡ of_reading ties_left_out (reading note) }
@@ -176,7 +177,8 @@ impl PartRule {
         }
     }
 
-    /// Adds what a data token becomes by its parts to a record in the making. Its text is made in `text`.
+    /// Adds what a data token becomes by its parts to a record in the making. Its text is made in
+    /// `text`.
     ///
     /// # Errors
     /// The rule by which it is refused; or out of memory.
@@ -200,8 +202,8 @@ impl PartRule {
         Ok(())
     }
 
-    /// Adds what a data token becomes to a record in the making. Where its text has to be made, it is made in
-    /// `text`.
+    /// Adds what a data token becomes to a record in the making. Where its text has to be made, it
+    /// is made in `text`.
     ///
     /// # Errors
     /// The rule by which it is refused; or out of memory.

@@ -13,8 +13,8 @@ use hum_record::{Record, RecordDraft};
 use hum_stage::{Command, Refusal};
 use std::alloc::{AllocError, Global};
 
-/// A command whose tokens become what their parts give. What each part gives is asked for at each token, so
-/// that the code for one command has no other's in it.
+/// A command whose tokens become what their parts give. What each part gives is asked for at each
+/// token, so that the code for one command has no other's in it.
 pub trait Partwise: Drop {
     /// What the command was told to do.
     type Options;

@@ -14,7 +14,8 @@ pub(crate) struct ShortText {
 impl ShortText {
     ghost use Rattle.hum_tones.specs.ShortText.{text_of};
 
-    /// Where a number begins whose digits begin at a place: at the sign in front of them, if it is negative.
+    /// Where a number begins whose digits begin at a place: at the sign in front of them, if it is
+    /// negative.
     #[inline(always)]
     fn place(negative: bool, digits: usize) -> usize
         requires some { 0 < digits }

@@ -95,8 +95,8 @@ pub(crate) fn add_transposed(
     Ok(())
 }
 
-/// Adds what a token becomes that is one subtoken, by what was read of it, to a record in the making. Its
-/// text is made in `text`.
+/// Adds what a token becomes that is one subtoken, by what was read of it, to a record in the
+/// making. Its text is made in `text`.
 #[inline(always)]
 pub(crate) fn push_transposed(
     options: TransOptions,
