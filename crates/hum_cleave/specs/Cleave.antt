@@ -1,14 +1,11 @@
 -- What the command cleave makes of each record.
-use Rattle.std.specs.Prelude.{◌≡◌, ℕ, nat_lt, Bool, false, true, not, ◌&&◌, ◌||◌, if◌then◌else◌}
+use Rattle.std.specs.Prelude.{ℕ, nat_lt, Bool, false, true, not, ◌&&◌, ◌||◌, if◌then◌else◌}
 use Rattle.std.specs.Prelude.{List, [], ◌∷◌, length, map, Result, Ok, Err}
 use Rattle.std.specs.List.{list_any, list_all}
-use Rattle.std.specs.Str.{bytes_eq}
-use lib.Chars.{codes}
 use Rattle.hum_record.specs.declared.SpinedKind.{SpinedKind}
 use Rattle.hum_record.specs.declared.SpinedKind.TheVariants.{Local, Interpretation, Values}
 use Rattle.hum_record.specs.Row.{Row, Comment, Spined, chosen}
 use Rattle.hum_record.specs.Building.{spelled}
-use Rattle.hum_record.specs.Spelling.{has_byte}
 use Rattle.hum_path.specs.declared.signs.Sign.{Sign}
 use Rattle.hum_path.specs.declared.signs.Sign.TheVariants.{Exchange, Add, End}
 use Rattle.hum_path.specs.Sign.{sign_of, is_exclusive}

@@ -1,7 +1,7 @@
 -- No multiple of the step stands from a time to one that isn't after it.
 use Rattle.std.proofs.Common.{◌≡◌, ◌<◌, true, arith, refl}
 use Rattle.std.specs.Ordering.{is_ge}
-use Rattle.hum_frac.specs.Ratio.{Ratio, is_before, compare}
+use Rattle.hum_frac.specs.Ratio.{Ratio, compare}
 use Rattle.hum_frac.proofs.Compared.{not_before}
 use Rattle.hum_frac.proofs.Order.{none_between}
 use Rattle.hum_timebase.specs.Timebase.{multiples_from}
