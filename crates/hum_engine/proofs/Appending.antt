@@ -33,6 +33,20 @@ wrote_more a b c text rest n w h =
       appends = appends_trans a b c w.bytes (take n rest) w.appends h;
     }
 
+-- some was written, and then a prefix of what was left
+pub wrote_front : (a b c : Option (List ℕ)) (text rest : List ℕ) → Wrote a b text rest → WroteFront b c rest → WroteFront a c text
+wrote_front a b c text rest w f = record {
+  bytes = w.bytes ++ f.bytes;
+  front =
+      (f.front.0, append_assoc w.bytes f.bytes f.front.0 ∙ ap (λ l. w.bytes ++ l) f.front.1 ∙ w.sum);
+  appends = appends_trans a b c w.bytes f.bytes w.appends f.appends;
+}
+
+-- nothing is left
+pub wrote_all : (a b : Option (List ℕ)) (text rest : List ℕ) → Wrote a b text rest → rest ≡ [] → Appends a b text
+wrote_all a b text rest w none =
+    subst (Appends a b) (sym (append-nil w.bytes) ∙ ap (λ l. w.bytes ++ l) (sym none) ∙ w.sum) w.appends
+
 pub front_first : (a b : Option (List ℕ)) (x y : List ℕ) → WroteFront a b x → WroteFront a b (x ++ y)
 front_first a b x y f = record {
   bytes = f.bytes;
@@ -153,6 +167,13 @@ some_is (suc n) some = omega arith
 pub some_text : (text : List ℕ) → false ≡ (length text == 0) → 0 < length text
 some_text [] is = cc
 some_text (x ∷ text) is = omega arith
+
+pub none_left : (text : List ℕ) → true ≡ (length text == 0) → text ≡ []
+none_left [] is = refl
+none_left (x ∷ text) is = let both : true ≡ false = is ∙ ne_eqb _ 0 (more text) in absurd cc
+  where
+    more : (xs : List ℕ) → suc (length xs) ≡ 0 → ⊥
+    more xs none = omega (arith, none)
 
 -- what is left of a text behind a call that took some bytes of it
 pub left_behind : (n : ℕ) (text : List ℕ)

@@ -381,3 +381,24 @@ pub record HasRunOn {S R W O : Type 0} (stands : Node S R → List ℕ → At �
     : Type 0 where
   pub left : ℕ → List ℕ
   pub runs : RunsTo stands contents flushed order o p start (record s { rests = left }) now net by
+
+-- What a run by an order has come to.
+pub record RunsBy {S R W O : Type 0} (stands : Node S R → List ℕ → At → Type 0)
+    (remaining : R → Option (List ℕ)) (failed : R → Bool) (contents : W → Option (List ℕ))
+    (flushed broken : W → Bool) (order : Order O) (o p : O) (old new : Net S R W) (by : RunResult)
+    : Type 0 where
+  -- Whatever bytes the sources have, and however they go on: the turns are those that the order picks,
+  -- and what was written is what the plan means.
+  pub ran : HasRun stands remaining contents flushed order o p old new by
+  -- Where the sources tell their bytes, it is what the plan means over these.
+  pub whole : (start : Option (List ℕ)) (s : Scene) (now : Now Row)
+      → Tells remaining old.web.nodes.items s.rests → NetAt stands contents flushed start s old now
+      → HasRunOn stands contents flushed order o p start s now new by
+  -- It ends by a failed read or write exactly where a call has failed in it.
+  pub reads : old.failure ≡ None → (i : ℕ) → failed_at failed i new.web.nodes.items
+      ≡ (failed_at failed i old.web.nodes.items || is_read_of i (Some by))
+  pub writes : old.failure ≡ None
+      → broken new.sink ≡ (broken old.sink || is_write (Some by))
+  -- A run that is over answers its result again.
+  pub again : AtEach stands contents flushed old (λ start s now. (e : RunResult)
+      → result (plan_of s) now ≡ Some e → (by ≡ e) × (new ≡ old) × (p ≡ o))

@@ -18,7 +18,7 @@ ghost use Rattle.hum_engine.specs.Nets.{MayWrite, CallsSink, SinkWent, MayTurnFe
 ghost use Rattle.hum_turns.specs.Counts.{turns_of, most, most_in_all};
 ghost use Rattle.hum_turns.specs.Holds.{SomeReady};
 ghost use Rattle.hum_engine.specs.Nets.{WroteFront, IsGoing, IsChanged};
-ghost use Rattle.hum_engine.specs.Nets.{IsAmong, NetAt, AreBegun, Tells, HasRun, HasRunOn, IsNet};
+ghost use Rattle.hum_engine.specs.Nets.{IsAmong, NetAt, AreBegun, RunsBy, IsNet};
 ghost use Rattle.hum_engine.specs.Nets.{Sees, MayPick, HasPicked, MayAsk, HasGone, MayStep, HasStepped};
 ghost use Rattle.hum_engine.specs.Nets.{IsCloser, AsksLittle, AtEach};
 
@@ -328,31 +328,9 @@ impl<S: Stage + Drop, R: Source + Drop, W: Sink> Net<S, R, W> {
     #[inline(never)]
     pub fn run<O: Order>(&mut self, order: &mut O) -> RunResult
         requires { IsNet (StandsAs S.stands) W.contents W.flushed self.old }
-        // Whatever bytes the sources have, and however they go on: the turns are those that the
-        // order picks, and what was written is what the plan means.
-        ensures ran { HasRun (StandsAs S.stands) R.remaining W.contents W.flushed
-            (record { pick = O.picks; next = O.after }) order.old order.new self.old self.new
-            result }
-
-        // Where the sources tell their bytes, it is what the plan means over these.
-        ensures whole { (start : Option (List ℕ)) (s : Scene) (now : Now Row)
-            → Tells R.remaining self.old.web.nodes.items s.rests
-            → NetAt (StandsAs S.stands) W.contents W.flushed start s self.old now
-            → HasRunOn (StandsAs S.stands) W.contents W.flushed
-            (record { pick = O.picks; next = O.after }) order.old order.new start s now self.new
-            result }
-
-        // It ends by a failed read or write exactly where a call has failed in it.
-        ensures reads { self.old.failure ≡ None → (i : ℕ)
-            → failed_at R.failed i self.new.web.nodes.items
-            ≡ (failed_at R.failed i self.old.web.nodes.items || is_read_of i (Some result)) }
-        ensures writes { self.old.failure ≡ None
-            → W.failed self.new.sink ≡ (W.failed self.old.sink || is_write (Some result)) }
-
-        // A run that is over answers its result again.
-        ensures again { AtEach (StandsAs S.stands) W.contents W.flushed self.old
-            (λ start s now. (by : RunResult) → ended (plan_of s) now ≡ Some by
-            → (result ≡ by) × (self.new ≡ self.old) × (order.new ≡ order.old)) }
+        ensures { RunsBy (StandsAs S.stands) R.remaining R.failed W.contents
+            W.flushed W.failed (record { pick = O.picks; next = O.after }) order.old order.new
+            self.old self.new result }
     {
         if self.over() {
             return self.told();

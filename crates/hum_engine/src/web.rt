@@ -27,7 +27,6 @@ use hum_text::calls::Source;
 use std::alloc::{AllocError, Global};
 
 /// Nodes, and the link of each.
-#[derive(Drop)]
 pub struct Web<S, R> {
     nodes: Vec<Node<S, R>>,
     links: Vec<Link>,
@@ -35,6 +34,18 @@ pub struct Web<S, R> {
     pool: Spare,
     // the stage that took a record last of which the pool had enough
     taker: usize,
+}
+
+// Written out, so that a caller's proof sees one call and not the drop of each field.
+impl<S: Drop, R: Drop> Drop for Web<S, R> {
+    fn drop(self) {
+        let Web {
+            nodes: _nodes,
+            links: _links,
+            pool: _pool,
+            taker: _,
+        } = self;
+    }
 }
 
 impl<S: Stage + Drop, R: Source + Drop> Web<S, R> {

@@ -1,8 +1,7 @@
 //! Writing records.
-ghost use Rattle.std.specs.Prelude.{◌≡◌, ◌≤◌, ◌+◌, ◌++◌, ◌∷◌, [], length, true, IfOk, OnOk, OnErr};
-ghost use Rattle.std.specs.Io.KnownBytes.{Appends};
+ghost use Rattle.std.specs.Prelude.{◌≡◌, ◌++◌, ◌∷◌, [], IfOk};
 ghost use Rattle.hum_record.specs.Row.{text_of};
-ghost use Rattle.hum_engine.specs.Writing.{WroteFront};
+ghost use Rattle.hum_engine.specs.Writing.{HasWritten};
 
 use hum_record::Record;
 use hum_text::calls::Sink;
@@ -17,11 +16,7 @@ pub struct WriteFailed;
 /// A write that fails, or that takes no byte. A prefix of the text was written then.
 #[inline(always)]
 fn write_all<W: Sink>(sink: &mut W, text: &[u8]) -> Result<(), WriteFailed>
-    ensures ok { OnOk result (Appends (W.contents sink.old) (W.contents sink.new) text.now) }
-    ensures err { OnErr result (WroteFront (W.contents sink.old) (W.contents sink.new) text.now) }
-    ensures sound { OnOk result (W.failed sink.new ≡ W.failed sink.old) }
-    ensures failed { OnErr result (W.failed sink.new ≡ true) }
-    ensures calls { W.calls sink.new ≤ W.calls sink.old + length text.now }
+    ensures { HasWritten W.contents W.failed W.calls sink.old sink.new text.now result }
 {
     if text.is_empty() {
         return Ok(());
@@ -37,11 +32,7 @@ fn write_all<W: Sink>(sink: &mut W, text: &[u8]) -> Result<(), WriteFailed>
 /// The same where one write may not be enough.
 #[inline(never)]
 fn write_on<W: Sink>(sink: &mut W, text: &[u8]) -> Result<(), WriteFailed>
-    ensures ok { OnOk result (Appends (W.contents sink.old) (W.contents sink.new) text.now) }
-    ensures err { OnErr result (WroteFront (W.contents sink.old) (W.contents sink.new) text.now) }
-    ensures sound { OnOk result (W.failed sink.new ≡ W.failed sink.old) }
-    ensures failed { OnErr result (W.failed sink.new ≡ true) }
-    ensures calls { W.calls sink.new ≤ W.calls sink.old + length text.now }
+    ensures { HasWritten W.contents W.failed W.calls sink.old sink.new text.now result }
 {
     let mut rest = text;
     while !rest.is_empty() {
@@ -61,16 +52,9 @@ fn write_on<W: Sink>(sink: &mut W, text: &[u8]) -> Result<(), WriteFailed>
 /// As [`write_all`]'s.
 #[inline(always)]
 pub fn write_record<W: Sink>(sink: &mut W, row: Record) -> Result<Record, WriteFailed>
-    ensures ok { OnOk result (Appends (W.contents sink.old) (W.contents sink.new)
-        (text_of row ++ 10 ∷ [])) }
-    ensures err { OnErr result (WroteFront (W.contents sink.old) (W.contents sink.new)
-        (text_of row ++ 10 ∷ [])) }
-    ensures sound { OnOk result (W.failed sink.new ≡ W.failed sink.old) }
-    ensures failed { OnErr result (W.failed sink.new ≡ true) }
+    ensures written { HasWritten W.contents W.failed W.calls sink.old sink.new
+        (text_of row ++ 10 ∷ []) result }
     ensures back { IfOk result (λ back. back ≡ row) }
-
-    // It makes no call but writes, each of which takes a byte at least, or fails.
-    ensures calls { W.calls sink.new ≤ W.calls sink.old + length (text_of row ++ 10 ∷ []) }
 {
     match row.into_line() {
         Ok(line) => {
@@ -87,13 +71,8 @@ pub fn write_record<W: Sink>(sink: &mut W, row: Record) -> Result<Record, WriteF
 /// Writes a record's text, and then LF.
 #[inline(never)]
 fn write_parts<W: Sink>(sink: &mut W, row: &Record) -> Result<(), WriteFailed>
-    ensures ok { OnOk result (Appends (W.contents sink.old) (W.contents sink.new)
-        (text_of row.now ++ 10 ∷ [])) }
-    ensures err { OnErr result (WroteFront (W.contents sink.old) (W.contents sink.new)
-        (text_of row.now ++ 10 ∷ [])) }
-    ensures sound { OnOk result (W.failed sink.new ≡ W.failed sink.old) }
-    ensures failed { OnErr result (W.failed sink.new ≡ true) }
-    ensures calls { W.calls sink.new ≤ W.calls sink.old + length (text_of row.now ++ 10 ∷ []) }
+    ensures { HasWritten W.contents W.failed W.calls sink.old sink.new
+        (text_of row.now ++ 10 ∷ []) result }
 {
     write_all(sink, row.text())?;
     write_all(sink, b"\n")

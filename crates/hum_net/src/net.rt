@@ -11,7 +11,7 @@ ghost use Rattle.hum_plan.specs.Stages.{IsTree, reads_of as read_stages};
 ghost use Rattle.hum_plan.specs.Seen.{stages_of};
 ghost use Rattle.hum_engine.specs.Scene.{Scene, plan_of, held_of, HoldsFew};
 ghost use Rattle.hum_engine.specs.Readers.{failed_at, is_read_of, is_write};
-ghost use Rattle.hum_engine.specs.Nets.{NetAt, Tells, HasTurned, HasRun, HasRunOn, WroteFront};
+ghost use Rattle.hum_engine.specs.Nets.{NetAt, HasTurned, RunsBy, WroteFront};
 ghost use Rattle.hum_engine.specs.Nets.{CallsSink, AtEach};
 ghost use Rattle.hum_turns.specs.Plan.{last};
 ghost use Rattle.hum_net.specs.Nodes.{AreTold, reads_of};
@@ -226,31 +226,9 @@ impl<R: Source + Drop, W: Sink> Net<R, W> {
 
     /// Makes the turns that the order picks, to the end of the run.
     pub fn run<O: Order>(&mut self, order: &mut O) -> RunResult
-        // Whatever bytes the sources have, and however they go on: the turns are those that the
-        // order picks, and what was written is what the plan means.
-        ensures ran { HasRun (StandsAs ⟦<CommandStage as Stage>⟧.stands) R.remaining W.contents W.flushed
-            (record { pick = O.picks; next = O.after }) order.old order.new self.old self.new
-            result }
-
-        // Where the sources tell their bytes, it is what the plan means over these.
-        ensures whole { (start : Option (List ℕ)) (s : Scene) (now : Now Row)
-            → Tells R.remaining self.old.web.nodes.items s.rests
-            → NetAt (StandsAs ⟦<CommandStage as Stage>⟧.stands) W.contents W.flushed start s self.old now
-            → HasRunOn (StandsAs ⟦<CommandStage as Stage>⟧.stands) W.contents W.flushed
-            (record { pick = O.picks; next = O.after }) order.old order.new start s now self.new
-            result }
-
-        // It ends by a failed read or write exactly where a call has failed in it.
-        ensures reads { self.old.failure ≡ None → (i : ℕ)
-            → failed_at R.failed i self.new.web.nodes.items
-            ≡ (failed_at R.failed i self.old.web.nodes.items || is_read_of i (Some result)) }
-        ensures writes { self.old.failure ≡ None
-            → W.failed self.new.sink ≡ (W.failed self.old.sink || is_write (Some result)) }
-
-        // A run that is over answers its result again.
-        ensures again { AtEach (StandsAs ⟦<CommandStage as Stage>⟧.stands) W.contents W.flushed self.old
-            (λ start s now. (by : RunResult) → ended (plan_of s) now ≡ Some by
-            → (result ≡ by) × (self.new ≡ self.old) × (order.new ≡ order.old)) }
+        ensures { RunsBy (StandsAs ⟦<CommandStage as Stage>⟧.stands) R.remaining R.failed W.contents
+            W.flushed W.failed (record { pick = O.picks; next = O.after }) order.old order.new
+            self.old self.new result }
     {
         self.engine.run(order)
     }

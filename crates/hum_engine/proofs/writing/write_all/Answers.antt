@@ -9,8 +9,8 @@ returns-then-is_empty g c = record {
   ok = appends-empty _ c.args.text.now c.if-is_empty.ensures;
   err = tt;
   sound = refl;
-  failed = tt;
-  calls = omega arith;
+  marked = tt;
+  few = omega arith;
 }
 
 pub returns-in-Ok : goal.returns-in-Ok
@@ -21,8 +21,8 @@ returns-in-Ok g c =
       ok = appends-all _ _ c.args.text.now c.in-Ok.n c.if-n-text.true wrote.bytes;
       err = tt;
       sound = wrote.failed ∙ no_mark _ c.in-Ok.n some;
-      failed = tt;
-      calls =
+      marked = tt;
+      few =
           let one = one_call _ _ wrote.calls in
           let all = c.if-n-text.true in
           let more = some_is c.in-Ok.n some in
@@ -36,8 +36,8 @@ returns-in-Ok-eq0 g c =
       ok = tt;
       err = front-taken _ _ c.args.text.now c.in-Ok.n wrote.bytes;
       sound = tt;
-      failed = wrote.failed ∙ mark _ c.in-Ok.n c.in-Ok-eq0.field-0-test;
-      calls =
+      marked = wrote.failed ∙ mark _ c.in-Ok.n c.in-Ok-eq0.field-0-test;
+      few =
           let one = one_call _ _ wrote.calls in
           let some = some_text c.args.text.now c.if-is_empty.ensures in
           omega (arith, one, some);
@@ -51,10 +51,10 @@ returns-in-Ok-2 g c =
       ok = rest-ok c.write_on.result _ _ _ _ _ first c.write_on.ensures.ok;
       err = rest-err c.write_on.result _ _ _ _ _ first c.write_on.ensures.err;
       sound = same-mark c.write_on.result _ _ _ (wrote.failed ∙ no_mark _ c.in-Ok.n c.in-Ok-2.n-test.1) c.write_on.ensures.sound;
-      failed = c.write_on.ensures.failed;
-      calls =
+      marked = c.write_on.ensures.marked;
+      few =
           let one = one_call _ _ wrote.calls in
-          let rest = c.write_on.ensures.calls in
+          let rest = c.write_on.ensures.few in
           let left = left_behind c.in-Ok.n c.args.text.now in
           let some = some_is c.in-Ok.n c.in-Ok-2.n-test.1 in
           omega (arith, one, rest, left, some, wrote.bound);
@@ -67,8 +67,8 @@ returns-in-Err g c =
       ok = tt;
       err = front-kept _ _ c.args.text.now wrote.bytes;
       sound = tt;
-      failed = wrote.failed ∙ or-true _;
-      calls =
+      marked = wrote.failed ∙ or-true _;
+      few =
           let one = one_call _ _ wrote.calls in
           let some = some_text c.args.text.now c.if-is_empty.ensures in
           omega (arith, one, some);

@@ -1,7 +1,8 @@
 use Rattle.std.proofs.Common.{◌∙◌, drop, sym, subst, arith, length-drop}
 use Rattle.std.proofs.lemmas.List.{take_all}
 use Rattle.hum_engine.specs.Writing.{Wrote}
-use Rattle.hum_engine.proofs.Appending.{wrote_more, no_mark, one_call, some_is, some_text, left_behind}
+use Rattle.hum_engine.proofs.Appending.{wrote_more, wrote_front, wrote_all, front-taken, front-kept, none_left}
+use Rattle.hum_engine.proofs.Appending.{no_mark, mark, or-true, one_call, some_is, some_text, left_behind}
 use Rattle.hum_engine.proofs.writing.write_on.Goals as goal
 
 pub loop-rest-preserved : goal.loop-rest-preserved
@@ -21,17 +22,38 @@ loop-rest-preserved g c =
       calls = omega (arith, one, some, left, c.in-Ok.ensures.bound, c.loop-rest.invariant.calls);
     }
 
-pub returns-in-Ok-eq0-clause-calls : goal.returns-in-Ok-eq0-clause-calls
-returns-in-Ok-eq0-clause-calls g c =
-    let one = one_call _ _ c.in-Ok-eq0.ensures.calls in
-    let some = some_text c.loop-rest.rest.now c.loop-rest-test.ensures in
-    omega (arith, one, some, c.loop-rest.invariant.calls)
+pub returns-in-Ok-eq0 : goal.returns-in-Ok-eq0
+returns-in-Ok-eq0 g c = record {
+  ok = tt;
+  err = wrote_front _ _ _ c.args.text.now c.loop-rest.rest.now c.loop-rest.invariant.wrote
+      (front-taken _ _ c.loop-rest.rest.now c.in-Ok-eq0.field-0 c.in-Ok-eq0.ensures.bytes);
+  sound = tt;
+  marked = c.in-Ok-eq0.ensures.failed ∙ mark _ c.in-Ok-eq0.field-0 c.in-Ok-eq0.field-0-test;
+  few =
+      let one = one_call _ _ c.in-Ok-eq0.ensures.calls in
+      let some = some_text c.loop-rest.rest.now c.loop-rest-test.ensures in
+      omega (arith, one, some, c.loop-rest.invariant.calls);
+}
 
-pub returns-in-Err-clause-calls : goal.returns-in-Err-clause-calls
-returns-in-Err-clause-calls g c =
-    let one = one_call _ _ c.in-Err.ensures.calls in
-    let some = some_text c.loop-rest.rest.now c.loop-rest-test.ensures in
-    omega (arith, one, some, c.loop-rest.invariant.calls)
+pub returns-in-Err : goal.returns-in-Err
+returns-in-Err g c = record {
+  ok = tt;
+  err = wrote_front _ _ _ c.args.text.now c.loop-rest.rest.now c.loop-rest.invariant.wrote
+      (front-kept _ _ c.loop-rest.rest.now c.in-Err.ensures.bytes);
+  sound = tt;
+  marked = c.in-Err.ensures.failed ∙ or-true _;
+  few =
+      let one = one_call _ _ c.in-Err.ensures.calls in
+      let some = some_text c.loop-rest.rest.now c.loop-rest-test.ensures in
+      omega (arith, one, some, c.loop-rest.invariant.calls);
+}
 
-pub returns-clause-calls : goal.returns-clause-calls
-returns-clause-calls g c = omega (arith, c.loop-rest.invariant.calls)
+pub returns : goal.returns
+returns g c = record {
+  ok = wrote_all _ _ c.args.text.now c.loop-rest.rest.now c.loop-rest.invariant.wrote
+      (none_left c.loop-rest.rest.now c.loop-rest-test.ensures);
+  err = tt;
+  sound = c.loop-rest.invariant.sound;
+  marked = tt;
+  few = omega (arith, c.loop-rest.invariant.calls);
+}

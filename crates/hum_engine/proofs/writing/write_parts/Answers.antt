@@ -18,10 +18,10 @@ returns-in_err-write_all g c =
       ok = no-ok _ r none;
       err = err-of _ r (front_first a b text lf front);
       sound = no-ok _ r none;
-      failed = err-of _ r wrote.failed;
-      calls =
+      marked = err-of _ r wrote.marked;
+      few =
           let size = length-append text lf in
-          let some = rw c.text.ensures.text at wrote.calls in
+          let some = rw c.text.ensures.text at wrote.few in
           omega (arith, size, some);
     }
 
@@ -34,9 +34,9 @@ returns g c =
       ok = last-ok r _ _ _ _ _ first second.ok;
       err = last-err r _ _ _ _ _ first second.err;
       sound = same-mark r _ _ _ c.in_ok-write_all.ensures.sound second.sound;
-      failed = second.failed;
-      calls =
+      marked = second.marked;
+      few =
           let size = length-append (text_of c.args.row.now) (10 ∷ []) in
-          let some = rw c.text.ensures.text at c.in_ok-write_all.ensures.calls in
-          omega (arith, size, some, second.calls);
+          let some = rw c.text.ensures.text at c.in_ok-write_all.ensures.few in
+          omega (arith, size, some, second.few);
     }

@@ -9,7 +9,10 @@ returns-in_err-write_all-in-Ok g c =
     let all : c.text.result.now ≡ text_of c.args.row ++ 10 ∷ [] =
     c.text.ensures ∙ ap (λ row. text_of row ++ 10 ∷ []) c.in-Ok.ensures.line in
     let wrote = c.in_err-write_all-in-Ok.ensures in
-    rw p.1 (record { ok = tt; err = rw all at wrote.err; sound = tt; failed = wrote.failed; back = tt; calls = rw all at wrote.calls })
+    rw p.1 (record {
+      written = record { ok = tt; err = rw all at wrote.err; sound = tt; marked = wrote.marked; few = rw all at wrote.few };
+      back = tt;
+    })
 
 pub returns-in_ok-write_all-in-Ok : goal.returns-in_ok-write_all-in-Ok
 returns-in_ok-write_all-in-Ok g c =
@@ -17,12 +20,8 @@ returns-in_ok-write_all-in-Ok g c =
     c.text.ensures ∙ ap (λ row. text_of row ++ 10 ∷ []) c.in-Ok.ensures.line in
     let wrote = c.in_ok-write_all-in-Ok.ensures in
     record {
-      ok = rw all at wrote.ok;
-      err = tt;
-      sound = wrote.sound;
-      failed = tt;
+      written = record { ok = rw all at wrote.ok; err = tt; sound = wrote.sound; marked = tt; few = rw all at wrote.few };
       back = c.into_record.ensures ∙ c.in-Ok.ensures.line;
-      calls = rw all at wrote.calls;
     }
 
 pub returns-in_err-write_parts-in-Err : goal.returns-in_err-write_parts-in-Err
@@ -31,10 +30,16 @@ returns-in_err-write_parts-in-Err g c =
     let p = err_from_is_err_and r.result r.ensures.1 in
     let all = ap (λ row. text_of row ++ 10 ∷ []) c.in-Err.ensures.back in
     let wrote = c.in_err-write_parts-in-Err.ensures in
-    rw p.1 (record { ok = tt; err = rw all at wrote.err; sound = tt; failed = wrote.failed; back = tt; calls = rw all at wrote.calls })
+    rw p.1 (record {
+      written = record { ok = tt; err = rw all at wrote.err; sound = tt; marked = wrote.marked; few = rw all at wrote.few };
+      back = tt;
+    })
 
 pub returns-in_ok-write_parts-in-Err : goal.returns-in_ok-write_parts-in-Err
 returns-in_ok-write_parts-in-Err g c =
     let all = ap (λ row. text_of row ++ 10 ∷ []) c.in-Err.ensures.back in
     let wrote = c.in_ok-write_parts-in-Err.ensures in
-    record { ok = rw all at wrote.ok; err = tt; sound = wrote.sound; failed = tt; back = c.in-Err.ensures.back; calls = rw all at wrote.calls }
+    record {
+      written = record { ok = rw all at wrote.ok; err = tt; sound = wrote.sound; marked = tt; few = rw all at wrote.few };
+      back = c.in-Err.ensures.back;
+    }

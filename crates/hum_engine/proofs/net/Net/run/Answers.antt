@@ -26,8 +26,9 @@ over-requires g c = first_running (StandsAs g.S.Stage.stands) g.W.Sink.contents 
 pub told-requires : goal.told-requires
 told-requires g c = first_running (StandsAs g.S.Stage.stands) g.W.Sink.contents g.W.Sink.flushed c.args.self.now c.requires
 
-pub returns-then-over-clause-ran : goal.returns-then-over-clause-ran
-returns-then-over-clause-ran g c =
+pub returns-then-over : goal.returns-then-over
+returns-then-over g c =
+    let ran = (
     let stands = StandsAs g.S.Stage.stands in
     let contents = g.W.Sink.contents in
     let flushed = g.W.Sink.flushed in
@@ -36,40 +37,36 @@ returns-then-over-clause-ran g c =
     (λ start s now h.
     has_told _ c.told.result (c.over.ensures.over start s now h) c.if-over.true
     (λ by e. c.told.ensures start s now h by e))
-
-pub returns-then-over-clause-whole : goal.returns-then-over-clause-whole
-returns-then-over-clause-whole g c start s now tells h =
-    let order : Order g.row.O.Denot = record { pick = g.O.Order.picks; next = g.O.Order.after } in
-    run_on g.S.Stage.stands g.R.Source.remaining g.W.Sink.contents g.W.Sink.flushed order c.args.order.now
-    c.args.order.now c.args.self.now c.args.self.now c.told.result (returns-then-over-clause-ran g c) s.rests tells start
-    s now refl h
-
-pub returns-then-over-clause-reads : goal.returns-then-over-clause-reads
-returns-then-over-clause-reads g c = λ none i.
-    let net = c.args.self.now in
-    let r = first_running (StandsAs g.S.Stage.stands) g.W.Sink.contents g.W.Sink.flushed c.args.self.now c.requires in
-    let heard = (r.now.links (last (plan_of r.scene))).heard in
-    or_false _ ∙ ap (λ f. failed_at g.R.Source.failed i net.web.nodes.items || is_read_of i f) (sym none)
-    ∙ ap (λ b. failed_at g.R.Source.failed i net.web.nodes.items || b)
-    (told_read i net.failure heard c.told.result
-    (ap (λ f. ended_by f heard) r.at.failure
-    ∙ has_told _ c.told.result (c.over.ensures.over r.start r.scene r.now r.at) c.if-over.true
-    (λ by e. c.told.ensures r.start r.scene r.now r.at by e)))
-
-pub returns-then-over-clause-writes : goal.returns-then-over-clause-writes
-returns-then-over-clause-writes g c = λ none.
-    let net = c.args.self.now in
-    let r = first_running (StandsAs g.S.Stage.stands) g.W.Sink.contents g.W.Sink.flushed c.args.self.now c.requires in
-    let heard = (r.now.links (last (plan_of r.scene))).heard in
-    or_false _ ∙ ap (λ f. g.W.Sink.failed net.sink || is_write f) (sym none)
-    ∙ ap (λ b. g.W.Sink.failed net.sink || b)
-    (told_write net.failure heard c.told.result
-    (ap (λ f. ended_by f heard) r.at.failure
-    ∙ has_told _ c.told.result (c.over.ensures.over r.start r.scene r.now r.at) c.if-over.true
-    (λ by e. c.told.ensures r.start r.scene r.now r.at by e)))
-
-pub returns-then-over-clause-again : goal.returns-then-over-clause-again
-returns-then-over-clause-again g c = λ start s now h by e. (c.told.ensures start s now h by e, refl, refl)
+    ) in
+    record {
+      ran = ran;
+      whole = λ start s now tells h.
+          let order : Order g.row.O.Denot = record { pick = g.O.Order.picks; next = g.O.Order.after } in
+          run_on g.S.Stage.stands g.R.Source.remaining g.W.Sink.contents g.W.Sink.flushed order c.args.order.now
+          c.args.order.now c.args.self.now c.args.self.now c.told.result ran s.rests tells start
+          s now refl h;
+      reads = λ none i.
+          let net = c.args.self.now in
+          let r = first_running (StandsAs g.S.Stage.stands) g.W.Sink.contents g.W.Sink.flushed c.args.self.now c.requires in
+          let heard = (r.now.links (last (plan_of r.scene))).heard in
+          or_false _ ∙ ap (λ f. failed_at g.R.Source.failed i net.web.nodes.items || is_read_of i f) (sym none)
+          ∙ ap (λ b. failed_at g.R.Source.failed i net.web.nodes.items || b)
+          (told_read i net.failure heard c.told.result
+          (ap (λ f. ended_by f heard) r.at.failure
+          ∙ has_told _ c.told.result (c.over.ensures.over r.start r.scene r.now r.at) c.if-over.true
+          (λ by e. c.told.ensures r.start r.scene r.now r.at by e)));
+      writes = λ none.
+          let net = c.args.self.now in
+          let r = first_running (StandsAs g.S.Stage.stands) g.W.Sink.contents g.W.Sink.flushed c.args.self.now c.requires in
+          let heard = (r.now.links (last (plan_of r.scene))).heard in
+          or_false _ ∙ ap (λ f. g.W.Sink.failed net.sink || is_write f) (sym none)
+          ∙ ap (λ b. g.W.Sink.failed net.sink || b)
+          (told_write net.failure heard c.told.result
+          (ap (λ f. ended_by f heard) r.at.failure
+          ∙ has_told _ c.told.result (c.over.ensures.over r.start r.scene r.now r.at) c.if-over.true
+          (λ by e. c.told.ensures r.start r.scene r.now r.at by e)));
+      again = λ start s now h by e. (c.told.ensures start s now h by e, refl, refl);
+    }
 
 -- Step by step.
 
@@ -183,8 +180,9 @@ told-requires-then-step g c =
     now_running stands g.R.Source.remaining contents flushed order c.step.new.search c.step.result
     c.args.order.now c.step.new.order c.args.self.now c.step.new.self ran c.requires
 
-pub returns-then-step-clause-ran : goal.returns-then-step-clause-ran
-returns-then-step-clause-ran g c =
+pub returns-then-step : goal.returns-then-step
+returns-then-step g c =
+    let ran = (
     let stands = StandsAs g.S.Stage.stands in
     let contents = g.W.Sink.contents in
     let flushed = g.W.Sink.flushed in
@@ -199,70 +197,66 @@ returns-then-step-clause-ran g c =
     has_told _ c.told-then-step.result (told_all stands g.R.Source.remaining contents flushed order c.step.new.search c.step.result
     c.args.order.now c.step.new.order c.args.self.now c.step.new.self ran c.requires start s now h) c.if-step.true
     (λ by e. c.told-then-step.ensures start s now h by e))
-
-pub returns-then-step-clause-whole : goal.returns-then-step-clause-whole
-returns-then-step-clause-whole g c start s now tells h =
-    let order : Order g.row.O.Denot = record { pick = g.O.Order.picks; next = g.O.Order.after } in
-    run_on g.S.Stage.stands g.R.Source.remaining g.W.Sink.contents g.W.Sink.flushed order c.args.order.now
-    c.step.new.order c.args.self.now c.step.new.self c.told-then-step.result (returns-then-step-clause-ran g c) s.rests
-    tells start s now refl h
-
-pub returns-then-step-clause-reads : goal.returns-then-step-clause-reads
-returns-then-step-clause-reads g c = λ none i.
-    let stands = StandsAs g.S.Stage.stands in
-    let contents = g.W.Sink.contents in
-    let flushed = g.W.Sink.flushed in
-    let order : Order g.row.O.Denot = record { pick = g.O.Order.picks; next = g.O.Order.after } in
-    let ran = ran_more stands g.R.Source.remaining contents flushed order c.turns.search c.step.new.search c.step.result c.args.order.now c.turns.order
-    c.step.new.order c.args.self.now c.turns.self c.step.new.self
-    c.turns.invariant.ran c.step.ensures.stepped in
-    let may = may_step stands g.R.Source.remaining contents flushed order c.turns.search
-    false c.args.order.now c.turns.order c.args.self.now c.turns.self c.turns.invariant.ran c.requires refl in
-    let none_yet = unfailed stands contents flushed c.turns.search c.turns.self may in
-    let w = now_running stands g.R.Source.remaining contents flushed order c.step.new.search c.step.result
-    c.args.order.now c.step.new.order c.args.self.now c.step.new.self ran c.requires in
-    let net = c.args.self.now in
-    let heard = (w.now.links (last (plan_of w.scene))).heard in
-    c.step.ensures.reads i
-    ∙ ap (λ b. b || is_read_of i c.step.new.self.failure)
-    (c.turns.invariant.reads none i
-    ∙ ap (λ f. failed_at g.R.Source.failed i net.web.nodes.items || is_read_of i f) none_yet
-    ∙ sym (or_false _))
-    ∙ ap (λ b. failed_at g.R.Source.failed i net.web.nodes.items || b)
-    (told_read i c.step.new.self.failure heard c.told-then-step.result
-    (ap (λ f. ended_by f heard) w.at.failure
-    ∙ has_told _ c.told-then-step.result (told_all stands g.R.Source.remaining contents flushed order c.step.new.search c.step.result
-    c.args.order.now c.step.new.order c.args.self.now c.step.new.self ran c.requires w.start w.scene w.now w.at) c.if-step.true
-    (λ by e. c.told-then-step.ensures w.start w.scene w.now w.at by e)))
-
-pub returns-then-step-clause-writes : goal.returns-then-step-clause-writes
-returns-then-step-clause-writes g c = λ none.
-    let stands = StandsAs g.S.Stage.stands in
-    let contents = g.W.Sink.contents in
-    let flushed = g.W.Sink.flushed in
-    let order : Order g.row.O.Denot = record { pick = g.O.Order.picks; next = g.O.Order.after } in
-    let ran = ran_more stands g.R.Source.remaining contents flushed order c.turns.search c.step.new.search c.step.result c.args.order.now c.turns.order
-    c.step.new.order c.args.self.now c.turns.self c.step.new.self
-    c.turns.invariant.ran c.step.ensures.stepped in
-    let may = may_step stands g.R.Source.remaining contents flushed order c.turns.search
-    false c.args.order.now c.turns.order c.args.self.now c.turns.self c.turns.invariant.ran c.requires refl in
-    let none_yet = unfailed stands contents flushed c.turns.search c.turns.self may in
-    let w = now_running stands g.R.Source.remaining contents flushed order c.step.new.search c.step.result
-    c.args.order.now c.step.new.order c.args.self.now c.step.new.self ran c.requires in
-    let net = c.args.self.now in
-    let heard = (w.now.links (last (plan_of w.scene))).heard in
-    c.step.ensures.writes
-    ∙ ap (λ b. b || is_write c.step.new.self.failure)
-    (c.turns.invariant.writes none
-    ∙ ap (λ f. g.W.Sink.failed net.sink || is_write f) none_yet
-    ∙ sym (or_false _))
-    ∙ ap (λ b. g.W.Sink.failed net.sink || b)
-    (told_write c.step.new.self.failure heard c.told-then-step.result
-    (ap (λ f. ended_by f heard) w.at.failure
-    ∙ has_told _ c.told-then-step.result (told_all stands g.R.Source.remaining contents flushed order c.step.new.search c.step.result
-    c.args.order.now c.step.new.order c.args.self.now c.step.new.self ran c.requires w.start w.scene w.now w.at) c.if-step.true
-    (λ by e. c.told-then-step.ensures w.start w.scene w.now w.at by e)))
-
-pub returns-then-step-clause-again : goal.returns-then-step-clause-again
-returns-then-step-clause-again g c = λ start s now h by e.
-    absurd (none-some by (sym (c.turns.invariant.going start s now h) ∙ e))
+    ) in
+    record {
+      ran = ran;
+      whole = λ start s now tells h.
+          let order : Order g.row.O.Denot = record { pick = g.O.Order.picks; next = g.O.Order.after } in
+          run_on g.S.Stage.stands g.R.Source.remaining g.W.Sink.contents g.W.Sink.flushed order c.args.order.now
+          c.step.new.order c.args.self.now c.step.new.self c.told-then-step.result ran s.rests
+          tells start s now refl h;
+      reads = λ none i.
+          let stands = StandsAs g.S.Stage.stands in
+          let contents = g.W.Sink.contents in
+          let flushed = g.W.Sink.flushed in
+          let order : Order g.row.O.Denot = record { pick = g.O.Order.picks; next = g.O.Order.after } in
+          let ran = ran_more stands g.R.Source.remaining contents flushed order c.turns.search c.step.new.search c.step.result c.args.order.now c.turns.order
+          c.step.new.order c.args.self.now c.turns.self c.step.new.self
+          c.turns.invariant.ran c.step.ensures.stepped in
+          let may = may_step stands g.R.Source.remaining contents flushed order c.turns.search
+          false c.args.order.now c.turns.order c.args.self.now c.turns.self c.turns.invariant.ran c.requires refl in
+          let none_yet = unfailed stands contents flushed c.turns.search c.turns.self may in
+          let w = now_running stands g.R.Source.remaining contents flushed order c.step.new.search c.step.result
+          c.args.order.now c.step.new.order c.args.self.now c.step.new.self ran c.requires in
+          let net = c.args.self.now in
+          let heard = (w.now.links (last (plan_of w.scene))).heard in
+          c.step.ensures.reads i
+          ∙ ap (λ b. b || is_read_of i c.step.new.self.failure)
+          (c.turns.invariant.reads none i
+          ∙ ap (λ f. failed_at g.R.Source.failed i net.web.nodes.items || is_read_of i f) none_yet
+          ∙ sym (or_false _))
+          ∙ ap (λ b. failed_at g.R.Source.failed i net.web.nodes.items || b)
+          (told_read i c.step.new.self.failure heard c.told-then-step.result
+          (ap (λ f. ended_by f heard) w.at.failure
+          ∙ has_told _ c.told-then-step.result (told_all stands g.R.Source.remaining contents flushed order c.step.new.search c.step.result
+          c.args.order.now c.step.new.order c.args.self.now c.step.new.self ran c.requires w.start w.scene w.now w.at) c.if-step.true
+          (λ by e. c.told-then-step.ensures w.start w.scene w.now w.at by e)));
+      writes = λ none.
+          let stands = StandsAs g.S.Stage.stands in
+          let contents = g.W.Sink.contents in
+          let flushed = g.W.Sink.flushed in
+          let order : Order g.row.O.Denot = record { pick = g.O.Order.picks; next = g.O.Order.after } in
+          let ran = ran_more stands g.R.Source.remaining contents flushed order c.turns.search c.step.new.search c.step.result c.args.order.now c.turns.order
+          c.step.new.order c.args.self.now c.turns.self c.step.new.self
+          c.turns.invariant.ran c.step.ensures.stepped in
+          let may = may_step stands g.R.Source.remaining contents flushed order c.turns.search
+          false c.args.order.now c.turns.order c.args.self.now c.turns.self c.turns.invariant.ran c.requires refl in
+          let none_yet = unfailed stands contents flushed c.turns.search c.turns.self may in
+          let w = now_running stands g.R.Source.remaining contents flushed order c.step.new.search c.step.result
+          c.args.order.now c.step.new.order c.args.self.now c.step.new.self ran c.requires in
+          let net = c.args.self.now in
+          let heard = (w.now.links (last (plan_of w.scene))).heard in
+          c.step.ensures.writes
+          ∙ ap (λ b. b || is_write c.step.new.self.failure)
+          (c.turns.invariant.writes none
+          ∙ ap (λ f. g.W.Sink.failed net.sink || is_write f) none_yet
+          ∙ sym (or_false _))
+          ∙ ap (λ b. g.W.Sink.failed net.sink || b)
+          (told_write c.step.new.self.failure heard c.told-then-step.result
+          (ap (λ f. ended_by f heard) w.at.failure
+          ∙ has_told _ c.told-then-step.result (told_all stands g.R.Source.remaining contents flushed order c.step.new.search c.step.result
+          c.args.order.now c.step.new.order c.args.self.now c.step.new.self ran c.requires w.start w.scene w.now w.at) c.if-step.true
+          (λ by e. c.told-then-step.ensures w.start w.scene w.now w.at by e)));
+      again = λ start s now h by e.
+          absurd (none-some by (sym (c.turns.invariant.going start s now h) ∙ e));
+    }
