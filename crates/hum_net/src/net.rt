@@ -11,7 +11,7 @@ ghost use Rattle.hum_plan.specs.Stages.{IsTree, reads_of as read_stages};
 ghost use Rattle.hum_plan.specs.Seen.{stages_of};
 ghost use Rattle.hum_engine.specs.Scene.{Scene, plan_of, held_of, HoldsFew};
 ghost use Rattle.hum_engine.specs.Readers.{failed_at, is_read_of, is_write};
-ghost use Rattle.hum_engine.specs.Nets.{NetAt, HasTurned, RunsBy, WroteFront};
+ghost use Rattle.hum_engine.specs.Nets.{NetAt, Tells, HasTurned, RunsBy, WroteFront};
 ghost use Rattle.hum_engine.specs.Nets.{CallsSink, AtEach};
 ghost use Rattle.hum_turns.specs.Plan.{last};
 ghost use Rattle.hum_net.specs.Nodes.{AreTold, reads_of};
