@@ -4,7 +4,7 @@
 //! command that is told so.
 #![tactic(auto)]
 
-mod asking;
+mod seen;
 mod stages;
 
 pub use hum_choices::CommandOptions;

@@ -1,16 +1,15 @@
 //! The commands of one input, in one list, and their stages.
 ghost use Rattle.std.specs.Prelude.{◌≡◌};
 ghost use Rattle.hum_stage.specs.Meaning.{opening, KeepsScore, IsWithinLag};
-ghost use Rattle.hum_commands.specs.Asking.{Knows, Seen};
 ghost use Rattle.hum_commands.specs.Meaning.{meaning, MakesScores, most_lag, command_of};
 
-use crate::asking::Asks;
+use crate::seen::IsSeen;
 use hum_choices::CommandOptions;
 use hum_cleave::Cleave;
 use hum_context::Context;
 use hum_ditto::Ditto;
 use hum_extract::Extract;
-use hum_record::Record;
+use hum_record::{Record, Spare};
 use hum_rid::Rid;
 use hum_stage::{Command, End, Readiness, Stage, State};
 use hum_timebase::Timebase;
@@ -37,15 +36,8 @@ pub fn command_of(options: &CommandOptions) -> Command
     }
 }
 
-/// The stage of a command of one input, and what it is ready for, learnt once after each of its
-/// calls.
-pub struct CommandStage {
-    stage: AnyStage,
-    readiness: Readiness,
-}
-
-/// The stage of one of the commands.
-enum AnyStage {
+/// The stage of a command of one input.
+pub enum CommandStage {
     Rid(Rid),
     Extract(Extract),
     Ditto(Ditto),
@@ -63,17 +55,17 @@ enum AnyStage {
 macro_rules! each {
     ($all:expr, $stage:ident => $call:expr) => {
         match $all {
-            AnyStage::Rid($stage) => $call,
-            AnyStage::Extract($stage) => $call,
-            AnyStage::Ditto($stage) => $call,
-            AnyStage::Timebase($stage) => $call,
-            AnyStage::Context($stage) => $call,
-            AnyStage::Trans($stage) => $call,
-            AnyStage::Semits($stage) => $call,
-            AnyStage::Mint($stage) => $call,
-            AnyStage::Recip($stage) => $call,
-            AnyStage::Yank($stage) => $call,
-            AnyStage::Cleave($stage) => $call,
+            CommandStage::Rid($stage) => $call,
+            CommandStage::Extract($stage) => $call,
+            CommandStage::Ditto($stage) => $call,
+            CommandStage::Timebase($stage) => $call,
+            CommandStage::Context($stage) => $call,
+            CommandStage::Trans($stage) => $call,
+            CommandStage::Semits($stage) => $call,
+            CommandStage::Mint($stage) => $call,
+            CommandStage::Recip($stage) => $call,
+            CommandStage::Yank($stage) => $call,
+            CommandStage::Cleave($stage) => $call,
         }
     };
 }
@@ -81,34 +73,25 @@ macro_rules! each {
 // Written out, so that a caller's proof sees one call and not the drop of each command's stage.
 impl Drop for CommandStage {
     fn drop(self) {
-        let CommandStage {
-            stage,
-            readiness: _,
-        } = self;
-        each!(stage, _stage => {})
+        each!(self, _stage => {})
     }
 }
 
-/// What a state stands for, as the stages of the commands say it.
-trait StandsFor {
-    ghost seen: { Self → Seen };
-}
-
-impl StandsFor for AnyStage {
-    ghost use Rattle.hum_commands.specs.declared.stages.AnyStage.TheVariants as stage;
+impl IsSeen for CommandStage {
+    ghost use Rattle.hum_commands.specs.declared.stages.CommandStage.TheVariants as stage;
 
     ghost seen = { elim [
-      | stage.Rid s ↦ ⟦<Rid as Asks>⟧.seen s
-      | stage.Extract s ↦ ⟦<Extract as Asks>⟧.seen s
-      | stage.Ditto s ↦ ⟦<Ditto as Asks>⟧.seen s
-      | stage.Timebase s ↦ ⟦<Timebase as Asks>⟧.seen s
-      | stage.Context s ↦ ⟦<Context as Asks>⟧.seen s
-      | stage.Trans s ↦ ⟦<Trans as Asks>⟧.seen s
-      | stage.Semits s ↦ ⟦<Semits as Asks>⟧.seen s
-      | stage.Mint s ↦ ⟦<Mint as Asks>⟧.seen s
-      | stage.Recip s ↦ ⟦<Recip as Asks>⟧.seen s
-      | stage.Yank s ↦ ⟦<Yank as Asks>⟧.seen s
-      | stage.Cleave s ↦ ⟦<Cleave as Asks>⟧.seen s
+      | stage.Rid s ↦ ⟦<Rid as IsSeen>⟧.seen s
+      | stage.Extract s ↦ ⟦<Extract as IsSeen>⟧.seen s
+      | stage.Ditto s ↦ ⟦<Ditto as IsSeen>⟧.seen s
+      | stage.Timebase s ↦ ⟦<Timebase as IsSeen>⟧.seen s
+      | stage.Context s ↦ ⟦<Context as IsSeen>⟧.seen s
+      | stage.Trans s ↦ ⟦<Trans as IsSeen>⟧.seen s
+      | stage.Semits s ↦ ⟦<Semits as IsSeen>⟧.seen s
+      | stage.Mint s ↦ ⟦<Mint as IsSeen>⟧.seen s
+      | stage.Recip s ↦ ⟦<Recip as IsSeen>⟧.seen s
+      | stage.Yank s ↦ ⟦<Yank as IsSeen>⟧.seen s
+      | stage.Cleave s ↦ ⟦<Cleave as IsSeen>⟧.seen s
     ] };
 }
 
@@ -125,74 +108,69 @@ impl CommandStage {
         // What it holds of records that were put when it wanted them: one at most, or 65,537.
         ensures within { IsWithinLag (most_lag options) (meaning number options) }
     {
-        let stage = match options {
-            CommandOptions::Rid(told) => AnyStage::Rid(Rid::new(alloc, number, told)),
-            CommandOptions::Extract(told) => AnyStage::Extract(Extract::new(alloc, number, told)),
-            CommandOptions::Ditto(told) => AnyStage::Ditto(Ditto::new(alloc, number, told)),
-            CommandOptions::Timebase(told) => AnyStage::Timebase(Timebase::new(
+        match options {
+            CommandOptions::Rid(told) => CommandStage::Rid(Rid::new(alloc, number, told)),
+            CommandOptions::Extract(told) => CommandStage::Extract(Extract::new(alloc, number, told)),
+            CommandOptions::Ditto(told) => CommandStage::Ditto(Ditto::new(alloc, number, told)),
+            CommandOptions::Timebase(told) => CommandStage::Timebase(Timebase::new(
                 alloc, number, told,
             )),
-            CommandOptions::Context(told) => AnyStage::Context(Context::new(alloc, number, told)),
-            CommandOptions::Trans(told) => AnyStage::Trans(Trans::new(alloc, number, told)),
-            CommandOptions::Semits(told) => AnyStage::Semits(Semits::new(alloc, number, told)),
-            CommandOptions::Mint(told) => AnyStage::Mint(Mint::new(alloc, number, told)),
-            CommandOptions::Recip(told) => AnyStage::Recip(Recip::new(alloc, number, told)),
-            CommandOptions::Yank(told) => AnyStage::Yank(Yank::new(alloc, number, told)),
-            CommandOptions::Cleave(told) => AnyStage::Cleave(Cleave::new(alloc, number, told)),
-        };
-        CommandStage {
-            stage,
-            readiness: Readiness::Wants,
+            CommandOptions::Context(told) => CommandStage::Context(Context::new(alloc, number, told)),
+            CommandOptions::Trans(told) => CommandStage::Trans(Trans::new(alloc, number, told)),
+            CommandOptions::Semits(told) => CommandStage::Semits(Semits::new(alloc, number, told)),
+            CommandOptions::Mint(told) => CommandStage::Mint(Mint::new(alloc, number, told)),
+            CommandOptions::Recip(told) => CommandStage::Recip(Recip::new(alloc, number, told)),
+            CommandOptions::Yank(told) => CommandStage::Yank(Yank::new(alloc, number, told)),
+            CommandOptions::Cleave(told) => CommandStage::Cleave(Cleave::new(alloc, number, told)),
         }
     }
 }
 
 impl Stage for CommandStage {
-    ghost stands = { λ s. Knows (⟦<AnyStage as StandsFor>⟧.seen s.stage).stands s.readiness };
+    ghost stands = { λ s. (⟦<CommandStage as IsSeen>⟧.seen s).stands };
 
-    ghost left = { λ s. (⟦<AnyStage as StandsFor>⟧.seen s.stage).left };
+    ghost left = { λ s. (⟦<CommandStage as IsSeen>⟧.seen s).left };
 
-    ghost spent = { λ s. (⟦<AnyStage as StandsFor>⟧.seen s.stage).spent };
+    ghost spent = { λ s. (⟦<CommandStage as IsSeen>⟧.seen s).spent };
 
-    ghost within = { λ s t h. (⟦<AnyStage as StandsFor>⟧.seen s.stage).within t h.0 };
+    ghost within = { λ s t h. (⟦<CommandStage as IsSeen>⟧.seen s).within t h };
 
-    ghost lawful = { λ s t h. (⟦<AnyStage as StandsFor>⟧.seen s.stage).lawful t h.0 };
+    ghost lawful = { λ s t h. (⟦<CommandStage as IsSeen>⟧.seen s).lawful t h };
 
-    #[inline(always)]
     fn put(&mut self, next: Record) -> Result<(), AllocError> {
-        let CommandStage { stage, readiness } = self;
-        each!(stage, stage => stage.put_and_ask(readiness, next))
+        each!(self, stage => stage.put(next))
     }
 
     fn end(&mut self, end: End) {
-        let CommandStage { stage, readiness } = self;
-        each!(stage, stage => stage.end_and_ask(readiness, end))
+        each!(self, stage => stage.end(end))
+    }
+
+    fn take(&mut self) -> Result<Option<Record>, AllocError> {
+        each!(self, stage => stage.take())
     }
 
     #[inline(always)]
-    fn take(&mut self) -> Result<Option<Record>, AllocError> {
-        let CommandStage { stage, readiness } = self;
-        each!(stage, stage => stage.take_and_ask(readiness))
+    fn put_and_ask(&mut self, next: Record) -> Result<Readiness, AllocError> {
+        each!(self, stage => stage.put_and_ask(next))
+    }
+
+    #[inline(always)]
+    fn take_and_ask(
+        &mut self,
+        pool: &mut Spare,
+    ) -> Result<(Option<Record>, Readiness), AllocError> {
+        each!(self, stage => stage.take_and_ask(pool))
     }
 
     fn state(&self) -> State {
-        each!(&self.stage, stage => stage.state())
+        each!(self, stage => stage.state())
     }
 
-    #[inline(always)]
     fn readiness(&self) -> Readiness {
-        self.readiness
+        each!(self, stage => stage.readiness())
     }
 
     fn held(&self) -> usize {
-        each!(&self.stage, stage => stage.held())
-    }
-
-    // Timebase alone gives more records than it is put.
-    fn reuse(&mut self, row: Record) -> Option<Record> {
-        match &mut self.stage {
-            AnyStage::Timebase(stage) => stage.reuse(row),
-            _ => Some(row),
-        }
+        each!(self, stage => stage.held())
     }
 }

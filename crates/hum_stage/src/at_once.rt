@@ -9,7 +9,7 @@ use crate::contract::Stage;
 use crate::deciding::Decides;
 use crate::due::DueRecords;
 use crate::faults::{Command, End, Fault, Readiness, Refusal, Rule, State, resting};
-use hum_record::Record;
+use hum_record::{Record, Spare};
 use std::alloc::{AllocError, Global};
 
 /// A command that decides each record at once, as a stage.
@@ -160,6 +160,20 @@ impl<C: Decides> Stage for AtOnce<C> {
         Ok(next)
     }
 
+    #[inline(always)]
+    fn take_and_ask(
+        &mut self,
+        pool: &mut Spare,
+    ) -> Result<(Option<Record>, Readiness), AllocError> {
+        if self.spent {
+            return Err(AllocError);
+        }
+        self.spent = true;
+        let next = self.due.next_with(pool)?;
+        self.spent = false;
+        Ok((next, self.readiness()))
+    }
+
     fn state(&self) -> State {
         if !self.due.is_empty() {
             return State::Gives;
@@ -177,9 +191,5 @@ impl<C: Decides> Stage for AtOnce<C> {
 
     fn held(&self) -> usize {
         if self.due.is_empty() { 0 } else { 1 }
-    }
-
-    fn reuse(&mut self, row: Record) -> Option<Record> {
-        self.due.reuse(row)
     }
 }

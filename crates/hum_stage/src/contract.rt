@@ -10,7 +10,7 @@ ghost use Rattle.hum_stage.specs.Meaning.{HasPut, HasEnded, HasTaken, LeavesFewe
 ghost use Rattle.hum_stage.specs.Meaning.{ShowsState, ShowsReadiness};
 
 use crate::faults::{End, Readiness, State};
-use hum_record::Record;
+use hum_record::{Record, Spare};
 use std::alloc::AllocError;
 
 /// A command over a stream of records.
@@ -59,13 +59,35 @@ pub trait Stage {
     fn held(&self) -> usize
         ensures { ShowsHeld (stands self.now) result };
 
-    /// Takes a record that is done with, if it can make another in it, and else hands it back.
-    fn reuse(&mut self, row: Record) -> Option<Record>
-        ensures stands { (t : Moment) → stands self.old t → stands self.new t }
-        ensures left { left self.new ≡ left self.old }
-        ensures spent { spent self.old → spent self.new }
+    /// Puts one record more, as [`Stage::put`] does, and tells what it is ready for then.
+    // A function of its own for each command: in one for all of them each record would pay for the
+    // registers and the room on the stack that any of them takes.
+    #[inline(never)]
+    fn put_and_ask(&mut self, next: Record) -> Result<Readiness, AllocError>
+        requires { spent self.old ⊎ MayPut (stands self.old) next }
+        ensures ok { OnOk result (HasPut (stands self.old) (stands self.new) next) }
+        ensures ready { IfOk result (ShowsReadiness (stands self.new)) }
+        ensures err { OnErr result (spent self.new) }
+        ensures stays_spent { spent self.old → IsErr result }
     {
-        Some(row)
+        self.put(next)?;
+        Ok(self.readiness())
+    }
+
+    /// Takes the next record that is settled, as [`Stage::take`] does, and tells what it is ready for
+    /// then. A record that it makes of its own is made in what the pool has left of one that is done with.
+    #[inline(always)]
+    fn take_and_ask(
+        &mut self,
+        _pool: &mut Spare,
+    ) -> Result<(Option<Record>, Readiness), AllocError>
+        ensures ok { IfOk result (λ r. HasTaken (stands self.old) (stands self.new) r.0) }
+        ensures ready { IfOk result (λ r. ShowsReadiness (stands self.new) r.1) }
+        ensures err { OnErr result (spent self.new) }
+        ensures stays_spent { spent self.old → IsErr result }
+    {
+        let taken = self.take()?;
+        Ok((taken, self.readiness()))
     }
 
     /// No more was given than is settled.

@@ -4,7 +4,7 @@ ghost use Rattle.std.specs.Option.{option_to_list};
 ghost use Rattle.hum_record.specs.Row.{Row};
 ghost use Rattle.hum_stage.specs.Dues.{IsNext};
 
-use hum_record::Record;
+use hum_record::{Record, Spare};
 use std::alloc::{AllocError, Global};
 use std::collections::VecDeque;
 use std::marker::Model;
@@ -26,6 +26,14 @@ pub trait DueRecords: Drop {
     fn next(&mut self) -> Result<Option<Record>, AllocError>
         ensures { IfOk result (IsNext (rows self.old) (rows self.new)) };
 
+    /// The same, but a record that has yet to be made is made in what the pool has left of one that is
+    /// done with.
+    fn next_with(&mut self, _pool: &mut Spare) -> Result<Option<Record>, AllocError>
+        ensures { IfOk result (IsNext (rows self.old) (rows self.new)) }
+    {
+        self.next()
+    }
+
     /// How many there are.
     fn count(&self) -> u64
         ensures { result ≡ length (rows self.now) };
@@ -37,13 +45,6 @@ pub trait DueRecords: Drop {
     /// Drops them all.
     fn clear(&mut self)
         ensures { rows self.new ≡ [] };
-
-    /// Takes a record that is done with, if it can make another in it, and else hands it back.
-    fn reuse(&mut self, row: Record) -> Option<Record>
-        ensures { rows self.new ≡ rows self.old }
-    {
-        Some(row)
-    }
 }
 
 impl DueRecords for VecDeque<Record> {
