@@ -25,8 +25,8 @@ pub struct Around {
     other: Option<Record>,
     // how many tokens the other has where it is a null record, else 0
     nulls: usize,
-    // what copies are made in
-    spare: Spare,
+    // the last record that didn't stay, for the next copy
+    gone: Option<Record>,
 }
 
 impl Model for Around {
@@ -41,12 +41,12 @@ impl Model for Around {
     ghost invariant = { λ d. AreDue d.before d.single d.after d.other d.nulls };
 }
 
-fn copy_of(alloc: Global, other: &Option<Record>, spare: &mut Spare) -> Result<Record, AllocError>
+fn copy_of(alloc: Global, other: &Option<Record>, pool: &mut Spare) -> Result<Record, AllocError>
     requires { is_some other.now ≡ true }
     ensures { IfOk result (λ row. row ≡ row_in other.now) }
 {
     match other {
-        Some(row) => row.copy_into(alloc, spare),
+        Some(row) => row.copy_into(alloc, pool),
         None => unreachable!(),
     }
 }
@@ -59,7 +59,6 @@ fn make_null(
     row: &Record,
     other: &mut Option<Record>,
     nulls: &mut usize,
-    spare: &mut Spare,
 ) -> Result<(), AllocError>
     requires lawful { IsTextOf row.now (text_of row.now) }
     requires kind { kind_of row.now ≡ AnyValues }
@@ -74,7 +73,7 @@ fn make_null(
     if *nulls == row.width() {
         return Ok(());
     }
-    let made = null_record(alloc, row, spare)?;
+    let made = null_record(alloc, row)?;
     *other = Some(made);
     *nulls = row.width();
     Ok(())
@@ -88,13 +87,13 @@ fn are_some(before: u64, after: u64) -> bool
 }
 
 /// The record, if it stays. Else it is done with.
-fn kept_if(stays: bool, row: Record, spare: &mut Spare) -> Option<Record>
+fn kept_if(stays: bool, row: Record, gone: &mut Option<Record>) -> Option<Record>
     ensures { result ≡ (if stays then Some row else None) }
 {
     if stays {
         return Some(row);
     }
-    spare.keep(row);
+    *gone = Some(row);
     None
 }
 
@@ -141,10 +140,9 @@ impl Around {
             &row,
             &mut self.other,
             &mut self.nulls,
-            &mut self.spare,
         )?;
         self.before = before;
-        self.single = kept_if(stays, row, &mut self.spare);
+        self.single = kept_if(stays, row, &mut self.gone);
         self.after = after;
         Ok(())
     }
@@ -161,13 +159,21 @@ impl DueRecords for Around {
             after: 0,
             other: None,
             nulls: 0,
-            spare: Spare::none(alloc),
+            gone: None,
         }
     }
 
     fn next(&mut self) -> Result<Option<Record>, AllocError> {
+        let mut pool = Spare::none(self.alloc);
+        self.next_with(&mut pool)
+    }
+
+    fn next_with(&mut self, pool: &mut Spare) -> Result<Option<Record>, AllocError> {
+        if let Some(gone) = self.gone.take() {
+            pool.keep(gone);
+        }
         if self.before > 0 {
-            let row = copy_of(self.alloc, &self.other, &mut self.spare)?;
+            let row = copy_of(self.alloc, &self.other, pool)?;
             self.before -= 1;
             return Ok(Some(row));
         }
@@ -175,7 +181,7 @@ impl DueRecords for Around {
             return Ok(Some(row));
         }
         if self.after > 0 {
-            let row = copy_of(self.alloc, &self.other, &mut self.spare)?;
+            let row = copy_of(self.alloc, &self.other, pool)?;
             self.after -= 1;
             return Ok(Some(row));
         }
@@ -195,9 +201,5 @@ impl DueRecords for Around {
         self.before = 0;
         self.single = None;
         self.after = 0;
-    }
-
-    fn reuse(&mut self, row: Record) -> Option<Record> {
-        self.spare.offer(row)
     }
 }

@@ -11,7 +11,7 @@ ghost use Rattle.hum_timebase.specs.Timebase.{null_row, names_some, tb_token, tb
 
 use crate::pace::Pace;
 use hum_path::{MOST_SPINES, token_sign};
-use hum_record::{MOST_BYTES, Record, RecordBuilder, Spare, SpinedKind};
+use hum_record::{MOST_BYTES, Record, RecordBuilder, SpinedKind};
 use std::alloc::{AllocError, Global};
 
 /// Adds a null data token, which fits.
@@ -25,18 +25,13 @@ fn push_null(builder: &mut RecordBuilder) -> Result<(), AllocError>
     builder.push_fitting(b".")
 }
 
-/// The null data record as wide as another, which is no longer than that, in the buffers of one that
-/// is done with.
-pub(crate) fn null_record(
-    alloc: Global,
-    row: &Record,
-    spare: &mut Spare,
-) -> Result<Record, AllocError>
+/// The null data record as wide as another, which is no longer than that.
+pub(crate) fn null_record(alloc: Global, row: &Record) -> Result<Record, AllocError>
     requires tokens { tokens_of row.now ≢ [] }
     requires fits { length (text_of (null_row (tokens_of row.now))) ≤ MOST_BYTES }
     ensures { IfOk result (λ made. made ≡ null_row (tokens_of row.now)) }
 {
-    let mut builder = RecordBuilder::reusing(alloc, SpinedKind::Values, spare);
+    let mut builder = RecordBuilder::new(alloc, SpinedKind::Values);
     for j in 0..row.width() {
         push_null(&mut builder)?;
     }
