@@ -9,13 +9,14 @@ use Rattle.hum_stage.specs.declared.faults.End.TheVariants.{Closed, Broken}
 use Rattle.hum_stage.specs.declared.faults.Fault.{Fault}
 use Rattle.hum_stage.specs.declared.faults.State.{State}
 use Rattle.hum_stage.specs.declared.faults.State.TheVariants as state
-use Rattle.hum_stage.specs.Meaning.{Moment, output, own_fault, state_of, resting_state}
+use Rattle.hum_stage.specs.declared.faults.Readiness.{Readiness}
+use Rattle.hum_stage.specs.Meaning.{Moment, output, own_fault, state_of, resting_state, readiness_by, ShowsReadiness}
 use Rattle.hum_turns.specs.Flow.{Flow, AllFine}
 use Rattle.hum_turns.specs.Plan.{lower, or_own, end_of}
 use Rattle.hum_nodes.specs.Doing.{Doing, Gives, Reads, Wants, Done}
 use Rattle.hum_nodes.specs.Fine.{fine, IsFine}
-use Rattle.hum_nodes.specs.At.{Kind, At, doing_by, doing_of, change_at, MayChange}
-use Rattle.hum_nodes.specs.Single.{want_by, own_end, single, IsSingle}
+use Rattle.hum_nodes.specs.At.{Kind, At, doing_by, doing_of, readiness_of, change_at, MayChange}
+use Rattle.hum_nodes.specs.Single.{want_by, own_end, single, IsSingle, readiness_for}
 use Rattle.hum_nodes.proofs.Fining.{fine_is}
 
 pub doing_for : State → Doing
@@ -56,6 +57,19 @@ doing_is stands from t h =
     ∙ ap (λ g. doing_parts (single from m.meaning) a t.read g) h.given
     ∙ by_test (nat_lt m.given (length (output m.meaning m.put))) (own_fault m.meaning m.put)
     m.ended
+
+readiness_by_state : (s : State) → readiness_for (readiness_by s) ≡ readiness_of (doing_for s)
+unfolding doing_for
+readiness_by_state state.Gives = refl
+readiness_by_state state.Wants = refl
+readiness_by_state (state.Done e) = refl
+
+-- and by what the stage is ready for.
+pub readiness_is : (stands : Moment → Type 0) (is : Readiness) → ShowsReadiness stands is
+    → (from : ℕ) (t : At) → IsSingle stands from t → readiness_for is ≡ readiness_of (doing_of t)
+readiness_is stands is shows from t h =
+    ap readiness_for (shows h.moment h.stand) ∙ readiness_by_state (state_of h.moment)
+    ∙ sym (ap readiness_of (doing_is stands from t h))
 
 place_of : Doing → ℕ
 place_of Gives = 0

@@ -8,6 +8,10 @@ use Rattle.hum_stage.specs.Outcome.{held_of}
 use Rattle.hum_stage.specs.Meaning.{Meaning, Moment, output, own_fault}
 use Rattle.hum_turns.specs.Flow.{Flow}
 use Rattle.hum_turns.specs.Plan.{Want, Source, Nothing}
+use Rattle.hum_stage.specs.declared.faults.Readiness.{Readiness as StageReadiness}
+use Rattle.hum_stage.specs.declared.faults.Readiness.TheVariants as stage
+use Rattle.hum_nodes.specs.declared.node.Readiness.{Readiness}
+use Rattle.hum_nodes.specs.declared.node.Readiness.TheVariants as node
 use Rattle.hum_nodes.specs.At.{Kind, At}
 
 -- the records of the first input
@@ -53,3 +57,9 @@ pub record IsSingle (stands : Moment → Type 0) (from : ℕ) (t : At) : Type 0 
   pub kind : t.kind ≡ single from moment.meaning
   pub inputs : t.inputs ≡ record { items = moment.put; end = moment.ended } ∷ []
   pub given : t.given ≡ moment.given
+
+-- What the node does next whose stage is ready for this: it takes from its one input.
+abbrev pub readiness_for : StageReadiness → Readiness
+readiness_for stage.Gives = node.Gives
+readiness_for stage.Wants = node.Wants 0
+readiness_for stage.Done = node.Done

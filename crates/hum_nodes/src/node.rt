@@ -8,11 +8,10 @@ ghost use Rattle.hum_nodes.specs.At.{At, fresh, MayDo, sources_of, doing_of, end
 ghost use Rattle.hum_nodes.specs.At.{HoldsOneEach, HasTaken, MayPut, MayStop, HasPut, HasStopped};
 ghost use Rattle.hum_nodes.specs.At.{readiness_of, set_each};
 ghost use Rattle.hum_nodes.specs.Doing as does;
-ghost use Rattle.hum_nodes.specs.Single.{IsSingle, single};
+ghost use Rattle.hum_nodes.specs.Single.{single, readiness_for};
 ghost use Rattle.hum_nodes.specs.Merging.{IsMerging, merging};
 ghost use Rattle.hum_nodes.specs.Reading.{reading};
 ghost use Rattle.hum_nodes.specs.Polls.{HasPolled, HasStayed, AsksAtMostOnce, is_failed_read};
-ghost use Rattle.hum_nodes.specs.Polls.{IsKept};
 ghost use Rattle.hum_nodes.specs.Nodes.{StandsAs, is_source, readiness_at};
 ghost use Rattle.hum_nodes.specs.Nodes.{remaining_of, ended_of, calls_of, failed_of, stopped_of};
 
@@ -56,12 +55,12 @@ enum Work<S, R> {
     Assemble(Assemble, Vec<usize>),
 }
 
-/// What a command does next, which reads from one stage.
-fn of_stage<S: Stage>(stage: &S) -> Readiness
-    ensures { (from : ℕ) (t : At) → IsSingle (S.stands stage.now) from t
-        → result ≡ readiness_of (doing_of t) }
+/// What a node does next whose command is ready for this: it reads from one stage.
+#[inline(always)]
+fn of_stage(is: StageReadiness) -> Readiness
+    ensures { result ≡ readiness_for is }
 {
-    match stage.readiness() {
+    match is {
         StageReadiness::Gives => Readiness::Gives,
         StageReadiness::Wants => Readiness::Wants(0),
         StageReadiness::Done => Readiness::Done,
@@ -118,7 +117,7 @@ impl<S: Stage + Drop, R: Source + Drop> Node<S, R> {
         // What it stands for keeps to the contract of stages.
         ensures lawful { (m : Meaning) → S.stands stage (opening m) → IsLawful m }
     {
-        let readiness = of_stage(&stage);
+        let readiness = of_stage(stage.readiness());
         Node {
             work: Work::Command(stage, source),
             readiness,
@@ -236,12 +235,13 @@ impl<S: Stage + Drop, R: Source + Drop> Node<S, R> {
         }
     }
 
-    /// The next record that is settled, if there is one.
+    /// The next record that is settled, if there is one. One that is made only now is made in what the
+    /// pool has left.
     ///
     /// # Errors
     /// Out of memory.
     #[inline(always)]
-    pub fn take(&mut self) -> Result<Option<Record>, AllocError>
+    pub fn take(&mut self, pool: &mut Spare) -> Result<Option<Record>, AllocError>
         requires { is_source self.old ≡ false }
         ensures kind { is_source self.new ≡ false }
         ensures taken { IfOk result (λ taken. (rest : List ℕ) → HasTaken
@@ -250,8 +250,8 @@ impl<S: Stage + Drop, R: Source + Drop> Node<S, R> {
         match &mut self.work {
             Work::Read(_) => unreachable!(),
             Work::Command(stage, _) => {
-                let taken = stage.take()?;
-                self.readiness = of_stage(stage);
+                let (taken, readiness) = stage.take_and_ask(pool)?;
+                self.readiness = of_stage(readiness);
                 Ok(taken)
             }
             Work::Assemble(stage, _) => {
@@ -278,8 +278,8 @@ impl<S: Stage + Drop, R: Source + Drop> Node<S, R> {
         match &mut self.work {
             Work::Read(_) => unreachable!(),
             Work::Command(stage, _) => {
-                stage.put(next)?;
-                self.readiness = of_stage(stage);
+                let readiness = stage.put_and_ask(next)?;
+                self.readiness = of_stage(readiness);
             }
             Work::Assemble(stage, _) => {
                 stage.put(place, next)?;
@@ -304,7 +304,7 @@ impl<S: Stage + Drop, R: Source + Drop> Node<S, R> {
             Work::Read(_) => unreachable!(),
             Work::Command(stage, _) => {
                 stage.end(end);
-                self.readiness = of_stage(stage);
+                self.readiness = of_stage(stage.readiness());
             }
             Work::Assemble(stage, _) => {
                 stage.end(place, end);
@@ -352,23 +352,6 @@ impl<S: Stage + Drop, R: Source + Drop> Node<S, R> {
         match &self.work {
             Work::Read(reader) => reader.stopped(),
             Work::Command(..) | Work::Assemble(..) => unreachable!(),
-        }
-    }
-
-    /// Takes a record that is done with, if it is a command that can make another in it, and else hands
-    /// it back.
-    pub fn reuse(&mut self, row: Record) -> Option<Record>
-        ensures kind { is_source self.new ≡ is_source self.old }
-        ensures stands { (rest : List ℕ) (t : At) → StandsAs S.stands self.old rest t
-            → StandsAs S.stands self.new rest t }
-        ensures bytes { IsKept (remaining_of R.remaining self.old)
-            (remaining_of R.remaining self.new) (ended_of self.old) (ended_of self.new) }
-        ensures calls { IsKept (calls_of R.calls self.old) (calls_of R.calls self.new)
-            (failed_of R.failed self.old) (failed_of R.failed self.new) }
-    {
-        match &mut self.work {
-            Work::Command(stage, _) => stage.reuse(row),
-            Work::Read(_) | Work::Assemble(..) => Some(row),
         }
     }
 }

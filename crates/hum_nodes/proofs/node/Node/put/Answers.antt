@@ -1,4 +1,4 @@
-use Rattle.std.proofs.Common.{inr, subst, sym}
+use Rattle.std.proofs.Common.{◌∙◌, inr, subst, sym}
 use Rattle.std.specs.Prelude.{◌++◌, ◌∷◌, [], ◌<◌, length}
 use Rattle.hum_stage.specs.Meaning.{after_put}
 use Rattle.hum_stage.specs.Score.{IsScore}
@@ -10,8 +10,8 @@ use Rattle.hum_nodes.proofs.Singles as single
 use Rattle.hum_nodes.proofs.Mergings as merging
 use Rattle.hum_nodes.proofs.node.Node.put.Goals as goal
 
-pub put-requires : goal.put-requires
-put-requires g c =
+pub put_and_ask-requires : goal.put_and_ask-requires
+put_and_ask-requires g c =
     let stands = g.S.Stage.stands c.in-Command.stage in
     let h = subst (λ w. WorksAs g.S.Stage.stands w [] c.requires.may.at) c.in-Command.is
     c.requires.may.stand.works in
@@ -25,8 +25,8 @@ put-requires g c =
       few = single.few_before h.moment.put c.args.next 4294967295 k.fine.few;
     })
 
-pub put-requires-in-Assemble : goal.put-requires-in-Assemble
-put-requires-in-Assemble g c =
+pub put-requires : goal.put-requires
+put-requires g c =
     let stands = Stands c.in-Assemble.stage in
     let h = subst (λ w. WorksAs g.S.Stage.stands w [] c.requires.may.at) c.in-Assemble.is
     c.requires.may.stand.works in
@@ -41,20 +41,21 @@ put-requires-in-Assemble g c =
           (single.few_before k.input.items c.args.next 4294967295 k.fine.few);
     })
 
-pub returns-in_ok-put-in-Command-clause-put : goal.returns-in_ok-put-in-Command-clause-put
-returns-in_ok-put-in-Command-clause-put g c rest t h may =
+pub returns-in_ok-readiness-in-Command-clause-put : goal.returns-in_ok-readiness-in-Command-clause-put
+returns-in_ok-readiness-in-Command-clause-put g c rest t h may =
     let stands = g.S.Stage.stands c.in-Command.stage in
     let w = subst (λ w. WorksAs g.S.Stage.stands w rest t) c.in-Command.is h.works in
     let k = single.changes stands c.in-Command.field-1 t w (with_record c.args.next) c.args.place may in
-    let works : IsSingle (g.S.Stage.stands c.put.new.self) c.in-Command.field-1
+    let works : IsSingle (g.S.Stage.stands c.put_and_ask.new.self) c.in-Command.field-1
     (after_change (with_record c.args.next) c.args.place t) = record {
       moment = after_put w.moment c.args.next;
-      stand = c.in_ok-put-in-Command.ensures.ok w.moment w.stand k.ended k.fine.score;
+      stand = c.in_ok-readiness-in-Command.ensures.ok w.moment w.stand k.ended k.fine.score;
       kind = w.kind;
       inputs = k.inputs;
       given = w.given;
     } in
-    record { works = works; knows = c.of_stage-self.ensures c.in-Command.field-1 _ works }
+    record { works = works; knows = c.of_stage-self.ensures
+      ∙ single.readiness_is _ c.in_ok-readiness-in-Command.readiness c.in_ok-readiness-in-Command.ensures.ready c.in-Command.field-1 _ works }
 
 pub returns-after-done_with-clause-put : goal.returns-after-done_with-clause-put
 returns-after-done_with-clause-put g c rest t h may =

@@ -1,4 +1,4 @@
-use Rattle.std.proofs.Common.{inr, subst, sym, ap}
+use Rattle.std.proofs.Common.{◌∙◌, inr, subst, sym, ap}
 use Rattle.std.specs.Prelude.{[], Some}
 use Rattle.hum_stage.specs.Meaning.{after_end}
 use Rattle.hum_stage.specs.Score.{IsClosed}
@@ -51,7 +51,8 @@ returns-in-Command-clause-stopped g c rest t h may =
       inputs = k.inputs;
       given = w.given;
     } in
-    record { works = works; knows = c.of_stage-self.ensures c.in-Command.field-1 _ works }
+    record { works = works; knows = c.of_stage-self.ensures
+      ∙ single.readiness_is _ c.readiness.result c.readiness.ensures c.in-Command.field-1 _ works }
 
 pub returns-in-Assemble-clause-stopped : goal.returns-in-Assemble-clause-stopped
 returns-in-Assemble-clause-stopped g c rest t h may =
