@@ -9,8 +9,7 @@ pub mod Doings
 pub mod Readying
 pub mod Stepping
 pub mod Sending
-pub mod Reusing
-pub mod Setting
+pub mod Showing
 pub mod Netting
 pub mod Bounds
 pub mod Flags

@@ -25,7 +25,7 @@ use Rattle.hum_engine.specs.declared.web.Web.{Web}
 use Rattle.hum_engine.specs.declared.net.Net.{Net}
 use Rattle.hum_engine.specs.Scene.{Scene, plan_of, moved, before, before_all, only, at_of, Stands, IsAt}
 use Rattle.hum_engine.specs.Scene.{MayTurn, IsActor, IsKind, KeepsOthers, Fed, AreTakers}
-use Rattle.hum_engine.proofs.Reusing.{shows_read}
+use Rattle.hum_engine.proofs.Showing.{shows_read}
 use Rattle.hum_engine.specs.Readers.{ShowsSame, remaining_at, ended_at, failed_at, or_none, is_read_of}
 use Rattle.hum_engine.specs.Nets.{NetAt, GoesTo, HasTurned, SinkWent, MayWrite}
 use Rattle.hum_nodes.specs.Polls.{HasRead, HasStayed}

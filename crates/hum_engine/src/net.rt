@@ -82,7 +82,7 @@ impl<S: Stage + Drop, R: Source + Drop, W: Sink> Net<S, R, W> {
         match self.web.take_out() {
             Some(row) => match write_record(&mut self.sink, row) {
                 Ok(row) => {
-                    self.web.reuse(row);
+                    self.web.keep(row);
                     return false;
                 }
                 Err(_) => self.fail_to_write(),

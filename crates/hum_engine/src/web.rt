@@ -30,10 +30,8 @@ use std::alloc::{AllocError, Global};
 pub struct Web<S, R> {
     nodes: Vec<Node<S, R>>,
     links: Vec<Link>,
-    // records that are done with, into which sources read
+    // records that are done with, in which the next are made
     pool: Spare,
-    // the stage that took a record last of which the pool had enough
-    taker: usize,
 }
 
 // Written out, so that a caller's proof sees one call and not the drop of each field.
@@ -43,7 +41,6 @@ impl<S: Drop, R: Drop> Drop for Web<S, R> {
             nodes: _nodes,
             links: _links,
             pool: _pool,
-            taker: _,
         } = self;
     }
 }
@@ -67,7 +64,6 @@ impl<S: Stage + Drop, R: Source + Drop> Web<S, R> {
             nodes,
             links,
             pool: Spare::none(alloc),
-            taker: 0,
         })
     }
 
@@ -122,68 +118,12 @@ impl<S: Stage + Drop, R: Source + Drop> Web<S, R> {
         self.links[last].next()
     }
 
-    // Gives a record that is done with to a stage, and hands out what that has no use for.
-    fn feed(&mut self, k: usize, row: Record) -> Option<Record>
-        ensures stands { (s : Scene) → Stands (StandsAs S.stands) self.old s
-            → Stands (StandsAs S.stands) self.new s }
-        ensures shows { (k : ℕ) → ShowsSame R.remaining R.calls R.failed
-            self.old.nodes.items self.new.nodes.items k }
-        ensures count { length self.new.nodes.items ≡ length self.old.nodes.items }
-    {
-        if k < self.nodes.len() {
-            return self.nodes[k].reuse(row);
-        }
-        Some(row)
-    }
-
-    // Offers a record to the stage that took one last. Where that hands it back, the next is asked the
-    // next time.
-    fn offer(&mut self, row: Record) -> Option<Record>
-        ensures stands { (s : Scene) → Stands (StandsAs S.stands) self.old s
-            → Stands (StandsAs S.stands) self.new s }
-        ensures shows { (k : ℕ) → ShowsSame R.remaining R.calls R.failed
-            self.old.nodes.items self.new.nodes.items k }
-        ensures count { length self.new.nodes.items ≡ length self.old.nodes.items }
-    {
-        let k = self.taker;
-        let back = self.feed(k, row);
-        if back.is_some() {
-            let next = k.saturating_add(1);
-            self.taker = if next < self.nodes.len() { next } else { 0 };
-        }
-        back
-    }
-
-    // The same until one takes it. It happens only where a stage gives more records than it is put.
-    #[inline(never)]
-    fn offer_to_all(&mut self, row: Record)
-        ensures stands { (s : Scene) → Stands (StandsAs S.stands) self.old s
-            → Stands (StandsAs S.stands) self.new s }
-        ensures shows { (k : ℕ) → ShowsSame R.remaining R.calls R.failed
-            self.old.nodes.items self.new.nodes.items k }
-        ensures count { length self.new.nodes.items ≡ length self.old.nodes.items }
-    {
-        let mut left = Some(row);
-        for _ in 0..self.nodes.len() {
-            left = match left {
-                Some(row) => self.offer(row),
-                None => return,
-            };
-        }
-    }
-
-    /// Keeps a record that is done with or, where there are enough, offers it to the stages.
+    /// Keeps a record that is done with, for the next that is made.
     #[inline(always)]
-    pub fn reuse(&mut self, row: Record)
-        ensures stands { (s : Scene) → Stands (StandsAs S.stands) self.old s
-            → Stands (StandsAs S.stands) self.new s }
-        ensures shows { (k : ℕ) → ShowsSame R.remaining R.calls R.failed
-            self.old.nodes.items self.new.nodes.items k }
-        ensures count { length self.new.nodes.items ≡ length self.old.nodes.items }
+    pub fn keep(&mut self, row: Record)
+        ensures { self.new ≡ self.old }
     {
-        if let Some(row) = self.pool.offer(row) {
-            self.offer_to_all(row);
-        }
+        self.pool.keep(row);
     }
 
     // A stage gives a record onto its link.
@@ -196,7 +136,7 @@ impl<S: Stage + Drop, R: Source + Drop> Web<S, R> {
             → Done (StandsAs S.stands) k Gives self.new s) }
         ensures nodes { Keeps k self.old self.new }
     {
-        if let Some(row) = self.nodes[k].take()? {
+        if let Some(row) = self.nodes[k].take(&mut self.pool)? {
             self.links[k].push(row);
         }
         Ok(())

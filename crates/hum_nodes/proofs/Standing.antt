@@ -10,7 +10,7 @@ use Rattle.hum_read.specs.Reading.{Scores, Polled, Gave, ReadOn, Ended}
 use Rattle.hum_stage.specs.Meaning.{Moment}
 use Rattle.hum_nodes.specs.At.{Kind, At, doing_of, after_take, read_to}
 use Rattle.hum_nodes.specs.Reading.{some_read, IsReading}
-use Rattle.hum_nodes.specs.Polls.{IsKept, most_bytes, GoesOn, PollsBy, HasPolled}
+use Rattle.hum_nodes.specs.Polls.{most_bytes, GoesOn, PollsBy, HasPolled}
 use Rattle.hum_nodes.specs.Doing as does
 use Rattle.hum_nodes.specs.Doing.{Doing}
 use Rattle.hum_nodes.specs.declared.node.Node.{Node}
@@ -99,15 +99,6 @@ module _ {S R : Type 0} (remaining : R → Option (List ℕ)) (calls : R → ℕ
 
   pub no_rest : (n : Node S R) → is_source n ≡ false → remaining_of remaining n ≡ None
   no_rest n e = no_rest_by n.work e
-
-  -- so it shows the same after any change
-  pub kept_stage : (a b : Node S R) → is_source a ≡ false → is_source b ≡ false
-      → IsKept (remaining_of remaining a) (remaining_of remaining b) (ended_of a) (ended_of b)
-      × IsKept (calls_of calls a) (calls_of calls b) (failed_of failed a) (failed_of failed b)
-  kept_stage a b e h = (
-    (no_rest b h ∙ sym (no_rest a e), no_end b h ∙ sym (no_end a e)),
-    (no_call b h ∙ sym (no_call a e), no_mark b h ∙ sym (no_mark a e)),
-  )
 
   pub nothing_read : (a b : Node S R) → is_source a ≡ false
       → Consumes (remaining_of remaining a) (remaining_of remaining b) []

@@ -82,7 +82,3 @@ abbrev pub is_failed_read : {S : Type 0} → Result S ReadError → Bool
 is_failed_read (Ok x) = false
 is_failed_read (Err error.Read) = true
 is_failed_read (Err error.Memory) = false
-
--- two things are as they were
-abbrev pub IsKept : {A B : Type 0} → A → A → B → B → Type 0
-IsKept a b c d = (b ≡ a) × (d ≡ c)

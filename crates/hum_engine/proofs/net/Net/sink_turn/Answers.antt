@@ -1,13 +1,13 @@
-use Rattle.std.proofs.Common.{refl, [], ◌∙◌, ◌||◌, true, false, ap, sym}
+use Rattle.std.proofs.Common.{refl, [], ◌∙◌, ◌||◌, true, false, ap, sym, subst}
 use Rattle.std.proofs.lemmas.Bool.{or_right}
 use Rattle.hum_turns.specs.Plan.{last}
 use Rattle.hum_nodes.specs.Nodes.{StandsAs}
 use Rattle.hum_turns.specs.Turns.{Takes}
 use Rattle.hum_engine.specs.Readers.{is_read_of, is_write}
-use Rattle.hum_engine.specs.Scene.{plan_of, moved, Done}
+use Rattle.hum_engine.specs.Scene.{plan_of, moved, Done, Stands}
 use Rattle.hum_engine.proofs.Appending.{keeps_appends}
 use Rattle.hum_engine.proofs.Netting.{or_false}
-use Rattle.hum_engine.proofs.Reusing.{shows_nodes, shows_more}
+use Rattle.hum_engine.proofs.Showing.{shows_nodes}
 use Rattle.hum_engine.proofs.Sending.{went, sent_record, sent_end, not_heard, writes_front}
 use Rattle.hum_engine.proofs.Taking.{calls_record, calls_end}
 use Rattle.hum_engine.proofs.net.Net.sink_turn.Goals as goal
@@ -24,11 +24,15 @@ returns-in-Ok g c =
       went = λ s h.
           let d = c.take_out.ensures.taken s h.at h.some in
           let t = c.take_out.ensures.next s h.at in
-          let e : Done stands s.count (Takes (last (plan_of s))) c.reuse.new.self s =
-          record { new = d.new; does = d.does; stand = c.reuse.ensures.stands (moved s d.new) d.stand } in
-          went stands c.reuse.new.self s (g.W.Sink.contents net.sink)
+          let e : Done stands s.count (Takes (last (plan_of s))) c.keep.new.self s =
+          record {
+            new = d.new;
+            does = d.does;
+            stand = subst (λ w. Stands stands w (moved s d.new)) (sym c.keep.ensures) d.stand;
+          } in
+          went stands c.keep.new.self s (g.W.Sink.contents net.sink)
           (g.W.Sink.contents c.write_record.new.sink) (g.W.Sink.flushed c.write_record.new.sink) false net.failure none
-          (sent_record stands c.reuse.new.self s _ _ _ false c.take_out.result c.in-Some.row e t c.in-Some.is
+          (sent_record stands c.keep.new.self s _ _ _ false c.take_out.result c.in-Some.row e t c.in-Some.is
           (not_heard (s.links (last (plan_of s))) h.some)
           c.in-Ok.ensures.written.ok refl);
       asked = λ s h.
@@ -37,11 +41,8 @@ returns-in-Ok g c =
           (sym c.in-Some.is ∙ t) c.in-Ok.ensures.written.few;
       marked = c.in-Ok.ensures.written.sound ∙ or_false _ ∙ ap (λ b. g.W.Sink.failed net.sink || b) (sym (ap is_write none));
       unread = λ k. ap (is_read_of k) none;
-      shows = λ k. shows_more g.R.Source.remaining g.R.Source.calls g.R.Source.failed _
-          c.take_out.new.self.nodes.items _ k
-          (shows_nodes g.R.Source.remaining g.R.Source.calls g.R.Source.failed net.web
-          c.take_out.new.self k c.take_out.ensures.nodes)
-          (c.reuse.ensures.shows k);
+      shows = λ k. shows_nodes g.R.Source.remaining g.R.Source.calls g.R.Source.failed net.web
+          c.keep.new.self k (ap (λ w. w.nodes) c.keep.ensures ∙ c.take_out.ensures.nodes);
       turns = refl;
       actors = refl;
       takers = refl;

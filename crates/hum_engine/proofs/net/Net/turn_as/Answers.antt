@@ -1,5 +1,5 @@
 use Rattle.hum_engine.specs.Readers.{failed_at}
-use Rattle.hum_engine.proofs.Reusing.{shows_alike}
+use Rattle.hum_engine.proofs.Showing.{shows_alike}
 use Rattle.hum_engine.proofs.Netting.{or_false}
 use Rattle.std.proofs.Common.{◌≡◌, ap, inl, ◌||◌, ◌∙◌, ◌+◌, refl, sym, arith}
 use Rattle.hum_nodes.proofs.Standing.{reads_few}

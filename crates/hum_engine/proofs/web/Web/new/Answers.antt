@@ -30,6 +30,6 @@ returns-clause-stands g c s opening begun =
     let e = c.len-end.ensures in
     let n = c.args.nodes.ok.0 in
     begins (StandsAs g.S.Stage.stands) c.args.size
-    (record { nodes = c.args.nodes; links = c.loop.links; pool = c.none.result; taker = 0 })
+    (record { nodes = c.args.nodes; links = c.loop.links; pool = c.none.result })
     s opening begun
     (omega (arith, i, w, t, e, n)) c.loop.invariant.each

@@ -25,15 +25,6 @@ module _ {S R : Type 0} (remaining : R → Option (List ℕ)) (calls : R → ℕ
       → ShowsSame remaining calls failed old.nodes.items new.nodes.items i
   shows_nodes old new i e = shows_alike old.nodes.items new.nodes.items i (ap (λ nodes. slice_get nodes.items i) e)
 
-  pub shows_more : (a b c : List (Node S R)) (i : ℕ) → ShowsSame remaining calls failed a b i
-      → ShowsSame remaining calls failed b c i → ShowsSame remaining calls failed a c i
-  shows_more a b c i h k = record {
-    remains = k.remains ∙ h.remains;
-    ends = k.ends ∙ h.ends;
-    calls_made = k.calls_made ∙ h.calls_made;
-    mark = k.mark ∙ h.mark;
-  }
-
   -- no byte was read
   pub shows_read : (k : ℕ) (old new : List (Node S R)) (i : ℕ)
       → ShowsSame remaining calls failed old new i → only k [] i ≡ []
