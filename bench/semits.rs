@@ -1,6 +1,8 @@
 // semits in Rust as one would first write it: lines as strings, tokens and parts as iterators, a new line joined from them.
 // The columns are those of the opening record, no spine is followed and nothing is refused.
-use std::io::{self, BufRead, BufReader, BufWriter, Write};
+mod lines;
+
+use std::io::{self, Write};
 
 // The semitones of the first pitch of a subtoken.
 fn semits(part: &str) -> Option<i32> {
@@ -28,11 +30,9 @@ fn retold(token: &str) -> String {
 }
 
 fn main() -> io::Result<()> {
-    let path = std::env::args().nth(1).expect("a file");
-    let input = BufReader::new(std::fs::File::open(path)?);
-    let mut output = BufWriter::new(io::stdout().lock());
+    let (lines, mut output) = lines::strings()?;
     let mut kern: Vec<bool> = Vec::new();
-    for line in input.lines() {
+    for line in lines {
         let line = line?;
         if line.starts_with("**") {
             kern = line.split('\t').map(|token| token == "**kern").collect();
