@@ -16,7 +16,7 @@ fn joined(kind: Option<char>, tokens: &[&str]) -> String {
                     taken.push(token);
                 }
             }
-            if taken.is_empty() { ".".to_string() } else { taken.join(" ") }
+            lines::joined_or_null(&taken)
         }
     }
 }

@@ -33,3 +33,8 @@ pub fn bytes() -> io::Result<(ByteLines, BufWriter<StdoutLock<'static>>)> {
     let input = BufReader::with_capacity(65536, given_file()?);
     Ok((ByteLines { input, line: Vec::new() }, BufWriter::with_capacity(65536, io::stdout().lock())))
 }
+
+// The parts of a token with blanks between, or a null token where there are none.
+pub fn joined_or_null<T: std::borrow::Borrow<str>>(parts: &[T]) -> String {
+    if parts.is_empty() { ".".to_string() } else { parts.join(" ") }
+}

@@ -26,12 +26,12 @@ fn retold(token: &str) -> String {
         .split(' ')
         .filter_map(|part| if part.contains('r') { Some("r".to_string()) } else { semits(part).map(|n| n.to_string()) })
         .collect();
-    if parts.is_empty() { ".".to_string() } else { parts.join(" ") }
+    lines::joined_or_null(&parts)
 }
 
 fn main() -> io::Result<()> {
     let (lines, mut output) = lines::strings()?;
-    let mut kern: Vec<bool> = Vec::new();
+    let mut kern = Vec::new();
     for line in lines {
         let line = line?;
         if line.starts_with("**") {
