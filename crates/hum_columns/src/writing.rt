@@ -1,13 +1,12 @@
 //! Records of pieces.
 ghost use Rattle.std.specs.Prelude.{◌≡◌, ◌≢◌, ◌≤◌, [], ◌++◌, false, drop, length, IfOk, OnOk};
 ghost use Rattle.std.specs.List.{AllByRecursion};
-ghost use Rattle.hum_record.specs.Row.{Spined};
+ghost use Rattle.hum_record.specs.{Row.Spined, Spelling.IsToken, Building.spelled};
 ghost use Rattle.hum_record.specs.declared.SpinedKind.TheVariants.{Interpretation};
-ghost use Rattle.hum_record.specs.Spelling.{IsToken};
-ghost use Rattle.hum_record.specs.Building.{spelled};
 ghost use Rattle.hum_columns.specs.Spread.{tokens_in, touches, joins_in, first_alone, join_done};
 ghost use Rattle.hum_columns.specs.Spread.{one_by_one, before_last, filled};
-ghost use Rattle.hum_columns.specs.Writing.{Fit, draft, behind, next_phase, shown, nulls, HasPassed};
+ghost use Rattle.hum_columns.specs.Writing.{Fit, draft, behind, next_phase, shown, nulls};
+ghost use Rattle.hum_columns.specs.Writing.{HasPassed};
 
 use crate::pieces::JoinedToken;
 use hum_record::{MOST_BYTES, Record, RecordBuilder, SpinedKind};
