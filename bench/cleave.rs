@@ -1,6 +1,8 @@
 // cleave in Rust as one would first write it: lines as strings, tokens as iterators, a new line joined from them.
 // The columns are those of the opening record, no spine is followed and nothing is refused.
-use std::io::{self, BufRead, BufReader, BufWriter, Write};
+mod lines;
+
+use std::io::{self, Write};
 
 // What stands in the one column, from the tokens of those that become one.
 fn joined(kind: Option<char>, tokens: &[&str]) -> String {
@@ -14,17 +16,15 @@ fn joined(kind: Option<char>, tokens: &[&str]) -> String {
                     taken.push(token);
                 }
             }
-            if taken.is_empty() { ".".to_string() } else { taken.join(" ") }
+            lines::joined_or_null(&taken)
         }
     }
 }
 
 fn main() -> io::Result<()> {
-    let path = std::env::args().nth(1).expect("a file");
-    let input = BufReader::new(std::fs::File::open(path)?);
-    let mut output = BufWriter::new(io::stdout().lock());
+    let (lines, mut output) = lines::strings()?;
     let mut kern: Vec<bool> = Vec::new();
-    for line in input.lines() {
+    for line in lines {
         let line = line?;
         if line.starts_with("!!") {
             writeln!(output, "{line}")?;

@@ -1,6 +1,8 @@
 // context -n 3 -o '^=' in Rust over bytes: the columns stand as they are in each line, no spine is followed and nothing is refused.
+mod lines;
+
 use std::collections::VecDeque;
-use std::io::{self, BufRead, BufReader, BufWriter, Write};
+use std::io::{self, Write};
 
 const WANTED: usize = 3;
 
@@ -74,17 +76,11 @@ impl Windows {
 }
 
 fn main() -> io::Result<()> {
-    let path = std::env::args().nth(1).expect("a file");
-    let mut input = BufReader::with_capacity(65536, std::fs::File::open(path)?);
-    let mut output = BufWriter::with_capacity(65536, io::stdout().lock());
+    let (mut lines, mut output) = lines::bytes()?;
     let mut windows = Windows::default();
-    let mut line = Vec::new();
-    loop {
-        line.clear();
-        if input.read_until(b'\n', &mut line)? == 0 {
-            return output.flush();
-        }
-        windows.put(line.strip_suffix(b"\n").unwrap_or(&line));
+    while let Some(line) = lines.next()? {
+        windows.put(line.strip_suffix(b"\n").unwrap_or(line));
         windows.give(&mut output)?;
     }
+    output.flush()
 }

@@ -1,14 +1,14 @@
 // ditto in Rust as one would first write it: lines as strings, tokens as iterators, a new line joined from them.
 // The columns are those of each line as they stand, no spine is followed and nothing is refused.
-use std::io::{self, BufRead, BufReader, BufWriter, Write};
+mod lines;
+
+use std::io::{self, Write};
 
 fn main() -> io::Result<()> {
-    let path = std::env::args().nth(1).expect("a file");
-    let input = BufReader::new(std::fs::File::open(path)?);
-    let mut output = BufWriter::new(io::stdout().lock());
+    let (lines, mut output) = lines::strings()?;
     // the last token of each column that isn't null, or a null one where there was none
     let mut last: Vec<String> = Vec::new();
-    for line in input.lines() {
+    for line in lines {
         let line = line?;
         if line.starts_with('!') || line.starts_with('*') {
             writeln!(output, "{line}")?;

@@ -1,15 +1,15 @@
 // extract -f 1,3 in Rust as one would first write it: lines as strings, tokens as iterators, a new line joined from them.
 // The columns are those of each line as they stand, no spine is followed and nothing is refused.
-use std::io::{self, BufRead, BufReader, BufWriter, Write};
+mod lines;
+
+use std::io::{self, Write};
 
 // The columns that are taken, the first being 0.
 const TAKEN: [usize; 2] = [0, 2];
 
 fn main() -> io::Result<()> {
-    let path = std::env::args().nth(1).expect("a file");
-    let input = BufReader::new(std::fs::File::open(path)?);
-    let mut output = BufWriter::new(io::stdout().lock());
-    for line in input.lines() {
+    let (lines, mut output) = lines::strings()?;
+    for line in lines {
         let line = line?;
         if line.starts_with("!!") {
             writeln!(output, "{line}")?;

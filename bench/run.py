@@ -114,8 +114,8 @@ def rust(name, score):
     if not shutil.which('rustc'):
         return []
     binary = os.path.join(DATA, name)
-    source = os.path.join(HERE, name + '.rs')
-    if not os.path.exists(binary) or os.path.getmtime(binary) < os.path.getmtime(source):
+    source, shared = (os.path.join(HERE, file) for file in (name + '.rs', 'lines.rs'))
+    if not os.path.exists(binary) or os.path.getmtime(binary) < max(map(os.path.getmtime, (source, shared))):
         subprocess.run(['rustc', '-O', '-o', binary, source], check=True)
     return [(f'{name}.rs', [binary, score])]
 

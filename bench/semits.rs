@@ -1,6 +1,8 @@
 // semits in Rust as one would first write it: lines as strings, tokens and parts as iterators, a new line joined from them.
 // The columns are those of the opening record, no spine is followed and nothing is refused.
-use std::io::{self, BufRead, BufReader, BufWriter, Write};
+mod lines;
+
+use std::io::{self, Write};
 
 // The semitones of the first pitch of a subtoken.
 fn semits(part: &str) -> Option<i32> {
@@ -24,15 +26,13 @@ fn retold(token: &str) -> String {
         .split(' ')
         .filter_map(|part| if part.contains('r') { Some("r".to_string()) } else { semits(part).map(|n| n.to_string()) })
         .collect();
-    if parts.is_empty() { ".".to_string() } else { parts.join(" ") }
+    lines::joined_or_null(&parts)
 }
 
 fn main() -> io::Result<()> {
-    let path = std::env::args().nth(1).expect("a file");
-    let input = BufReader::new(std::fs::File::open(path)?);
-    let mut output = BufWriter::new(io::stdout().lock());
-    let mut kern: Vec<bool> = Vec::new();
-    for line in input.lines() {
+    let (lines, mut output) = lines::strings()?;
+    let mut kern = Vec::new();
+    for line in lines {
         let line = line?;
         if line.starts_with("**") {
             kern = line.split('\t').map(|token| token == "**kern").collect();

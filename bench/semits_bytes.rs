@@ -1,5 +1,7 @@
 // semits in Rust over bytes, made to be fast: the columns are those of the opening record, no spine is followed and nothing is refused.
-use std::io::{self, BufRead, BufReader, BufWriter, Write};
+mod lines;
+
+use std::io::{self, Write};
 
 // The semitones of the first pitch of a subtoken.
 fn semits(part: &[u8]) -> Option<i32> {
@@ -52,19 +54,12 @@ fn write_token(token: &[u8], output: &mut impl Write) -> io::Result<()> {
 }
 
 fn main() -> io::Result<()> {
-    let path = std::env::args().nth(1).expect("a file");
-    let mut input = BufReader::with_capacity(65536, std::fs::File::open(path)?);
-    let mut output = BufWriter::with_capacity(65536, io::stdout().lock());
-    let mut line = Vec::new();
+    let (mut lines, mut output) = lines::bytes()?;
     let mut kern: Vec<bool> = Vec::new();
-    loop {
-        line.clear();
-        if input.read_until(b'\n', &mut line)? == 0 {
-            return output.flush();
-        }
-        let text = line.strip_suffix(b"\n").unwrap_or(&line);
+    while let Some(line) = lines.next()? {
+        let text = line.strip_suffix(b"\n").unwrap_or(line);
         if text.starts_with(b"!") {
-            output.write_all(&line)?;
+            output.write_all(line)?;
             continue;
         }
         let is_data = !text.starts_with(b"*");
@@ -85,4 +80,5 @@ fn main() -> io::Result<()> {
         }
         output.write_all(b"\n")?;
     }
+    output.flush()
 }

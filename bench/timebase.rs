@@ -1,5 +1,7 @@
 // timebase -t 16 in plain Rust: four columns as they stand, durations in 768ths of a whole note, nothing is refused.
-use std::io::{self, BufRead, BufReader, BufWriter, Write};
+mod lines;
+
+use std::io::{self, Write};
 
 const STEP: u64 = 768 / 16;
 
@@ -28,20 +30,13 @@ fn write_nulls(count: u64, width: usize, output: &mut impl Write) -> io::Result<
 }
 
 fn main() -> io::Result<()> {
-    let path = std::env::args().nth(1).expect("a file");
-    let mut input = BufReader::with_capacity(65536, std::fs::File::open(path)?);
-    let mut output = BufWriter::with_capacity(65536, io::stdout().lock());
-    let mut line = Vec::new();
+    let (mut lines, mut output) = lines::bytes()?;
     let mut ends: Vec<u64> = Vec::new();
     let mut time = 0;
-    loop {
-        line.clear();
-        if input.read_until(b'\n', &mut line)? == 0 {
-            return output.flush();
-        }
-        let text = line.strip_suffix(b"\n").unwrap_or(&line);
+    while let Some(line) = lines.next()? {
+        let text = line.strip_suffix(b"\n").unwrap_or(line);
         if text.starts_with(b"**") {
-            output.write_all(&line)?;
+            output.write_all(line)?;
             for (j, _) in text.split(|b| *b == b'\t').enumerate() {
                 output.write_all(if j == 0 { b"*tb16" } else { b"\t*tb16" })?;
                 ends.push(0);
@@ -50,7 +45,7 @@ fn main() -> io::Result<()> {
             continue;
         }
         if text.starts_with(b"!") || text.starts_with(b"*") || text.starts_with(b"=") {
-            output.write_all(&line)?;
+            output.write_all(line)?;
             continue;
         }
         let last = time;
@@ -69,9 +64,10 @@ fn main() -> io::Result<()> {
             continue;
         }
         if time % STEP == 0 {
-            output.write_all(&line)?;
+            output.write_all(line)?;
         }
         let end = ends.iter().copied().filter(|end| *end > time).min().unwrap_or(time);
         write_nulls((end - 1).saturating_sub(time) / STEP, ends.len(), &mut output)?;
     }
+    output.flush()
 }

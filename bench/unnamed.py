@@ -31,7 +31,7 @@ def is_worked(name, text):
 
 def said_by(word):
     """Patterns of what says a word: a name, or the signs of an operator."""
-    name = word.split(' as ')[-1]
+    name = word.split(' as ')[-1].split('.')[-1]
     if '◌' in name or name == '[]':
         return [re.escape(sign) for sign in name.split('◌') if sign]
     return [rf'(?<![\w.]){re.escape(name)}(?!\w)']

@@ -9,6 +9,8 @@ import re
 import subprocess
 import sys
 
+from made import write_or_check
+
 TOP = os.path.dirname(os.path.dirname(os.path.abspath(__file__)))
 NOTICE = os.path.join(TOP, 'NOTICE')
 HEAD = '''humpipe
@@ -102,16 +104,5 @@ def wrapped(crates):
     return '\n'.join(lines)
 
 
-def main():
-    text = notice(kit())
-    if '--check' not in sys.argv:
-        with open(NOTICE, 'w', encoding='utf-8') as file:
-            file.write(text)
-        return
-    with open(NOTICE, encoding='utf-8') as file:
-        if file.read() != text:
-            sys.exit('NOTICE has another text: run packaging/notice.py')
-
-
 if __name__ == '__main__':
-    main()
+    write_or_check(NOTICE, notice(kit()), 'NOTICE has another text: run packaging/notice.py')

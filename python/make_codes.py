@@ -6,6 +6,10 @@ import re
 import sys
 
 HERE = os.path.dirname(os.path.abspath(__file__))
+sys.path.append(os.path.join(HERE, '..', 'packaging'))
+
+from made import write_or_check
+
 PAGE = os.path.join(HERE, '..', 'docs', 'CODES.md')
 MADE = os.path.join(HERE, 'humpipe', 'codes.py')
 HEADING = re.compile(r'^### ([A-Z]+\d+): (.*)$')
@@ -28,16 +32,5 @@ def made():
     return '"""What each code means. Made by make_codes.py from docs/CODES.md."""\n\nCODES = {\n' + ''.join(lines) + '}\n'
 
 
-def main():
-    text = made()
-    if '--check' not in sys.argv:
-        with open(MADE, 'w', encoding='utf-8') as file:
-            file.write(text)
-        return
-    with open(MADE, encoding='utf-8') as file:
-        if file.read() != text:
-            sys.exit('humpipe/codes.py has another text: run make_codes.py')
-
-
 if __name__ == '__main__':
-    main()
+    write_or_check(MADE, made(), 'humpipe/codes.py has another text: run make_codes.py')

@@ -1,18 +1,16 @@
 //! Several scores side by side, record by record.
-ghost use Rattle.std.specs.Prelude.{◌≡◌, ◌≤◌, ◌<◌, ◌+◌, ◌⊎◌, ℕ, true, false};
-ghost use Rattle.std.specs.Prelude.{List, [], length, map};
+ghost use Rattle.std.specs.Prelude.{◌≡◌, ◌≤◌, ◌<◌, ◌+◌, ◌⊎◌, ℕ, true, false, List, [], length, map};
 ghost use Rattle.std.specs.Prelude.{is_none, None, Some, IfSome, IfOk, OnOk, OnErr, IsErr};
 ghost use Rattle.std.specs.List.{position_from};
 ghost use Rattle.hum_stage.specs.declared.faults.Command.TheVariants.{Assemble as AssembleCommand};
 ghost use Rattle.hum_stage.specs.Meaning.{fault_at, resting_state};
 ghost use Rattle.hum_assemble.specs.Change.{Input, More, Ends, IsOpenInput};
-ghost use Rattle.hum_assemble.specs.Merge.{ahead};
+ghost use Rattle.hum_assemble.specs.{Merge.ahead, Groups.GivesByGroups, Groups.IsTakenByGroups};
 ghost use Rattle.hum_assemble.specs.Meaning.{Moment, MayPut, MayEnd, HasChanged, HasTaken};
 ghost use Rattle.hum_assemble.specs.Meaning.{state_of, wants_of, held_at, lower, inputs_end};
 ghost use Rattle.hum_assemble.specs.Meaning.{HasGrown, held_by, total, empty_moment, KeepsScores};
 ghost use Rattle.hum_assemble.specs.Meaning.{all_of, output, GivesOneAsItIs};
 ghost use Rattle.hum_assemble.specs.Standing.{Stands, HoldOneEach, state_by, wants_by};
-ghost use Rattle.hum_assemble.specs.Groups.{GivesByGroups, IsTakenByGroups};
 
 use crate::done::Done;
 use crate::places::Next;

@@ -3,13 +3,11 @@ ghost use Rattle.std.specs.Prelude.{◌≡◌, ◌≤◌, None, false, length, m
 ghost use Rattle.std.specs.List.{list_all};
 ghost use Rattle.hum_record.specs.Row.{tokens_of, kind_of};
 ghost use Rattle.hum_record.specs.declared.Kind.TheVariants.{Interpretation};
-ghost use Rattle.hum_path.specs.Sign.{sign_of};
+ghost use Rattle.hum_path.specs.{Sign.sign_of, Rules.fault_of};
 ghost use Rattle.hum_path.specs.Spines.{Path, width, after};
-ghost use Rattle.hum_path.specs.Rules.{fault_of};
 ghost use Rattle.hum_assemble.specs.Source.{is_end, is_inside, place, interpretation_place};
 ghost use Rattle.hum_assemble.specs.Source.{by_comment, unit_place};
-ghost use Rattle.hum_assemble.specs.Head.{is_opened};
-ghost use Rattle.hum_assemble.specs.Sizes.{width_under, heirs_count};
+ghost use Rattle.hum_assemble.specs.{Head.is_opened, Sizes.width_under, Sizes.heirs_count};
 
 use crate::places::Place;
 use hum_path::{MOST_SPINES, Paths, Sign, steers, token_sign};
@@ -134,7 +132,7 @@ fn width_under(row: &Record) -> usize
 /// How many spines stand after a record that breaks no path rule.
 pub fn width_after(opened: bool, paths: &Paths, row: &Record) -> usize
     requires opened { opened ≡ is_opened paths.now.path }
-    requires sound { fault_of paths.now.path row.now ≡ None }
+    requires valid { fault_of paths.now.path row.now ≡ None }
     ensures { result ≡ width (after paths.now.path row.now) }
 {
     let width = paths.width();

@@ -1,18 +1,13 @@
 //! One source: its spines, and its next record.
-ghost use Rattle.std.specs.Prelude.{◌≡◌, ◌++◌, ◌∷◌, ◌≤◌, [], Bool, false, None, Some};
-ghost use Rattle.std.specs.Prelude.{IfOk, OnOk, length, replicate, if◌then◌else◌};
+ghost use Rattle.std.specs.Prelude.{◌≡◌, ◌++◌, ◌∷◌, ◌≤◌, [], Bool, false, None, Some, IfOk, OnOk};
+ghost use Rattle.std.specs.Prelude.{length, replicate, if◌then◌else◌};
 ghost use Rattle.std.specs.List.{AllByRecursion};
-ghost use Rattle.hum_record.specs.Building.{spelled};
-ghost use Rattle.hum_record.specs.Spelling.{IsToken};
-ghost use Rattle.hum_record.specs.Row.{tokens_of};
-ghost use Rattle.hum_path.specs.Spines.{width};
-ghost use Rattle.hum_path.specs.Rules.{fault_of};
-ghost use Rattle.hum_assemble.specs.Head.{first_of, AreLawful};
-ghost use Rattle.hum_assemble.specs.Source.{untouched};
-ghost use Rattle.hum_assemble.specs.Sizes.{tokens_len};
-ghost use Rattle.hum_assemble.specs.Places.{kind_at};
+ghost use Rattle.hum_record.specs.{Building.spelled, Spelling.IsToken, Row.tokens_of};
+ghost use Rattle.hum_path.specs.{Spines.width, Rules.fault_of};
+ghost use Rattle.hum_assemble.specs.{Head.first_of, Head.AreLawful, Source.untouched};
 ghost use Rattle.hum_assemble.specs.Round.{shown, place_at, takes};
 ghost use Rattle.hum_assemble.specs.Merge.{moved, advanced, text_of_first, part_given};
+ghost use Rattle.hum_assemble.specs.{Sizes.tokens_len, Places.kind_at};
 
 use crate::places::{Place, null_at};
 use crate::placing::{place, stand_behind, width_after};
@@ -108,7 +103,7 @@ impl SourceHead {
     /// Puts the next record.
     pub fn put(&mut self, row: Record)
         requires empty { self.old.coming ≡ [] }
-        requires sound { fault_of self.old.path row ≡ None }
+        requires valid { fault_of self.old.path row ≡ None }
         ensures put { self.new ≡ record self.old { coming = row ∷ [] } }
         ensures lawful { AreLawful self.old.path (row ∷ []) }
     {

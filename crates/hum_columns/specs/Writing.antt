@@ -33,6 +33,12 @@ HasSpread pieces room before after false =
 abbrev pub draft : List (List ℕ) → Draft
 draft tokens = record { kind = Interpretation; tokens = tokens; spent = false }
 
+-- tokens of these pieces may be added to a record in the making
+pub record MayAdd (before : Draft) (added : List (List ℕ)) (pieces : List JoinedToken) : Type 0 where
+  pub made : before ≡ draft before.tokens
+  pub lawful : AllByRecursion (λ piece. IsToken Interpretation piece.token) pieces
+  pub fits : length (spelled (before.tokens ++ added)) ≤ MOST_BYTES
+
 -- pieces of which those in front, that begin no join, are known by their tokens
 abbrev pub behind : List (List ℕ) → List JoinedToken → List JoinedToken
 behind front pieces = map (piece false) front ++ pieces

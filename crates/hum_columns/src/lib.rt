@@ -9,9 +9,8 @@
 ghost use Rattle.std.specs.Prelude.{◌≡◌, [], Ok};
 ghost use Rattle.hum_record.specs.declared.SpinedKind.TheVariants.{Interpretation};
 ghost use Rattle.hum_stage.specs.Refusals.{IfTold};
-ghost use Rattle.hum_columns.specs.Spread.{spread, filled};
-ghost use Rattle.hum_columns.specs.Writing.{Fit};
-ghost use Rattle.hum_columns.specs.Following.{AnswersInRoom};
+ghost use Rattle.hum_columns.specs.{Spread.spread, Spread.filled, Writing.Fit};
+ghost use Rattle.hum_columns.specs.{Following.AnswersInRoom};
 
 mod columns;
 mod joins;

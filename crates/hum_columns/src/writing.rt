@@ -1,13 +1,12 @@
 //! Records of pieces.
 ghost use Rattle.std.specs.Prelude.{◌≡◌, ◌≢◌, ◌≤◌, [], ◌++◌, false, drop, length, IfOk, OnOk};
 ghost use Rattle.std.specs.List.{AllByRecursion};
-ghost use Rattle.hum_record.specs.Row.{Spined};
+ghost use Rattle.hum_record.specs.{Row.Spined, Spelling.IsToken, Building.spelled};
 ghost use Rattle.hum_record.specs.declared.SpinedKind.TheVariants.{Interpretation};
-ghost use Rattle.hum_record.specs.Spelling.{IsToken};
-ghost use Rattle.hum_record.specs.Building.{spelled};
 ghost use Rattle.hum_columns.specs.Spread.{tokens_in, touches, joins_in, first_alone, join_done};
 ghost use Rattle.hum_columns.specs.Spread.{one_by_one, before_last, filled};
-ghost use Rattle.hum_columns.specs.Writing.{Fit, draft, behind, next_phase, shown, nulls, HasPassed};
+ghost use Rattle.hum_columns.specs.Writing.{Fit, MayAdd, draft, behind, next_phase, shown, nulls};
+ghost use Rattle.hum_columns.specs.Writing.{HasPassed};
 
 use crate::pieces::JoinedToken;
 use hum_record::{MOST_BYTES, Record, RecordBuilder, SpinedKind};
@@ -98,9 +97,7 @@ fn push_nulls(builder: &mut RecordBuilder, count: usize) -> Result<(), AllocErro
 
 /// Adds the first join's tokens, and null ones elsewhere.
 fn push_alone(builder: &mut RecordBuilder, pieces: &[JoinedToken<'_>]) -> Result<(), AllocError>
-    requires made { builder.old ≡ draft builder.old.tokens }
-    requires lawful { AllByRecursion (λ piece. IsToken Interpretation piece.token) pieces.now }
-    requires fits { length (spelled (builder.old.tokens ++ first_alone pieces.now)) ≤ MOST_BYTES }
+    requires { MayAdd builder.old (first_alone pieces.now) pieces.now }
     ensures { OnOk result (builder.new ≡ draft (builder.old.tokens ++ first_alone pieces.now)) }
 {
     let mut phase = Phase::Before;
@@ -113,9 +110,7 @@ fn push_alone(builder: &mut RecordBuilder, pieces: &[JoinedToken<'_>]) -> Result
 
 /// Adds all tokens.
 fn push_all(builder: &mut RecordBuilder, pieces: &[JoinedToken<'_>]) -> Result<(), AllocError>
-    requires made { builder.old ≡ draft builder.old.tokens }
-    requires lawful { AllByRecursion (λ piece. IsToken Interpretation piece.token) pieces.now }
-    requires fits { length (spelled (builder.old.tokens ++ tokens_in pieces.now)) ≤ MOST_BYTES }
+    requires { MayAdd builder.old (tokens_in pieces.now) pieces.now }
     ensures { OnOk result (builder.new ≡ draft (builder.old.tokens ++ tokens_in pieces.now)) }
 {
     for piece in pieces {

@@ -3,9 +3,7 @@ ghost use Rattle.std.specs.Prelude.{◌≡◌, ℕ, None, [], OnOk};
 ghost use Rattle.hum_record.specs.Row.{Spined, tokens_of, text_of};
 ghost use Rattle.hum_record.specs.Spelling.{IsTextOf};
 ghost use Rattle.hum_record.specs.declared.SpinedKind.TheVariants.{Interpretation};
-ghost use Rattle.hum_path.specs.Sign.{steers};
-ghost use Rattle.hum_path.specs.Spines.{after};
-ghost use Rattle.hum_path.specs.Rules.{fault_of};
+ghost use Rattle.hum_path.specs.{Sign.steers, Spines.after, Rules.fault_of};
 ghost use Rattle.hum_stage.specs.Refusals.{IfTold};
 ghost use Rattle.hum_columns.specs.Following.{Answers, memory};
 ghost use Rattle.hum_extract.specs.Choice.{opening_flags};
@@ -47,7 +45,7 @@ fn open(
 ) -> Result<(), Refusal>
     requires kind { row ≡ Spined Interpretation (tokens_of row) }
     requires lawful { IsTextOf row (text_of row) }
-    requires sound { fault_of columns.old.path row ≡ None }
+    requires valid { fault_of columns.old.path row ≡ None }
     requires empty { out.old ≡ [] }
     ensures decided { IfTold result (λ refused. (room : ℕ)
         → Answers (opened (choice_of choice.now) (tokens_of row)) room out.new refused) }

@@ -1,7 +1,6 @@
 //! Records that are left with their chosen tokens.
 ghost use Rattle.std.specs.Prelude.{◌≡◌, []};
-ghost use Rattle.hum_record.specs.Row.{text_of};
-ghost use Rattle.hum_record.specs.Spelling.{IsTextOf};
+ghost use Rattle.hum_record.specs.{Row.text_of, Spelling.IsTextOf};
 ghost use Rattle.hum_columns.specs.Following.{AsWide};
 ghost use Rattle.hum_extract.specs.Kept.{kept};
 

@@ -177,8 +177,8 @@ impl Frac {
         ensures multiple { IsTrue result ↔ IsMultiple self unit }
     {
         let whole = (self.denominator as u128) * (unit.numerator as u128);
-        let (_, rest) = divided((self.numerator as u128) * (unit.denominator as u128), whole);
-        rest == 0
+        let (_, remainder) = divided((self.numerator as u128) * (unit.denominator as u128), whole);
+        remainder == 0
     }
 
     /// Whether it is a multiple of `unit`, and how many more are less than another, in 64 bits.
@@ -196,10 +196,10 @@ impl Frac {
         ensures between { AreBetween self other unit result.1 }
     {
         let whole = self.denominator * unit.numerator;
-        let (passed, rest) = divided_64(self.numerator * unit.denominator, whole);
+        let (passed, remainder) = divided_64(self.numerator * unit.denominator, whole);
         let after = other.denominator * unit.numerator;
         let (end, _) = divided_64(other.numerator * unit.denominator + (after - 1), after);
-        (rest == 0, end.saturating_sub(passed + 1))
+        (remainder == 0, end.saturating_sub(passed + 1))
     }
 
     /// The same of numbers that need not be small.
@@ -214,8 +214,8 @@ impl Frac {
         let (a, b) = (self.numerator as u128, self.denominator as u128);
         let (c, d) = (other.numerator as u128, other.denominator as u128);
         let whole = b * (unit.numerator as u128);
-        let (passed, rest) = divided(a * (unit.denominator as u128), whole);
-        let is_multiple = rest == 0;
+        let (passed, remainder) = divided(a * (unit.denominator as u128), whole);
+        let is_multiple = remainder == 0;
         if a * d >= c * b {
             return (is_multiple, 0);
         }

@@ -11,7 +11,7 @@ const MOST_64: u128 = 18_446_744_073_709_551_615;
 pub(crate) fn divided_64(a: u64, b: u64) -> (u64, u64)
     requires { 0 < b }
     ensures quotient { result.0 ≡ a / b }
-    ensures rest { result.1 ≡ a % b }
+    ensures remainder { result.1 ≡ a % b }
 {
     let zeros = b.trailing_zeros();
     if b >> zeros == 1 {
@@ -26,11 +26,11 @@ pub(crate) fn divided_64(a: u64, b: u64) -> (u64, u64)
 pub(crate) fn divided(a: u128, b: u128) -> (u128, u128)
     requires { 0 < b }
     ensures quotient { result.0 ≡ a / b }
-    ensures rest { result.1 ≡ a % b }
+    ensures remainder { result.1 ≡ a % b }
 {
     if a <= MOST_64 && b <= MOST_64 {
-        let (quotient, rest) = divided_64(a as u64, b as u64);
-        (quotient as u128, rest as u128)
+        let (quotient, remainder) = divided_64(a as u64, b as u64);
+        (quotient as u128, remainder as u128)
     } else {
         (a / b, a % b)
     }
@@ -43,9 +43,9 @@ fn gcd_64(a: u64, b: u64) -> u64
     let mut x = a;
     let mut y = b;
     while y != 0 {
-        let rest = x % y;
+        let remainder = x % y;
         x = y;
-        y = rest;
+        y = remainder;
     }
     x
 }
@@ -57,15 +57,15 @@ pub(crate) fn gcd(a: u128, b: u128) -> u128
     let mut x = a;
     let mut y = b;
     while y > MOST_64 {
-        let rest = x % y;
+        let remainder = x % y;
         x = y;
-        y = rest;
+        y = remainder;
     }
     if y == 0 {
         return x;
     }
-    let (_, rest) = divided(x, y);
-    gcd_64(y as u64, rest as u64) as u128
+    let (_, remainder) = divided(x, y);
+    gcd_64(y as u64, remainder as u64) as u128
 }
 
 /// Two numbers without the powers of 2 that divide both.

@@ -5,14 +5,14 @@ use Rattle.std.specs.List.{AllByRecursion, onto_first}
 use Rattle.std.proofs.lemmas.Bool.{or_parts, eqb-true, eq-eqb, ne_eqb}
 use Rattle.hum_record.specs.Spelling.{has_byte}
 use Rattle.hum_path.proofs.Cases.{by_bool}
-use Rattle.hum_options.specs.Cutting.{front, rest, parts}
+use Rattle.hum_options.specs.Cutting.{front, remainder, parts}
 
 pub front_taken : (byte : ℕ) (text : List ℕ) → take (length (front byte text)) text ≡ front byte text
 front_taken byte [] = refl
 front_taken byte (b ∷ bytes) = by_bool (b == byte) (λ w. rw w refl)
     (λ w. rw w (ap (λ (more : List ℕ). b ∷ more) (front_taken byte bytes)))
 
-pub rest_left : (byte : ℕ) (text : List ℕ) → drop (length (front byte text)) text ≡ rest byte text
+pub rest_left : (byte : ℕ) (text : List ℕ) → drop (length (front byte text)) text ≡ remainder byte text
 rest_left byte [] = refl
 rest_left byte (b ∷ bytes) = by_bool (b == byte) (λ w. rw w refl) (λ w. rw w (rest_left byte bytes))
 
@@ -22,13 +22,13 @@ length-front-le byte (b ∷ bytes) = by_bool (b == byte) (λ w. rw w (omega arit
     (λ w. rw w (let more = length-front-le byte bytes in omega (arith, more)))
 
 -- a text is its two parts
-pub whole : (byte : ℕ) (text : List ℕ) → front byte text ++ rest byte text ≡ text
+pub whole : (byte : ℕ) (text : List ℕ) → front byte text ++ remainder byte text ≡ text
 whole byte [] = refl
 whole byte (b ∷ bytes) = by_bool (b == byte) (λ w. rw w refl)
     (λ w. rw w (ap (λ (more : List ℕ). b ∷ more) (whole byte bytes)))
 
 -- what is left begins with the byte
-pub rest_begins : (byte : ℕ) (text : List ℕ) (b : ℕ) (bytes : List ℕ) → rest byte text ≡ b ∷ bytes
+pub rest_begins : (byte : ℕ) (text : List ℕ) (b : ℕ) (bytes : List ℕ) → remainder byte text ≡ b ∷ bytes
     → b ≡ byte
 rest_begins byte [] b bytes e = cc
 rest_begins byte (x ∷ xs) b bytes e = by_bool (x == byte)
@@ -54,7 +54,7 @@ front_alone byte (b ∷ bytes) lacks =
     let each = or_parts (b == byte) (has_byte byte bytes) lacks in
     rw (each.0, front_alone byte bytes each.1) refl
 
-pub rest_alone : (byte : ℕ) (text : List ℕ) → has_byte byte text ≡ false → rest byte text ≡ []
+pub rest_alone : (byte : ℕ) (text : List ℕ) → has_byte byte text ≡ false → remainder byte text ≡ []
 rest_alone byte [] lacks = refl
 rest_alone byte (b ∷ bytes) lacks =
     let each = or_parts (b == byte) (has_byte byte bytes) lacks in
@@ -75,7 +75,7 @@ front_before byte (b ∷ bytes) more lacks same =
     rw (each.0, front_before byte bytes more each.1 same) refl
 
 pub rest_before : (byte : ℕ) (text more : List ℕ) → has_byte byte text ≡ false → (byte == byte) ≡ true
-    → rest byte (text ++ byte ∷ more) ≡ byte ∷ more
+    → remainder byte (text ++ byte ∷ more) ≡ byte ∷ more
 rest_before byte [] more lacks same = rw same refl
 rest_before byte (b ∷ bytes) more lacks same =
     let each = or_parts (b == byte) (has_byte byte bytes) lacks in

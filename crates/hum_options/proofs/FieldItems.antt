@@ -9,7 +9,7 @@ use Rattle.std.proofs.lemmas.List.{append-nil}
 use Rattle.hum_choices.specs.declared.extract.FieldRange.{FieldRange}
 use Rattle.hum_record.specs.Spelling.{has_byte}
 use Rattle.hum_path.proofs.Cases.{by_bool}
-use Rattle.hum_options.specs.Cutting.{front, rest}
+use Rattle.hum_options.specs.Cutting.{front, remainder}
 use Rattle.hum_options.specs.Fields.{IsCount, count_of, through, onward, last_field, AreFields, one, last, span, to_last}
 use Rattle.hum_options.specs.Fields.{in_order, from_number, by_dash, fields_of}
 use Rattle.hum_options.proofs.Choices.{chosen, mapped}
@@ -79,7 +79,7 @@ by_dash_are a (dash ∷ b) begins range e = counted (count_of a) refl e
 pub fields_are : (item : List ℕ) (range : FieldRange) → fields_of item ≡ Some range → AreFields item range
 fields_are item range e =
     let P : List ℕ → Type 0 = λ t. AreFields t range in
-    subst P (whole 45 item) (by_dash_are (front 45 item) (rest 45 item) (rest_begins 45 item) range e)
+    subst P (whole 45 item) (by_dash_are (front 45 item) (remainder 45 item) (rest_begins 45 item) range e)
 
 count_no_dollar : (text : List ℕ) (n : ℕ) → IsCount text n → bytes_eq text (codes "$") ≡ false
 count_no_dollar text n h = digits_no_dollar text (number_digits 4096 text n (lit< tt) h.number)

@@ -9,7 +9,7 @@ use Rattle.std.proofs.lemmas.List.{append-nil, map-append, take_all}
 use Rattle.std.proofs.lemmas.List.Splits.{join_with_byte-slice_split, length-slice_split}
 use Rattle.hum_record.specs.Spelling.{has_byte}
 use Rattle.hum_path.proofs.Cases.{by_bool}
-use Rattle.hum_options.specs.Cutting.{front, rest, parts}
+use Rattle.hum_options.specs.Cutting.{front, remainder, parts}
 use Rattle.hum_options.specs.Items.{AreItems, one, more, AreListed, with_first, all_of, items_of}
 use Rattle.hum_options.proofs.Choices.{chosen}
 use Rattle.hum_options.proofs.Cuts.{parts_lack, parts_alone, parts_before}
@@ -30,7 +30,7 @@ pub record IsListing {A B : Type 0} (value_of : List ℕ → Option A) (view : B
   pub count : length (parts 44 text) ≡ length items + length left
   pub values : all_of value_of (parts 44 text) ≡ behind (map view items) (all_of value_of left)
 
-first_part : (text : List ℕ) → parts 44 text ≡ front 44 text ∷ parts_behind (rest 44 text)
+first_part : (text : List ℕ) → parts 44 text ≡ front 44 text ∷ parts_behind (remainder 44 text)
 first_part [] = refl
 first_part (b ∷ bytes) = by_bool (b == 44) (λ w. rw w refl) (λ w. rw (w, first_part bytes) refl)
 
@@ -57,7 +57,7 @@ listing_begins {A} {B} {value_of} text =
 
 -- the next part, and what is behind it
 pub next_part : {A B : Type 0} {value_of : List ℕ → Option A} {view : B → A} {text part left : List ℕ} {items : List B}
-    (here : List ℕ) → IsListing value_of view text (parts 44 here) items → part ≡ front 44 here → left ≡ rest 44 here
+    (here : List ℕ) → IsListing value_of view text (parts 44 here) items → part ≡ front 44 here → left ≡ remainder 44 here
     → IsListing value_of view text (part ∷ parts_behind left) items
 next_part here h part_is left_is = rw (part_is, left_is) (rw (first_part here) at h)
 

@@ -2,7 +2,7 @@
 use Rattle.std.proofs.Common.{◌≡◌, ◌∙◌, ◌<◌, ◌≤◌, ◌-◌, ℕ, List, [], ◌∷◌, length, take, drop, Option, Some, None}
 use Rattle.std.proofs.Common.{refl, sym, ap, arith}
 use Rattle.std.proofs.lemmas.List.{take_all}
-use Rattle.hum_options.specs.Cutting.{front, rest}
+use Rattle.hum_options.specs.Cutting.{front, remainder}
 use Rattle.hum_options.specs.Numbers.{number_of, positive_of}
 use Rattle.hum_options.specs.Passages.{greatest, distance_of, through, near_end, from_number, from_distance}
 use Rattle.hum_options.specs.Passages.{by_number, by_distance}
@@ -32,7 +32,7 @@ no_distance : (behind : List ℕ) → from_distance behind None ≡ None
 no_distance [] = refl
 no_distance (dash ∷ b) = refl
 
-module _ (text before behind : List ℕ) (at : before ≡ front 45 text) (is : behind ≡ rest 45 text) where
+module _ (text before behind : List ℕ) (at : before ≡ front 45 text) (is : behind ≡ remainder 45 text) where
   pub numbered : (x : Option ℕ) → x ≡ number_of greatest before → by_number text ≡ from_number behind x
   numbered x h = ap (λ b. from_number b (number_of greatest (front 45 text))) (sym is)
       ∙ ap (from_number behind) (ap (number_of greatest) (sym at) ∙ sym h)

@@ -12,7 +12,7 @@ use Rattle.hum_choices.specs.declared.yank.YankRange.{YankRange}
 use Rattle.hum_choices.specs.declared.yank.YankRange.TheVariants.{Through, Onward, ToEnd, FromEnd}
 use Rattle.hum_record.specs.Spelling.{has_byte}
 use Rattle.hum_path.proofs.Cases.{by_bool}
-use Rattle.hum_options.specs.Cutting.{front, rest}
+use Rattle.hum_options.specs.Cutting.{front, remainder}
 use Rattle.hum_options.specs.Numbers.{number_of, positive_of}
 use Rattle.hum_options.specs.Passages.{greatest, IsPassage, IsDistance, ArePassages, one, span, onward, to_end, last, before_last, last_few, few_to_end}
 use Rattle.hum_options.specs.Passages.{behind_dollar, distance_of, in_order, through, from_number, near_end}
@@ -131,13 +131,13 @@ from_last_are (b ∷ text) range e =
     let P : ℕ → Type 0 = λ d. ArePassages (36 ∷ d ∷ text) range in
     let Q : List ℕ → Type 0 = λ t. ArePassages (codes "$-" ++ t) range in
     subst P (sym (eqb-true b 45 dash.0)) (subst Q (whole 45 text)
-    (distant (front 45 text) (rest 45 text) (rest_begins 45 text) range (positive_of greatest (front 45 text)) refl dash.1))
+    (distant (front 45 text) (remainder 45 text) (rest_begins 45 text) range (positive_of greatest (front 45 text)) refl dash.1))
 
 by_number_are : (item : List ℕ) (range : YankRange) → by_number item ≡ Some range → ArePassages item range
 by_number_are item range e =
     let P : List ℕ → Type 0 = λ t. ArePassages t range in
     subst P (whole 45 item)
-    (numbered (front 45 item) (rest 45 item) (rest_begins 45 item) range (number_of greatest (front 45 item)) refl e)
+    (numbered (front 45 item) (remainder 45 item) (rest_begins 45 item) range (number_of greatest (front 45 item)) refl e)
 
 pub passages_are : (item : List ℕ) (range : YankRange) → passages_of item ≡ Some range → ArePassages item range
 passages_are [] range e = cc

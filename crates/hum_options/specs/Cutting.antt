@@ -8,9 +8,9 @@ front byte [] = []
 front byte (b ∷ bytes) = if b == byte then [] else b ∷ front byte bytes
 
 -- what stands from the first such byte on
-abbrev pub rest : ℕ → List ℕ → List ℕ
-rest byte [] = []
-rest byte (b ∷ bytes) = if b == byte then b ∷ bytes else rest byte bytes
+abbrev pub remainder : ℕ → List ℕ → List ℕ
+remainder byte [] = []
+remainder byte (b ∷ bytes) = if b == byte then b ∷ bytes else remainder byte bytes
 
 -- the parts of a text between such bytes
 abbrev pub parts : ℕ → List ℕ → List (List ℕ)

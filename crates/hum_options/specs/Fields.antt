@@ -6,7 +6,7 @@ use Rattle.std.specs.Str.{bytes_eq}
 use lib.Chars.{codes}
 use Rattle.hum_choices.specs.declared.extract.Field.TheVariants.{Number, Last}
 use Rattle.hum_choices.specs.declared.extract.FieldRange.{FieldRange}
-use Rattle.hum_options.specs.Cutting.{front, rest}
+use Rattle.hum_options.specs.Cutting.{front, remainder}
 use Rattle.hum_options.specs.Numbers.{IsPositive, positive_of}
 use Rattle.hum_choices.specs.declared.context.TheConstants.{GREATEST_COUNT}
 
@@ -56,4 +56,4 @@ by_dash a (dash ∷ b) = from_number b (count_of a)
 
 -- the fields that an item is, if it is some
 abbrev pub fields_of : List ℕ → Option FieldRange
-fields_of item = by_dash (front 45 item) (rest 45 item)
+fields_of item = by_dash (front 45 item) (remainder 45 item)

@@ -4,7 +4,7 @@ use Rattle.std.specs.Prelude.{if◌then◌else◌, ◌==◌}
 use lib.Chars.{codes}
 use Rattle.hum_choices.specs.declared.yank.YankRange.{YankRange}
 use Rattle.hum_choices.specs.declared.yank.YankRange.TheVariants.{Through, Onward, ToEnd, FromEnd}
-use Rattle.hum_options.specs.Cutting.{front, rest}
+use Rattle.hum_options.specs.Cutting.{front, remainder}
 use Rattle.hum_options.specs.Numbers.{IsNumber, IsPositive, number_of, positive_of}
 use Rattle.hum_choices.specs.declared.yank.TheConstants.{GREATEST_PASSAGE}
 
@@ -74,7 +74,7 @@ from_distance (dash ∷ b) (Some x) = near_end x (distance_of b)
 
 -- by what stands behind `$-`
 abbrev pub by_distance : List ℕ → Option YankRange
-by_distance text = from_distance (rest 45 text) (positive_of greatest (front 45 text))
+by_distance text = from_distance (remainder 45 text) (positive_of greatest (front 45 text))
 
 -- by what stands behind `$`
 abbrev pub from_last : List ℕ → Option YankRange
@@ -83,7 +83,7 @@ from_last (b ∷ text) = if b == 45 then by_distance text else None
 
 -- by what stands before the first dash and from it on
 abbrev pub by_number : List ℕ → Option YankRange
-by_number item = from_number (rest 45 item) (number_of greatest (front 45 item))
+by_number item = from_number (remainder 45 item) (number_of greatest (front 45 item))
 
 -- the passages that an item is, if it is some
 abbrev pub passages_of : List ℕ → Option YankRange

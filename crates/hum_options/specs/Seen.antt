@@ -1,6 +1,7 @@
 -- What contracts see of options and words.
 use Rattle.std.specs.Prelude.{◌≡◌, ℕ, List, [], ◌∷◌, None, Some, Result, Ok, Err}
 use Rattle.hum_path.specs.Spines.{texts}
+use Rattle.hum_stage.specs.declared.faults.Command.{Command}
 use Rattle.hum_words.specs.Pieces.{Item, items_of}
 use Rattle.hum_words.specs.Pieces as item
 use Rattle.hum_words.specs.declared.cutting.Piece.{Piece}
@@ -30,7 +31,7 @@ use Rattle.hum_options.specs.Meant.{Given}
 use Rattle.hum_options.specs.Meant.{Options, Span, Number, Phrase, Markers, Lines, Numbers}
 use Rattle.hum_options.specs.Meant.{Occurrences, Labels, Rid, Extract, Ditto, Timebase, Context}
 use Rattle.hum_options.specs.Meant.{Trans, Semits, Mint, Recip, Yank, Cleave}
-use Rattle.hum_options.specs.Answers.{Word, Answer}
+use Rattle.hum_options.specs.Answers.{Word, Answer, Answers}
 
 -- a value, wherever its list or its text lies
 abbrev pub seen : WrittenValue → Value
@@ -102,6 +103,12 @@ abbrev pub GoesOn : (Answer → Type 0) → (Turn → Answer → Type 0) → Res
 GoesOn Lawful Behind (Ok turn) = (answer : Answer) → Behind turn answer → Lawful answer
 GoesOn Lawful Behind (Err (failed.Fault found)) = Lawful (Err found)
 GoesOn Lawful Behind (Err failed.Memory) = Unit {0}
+
+-- The same of a word that is taken, whatever words follow and wherever their command stands.
+abbrev pub Takes : Command → ℕ → List ℕ → List Given → Turn → List Given → Result Turn OptionError → Type 0
+Takes command number word before turn after result =
+    (n : ℕ) (words : List Word)
+    → GoesOn (Answers command n before turn ((number, word) ∷ words)) (λ next. Answers command n after next words) result
 
 -- the fault of a value that is word n
 abbrev pub value_fault : ℕ → ValueError → OptionError

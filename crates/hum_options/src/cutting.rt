@@ -1,6 +1,6 @@
 //! Texts, cut at a byte.
 ghost use Rattle.std.specs.Prelude.{◌≡◌, length};
-ghost use Rattle.hum_options.specs.Cutting.{front, rest};
+ghost use Rattle.hum_options.specs.Cutting.{front, remainder};
 
 fn front_len(text: &[u8], byte: u8) -> usize
     ensures { result ≡ length (front byte text.now) }
@@ -11,7 +11,7 @@ fn front_len(text: &[u8], byte: u8) -> usize
 /// What stands before the first such byte, and from it on.
 pub(crate) fn cut(text: &[u8], byte: u8) -> (&[u8], &[u8])
     ensures front { (result.0).now ≡ front byte text.now }
-    ensures rest { (result.1).now ≡ rest byte text.now }
+    ensures remainder { (result.1).now ≡ remainder byte text.now }
 {
     text.split_at(front_len(text, byte))
 }

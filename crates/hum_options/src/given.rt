@@ -3,12 +3,10 @@ ghost use Rattle.std.specs.Prelude.{◌≡◌, ◌==◌, ◌++◌, [], ◌∷◌
 ghost use Rattle.std.specs.List.{list_any};
 ghost use Rattle.std.specs.Option.{option_map, option_and_then};
 ghost use Rattle.hum_path.specs.Spines.{texts};
-ghost use Rattle.hum_options.specs.Answers.{bars, is_barred};
-ghost use Rattle.hum_options.specs.Meant.{value_at, without};
-ghost use Rattle.hum_options.specs.Meant.{as_fields, as_names, as_name, as_text, as_ranges};
-ghost use Rattle.hum_options.specs.Meant.{as_label, as_pattern, as_count, as_steps};
+ghost use Rattle.hum_options.specs.{Answers.bars, Answers.is_barred, Seen.seen, Seen.given_of};
+ghost use Rattle.hum_options.specs.Meant.{value_at, without, as_fields, as_names, as_name, as_text};
+ghost use Rattle.hum_options.specs.Meant.{as_ranges, as_label, as_pattern, as_count, as_steps};
 ghost use Rattle.hum_options.specs.Meant.{as_semitones, as_duration};
-ghost use Rattle.hum_options.specs.Seen.{seen, given_of};
 ghost use Rattle.hum_choices.specs.Timebase.{pace_of};
 
 use crate::options::excludes;
@@ -49,21 +47,14 @@ fn place_of(entries: &[GivenOption], letter: u8) -> Option<usize>
 }
 
 /// The options that were given, in order.
+#[derive(Drop)]
 pub(crate) struct GivenOptions {
     entries: Vec<GivenOption>,
 }
 
-// Written out, so that a caller's proof sees one call and not the drop of each value.
-impl Drop for GivenOptions {
-    fn drop(self) {
-        let GivenOptions { entries: _entries } = self;
-    }
-}
-
 impl Model for GivenOptions {
     ghost use Rattle.std.specs.Prelude.{List, map};
-    ghost use Rattle.hum_options.specs.Meant.{Given};
-    ghost use Rattle.hum_options.specs.Seen.{given_of};
+    ghost use Rattle.hum_options.specs.{Meant.Given, Seen.given_of};
 
     ghost Value = { List Given };
 
@@ -106,7 +97,7 @@ impl GivenOptions {
     /// Takes out the value of the option of a letter, if it was given.
     fn take(&mut self, letter: u8) -> Option<Value>
         ensures value { option_map seen result ≡ value_at letter self.old }
-        ensures rest { self.new ≡ without letter self.old }
+        ensures remainder { self.new ≡ without letter self.old }
     {
         match place_of(&self.entries, letter) {
             Some(place) => {
@@ -121,7 +112,7 @@ impl GivenOptions {
     pub(crate) fn fields(&mut self, letter: u8) -> Option<Vec<FieldRange>>
         ensures value { option_map (λ ranges. ranges.items) result
             ≡ option_and_then as_fields (value_at letter self.old) }
-        ensures rest { self.new ≡ without letter self.old }
+        ensures remainder { self.new ≡ without letter self.old }
     {
         match self.take(letter)? {
             Value::Fields(found) => Some(found),
@@ -133,7 +124,7 @@ impl GivenOptions {
     pub(crate) fn names(&mut self, letter: u8) -> Option<Vec<Vec<u8>>>
         ensures value { option_map (λ names. texts names.items) result
             ≡ option_and_then as_names (value_at letter self.old) }
-        ensures rest { self.new ≡ without letter self.old }
+        ensures remainder { self.new ≡ without letter self.old }
     {
         match self.take(letter)? {
             Value::Names(found) => Some(found),
@@ -145,7 +136,7 @@ impl GivenOptions {
     pub(crate) fn name(&mut self, letter: u8) -> Option<Name>
         ensures value { option_map (λ name. name.text.items) result
             ≡ option_and_then as_name (value_at letter self.old) }
-        ensures rest { self.new ≡ without letter self.old }
+        ensures remainder { self.new ≡ without letter self.old }
     {
         match self.take(letter)? {
             Value::Name(found) => Some(found),
@@ -157,7 +148,7 @@ impl GivenOptions {
     pub(crate) fn text(&mut self, letter: u8) -> Option<Separator>
         ensures value { option_map (λ separator. separator.text.items) result
             ≡ option_and_then as_text (value_at letter self.old) }
-        ensures rest { self.new ≡ without letter self.old }
+        ensures remainder { self.new ≡ without letter self.old }
     {
         match self.take(letter)? {
             Value::Text(found) => Some(found),
@@ -169,7 +160,7 @@ impl GivenOptions {
     pub(crate) fn ranges(&mut self, letter: u8) -> Option<Vec<YankRange>>
         ensures value { option_map (λ ranges. ranges.items) result
             ≡ option_and_then as_ranges (value_at letter self.old) }
-        ensures rest { self.new ≡ without letter self.old }
+        ensures remainder { self.new ≡ without letter self.old }
     {
         match self.take(letter)? {
             Value::Ranges(found) => Some(found),
@@ -181,7 +172,7 @@ impl GivenOptions {
     pub(crate) fn label(&mut self, letter: u8) -> Option<Vec<u8>>
         ensures value { option_map (λ text. text.items) result
             ≡ option_and_then as_label (value_at letter self.old) }
-        ensures rest { self.new ≡ without letter self.old }
+        ensures remainder { self.new ≡ without letter self.old }
     {
         match self.take(letter)? {
             Value::Label(found) => Some(found),
@@ -193,7 +184,7 @@ impl GivenOptions {
     pub(crate) fn pattern(&mut self, letter: u8) -> Option<Pattern>
         ensures value { result
             ≡ option_and_then as_pattern (value_at letter self.old) }
-        ensures rest { self.new ≡ without letter self.old }
+        ensures remainder { self.new ≡ without letter self.old }
     {
         match self.take(letter)? {
             Value::Pattern(found) => Some(found),
@@ -205,7 +196,7 @@ impl GivenOptions {
     pub(crate) fn count(&mut self, letter: u8) -> Option<TokenCount>
         ensures value { option_map (λ count. count.number) result
             ≡ option_and_then as_count (value_at letter self.old) }
-        ensures rest { self.new ≡ without letter self.old }
+        ensures remainder { self.new ≡ without letter self.old }
     {
         match self.take(letter)? {
             Value::Count(found) => Some(found),
@@ -217,7 +208,7 @@ impl GivenOptions {
     pub(crate) fn steps(&mut self, letter: u8) -> Option<Steps>
         ensures value { option_map (λ steps. steps.number) result
             ≡ option_and_then as_steps (value_at letter self.old) }
-        ensures rest { self.new ≡ without letter self.old }
+        ensures remainder { self.new ≡ without letter self.old }
     {
         match self.take(letter)? {
             Value::Steps(found) => Some(found),
@@ -229,7 +220,7 @@ impl GivenOptions {
     pub(crate) fn semitones(&mut self, letter: u8) -> Option<Semitones>
         ensures value { option_map (λ semitones. semitones.number) result
             ≡ option_and_then as_semitones (value_at letter self.old) }
-        ensures rest { self.new ≡ without letter self.old }
+        ensures remainder { self.new ≡ without letter self.old }
     {
         match self.take(letter)? {
             Value::Semitones(found) => Some(found),
@@ -241,7 +232,7 @@ impl GivenOptions {
     pub(crate) fn duration(&mut self, letter: u8) -> Option<TimebaseOptions>
         ensures value { option_map pace_of result
             ≡ option_and_then as_duration (value_at letter self.old) }
-        ensures rest { self.new ≡ without letter self.old }
+        ensures remainder { self.new ≡ without letter self.old }
     {
         match self.take(letter)? {
             Value::Duration(found) => Some(found),

@@ -1,9 +1,9 @@
 //! Words, read as options.
-ghost use Rattle.std.specs.Prelude.{◌≡◌, ◌∷◌, [], List, ℕ};
+ghost use Rattle.std.specs.Prelude.{◌≡◌, [], ℕ};
 ghost use Rattle.hum_stage.specs.declared.faults.Command.{Command};
 ghost use Rattle.hum_options.specs.declared.reading.Turn.TheVariants.{Free, Awaits};
-ghost use Rattle.hum_options.specs.Answers.{Word, next_option, Answers, IsAnswer};
-ghost use Rattle.hum_options.specs.Seen.{words_of, value_fault, GoesOn, Tells};
+ghost use Rattle.hum_options.specs.Answers.{next_option, Answers, IsAnswer};
+ghost use Rattle.hum_options.specs.Seen.{words_of, value_fault, Takes, Tells};
 
 use crate::faults::{OptionError, OptionFault, OptionRule};
 use crate::given::GivenOptions;
@@ -63,9 +63,8 @@ fn at_value(
     number: u32,
     text: &str,
 ) -> Result<Turn, OptionError>
-    ensures { (command : Command) (n : ℕ) (k : ℕ) (words : List Word) → GoesOn
-        (Answers command n given.old (Awaits k option) ((number, text.now) ∷ words))
-        (λ turn. Answers command n given.new turn words) result }
+    ensures { (command : Command) (k : ℕ)
+        → Takes command number text.now given.old (Awaits k option) given.new result }
 {
     match read_value(alloc, option.kind, text) {
         Ok(value) => {
@@ -83,9 +82,7 @@ fn at_option(
     number: u32,
     word: &str,
 ) -> Result<Turn, OptionError>
-    ensures { (n : ℕ) (words : List Word) → GoesOn
-        (Answers command n given.old Free ((number, word.now) ∷ words))
-        (λ turn. Answers command n given.new turn words) result }
+    ensures { Takes command number word.now given.old Free given.new result }
 {
     let Some(option) = next_option(command, given, word) else {
         return Err(OptionError::Fault(OptionFault {
@@ -109,9 +106,7 @@ fn at_word(
     number: u32,
     word: &str,
 ) -> Result<Turn, OptionError>
-    ensures { (n : ℕ) (words : List Word) → GoesOn
-        (Answers command n given.old turn ((number, word.now) ∷ words))
-        (λ turn. Answers command n given.new turn words) result }
+    ensures { Takes command number word.now given.old turn given.new result }
 {
     match turn {
         Turn::Free => at_option(command, given, number, word),

@@ -2,7 +2,7 @@
 use Rattle.std.proofs.Common.{◌≡◌, ◌∙◌, refl, sym, ap, ℕ, zero, suc, ◌+◌, Bool, true, false, List}
 use Rattle.std.proofs.Common.{[], ◌∷◌, length, map, drop, get_or, arith, add-one, drop-cons, cond}
 use Rattle.std.proofs.Common.{Option, Some, None}
-use Rattle.std.specs.List.{list_all, find}
+use Rattle.std.specs.List.{list_any, list_all, find}
 use Rattle.std.proofs.lemmas.List.{drop_all, length-map}
 use Rattle.std.proofs.lemmas.Bool.{and_parts}
 use Rattle.std.proofs.lemmas.Bool.Decides.{nat_tests}
@@ -11,7 +11,7 @@ use Rattle.hum_path.specs.declared.signs.Sign.TheVariants.{Split, Join, Exchange
 use Rattle.hum_path.specs.declared.PathFault.TheVariants.{P1, P2, P3, P4, P5, P6, P7, P9, P10, P11}
 use Rattle.hum_path.specs.declared.moved.Move.{Move}
 use Rattle.hum_path.specs.declared.moved.Move.TheVariants.{Same}
-use Rattle.hum_path.specs.Sign.{sign_of, is_exclusive, is_plain}
+use Rattle.hum_path.specs.Sign.{sign_of, is_exclusive, is_plain, has_exclusive}
 use Rattle.hum_path.specs.Spines.{Spines, exchanges, heirs_from, same_upto, moves_under, renamed, names_after}
 use Rattle.hum_path.specs.Rules.{breaks, in_order}
 
@@ -23,6 +23,15 @@ find_head p x xs h = one (p x) x (find p xs) h
     one : {X : Type 0} (b : Bool) (x : X) (o : Option X) → cond b (Some x) o ≡ None → (b ≡ false) × (o ≡ None)
     one true x o h = cc
     one false x o h = (refl, h)
+
+-- tokens have an exclusive interpretation where their signs do
+pub any_exclusive : (tokens : List (List ℕ)) → list_any is_exclusive (map sign_of tokens) ≡ has_exclusive tokens
+any_exclusive [] = refl
+any_exclusive (token ∷ tokens) = rw (any_exclusive tokens) refl
+
+pub signs_exclusive : (tokens : List (List ℕ)) (signs : List Sign) (has : Bool) → signs ≡ map sign_of tokens
+    → has ≡ has_exclusive tokens → list_any is_exclusive signs ≡ has
+signs_exclusive tokens signs has is e = ap (list_any is_exclusive) is ∙ any_exclusive tokens ∙ sym e
 
 -- as wide as the spines
 pub sound_width : (names : List (List ℕ)) (tokens : List (List ℕ))

@@ -1,8 +1,8 @@
 -- Each spine comes from a spine under a token.
 use Rattle.std.proofs.Common.{◌≡◌, ℕ, zero, suc, ◌+◌, ◌<◌, ◌≤◌, Bool, true, false, List, [], ◌∷◌}
-use Rattle.std.proofs.Common.{◌++◌, length, map, arith, inl, inr, ◌==◌}
+use Rattle.std.proofs.Common.{◌++◌, length, map, arith, inl, inr, ◌==◌, refl, ap, None}
 use Rattle.std.proofs.lemmas.List.{length-map}
-use Rattle.std.specs.List.{AllByRecursion}
+use Rattle.std.specs.List.{AllByRecursion, find}
 use Rattle.std.proofs.lemmas.Bool.{cases_Bool}
 use Rattle.hum_path.specs.declared.signs.Sign.{Sign}
 use Rattle.hum_path.specs.declared.signs.Sign.TheVariants.{Split, Join, Exchange, Add, End, Exclusive, Plain}
@@ -12,7 +12,8 @@ use Rattle.hum_record.specs.Row.{Row, Comment, Spined, tokens_of}
 use Rattle.hum_path.specs.Sign.{sign_of, is_join, is_exchange, steers}
 use Rattle.hum_path.specs.Step.{ComeFrom}
 use Rattle.hum_path.specs.Spines.{Path, Unopened, Spines, exchanges, partner, heirs, heirs_from}
-use Rattle.hum_path.specs.Spines.{same_upto, moves_at, source}
+use Rattle.hum_path.specs.Spines.{same_upto, moves_at, moves, after, names_after, source, Tracked}
+use Rattle.hum_path.specs.Rules.{breaks, in_order, fault_of}
 
 -- moves that come from places below n
 abbrev pub From : ℕ → List Move → Type 0
@@ -64,9 +65,17 @@ moves_below (Spines names) tokens =
     let size : length signs ≡ length tokens = length-map tokens sign_of in
     all_below (length tokens) 0 (exchanges 0 signs) false signs (exchanged_below (length tokens) 0 signs (omega (arith, size))) (omega (arith, size))
 
--- under a record that asks something of the spines
-pub steered_below : (path : Path) (row : Row) → steers row ≡ true → ComeFrom row (moves_at path (tokens_of row))
-steered_below path (Comment text) h = cc
-steered_below path (Spined Local tokens) h = cc
-steered_below path (Spined Values tokens) h = cc
-steered_below path (Spined Interpretation tokens) h = moves_below path tokens
+-- what a record that asks something of the spines leaves, where it breaks no rule
+pub steered : (path : Path) (names : List (List ℕ)) (moved : List Move) (row : Row) → steers row ≡ true
+    → find (breaks path (tokens_of row)) in_order ≡ None → moved ≡ moves_at path (tokens_of row) → names ≡ names_after path (tokens_of row)
+    → (fault_of path row ≡ None) × (moved ≡ moves path row) × (Spines names ≡ after path row) × ComeFrom row moved
+steered path names moved (Comment text) h none is named = cc
+steered path names moved (Spined Local tokens) h none is named = cc
+steered path names moved (Spined Values tokens) h none is named = cc
+steered path names moved (Spined Interpretation tokens) h none is named = (none, is, ap Spines named, rw is (moves_below path tokens))
+
+abbrev spines : Path → Bool → Tracked
+spines path spent = record { path = path; spent = spent }
+
+pub tracked : (p q : Path) (s t : Bool) → p ≡ q → s ≡ t → spines p s ≡ spines q t
+tracked p q s t paths spents = rw (paths, spents) refl

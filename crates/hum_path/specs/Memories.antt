@@ -3,6 +3,8 @@ use Rattle.std.specs.Prelude.{◌≡◌, ℕ, Bool, List, [], ◌∷◌, map, sl
 use Rattle.hum_record.specs.Row.{Row}
 use Rattle.hum_path.specs.declared.moved.Move.{Move}
 use Rattle.hum_path.specs.declared.moved.Move.TheVariants.{Same, Left, Right, Join as Joined, Added}
+use Rattle.hum_path.specs.Spines.{moves}
+use Rattle.hum_path.specs.Score.{path_after}
 use Rattle.hum_path.specs.Chains.{columns}
 
 -- What is remembered of a chain whose nearest cell comes first: the farthest is seen first.
@@ -33,6 +35,13 @@ memory_of see fresh tokens memories (Same j) = seen_at see fresh tokens memories
 memory_of see fresh tokens memories (Left j) = seen_at see fresh tokens memories j
 memory_of see fresh tokens memories (Right j) = seen_at see fresh tokens memories j
 memory_of see fresh tokens memories (Joined first last) = seen_at see fresh tokens memories first
+
+-- After a record behind others, whose moves these are, memories of the cells above stay memories of
+-- the cells above.
+abbrev pub GoOn : {M : Type 0} → (List ℕ → M → M) → M → Row → List Move → List M → List M → Type 0
+GoOn see fresh row found before after =
+    (past : List Row) → Remember see fresh past before → found ≡ moves (path_after past) row
+    → Remember see fresh (row ∷ past) after
 
 -- the memories of the spines, and whether memory was wanted
 pub record Memories (M : Type 0) : Type 0 where

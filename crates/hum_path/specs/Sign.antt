@@ -1,6 +1,6 @@
 -- What a token asks of the spines.
 use Rattle.std.specs.Prelude.{ℕ, Bool, true, false, ◌||◌, not, nat_eq, List, map, if◌then◌else◌}
-use Rattle.std.specs.List.{starts_with, list_all}
+use Rattle.std.specs.List.{starts_with, list_any, list_all}
 use Rattle.std.specs.Str.{bytes_eq}
 use lib.Chars.{codes}
 use Rattle.hum_record.specs.declared.SpinedKind.TheVariants.{Interpretation}
@@ -36,6 +36,10 @@ is_plain _ = false
 
 abbrev pub is_path_indicator : Sign → Bool
 is_path_indicator sign = not (is_exclusive sign || is_plain sign)
+
+-- some token is an exclusive interpretation
+abbrev pub has_exclusive : List (List ℕ) → Bool
+has_exclusive = list_any (λ token. is_exclusive (sign_of token))
 
 -- no token is a path indicator or an exclusive interpretation
 abbrev pub all_plain : List (List ℕ) → Bool

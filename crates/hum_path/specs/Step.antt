@@ -1,9 +1,10 @@
 -- What one step over a record answers.
 use Rattle.std.specs.Prelude.{◌≡◌, ◌≢◌, ◌<◌, ◌≤◌, Bool, false, ℕ, List, [], length, None}
-use Rattle.std.specs.Prelude.{Some, Result, Ok, Err}
+use Rattle.std.specs.Prelude.{Some, Result, Ok, Err, IsTrue}
 use Rattle.std.specs.List.{list_any, find, AllByRecursion}
 use Rattle.std.specs.declared.vec.Vec.{Vec}
 use Rattle.std.specs.declared.alloc.Global.{Global}
+use Rattle.std.specs.declared.alloc.AllocError.{AllocError}
 use Rattle.hum_record.specs.Row.{Row, Comment, Spined}
 use Rattle.hum_record.specs.Spelling.{is_empty}
 use Rattle.hum_path.specs.declared.moved.Move.{Move}
@@ -11,8 +12,9 @@ use Rattle.hum_path.specs.declared.moved.Moves.{Moves}
 use Rattle.hum_path.specs.declared.PathFault.{PathFault}
 use Rattle.hum_path.specs.declared.PathFault.TheVariants.{Memory}
 use Rattle.hum_path.specs.declared.steering.NextSpines.{NextSpines}
-use Rattle.hum_path.specs.Spines.{Path, moves, after, source, texts}
-use Rattle.hum_path.specs.Rules.{fault_of, breaks, in_order}
+use Rattle.hum_path.specs.Sign.{steers}
+use Rattle.hum_path.specs.Spines.{Path, Tracked, moves, after, source, texts}
+use Rattle.hum_path.specs.Rules.{fault_of, breaks, in_order, Refuses}
 use Rattle.hum_path.specs.Asked.{IsStepBy}
 
 -- each spine comes from one under a token of the record; a global comment has no tokens
@@ -29,6 +31,28 @@ IsStay path row (Ok found) =
     × (found ≡ moves path row)
     × ComeFrom row found
 IsStay path row (Err fault) = (fault_of path row ≡ Some fault) × (fault ≢ Memory)
+
+-- the spines before an interpretation that asks something of them, those behind it, and what it
+-- answers; behind a rule that it breaks nothing has changed
+abbrev pub HasSteered : Tracked → Row → Tracked → Result Moves PathFault → Type 0
+HasSteered old row new (Ok found) =
+    (fault_of old.path row ≡ None)
+    × (found ≡ moves old.path row)
+    × (new ≡ record old { path = after old.path row })
+    × ComeFrom row found
+HasSteered old row new (Err fault) =
+    Refuses fault (fault_of old.path row)
+    × (fault ≢ Memory → new ≡ old)
+    × (fault ≡ Memory → IsTrue new.spent)
+
+-- the same of an interpretation that breaks no rule
+abbrev pub HasFollowed : Tracked → Row → Tracked → Result Moves AllocError → Type 0
+HasFollowed old row new (Ok found) =
+    (found ≡ moves old.path row)
+    × (new ≡ record old { path = after old.path row })
+    × ComeFrom row found
+HasFollowed old row new (Err error) =
+    (steers row ≡ false → IsTrue old.spent) × IsTrue new.spent
 
 -- where an interpretation breaks no rule, the moves and the exclusive interpretations after it;
 -- else the first rule that it breaks

@@ -1,15 +1,12 @@
 //! One memory for each spine.
-ghost use Rattle.std.specs.Prelude.{◌≡◌, ◌∷◌, ◌<◌, true, false, map, length, List, [], ℕ};
+ghost use Rattle.std.specs.Prelude.{◌≡◌, ◌<◌, true, false, map, length, List, [], ℕ};
 ghost use Rattle.std.specs.Prelude.{slice_index_or, IsTrue, IsErr, OnOk, OnErr, IfOk};
 ghost use Rattle.std.specs.List.{AllByRecursion};
-ghost use Rattle.hum_record.specs.declared.SpinedKind.{SpinedKind};
-ghost use Rattle.hum_record.specs.declared.Kind.TheVariants.{Interpretation};
-ghost use Rattle.hum_record.specs.Row.{Row, kind_of, width_of, tokens_of};
+ghost use Rattle.hum_record.specs.declared.{SpinedKind.SpinedKind, Kind.TheVariants.Interpretation};
+ghost use Rattle.hum_record.specs.Row.{kind_of, width_of, tokens_of};
 ghost use Rattle.hum_record.specs.Spelling.{IsToken};
-ghost use Rattle.hum_path.specs.Spines.{source, same_upto, moves};
-ghost use Rattle.hum_path.specs.Score.{path_after};
-ghost use Rattle.hum_path.specs.Step.{ComeFrom};
-ghost use Rattle.hum_path.specs.Memories.{memory_of, seen_each, Remember};
+ghost use Rattle.hum_path.specs.{Spines.source, Spines.same_upto, Step.ComeFrom};
+ghost use Rattle.hum_path.specs.Memories.{memory_of, seen_each, GoOn};
 
 use crate::moved::{Move, Moves};
 use hum_record::{Kind, Record};
@@ -164,10 +161,8 @@ fn go_on<M: ColumnMemory>(
     memories: &mut Vec<M>,
 ) -> Result<(), AllocError>
     requires { ComeFrom row.now found.now }
-    ensures memories { OnOk result ((past : List Row)
-        → Remember (M.seen rule.old) M.beginning past memories.old.items
-        → found.now ≡ moves (path_after past) row.now
-        → Remember (M.seen rule.old) M.beginning (row.now ∷ past) memories.new.items) }
+    ensures memories { OnOk result (GoOn (M.seen rule.old) M.beginning row.now found.now
+        memories.old.items memories.new.items) }
     ensures kept { rule.new ≡ rule.old }
 {
     if moves_some(row, found, memories.len()) {
@@ -216,10 +211,8 @@ impl<M: ColumnMemory> Carried<M> {
         found: &Moves,
     ) -> Result<(), AllocError>
         requires { ComeFrom row.now found.now }
-        ensures memories { OnOk result ((past : List Row)
-            → Remember (M.seen rule.old) M.beginning past self.old.each
-            → found.now ≡ moves (path_after past) row.now
-            → Remember (M.seen rule.old) M.beginning (row.now ∷ past) self.new.each) }
+        ensures memories { OnOk result
+            (GoOn (M.seen rule.old) M.beginning row.now found.now self.old.each self.new.each) }
         // The rule stays what it was.
         ensures kept { rule.new ≡ rule.old }
         ensures spent { OnErr result (IsTrue self.new.spent) }

@@ -1,12 +1,9 @@
 //! What holds of every record and of every score, as contracts.
 ghost use Rattle.std.specs.Prelude.{ℕ, List};
 ghost use Rattle.hum_record.specs.Row.{Row};
-ghost use Rattle.hum_path.specs.Spines.{Path};
-ghost use Rattle.hum_path.specs.Places.{AreRulesByPlace};
-ghost use Rattle.hum_path.specs.Turned.{StepsTurn, ColumnsTurn};
-ghost use Rattle.hum_path.specs.Score.{IsOpen};
-ghost use Rattle.hum_path.specs.Chains.{origins};
-ghost use Rattle.hum_path.specs.Origins.{AreOrigins};
+ghost use Rattle.hum_path.specs.{Spines.Path, Places.AreRulesByPlace, Turned.StepsTurn};
+ghost use Rattle.hum_path.specs.{Turned.ColumnsTurn, Score.IsOpen, Chains.origins};
+ghost use Rattle.hum_path.specs.{Origins.AreOrigins};
 
 /// Of an interpretation after others: P3 is broken exactly where some `*v` has no `*v` beside it;
 /// P4 isn't broken exactly where no `*x` stands in it, or two; P5 is broken exactly where two `*v`

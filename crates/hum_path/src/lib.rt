@@ -25,9 +25,9 @@ pub use carried::{Carried, ColumnMemory};
 pub use marks::Marks;
 pub use moved::{Move, Moves};
 pub use origins::Origins;
-pub use signs::{Sign, steers, token_sign};
+pub use signs::{Sign, has_exclusive, steers, token_sign};
 pub use spine_paths::Paths;
-use std::alloc::{AllocError, AllocFailed};
+use std::alloc::AllocError;
 use thiserror::Error;
 
 /// How many spines a record may have.
@@ -78,14 +78,6 @@ impl From<AllocError> for PathFault {
     ghost from_gives = { λ _ e. e ≡ Memory };
 
     fn from(_e: AllocError) -> PathFault {
-        PathFault::Memory
-    }
-}
-
-impl<T: Drop> From<AllocFailed<T>> for PathFault {
-    ghost from_gives = { λ _ e. e ≡ Memory };
-
-    fn from(_e: AllocFailed<T>) -> PathFault {
         PathFault::Memory
     }
 }

@@ -1,17 +1,16 @@
 //! The tests of the path rules.
 ghost use Rattle.std.specs.Prelude.{◌≡◌, ◌≢◌, ◌<◌, length, drop, false, map, IfOk, IfSome};
-ghost use Rattle.hum_path.specs.declared.PathFault.TheVariants.{Memory};
 ghost use Rattle.std.specs.List.{list_any, list_all, find};
-ghost use Rattle.hum_record.specs.Spelling.{is_empty};
-ghost use Rattle.hum_record.specs.Row.{tokens_of};
+ghost use Rattle.hum_path.specs.declared.PathFault.TheVariants.{Memory};
 ghost use Rattle.hum_path.specs.Sign.{sign_of, is_exclusive, is_path_indicator};
 ghost use Rattle.hum_path.specs.Spines.{Unopened, Spines, exchanges, path_in, texts};
 ghost use Rattle.hum_path.specs.Rules.{has_bare, stays_unnamed, has_unnamed, has_lone_join};
-ghost use Rattle.hum_path.specs.Rules.{mixes_join, has_mixed_join, names_and_steers};
-ghost use Rattle.hum_path.specs.Rules.{breaks, breaks_as_text, in_order};
+ghost use Rattle.hum_path.specs.Rules.{mixes_join, has_mixed_join, names_and_steers, breaks};
+ghost use Rattle.hum_path.specs.Rules.{breaks_as_text, in_order};
 ghost use Rattle.hum_path.specs.Asked.{on_signs};
+ghost use Rattle.hum_record.specs.{Spelling.is_empty, Row.tokens_of};
 
-use crate::signs::{Sign, token_sign};
+use crate::signs::{Sign, has_exclusive, token_sign};
 use crate::{MOST_SPINES, PathFault};
 use hum_record::Record;
 use std::alloc::{AllocError, Global};
@@ -97,16 +96,11 @@ fn all_exclusive(row: &Record) -> bool
 }
 
 /// Whether an exclusive interpretation stands beside a path indicator.
-fn names_and_steers(signs: &[Sign]) -> bool
+fn names_and_steers(row: &Record, signs: &[Sign]) -> bool
+    requires { signs.now ≡ map sign_of (tokens_of row.now) }
     ensures { result ≡ names_and_steers signs.now }
 {
-    any_exclusive(signs) && any_indicator(signs)
-}
-
-fn any_exclusive(signs: &[Sign]) -> bool
-    ensures { result ≡ list_any is_exclusive signs.now }
-{
-    signs.iter().any(|s| s.is_exclusive())
+    has_exclusive(row) && any_indicator(signs)
 }
 
 fn any_indicator(signs: &[Sign]) -> bool
@@ -162,7 +156,7 @@ pub(crate) fn sign_fault(
     if has_bare(row) {
         return Some(PathFault::P10);
     }
-    if names_and_steers(signs) {
+    if names_and_steers(row, signs) {
         return Some(PathFault::P11);
     }
     if has_lone_join(signs) {

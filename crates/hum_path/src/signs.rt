@@ -2,7 +2,7 @@
 ghost use Rattle.std.specs.Prelude.{◌≡◌};
 ghost use Rattle.hum_record.specs.Row.{tokens_of};
 ghost use Rattle.hum_path.specs.Sign.{sign_of, is_join, is_exchange, is_exclusive, is_plain};
-ghost use Rattle.hum_path.specs.Sign.{is_path_indicator, all_plain, steers};
+ghost use Rattle.hum_path.specs.Sign.{is_path_indicator, has_exclusive, all_plain, steers};
 
 use hum_record::{Kind, Record};
 
@@ -76,6 +76,13 @@ pub fn token_sign(token: &[u8]) -> Sign
         b"*-" => Sign::End,
         _ => Sign::Plain,
     }
+}
+
+/// Whether a record has an exclusive interpretation.
+pub fn has_exclusive(row: &Record) -> bool
+    ensures { result ≡ has_exclusive (tokens_of row.now) }
+{
+    row.tokens().any(|token| token_sign(token).is_exclusive())
 }
 
 /// Whether each token of an interpretation asks nothing of the spines.

@@ -1,12 +1,11 @@
 //! The spines of a score, record by record.
-ghost use Rattle.std.specs.Prelude.{◌≡◌, ◌≢◌, ◌<◌, ◌≤◌, [], true, false, IsTrue};
-ghost use Rattle.std.specs.Prelude.{if◌then◌else◌, slice_index_or, Ok, Err, None};
-ghost use Rattle.std.specs.Prelude.{IfOk, IfErr, OnOk, IsErr};
+ghost use Rattle.std.specs.Prelude.{◌≡◌, ◌≢◌, ◌<◌, ◌≤◌, [], true, false, IsTrue, if◌then◌else◌};
+ghost use Rattle.std.specs.Prelude.{slice_index_or, Ok, Err, None, IfOk, IfErr, OnOk, IsErr};
 ghost use Rattle.std.specs.Allocator.{alloc_error};
 ghost use Rattle.hum_path.specs.Sign.{steers};
 ghost use Rattle.hum_path.specs.Spines.{Unopened, exclusives, width, moves, after};
 ghost use Rattle.hum_path.specs.Rules.{fault_of, Refuses, is_unfinished, is_closed};
-ghost use Rattle.hum_path.specs.Step.{ComeFrom, IsStay};
+ghost use Rattle.hum_path.specs.Step.{ComeFrom, HasFollowed, HasSteered, IsStay};
 ghost use Rattle.hum_path.specs.declared.PathFault.TheVariants.{Memory, P8};
 
 use crate::PathFault;
@@ -124,7 +123,7 @@ impl Paths {
     /// which each later call answers again.
     pub fn step(&mut self, row: &Record) -> Result<Moves, PathFault>
         // No rule is broken, and the spines are those after the record.
-        ensures sound { OnOk result (fault_of self.old.path row.now ≡ None) }
+        ensures valid { OnOk result (fault_of self.old.path row.now ≡ None) }
         ensures moves { IfOk result (λ found. found ≡ moves self.old.path row.now) }
         ensures after { OnOk result
             (self.new ≡ record self.old { path = after self.old.path row.now }) }
@@ -177,12 +176,7 @@ impl Paths {
     #[inline(never)]
     fn follow_interpretation(&mut self, row: &Record) -> Result<Moves, AllocError>
         requires { fault_of self.old.path row.now ≡ None }
-        ensures moves { IfOk result (λ found. found ≡ moves self.old.path row.now) }
-        ensures after { OnOk result
-            (self.new ≡ record self.old { path = after self.old.path row.now }) }
-        ensures sources { IfOk result (ComeFrom row.now) }
-        ensures free { steers row.now ≡ false → IsErr result → IsTrue self.old.spent }
-        ensures spent { IfErr result (λ _. IsTrue self.new.spent) }
+        ensures followed { HasFollowed self.old row.now self.new result }
         ensures again { IsTrue self.old.spent → result ≡ Err alloc_error }
     {
         match self.step(row) {
@@ -210,14 +204,7 @@ impl Paths {
     fn steer(&mut self, row: &Record) -> Result<Moves, PathFault>
         requires steers { steers row.now ≡ true }
         requires alive { self.old.spent ≡ false }
-        ensures sound { OnOk result (fault_of self.old.path row.now ≡ None) }
-        ensures moves { IfOk result (λ found. found ≡ moves self.old.path row.now) }
-        ensures after { OnOk result
-            (self.new ≡ record self.old { path = after self.old.path row.now }) }
-        ensures sources { IfOk result (ComeFrom row.now) }
-        ensures refused { IfErr result (λ fault. Refuses fault (fault_of self.old.path row.now)) }
-        ensures unchanged { IfErr result (λ fault. fault ≢ Memory → self.new ≡ self.old) }
-        ensures spent { IfErr result (λ fault. fault ≡ Memory → IsTrue self.new.spent) }
+        ensures { HasSteered self.old row.now self.new result }
     {
         match spines_after(self.alloc, self.opened, &self.names, row) {
             Ok(NextSpines { moves, names }) => {

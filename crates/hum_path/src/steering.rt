@@ -1,15 +1,13 @@
 //! The spines after an interpretation that asks something of them.
 ghost use Rattle.std.specs.Prelude.{◌≡◌, ◌≢◌, ◌+◌, ◌<◌, ◌≤◌, [], ◌∷◌, ◌++◌, false, map, length};
 ghost use Rattle.std.specs.Prelude.{slice_index_or, IfOk, OnOk};
+ghost use Rattle.std.specs.List.{find};
 ghost use Rattle.hum_record.specs.Row.{tokens_of};
 ghost use Rattle.hum_path.specs.Spines.{exchanges, joins_at_front, partner, heirs, heirs_from};
-ghost use Rattle.hum_path.specs.Spines.{same_upto, renamed, path_in, Unopened, Spines, texts};
-ghost use Rattle.std.specs.List.{find};
+ghost use Rattle.hum_path.specs.Spines.{same_upto, renamed, moves_at, path_in, Unopened, Spines};
+ghost use Rattle.hum_path.specs.Spines.{texts};
+ghost use Rattle.hum_path.specs.{Sign.sign_of, Rules.breaks, Asked.IsStepBy, Step.IsStep};
 ghost use Rattle.hum_path.specs.declared.PathFault.TheVariants.{P9};
-ghost use Rattle.hum_path.specs.Sign.{sign_of};
-ghost use Rattle.hum_path.specs.Rules.{breaks};
-ghost use Rattle.hum_path.specs.Asked.{IsStepBy};
-ghost use Rattle.hum_path.specs.Step.{IsStep};
 
 use crate::moved::Move;
 use crate::rules::{opening_fault, sign_fault, signs};
@@ -202,21 +200,17 @@ fn open(alloc: Global, row: &Record) -> Result<NextSpines, PathFault>
     Ok(NextSpines { moves, names })
 }
 
-/// The spines that come of those under the signs, unless there are too many.
-fn spines_under(
+/// The spines that come by these moves, unless there are too many.
+fn next_spines(
     alloc: Global,
     names: &[Vec<u8>],
     row: &Record,
-    signs: &[Sign],
-    pair: &[u16],
+    moves: Vec<Move>,
 ) -> Result<NextSpines, PathFault>
-    requires signs { signs.now ≡ map sign_of (tokens_of row.now) }
-    requires pair { pair.now ≡ exchanges 0 signs.now }
-    requires few { length signs.now ≤ 4096 }
+    requires { moves.items ≡ moves_at (Spines (texts names.now)) (tokens_of row.now) }
     ensures { let path = Spines (texts names.now) in
         IsStepBy (find (breaks path (tokens_of row.now)) (P9 ∷ [])) path (tokens_of row.now) result }
 {
-    let moves = heirs(alloc, pair, signs)?;
     if moves.len() > MOST_SPINES {
         return Err(PathFault::P9);
     }
@@ -240,7 +234,10 @@ fn advance_under(
     let pair = exchanges(alloc, signs)?;
     match sign_fault(names, row, signs, &pair) {
         Some(fault) => Err(fault),
-        None => spines_under(alloc, names, row, signs, &pair),
+        None => {
+            let moves = heirs(alloc, &pair, signs)?;
+            next_spines(alloc, names, row, moves)
+        }
     }
 }
 

@@ -9,7 +9,7 @@ use Rattle.hum_pattern.specs.declared.PatternFault.TheVariants.{Refused, TooLarg
 abbrev pub Answered : List ℕ → Result (List ℕ) PatternFault → Type 0
 Answered given result = record {
   text : IfOk result (λ pattern. pattern ≡ given);
-  sound : OnOk result (IsExpression given);
+  valid : OnOk result (IsExpression given);
   refused : IfErr result (λ fault. fault ≡ Refused → IsNone given);
   too_large : IfErr result (λ fault. fault ≡ TooLarge → IsExpression given);
 }
@@ -24,7 +24,7 @@ pub out_of_memory : (given : List ℕ) (result : Result (List ℕ) PatternFault)
 out_of_memory given (Ok pattern) none = absurd none
 out_of_memory given (Err fault) is = record {
   text = tt;
-  sound = tt;
+  valid = tt;
   refused = λ e. absurd (not_refused (sym is ∙ e));
   too_large = λ e. absurd (not_large (sym is ∙ e));
 }

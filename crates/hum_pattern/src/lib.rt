@@ -139,7 +139,7 @@ impl Pattern {
     /// [`PatternFault::Refused`] and [`PatternFault::TooLarge`] by the text, and running out of memory.
     pub fn new(alloc: Global, text: &str) -> Result<Pattern, PatternFault>
         ensures text { IfOk result (λ pattern. pattern ≡ text.now) }
-        ensures sound { OnOk result (IsExpression text.now) }
+        ensures valid { OnOk result (IsExpression text.now) }
         ensures refused { IfErr result (λ fault. fault ≡ Refused → IsNone text.now) }
         ensures too_large { IfErr result (λ fault. fault ≡ TooLarge → IsExpression text.now) }
     {

@@ -18,7 +18,7 @@ use Rattle.hum_path.specs.Onward.{beginnings, onward, renamed_each}
 use Rattle.hum_path.specs.Score.{IsOpen, path_after}
 use Rattle.hum_path.proofs.Obeyed.{opens, obeys, narrow}
 use Rattle.hum_path.proofs.Onwards.{names_onward, swapped_none, each_length}
-use Rattle.hum_path.proofs.Plain.{plain_stays}
+use Rattle.hum_path.proofs.Plain.{any_exclusive, plain_stays}
 use Rattle.hum_path.proofs.Staying.{plain_breaks}
 use Rattle.hum_frac.specs.Ratio.{Ratio}
 use Rattle.hum_stage.specs.declared.faults.Rule.{Rule}
@@ -119,14 +119,10 @@ tbs_plain : (text : List ℕ) (tokens : List (List ℕ)) → all_plain (map (tb_
 tbs_plain text [] = refl
 tbs_plain text (token ∷ tokens) = rw (tb_plain text token) (tbs_plain text tokens)
 
-any_signs : (tokens : List (List ℕ)) → list_any is_exclusive (map sign_of tokens) ≡ names_some tokens
-any_signs [] = refl
-any_signs (token ∷ tokens) = rw (any_signs tokens) refl
-
 -- exclusive interpretations stand beside no path indicator
 quiet_steers : (tokens : List (List ℕ)) (indicators : Bool) → names_some tokens ≡ true →
     (list_any is_exclusive (map sign_of tokens) && indicators) ≡ false → indicators ≡ false
-quiet_steers tokens indicators some h = rw (any_signs tokens, some) at h
+quiet_steers tokens indicators some h = rw (any_exclusive tokens, some) at h
 
 quiet_exchanges : (j : ℕ) (signs : List Sign) → list_any is_path_indicator signs ≡ false → exchanges j signs ≡ []
 quiet_exchanges j [] h = refl

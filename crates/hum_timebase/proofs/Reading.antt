@@ -158,8 +158,3 @@ sounds_noted timed tokens notes None has read none is some =
     let free = no_notes timed tokens silent in
     let noted = is (notes_of timed tokens) read.1 in
     cc)
-
--- the first of the tokens left, and those behind it
-pub any_at : (f : List ℕ → Bool) (tokens : List (List ℕ)) (j : ℕ) {b : Bool} → j < length tokens → f (get_or tokens j []) ≡ b
-    → list_any f (drop j tokens) ≡ (b || list_any f (drop (j + 1) tokens))
-any_at f tokens j within test = at_drop_more (list_any f) tokens j [] within ∙ ap (λ t. t || list_any f (drop (j + 1) tokens)) test

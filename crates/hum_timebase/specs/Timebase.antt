@@ -6,7 +6,7 @@ use Rattle.std.specs.List.{list_any, list_all}
 use lib.Chars.{codes}
 use Rattle.hum_record.specs.declared.SpinedKind.TheVariants.{Interpretation, Values}
 use Rattle.hum_record.specs.Row.{Row, Comment, Spined}
-use Rattle.hum_path.specs.Sign.{sign_of, is_exclusive}
+use Rattle.hum_path.specs.Sign.{sign_of, is_exclusive, has_exclusive}
 use Rattle.hum_path.specs.Score.{path_after}
 use Rattle.hum_frac.specs.Ratio.{Ratio, plus, fits, is_before}
 use Rattle.hum_frac.specs.Multiples.{is_multiple, multiples_between}
@@ -94,7 +94,7 @@ data_rows step clock timed tokens =
     (map latest (living_at time notes before)) tokens
 
 abbrev pub names_some : List (List ℕ) → Bool
-names_some = list_any (λ token. is_exclusive (sign_of token))
+names_some = has_exclusive
 
 -- the token under an exclusive interpretation, and under others
 abbrev pub tb_token : List ℕ → List ℕ → List ℕ

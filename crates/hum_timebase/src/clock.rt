@@ -1,8 +1,7 @@
 //! The time of each record.
 ghost use Rattle.std.specs.Prelude.{◌≡◌, ◌+◌, ◌<◌, ◌^◌, IfOk, OnOk, IfErr, Ok, Err, None, Some, []};
 ghost use Rattle.hum_frac.specs.Multiples.{is_multiple};
-ghost use Rattle.hum_timebase.specs.Clock.{time_after};
-ghost use Rattle.hum_timebase.specs.Placed.{OfColumns};
+ghost use Rattle.hum_timebase.specs.{Clock.time_after, Placed.OfColumns};
 ghost use Rattle.hum_timebase.specs.Timebase.{multiples_from, count_before, count_after};
 
 use crate::ends::{drop_untimed, ends_by, has_clash, next_end, sound};
@@ -106,7 +105,7 @@ impl Clock {
     }
 
     /// Takes a record whose cells stand in these columns, but for its notes.
-    pub(crate) fn rest(&mut self, timed: &Marks)
+    pub(crate) fn keep_timed(&mut self, timed: &Marks)
         ensures { self.new ≡ rested timed.now self.old }
     {
         if timed.all() {

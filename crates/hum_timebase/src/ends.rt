@@ -1,12 +1,11 @@
 //! Ends of notes, one for each column.
-ghost use Rattle.std.specs.Prelude.{◌≡◌, ◌++◌, true, false, map, None, Some};
-ghost use Rattle.std.specs.Prelude.{List, Option, IfOk, OnErr, OnOk, slice_index_or, slice_set};
+ghost use Rattle.std.specs.Prelude.{◌≡◌, ◌++◌, true, false, map, None, Some, List, Option, IfOk};
+ghost use Rattle.std.specs.Prelude.{OnErr, OnOk, slice_index_or, slice_set};
 ghost use Rattle.std.specs.List.{list_any};
 ghost use Rattle.hum_frac.specs.Ratio.{Ratio, plus};
 ghost use Rattle.hum_timebase.specs.Ends.{later, sooner, beyond, next_end};
 ghost use Rattle.hum_timebase.specs.Kept.{end_if_timed, ends_before, ends_after, end_by};
-ghost use Rattle.hum_timebase.specs.Placed.{OfColumns};
-ghost use Rattle.hum_timebase.specs.Spans.{low_of, high_of};
+ghost use Rattle.hum_timebase.specs.{Placed.OfColumns, Spans.low_of, Spans.high_of};
 ghost use Rattle.hum_timebase.specs.Timebase.{clash, clashes, is_too_long};
 
 use crate::notes::NoteAt;

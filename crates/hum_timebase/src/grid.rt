@@ -1,6 +1,6 @@
 //! What each record becomes.
-ghost use Rattle.std.specs.Prelude.{◌≡◌, [], ◌∷◌, Ok, Err, Some, None, ℕ};
-ghost use Rattle.std.specs.Prelude.{OnOk, is_some, if◌then◌else◌, List, Bool};
+ghost use Rattle.std.specs.Prelude.{◌≡◌, [], ◌∷◌, Ok, Err, Some, None, ℕ, OnOk, is_some};
+ghost use Rattle.std.specs.Prelude.{if◌then◌else◌, List, Bool};
 ghost use Rattle.std.specs.List.{list_any};
 ghost use Rattle.hum_record.specs.Row.{Row, kind_of, tokens_of, text_of};
 ghost use Rattle.hum_record.specs.Spelling.{IsTextOf};
@@ -9,22 +9,20 @@ ghost use Rattle.hum_record.specs.declared.Kind.TheVariants.{Values as AnyValues
 ghost use Rattle.hum_path.specs.Spines.{after};
 ghost use Rattle.hum_stage.specs.Decided.{Decision, MayStep, HasStepped};
 ghost use Rattle.hum_stage.specs.Refusals.{IfTold};
-ghost use Rattle.hum_timebase.specs.Timebase.{timebase, around};
+ghost use Rattle.hum_timebase.specs.{Timebase.timebase, Timebase.around, Following.Follows};
+ghost use Rattle.hum_timebase.specs.{Following.Answers, Notes.notes_of, Placed.OfColumns};
+ghost use Rattle.hum_timebase.specs.{Reading.content_of, Reading.Read, Kept.sounding_rows};
+ghost use Rattle.hum_timebase.specs.{Kept.struck};
 ghost use Rattle.hum_choices.specs.Timebase.{pace_of};
-ghost use Rattle.hum_timebase.specs.Following.{Follows, Answers};
-ghost use Rattle.hum_timebase.specs.Notes.{notes_of};
-ghost use Rattle.hum_timebase.specs.Placed.{OfColumns};
-ghost use Rattle.hum_timebase.specs.Reading.{content_of, Read};
-ghost use Rattle.hum_timebase.specs.Kept.{sounding_rows, struck};
 
 use crate::clock::{Clock, Strike};
 use crate::due::Around;
 use crate::notes::{Content, NoteAt, content_of, read_notes, timed_at, timed_in};
 use crate::pace::Pace;
-use crate::records::{names_some, tb_record};
+use crate::records::tb_record;
 use hum_choices::TimebaseOptions;
 use hum_kern::KernFault;
-use hum_path::{Marks, Paths};
+use hum_path::{Marks, Paths, has_exclusive};
 use hum_record::{Kind, Record};
 use hum_stage::{Command, Decides, Refusal, Rule};
 use std::alloc::{AllocError, Global};
@@ -109,7 +107,7 @@ impl Grid {
     {
         let own = timed_at(self.alloc, &self.paths, row)?;
         let found = self.paths.follow(row)?;
-        self.clock.rest(&own);
+        self.clock.keep_timed(&own);
         self.clock.lead(self.alloc, &found)?;
         self.timed = timed_in(self.alloc, &self.paths)?;
         Ok(())
@@ -127,7 +125,7 @@ impl Grid {
             row room out.new None) }
     {
         self.follow(&row)?;
-        if !names_some(&row) {
+        if !has_exclusive(&row) {
             out.put(row);
             return Ok(());
         }
@@ -156,7 +154,7 @@ impl Grid {
             self.old.timed (tokens_of row)) room out.new) }
         ensures clock { OnOk result
             (self.new.clock ≡ struck (notes_of self.old.timed (tokens_of row)) self.old.clock) }
-        ensures rest { OnOk result (self.new
+        ensures kept { OnOk result (self.new
             ≡ record self.old {
               clock = self.new.clock;
             }) }
@@ -189,7 +187,7 @@ impl Grid {
             (Follows self.new.pace self.new.paths.path self.new.timed self.new.clock)
             row room out.new) }
     {
-        self.clock.rest(&self.timed);
+        self.clock.keep_timed(&self.timed);
         let misread = read_notes(self.timed.each(), &row, &mut self.notes)?;
         match content_by(misread, &self.notes, &row) {
             Content::Nulls => Ok(()),
@@ -240,7 +238,7 @@ impl Decides for Grid {
                 Ok(())
             }
             Kind::Local => {
-                self.clock.rest(&self.timed);
+                self.clock.keep_timed(&self.timed);
                 out.put(next);
                 Ok(())
             }

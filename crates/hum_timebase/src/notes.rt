@@ -1,18 +1,14 @@
 //! Timed columns, and the notes in their cells.
-ghost use Rattle.std.specs.Prelude.{◌≡◌, ◌∷◌, ◌++◌, ◌≤◌, ◌<◌, [], length, true, false};
-ghost use Rattle.std.specs.Prelude.{IfOk, OnOk, IfSome, slice_index_or, is_some, ◌&&◌};
-ghost use Rattle.hum_record.specs.Row.{tokens_of};
-ghost use Rattle.hum_record.specs.Contents.{is_null, is_barline};
+ghost use Rattle.std.specs.Prelude.{◌≡◌, ◌∷◌, ◌++◌, ◌≤◌, ◌<◌, [], length, true, false, IfOk, OnOk};
+ghost use Rattle.std.specs.Prelude.{IfSome, slice_index_or, is_some, ◌&&◌};
+ghost use Rattle.hum_record.specs.{Row.tokens_of, Contents.is_null, Contents.is_barline};
 ghost use Rattle.hum_path.specs.Spines.{exclusives};
-ghost use Rattle.hum_kern.specs.Duration.{value_in, is_refused};
-ghost use Rattle.hum_kern.specs.Runs.{run};
-ghost use Rattle.hum_kern.specs.Subtokens.{leads_shortly};
-ghost use Rattle.hum_timebase.specs.Notes.{is_timed, timed_in, own_name, timed_at};
-ghost use Rattle.hum_timebase.specs.Notes.{is_sounding};
+ghost use Rattle.hum_kern.specs.{Duration.value_in, Duration.is_refused, Runs.run};
+ghost use Rattle.hum_kern.specs.{Subtokens.leads_shortly};
+ghost use Rattle.hum_timebase.specs.Notes.{is_timed, timed_in, own_name, timed_at, is_sounding};
 ghost use Rattle.hum_timebase.specs.Notes.{subtokens, first_duration, some_refused, note_of};
 ghost use Rattle.hum_timebase.specs.Notes.{is_misread};
-ghost use Rattle.hum_timebase.specs.Reading.{content_of, rest_parts, is_part, Read};
-ghost use Rattle.hum_timebase.specs.Reading.{IsNote, Reads};
+ghost use Rattle.hum_timebase.specs.Reading.{content_of, rest_parts, is_part, Read, IsNote, Reads};
 
 use hum_frac::Frac;
 use hum_kern::{KernFault, Length, leading_duration, read_duration, read_leading};

@@ -1,11 +1,9 @@
 //! The records that are made.
-ghost use Rattle.std.specs.Prelude.{◌≡◌, ◌≢◌, ◌≤◌, ◌++◌, ◌∷◌, [], length, true, false};
-ghost use Rattle.std.specs.Prelude.{IfOk, OnOk, if◌then◌else◌};
+ghost use Rattle.std.specs.Prelude.{◌≡◌, ◌≢◌, ◌≤◌, ◌++◌, ◌∷◌, [], length, true, false, IfOk, OnOk};
+ghost use Rattle.std.specs.Prelude.{if◌then◌else◌};
 ghost use lib.Chars.{codes};
 ghost use Rattle.hum_record.specs.declared.SpinedKind.TheVariants.{Interpretation, Values};
-ghost use Rattle.hum_record.specs.Row.{tokens_of, text_of};
-ghost use Rattle.hum_record.specs.Spelling.{IsToken};
-ghost use Rattle.hum_record.specs.Building.{spelled};
+ghost use Rattle.hum_record.specs.{Row.tokens_of, Row.text_of, Spelling.IsToken, Building.spelled};
 ghost use Rattle.hum_path.specs.Sign.{sign_of, is_exclusive};
 ghost use Rattle.hum_timebase.specs.Timebase.{null_row, names_some, tb_token, tb_row};
 
@@ -36,18 +34,6 @@ pub(crate) fn null_record(alloc: Global, row: &Record) -> Result<Record, AllocEr
         push_null(&mut builder)?;
     }
     Ok(builder.finish())
-}
-
-/// Whether a record has an exclusive interpretation.
-pub(crate) fn names_some(row: &Record) -> bool
-    ensures { result ≡ names_some (tokens_of row.now) }
-{
-    for j in 0..row.width() {
-        if token_sign(row.token(j)).is_exclusive() {
-            return true;
-        }
-    }
-    false
 }
 
 /// The token that follows another.

@@ -1,6 +1,7 @@
 -- The command, by its options.
-use Rattle.std.specs.Prelude.{ℕ, Bool, false, List, Option, Some, None}
+use Rattle.std.specs.Prelude.{ℕ}
 use Rattle.hum_pattern.specs.Meaning.{matched, first_end}
+pub use Rattle.hum_pattern.specs.Meaning.{matched_by}
 use Rattle.hum_stage.specs.declared.faults.Command.TheVariants.{Yank}
 use Rattle.hum_stage.specs.Meaning.{Meaning}
 use Rattle.hum_stage.specs.Look.{looking}
@@ -13,11 +14,6 @@ use Rattle.hum_choices.specs.declared.yank.YankOptions.{YankOptions}
 use Rattle.hum_yank.specs.Passages.{Form, Lines, Numbers, Occurrences, Labels}
 use Rattle.hum_yank.specs.Yank.{Choice, yank}
 use Rattle.hum_stage.specs.declared.TheConstants.{MOST_WAITING}
-
--- tokens that match the pattern, if there is one
-abbrev pub matched_by : Option (List ℕ) → List ℕ → Bool
-matched_by None token = false
-matched_by (Some pattern) token = matched pattern token
 
 abbrev pub form_of : Markers → Form
 form_of ByLine = Lines

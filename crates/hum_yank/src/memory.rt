@@ -1,8 +1,6 @@
 //! What yank remembers of the records so far and of those that wait.
 ghost use Rattle.std.specs.Prelude.{◌≡◌, if◌then◌else◌};
-ghost use Rattle.hum_yank.specs.Options.{form_of};
-ghost use Rattle.hum_yank.specs.Memory.{adds};
-ghost use Rattle.hum_yank.specs.Marks.{last_in};
+ghost use Rattle.hum_yank.specs.{Options.form_of, Memory.adds, Marks.last_in};
 
 use crate::held::{Held, adds};
 use crate::passages::Passages;
@@ -41,9 +39,8 @@ impl LooksAhead for PassageMemory {
     type Held = Held;
 
     ghost use Rattle.hum_stage.specs.declared.faults.Command.TheVariants.{Yank};
-    ghost use Rattle.hum_yank.specs.Yank.{yank};
-    ghost use Rattle.hum_yank.specs.Options.{choice_of};
-    ghost use Rattle.hum_yank.specs.Memory.{Follows, tell_each};
+    ghost use Rattle.hum_yank.specs.{Yank.yank, Options.choice_of, Memory.Follows};
+    ghost use Rattle.hum_yank.specs.{Memory.tell_each};
 
     ghost command = { Yank };
 

@@ -1,9 +1,8 @@
 //! The passage at hand.
 ghost use Rattle.std.specs.Prelude.{◌≡◌, ◌<◌, []};
-ghost use Rattle.hum_yank.specs.Passages.{is_last};
-ghost use Rattle.hum_yank.specs.Options.{form_of};
-ghost use Rattle.hum_yank.specs.Marks.{mark_of, passages_of, inside, begun};
-ghost use Rattle.hum_yank.specs.Marks.{next_passages, number_in, last_in};
+ghost use Rattle.hum_yank.specs.{Passages.is_last, Options.form_of};
+ghost use Rattle.hum_yank.specs.Marks.{mark_of, passages_of, inside, begun, next_passages};
+ghost use Rattle.hum_yank.specs.Marks.{number_in, last_in};
 
 use crate::marking::{Mark, is_last, mark_of};
 use hum_choices::Markers;

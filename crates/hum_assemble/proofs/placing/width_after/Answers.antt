@@ -6,7 +6,7 @@ pub width_under-requires : goal.width_under-requires
 width_under-requires c =
     let e = wide_as_before c.args.paths.now.path c.args.row.now
     (sym c.requires.opened ∙ c.if-opened.true)
-    (sym c.kind.ensures.kind ∙ c.in-Interpretation.is) c.requires.sound in
+    (sym c.kind.ensures.kind ∙ c.in-Interpretation.is) c.requires.valid in
     let w = c.width-width.ensures.width in
     let m = c.width-width.ensures.at_most in
     omega (arith, e, w, m)

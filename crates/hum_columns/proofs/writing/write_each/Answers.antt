@@ -3,7 +3,7 @@ use Rattle.std.proofs.lemmas.List.{length-drop}
 use Rattle.std.proofs.lemmas.Result.{err_from_is_err_and}
 use Rattle.hum_columns.specs.Writing.{Fit}
 use Rattle.hum_columns.proofs.OneByOne.{alone_fits_behind, alone_filled_behind, left_behind, one_written, last_written, all_fits_behind}
-use Rattle.hum_columns.proofs.OneByOne.{all_filled_behind, done_fit, done_filled}
+use Rattle.hum_columns.proofs.OneByOne.{all_filled_behind, done_fit, done_filled, lawful_behind}
 use Rattle.hum_columns.proofs.writing.write_each.Goals as goal
 
 pub alone-requires-clause-fits : goal.alone-requires-clause-fits
@@ -32,9 +32,14 @@ loop-preserved c =
           ∙ c.loop.invariant.list);
     }
 
-pub push_all-requires-clause-fits : goal.push_all-requires-clause-fits
-push_all-requires-clause-fits c =
-    rw c.split_at-2.ensures.back (all_fits_behind c.loop.last.tokens (drop c.loop.start c.args.pieces.now) c.loop.invariant.fit)
+pub push_all-requires : goal.push_all-requires
+push_all-requires c =
+    let right = drop c.loop.start c.args.pieces.now in
+    record {
+      made = c.loop.invariant.made;
+      lawful = rw c.split_at-2.ensures.back (lawful_behind c.loop.last.tokens right c.loop.invariant.fit.lawful);
+      fits = rw c.split_at-2.ensures.back (all_fits_behind c.loop.last.tokens right c.loop.invariant.fit);
+    }
 
 pub finish-requires-clause-filled : goal.finish-requires-clause-filled
 finish-requires-clause-filled c =

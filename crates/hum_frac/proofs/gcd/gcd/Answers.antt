@@ -12,5 +12,5 @@ returns-then-y-eq0 c = let zero = gcd-zero c.loop-y.x in let same = c.loop-y.inv
 pub returns : goal.returns
 returns c =
     let step = gcd-step c.loop-y.x c.loop-y.y (omega arith) in
-    let rest = ap (gcd c.loop-y.y) c.divided-rest.ensures.rest in
-    c.gcd_64.ensures ∙ rest ∙ sym step ∙ c.loop-y.invariant
+    let remainder = ap (gcd c.loop-y.y) c.divided-remainder.ensures.remainder in
+    c.gcd_64.ensures ∙ remainder ∙ sym step ∙ c.loop-y.invariant

@@ -10,7 +10,7 @@ returns-clause-front c =
     c.split_at.ensures.front ∙ ap (λ (n : ℕ). take n c.args.text.now) c.front_len.ensures
     ∙ front_taken c.args.byte c.args.text.now
 
-pub returns-clause-rest : goal.returns-clause-rest
-returns-clause-rest c =
+pub returns-clause-remainder : goal.returns-clause-remainder
+returns-clause-remainder c =
     c.split_at.ensures.back ∙ ap (λ (n : ℕ). drop n c.args.text.now) c.front_len.ensures
     ∙ rest_left c.args.byte c.args.text.now

@@ -7,20 +7,20 @@ use Rattle.hum_options.proofs.passages.by_distance.Goals as goal
 pub returns-in_err-from : goal.returns-in_err-from
 returns-in_err-from c =
     c.from_residual.ensures
-    ∙ sym (undistant c.args.text.now c.cut.result.0.now c.cut.result.1.now c.cut.ensures.front c.cut.ensures.rest
+    ∙ sym (undistant c.args.text.now c.cut.result.0.now c.cut.result.1.now c.cut.ensures.front c.cut.ensures.remainder
     c.in_err-from.ensures)
 
 pub returns-in-empty : goal.returns-in-empty
 returns-in-empty c =
     let from = Some c.in_ok-from.from in
-    sym (distant c.args.text.now c.cut.result.0.now c.cut.result.1.now c.cut.ensures.front c.cut.ensures.rest from
+    sym (distant c.args.text.now c.cut.result.0.now c.cut.result.1.now c.cut.ensures.front c.cut.ensures.remainder from
     c.in_ok-from.ensures
     ∙ ap (λ b. from_distance b from) (no_more c.cut.result.1.now c.in-empty.len_below))
 
 pub returns-in-Some : goal.returns-in-Some
 returns-in-Some c =
     let from = c.in_ok-from.from in
-    sym (distant c.args.text.now c.cut.result.0.now c.cut.result.1.now c.cut.ensures.front c.cut.ensures.rest
+    sym (distant c.args.text.now c.cut.result.0.now c.cut.result.1.now c.cut.ensures.front c.cut.ensures.remainder
     (Some from) c.in_ok-from.ensures
     ∙ up_to_end c.cut.result.1.now from c.in-len1-up.len_at_least
     ∙ ap (near_end from) (sym c.in-Some.ensures)
@@ -29,7 +29,7 @@ returns-in-Some c =
 pub returns-in_default : goal.returns-in_default
 returns-in_default c =
     let from = c.in_ok-from.from in
-    sym (distant c.args.text.now c.cut.result.0.now c.cut.result.1.now c.cut.ensures.front c.cut.ensures.rest
+    sym (distant c.args.text.now c.cut.result.0.now c.cut.result.1.now c.cut.ensures.front c.cut.ensures.remainder
     (Some from) c.in_ok-from.ensures
     ∙ up_to_end c.cut.result.1.now from c.in-len1-up.len_at_least
     ∙ ap (near_end from) (sym c.in-Some.ensures)

@@ -4,4 +4,4 @@ pub returns-in-Free : goal.returns-in-Free
 returns-in-Free c = λ n words. rw c.in-Free.is (c.at_option.ensures n words)
 
 pub returns-in-Awaits : goal.returns-in-Awaits
-returns-in-Awaits c = λ n words. rw c.in-Awaits.is (c.at_value.ensures c.args.command n c.in-Awaits.field-0 words)
+returns-in-Awaits c = λ n words. rw c.in-Awaits.is (c.at_value.ensures c.args.command c.in-Awaits.field-0 n words)

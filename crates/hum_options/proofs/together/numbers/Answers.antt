@@ -3,4 +3,4 @@ use Rattle.hum_options.proofs.together.numbers.Goals as goal
 
 pub returns-in-None : goal.returns-in-None
 returns-in-None c =
-    numbers_taken c.args.given.now _ _ c.in-None.ensures.value c.occurrences.ensures c.pattern.ensures.rest
+    numbers_taken c.args.given.now _ _ c.in-None.ensures.value c.occurrences.ensures c.pattern.ensures.remainder

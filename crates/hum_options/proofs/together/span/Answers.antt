@@ -3,4 +3,4 @@ use Rattle.hum_options.proofs.together.span.Goals as goal
 
 pub returns-in-None : goal.returns-in-None
 returns-in-None c =
-    span_taken c.args.given.now _ _ c.in-None.ensures.value c.phrase.ensures c.count.ensures.rest
+    span_taken c.args.given.now _ _ c.in-None.ensures.value c.phrase.ensures c.count.ensures.remainder

@@ -4,11 +4,11 @@ use Rattle.hum_options.proofs.together.yank.Goals as goal
 
 pub returns-in_err-markers : goal.returns-in_err-markers
 returns-in_err-markers c = rw c.from_residual-in_err-markers.ensures
-    (yank_taken c.args.given.now _ _ _ c.in_ok-ranges.ensures.value c.in_err-markers.ensures c.ranges-2.ensures.rest)
+    (yank_taken c.args.given.now _ _ _ c.in_ok-ranges.ensures.value c.in_err-markers.ensures c.ranges-2.ensures.remainder)
 
 pub returns : goal.returns
 returns c =
-    yank_taken c.args.given.now _ _ _ c.in_ok-ranges.ensures.value c.in_ok-markers.ensures c.ranges-2.ensures.rest
+    yank_taken c.args.given.now _ _ _ c.in_ok-ranges.ensures.value c.in_ok-markers.ensures c.ranges-2.ensures.remainder
 
 pub returns-in_err-ranges : goal.returns-in_err-ranges
 returns-in_err-ranges c =

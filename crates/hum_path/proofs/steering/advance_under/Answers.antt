@@ -16,5 +16,5 @@ pub returns : goal.returns
 returns c =
     let names = texts c.args.names.now in
     let size : length names ≡ length c.args.names.now = length-map c.args.names.now (λ v. v.items) in
-    stepped names (tokens_of c.args.row.now) c.spines_under.result (λ e. c.requires.some (sym size ∙ e)) (c.requires.wide ∙ sym size)
-    (sym c.sign_fault.ensures ∙ c.in-None.is) c.spines_under.ensures
+    stepped names (tokens_of c.args.row.now) c.next_spines.result (λ e. c.requires.some (sym size ∙ e)) (c.requires.wide ∙ sym size)
+    (sym c.sign_fault.ensures ∙ c.in-None.is) c.next_spines.ensures

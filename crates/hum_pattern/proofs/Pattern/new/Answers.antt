@@ -9,8 +9,8 @@ lasting-requires-clause-searches c =
     let made = c.in-Ok.ensures in
     rw made.source (searches c.in-Ok.regex c.args.text.now made.source made.config made.read)
 
-pub returns-in-Ok-lasting-clause-sound : goal.returns-in-Ok-lasting-clause-sound
-returns-in-Ok-lasting-clause-sound c =
+pub returns-in-Ok-lasting-clause-valid : goal.returns-in-Ok-lasting-clause-valid
+returns-in-Ok-lasting-clause-valid c =
     let made = c.in-Ok.ensures in
     is_expression_of c.in-Ok.regex c.args.text.now made.source made.config made.read
 

@@ -5,7 +5,7 @@ use Rattle.hum_tests.proofs.scores.score.Goals as goal
 
 pub loop-line-preserved : goal.loop-line-preserved
 loop-line-preserved g c =
-    let sound = rw c.expect-moves.ensures at c.step.ensures.sound in
+    let sound = rw c.expect-moves.ensures at c.step.ensures.valid in
     let new = rw c.expect-moves.ensures at c.step.ensures.after in
     let items = rw c.expect.ensures at c.push.ensures.items in
     let inv = c.loop-line.invariant in

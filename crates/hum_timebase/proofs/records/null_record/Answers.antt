@@ -20,7 +20,7 @@ loop-j-preserved c =
     let width = c.width-j-end.ensures in
     rw c.in_ok-push_null.ensures (record {
       kind = c.loop-j.invariant.kind;
-      sound = c.loop-j.invariant.sound;
+      unspent = c.loop-j.invariant.unspent;
       made =
           one_more (λ _. codes ".") (tokens_of c.args.row.now) c.loop-j.builder.tokens _ c.loop-j.j (codes ".")
           (omega (arith, below, width)) refl c.loop-j.invariant.made;

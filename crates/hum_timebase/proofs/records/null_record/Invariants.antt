@@ -7,6 +7,6 @@ use Rattle.hum_timebase.proofs.records.null_record.Given as goal
 abbrev pub invariant-loop-j : goal.invariant-loop-j
 invariant-loop-j l = record {
   kind : l.builder.kind ≡ Values;
-  sound : l.builder.spent ≡ false;
+  unspent : l.builder.spent ≡ false;
   made : l.builder.tokens ++ map (λ _. codes ".") (drop l.j (tokens_of l.row)) ≡ map (λ _. codes ".") (tokens_of l.row);
 }

@@ -26,7 +26,7 @@ loop-j-preserved c =
     c.token-in-loop-j.ensures.token c.tb_token.ensures.token in
     rw c.in_ok-push_fitting.ensures.pushed (record {
       kind = c.loop-j.invariant.kind;
-      sound = c.loop-j.invariant.sound;
+      unspent = c.loop-j.invariant.unspent;
       made = one_more (tb_token c.args.pace.now.text) (tokens_of c.args.row.now) c.loop-j.builder.tokens _
           c.loop-j.j c.tb_token.result.now (omega (arith, below, width)) made c.loop-j.invariant.made;
     })

@@ -7,6 +7,6 @@ use Rattle.hum_timebase.proofs.records.tb_record.Given as goal
 abbrev pub invariant-loop-j : goal.invariant-loop-j
 invariant-loop-j l = record {
   kind : l.builder.kind ≡ Interpretation;
-  sound : l.builder.spent ≡ false;
+  unspent : l.builder.spent ≡ false;
   made : l.builder.tokens ++ map (tb_token l.pace.text) (drop l.j (tokens_of l.row)) ≡ map (tb_token l.pace.text) (tokens_of l.row);
 }

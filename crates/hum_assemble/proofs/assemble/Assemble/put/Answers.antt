@@ -26,8 +26,8 @@ put-requires-clause-empty c =
     c.self.inside.spent c.args.source _ c.args.next c.if-self.false r (sym a.next ∙ c.in-Wants.is) in
     empty_ahead c.self.inside.sources.items c.self.inside.given c.args.source _ e c.index_mut.ensures.value
 
-pub put-requires-clause-sound : goal.put-requires-clause-sound
-put-requires-clause-sound c =
+pub put-requires-clause-valid : goal.put-requires-clause-valid
+put-requires-clause-valid c =
     let a = c.self.invariant.alive c.if-self.false in
     let r = rw (← c.self.view_is) at c.requires in
     let e = wanted_waits c.self.inside.stage

@@ -6,8 +6,8 @@ returns-in-Some-clause-value c =
     let found = rw c.deref.ensures.value at c.in-Some.ensures in
     rw (← c.self.view_is) (value_taken c.args.letter c.self.inside.entries.items found c.remove-value.ensures.value)
 
-pub returns-in-Some-clause-rest : goal.returns-in-Some-clause-rest
-returns-in-Some-clause-rest c =
+pub returns-in-Some-clause-remainder : goal.returns-in-Some-clause-remainder
+returns-in-Some-clause-remainder c =
     let found = rw c.deref.ensures.value at c.in-Some.ensures in
     rw (← c.self.view_is) (rest_taken c.args.letter c.self.inside.entries.items _ found c.remove-value.ensures.items)
 
@@ -16,7 +16,7 @@ returns-in-None-clause-value c =
     let lost = rw c.deref.ensures.value at c.in-None.ensures in
     rw (← c.self.view_is) (nothing_taken c.args.letter c.self.inside.entries.items lost).0
 
-pub returns-in-None-clause-rest : goal.returns-in-None-clause-rest
-returns-in-None-clause-rest c =
+pub returns-in-None-clause-remainder : goal.returns-in-None-clause-remainder
+returns-in-None-clause-remainder c =
     let lost = rw c.deref.ensures.value at c.in-None.ensures in
     rw (← c.self.view_is) (nothing_taken c.args.letter c.self.inside.entries.items lost).1

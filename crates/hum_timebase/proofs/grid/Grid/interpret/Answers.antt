@@ -3,9 +3,9 @@ use Rattle.hum_timebase.proofs.Striking.{names_none, names_fits}
 use Rattle.hum_timebase.proofs.Writing.{few_tokens}
 use Rattle.hum_timebase.proofs.grid.Grid.interpret.Goals as goal
 
-pub returns-then-not-names_some : goal.returns-then-not-names_some
-returns-then-not-names_some c = λ room decide past h sound. (
-  rw c.put.ensures (names_none _ _ _ _ decide past h c.args.row c.requires.kind (sym c.names_some.ensures ∙ c.if-not-names_some.true)),
+pub returns-then-not-has_exclusive : goal.returns-then-not-has_exclusive
+returns-then-not-has_exclusive c = λ room decide past h sound. (
+  rw c.put.ensures (names_none _ _ _ _ decide past h c.args.row c.requires.kind (sym c.has_exclusive.ensures ∙ c.if-not-has_exclusive.true)),
   c.in_ok-follow.ensures.spines decide past h,
 )
 
@@ -15,6 +15,6 @@ tb_record-requires-clause-few c = few_tokens c.requires.score.past c.args.row c.
 pub returns : goal.returns
 returns c = λ room decide past h sound. (
   rw c.put_both.ensures (names_fits _ _ _ _ decide past h c.args.row c.in_ok-other.other c.requires.kind
-      (sym c.names_some.ensures ∙ c.if-not-names_some.false) (rw c.in_ok-follow.ensures.pace at c.in_ok-other.ensures)),
+      (sym c.has_exclusive.ensures ∙ c.if-not-has_exclusive.false) (rw c.in_ok-follow.ensures.pace at c.in_ok-other.ensures)),
   c.in_ok-follow.ensures.spines decide past h,
 )
