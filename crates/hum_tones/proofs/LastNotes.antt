@@ -12,6 +12,7 @@ use Rattle.hum_path.specs.Sign.{sign_of, is_exclusive}
 use Rattle.hum_path.specs.Chains.{reach}
 use Rattle.hum_path.specs.Memories.{remembered}
 use Rattle.hum_path.specs.declared.signs.Sign.TheVariants.{Split, Join, Exchange, Add, End, Plain}
+use Rattle.hum_pattern.specs.Meaning.{matched_by}
 use Rattle.hum_pitch.specs.Pitch.{Spelled}
 use Rattle.hum_record.specs.Contents.{is_filled}
 use Rattle.hum_tones.specs.Mint.{is_break, is_some, settles, settled, note_before, remembered_of}
@@ -52,6 +53,11 @@ exclusive_not_filled (b ∷ bs) h =
 no_break : (breaks : Option (List ℕ)) (token : List ℕ) → is_filled token ≡ false → is_break breaks token ≡ false
 no_break None token h = refl
 no_break (Some pattern) token h = rw h refl
+
+-- of data that isn't null it is the match alone that tells
+pub break_of : (breaks : Option (List ℕ)) (token : List ℕ) → is_filled token ≡ true → matched_by breaks token ≡ is_break breaks token
+break_of None token h = refl
+break_of (Some pattern) token h = rw h refl
 
 not_remembered : (token : List ℕ) → is_filled token ≡ false → remembered_of token ≡ None
 not_remembered token h = rw h refl

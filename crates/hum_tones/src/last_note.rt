@@ -9,7 +9,7 @@ ghost use Rattle.hum_pitch.specs.Given.{spelled};
 use crate::hearing::{TokenTone, heard_of};
 use hum_choices::MintOptions;
 use hum_path::ColumnMemory;
-use hum_pattern::Pattern;
+use hum_pattern::{Pattern, is_matched};
 use hum_pitch::Pitch;
 use hum_record::is_filled;
 use hum_stage::Rule;
@@ -22,10 +22,7 @@ fn is_break(breaks: &mut Option<Pattern>, token: &[u8]) -> bool
     ensures found { result ≡ is_break breaks.old token.now }
     ensures kept { breaks.new ≡ breaks.old }
 {
-    match breaks {
-        None => false,
-        Some(pattern) => pattern.matches(token),
-    }
+    is_matched(breaks, token)
 }
 
 /// The pitch that is remembered of a cell, by what was heard of it.
