@@ -70,10 +70,9 @@ impl ShortText {
     fn of_signed(sign: u8, letter: u8, size: u32) -> Option<ShortText>
         ensures { IfSome result (λ text. text_of text ≡ sign ∷ letter ∷ decimal size) }
     {
-        let ones = b'0' + (size % 10) as u8;
         if size < 10 {
             return Some(ShortText {
-                bytes: [0, sign, letter, ones],
+                bytes: [0, sign, letter, b'0' + size as u8],
                 from: 1,
             });
         }
@@ -81,7 +80,7 @@ impl ShortText {
             return None;
         }
         Some(ShortText {
-            bytes: [sign, letter, b'0' + (size / 10) as u8, ones],
+            bytes: [sign, letter, b'0' + (size / 10) as u8, b'0' + (size % 10) as u8],
             from: 0,
         })
     }
