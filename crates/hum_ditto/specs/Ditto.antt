@@ -1,5 +1,5 @@
 -- Null data tokens, and the tokens that they repeat.
-use Rattle.std.specs.Prelude.{ℕ, Bool, false, not, ◌&&◌, nat_le, List, [], ◌∷◌, ◌++◌, map, length}
+use Rattle.std.specs.Prelude.{ℕ, Bool, not, ◌&&◌, nat_le, List, [], ◌∷◌, ◌++◌, map, length}
 use Rattle.std.specs.Prelude.{Option, None, Some, Result, Ok, Err, if◌then◌else◌}
 use Rattle.std.specs.List.{find}
 use lib.Chars.{codes}
@@ -7,7 +7,7 @@ use Rattle.hum_record.specs.declared.SpinedKind.TheVariants.{Values}
 use Rattle.hum_record.specs.Row.{Row, Comment, Spined, text_of}
 use Rattle.hum_record.specs.Contents.{is_data, is_null}
 use Rattle.hum_path.specs.Chains.{reach, columns}
-use Rattle.hum_pattern.specs.Meaning.{matched}
+use Rattle.hum_pattern.specs.Meaning.{matched_by}
 use Rattle.hum_stage.specs.declared.faults.Rule.{Rule}
 use Rattle.hum_stage.specs.declared.faults.Rule.TheVariants.{L1}
 use Rattle.hum_stage.specs.declared.faults.Command.TheVariants.{Ditto}
@@ -17,8 +17,7 @@ use Rattle.hum_choices.specs.declared.ditto.DittoOptions.{DittoOptions}
 
 -- whether a token has a match of the pattern whose tokens are never repeated, if there is one
 abbrev pub is_skipped : Option (List ℕ) → List ℕ → Bool
-is_skipped None token = false
-is_skipped (Some pattern) token = matched pattern token
+is_skipped = matched_by
 
 -- whether a null token may repeat a token
 abbrev pub may_repeat : Option (List ℕ) → List ℕ → Bool

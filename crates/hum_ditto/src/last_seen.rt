@@ -3,31 +3,20 @@ ghost use Rattle.std.specs.Prelude.{◌≡◌, true, IfSome, option_map};
 ghost use Rattle.hum_record.specs.Spelling.{IsToken};
 ghost use Rattle.hum_record.specs.Contents.{is_data, is_null};
 ghost use Rattle.hum_record.specs.declared.SpinedKind.TheVariants.{Values};
-ghost use Rattle.hum_ditto.specs.Ditto.{is_skipped, may_repeat};
+ghost use Rattle.hum_ditto.specs.Ditto.{may_repeat};
 
 use hum_path::ColumnMemory;
-use hum_pattern::Pattern;
+use hum_pattern::{Pattern, is_matched};
 use hum_record::{is_data, is_null};
 use std::alloc::{AllocError, Global};
 use std::marker::Model;
-
-/// Whether a token has a match of the pattern, if there is one.
-fn is_skipped(skip: &mut Option<Pattern>, token: &[u8]) -> bool
-    ensures found { result ≡ is_skipped skip.old token.now }
-    ensures kept { skip.new ≡ skip.old }
-{
-    match skip {
-        None => false,
-        Some(pattern) => pattern.matches(token),
-    }
-}
 
 /// Whether a null token may repeat a token.
 fn may_repeat(skip: &mut Option<Pattern>, token: &[u8]) -> bool
     ensures found { result ≡ may_repeat skip.old token.now }
     ensures kept { skip.new ≡ skip.old }
 {
-    is_data(token) && !is_null(token) && !is_skipped(skip, token)
+    is_data(token) && !is_null(token) && !is_matched(skip, token)
 }
 
 /// The last token of a column that a null token may repeat, if there is one.

@@ -13,6 +13,6 @@ mod spelling;
 
 pub use between::interval;
 pub use intervals::Interval;
-pub use naming::{push_interval, write_interval};
+pub use naming::{direction_sign, push_interval, quality_letter, write_interval};
 pub use pitch::{Pitch, PitchFault};
 pub use spelling::{push_pitch, write_pitch};

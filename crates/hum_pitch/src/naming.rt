@@ -1,6 +1,7 @@
 //! Intervals as text.
-ghost use Rattle.std.specs.Prelude.{◌≡◌, ◌≤◌, ◌++◌, [], cond, pos, negsuc, replicate};
-ghost use Rattle.std.specs.Prelude.{OnOk, IfOk};
+ghost use Rattle.std.specs.Prelude.{◌≡◌, ◌≤◌, ◌∷◌, ◌++◌, [], cond, pos, negsuc, replicate};
+ghost use Rattle.std.specs.Prelude.{OnOk, IfOk, IfSome};
+ghost use Rattle.std.specs.Option.{option_to_list};
 ghost use Rattle.std.specs.Fmt.{decimal};
 ghost use Rattle.hum_pitch.specs.Pitch.{IsWithin};
 ghost use Rattle.hum_pitch.specs.Intervals.{direction, upwards, natural_width, excess};
@@ -15,6 +16,7 @@ use itoa::Buffer;
 use std::alloc::{AllocError, Global};
 
 /// Up or down by the steps; where there are none, by the semitones.
+#[inline(always)]
 fn direction(interval: Interval) -> Direction
     ensures { result ≡ direction interval.d interval.s }
 {
@@ -33,6 +35,7 @@ fn direction(interval: Interval) -> Direction
 }
 
 /// The semitones of the interval as it is named, upwards.
+#[inline(always)]
 fn upwards(interval: Interval) -> i32
     ensures exact { result ≡ upwards interval.d interval.s }
     ensures bounded { IsWithin (negsuc 204) result (pos 205) }
@@ -49,6 +52,7 @@ fn upwards(interval: Interval) -> i32
 }
 
 /// The semitones of the perfect or major interval of so many steps.
+#[inline(always)]
 fn natural_width(steps: u32) -> u32
     requires { steps ≤ 111 }
     ensures exact { result ≡ natural_width steps }
@@ -58,6 +62,7 @@ fn natural_width(steps: u32) -> u32
 }
 
 /// By how many semitones the interval is wider than the perfect or major one.
+#[inline(always)]
 fn excess(interval: Interval) -> i32
     ensures exact { result ≡ excess interval.d interval.s }
     ensures bounded { IsWithin (negsuc 395) result (pos 205) }
@@ -66,6 +71,7 @@ fn excess(interval: Interval) -> i32
 }
 
 /// Whether intervals of so many steps are perfect, and not major or minor.
+#[inline(always)]
 fn can_be_perfect(steps: u32) -> bool
     ensures { result ≡ can_be_perfect steps }
 {
@@ -74,6 +80,7 @@ fn can_be_perfect(steps: u32) -> bool
 }
 
 /// The quality of an interval that can be perfect.
+#[inline(always)]
 fn of_perfect(excess: i32) -> Quality
     requires { IsWithin (negsuc 395) excess (pos 205) }
     ensures exact { result ≡ of_perfect excess }
@@ -89,6 +96,7 @@ fn of_perfect(excess: i32) -> Quality
 }
 
 /// The quality of an interval that can be major or minor.
+#[inline(always)]
 fn of_major(excess: i32) -> Quality
     requires { IsWithin (negsuc 395) excess (pos 205) }
     ensures exact { result ≡ of_major excess }
@@ -106,6 +114,7 @@ fn of_major(excess: i32) -> Quality
 }
 
 /// The quality of an interval.
+#[inline(always)]
 fn quality(interval: Interval) -> Quality
     ensures exact { result ≡ quality interval.d interval.s }
     ensures modest { IsModest result }
@@ -141,6 +150,34 @@ fn quality_letters(quality: Quality) -> Repeated
         Quality::Minor => Repeated::times(1, b'm'),
         Quality::Augmented(more) => Repeated::times(more as usize, b'A'),
         Quality::Diminished(less) => Repeated::times(less as usize, b'd'),
+    }
+}
+
+/// The sign of an interval's direction, where it leads up or down.
+#[inline(always)]
+pub fn direction_sign(interval: Interval) -> Option<u8>
+    ensures { option_to_list result ≡ sign (direction interval.d interval.s) }
+{
+    match direction(interval) {
+        Direction::Up => Some(b'+'),
+        Direction::Down => Some(b'-'),
+        Direction::Level => None,
+    }
+}
+
+/// The letter of an interval's quality, where that is one letter, as most are.
+#[inline(always)]
+pub fn quality_letter(interval: Interval) -> Option<u8>
+    ensures { IfSome result (λ letter.
+        quality_letters (quality interval.d interval.s) ≡ letter ∷ []) }
+{
+    match quality(interval) {
+        Quality::Perfect => Some(b'P'),
+        Quality::Major => Some(b'M'),
+        Quality::Minor => Some(b'm'),
+        Quality::Augmented(1) => Some(b'A'),
+        Quality::Diminished(1) => Some(b'd'),
+        _ => None,
     }
 }
 

@@ -1,6 +1,6 @@
 -- What is remembered of a column is the note before.
 use Rattle.std.proofs.Common.{◌≡◌, ◌∙◌, refl, sym, ap, ℕ, Bool, true, false, ◌==◌, List, [], ◌∷◌, Option, None, Some, inl, inr, arith}
-use Rattle.std.specs.Prelude.{if◌then◌else◌, ◌||◌, nat_eq}
+use Rattle.std.specs.Prelude.{if◌then◌else◌, ◌||◌, ◌&&◌, not, nat_eq, Result, Ok, Err}
 use Rattle.std.specs.List.{find, starts_with}
 use Rattle.std.specs.Str.{bytes_eq}
 use Rattle.std.proofs.lemmas.Bool.{cases_Bool, and_parts}
@@ -12,10 +12,15 @@ use Rattle.hum_path.specs.Sign.{sign_of, is_exclusive}
 use Rattle.hum_path.specs.Chains.{reach}
 use Rattle.hum_path.specs.Memories.{remembered}
 use Rattle.hum_path.specs.declared.signs.Sign.TheVariants.{Split, Join, Exchange, Add, End, Plain}
+use Rattle.hum_pattern.specs.Meaning.{matched_by}
 use Rattle.hum_pitch.specs.Pitch.{Spelled}
-use Rattle.hum_record.specs.Contents.{is_filled}
-use Rattle.hum_tones.specs.Mint.{is_break, is_some, settles, settled, note_before, remembered_of}
-use Rattle.hum_tones.specs.Memory.{note_after, or_before, unheard, heard_after}
+use Rattle.hum_record.specs.Contents.{is_filled, is_data, is_null, is_barline}
+use Rattle.hum_kern.specs.Note.{Reading}
+use Rattle.hum_stage.specs.declared.faults.Rule.{Rule}
+use Rattle.hum_tones.specs.Hearing.{heard_in}
+use Rattle.hum_tones.specs.Mint.{is_break, is_some, settles, settled, note_before, remembered_of, readings, new_pitch, pitch_in, TokenTone}
+use Rattle.hum_tones.specs.Mint.{heard as all_heard}
+use Rattle.hum_tones.specs.Memory.{note_after, or_before, unheard, heard_after, HeardColumn, silence}
 
 others : (a b c d e : Bool) → is_exclusive (if a then Split else if b then Join else if c then Exchange else if
     d then Add else if e then End else Plain) ≡ false
@@ -41,17 +46,51 @@ no_data false true h = refl
 no_data false false h = cc
 
 -- an exclusive interpretation is no data
-exclusive_not_filled : (token : List ℕ) → is_exclusive (sign_of token) ≡ true → is_filled token ≡ false
-exclusive_not_filled [] h = cc
-exclusive_not_filled (b ∷ bs) h =
+exclusive_no_data : (token : List ℕ) → is_exclusive (sign_of token) ≡ true → is_data token ≡ false
+exclusive_no_data [] h = cc
+exclusive_no_data (b ∷ bs) h =
     let starts : starts_with nat_eq (b ∷ bs) (codes "**") ≡ true = sym (exclusive_by_text (b ∷ bs)) ∙ h in
     let first = (and_parts (42 == b) (starts_with nat_eq bs (codes "*")) starts).0 in
     let star : (b == 42) ≡ true = grind (arith, nat_tests, first) in
-    rw (no_data (b == 33) (b == 42) star) refl
+    no_data (b == 33) (b == 42) star
+
+exclusive_not_filled : (token : List ℕ) → is_exclusive (sign_of token) ≡ true → is_filled token ≡ false
+exclusive_not_filled token h = rw (exclusive_no_data token h) refl
+
+-- nor is data one
+data_not_exclusive : (token : List ℕ) → is_data token ≡ true → is_exclusive (sign_of token) ≡ false
+data_not_exclusive token h = elim (cases_Bool (is_exclusive (sign_of token))) [
+  | inl is ↦ absurd (let no : true ≡ false = sym h ∙ exclusive_no_data token is in cc)
+  | inr isnt ↦ isnt
+]
+
+abbrev cell : Option Spelled → Result TokenTone Rule → Option Spelled → HeardColumn
+cell before heard note = record { before = before; heard = heard; note = note }
+
+-- what is heard of data that is neither null nor a barline, and the note behind it
+pub note_heard : (token : List ℕ) (heard : TokenTone) → is_data token ≡ true → (is_null token || is_barline token) ≡ false
+    → Ok heard ≡ heard_in (readings token) → (column : HeardColumn)
+    → heard_after None token column ≡ cell column.note (Ok heard) (or_before (new_pitch heard.tone) column.note)
+note_heard token heard filled is read column =
+    rw (data_not_exclusive token filled, filled) (go (is_null token) (is_barline token) is (readings token) read)
+  where
+    go : (n b : Bool) → (n || b) ≡ false → (r : Result (List Reading) Rule) → Ok heard ≡ heard_in r
+        → cell column.note (if not n && not b then heard_in r else Ok silence)
+        (or_before (if not n && not b then pitch_in r else None) column.note)
+        ≡ cell column.note (Ok heard) (or_before (new_pitch heard.tone) column.note)
+    go true b is r h = absurd (let no : true ≡ false = is in cc)
+    go false true is r h = absurd (let no : true ≡ false = is in cc)
+    go false false is (Ok rs) h = let same : heard ≡ all_heard rs = cc in rw same refl
+    go false false is (Err rule) h = cc
 
 no_break : (breaks : Option (List ℕ)) (token : List ℕ) → is_filled token ≡ false → is_break breaks token ≡ false
 no_break None token h = refl
 no_break (Some pattern) token h = rw h refl
+
+-- of data that isn't null it is the match alone that tells
+pub break_of : (breaks : Option (List ℕ)) (token : List ℕ) → is_filled token ≡ true → matched_by breaks token ≡ is_break breaks token
+break_of None token h = refl
+break_of (Some pattern) token h = rw h refl
 
 not_remembered : (token : List ℕ) → is_filled token ≡ false → remembered_of token ≡ None
 not_remembered token h = rw h refl

@@ -6,7 +6,7 @@ ghost use Rattle.hum_tones.specs.Memory.{heard_of};
 ghost use Rattle.hum_tones.specs.Hearing.{tone_of, heard_in, heard_by};
 
 use crate::part_rule::rule_of;
-use hum_kern::{Note, read_lone, read_note};
+use hum_kern::{Note, read_note};
 use hum_pitch::Pitch;
 use hum_record::{is_barline, is_filled};
 use hum_stage::Rule;
@@ -56,7 +56,7 @@ impl TokenTone {
 
     /// What is heard with one part more.
     #[inline(always)]
-    fn with(self, note: Note) -> TokenTone
+    pub(crate) fn with(self, note: Note) -> TokenTone
         ensures { hearing result ≡ heard_with (hearing self) (reading note) }
     {
         TokenTone {
@@ -83,7 +83,6 @@ impl TokenTone {
 }
 
 /// What is heard of the parts of a token, or the rule by which one is refused.
-#[inline(never)]
 fn hear_parts(token: &[u8]) -> Result<TokenTone, Rule>
     ensures { heard_by result ≡ heard_in (readings token.now) }
 {
@@ -97,24 +96,12 @@ fn hear_parts(token: &[u8]) -> Result<TokenTone, Rule>
     Ok(heard)
 }
 
-/// What is heard of a token, or the rule by which a part of it is refused.
-#[inline(always)]
-fn hear(token: &[u8]) -> Result<TokenTone, Rule>
-    ensures { heard_by result ≡ heard_in (readings token.now) }
-{
-    match read_lone(token) {
-        Some(note) => Ok(TokenTone::SILENCE.with(note)),
-        None => hear_parts(token),
-    }
-}
-
 /// What is heard of a cell: nothing of a barline, nor of what is no data.
-#[inline(always)]
 pub(crate) fn heard_of(token: &[u8]) -> Result<TokenTone, Rule>
     ensures { heard_by result ≡ heard_of token.now }
 {
     if is_filled(token) && !is_barline(token) {
-        return hear(token);
+        return hear_parts(token);
     }
     Ok(TokenTone::SILENCE)
 }

@@ -1,5 +1,5 @@
 //! Tokens in whose place stands the interval from the note before.
-ghost use Rattle.std.specs.Prelude.{◌≡◌, ◌++◌, OnOk, option_map};
+ghost use Rattle.std.specs.Prelude.{◌≡◌, ◌∷◌, ◌++◌, [], ℕ, List, OnOk, IfSome, option_map};
 ghost use Rattle.hum_record.specs.declared.SpinedKind.TheVariants.{Values};
 ghost use Rattle.hum_record.specs.RecordDraft.{Holds};
 ghost use Rattle.hum_pitch.specs.Given.{spelled};
@@ -7,9 +7,11 @@ ghost use Rattle.hum_stage.specs.Refusals.{IfTold};
 ghost use Rattle.hum_cells.specs.Rewriter.{Pushes};
 ghost use Rattle.hum_tones.specs.Mint.{approached};
 ghost use Rattle.hum_tones.specs.Memory.{told_as};
+ghost use Rattle.hum_tones.specs.ShortText.{text_of};
 
 use crate::hearing::{TokenTone, Tone};
 use crate::last_note::LastNote;
+use crate::short_text::ShortText;
 use hum_choices::MintOptions;
 use hum_pitch::{Pitch, interval, push_interval, push_pitch};
 use hum_record::RecordDraft;
@@ -45,8 +47,69 @@ fn add_tone(
     Ok(())
 }
 
+/// The interval from the note before to a pitch, where its name is short and shown whole, as it mostly is.
+#[inline(always)]
+fn short_name(options: &MintOptions, before: Option<Pitch>, pitch: Pitch) -> Option<ShortText>
+    ensures { IfSome result (λ name. text_of name
+        ≡ approached options.now.signless options.now.sizeonly
+        (option_map spelled before) (spelled pitch)) }
+{
+    if options.signless || options.sizeonly {
+        return None;
+    }
+    match before {
+        Some(before) => ShortText::of_interval(interval(before, pitch)),
+        None => None,
+    }
+}
+
+/// Adds what becomes of a pitch, whatever its name, to a record in the making. It is made in `text`.
+#[inline(never)]
+fn push_any_tone(
+    options: &MintOptions,
+    before: Option<Pitch>,
+    pitch: Pitch,
+    text: &mut Vec<u8>,
+    making: &mut RecordDraft,
+) -> Result<(), AllocError>
+    requires { making.old.builder.kind ≡ Values }
+    ensures pushed { OnOk result ((tokens : List (List ℕ))
+        → Holds Values making.old.builder making.old.is_long tokens
+        → Holds Values making.new.builder making.new.is_long
+        (tokens ++ approached options.now.signless options.now.sizeonly
+        (option_map spelled before) (spelled pitch) ∷ [])) }
+    ensures kind { making.new.builder.kind ≡ Values }
+{
+    text.clear();
+    add_tone(options, before, pitch, text)?;
+    making.push(text)
+}
+
+/// The same, by a short name where there is one.
+#[inline(always)]
+fn push_tone(
+    options: &MintOptions,
+    before: Option<Pitch>,
+    pitch: Pitch,
+    text: &mut Vec<u8>,
+    making: &mut RecordDraft,
+) -> Result<(), AllocError>
+    requires { making.old.builder.kind ≡ Values }
+    ensures pushed { OnOk result ((tokens : List (List ℕ))
+        → Holds Values making.old.builder making.old.is_long tokens
+        → Holds Values making.new.builder making.new.is_long
+        (tokens ++ approached options.now.signless options.now.sizeonly
+        (option_map spelled before) (spelled pitch) ∷ [])) }
+    ensures kind { making.new.builder.kind ≡ Values }
+{
+    match short_name(options, before, pitch) {
+        Some(name) => making.push(name.as_bytes()),
+        None => push_any_tone(options, before, pitch, text, making),
+    }
+}
+
 /// Adds what a column's last cell, a data token, becomes by the note before it to a record in the
-/// making. An interval's name is made in `text`.
+/// making. Where its text has to be made, it is made in `text`.
 ///
 /// # Errors
 /// The rule by which it is refused; or out of memory.
@@ -74,9 +137,7 @@ pub(crate) fn push_minted(
                 making.push(b".")?;
                 return Ok(());
             }
-            text.clear();
-            add_tone(options, column.before(), tone.pitch, text)?;
-            making.push(text)?;
+            push_tone(options, column.before(), tone.pitch, text, making)?;
             Ok(())
         }
         None => {
