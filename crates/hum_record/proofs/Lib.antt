@@ -16,3 +16,4 @@ pub mod Selected
 mod Picked
 mod Added
 mod Words
+pub mod Ahead

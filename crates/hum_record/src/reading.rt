@@ -5,6 +5,7 @@ ghost use Rattle.hum_record.specs.Spelling.{IsTokenOf, IsTextOf, has_byte, is_co
 ghost use Rattle.hum_record.specs.Spelling.{Gives, Fails, Breaks};
 ghost use Rattle.hum_record.specs.Fields.{AreFields, row_in};
 ghost use Rattle.hum_record.specs.Lines.{IsLine};
+ghost use Rattle.hum_record.specs.Plain.{EndsLine};
 ghost use Rattle.hum_record.specs.Row.{Row, kind_of, row_of, tokens_of, width_of, token_at, text_of};
 ghost use Rattle.hum_record.specs.Row.{with_chosen};
 ghost use Rattle.std.specs.List.{list_any};
@@ -12,7 +13,7 @@ ghost use Rattle.hum_record.specs.declared.RecordFault.TheVariants.{Memory};
 
 use crate::body::Body;
 use crate::iter::Tokens;
-use crate::near::{NEAR, SHORT, line_end, stop_bits};
+use crate::near::{LineEnd, NEAR, SHORT, line_end, stop_bits};
 use crate::selection::Selection;
 use crate::spare::Spare;
 use crate::tokens::{Cut, lawful_kind, push_ends, token_at_end, token_kind};
@@ -135,17 +136,49 @@ impl Record {
             return Self::parse_far(spare, held);
         }
         let end = line_end::<SHORT>(held, 0, 1, stops)?;
+        Self::of_near::<SHORT>(spare, held, end)
+    }
+
+    /// The same of a longer line.
+    #[inline(never)]
+    fn parse_far(spare: &mut Spare, held: &[u8]) -> Option<(Record, usize, usize)>
+        requires { 64 ≤ length held.now }
+        ensures line { IfSome result (λ read. IsLine held.now read.1 read.2) }
+        ensures read { IfSome result (λ read. reading (take read.1 held.now) ≡ Ok read.0) }
+    {
+        let stops = stop_bits::<NEAR>(held, 0);
+        if stops == 0 {
+            return Self::parse_wide(spare, held);
+        }
+        let end = line_end::<NEAR>(held, 0, 1, stops)?;
+        Self::of_near::<NEAR>(spare, held, end)
+    }
+
+    /// The record of a line that ends among the first `N` bytes of what is held.
+    #[inline(always)]
+    fn of_near<const N: usize>(
+        spare: &mut Spare,
+        held: &[u8],
+        end: LineEnd,
+    ) -> Option<(Record, usize, usize)>
+        requires few { N ≤ 64 }
+        requires filled { N ≤ length held.now }
+        requires near { end.len < N }
+        requires ends { EndsLine held.now 0 1 end.len end.lf end.ends }
+        ensures line { IfSome result (λ read. IsLine held.now read.1 read.2) }
+        ensures read { IfSome result (λ read. reading (take read.1 held.now) ≡ Ok read.0) }
+    {
         let mut body = spare.take()?;
-        if body.put_near::<SHORT>(held, end.len, end.ends) {
+        if body.put_near::<N>(held, end.len, end.ends) {
             return Some((Record { body }, end.len, end.lf));
         }
         spare.put_back(body);
         None
     }
 
-    /// The same of a longer line.
+    /// The record of a line of several words.
     #[inline(never)]
-    fn parse_far(spare: &mut Spare, held: &[u8]) -> Option<(Record, usize, usize)>
+    fn parse_wide(spare: &mut Spare, held: &[u8]) -> Option<(Record, usize, usize)>
         ensures line { IfSome result (λ read. IsLine held.now read.1 read.2) }
         ensures read { IfSome result (λ read. reading (take read.1 held.now) ≡ Ok read.0) }
     {

@@ -1,6 +1,6 @@
 use Rattle.std.proofs.Common.{take, arith}
 use Rattle.hum_record.proofs.Short.{plain_fields, line_text}
-use Rattle.hum_record.proofs.reading.Record.parse_far.Goals as goal
+use Rattle.hum_record.proofs.reading.Record.parse_wide.Goals as goal
 
 pub invariant_of-result : goal.invariant_of-result
 invariant_of-result c =
