@@ -16,4 +16,3 @@ pub mod Selected
 mod Picked
 mod Added
 mod Words
-pub mod Ahead

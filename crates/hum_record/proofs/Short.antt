@@ -1,6 +1,6 @@
 -- Short lines of plain data, by the bits of their bytes.
 use Rattle.std.proofs.Common.{◌≡◌, ◌∙◌, refl, sym, ap, ap₂, ℕ, suc, zero, ◌+◌, ◌*◌, ◌-◌, ◌/◌, ◌%◌, ◌≤◌, ◌<◌, ◌^◌, min, Bool, true, false, not, ◌||◌}
-use Rattle.std.proofs.Common.{List, [], ◌∷◌, ◌++◌, map, length, take, drop, get_or, cond, eqb, Ok, arith, append_assoc, length-append, ⊎_elim}
+use Rattle.std.proofs.Common.{List, [], ◌∷◌, ◌++◌, map, length, take, drop, get_or, cond, eqb, Ok, arith, append_assoc, length-append, subst, ⊎_elim}
 use Rattle.std.proofs.Common.{mod-lt, zero-lt-suc, pow-suc, add-zero}
 use Rattle.std.specs.Prelude.{◌==◌, if◌then◌else◌}
 use Rattle.std.specs.Simd.Lanes.{chunk, mask_l, top}
@@ -14,10 +14,11 @@ use lib.Count.{count_trailing_zeros, under, ones, ones_step}
 use lib.Pow.{pow_mono}
 use native.Mathlib.Nat.{two-pow-succ}
 use Rattle.hum_record.specs.declared.SpinedKind.TheVariants.{Values}
-use Rattle.hum_record.specs.Spelling.{has_byte, is_comment, reading, parts}
+use Rattle.hum_record.specs.Row.{Row, Comment, Spined, text_of}
+use Rattle.hum_record.specs.Spelling.{IsTextOf, has_byte, is_comment, reading, parts}
 use Rattle.hum_record.specs.Fields.{AreFields, ends_from, row_in}
 use Rattle.hum_record.specs.Cutting.{bits_of, set_places, tabs_from}
-use Rattle.hum_record.specs.Lines.{IsBehind, IsLine}
+use Rattle.hum_record.specs.Lines.{IsBehind, IsLine, IsRead}
 use Rattle.hum_record.specs.Plain.{is_rare, is_stop, has_mark, head_after, IsPlain, HasEnds, HasPlaces, EndsLine}
 use Rattle.hum_record.proofs.Laws.{spined_fields, reads_row, reads_spined}
 use Rattle.hum_record.proofs.Cuts.{tabs_append, ends_tabs}
@@ -263,7 +264,7 @@ not_true true h = absurd (h refl)
 not_true false h = refl
 
 -- The line ends at the first LF.
-pub front_line : (held : List ℕ) (len lf : ℕ) → mask_l (map is_stop (take len held)) ≡ 0 → IsBehind held len lf → IsLine held len lf
+pub front_line : (held : List ℕ) (len lf : ℕ) → mask_l (map is_stop (take len held)) ≡ 0 → IsBehind held len lf → IsLine held len
 front_line held len lf free behind =
     let within : lf < length held = behind.0 in
     let short : len ≤ lf = ⊎_elim (λ same. omega (arith, same)) (λ one. let more = one.0 in omega (arith, more)) behind.2 in
@@ -281,6 +282,7 @@ front_line held len lf free behind =
     behind.2)
     (cases_lt k len) in
     record {
+      lf = lf;
       first = (
         record {
           low = omega arith;
@@ -299,10 +301,10 @@ no_lf (x ∷ xs) free =
     or_from (x == 10) (has_byte 10 xs) (not_true (x == 10) (λ yes. free 0 (omega arith) (eqb-true x 10 yes)))
     (no_lf xs (λ k less. free (suc k) (omega (arith, less))))
 
-pub line_text : (held : List ℕ) (len lf : ℕ) → IsLine held len lf → (has_byte 10 (take len held) ≡ false) × (length (take len held) ≡ len)
-line_text held len lf line =
-    let within : lf < length held = line.first.0.high in
-    let short : len ≤ lf = ⊎_elim (λ same. omega (arith, same)) (λ one. let more = one.0 in omega (arith, more)) line.text in
+pub line_text : (held : List ℕ) (len : ℕ) → IsLine held len → (has_byte 10 (take len held) ≡ false) × (length (take len held) ≡ len)
+line_text held len line =
+    let within : line.lf < length held = line.first.0.high in
+    let short : len ≤ line.lf = ⊎_elim (λ same. omega (arith, same)) (λ one. let more = one.0 in omega (arith, more)) line.text in
     let size : length (take len held) ≡ len = take_count len held (omega (arith, short, within)) in (
       no_lf (take len held) (λ k less ten.
           let below : k < len = omega (arith, less, size) in
@@ -391,8 +393,8 @@ unmarked_by head xs apart bangs stars =
     let heads = mask_l (head ∷ map (λ x. x == 9) xs) in
     no_marks head xs apart (ap (bit_and heads) bangs ∙ and_zero_r heads) (ap (bit_and heads) stars ∙ and_zero_r heads)
 
-pub near_ends : (held : List ℕ) (len lf ends : ℕ) → EndsLine held 0 1 len lf ends → HasEnds (take len held) ends
-near_ends held len lf ends line =
+pub near_ends : (held : List ℕ) (len ends : ℕ) → EndsLine held 0 1 len ends → HasEnds (take len held) ends
+near_ends held len ends line =
     let text = take len held in
     let place : len ≡ line.rest = omega (arith, line.place) in
     let same : take line.rest held ≡ text = ap (λ n. take n held) (sym place) in
@@ -406,8 +408,8 @@ near_ends held len lf ends line =
       bits = bits;
     }
 
-pub near_free : (held : List ℕ) (len lf ends : ℕ) → EndsLine held 0 1 len lf ends → mask_l (map is_stop (take len held)) ≡ 0
-near_free held len lf ends line =
+pub near_free : (held : List ℕ) (len ends : ℕ) → EndsLine held 0 1 len ends → mask_l (map is_stop (take len held)) ≡ 0
+near_free held len ends line =
     let place : len ≡ line.rest = omega (arith, line.place) in
     ap (λ n. mask_l (map is_stop (take n held))) place ∙ line.free
 
@@ -424,5 +426,27 @@ short_places text all ends few h is =
     let size : length (text ++ 9 ∷ []) ≤ 64 = omega (arith, length-append text (9 ∷ []), few) in
     record { plain = h.plain; cut = is ∙ ap (set_places 64 0) h.bits ∙ set_tabs 64 0 (text ++ 9 ∷ []) size ∙ tabs_cut text }
 
+-- what a text's record says again
+text_known : (row : Row) (text : List ℕ) → IsTextOf row text → text_of row ≡ text
+text_known (Comment comment) text is = sym is.0
+text_known (Spined kind tokens) text is = sym is.0
+
 pub plain_reads : (text : List ℕ) → IsPlain text → reading text ≡ Ok (row_in text)
 plain_reads text plain = reads_row text _ (reads_spined text Values plain.unbroken plain.spined plain.lawful)
+
+-- a line of plain data is read as its record
+pub line_read : (held ends : List ℕ) (len : ℕ) → IsLine held len → len ≤ 1048576 → HasPlaces (take len held) ends
+    → AreFields (take len held) ends × IsRead held (row_in (take len held))
+line_read held ends len line few is =
+    let text = take len held in
+    let known = line_text held len line in
+    let fields = plain_fields text ends (omega (arith, known.1, few)) known.0 is in
+    let same : text_of (row_in text) ≡ text = text_known (row_in text) text fields.lawful in
+    let size : length (text_of (row_in text)) ≡ len = ap length same ∙ known.1 in (
+      fields,
+      record {
+        line = subst (IsLine held) (sym size) line;
+        text = ap (λ n. take n held) size ∙ sym same;
+        read = ap reading same ∙ plain_reads text is.plain;
+      },
+    )

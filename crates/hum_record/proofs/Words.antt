@@ -116,18 +116,18 @@ whole_word held places next at head ends stops room w is_ends is_stops none apar
     first_of (suc k) (x ∷ xs) = first_of k xs
 
 -- the last word, as if a tab stood behind it
-pub record FarLine (held places : List ℕ) (len lf : ℕ) : Type 0 where
-  pub line : IsLine held len lf
+pub record FarLine (held places : List ℕ) (len : ℕ) : Type 0 where
+  pub line : IsLine held len
   pub plain : HasPlaces (take len held) places
 
-pub last_word : (held places next : List ℕ) (at head len lf ends : ℕ) → len < at + 64 → Words (take at held) places head
-    → EndsLine held at head len lf ends → next ≡ places ++ set_places 64 at ends → FarLine held next len lf
-last_word held places next at head len lf ends short w end put =
+pub last_word : (held places next : List ℕ) (at head len ends : ℕ) → len < at + 64 → Words (take at held) places head
+    → EndsLine held at head len ends → next ≡ places ++ set_places 64 at ends → FarLine held next len
+last_word held places next at head len ends short w end put =
     let rest = take end.rest (drop at held) in
     let block = rest ++ 9 ∷ [] in
     let text = take len held in
-    let within : lf < length held = end.behind.0 in
-    let before : len ≤ lf = ⊎_elim (λ same. omega (arith, same)) (λ one. let more = one.0 in omega (arith, more)) end.behind.2 in
+    let within : end.lf < length held = end.behind.0 in
+    let before : len ≤ end.lf = ⊎_elim (λ same. omega (arith, same)) (λ one. let more = one.0 in omega (arith, more)) end.behind.2 in
     let place = end.place in
     let front = take_count at held (omega (arith, place, before, within)) in
     let behind = length-drop at held in
@@ -142,7 +142,7 @@ last_word held places next at head len lf ends short w end put =
     (put ∙ ap (λ n. places ++ set_places 64 n ends) (sym front)) refl) in
     let clear = none_in_front text (9 ∷ []) words.stops in
     record {
-      line = front_line held len lf clear end.behind;
+      line = front_line held len end.lf clear end.behind;
       plain = record {
         plain = plain_by_marks text (rare_free text clear) words.marks;
         cut = words.tabs ∙ tabs_cut text;

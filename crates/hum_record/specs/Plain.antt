@@ -49,8 +49,9 @@ pub record HasPlaces (text places : List ℕ) : Type 0 where
 -- A line ends among the bytes from a place on. None of these that stand in front of its end is a stop, these
 -- bits say where its tokens end among them, as if a tab stood behind it, and none that begins among them is
 -- empty; with the first of them begins one, or not.
-pub record EndsLine (held : List ℕ) (at head len lf ends : ℕ) : Type 0 where
+pub record EndsLine (held : List ℕ) (at head len ends : ℕ) : Type 0 where
   pub rest : ℕ
+  pub lf : ℕ
   pub place : len ≡ at + rest
   pub behind : IsBehind held len lf
   pub free : mask_l (map is_stop (take rest (drop at held))) ≡ 0

@@ -1,6 +1,6 @@
 //! The text of a record, and where its tokens end in it.
 ghost use Rattle.std.specs.Prelude.{◌≡◌, ◌≤◌, ◌<◌, ◌+◌, ◌-◌, ◌^◌, ◌++◌, ◌∷◌, [], length, take};
-ghost use Rattle.std.specs.Prelude.{IfOk, IfSome, OnOk, IfErr, Ok, true, false, vec_len};
+ghost use Rattle.std.specs.Prelude.{ℕ, IfOk, OnOk, IfErr, Ok, true, false, vec_len};
 ghost use Rattle.hum_record.specs.Building.{tab_between, spelled};
 ghost use Rattle.hum_record.specs.Cutting.{set_places};
 ghost use Rattle.hum_record.specs.Fields.{AreFields, ends_from, row_in, written};
@@ -14,7 +14,7 @@ use crate::near::{FEW, NEAR, copy_near, copy_places, put_places};
 use crate::putting::put_behind;
 use crate::reading::cut;
 use crate::selection::Selection;
-use crate::wide::{FarLine, copy_words, put_line};
+use crate::wide::{copy_words, put_line};
 use crate::{MOST_BYTES, RecordFault};
 use std::alloc::{AllocError, Global};
 use std::marker::Model;
@@ -199,24 +199,23 @@ impl Body {
     }
 
     /// Puts the line in front of what is held in place of the text, and where its tokens end, if its
-    /// bytes show that it is plain data, and there is memory for it; and tells how long it is and where
-    /// its LF stands.
-    pub fn put_far(&mut self, held: &[u8]) -> Option<FarLine>
-        ensures line { IfSome result (λ line. IsLine held.now line.len line.lf) }
-        ensures at_most { IfSome result (λ line. line.len ≤ 1048576) }
-        ensures text { IfSome result (λ line. self.new.text ≡ take line.len held.now) }
-        ensures plain { IfSome result (λ line. HasPlaces (take line.len held.now) self.new.ends) }
+    /// bytes show that it is plain data, and there is memory for it; and tells whether it did.
+    pub fn put_far(&mut self, held: &[u8]) -> bool
+        ensures { result ≡ true → (len : ℕ) × IsLine held.now len × (len ≤ 1048576)
+            × (self.new.text ≡ take len held.now) × HasPlaces (take len held.now) self.new.ends }
     {
         self.clear();
-        let line = put_line(&mut self.places, held)?;
+        let Some(line) = put_line(&mut self.places, held) else {
+            return false;
+        };
         let Ok(()) = give_bytes(&mut self.held, NEAR * line.words) else {
-            return None;
+            return false;
         };
         copy_words(&mut self.held, held, line.words);
         self.held[line.len] = b'\n';
         self.len = line.len;
         self.count = line.count;
-        Some(line)
+        true
     }
 
     /// Puts a line in place of the text, and where its tokens end; or finds the first rule that it

@@ -1,5 +1,5 @@
 //! Lines of plain data, all of whose bytes are looked at in one go.
-ghost use Rattle.std.specs.Prelude.{◌≡◌, ◌≤◌, ◌<◌, ◌+◌, ◌*◌, ◌^◌, ◌++◌, true, length, map, take, IfSome};
+ghost use Rattle.std.specs.Prelude.{◌≡◌, ◌≤◌, ◌<◌, ◌+◌, ◌*◌, ◌^◌, ◌++◌, ℕ, true, length, map, take, IfSome};
 ghost use Rattle.std.specs.Prelude.{bit_and};
 ghost use Rattle.std.specs.Simd.Lanes.{chunk, mask_l, put_chunk};
 ghost use Rattle.hum_record.specs.Cutting.{set_places};
@@ -18,12 +18,11 @@ pub const SHORT: usize = 32;
 /// How many places are copied at once: most lines have fewer tokens.
 pub const FEW: usize = 8;
 
-/// Where the text of a line ends, where its LF stands, and where tokens end in the last bytes that were
-/// looked at, as the bits of a number.
+/// Where the text of a line ends, and where tokens end in the last bytes that were looked at, as the bits of a
+/// number.
 #[derive(Clone, Copy)]
 pub struct LineEnd {
     pub len: usize,
-    pub lf: usize,
     pub ends: u64,
 }
 
@@ -52,28 +51,21 @@ pub fn is_apart(head: u64, ends: u64) -> bool
     heads & ends == 0
 }
 
-/// Where LF stands behind a text that ends at a place: there, or behind a CR.
+/// Whether a line ends at a place: LF stands there, or CR and LF.
 #[inline(always)]
-fn lf_behind(held: &[u8], len: usize) -> Option<usize>
+fn is_line_end(held: &[u8], len: usize) -> bool
     requires { len < length held.now }
-    ensures { IfSome result (IsBehind held.now len) }
+    ensures { result ≡ true → (lf : ℕ) × IsBehind held.now len lf }
 {
-    if held[len] == b'\n' {
-        return Some(len);
-    }
-    lf_behind_cr(held, len)
+    held[len] == b'\n' || is_cr_lf(held, len)
 }
 
-/// The same where it doesn't stand there.
 #[inline(never)]
-fn lf_behind_cr(held: &[u8], len: usize) -> Option<usize>
+fn is_cr_lf(held: &[u8], len: usize) -> bool
     requires { len < length held.now }
-    ensures { IfSome result (IsBehind held.now len) }
+    ensures { result ≡ true → IsBehind held.now len (len + 1) }
 {
-    if held[len] == b'\r' && len + 1 < held.len() && held[len + 1] == b'\n' {
-        return Some(len + 1);
-    }
-    None
+    held[len] == b'\r' && len + 1 < held.len() && held[len + 1] == b'\n'
 }
 
 /// The end of a line that ends among the `N` bytes from a place on, by the bits of the stops among these, if
@@ -86,17 +78,19 @@ pub fn line_end<const N: usize>(held: &[u8], at: usize, head: u64, stops: u64) -
     requires stops { stops ≡ mask_l (map is_stop (chunk at N held.now)) }
     requires some { 0 < stops }
     ensures near { IfSome result (λ end. end.len < at + N) }
-    ensures ends { IfSome result (λ end. EndsLine held.now at head end.len end.lf end.ends) }
+    ensures ends { IfSome result (λ end. EndsLine held.now at head end.len end.ends) }
 {
     let rest = stops.trailing_zeros() as usize;
     let len = at + rest;
-    let lf = lf_behind(held, len)?;
+    if !is_line_end(held, len) {
+        return None;
+    }
     let tabs = bits_at::<N>(held, at, b'\t') & ((1u64 << rest) - 1);
     let ends = tabs + (1u64 << rest);
     if !is_apart(head, ends) {
         return None;
     }
-    Some(LineEnd { len, lf, ends })
+    Some(LineEnd { len, ends })
 }
 
 /// Puts the places of bits, of which the lowest has this place, behind the first `count` of a list, and

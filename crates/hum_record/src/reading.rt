@@ -4,7 +4,7 @@ ghost use Rattle.std.specs.Prelude.{IfSome, length, take, ◌++◌, ◌∷◌, [
 ghost use Rattle.hum_record.specs.Spelling.{IsTokenOf, IsTextOf, has_byte, is_comment, reading};
 ghost use Rattle.hum_record.specs.Spelling.{Gives, Fails, Breaks};
 ghost use Rattle.hum_record.specs.Fields.{AreFields, row_in};
-ghost use Rattle.hum_record.specs.Lines.{IsLine};
+ghost use Rattle.hum_record.specs.Lines.{IsRead};
 ghost use Rattle.hum_record.specs.Plain.{EndsLine};
 ghost use Rattle.hum_record.specs.Row.{Row, kind_of, row_of, tokens_of, width_of, token_at, text_of};
 ghost use Rattle.hum_record.specs.Row.{with_chosen};
@@ -120,16 +120,19 @@ impl Record {
         Ok(Record { body })
     }
 
-    /// Reads the line in front of what is held, if its bytes show that it is plain data, into what is left
-    /// of a record that is done with, if there is one that has room. It answers the record, how long the
-    /// line's text is, and where its LF stands; of any other line [`Record::parse_into`] tells what it is.
+    /// Reads the line in front of what is held, up to LF, or CR and LF, into what is left of a record that
+    /// is done with, if the line's bytes show that it is plain data and there is one that has room. What any
+    /// other line is, [`Record::parse_into`] tells. Where lines are said to be wide, they are looked at in
+    /// larger pieces.
     #[inline(always)]
-    pub fn parse_line(spare: &mut Spare, held: &[u8]) -> Option<(Record, usize, usize)>
-        ensures line { IfSome result (λ read. IsLine held.now read.1 read.2) }
-        ensures read { IfSome result (λ read. reading (take read.1 held.now) ≡ Ok read.0) }
+    pub fn parse_line(spare: &mut Spare, held: &[u8], are_wide: bool) -> Option<Record>
+        ensures { IfSome result (IsRead held.now) }
     {
         if held.len() < NEAR {
             return None;
+        }
+        if are_wide {
+            return Self::parse_far(spare, held);
         }
         let stops = stop_bits::<SHORT>(held, 0);
         if stops == 0 {
@@ -141,10 +144,9 @@ impl Record {
 
     /// The same of a longer line.
     #[inline(never)]
-    fn parse_far(spare: &mut Spare, held: &[u8]) -> Option<(Record, usize, usize)>
+    fn parse_far(spare: &mut Spare, held: &[u8]) -> Option<Record>
         requires { 64 ≤ length held.now }
-        ensures line { IfSome result (λ read. IsLine held.now read.1 read.2) }
-        ensures read { IfSome result (λ read. reading (take read.1 held.now) ≡ Ok read.0) }
+        ensures { IfSome result (IsRead held.now) }
     {
         let stops = stop_bits::<NEAR>(held, 0);
         if stops == 0 {
@@ -156,21 +158,16 @@ impl Record {
 
     /// The record of a line that ends among the first `N` bytes of what is held.
     #[inline(always)]
-    fn of_near<const N: usize>(
-        spare: &mut Spare,
-        held: &[u8],
-        end: LineEnd,
-    ) -> Option<(Record, usize, usize)>
+    fn of_near<const N: usize>(spare: &mut Spare, held: &[u8], end: LineEnd) -> Option<Record>
         requires few { N ≤ 64 }
         requires filled { N ≤ length held.now }
         requires near { end.len < N }
-        requires ends { EndsLine held.now 0 1 end.len end.lf end.ends }
-        ensures line { IfSome result (λ read. IsLine held.now read.1 read.2) }
-        ensures read { IfSome result (λ read. reading (take read.1 held.now) ≡ Ok read.0) }
+        requires ends { EndsLine held.now 0 1 end.len end.ends }
+        ensures { IfSome result (IsRead held.now) }
     {
         let mut body = spare.take()?;
         if body.put_near::<N>(held, end.len, end.ends) {
-            return Some((Record { body }, end.len, end.lf));
+            return Some(Record { body });
         }
         spare.put_back(body);
         None
@@ -178,13 +175,12 @@ impl Record {
 
     /// The record of a line of several words.
     #[inline(never)]
-    fn parse_wide(spare: &mut Spare, held: &[u8]) -> Option<(Record, usize, usize)>
-        ensures line { IfSome result (λ read. IsLine held.now read.1 read.2) }
-        ensures read { IfSome result (λ read. reading (take read.1 held.now) ≡ Ok read.0) }
+    fn parse_wide(spare: &mut Spare, held: &[u8]) -> Option<Record>
+        ensures { IfSome result (IsRead held.now) }
     {
         let mut body = spare.take()?;
-        if let Some(line) = body.put_far(held) {
-            return Some((Record { body }, line.len, line.lf));
+        if body.put_far(held) {
+            return Some(Record { body });
         }
         spare.put_back(body);
         None

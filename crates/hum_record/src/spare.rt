@@ -6,7 +6,7 @@ use crate::reading::Record;
 use std::alloc::{AllocError, Global};
 use std::marker::Model;
 
-/// How many records are kept beside the first, and how much text may fit in each of them: what is kept
+/// How many bodies wait behind the first, and how much text may fit in each of them: what is kept
 /// takes little memory, however long the records are.
 const MOST_OTHERS: usize = 32;
 
@@ -18,7 +18,10 @@ const MOST_TEXT: usize = 4096;
 /// Nothing of what stood in them shows, so one spare is like another.
 #[derive(Drop)]
 pub struct Spare {
-    bodies: Vec<Box<Body>>,
+    // what is kept and taken again where records come and go one by one
+    first: Option<Box<Body>>,
+    // what is left of others, where several go before the next ones come
+    others: Vec<Box<Body>>,
 }
 
 impl Model for Spare {
@@ -33,11 +36,12 @@ impl Spare {
     /// No record was done with as yet.
     pub fn none(alloc: Global) -> Spare {
         Spare {
-            bodies: Vec::new(alloc),
+            first: None,
+            others: Vec::new(alloc),
         }
     }
 
-    /// Keeps a record that is done with if none is kept, or not too many are and it is short.
+    /// Keeps a record that is done with, behind the first one where it is short and not too many are.
     #[inline]
     pub fn keep(&mut self, row: Record) {
         let _refused = self.offer(row);
@@ -46,30 +50,55 @@ impl Spare {
     /// The same, but what isn't kept is handed back.
     #[inline]
     pub fn offer(&mut self, row: Record) -> Option<Record> {
-        let count = self.bodies.len();
-        if count > 0 && (count > MOST_OTHERS || row.capacity() > MOST_TEXT) {
+        if self.first.is_some() {
+            return self.offer_behind(row);
+        }
+        self.first = Some(row.into_body());
+        None
+    }
+
+    #[inline(never)]
+    fn offer_behind(&mut self, row: Record) -> Option<Record> {
+        if self.others.len() >= MOST_OTHERS || row.capacity() > MOST_TEXT {
             return Some(row);
         }
-        self.put_back(row.into_body());
+        // without memory for its place it is let go
+        let _kept = self.others.push(row.into_body());
         None
     }
 
     /// Hands out what is left of one, which may hold anything.
     #[inline]
     pub(crate) fn take(&mut self) -> Option<Box<Body>> {
-        self.bodies.pop()
+        match self.first.take() {
+            Some(body) => Some(body),
+            None => self.take_other(),
+        }
     }
 
-    /// Keeps a body. Without memory for its place it is let go.
-    #[inline]
+    /// Keeps what was taken in vain.
+    #[inline(never)]
     pub(crate) fn put_back(&mut self, body: Box<Body>) {
-        let _kept = self.bodies.push(body);
+        self.first = Some(body);
+    }
+
+    #[inline(never)]
+    fn take_other(&mut self) -> Option<Box<Body>> {
+        self.others.pop()
     }
 
     /// Hands out what is left of one, or where nothing is, new buffers.
     #[inline]
     pub(crate) fn take_or_new(&mut self, alloc: Global) -> Result<Box<Body>, AllocError> {
-        match self.bodies.pop() {
+        match self.first.take() {
+            Some(body) => Ok(body),
+            None => self.other_or_new(alloc),
+        }
+    }
+
+    #[inline(never)]
+    fn other_or_new(&mut self, alloc: Global) -> Result<Box<Body>, AllocError> {
+        match self.others.pop() {
             Some(body) => Ok(body),
             None => new_body(alloc),
         }

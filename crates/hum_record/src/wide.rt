@@ -12,12 +12,10 @@ use std::simd::prelude::*;
 /// How many words are looked at: a record has no more.
 const MOST_WORDS: usize = MOST_BYTES / NEAR;
 
-/// A line: how long its text is, where its LF stands, how many tokens end in it, and in how many words it
-/// stands.
+/// A line: how long its text is, how many tokens end in it, and in how many words it stands.
 #[derive(Clone, Copy)]
 pub struct FarLine {
     pub len: usize,
-    pub lf: usize,
     pub count: usize,
     pub words: usize,
 }
@@ -25,7 +23,7 @@ pub struct FarLine {
 /// Puts where the tokens of the line in front of what is held end in front of what stands in a list, if its
 /// bytes show that it is plain data, and there is memory for them.
 pub fn put_line(places: &mut Vec<u32>, held: &[u8]) -> Option<FarLine>
-    ensures line { IfSome result (λ line. IsLine held.now line.len line.lf) }
+    ensures line { IfSome result (λ line. IsLine held.now line.len) }
     ensures within { IfSome result (λ line. line.count ≤ vec_len places.new) }
     ensures plain { IfSome result (λ line.
         HasPlaces (take line.len held.now) (take line.count places.new.items)) }
@@ -47,7 +45,6 @@ pub fn put_line(places: &mut Vec<u32>, held: &[u8]) -> Option<FarLine>
             let end = line_end::<64>(held, at, head, stops)?;
             return Some(FarLine {
                 len: end.len,
-                lf: end.lf,
                 count: put_places(places, count, at as u32, end.ends),
                 words,
             });

@@ -32,11 +32,11 @@ pub struct LineReader<R> {
     limits: Limits,
     block: Block,
     given: u64,
+    // how many bytes may be handed out in all before a limit is to be asked for again
+    free: u64,
     taken: u64,
     ended: bool,
     fault: Option<TextFault>,
-    // how many bytes may be handed out in all before a limit is to be asked for again
-    free: u64,
 }
 
 impl<R> Model for LineReader<R> {
@@ -68,6 +68,16 @@ fn through(held: &[u8], k: usize) -> usize
     ensures { result ≡ k + 1 }
 {
     held[..k].len() + 1
+}
+
+// Where LF stands behind a text that ends at a place: there, or behind a CR.
+#[inline]
+fn lf_behind(held: &[u8], len: usize) -> usize
+    requires { len < length held.now }
+    ensures lf { slice_index held.now len ≡ lf → result ≡ len }
+    ensures cr { slice_index held.now len ≢ lf → result ≡ len + 1 }
+{
+    if held[len] == b'\n' { len } else { len + 1 }
 }
 
 impl<R: Source> LineReader<R> {
@@ -178,10 +188,27 @@ impl<R: Source> LineReader<R> {
         first_fault(&self.limits, self.given, self.taken, held)
     }
 
-    /// Gives what stands in front of the LF at `k` as a line, of which `len` bytes are left without a CR
-    /// at its end, and drops it and that LF.
+    /// Gives the first `len` bytes as a line, and drops them and its line end: LF, or CR and LF.
     #[inline]
-    pub fn take_line(&mut self, k: usize, len: usize)
+    pub fn take_line(&mut self, len: usize)
+        requires sound { self.old.fault ≡ None }
+        requires first { (k : ℕ) × IsFirstByte (is_byte lf) self.old.pending (Some k)
+            × (len ≡ length (without_cr (take k self.old.pending)))
+            × (self.old.taken + (k + 1) ≤ self.old.limits.bytes) }
+        requires filled { 0 < len }
+        requires short { len ≤ self.old.limits.line }
+        requires records { self.old.given < self.old.limits.records }
+        ensures gives { GivesLine self.old self.new }
+        ensures line { self.new.line ≡ take len self.old.pending }
+    {
+        let k = lf_behind(self.block.pending(), len);
+        self.give_line(k, len);
+    }
+
+    // Gives what stands in front of the LF at `k` as a line, of which `len` bytes are left without a CR at
+    // its end, and drops it and that LF.
+    #[inline]
+    fn give_line(&mut self, k: usize, len: usize)
         requires sound { self.old.fault ≡ None }
         requires first { IsFirstByte (is_byte lf) self.old.pending (Some k) }
         requires len { len ≡ length (without_cr (take k self.old.pending)) }
@@ -225,7 +252,7 @@ impl<R: Source> LineReader<R> {
         let piece = &self.block.pending()[..k];
         match sound_len(&self.limits, self.given, self.taken, piece) {
             Some(len) => {
-                self.take_line(k, len);
+                self.give_line(k, len);
                 true
             }
             None => false,

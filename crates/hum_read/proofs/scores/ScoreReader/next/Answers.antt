@@ -1,4 +1,5 @@
-use Rattle.std.proofs.Common.{◌≡◌, ◌∙◌, subst, sym, ap, refl, take, None, Some, Ok}
+use Rattle.std.proofs.Common.{◌≡◌, ◌∙◌, ℕ, List, length, subst, sym, ap, refl, take, None, Some, Ok}
+use Rattle.hum_record.specs.Row.{text_of}
 use Rattle.hum_record.specs.Spelling.{reading}
 use Rattle.hum_read.specs.Reading.{Scores, Gave}
 use Rattle.hum_read.specs.Steps.{Nexts, given_by}
@@ -21,17 +22,15 @@ take_line-requires g c =
     let ahead = c.ahead.ensures in
     let read = c.in-Some.ensures in
     let going = none-of c.self.inside.stopped c.if-is_some.ensures in
-    let t = taking lines.limits lines.given lines.taken lines.pending c.ahead.result.now ahead.next.0 c.in-Some.len c.in-Some.lf c.in-Some.record
-    ahead.next.1 ahead.line ahead.records ahead.bytes read.line read.read in
-    record {
+    let t = taking lines.limits lines.given lines.taken lines.pending c.ahead.result.now ahead.next.0 c.in-Some.record
+    ahead.next.1 ahead.line ahead.records ahead.bytes read in
+    rw c.text.ensures.text (record {
       sound = c.self.invariant.going going;
-      first = t.line.first;
-      len = t.size;
+      first = (t.line.lf, t.line.first, t.size, t.bytes);
       filled = t.filled;
       short = t.short;
       records = t.records;
-      bytes = t.bytes;
-    }
+    })
 
 pub invariant_of-self : goal.invariant_of-self
 invariant_of-self g c = tidy-taken c.self.inside.lines c.take_line.new.self c.self.inside.stopped c.self.invariant c.take_line.ensures.gives
@@ -50,11 +49,12 @@ returns-then-keeps_spines g c =
     let kept = c.if-keeps_spines.ensures in
     let given = c.take_line.ensures.gives in
     let going = none-of inside.stopped c.if-is_some.ensures in
-    let t = taking lines.limits lines.given lines.taken lines.pending c.ahead.result.now ahead.next.0 c.in-Some.len c.in-Some.lf row
-    ahead.next.1 ahead.line ahead.records ahead.bytes read.line read.read in
+    let t = taking lines.limits lines.given lines.taken lines.pending c.ahead.result.now ahead.next.0 row
+    ahead.next.1 ahead.line ahead.records ahead.bytes read in
+    let line : new.line ≡ text_of row = c.take_line.ensures.line ∙ ap (λ (text : List ℕ). take (length text) lines.pending) c.text.ensures.text ∙ t.text in
     let v : Scores _ = record { stage = inside.stage; lines = lines; spines = inside.paths; stopped = inside.stopped } in
     let w : Scores _ = record { stage = inside.stage; lines = new; spines = inside.paths; stopped = inside.stopped } in
-    let reads = given-reads w inside.paths row going (ap reading (c.take_line.ensures.line ∙ t.text) ∙ read.read)
+    let reads = given-reads w inside.paths row going (ap reading line ∙ read.read)
     (kept.sound refl) (sym (kept.same refl)) (few-taken lines new inside.stopped c.self.invariant given) in
     subst (λ u. Nexts remaining calls failed u (Ok (Gave row)) w) c.self.view_is
     (taken-nexts remaining calls failed v new row c.self.invariant going given reads.gives)

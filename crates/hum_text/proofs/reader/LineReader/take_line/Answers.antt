@@ -1,24 +1,41 @@
-use Rattle.std.proofs.Common.{◌≡◌, ◌+◌, ◌<◌, ◌≤◌, ◌++◌, ◌∷◌, [], length, length-take, get_or, sym, ap, ◌∙◌, subst, take, arith}
-use Rattle.std.proofs.lemmas.List.{get_or-take}
-use Rattle.hum_text.specs.Text.{without_cr, IsLawful}
-use Rattle.hum_text.proofs.PieceLemmas.{NoLf}
-use Rattle.hum_text.proofs.ReadingLemmas.{to-line, first-free}
-use Rattle.hum_text.proofs.LimitLemmas.{line-lawful}
-use Rattle.hum_text.proofs.GivenLine.{given-line}
+use Rattle.std.proofs.Common.{◌≡◌, ◌∙◌, ◌+◌, ◌<◌, ◌≤◌, length, take, get_or, subst, sym, ap, arith, Some}
+use Rattle.memchr.specs.Find.{IsFirstByte, is_byte}
+use Rattle.hum_text.specs.Text.{without_cr}
+use Rattle.hum_text.proofs.LimitLemmas.{lf-place, same-place, front-text}
 use Rattle.hum_text.proofs.reader.LineReader.take_line.Goals as goal
 
-pub returns-clause-gives : goal.returns-clause-gives
-returns-clause-gives g c =
-    let v = c.args.self.now in
-    let k = c.args.k in
+pub lf_behind-k-requires : goal.lf_behind-k-requires
+lf_behind-k-requires g c =
+    let same = c.pending.ensures ∙ ap (λ w. w.pending) c.self.view_is in
     let first = c.requires.first in
-    let high : k < length v.pending = first.0.high in
-    let size : length (take k v.pending) ≡ k = omega (arith, length-take k v.pending, high) in
-    let some : 0 < length (without_cr (take k v.pending)) = omega (arith, c.requires.len, c.requires.filled) in
-    let short : length (without_cr (take k v.pending)) ≤ v.limits.line = omega (arith, c.requires.len, c.requires.short) in
-    let free : NoLf (take k v.pending) = λ j less is. first-free v.pending k first j (omega (arith, less, size)) (sym (get_or-take k v.pending j 0 (omega (arith, less, size))) ∙ is) in
-    let sound : IsLawful v.limits (v.given + 1) v.taken (take k v.pending ++ 10 ∷ []) =
-    line-lawful v.limits (v.given + 1) v.taken (take k v.pending) free some short
-    (omega (arith, c.requires.records)) (omega (arith, size, c.requires.bytes)) in
-    let lawful = subst (λ zs. IsLawful v.limits (v.given + 1) v.taken zs) (to-line v.pending k first) sound in
-    given-line v _ k c.requires.sound first lawful c.requires.records c.requires.bytes c.hand_out_line.ensures
+    rw same (lf-place c.args.self.now.pending first.0 c.args.len first.1 first.2).0
+
+pub give_line-requires : goal.give_line-requires
+give_line-requires g c =
+    let v = c.args.self.now in
+    let pending = v.pending in
+    let same = c.pending.ensures ∙ ap (λ w. w.pending) c.self.view_is in
+    let first = c.requires.first in
+    let found = c.lf_behind-k.ensures in
+    let k : c.lf_behind-k.result ≡ first.0 =
+    same-place pending first.0 c.args.len c.lf_behind-k.result first.1 first.2 (rw same at found.lf) (rw same at found.cr) in
+    record {
+      sound = c.requires.sound;
+      first = subst (λ n. IsFirstByte (is_byte 10) pending (Some n)) (sym k) first.1;
+      len = first.2 ∙ ap (λ n. length (without_cr (take n pending))) (sym k);
+      filled = c.requires.filled;
+      short = c.requires.short;
+      records = c.requires.records;
+      bytes = omega (arith, k, first.3);
+    }
+
+pub returns-clause-line : goal.returns-clause-line
+returns-clause-line g c =
+    let pending = c.args.self.now.pending in
+    let same = c.pending.ensures ∙ ap (λ w. w.pending) c.self.view_is in
+    let first = c.requires.first in
+    let high : first.0 < length pending = first.1.0.high in
+    let found = c.lf_behind-k.ensures in
+    let k : c.lf_behind-k.result ≡ first.0 =
+    same-place pending first.0 c.args.len c.lf_behind-k.result first.1 first.2 (rw same at found.lf) (rw same at found.cr) in
+    c.give_line.ensures.line ∙ ap (λ n. without_cr (take n pending)) k ∙ front-text pending first.0 c.args.len high first.2
