@@ -12,13 +12,16 @@ use Rattle.hum_text.specs.declared.reader.Step.TheVariants.{Line, More, End}
 use Rattle.hum_text.specs.Calls.{IsCalled}
 use Rattle.hum_text.specs.Reading.{Reader, IsUnread, IsFed, IsOver, NeedsRead, ReadsOnce, Nears, Fails, KeepsLimits, left_to_do, bytes_read}
 use Rattle.hum_text.specs.Reading.{GivesNext as LinesGiveNext}
+use Rattle.hum_text.specs.Reading.{GivesLine}
+use Rattle.hum_text.proofs.PollLemmas.{line-polls}
 use Rattle.hum_text.proofs.ReadingLemmas.{drop-all}
+use Rattle.hum_record.specs.Row.{Row}
 use Rattle.hum_stage.specs.declared.faults.End.{End as EndOf}
 use Rattle.hum_read.specs.declared.ReadError.{ReadError}
 use Rattle.hum_read.specs.declared.ReadError.TheVariants as error
 use Rattle.hum_record.specs.Spelling.{has_byte}
 use Rattle.hum_read.specs.Denoted.{standard}
-use Rattle.hum_read.specs.Steps.{IsTidy, ReadsLine, given_by, end_of, stop_by}
+use Rattle.hum_read.specs.Steps.{IsTidy, Nexts, ReadsLine, given_by, end_of, stop_by}
 use Rattle.hum_read.proofs.Polling.{has-line, text-ended, text-stopped}
 use Rattle.hum_read.specs.Reading.{HasRead, Scores, Polled, Gave, ReadOn, Ended, Gives, GivesNext, stop_of, answer_of, IsDue, IsCalledAtMostOnce}
 use Rattle.hum_read.specs.Reading.{ReadsOnce as ReadsOnceDue, Nears as NearsBy}
@@ -97,7 +100,7 @@ consumes-none None = tt
 consumes-none (Some xs) = refl
 
 -- a reader that has not stopped
-none-of : (o : Option (Result EndOf ReadError)) → false ≡ is_some o → o ≡ None
+pub none-of : (o : Option (Result EndOf ReadError)) → false ≡ is_some o → o ≡ None
 none-of None is = refl
 none-of (Some s) is = let both : false ≡ true = is in absurd cc
 
@@ -130,6 +133,12 @@ meets-stop stage given text.S2 = (_, refl)
 meets-stop stage given text.S3 = (_, refl)
 meets-stop stage given text.S7 = (_, refl)
 
+pub tidy-taken : {R : Type 0} (old new : Reader R) (stopped : Option (Result EndOf ReadError)) → IsTidy old stopped → GivesLine old new → IsTidy new stopped
+tidy-taken old new stopped tidy line = record { limits = line.limits ∙ tidy.limits; going = λ _. line.sound }
+
+pub few-taken : {R : Type 0} (old new : Reader R) (stopped : Option (Result EndOf ReadError)) → IsTidy old stopped → GivesLine old new → new.given ≤ 4294967295
+few-taken old new stopped tidy line = subst (λ l. new.given ≤ l.records) tidy.limits line.within.2
+
 module _ {R : Type 0} (remaining : R → Option (List ℕ)) (calls : R → ℕ) (has_failed : R → Bool) where
   -- the clauses of a poll of the lines, in their order
   abbrev pub Polls : Reader R → Result Step TextFault → Reader R → Type 0
@@ -153,27 +162,6 @@ module _ {R : Type 0} (remaining : R → Option (List ℕ)) (calls : R → ℕ) 
     nears : IfOk result (λ step. Nears step (left_to_do old) (left_to_do new));
     limits : new.limits ≡ old.limits;
     taken : new.taken ≤ new.limits.bytes;
-  }
-
-  -- the clauses of `next`, in their order
-  abbrev pub Nexts : Scores R → Result Polled ReadError → Scores R → Type 0
-  Nexts old result new = record {
-    gives : old.stopped ≡ None → GivesNext old result new;
-    stops : new.stopped ≡ stop_of result;
-    again : IfSome old.stopped (λ s. (result ≡ answer_of s) × (new ≡ old));
-    stage : new.stage ≡ old.stage;
-    unread : ¬ NeedsRead old.lines → IsUnread old.lines new.lines;
-    once : NeedsRead old.lines → IsCalledAtMostOnce calls has_failed old.lines.source new.lines.source;
-    due : IsDue old → ReadsOnceDue calls has_failed old result new;
-    more : result ≡ Ok ReadOn → IsFed old.lines new.lines;
-    unfed : result ≢ Ok ReadOn → bytes_read old.lines new.lines ≡ [];
-    asked : length (bytes_read old.lines new.lines) ≤ LARGEST_READ;
-    consumes : Consumes (remaining old.lines.source) (remaining new.lines.source) (bytes_read old.lines new.lines);
-    at_end : new.lines.ended ≡ true → (old.lines.ended ≡ true) ⊎ IsAtEnd (remaining new.lines.source);
-    failed : result ≡ Err error.Read → (old.stopped ≡ Some (Err error.Read)) ⊎ (has_failed new.lines.source ≡ true);
-    marked : has_failed new.lines.source ≡ true → (has_failed old.lines.source ≡ true) ⊎ (result ≡ Err error.Read);
-    taken : old.stopped ≡ None → new.lines.taken ≤ new.lines.limits.bytes;
-    nears : IfOk result (λ step. NearsBy step (left_to_do old.lines) (left_to_do new.lines));
   }
 
   -- a poll makes at most one call
@@ -255,7 +243,7 @@ module _ {R : Type 0} (remaining : R → Option (List ℕ)) (calls : R → ℕ) 
   -- A poll of the lines was made, and this comes of it.
   polled-nexts : (v w : Scores R) (s : Result Step TextFault) (r : Result Polled ReadError) → v.stopped ≡ None
       → v.lines.fault ≡ None → Polls v.lines s w.lines → Meets s r → w.stage ≡ v.stage → w.stopped ≡ stop_of r
-      → GivesNext v r w → Nexts v r w
+      → GivesNext v r w → Nexts remaining calls has_failed v r w
   polled-nexts v w s r going sound says meets stage stops gives = record {
     gives = λ _. gives;
     stops = stops;
@@ -298,14 +286,14 @@ module _ {R : Type 0} (remaining : R → Option (List ℕ)) (calls : R → ℕ) 
   }
 
   pub asks-line : (old new : Reader R) (stopped : Option (Result EndOf ReadError)) (step : Step) → IsTidy old stopped
-      → false ≡ is_some stopped → step ≡ Line → Polls old (Ok step) new → AsksLine stopped new
-  asks-line old new stopped step tidy clear is polls =
+      → stopped ≡ None → step ≡ Line → Polls old (Ok step) new → AsksLine stopped new
+  asks-line old new stopped step tidy going is polls =
       let Q : Step → Type 0 = λ t. Polls old (Ok t) new in
       let polled : Polls old (Ok Line) new = subst Q is polls in
       let within : KeepsLimits standard Line new.line new.given =
       subst (λ l. KeepsLimits l Line new.line new.given) tidy.limits polled.within in
       record {
-        going = none-of stopped clear;
+        going = going;
         short = within.0;
         one_line = within.1;
         few = within.2;
@@ -318,10 +306,9 @@ module _ {R : Type 0} (remaining : R → Option (List ℕ)) (calls : R → ℕ) 
 
   -- A line was given, and it was read.
   pub line-nexts : (v w : Scores R) (lines : Reader R) (step : Step) (r : Result Polled ReadError) → IsTidy v.lines v.stopped
-      → false ≡ is_some v.stopped → step ≡ Line → Polls v.lines (Ok step) lines → w.lines ≡ lines → w.stage ≡ v.stage
-      → w.stopped ≡ stop_of r → r ≢ Ok ReadOn → r ≢ Err error.Read → ReadsLine (record v { lines = lines }) r w → Nexts v r w
-  line-nexts v w lines step r tidy clear is polls same stage stops told sound reads =
-      let going = none-of v.stopped clear in
+      → v.stopped ≡ None → step ≡ Line → Polls v.lines (Ok step) lines → w.lines ≡ lines → w.stage ≡ v.stage
+      → w.stopped ≡ stop_of r → r ≢ Ok ReadOn → r ≢ Err error.Read → ReadsLine (record v { lines = lines }) r w → Nexts remaining calls has_failed v r w
+  line-nexts v w lines step r tidy going is polls same stage stops told sound reads =
       let fine = tidy.going going in
       let P : Reader R → Type 0 = λ l. Polls v.lines (Ok step) l in
       let Q : Step → Type 0 = λ t. Polls v.lines (Ok t) w.lines in
@@ -332,12 +319,19 @@ module _ {R : Type 0} (remaining : R → Option (List ℕ)) (calls : R → ℕ) 
       (λ all rows rest h end. read all rows rest
       (has-line v (record v { lines = w.lines }) all rows _ rest h polled.limits refl (polled.gives fine all h.given rest h.holds end)))
 
+  -- A line was taken, and its record is given.
+  pub taken-nexts : (v : Scores R) (lines : Reader R) (row : Row) → IsTidy v.lines v.stopped → v.stopped ≡ None → GivesLine v.lines lines
+      → ReadsLine (record v { lines = lines }) (Ok (Gave row)) (record v { lines = lines })
+      → Nexts remaining calls has_failed v (Ok (Gave row)) (record v { lines = lines })
+  taken-nexts v lines row tidy going line reads =
+      line-nexts v (record v { lines = lines }) lines Line (Ok (Gave row)) tidy going refl
+      (line-polls remaining calls has_failed v.lines lines (tidy.going going) line) refl refl going (λ is. cc) (λ is. cc) reads
+
   -- Nothing is there yet.
   pub more-nexts : (v : Scores R) (lines : Reader R) (step : Step) → IsTidy v.lines v.stopped
-      → false ≡ is_some v.stopped → step ≡ More → Polls v.lines (Ok step) lines
-      → Nexts v (given_by None v.stopped) (record v { lines = lines })
-  more-nexts v lines step tidy clear is polls =
-      let going = none-of v.stopped clear in
+      → v.stopped ≡ None → step ≡ More → Polls v.lines (Ok step) lines
+      → Nexts remaining calls has_failed v (given_by None v.stopped) (record v { lines = lines })
+  more-nexts v lines step tidy going is polls =
       let fine = tidy.going going in
       let Q : Step → Type 0 = λ t. Polls v.lines (Ok t) lines in
       let polled : Polls v.lines (Ok More) lines = subst Q is polls in
@@ -357,15 +351,14 @@ module _ {R : Type 0} (remaining : R → Option (List ℕ)) (calls : R → ℕ) 
 
   -- No line is left.
   pub end-nexts : (v w : Scores R) (lines : Reader R) (step : Step) → IsTidy v.lines v.stopped
-      → false ≡ is_some v.stopped → step ≡ End → Polls v.lines (Ok step) lines
+      → v.stopped ≡ None → step ≡ End → Polls v.lines (Ok step) lines
       → w ≡ record v { lines = lines; stopped = Some (Ok (end_of (record v { lines = lines }))) }
-      → Nexts v (given_by None w.stopped) w
-  end-nexts v w lines step tidy clear is polls state =
-      let going = none-of v.stopped clear in
+      → Nexts remaining calls has_failed v (given_by None w.stopped) w
+  end-nexts v w lines step tidy going is polls state =
       let fine = tidy.going going in
       let Q : Step → Type 0 = λ t. Polls v.lines (Ok t) lines in
       let polled : Polls v.lines (Ok End) lines = subst Q is polls in
-      let W : Scores R → Type 0 = λ u. Nexts v (given_by None u.stopped) u in
+      let W : Scores R → Type 0 = λ u. Nexts remaining calls has_failed v (given_by None u.stopped) u in
       subst W (sym state)
       (polled-nexts v (record v { lines = lines; stopped = Some (Ok (end_of (record v { lines = lines }))) }) (Ok End) _ going fine polled
       (end_of (record v { lines = lines }), refl) refl refl (λ all rows rest h end.
@@ -374,13 +367,12 @@ module _ {R : Type 0} (remaining : R → Option (List ℕ)) (calls : R → ℕ) 
 
   -- The lines have a fault.
   pub fault-nexts : (v : Scores R) (lines : Reader R) (f : TextFault) (given : ℕ) (stopped : Option (Result EndOf ReadError))
-      → IsTidy v.lines v.stopped → false ≡ is_some v.stopped → Polls v.lines (Err f) lines → given ≡ lines.given
+      → IsTidy v.lines v.stopped → v.stopped ≡ None → Polls v.lines (Err f) lines → given ≡ lines.given
       → stopped ≡ Some (stop_by v.stage given f)
-      → Nexts v (given_by None stopped) (record v { lines = lines; stopped = stopped })
-  fault-nexts v lines f given stopped tidy clear polls count told =
-      let going = none-of v.stopped clear in
+      → Nexts remaining calls has_failed v (given_by None stopped) (record v { lines = lines; stopped = stopped })
+  fault-nexts v lines f given stopped tidy going polls count told =
       let fine = tidy.going going in
-      let W : Option (Result EndOf ReadError) → Type 0 = λ o. Nexts v (given_by None o) (record v { lines = lines; stopped = o }) in
+      let W : Option (Result EndOf ReadError) → Type 0 = λ o. Nexts remaining calls has_failed v (given_by None o) (record v { lines = lines; stopped = o }) in
       subst W (sym told)
       (polled-nexts v (record v { lines = lines; stopped = Some (stop_by v.stage given f) }) (Err f) (answer_of (stop_by v.stage given f))
       going fine polls (meets-stop v.stage given f) refl (stop-answer (stop_by v.stage given f)) (λ all rows rest h end.
@@ -388,13 +380,13 @@ module _ {R : Type 0} (remaining : R → Option (List ℕ)) (calls : R → ℕ) 
       (polls.gives fine all h.given rest h.holds end)))
 
   -- It has stopped before.
-  pub stopped-nexts : (v : Scores R) → true ≡ is_some v.stopped → Nexts v (given_by None v.stopped) v
+  pub stopped-nexts : (v : Scores R) → true ≡ is_some v.stopped → Nexts remaining calls has_failed v (given_by None v.stopped) v
   stopped-nexts v some = by v.stopped refl some
     where
       none : bytes_read v.lines v.lines ≡ []
       none = drop-all v.lines.pending (length v.lines.pending) (omega arith)
 
-      stopped : (s : Result EndOf ReadError) (r : Result Polled ReadError) → v.stopped ≡ Some s → r ≡ answer_of s → Nexts v r v
+      stopped : (s : Result EndOf ReadError) (r : Result Polled ReadError) → v.stopped ≡ Some s → r ≡ answer_of s → Nexts remaining calls has_failed v r v
       stopped s r is told =
           let ends : v.stopped ≡ None → ⊥ = λ going. let both = sym is ∙ going in absurd (some-none s both) in
           let By : List ℕ → Type 0 = λ bs. Consumes (remaining v.lines.source) (remaining v.lines.source) bs in
@@ -417,6 +409,6 @@ module _ {R : Type 0} (remaining : R → Option (List ℕ)) (calls : R → ℕ) 
             nears = at (λ q. IfOk q (λ step. NearsBy step (left_to_do v.lines) (left_to_do v.lines))) _ r told (no-step s _ _);
           }
 
-      by : (o : Option (Result EndOf ReadError)) → v.stopped ≡ o → true ≡ is_some o → Nexts v (given_by None v.stopped) v
+      by : (o : Option (Result EndOf ReadError)) → v.stopped ≡ o → true ≡ is_some o → Nexts remaining calls has_failed v (given_by None v.stopped) v
       by None is some = let both : true ≡ false = some in absurd cc
       by (Some s) is some = stopped s (given_by None v.stopped) is (ap (λ o. given_by None o) is)

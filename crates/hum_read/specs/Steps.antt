@@ -1,9 +1,11 @@
 -- The parts of a poll: a line that was just given, the end of the lines, and a stop.
-use Rattle.std.specs.Prelude.{◌≡◌, ℕ, ◌+◌, List, [], ◌∷◌, ◌++◌, length}
-use Rattle.std.specs.Prelude.{Option, None, Some, Result, Ok, Err}
+use Rattle.std.specs.Prelude.{◌≡◌, ◌≢◌, ℕ, ◌+◌, ◌≤◌, ◌⊎◌, Bool, true, List, [], ◌∷◌, ◌++◌, length}
+use Rattle.std.specs.Prelude.{Option, None, Some, Result, Ok, Err, IfOk, IfSome}
+use Rattle.std.specs.Io.KnownBytes.{Consumes, IsAtEnd}
 use Rattle.hum_text.specs.declared.TextFault.{TextFault}
 use Rattle.hum_text.specs.declared.TextFault.TheVariants as text
-use Rattle.hum_text.specs.Reading.{Reader, Holds}
+use Rattle.hum_text.specs.declared.calls.TheConstants.{LARGEST_READ}
+use Rattle.hum_text.specs.Reading.{Reader, Holds, NeedsRead, IsUnread, IsFed, bytes_read, left_to_do}
 use Rattle.hum_record.specs.Row.{Row}
 use Rattle.hum_path.specs.Spines.{Unopened}
 use Rattle.hum_stage.specs.declared.faults.End.{End}
@@ -14,7 +16,8 @@ use Rattle.hum_read.specs.declared.ReadError.{ReadError}
 use Rattle.hum_read.specs.declared.ReadError.TheVariants.{Read, Memory}
 use Rattle.hum_read.specs.Denoted.{standard, end_at, ending}
 use Rattle.hum_read.specs.Reading.{Scores, Polled, Gave, ReadOn}
-use Rattle.hum_read.specs.Reading.{HasRead, AreRead, Gives, answer_of}
+use Rattle.hum_read.specs.Reading.{HasRead, AreRead, Gives, GivesNext, answer_of, stop_of}
+use Rattle.hum_read.specs.Reading.{IsCalledAtMostOnce, IsDue, ReadsOnce, Nears}
 
 -- a reader that goes on has met no fault
 pub record IsTidy {R : Type 0} (lines : Reader R) (stopped : Option (Result End ReadError))
@@ -64,3 +67,25 @@ stop_by stage given text.S1 = Ok (end_at stage (Some (given + 1, S1)))
 stop_by stage given text.S2 = Ok (end_at stage (Some (given + 1, S2)))
 stop_by stage given text.S3 = Ok (end_at stage (Some (given + 1, S3)))
 stop_by stage given text.S7 = Ok (end_at stage (Some (given + 1, S7)))
+
+-- What `next` comes to: its clauses, in their order. The functions tell what a source shows.
+abbrev pub Nexts : {R : Type 0} → (R → Option (List ℕ)) → (R → ℕ) → (R → Bool) → Scores R
+    → Result Polled ReadError → Scores R → Type 0
+Nexts remaining calls has_failed old result new = record {
+  gives : old.stopped ≡ None → GivesNext old result new;
+  stops : new.stopped ≡ stop_of result;
+  again : IfSome old.stopped (λ s. (result ≡ answer_of s) × (new ≡ old));
+  stage : new.stage ≡ old.stage;
+  unread : ¬ NeedsRead old.lines → IsUnread old.lines new.lines;
+  once : NeedsRead old.lines → IsCalledAtMostOnce calls has_failed old.lines.source new.lines.source;
+  due : IsDue old → ReadsOnce calls has_failed old result new;
+  more : result ≡ Ok ReadOn → IsFed old.lines new.lines;
+  unfed : result ≢ Ok ReadOn → bytes_read old.lines new.lines ≡ [];
+  asked : length (bytes_read old.lines new.lines) ≤ LARGEST_READ;
+  consumes : Consumes (remaining old.lines.source) (remaining new.lines.source) (bytes_read old.lines new.lines);
+  at_end : new.lines.ended ≡ true → (old.lines.ended ≡ true) ⊎ IsAtEnd (remaining new.lines.source);
+  failed : result ≡ Err Read → (old.stopped ≡ Some (Err Read)) ⊎ (has_failed new.lines.source ≡ true);
+  marked : has_failed new.lines.source ≡ true → (has_failed old.lines.source ≡ true) ⊎ (result ≡ Err Read);
+  taken : old.stopped ≡ None → new.lines.taken ≤ new.lines.limits.bytes;
+  nears : IfOk result (λ step. Nears step (left_to_do old.lines) (left_to_do new.lines));
+}

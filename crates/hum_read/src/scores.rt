@@ -21,6 +21,9 @@ use hum_text::{Limits, TextFault, reader as lines};
 use std::alloc::Global;
 use std::marker::Model;
 
+/// With so many spines most lines are longer than 32 bytes.
+const WIDE: usize = 8;
+
 /// The end of a score that breaks a rule in this line.
 fn broken(stage: u8, line: u64, rule: Rule) -> End
     ensures { result ≡ end_at stage (Some (line, rule)) }
@@ -104,7 +107,7 @@ impl<R: Source> ScoreReader<R> {
     ghost use Rattle.hum_read.specs.Reading.{IsFresh, HasRead, GivesNext};
     ghost use Rattle.hum_read.specs.Reading.{IsCalledAtMostOnce, IsDue, ReadsOnce, Nears};
     ghost use Rattle.hum_read.specs.Reading.{ReadOn, stop_of, answer_of};
-    ghost use Rattle.hum_read.specs.Steps.{ReadsLine, refusal, end_of, given_by};
+    ghost use Rattle.hum_read.specs.Steps.{ReadsLine, Nexts, refusal, end_of, given_by};
 
     /// The reader of a source of which nothing was read yet, as the stage of this number, from 1.
     pub fn new(alloc: Global, stage: u8, source: R) -> ScoreReader<R>
@@ -136,35 +139,9 @@ impl<R: Source> ScoreReader<R> {
         });
     }
 
-    /// The record of the line that was just read, or none where it is refused. Most lines are short and
-    /// plain data, with a token for each spine.
-    #[inline(always)]
+    /// The record of the line that was just read, or none where it is refused.
+    #[inline]
     fn read_line(&mut self, pool: &mut Spare) -> Option<Record>
-        requires going { self.old.stopped ≡ None }
-        requires short { length self.old.lines.line ≤ 1048576 }
-        requires one_line { has_byte 10 self.old.lines.line ≡ false }
-        requires few { self.old.lines.given ≤ 4294967295 }
-        ensures gives { ReadsLine self.old (given_by result self.new.stopped) self.new }
-        ensures lines { self.new.lines ≡ self.old.lines }
-        ensures stage { self.new.stage ≡ self.old.stage }
-        ensures stops { self.new.stopped ≡ stop_of (given_by result self.new.stopped) }
-        ensures told { given_by result self.new.stopped ≢ Ok ReadOn }
-        ensures not_read { given_by result self.new.stopped ≢ Err ReadError.Read }
-    {
-        let (held, len) = self.lines.from_line();
-        let Some(record) = Record::parse_near(pool, held, len) else {
-            return self.read_any_line(pool);
-        };
-        if self.paths.keeps_spines(&record) {
-            return Some(record);
-        }
-        pool.keep(record);
-        self.read_any_line(pool)
-    }
-
-    /// The same of any line.
-    #[inline(never)]
-    fn read_any_line(&mut self, pool: &mut Spare) -> Option<Record>
         requires going { self.old.stopped ≡ None }
         requires short { length self.old.lines.line ≤ 1048576 }
         requires one_line { has_byte 10 self.old.lines.line ≡ false }
@@ -217,7 +194,8 @@ impl<R: Source> ScoreReader<R> {
 
     /// The next record, or none where there is nothing yet or it has stopped: [`ScoreReader::stopped`]
     /// tells which. Once it has stopped each later call gives none. The record is read into what the
-    /// pool has left of one that is done with, if it has any.
+    /// pool has left of one that is done with, if it has any. Most lines are plain data, with a token for
+    /// each spine.
     // Inlined, or with an end and an error in its answer, that would be taken to pieces as small as a
     // fault's fields.
     #[inline(never)]
@@ -268,6 +246,23 @@ impl<R: Source> ScoreReader<R> {
         if self.stopped.is_some() {
             return None;
         }
+        let are_wide = self.paths.width() >= WIDE;
+        if let Some(record) = Record::parse_line(pool, self.lines.ahead(), are_wide) {
+            if self.paths.keeps_spines(&record) {
+                self.lines.take_line(record.text().len());
+                return Some(record);
+            }
+            pool.keep(record);
+        }
+        self.next_any(pool)
+    }
+
+    /// The same of any line, or where none was read as yet.
+    #[inline(never)]
+    fn next_any(&mut self, pool: &mut Spare) -> Option<Record>
+        requires { self.old.stopped ≡ None }
+        ensures { Nexts R.remaining R.calls R.failed self.old (given_by result self.new.stopped) self.new }
+    {
         match self.lines.poll() {
             Ok(lines::Step::Line) => self.read_line(pool),
             Ok(lines::Step::More) => None,

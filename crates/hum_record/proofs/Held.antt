@@ -1,10 +1,9 @@
 -- Lists of which a front counts.
-use Rattle.std.proofs.Common.{◌≡◌, ◌∙◌, ℕ, ◌≤◌, List, [], ◌∷◌, ◌++◌, length, take, drop, refl, sym, ap, subst, arith, take_at, length-append}
-use Rattle.std.proofs.lemmas.List.{take_all}
+use Rattle.std.proofs.Common.{◌≡◌, ◌∙◌, ℕ, ◌<◌, ◌≤◌, List, [], ◌++◌, length, get_or, take, drop, set, refl, sym, ap, arith, take_at}
+use Rattle.std.proofs.lemmas.List.{take_all, length-set, get_or-set_same, get_or-take}
 use Rattle.std.proofs.lemmas.Simd.{length-chunk, take_more_put_chunk}
 use Rattle.std.specs.Simd.Lanes.{chunk, put_chunk}
-use Rattle.hum_record.specs.Fields.{AreFields}
-use Rattle.hum_record.specs.Lines.{text_in, AreLineFields}
+use Rattle.hum_record.specs.Lines.{IsEnded}
 use Rattle.hum_record.proofs.Places.{front_of_front, take_count}
 
 -- what stands in a list behind a borrow of it all
@@ -29,6 +28,17 @@ pub refilled : (n count : ℕ) (old more : List ℕ) → n ≡ length old → n 
 refilled n count old more e room =
     ap (λ (xs : List ℕ). take n (xs ++ more)) (take_all count old (omega (arith, e, room))) ∙ take_at old more n (sym e)
 
+-- a front of a list that was made longer
+pub front_kept : (r n : ℕ) (old new : List ℕ) → r ≤ n → take n new ≡ old → take r new ≡ take r old
+front_kept r n old new short same = sym (front_of_front r n new short) ∙ ap (take r) same
+
+-- what two lists with the same front have in common
+pub fronts : (r n : ℕ) (xs ys : List ℕ) → r ≤ n → take n xs ≡ take n ys → take r xs ≡ take r ys
+fronts r n xs ys short same = sym (front_of_front r n xs short) ∙ ap (take r) same ∙ front_of_front r n ys short
+
+pub same_place : (k n : ℕ) (xs ys : List ℕ) → k < n → take n xs ≡ take n ys → get_or xs k 0 ≡ get_or ys k 0
+same_place k n xs ys less same = sym (get_or-take n xs k 0 less) ∙ ap (λ (zs : List ℕ). get_or zs k 0) same ∙ get_or-take n ys k 0 less
+
 -- the front of what was written into a list behind a borrow of it all
 pub front_written : (r n : ℕ) (new old : List ℕ) → length new ≡ n → take r (take n (new ++ drop (length new) old)) ≡ take r new
 front_written r n new old e = ap (take r) (written_back n new old e)
@@ -38,12 +48,6 @@ pub front_behind : (r : ℕ) (new rest : List ℕ) → r ≤ length new → take
 front_behind r new rest short =
     sym (front_of_front r (length new) (new ++ rest) short) ∙ ap (take r) (take_at new rest (length new) refl)
 
-pub without_lf : (text : List ℕ) → text_in (text ++ 10 ∷ []) ≡ text
-without_lf text = take_at text (10 ∷ []) _ (omega (arith, length-append text (10 ∷ [])))
-
--- a record's text with LF behind it is a line of its fields
-pub as_line : (text ends : List ℕ) → AreFields text ends → AreLineFields (text ++ 10 ∷ []) ends
-as_line text ends fields = record {
-  fields = subst (λ (xs : List ℕ). AreFields xs ends) (sym (without_lf text)) fields;
-  ended = ap (λ (xs : List ℕ). xs ++ 10 ∷ []) (sym (without_lf text));
-}
+-- LF that was put behind a text
+pub ended_there : (xs : List ℕ) (k : ℕ) → k < length xs → IsEnded (set xs k 10) k
+ended_there xs k within some = (omega (arith, length-set xs k 10, within), get_or-set_same xs k 10 0 within)

@@ -1,24 +1,28 @@
 -- Short lines of plain data, by the bits of their bytes.
 use Rattle.std.proofs.Common.{◌≡◌, ◌∙◌, refl, sym, ap, ap₂, ℕ, suc, zero, ◌+◌, ◌*◌, ◌-◌, ◌/◌, ◌%◌, ◌≤◌, ◌<◌, ◌^◌, min, Bool, true, false, not, ◌||◌}
-use Rattle.std.proofs.Common.{List, [], ◌∷◌, ◌++◌, map, length, take, cond, eqb, Ok, arith, append_assoc, length-append}
+use Rattle.std.proofs.Common.{List, [], ◌∷◌, ◌++◌, map, length, take, drop, get_or, cond, eqb, Ok, arith, append_assoc, length-append, subst, ⊎_elim}
 use Rattle.std.proofs.Common.{mod-lt, zero-lt-suc, pow-suc, add-zero}
 use Rattle.std.specs.Prelude.{◌==◌, if◌then◌else◌}
 use Rattle.std.specs.Simd.Lanes.{chunk, mask_l, top}
-use Rattle.std.proofs.lemmas.Simd.{mask_l-mod}
-use Rattle.std.proofs.lemmas.List.{length-map, append-nil, nil_from_length}
-use Rattle.std.proofs.lemmas.Bool.{eqb-true, eq-eqb, and_parts}
+use Rattle.std.proofs.lemmas.Simd.{mask_l-mod, length-chunk, trailing_mask_l}
+use Rattle.std.specs.List.{prefix_len}
+use Rattle.std.proofs.lemmas.List.{length-map, append-nil, nil_from_length, get_or-take}
+use Rattle.std.proofs.lemmas.Bool.{eqb-true, eq-eqb, and_parts, or_from, cases_lt}
+use Rattle.memchr.specs.Find.{IsFirstByte, is_byte}
 use lib.Bits.{bit_and, bit_or, and_step, and_self, and_zero_r}
 use lib.Count.{count_trailing_zeros, under, ones, ones_step}
 use lib.Pow.{pow_mono}
 use native.Mathlib.Nat.{two-pow-succ}
 use Rattle.hum_record.specs.declared.SpinedKind.TheVariants.{Values}
-use Rattle.hum_record.specs.Spelling.{has_byte, is_comment, reading, parts}
+use Rattle.hum_record.specs.Row.{Row, Comment, Spined, text_of}
+use Rattle.hum_record.specs.Spelling.{IsTextOf, has_byte, is_comment, reading, parts}
 use Rattle.hum_record.specs.Fields.{AreFields, ends_from, row_in}
 use Rattle.hum_record.specs.Cutting.{bits_of, set_places, tabs_from}
-use Rattle.hum_record.specs.Plain.{is_rare, has_mark, head_after, IsPlain, HasEnds, HasPlaces}
+use Rattle.hum_record.specs.Lines.{IsBehind, IsLine, IsRead}
+use Rattle.hum_record.specs.Plain.{is_rare, is_stop, has_mark, head_after, IsPlain, HasEnds, HasPlaces, EndsLine}
 use Rattle.hum_record.proofs.Laws.{spined_fields, reads_row, reads_spined}
 use Rattle.hum_record.proofs.Cuts.{tabs_append, ends_tabs}
-use Rattle.hum_record.proofs.Places.{any_bit, take_count, one_moved, bits_front, mask_front, bits_below}
+use Rattle.hum_record.proofs.Places.{any_bit, take_count, front_of_front, one_moved, bits_front, bits_below}
 use Rattle.hum_record.proofs.Plain.{mark_append, no_marks, plain_data, or_left, or_right, none_set}
 
 -- The places of bits
@@ -111,19 +115,10 @@ room_left places all j b x some fits within size e =
     let whole : length (take j places) + length (set_places 64 b x) ≡ length all = sym (length-append (take j places) (set_places 64 b x)) ∙ ap length e in
     omega (arith, front, later, whole, size)
 
--- where places are still to be put, a bit is left
-pub some_left : (places all : List ℕ) (j b x : ℕ) → j ≤ length places → take j places ++ set_places 64 b x ≡ all → j < length all → 0 < x
-some_left places all j b zero within e more =
-    let size = length-append (take j places) (set_places 64 b 0) in
-    let none = ap length (no_places 64 b) in
-    absurd (omega (arith, size, none, take_count j places within, ap length e, more))
-some_left places all j b (suc x) within e more = omega arith
-
 -- where none is left all places are put
-pub all_put : (places all : List ℕ) (j b x : ℕ) → j ≤ length places → take j places ++ set_places 64 b x ≡ all → length all ≤ j → take j places ≡ all
-all_put places all j b x within e done =
-    let size = length-append (take j places) (set_places 64 b x) in
-    let none : set_places 64 b x ≡ [] = nil_from_length _ (omega (arith, size, take_count j places within, ap length e, done)) in
+pub all_put : (places all : List ℕ) (j b x : ℕ) → take j places ++ set_places 64 b x ≡ all → x ≡ 0 → take j places ≡ all
+all_put places all j b x e done =
+    let none : set_places 64 b x ≡ [] = ap (set_places 64 b) done ∙ no_places 64 b in
     sym (append-nil (take j places)) ∙ ap (λ ys. take j places ++ ys) (sym none) ∙ e
 
 one_step : (k b n m : ℕ) (t : Bool) → n ≡ cond t 1 0 + 2 * m → set_places (suc k) b n ≡ (if t then b ∷ set_places k (b + 1) m else set_places k (b + 1) m)
@@ -161,7 +156,7 @@ pub tabs_at : (held : List ℕ) (w len bits : ℕ) → len ≤ w → len ≤ 63 
 tabs_at held w len bits few short filled is = rw (one_moved len short) (bits_front 9 held w len bits few filled is)
 
 -- and where its tokens end
-pub ends_at : (held : List ℕ) (len tabs : ℕ) → len ≤ 63 → 64 ≤ length held → tabs ≡ bits_of 9 (take len held)
+pub ends_at : (held : List ℕ) (len tabs : ℕ) → len ≤ 63 → len ≤ length held → tabs ≡ bits_of 9 (take len held)
     → tabs + 1 * 2 ^ len % 18446744073709551616 ≡ bits_of 9 (take len held ++ 9 ∷ [])
 ends_at held len tabs short filled is =
     let text = take len held in
@@ -169,44 +164,49 @@ ends_at held len tabs short filled is =
     rw (one_moved len short) (ap (λ n. n + 2 ^ len) is
     ∙ ap (λ n. bits_of 9 text + 2 ^ n) (sym size) ∙ tab_behind text)
 
-pub ends_few : (held : List ℕ) (len : ℕ) → len ≤ 62 → 64 ≤ length held → bits_of 9 (take len held ++ 9 ∷ []) < 9223372036854775808
-ends_few held len short filled =
+pub ends_fit : (held : List ℕ) (len tabs : ℕ) → len ≤ 63 → len ≤ length held → tabs ≡ bits_of 9 (take len held)
+    → tabs + 1 * 2 ^ len % 18446744073709551616 < 18446744073709551616
+ends_fit held len tabs short filled is =
+    let ends = ends_at held len tabs short filled is in
     let xs = take len held ++ 9 ∷ [] in
-    let size : length xs ≡ len + 1 = omega (arith, length-append (take len held) (9 ∷ []), take_count len held (omega (arith, short, filled))) in
-    let below : length xs ≤ 63 = omega (arith, size, short) in
-    let most : 2 ^ length xs ≤ 2 ^ 63 = pow_mono below in
-    omega (arith, bits_below 9 xs, most)
+    let size : length xs ≤ 64 = omega (arith, length-append (take len held) (9 ∷ []), take_count len held (omega (arith, filled)), short) in
+    let most : 2 ^ length xs ≤ 2 ^ 64 = pow_mono size in
+    omega (arith, ends, bits_below 9 xs, most)
 
 -- Bytes that seldom stand in data
-
-pub rare_at : (held : List ℕ) (w len bits : ℕ) → len ≤ w → len ≤ 63 → w ≤ length held → bits ≡ mask_l (map is_rare (chunk 0 w held))
-    → bit_and bits (1 * 2 ^ len % 18446744073709551616 - 1) ≡ mask_l (map is_rare (take len held))
-rare_at held w len bits few short filled is = rw (one_moved len short) (mask_front is_rare held w len bits few filled is)
 
 abbrev pub hit : ℕ → ℕ → ℕ
 hit a b = cond (eqb a b) 255 0
 
-abbrev pub rare_lane : ℕ → ℕ
-rare_lane x = bit_or (bit_or (hit x 33) (hit x 42)) (hit x 13)
+abbrev pub stop_lane : ℕ → ℕ
+stop_lane x = bit_or (bit_or (bit_or (hit x 33) (hit x 42)) (hit x 13)) (hit x 10)
 
-one_lane : (a b c : Bool) → top 7 (bit_or (bit_or (cond a 255 0) (cond b 255 0)) (cond c 255 0)) ≡ ((a || b) || c)
-one_lane true true true = refl
-one_lane true true false = refl
-one_lane true false true = refl
-one_lane true false false = refl
-one_lane false true true = refl
-one_lane false true false = refl
-one_lane false false true = refl
-one_lane false false false = refl
+one_lane : (a b c d : Bool) → top 7 (bit_or (bit_or (bit_or (cond a 255 0) (cond b 255 0)) (cond c 255 0)) (cond d 255 0)) ≡ (((a || b) || c) || d)
+one_lane true true true true = refl
+one_lane true true true false = refl
+one_lane true true false true = refl
+one_lane true true false false = refl
+one_lane true false true true = refl
+one_lane true false true false = refl
+one_lane true false false true = refl
+one_lane true false false false = refl
+one_lane false true true true = refl
+one_lane false true true false = refl
+one_lane false true false true = refl
+one_lane false true false false = refl
+one_lane false false true true = refl
+one_lane false false true false = refl
+one_lane false false false true = refl
+one_lane false false false false = refl
 
-each_lane : (v : List ℕ) → map (top 7) (map rare_lane v) ≡ map is_rare v
+each_lane : (v : List ℕ) → map (top 7) (map stop_lane v) ≡ map is_stop v
 each_lane [] = refl
-each_lane (x ∷ xs) = ap₂ (λ (a : Bool) (b : List Bool). a ∷ b) (one_lane (x == 33) (x == 42) (x == 13)) (each_lane xs)
+each_lane (x ∷ xs) = ap₂ (λ (a : Bool) (b : List Bool). a ∷ b) (one_lane (x == 33) (x == 42) (x == 13) (x == 10)) (each_lane xs)
 
-pub rare_mask : (v z : List ℕ) → length v ≤ 64 → z ≡ map rare_lane v → mask_l (map (top 7) z) % 2 ^ 64 ≡ mask_l (map is_rare v)
-rare_mask v z short e =
+pub stop_mask : (v z : List ℕ) → length v ≤ 64 → z ≡ map stop_lane v → mask_l (map (top 7) z) % 2 ^ 64 ≡ mask_l (map is_stop v)
+stop_mask v z short e =
     ap (λ (l : List Bool). mask_l l % 2 ^ 64) (ap (map (top 7)) e ∙ each_lane v)
-    ∙ mask_l-mod (map is_rare v) 64 (omega (arith, length-map v is_rare, short))
+    ∙ mask_l-mod (map is_stop v) 64 (omega (arith, length-map v is_stop, short))
 
 -- no bit is set of a byte
 pub record NoneRare (xs : List ℕ) : Type 0 where
@@ -234,15 +234,133 @@ none_rare (x ∷ xs) h =
       returns = unset (x == 13) (bits_of 13 xs) (or_right (x == 33 || x == 42) (x == 13) here.0) rest.returns;
     }
 
+-- no byte is a stop
+pub rare_free : (xs : List ℕ) → mask_l (map is_stop xs) ≡ 0 → mask_l (map is_rare xs) ≡ 0
+rare_free [] h = refl
+rare_free (x ∷ xs) h =
+    let here = not_set (is_stop x) (mask_l (map is_stop xs)) h in
+    unset (is_rare x) (mask_l (map is_rare xs)) (or_left (is_rare x) (x == 10) here.0) (rare_free xs here.1)
+
+lf_bits : (xs : List ℕ) → mask_l (map is_stop xs) ≡ 0 → bits_of 10 xs ≡ 0
+lf_bits [] h = refl
+lf_bits (x ∷ xs) h =
+    let here = not_set (is_stop x) (mask_l (map is_stop xs)) h in
+    unset (x == 10) (bits_of 10 xs) (or_right (is_rare x) (x == 10) here.0) (lf_bits xs here.1)
+
+pub one_line : (xs : List ℕ) → mask_l (map is_stop xs) ≡ 0 → has_byte 10 xs ≡ false
+one_line xs h = sym (any_bit 10 xs) ∙ ap (λ n. not (n == 0)) (lf_bits xs h)
+
+lf_free : (xs : List ℕ) (k : ℕ) → mask_l (map is_stop xs) ≡ 0 → k < length xs → get_or xs k 0 ≡ 10 → ⊥
+lf_free [] k h less is = absurd (omega (arith, less))
+lf_free (x ∷ xs) zero h less is =
+    let here = not_set (is_stop x) (mask_l (map is_stop xs)) h in
+    let yes : (x == 10) ≡ true = eq-eqb x 10 is in
+    let no = or_right (is_rare x) (x == 10) here.0 in
+    cc
+lf_free (x ∷ xs) (suc k) h less is = lf_free xs k (not_set (is_stop x) (mask_l (map is_stop xs)) h).1 (omega (arith, less)) is
+
+not_true : (b : Bool) → (b ≡ true → ⊥) → b ≡ false
+not_true true h = absurd (h refl)
+not_true false h = refl
+
+-- The line ends at the first LF.
+pub front_line : (held : List ℕ) (len lf : ℕ) → mask_l (map is_stop (take len held)) ≡ 0 → IsBehind held len lf → IsLine held len
+front_line held len lf free behind =
+    let within : lf < length held = behind.0 in
+    let short : len ≤ lf = ⊎_elim (λ same. omega (arith, same)) (λ one. let more = one.0 in omega (arith, more)) behind.2 in
+    let size : length (take len held) ≡ len = take_count len held (omega (arith, short, within)) in
+    let before : (k : ℕ) → k < lf → get_or held k 0 ≡ 10 → ⊥ =
+    λ k less ten. ⊎_elim
+    (λ below. lf_free (take len held) k free (omega (arith, below, size)) (get_or-take len held k 0 below ∙ ten))
+    (λ from. ⊎_elim
+    (λ same. absurd (omega (arith, same, from, less)))
+    (λ one.
+    let more = one.0 in
+    let at : k ≡ len = omega (arith, more, from, less) in
+    let cr : 13 ≡ 10 = sym one.1 ∙ ap (λ n. get_or held n 0) (sym at) ∙ ten in
+    absurd (omega (arith, cr)))
+    behind.2)
+    (cases_lt k len) in
+    record {
+      lf = lf;
+      first = (
+        record {
+          low = omega arith;
+          high = within;
+          before = λ k low less ten. before k less (eqb-true _ 10 ten);
+        },
+        eq-eqb _ 10 behind.1,
+      );
+      text = behind.2;
+    }
+
+-- and none stands in its text
+no_lf : (xs : List ℕ) → ((k : ℕ) → k < length xs → get_or xs k 0 ≡ 10 → ⊥) → has_byte 10 xs ≡ false
+no_lf [] free = refl
+no_lf (x ∷ xs) free =
+    or_from (x == 10) (has_byte 10 xs) (not_true (x == 10) (λ yes. free 0 (omega arith) (eqb-true x 10 yes)))
+    (no_lf xs (λ k less. free (suc k) (omega (arith, less))))
+
+pub line_text : (held : List ℕ) (len : ℕ) → IsLine held len → (has_byte 10 (take len held) ≡ false) × (length (take len held) ≡ len)
+line_text held len line =
+    let within : line.lf < length held = line.first.0.high in
+    let short : len ≤ line.lf = ⊎_elim (λ same. omega (arith, same)) (λ one. let more = one.0 in omega (arith, more)) line.text in
+    let size : length (take len held) ≡ len = take_count len held (omega (arith, short, within)) in (
+      no_lf (take len held) (λ k less ten.
+          let below : k < len = omega (arith, less, size) in
+          line.first.0.before k (omega arith) (omega (arith, below, short))
+          (eq-eqb _ 10 (sym (get_or-take len held k 0 below) ∙ ten))),
+      size,
+    )
+
+-- in front of the first stop there is none
+no_stop : (xs : List ℕ) (n : ℕ) → n ≡ prefix_len (λ x. not (is_stop x)) xs → mask_l (map is_stop (take n xs)) ≡ 0
+no_stop [] zero is = refl
+no_stop [] (suc n) is = refl
+no_stop (x ∷ xs) zero is = refl
+no_stop (x ∷ xs) (suc n) is = by (is_stop x) refl (no_stop xs n)
+  where
+    by : (t : Bool) → is_stop x ≡ t → (n ≡ prefix_len (λ x. not (is_stop x)) xs → mask_l (map is_stop (take n xs)) ≡ 0)
+        → mask_l (map is_stop (take (suc n) (x ∷ xs))) ≡ 0
+    by true w rest = let s = rw w at is in absurd (omega (arith, s))
+    by false w rest =
+        let s = rw w at is in
+        unset (is_stop x) (mask_l (map is_stop (take n xs))) w (rest (omega (arith, s)))
+
+stop_within : (xs : List ℕ) → 0 < mask_l (map is_stop xs) → prefix_len (λ x. not (is_stop x)) xs < length xs
+stop_within [] some = absurd (omega (arith, some))
+stop_within (x ∷ xs) some = by (is_stop x) refl (stop_within xs)
+  where
+    by : (t : Bool) → is_stop x ≡ t → (0 < mask_l (map is_stop xs) → prefix_len (λ x. not (is_stop x)) xs < length xs)
+        → prefix_len (λ x. not (is_stop x)) (x ∷ xs) < length (x ∷ xs)
+    by true w rest = rw w (omega arith)
+    by false w rest = let later = rest (let s = rw w at some in omega (arith, s)) in rw w (omega (arith, later))
+
+-- the first stop, by the lowest bit
+pub record FirstStop (held : List ℕ) (at n rest : ℕ) : Type 0 where
+  pub near : rest < n
+  pub free : mask_l (map is_stop (take rest (drop at held))) ≡ 0
+
+pub first_stop : (held : List ℕ) (at n stops : ℕ) → n ≤ 64 → at + n ≤ length held → stops ≡ mask_l (map is_stop (chunk at n held)) → 0 < stops
+    → FirstStop held at n (count_trailing_zeros 64 stops)
+first_stop held at n stops few room is some =
+    let xs = chunk at n held in
+    let size : length xs ≡ n = length-chunk at n held room in
+    let some_here : 0 < mask_l (map is_stop xs) = omega (arith, is, some) in
+    let rest = count_trailing_zeros 64 stops in
+    let counted : rest ≡ prefix_len (λ x. not (is_stop x)) xs =
+    ap (count_trailing_zeros 64) is ∙ trailing_mask_l is_stop 64 xs (omega (arith, size, few)) some_here in
+    let near : rest < n = omega (arith, counted, stop_within xs some_here, size) in
+    record {
+      near = near;
+      free = ap (λ (ys : List ℕ). mask_l (map is_stop ys)) (sym (front_of_front rest n (drop at held) (omega (arith, near)))) ∙ no_stop xs rest counted;
+    }
+
 unset_behind : (b : ℕ) (xs : List ℕ) → (9 == b) ≡ false → bits_of b xs ≡ 0 → bits_of b (xs ++ 9 ∷ []) ≡ 0
 unset_behind b [] other h = unset (9 == b) 0 other refl
 unset_behind b (x ∷ xs) other h =
     let here = not_set (x == b) (bits_of b xs) h in
     unset (x == b) (bits_of b (xs ++ 9 ∷ [])) here.0 (unset_behind b xs other here.1)
-
-not_true : (b : Bool) → (b ≡ true → ⊥) → b ≡ false
-not_true true h = absurd (h refl)
-not_true false h = refl
 
 no_bang : (xs : List ℕ) → bits_of 33 xs ≡ 0 → is_comment xs ≡ false
 no_bang [] h = refl
@@ -275,17 +393,25 @@ unmarked_by head xs apart bangs stars =
     let heads = mask_l (head ∷ map (λ x. x == 9) xs) in
     no_marks head xs apart (ap (bit_and heads) bangs ∙ and_zero_r heads) (ap (bit_and heads) stars ∙ and_zero_r heads)
 
-pub plain_by_bits : (text : List ℕ) (ends rare : ℕ) → ends ≡ bits_of 9 (text ++ 9 ∷ []) → rare ≡ mask_l (map is_rare text)
-    → (not (bit_and (1 + 2 * ends) ends == 0) || not (rare == 0)) ≡ false → HasEnds text ends
-plain_by_bits text ends rare is_ends is_rare_bits free =
-    let rare_none = sym is_rare_bits ∙ none_set rare (or_right _ _ free) in
+pub near_ends : (held : List ℕ) (len ends : ℕ) → EndsLine held 0 1 len ends → HasEnds (take len held) ends
+near_ends held len ends line =
+    let text = take len held in
+    let place : len ≡ line.rest = omega (arith, line.place) in
+    let same : take line.rest held ≡ text = ap (λ n. take n held) (sym place) in
+    let rare_none : mask_l (map is_rare text) ≡ 0 = rare_free text (ap (λ (xs : List ℕ). mask_l (map is_stop xs)) (sym same) ∙ line.free) in
+    let bits : ends ≡ bits_of 9 (text ++ 9 ∷ []) = line.bits ∙ ap (λ (xs : List ℕ). bits_of 9 (xs ++ 9 ∷ [])) same in
     let none = none_rare text rare_none in
-    let apart = ap (λ n. bit_and (1 + 2 * n) n) (sym is_ends) ∙ none_set _ (or_left _ _ free) in
+    let apart = ap (λ n. bit_and (1 + 2 * n) n) (sym bits) ∙ line.apart in
     record {
       plain = plain_by_marks text rare_none (unmarked_by true (text ++ 9 ∷ []) apart
           (unset_behind 33 text refl none.bangs) (unset_behind 42 text refl none.stars));
-      bits = is_ends;
+      bits = bits;
     }
+
+pub near_free : (held : List ℕ) (len ends : ℕ) → EndsLine held 0 1 len ends → mask_l (map is_stop (take len held)) ≡ 0
+near_free held len ends line =
+    let place : len ≡ line.rest = omega (arith, line.place) in
+    ap (λ n. mask_l (map is_stop (take n held))) place ∙ line.free
 
 pub plain_fields : (text ends : List ℕ) → length text ≤ 1048576 → has_byte 10 text ≡ false → HasPlaces text ends → AreFields text ends
 plain_fields text ends few line is =
@@ -295,10 +421,32 @@ plain_fields text ends few line is =
 pub tabs_cut : (text : List ℕ) → tabs_from 0 (text ++ 9 ∷ []) ≡ ends_from 0 (parts text)
 tabs_cut text = tabs_append 0 text (9 ∷ []) ∙ sym (ends_tabs 0 text)
 
-pub short_places : (text all : List ℕ) (ends : ℕ) → length text ≤ 62 → HasEnds text ends → all ≡ set_places 64 0 ends → HasPlaces text all
+pub short_places : (text all : List ℕ) (ends : ℕ) → length text ≤ 63 → HasEnds text ends → all ≡ set_places 64 0 ends → HasPlaces text all
 short_places text all ends few h is =
     let size : length (text ++ 9 ∷ []) ≤ 64 = omega (arith, length-append text (9 ∷ []), few) in
     record { plain = h.plain; cut = is ∙ ap (set_places 64 0) h.bits ∙ set_tabs 64 0 (text ++ 9 ∷ []) size ∙ tabs_cut text }
 
+-- what a text's record says again
+text_known : (row : Row) (text : List ℕ) → IsTextOf row text → text_of row ≡ text
+text_known (Comment comment) text is = sym is.0
+text_known (Spined kind tokens) text is = sym is.0
+
 pub plain_reads : (text : List ℕ) → IsPlain text → reading text ≡ Ok (row_in text)
 plain_reads text plain = reads_row text _ (reads_spined text Values plain.unbroken plain.spined plain.lawful)
+
+-- a line of plain data is read as its record
+pub line_read : (held ends : List ℕ) (len : ℕ) → IsLine held len → len ≤ 1048576 → HasPlaces (take len held) ends
+    → AreFields (take len held) ends × IsRead held (row_in (take len held))
+line_read held ends len line few is =
+    let text = take len held in
+    let known = line_text held len line in
+    let fields = plain_fields text ends (omega (arith, known.1, few)) known.0 is in
+    let same : text_of (row_in text) ≡ text = text_known (row_in text) text fields.lawful in
+    let size : length (text_of (row_in text)) ≡ len = ap length same ∙ known.1 in (
+      fields,
+      record {
+        line = subst (IsLine held) (sym size) line;
+        text = ap (λ n. take n held) size ∙ sym same;
+        read = ap reading same ∙ plain_reads text is.plain;
+      },
+    )

@@ -1,19 +1,19 @@
 -- Longer lines of plain data, by the bits of their words.
 use Rattle.std.proofs.Common.{◌≡◌, ◌∙◌, refl, sym, ap, ap₂, ℕ, suc, zero, ◌+◌, ◌*◌, ◌-◌, ◌/◌, ◌%◌, ◌≤◌, ◌<◌, ◌^◌, Bool, true, false}
-use Rattle.std.proofs.Common.{List, [], ◌∷◌, ◌++◌, map, length, take, drop, cond, get_or, arith, length-append, length-drop, append_assoc, subst}
-use Rattle.std.specs.Prelude.{◌==◌, Result, Ok, Err, IfOk}
+use Rattle.std.proofs.Common.{List, [], ◌∷◌, ◌++◌, map, length, take, drop, cond, get_or, arith, length-append, length-drop, append_assoc, subst, ⊎_elim}
+use Rattle.std.specs.Prelude.{◌==◌}
 use Rattle.std.specs.Simd.Lanes.{chunk, mask_l}
 use Rattle.std.proofs.lemmas.Nat.{and_mask, and_assoc, and_comm}
 use Rattle.std.proofs.lemmas.Simd.{length-chunk}
 use native.Mathlib.Nat.{mod-eq_of_lt}
 use lib.Bits.{bit_and}
-use lib.Pow.{pow_mono}
 use Rattle.hum_record.specs.Cutting.{bits_of, set_places, tabs_from}
-use Rattle.hum_record.specs.Plain.{is_rare, has_mark, head_after, HasPlaces}
+use Rattle.hum_record.specs.Lines.{IsLine}
+use Rattle.hum_record.specs.Plain.{is_stop, has_mark, head_after, HasPlaces, EndsLine}
 use Rattle.hum_record.proofs.Cuts.{tabs_append}
-use Rattle.hum_record.proofs.Places.{moved_down, bits_below, take_count}
+use Rattle.hum_record.proofs.Places.{moved_down, take_count}
 use Rattle.hum_record.proofs.Plain.{mark_append, head_append, head_end}
-use Rattle.hum_record.proofs.Short.{set_tabs, ends_at, none_rare, unmarked_by, plain_by_marks, tabs_cut, not_set, unset}
+use Rattle.hum_record.proofs.Short.{set_tabs, none_rare, rare_free, front_line, unmarked_by, plain_by_marks, tabs_cut, not_set, unset}
 
 -- The bits of a word that may begin a token, cut to a word, have those in common with others that all of
 -- them have.
@@ -26,27 +26,27 @@ cut_heads head ends few fits =
     ∙ and_assoc ends n (2 ^ 64 - 1)
     ∙ ap (bit_and n) (and_comm (2 ^ 64 - 1) ends ∙ and_mask ends 64 ∙ mod-eq_of_lt fits)
 
-none_behind : (xs ys : List ℕ) → mask_l (map is_rare xs) ≡ 0 → mask_l (map is_rare ys) ≡ 0 → mask_l (map is_rare (xs ++ ys)) ≡ 0
+none_behind : (xs ys : List ℕ) → mask_l (map is_stop xs) ≡ 0 → mask_l (map is_stop ys) ≡ 0 → mask_l (map is_stop (xs ++ ys)) ≡ 0
 none_behind [] ys h g = g
 none_behind (x ∷ xs) ys h g =
-    let here = not_set (is_rare x) (mask_l (map is_rare xs)) h in
-    unset (is_rare x) (mask_l (map is_rare (xs ++ ys))) here.0 (none_behind xs ys here.1 g)
+    let here = not_set (is_stop x) (mask_l (map is_stop xs)) h in
+    unset (is_stop x) (mask_l (map is_stop (xs ++ ys))) here.0 (none_behind xs ys here.1 g)
 
-none_in_front : (xs ys : List ℕ) → mask_l (map is_rare (xs ++ ys)) ≡ 0 → mask_l (map is_rare xs) ≡ 0
+none_in_front : (xs ys : List ℕ) → mask_l (map is_stop (xs ++ ys)) ≡ 0 → mask_l (map is_stop xs) ≡ 0
 none_in_front [] ys h = refl
 none_in_front (x ∷ xs) ys h =
-    let here = not_set (is_rare x) (mask_l (map is_rare (xs ++ ys))) h in
-    unset (is_rare x) (mask_l (map is_rare xs)) here.0 (none_in_front xs ys here.1)
+    let here = not_set (is_stop x) (mask_l (map is_stop (xs ++ ys))) h in
+    unset (is_stop x) (mask_l (map is_stop xs)) here.0 (none_in_front xs ys here.1)
 
 -- What is found of the words in front: where tabs stand, and that all is plain data so far.
 pub record Words (front places : List ℕ) (head : ℕ) : Type 0 where
   pub tabs : places ≡ tabs_from 0 front
-  pub rare : mask_l (map is_rare front) ≡ 0
+  pub stops : mask_l (map is_stop front) ≡ 0
   pub marks : has_mark true front ≡ false
   pub head_is : head ≡ cond (head_after true front) 1 0
 
 pub no_words : Words [] [] 1
-no_words = record { tabs = refl; rare = refl; marks = refl; head_is = refl }
+no_words = record { tabs = refl; stops = refl; marks = refl; head_is = refl }
 
 pub head_few : (front places : List ℕ) (head : ℕ) → Words front places head → head ≤ 1
 head_few front places head w = rw w.head_is (by (head_after true front))
@@ -57,12 +57,12 @@ head_few front places head w = rw w.head_is (by (head_after true front))
 
 -- one word more
 pub more_words : (front block places next : List ℕ) (head ends later : ℕ) → Words front places head → length block ≤ 64
-    → ends ≡ bits_of 9 block → mask_l (map is_rare block) ≡ 0 → bit_and (head + 2 * ends) ends ≡ 0
+    → ends ≡ bits_of 9 block → mask_l (map is_stop block) ≡ 0 → bit_and (head + 2 * ends) ends ≡ 0
     → next ≡ places ++ set_places 64 (length front) ends → later ≡ cond (head_after (head_after true front) block) 1 0
     → Words (front ++ block) next later
 more_words front block places next head ends later w few is_ends free apart put is_later =
     let h = head_after true front in
-    let none = none_rare block free in
+    let none = none_rare block (rare_free block free) in
     let clear : has_mark h block ≡ false =
     unmarked_by h block (ap₂ (λ a n. bit_and (a + 2 * n) n) (sym w.head_is) (sym is_ends) ∙ apart) none.bangs none.stars in
     record {
@@ -70,7 +70,7 @@ more_words front block places next head ends later w few is_ends free apart put 
           put ∙ ap₂ (λ (xs ys : List ℕ). xs ++ ys) w.tabs (ap (set_places 64 (length front)) is_ends ∙ set_tabs 64 (length front) block few
           ∙ ap (λ n. tabs_from n block) (omega arith))
           ∙ sym (tabs_append 0 front block);
-      rare = none_behind front block w.rare free;
+      stops = none_behind front block w.stops free;
       marks = mark_append true front block ∙ rw (w.marks, clear) refl;
       head_is = is_later ∙ ap (λ b. cond b 1 0) (sym (head_append true front block));
     }
@@ -87,11 +87,11 @@ joined (suc a) b (suc n) [] e = sym (none_taken b)
 joined (suc a) b (suc n) (x ∷ xs) e = ap (λ (ys : List ℕ). x ∷ ys) (joined a b n xs (omega (arith, e)))
 
 -- a whole word
-pub whole_word : (held places next : List ℕ) (at head ends rare : ℕ) → at + 64 ≤ length held → Words (take at held) places head
-    → ends ≡ bits_of 9 (chunk at 64 held) → rare ≡ mask_l (map is_rare (chunk at 64 held)) → rare ≡ 0
+pub whole_word : (held places next : List ℕ) (at head ends stops : ℕ) → at + 64 ≤ length held → Words (take at held) places head
+    → ends ≡ bits_of 9 (chunk at 64 held) → stops ≡ mask_l (map is_stop (chunk at 64 held)) → stops ≡ 0
     → bit_and (head + 2 * ends) ends ≡ 0 → next ≡ places ++ set_places 64 at ends
     → Words (take (at + 64) held) next (ends / 2 ^ 63)
-whole_word held places next at head ends rare room w is_ends is_rare_bits none apart put =
+whole_word held places next at head ends stops room w is_ends is_stops none apart put =
     let block = chunk at 64 held in
     let size : length block ≡ 64 = length-chunk at 64 held room in
     let front = take_count at held (omega (arith, room)) in
@@ -99,7 +99,7 @@ whole_word held places next at head ends rare room w is_ends is_rare_bits none a
     ap (λ n. n / 2 ^ 63) is_ends ∙ moved_down 9 block 63 ∙ last_bit (drop 63 block) (length_last block size)
     ∙ ap (λ (b : Bool). cond b 1 0) (ap (λ x. x == 9) (first_of 63 block) ∙ ap (λ n. get_or block n 0 == 9) (omega (arith, size))
     ∙ head_end (head_after true (take at held)) block (omega (arith, size))) in
-    rw (joined at 64 (at + 64) held refl) (more_words (take at held) block places next head ends _ w (omega (arith, size)) is_ends (sym is_rare_bits ∙ none) apart
+    rw (joined at 64 (at + 64) held refl) (more_words (take at held) block places next head ends _ w (omega (arith, size)) is_ends (sym is_stops ∙ none) apart
     (put ∙ ap (λ n. places ++ set_places 64 n ends) (sym front)) last)
   where
     length_last : (xs : List ℕ) → length xs ≡ 64 → length (drop 63 xs) ≡ 1
@@ -116,45 +116,35 @@ whole_word held places next at head ends rare room w is_ends is_rare_bits none a
     first_of (suc k) (x ∷ xs) = first_of k xs
 
 -- the last word, as if a tab stood behind it
-pub last_word : (held places next : List ℕ) (at len head ends rare : ℕ) → at ≤ len → len ≤ at + 63 → len ≤ length held
-    → Words (take at held) places head → ends ≡ bits_of 9 (take (len - at) (drop at held) ++ 9 ∷ [])
-    → rare ≡ mask_l (map is_rare (take (len - at) (drop at held))) → rare ≡ 0
-    → bit_and (head + 2 * ends) ends ≡ 0 → next ≡ places ++ set_places 64 at ends → HasPlaces (take len held) next
-last_word held places next at len head ends rare before short room w is_ends is_rare_bits none apart put =
-    let rest = take (len - at) (drop at held) in
+pub record FarLine (held places : List ℕ) (len : ℕ) : Type 0 where
+  pub line : IsLine held len
+  pub plain : HasPlaces (take len held) places
+
+pub last_word : (held places next : List ℕ) (at head len ends : ℕ) → len < at + 64 → Words (take at held) places head
+    → EndsLine held at head len ends → next ≡ places ++ set_places 64 at ends → FarLine held next len
+last_word held places next at head len ends short w end put =
+    let rest = take end.rest (drop at held) in
     let block = rest ++ 9 ∷ [] in
     let text = take len held in
-    let front = take_count at held (omega (arith, before, room)) in
+    let within : end.lf < length held = end.behind.0 in
+    let before : len ≤ end.lf = ⊎_elim (λ same. omega (arith, same)) (λ one. let more = one.0 in omega (arith, more)) end.behind.2 in
+    let place = end.place in
+    let front = take_count at held (omega (arith, place, before, within)) in
     let behind = length-drop at held in
-    let some = take_count (len - at) (drop at held) (omega (arith, behind, before, room)) in
-    let size : length block ≤ 64 = omega (arith, length-append rest (9 ∷ []), some, short) in
-    let free : mask_l (map is_rare block) ≡ 0 = none_behind rest (9 ∷ []) (sym is_rare_bits ∙ none) refl in
+    let some = take_count end.rest (drop at held) (omega (arith, behind, place, before, within)) in
+    let size : length block ≤ 64 = omega (arith, length-append rest (9 ∷ []), some, short, place) in
+    let free : mask_l (map is_stop block) ≡ 0 = none_behind rest (9 ∷ []) end.free refl in
+    let whole : text ≡ take at held ++ rest = joined at end.rest len held (sym place) in
     let all : take at held ++ block ≡ text ++ 9 ∷ [] =
-    sym (append_assoc (take at held) rest (9 ∷ [])) ∙ ap (λ (xs : List ℕ). xs ++ 9 ∷ []) (sym (joined at (len - at) len held (omega (arith, before)))) in
+    sym (append_assoc (take at held) rest (9 ∷ [])) ∙ ap (λ (xs : List ℕ). xs ++ 9 ∷ []) (sym whole) in
     let words = subst (λ (xs : List ℕ). Words xs next (cond (head_after (head_after true (take at held)) block) 1 0)) all
-    (more_words (take at held) block places next head ends _ w size is_ends free apart
+    (more_words (take at held) block places next head ends _ w size end.bits free end.apart
     (put ∙ ap (λ n. places ++ set_places 64 n ends) (sym front)) refl) in
+    let clear = none_in_front text (9 ∷ []) words.stops in
     record {
-      plain = plain_by_marks text (none_in_front text (9 ∷ []) words.rare) words.marks;
-      cut = words.tabs ∙ tabs_cut text;
+      line = front_line held len end.lf clear end.behind;
+      plain = record {
+        plain = plain_by_marks text (rare_free text clear) words.marks;
+        cut = words.tabs ∙ tabs_cut text;
+      };
     }
-
-pub last_fits : (rest : List ℕ) (r tabs : ℕ) → r ≤ 63 → 64 ≤ length rest → tabs ≡ bits_of 9 (take r rest)
-    → tabs + 1 * 2 ^ r % 18446744073709551616 < 18446744073709551616
-last_fits rest r tabs short filled is =
-    let ends = ends_at rest r tabs short filled is in
-    let xs = take r rest ++ 9 ∷ [] in
-    let size : length xs ≤ 64 = omega (arith, length-append (take r rest) (9 ∷ []), take_count r rest (omega (arith, short, filled)), short) in
-    let most : 2 ^ length xs ≤ 2 ^ 64 = pow_mono size in
-    omega (arith, ends, bits_below 9 xs, most)
-
--- what the last call answers
-pub last_result : {E : Type 0} (held places new : List ℕ) (at len head ends rare : ℕ) (result : Result ℕ E) → at ≤ len → len ≤ at + 63 → len ≤ length held
-    → Words (take at held) places head → ends ≡ bits_of 9 (take (len - at) (drop at held) ++ 9 ∷ [])
-    → rare ≡ mask_l (map is_rare (take (len - at) (drop at held)))
-    → IfOk result (λ next. 0 < next → rare ≡ 0) → IfOk result (λ next. 0 < next → bit_and (head + 2 * ends) ends ≡ 0)
-    → IfOk result (λ next. 0 < next → take next new ≡ places ++ set_places 64 at ends)
-    → IfOk result (λ next. 0 < next → HasPlaces (take len held) (take next new))
-last_result held places new at len head ends rare (Err e) before short room w is_ends is_rare_bits none apart put = tt
-last_result held places new at len head ends rare (Ok next) before short room w is_ends is_rare_bits none apart put = λ some.
-    last_word held places (take next new) at len head ends rare before short room w is_ends is_rare_bits (none some) (apart some) (put some)

@@ -1,12 +1,27 @@
--- What the fields of a record stand for that is about to be written.
-use Rattle.std.specs.Prelude.{◌≡◌, ◌-◌, ◌++◌, ℕ, List, [], ◌∷◌, length, take}
-use Rattle.hum_record.specs.Fields.{AreFields}
+-- Lines, and what stands behind a text.
+use Rattle.std.specs.Prelude.{◌≡◌, ◌<◌, ◌+◌, ◌⊎◌, ℕ, List, length, slice_index, take, Some, Ok}
+use Rattle.memchr.specs.Find.{IsFirstByte, is_byte}
+use Rattle.hum_record.specs.Row.{Row, text_of}
+use Rattle.hum_record.specs.Spelling.{reading}
 
--- the text of a line without its LF
-abbrev pub text_in : List ℕ → List ℕ
-text_in line = take (length line - 1) line
+-- LF stands in some bytes behind a text that ends at a place: there, or behind a CR.
+abbrev pub IsBehind : List ℕ → ℕ → ℕ → Type 0
+IsBehind held len lf =
+    (lf < length held) × (slice_index held lf ≡ 10)
+    × ((lf ≡ len) ⊎ ((lf ≡ len + 1) × (slice_index held len ≡ 13)))
 
--- the fields of a record, but with LF behind its text
-pub record AreLineFields (line ends : List ℕ) : Type 0 where
-  pub fields : AreFields (text_in line) ends
-  pub ended : line ≡ text_in line ++ 10 ∷ []
+-- A line stands in front of some bytes, whose text is so long.
+pub record IsLine (held : List ℕ) (len : ℕ) : Type 0 where
+  pub lf : ℕ
+  pub first : IsFirstByte (is_byte 10) held (Some lf)
+  pub text : (lf ≡ len) ⊎ ((lf ≡ len + 1) × (slice_index held len ≡ 13))
+
+-- It is read as this record.
+pub record IsRead (held : List ℕ) (row : Row) : Type 0 where
+  pub line : IsLine held (length (text_of row))
+  pub text : take (length (text_of row)) held ≡ text_of row
+  pub read : reading (text_of row) ≡ Ok row
+
+-- LF stands behind a text that is the first of these bytes, unless it is empty.
+abbrev pub IsEnded : List ℕ → ℕ → Type 0
+IsEnded held len = 0 < len → (len < length held) × (slice_index held len ≡ 10)

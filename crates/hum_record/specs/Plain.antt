@@ -1,10 +1,12 @@
 -- Texts of plain data: no token is empty, and none begins with the mark of another kind.
-use Rattle.std.specs.Prelude.{◌≡◌, ◌==◌, ◌&&◌, ◌||◌, ℕ, Bool, false, List, [], ◌∷◌}
-use Rattle.std.specs.Prelude.{◌++◌, Ok}
+use Rattle.std.specs.Prelude.{◌≡◌, ◌==◌, ◌&&◌, ◌||◌, ◌+◌, ◌*◌, ℕ, Bool, false, List, [], ◌∷◌}
+use Rattle.std.specs.Prelude.{◌++◌, take, drop, map, bit_and, Ok}
+use Rattle.std.specs.Simd.Lanes.{mask_l}
 use Rattle.hum_record.specs.declared.SpinedKind.TheVariants.{Values}
 use Rattle.hum_record.specs.Spelling.{has_byte, is_comment, kind_of_tokens, parts}
 use Rattle.hum_record.specs.Cutting.{bits_of}
 use Rattle.hum_record.specs.Fields.{ends_from}
+use Rattle.hum_record.specs.Lines.{IsBehind}
 
 -- a byte with which no token of data begins: a tab, since then it is empty, `!` and `*`
 abbrev pub is_mark : ℕ → Bool
@@ -24,6 +26,10 @@ head_after head (byte ∷ text) = head_after (byte == 9) text
 abbrev pub is_rare : ℕ → Bool
 is_rare byte = (byte == 33 || byte == 42) || byte == 13
 
+-- a byte at which a look at data stops: LF, or one that seldom stands in it
+abbrev pub is_stop : ℕ → Bool
+is_stop byte = is_rare byte || byte == 10
+
 -- A text is plain data.
 pub record IsPlain (text : List ℕ) : Type 0 where
   pub unbroken : has_byte 13 text ≡ false
@@ -39,3 +45,15 @@ pub record HasEnds (text : List ℕ) (ends : ℕ) : Type 0 where
 pub record HasPlaces (text places : List ℕ) : Type 0 where
   pub plain : IsPlain text
   pub cut : places ≡ ends_from 0 (parts text)
+
+-- A line ends among the bytes from a place on. None of these that stand in front of its end is a stop, these
+-- bits say where its tokens end among them, as if a tab stood behind it, and none that begins among them is
+-- empty; with the first of them begins one, or not.
+pub record EndsLine (held : List ℕ) (at head len ends : ℕ) : Type 0 where
+  pub rest : ℕ
+  pub lf : ℕ
+  pub place : len ≡ at + rest
+  pub behind : IsBehind held len lf
+  pub free : mask_l (map is_stop (take rest (drop at held))) ≡ 0
+  pub bits : ends ≡ bits_of 9 (take rest (drop at held) ++ 9 ∷ [])
+  pub apart : bit_and (head + 2 * ends) ends ≡ 0

@@ -1,9 +1,10 @@
 //! The text of a record, and where its tokens end in it.
 ghost use Rattle.std.specs.Prelude.{◌≡◌, ◌≤◌, ◌<◌, ◌+◌, ◌-◌, ◌^◌, ◌++◌, ◌∷◌, [], length, take};
-ghost use Rattle.std.specs.Prelude.{IfOk, OnOk, IfErr, Ok, true, false, vec_len};
+ghost use Rattle.std.specs.Prelude.{ℕ, IfOk, OnOk, IfErr, Ok, true, false, vec_len};
 ghost use Rattle.hum_record.specs.Building.{tab_between, spelled};
 ghost use Rattle.hum_record.specs.Cutting.{set_places};
 ghost use Rattle.hum_record.specs.Fields.{AreFields, ends_from, row_in, written};
+ghost use Rattle.hum_record.specs.Lines.{IsLine};
 ghost use Rattle.hum_record.specs.Plain.{HasPlaces};
 ghost use Rattle.hum_record.specs.Row.{chosen};
 ghost use Rattle.hum_record.specs.Spelling.{has_byte, reading, parts, Fails};
@@ -13,7 +14,7 @@ use crate::near::{FEW, NEAR, copy_near, copy_places, put_places};
 use crate::putting::put_behind;
 use crate::reading::cut;
 use crate::selection::Selection;
-use crate::wide::{copy_words, put_ends};
+use crate::wide::{copy_words, put_line};
 use crate::{MOST_BYTES, RecordFault};
 use std::alloc::{AllocError, Global};
 use std::marker::Model;
@@ -56,7 +57,10 @@ impl Model for Body {
 
     ghost view = { λ b. written (take b.len b.held.items) (take b.count b.places.items) };
 
-    ghost invariant = { λ b. (b.len ≤ vec_len b.held) × (b.count ≤ vec_len b.places) };
+    ghost use Rattle.hum_record.specs.Lines.{IsEnded};
+
+    ghost invariant = { λ b. (b.len ≤ vec_len b.held) × (b.count ≤ vec_len b.places)
+        × IsEnded b.held.items b.len };
 }
 
 /// Fills up a list to this length, where it is shorter.
@@ -132,6 +136,15 @@ impl Body {
         &self.held[..self.len]
     }
 
+    /// The text, and LF.
+    #[inline]
+    pub fn text_lf(&self) -> &[u8]
+        requires { 0 < length self.now.text }
+        ensures { result.now ≡ self.now.text ++ 10 ∷ [] }
+    {
+        &self.held[..self.len + 1]
+    }
+
     /// Where each of its tokens ends in it.
     #[inline]
     pub fn ends(&self) -> &[u32]
@@ -166,9 +179,10 @@ impl Body {
     /// Puts the first `len` bytes of what is held in place of the text, and the places of bits in place
     /// of where tokens end, if there is room for these; and tells whether there was.
     #[inline(always)]
-    pub fn put_near(&mut self, held: &[u8], len: usize, ends: u64) -> bool
-        requires filled { 64 ≤ length held.now }
-        requires short { len ≤ 62 }
+    pub fn put_near<const N: usize>(&mut self, held: &[u8], len: usize, ends: u64) -> bool
+        requires few { N ≤ 64 }
+        requires filled { N ≤ length held.now }
+        requires short { len < N }
         ensures text { result ≡ true → self.new.text ≡ take len held.now }
         ensures ends { result ≡ true → self.new.ends ≡ set_places 64 0 ends }
     {
@@ -176,33 +190,32 @@ impl Body {
         if self.held.len() < NEAR || self.places.len() < count {
             return false;
         }
-        copy_near(&mut self.held, held);
+        copy_near::<N>(&mut self.held, held);
+        self.held[len] = b'\n';
         self.len = len;
         put_places(&mut self.places, 0, 0, ends);
         self.count = count;
         true
     }
 
-    /// Puts a longer line of plain data in place of the text, and where its tokens end; or tells that
-    /// its bytes don't show that it is one. The line is the first `len` bytes of what is held.
-    pub fn put_wide(&mut self, held: &[u8], len: usize) -> Result<bool, AllocError>
-        requires filled { len + 64 ≤ length held.now }
-        requires at_most { len ≤ 1048576 }
-        ensures text { IfOk result (λ is_plain. is_plain ≡ true
-            → self.new.text ≡ take len held.now) }
-        ensures plain { IfOk result (λ is_plain. is_plain ≡ true
-            → HasPlaces (take len held.now) self.new.ends) }
+    /// Puts the line in front of what is held in place of the text, and where its tokens end, if its
+    /// bytes show that it is plain data, and there is memory for it; and tells whether it did.
+    pub fn put_far(&mut self, held: &[u8]) -> bool
+        ensures { result ≡ true → (len : ℕ) × IsLine held.now len × (len ≤ 1048576)
+            × (self.new.text ≡ take len held.now) × HasPlaces (take len held.now) self.new.ends }
     {
         self.clear();
-        let count = put_ends(&mut self.places, held, len)?;
-        if count == 0 {
-            return Ok(false);
-        }
-        give_bytes(&mut self.held, len + NEAR)?;
-        copy_words(&mut self.held, held, len);
-        self.len = len;
-        self.count = count;
-        Ok(true)
+        let Some(line) = put_line(&mut self.places, held) else {
+            return false;
+        };
+        let Ok(()) = give_bytes(&mut self.held, NEAR * line.words) else {
+            return false;
+        };
+        copy_words(&mut self.held, held, line.words);
+        self.held[line.len] = b'\n';
+        self.len = line.len;
+        self.count = line.count;
+        true
     }
 
     /// Puts a line in place of the text, and where its tokens end; or finds the first rule that it
@@ -219,9 +232,10 @@ impl Body {
         cut(&mut self.places, text)?;
         self.held.clear();
         self.held.extend_from_slice(text)?;
+        fill_bytes(&mut self.held, text.len() + 1)?;
+        self.held[text.len()] = b'\n';
         self.len = text.len();
         self.count = self.places.len();
-        fill_bytes(&mut self.held, self.len + 1)?;
         Ok(())
     }
 
@@ -230,9 +244,9 @@ impl Body {
     pub fn copy_of(&mut self, other: &Body) -> Result<(), AllocError>
         ensures { OnOk result (self.new ≡ other.now) }
     {
-        if other.len <= NEAR && other.held.len() >= NEAR && self.held.len() >= NEAR {
+        if other.len < NEAR && other.held.len() >= NEAR && self.held.len() >= NEAR {
             if other.count <= FEW && other.places.len() >= FEW && self.places.len() >= FEW {
-                copy_near(&mut self.held, &other.held);
+                copy_near::<NEAR>(&mut self.held, &other.held);
                 self.len = other.len;
                 copy_places(&mut self.places, &other.places);
                 self.count = other.count;
@@ -250,6 +264,7 @@ impl Body {
         self.held.clear();
         self.held.extend_from_slice(other.text())?;
         fill_bytes(&mut self.held, other.len + 1)?;
+        self.held[other.len] = b'\n';
         self.places.clear();
         self.places.extend_from_slice(other.ends())?;
         fill_places(&mut self.places, other.count)?;
@@ -264,6 +279,7 @@ impl Body {
         requires cut { self.old.ends ≡ ends_from 0 (parts self.old.text) }
         requires as_wide { length selection.now ≡ length self.old.ends }
         requires at_most { length self.old.text ≤ 1048576 }
+        requires some { 0 < length self.old.text }
         ensures text { self.new.text ≡ spelled (chosen selection.now (parts self.old.text)) }
         ensures ends { self.new.ends ≡ ends_from 0 (chosen selection.now (parts self.old.text)) }
         ensures short { length self.new.text ≤ length self.old.text }
@@ -275,6 +291,7 @@ impl Body {
             self.count,
             selection,
         );
+        self.held[len] = b'\n';
         self.len = len;
         self.count = count;
     }
@@ -288,7 +305,7 @@ impl Body {
         ensures ends { OnOk result
             (self.new.ends ≡ self.old.ends ++ length self.new.text ∷ []) }
     {
-        if self.held.len() - self.len <= token.len() {
+        if self.held.len() - self.len <= token.len() + 1 {
             fill_bytes(&mut self.held, 2 * (self.len + 1 + token.len()))?;
         }
         if self.places.len() == self.count {
@@ -315,7 +332,7 @@ impl Body {
     {
         let count = self.count;
         if self.held.len() > MOST_BYTES
-            || self.held.len() - self.len <= token.len()
+            || self.held.len() - self.len <= token.len() + 1
             || self.places.len() == count
         {
             return false;
@@ -325,30 +342,5 @@ impl Body {
         self.len = end;
         self.count = count + 1;
         true
-    }
-
-    /// Adds LF at the end, where there is room, and tells whether there was.
-    #[inline]
-    pub fn add_lf(&mut self) -> bool
-        ensures added { result ≡ true
-            → self.new ≡ written (self.old.text ++ 10 ∷ []) self.old.ends }
-        ensures full { result ≡ false → self.new ≡ self.old }
-    {
-        if self.len == self.held.len() {
-            return false;
-        }
-        self.held[self.len] = b'\n';
-        self.len += 1;
-        true
-    }
-
-    /// Drops the last byte.
-    #[inline]
-    pub fn drop_lf(&mut self)
-        requires { 0 < length self.old.text }
-        ensures { self.new
-            ≡ written (take (length self.old.text - 1) self.old.text) self.old.ends }
-    {
-        self.len -= 1;
     }
 }

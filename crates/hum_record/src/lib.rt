@@ -20,7 +20,6 @@ mod building;
 mod contents;
 pub mod iter;
 mod leaving;
-mod line;
 mod near;
 mod putting;
 mod reading;
@@ -32,7 +31,6 @@ mod wide;
 
 pub use building::RecordBuilder;
 pub use contents::{is_barline, is_data, is_filled, is_null};
-pub use line::RecordLine;
 pub use reading::Record;
 pub use record_draft::RecordDraft;
 pub use selection::Selection;

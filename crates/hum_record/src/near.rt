@@ -1,8 +1,10 @@
-//! Short lines of plain data, all of whose bytes are looked at in one go.
-ghost use Rattle.std.specs.Prelude.{◌≡◌, ◌≤◌, ◌<◌, ◌+◌, ◌^◌, ◌++◌, length, map, take, IfSome};
+//! Lines of plain data, all of whose bytes are looked at in one go.
+ghost use Rattle.std.specs.Prelude.{◌≡◌, ◌≤◌, ◌<◌, ◌+◌, ◌*◌, ◌^◌, ◌++◌, ℕ, true, length, map, take, IfSome};
+ghost use Rattle.std.specs.Prelude.{bit_and};
 ghost use Rattle.std.specs.Simd.Lanes.{chunk, mask_l, put_chunk};
-ghost use Rattle.hum_record.specs.Cutting.{bits_of, set_places};
-ghost use Rattle.hum_record.specs.Plain.{is_rare, HasEnds};
+ghost use Rattle.hum_record.specs.Cutting.{set_places};
+ghost use Rattle.hum_record.specs.Lines.{IsBehind};
+ghost use Rattle.hum_record.specs.Plain.{is_stop, EndsLine};
 
 use crate::bits::bits_at;
 use std::simd::prelude::*;
@@ -10,64 +12,85 @@ use std::simd::prelude::*;
 /// How many bytes are looked at at once.
 pub const NEAR: usize = 64;
 
-/// The longest line that is read by them: where its tokens end and where they begin are bits of one
-/// number.
-pub const SHORT: usize = 62;
-
-/// In a shorter line half as many bytes are looked at.
-const SHORTER: usize = 32;
+/// How many of a short line: most lines are shorter.
+pub const SHORT: usize = 32;
 
 /// How many places are copied at once: most lines have fewer tokens.
 pub const FEW: usize = 8;
 
-/// Where a byte that seldom stands in data is among `N`, as the bits of a number.
+/// Where the text of a line ends, and where tokens end in the last bytes that were looked at, as the bits of a
+/// number.
+#[derive(Clone, Copy)]
+pub struct LineEnd {
+    pub len: usize,
+    pub ends: u64,
+}
+
+/// Where LF stands among `N` bytes, or a byte that seldom stands in data, as the bits of a number.
 #[inline(always)]
-pub fn rare_bits<const N: usize>(held: &[u8], at: usize) -> u64
+pub fn stop_bits<const N: usize>(held: &[u8], at: usize) -> u64
     requires few { N ≤ 64 }
     requires within { at + N ≤ length held.now }
-    ensures { result ≡ mask_l (map is_rare (chunk at N held.now)) }
+    ensures { result ≡ mask_l (map is_stop (chunk at N held.now)) }
 {
     let lanes = Simd::<u8, N>::from_slice(&held[at..]);
     (lanes.simd_eq(Simd::splat(b'!'))
         | lanes.simd_eq(Simd::splat(b'*'))
-        | lanes.simd_eq(Simd::splat(b'\r'))).to_bitmask()
+        | lanes.simd_eq(Simd::splat(b'\r'))
+        | lanes.simd_eq(Simd::splat(b'\n'))).to_bitmask()
 }
 
-/// Where tabs stand among `len` bytes of what is held, and where bytes that are seldom in data, as the
-/// bits of two numbers.
+/// Whether no token is empty of those that begin in a word, by the bits of where its tokens end. `head` is
+/// 1 where one begins with the word, or 0.
 #[inline(always)]
-pub fn marks(held: &[u8], at: usize, len: usize) -> (u64, u64)
-    requires filled { at + 64 ≤ length held.now }
-    requires short { len ≤ 63 }
-    ensures tabs { result.0 ≡ bits_of 9 (chunk at len held.now) }
-    ensures rare { result.1 ≡ mask_l (map is_rare (chunk at len held.now)) }
+pub fn is_apart(head: u64, ends: u64) -> bool
+    requires { head ≤ 1 }
+    ensures { result ≡ true → bit_and (head + 2 * ends) ends ≡ 0 }
 {
-    let within = (1u64 << len) - 1;
-    if len < SHORTER {
-        let tabs = bits_at::<32>(held, at, b'\t');
-        return (tabs & within, rare_bits::<32>(held, at) & within);
-    }
-    let tabs = bits_at::<64>(held, at, b'\t');
-    (tabs & within, rare_bits::<64>(held, at) & within)
+    let heads = (ends << 1) + head;
+    heads & ends == 0
 }
 
-/// Where the tokens of a line end, as the bits of a number, if its bytes show that it is plain data.
-/// The line is the first `len` bytes of what is held.
+/// Whether a line ends at a place: LF stands there, or CR and LF.
 #[inline(always)]
-pub fn plain_ends(held: &[u8], len: usize) -> Option<u64>
-    requires filled { 64 ≤ length held.now }
-    requires short { len ≤ 62 }
-    ensures { IfSome result (HasEnds (take len held.now)) }
+fn is_line_end(held: &[u8], len: usize) -> bool
+    requires { len < length held.now }
+    ensures { result ≡ true → (lf : ℕ) × IsBehind held.now len lf }
 {
-    let (tabs, rare) = marks(held, 0, len);
-    let ends = tabs + (1u64 << len);
-    let heads = 1 + 2 * ends;
-    let has_empty = heads & ends != 0;
-    let has_rare = rare != 0;
-    if has_empty | has_rare {
+    held[len] == b'\n' || is_cr_lf(held, len)
+}
+
+#[inline(never)]
+fn is_cr_lf(held: &[u8], len: usize) -> bool
+    requires { len < length held.now }
+    ensures { result ≡ true → IsBehind held.now len (len + 1) }
+{
+    held[len] == b'\r' && len + 1 < held.len() && held[len + 1] == b'\n'
+}
+
+/// The end of a line that ends among the `N` bytes from a place on, by the bits of the stops among these, if
+/// the bytes up to there show plain data.
+#[inline(always)]
+pub fn line_end<const N: usize>(held: &[u8], at: usize, head: u64, stops: u64) -> Option<LineEnd>
+    requires few { N ≤ 64 }
+    requires within { at + N ≤ length held.now }
+    requires head { head ≤ 1 }
+    requires stops { stops ≡ mask_l (map is_stop (chunk at N held.now)) }
+    requires some { 0 < stops }
+    ensures near { IfSome result (λ end. end.len < at + N) }
+    ensures ends { IfSome result (λ end. EndsLine held.now at head end.len end.ends) }
+{
+    let rest = stops.trailing_zeros() as usize;
+    let len = at + rest;
+    if !is_line_end(held, len) {
         return None;
     }
-    Some(ends)
+    let tabs = bits_at::<N>(held, at, b'\t') & ((1u64 << rest) - 1);
+    let ends = tabs + (1u64 << rest);
+    if !is_apart(head, ends) {
+        return None;
+    }
+    Some(LineEnd { len, ends })
 }
 
 /// Puts the places of bits, of which the lowest has this place, behind the first `count` of a list, and
@@ -79,23 +102,24 @@ pub fn put_places(places: &mut [u32], count: usize, start: u32, bits: u64) -> us
     ensures count { result ≡ count + length (set_places 64 start bits) }
     ensures places { take result places.new ≡ take count places.old ++ set_places 64 start bits }
 {
-    let end = count + bits.count_ones() as usize;
+    let mut end = count;
     let mut rest = bits;
-    for j in count..end {
-        places[j] = start + rest.trailing_zeros();
+    while rest != 0 {
+        places[end] = start + rest.trailing_zeros();
         rest &= rest - 1;
+        end += 1;
     }
     end
 }
 
-/// Puts the first bytes of what is held in front of what stands in a list.
+/// Puts the first `N` bytes of what is held in front of what stands in a list.
 #[inline(always)]
-pub fn copy_near(text: &mut [u8], held: &[u8])
-    requires filled { 64 ≤ length held.now }
-    requires room { 64 ≤ length text.old }
-    ensures { text.new ≡ put_chunk 0 text.old (chunk 0 64 held.now) }
+pub fn copy_near<const N: usize>(text: &mut [u8], held: &[u8])
+    requires filled { N ≤ length held.now }
+    requires room { N ≤ length text.old }
+    ensures { text.new ≡ put_chunk 0 text.old (chunk 0 N held.now) }
 {
-    u8x64::from_slice(held).copy_to_slice(text);
+    Simd::<u8, N>::from_slice(held).copy_to_slice(text);
 }
 
 /// The same of places.

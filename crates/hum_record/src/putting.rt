@@ -1,5 +1,5 @@
 //! Tokens that are put behind others.
-ghost use Rattle.std.specs.Prelude.{◌≡◌, ◌≤◌, ◌<◌, ◌+◌, ◌-◌, ◌*◌, ◌++◌, length, take};
+ghost use Rattle.std.specs.Prelude.{◌≡◌, ◌≤◌, ◌<◌, ◌+◌, ◌-◌, ◌*◌, ◌++◌, length, slice_index, take};
 ghost use Rattle.hum_record.specs.Building.{between};
 ghost use lib.Seq.{paste};
 
@@ -65,18 +65,21 @@ fn put_token(text: &mut [u8], at: usize, token: &[u8]) -> usize
     at + size
 }
 
-/// Puts a token behind the first `len` bytes of a text, and a tab before it if tokens stand there, and
-/// answers where it ends.
+/// Puts a token behind the first `len` bytes of a text, a tab before it if tokens stand there, and LF
+/// behind it; and answers where it ends.
 #[inline]
 pub fn put_behind(text: &mut [u8], len: usize, count: usize, token: &[u8]) -> usize
-    requires { len + length token.now < length text.old }
+    requires { len + length token.now + 1 < length text.old }
     ensures end { result ≡ len + (length (between count) + length token.now) }
     ensures text { take result text.new ≡ take len text.old ++ (between count ++ token.now) }
+    ensures ended { slice_index text.new result ≡ 10 }
 {
     let mut begin = len;
     if count != 0 {
         text[begin] = b'\t';
         begin += 1;
     }
-    put_token(text, begin, token)
+    let end = put_token(text, begin, token);
+    text[end] = b'\n';
+    end
 }

@@ -1,10 +1,11 @@
 //! A record, and how a line is read as one.
 ghost use Rattle.std.specs.Prelude.{◌≡◌, ◌≢◌, ◌<◌, ◌≤◌, true, false, Ok, IfOk, IfErr, OnOk, MatchResult};
-ghost use Rattle.std.specs.Prelude.{IfSome};
-ghost use Rattle.std.specs.Prelude.{length, take};
+ghost use Rattle.std.specs.Prelude.{IfSome, length, take, ◌++◌, ◌∷◌, []};
 ghost use Rattle.hum_record.specs.Spelling.{IsTokenOf, IsTextOf, has_byte, is_comment, reading};
 ghost use Rattle.hum_record.specs.Spelling.{Gives, Fails, Breaks};
 ghost use Rattle.hum_record.specs.Fields.{AreFields, row_in};
+ghost use Rattle.hum_record.specs.Lines.{IsRead};
+ghost use Rattle.hum_record.specs.Plain.{EndsLine};
 ghost use Rattle.hum_record.specs.Row.{Row, kind_of, row_of, tokens_of, width_of, token_at, text_of};
 ghost use Rattle.hum_record.specs.Row.{with_chosen};
 ghost use Rattle.std.specs.List.{list_any};
@@ -12,7 +13,7 @@ ghost use Rattle.hum_record.specs.declared.RecordFault.TheVariants.{Memory};
 
 use crate::body::Body;
 use crate::iter::Tokens;
-use crate::near::{NEAR, SHORT, plain_ends};
+use crate::near::{LineEnd, NEAR, SHORT, line_end, stop_bits};
 use crate::selection::Selection;
 use crate::spare::Spare;
 use crate::tokens::{Cut, lawful_kind, push_ends, token_at_end, token_kind};
@@ -73,8 +74,7 @@ impl Record {
     }
 
     /// Reads the text of one line, without its line end, and copies it into what is left of a
-    /// record that is done with. The text is the first `len` bytes of what is held: where more is
-    /// held, they are looked at in pieces of one size.
+    /// record that is done with. The text is the first `len` bytes of what is held.
     ///
     /// # Errors
     /// The rules are tested in this order, and the first that is broken is the fault:
@@ -105,51 +105,85 @@ impl Record {
         // Which fault it is.
         ensures exact { Gives result (reading (take len held.now)) }
     {
-        if let Some(record) = Self::parse_near(spare, held, len) {
-            return Ok(record);
-        }
-        Self::of_any(alloc, spare, held, len)
+        Self::of_any(alloc, spare, &held[..len])
     }
 
-    /// Reads plain data in a short line into what is left of a record that is done with, if there is one
-    /// and it has room. Where it answers none, [`Record::parse_into`] reads the line.
-    #[inline(always)]
-    pub fn parse_near(spare: &mut Spare, held: &[u8], len: usize) -> Option<Record>
-        requires within { len ≤ length held.now }
-        requires one_line { has_byte 10 (take len held.now) ≡ false }
-        ensures { IfSome result (λ read. reading (take len held.now) ≡ Ok read) }
+    /// The same of a text.
+    #[inline(never)]
+    fn of_any(alloc: Global, spare: &mut Spare, text: &[u8]) -> Result<Record, RecordFault>
+        requires at_most { length text.now ≤ 1048576 }
+        requires one_line { has_byte 10 text.now ≡ false }
+        ensures { Gives result (reading text.now) }
     {
-        if len > SHORT || held.len() < NEAR {
+        let mut body = spare.take_or_new(alloc)?;
+        body.put(text)?;
+        Ok(Record { body })
+    }
+
+    /// Reads the line in front of what is held, up to LF, or CR and LF, into what is left of a record that
+    /// is done with, if the line's bytes show that it is plain data and there is one that has room. What any
+    /// other line is, [`Record::parse_into`] tells. Where lines are said to be wide, they are looked at in
+    /// larger pieces.
+    #[inline(always)]
+    pub fn parse_line(spare: &mut Spare, held: &[u8], are_wide: bool) -> Option<Record>
+        ensures { IfSome result (IsRead held.now) }
+    {
+        if held.len() < NEAR {
             return None;
         }
-        let ends = plain_ends(held, len)?;
+        if are_wide {
+            return Self::parse_far(spare, held);
+        }
+        let stops = stop_bits::<SHORT>(held, 0);
+        if stops == 0 {
+            return Self::parse_far(spare, held);
+        }
+        let end = line_end::<SHORT>(held, 0, 1, stops)?;
+        Self::of_near::<SHORT>(spare, held, end)
+    }
+
+    /// The same of a longer line.
+    #[inline(never)]
+    fn parse_far(spare: &mut Spare, held: &[u8]) -> Option<Record>
+        requires { 64 ≤ length held.now }
+        ensures { IfSome result (IsRead held.now) }
+    {
+        let stops = stop_bits::<NEAR>(held, 0);
+        if stops == 0 {
+            return Self::parse_wide(spare, held);
+        }
+        let end = line_end::<NEAR>(held, 0, 1, stops)?;
+        Self::of_near::<NEAR>(spare, held, end)
+    }
+
+    /// The record of a line that ends among the first `N` bytes of what is held.
+    #[inline(always)]
+    fn of_near<const N: usize>(spare: &mut Spare, held: &[u8], end: LineEnd) -> Option<Record>
+        requires few { N ≤ 64 }
+        requires filled { N ≤ length held.now }
+        requires near { end.len < N }
+        requires ends { EndsLine held.now 0 1 end.len end.ends }
+        ensures { IfSome result (IsRead held.now) }
+    {
         let mut body = spare.take()?;
-        if body.put_near(held, len, ends) {
+        if body.put_near::<N>(held, end.len, end.ends) {
             return Some(Record { body });
         }
         spare.put_back(body);
         None
     }
 
-    /// The same of any line.
+    /// The record of a line of several words.
     #[inline(never)]
-    fn of_any(
-        alloc: Global,
-        spare: &mut Spare,
-        held: &[u8],
-        len: usize,
-    ) -> Result<Record, RecordFault>
-        requires within { len ≤ length held.now }
-        requires at_most { length (take len held.now) ≤ 1048576 }
-        requires one_line { has_byte 10 (take len held.now) ≡ false }
-        ensures { Gives result (reading (take len held.now)) }
+    fn parse_wide(spare: &mut Spare, held: &[u8]) -> Option<Record>
+        ensures { IfSome result (IsRead held.now) }
     {
-        let mut body = spare.take_or_new(alloc)?;
-        if held.len() - len >= NEAR && body.put_wide(held, len)? {
-            return Ok(Record { body });
+        let mut body = spare.take()?;
+        if body.put_far(held) {
+            return Some(Record { body });
         }
-        body.put(&held[..len])?;
-        Ok(Record { body })
+        spare.put_back(body);
+        None
     }
 
     /// The record of a text, by where each token ends in it.
@@ -242,6 +276,14 @@ impl Record {
         ensures { result ≡ tokens_of self.now }
     {
         Tokens::all(self.body.text(), self.body.ends())
+    }
+
+    /// The whole text, and LF.
+    #[inline]
+    pub fn text_lf(&self) -> &[u8]
+        ensures { result.now ≡ text_of self.now ++ 10 ∷ [] }
+    {
+        self.body.text_lf()
     }
 
     /// The whole text: the tokens, a tab between two.

@@ -1,92 +1,72 @@
 //! Longer lines of plain data, looked at in words of 64 bytes.
-ghost use Rattle.std.specs.Prelude.{◌≡◌, ◌<◌, ◌≤◌, ◌+◌, ◌*◌, ◌++◌, true, length, take, IfOk, vec_len};
-ghost use Rattle.std.specs.Prelude.{bit_and};
-ghost use Rattle.hum_record.specs.Cutting.{set_places};
+ghost use Rattle.std.specs.Prelude.{◌≡◌, ◌<◌, ◌≤◌, ◌+◌, ◌*◌, length, take, vec_len, IfSome};
+ghost use Rattle.hum_record.specs.Lines.{IsLine};
 ghost use Rattle.hum_record.specs.Plain.{HasPlaces};
 
+use crate::MOST_BYTES;
 use crate::bits::bits_at;
 use crate::body::give_places;
-use crate::near::{NEAR, marks, put_places, rare_bits};
-use std::alloc::AllocError;
+use crate::near::{NEAR, is_apart, line_end, put_places, stop_bits};
 use std::simd::prelude::*;
 
-/// Whether a word is plain data, by the bits of where its tokens end, and of bytes that seldom stand in
-/// data: then no token that begins in it is empty. `head` is 1 where one begins with the word, or 0.
-#[inline(always)]
-fn is_plain(head: u64, ends: u64, rare: u64) -> bool
-    requires { head ≤ 1 }
-    ensures apart { result ≡ true → bit_and (head + 2 * ends) ends ≡ 0 }
-    ensures none { result ≡ true → rare ≡ 0 }
-{
-    let heads = (ends << 1) + head;
-    heads & ends == 0 && rare == 0
+/// How many words are looked at: a record has no more.
+const MOST_WORDS: usize = MOST_BYTES / NEAR;
+
+/// A line: how long its text is, how many tokens end in it, and in how many words it stands.
+#[derive(Clone, Copy)]
+pub struct FarLine {
+    pub len: usize,
+    pub count: usize,
+    pub words: usize,
 }
 
-/// Puts where the tokens of a word end behind the first `count` places, if it is plain data, and answers
-/// how many there are then; or answers 0.
-#[inline]
-fn put_word(
-    places: &mut Vec<u32>,
-    count: usize,
-    start: u32,
-    head: u64,
-    ends: u64,
-    rare: u64,
-) -> Result<usize, AllocError>
-    requires within { count ≤ vec_len places.old }
-    requires few { start ≤ 1048576 }
-    requires head { head ≤ 1 }
-    ensures within { IfOk result (λ next. next ≤ vec_len places.new) }
-    ensures apart { IfOk result (λ next. 0 < next → bit_and (head + 2 * ends) ends ≡ 0) }
-    ensures none { IfOk result (λ next. 0 < next → rare ≡ 0) }
-    ensures places { IfOk result (λ next. 0 < next
-        → take next places.new.items ≡ take count places.old.items ++ set_places 64 start ends) }
-{
-    if !is_plain(head, ends, rare) {
-        return Ok(0);
-    }
-    give_places(places, count + NEAR)?;
-    Ok(put_places(places, count, start, ends))
-}
-
-/// Puts where the tokens of a line end in front of what stands in a list, if the line's bytes show that it
-/// is plain data, and answers how many these are; or answers 0. The line is the first `len` bytes of what
-/// is held.
-pub fn put_ends(places: &mut Vec<u32>, held: &[u8], len: usize) -> Result<usize, AllocError>
-    requires filled { len + 64 ≤ length held.now }
-    requires at_most { len ≤ 1048576 }
-    ensures within { IfOk result (λ count. count ≤ vec_len places.new) }
-    ensures plain { IfOk result (λ count. 0 < count
-        → HasPlaces (take len held.now) (take count places.new.items)) }
+/// Puts where the tokens of the line in front of what is held end in front of what stands in a list, if its
+/// bytes show that it is plain data, and there is memory for them.
+pub fn put_line(places: &mut Vec<u32>, held: &[u8]) -> Option<FarLine>
+    ensures line { IfSome result (λ line. IsLine held.now line.len) }
+    ensures within { IfSome result (λ line. line.count ≤ vec_len places.new) }
+    ensures plain { IfSome result (λ line.
+        HasPlaces (take line.len held.now) (take line.count places.new.items)) }
+    ensures words { IfSome result (λ line. 64 * line.words ≤ length held.now) }
+    ensures last { IfSome result (λ line. line.len < 64 * line.words) }
+    ensures at_most { IfSome result (λ line. line.len ≤ 1048576) }
 {
     let mut count = 0;
     let mut head = 1;
-    let mut at = 0;
-    while len - at >= NEAR {
-        let ends = bits_at::<64>(held, at, b'\t');
-        let rare = rare_bits::<64>(held, at);
-        count = put_word(places, count, at as u32, head, ends, rare)?;
-        if count == 0 {
-            return Ok(0);
+    let mut words = 0;
+    while words < MOST_WORDS && held.len() - NEAR * words >= NEAR {
+        let at = NEAR * words;
+        words += 1;
+        let Ok(()) = give_places(places, count + NEAR) else {
+            return None;
+        };
+        let stops = stop_bits::<64>(held, at);
+        if stops != 0 {
+            let end = line_end::<64>(held, at, head, stops)?;
+            return Some(FarLine {
+                len: end.len,
+                count: put_places(places, count, at as u32, end.ends),
+                words,
+            });
         }
+        let ends = bits_at::<64>(held, at, b'\t');
+        if !is_apart(head, ends) {
+            return None;
+        }
+        count = put_places(places, count, at as u32, ends);
         head = ends >> 63;
-        at += NEAR;
     }
-    let (tabs, rare) = marks(held, at, len - at);
-    let ends = tabs + (1u64 << (len - at));
-    put_word(places, count, at as u32, head, ends, rare)
+    None
 }
 
-/// Puts the first bytes of what is held in front of what stands in a text, word by word.
+/// Puts the first words of what is held in front of what stands in a text.
 #[inline]
-pub fn copy_words(text: &mut [u8], held: &[u8], len: usize)
-    requires filled { len + 64 ≤ length held.now }
-    requires room { len + 64 ≤ length text.old }
-    ensures { take len text.new ≡ take len held.now }
+pub fn copy_words(text: &mut [u8], held: &[u8], words: usize)
+    requires filled { 64 * words ≤ length held.now }
+    requires room { 64 * words ≤ length text.old }
+    ensures { take (64 * words) text.new ≡ take (64 * words) held.now }
 {
-    let mut at = 0;
-    while at < len {
-        u8x64::from_slice(&held[at..]).copy_to_slice(&mut text[at..]);
-        at += NEAR;
+    for k in 0..words {
+        u8x64::from_slice(&held[NEAR * k..]).copy_to_slice(&mut text[NEAR * k..]);
     }
 }

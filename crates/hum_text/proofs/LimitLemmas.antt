@@ -4,7 +4,7 @@ use Rattle.std.proofs.Common.{List, [], ◌∷◌, ◌++◌, length, length-appe
 use Rattle.std.proofs.Common.{inl, inr, length-take}
 use Rattle.std.specs.List.{list_any}
 use Rattle.std.specs.Prelude.{IfNone}
-use Rattle.std.proofs.lemmas.Bool.{cases_Bool, cases_lt, eqb-true, or_from, or_parts}
+use Rattle.std.proofs.lemmas.Bool.{cases_Bool, cases_lt, eqb-true, eq-eqb, or_from, or_parts}
 use Rattle.std.proofs.lemmas.Bool.Decides.{nat_tests}
 use Rattle.std.proofs.lemmas.List.{get_or-take, get_or_append_left, take_all, take_at, take_more, take-append-le}
 use Rattle.std.proofs.Math.Seq.{take-length}
@@ -13,6 +13,7 @@ use Rattle.hum_text.specs.declared.Limits.{Limits}
 use Rattle.hum_text.specs.Text.{lf, without_cr, ends_in_cr, rule_in, rule_of_line, IsLawful}
 use Rattle.hum_text.proofs.PieceLemmas.{NoLf}
 use Rattle.hum_text.proofs.ReadingLemmas.{none-free, first-free}
+use Rattle.hum_text.proofs.WindowLemmas.{shorter}
 
 -- What a piece is in which no rule breaks: not empty where it has ended, and within the three limits.
 pub record Fits (l : Limits) (n : ℕ) (piece : List ℕ) (ended : Bool) (size : ℕ) : Type 0 where
@@ -116,11 +117,11 @@ pub last-free : (block : List ℕ) → IsFirstByte (is_byte 10) block None → l
 last-free block unended = any-without block (free-any block (none-free block unended))
 
 -- a piece without its CR
-without-less : (p : List ℕ) → length (without_cr p) ≤ length p
+pub without-less : (p : List ℕ) → length (without_cr p) ≤ length p
 without-less p = elim (cases_Bool (ends_in_cr p)) as (λ _. length (without_cr p) ≤ length p)
     [ inl is ↦ rw is (omega (arith, length-take (length p - 1) p)) | inr isnt ↦ rw isnt (omega arith) ]
 
-without-one : (p : List ℕ) → length p ≤ length (without_cr p) + 1
+pub without-one : (p : List ℕ) → length p ≤ length (without_cr p) + 1
 without-one p = elim (cases_Bool (ends_in_cr p)) as (λ _. length p ≤ length (without_cr p) + 1)
     [ inl is ↦ rw is (omega (arith, length-take (length p - 1) p)) | inr isnt ↦ rw isnt (omega arith) ]
 
@@ -197,4 +198,54 @@ open-lawful l n t held one_line last fits records bytes k h =
     free is = elim (cases_lt (k + 1) (length held)) as (λ _. ⊥) [
       | inl below ↦ one_line k below is
       | inr from ↦ let at : k ≡ length held - 1 = omega (arith, h, from) in last (sym (ap (λ (m : ℕ). get_or held m 0) at) ∙ is)
+    ]
+
+-- where the first LF stands, by how long the text of its line is
+pub lf-place : (block : List ℕ) (k len : ℕ) → IsFirstByte (is_byte 10) block (Some k) → len ≡ length (without_cr (take k block))
+    → (len < length block) × (get_or block len 0 ≡ 10 → k ≡ len) × ((get_or block len 0 ≡ 10 → ⊥) → k ≡ len + 1)
+lf-place block k len first is =
+    let high : k < length block = first.0.high in
+    let size : length (take k block) ≡ k = length-take k block ∙ omega (arith, high) in
+    let less = without-less (take k block) in
+    let one = without-one (take k block) in
+    let low : len ≤ k = omega (arith, is, less, size) in
+    let most : k ≤ len + 1 = omega (arith, is, one, size) in (
+      omega (arith, low, high),
+      λ ten. elim (cases_lt len k) as (λ _. k ≡ len) [
+        | inl below ↦ absurd (first-free block k first len below ten)
+        | inr from ↦ omega (arith, from, low)
+      ],
+      λ other. elim (cases_lt len k) as (λ _. k ≡ len + 1) [
+        | inl below ↦ omega (arith, below, most)
+        | inr from ↦
+            let same : len ≡ k = omega (arith, from, low) in
+            absurd (other (ap (λ n. get_or block n 0) same ∙ eqb-true _ 10 first.1))
+      ],
+    )
+
+-- such a text is a front of the block
+pub front-text : (block : List ℕ) (k len : ℕ) → k < length block → len ≡ length (without_cr (take k block)) → without_cr (take k block) ≡ take len block
+front-text block k len high is = elim (cases_Bool (ends_in_cr (take k block))) as (λ _. without_cr (take k block) ≡ take len block) [
+  | inl cr ↦
+      let size : length (take k block) ≡ k = length-take k block ∙ omega (arith, high) in
+      let text : without_cr (take k block) ≡ take (length (take k block) - 1) (take k block) = rw cr refl in
+      let short = length-take (length (take k block) - 1) (take k block) in
+      let at : length (take k block) - 1 ≡ len = omega (arith, is, ap length text, short) in
+      text ∙ ap (λ n. take n (take k block)) at ∙ shorter len k block (omega (arith, at, size))
+  | inr none ↦
+      let text : without_cr (take k block) ≡ take k block = rw none refl in
+      let at : k ≡ len = omega (arith, is, ap length text, length-take k block, high) in
+      text ∙ ap (λ n. take n block) at
+]
+
+-- whatever finds it by that byte finds this place
+pub same-place : (block : List ℕ) (k len r : ℕ) → IsFirstByte (is_byte 10) block (Some k) → len ≡ length (without_cr (take k block))
+    → (get_or block len 0 ≡ 10 → r ≡ len) → ((get_or block len 0 ≡ 10 → ⊥) → r ≡ len + 1) → r ≡ k
+same-place block k len r first is there behind =
+    let place = lf-place block k len first is in
+    elim (cases_Bool (get_or block len 0 == 10)) as (λ _. r ≡ k) [
+      | inl same ↦ let ten = eqb-true (get_or block len 0) 10 same in there ten ∙ sym (place.1 ten)
+      | inr other ↦
+          let not : get_or block len 0 ≡ 10 → ⊥ = λ ten. (let same = eq-eqb (get_or block len 0) 10 ten in let both : true ≡ false = sym same ∙ other in cc) in
+          behind not ∙ sym (place.2 not)
     ]

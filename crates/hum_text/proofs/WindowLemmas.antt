@@ -152,7 +152,7 @@ IsWindow-moved xs s m e j n w low middle high which = record {
 pub either_max : (m j : ℕ) → (max m j ≡ j) ⊎ (max m j ≡ m)
 either_max m j = elim (cases_lt m j) [ inl less ↦ inl (omega (arith, less)) | inr more ↦ inr (omega (arith, more)) ]
 
-shorter : (n m : ℕ) (zs : List ℕ) → n ≤ m → take n (take m zs) ≡ take n zs
+pub shorter : (n m : ℕ) (zs : List ℕ) → n ≤ m → take n (take m zs) ≡ take n zs
 shorter zero m zs h = refl
 shorter (suc n) zero zs h = absurd (omega arith)
 shorter (suc n) (suc m) [] h = refl

@@ -42,10 +42,13 @@ opening source limits = record {
   fault = None;
 }
 
--- So many lines were given, from so many bytes, and both are within the limits.
-pub record IsWithin (l : Limits) (given taken : ℕ) : Type 0 where
-  pub lines : given ≤ l.records
-  pub bytes : taken ≤ l.bytes
+-- So many lines were given, from so many bytes, and both are within the limits. So they stay where so many
+-- of the pending bytes are given too, whatever lines they are.
+pub record IsWithin (l : Limits) (given taken : ℕ) (pending : List ℕ) (free : ℕ) : Type 0 where
+  pub lines : given + free ≤ l.records
+  pub bytes : taken + free ≤ l.bytes
+  pub line : free ≤ l.line
+  pub held : free ≤ length pending
 
 -- Of all the bytes these lines were given, n of them from t bytes, and the rest stands.
 pub record Stands (l : Limits) (all : List ℕ) (given : List (List ℕ)) (rest : List ℕ) (n t : ℕ)

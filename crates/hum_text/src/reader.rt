@@ -1,6 +1,6 @@
 //! The lines of a source, one at a time.
 ghost use Rattle.std.specs.Prelude.{◌≡◌, ◌≢◌, ◌==◌, ℕ, ◌+◌, ◌<◌, ◌≤◌, true, false, List, []};
-ghost use Rattle.std.specs.Prelude.{length, take, drop, slice_index, ◌⊎◌, Some, None};
+ghost use Rattle.std.specs.Prelude.{length, take, drop, slice_index, ◌⊎◌, ◌++◌, Some, None};
 ghost use Rattle.std.specs.Prelude.{IfOk, IfErr, OnOk, IfSome, IfNone};
 ghost use Rattle.std.specs.Io.KnownBytes.{Consumes, IsAtEnd};
 ghost use Rattle.memchr.specs.Find.{IsFirstByte, is_byte};
@@ -9,7 +9,7 @@ ghost use Rattle.hum_text.specs.Text.{lf, without_cr, IsLawful, BreaksFirst};
 use crate::block::Block;
 use crate::calls::{LARGEST_READ, Source};
 use crate::near::near_lf;
-use crate::rules::{first_fault, sound_len, strip_cr};
+use crate::rules::{first_fault, sound_len, strip_cr, within_limits};
 use crate::{Limits, TextFault};
 use std::alloc::Global;
 use std::marker::Model;
@@ -32,6 +32,8 @@ pub struct LineReader<R> {
     limits: Limits,
     block: Block,
     given: u64,
+    // how many bytes may be handed out in all before a limit is to be asked for again
+    free: u64,
     taken: u64,
     ended: bool,
     fault: Option<TextFault>,
@@ -53,9 +55,10 @@ impl<R> Model for LineReader<R> {
       fault = r.fault;
     } };
 
+    ghost use Rattle.std.specs.Prelude.{◌-◌};
     ghost use Rattle.hum_text.specs.Reading.{IsWithin};
 
-    ghost invariant = { λ r. IsWithin r.limits r.given r.taken };
+    ghost invariant = { λ r. IsWithin r.limits r.given r.taken r.block.pending (r.free - r.taken) };
 }
 
 // How many bytes stand up to place k, it included.
@@ -65,6 +68,16 @@ fn through(held: &[u8], k: usize) -> usize
     ensures { result ≡ k + 1 }
 {
     held[..k].len() + 1
+}
+
+// Where LF stands behind a text that ends at a place: there, or behind a CR.
+#[inline]
+fn lf_behind(held: &[u8], len: usize) -> usize
+    requires { len < length held.now }
+    ensures lf { slice_index held.now len ≡ lf → result ≡ len }
+    ensures cr { slice_index held.now len ≢ lf → result ≡ len + 1 }
+{
+    if held[len] == b'\n' { len } else { len + 1 }
 }
 
 impl<R: Source> LineReader<R> {
@@ -86,6 +99,7 @@ impl<R: Source> LineReader<R> {
             taken: 0,
             ended: false,
             fault: None,
+            free: 0,
         }
     }
 
@@ -116,6 +130,17 @@ impl<R: Source> LineReader<R> {
         self.given
     }
 
+    /// Bytes that come next: whatever line LF ends among them, it keeps to the limits.
+    #[inline]
+    pub fn ahead(&self) -> &[u8]
+        ensures next { (behind : List ℕ) × (self.now.pending ≡ result.now ++ behind) }
+        ensures line { length result.now ≤ self.now.limits.line }
+        ensures records { self.now.given + length result.now ≤ self.now.limits.records }
+        ensures bytes { self.now.taken + length result.now ≤ self.now.limits.bytes }
+    {
+        &self.block.pending()[..self.free.saturating_sub(self.taken) as usize]
+    }
+
     // From here on each poll gives this fault.
     #[inline(never)]
     fn fail(&mut self, fault: TextFault) -> Result<Step, TextFault>
@@ -129,6 +154,7 @@ impl<R: Source> LineReader<R> {
     // Hands out the first `len` bytes as a line, but for a CR at their end, and drops `size` bytes.
     #[inline]
     fn hand_out(&mut self, len: usize, size: usize)
+        requires some { 0 < size }
         requires order { len ≤ size }
         requires within { size ≤ length self.old.pending }
         requires records { self.old.given < self.old.limits.records }
@@ -162,8 +188,41 @@ impl<R: Source> LineReader<R> {
         first_fault(&self.limits, self.given, self.taken, held)
     }
 
-    // Hands out what stands in front of the LF at `k` as a line, of which `len` bytes are left without
-    // a CR at its end, and drops it and that LF.
+    /// Gives the first `len` bytes as a line, and drops them and its line end: LF, or CR and LF.
+    #[inline]
+    pub fn take_line(&mut self, len: usize)
+        requires sound { self.old.fault ≡ None }
+        requires first { (k : ℕ) × IsFirstByte (is_byte lf) self.old.pending (Some k)
+            × (len ≡ length (without_cr (take k self.old.pending)))
+            × (self.old.taken + (k + 1) ≤ self.old.limits.bytes) }
+        requires filled { 0 < len }
+        requires short { len ≤ self.old.limits.line }
+        requires records { self.old.given < self.old.limits.records }
+        ensures gives { GivesLine self.old self.new }
+        ensures line { self.new.line ≡ take len self.old.pending }
+    {
+        let k = lf_behind(self.block.pending(), len);
+        self.give_line(k, len);
+    }
+
+    // Gives what stands in front of the LF at `k` as a line, of which `len` bytes are left without a CR at
+    // its end, and drops it and that LF.
+    #[inline]
+    fn give_line(&mut self, k: usize, len: usize)
+        requires sound { self.old.fault ≡ None }
+        requires first { IsFirstByte (is_byte lf) self.old.pending (Some k) }
+        requires len { len ≡ length (without_cr (take k self.old.pending)) }
+        requires filled { 0 < len }
+        requires short { len ≤ self.old.limits.line }
+        requires records { self.old.given < self.old.limits.records }
+        requires bytes { self.old.taken + (k + 1) ≤ self.old.limits.bytes }
+        ensures gives { GivesLine self.old self.new }
+        ensures line { self.new.line ≡ without_cr (take k self.old.pending) }
+    {
+        self.hand_out_line(k, len);
+    }
+
+    // Hands it out, whatever the line is.
     #[inline]
     fn hand_out_line(&mut self, k: usize, len: usize)
         requires within { k < length self.old.pending }
@@ -193,7 +252,7 @@ impl<R: Source> LineReader<R> {
         let piece = &self.block.pending()[..k];
         match sound_len(&self.limits, self.given, self.taken, piece) {
             Some(len) => {
-                self.hand_out_line(k, len);
+                self.give_line(k, len);
                 true
             }
             None => false,
@@ -242,6 +301,14 @@ impl<R: Source> LineReader<R> {
         }
     }
 
+    // Counts how many bytes may be handed out from here on, whatever lines they are.
+    fn count_free(&mut self)
+        ensures { self.new ≡ self.old }
+    {
+        let held = self.block.pending().len();
+        self.free = self.taken + within_limits(&self.limits, self.given, self.taken, held);
+    }
+
     // What a poll gives where no LF was read: a fault of the line so far, or what a read gives.
     #[inline(never)]
     fn read_on(&mut self) -> Result<Step, TextFault>
@@ -258,7 +325,10 @@ impl<R: Source> LineReader<R> {
                     self.ended = true;
                     self.last_line()
                 }
-                Ok(_) => Ok(Step::More),
+                Ok(_) => {
+                    self.count_free();
+                    Ok(Step::More)
+                }
             },
         }
     }

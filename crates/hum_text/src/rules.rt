@@ -1,6 +1,6 @@
 //! The rules that a text may break, line by line.
 ghost use Rattle.std.specs.Prelude.{◌≡◌, ◌≢◌, ℕ, ◌+◌, ◌-◌, ◌<◌, ◌≤◌, true, false};
-ghost use Rattle.std.specs.Prelude.{length, IfSome, IfNone, IsTrue, Some, None, ◌++◌, ◌∷◌, []};
+ghost use Rattle.std.specs.Prelude.{length, IfSome, IfNone, IsTrue, Some, None};
 ghost use Rattle.std.specs.Prelude.{slice_index};
 ghost use Rattle.hum_text.specs.Text.{lf, rule_in, rule_of_line, without_cr};
 ghost use Rattle.hum_text.specs.Text.{IsLawful, BreaksFirst};
@@ -77,10 +77,9 @@ fn is_sound(limits: &Limits, given: u64, taken: u64, held: &[u8]) -> bool
 #[inline]
 pub fn sound_len(limits: &Limits, given: u64, taken: u64, piece: &[u8]) -> Option<usize>
     requires within { taken ≤ limits.now.bytes }
-    requires one_line { (k : ℕ) → k < length piece.now → slice_index piece.now k ≢ lf }
-    ensures lawful { IfSome result
-        (λ _. IsLawful limits.now (given + 1) taken (piece.now ++ lf ∷ [])) }
     ensures len { IfSome result (λ len. len ≡ length (without_cr piece.now)) }
+    ensures filled { IfSome result (λ len. 0 < len) }
+    ensures short { IfSome result (λ len. len ≤ limits.now.line) }
     ensures records { IfSome result (λ _. given < limits.now.records) }
     ensures bytes { IfSome result (λ _. taken + (length piece.now + 1) ≤ limits.now.bytes) }
 {
@@ -92,6 +91,21 @@ pub fn sound_len(limits: &Limits, given: u64, taken: u64, piece: &[u8]) -> Optio
         return None;
     }
     Some(len)
+}
+
+/// How many of so many bytes keep to the limits, whatever lines they are.
+pub fn within_limits(limits: &Limits, given: u64, taken: u64, held: usize) -> u64
+    requires lines { given ≤ limits.now.records }
+    requires bytes { taken ≤ limits.now.bytes }
+    ensures held { result ≤ held }
+    ensures line { result ≤ limits.now.line }
+    ensures lines { given + result ≤ limits.now.records }
+    ensures bytes { taken + result ≤ limits.now.bytes }
+{
+    (held as u64)
+        .min(u64::from(limits.line))
+        .min(limits.records - given)
+        .min(limits.bytes - taken)
 }
 
 // The rule that byte k of the line breaks.

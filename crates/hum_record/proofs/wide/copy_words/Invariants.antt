@@ -1,8 +1,5 @@
-use Rattle.std.proofs.Common.{◌≡◌, ◌≤◌, ◌+◌, ◌-◌, length, take}
+use Rattle.std.proofs.Common.{◌≡◌, ◌*◌, length, take}
 use Rattle.hum_record.proofs.wide.copy_words.Given as goal
 
-abbrev pub invariant-loop-at : goal.invariant-loop-at
-invariant-loop-at l = (take l.at l.text ≡ take l.at l.held) × (length l.text ≡ length l.fn.text) × (l.at ≤ l.len + 64)
-
-abbrev pub decreases-loop-at : goal.decreases-loop-at
-decreases-loop-at l = l.len + 64 - l.at
+abbrev pub invariant-loop-k : goal.invariant-loop-k
+invariant-loop-k l = (take (64 * l.k) l.text ≡ take (64 * l.k) l.held) × (length l.text ≡ length l.fn.text)

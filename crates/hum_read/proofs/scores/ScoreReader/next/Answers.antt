@@ -1,8 +1,11 @@
-use Rattle.std.proofs.Common.{subst, None}
-use Rattle.hum_read.specs.Reading.{Scores}
-use Rattle.hum_read.specs.Steps.{given_by}
-use Rattle.hum_read.proofs.Nexting.{Nexts, stopped-nexts, line-nexts, more-nexts, end-nexts, fault-nexts}
-use Rattle.hum_read.proofs.Nexting.{tidy-on, tidy-stopped, asks-line, few-given}
+use Rattle.std.proofs.Common.{◌≡◌, ◌∙◌, ℕ, List, length, subst, sym, ap, refl, take, None, Some, Ok}
+use Rattle.hum_record.specs.Row.{text_of}
+use Rattle.hum_record.specs.Spelling.{reading}
+use Rattle.hum_read.specs.Reading.{Scores, Gave}
+use Rattle.hum_read.specs.Steps.{Nexts, given_by}
+use Rattle.hum_read.proofs.Ahead.{taking}
+use Rattle.hum_read.proofs.LineRead.{given-reads}
+use Rattle.hum_read.proofs.Nexting.{none-of, stopped-nexts, taken-nexts, tidy-taken, few-taken}
 use Rattle.hum_read.proofs.scores.ScoreReader.next.Goals as goal
 
 pub returns-then-is_some : goal.returns-then-is_some
@@ -13,86 +16,45 @@ returns-then-is_some g c =
     subst (λ v. Nexts remaining calls failed v (given_by None v.stopped) v) c.self.view_is
     (stopped-nexts remaining calls failed _ c.if-is_some.ensures)
 
-pub returns-in-Ok-Line : goal.returns-in-Ok-Line
-returns-in-Ok-Line g c =
-    let remaining = g.R.Source.remaining in
-    let calls = g.R.Source.calls in
-    let failed = g.R.Source.failed in
-    let w = c.read_line.new.self in
-    let r = given_by c.read_line.result w.stopped in
-    let read = c.read_line.ensures in
-    subst (λ v. Nexts remaining calls failed v r w) c.self.view_is
-    (line-nexts remaining calls failed _ w c.poll.new.self c.in-Ok-Line.field-0 r c.self.invariant c.if-is_some.ensures
-    c.in-Ok-Line.field-0-is c.in-Ok-Line.ensures read.lines read.stage read.stops read.told read.not_read read.gives)
-
-pub returns-in-Ok-More : goal.returns-in-Ok-More
-returns-in-Ok-More g c =
-    let remaining = g.R.Source.remaining in
-    let calls = g.R.Source.calls in
-    let failed = g.R.Source.failed in
-    let stopped = c.self.inside.stopped in
-    let w : Scores _ = record {
-      stage = c.self.inside.stage;
-      lines = c.poll.new.self;
-      spines = c.self.inside.paths;
-      stopped = stopped;
-    } in
-    subst (λ v. Nexts remaining calls failed v (given_by None stopped) w) c.self.view_is
-    (more-nexts remaining calls failed _ c.poll.new.self c.in-Ok-More.field-0 c.self.invariant c.if-is_some.ensures
-    c.in-Ok-More.field-0-is c.in-Ok-More.ensures)
-
-pub returns-in-Ok-End : goal.returns-in-Ok-End
-returns-in-Ok-End g c =
-    let remaining = g.R.Source.remaining in
-    let calls = g.R.Source.calls in
-    let failed = g.R.Source.failed in
-    let w = c.close.new.self in
-    subst (λ v. Nexts remaining calls failed v (given_by None w.stopped) w) c.self.view_is
-    (end-nexts remaining calls failed _ w c.poll.new.self c.in-Ok-End.field-0 c.self.invariant c.if-is_some.ensures
-    c.in-Ok-End.field-0-is c.in-Ok-End.ensures c.close.ensures)
-
-pub returns-in-Err : goal.returns-in-Err
-returns-in-Err g c =
-    let remaining = g.R.Source.remaining in
-    let calls = g.R.Source.calls in
-    let failed = g.R.Source.failed in
-    let stopped = c.stop.new.stopped in
-    let w : Scores _ = record {
-      stage = c.self.inside.stage;
-      lines = c.poll.new.self;
-      spines = c.self.inside.paths;
-      stopped = stopped;
-    } in
-    subst (λ v. Nexts remaining calls failed v (given_by None stopped) w) c.self.view_is
-    (fault-nexts remaining calls failed _ c.poll.new.self c.in-Err.fault c.given.result stopped c.self.invariant
-    c.if-is_some.ensures c.in-Err.ensures c.given.ensures.given c.stop.ensures)
+pub take_line-requires : goal.take_line-requires
+take_line-requires g c =
+    let lines = c.self.inside.lines in
+    let ahead = c.ahead.ensures in
+    let read = c.in-Some.ensures in
+    let going = none-of c.self.inside.stopped c.if-is_some.ensures in
+    let t = taking lines.limits lines.given lines.taken lines.pending c.ahead.result.now ahead.next.0 c.in-Some.record
+    ahead.next.1 ahead.line ahead.records ahead.bytes read in
+    rw c.text.ensures.text (record {
+      sound = c.self.invariant.going going;
+      first = (t.line.lf, t.line.first, t.size, t.bytes);
+      filled = t.filled;
+      short = t.short;
+      records = t.records;
+    })
 
 pub invariant_of-self : goal.invariant_of-self
-invariant_of-self g c =
-    tidy-on g.R.Source.remaining g.R.Source.calls g.R.Source.failed c.self.inside.lines c.poll.new.self c.self.inside.stopped c.in-Ok-Line.field-0
-    c.self.invariant c.in-Ok-Line.ensures
+invariant_of-self g c = tidy-taken c.self.inside.lines c.take_line.new.self c.self.inside.stopped c.self.invariant c.take_line.ensures.gives
 
-pub read_line-requires : goal.read_line-requires
-read_line-requires g c =
-    asks-line g.R.Source.remaining g.R.Source.calls g.R.Source.failed c.self.inside.lines c.poll.new.self c.self.inside.stopped c.in-Ok-Line.field-0
-    c.self.invariant c.if-is_some.ensures c.in-Ok-Line.field-0-is c.in-Ok-Line.ensures
-
-pub invariant_of-self-in-Ok-More : goal.invariant_of-self-in-Ok-More
-invariant_of-self-in-Ok-More g c =
-    tidy-on g.R.Source.remaining g.R.Source.calls g.R.Source.failed c.self.inside.lines c.poll.new.self c.self.inside.stopped c.in-Ok-More.field-0
-    c.self.invariant c.in-Ok-More.ensures
-
-pub invariant_of-self-in-Ok-End : goal.invariant_of-self-in-Ok-End
-invariant_of-self-in-Ok-End g c =
-    tidy-on g.R.Source.remaining g.R.Source.calls g.R.Source.failed c.self.inside.lines c.poll.new.self c.self.inside.stopped c.in-Ok-End.field-0
-    c.self.invariant c.in-Ok-End.ensures
-
-pub stop-requires : goal.stop-requires
-stop-requires g c =
-    few-given g.R.Source.remaining g.R.Source.calls g.R.Source.failed c.self.inside.lines c.poll.new.self c.self.inside.stopped c.in-Err.fault
-    c.given.result c.self.invariant c.in-Err.ensures c.given.ensures.at_most
-
-pub invariant_of-self-in-Err : goal.invariant_of-self-in-Err
-invariant_of-self-in-Err g c =
-    tidy-stopped g.R.Source.remaining g.R.Source.calls g.R.Source.failed c.self.inside.lines c.poll.new.self c.self.inside.stopped c.stop.new.stopped
-    c.in-Err.fault _ c.self.invariant c.in-Err.ensures c.stop.ensures
+pub returns-then-keeps_spines : goal.returns-then-keeps_spines
+returns-then-keeps_spines g c =
+    let remaining = g.R.Source.remaining in
+    let calls = g.R.Source.calls in
+    let failed = g.R.Source.failed in
+    let inside = c.self.inside in
+    let lines = inside.lines in
+    let new = c.take_line.new.self in
+    let row = c.in-Some.record in
+    let ahead = c.ahead.ensures in
+    let read = c.in-Some.ensures in
+    let kept = c.if-keeps_spines.ensures in
+    let given = c.take_line.ensures.gives in
+    let going = none-of inside.stopped c.if-is_some.ensures in
+    let t = taking lines.limits lines.given lines.taken lines.pending c.ahead.result.now ahead.next.0 row
+    ahead.next.1 ahead.line ahead.records ahead.bytes read in
+    let line : new.line ≡ text_of row = c.take_line.ensures.line ∙ ap (λ (text : List ℕ). take (length text) lines.pending) c.text.ensures.text ∙ t.text in
+    let v : Scores _ = record { stage = inside.stage; lines = lines; spines = inside.paths; stopped = inside.stopped } in
+    let w : Scores _ = record { stage = inside.stage; lines = new; spines = inside.paths; stopped = inside.stopped } in
+    let reads = given-reads w inside.paths row going (ap reading line ∙ read.read)
+    (kept.sound refl) (sym (kept.same refl)) (few-taken lines new inside.stopped c.self.invariant given) in
+    subst (λ u. Nexts remaining calls failed u (Ok (Gave row)) w) c.self.view_is
+    (taken-nexts remaining calls failed v new row c.self.invariant going given reads.gives)

@@ -1,4 +1,5 @@
 use Rattle.std.proofs.Common.{◌≡◌, ◌∙◌, length, ap, arith, length-take}
+use Rattle.std.proofs.lemmas.List.{take-set}
 use Rattle.hum_record.specs.Fields.{Written, ends_from}
 use Rattle.hum_record.specs.Building.{spelled}
 use Rattle.hum_record.specs.Row.{chosen}
@@ -11,7 +12,7 @@ pub returns-clause-text : goal.returns-clause-text
 returns-clause-text c =
     let size : length c.move_in_front-len.new.text ≡ c.self.inside.held.len = omega (arith, c.move_in_front-len.auto.text, c.deref_mut.ensures.len) in
     let left = rw c.deref_mut.ensures.value at c.move_in_front-len.ensures.text in
-    front_written _ _ c.move_in_front-len.new.text _ size ∙ left
+    take-set _ c.move_in_front-len.result.0 10 ∙ front_written _ _ c.move_in_front-len.new.text _ size ∙ left
     ∙ ap (λ (w : Written). spelled (chosen c.args.selection.now (parts w.text))) c.self.view_is
 
 pub returns-clause-ends : goal.returns-clause-ends
@@ -27,7 +28,7 @@ returns-clause-short c =
     let held = c.self.inside.held in
     let within = c.self.invariant.0 in
     let size : length new ≡ held.len = omega (arith, c.move_in_front-len.auto.text, c.deref_mut.ensures.len) in
-    let written = ap length (front_written c.move_in_front-len.result.0 held.len new held.items size) in
+    let written = ap length (take-set _ c.move_in_front-len.result.0 10 ∙ front_written c.move_in_front-len.result.0 held.len new held.items size) in
     let front = length-take c.move_in_front-len.result.0 new in
     let whole = take_count c.self.inside.len held.items (omega (arith, within, held.ok.0)) in
     let same = ap (λ (w : Written). length w.text) c.self.view_is in

@@ -10,7 +10,7 @@ invariant_of-self c =
     let none : take c.self.inside.count places.items ≡ [] = ap (λ (w : Written). w.ends) (c.self.view_is ∙ c.clear.ensures) in
     let few = c.self.invariant.1 in
     let is = none_counts c.self.inside.count places.items (omega (arith, few, places.ok.0)) none in
-    (c.self.invariant.0, omega (arith, is))
+    (c.self.invariant.0, omega (arith, is), c.self.invariant.2)
 
 pub returns-clause-fields : goal.returns-clause-fields
 returns-clause-fields c =

@@ -1,24 +1,26 @@
 use Rattle.std.proofs.Common.{◌≡◌, ◌∙◌, length, take, ap, sym, arith}
+use Rattle.std.proofs.lemmas.List.{take-set}
 use Rattle.hum_record.specs.Cutting.{set_places}
-use Rattle.hum_record.proofs.Held.{written_back, front_put}
+use Rattle.hum_record.proofs.Held.{written_back, front_put, ended_there}
 use Rattle.hum_record.proofs.Short.{count_places}
 use Rattle.hum_record.proofs.body.Body.put_near.Goals as goal
 
 pub put_places-requires-clause-room : goal.put_places-requires-clause-room
-put_places-requires-clause-room c =
+put_places-requires-clause-room g c =
     omega (arith, count_places 64 0 c.args.ends c.ranges.ends.fits, c.if-len-count.false, c.len-else-len-lt-NEAR.ensures, c.deref_mut-2.ensures.len)
 
 pub returns-clause-text : goal.returns-clause-text
-returns-clause-text c _ =
+returns-clause-text g c _ =
     let held = c.self.inside.held in
     let put = rw c.deref_mut.ensures.value at c.copy_near.ensures in
     let size : length c.copy_near.new.text ≡ held.len = omega (arith, c.copy_near.auto.text, c.deref_mut.ensures.len) in
-    ap (take c.args.len) (written_back held.len c.copy_near.new.text held.items size ∙ put)
-    ∙ front_put held.items c.args.held.now 64 c.args.len
-    (omega (arith, c.if-len-lt-NEAR.false, c.len.ensures, held.ok.0)) c.requires.filled (omega (arith, c.requires.short))
+    take-set _ c.args.len 10
+    ∙ ap (take c.args.len) (written_back held.len c.copy_near.new.text held.items size ∙ put)
+    ∙ front_put held.items c.args.held.now g.row.N c.args.len
+    (omega (arith, c.if-len-lt-NEAR.false, c.len.ensures, held.ok.0, c.requires.few)) c.requires.filled (omega (arith, c.requires.short))
 
 pub returns-clause-ends : goal.returns-clause-ends
-returns-clause-ends c _ =
+returns-clause-ends g c _ =
     let places = c.self.inside.places in
     let put = c.put_places.ensures in
     let is = put.count in

@@ -1,0 +1,118 @@
+-- The line in front of the bytes that come next.
+use Rattle.std.proofs.Common.{◌≡◌, ◌≢◌, ◌∙◌, ℕ, zero, suc, ◌+◌, ◌-◌, ◌<◌, ◌≤◌, ◌⊎◌, inl, inr, ⊎_elim, Bool, true, false}
+use Rattle.std.proofs.Common.{List, [], ◌∷◌, ◌++◌, length, take, get_or, refl, sym, ap, subst, arith, Ok, length-append}
+use Rattle.std.specs.Prelude.{◌==◌}
+use Rattle.std.proofs.lemmas.Bool.{cases_Bool, eqb-true, or_parts}
+use Rattle.std.proofs.lemmas.List.{get_or_append_left, take-append-le, take_more, take_at, length-take-le}
+use Rattle.hum_text.specs.declared.Limits.{Limits}
+use Rattle.hum_text.specs.Text.{without_cr, ends_in_cr}
+use Rattle.hum_record.specs.Row.{Row, text_of}
+use Rattle.hum_record.specs.Spelling.{has_byte, reading}
+use Rattle.hum_record.specs.Lines.{IsLine, IsRead}
+
+-- no byte of a text is CR that is read as a record
+no-return : (text : List ℕ) (row : Row) → reading text ≡ Ok row → has_byte 13 text ≡ false
+no-return text row read = elim (cases_Bool (has_byte 13 text)) as (λ _. has_byte 13 text ≡ false) [
+  | inl is ↦ let both = rw is at read in absurd cc
+  | inr none ↦ none
+]
+
+none-empty : (row : Row) → reading [] ≡ Ok row → ⊥
+none-empty row read = cc
+
+some-text : (text : List ℕ) (row : Row) → reading text ≡ Ok row → 0 < length text
+some-text [] row read = absurd (none-empty row read)
+some-text (b ∷ text) row read = omega arith
+
+not-there : (b k : ℕ) (xs : List ℕ) → has_byte b xs ≡ false → k < length xs → (get_or xs k 0 == b) ≡ false
+not-there b k [] none less = absurd (omega (arith, less))
+not-there b zero (x ∷ xs) none less = (or_parts (x == b) (has_byte b xs) none).0
+not-there b (suc k) (x ∷ xs) none less = not-there b k xs (or_parts (x == b) (has_byte b xs) none).1 (omega (arith, less))
+
+-- a text without CR, and one with CR behind it
+keeps-text : (text : List ℕ) → has_byte 13 text ≡ false → 0 < length text → without_cr text ≡ text
+keeps-text text none some =
+    let other : ends_in_cr text ≡ false = not-there 13 (length text - 1) text none (omega (arith, some)) in
+    rw other refl
+
+last-of : (xs : List ℕ) → (get_or (xs ++ 13 ∷ []) (length xs) 0 == 13) ≡ true
+last-of [] = refl
+last-of (x ∷ xs) = last-of xs
+
+drops-cr : (text : List ℕ) → without_cr (text ++ 13 ∷ []) ≡ text
+drops-cr text =
+    let size : length (text ++ 13 ∷ []) - 1 ≡ length text = omega (arith, length-append text (13 ∷ [])) in
+    let is : ends_in_cr (text ++ 13 ∷ []) ≡ true = ap (λ n. get_or (text ++ 13 ∷ []) n 0 == 13) size ∙ last-of text in
+    rw is (take_at text (13 ∷ []) _ (sym size))
+
+line_before : (held : List ℕ) (len : ℕ) → (line : IsLine held len) → len ≤ line.lf
+line_before held len line = ⊎_elim (λ same. omega (arith, same)) (λ one. let more = one.0 in omega (arith, more)) line.text
+
+-- a line stands there too where more bytes stand behind
+longer : (held behind : List ℕ) (len : ℕ) → IsLine held len → IsLine (held ++ behind) len
+longer held behind len line =
+    let within : line.lf < length held = line.first.0.high in
+    let before = line_before held len line in
+    record {
+      lf = line.lf;
+      first = (
+        record {
+          low = omega arith;
+          high = omega (arith, within, length-append held behind);
+          before = λ k low less passes. line.first.0.before k low less
+              (ap (λ x. x == 10) (sym (get_or_append_left held behind 0 k (omega (arith, less, within)))) ∙ passes);
+        },
+        ap (λ x. x == 10) (get_or_append_left held behind 0 line.lf within) ∙ line.first.1,
+      );
+      text = ⊎_elim (λ same. inl same)
+          (λ one.
+          let more = one.0 in
+          inr (more, get_or_append_left held behind 0 len (omega (arith, more, within)) ∙ one.1))
+          line.text;
+    }
+
+-- What is asked where a line is taken, and what it is then.
+pub record Taking (limits : Limits) (given taken : ℕ) (pending : List ℕ) (row : Row) : Type 0 where
+  pub line : IsLine pending (length (text_of row))
+  pub text : take (length (text_of row)) pending ≡ text_of row
+  pub size : length (text_of row) ≡ length (without_cr (take line.lf pending))
+  pub filled : 0 < length (text_of row)
+  pub short : length (text_of row) ≤ limits.line
+  pub records : given < limits.records
+  pub bytes : taken + (line.lf + 1) ≤ limits.bytes
+
+pub taking : (limits : Limits) (given taken : ℕ) (pending held behind : List ℕ) (row : Row) → pending ≡ held ++ behind
+    → length held ≤ limits.line → given + length held ≤ limits.records → taken + length held ≤ limits.bytes
+    → IsRead held row → Taking limits given taken pending row
+unfolding longer
+taking limits given taken pending held behind row is most records bytes read =
+    let text = text_of row in
+    let len = length text in
+    let line = read.line in
+    let lf = line.lf in
+    let within : lf < length held = line.first.0.high in
+    let before : len ≤ lf = line_before held len line in
+    let some = some-text text row read.read in
+    let none = no-return text row read.read in
+    let kept : without_cr text ≡ text = keeps-text text none some in
+    let clean : without_cr (take lf held) ≡ text = ⊎_elim
+    (λ same. ap (λ n. without_cr (take n held)) same ∙ ap without_cr read.text ∙ kept)
+    (λ one.
+    let more = one.0 in
+    let piece : take lf held ≡ text ++ 13 ∷ [] =
+    ap (λ n. take n held) more ∙ take_more held len 0 (omega (arith, more, within))
+    ∙ ap (λ (b : ℕ). take len held ++ b ∷ []) one.1 ∙ ap (λ (xs : List ℕ). xs ++ 13 ∷ []) read.text in
+    ap without_cr piece ∙ drops-cr text)
+    line.text in
+    let all : without_cr (take lf (held ++ behind)) ≡ text =
+    ap without_cr (take-append-le lf held behind (omega (arith, within))) ∙ clean in
+    let front : take len (held ++ behind) ≡ text = take-append-le len held behind (omega (arith, before, within)) ∙ read.text in
+    subst (λ (xs : List ℕ). Taking limits given taken xs row) (sym is) (record {
+      line = longer held behind len line;
+      text = front;
+      size = sym (ap length all);
+      filled = some;
+      short = omega (arith, before, within, most);
+      records = omega (arith, within, records);
+      bytes = omega (arith, within, bytes);
+    })
