@@ -150,8 +150,12 @@ impl Stage for CommandStage {
     }
 
     #[inline(always)]
-    fn put_and_ask(&mut self, next: Record) -> Result<Readiness, AllocError> {
-        each!(self, stage => stage.put_and_ask(next))
+    fn put_and_take(
+        &mut self,
+        next: Record,
+        pool: &mut Spare,
+    ) -> Result<(Option<Record>, Readiness), AllocError> {
+        each!(self, stage => stage.put_and_take(next, pool))
     }
 
     #[inline(always)]

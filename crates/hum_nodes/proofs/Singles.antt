@@ -1,8 +1,9 @@
 -- What a stage of one input stands for, as a node.
 use Rattle.std.proofs.Common.{◌≡◌, ◌∙◌, refl, sym, ap, subst, ℕ, suc, ◌<◌, ◌≤◌, Bool, true}
 use Rattle.std.proofs.Common.{false, if◌then◌else◌, nat_lt, List, [], ◌∷◌, ◌++◌, length, Option, Some}
-use Rattle.std.proofs.Common.{None, unwrap_or, arith, length-append, ◌⊎◌, ⊎_elim}
-use Rattle.std.proofs.lemmas.Bool.{false≢true}
+use Rattle.std.proofs.Common.{None, unwrap_or, arith, length-append, ◌⊎◌, ⊎_elim, slice_get, lt-ltb, ◌+◌}
+use Rattle.std.proofs.lemmas.Bool.{false≢true, cond-true}
+use Rattle.std.proofs.lemmas.Option.{slice_get_within}
 use Rattle.hum_record.specs.Row.{Row}
 use Rattle.hum_stage.specs.declared.faults.End.{End}
 use Rattle.hum_stage.specs.declared.faults.End.TheVariants.{Closed, Broken}
@@ -10,13 +11,15 @@ use Rattle.hum_stage.specs.declared.faults.Fault.{Fault}
 use Rattle.hum_stage.specs.declared.faults.State.{State}
 use Rattle.hum_stage.specs.declared.faults.State.TheVariants as state
 use Rattle.hum_stage.specs.declared.faults.Readiness.{Readiness}
-use Rattle.hum_stage.specs.Meaning.{Moment, output, own_fault, state_of, resting_state, readiness_by, ShowsReadiness}
+use Rattle.hum_stage.specs.Meaning.{Meaning, Moment, output, own_fault, state_of, resting_state, readiness_by, ShowsReadiness}
+use Rattle.hum_stage.specs.Meaning.{all_of, held_at, after_take, TookFirst}
 use Rattle.hum_turns.specs.Flow.{Flow, AllFine}
 use Rattle.hum_turns.specs.Plan.{lower, or_own, end_of}
 use Rattle.hum_nodes.specs.Doing.{Doing, Gives, Reads, Wants, Done}
+use Rattle.hum_nodes.specs.declared.node.Ahead.{Ahead}
 use Rattle.hum_nodes.specs.Fine.{fine, IsFine}
-use Rattle.hum_nodes.specs.At.{Kind, At, doing_by, doing_of, readiness_of, change_at, MayChange}
-use Rattle.hum_nodes.specs.Single.{want_by, own_end, single, IsSingle, readiness_for}
+use Rattle.hum_nodes.specs.At.{Kind, At, doing_by, doing_of, output_of, holds_of, readiness_of, change_at, MayChange}
+use Rattle.hum_nodes.specs.Single.{want_by, own_end, single, IsSingle, HasAhead, IsAhead, readiness_for}
 use Rattle.hum_nodes.proofs.Fining.{fine_is}
 
 pub doing_for : State → Doing
@@ -94,6 +97,88 @@ unfolding is_wants
 not_ended true o e h = absurd (false≢true (ap is_wants h))
 not_ended false o None h = refl
 not_ended false o (Some e) h = absurd (false≢true (ap is_wants h))
+
+gives_flag : Doing → Bool
+gives_flag Gives = true
+gives_flag Reads = false
+gives_flag (Wants p) = false
+gives_flag (Done e) = false
+
+gives_not_wants : (p : ℕ) → Gives ≡ Wants p → ⊥
+unfolding gives_flag
+gives_not_wants p h = false≢true (sym (ap gives_flag h))
+
+gives_not_done : (e : End) → Gives ≡ Done e → ⊥
+unfolding gives_flag
+gives_not_done e h = false≢true (sym (ap gives_flag h))
+
+-- Where it isn't about to give, no record was taken ahead.
+
+gives_if : (t : At) (row : Row) → Some row ≡ slice_get (output_of t) t.given → doing_of t ≡ Gives
+gives_if t row h =
+    cond-true _ _ _ (lt-ltb t.given (length (output_of t)) (slice_get_within (output_of t) t.given row (sym h)))
+
+pub not_ahead : (stands : Moment → Type 0) (from : ℕ) (ahead : Option Ahead) (t : At) → IsAhead stands from ahead t
+    → (doing_of t ≡ Gives → ⊥) → (ahead ≡ None) × IsSingle stands from t
+not_ahead stands from None t h other = (refl, h)
+not_ahead stands from (Some ahead) t h other = absurd (other (gives_if t ahead.row h.next))
+
+pub wants_alone : (stands : Moment → Type 0) (from : ℕ) (ahead : Option Ahead) (t : At) (place : ℕ)
+    → IsAhead stands from ahead t → doing_of t ≡ Wants place → (ahead ≡ None) × IsSingle stands from t
+wants_alone stands from ahead t place h is =
+    not_ahead stands from ahead t h (λ e. gives_not_wants place (sym e ∙ is))
+
+pub done_alone : (stands : Moment → Type 0) (from : ℕ) (ahead : Option Ahead) (t : At) (end : End)
+    → IsAhead stands from ahead t → doing_of t ≡ Done end → IsSingle stands from t
+done_alone stands from ahead t end h is =
+    (not_ahead stands from ahead t h (λ e. gives_not_done end (sym e ∙ is))).1
+
+-- It is the stage of one input, whether a record was taken ahead or not.
+pub kind_is : (stands : Moment → Type 0) (from : ℕ) (ahead : Option Ahead) (t : At) → IsAhead stands from ahead t
+    → (m : Meaning) × (t.kind ≡ single from m)
+kind_is stands from None t h = (h.moment.meaning, h.kind)
+kind_is stands from (Some ahead) t h = (h.behind.moment.meaning, h.behind.kind)
+
+-- What is settled and what is held is what the stage tells,
+output_is : (stands : Moment → Type 0) (from : ℕ) (t : At) (h : IsSingle stands from t) → output_of t ≡ all_of h.moment
+output_is stands from t h =
+    ap (λ (k : Kind). k.stage.output t.read t.inputs) h.kind
+    ∙ ap (λ i. (single from h.moment.meaning).stage.output t.read i) h.inputs
+
+pub holds_is : (stands : Moment → Type 0) (from : ℕ) (t : At) (h : IsSingle stands from t)
+    → holds_of t ≡ held_at h.moment
+holds_is stands from t h =
+    let m = h.moment in
+    let a : List (Flow Row) = record { items = m.put; end = m.ended } ∷ [] in
+    ap (λ (k : Kind). k.holds t.inputs t.given) h.kind
+    ∙ ap (λ i. (single from m.meaning).holds i t.given) h.inputs
+    ∙ ap (λ g. (single from m.meaning).holds a g) h.given
+
+-- so that what it has given first may be kept ahead,
+pub took_ahead : (stands : Moment → Type 0) (from : ℕ) (ahead : Ahead) (t : At) (m : Moment)
+    → t.kind ≡ single from m.meaning → t.inputs ≡ record { items = m.put; end = m.ended } ∷ [] → t.given ≡ m.given
+    → TookFirst stands m ahead.row → ShowsReadiness stands ahead.behind
+    → HasAhead stands from ahead t × (doing_of t ≡ Gives)
+took_ahead stands from ahead t m kind inputs given took asked =
+    let h : IsSingle (λ x. x ≡ m) from t =
+    record { moment = m; stand = refl; kind = kind; inputs = inputs; given = given } in
+    let next : Some ahead.row ≡ slice_get (output_of t) t.given =
+    took.next ∙ ap (slice_get (all_of m)) (sym given)
+    ∙ ap (λ l. slice_get l t.given) (sym (output_is (λ x. x ≡ m) from t h)) in (
+      record {
+        next = next;
+        held = holds_is (λ x. x ≡ m) from t h ∙ took.held;
+        behind = record {
+          moment = after_take m;
+          stand = took.stand;
+          kind = kind;
+          inputs = inputs;
+          given = ap (λ n. n + 1) given;
+        };
+        asked = asked;
+      },
+      gives_if t ahead.row next,
+    )
 
 -- and the stage may be given what the node may be given.
 pub record Changes (t : At) (m : Moment) (change : Flow Row → Flow Row) (place : ℕ)

@@ -1,18 +1,19 @@
 -- A stage of one input as a stage of a plan.
-use Rattle.std.specs.Prelude.{◌≡◌, ℕ, Bool, false, List, [], ◌∷◌, Option, Some, None, is_some}
+use Rattle.std.specs.Prelude.{◌≡◌, ℕ, Bool, false, List, [], ◌∷◌, Option, Some, None, is_some, slice_get}
 use Rattle.hum_record.specs.Row.{Row}
 use Rattle.hum_stage.specs.declared.faults.End.{End}
 use Rattle.hum_stage.specs.declared.faults.End.TheVariants.{Closed, Broken}
 use Rattle.hum_stage.specs.declared.faults.Fault.{Fault}
 use Rattle.hum_stage.specs.Outcome.{held_of}
-use Rattle.hum_stage.specs.Meaning.{Meaning, Moment, output, own_fault}
+use Rattle.hum_stage.specs.Meaning.{Meaning, Moment, output, own_fault, ShowsReadiness}
 use Rattle.hum_turns.specs.Flow.{Flow}
 use Rattle.hum_turns.specs.Plan.{Want, Source, Nothing}
 use Rattle.hum_stage.specs.declared.faults.Readiness.{Readiness as StageReadiness}
 use Rattle.hum_stage.specs.declared.faults.Readiness.TheVariants as stage
 use Rattle.hum_nodes.specs.declared.node.Readiness.{Readiness}
 use Rattle.hum_nodes.specs.declared.node.Readiness.TheVariants as node
-use Rattle.hum_nodes.specs.At.{Kind, At}
+use Rattle.hum_nodes.specs.declared.node.Ahead.{Ahead}
+use Rattle.hum_nodes.specs.At.{Kind, At, output_of, holds_of, after_take}
 
 -- the records of the first input
 abbrev pub items_of : List (Flow Row) → List Row
@@ -57,6 +58,19 @@ pub record IsSingle (stands : Moment → Type 0) (from : ℕ) (t : At) : Type 0 
   pub kind : t.kind ≡ single from moment.meaning
   pub inputs : t.inputs ≡ record { items = moment.put; end = moment.ended } ∷ []
   pub given : t.given ≡ moment.given
+
+-- The record that follows those given was taken of the stage ahead, the last one that was held, and it is
+-- known what the stage is ready for behind it.
+pub record HasAhead (stands : Moment → Type 0) (from : ℕ) (ahead : Ahead) (t : At) : Type 0 where
+  pub next : Some ahead.row ≡ slice_get (output_of t) t.given
+  pub held : holds_of t ≡ 1
+  pub behind : IsSingle stands from (after_take t)
+  pub asked : ShowsReadiness stands ahead.behind
+
+-- the same where nothing may have been taken ahead
+abbrev pub IsAhead : (Moment → Type 0) → ℕ → Option Ahead → At → Type 0
+IsAhead stands from None t = IsSingle stands from t
+IsAhead stands from (Some ahead) t = HasAhead stands from ahead t
 
 -- What the node does next whose stage is ready for this: it takes from its one input.
 abbrev pub readiness_for : StageReadiness → Readiness

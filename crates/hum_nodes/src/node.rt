@@ -49,10 +49,18 @@ pub struct Node<S, R> {
 enum Work<S, R> {
     /// A score is read.
     Read(ScoreReader<R>),
-    /// A command, and the stage that it reads from.
-    Command(S, usize),
+    /// A command, the stage that it reads from, and what was taken of it ahead.
+    Command(S, usize, Option<Ahead>),
     /// Scores are put side by side, those of these stages.
     Assemble(Assemble, Vec<usize>),
+}
+
+/// The record that a command gives next, which was taken as its input was put, and what the command is ready
+/// for behind it.
+#[derive(Drop)]
+struct Ahead {
+    row: Record,
+    behind: StageReadiness,
 }
 
 /// What a node does next whose command is ready for this: it reads from one stage.
@@ -119,7 +127,7 @@ impl<S: Stage + Drop, R: Source + Drop> Node<S, R> {
     {
         let readiness = of_stage(stage.readiness());
         Node {
-            work: Work::Command(stage, source),
+            work: Work::Command(stage, source, None),
             readiness,
         }
     }
@@ -176,7 +184,7 @@ impl<S: Stage + Drop, R: Source + Drop> Node<S, R> {
     {
         let state = match &self.work {
             Work::Read(_) => unreachable!(),
-            Work::Command(stage, _) => stage.state(),
+            Work::Command(stage, ..) => stage.state(),
             Work::Assemble(stage, _) => stage.state(),
         };
         match state {
@@ -196,7 +204,7 @@ impl<S: Stage + Drop, R: Source + Drop> Node<S, R> {
     {
         match &self.work {
             Work::Read(_) => unreachable!(),
-            Work::Command(_, source) => *source,
+            Work::Command(_, source, _) => *source,
             Work::Assemble(_, sources) => sources[place],
         }
     }
@@ -209,7 +217,7 @@ impl<S: Stage + Drop, R: Source + Drop> Node<S, R> {
     {
         match &self.work {
             Work::Read(_) => {}
-            Work::Command(_, source) => note(takers, *source, number),
+            Work::Command(_, source, _) => note(takers, *source, number),
             Work::Assemble(_, sources) => {
                 for &source in sources {
                     note(takers, source, number);
@@ -230,7 +238,8 @@ impl<S: Stage + Drop, R: Source + Drop> Node<S, R> {
     {
         match &self.work {
             Work::Read(_) => unreachable!(),
-            Work::Command(stage, _) => stage.held(),
+            Work::Command(_, _, Some(_)) => 1,
+            Work::Command(stage, _, None) => stage.held(),
             Work::Assemble(stage, _) => stage.held(),
         }
     }
@@ -249,7 +258,11 @@ impl<S: Stage + Drop, R: Source + Drop> Node<S, R> {
     {
         match &mut self.work {
             Work::Read(_) => unreachable!(),
-            Work::Command(stage, _) => {
+            Work::Command(stage, _, ahead) => {
+                if let Some(Ahead { row, behind }) = ahead.take() {
+                    self.readiness = of_stage(behind);
+                    return Ok(Some(row));
+                }
                 let (taken, readiness) = stage.take_and_ask(pool)?;
                 self.readiness = of_stage(readiness);
                 Ok(taken)
@@ -277,9 +290,15 @@ impl<S: Stage + Drop, R: Source + Drop> Node<S, R> {
     {
         match &mut self.work {
             Work::Read(_) => unreachable!(),
-            Work::Command(stage, _) => {
-                let readiness = stage.put_and_ask(next)?;
-                self.readiness = of_stage(readiness);
+            Work::Command(stage, _, ahead) => {
+                let (first, behind) = stage.put_and_take(next, pool)?;
+                match first {
+                    Some(row) => {
+                        *ahead = Some(Ahead { row, behind });
+                        self.readiness = Readiness::Gives;
+                    }
+                    None => self.readiness = of_stage(behind),
+                }
             }
             Work::Assemble(stage, _) => {
                 stage.put(place, next)?;
@@ -302,7 +321,7 @@ impl<S: Stage + Drop, R: Source + Drop> Node<S, R> {
     {
         match &mut self.work {
             Work::Read(_) => unreachable!(),
-            Work::Command(stage, _) => {
+            Work::Command(stage, ..) => {
                 stage.end(end);
                 self.readiness = of_stage(stage.readiness());
             }

@@ -111,12 +111,25 @@ pub record MayEnd (stands : Moment → Type 0) (e : End) : Type 0 where
   pub wants : state_of at ≡ Wants
   pub closed : e ≡ Closed → IsClosed at.put
 
+-- the record that comes next was taken, the last one that was held
+pub record TookFirst (after : Moment → Type 0) (t : Moment) (first : Row) : Type 0 where
+  pub next : Some first ≡ slice_get (all_of t) t.given
+  pub held : held_at t ≡ 1
+  pub stand : after (after_take t)
+
 -- The calls of a stage, by what it stands for before and after.
 
 -- the input goes on with this record
 abbrev pub HasPut : (Moment → Type 0) → (Moment → Type 0) → Row → Type 0
 HasPut before after row =
     (t : Moment) → before t → t.ended ≡ None → IsScore (t.put ++ row ∷ []) → after (after_put t row)
+
+-- The input goes on with this record, and the first of what was settled by then was taken, or none. Until
+-- it was taken one record was held.
+abbrev pub HasPutAndTaken : (Moment → Type 0) → (Moment → Type 0) → Row → Option Row → Type 0
+HasPutAndTaken before after row taken =
+    (t : Moment) → before t → t.ended ≡ None → IsScore (t.put ++ row ∷ [])
+    → MatchOption taken (after (after_put t row)) (λ first. TookFirst after (after_put t row) first)
 
 -- the input has ended
 abbrev pub HasEnded : (Moment → Type 0) → (Moment → Type 0) → End → Type 0

@@ -160,6 +160,19 @@ impl<C: Decides> Stage for AtOnce<C> {
         Ok(next)
     }
 
+    #[inline(never)]
+    fn put_and_take(
+        &mut self,
+        next: Record,
+        pool: &mut Spare,
+    ) -> Result<(Option<Record>, Readiness), AllocError> {
+        self.put(next)?;
+        if self.held() != 1 {
+            return Ok((None, self.readiness()));
+        }
+        self.take_and_ask(pool)
+    }
+
     #[inline(always)]
     fn take_and_ask(
         &mut self,

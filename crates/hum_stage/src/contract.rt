@@ -6,7 +6,7 @@
 //! of its whole input, and it is all of it once the stage is done.
 ghost use Rattle.std.specs.Prelude.{◌≡◌, ℕ, ◌≤◌, ◌⊎◌, length, IfOk, OnOk, OnErr, IsErr};
 ghost use Rattle.hum_stage.specs.Meaning.{Moment, IsLawful, MayPut, MayEnd, all_of};
-ghost use Rattle.hum_stage.specs.Meaning.{HasPut, HasEnded, HasTaken, LeavesFewer, ShowsHeld};
+ghost use Rattle.hum_stage.specs.Meaning.{HasPut, HasPutAndTaken, HasEnded, HasTaken, LeavesFewer, ShowsHeld};
 ghost use Rattle.hum_stage.specs.Meaning.{ShowsState, ShowsReadiness};
 
 use crate::faults::{End, Readiness, State};
@@ -59,19 +59,24 @@ pub trait Stage {
     fn held(&self) -> usize
         ensures { ShowsHeld (stands self.now) result };
 
-    /// Puts one record more, as [`Stage::put`] does, and tells what it is ready for then.
+    /// Puts one record more, as [`Stage::put`] does, takes at once the first record that it settles, if it
+    /// is easily had, and tells what it is ready for then.
     // A function of its own for each command: in one for all of them each record would pay for the
     // registers and the room on the stack that any of them takes.
     #[inline(never)]
-    fn put_and_ask(&mut self, next: Record) -> Result<Readiness, AllocError>
+    fn put_and_take(
+        &mut self,
+        next: Record,
+        _pool: &mut Spare,
+    ) -> Result<(Option<Record>, Readiness), AllocError>
         requires { spent self.old ⊎ MayPut (stands self.old) next }
-        ensures ok { OnOk result (HasPut (stands self.old) (stands self.new) next) }
-        ensures ready { IfOk result (ShowsReadiness (stands self.new)) }
+        ensures ok { IfOk result (λ r. HasPutAndTaken (stands self.old) (stands self.new) next r.0) }
+        ensures ready { IfOk result (λ r. ShowsReadiness (stands self.new) r.1) }
         ensures err { OnErr result (spent self.new) }
         ensures stays_spent { spent self.old → IsErr result }
     {
         self.put(next)?;
-        Ok(self.readiness())
+        Ok((None, self.readiness()))
     }
 
     /// Takes the next record that is settled, as [`Stage::take`] does, and tells what it is ready for

@@ -1,20 +1,22 @@
-use Rattle.std.proofs.Common.{◌∙◌, inr, subst, sym}
+use Rattle.std.proofs.Common.{◌∙◌, inr, subst, sym, ap}
+use Rattle.std.proofs.lemmas.Option.{MatchOption-at_some, MatchOption-at_none}
 use Rattle.std.specs.Prelude.{◌++◌, ◌∷◌, [], ◌<◌, length}
 use Rattle.hum_stage.specs.Meaning.{after_put}
 use Rattle.hum_stage.specs.Score.{IsScore}
 use Rattle.hum_assemble.specs.Standing.{Stands}
-use Rattle.hum_nodes.specs.Single.{IsSingle}
-use Rattle.hum_nodes.specs.At.{after_change, with_record}
+use Rattle.hum_nodes.specs.Single.{IsSingle, IsAhead}
+use Rattle.hum_nodes.specs.At.{after_change, with_record, readiness_of}
 use Rattle.hum_nodes.specs.Nodes.{WorksAs}
 use Rattle.hum_nodes.proofs.Singles as single
 use Rattle.hum_nodes.proofs.Mergings as merging
 use Rattle.hum_nodes.proofs.node.Node.put.Goals as goal
 
-pub put_and_ask-requires : goal.put_and_ask-requires
-put_and_ask-requires g c =
+pub put_and_take-requires : goal.put_and_take-requires
+put_and_take-requires g c =
     let stands = g.S.Stage.stands c.in-Command.stage in
-    let h = subst (λ w. WorksAs g.S.Stage.stands w [] c.requires.may.at) c.in-Command.is
-    c.requires.may.stand.works in
+    let h = (single.wants_alone stands c.in-Command.field-1 c.in-Command.ahead c.requires.may.at c.args.place
+    (subst (λ w. WorksAs g.S.Stage.stands w [] c.requires.may.at) c.in-Command.is c.requires.may.stand.works)
+    c.requires.may.holds.wants).1 in
     let k = single.changes stands c.in-Command.field-1 c.requires.may.at h (with_record c.args.next)
     c.args.place c.requires.may.holds in
     inr (record {
@@ -41,22 +43,6 @@ put-requires g c =
           (single.few_before k.input.items c.args.next 4294967295 k.fine.few);
     })
 
-pub returns-in_ok-readiness-in-Command-clause-put : goal.returns-in_ok-readiness-in-Command-clause-put
-returns-in_ok-readiness-in-Command-clause-put g c rest t h may =
-    let stands = g.S.Stage.stands c.in-Command.stage in
-    let w = subst (λ w. WorksAs g.S.Stage.stands w rest t) c.in-Command.is h.works in
-    let k = single.changes stands c.in-Command.field-1 t w (with_record c.args.next) c.args.place may in
-    let works : IsSingle (g.S.Stage.stands c.put_and_ask.new.self) c.in-Command.field-1
-    (after_change (with_record c.args.next) c.args.place t) = record {
-      moment = after_put w.moment c.args.next;
-      stand = c.in_ok-readiness-in-Command.ensures.ok w.moment w.stand k.ended k.fine.score;
-      kind = w.kind;
-      inputs = k.inputs;
-      given = w.given;
-    } in
-    record { works = works; knows = c.of_stage-self.ensures
-      ∙ single.readiness_is _ c.in_ok-readiness-in-Command.readiness c.in_ok-readiness-in-Command.ensures.ready c.in-Command.field-1 _ works }
-
 pub returns-after-done_with-clause-put : goal.returns-after-done_with-clause-put
 returns-after-done_with-clause-put g c rest t h may =
     let stands = Stands c.in-Assemble.stage in
@@ -67,3 +53,43 @@ returns-after-done_with-clause-put g c rest t h may =
     c.args.place c.args.next w.moment w.kind w.inputs w.given
     (rw c.done_with.ensures (c.in_ok-put-in-Assemble.ensures.ok w.moment w.stand k.wants)) in
     record { works = works; knows = c.of_assemble-self.ensures c.in-Assemble.field-1.items _ works }
+
+-- A command that wants has given all, so nothing was taken ahead.
+
+pub returns-in-Some-clause-put : goal.returns-in-Some-clause-put
+returns-in-Some-clause-put g c rest t h may =
+    let stands = g.S.Stage.stands c.in-Command.stage in
+    let alone = single.wants_alone stands c.in-Command.field-1 c.in-Command.ahead t c.args.place
+    (subst (λ w. WorksAs g.S.Stage.stands w rest t) c.in-Command.is h.works) may.wants in
+    let w = alone.1 in
+    let k = single.changes stands c.in-Command.field-1 t w (with_record c.args.next) c.args.place may in
+    let took = MatchOption-at_some _ _ c.in-Some.row c.in-Some.is
+    (c.in_ok-first-in-Command.ensures.ok w.moment w.stand k.ended k.fine.score) in
+    let both = single.took_ahead (g.S.Stage.stands c.put_and_take.new.self) c.in-Command.field-1
+    (record { row = c.in-Some.row; behind = c.in_ok-first-in-Command.behind })
+    (after_change (with_record c.args.next) c.args.place t) (after_put w.moment c.args.next)
+    w.kind k.inputs w.given took c.in_ok-first-in-Command.ensures.ready in
+    record { works = both.0; knows = sym (ap readiness_of both.1) }
+
+pub returns-in-None-clause-put : goal.returns-in-None-clause-put
+returns-in-None-clause-put g c rest t h may =
+    let stands = g.S.Stage.stands c.in-Command.stage in
+    let alone = single.wants_alone stands c.in-Command.field-1 c.in-Command.ahead t c.args.place
+    (subst (λ w. WorksAs g.S.Stage.stands w rest t) c.in-Command.is h.works) may.wants in
+    let w = alone.1 in
+    let k = single.changes stands c.in-Command.field-1 t w (with_record c.args.next) c.args.place may in
+    let after = after_change (with_record c.args.next) c.args.place t in
+    let works : IsSingle (g.S.Stage.stands c.put_and_take.new.self) c.in-Command.field-1 after = record {
+      moment = after_put w.moment c.args.next;
+      stand = MatchOption-at_none _ _ c.in-None.is
+          (c.in_ok-first-in-Command.ensures.ok w.moment w.stand k.ended k.fine.score);
+      kind = w.kind;
+      inputs = k.inputs;
+      given = w.given;
+    } in
+    record {
+      works = subst (λ a. IsAhead (g.S.Stage.stands c.put_and_take.new.self) c.in-Command.field-1 a after) (sym alone.0) works;
+      knows = c.of_stage-self.ensures
+          ∙ single.readiness_is _ c.in_ok-first-in-Command.behind c.in_ok-first-in-Command.ensures.ready
+          c.in-Command.field-1 _ works;
+    }

@@ -3,7 +3,7 @@ use Rattle.std.specs.Prelude.{[], Some}
 use Rattle.hum_stage.specs.Meaning.{after_end}
 use Rattle.hum_stage.specs.Score.{IsClosed}
 use Rattle.hum_assemble.specs.Standing.{Stands}
-use Rattle.hum_nodes.specs.Single.{IsSingle}
+use Rattle.hum_nodes.specs.Single.{IsSingle, IsAhead}
 use Rattle.hum_nodes.specs.At.{after_change, with_end}
 use Rattle.hum_nodes.specs.Nodes.{WorksAs}
 use Rattle.hum_nodes.proofs.Singles as single
@@ -13,8 +13,9 @@ use Rattle.hum_nodes.proofs.node.Node.stop.Goals as goal
 pub end-requires : goal.end-requires
 end-requires g c =
     let stands = g.S.Stage.stands c.in-Command.stage in
-    let h = subst (λ w. WorksAs g.S.Stage.stands w [] c.requires.may.at) c.in-Command.is
-    c.requires.may.stand.works in
+    let h = (single.wants_alone stands c.in-Command.field-1 c.in-Command.field-2 c.requires.may.at c.args.place
+    (subst (λ w. WorksAs g.S.Stage.stands w [] c.requires.may.at) c.in-Command.is c.requires.may.stand.works)
+    c.requires.may.holds.wants).1 in
     let k = single.changes stands c.in-Command.field-1 c.requires.may.at h (with_end c.args.end)
     c.args.place c.requires.may.holds in
     inr (record {
@@ -41,18 +42,23 @@ end-requires-in-Assemble g c =
 pub returns-in-Command-clause-stopped : goal.returns-in-Command-clause-stopped
 returns-in-Command-clause-stopped g c rest t h may =
     let stands = g.S.Stage.stands c.in-Command.stage in
-    let w = subst (λ w. WorksAs g.S.Stage.stands w rest t) c.in-Command.is h.works in
+    let alone = single.wants_alone stands c.in-Command.field-1 c.in-Command.field-2 t c.args.place
+    (subst (λ w. WorksAs g.S.Stage.stands w rest t) c.in-Command.is h.works) may.wants in
+    let w = alone.1 in
     let k = single.changes stands c.in-Command.field-1 t w (with_end c.args.end) c.args.place may in
-    let works : IsSingle (g.S.Stage.stands c.end.new.self) c.in-Command.field-1
-    (after_change (with_end c.args.end) c.args.place t) = record {
+    let after = after_change (with_end c.args.end) c.args.place t in
+    let works : IsSingle (g.S.Stage.stands c.end.new.self) c.in-Command.field-1 after = record {
       moment = after_end w.moment c.args.end;
       stand = c.end.ensures.ended w.moment w.stand k.ended;
       kind = w.kind;
       inputs = k.inputs;
       given = w.given;
     } in
-    record { works = works; knows = c.of_stage-self.ensures
-      ∙ single.readiness_is _ c.readiness.result c.readiness.ensures c.in-Command.field-1 _ works }
+    record {
+      works = subst (λ a. IsAhead (g.S.Stage.stands c.end.new.self) c.in-Command.field-1 a after) (sym alone.0) works;
+      knows = c.of_stage-self.ensures
+          ∙ single.readiness_is _ c.readiness.result c.readiness.ensures c.in-Command.field-1 _ works;
+    }
 
 pub returns-in-Assemble-clause-stopped : goal.returns-in-Assemble-clause-stopped
 returns-in-Assemble-clause-stopped g c rest t h may =

@@ -10,12 +10,12 @@ use Rattle.hum_nodes.proofs.node.Node.take.Goals as goal
 pub returns-in_ok-taken-in-Assemble-clause-taken : goal.returns-in_ok-taken-in-Assemble-clause-taken
 returns-in_ok-taken-in-Assemble-clause-taken g c rest t h =
     let w = subst (λ w. WorksAs g.S.Stage.stands w rest t) c.in-Assemble.is h.works in
-    let taken = taken_stands (Stands c.in-Assemble.stage) (Stands c.take.new.self)
+    let taken = taken_stands (Stands c.in-Assemble.stage) (Stands c.take-in-Assemble.new.self)
     c.in-Assemble.field-1.items _ c.in_ok-taken-in-Assemble.ensures.ok t w in (
       taken.0,
-      taken_as _ t (IsMerging (Stands c.take.new.self) c.in-Assemble.field-1.items)
+      taken_as _ t (IsMerging (Stands c.take-in-Assemble.new.self) c.in-Assemble.field-1.items)
           (StandsAs g.S.Stage.stands (record {
-            work = Assemble c.take.new.self c.in-Assemble.field-1;
+            work = Assemble c.take-in-Assemble.new.self c.in-Assemble.field-1;
             readiness = c.of_assemble-self.result;
           }) rest)
           (λ u at. record {
