@@ -1,14 +1,14 @@
 //! Records whose cleaved columns have become one.
 ghost use Rattle.std.specs.Prelude.{◌≡◌, ℕ, List, [], true, false, length, IfOk};
 ghost use Rattle.hum_record.specs.declared.SpinedKind.{SpinedKind};
-ghost use Rattle.hum_record.specs.declared.SpinedKind.TheVariants.{Local, Interpretation, Values};
-ghost use Rattle.hum_record.specs.Row.{Spined, tokens_of, width_of, text_of, chosen};
+ghost use Rattle.hum_record.specs.declared.SpinedKind.TheVariants.{Local, Values};
+ghost use Rattle.hum_record.specs.Row.{Spined, tokens_of, width_of, text_of};
 ghost use Rattle.hum_record.specs.{Spelling.IsToken, Spelling.IsTextOf, RecordDraft.IsMade};
 ghost use Rattle.hum_stage.specs.Refusals.{IfTold};
 ghost use Rattle.hum_columns.specs.Following.{AsWide, Answers, is_interpretation};
-ghost use Rattle.hum_cleave.specs.{Columns.together, Tokens.comment_of, Tokens.data_of};
+ghost use Rattle.hum_cleave.specs.Columns.{together};
 ghost use Rattle.hum_cleave.specs.{Cleave.one_record, Cleave.text_told};
-ghost use Rattle.hum_choices.specs.Cleave.{fits_in_token, is_name};
+ghost use Rattle.hum_choices.specs.Cleave.{fits_in_token};
 
 use crate::tokens::{gather, leftmost_comment};
 use hum_path::Marks;
