@@ -1,6 +1,6 @@
 -- What is written of lawful tokens is lawful, and no longer than they are.
 use Rattle.std.proofs.Common.{◌≡◌, ◌≢◌, ◌∙◌, refl, ap, ℕ, suc, ◌+◌, ◌≤◌, Bool, true, false, not, ◌||◌, cond, subst}
-use Rattle.std.proofs.Common.{List, [], ◌∷◌, ◌++◌, length, map, arith}
+use Rattle.std.proofs.Common.{List, [], ◌∷◌, ◌++◌, length, map, arith, rules}
 use Rattle.std.specs.Prelude.{◌==◌, nat_lt, Ok}
 use Rattle.std.proofs.lemmas.Bool.Decides.{nat_tests}
 use Rattle.std.specs.List.{list_any, AllByRecursion}
@@ -23,7 +23,7 @@ use Rattle.hum_columns.specs.Chosen.{others}
 use Rattle.hum_cleave.specs.Columns.{together}
 use Rattle.hum_cleave.specs.Tokens.{leftmost, comment_of, is_silent, interpretation_of, is_left_out, taken, following, joined, data_of}
 use Rattle.hum_columns.specs.Chosen.{each_piece}
-use Rattle.hum_choices.specs.Cleave.{fits_in_token}
+use Rattle.hum_choices.specs.Cleave.{fits_in_token, is_name}
 use Rattle.hum_cleave.specs.Cleave.{pieces, text_told}
 use Rattle.hum_columns.specs.Following.{AsWide, is_interpretation}
 use Rattle.hum_columns.proofs.ChosenLists.{chosen_map, chosen_all}
@@ -237,3 +237,7 @@ some_bytes (x ∷ xs) h e = cc
 
 pub chosen_lawful : (fs : List Bool) (ts : List (List ℕ)) → AllByRecursion (IsToken Values) ts → AllByRecursion (IsToken Values) (chosen fs ts)
 chosen_lawful = chosen_all (IsToken Values)
+
+-- a name can stand in an interpretation
+pub name_token : (name : List ℕ) → is_name name ≡ true → IsToken Interpretation name
+name_token name h = search rules

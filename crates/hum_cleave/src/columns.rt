@@ -3,19 +3,18 @@ ghost use Rattle.std.specs.Prelude.{◌≡◌, ℕ, None, true, [], IfOk, OnOk};
 ghost use Rattle.hum_record.specs.Row.{Spined, tokens_of, text_of};
 ghost use Rattle.hum_record.specs.Spelling.{IsTextOf};
 ghost use Rattle.hum_record.specs.declared.SpinedKind.TheVariants.{Interpretation};
-ghost use Rattle.hum_path.specs.Spines.{after};
-ghost use Rattle.hum_path.specs.Rules.{fault_of};
+ghost use Rattle.hum_path.specs.{Spines.after, Rules.fault_of};
 ghost use Rattle.hum_stage.specs.Refusals.{IfTold};
 ghost use Rattle.hum_columns.specs.Following.{Answers, memory, is_interpretation};
 ghost use Rattle.hum_cleave.specs.Columns.{opening_flags};
 ghost use Rattle.hum_cleave.specs.Cleave.{opened, cleave, column_command};
 
 use crate::merging::merge;
-use crate::records::{Buffers, give, give_text, opening_record};
+use crate::records::{Buffers, give, give_text, put_together};
 use hum_choices::CleaveOptions;
 use hum_columns::ChosenColumns;
 use hum_path::Marks;
-use hum_record::{Kind, Record};
+use hum_record::{Kind, Record, SpinedKind};
 use hum_stage::{Command, Decides, Refusal};
 use std::alloc::{AllocError, Global};
 use std::collections::VecDeque;
@@ -52,7 +51,7 @@ fn open(
 ) -> Result<(), Refusal>
     requires kind { row ≡ Spined Interpretation (tokens_of row) }
     requires lawful { IsTextOf row (text_of row) }
-    requires sound { fault_of columns.old.path row ≡ None }
+    requires valid { fault_of columns.old.path row ≡ None }
     requires empty { out.old.items ≡ [] }
     ensures decided { IfTold result (λ refused. (room : ℕ)
         → Answers (opened options.now (tokens_of row)) room out.new.items refused) }
@@ -60,7 +59,14 @@ fn open(
         (opening_flags options.now.name (tokens_of row))) }
 {
     let marks = Marks::new(opening_marks(alloc, options.name(), &row)?);
-    let made = opening_record(alloc, options.new_name(), marks.each(), &row, buffers)?;
+    let made = put_together(
+        alloc,
+        SpinedKind::Interpretation,
+        marks.each(),
+        options.new_name(),
+        &row,
+        &mut buffers.spare,
+    )?;
     columns.open(&row, marks)?;
     give(row, made, buffers, out)
 }

@@ -5,9 +5,8 @@ ghost use Rattle.hum_record.specs.Row.{tokens_of, width_of, chosen};
 ghost use Rattle.hum_path.specs.Sign.{sign_of, is_exclusive};
 ghost use Rattle.hum_path.specs.declared.signs.Sign.{Sign};
 ghost use Rattle.hum_stage.specs.Refusals.{IfTold};
-ghost use Rattle.hum_columns.specs.Spread.{piece};
-ghost use Rattle.hum_columns.specs.Chosen.{each_piece};
-ghost use Rattle.hum_columns.specs.Following.{AnswersInRoom, IsPassed};
+ghost use Rattle.hum_columns.specs.{Spread.piece, Chosen.each_piece, Following.AnswersInRoom};
+ghost use Rattle.hum_columns.specs.{Following.IsPassed};
 ghost use Rattle.hum_cleave.specs.Columns.{together};
 ghost use Rattle.hum_cleave.specs.Cleave.{is_moved, is_end, ends_apart, is_entangled, merged};
 

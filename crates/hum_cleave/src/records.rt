@@ -1,16 +1,14 @@
 //! Records whose cleaved columns have become one.
 ghost use Rattle.std.specs.Prelude.{◌≡◌, ℕ, List, [], true, false, length, IfOk};
 ghost use Rattle.hum_record.specs.declared.SpinedKind.{SpinedKind};
-ghost use Rattle.hum_record.specs.declared.SpinedKind.TheVariants.{Local, Interpretation, Values};
-ghost use Rattle.hum_record.specs.Row.{Spined, tokens_of, width_of, text_of, chosen};
-ghost use Rattle.hum_record.specs.Spelling.{IsToken, IsTextOf};
+ghost use Rattle.hum_record.specs.declared.SpinedKind.TheVariants.{Local, Values};
+ghost use Rattle.hum_record.specs.Row.{Spined, tokens_of, width_of, text_of};
+ghost use Rattle.hum_record.specs.{Spelling.IsToken, Spelling.IsTextOf, RecordDraft.IsMade};
 ghost use Rattle.hum_stage.specs.Refusals.{IfTold};
 ghost use Rattle.hum_columns.specs.Following.{AsWide, Answers, is_interpretation};
 ghost use Rattle.hum_cleave.specs.Columns.{together};
-ghost use Rattle.hum_cleave.specs.Tokens.{comment_of, data_of};
-ghost use Rattle.hum_choices.specs.Cleave.{fits_in_token, is_name};
-ghost use Rattle.hum_cleave.specs.Cleave.{one_record, text_told};
-ghost use Rattle.hum_record.specs.RecordDraft.{IsMade};
+ghost use Rattle.hum_cleave.specs.{Cleave.one_record, Cleave.text_told};
+ghost use Rattle.hum_choices.specs.Cleave.{fits_in_token};
 
 use crate::tokens::{gather, leftmost_comment};
 use hum_path::Marks;
@@ -26,7 +24,7 @@ use std::marker::Model;
 #[derive(Drop)]
 pub struct Buffers {
     text: Vec<u8>,
-    spare: Spare,
+    pub spare: Spare,
 }
 
 impl Model for Buffers {
@@ -48,7 +46,7 @@ impl Buffers {
 }
 
 /// The record with one token in place of those in the cleaved columns, unless it is too long.
-fn put_together(
+pub fn put_together(
     alloc: Global,
     kind: SpinedKind,
     marks: &[bool],
@@ -57,7 +55,7 @@ fn put_together(
     spare: &mut Spare,
 ) -> Result<Option<Record>, AllocError>
     requires shape { row.now ≡ Spined kind (tokens_of row.now) }
-    requires sound { IsTextOf row.now (text_of row.now) }
+    requires valid { IsTextOf row.now (text_of row.now) }
     requires lawful { IsToken kind one.now }
     requires as_wide { length marks.now ≡ width_of row.now }
     ensures { IfOk result (IsMade kind (together one.now marks.now (tokens_of row.now))) }
@@ -73,83 +71,6 @@ fn put_together(
         }
     }
     Ok(making.finish())
-}
-
-/// What a local comment becomes, unless it is too long.
-fn comment_record(
-    alloc: Global,
-    marks: &[bool],
-    row: &Record,
-    buffers: &mut Buffers,
-) -> Result<Option<Record>, AllocError>
-    requires shape { row.now ≡ Spined Local (tokens_of row.now) }
-    requires sound { IsTextOf row.now (text_of row.now) }
-    requires as_wide { length marks.now ≡ width_of row.now }
-    ensures { IfOk result (IsMade Local (together
-        (comment_of (chosen marks.now (tokens_of row.now))) marks.now (tokens_of row.now))) }
-{
-    let one = leftmost_comment(marks, row);
-    put_together(
-        alloc,
-        SpinedKind::Local,
-        marks,
-        one,
-        row,
-        &mut buffers.spare,
-    )
-}
-
-/// What data become, unless they are too long.
-fn data_record(
-    alloc: Global,
-    separator: &[u8],
-    marks: &[bool],
-    row: &Record,
-    buffers: &mut Buffers,
-) -> Result<Option<Record>, AllocError>
-    requires shape { row.now ≡ Spined Values (tokens_of row.now) }
-    requires sound { IsTextOf row.now (text_of row.now) }
-    requires between { fits_in_token separator.now ≡ true }
-    requires as_wide { length marks.now ≡ width_of row.now }
-    ensures { IfOk result (IsMade Values (together
-        (data_of separator.now (chosen marks.now (tokens_of row.now)))
-        marks.now (tokens_of row.now))) }
-{
-    gather(alloc, separator, marks, row, &mut buffers.text)?;
-    let one = buffers.text.as_slice();
-    put_together(
-        alloc,
-        SpinedKind::Values,
-        marks,
-        one,
-        row,
-        &mut buffers.spare,
-    )
-}
-
-/// What the opening record becomes, unless it is too long.
-pub fn opening_record(
-    alloc: Global,
-    new_name: &[u8],
-    marks: &[bool],
-    row: &Record,
-    buffers: &mut Buffers,
-) -> Result<Option<Record>, AllocError>
-    requires shape { row.now ≡ Spined Interpretation (tokens_of row.now) }
-    requires sound { IsTextOf row.now (text_of row.now) }
-    requires lawful { is_name new_name.now ≡ true }
-    requires as_wide { length marks.now ≡ width_of row.now }
-    ensures { IfOk result (IsMade Interpretation
-        (together new_name.now marks.now (tokens_of row.now))) }
-{
-    put_together(
-        alloc,
-        SpinedKind::Interpretation,
-        marks,
-        new_name,
-        row,
-        &mut buffers.spare,
-    )
 }
 
 /// Gives what was made of a record. The record that gives way is done with.
@@ -203,11 +124,18 @@ pub fn give_text(
     }
     match row.kind() {
         Kind::Local => {
-            let made = comment_record(alloc, marks.each(), &row, buffers)?;
+            let marks = marks.each();
+            let one = leftmost_comment(marks, &row);
+            let spare = &mut buffers.spare;
+            let made = put_together(alloc, SpinedKind::Local, marks, one, &row, spare)?;
             give(row, made, buffers, out)
         }
         Kind::Values => {
-            let made = data_record(alloc, separator, marks.each(), &row, buffers)?;
+            let marks = marks.each();
+            gather(alloc, separator, marks, &row, &mut buffers.text)?;
+            let one = buffers.text.as_slice();
+            let spare = &mut buffers.spare;
+            let made = put_together(alloc, SpinedKind::Values, marks, one, &row, spare)?;
             give(row, made, buffers, out)
         }
         _ => {

@@ -73,7 +73,7 @@ pub fn gather(
     text: &mut Vec<u8>,
 ) -> Result<(), AllocError>
     requires kind { row.now ≡ Spined Values (tokens_of row.now) }
-    requires sound { IsTextOf row.now (text_of row.now) }
+    requires valid { IsTextOf row.now (text_of row.now) }
     requires between { fits_in_token separator.now ≡ true }
     requires as_wide { length marks.now ≡ width_of row.now }
     ensures text { OnOk result (text.new.items

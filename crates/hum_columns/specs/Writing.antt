@@ -21,14 +21,6 @@ pub record Fit (pieces : List JoinedToken) : Type 0 where
   pub lawful : AllByRecursion (λ piece. IsToken Interpretation piece.token) pieces
   pub at_most : length (spelled (tokens_in pieces)) ≤ MOST_BYTES
 
--- Where there is room for the records that pieces are written in, they are added; else nothing is.
-abbrev pub HasSpread : List JoinedToken → ℕ → List Row → List Row → Bool → Type 0
-HasSpread pieces room before after true =
-    (length (filled Interpretation (spread pieces)) ≤ room)
-    × (after ≡ before ++ filled Interpretation (spread pieces))
-HasSpread pieces room before after false =
-    (room < length (filled Interpretation (spread pieces))) × (after ≡ before)
-
 -- an interpretation in the making
 abbrev pub draft : List (List ℕ) → Draft
 draft tokens = record { kind = Interpretation; tokens = tokens; spent = false }

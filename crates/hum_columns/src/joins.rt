@@ -2,43 +2,47 @@
 //!
 //! A command that drops or merges columns keeps some tokens of an interpretation. Where two of its
 //! joins (`*v` side by side; Humdrum Toolkit: Reference Manual, syntax) would then stand next to
-//! each other, a reader would see one join. [`spread`] writes such a record as several, one join in
+//! each other, a reader would see one join. [`write_pieces`] writes such a record as several, one join in
 //! each.
-ghost use Rattle.std.specs.Prelude.{◌≡◌, ◌≤◌, ◌<◌, IfOk};
-ghost use Rattle.hum_columns.specs.Spread.{spread, one_by_one, before_last};
-ghost use Rattle.hum_columns.specs.Writing.{Fit, HasSpread};
+ghost use Rattle.std.specs.Prelude.{◌≡◌, ◌≤◌, [], Ok};
+ghost use Rattle.hum_record.specs.declared.SpinedKind.TheVariants.{Interpretation};
+ghost use Rattle.hum_stage.specs.Refusals.{IfTold};
+ghost use Rattle.hum_columns.specs.Spread.{spread, filled, one_by_one, before_last};
+ghost use Rattle.hum_columns.specs.{Writing.Fit, Following.AnswersInRoom};
 
 use crate::pieces::JoinedToken;
 use crate::writing::{joins_in, touches, write_each};
 use hum_record::Record;
-use std::alloc::{AllocError, Global};
+use hum_stage::{Refusal, Rule};
+use std::alloc::Global;
 use std::collections::VecDeque;
 
-/// Writes an interpretation of these tokens: nothing where there are none; where two joins have
-/// come side by side one record for each join, each but the last with its join alone and `*`
-/// elsewhere; else one record. Answers whether there is room for so many; where there isn't,
-/// nothing is written.
+/// Writes an interpretation of these tokens by the spread rule: nothing where there are none; where
+/// two joins have come side by side one record for each join, each but the last with its join alone
+/// and `*` elsewhere; else one record.
 ///
 /// # Errors
-/// Out of memory.
-pub(crate) fn spread(
+/// L2 where there is no room for so many; or out of memory.
+pub fn write_pieces(
     alloc: Global,
     pieces: &[JoinedToken<'_>],
     room: u64,
     out: &mut VecDeque<Record>,
-) -> Result<bool, AllocError>
-    requires { Fit pieces.now }
-    ensures { IfOk result (HasSpread pieces.now room out.old.items out.new.items) }
+) -> Result<(), Refusal>
+    requires empty { out.old.items ≡ [] }
+    requires fit { Fit pieces.now }
+    ensures { IfTold result
+        (AnswersInRoom (Ok (filled Interpretation (spread pieces.now))) room out.new.items) }
 {
     if pieces.is_empty() {
-        return Ok(true);
+        return Ok(());
     }
     let records = records_for(pieces);
     if records as u64 > room {
-        return Ok(false);
+        return Err(Refusal::Rule(Rule::L2));
     }
     write_each(alloc, pieces, records, out)?;
-    Ok(true)
+    Ok(())
 }
 
 /// How many records pieces are written in, if there are any.

@@ -177,7 +177,7 @@ fn pass_join(last: &mut RecordBuilder, pieces: &[JoinedToken<'_>]) -> Result<Pas
 }
 
 /// Adds so many records: each but the last has one join.
-pub fn write_each(
+pub(crate) fn write_each(
     alloc: Global,
     pieces: &[JoinedToken<'_>],
     records: usize,

@@ -2,10 +2,8 @@
 ghost use Rattle.std.specs.Prelude.{◌≡◌, ◌<◌, ◌≤◌, ◌^◌, ℕ, List, [], length, drop, Some, None};
 ghost use Rattle.hum_record.specs.Row.{Row};
 ghost use Rattle.hum_path.specs.Spines.{Path};
-ghost use Rattle.hum_context.specs.Context.{Choice, taken};
-ghost use Rattle.hum_context.specs.Heard.{wanted_of};
-ghost use Rattle.hum_context.specs.Queue.{Knows};
-ghost use Rattle.hum_context.specs.Walking.{bytes_of, collected};
+ghost use Rattle.hum_context.specs.{Context.Choice, Context.taken, Heard.wanted_of, Queue.Knows};
+ghost use Rattle.hum_context.specs.{Walking.bytes_of, Walking.collected};
 
 use crate::heard::Heard;
 use crate::queued::Queued;

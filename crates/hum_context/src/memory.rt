@@ -5,9 +5,8 @@ ghost use Rattle.std.specs.VecDeque.{deque_len};
 ghost use Rattle.hum_record.specs.Row.{Row};
 ghost use Rattle.hum_path.specs.Spines.{Path, Unopened, after, width};
 ghost use Rattle.hum_path.specs.Rules.{fault_of};
-ghost use Rattle.hum_context.specs.Options.{choice_of};
+ghost use Rattle.hum_context.specs.{Options.choice_of, Walking.AllStand};
 ghost use Rattle.hum_context.specs.Queue.{Known, Knows, LeadsBelow};
-ghost use Rattle.hum_context.specs.Walking.{AllStand};
 ghost use Rattle.hum_context.specs.declared.queued.Queued.{Queued};
 
 use crate::becoming::{advance, write};
@@ -51,7 +50,7 @@ pub struct Collecting {
 /// others each spine stays.
 #[inline]
 fn below_row(alloc: Global, paths: &mut Paths, row: &Record) -> Result<Below, AllocError>
-    requires sound { fault_of paths.old.path row.now ≡ None }
+    requires valid { fault_of paths.old.path row.now ≡ None }
     requires narrow { width (after paths.old.path row.now) ≤ MOST_SPINES }
     ensures after { OnOk result (paths.new.path ≡ after paths.old.path row.now) }
     ensures below { IfOk result (LeadsBelow paths.old.path row.now) }
@@ -74,8 +73,7 @@ impl LooksAhead for Collecting {
     type Held = Queued;
 
     ghost use Rattle.hum_stage.specs.declared.faults.Command.TheVariants.{Context};
-    ghost use Rattle.hum_context.specs.Context.{context};
-    ghost use Rattle.hum_context.specs.Options.{choice_of};
+    ghost use Rattle.hum_context.specs.{Context.context, Options.choice_of};
 
     ghost command = { Context };
 

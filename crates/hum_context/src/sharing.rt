@@ -2,10 +2,8 @@
 ghost use Rattle.std.specs.Prelude.{◌≡◌, ◌⊎◌, ◌<◌, ◌+◌, ◌-◌, ℕ, List, [], ◌∷◌, Some, OnOk};
 ghost use Rattle.hum_record.specs.Row.{Row};
 ghost use Rattle.hum_path.specs.Spines.{Path, after};
-ghost use Rattle.hum_context.specs.Columns.{column_below};
-ghost use Rattle.hum_context.specs.Context.{Choice};
-ghost use Rattle.hum_context.specs.Heard.{wanted_of};
-ghost use Rattle.hum_context.specs.Queue.{Known, column_in};
+ghost use Rattle.hum_context.specs.{Columns.column_below, Context.Choice, Heard.wanted_of};
+ghost use Rattle.hum_context.specs.{Queue.Known, Queue.column_in};
 ghost use Rattle.hum_context.specs.Walking.{AllStand, Has, Shortens, Stands};
 
 use crate::heard::Heard;

@@ -3,12 +3,11 @@ ghost use Rattle.std.specs.Prelude.{◌≡◌, ◌≢◌, ◌+◌, ◌≤◌, �
 ghost use Rattle.std.specs.Prelude.{false, Some, None, slice_index_or};
 ghost use Rattle.hum_record.specs.Row.{Row};
 ghost use Rattle.hum_path.specs.Spines.{Path};
-ghost use Rattle.hum_context.specs.Context.{Choice};
-ghost use Rattle.hum_stage.specs.Score.{through};
-ghost use Rattle.hum_context.specs.Heard.{wanted_of, enough_by};
+ghost use Rattle.hum_context.specs.{Context.Choice, Heard.wanted_of, Heard.enough_by};
 ghost use Rattle.hum_context.specs.Queue.{Known, Knows, column_in, is_last_in};
 ghost use Rattle.hum_context.specs.Walking.{Has, Stands, Halts};
 ghost use Rattle.hum_context.specs.declared.heard.Heard.TheVariants.{Passed};
+ghost use Rattle.hum_stage.specs.Score.{through};
 
 use crate::heard::Heard;
 use crate::queued::Queued;

@@ -2,11 +2,9 @@
 ghost use Rattle.std.specs.Prelude.{◌≡◌, ◌≢◌, ◌==◌, ◌+◌, ◌≤◌, ℕ, [], true, length, Some, IfOk};
 ghost use Rattle.std.specs.Prelude.{slice_index_or};
 ghost use Rattle.hum_record.specs.declared.SpinedKind.TheVariants.{Values};
-ghost use Rattle.hum_record.specs.Row.{token_at, tokens_of};
-ghost use Rattle.hum_record.specs.Spelling.{IsToken};
+ghost use Rattle.hum_record.specs.{Row.token_at, Row.tokens_of, Spelling.IsToken};
 ghost use Rattle.hum_path.specs.Spines.{Path};
-ghost use Rattle.hum_context.specs.Context.{is_last};
-ghost use Rattle.hum_context.specs.Options.{choice_of};
+ghost use Rattle.hum_context.specs.{Context.is_last, Options.choice_of};
 ghost use Rattle.hum_context.specs.Queue.{IsStill, Known, LeadsBelow, column_in, is_last_in};
 ghost use Rattle.hum_context.specs.declared.heard.Heard.TheVariants.{Passed};
 

@@ -2,16 +2,14 @@
 ghost use Rattle.std.specs.Prelude.{◌≡◌, ◌<◌, ◌&&◌, nat_le, true, false, [], ◌∷◌, ◌++◌, length};
 ghost use Rattle.std.specs.Prelude.{option_map, is_none, string_bytes, IfSome, IfOk, OnOk, Ok, Err};
 ghost use Rattle.hum_words.specs.Pieces.{items_of};
-ghost use Rattle.hum_options.specs.Seen.{words_of};
-ghost use Rattle.hum_options.specs.Answers.{Answer, IsAnswer};
+ghost use Rattle.hum_options.specs.{Seen.words_of, Answers.Answer, Answers.IsAnswer};
 ghost use Rattle.hum_stage.specs.declared.faults.Command.TheVariants as command;
-ghost use Rattle.hum_plan.specs.Lines.{behind_bar, groups};
+ghost use Rattle.hum_plan.specs.{Lines.behind_bar, Lines.groups, Seen.options_of, Tells.Tells};
+ghost use Rattle.hum_plan.specs.{Tells.outline_of};
 ghost use Rattle.hum_plan.specs.Answers.{name_read, with_read, joined, name_joined, names_joined};
 ghost use Rattle.hum_plan.specs.Answers.{with_joined, with_stage, with_command, Begins};
 ghost use Rattle.hum_plan.specs.Answers.{StageAnswer, StagesAnswer, opening_of, nothing};
 ghost use Rattle.hum_plan.specs.Branches.{Branches, with_branch, taken};
-ghost use Rattle.hum_plan.specs.Seen.{options_of};
-ghost use Rattle.hum_plan.specs.Tells.{Tells, outline_of};
 
 use crate::branches::{Branch, Branches};
 use crate::commands::{Opening, command_of, opening_of};

@@ -1,8 +1,7 @@
 //! The rules of a plan, and where one was broken.
 ghost use Rattle.std.specs.Prelude.{◌≡◌, Some};
 ghost use Rattle.hum_plan.specs.declared.faults.PlanError.TheVariants.{Fault, Memory};
-ghost use Rattle.hum_plan.specs.Faults.{code_of, line_of_fault, rule_of, in_line, of_text};
-ghost use Rattle.hum_plan.specs.Faults.{broken};
+ghost use Rattle.hum_plan.specs.Faults.{code_of, line_of_fault, rule_of, in_line, of_text, broken};
 
 use hum_options::{OptionFault, OptionRule};
 use hum_words::PlanTextFault;

@@ -1,8 +1,7 @@
 //! What holds of every text, as contracts.
 ghost use Rattle.std.specs.Prelude.{ℕ, List};
 ghost use Rattle.hum_plan.specs.Laws.{IsReadAsWritten, IsOnePlan, HasATree};
-ghost use Rattle.hum_plan.specs.Refused.{IsRefusedInOrder};
-ghost use Rattle.hum_plan.specs.Said.{LinesSayAll};
+ghost use Rattle.hum_plan.specs.{Refused.IsRefusedInOrder, Said.LinesSayAll};
 
 /// A text is read as the plan that it is by the grammar, and refused where it is none.
 pub fn texts_are_read_as_written()

@@ -1,14 +1,11 @@
 //! The lines of a plan, one after another.
 ghost use Rattle.std.specs.Prelude.{◌≡◌, ◌≤◌, true, length, OnOk, Some};
-ghost use Rattle.hum_words.specs.Branches.{branches_of};
-ghost use Rattle.hum_words.specs.Cutting.{cut_line};
-ghost use Rattle.hum_words.specs.Names.{name_in};
-ghost use Rattle.hum_words.specs.Pieces.{items_of};
+ghost use Rattle.hum_words.specs.{Branches.branches_of, Cutting.cut_line, Names.name_in};
+ghost use Rattle.hum_words.specs.{Pieces.items_of};
 ghost use Rattle.hum_words.specs.Pieces as item;
-ghost use Rattle.hum_plan.specs.Lines.{empty_stage};
-ghost use Rattle.hum_plan.specs.Answers.{name_fault, ended, nothing};
-ghost use Rattle.hum_plan.specs.Answers.{NameAnswer, BranchAnswer, CutAnswer, LinesAnswer};
-ghost use Rattle.hum_plan.specs.Tells.{Tells, outline_of};
+ghost use Rattle.hum_plan.specs.{Lines.empty_stage, Tells.Tells, Tells.outline_of};
+ghost use Rattle.hum_plan.specs.Answers.{name_fault, ended, nothing, NameAnswer, BranchAnswer};
+ghost use Rattle.hum_plan.specs.Answers.{CutAnswer, LinesAnswer};
 
 use crate::branches::Branch;
 use crate::draft::Draft;

@@ -1,11 +1,9 @@
 //! Plans.
 ghost use Rattle.std.specs.Prelude.{◌≡◌, ◌-◌, ◌<◌, ◌≤◌, List, length, option_map, slice_get, Some, IfOk};
 ghost use Rattle.hum_plan.specs.Answers.{whole_fault, WholeAnswer, PlanAnswer};
-ghost use Rattle.hum_plan.specs.Grammar.{IsPlanOf};
-ghost use Rattle.hum_plan.specs.Laws.{Agrees};
-ghost use Rattle.hum_plan.specs.Seen.{stages_of};
+ghost use Rattle.hum_plan.specs.{Grammar.IsPlanOf, Laws.Agrees, Seen.stages_of, Tells.Tells};
+ghost use Rattle.hum_plan.specs.{Tells.outline_of};
 ghost use Rattle.hum_plan.specs.Stages.{Stage, IsTree, reads_of, ReadStage};
-ghost use Rattle.hum_plan.specs.Tells.{Tells, outline_of};
 
 use crate::branches::Branches;
 use crate::draft::Draft;
@@ -69,8 +67,7 @@ pub struct Plan {
 
 impl Model for Plan {
     ghost use Rattle.std.specs.Prelude.{List};
-    ghost use Rattle.hum_plan.specs.Seen.{stages_of};
-    ghost use Rattle.hum_plan.specs.Stages.{Stage, IsTree};
+    ghost use Rattle.hum_plan.specs.{Seen.stages_of, Stages.Stage, Stages.IsTree};
 
     ghost Value = { List Stage };
 

@@ -1,5 +1,5 @@
 //! What each record becomes.
-ghost use Rattle.std.specs.Prelude.{◌≡◌, [], ◌∷◌, Ok, Err, Some, None, ℕ, OnOk, is_some};
+ghost use Rattle.std.specs.Prelude.{◌≡◌, [], ◌∷◌, Ok, Err, None, ℕ, OnOk, is_some};
 ghost use Rattle.std.specs.Prelude.{if◌then◌else◌, List, Bool};
 ghost use Rattle.std.specs.List.{list_any};
 ghost use Rattle.hum_record.specs.Row.{Row, kind_of, tokens_of, text_of};

@@ -1,5 +1,5 @@
 //! Timed columns, and the notes in their cells.
-ghost use Rattle.std.specs.Prelude.{◌≡◌, ◌∷◌, ◌++◌, ◌≤◌, ◌<◌, [], length, true, false, IfOk, OnOk};
+ghost use Rattle.std.specs.Prelude.{◌≡◌, ◌∷◌, ◌++◌, ◌≤◌, ◌<◌, [], length, false, IfOk, OnOk};
 ghost use Rattle.std.specs.Prelude.{IfSome, slice_index_or, is_some, ◌&&◌};
 ghost use Rattle.hum_record.specs.{Row.tokens_of, Contents.is_null, Contents.is_barline};
 ghost use Rattle.hum_path.specs.Spines.{exclusives};

@@ -2,6 +2,7 @@ use Rattle.hum_record.specs.declared.SpinedKind.TheVariants.{Interpretation}
 use Rattle.hum_record.specs.Row.{tokens_of}
 use Rattle.hum_cleave.specs.Columns.{together, opening_flags}
 use Rattle.hum_stage.proofs.Telling.{told_none, told_to}
+use Rattle.hum_cleave.proofs.Fitted.{name_token}
 use Rattle.hum_cleave.proofs.columns.open.Goals as goal
 
 pub returns-in_err-opening_marks-clause-decided : goal.returns-in_err-opening_marks-clause-decided
@@ -20,3 +21,6 @@ returns-clause-decided c = told_to c.give.result _ _
     (rw (c.new_name.ensures.name, c.each.ensures, c.new-marks.ensures, c.in_ok-opening_marks.ensures, c.name.ensures)
     at c.in_ok-made.ensures))
     c.give.ensures
+
+pub put_together-requires-clause-lawful : goal.put_together-requires-clause-lawful
+put_together-requires-clause-lawful c = rw c.new_name.ensures.name (name_token _ c.new_name.ensures.lawful)

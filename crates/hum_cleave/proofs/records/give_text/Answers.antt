@@ -38,7 +38,7 @@ returns-in_ok-made-in-Local c = told_to c.give.result _ _
     (λ (r : Row). Answers (text_told c.args.separator.now c.args.marks.now r) room c.give.new.out.items refused)
     (sym c.in-Local.ensures.shape) (given Local
     (together (comment_of (chosen c.args.marks.now (tokens_of c.args.row))) c.args.marks.now (tokens_of c.args.row)) room
-    (rw c.each.ensures at c.in_ok-made-in-Local.ensures)))
+    (rw (c.leftmost_comment-one.ensures.token, c.each-marks.ensures) at c.in_ok-made-in-Local.ensures)))
     c.give.ensures
 
 pub returns-in_ok-made-in-Values : goal.returns-in_ok-made-in-Values
@@ -47,5 +47,5 @@ returns-in_ok-made-in-Values c = told_to c.give-in-Values.result _ _
     (λ (r : Row). Answers (text_told c.args.separator.now c.args.marks.now r) room c.give-in-Values.new.out.items refused)
     (sym c.in-Values.ensures.shape) (given Values
     (together (data_of c.args.separator.now (chosen c.args.marks.now (tokens_of c.args.row))) c.args.marks.now (tokens_of c.args.row))
-    room (rw c.each-in-Values.ensures at c.in_ok-made-in-Values.ensures)))
+    room (rw (c.as_slice-one.ensures.value, c.in_ok-gather-in-Values.ensures.text, c.each-marks-in-Values.ensures) at c.in_ok-made-in-Values.ensures)))
     c.give-in-Values.ensures

@@ -35,7 +35,7 @@ finish-requires c =
       c.args.kind,
       _,
       all,
-      λ none. some_tokens c.args.kind c.args.row.now c.requires.shape c.requires.sound (together_filled _ c.args.marks.now ts c.requires.as_wide none),
+      λ none. some_tokens c.args.kind c.args.row.now c.requires.shape c.requires.valid (together_filled _ c.args.marks.now ts c.requires.as_wide none),
     )
 
 pub returns : goal.returns

@@ -67,7 +67,7 @@ returns c =
           let some = some_bytes so (rw c.loop-j.text.ok.0 at (sym c.is_empty.ensures ∙ w.if-is_empty.false)) in
           rw w.text-is (all_taken separator so fs ts j c.loop-j-test.false some all)
     ]) in
-    let lawful = chosen_lawful fs ts (lawful_tokens Values row c.requires.kind c.requires.sound).0 in
+    let lawful = chosen_lawful fs ts (lawful_tokens Values row c.requires.kind c.requires.valid).0 in
     record {
       text = text;
       lawful = subst (IsToken Values) (sym text) (data_lawful separator (chosen fs ts) c.requires.between lawful);
