@@ -10,9 +10,9 @@ use hum_pitch::{Pitch, Repeated, accidentals, letters};
 /// The text of a token, of at most 16 bytes.
 pub(crate) type ShortToken = ArrayVec<u8, 16>;
 
-/// Adds bytes.
-#[inline(always)]
-fn put_bytes(text: &mut ShortToken, bytes: &[u8])
+/// Adds any number of bytes.
+#[inline(never)]
+fn put_many(text: &mut ShortToken, bytes: &[u8])
     requires { array_vec_len text.old + length bytes.now ≤ 16 }
     ensures items { text.new.items ≡ text.old.items ++ bytes.now }
     ensures len { array_vec_len text.new ≡ array_vec_len text.old + length bytes.now }
@@ -24,17 +24,53 @@ fn put_bytes(text: &mut ShortToken, bytes: &[u8])
     }
 }
 
-/// Adds a byte some times.
+/// Adds bytes, of which there are mostly one or two.
+#[inline(always)]
+fn put_bytes(text: &mut ShortToken, bytes: &[u8])
+    requires { array_vec_len text.old + length bytes.now ≤ 16 }
+    ensures items { text.new.items ≡ text.old.items ++ bytes.now }
+    ensures len { array_vec_len text.new ≡ array_vec_len text.old + length bytes.now }
+{
+    match bytes {
+        [] => {}
+        [a] => text.push(*a),
+        [a, b] => {
+            text.push(*a);
+            text.push(*b);
+        }
+        _ => put_many(text, bytes),
+    }
+}
+
+/// Adds a byte any number of times.
+#[inline(never)]
+fn put_often(text: &mut ShortToken, byte: u8, count: usize)
+    requires { array_vec_len text.old + count ≤ 16 }
+    ensures items { text.new.items ≡ text.old.items ++ replicate count byte }
+    ensures len { array_vec_len text.new ≡ array_vec_len text.old + count }
+{
+    let mut left = count;
+    while left > 0 {
+        text.push(byte);
+        left -= 1;
+    }
+}
+
+/// Adds a byte some times, mostly twice at most.
 #[inline(always)]
 fn put_repeated(text: &mut ShortToken, repeated: Repeated)
     requires { array_vec_len text.old + repeated.count ≤ 16 }
     ensures items { text.new.items ≡ text.old.items ++ replicate repeated.count repeated.byte }
     ensures len { array_vec_len text.new ≡ array_vec_len text.old + repeated.count }
 {
-    let mut left = repeated.count;
-    while left > 0 {
-        text.push(repeated.byte);
-        left -= 1;
+    match repeated.count {
+        0 => {}
+        1 => text.push(repeated.byte),
+        2 => {
+            text.push(repeated.byte);
+            text.push(repeated.byte);
+        }
+        count => put_often(text, repeated.byte, count),
     }
 }
 

@@ -120,7 +120,7 @@ fn push_any_transposed(
     Ok(())
 }
 
-/// The same; most often what it becomes is short.
+/// The same. A token without a pitch stays, and most others become short ones.
 #[inline(always)]
 pub(crate) fn push_transposed(
     options: TransOptions,
@@ -138,6 +138,10 @@ pub(crate) fn push_transposed(
         (Holds Values making.new.builder making.new.is_long)) }
     ensures kind { OnOk result (making.new.builder.kind ≡ Values) }
 {
+    if found.pitch.is_none() {
+        making.push(token)?;
+        return Ok(());
+    }
     match short_transposed(options, token, found) {
         Some(short) => {
             making.push(short.as_slice())?;

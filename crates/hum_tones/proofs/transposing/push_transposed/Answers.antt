@@ -1,12 +1,12 @@
-use Rattle.std.proofs.Common.{◌≡◌, Ok}
+use Rattle.std.proofs.Common.{◌≡◌, Ok, rules}
 use Rattle.hum_tones.specs.declared.part_rule.PartRule.TheVariants.{Transposed}
 use Rattle.hum_tones.specs.PartRule.{given}
 use Rattle.hum_tones.proofs.GivenLawful.{given_lawful}
-use Rattle.hum_tones.proofs.Lone.{trans_lone}
+use Rattle.hum_tones.proofs.Lone.{trans_lone, trans_stays}
 use Rattle.hum_tones.proofs.transposing.push_transposed.Goals as goal
 
-pub push-requires : goal.push-requires
-push-requires c =
+pub push-requires-in-Some : goal.push-requires-in-Some
+push-requires-in-Some c =
     let told : given (Transposed c.args.options) c.args.token.now ≡ Ok c.in-Some.short.items =
     trans_lone c.args.options c.args.token.now c.in-Some.short.items c.requires.read.alone
     (rw c.in-Some.is at c.short_transposed.ensures) in
@@ -18,4 +18,11 @@ returns-in_ok-push-in-Some-clause-pushed c = (
   trans_lone c.args.options c.args.token.now c.in-Some.short.items c.requires.read.alone
       (rw c.in-Some.is at c.short_transposed.ensures),
   λ tokens held. rw c.as_slice.ensures.value at (c.in_ok-push-in-Some.ensures.pushed _ tokens held),
+)
+
+pub returns-then-is_none-clause-pushed : goal.returns-then-is_none-clause-pushed
+returns-then-is_none-clause-pushed c = (
+  c.args.token.now,
+  trans_stays c.args.options c.args.token.now c.args.found.now c.requires.read.read c.requires.read.alone (search rules),
+  λ tokens held. c.in_ok-push.ensures.pushed _ tokens held,
 )

@@ -1,5 +1,5 @@
 use Rattle.std.proofs.Common.{◌≡◌, ◌+◌, ◌++◌, length}
-use Rattle.hum_tones.proofs.short_token.put_bytes.Given as goal
+use Rattle.hum_tones.proofs.short_token.put_many.Given as goal
 
 abbrev pub invariant-loop-rest : goal.invariant-loop-rest
 invariant-loop-rest l = record {
