@@ -14,7 +14,7 @@ ghost use Rattle.hum_tones.specs.Trans.{transposed_part};
 ghost use Rattle.hum_tones.specs.declared.part_rule.PartRule.TheVariants.{Transposed};
 ghost use Rattle.hum_tones.specs.PartRule.{given};
 
-use crate::part_rule::rule_of;
+use crate::part_rule::{PartRule, rule_of};
 use crate::short_token::{ShortToken, with_pitch};
 use hum_choices::TransOptions;
 use hum_kern::{Note, read_note};
@@ -80,8 +80,8 @@ pub(crate) fn add_transposed(
 
 /// What a part becomes, by what was read of it, where it has a pitch and becomes a short text.
 #[inline(always)]
-fn short_transposed(options: TransOptions, part: &[u8], found: &Note) -> Option<ShortToken>
-    requires { Ok (reading found.now) ≡ note part.now }
+fn short_transposed(options: TransOptions, part: &[u8], found: Note) -> Option<ShortToken>
+    requires { Ok (reading found) ≡ note part.now }
     ensures { IfSome result (λ text. HasPut
         (transposed_part options.steps options.semitones part.now) [] text.items None) }
 {
@@ -96,41 +96,17 @@ fn short_transposed(options: TransOptions, part: &[u8], found: &Note) -> Option<
 }
 
 /// Adds what a token becomes that is one subtoken, by what was read of it, to a record in the
-/// making. Its text is made in `text`.
-#[inline(never)]
-fn push_any_transposed(
-    options: TransOptions,
-    token: &[u8],
-    found: &Note,
-    text: &mut Vec<u8>,
-    making: &mut RecordDraft,
-) -> Result<(), Refusal>
-    requires lawful { IsToken Values token.now }
-    requires read { IsReadAlone token.now (reading found.now) }
-    requires kind { making.old.builder.kind ≡ Values }
-    ensures pushed { IfTold result
-        (Pushes (given (Transposed options) token.now)
-        (Holds Values making.old.builder making.old.is_long)
-        (Holds Values making.new.builder making.new.is_long)) }
-    ensures kind { OnOk result (making.new.builder.kind ≡ Values) }
-{
-    text.clear();
-    put_transposed(options, token, found, text)?;
-    making.push(text)?;
-    Ok(())
-}
-
-/// The same. A token without a pitch stays, and most others become short ones.
+/// making. A token without a pitch stays, and most others become short ones; any other text is made in `text`.
 #[inline(always)]
 pub(crate) fn push_transposed(
     options: TransOptions,
     token: &[u8],
-    found: &Note,
+    found: Note,
     text: &mut Vec<u8>,
     making: &mut RecordDraft,
 ) -> Result<(), Refusal>
     requires lawful { IsToken Values token.now }
-    requires read { IsReadAlone token.now (reading found.now) }
+    requires read { IsReadAlone token.now (reading found) }
     requires kind { making.old.builder.kind ≡ Values }
     ensures pushed { IfTold result
         (Pushes (given (Transposed options) token.now)
@@ -147,6 +123,6 @@ pub(crate) fn push_transposed(
             making.push(short.as_slice())?;
             Ok(())
         }
-        None => push_any_transposed(options, token, found, text, making),
+        None => PartRule::Transposed(options).push_parts(token, text, making),
     }
 }

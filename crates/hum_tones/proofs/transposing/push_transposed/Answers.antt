@@ -23,6 +23,6 @@ returns-in_ok-push-in-Some-clause-pushed c = (
 pub returns-then-is_none-clause-pushed : goal.returns-then-is_none-clause-pushed
 returns-then-is_none-clause-pushed c = (
   c.args.token.now,
-  trans_stays c.args.options c.args.token.now c.args.found.now c.requires.read.read c.requires.read.alone (search rules),
+  trans_stays c.args.options c.args.token.now c.args.found c.requires.read.read c.requires.read.alone (search rules),
   λ tokens held. c.in_ok-push.ensures.pushed _ tokens held,
 )
