@@ -15,4 +15,4 @@ pub use between::interval;
 pub use intervals::Interval;
 pub use naming::{direction_sign, push_interval, quality_letter, write_interval};
 pub use pitch::{Pitch, PitchFault};
-pub use spelling::{push_pitch, write_pitch};
+pub use spelling::{Repeated, accidentals, letters, push_pitch, write_pitch};

@@ -8,8 +8,10 @@ use std::alloc::{AllocError, Global};
 
 /// A byte, and how often it is written.
 #[derive(Clone, Copy)]
-pub(crate) struct Repeated {
+pub struct Repeated {
+    /// The byte.
     pub byte: u8,
+    /// How often it is written.
     pub count: usize,
 }
 
@@ -24,7 +26,8 @@ impl Repeated {
 }
 
 /// The letters of a pitch.
-fn letters(pitch: Pitch) -> Repeated
+#[inline(always)]
+pub fn letters(pitch: Pitch) -> Repeated
     ensures exact { replicate result.count result.byte ≡ letters_of (spelled pitch) }
     ensures few { result.count ≤ 8 }
 {
@@ -43,7 +46,8 @@ fn letters(pitch: Pitch) -> Repeated
 }
 
 /// The accidentals of a pitch.
-fn accidentals(pitch: Pitch) -> Repeated
+#[inline(always)]
+pub fn accidentals(pitch: Pitch) -> Repeated
     ensures exact { replicate result.count result.byte ≡ accidentals pitch.alteration }
     ensures few { result.count ≤ 7 }
 {

@@ -2,7 +2,8 @@
 use Rattle.std.proofs.Common.{◌≡◌, ◌∙◌, refl, sym, ap, Bool, List, ℕ, [], ◌∷◌, ◌++◌, append_assoc, Option, None, Some}
 use Rattle.std.specs.Prelude.{Result, Ok, Err}
 use lib.Chars.{codes}
-use Rattle.hum_kern.specs.Note.{Reading}
+use Rattle.hum_kern.specs.declared.notes.Note.{Note}
+use Rattle.hum_kern.specs.Note.{Reading, reading, note}
 use Rattle.hum_kern.specs.Usual.{IsReadAlone, IsLastingText}
 use Rattle.hum_stage.specs.declared.faults.Rule.{Rule}
 use Rattle.hum_tones.specs.declared.part_rule.PartRule.TheVariants.{Semitones, Durations, Transposed}
@@ -38,6 +39,12 @@ trans_lone way token text alone put = go (transposed_part way.steps way.semitone
     go (Ok (Some made)) is put =
         lone (transposed_part way.steps way.semitones) token (Some made) alone is ∙ ap (λ (t : List ℕ). Ok t) (sym put)
     go (Err rule) is put = absurd put
+
+-- a token of one part without a pitch stays
+pub trans_stays : (way : TransOptions) (token : List ℕ) (found : Note) → Ok (reading found) ≡ note token → subtokens token ≡ token ∷ []
+    → found.pitch ≡ None → given (Transposed way) token ≡ Ok token
+trans_stays way token found read alone is =
+    trans_lone way token token alone (rw (← read, is) refl)
 
 pub trans_refused : (way : TransOptions) (token text : List ℕ) (rule : Rule) → subtokens token ≡ token ∷ []
     → HasPut (transposed_part way.steps way.semitones token) [] text (Some rule) → given (Transposed way) token ≡ Err rule

@@ -13,6 +13,7 @@ mod partwise;
 mod recip;
 mod semits;
 mod short_text;
+mod short_token;
 mod trans;
 mod transposing;
 

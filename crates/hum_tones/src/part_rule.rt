@@ -183,7 +183,7 @@ impl PartRule {
     /// # Errors
     /// The rule by which it is refused; or out of memory.
     #[inline(never)]
-    fn push_parts(
+    pub(crate) fn push_parts(
         self,
         token: &[u8],
         text: &mut Vec<u8>,
@@ -234,7 +234,7 @@ impl PartRule {
                 None => self.push_parts(token, text, making),
             },
             PartRule::Transposed(options) => match read_lone(token) {
-                Some(note) => push_transposed(options, token, &note, text, making),
+                Some(note) => push_transposed(options, token, note, text, making),
                 None => self.push_parts(token, text, making),
             },
         }

@@ -1,5 +1,5 @@
 //! Tokens whose pitches are some steps and some semitones away.
-ghost use Rattle.std.specs.Prelude.{◌≡◌, ◌++◌, OnOk, Ok};
+ghost use Rattle.std.specs.Prelude.{◌≡◌, [], OnOk, IfSome, Ok, None};
 ghost use Rattle.hum_record.specs.declared.SpinedKind.TheVariants.{Values};
 ghost use Rattle.hum_record.specs.Spelling.{IsToken};
 ghost use Rattle.hum_record.specs.RecordDraft.{Holds};
@@ -14,13 +14,13 @@ ghost use Rattle.hum_tones.specs.Trans.{transposed_part};
 ghost use Rattle.hum_tones.specs.declared.part_rule.PartRule.TheVariants.{Transposed};
 ghost use Rattle.hum_tones.specs.PartRule.{given};
 
-use crate::part_rule::rule_of;
+use crate::part_rule::{PartRule, rule_of};
+use crate::short_token::{ShortToken, with_pitch};
 use hum_choices::TransOptions;
 use hum_kern::{Note, read_note};
 use hum_pitch::{Pitch, PitchFault, push_pitch};
 use hum_record::RecordDraft;
 use hum_stage::{Refusal, Rule};
-use std::alloc::AllocError;
 
 /// The pitch so far away, where it can be spelled.
 #[inline(always)]
@@ -30,24 +30,7 @@ fn there(options: TransOptions, pitch: Pitch) -> Result<Pitch, PitchFault>
     pitch.transpose(options.steps, options.semitones)
 }
 
-/// Adds bytes, of which there are mostly one or two.
-#[inline(always)]
-fn push_few(text: &mut Vec<u8>, bytes: &[u8]) -> Result<(), AllocError>
-    ensures { OnOk result (text.new.items ≡ text.old.items ++ bytes.now) }
-{
-    match bytes {
-        [] => Ok(()),
-        [a] => {
-            text.push(*a)?;
-            Ok(())
-        }
-        [a, b] => text.extend_from_slice(&[*a, *b]),
-        _ => text.extend_from_slice(bytes),
-    }
-}
-
 /// Adds what a part becomes, by what was read of it.
-#[inline(always)]
 fn put_transposed(
     options: TransOptions,
     part: &[u8],
@@ -69,9 +52,9 @@ fn put_transposed(
         Err(PitchFault::TR1) => Err(Refusal::Rule(Rule::TR1)),
         Err(PitchFault::TR2) => Err(Refusal::Rule(Rule::TR2)),
         Ok(there) => {
-            push_few(text, &part[..found.start])?;
+            text.extend_from_slice(&part[..found.start])?;
             push_pitch(text, there)?;
-            push_few(text, part.split_at(found.end).1)?;
+            text.extend_from_slice(part.split_at(found.end).1)?;
             Ok(())
         }
     }
@@ -95,18 +78,35 @@ pub(crate) fn add_transposed(
     Ok(())
 }
 
+/// What a part becomes, by what was read of it, where it has a pitch and becomes a short text.
+#[inline(always)]
+fn short_transposed(options: TransOptions, part: &[u8], found: Note) -> Option<ShortToken>
+    requires { Ok (reading found) ≡ note part.now }
+    ensures { IfSome result (λ text. HasPut
+        (transposed_part options.steps options.semitones part.now) [] text.items None) }
+{
+    let pitch = match found.pitch {
+        Some(pitch) => pitch,
+        None => return None,
+    };
+    match there(options, pitch) {
+        Ok(there) => with_pitch(part, found.start, found.end, there),
+        Err(_) => None,
+    }
+}
+
 /// Adds what a token becomes that is one subtoken, by what was read of it, to a record in the
-/// making. Its text is made in `text`.
+/// making. A token without a pitch stays, and most others become short ones; any other text is made in `text`.
 #[inline(always)]
 pub(crate) fn push_transposed(
     options: TransOptions,
     token: &[u8],
-    found: &Note,
+    found: Note,
     text: &mut Vec<u8>,
     making: &mut RecordDraft,
 ) -> Result<(), Refusal>
     requires lawful { IsToken Values token.now }
-    requires read { IsReadAlone token.now (reading found.now) }
+    requires read { IsReadAlone token.now (reading found) }
     requires kind { making.old.builder.kind ≡ Values }
     ensures pushed { IfTold result
         (Pushes (given (Transposed options) token.now)
@@ -114,8 +114,15 @@ pub(crate) fn push_transposed(
         (Holds Values making.new.builder making.new.is_long)) }
     ensures kind { OnOk result (making.new.builder.kind ≡ Values) }
 {
-    text.clear();
-    put_transposed(options, token, found, text)?;
-    making.push(text)?;
-    Ok(())
+    if found.pitch.is_none() {
+        making.push(token)?;
+        return Ok(());
+    }
+    match short_transposed(options, token, found) {
+        Some(short) => {
+            making.push(short.as_slice())?;
+            Ok(())
+        }
+        None => PartRule::Transposed(options).push_parts(token, text, making),
+    }
 }

@@ -18,11 +18,11 @@ returns-in-Err-TR2 c =
 pub split_at-requires : goal.split_at-requires
 split_at-requires c = (within c.args.part.now (Ok c.args.found.now) c.requires).1
 
-pub returns-in_ok-push_few-in-Ok-2 : goal.returns-in_ok-push_few-in-Ok-2
-returns-in_ok-push_few-in-Ok-2 c =
+pub returns-in_ok-extend_from_slice-in-Ok-2 : goal.returns-in_ok-extend_from_slice-in-Ok-2
+returns-in_ok-extend_from_slice-in-Ok-2 c =
     rw (put_there c.args.options.steps c.args.options.semitones c.args.part.now c.args.found.now c.in-Some.pitch
     c.in-Ok.there c.requires c.in-Some.is c.in-Ok.ensures)
     (in_order c.args.text.now.items (take c.args.found.now.start c.args.part.now) (spelling (spelled c.in-Ok.there))
     (drop c.args.found.now.end c.args.part.now) _ _ _
-    c.in_ok-push_few-in-Ok.ensures c.in_ok-push_pitch-in-Ok.ensures.written
-    (c.in_ok-push_few-in-Ok-2.ensures ∙ ap (λ (l : List ℕ). c.push_pitch.new.text.items ++ l) c.split_at.ensures.back))
+    c.in_ok-extend_from_slice-in-Ok.ensures.items c.in_ok-push_pitch-in-Ok.ensures.written
+    (c.in_ok-extend_from_slice-in-Ok-2.ensures.items ∙ ap (λ (l : List ℕ). c.push_pitch.new.text.items ++ l) c.split_at.ensures.back))

@@ -4,8 +4,9 @@ use Rattle.hum_pitch.specs.Pitch.{Spelled}
 use Rattle.hum_pitch.specs.Given.{spelled}
 use Rattle.hum_tones.specs.Mint.{approached}
 use Rattle.hum_tones.proofs.TokenTone.{told_anew, told_on, told_still}
-use Rattle.hum_tones.proofs.minting.push_minted.Goals as goal
-use Rattle.hum_tones.proofs.minting.push_minted.Goals.{then-heard, else-heard}
+use Rattle.hum_tones.proofs.MintedLawful.{approached_lawful}
+use Rattle.hum_tones.proofs.minting.push_any_minted.Goals as goal
+use Rattle.hum_tones.proofs.minting.push_any_minted.Goals.{then-heard, else-heard}
 
 pub returns-then-tone-clause-pushed : goal.returns-then-tone-clause-pushed
 returns-then-tone-clause-pushed c = (
@@ -15,15 +16,26 @@ returns-then-tone-clause-pushed c = (
   λ tokens held. c.in_ok-push-in-Some.ensures.pushed _ tokens held,
 )
 
-pub returns-in_ok-push_tone-in-Some-clause-pushed : goal.returns-in_ok-push_tone-in-Some-clause-pushed
-returns-in_ok-push_tone-in-Some-clause-pushed c =
+pub push-requires-in-Some : goal.push-requires-in-Some
+push-requires-in-Some c =
     let signless = c.args.options.now.signless in
-    let sizeonly = c.args.options.now.sizeonly in (
-      approached signless sizeonly (option_map spelled c.before-in-Some.result) (spelled c.in-Some.tone.pitch),
+    let sizeonly = c.args.options.now.sizeonly in
+    rw (c.requires, c.deref.ensures.value, c.in_ok-add_tone-in-Some.ensures, c.clear.ensures.items)
+    (approached_lawful signless sizeonly c.before-in-Some.result c.in-Some.tone.pitch)
+
+pub returns-in_ok-push-in-Some-2-clause-pushed : goal.returns-in_ok-push-in-Some-2-clause-pushed
+returns-in_ok-push-in-Some-2-clause-pushed c =
+    let signless = c.args.options.now.signless in
+    let sizeonly = c.args.options.now.sizeonly in
+    let written : c.deref.result.now ≡ approached signless sizeonly c.args.column.now.before (spelled c.in-Some.tone.pitch) =
+    c.deref.ensures.value ∙ c.in_ok-add_tone-in-Some.ensures
+    ∙ ap (λ (xs : List ℕ). xs ++ approached signless sizeonly (option_map spelled c.before-in-Some.result) (spelled c.in-Some.tone.pitch)) c.clear.ensures.items
+    ∙ ap (λ (b : Option Spelled). approached signless sizeonly b (spelled c.in-Some.tone.pitch)) c.before-in-Some.ensures in (
+      c.deref.result.now,
       told_anew signless sizeonly c.args.column.now.before c.args.column.now.heard c.in-Ok.heard c.in-Some.tone
           c.in-Ok.ensures c.in-Some.is c.if-tone.false
-          ∙ ap (λ (b : Option Spelled). Ok (approached signless sizeonly b (spelled c.in-Some.tone.pitch))) (sym c.before-in-Some.ensures),
-      λ tokens held. c.in_ok-push_tone-in-Some.ensures.pushed tokens held,
+          ∙ ap (λ (t : List ℕ). Ok t) (sym written),
+      λ tokens held. c.in_ok-push-in-Some-2.ensures.pushed _ tokens held,
     )
 
 pub returns-in_ok-push-in-None-clause-pushed : goal.returns-in_ok-push-in-None-clause-pushed
