@@ -80,8 +80,8 @@ impl<S: Stage + Drop, R: Source + Drop, W: Sink> Net<S, R, W> {
         ensures takers { self.new.takers ≡ self.old.takers }
     {
         match self.web.take_out() {
-            Some(row) => match write_record(&mut self.sink, row) {
-                Ok(row) => {
+            Some(row) => match write_record(&mut self.sink, &row) {
+                Ok(()) => {
                     self.web.reuse(row);
                     return false;
                 }

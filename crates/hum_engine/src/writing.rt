@@ -1,5 +1,5 @@
 //! Writing records.
-ghost use Rattle.std.specs.Prelude.{◌≡◌, ◌++◌, ◌∷◌, [], IfOk};
+ghost use Rattle.std.specs.Prelude.{◌++◌, ◌∷◌, []};
 ghost use Rattle.hum_record.specs.Row.{text_of};
 ghost use Rattle.hum_engine.specs.Writing.{HasWritten};
 
@@ -45,35 +45,14 @@ fn write_on<W: Sink>(sink: &mut W, text: &[u8]) -> Result<(), WriteFailed>
     Ok(())
 }
 
-/// Writes a record's text and LF, at once where its buffer has room for both, and hands the record
-/// back.
+/// Writes a record's text and LF.
 ///
 /// # Errors
 /// As [`write_all`]'s.
 #[inline(always)]
-pub fn write_record<W: Sink>(sink: &mut W, row: Record) -> Result<Record, WriteFailed>
-    ensures written { HasWritten W.contents W.failed W.calls sink.old sink.new
-        (text_of row ++ 10 ∷ []) result }
-    ensures back { IfOk result (λ back. back ≡ row) }
-{
-    match row.into_line() {
-        Ok(line) => {
-            write_all(sink, line.text())?;
-            Ok(line.into_record())
-        }
-        Err(row) => {
-            write_parts(sink, &row)?;
-            Ok(row)
-        }
-    }
-}
-
-/// Writes a record's text, and then LF.
-#[inline(never)]
-fn write_parts<W: Sink>(sink: &mut W, row: &Record) -> Result<(), WriteFailed>
+pub fn write_record<W: Sink>(sink: &mut W, row: &Record) -> Result<(), WriteFailed>
     ensures { HasWritten W.contents W.failed W.calls sink.old sink.new
         (text_of row.now ++ 10 ∷ []) result }
 {
-    write_all(sink, row.text())?;
-    write_all(sink, b"\n")
+    write_all(sink, row.text_lf())
 }

@@ -30,12 +30,12 @@ returns-in-Ok g c =
           (g.W.Sink.contents c.write_record.new.sink) (g.W.Sink.flushed c.write_record.new.sink) false net.failure none
           (sent_record stands c.reuse.new.self s _ _ _ false c.take_out.result c.in-Some.row e t c.in-Some.is
           (not_heard (s.links (last (plan_of s))) h.some)
-          c.in-Ok.ensures.written.ok refl);
+          c.in-Ok.ensures.ok refl);
       asked = λ s h.
           let t = c.take_out.ensures.next s h.at in
           calls_record (s.links (last (plan_of s))).waiting c.in-Some.row _ _
-          (sym c.in-Some.is ∙ t) c.in-Ok.ensures.written.few;
-      marked = c.in-Ok.ensures.written.sound ∙ or_false _ ∙ ap (λ b. g.W.Sink.failed net.sink || b) (sym (ap is_write none));
+          (sym c.in-Some.is ∙ t) c.in-Ok.ensures.few;
+      marked = c.in-Ok.ensures.sound ∙ or_false _ ∙ ap (λ b. g.W.Sink.failed net.sink || b) (sym (ap is_write none));
       unread = λ k. ap (is_read_of k) none;
       shows = λ k. shows_more g.R.Source.remaining g.R.Source.calls g.R.Source.failed _
           c.take_out.new.self.nodes.items _ k
@@ -53,14 +53,14 @@ returns-in-Err g c =
     rw c.fail_to_write.ensures (record {
       went = λ s h.
           let t = c.take_out.ensures.next s h.at in (
-            writes_front s _ _ c.take_out.result c.in-Some.row t c.in-Some.is c.in-Err.ensures.written.err,
+            writes_front s _ _ c.take_out.result c.in-Some.row t c.in-Some.is c.in-Err.ensures.err,
             refl,
           );
       asked = λ s h.
           let t = c.take_out.ensures.next s h.at in
           calls_record (s.links (last (plan_of s))).waiting c.in-Some.row _ _
-          (sym c.in-Some.is ∙ t) c.in-Err.ensures.written.few;
-      marked = c.in-Err.ensures.written.marked ∙ sym (or_right (g.W.Sink.failed net.sink) true refl);
+          (sym c.in-Some.is ∙ t) c.in-Err.ensures.few;
+      marked = c.in-Err.ensures.marked ∙ sym (or_right (g.W.Sink.failed net.sink) true refl);
       unread = λ k. refl;
       shows = λ k. shows_nodes g.R.Source.remaining g.R.Source.calls g.R.Source.failed net.web
           c.take_out.new.self k c.take_out.ensures.nodes;
