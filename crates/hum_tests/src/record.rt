@@ -34,6 +34,10 @@ type Row = (&'static [u8], Kind, &'static [&'static [u8]]);
 fn check_record(rt: &impl Abort, record: &Record, row: &Row) {
     let (text, kind, tokens) = *row;
     same_bytes(rt, record.text(), text, text);
+    if let Some((last, front)) = record.text_lf().split_last() {
+        same(rt, *last, b'\n', text);
+        same_bytes(rt, front, text, text);
+    }
     same(rt, record.kind(), kind, text);
     same(rt, record.width(), tokens.len(), text);
     for (j, token) in tokens.iter().enumerate() {
@@ -43,23 +47,8 @@ fn check_record(rt: &impl Abort, record: &Record, row: &Row) {
     }
 }
 
-// What comes back of a record that is made a line.
-fn through_line(rt: &impl Abort, record: Record) -> Record {
-    let width = record.width();
-    match record.into_line() {
-        Ok(line) => {
-            same(rt, line.text().ends_with(b"\n"), true, "a line");
-            line.into_record()
-        }
-        Err(record) => {
-            same(rt, record.width(), width, "no line");
-            record
-        }
-    }
-}
-
 // Each text is read as the record of its row, and so are copies of it, one in what is left of the
-// one before it, and what comes back of it as a line.
+// one before it.
 fn check_read(rt: &impl Abort, alloc: Global, rows: &[Row]) {
     let mut spare = Spare::none(alloc);
     for row in rows {
@@ -70,7 +59,6 @@ fn check_read(rt: &impl Abort, alloc: Global, rows: &[Row]) {
         let other = copy.copy_into(alloc, &mut spare).expect(rt, "memory");
         check_record(rt, &other, row);
         spare.keep(other);
-        check_record(rt, &through_line(rt, record), row);
     }
 }
 
