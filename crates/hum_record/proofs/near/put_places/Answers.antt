@@ -1,4 +1,4 @@
-use Rattle.std.proofs.Common.{◌≡◌, ◌∙◌, ◌<◌, ◌≤◌, ◌+◌, ◌^◌, ◌++◌, length, take, ap, arith, length-append}
+use Rattle.std.proofs.Common.{◌≡◌, ◌∙◌, ◌+◌, ◌++◌, length, take, ap, arith, length-append}
 use lib.Count.{count_trailing_zeros, ones}
 use Rattle.std.proofs.lemmas.List.{take_more_set, length-set}
 use Rattle.hum_record.specs.Cutting.{set_places}
