@@ -1,9 +1,9 @@
 -- The line in front of the bytes that come next.
-use Rattle.std.proofs.Common.{◌≡◌, ◌≢◌, ◌∙◌, ℕ, zero, suc, ◌+◌, ◌-◌, ◌<◌, ◌≤◌, ◌⊎◌, inl, inr, ⊎_elim, Bool, true, false}
+use Rattle.std.proofs.Common.{◌≡◌, ◌∙◌, ℕ, zero, suc, ◌+◌, ◌-◌, ◌<◌, ◌≤◌, inl, inr, ⊎_elim, true, false}
 use Rattle.std.proofs.Common.{List, [], ◌∷◌, ◌++◌, length, take, get_or, refl, sym, ap, subst, arith, Ok, length-append}
 use Rattle.std.specs.Prelude.{◌==◌}
-use Rattle.std.proofs.lemmas.Bool.{cases_Bool, eqb-true, or_parts}
-use Rattle.std.proofs.lemmas.List.{get_or_append_left, take-append-le, take_more, take_at, length-take-le}
+use Rattle.std.proofs.lemmas.Bool.{cases_Bool, or_parts}
+use Rattle.std.proofs.lemmas.List.{get_or_append_left, take-append-le, take_more, take_at}
 use Rattle.hum_text.specs.declared.Limits.{Limits}
 use Rattle.hum_text.specs.Text.{without_cr, ends_in_cr}
 use Rattle.hum_record.specs.Row.{Row, text_of}

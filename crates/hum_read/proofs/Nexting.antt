@@ -23,7 +23,7 @@ use Rattle.hum_record.specs.Spelling.{has_byte}
 use Rattle.hum_read.specs.Denoted.{standard}
 use Rattle.hum_read.specs.Steps.{IsTidy, Nexts, ReadsLine, given_by, end_of, stop_by}
 use Rattle.hum_read.proofs.Polling.{has-line, text-ended, text-stopped}
-use Rattle.hum_read.specs.Reading.{HasRead, Scores, Polled, Gave, ReadOn, Ended, Gives, GivesNext, stop_of, answer_of, IsDue, IsCalledAtMostOnce}
+use Rattle.hum_read.specs.Reading.{HasRead, Scores, Polled, Gave, ReadOn, Ended, Gives, GivesNext, stop_of, answer_of, IsCalledAtMostOnce}
 use Rattle.hum_read.specs.Reading.{ReadsOnce as ReadsOnceDue, Nears as NearsBy}
 
 -- how an answer comes of what the lines gave

@@ -21,9 +21,6 @@ use hum_text::{Limits, TextFault, reader as lines};
 use std::alloc::Global;
 use std::marker::Model;
 
-/// With so many spines most lines are longer than 32 bytes.
-const WIDE: usize = 8;
-
 /// The end of a score that breaks a rule in this line.
 fn broken(stage: u8, line: u64, rule: Rule) -> End
     ensures { result ≡ end_at stage (Some (line, rule)) }
@@ -246,8 +243,8 @@ impl<R: Source> ScoreReader<R> {
         if self.stopped.is_some() {
             return None;
         }
-        let are_wide = self.paths.width() >= WIDE;
-        if let Some(record) = Record::parse_line(pool, self.lines.ahead(), are_wide) {
+        let width = self.paths.width();
+        if let Some(record) = Record::parse_line(pool, self.lines.ahead(), width) {
             if self.paths.keeps_spines(&record) {
                 self.lines.take_line(record.text().len());
                 return Some(record);

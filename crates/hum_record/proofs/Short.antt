@@ -6,9 +6,8 @@ use Rattle.std.specs.Prelude.{◌==◌, if◌then◌else◌}
 use Rattle.std.specs.Simd.Lanes.{chunk, mask_l, top}
 use Rattle.std.proofs.lemmas.Simd.{mask_l-mod, length-chunk, trailing_mask_l}
 use Rattle.std.specs.List.{prefix_len}
-use Rattle.std.proofs.lemmas.List.{length-map, append-nil, nil_from_length, get_or-take}
+use Rattle.std.proofs.lemmas.List.{length-map, append-nil, get_or-take}
 use Rattle.std.proofs.lemmas.Bool.{eqb-true, eq-eqb, and_parts, or_from, cases_lt}
-use Rattle.memchr.specs.Find.{IsFirstByte, is_byte}
 use lib.Bits.{bit_and, bit_or, and_step, and_self, and_zero_r}
 use lib.Count.{count_trailing_zeros, under, ones, ones_step}
 use lib.Pow.{pow_mono}
@@ -23,7 +22,7 @@ use Rattle.hum_record.specs.Plain.{is_rare, is_stop, has_mark, head_after, IsPla
 use Rattle.hum_record.proofs.Laws.{spined_fields, reads_row, reads_spined}
 use Rattle.hum_record.proofs.Cuts.{tabs_append, ends_tabs}
 use Rattle.hum_record.proofs.Places.{any_bit, take_count, front_of_front, one_moved, bits_front, bits_below}
-use Rattle.hum_record.proofs.Plain.{mark_append, no_marks, plain_data, or_left, or_right, none_set}
+use Rattle.hum_record.proofs.Plain.{mark_append, no_marks, plain_data, or_left, or_right}
 
 -- The places of bits
 

@@ -109,7 +109,8 @@ pub fn put_places(places: &mut [u32], count: usize, start: u32, bits: u64) -> us
         rest &= rest - 1;
         end += 1;
     }
-    end
+    // asked of the bits: where the loop's count is wanted it is compiled to a slower one
+    count + bits.count_ones() as usize
 }
 
 /// Puts the first `N` bytes of what is held in front of what stands in a list.

@@ -22,6 +22,11 @@ use memchr::memchr;
 use std::alloc::{AllocError, Global};
 use std::marker::Model;
 
+/// With so many tokens most lines are longer than 32 bytes, and with so many more than 64.
+const WIDE: usize = 8;
+
+const WIDEST: usize = 16;
+
 /// One record: a global comment, or a token of one kind for each spine.
 ///
 /// It is as large as a pointer, so that it is moved as quickly.
@@ -122,21 +127,21 @@ impl Record {
 
     /// Reads the line in front of what is held, up to LF, or CR and LF, into what is left of a record that
     /// is done with, if the line's bytes show that it is plain data and there is one that has room. What any
-    /// other line is, [`Record::parse_into`] tells. Where lines are said to be wide, they are looked at in
-    /// larger pieces.
+    /// other line is, [`Record::parse_into`] tells. By how many tokens it may have it is known in what pieces
+    /// it is best looked at.
     #[inline(always)]
-    pub fn parse_line(spare: &mut Spare, held: &[u8], are_wide: bool) -> Option<Record>
+    pub fn parse_line(spare: &mut Spare, held: &[u8], width: usize) -> Option<Record>
         ensures { IfSome result (IsRead held.now) }
     {
         if held.len() < NEAR {
             return None;
         }
-        if are_wide {
-            return Self::parse_far(spare, held);
+        if width >= WIDE {
+            return Self::parse_far(spare, held, width);
         }
         let stops = stop_bits::<SHORT>(held, 0);
         if stops == 0 {
-            return Self::parse_far(spare, held);
+            return Self::parse_far(spare, held, width);
         }
         let end = line_end::<SHORT>(held, 0, 1, stops)?;
         Self::of_near::<SHORT>(spare, held, end)
@@ -144,10 +149,13 @@ impl Record {
 
     /// The same of a longer line.
     #[inline(never)]
-    fn parse_far(spare: &mut Spare, held: &[u8]) -> Option<Record>
+    fn parse_far(spare: &mut Spare, held: &[u8], width: usize) -> Option<Record>
         requires { 64 ≤ length held.now }
         ensures { IfSome result (IsRead held.now) }
     {
+        if width >= WIDEST {
+            return Self::parse_wide(spare, held);
+        }
         let stops = stop_bits::<NEAR>(held, 0);
         if stops == 0 {
             return Self::parse_wide(spare, held);

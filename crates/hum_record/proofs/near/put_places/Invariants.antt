@@ -1,4 +1,4 @@
-use Rattle.std.proofs.Common.{ℕ, ◌≡◌, ◌≤◌, ◌++◌, length, take}
+use Rattle.std.proofs.Common.{◌≡◌, ◌≤◌, ◌++◌, length, take}
 use Rattle.hum_record.specs.Cutting.{set_places}
 use Rattle.hum_record.proofs.near.put_places.Given as goal
 

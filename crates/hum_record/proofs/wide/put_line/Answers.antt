@@ -1,4 +1,4 @@
-use Rattle.std.proofs.Common.{◌≡◌, ◌≤◌, ◌<◌, ◌+◌, ◌*◌, ◌/◌, ◌^◌, ◌++◌, ◌∙◌, ℕ, List, length, take, drop, subst, refl, ap, arith}
+use Rattle.std.proofs.Common.{◌≡◌, ◌≤◌, ◌+◌, ◌*◌, ◌/◌, ◌^◌, ◌++◌, ◌∙◌, ℕ, List, length, take, drop, subst, refl, ap, arith}
 use Rattle.hum_record.specs.Cutting.{set_places}
 use Rattle.hum_record.proofs.Held.{front_written, front_kept}
 use Rattle.hum_record.proofs.Short.{most_places}

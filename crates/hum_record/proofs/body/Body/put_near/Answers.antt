@@ -1,7 +1,7 @@
 use Rattle.std.proofs.Common.{◌≡◌, ◌∙◌, length, take, ap, sym, arith}
 use Rattle.std.proofs.lemmas.List.{take-set}
 use Rattle.hum_record.specs.Cutting.{set_places}
-use Rattle.hum_record.proofs.Held.{written_back, front_put, ended_there}
+use Rattle.hum_record.proofs.Held.{written_back, front_put}
 use Rattle.hum_record.proofs.Short.{count_places}
 use Rattle.hum_record.proofs.body.Body.put_near.Goals as goal
 

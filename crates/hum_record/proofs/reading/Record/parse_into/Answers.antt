@@ -1,4 +1,3 @@
-use Rattle.std.proofs.Common.{take}
 use Rattle.hum_record.proofs.Laws.{gives_found, gives_only, gives_broken}
 use Rattle.hum_record.proofs.reading.Record.parse_into.Goals as goal
 

@@ -1,4 +1,4 @@
-use Rattle.std.proofs.Common.{◌≡◌, ◌+◌, ◌<◌, ◌≤◌, ◌++◌, ◌∷◌, [], length, length-take, get_or, sym, ap, ◌∙◌, subst, take, arith}
+use Rattle.std.proofs.Common.{◌≡◌, ◌+◌, ◌<◌, ◌≤◌, ◌++◌, ◌∷◌, [], length, length-take, sym, ◌∙◌, subst, take, arith}
 use Rattle.std.proofs.lemmas.List.{get_or-take}
 use Rattle.hum_text.specs.Text.{without_cr, IsLawful}
 use Rattle.hum_text.proofs.PieceLemmas.{NoLf}

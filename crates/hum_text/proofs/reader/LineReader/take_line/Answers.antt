@@ -1,4 +1,4 @@
-use Rattle.std.proofs.Common.{◌≡◌, ◌∙◌, ◌+◌, ◌<◌, ◌≤◌, length, take, get_or, subst, sym, ap, arith, Some}
+use Rattle.std.proofs.Common.{◌≡◌, ◌∙◌, ◌<◌, length, take, subst, sym, ap, arith, Some}
 use Rattle.memchr.specs.Find.{IsFirstByte, is_byte}
 use Rattle.hum_text.specs.Text.{without_cr}
 use Rattle.hum_text.proofs.LimitLemmas.{lf-place, same-place, front-text}
