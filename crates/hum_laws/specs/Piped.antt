@@ -18,6 +18,10 @@ IsPiped first second score given =
 abbrev pub Same : Given → Given → Type 0
 Same one other = (one.records.items ≡ other.records.items) × (one.end ≡ other.end)
 
+-- Both sides give the same records, where both end closed.
+abbrev pub SameWhereClosed : Given → Given → Type 0
+SameWhereClosed one other = one.end ≡ Closed → other.end ≡ Closed → one.records.items ≡ other.records.items
+
 -- a new stage that makes scores of scores
 pub record IsFirst (stands : Moment → Type 0) : Type 0 where
   pub meaning : Meaning

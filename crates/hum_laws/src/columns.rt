@@ -9,7 +9,7 @@ ghost use Rattle.hum_extract.specs.Extract.{extract};
 ghost use Rattle.hum_choices.specs.Extract.{choice_of};
 ghost use Rattle.hum_extract.specs.Extract.{meaning as meaning_of_extract};
 ghost use Rattle.hum_ditto.specs.Ditto.{meaning as meaning_of_ditto};
-ghost use Rattle.hum_laws.specs.Piped.{IsAlone, IsPiped};
+ghost use Rattle.hum_laws.specs.Piped.{IsAlone, IsPiped, SameWhereClosed};
 ghost use Rattle.hum_laws.specs.Fields.{every_field};
 
 use crate::commands::{again, alone, piped};
@@ -29,8 +29,7 @@ pub fn extract_ditto(score: ClosedScore<'_>, chosen: ExtractOptions, options: Di
         IsPiped (meaning_of_extract 1 chosen) (meaning_of_ditto 2 options) score.entry.records.now both.0) }
     ensures filled { IfOk result (λ both.
         IsPiped (meaning_of_ditto 1 options) (meaning_of_extract 2 chosen) score.entry.records.now both.1) }
-    ensures same { IfOk result (λ both. both.0.end ≡ Closed → both.1.end ≡ Closed →
-        both.0.records.items ≡ both.1.records.items) }
+    ensures same { IfOk result (λ both. SameWhereClosed both.0 both.1) }
 {
     let chosen_too = chosen.copy(score.alloc)?;
     let options_too = options.copy(score.alloc)?;

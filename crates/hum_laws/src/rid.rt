@@ -1,9 +1,8 @@
 //! The command rid, again and again.
 ghost use Rattle.std.specs.Prelude.{◌≡◌, ◌||◌, false, IfOk};
-ghost use Rattle.hum_stage.specs.declared.faults.End.TheVariants.{Closed};
 ghost use Rattle.hum_rid.specs.Rid.{meaning};
 ghost use Rattle.hum_commands.specs.Meaning.{meaning as meaning_of};
-ghost use Rattle.hum_laws.specs.Piped.{IsAlone, IsPiped, Same};
+ghost use Rattle.hum_laws.specs.Piped.{IsAlone, IsPiped, Same, SameWhereClosed};
 ghost use Rattle.hum_laws.specs.Letters.{joint};
 ghost use Rattle.hum_laws.specs.Comments.{all_comments, TellsByTokens, MeanTheSame};
 
@@ -104,8 +103,7 @@ pub fn comments_aside(
         IsPiped (meaning 1 all_comments) (meaning_of 2 command) score.entry.records.now both.0) }
     ensures last { IfOk result (λ both.
         IsPiped (meaning_of 1 command) (meaning 2 all_comments) score.entry.records.now both.1) }
-    ensures same { IfOk result (λ both. both.0.end ≡ Closed → both.1.end ≡ Closed →
-        both.0.records.items ≡ both.1.records.items) }
+    ensures same { IfOk result (λ both. SameWhereClosed both.0 both.1) }
 {
     let letter = all_comments();
     let first = piped(score, Rid(letter), command)?;
