@@ -80,7 +80,12 @@ impl ShortText {
             return None;
         }
         Some(ShortText {
-            bytes: [sign, letter, b'0' + (size / 10) as u8, b'0' + (size % 10) as u8],
+            bytes: [
+                sign,
+                letter,
+                b'0' + (size / 10) as u8,
+                b'0' + (size % 10) as u8,
+            ],
             from: 0,
         })
     }

@@ -1,4 +1,4 @@
-use Rattle.std.proofs.Common.{◌≡◌, ◌∙◌, refl, sym, ap, List, ℕ, ◌++◌, Option, Ok}
+use Rattle.std.proofs.Common.{◌∙◌, refl, sym, ap, Option, Ok}
 use Rattle.std.specs.Prelude.{option_map}
 use Rattle.hum_pitch.specs.Pitch.{Spelled}
 use Rattle.hum_pitch.specs.Given.{spelled}

@@ -1,6 +1,5 @@
-use Rattle.std.proofs.Common.{◌≡◌, ◌∙◌, sym}
+use Rattle.std.proofs.Common.{◌∙◌}
 use Rattle.hum_record.specs.declared.SpinedKind.TheVariants.{Values}
-use Rattle.hum_record.specs.Spelling.{IsToken}
 use Rattle.hum_path.proofs.Carry.{on_ok}
 use Rattle.hum_tones.proofs.MintedLawful.{approached_lawful}
 use Rattle.hum_tones.proofs.minting.push_tone.Goals as goal
