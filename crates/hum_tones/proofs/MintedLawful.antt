@@ -1,6 +1,6 @@
 -- The name of an interval, and a pitch in brackets, may stand as a token.
 use Rattle.std.proofs.Common.{◌≡◌, ◌≢◌, refl, ℕ, ℤ, pos, ◌-ℤ◌, ◌==◌, ◌<◌, ◌≤◌, ◌^◌, Bool, false, List, [], ◌∷◌, ◌++◌, arith, Option, None, Some}
-use Rattle.std.specs.Prelude.{cond, option_map, IfSome}
+use Rattle.std.specs.Prelude.{cond, option_map}
 use Rattle.std.specs.Fmt.{decimal}
 use Rattle.std.specs.Int.Signed.{mag}
 use Rattle.std.proofs.lemmas.Int.{ints}
@@ -13,8 +13,6 @@ use Rattle.hum_pitch.specs.Spelling.{spelling}
 use Rattle.hum_pitch.specs.Intervals.{direction, sign, quality, quality_letters, size, named}
 use Rattle.hum_pitch.specs.declared.pitch.Pitch.{Pitch}
 use Rattle.hum_pitch.proofs.Names.{AreOver, name_over}
-use Rattle.hum_tones.specs.declared.short_text.ShortText.{ShortText}
-use Rattle.hum_tones.specs.ShortText.{text_of}
 use Rattle.hum_tones.specs.Mint.{approached}
 use Rattle.hum_tones.proofs.Parts.{IsPiece}
 use Rattle.hum_tones.proofs.MovedLawful.{both_lack, spelling_lacks}
@@ -89,9 +87,3 @@ approached_lawful signless sizeonly None pitch = brackets_lawful (spelled pitch)
 approached_lawful signless sizeonly (Some before) pitch =
     named_lawful signless sizeonly (step_number (spelled pitch) -ℤ step_number (spelled before))
     (semitones (spelled pitch) -ℤ semitones (spelled before)) (small_size before pitch)
-
-pub short_lawful : (r : Option ShortText) (signless sizeonly : Bool) (before : Option Pitch) (pitch : Pitch)
-    → IfSome r (λ name. text_of name ≡ approached signless sizeonly (option_map spelled before) (spelled pitch))
-    → IfSome r (λ name. IsToken Values (text_of name))
-short_lawful None signless sizeonly before pitch h = tt
-short_lawful (Some name) signless sizeonly before pitch h = rw h (approached_lawful signless sizeonly before pitch)

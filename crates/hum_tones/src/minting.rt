@@ -1,7 +1,6 @@
 //! Tokens in whose place stands the interval from the note before.
-ghost use Rattle.std.specs.Prelude.{◌≡◌, ◌++◌, Ok, OnOk, IfSome, option_map};
+ghost use Rattle.std.specs.Prelude.{◌≡◌, ◌∷◌, ◌++◌, [], ℕ, List, OnOk, IfSome, option_map};
 ghost use Rattle.hum_record.specs.declared.SpinedKind.TheVariants.{Values};
-ghost use Rattle.hum_record.specs.Spelling.{IsToken};
 ghost use Rattle.hum_record.specs.RecordDraft.{Holds};
 ghost use Rattle.hum_pitch.specs.Given.{spelled};
 ghost use Rattle.hum_stage.specs.Refusals.{IfTold};
@@ -64,35 +63,58 @@ fn short_name(options: &MintOptions, before: Option<Pitch>, pitch: Pitch) -> Opt
     }
 }
 
-/// What a column's last cell becomes by the note before it, where that is short.
-#[inline(always)]
-fn short_minted(options: &MintOptions, column: &LastNote) -> Option<ShortText>
-    ensures told { IfSome result (λ text. told_as options.now.signless options.now.sizeonly
-        column.now.before column.now.heard ≡ Ok (text_of text)) }
-    ensures lawful { IfSome result (λ text. IsToken Values (text_of text)) }
+/// Adds what becomes of a pitch, whatever its name, to a record in the making. It is made in `text`.
+#[inline(never)]
+fn push_any_tone(
+    options: &MintOptions,
+    before: Option<Pitch>,
+    pitch: Pitch,
+    text: &mut Vec<u8>,
+    making: &mut RecordDraft,
+) -> Result<(), AllocError>
+    requires { making.old.builder.kind ≡ Values }
+    ensures pushed { OnOk result ((tokens : List (List ℕ))
+        → Holds Values making.old.builder making.old.is_long tokens
+        → Holds Values making.new.builder making.new.is_long
+        (tokens ++ approached options.now.signless options.now.sizeonly
+        (option_map spelled before) (spelled pitch) ∷ [])) }
+    ensures kind { making.new.builder.kind ≡ Values }
 {
-    let heard = match column.heard() {
-        Ok(heard) => heard,
-        Err(_) => return None,
-    };
-    match heard.tone {
-        Some(tone) => {
-            if tone.continued {
-                return Some(ShortText::of_byte(b'.'));
-            }
-            short_name(options, column.before(), tone.pitch)
-        }
-        None => Some(ShortText::of_byte(if heard.rest { b'r' } else { b'.' })),
+    text.clear();
+    add_tone(options, before, pitch, text)?;
+    making.push(text)
+}
+
+/// The same, by a short name where there is one.
+#[inline(always)]
+fn push_tone(
+    options: &MintOptions,
+    before: Option<Pitch>,
+    pitch: Pitch,
+    text: &mut Vec<u8>,
+    making: &mut RecordDraft,
+) -> Result<(), AllocError>
+    requires { making.old.builder.kind ≡ Values }
+    ensures pushed { OnOk result ((tokens : List (List ℕ))
+        → Holds Values making.old.builder making.old.is_long tokens
+        → Holds Values making.new.builder making.new.is_long
+        (tokens ++ approached options.now.signless options.now.sizeonly
+        (option_map spelled before) (spelled pitch) ∷ [])) }
+    ensures kind { making.new.builder.kind ≡ Values }
+{
+    match short_name(options, before, pitch) {
+        Some(name) => making.push(name.as_bytes()),
+        None => push_any_tone(options, before, pitch, text, making),
     }
 }
 
 /// Adds what a column's last cell, a data token, becomes by the note before it to a record in the
-/// making. It is made in `text`.
+/// making. Where its text has to be made, it is made in `text`.
 ///
 /// # Errors
 /// The rule by which it is refused; or out of memory.
-#[inline(never)]
-fn push_any_minted(
+#[inline(always)]
+pub(crate) fn push_minted(
     options: &MintOptions,
     column: &LastNote,
     text: &mut Vec<u8>,
@@ -115,38 +137,12 @@ fn push_any_minted(
                 making.push(b".")?;
                 return Ok(());
             }
-            text.clear();
-            add_tone(options, column.before(), tone.pitch, text)?;
-            making.push(text)?;
+            push_tone(options, column.before(), tone.pitch, text, making)?;
             Ok(())
         }
         None => {
             making.push(if heard.rest { b"r" } else { b"." })?;
             Ok(())
         }
-    }
-}
-
-/// The same; most often what it becomes is short.
-#[inline(always)]
-pub(crate) fn push_minted(
-    options: &MintOptions,
-    column: &LastNote,
-    text: &mut Vec<u8>,
-    making: &mut RecordDraft,
-) -> Result<(), Refusal>
-    requires { making.old.builder.kind ≡ Values }
-    ensures pushed { IfTold result (Pushes
-        (told_as options.now.signless options.now.sizeonly column.now.before column.now.heard)
-        (Holds Values making.old.builder making.old.is_long)
-        (Holds Values making.new.builder making.new.is_long)) }
-    ensures kind { OnOk result (making.new.builder.kind ≡ Values) }
-{
-    match short_minted(options, column) {
-        Some(short) => {
-            making.push(short.as_bytes())?;
-            Ok(())
-        }
-        None => push_any_minted(options, column, text, making),
     }
 }
