@@ -1,12 +1,11 @@
 //! What null tokens would repeat.
 ghost use Rattle.std.specs.Prelude.{◌≡◌, ◌<◌, true, false, map, [], None, slice_index_or};
 ghost use Rattle.std.specs.Prelude.{IfSome, IfOk, OnOk, OnErr, option_map, length};
-ghost use Rattle.std.specs.List.{list_any};
 ghost use Rattle.hum_record.specs.declared.Kind.TheVariants.{Interpretation, Values as AnyValues};
 ghost use Rattle.hum_record.specs.declared.SpinedKind.TheVariants.{Values};
 ghost use Rattle.hum_record.specs.Row.{kind_of, tokens_of, width_of, token_at, text_of};
 ghost use Rattle.hum_record.specs.Spelling.{IsToken, IsTextOf};
-ghost use Rattle.hum_path.specs.Sign.{sign_of, is_exclusive};
+ghost use Rattle.hum_path.specs.Sign.{has_exclusive};
 ghost use Rattle.hum_path.specs.Spines.{same_upto};
 ghost use Rattle.hum_path.specs.Step.{ComeFrom};
 ghost use Rattle.hum_ditto.specs.Held.{seen_alone, remembered_in, MayHold, MayFollow, HasFollowed};
@@ -14,7 +13,7 @@ ghost use Rattle.hum_ditto.specs.Held.{IsGivenFor};
 
 use crate::DittoOptions;
 use crate::last_seen::LastSeen;
-use hum_path::{Carried, Moves, token_sign};
+use hum_path::{Carried, Moves, has_exclusive};
 use hum_pattern::Pattern;
 use hum_record::{Kind, Record, Spare, is_null};
 use std::alloc::{AllocError, Global};
@@ -76,22 +75,14 @@ fn filled_token(row: &Record, j: usize) -> Option<&[u8]>
     if is_null(token) { None } else { Some(token) }
 }
 
-/// Whether a record names a spine anew.
-fn has_name(row: &Record) -> bool
-    ensures { result ≡ list_any (λ t. is_exclusive (sign_of t)) (tokens_of row.now) }
-{
-    row.tokens().any(|token| token_sign(token).is_exclusive())
-}
-
 /// Whether an interpretation leaves so many spines where they are, and names none.
 fn leaves_all(row: &Record, found: &Moves, width: usize) -> bool
     ensures moved { result ≡ true → found.now ≡ same_upto 0 width }
-    ensures named { result ≡ true
-        → list_any (λ t. is_exclusive (sign_of t)) (tokens_of row.now) ≡ false }
+    ensures named { result ≡ true → has_exclusive (tokens_of row.now) ≡ false }
 {
     match found.as_listed() {
         Some(_) => false,
-        None => found.len() == width && !has_name(row),
+        None => found.len() == width && !has_exclusive(row),
     }
 }
 
