@@ -110,12 +110,16 @@ impl CommandStage {
     {
         match options {
             CommandOptions::Rid(told) => CommandStage::Rid(Rid::new(alloc, number, told)),
-            CommandOptions::Extract(told) => CommandStage::Extract(Extract::new(alloc, number, told)),
+            CommandOptions::Extract(told) => CommandStage::Extract(Extract::new(
+                alloc, number, told,
+            )),
             CommandOptions::Ditto(told) => CommandStage::Ditto(Ditto::new(alloc, number, told)),
             CommandOptions::Timebase(told) => CommandStage::Timebase(Timebase::new(
                 alloc, number, told,
             )),
-            CommandOptions::Context(told) => CommandStage::Context(Context::new(alloc, number, told)),
+            CommandOptions::Context(told) => CommandStage::Context(Context::new(
+                alloc, number, told,
+            )),
             CommandOptions::Trans(told) => CommandStage::Trans(Trans::new(alloc, number, told)),
             CommandOptions::Semits(told) => CommandStage::Semits(Semits::new(alloc, number, told)),
             CommandOptions::Mint(told) => CommandStage::Mint(Mint::new(alloc, number, told)),

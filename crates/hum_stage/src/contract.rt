@@ -82,10 +82,7 @@ pub trait Stage {
     /// Takes the next record that is settled, as [`Stage::take`] does, and tells what it is ready for
     /// then. A record that it makes of its own is made in what the pool has left of one that is done with.
     #[inline(always)]
-    fn take_and_ask(
-        &mut self,
-        _pool: &mut Spare,
-    ) -> Result<(Option<Record>, Readiness), AllocError>
+    fn take_and_ask(&mut self, _pool: &mut Spare) -> Result<(Option<Record>, Readiness), AllocError>
         ensures ok { IfOk result (λ r. HasTaken (stands self.old) (stands self.new) r.0) }
         ensures ready { IfOk result (λ r. ShowsReadiness (stands self.new) r.1) }
         ensures err { OnErr result (spent self.new) }

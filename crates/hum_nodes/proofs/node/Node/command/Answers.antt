@@ -9,8 +9,11 @@ pub returns-clause-stands : goal.returns-clause-stands
 returns-clause-stands g c m rest h =
     let works : IsSingle (g.S.Stage.stands c.args.stage) c.args.source (fresh (single c.args.source m)) =
     record { moment = opening m; stand = h; kind = refl; inputs = refl; given = refl } in
-    record { works = works; knows = c.of_stage-readiness.ensures
-      ∙ readiness_is _ c.readiness.result c.readiness.ensures c.args.source _ works }
+    record {
+      works = works;
+      knows = c.of_stage-readiness.ensures
+          ∙ readiness_is _ c.readiness.result c.readiness.ensures c.args.source _ works;
+    }
 
 pub returns-clause-lawful : goal.returns-clause-lawful
 returns-clause-lawful g c m h = g.met.S.Stage.lawful c.args.stage (opening m) h
