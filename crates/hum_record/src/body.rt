@@ -230,12 +230,14 @@ impl Body {
     {
         self.clear();
         cut(&mut self.places, text)?;
+        let count = self.places.len();
+        fill_places(&mut self.places, count)?;
         self.held.clear();
         self.held.extend_from_slice(text)?;
         fill_bytes(&mut self.held, text.len() + 1)?;
         self.held[text.len()] = b'\n';
         self.len = text.len();
-        self.count = self.places.len();
+        self.count = count;
         Ok(())
     }
 

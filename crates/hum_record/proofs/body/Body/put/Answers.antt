@@ -12,11 +12,20 @@ invariant_of-self c =
     let is = none_counts c.self.inside.count places.items (omega (arith, few, places.ok.0)) none in
     (c.self.invariant.0, omega (arith, is), c.self.invariant.2)
 
+pub invariant_of-self-in_err-fill_places : goal.invariant_of-self-in_err-fill_places
+invariant_of-self-in_err-fill_places c =
+    let places = c.self.inside.places in
+    let none : take c.self.inside.count places.items ≡ [] = ap (λ (w : Written). w.ends) (c.self.view_is ∙ c.clear.ensures) in
+    let few = c.self.invariant.1 in
+    let is = none_counts c.self.inside.count places.items (omega (arith, few, places.ok.0)) none in
+    (c.self.invariant.0, omega (arith, is), c.self.invariant.2)
+
 pub returns-clause-fields : goal.returns-clause-fields
 returns-clause-fields c =
     let ends = c.cut.new.ends in
-    let size = c.len-self-inside.ensures in
-    let all = take_all c.len-self-inside.result ends.items (omega (arith, size, ends.ok.0)) in
+    let size = c.len-count.ensures in
+    let all : take c.len-count.result c.fill_places.new.places.items ≡ ends.items =
+    ap (λ n. take n c.fill_places.new.places.items) size ∙ c.fill_places.ensures.kept in
     subst (AreFields c.args.text.now) (sym all) c.in_ok-cut.ensures.fields
 
 pub returns-in_err-cut-clause-text : goal.returns-in_err-cut-clause-text
@@ -54,3 +63,15 @@ returns-in_err-fill_bytes-clause-fields c =
 pub returns-in_err-fill_bytes-clause-read : goal.returns-in_err-fill_bytes-clause-read
 returns-in_err-fill_bytes-clause-read c =
     let p = err_from_is_err_and c.from_residual-in_err-fill_bytes.result c.from_residual-in_err-fill_bytes.ensures.1 in rw p.1 tt
+
+pub returns-in_err-fill_places-clause-text : goal.returns-in_err-fill_places-clause-text
+returns-in_err-fill_places-clause-text c =
+    let p = err_from_is_err_and c.from_residual-in_err-fill_places.result c.from_residual-in_err-fill_places.ensures.1 in rw p.1 tt
+
+pub returns-in_err-fill_places-clause-fields : goal.returns-in_err-fill_places-clause-fields
+returns-in_err-fill_places-clause-fields c =
+    let p = err_from_is_err_and c.from_residual-in_err-fill_places.result c.from_residual-in_err-fill_places.ensures.1 in rw p.1 tt
+
+pub returns-in_err-fill_places-clause-read : goal.returns-in_err-fill_places-clause-read
+returns-in_err-fill_places-clause-read c =
+    let p = err_from_is_err_and c.from_residual-in_err-fill_places.result c.from_residual-in_err-fill_places.ensures.1 in rw p.1 tt
