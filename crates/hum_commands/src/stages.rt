@@ -158,8 +158,9 @@ impl Stage for CommandStage {
         &mut self,
         next: Record,
         pool: &mut Spare,
-    ) -> Result<(Option<Record>, Readiness), AllocError> {
-        each!(self, stage => stage.put_and_take(next, pool))
+        first: &mut Option<Record>,
+    ) -> Result<Readiness, AllocError> {
+        each!(self, stage => stage.put_and_take(next, pool, first))
     }
 
     #[inline(always)]

@@ -1,6 +1,6 @@
 -- One record more of a score.
 use Rattle.std.proofs.Common.{◌≡◌, ◌∙◌, sym, ap, List, [], ◌∷◌, ◌++◌}
-use Rattle.std.specs.Prelude.{Option, None, Some, Result, Ok, Err, IfOk, MatchOption, slice_get}
+use Rattle.std.specs.Prelude.{Option, None, Some, MatchOption, slice_get}
 use Rattle.hum_record.specs.Row.{Row}
 use Rattle.hum_path.specs.Spines.{Path, Unopened, after}
 use Rattle.hum_path.specs.Rules.{fault_of}
@@ -24,10 +24,9 @@ took_first : (after : Moment → Type 0) (t : Moment) (taken : Option Row) → h
 took_first after t None held h = h.1
 took_first after t (Some first) held h = record { next = h.0; held = held; stand = h.1 }
 
-pub put_and_took : {A E : Type 0} (before between after : Moment → Type 0) (row : Row) (r : Result (Option Row × A) E)
-    → HasPut before between row → ((t : Moment) → between t → held_at t ≡ 1)
-    → IfOk r (λ x. HasTaken between after x.0) → IfOk r (λ x. HasPutAndTaken before after row x.0)
-put_and_took before between after row (Ok x) put held took = λ t here going score.
+pub put_and_took : (before between after : Moment → Type 0) (row : Row) (taken : Option Row)
+    → HasPut before between row → ((t : Moment) → between t → held_at t ≡ 1) → HasTaken between after taken
+    → HasPutAndTaken before after row taken
+put_and_took before between after row taken put held took = λ t here going score.
     let there = put t here going score in
-    took_first after (after_put t row) x.0 (held (after_put t row) there) (took (after_put t row) there)
-put_and_took before between after row (Err e) put held took = tt
+    took_first after (after_put t row) taken (held (after_put t row) there) (took (after_put t row) there)

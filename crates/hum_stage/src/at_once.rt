@@ -165,12 +165,15 @@ impl<C: Decides> Stage for AtOnce<C> {
         &mut self,
         next: Record,
         pool: &mut Spare,
-    ) -> Result<(Option<Record>, Readiness), AllocError> {
+        first: &mut Option<Record>,
+    ) -> Result<Readiness, AllocError> {
         self.put(next)?;
         if self.held() != 1 {
-            return Ok((None, self.readiness()));
+            return Ok(self.readiness());
         }
-        self.take_and_ask(pool)
+        let (taken, behind) = self.take_and_ask(pool)?;
+        *first = taken;
+        Ok(behind)
     }
 
     #[inline(always)]

@@ -4,7 +4,7 @@
 //! of what is settled were given, and the end once it came. Each call is one step from moment to
 //! moment, so whatever calls were made, what a stage has given is a prefix of what its command makes
 //! of its whole input, and it is all of it once the stage is done.
-ghost use Rattle.std.specs.Prelude.{◌≡◌, ℕ, ◌≤◌, ◌⊎◌, length, IfOk, OnOk, OnErr, IsErr};
+ghost use Rattle.std.specs.Prelude.{◌≡◌, ℕ, ◌≤◌, ◌⊎◌, length, None, IfOk, OnOk, OnErr, IsErr};
 ghost use Rattle.hum_stage.specs.Meaning.{Moment, IsLawful, MayPut, MayEnd, all_of};
 ghost use Rattle.hum_stage.specs.Meaning.{HasPut, HasPutAndTaken, HasEnded, HasTaken, LeavesFewer, ShowsHeld};
 ghost use Rattle.hum_stage.specs.Meaning.{ShowsState, ShowsReadiness};
@@ -60,7 +60,7 @@ pub trait Stage {
         ensures { ShowsHeld (stands self.now) result };
 
     /// Puts one record more, as [`Stage::put`] does, takes at once the first record that it settles, if it
-    /// is easily had, and tells what it is ready for then.
+    /// is easily had, into a place for it, and tells what it is ready for then.
     // A function of its own for each command: in one for all of them each record would pay for the
     // registers and the room on the stack that any of them takes.
     #[inline(never)]
@@ -68,15 +68,18 @@ pub trait Stage {
         &mut self,
         next: Record,
         _pool: &mut Spare,
-    ) -> Result<(Option<Record>, Readiness), AllocError>
-        requires { spent self.old ⊎ MayPut (stands self.old) next }
-        ensures ok { IfOk result (λ r. HasPutAndTaken (stands self.old) (stands self.new) next r.0) }
-        ensures ready { IfOk result (λ r. ShowsReadiness (stands self.new) r.1) }
+        first: &mut Option<Record>,
+    ) -> Result<Readiness, AllocError>
+        requires may { spent self.old ⊎ MayPut (stands self.old) next }
+        requires empty { first.old ≡ None }
+        ensures ok { OnOk result
+            (HasPutAndTaken (stands self.old) (stands self.new) next first.new) }
+        ensures ready { IfOk result (ShowsReadiness (stands self.new)) }
         ensures err { OnErr result (spent self.new) }
         ensures stays_spent { spent self.old → IsErr result }
     {
         self.put(next)?;
-        Ok((None, self.readiness()))
+        Ok(self.readiness())
     }
 
     /// Takes the next record that is settled, as [`Stage::take`] does, and tells what it is ready for
