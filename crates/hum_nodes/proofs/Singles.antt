@@ -16,7 +16,6 @@ use Rattle.hum_stage.specs.Meaning.{all_of, held_at, after_take, TookFirst}
 use Rattle.hum_turns.specs.Flow.{Flow, AllFine}
 use Rattle.hum_turns.specs.Plan.{lower, or_own, end_of}
 use Rattle.hum_nodes.specs.Doing.{Doing, Gives, Reads, Wants, Done}
-use Rattle.hum_nodes.specs.declared.node.Ahead.{Ahead}
 use Rattle.hum_nodes.specs.Fine.{fine, IsFine}
 use Rattle.hum_nodes.specs.At.{Kind, At, doing_by, doing_of, output_of, holds_of, readiness_of, change_at, MayChange}
 use Rattle.hum_nodes.specs.Single.{want_by, own_end, single, IsSingle, HasAhead, IsAhead, readiness_for}
@@ -118,26 +117,26 @@ gives_if : (t : At) (row : Row) → Some row ≡ slice_get (output_of t) t.given
 gives_if t row h =
     cond-true _ _ _ (lt-ltb t.given (length (output_of t)) (slice_get_within (output_of t) t.given row (sym h)))
 
-pub not_ahead : (stands : Moment → Type 0) (from : ℕ) (ahead : Option Ahead) (t : At) → IsAhead stands from ahead t
-    → (doing_of t ≡ Gives → ⊥) → (ahead ≡ None) × IsSingle stands from t
-not_ahead stands from None t h other = (refl, h)
-not_ahead stands from (Some ahead) t h other = absurd (other (gives_if t ahead.row h.next))
+pub not_ahead : (stands : Moment → Type 0) (from : ℕ) (ahead : Option Row) (is : Readiness) (t : At)
+    → IsAhead stands from ahead is t → (doing_of t ≡ Gives → ⊥) → (ahead ≡ None) × IsSingle stands from t
+not_ahead stands from None is t h other = (refl, h)
+not_ahead stands from (Some row) is t h other = absurd (other (gives_if t row h.next))
 
-pub wants_alone : (stands : Moment → Type 0) (from : ℕ) (ahead : Option Ahead) (t : At) (place : ℕ)
-    → IsAhead stands from ahead t → doing_of t ≡ Wants place → (ahead ≡ None) × IsSingle stands from t
-wants_alone stands from ahead t place h is =
-    not_ahead stands from ahead t h (λ e. gives_not_wants place (sym e ∙ is))
+pub wants_alone : (stands : Moment → Type 0) (from : ℕ) (ahead : Option Row) (is : Readiness) (t : At) (place : ℕ)
+    → IsAhead stands from ahead is t → doing_of t ≡ Wants place → (ahead ≡ None) × IsSingle stands from t
+wants_alone stands from ahead is t place h wants =
+    not_ahead stands from ahead is t h (λ e. gives_not_wants place (sym e ∙ wants))
 
-pub done_alone : (stands : Moment → Type 0) (from : ℕ) (ahead : Option Ahead) (t : At) (end : End)
-    → IsAhead stands from ahead t → doing_of t ≡ Done end → IsSingle stands from t
-done_alone stands from ahead t end h is =
-    (not_ahead stands from ahead t h (λ e. gives_not_done end (sym e ∙ is))).1
+pub done_alone : (stands : Moment → Type 0) (from : ℕ) (ahead : Option Row) (is : Readiness) (t : At) (end : End)
+    → IsAhead stands from ahead is t → doing_of t ≡ Done end → IsSingle stands from t
+done_alone stands from ahead is t end h done =
+    (not_ahead stands from ahead is t h (λ e. gives_not_done end (sym e ∙ done))).1
 
 -- It is the stage of one input, whether a record was taken ahead or not.
-pub kind_is : (stands : Moment → Type 0) (from : ℕ) (ahead : Option Ahead) (t : At) → IsAhead stands from ahead t
-    → (m : Meaning) × (t.kind ≡ single from m)
-kind_is stands from None t h = (h.moment.meaning, h.kind)
-kind_is stands from (Some ahead) t h = (h.behind.moment.meaning, h.behind.kind)
+pub kind_is : (stands : Moment → Type 0) (from : ℕ) (ahead : Option Row) (is : Readiness) (t : At)
+    → IsAhead stands from ahead is t → (m : Meaning) × (t.kind ≡ single from m)
+kind_is stands from None is t h = (h.moment.meaning, h.kind)
+kind_is stands from (Some row) is t h = (h.behind.moment.meaning, h.behind.kind)
 
 -- What is settled and what is held is what the stage tells,
 output_is : (stands : Moment → Type 0) (from : ℕ) (t : At) (h : IsSingle stands from t) → output_of t ≡ all_of h.moment
@@ -155,14 +154,14 @@ holds_is stands from t h =
     ∙ ap (λ g. (single from m.meaning).holds a g) h.given
 
 -- so that what it has given first may be kept ahead,
-pub took_ahead : (stands : Moment → Type 0) (from : ℕ) (ahead : Ahead) (t : At) (m : Moment)
+pub took_ahead : (stands : Moment → Type 0) (from : ℕ) (row : Row) (is : Readiness) (t : At) (m : Moment)
     → t.kind ≡ single from m.meaning → t.inputs ≡ record { items = m.put; end = m.ended } ∷ [] → t.given ≡ m.given
-    → TookFirst stands m ahead.row → ShowsReadiness stands ahead.behind
-    → HasAhead stands from ahead t × (doing_of t ≡ Gives)
-took_ahead stands from ahead t m kind inputs given took asked =
+    → TookFirst stands m row → ShowsReadiness stands is
+    → HasAhead stands from row is t × (doing_of t ≡ Gives)
+took_ahead stands from row is t m kind inputs given took asked =
     let h : IsSingle (λ x. x ≡ m) from t =
     record { moment = m; stand = refl; kind = kind; inputs = inputs; given = given } in
-    let next : Some ahead.row ≡ slice_get (output_of t) t.given =
+    let next : Some row ≡ slice_get (output_of t) t.given =
     took.next ∙ ap (slice_get (all_of m)) (sym given)
     ∙ ap (λ l. slice_get l t.given) (sym (output_is (λ x. x ≡ m) from t h)) in (
       record {
@@ -177,7 +176,7 @@ took_ahead stands from ahead t m kind inputs given took asked =
         };
         asked = asked;
       },
-      gives_if t ahead.row next,
+      gives_if t row next,
     )
 
 -- and the stage may be given what the node may be given.

@@ -25,7 +25,7 @@ module _ {S R : Type 0} (stands : S → Moment → Type 0) where
   bytes_by : (work : Work S R) (rest : List ℕ) (t : At) → reads work ≡ true
       → WorksAs stands work rest t → 0 < t.kind.stage.bytes
   bytes_by (Read reader) rest t e h = some_read reader rest t h
-  bytes_by (Command stage source ahead) rest t e h = absurd (false≢true e)
+  bytes_by (Command stage source ahead is) rest t e h = absurd (false≢true e)
   bytes_by (Assemble stage sources) rest t e h = absurd (false≢true e)
 
   pub source_bytes : (node : Node S R) (rest : List ℕ) (t : At) → is_source node ≡ true
@@ -36,8 +36,8 @@ module _ {S R : Type 0} (stands : S → Moment → Type 0) where
   none_by : (work : Work S R) (rest : List ℕ) (t : At) → reads work ≡ false
       → WorksAs stands work rest t → t.kind.stage.bytes ≡ 0
   none_by (Read reader) rest t e h = absurd (false≢true (sym e))
-  none_by (Command stage source ahead) rest t e h =
-      ap (λ (k : Kind). k.stage.bytes) (kind_is (stands stage) source ahead t h).1
+  none_by (Command stage source ahead is) rest t e h =
+      ap (λ (k : Kind). k.stage.bytes) (kind_is (stands stage) source ahead is t h).1
   none_by (Assemble stage sources) rest t e h = ap (λ (k : Kind). k.stage.bytes) h.kind
 
   pub stage_bytes : (node : Node S R) (rest : List ℕ) (t : At) → is_source node ≡ false
@@ -47,8 +47,8 @@ module _ {S R : Type 0} (stands : S → Moment → Type 0) where
   few_by : (work : Work S R) (rest : List ℕ) (t : At) → WorksAs stands work rest t
       → 0 < t.kind.stage.bytes → t.read ≤ most_bytes
   few_by (Read reader) rest t h some = h.few
-  few_by (Command stage source ahead) rest t h some =
-      let z = none_by (Command stage source ahead) rest t refl h in absurd (omega (arith, z, some))
+  few_by (Command stage source ahead is) rest t h some =
+      let z = none_by (Command stage source ahead is) rest t refl h in absurd (omega (arith, z, some))
   few_by (Assemble stage sources) rest t h some =
       let z = none_by (Assemble stage sources) rest t refl h in absurd (omega (arith, z, some))
 
@@ -60,7 +60,7 @@ module _ {S R : Type 0} (stands : S → Moment → Type 0) where
   any_by : (work : Work S R) (a b : List ℕ) (t : At) → reads work ≡ false
       → WorksAs stands work a t → WorksAs stands work b t
   any_by (Read reader) a b t e h = absurd (false≢true (sym e))
-  any_by (Command stage source ahead) a b t e h = h
+  any_by (Command stage source ahead is) a b t e h = h
   any_by (Assemble stage sources) a b t e h = h
 
   pub any_rest : (node : Node S R) → is_source node ≡ false → (a b : List ℕ) (t : At)
@@ -72,7 +72,7 @@ module _ {S R : Type 0} (stands : S → Moment → Type 0) where
 module _ {S R : Type 0} (remaining : R → Option (List ℕ)) (calls : R → ℕ) (failed : R → Bool) where
   no_mark_by : (w : Work S R) → reads w ≡ false → failed_by failed w ≡ false
   no_mark_by (Read reader) e = absurd (false≢true (sym e))
-  no_mark_by (Command stage source ahead) e = refl
+  no_mark_by (Command stage source ahead is) e = refl
   no_mark_by (Assemble stage sources) e = refl
 
   pub no_mark : (n : Node S R) → is_source n ≡ false → failed_of failed n ≡ false
@@ -80,7 +80,7 @@ module _ {S R : Type 0} (remaining : R → Option (List ℕ)) (calls : R → ℕ
 
   no_call_by : (w : Work S R) → reads w ≡ false → calls_by calls w ≡ 0
   no_call_by (Read reader) e = absurd (false≢true (sym e))
-  no_call_by (Command stage source ahead) e = refl
+  no_call_by (Command stage source ahead is) e = refl
   no_call_by (Assemble stage sources) e = refl
 
   pub no_call : (n : Node S R) → is_source n ≡ false → calls_of calls n ≡ 0
@@ -88,7 +88,7 @@ module _ {S R : Type 0} (remaining : R → Option (List ℕ)) (calls : R → ℕ
 
   no_end_by : (w : Work S R) → reads w ≡ false → ended_by w ≡ false
   no_end_by (Read reader) e = absurd (false≢true (sym e))
-  no_end_by (Command stage source ahead) e = refl
+  no_end_by (Command stage source ahead is) e = refl
   no_end_by (Assemble stage sources) e = refl
 
   pub no_end : (n : Node S R) → is_source n ≡ false → ended_of n ≡ false
@@ -96,7 +96,7 @@ module _ {S R : Type 0} (remaining : R → Option (List ℕ)) (calls : R → ℕ
 
   no_rest_by : (w : Work S R) → reads w ≡ false → remaining_by remaining w ≡ None
   no_rest_by (Read reader) e = absurd (false≢true (sym e))
-  no_rest_by (Command stage source ahead) e = refl
+  no_rest_by (Command stage source ahead is) e = refl
   no_rest_by (Assemble stage sources) e = refl
 
   pub no_rest : (n : Node S R) → is_source n ≡ false → remaining_of remaining n ≡ None
@@ -168,7 +168,7 @@ taken_as (Some row) t after later f h = f (after_take t) h
 failed_never : {S R : Type 0} (failed : R → Bool) → ((r : R) → failed r ≡ false) → (w : Work S R)
     → failed_by failed w ≡ false
 failed_never failed never (Read reader) = never reader.lines.source
-failed_never failed never (Command stage source ahead) = refl
+failed_never failed never (Command stage source ahead is) = refl
 failed_never failed never (Assemble stage sources) = refl
 
 pub never_failed : {S R : Type 0} (failed : R → Bool) → ((r : R) → failed r ≡ false) → (n : Node S R)

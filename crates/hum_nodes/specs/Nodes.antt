@@ -17,7 +17,7 @@ use Rattle.hum_nodes.specs.Merging.{IsMerging}
 
 abbrev pub reads : {S R : Type 0} → Work S R → Bool
 reads (Read reader) = true
-reads (Command stage source ahead) = false
+reads (Command stage source ahead is) = false
 reads (Assemble stage sources) = false
 
 abbrev pub is_source : {S R : Type 0} → Node S R → Bool
@@ -31,7 +31,7 @@ readiness_at false doing = readiness_of doing
 -- what a stage of a plan stands for, where these bytes are still to come
 abbrev pub WorksAs : {S R : Type 0} → (S → Moment → Type 0) → Work S R → List ℕ → At → Type 0
 WorksAs stands (Read reader) rest t = IsReading reader rest t
-WorksAs stands (Command stage source ahead) rest t = IsAhead (stands stage) source ahead t
+WorksAs stands (Command stage source ahead is) rest t = IsAhead (stands stage) source ahead is t
 WorksAs stands (Assemble stage sources) rest t = IsMerging (Stands stage) sources.items t
 
 -- It stands for that, and knows what it does next.
@@ -46,7 +46,7 @@ pub record StandsAs {S R : Type 0} (stands : S → Moment → Type 0) (node : No
 
 abbrev pub remaining_by : {S R : Type 0} → (R → Option (List ℕ)) → Work S R → Option (List ℕ)
 remaining_by tells (Read reader) = tells reader.lines.source
-remaining_by tells (Command stage source ahead) = None
+remaining_by tells (Command stage source ahead is) = None
 remaining_by tells (Assemble stage sources) = None
 
 abbrev pub remaining_of : {S R : Type 0} → (R → Option (List ℕ)) → Node S R → Option (List ℕ)
@@ -54,7 +54,7 @@ remaining_of tells node = remaining_by tells node.work
 
 abbrev pub ended_by : {S R : Type 0} → Work S R → Bool
 ended_by (Read reader) = reader.lines.ended
-ended_by (Command stage source ahead) = false
+ended_by (Command stage source ahead is) = false
 ended_by (Assemble stage sources) = false
 
 abbrev pub ended_of : {S R : Type 0} → Node S R → Bool
@@ -62,7 +62,7 @@ ended_of node = ended_by node.work
 
 abbrev pub calls_by : {S R : Type 0} → (R → ℕ) → Work S R → ℕ
 calls_by calls (Read reader) = calls reader.lines.source
-calls_by calls (Command stage source ahead) = 0
+calls_by calls (Command stage source ahead is) = 0
 calls_by calls (Assemble stage sources) = 0
 
 abbrev pub calls_of : {S R : Type 0} → (R → ℕ) → Node S R → ℕ
@@ -70,7 +70,7 @@ calls_of calls node = calls_by calls node.work
 
 abbrev pub failed_by : {S R : Type 0} → (R → Bool) → Work S R → Bool
 failed_by failed (Read reader) = failed reader.lines.source
-failed_by failed (Command stage source ahead) = false
+failed_by failed (Command stage source ahead is) = false
 failed_by failed (Assemble stage sources) = false
 
 abbrev pub failed_of : {S R : Type 0} → (R → Bool) → Node S R → Bool
@@ -78,7 +78,7 @@ failed_of failed node = failed_by failed node.work
 
 abbrev pub stopped_by : {S R : Type 0} → Work S R → Option (Result End ReadError)
 stopped_by (Read reader) = reader.stopped
-stopped_by (Command stage source ahead) = None
+stopped_by (Command stage source ahead is) = None
 stopped_by (Assemble stage sources) = None
 
 abbrev pub stopped_of : {S R : Type 0} → Node S R → Option (Result End ReadError)

@@ -12,7 +12,6 @@ use Rattle.hum_stage.specs.declared.faults.Readiness.{Readiness as StageReadines
 use Rattle.hum_stage.specs.declared.faults.Readiness.TheVariants as stage
 use Rattle.hum_nodes.specs.declared.node.Readiness.{Readiness}
 use Rattle.hum_nodes.specs.declared.node.Readiness.TheVariants as node
-use Rattle.hum_nodes.specs.declared.node.Ahead.{Ahead}
 use Rattle.hum_nodes.specs.At.{Kind, At, output_of, holds_of, after_take}
 
 -- the records of the first input
@@ -61,16 +60,17 @@ pub record IsSingle (stands : Moment → Type 0) (from : ℕ) (t : At) : Type 0 
 
 -- The record that follows those given was taken of the stage ahead, the last one that was held, and it is
 -- known what the stage is ready for behind it.
-pub record HasAhead (stands : Moment → Type 0) (from : ℕ) (ahead : Ahead) (t : At) : Type 0 where
-  pub next : Some ahead.row ≡ slice_get (output_of t) t.given
+pub record HasAhead (stands : Moment → Type 0) (from : ℕ) (row : Row) (is : StageReadiness) (t : At)
+    : Type 0 where
+  pub next : Some row ≡ slice_get (output_of t) t.given
   pub held : holds_of t ≡ 1
   pub behind : IsSingle stands from (after_take t)
-  pub asked : ShowsReadiness stands ahead.behind
+  pub asked : ShowsReadiness stands is
 
 -- the same where nothing may have been taken ahead
-abbrev pub IsAhead : (Moment → Type 0) → ℕ → Option Ahead → At → Type 0
-IsAhead stands from None t = IsSingle stands from t
-IsAhead stands from (Some ahead) t = HasAhead stands from ahead t
+abbrev pub IsAhead : (Moment → Type 0) → ℕ → Option Row → StageReadiness → At → Type 0
+IsAhead stands from None is t = IsSingle stands from t
+IsAhead stands from (Some row) is t = HasAhead stands from row is t
 
 -- What the node does next whose stage is ready for this: it takes from its one input.
 abbrev pub readiness_for : StageReadiness → Readiness

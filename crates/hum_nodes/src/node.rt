@@ -49,18 +49,11 @@ pub struct Node<S, R> {
 enum Work<S, R> {
     /// A score is read.
     Read(ScoreReader<R>),
-    /// A command, the stage that it reads from, and what was taken of it ahead.
-    Command(S, usize, Option<Ahead>),
+    /// A command, the stage that it reads from, the record that it gives next, if that was taken as its
+    /// input was put, and what it is ready for behind that.
+    Command(S, usize, Option<Record>, StageReadiness),
     /// Scores are put side by side, those of these stages.
     Assemble(Assemble, Vec<usize>),
-}
-
-/// The record that a command gives next, which was taken as its input was put, and what the command is ready
-/// for behind it.
-#[derive(Drop)]
-struct Ahead {
-    row: Record,
-    behind: StageReadiness,
 }
 
 /// What a node does next whose command is ready for this: it reads from one stage.
@@ -125,10 +118,10 @@ impl<S: Stage + Drop, R: Source + Drop> Node<S, R> {
         // What it stands for keeps to the contract of stages.
         ensures lawful { (m : Meaning) → S.stands stage (opening m) → IsLawful m }
     {
-        let readiness = of_stage(stage.readiness());
+        let is = stage.readiness();
         Node {
-            work: Work::Command(stage, source, None),
-            readiness,
+            work: Work::Command(stage, source, None, is),
+            readiness: of_stage(is),
         }
     }
 
@@ -204,7 +197,7 @@ impl<S: Stage + Drop, R: Source + Drop> Node<S, R> {
     {
         match &self.work {
             Work::Read(_) => unreachable!(),
-            Work::Command(_, source, _) => *source,
+            Work::Command(_, source, ..) => *source,
             Work::Assemble(_, sources) => sources[place],
         }
     }
@@ -217,7 +210,7 @@ impl<S: Stage + Drop, R: Source + Drop> Node<S, R> {
     {
         match &self.work {
             Work::Read(_) => {}
-            Work::Command(_, source, _) => note(takers, *source, number),
+            Work::Command(_, source, ..) => note(takers, *source, number),
             Work::Assemble(_, sources) => {
                 for &source in sources {
                     note(takers, source, number);
@@ -238,8 +231,8 @@ impl<S: Stage + Drop, R: Source + Drop> Node<S, R> {
     {
         match &self.work {
             Work::Read(_) => unreachable!(),
-            Work::Command(_, _, Some(_)) => 1,
-            Work::Command(stage, _, None) => stage.held(),
+            Work::Command(_, _, Some(_), _) => 1,
+            Work::Command(stage, _, None, _) => stage.held(),
             Work::Assemble(stage, _) => stage.held(),
         }
     }
@@ -258,9 +251,9 @@ impl<S: Stage + Drop, R: Source + Drop> Node<S, R> {
     {
         match &mut self.work {
             Work::Read(_) => unreachable!(),
-            Work::Command(stage, _, ahead) => {
-                if let Some(Ahead { row, behind }) = ahead.take() {
-                    self.readiness = of_stage(behind);
+            Work::Command(stage, _, ahead, behind) => {
+                if let Some(row) = ahead.take() {
+                    self.readiness = of_stage(*behind);
                     return Ok(Some(row));
                 }
                 let (taken, readiness) = stage.take_and_ask(pool)?;
@@ -290,14 +283,12 @@ impl<S: Stage + Drop, R: Source + Drop> Node<S, R> {
     {
         match &mut self.work {
             Work::Read(_) => unreachable!(),
-            Work::Command(stage, _, ahead) => {
-                let (first, behind) = stage.put_and_take(next, pool)?;
-                match first {
-                    Some(row) => {
-                        *ahead = Some(Ahead { row, behind });
-                        self.readiness = Readiness::Gives;
-                    }
-                    None => self.readiness = of_stage(behind),
+            Work::Command(stage, _, ahead, behind) => {
+                let is = stage.put_and_take(next, pool, ahead)?;
+                *behind = is;
+                match ahead {
+                    Some(_) => self.readiness = Readiness::Gives,
+                    None => self.readiness = of_stage(is),
                 }
             }
             Work::Assemble(stage, _) => {

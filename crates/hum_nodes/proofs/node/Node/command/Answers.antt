@@ -11,8 +11,8 @@ returns-clause-stands g c m rest h =
     record { moment = opening m; stand = h; kind = refl; inputs = refl; given = refl } in
     record {
       works = works;
-      knows = c.of_stage-readiness.ensures
-          ∙ readiness_is _ c.readiness.result c.readiness.ensures c.args.source _ works;
+      knows = c.of_stage.ensures
+          ∙ readiness_is _ c.readiness-is.result c.readiness-is.ensures c.args.source _ works;
     }
 
 pub returns-clause-lawful : goal.returns-clause-lawful

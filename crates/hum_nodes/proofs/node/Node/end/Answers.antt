@@ -11,7 +11,7 @@ pub returns-in-Done : goal.returns-in-Done
 returns-in-Done g c rest t end h done =
     is_done c.match-self.state c.in-Done.end end c.in-Done.is (elim c.match-self.branch [
       | in-Command w ↦
-          let s = single.done_alone (g.S.Stage.stands w.in-Command.stage) w.in-Command.field-1 w.in-Command.field-2 t end
+          let s = single.done_alone (g.S.Stage.stands w.in-Command.stage) w.in-Command.field-1 w.in-Command.field-2 w.in-Command.field-3 t end
           (subst (λ x. WorksAs g.S.Stage.stands x rest t) w.in-Command.is h.works) done in
           single.end_told (g.S.Stage.stands w.in-Command.stage) w.in-Command.field-1 t s c.match-self.state end
           (w.state-is ∙ w.state-state.ensures s.moment s.stand) done
@@ -25,7 +25,7 @@ pub returns-in-Gives : goal.returns-in-Gives
 returns-in-Gives g c rest t end h done =
     not_done c.match-self.state end c.in-Gives.is (elim c.match-self.branch [
       | in-Command w ↦
-          let s = single.done_alone (g.S.Stage.stands w.in-Command.stage) w.in-Command.field-1 w.in-Command.field-2 t end
+          let s = single.done_alone (g.S.Stage.stands w.in-Command.stage) w.in-Command.field-1 w.in-Command.field-2 w.in-Command.field-3 t end
           (subst (λ x. WorksAs g.S.Stage.stands x rest t) w.in-Command.is h.works) done in
           single.end_told (g.S.Stage.stands w.in-Command.stage) w.in-Command.field-1 t s c.match-self.state end
           (w.state-is ∙ w.state-state.ensures s.moment s.stand) done

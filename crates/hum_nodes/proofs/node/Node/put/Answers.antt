@@ -11,10 +11,10 @@ use Rattle.hum_nodes.proofs.Singles as single
 use Rattle.hum_nodes.proofs.Mergings as merging
 use Rattle.hum_nodes.proofs.node.Node.put.Goals as goal
 
-pub put_and_take-requires : goal.put_and_take-requires
-put_and_take-requires g c =
+pub put_and_take-requires-clause-may : goal.put_and_take-requires-clause-may
+put_and_take-requires-clause-may g c =
     let stands = g.S.Stage.stands c.in-Command.stage in
-    let h = (single.wants_alone stands c.in-Command.field-1 c.in-Command.ahead c.requires.may.at c.args.place
+    let h = (single.wants_alone stands c.in-Command.field-1 c.in-Command.ahead c.in-Command.behind c.requires.may.at c.args.place
     (subst (λ w. WorksAs g.S.Stage.stands w [] c.requires.may.at) c.in-Command.is c.requires.may.stand.works)
     c.requires.may.holds.wants).1 in
     let k = single.changes stands c.in-Command.field-1 c.requires.may.at h (with_record c.args.next)
@@ -26,6 +26,13 @@ put_and_take-requires g c =
       score = k.fine.score;
       few = single.few_before h.moment.put c.args.next 4294967295 k.fine.few;
     })
+
+pub put_and_take-requires-clause-empty : goal.put_and_take-requires-clause-empty
+put_and_take-requires-clause-empty g c =
+    (single.wants_alone (g.S.Stage.stands c.in-Command.stage) c.in-Command.field-1 c.in-Command.ahead c.in-Command.behind
+    c.requires.may.at c.args.place
+    (subst (λ w. WorksAs g.S.Stage.stands w [] c.requires.may.at) c.in-Command.is c.requires.may.stand.works)
+    c.requires.may.holds.wants).0
 
 pub put-requires : goal.put-requires
 put-requires g c =
@@ -59,22 +66,26 @@ returns-after-done_with-clause-put g c rest t h may =
 pub returns-in-Some-clause-put : goal.returns-in-Some-clause-put
 returns-in-Some-clause-put g c rest t h may =
     let stands = g.S.Stage.stands c.in-Command.stage in
-    let alone = single.wants_alone stands c.in-Command.field-1 c.in-Command.ahead t c.args.place
+    let alone = single.wants_alone stands c.in-Command.field-1 c.in-Command.ahead c.in-Command.behind t c.args.place
     (subst (λ w. WorksAs g.S.Stage.stands w rest t) c.in-Command.is h.works) may.wants in
     let w = alone.1 in
     let k = single.changes stands c.in-Command.field-1 t w (with_record c.args.next) c.args.place may in
-    let took = MatchOption-at_some _ _ c.in-Some.row c.in-Some.is
-    (c.in_ok-first-in-Command.ensures.ok w.moment w.stand k.ended k.fine.score) in
+    let row = c.in-Some.field-0 in
+    let took = MatchOption-at_some _ _ row c.in-Some.is
+    (c.in_ok-is-in-Command.ensures.ok w.moment w.stand k.ended k.fine.score) in
     let both = single.took_ahead (g.S.Stage.stands c.put_and_take.new.self) c.in-Command.field-1
-    (record { row = c.in-Some.row; behind = c.in_ok-first-in-Command.behind })
-    (after_change (with_record c.args.next) c.args.place t) (after_put w.moment c.args.next)
-    w.kind k.inputs w.given took c.in_ok-first-in-Command.ensures.ready in
-    record { works = both.0; knows = sym (ap readiness_of both.1) }
+    row c.in_ok-is-in-Command.is' (after_change (with_record c.args.next) c.args.place t) (after_put w.moment c.args.next)
+    w.kind k.inputs w.given took c.in_ok-is-in-Command.ensures.ready in
+    record {
+      works = subst (λ a. IsAhead (g.S.Stage.stands c.put_and_take.new.self) c.in-Command.field-1 a
+          c.in_ok-is-in-Command.is' (after_change (with_record c.args.next) c.args.place t)) (sym c.in-Some.is) both.0;
+      knows = sym (ap readiness_of both.1);
+    }
 
 pub returns-in-None-clause-put : goal.returns-in-None-clause-put
 returns-in-None-clause-put g c rest t h may =
     let stands = g.S.Stage.stands c.in-Command.stage in
-    let alone = single.wants_alone stands c.in-Command.field-1 c.in-Command.ahead t c.args.place
+    let alone = single.wants_alone stands c.in-Command.field-1 c.in-Command.ahead c.in-Command.behind t c.args.place
     (subst (λ w. WorksAs g.S.Stage.stands w rest t) c.in-Command.is h.works) may.wants in
     let w = alone.1 in
     let k = single.changes stands c.in-Command.field-1 t w (with_record c.args.next) c.args.place may in
@@ -82,14 +93,15 @@ returns-in-None-clause-put g c rest t h may =
     let works : IsSingle (g.S.Stage.stands c.put_and_take.new.self) c.in-Command.field-1 after = record {
       moment = after_put w.moment c.args.next;
       stand = MatchOption-at_none _ _ c.in-None.is
-          (c.in_ok-first-in-Command.ensures.ok w.moment w.stand k.ended k.fine.score);
+          (c.in_ok-is-in-Command.ensures.ok w.moment w.stand k.ended k.fine.score);
       kind = w.kind;
       inputs = k.inputs;
       given = w.given;
     } in
     record {
-      works = subst (λ a. IsAhead (g.S.Stage.stands c.put_and_take.new.self) c.in-Command.field-1 a after) (sym alone.0) works;
+      works = subst (λ a. IsAhead (g.S.Stage.stands c.put_and_take.new.self) c.in-Command.field-1 a
+          c.in_ok-is-in-Command.is' after) (sym c.in-None.is) works;
       knows = c.of_stage-self.ensures
-          ∙ single.readiness_is _ c.in_ok-first-in-Command.behind c.in_ok-first-in-Command.ensures.ready
+          ∙ single.readiness_is _ c.in_ok-is-in-Command.is' c.in_ok-is-in-Command.ensures.ready
           c.in-Command.field-1 _ works;
     }

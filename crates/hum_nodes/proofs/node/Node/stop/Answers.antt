@@ -13,7 +13,7 @@ use Rattle.hum_nodes.proofs.node.Node.stop.Goals as goal
 pub end-requires : goal.end-requires
 end-requires g c =
     let stands = g.S.Stage.stands c.in-Command.stage in
-    let h = (single.wants_alone stands c.in-Command.field-1 c.in-Command.field-2 c.requires.may.at c.args.place
+    let h = (single.wants_alone stands c.in-Command.field-1 c.in-Command.field-2 c.in-Command.field-3 c.requires.may.at c.args.place
     (subst (λ w. WorksAs g.S.Stage.stands w [] c.requires.may.at) c.in-Command.is c.requires.may.stand.works)
     c.requires.may.holds.wants).1 in
     let k = single.changes stands c.in-Command.field-1 c.requires.may.at h (with_end c.args.end)
@@ -42,7 +42,7 @@ end-requires-in-Assemble g c =
 pub returns-in-Command-clause-stopped : goal.returns-in-Command-clause-stopped
 returns-in-Command-clause-stopped g c rest t h may =
     let stands = g.S.Stage.stands c.in-Command.stage in
-    let alone = single.wants_alone stands c.in-Command.field-1 c.in-Command.field-2 t c.args.place
+    let alone = single.wants_alone stands c.in-Command.field-1 c.in-Command.field-2 c.in-Command.field-3 t c.args.place
     (subst (λ w. WorksAs g.S.Stage.stands w rest t) c.in-Command.is h.works) may.wants in
     let w = alone.1 in
     let k = single.changes stands c.in-Command.field-1 t w (with_end c.args.end) c.args.place may in
@@ -55,7 +55,7 @@ returns-in-Command-clause-stopped g c rest t h may =
       given = w.given;
     } in
     record {
-      works = subst (λ a. IsAhead (g.S.Stage.stands c.end.new.self) c.in-Command.field-1 a after) (sym alone.0) works;
+      works = subst (λ a. IsAhead (g.S.Stage.stands c.end.new.self) c.in-Command.field-1 a c.in-Command.field-3 after) (sym alone.0) works;
       knows = c.of_stage-self.ensures
           ∙ single.readiness_is _ c.readiness.result c.readiness.ensures c.in-Command.field-1 _ works;
     }
