@@ -1,7 +1,7 @@
 -- What a stage of one input stands for, as a node.
 use Rattle.std.proofs.Common.{◌≡◌, ◌∙◌, refl, sym, ap, subst, ℕ, suc, ◌<◌, ◌≤◌, Bool, true}
 use Rattle.std.proofs.Common.{false, if◌then◌else◌, nat_lt, List, [], ◌∷◌, ◌++◌, length, Option, Some}
-use Rattle.std.proofs.Common.{None, unwrap_or, arith, length-append, ◌⊎◌, ⊎_elim, slice_get, lt-ltb, ◌+◌}
+use Rattle.std.proofs.Common.{None, unwrap_or, arith, length-append, ◌⊎◌, ⊎_elim, slice_get, slice_index, lt-ltb, ◌+◌}
 use Rattle.std.proofs.lemmas.Bool.{false≢true, cond-true}
 use Rattle.std.proofs.lemmas.Option.{slice_get_within}
 use Rattle.hum_record.specs.Row.{Row}
@@ -18,6 +18,7 @@ use Rattle.hum_turns.specs.Plan.{lower, or_own, end_of}
 use Rattle.hum_nodes.specs.Doing.{Doing, Gives, Reads, Wants, Done}
 use Rattle.hum_nodes.specs.Fine.{fine, IsFine}
 use Rattle.hum_nodes.specs.At.{Kind, At, doing_by, doing_of, output_of, holds_of, readiness_of, change_at, MayChange}
+use Rattle.hum_nodes.specs.Nodes.{KnowsSource}
 use Rattle.hum_nodes.specs.Single.{want_by, own_end, single, IsSingle, HasAhead, IsAhead, readiness_for}
 use Rattle.hum_nodes.proofs.Fining.{fine_is}
 
@@ -111,6 +112,12 @@ gives_not_done : (e : End) → Gives ≡ Done e → ⊥
 unfolding gives_flag
 gives_not_done e h = false≢true (sym (ap gives_flag h))
 
+-- A stage of one input takes from that.
+pub takes_first : (stands : Moment → Type 0) (from : ℕ) (t : At) → IsSingle stands from t → KnowsSource from t
+takes_first stands from t h place wants =
+    let first = (state_wants (state_of h.moment) place (sym (doing_is stands from t h) ∙ wants)).1 in
+    sym (ap (λ (k : Kind). slice_index k.stage.sources place) h.kind ∙ ap (slice_index (from ∷ [])) first)
+
 -- Where it isn't about to give, no record was taken ahead.
 
 gives_if : (t : At) (row : Row) → Some row ≡ slice_get (output_of t) t.given → doing_of t ≡ Gives
@@ -152,6 +159,11 @@ holds_is stands from t h =
     ap (λ (k : Kind). k.holds t.inputs t.given) h.kind
     ∙ ap (λ i. (single from m.meaning).holds i t.given) h.inputs
     ∙ ap (λ g. (single from m.meaning).holds a g) h.given
+
+pub takes_ahead : (stands : Moment → Type 0) (from : ℕ) (row : Row) (is : Readiness) (t : At)
+    → HasAhead stands from row is t → KnowsSource from t
+takes_ahead stands from row is t h place wants =
+    absurd (gives_not_wants place (sym (gives_if t row h.next) ∙ wants))
 
 -- so that what it has given first may be kept ahead,
 pub took_ahead : (stands : Moment → Type 0) (from : ℕ) (row : Row) (is : Readiness) (t : At) (m : Moment)

@@ -22,57 +22,57 @@ use Rattle.hum_nodes.specs.Nodes.{ended_by, ended_of, calls_by, calls_of, failed
 
 module _ {S R : Type 0} (stands : S → Moment → Type 0) where
   -- a source reads bytes, or their end
-  bytes_by : (work : Work S R) (rest : List ℕ) (t : At) → reads work ≡ true
-      → WorksAs stands work rest t → 0 < t.kind.stage.bytes
-  bytes_by (Read reader) rest t e h = some_read reader rest t h
-  bytes_by (Command stage source ahead is) rest t e h = absurd (false≢true e)
-  bytes_by (Assemble stage sources) rest t e h = absurd (false≢true e)
+  bytes_by : (work : Work S R) (from : ℕ) (rest : List ℕ) (t : At) → reads work ≡ true
+      → WorksAs stands work from rest t → 0 < t.kind.stage.bytes
+  bytes_by (Read reader) from rest t e h = some_read reader rest t h
+  bytes_by (Command stage ahead is) from rest t e h = absurd (false≢true e)
+  bytes_by (Assemble stage sources) from rest t e h = absurd (false≢true e)
 
   pub source_bytes : (node : Node S R) (rest : List ℕ) (t : At) → is_source node ≡ true
       → StandsAs stands node rest t → 0 < t.kind.stage.bytes
-  source_bytes node rest t e h = bytes_by node.work rest t e h.works
+  source_bytes node rest t e h = bytes_by node.work node.from rest t e h.works
 
   -- another stage reads none
-  none_by : (work : Work S R) (rest : List ℕ) (t : At) → reads work ≡ false
-      → WorksAs stands work rest t → t.kind.stage.bytes ≡ 0
-  none_by (Read reader) rest t e h = absurd (false≢true (sym e))
-  none_by (Command stage source ahead is) rest t e h =
-      ap (λ (k : Kind). k.stage.bytes) (kind_is (stands stage) source ahead is t h).1
-  none_by (Assemble stage sources) rest t e h = ap (λ (k : Kind). k.stage.bytes) h.kind
+  none_by : (work : Work S R) (from : ℕ) (rest : List ℕ) (t : At) → reads work ≡ false
+      → WorksAs stands work from rest t → t.kind.stage.bytes ≡ 0
+  none_by (Read reader) from rest t e h = absurd (false≢true (sym e))
+  none_by (Command stage ahead is) from rest t e h =
+      ap (λ (k : Kind). k.stage.bytes) (kind_is (stands stage) from ahead is t h).1
+  none_by (Assemble stage sources) from rest t e h = ap (λ (k : Kind). k.stage.bytes) h.kind
 
   pub stage_bytes : (node : Node S R) (rest : List ℕ) (t : At) → is_source node ≡ false
       → StandsAs stands node rest t → t.kind.stage.bytes ≡ 0
-  stage_bytes node rest t e h = none_by node.work rest t e h.works
+  stage_bytes node rest t e h = none_by node.work node.from rest t e h.works
 
-  few_by : (work : Work S R) (rest : List ℕ) (t : At) → WorksAs stands work rest t
+  few_by : (work : Work S R) (from : ℕ) (rest : List ℕ) (t : At) → WorksAs stands work from rest t
       → 0 < t.kind.stage.bytes → t.read ≤ most_bytes
-  few_by (Read reader) rest t h some = h.few
-  few_by (Command stage source ahead is) rest t h some =
-      let z = none_by (Command stage source ahead is) rest t refl h in absurd (omega (arith, z, some))
-  few_by (Assemble stage sources) rest t h some =
-      let z = none_by (Assemble stage sources) rest t refl h in absurd (omega (arith, z, some))
+  few_by (Read reader) from rest t h some = h.few
+  few_by (Command stage ahead is) from rest t h some =
+      let z = none_by (Command stage ahead is) from rest t refl h in absurd (omega (arith, z, some))
+  few_by (Assemble stage sources) from rest t h some =
+      let z = none_by (Assemble stage sources) from rest t refl h in absurd (omega (arith, z, some))
 
   pub reads_few : (node : Node S R) (rest : List ℕ) (t : At) → StandsAs stands node rest t
       → 0 < t.kind.stage.bytes → t.read ≤ most_bytes
-  reads_few node rest t h some = few_by node.work rest t h.works some
+  reads_few node rest t h some = few_by node.work node.from rest t h.works some
 
   -- what is still to come of bytes is nothing to a stage that isn't a source
-  any_by : (work : Work S R) (a b : List ℕ) (t : At) → reads work ≡ false
-      → WorksAs stands work a t → WorksAs stands work b t
-  any_by (Read reader) a b t e h = absurd (false≢true (sym e))
-  any_by (Command stage source ahead is) a b t e h = h
-  any_by (Assemble stage sources) a b t e h = h
+  any_by : (work : Work S R) (from : ℕ) (a b : List ℕ) (t : At) → reads work ≡ false
+      → WorksAs stands work from a t → WorksAs stands work from b t
+  any_by (Read reader) from a b t e h = absurd (false≢true (sym e))
+  any_by (Command stage ahead is) from a b t e h = h
+  any_by (Assemble stage sources) from a b t e h = h
 
   pub any_rest : (node : Node S R) → is_source node ≡ false → (a b : List ℕ) (t : At)
       → StandsAs stands node a t → StandsAs stands node b t
-  any_rest node e a b t h = record { works = any_by node.work a b t e h.works; knows = h.knows }
+  any_rest node e a b t h = record { works = any_by node.work node.from a b t e h.works; knows = h.knows; takes = h.takes }
 
 -- A stage that isn't a source has no reader.
 
 module _ {S R : Type 0} (remaining : R → Option (List ℕ)) (calls : R → ℕ) (failed : R → Bool) where
   no_mark_by : (w : Work S R) → reads w ≡ false → failed_by failed w ≡ false
   no_mark_by (Read reader) e = absurd (false≢true (sym e))
-  no_mark_by (Command stage source ahead is) e = refl
+  no_mark_by (Command stage ahead is) e = refl
   no_mark_by (Assemble stage sources) e = refl
 
   pub no_mark : (n : Node S R) → is_source n ≡ false → failed_of failed n ≡ false
@@ -80,7 +80,7 @@ module _ {S R : Type 0} (remaining : R → Option (List ℕ)) (calls : R → ℕ
 
   no_call_by : (w : Work S R) → reads w ≡ false → calls_by calls w ≡ 0
   no_call_by (Read reader) e = absurd (false≢true (sym e))
-  no_call_by (Command stage source ahead is) e = refl
+  no_call_by (Command stage ahead is) e = refl
   no_call_by (Assemble stage sources) e = refl
 
   pub no_call : (n : Node S R) → is_source n ≡ false → calls_of calls n ≡ 0
@@ -88,7 +88,7 @@ module _ {S R : Type 0} (remaining : R → Option (List ℕ)) (calls : R → ℕ
 
   no_end_by : (w : Work S R) → reads w ≡ false → ended_by w ≡ false
   no_end_by (Read reader) e = absurd (false≢true (sym e))
-  no_end_by (Command stage source ahead is) e = refl
+  no_end_by (Command stage ahead is) e = refl
   no_end_by (Assemble stage sources) e = refl
 
   pub no_end : (n : Node S R) → is_source n ≡ false → ended_of n ≡ false
@@ -96,7 +96,7 @@ module _ {S R : Type 0} (remaining : R → Option (List ℕ)) (calls : R → ℕ
 
   no_rest_by : (w : Work S R) → reads w ≡ false → remaining_by remaining w ≡ None
   no_rest_by (Read reader) e = absurd (false≢true (sym e))
-  no_rest_by (Command stage source ahead is) e = refl
+  no_rest_by (Command stage ahead is) e = refl
   no_rest_by (Assemble stage sources) e = refl
 
   pub no_rest : (n : Node S R) → is_source n ≡ false → remaining_of remaining n ≡ None
@@ -135,7 +135,7 @@ pub polled_as : {S R : Type 0} (stands : S → Moment → Type 0) (remaining : R
     → IfOk r (HasPolled (IsReading v) (IsReading w) v.lines.ended w.lines.ended
     (remaining v.lines.source) (remaining w.lines.source))
     → IfOk r (HasPolled (StandsAs stands node)
-    (StandsAs stands (record { work = Read w; readiness = node.readiness }))
+    (StandsAs stands (record { work = Read w; readiness = node.readiness; from = node.from }))
     (ended_of node) w.lines.ended (remaining_of remaining node) (remaining w.lines.source))
 polled_as stands remaining node v w is (Err e) h = tt
 polled_as stands remaining node v w is (Ok p) h = record {
@@ -148,12 +148,13 @@ polled_as stands remaining node v w is (Ok p) h = record {
   still = subst (λ x. ended_by x ≡ true → (h.read ≡ []) × (w.lines.ended ≡ true)) (sym is) h.still;
   polls = λ rest t over before.
       polls_by (doing_of t) t p (IsReading w rest)
-      (StandsAs stands (record { work = Read w; readiness = node.readiness }) rest)
+      (StandsAs stands (record { work = Read w; readiness = node.readiness; from = node.from }) rest)
       (λ u at. record {
         works = at;
         knows = before.knows ∙ ap (λ x. readiness_at (reads x) (doing_of t)) is;
+        takes = λ other. absurd (false≢true (sym other));
       })
-      (h.polls rest t over (subst (λ x. WorksAs stands x (h.read ++ rest) t) is before.works));
+      (h.polls rest t over (subst (λ x. WorksAs stands x node.from (h.read ++ rest) t) is before.works));
 }
 
 -- The same of a record that is taken.
@@ -168,7 +169,7 @@ taken_as (Some row) t after later f h = f (after_take t) h
 failed_never : {S R : Type 0} (failed : R → Bool) → ((r : R) → failed r ≡ false) → (w : Work S R)
     → failed_by failed w ≡ false
 failed_never failed never (Read reader) = never reader.lines.source
-failed_never failed never (Command stage source ahead is) = refl
+failed_never failed never (Command stage ahead is) = refl
 failed_never failed never (Assemble stage sources) = refl
 
 pub never_failed : {S R : Type 0} (failed : R → Bool) → ((r : R) → failed r ≡ false) → (n : Node S R)

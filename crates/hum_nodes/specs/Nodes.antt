@@ -1,5 +1,5 @@
 -- What a node stands for.
-use Rattle.std.specs.Prelude.{◌≡◌, ℕ, Bool, true, false, List, Option, None, Result}
+use Rattle.std.specs.Prelude.{◌≡◌, ℕ, Bool, true, false, List, Option, None, Result, slice_index}
 use Rattle.hum_stage.specs.declared.faults.End.{End}
 use Rattle.hum_stage.specs.Meaning.{Moment}
 use Rattle.hum_assemble.specs.Standing.{Stands}
@@ -9,15 +9,15 @@ use Rattle.hum_nodes.specs.declared.node.Readiness.{Readiness}
 use Rattle.hum_nodes.specs.declared.node.Readiness.TheVariants.{Reads}
 use Rattle.hum_nodes.specs.declared.node.Work.{Work}
 use Rattle.hum_nodes.specs.declared.node.Work.TheVariants.{Read, Command, Assemble}
-use Rattle.hum_nodes.specs.Doing.{Doing}
-use Rattle.hum_nodes.specs.At.{At, doing_of, readiness_of}
+use Rattle.hum_nodes.specs.Doing.{Doing, Wants}
+use Rattle.hum_nodes.specs.At.{At, doing_of, readiness_of, sources_of}
 use Rattle.hum_nodes.specs.Reading.{IsReading}
 use Rattle.hum_nodes.specs.Single.{IsAhead}
 use Rattle.hum_nodes.specs.Merging.{IsMerging}
 
 abbrev pub reads : {S R : Type 0} → Work S R → Bool
 reads (Read reader) = true
-reads (Command stage source ahead is) = false
+reads (Command stage ahead is) = false
 reads (Assemble stage sources) = false
 
 abbrev pub is_source : {S R : Type 0} → Node S R → Bool
@@ -29,16 +29,21 @@ readiness_at true doing = Reads
 readiness_at false doing = readiness_of doing
 
 -- what a stage of a plan stands for, where these bytes are still to come
-abbrev pub WorksAs : {S R : Type 0} → (S → Moment → Type 0) → Work S R → List ℕ → At → Type 0
-WorksAs stands (Read reader) rest t = IsReading reader rest t
-WorksAs stands (Command stage source ahead is) rest t = IsAhead (stands stage) source ahead is t
-WorksAs stands (Assemble stage sources) rest t = IsMerging (Stands stage) sources.items t
+abbrev pub WorksAs : {S R : Type 0} → (S → Moment → Type 0) → Work S R → ℕ → List ℕ → At → Type 0
+WorksAs stands (Read reader) from rest t = IsReading reader rest t
+WorksAs stands (Command stage ahead is) from rest t = IsAhead (stands stage) from ahead is t
+WorksAs stands (Assemble stage sources) from rest t = IsMerging (Stands stage) sources.items t
 
--- It stands for that, and knows what it does next.
+-- Where it wants, this is the stage that it takes from.
+abbrev pub KnowsSource : ℕ → At → Type 0
+KnowsSource from t = (place : ℕ) → doing_of t ≡ Wants place → from ≡ slice_index (sources_of t) place
+
+-- It stands for that, and knows what it does next and which stage it takes from.
 pub record StandsAs {S R : Type 0} (stands : S → Moment → Type 0) (node : Node S R)
     (rest : List ℕ) (t : At) : Type 0 where
-  pub works : WorksAs stands node.work rest t
+  pub works : WorksAs stands node.work node.from rest t
   pub knows : node.readiness ≡ readiness_at (reads node.work) (doing_of t)
+  pub takes : reads node.work ≡ false → KnowsSource node.from t
 
 -- What a source shows of its reader: the bytes that its reads will give, where they are known; whether
 -- their end was read; how many calls were made on it, and whether one failed; and why the source has
@@ -46,7 +51,7 @@ pub record StandsAs {S R : Type 0} (stands : S → Moment → Type 0) (node : No
 
 abbrev pub remaining_by : {S R : Type 0} → (R → Option (List ℕ)) → Work S R → Option (List ℕ)
 remaining_by tells (Read reader) = tells reader.lines.source
-remaining_by tells (Command stage source ahead is) = None
+remaining_by tells (Command stage ahead is) = None
 remaining_by tells (Assemble stage sources) = None
 
 abbrev pub remaining_of : {S R : Type 0} → (R → Option (List ℕ)) → Node S R → Option (List ℕ)
@@ -54,7 +59,7 @@ remaining_of tells node = remaining_by tells node.work
 
 abbrev pub ended_by : {S R : Type 0} → Work S R → Bool
 ended_by (Read reader) = reader.lines.ended
-ended_by (Command stage source ahead is) = false
+ended_by (Command stage ahead is) = false
 ended_by (Assemble stage sources) = false
 
 abbrev pub ended_of : {S R : Type 0} → Node S R → Bool
@@ -62,7 +67,7 @@ ended_of node = ended_by node.work
 
 abbrev pub calls_by : {S R : Type 0} → (R → ℕ) → Work S R → ℕ
 calls_by calls (Read reader) = calls reader.lines.source
-calls_by calls (Command stage source ahead is) = 0
+calls_by calls (Command stage ahead is) = 0
 calls_by calls (Assemble stage sources) = 0
 
 abbrev pub calls_of : {S R : Type 0} → (R → ℕ) → Node S R → ℕ
@@ -70,7 +75,7 @@ calls_of calls node = calls_by calls node.work
 
 abbrev pub failed_by : {S R : Type 0} → (R → Bool) → Work S R → Bool
 failed_by failed (Read reader) = failed reader.lines.source
-failed_by failed (Command stage source ahead is) = false
+failed_by failed (Command stage ahead is) = false
 failed_by failed (Assemble stage sources) = false
 
 abbrev pub failed_of : {S R : Type 0} → (R → Bool) → Node S R → Bool
@@ -78,7 +83,7 @@ failed_of failed node = failed_by failed node.work
 
 abbrev pub stopped_by : {S R : Type 0} → Work S R → Option (Result End ReadError)
 stopped_by (Read reader) = reader.stopped
-stopped_by (Command stage source ahead is) = None
+stopped_by (Command stage ahead is) = None
 stopped_by (Assemble stage sources) = None
 
 abbrev pub stopped_of : {S R : Type 0} → Node S R → Option (Result End ReadError)

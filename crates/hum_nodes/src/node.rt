@@ -8,6 +8,7 @@ ghost use Rattle.hum_nodes.specs.At.{At, fresh, MayDo, sources_of, doing_of, end
 ghost use Rattle.hum_nodes.specs.At.{HoldsOneEach, HasTaken, MayPut, MayStop, HasPut, HasStopped};
 ghost use Rattle.hum_nodes.specs.At.{readiness_of, set_each};
 ghost use Rattle.hum_nodes.specs.Doing as does;
+ghost use Rattle.hum_nodes.specs.declared.node.Readiness.TheVariants as kinds;
 ghost use Rattle.hum_nodes.specs.Single.{single, readiness_for};
 ghost use Rattle.hum_nodes.specs.Merging.{IsMerging, merging};
 ghost use Rattle.hum_nodes.specs.Reading.{reading};
@@ -36,22 +37,24 @@ pub enum Readiness {
     Wants(usize),
 }
 
-/// A stage of a plan in a net, and what it does next: that is learnt once after each of its calls,
-/// since a net asks for it more often than the stage moves.
+/// A stage of a plan in a net, what it does next, and where it wants, the number of the stage that it takes
+/// from: these are learnt once after each of its calls, since a net asks for them more often than the
+/// stage moves. Stages are numbered from 0 here.
 #[derive(Drop)]
 pub struct Node<S, R> {
     work: Work<S, R>,
     readiness: Readiness,
+    from: usize,
 }
 
-/// What a stage of a plan is. Stages are numbered from 0 here.
+/// What a stage of a plan is.
 #[derive(Drop)]
 enum Work<S, R> {
     /// A score is read.
     Read(ScoreReader<R>),
-    /// A command, the stage that it reads from, the record that it gives next, if that was taken as its
-    /// input was put, and what it is ready for behind that.
-    Command(S, usize, Option<Record>, StageReadiness),
+    /// A command, the record that it gives next, if that was taken as its input was put, and what it is
+    /// ready for behind that.
+    Command(S, Option<Record>, StageReadiness),
     /// Scores are put side by side, those of these stages.
     Assemble(Assemble, Vec<usize>),
 }
@@ -74,6 +77,29 @@ fn note(takers: &mut [usize], source: usize, number: usize)
 {
     if source < takers.len() {
         takers[source] = number;
+    }
+}
+
+/// The source at a place, from 0; 0 where there is no such place.
+fn source_at(sources: &[usize], place: usize) -> usize
+    ensures { result ≡ slice_index sources.now place }
+{
+    if place < sources.len() {
+        return sources[place];
+    }
+    0
+}
+
+/// The stage that assemble takes from, of these, where this is what it does next.
+fn taken_from(readiness: Readiness, sources: &[usize]) -> usize
+    ensures { (place : ℕ) → readiness ≡ kinds.Wants place
+        → result ≡ slice_index sources.now place }
+{
+    match readiness {
+        Readiness::Wants(place) => source_at(sources, place),
+        Readiness::Gives => 0,
+        Readiness::Reads => 0,
+        Readiness::Done => 0,
     }
 }
 
@@ -106,6 +132,7 @@ impl<S: Stage + Drop, R: Source + Drop> Node<S, R> {
         Node {
             work: Work::Read(ScoreReader::new(alloc, number, source)),
             readiness: Readiness::Reads,
+            from: 0,
         }
     }
 
@@ -120,8 +147,9 @@ impl<S: Stage + Drop, R: Source + Drop> Node<S, R> {
     {
         let is = stage.readiness();
         Node {
-            work: Work::Command(stage, source, None, is),
+            work: Work::Command(stage, None, is),
             readiness: of_stage(is),
+            from: source,
         }
     }
 
@@ -142,9 +170,11 @@ impl<S: Stage + Drop, R: Source + Drop> Node<S, R> {
     {
         let stage = Assemble::new(alloc, number, sources.len())?;
         let readiness = of_assemble(&stage);
+        let from = taken_from(readiness, &sources);
         Ok(Node {
             work: Work::Assemble(stage, sources),
             readiness,
+            from,
         })
     }
 
@@ -186,20 +216,14 @@ impl<S: Stage + Drop, R: Source + Drop> Node<S, R> {
         }
     }
 
-    /// The number, from 0, of the stage that it reads from at this place.
+    /// The number, from 0, of the stage that it takes from, where it isn't a source and wants.
     #[inline(always)]
-    pub fn source(&self, place: usize) -> usize
-        requires kind { is_source self.now ≡ false }
-        requires place { MayDo (StandsAs S.stands self.now [])
-            (λ t. place < length (sources_of t)) }
-        ensures { (rest : List ℕ) (t : At) → StandsAs S.stands self.now rest t
+    pub fn source(&self) -> usize
+        ensures { is_source self.now ≡ false → (rest : List ℕ) (t : At) (place : ℕ)
+            → StandsAs S.stands self.now rest t → doing_of t ≡ does.Wants place
             → result ≡ slice_index (sources_of t) place }
     {
-        match &self.work {
-            Work::Read(_) => unreachable!(),
-            Work::Command(_, source, ..) => *source,
-            Work::Assemble(_, sources) => sources[place],
-        }
+        self.from
     }
 
     /// Notes as which number, from 0, it takes from each stage that it reads from.
@@ -210,7 +234,7 @@ impl<S: Stage + Drop, R: Source + Drop> Node<S, R> {
     {
         match &self.work {
             Work::Read(_) => {}
-            Work::Command(_, source, ..) => note(takers, *source, number),
+            Work::Command(..) => note(takers, self.from, number),
             Work::Assemble(_, sources) => {
                 for &source in sources {
                     note(takers, source, number);
@@ -231,8 +255,8 @@ impl<S: Stage + Drop, R: Source + Drop> Node<S, R> {
     {
         match &self.work {
             Work::Read(_) => unreachable!(),
-            Work::Command(_, _, Some(_), _) => 1,
-            Work::Command(stage, _, None, _) => stage.held(),
+            Work::Command(_, Some(_), _) => 1,
+            Work::Command(stage, None, _) => stage.held(),
             Work::Assemble(stage, _) => stage.held(),
         }
     }
@@ -251,7 +275,7 @@ impl<S: Stage + Drop, R: Source + Drop> Node<S, R> {
     {
         match &mut self.work {
             Work::Read(_) => unreachable!(),
-            Work::Command(stage, _, ahead, behind) => {
+            Work::Command(stage, ahead, behind) => {
                 if let Some(row) = ahead.take() {
                     self.readiness = of_stage(*behind);
                     return Ok(Some(row));
@@ -260,46 +284,55 @@ impl<S: Stage + Drop, R: Source + Drop> Node<S, R> {
                 self.readiness = of_stage(readiness);
                 Ok(taken)
             }
-            Work::Assemble(stage, _) => {
+            Work::Assemble(stage, sources) => {
                 let taken = stage.take()?;
                 self.readiness = of_assemble(stage);
+                self.from = taken_from(self.readiness, sources);
                 Ok(taken)
             }
         }
     }
 
-    /// Puts the next record of the input that it wants. A record of which assemble is done goes to the
-    /// pool.
+    /// Puts the next record of the input that it wants, and tells of a command whether it gives next. A record
+    /// of which assemble is done goes to the pool.
     ///
     /// # Errors
     /// Out of memory.
     #[inline(always)]
-    pub fn put(&mut self, place: usize, next: Record, pool: &mut Spare) -> Result<(), AllocError>
+    pub fn put(&mut self, place: usize, next: Record, pool: &mut Spare) -> Result<bool, AllocError>
         requires kind { is_source self.old ≡ false }
         requires may { MayPut (StandsAs S.stands self.old []) place next }
         ensures kind { is_source self.new ≡ false }
         ensures put { OnOk result ((rest : List ℕ) → HasPut (StandsAs S.stands self.old rest)
             (StandsAs S.stands self.new rest) place next) }
+        ensures gives { IfOk result (λ gives. gives ≡ true → self.new.readiness ≡ kinds.Gives) }
     {
         match &mut self.work {
             Work::Read(_) => unreachable!(),
-            Work::Command(stage, _, ahead, behind) => {
+            Work::Command(stage, ahead, behind) => {
                 let is = stage.put_and_take(next, pool, ahead)?;
                 *behind = is;
                 match ahead {
-                    Some(_) => self.readiness = Readiness::Gives,
-                    None => self.readiness = of_stage(is),
+                    Some(_) => {
+                        self.readiness = Readiness::Gives;
+                        Ok(true)
+                    }
+                    None => {
+                        self.readiness = of_stage(is);
+                        Ok(false)
+                    }
                 }
             }
-            Work::Assemble(stage, _) => {
+            Work::Assemble(stage, sources) => {
                 stage.put(place, next)?;
                 if let Some(row) = stage.done_with() {
                     pool.keep(row);
                 }
                 self.readiness = of_assemble(stage);
+                self.from = taken_from(self.readiness, sources);
+                Ok(false)
             }
         }
-        Ok(())
     }
 
     /// Says how the input that it wants ends: closed only after a closed score.
@@ -316,9 +349,10 @@ impl<S: Stage + Drop, R: Source + Drop> Node<S, R> {
                 stage.end(end);
                 self.readiness = of_stage(stage.readiness());
             }
-            Work::Assemble(stage, _) => {
+            Work::Assemble(stage, sources) => {
                 stage.end(place, end);
                 self.readiness = of_assemble(stage);
+                self.from = taken_from(self.readiness, sources);
             }
         }
     }

@@ -1,5 +1,6 @@
-use Rattle.std.proofs.Common.{arith, ◌≡◌, length}
+use Rattle.std.proofs.Common.{arith, ◌≡◌, ◌∙◌, ap, length, slice_index}
 use Rattle.hum_assemble.specs.Standing.{Stands}
+use Rattle.hum_nodes.specs.At.{readiness_of}
 use Rattle.hum_nodes.proofs.Mergings.{fresh_stands}
 use Rattle.hum_nodes.proofs.node.Node.assemble.Goals as goal
 
@@ -10,4 +11,10 @@ returns-clause-stands g c rest =
     let count : c.len.result ≡ length c.args.sources.items = omega (arith, is, l) in
     let works = fresh_stands (Stands c.in_ok-stage.stage) c.args.number c.len.result c.args.sources.items
     count c.in_ok-stage.ensures.stands in
-    record { works = works; knows = c.of_assemble-readiness.ensures c.args.sources.items _ works }
+    let knows = c.of_assemble-readiness.ensures c.args.sources.items _ works in
+    record {
+      works = works;
+      knows = knows;
+      takes = λ other place wants. c.taken_from-from.ensures place (knows ∙ ap readiness_of wants)
+          ∙ ap (λ l. slice_index l place) c.deref.ensures.value;
+    }

@@ -11,12 +11,12 @@ pub returns-in-Done : goal.returns-in-Done
 returns-in-Done g c rest t end h done =
     is_done c.match-self.state c.in-Done.end end c.in-Done.is (elim c.match-self.branch [
       | in-Command w ↦
-          let s = single.done_alone (g.S.Stage.stands w.in-Command.stage) w.in-Command.field-1 w.in-Command.field-2 w.in-Command.field-3 t end
-          (subst (λ x. WorksAs g.S.Stage.stands x rest t) w.in-Command.is h.works) done in
-          single.end_told (g.S.Stage.stands w.in-Command.stage) w.in-Command.field-1 t s c.match-self.state end
+          let s = single.done_alone (g.S.Stage.stands w.in-Command.stage) c.args.self.now.from w.in-Command.field-1 w.in-Command.field-2 t end
+          (subst (λ x. WorksAs g.S.Stage.stands x c.args.self.now.from rest t) w.in-Command.is h.works) done in
+          single.end_told (g.S.Stage.stands w.in-Command.stage) c.args.self.now.from t s c.match-self.state end
           (w.state-is ∙ w.state-state.ensures s.moment s.stand) done
       | in-Assemble w ↦
-          let s = subst (λ x. WorksAs g.S.Stage.stands x rest t) w.in-Assemble.is h.works in
+          let s = subst (λ x. WorksAs g.S.Stage.stands x c.args.self.now.from rest t) w.in-Assemble.is h.works in
           merging.end_told (Stands w.in-Assemble.stage) w.in-Assemble.field-1.items t s c.match-self.state end
           (w.state-is ∙ w.state-state-in-Assemble.ensures s.moment s.stand) done
     ])
@@ -25,12 +25,12 @@ pub returns-in-Gives : goal.returns-in-Gives
 returns-in-Gives g c rest t end h done =
     not_done c.match-self.state end c.in-Gives.is (elim c.match-self.branch [
       | in-Command w ↦
-          let s = single.done_alone (g.S.Stage.stands w.in-Command.stage) w.in-Command.field-1 w.in-Command.field-2 w.in-Command.field-3 t end
-          (subst (λ x. WorksAs g.S.Stage.stands x rest t) w.in-Command.is h.works) done in
-          single.end_told (g.S.Stage.stands w.in-Command.stage) w.in-Command.field-1 t s c.match-self.state end
+          let s = single.done_alone (g.S.Stage.stands w.in-Command.stage) c.args.self.now.from w.in-Command.field-1 w.in-Command.field-2 t end
+          (subst (λ x. WorksAs g.S.Stage.stands x c.args.self.now.from rest t) w.in-Command.is h.works) done in
+          single.end_told (g.S.Stage.stands w.in-Command.stage) c.args.self.now.from t s c.match-self.state end
           (w.state-is ∙ w.state-state.ensures s.moment s.stand) done
       | in-Assemble w ↦
-          let s = subst (λ x. WorksAs g.S.Stage.stands x rest t) w.in-Assemble.is h.works in
+          let s = subst (λ x. WorksAs g.S.Stage.stands x c.args.self.now.from rest t) w.in-Assemble.is h.works in
           merging.end_told (Stands w.in-Assemble.stage) w.in-Assemble.field-1.items t s c.match-self.state end
           (w.state-is ∙ w.state-state-in-Assemble.ensures s.moment s.stand) done
     ])

@@ -1,11 +1,11 @@
-use Rattle.std.proofs.Common.{◌∙◌, inr, subst, sym, ap}
+use Rattle.std.proofs.Common.{slice_index, ◌∙◌, inr, subst, sym, ap}
 use Rattle.std.proofs.lemmas.Option.{MatchOption-at_some, MatchOption-at_none}
 use Rattle.std.specs.Prelude.{◌++◌, ◌∷◌, [], ◌<◌, length}
 use Rattle.hum_stage.specs.Meaning.{after_put}
 use Rattle.hum_stage.specs.Score.{IsScore}
 use Rattle.hum_assemble.specs.Standing.{Stands}
 use Rattle.hum_nodes.specs.Single.{IsSingle, IsAhead}
-use Rattle.hum_nodes.specs.At.{after_change, with_record, readiness_of}
+use Rattle.hum_nodes.specs.At.{Kind, after_change, with_record, readiness_of}
 use Rattle.hum_nodes.specs.Nodes.{WorksAs}
 use Rattle.hum_nodes.proofs.Singles as single
 use Rattle.hum_nodes.proofs.Mergings as merging
@@ -14,10 +14,10 @@ use Rattle.hum_nodes.proofs.node.Node.put.Goals as goal
 pub put_and_take-requires-clause-may : goal.put_and_take-requires-clause-may
 put_and_take-requires-clause-may g c =
     let stands = g.S.Stage.stands c.in-Command.stage in
-    let h = (single.wants_alone stands c.in-Command.field-1 c.in-Command.ahead c.in-Command.behind c.requires.may.at c.args.place
-    (subst (λ w. WorksAs g.S.Stage.stands w [] c.requires.may.at) c.in-Command.is c.requires.may.stand.works)
+    let h = (single.wants_alone stands c.args.self.now.from c.in-Command.ahead c.in-Command.behind c.requires.may.at c.args.place
+    (subst (λ w. WorksAs g.S.Stage.stands w c.args.self.now.from [] c.requires.may.at) c.in-Command.is c.requires.may.stand.works)
     c.requires.may.holds.wants).1 in
-    let k = single.changes stands c.in-Command.field-1 c.requires.may.at h (with_record c.args.next)
+    let k = single.changes stands c.args.self.now.from c.requires.may.at h (with_record c.args.next)
     c.args.place c.requires.may.holds in
     inr (record {
       at = h.moment;
@@ -29,17 +29,17 @@ put_and_take-requires-clause-may g c =
 
 pub put_and_take-requires-clause-empty : goal.put_and_take-requires-clause-empty
 put_and_take-requires-clause-empty g c =
-    (single.wants_alone (g.S.Stage.stands c.in-Command.stage) c.in-Command.field-1 c.in-Command.ahead c.in-Command.behind
+    (single.wants_alone (g.S.Stage.stands c.in-Command.stage) c.args.self.now.from c.in-Command.ahead c.in-Command.behind
     c.requires.may.at c.args.place
-    (subst (λ w. WorksAs g.S.Stage.stands w [] c.requires.may.at) c.in-Command.is c.requires.may.stand.works)
+    (subst (λ w. WorksAs g.S.Stage.stands w c.args.self.now.from [] c.requires.may.at) c.in-Command.is c.requires.may.stand.works)
     c.requires.may.holds.wants).0
 
 pub put-requires : goal.put-requires
 put-requires g c =
     let stands = Stands c.in-Assemble.stage in
-    let h = subst (λ w. WorksAs g.S.Stage.stands w [] c.requires.may.at) c.in-Assemble.is
+    let h = subst (λ w. WorksAs g.S.Stage.stands w c.args.self.now.from [] c.requires.may.at) c.in-Assemble.is
     c.requires.may.stand.works in
-    let k = merging.changes stands c.in-Assemble.field-1.items c.requires.may.at h
+    let k = merging.changes stands c.in-Assemble.sources.items c.requires.may.at h
     (with_record c.args.next) c.args.place c.requires.may.holds in
     inr (record {
       at = h.moment;
@@ -53,44 +53,52 @@ put-requires g c =
 pub returns-after-done_with-clause-put : goal.returns-after-done_with-clause-put
 returns-after-done_with-clause-put g c rest t h may =
     let stands = Stands c.in-Assemble.stage in
-    let w = subst (λ w. WorksAs g.S.Stage.stands w rest t) c.in-Assemble.is h.works in
-    let k = merging.changes stands c.in-Assemble.field-1.items t w (with_record c.args.next)
+    let w = subst (λ w. WorksAs g.S.Stage.stands w c.args.self.now.from rest t) c.in-Assemble.is h.works in
+    let k = merging.changes stands c.in-Assemble.sources.items t w (with_record c.args.next)
     c.args.place may in
-    let works = merging.put_stands (Stands c.done_with.new.self) c.in-Assemble.field-1.items t
+    let works = merging.put_stands (Stands c.done_with.new.self) c.in-Assemble.sources.items t
     c.args.place c.args.next w.moment w.kind w.inputs w.given
     (rw c.done_with.ensures (c.in_ok-put-in-Assemble.ensures.ok w.moment w.stand k.wants)) in
-    record { works = works; knows = c.of_assemble-self.ensures c.in-Assemble.field-1.items _ works }
+    let knows = c.of_assemble-self.ensures c.in-Assemble.sources.items _ works in
+    record {
+      works = works;
+      knows = knows;
+      takes = λ other place wants. c.taken_from-self.ensures place (knows ∙ ap readiness_of wants)
+                ∙ ap (λ l. slice_index l place) c.deref.ensures.value
+                ∙ sym (ap (λ (k : Kind). slice_index k.stage.sources place) works.kind);
+    }
 
 -- A command that wants has given all, so nothing was taken ahead.
 
 pub returns-in-Some-clause-put : goal.returns-in-Some-clause-put
 returns-in-Some-clause-put g c rest t h may =
     let stands = g.S.Stage.stands c.in-Command.stage in
-    let alone = single.wants_alone stands c.in-Command.field-1 c.in-Command.ahead c.in-Command.behind t c.args.place
-    (subst (λ w. WorksAs g.S.Stage.stands w rest t) c.in-Command.is h.works) may.wants in
+    let alone = single.wants_alone stands c.args.self.now.from c.in-Command.ahead c.in-Command.behind t c.args.place
+    (subst (λ w. WorksAs g.S.Stage.stands w c.args.self.now.from rest t) c.in-Command.is h.works) may.wants in
     let w = alone.1 in
-    let k = single.changes stands c.in-Command.field-1 t w (with_record c.args.next) c.args.place may in
+    let k = single.changes stands c.args.self.now.from t w (with_record c.args.next) c.args.place may in
     let row = c.in-Some.field-0 in
     let took = MatchOption-at_some _ _ row c.in-Some.is
     (c.in_ok-is-in-Command.ensures.ok w.moment w.stand k.ended k.fine.score) in
-    let both = single.took_ahead (g.S.Stage.stands c.put_and_take.new.self) c.in-Command.field-1
+    let both = single.took_ahead (g.S.Stage.stands c.put_and_take.new.self) c.args.self.now.from
     row c.in_ok-is-in-Command.is' (after_change (with_record c.args.next) c.args.place t) (after_put w.moment c.args.next)
     w.kind k.inputs w.given took c.in_ok-is-in-Command.ensures.ready in
     record {
-      works = subst (λ a. IsAhead (g.S.Stage.stands c.put_and_take.new.self) c.in-Command.field-1 a
+      works = subst (λ a. IsAhead (g.S.Stage.stands c.put_and_take.new.self) c.args.self.now.from a
           c.in_ok-is-in-Command.is' (after_change (with_record c.args.next) c.args.place t)) (sym c.in-Some.is) both.0;
       knows = sym (ap readiness_of both.1);
+      takes = λ other. single.takes_ahead _ _ row _ _ both.0;
     }
 
 pub returns-in-None-clause-put : goal.returns-in-None-clause-put
 returns-in-None-clause-put g c rest t h may =
     let stands = g.S.Stage.stands c.in-Command.stage in
-    let alone = single.wants_alone stands c.in-Command.field-1 c.in-Command.ahead c.in-Command.behind t c.args.place
-    (subst (λ w. WorksAs g.S.Stage.stands w rest t) c.in-Command.is h.works) may.wants in
+    let alone = single.wants_alone stands c.args.self.now.from c.in-Command.ahead c.in-Command.behind t c.args.place
+    (subst (λ w. WorksAs g.S.Stage.stands w c.args.self.now.from rest t) c.in-Command.is h.works) may.wants in
     let w = alone.1 in
-    let k = single.changes stands c.in-Command.field-1 t w (with_record c.args.next) c.args.place may in
+    let k = single.changes stands c.args.self.now.from t w (with_record c.args.next) c.args.place may in
     let after = after_change (with_record c.args.next) c.args.place t in
-    let works : IsSingle (g.S.Stage.stands c.put_and_take.new.self) c.in-Command.field-1 after = record {
+    let works : IsSingle (g.S.Stage.stands c.put_and_take.new.self) c.args.self.now.from after = record {
       moment = after_put w.moment c.args.next;
       stand = MatchOption-at_none _ _ c.in-None.is
           (c.in_ok-is-in-Command.ensures.ok w.moment w.stand k.ended k.fine.score);
@@ -99,9 +107,10 @@ returns-in-None-clause-put g c rest t h may =
       given = w.given;
     } in
     record {
-      works = subst (λ a. IsAhead (g.S.Stage.stands c.put_and_take.new.self) c.in-Command.field-1 a
+      works = subst (λ a. IsAhead (g.S.Stage.stands c.put_and_take.new.self) c.args.self.now.from a
           c.in_ok-is-in-Command.is' after) (sym c.in-None.is) works;
       knows = c.of_stage-self.ensures
           ∙ single.readiness_is _ c.in_ok-is-in-Command.is' c.in_ok-is-in-Command.ensures.ready
-          c.in-Command.field-1 _ works;
+          c.args.self.now.from _ works;
+      takes = λ other. single.takes_first _ _ _ works;
     }

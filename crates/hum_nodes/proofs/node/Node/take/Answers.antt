@@ -1,5 +1,6 @@
-use Rattle.std.proofs.Common.{subst}
+use Rattle.std.proofs.Common.{slice_index, sym, ◌∙◌, ap, subst}
 use Rattle.hum_assemble.specs.Standing.{Stands}
+use Rattle.hum_nodes.specs.At.{Kind, readiness_of}
 use Rattle.hum_nodes.specs.Merging.{IsMerging}
 use Rattle.hum_nodes.specs.declared.node.Work.TheVariants.{Assemble}
 use Rattle.hum_nodes.specs.Nodes.{WorksAs, StandsAs}
@@ -9,18 +10,24 @@ use Rattle.hum_nodes.proofs.node.Node.take.Goals as goal
 
 pub returns-in_ok-taken-in-Assemble-clause-taken : goal.returns-in_ok-taken-in-Assemble-clause-taken
 returns-in_ok-taken-in-Assemble-clause-taken g c rest t h =
-    let w = subst (λ w. WorksAs g.S.Stage.stands w rest t) c.in-Assemble.is h.works in
+    let w = subst (λ w. WorksAs g.S.Stage.stands w c.args.self.now.from rest t) c.in-Assemble.is h.works in
     let taken = taken_stands (Stands c.in-Assemble.stage) (Stands c.take-in-Assemble.new.self)
-    c.in-Assemble.field-1.items _ c.in_ok-taken-in-Assemble.ensures.ok t w in (
+    c.in-Assemble.sources.items _ c.in_ok-taken-in-Assemble.ensures.ok t w in (
       taken.0,
-      taken_as _ t (IsMerging (Stands c.take-in-Assemble.new.self) c.in-Assemble.field-1.items)
+      taken_as _ t (IsMerging (Stands c.take-in-Assemble.new.self) c.in-Assemble.sources.items)
           (StandsAs g.S.Stage.stands (record {
-            work = Assemble c.take-in-Assemble.new.self c.in-Assemble.field-1;
+            work = Assemble c.take-in-Assemble.new.self c.in-Assemble.sources;
             readiness = c.of_assemble-self.result;
+            from = c.taken_from-self.result;
           }) rest)
-          (λ u at. record {
+          (λ u at.
+          let knows = c.of_assemble-self.ensures c.in-Assemble.sources.items u at in
+          record {
             works = at;
-            knows = c.of_assemble-self.ensures c.in-Assemble.field-1.items u at;
+            knows = knows;
+            takes = λ other place wants. c.taken_from-self.ensures place (knows ∙ ap readiness_of wants)
+                ∙ ap (λ l. slice_index l place) c.deref.ensures.value
+                ∙ sym (ap (λ (k : Kind). slice_index k.stage.sources place) at.kind);
           })
           taken.1,
     )
