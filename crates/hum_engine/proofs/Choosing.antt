@@ -18,16 +18,16 @@ use Rattle.hum_nodes.specs.Polls.{HasRead}
 use Rattle.hum_nodes.proofs.Followed.{read_none}
 use Rattle.hum_engine.specs.declared.net.Net.{Net}
 use Rattle.hum_engine.specs.declared.search.Search.{Search}
-use Rattle.hum_engine.specs.Search.{IsNearer, outer, passed, changed, left_to_ask}
+use Rattle.hum_engine.specs.Search.{IsNearer, outer, passed, changed, skipped, left_to_ask}
 use Rattle.hum_engine.specs.Readers.{ended_at, remaining_at}
 use Rattle.hum_engine.specs.Scene.{Scene, plan_of, moved, before_all, IsActor}
 use Rattle.hum_engine.specs.Nets.{NetAt, AreOver, HasTurned, GoesTo, IsChanged, Sees, MayPick, MayAsk, MayStep, HasPicked}
-use Rattle.hum_engine.specs.Nets.{HasStepped, IsGoing, IsFront}
+use Rattle.hum_engine.specs.Nets.{HasStepped, IsGoing, IsFront, IsHeldUp}
 use Rattle.hum_engine.proofs.Flags.{touched_below, two_set}
 use Rattle.hum_engine.proofs.Leaning.{leaning_choice}
 use Rattle.hum_engine.proofs.Netting.{is_at, unfailed_now, not_over}
 use Rattle.hum_engine.proofs.Running.{relisted, picked, some_actor_ready, no_rests, seen}
-use Rattle.hum_engine.proofs.Searching.{front_passed, passed_fewer, front_changed, others_as_ready}
+use Rattle.hum_engine.proofs.Searching.{front_passed, passed_fewer, front_changed, front_skipped, others_as_ready}
 
 -- a search, or none
 searches : (look : Option Search) → ((by : Search) × (look ≡ Some by)) ⊎ (look ≡ None)
@@ -318,6 +318,29 @@ module _ {S R W O : Type 0} (stands : Node S R → List ℕ → At → Type 0)
           (changed_is start s now n goes) n.within
           (λ j takes. takers.alone link taker j taker_is takes)
           by (here by is).0 at.0 at.1 (front_of look by s now net is sees)))
+
+      -- and passes over the actor, where it is held up
+      pub stepped_over_it : is_over ≡ false → (by after : Search) → look ≡ Some by
+          → ((start : Option (List ℕ)) (s : Scene) (now : Now Row) → NetAt stands contents flushed start s behind now
+          → result (plan_of s) now ≡ None → k ≤ s.count → IsHeldUp s now.links k)
+          → ((taker : ℕ) → slice_get behind.takers.items link ≡ Some taker → after ≡ skipped by link taker)
+          → HasStepped stands remaining contents flushed order p q look (Some after) net behind is_over
+      stepped_over_it not_yet by after is held goes_to =
+          let few = link_few not_yet in
+          let list = behind.takers.items in
+          let taker = get_or list link 0 in
+          let taker_is : slice_get list link ≡ Some taker = slice_get-get_or list link 0 few in
+          stepped_by (Some after) behind refl refl
+          (λ start s now n none sees goes.
+          let takers = n.goes.at.takers in
+          let at = takers.behind link taker taker_is in
+          let some = some_actor_ready stands contents flushed start s behind n.goes.to n.goes.at goes in
+          subst (λ l. IsFront l s n.goes.to) (sym (goes_to taker taker_is))
+          (front_skipped s n.goes.at.plan k link taker now n.goes.to n.goes.turn goes none
+          (changed_is start s now n goes) n.within
+          (λ j takes. takers.alone link taker j taker_is takes)
+          by (here by is).0 at.0 at.1 (front_of look by s now net is sees)
+          (held start s n.goes.to n.goes.at goes n.within) some.actor some.within some.is_ready))
 
       module _ (not_yet : is_over ≡ false) (taker : ℕ) (taker_is : slice_get behind.takers.items link ≡ Some taker) where
         pub link_going : IsGoing stands contents flushed link behind

@@ -15,6 +15,7 @@ pub mod Bounds
 pub mod Flags
 pub mod Noting
 pub mod Leaning
+pub mod HeldUp
 pub mod Searching
 pub mod Running
 pub mod Choosing

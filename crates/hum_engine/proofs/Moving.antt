@@ -41,6 +41,14 @@ set_here [] k y x h = absurd (none-some x h)
 set_here (z ∷ xs) zero y x h = refl
 set_here (z ∷ xs) (suc k) y x h = set_here xs k y x h
 
+-- where something stood something stands
+pub set_there : {X : Type 0} (xs : List X) (i k : ℕ) (y x : X) → slice_get xs k ≡ Some x
+    → (z : X) × (slice_get (slice_set xs i y) k ≡ Some z)
+set_there xs i k y x h = ⊎_elim
+    (λ (is : k ≡ i). (y, ap (slice_get (slice_set xs i y)) is ∙ set_here xs i y x (ap (slice_get xs) (sym is) ∙ h)))
+    (λ other. (x, set_other xs i y k other ∙ h))
+    (cases_eq k i)
+
 pub nth : {X : Type 0} (xs : List X) (i : ℕ) (x : X) → i < length xs → x ≡ get_or xs i x
     → slice_get xs i ≡ Some x
 nth xs i x h e = slice_get_read xs (length xs) i x refl h e

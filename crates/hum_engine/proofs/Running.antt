@@ -60,7 +60,15 @@ pub seen : {S R W : Type 0} (look : Option Search) (s : Scene) (rests : ℕ → 
     (net : Net S R W) → Sees look s now net → Sees look (record s { rests = rests }) now net
 seen None s rests now net sees = sees
 seen (Some look) s rests now net f =
-    record { within = f.within; nearer = f.nearer; between = f.between; beyond = f.beyond }
+    record {
+      within = f.within;
+      nearer = f.nearer;
+      between = f.between;
+      beyond = f.beyond;
+      last = f.last;
+      waits = λ j left past low.
+          ⊎_elim inl (λ held. inr (record { gives = held.gives; full = held.full })) (f.waits j left past low);
+    }
 
 -- what changes in a net but for its flags
 pub relist : {S R W : Type 0} (a b : Net S R W) (list : Vec Bool Global)

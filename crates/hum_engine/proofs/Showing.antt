@@ -1,5 +1,5 @@
 -- What sources show where they stay as they were, and where no byte was read.
-use Rattle.std.proofs.Common.{◌≡◌, ◌∙◌, ℕ, Bool, false, List, [], Option, None, sym}
+use Rattle.std.proofs.Common.{◌≡◌, ℕ, Bool, false, List, [], Option, None, sym}
 use Rattle.std.proofs.Common.{ap, subst, slice_get}
 use Rattle.hum_nodes.specs.declared.node.Node.{Node}
 use Rattle.hum_engine.specs.declared.web.Web.{Web}

@@ -13,8 +13,10 @@ use Rattle.hum_turns.specs.Flow.{Begins}
 use Rattle.hum_turns.specs.Plan.{Plan, KeepsFine, last}
 use Rattle.hum_turns.specs.Meaning.{plan_meaning, first_fault, IsNumbered}
 use Rattle.hum_turns.specs.Orders.{Order, Driven, ready_list, choice}
-use Rattle.hum_turns.specs.Links.{has_some}
-use Rattle.hum_turns.specs.Turns.{Takes, state}
+use Rattle.hum_turns.specs.declared.order.Side.TheVariants as side
+use Rattle.hum_turns.specs.Links.{Moment, has_room, has_some}
+use Rattle.hum_turns.specs.Turns.{Gives, Takes, state}
+use Rattle.hum_turns.specs.Turns.{is_source as reads_bytes}
 use Rattle.hum_turns.specs.Near.{touched}
 use Rattle.hum_turns.specs.Text.{text}
 use Rattle.hum_turns.specs.Failures.{Now, MayFail, Turn, Walk, IsFirst, IsFailure}
@@ -29,7 +31,7 @@ use Rattle.hum_engine.specs.declared.net.Net.{Net}
 use Rattle.hum_engine.specs.declared.net.Turned.{Turned}
 use Rattle.hum_engine.specs.Readers.{ended_at, remaining_at, calls_at, failed_at, is_read_of, is_write, ShowsSame}
 use Rattle.hum_engine.specs.Scene.{Scene, plan_of, moved, before_all, Stands, IsAt, IsNetPlan, IsBegun, Done}
-use Rattle.hum_engine.specs.Scene.{MayTurn, IsActor, AreTakers}
+use Rattle.hum_engine.specs.Scene.{MayTurn, IsActor, AreTakers, TakesFrom, IsFull}
 use Rattle.hum_engine.specs.declared.search.Search.{Search}
 use Rattle.hum_engine.specs.Search.{IsNearer, left_to_ask}
 
@@ -157,8 +159,14 @@ pub record IsAmong {S R W : Type 0} (stands : Node S R → List ℕ → At → T
   pub running : IsRunning stands contents flushed net
   pub within : k ≤ running.scene.count
 
+-- Stage k reads bytes or gives next, and its link is full: so it stays until a record is taken from that.
+pub record IsHeldUp (s : Scene) (m : Moment Row) (k : ℕ) : Type 0 where
+  pub gives : (reads_bytes (plan_of s) k ≡ true) ⊎ (state (plan_of s) m k ≡ Gives)
+  pub full : has_room s.size (m k) ≡ false
+
 -- Nobody nearer to the side than the actor that is asked next is ready, nor anyone between it and the
--- one that is asked behind it, which stands further from the side where anyone does.
+-- one that is asked behind it, which stands further from the side where anyone does. On the left whoever
+-- stands between is held up, or doesn't take from the actor that is asked next.
 pub record IsFront (look : Search) (s : Scene) (now : Now Row) : Type 0 where
   pub within : look.from ≤ s.count
   pub nearer : (j : ℕ) → j ≤ s.count → IsNearer look.side j look.from
@@ -167,6 +175,9 @@ pub record IsFront (look : Search) (s : Scene) (now : Now Row) : Type 0 where
       → IsNearer look.side j look.behind → is_ready (plan_of s) s.size now j ≡ false
   pub beyond : (j : ℕ) → j ≤ s.count → IsNearer look.side look.from j
       → IsNearer look.side look.from look.behind
+  pub last : look.behind ≤ s.count + 1
+  pub waits : (j : ℕ) → look.side ≡ side.Left → look.from < j → j < look.behind
+      → (TakesFrom s.count s.kinds j look.from → ⊥) ⊎ IsHeldUp s now.links j
 
 -- What is known of who is ready: of each by the flags, or what a search knows.
 abbrev pub Sees : {S R W : Type 0} → Option Search → Scene → Now Row → Net S R W → Type 0
@@ -212,6 +223,7 @@ pub record HasGone {S R W : Type 0} (stands : Node S R → List ℕ → At → T
   pub turns : new.turns ≡ old.turns + 1
   pub actors : new.actors ≡ old.actors
   pub takers : new.takers ≡ old.takers
+  pub full : answer.is_full ≡ true → IsFull k new.web
 
 -- In a turn of an actor its reader is called once at most, and no other. The sink is asked for no write
 -- but those of the record that it takes, or for one flush at the end; by a stage for nothing.

@@ -20,7 +20,7 @@ use Rattle.hum_nodes.specs.declared.node.Readiness.TheVariants as kinds
 use Rattle.hum_nodes.specs.declared.node.Node.{Node}
 use Rattle.hum_nodes.specs.Nodes.{is_source, remaining_of, ended_of}
 use Rattle.hum_engine.specs.declared.link.Link.{Link}
-use Rattle.hum_engine.specs.Links.{IsLink}
+use Rattle.hum_engine.specs.Links.{IsLink, room}
 use Rattle.hum_engine.specs.declared.web.Web.{Web}
 
 -- A moment of a plan, with the bytes that each source has still to read: how many stages, what each
@@ -198,6 +198,19 @@ pub record HoldsFew (s : Scene) (m : Moment Row) (k many : ℕ) : Type 0 where
   pub within : (from n : ℕ) (meaning : Meaning) → k < s.count → s.kinds k ≡ single from meaning
       → IsWithinLag n meaning → many ≤ n + 1
   pub each : k < s.count → HoldsOneEach (s.kinds k) (length (s.kinds k).stage.sources) many
+
+-- the link of stage k has no room
+abbrev pub HasFullLink : {S R : Type 0} → ℕ → Web S R → Type 0
+HasFullLink k web = (link : Link) → slice_get web.links.items k ≡ Some link → room link ≡ false
+
+-- Stage k reads bytes or gives next, and its link is full.
+pub record IsFull {S R : Type 0} (k : ℕ) (web : Web S R) : Type 0 where
+  pub node : Node S R
+  pub is : slice_get web.nodes.items k ≡ Some node
+  pub gives : (is_source node ≡ true) ⊎ (node.readiness ≡ kinds.Gives)
+  pub link : Link
+  pub its : slice_get web.links.items k ≡ Some link
+  pub full : room link ≡ false
 
 -- Only the node of stage k may have changed.
 abbrev pub KeepsOthers : {S R : Type 0} → ℕ → Web S R → Web S R → Type 0

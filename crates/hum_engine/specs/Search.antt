@@ -34,12 +34,29 @@ beginning (Some to) sink =
 abbrev pub passed : Search → Search
 passed look = record look { from = look.behind; behind = away look.side look.behind }
 
+-- The actor that was asked is asked again, and behind it, on the left, whoever was to be asked: who takes
+-- from it waits for its own link, if it stands between. On the right it is the actor next to it.
+abbrev pub kept_behind : Side → Search → ℕ
+kept_behind side.Left look = look.behind
+kept_behind side.Right look = away look.side look.from
+
 -- A turn of the actor that was asked has changed a link, of which this is the outer end. Where that is
 -- another actor, nobody between the two is ready: they weren't, and the turn was nothing to them.
 abbrev pub changed : Search → ℕ → Search
 changed look end =
-    if nat_eq end look.from then record look { behind = away look.side look.from }
+    if nat_eq end look.from then record look { behind = kept_behind look.side look }
     else record look { from = end; behind = look.from }
+
+-- The same where the actor can't go on until a record is taken from its own link: it isn't asked again.
+abbrev pub skipped_left : Search → ℕ → Search
+skipped_left look link = if nat_eq link look.from then passed look else record look { from = link }
+
+abbrev pub skipped_to : Side → Search → ℕ → ℕ → Search
+skipped_to side.Left look link taker = skipped_left look link
+skipped_to side.Right look link taker = changed look taker
+
+abbrev pub skipped : Search → ℕ → ℕ → Search
+skipped look link taker = skipped_to look.side look link taker
 
 -- How many actors at most are asked before one of 256 is ready.
 abbrev pub left_to_ask : Side → ℕ → ℕ

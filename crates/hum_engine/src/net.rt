@@ -12,7 +12,7 @@ ghost use Rattle.hum_nodes.specs.Polls.{AsksAtMostOnce, HasStayed};
 ghost use Rattle.hum_engine.specs.Readers.{ShowsSame, remaining_at, ended_at, calls_at, failed_at};
 ghost use Rattle.hum_engine.specs.Readers.{is_read_of, is_write};
 ghost use Rattle.hum_engine.specs.Scene.{Scene, plan_of, Somewhere, IsActor, IsAt, IsNetPlan, IsBegun, MayTurn};
-ghost use Rattle.hum_engine.specs.Scene.{KeepsOthers, Fed, held_of, HoldsFew, DoesNext};
+ghost use Rattle.hum_engine.specs.Scene.{KeepsOthers, Fed, held_of, HoldsFew, DoesNext, IsFull};
 ghost use Rattle.hum_turns.specs.Plan.{last};
 ghost use Rattle.hum_engine.specs.Nets.{MayWrite, CallsSink, SinkWent, MayTurnFew, MayGo, IsRunning};
 ghost use Rattle.hum_turns.specs.Counts.{turns_of, most, most_in_all};
@@ -53,6 +53,8 @@ pub struct Turned {
     pub link: usize,
     /// Whether the run is over.
     pub is_over: bool,
+    /// Whether the actor is known to give or to read next, and its link to be full.
+    pub is_full: bool,
 }
 
 impl<S: Stage + Drop, R: Source + Drop, W: Sink> Net<S, R, W> {
@@ -130,6 +132,7 @@ impl<S: Stage + Drop, R: Source + Drop, W: Sink> Net<S, R, W> {
         ensures link { (s : Scene) → IsActor (StandsAs S.stands) k self.old.web s
             → IsChanged k s self.new.failure result.link }
         ensures over { result.is_over ≡ is_some self.new.failure }
+        ensures full { result.is_full ≡ true → IsFull k self.new.web }
         ensures failed { IfSome self.new.failure (λ by. (s : Scene)
             → MayTurn (StandsAs S.stands) k self.old.web s
             → MayFail (plan_of s) k text_of s.links by []) }
@@ -153,10 +156,11 @@ impl<S: Stage + Drop, R: Source + Drop, W: Sink> Net<S, R, W> {
         ensures takers { self.new.takers ≡ self.old.takers }
     {
         match self.web.turn(k, kind) {
-            Ok(link) => {
+            Ok(moved) => {
                 return Turned {
-                    link,
+                    link: moved.link,
                     is_over: false,
+                    is_full: moved.is_full,
                 };
             }
             Err(ReadError::Read) => self.fail_to_read(k),
@@ -165,6 +169,7 @@ impl<S: Stage + Drop, R: Source + Drop, W: Sink> Net<S, R, W> {
         Turned {
             link: k,
             is_over: true,
+            is_full: false,
         }
     }
 
@@ -314,7 +319,13 @@ impl<S: Stage + Drop, R: Source + Drop, W: Sink> Net<S, R, W> {
             return true;
         }
         match search {
-            Some(search) => search.change(turned.link, &self.takers),
+            Some(search) => {
+                if turned.is_full {
+                    search.skip(turned.link, &self.takers);
+                } else {
+                    search.change(turned.link, &self.takers);
+                }
+            }
             None => {
                 let taker = self.takers[turned.link];
                 self.ask_both(turned.link, taker);
@@ -390,6 +401,7 @@ impl<S: Stage + Drop, R: Source + Drop, W: Sink> Net<S, R, W> {
             return Turned {
                 link: self.web.last(),
                 is_over: self.sink_turn(),
+                is_full: false,
             };
         }
         let turned = self.stage_turn(k, kind);

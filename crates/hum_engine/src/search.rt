@@ -1,6 +1,7 @@
 //! Where a run by an order that leans to a side looks for an actor that is ready.
 ghost use Rattle.std.specs.Prelude.{◌≡◌, ◌<◌, ◌-◌, ◌^◌, ℕ, Some, length, slice_get};
-ghost use Rattle.hum_engine.specs.Search.{beginning, away, outer, passed, changed};
+ghost use Rattle.hum_engine.specs.Search.{beginning, away, outer, passed, changed, skipped, kept_behind};
+ghost use Rattle.hum_engine.specs.Search.{skipped_left};
 
 use hum_turns::Side;
 
@@ -77,10 +78,51 @@ impl Search {
             Side::Right => takers[link],
         };
         if outer == self.from {
-            self.behind = away(self.side, self.from);
+            self.behind = self.kept_behind();
         } else {
             self.behind = self.from;
             self.from = outer;
+        }
+    }
+
+    // The actor that is asked behind one that is asked again.
+    #[inline(always)]
+    fn kept_behind(&self) -> usize
+        requires { self.now.from < 2 ^ 64 - 1 }
+        ensures { result ≡ kept_behind self.now.side self.now }
+    {
+        match self.side {
+            Side::Left => self.behind,
+            Side::Right => away(self.side, self.from),
+        }
+    }
+
+    /// The same of an actor that gives or reads next and whose own link is full: it isn't asked again
+    /// before a record was taken from that.
+    #[inline(always)]
+    pub fn skip(&mut self, link: usize, takers: &[usize])
+        requires from { self.old.from < 2 ^ 64 - 1 }
+        requires behind { self.old.behind < 2 ^ 64 - 1 }
+        requires link { link < length takers.now }
+        ensures skipped { (taker : ℕ) → slice_get takers.now link ≡ Some taker
+            → self.new ≡ skipped self.old link taker }
+        ensures side { self.new.side ≡ self.old.side }
+    {
+        match self.side {
+            Side::Left => self.skip_left(link),
+            Side::Right => self.change(link, takers),
+        }
+    }
+
+    #[inline(always)]
+    fn skip_left(&mut self, link: usize)
+        requires { self.old.behind < 2 ^ 64 - 1 }
+        ensures { self.new ≡ skipped_left self.old link }
+    {
+        if link == self.from {
+            self.pass();
+        } else {
+            self.from = link;
         }
     }
 }

@@ -14,7 +14,7 @@ ghost use Rattle.hum_engine.specs.Links.{next_of};
 ghost use Rattle.hum_engine.specs.Scene.{Scene, plan_of, Somewhere, IsAt, IsActor, MayTurn, MayAct};
 ghost use Rattle.hum_engine.specs.Scene.{IsKind, Keeps, KeepsOthers, Fed, Done, IsAbout};
 ghost use Rattle.hum_engine.specs.Scene.{IsAboutKind, IsDoing, DoesNext, HasActor};
-ghost use Rattle.hum_engine.specs.Scene.{IsBegun, Stands, HasStage, held_of};
+ghost use Rattle.hum_engine.specs.Scene.{IsBegun, Stands, HasStage, held_of, HasFullLink, IsFull};
 ghost use Rattle.hum_engine.specs.Readers.{ShowsSame, remaining_at, ended_at, calls_at, failed_at};
 ghost use Rattle.hum_nodes.specs.Polls.{AsksAtMostOnce, HasStayed, is_failed_read};
 
@@ -25,6 +25,15 @@ use hum_record::{Record, Spare};
 use hum_stage::{End, Stage};
 use hum_text::calls::Source;
 use std::alloc::{AllocError, Global};
+
+/// What a turn of a stage has come to.
+#[derive(Clone, Copy)]
+pub struct Moved {
+    /// The link that it has changed: the one that it took from, or its own.
+    pub link: usize,
+    /// Whether the stage is known to give or to read next, and its link to be full.
+    pub is_full: bool,
+}
 
 /// Nodes, and the link of each.
 pub struct Web<S, R> {
@@ -74,14 +83,25 @@ impl<S: Stage + Drop, R: Source + Drop> Web<S, R> {
         self.nodes.len()
     }
 
+    // Whether a stage gives, and its link is full.
+    #[inline(always)]
+    fn is_full(&self, k: usize, gives: bool) -> bool
+        requires { k < length self.now.links.items }
+        ensures gives { result ≡ true → gives ≡ true }
+        ensures full { result ≡ true → HasFullLink k self.now }
+    {
+        gives && !self.links[k].has_room()
+    }
+
     // A turn of a source, which changes its own link.
     #[inline(always)]
-    fn poll(&mut self, k: usize) -> Result<usize, ReadError>
+    fn poll(&mut self, k: usize) -> Result<Moved, ReadError>
         requires turn { Somewhere (MayTurn (StandsAs S.stands) k self.old) }
         requires source { IsKind true k self.old }
         ensures fed { OnOk result
             (Fed (StandsAs S.stands) R.remaining k self.old self.new) }
-        ensures link { IfOk result (λ link. link ≡ k) }
+        ensures link { IfOk result (λ moved. moved.link ≡ k) }
+        ensures full { IfOk result (λ moved. moved.is_full ≡ true → IsFull k self.new) }
         ensures others { KeepsOthers k self.old self.new }
         ensures marks { failed_at R.failed k self.new.nodes.items
             ≡ (failed_at R.failed k self.old.nodes.items || is_failed_read result) }
@@ -94,14 +114,23 @@ impl<S: Stage + Drop, R: Source + Drop> Web<S, R> {
             (remaining_at R.remaining k self.new.nodes.items)) }
     {
         match self.nodes[k].next(&mut self.pool) {
-            Some(row) => self.links[k].push(row),
+            Some(row) => {
+                self.links[k].push(row);
+                return Ok(Moved {
+                    link: k,
+                    is_full: self.is_full(k, true),
+                });
+            }
             None => match self.nodes[k].stopped() {
                 Some(Ok(end)) => self.links[k].end(end),
                 Some(Err(error)) => return Err(error),
                 None => {}
             },
         }
-        Ok(k)
+        Ok(Moved {
+            link: k,
+            is_full: false,
+        })
     }
 
     /// What the sink takes: the next record of the last stage, or none where it hears its end.
@@ -170,9 +199,9 @@ impl<S: Stage + Drop, R: Source + Drop> Web<S, R> {
         }
     }
 
-    // A stage takes from the link of its source at a place, whose number it answers.
+    // A stage takes from the link of its source at a place.
     #[inline(always)]
-    fn pass(&mut self, k: usize, place: usize) -> Result<usize, AllocError>
+    fn pass(&mut self, k: usize, place: usize) -> Result<Moved, AllocError>
         requires may { Somewhere (MayAct (StandsAs S.stands) k (does.Wants place)
             self.old) }
         requires stage { IsKind false k self.old }
@@ -180,59 +209,47 @@ impl<S: Stage + Drop, R: Source + Drop> Web<S, R> {
             → MayAct (StandsAs S.stands) k (does.Wants place) self.old s
             → Done (StandsAs S.stands) k
             (Takes (slice_index (s.kinds k).stage.sources place)) self.new s) }
-        ensures source { IfOk result (λ source. (s : Scene)
+        ensures source { IfOk result (λ moved. (s : Scene)
             → IsAbout (StandsAs S.stands) k (does.Wants place) self.old s
-            → source ≡ slice_index (s.kinds k).stage.sources place) }
+            → moved.link ≡ slice_index (s.kinds k).stage.sources place) }
+        ensures full { IfOk result (λ moved. moved.is_full ≡ true → IsFull k self.new) }
         ensures nodes { Keeps k self.old self.new }
     {
-        let source = self.nodes[k].source(place);
+        let source = self.nodes[k].source();
         match self.links[source].next() {
-            Some(row) => self.nodes[k].put(place, row, &mut self.pool)?,
+            Some(row) => {
+                let gives = self.nodes[k].put(place, row, &mut self.pool)?;
+                return Ok(Moved {
+                    link: source,
+                    is_full: self.is_full(k, gives),
+                });
+            }
             None => {
                 if let Some(end) = self.links[source].heard() {
                     self.nodes[k].stop(place, end);
                 }
             }
         }
-        Ok(source)
+        Ok(Moved {
+            link: source,
+            is_full: false,
+        })
     }
 
-    // The turn of a stage that isn't a source and does this next, and the link that it has changed: the
-    // one that it took from, or its own.
-    #[inline(always)]
-    fn act(&mut self, k: usize, kind: Readiness) -> Result<usize, AllocError>
-        requires turn { Somewhere (MayTurn (StandsAs S.stands) k self.old) }
-        requires doing { IsDoing (StandsAs S.stands) k self.old kind }
-        ensures done { OnOk result ((s : Scene) → MayTurn (StandsAs S.stands) k self.old s
-            → Done (StandsAs S.stands) k (state (plan_of s) s.links k) self.new s) }
-        ensures link { IfOk result (λ link. (s : Scene)
-            → IsActor (StandsAs S.stands) k self.old s
-            → link ≡ touched k (state (plan_of s) s.links k)) }
-        ensures nodes { Keeps k self.old self.new }
-    {
-        match kind {
-            Readiness::Wants(place) => return self.pass(k, place),
-            Readiness::Gives => self.give(k)?,
-            Readiness::Done => self.close(k),
-            Readiness::Reads => unreachable!(),
-        }
-        Ok(k)
-    }
-
-    /// The turn of a stage that is ready and does this next, and the link that it has changed: the one that it took from, or
-    /// its own.
+    /// The turn of a stage that is ready and does this next.
     ///
     /// # Errors
     /// A failed read of a source, and running out of memory.
     #[inline(always)]
-    pub fn turn(&mut self, k: usize, kind: Readiness) -> Result<usize, ReadError>
+    pub fn turn(&mut self, k: usize, kind: Readiness) -> Result<Moved, ReadError>
         requires turn { Somewhere (MayTurn (StandsAs S.stands) k self.old) }
         requires doing { DoesNext (StandsAs S.stands) k self.old kind }
         ensures turned { OnOk result
             (Fed (StandsAs S.stands) R.remaining k self.old self.new) }
-        ensures link { IfOk result (λ link. (s : Scene)
+        ensures link { IfOk result (λ moved. (s : Scene)
             → IsActor (StandsAs S.stands) k self.old s
-            → link ≡ touched k (state (plan_of s) s.links k)) }
+            → moved.link ≡ touched k (state (plan_of s) s.links k)) }
+        ensures full { IfOk result (λ moved. moved.is_full ≡ true → IsFull k self.new) }
         ensures read { result ≡ Err ReadError.Read → IsKind true k self.old }
         ensures others { KeepsOthers k self.old self.new }
         ensures marks { failed_at R.failed k self.new.nodes.items
@@ -247,10 +264,24 @@ impl<S: Stage + Drop, R: Source + Drop> Web<S, R> {
     {
         match kind {
             Readiness::Reads => self.poll(k),
-            kind => match self.act(k, kind) {
-                Ok(link) => Ok(link),
+            Readiness::Wants(place) => match self.pass(k, place) {
+                Ok(moved) => Ok(moved),
                 Err(_) => Err(ReadError::Memory),
             },
+            Readiness::Gives => match self.give(k) {
+                Ok(()) => Ok(Moved {
+                    link: k,
+                    is_full: false,
+                }),
+                Err(_) => Err(ReadError::Memory),
+            },
+            Readiness::Done => {
+                self.close(k);
+                Ok(Moved {
+                    link: k,
+                    is_full: false,
+                })
+            }
         }
     }
 
@@ -267,7 +298,7 @@ impl<S: Stage + Drop, R: Source + Drop> Web<S, R> {
             Readiness::Done => self.links[k].is_unset(),
             // while it wants more, it hasn't heard the end
             Readiness::Wants(place) => {
-                let source = self.nodes[k].source(place);
+                let source = self.nodes[k].source();
                 self.links[source].has_more()
             }
             Readiness::Reads => unreachable!(),

@@ -1,5 +1,5 @@
 use Rattle.std.proofs.Common.{refl, sym, ap, ◌∙◌, ◌||◌, ◌+◌, Err, is_some, inl, inr, arith}
-use Rattle.std.proofs.lemmas.Bool.{eq-eqb, ne_eqb}
+use Rattle.std.proofs.lemmas.Bool.{false≢true, eq-eqb, ne_eqb}
 use Rattle.std.proofs.lemmas.Option.{none-some}
 use Rattle.hum_nodes.specs.Polls.{is_failed_read}
 use Rattle.hum_engine.specs.Readers.{failed_at, is_read_of, is_write}
@@ -20,6 +20,7 @@ returns-in-Ok g c =
       fed = λ e. c.in-Ok.ensures.turned;
       link = λ s h. inl (c.in-Ok.ensures.link s h);
       over = sym (ap is_some none);
+      full = c.in-Ok.ensures.full;
       failed = rw none tt;
       others = c.turn.ensures.others;
       marked = marks
@@ -42,6 +43,7 @@ returns-in-Err-Read g c =
       fed = λ e. absurd (none-some _ (sym e));
       link = λ s h. inr (refl, λ e. none-some _ (sym e));
       over = refl;
+      full = λ full. absurd (false≢true full);
       failed = λ s may. (
         source_here g.S.Stage.stands c.args.k c.args.self.now.web s may (c.turn.ensures.read read),
         refl,
@@ -68,6 +70,7 @@ returns-in-Err-Memory g c =
       fed = λ e. absurd (none-some _ (sym e));
       link = λ s h. inr (refl, λ e. none-some _ (sym e));
       over = refl;
+      full = λ full. absurd (false≢true full);
       failed = λ s may. refl;
       others = c.turn.ensures.others;
       marked = c.turn.ensures.marks

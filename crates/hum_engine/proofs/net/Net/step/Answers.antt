@@ -6,7 +6,8 @@ use Rattle.hum_engine.specs.Nets.{HasStepped}
 use Rattle.hum_engine.proofs.Moving.{nth}
 use Rattle.hum_engine.proofs.Netting.{or_false}
 use Rattle.hum_engine.proofs.Choosing.{asks, may_pick, unfailed, may_ask, never_picked, asks_fewer, front_of}
-use Rattle.hum_engine.proofs.Choosing.{stepped_past, stepped_over, stepped_on, stepped_else, link_few, link_going, taker_going}
+use Rattle.hum_engine.proofs.Choosing.{stepped_past, stepped_over, stepped_on, stepped_over_it, stepped_else, link_few, link_going, taker_going}
+use Rattle.hum_engine.proofs.HeldUp.{held_by}
 use Rattle.hum_engine.proofs.net.Net.step.Goals as goal
 
 pub next-actor-requires : goal.next-actor-requires
@@ -175,10 +176,53 @@ change-requires-clause-link g c =
     c.in-Some.turned.link c.in-Some.turned.is_over c.turn_if_ready.new.self
     (λ start s now h none within. sym (c.turn_if_ready.ensures.ready start s now h none within) ∙ ap is_some c.in-Some.is)
     c.in-Some.ensures.gone.link c.in-Some.ensures.gone.turned c.if-turned.false in
+    rw c.deref-else-turned-2.ensures.value less
+
+pub skip-requires-clause-from : goal.skip-requires-clause-from
+skip-requires-clause-from g c =
+    let stands = StandsAs g.S.Stage.stands in
+    let contents = g.W.Sink.contents in
+    let flushed = g.W.Sink.flushed in
+    let order : Order g.row.O.Denot = record { pick = g.O.Order.picks; next = g.O.Order.after } in
+    let e = c.next-actor.ensures in
+    let look = c.args.search.now in
+    let who = asks order look c.next-actor.result c.args.order.now c.next-actor.new.order e.from c.requires.leans in
+    let m = may_pick stands contents flushed look c.args.self.now c.requires.may in
+    let fits = (front_of look c.in-Some-search-2.search m.running.scene m.running.now c.args.self.now c.in-Some-search-2.is m.sees).within in
+    let few = m.running.at.plan.few in
+    omega (arith, fits, few)
+
+pub skip-requires-clause-link : goal.skip-requires-clause-link
+skip-requires-clause-link g c =
+    let stands = StandsAs g.S.Stage.stands in
+    let contents = g.W.Sink.contents in
+    let flushed = g.W.Sink.flushed in
+    let order : Order g.row.O.Denot = record { pick = g.O.Order.picks; next = g.O.Order.after } in
+    let e = c.next-actor.ensures in
+    let look = c.args.search.now in
+    let who = asks order look c.next-actor.result c.args.order.now c.next-actor.new.order e.from c.requires.leans in
+    let less = link_few stands g.R.Source.remaining contents flushed order look c.next-actor.result c.args.order.now c.next-actor.new.order c.args.self.now c.requires.may who e.picked
+    c.in-Some.turned.link c.in-Some.turned.is_over c.turn_if_ready.new.self
+    (λ start s now h none within. sym (c.turn_if_ready.ensures.ready start s now h none within) ∙ ap is_some c.in-Some.is)
+    c.in-Some.ensures.gone.link c.in-Some.ensures.gone.turned c.if-turned.false in
     rw c.deref.ensures.value less
 
-pub returns-in-Some-search-2-clause-stepped : goal.returns-in-Some-search-2-clause-stepped
-returns-in-Some-search-2-clause-stepped g c =
+pub skip-requires-clause-behind : goal.skip-requires-clause-behind
+skip-requires-clause-behind g c =
+    let stands = StandsAs g.S.Stage.stands in
+    let contents = g.W.Sink.contents in
+    let flushed = g.W.Sink.flushed in
+    let order : Order g.row.O.Denot = record { pick = g.O.Order.picks; next = g.O.Order.after } in
+    let e = c.next-actor.ensures in
+    let look = c.args.search.now in
+    let who = asks order look c.next-actor.result c.args.order.now c.next-actor.new.order e.from c.requires.leans in
+    let m = may_pick stands contents flushed look c.args.self.now c.requires.may in
+    let fits = (front_of look c.in-Some-search-2.search m.running.scene m.running.now c.args.self.now c.in-Some-search-2.is m.sees).last in
+    let few = m.running.at.plan.few in
+    omega (arith, fits, few)
+
+pub returns-else-turned-2-clause-stepped : goal.returns-else-turned-2-clause-stepped
+returns-else-turned-2-clause-stepped g c =
     let stands = StandsAs g.S.Stage.stands in
     let contents = g.W.Sink.contents in
     let flushed = g.W.Sink.flushed in
@@ -191,16 +235,43 @@ returns-in-Some-search-2-clause-stepped g c =
     c.in-Some.turned.link c.in-Some.turned.is_over c.turn_if_ready.new.self
     (λ start s now h none within. sym (c.turn_if_ready.ensures.ready start s now h none within) ∙ ap is_some c.in-Some.is)
     c.in-Some.ensures.gone.link c.in-Some.ensures.gone.turned c.if-turned.false c.in-Some-search-2.search c.change.new.self c.in-Some-search-2.is
-    (λ taker at. c.change.ensures.changed taker (ap (λ l. slice_get l c.in-Some.turned.link) c.deref.ensures.value ∙ at)))
+    (λ taker at. c.change.ensures.changed taker (ap (λ l. slice_get l c.in-Some.turned.link) c.deref-else-turned-2.ensures.value ∙ at)))
 
-pub returns-in-Some-search-2-clause-leans : goal.returns-in-Some-search-2-clause-leans
-returns-in-Some-search-2-clause-leans g c =
+pub returns-else-turned-2-clause-leans : goal.returns-else-turned-2-clause-leans
+returns-else-turned-2-clause-leans g c =
     let order : Order g.row.O.Denot = record { pick = g.O.Order.picks; next = g.O.Order.after } in
     let e = c.next-actor.ensures in
     let look = c.args.search.now in
     let who = asks order look c.next-actor.result c.args.order.now c.next-actor.new.order e.from c.requires.leans in
     let w = who c.in-Some-search-2.search c.in-Some-search-2.is in
     rw (c.change.ensures.side, w.1) w.2
+
+pub returns-then-turned-2-clause-stepped : goal.returns-then-turned-2-clause-stepped
+returns-then-turned-2-clause-stepped g c =
+    let stands = StandsAs g.S.Stage.stands in
+    let contents = g.W.Sink.contents in
+    let flushed = g.W.Sink.flushed in
+    let order : Order g.row.O.Denot = record { pick = g.O.Order.picks; next = g.O.Order.after } in
+    let e = c.next-actor.ensures in
+    let look = c.args.search.now in
+    let who = asks order look c.next-actor.result c.args.order.now c.next-actor.new.order e.from c.requires.leans in
+    subst (λ b. HasStepped stands g.R.Source.remaining contents flushed order c.args.order.now c.next-actor.new.order
+    look (Some c.skip.new.self) c.args.self.now c.turn_if_ready.new.self b) c.if-turned.false (stepped_over_it stands g.R.Source.remaining contents flushed order look c.next-actor.result c.args.order.now c.next-actor.new.order c.args.self.now c.requires.may who e.picked
+    c.in-Some.turned.link c.in-Some.turned.is_over c.turn_if_ready.new.self
+    (λ start s now h none within. sym (c.turn_if_ready.ensures.ready start s now h none within) ∙ ap is_some c.in-Some.is)
+    c.in-Some.ensures.gone.link c.in-Some.ensures.gone.turned c.if-turned.false c.in-Some-search-2.search c.skip.new.self c.in-Some-search-2.is
+    (λ start s now h none within. held_by g.S.Stage.stands contents flushed c.next-actor.result c.turn_if_ready.new.self start s now h none within
+    (c.in-Some.ensures.gone.full c.if-turned-2.true))
+    (λ taker at. c.skip.ensures.skipped taker (ap (λ l. slice_get l c.in-Some.turned.link) c.deref.ensures.value ∙ at)))
+
+pub returns-then-turned-2-clause-leans : goal.returns-then-turned-2-clause-leans
+returns-then-turned-2-clause-leans g c =
+    let order : Order g.row.O.Denot = record { pick = g.O.Order.picks; next = g.O.Order.after } in
+    let e = c.next-actor.ensures in
+    let look = c.args.search.now in
+    let who = asks order look c.next-actor.result c.args.order.now c.next-actor.new.order e.from c.requires.leans in
+    let w = who c.in-Some-search-2.search c.in-Some-search-2.is in
+    rw (c.skip.ensures.side, w.1) w.2
 
 pub index-taker-requires : goal.index-taker-requires
 index-taker-requires g c =

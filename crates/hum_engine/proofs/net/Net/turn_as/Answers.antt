@@ -1,3 +1,4 @@
+use Rattle.std.proofs.lemmas.Bool.{false≢true}
 use Rattle.hum_engine.specs.Readers.{failed_at}
 use Rattle.hum_engine.proofs.Showing.{shows_alike}
 use Rattle.hum_engine.proofs.Netting.{or_false}
@@ -74,6 +75,7 @@ returns-then-k-count-clause-gone g c =
       turns = e.turns;
       actors = e.actors;
       takers = e.takers;
+      full = λ full. absurd (false≢true full);
     }
 
 pub returns-clause-gone : goal.returns-clause-gone
@@ -95,6 +97,7 @@ returns-clause-gone g c =
       turns = more;
       actors = e.actors;
       takers = e.takers;
+      full = e.full;
     }
 
 pub overflow_add-self : goal.overflow_add-self

@@ -1,29 +1,11 @@
-use Rattle.std.proofs.Common.{[], arith, ◌∙◌}
+use Rattle.std.proofs.Common.{arith, ◌∙◌}
 use Rattle.hum_nodes.specs.Nodes.{StandsAs}
 use Rattle.hum_nodes.specs.At.{doing_of}
 use Rattle.hum_engine.specs.Scene.{at_of}
 use Rattle.hum_engine.proofs.Feeding.{node_at}
-use Rattle.hum_nodes.proofs.Standing.{any_rest}
 use Rattle.hum_engine.proofs.Doings.{gives_of, reads_of, wants_of, done_of, about_it}
-use Rattle.hum_engine.proofs.Readying.{room_gives, unset_ends, within_place, within_links, some_takes, never}
+use Rattle.hum_engine.proofs.Readying.{room_gives, unset_ends, within_links, some_takes, never}
 use Rattle.hum_engine.proofs.web.Web.can.Goals as goal
-
-pub source-source-requires-clause-place : goal.source-source-requires-clause-place
-source-source-requires-clause-place g c =
-    let s = c.requires.about.scene in
-    let a = c.requires.about.holds in
-    let web = c.args.self.now in
-    let k = c.args.k in
-    let stands = StandsAs g.S.Stage.stands in
-    let b = about_it stands k c.args.kind web s a in
-    let node = c.index-in-Wants.result.now in
-    let there = node_at stands k web s node a.less a.at.stand c.index-in-Wants.ensures in
-    record {
-      at = at_of s.kinds s.links k;
-      stand = any_rest g.S.Stage.stands node (c.requires.stage node there)
-          (s.rests k) [] _ (a.at.stand.nodes k node there);
-      holds = within_place stands k web (doing_of (at_of s.kinds s.links k)) s b c.in-Wants.place (wants_of _ _ (a.does ∙ c.in-Wants.is));
-    }
 
 pub index-requires-in-Wants-2 : goal.index-requires-in-Wants-2
 index-requires-in-Wants-2 g c =
@@ -35,8 +17,8 @@ index-requires-in-Wants-2 g c =
     let b = about_it stands k c.args.kind web s a in
     let node = c.index-in-Wants.result.now in
     let there = node_at stands k web s node a.less a.at.stand c.index-in-Wants.ensures in
-    let e = c.source-source.ensures (s.rests k) (at_of s.kinds s.links k)
-    (a.at.stand.nodes k node there) in
+    let e = c.source-source.ensures (c.requires.stage node there) (s.rests k) (at_of s.kinds s.links k) c.in-Wants.place
+    (a.at.stand.nodes k node there) (wants_of _ _ (a.does ∙ c.in-Wants.is)) in
     let n = within_links stands k web (doing_of (at_of s.kinds s.links k)) s b c.in-Wants.place c.source-source.result
     (wants_of _ _ (a.does ∙ c.in-Wants.is)) e in
     let l = web.links.ok.0 in
@@ -59,8 +41,8 @@ returns-in-Wants g c s a =
     let b = about_it stands k c.args.kind web s a in
     let node = c.index-in-Wants.result.now in
     let there = node_at stands k web s node a.less a.at.stand c.index-in-Wants.ensures in
-    let e = c.source-source.ensures (s.rests k) (at_of s.kinds s.links k)
-    (a.at.stand.nodes k node there) in
+    let e = c.source-source.ensures (c.requires.stage node there) (s.rests k) (at_of s.kinds s.links k) c.in-Wants.place
+    (a.at.stand.nodes k node there) (wants_of _ _ (a.does ∙ c.in-Wants.is)) in
     some_takes stands k web (doing_of (at_of s.kinds s.links k)) s b c.in-Wants.place c.source-source.result
     c.index-in-Wants-2.result.now c.has_more.result (wants_of _ _ (a.does ∙ c.in-Wants.is)) e c.index-in-Wants-2.ensures
     c.has_more.ensures
@@ -108,10 +90,3 @@ index-requires-in-Wants g c =
     let count = at.at.stand.count in
     let size = c.args.self.now.nodes.ok.0 in
     omega (arith, less, count, size)
-
-pub source-source-requires-clause-kind : goal.source-source-requires-clause-kind
-source-source-requires-clause-kind g c =
-    let a = c.requires.about.holds in
-    let node = c.index-in-Wants.result.now in
-    c.requires.stage node (node_at (StandsAs g.S.Stage.stands) c.args.k c.args.self.now
-    c.requires.about.scene node a.less a.at.stand c.index-in-Wants.ensures)

@@ -1,12 +1,13 @@
-use Rattle.std.proofs.Common.{[], refl, arith, subst}
+use Rattle.std.proofs.Common.{[], refl, arith, inr, subst}
 use Rattle.std.proofs.lemmas.Result.{err_from_is_err_and}
 use Rattle.hum_nodes.specs.At.{with_record, with_end}
 use Rattle.hum_nodes.specs.Nodes.{StandsAs}
 use Rattle.hum_nodes.proofs.Standing.{any_rest}
 use Rattle.hum_engine.specs.Links.{Tells}
 use Rattle.hum_engine.specs.Scene.{at_of}
-use Rattle.hum_engine.proofs.Feeding.{node_at, still_here}
-use Rattle.hum_engine.proofs.Acting.{keeps, place_within, source_within, passing, may_take}
+use Rattle.hum_engine.proofs.Feeding.{node_at, link_of, still_here}
+use Rattle.hum_engine.proofs.Moving.{set_here, set_there}
+use Rattle.hum_engine.proofs.Acting.{keeps, source_within, passing, may_take}
 use Rattle.hum_engine.proofs.Acting.{record_next, end_next, nothing_next, passed}
 use Rattle.hum_engine.proofs.web.Web.pass.Goals as goal
 
@@ -18,30 +19,6 @@ index-requires g c =
     let size = c.args.self.now.nodes.ok.0 in
     omega (arith, less, count, size)
 
-pub source-source-requires-clause-kind : goal.source-source-requires-clause-kind
-source-source-requires-clause-kind g c =
-    let s = c.requires.may.scene in
-    let may = c.requires.may.holds in
-    let node = c.index.result.now in
-    c.requires.stage node (node_at (StandsAs g.S.Stage.stands) c.args.k c.args.self.now s node may.less
-    may.at.stand c.index.ensures)
-
-pub source-source-requires-clause-place : goal.source-source-requires-clause-place
-source-source-requires-clause-place g c =
-    let s = c.requires.may.scene in
-    let may = c.requires.may.holds in
-    let web = c.args.self.now in
-    let k = c.args.k in
-    let stands = StandsAs g.S.Stage.stands in
-    let node = c.index.result.now in
-    let there = node_at stands k web s node may.less may.at.stand c.index.ensures in
-    record {
-      at = at_of s.kinds s.links k;
-      stand = any_rest g.S.Stage.stands node (c.requires.stage node there) (s.rests k) [] _
-          (may.at.stand.nodes k node there);
-      holds = place_within stands k c.args.place web s may;
-    }
-
 pub index_mut-requires : goal.index_mut-requires
 index_mut-requires g c =
     let s = c.requires.may.scene in
@@ -52,7 +29,8 @@ index_mut-requires g c =
     let node = c.index.result.now in
     let there = node_at stands k web s node may.less may.at.stand c.index.ensures in
     let i = c.source-source.result in
-    let e = c.source-source.ensures (s.rests k) (at_of s.kinds s.links k) (may.at.stand.nodes k node there) in
+    let e = c.source-source.ensures (c.requires.stage node there) (s.rests k) (at_of s.kinds s.links k) c.args.place
+    (may.at.stand.nodes k node there) may.does in
     let n = source_within stands k c.args.place web s i may e in
     let l = web.links.ok.0 in
     omega (arith, n, l)
@@ -83,7 +61,8 @@ put-requires-clause-may g c =
     let node = c.index.result.now in
     let there = node_at stands k web s node may.less may.at.stand c.index.ensures in
     let i = c.source-source.result in
-    let e = c.source-source.ensures (s.rests k) (at_of s.kinds s.links k) (may.at.stand.nodes k node there) in
+    let e = c.source-source.ensures (c.requires.stage node there) (s.rests k) (at_of s.kinds s.links k) c.args.place
+    (may.at.stand.nodes k node there) may.does in
     let w = passing stands k c.args.place web s i c.index_mut.result.now may e c.index_mut.ensures.value in
     let v = record_next stands k c.args.place web s i c.index_mut.result.now c.next.result may w
     c.next.ensures.next c.in-Some.row c.in-Some.is in
@@ -96,15 +75,16 @@ put-requires-clause-may g c =
       holds = may_take stands k c.args.place web s i c.index_mut.result.now (with_record c.in-Some.row) may w v;
     }
 
-pub returns-in_ok-put-in-Some-clause-passed : goal.returns-in_ok-put-in-Some-clause-passed
-returns-in_ok-put-in-Some-clause-passed g c s may =
+pub returns-in-Some-clause-passed : goal.returns-in-Some-clause-passed
+returns-in-Some-clause-passed g c s may =
     let web = c.args.self.now in
     let k = c.args.k in
     let stands = StandsAs g.S.Stage.stands in
     let node = c.index.result.now in
     let there = node_at stands k web s node may.less may.at.stand c.index.ensures in
     let i = c.source-source.result in
-    let e = c.source-source.ensures (s.rests k) (at_of s.kinds s.links k) (may.at.stand.nodes k node there) in
+    let e = c.source-source.ensures (c.requires.stage node there) (s.rests k) (at_of s.kinds s.links k) c.args.place
+    (may.at.stand.nodes k node there) may.does in
     let w = passing stands k c.args.place web s i c.index_mut.result.now may e c.index_mut.ensures.value in
     let v = record_next stands k c.args.place web s i c.index_mut.result.now c.next.result may w
     c.next.ensures.next c.in-Some.row c.in-Some.is in
@@ -112,29 +92,50 @@ returns-in_ok-put-in-Some-clause-passed g c s may =
     let at = node_at stands k web s it may.less may.at.stand c.index_mut-in-Some.ensures.value in
     passed stands k c.args.place web s _ it c.put.new.self i
     c.index_mut.result.now c.next.new.self (with_record c.in-Some.row) may w v at
-    c.in_ok-put-in-Some.ensures.put c.next.ensures.popped refl refl
+    c.in_ok-gives-in-Some.ensures.put c.next.ensures.popped refl refl
 
-pub returns-in_ok-put-in-Some-clause-nodes : goal.returns-in_ok-put-in-Some-clause-nodes
-returns-in_ok-put-in-Some-clause-nodes g c = keeps c.args.k c.args.self.now _ c.put.new.self c.put.ensures.kind refl
+pub returns-in-Some-clause-nodes : goal.returns-in-Some-clause-nodes
+returns-in-Some-clause-nodes g c = keeps c.args.k c.args.self.now _ c.put.new.self c.put.ensures.kind refl
 
-pub returns-in_ok-put-in-Some-clause-source : goal.returns-in_ok-put-in-Some-clause-source
-returns-in_ok-put-in-Some-clause-source g c s may =
+pub returns-in-Some-clause-source : goal.returns-in-Some-clause-source
+returns-in-Some-clause-source g c s may =
     let stands = StandsAs g.S.Stage.stands in
     let node = c.index.result.now in
     let there = node_at stands c.args.k c.args.self.now s node may.less may.at.stand c.index.ensures in
-    c.source-source.ensures (s.rests c.args.k) (at_of s.kinds s.links c.args.k) (may.at.stand.nodes c.args.k node there)
+    c.source-source.ensures (c.requires.stage node there) (s.rests c.args.k) (at_of s.kinds s.links c.args.k) c.args.place
+    (may.at.stand.nodes c.args.k node there) may.does
 
-pub returns-in_err-put-in-Some-clause-nodes : goal.returns-in_err-put-in-Some-clause-nodes
-returns-in_err-put-in-Some-clause-nodes g c =
+pub returns-in-Some-clause-full : goal.returns-in-Some-clause-full
+returns-in-Some-clause-full g c full =
+    let s = c.requires.may.scene in
+    let may = c.requires.may.holds in
+    let web = c.args.self.now in
+    let k = c.args.k in
+    let stands = StandsAs g.S.Stage.stands in
+    let it = c.index_mut-in-Some.result.now in
+    let at = node_at stands k web s it may.less may.at.stand c.index_mut-in-Some.ensures.value in
+    let l = link_of stands k web s may.less may.at.stand in
+    let its = set_there web.links.items c.source-source.result k c.next.new.self l.0 l.1 in
+    record {
+      node = c.put.new.self;
+      is = set_here web.nodes.items k c.put.new.self it at;
+      gives = inr (c.in_ok-gives-in-Some.ensures.gives (c.is_full.ensures.gives full));
+      link = its.0;
+      its = its.1;
+      full = c.is_full.ensures.full full its.0 its.1;
+    }
+
+pub returns-in_err-gives-in-Some-clause-nodes : goal.returns-in_err-gives-in-Some-clause-nodes
+returns-in_err-gives-in-Some-clause-nodes g c =
     keeps c.args.k c.args.self.now _ c.put.new.self c.put.ensures.kind refl
 
-pub returns-in_err-put-in-Some-clause-passed : goal.returns-in_err-put-in-Some-clause-passed
-returns-in_err-put-in-Some-clause-passed g c =
+pub returns-in_err-gives-in-Some-clause-passed : goal.returns-in_err-gives-in-Some-clause-passed
+returns-in_err-gives-in-Some-clause-passed g c =
     let p = err_from_is_err_and c.from_residual.result c.from_residual.ensures.1 in
     rw p.1 tt
 
-pub returns-in_err-put-in-Some-clause-source : goal.returns-in_err-put-in-Some-clause-source
-returns-in_err-put-in-Some-clause-source g c =
+pub returns-in_err-gives-in-Some-clause-source : goal.returns-in_err-gives-in-Some-clause-source
+returns-in_err-gives-in-Some-clause-source g c =
     let p = err_from_is_err_and c.from_residual.result c.from_residual.ensures.1 in
     rw p.1 tt
 
@@ -150,7 +151,8 @@ index-requires-in-None g c =
     let node = c.index.result.now in
     let there = node_at stands k web s node may.less may.at.stand c.index.ensures in
     let i = c.source-source.result in
-    let e = c.source-source.ensures (s.rests k) (at_of s.kinds s.links k) (may.at.stand.nodes k node there) in
+    let e = c.source-source.ensures (c.requires.stage node there) (s.rests k) (at_of s.kinds s.links k) c.args.place
+    (may.at.stand.nodes k node there) may.does in
     let n = source_within stands k c.args.place web s i may e in
     let l = web.links.ok.0 in
     omega (arith, n, l)
@@ -181,7 +183,8 @@ stop-requires-clause-may g c =
     let node = c.index.result.now in
     let there = node_at stands k web s node may.less may.at.stand c.index.ensures in
     let i = c.source-source.result in
-    let e = c.source-source.ensures (s.rests k) (at_of s.kinds s.links k) (may.at.stand.nodes k node there) in
+    let e = c.source-source.ensures (c.requires.stage node there) (s.rests k) (at_of s.kinds s.links k) c.args.place
+    (may.at.stand.nodes k node there) may.does in
     let w = passing stands k c.args.place web s i c.index_mut.result.now may e c.index_mut.ensures.value in
     let left = c.index-in-None.result.now in
     let same = still_here web.links.items i c.index_mut.result.now c.next.new.self left w.at_link c.index-in-None.ensures in
@@ -205,7 +208,8 @@ returns-in-Some-heard-clause-passed g c s may =
     let node = c.index.result.now in
     let there = node_at stands k web s node may.less may.at.stand c.index.ensures in
     let i = c.source-source.result in
-    let e = c.source-source.ensures (s.rests k) (at_of s.kinds s.links k) (may.at.stand.nodes k node there) in
+    let e = c.source-source.ensures (c.requires.stage node there) (s.rests k) (at_of s.kinds s.links k) c.args.place
+    (may.at.stand.nodes k node there) may.does in
     let w = passing stands k c.args.place web s i c.index_mut.result.now may e c.index_mut.ensures.value in
     let left = c.index-in-None.result.now in
     let same = still_here web.links.items i c.index_mut.result.now c.next.new.self left w.at_link c.index-in-None.ensures in
@@ -226,7 +230,8 @@ returns-in-Some-heard-clause-source g c s may =
     let stands = StandsAs g.S.Stage.stands in
     let node = c.index.result.now in
     let there = node_at stands c.args.k c.args.self.now s node may.less may.at.stand c.index.ensures in
-    c.source-source.ensures (s.rests c.args.k) (at_of s.kinds s.links c.args.k) (may.at.stand.nodes c.args.k node there)
+    c.source-source.ensures (c.requires.stage node there) (s.rests c.args.k) (at_of s.kinds s.links c.args.k) c.args.place
+    (may.at.stand.nodes c.args.k node there) may.does
 
 pub returns-in_default-clause-passed : goal.returns-in_default-clause-passed
 returns-in_default-clause-passed g c s may =
@@ -236,7 +241,8 @@ returns-in_default-clause-passed g c s may =
     let node = c.index.result.now in
     let there = node_at stands k web s node may.less may.at.stand c.index.ensures in
     let i = c.source-source.result in
-    let e = c.source-source.ensures (s.rests k) (at_of s.kinds s.links k) (may.at.stand.nodes k node there) in
+    let e = c.source-source.ensures (c.requires.stage node there) (s.rests k) (at_of s.kinds s.links k) c.args.place
+    (may.at.stand.nodes k node there) may.does in
     let w = passing stands k c.args.place web s i c.index_mut.result.now may e c.index_mut.ensures.value in
     let left = c.index-in-None.result.now in
     let same = still_here web.links.items i c.index_mut.result.now c.next.new.self left w.at_link c.index-in-None.ensures in
@@ -252,4 +258,5 @@ returns-in_default-clause-source g c s may =
     let stands = StandsAs g.S.Stage.stands in
     let node = c.index.result.now in
     let there = node_at stands c.args.k c.args.self.now s node may.less may.at.stand c.index.ensures in
-    c.source-source.ensures (s.rests c.args.k) (at_of s.kinds s.links c.args.k) (may.at.stand.nodes c.args.k node there)
+    c.source-source.ensures (c.requires.stage node there) (s.rests c.args.k) (at_of s.kinds s.links c.args.k) c.args.place
+    (may.at.stand.nodes c.args.k node there) may.does

@@ -1,9 +1,9 @@
-use Rattle.std.proofs.Common.{◌∙◌, Some, arith, refl, sym, ap}
+use Rattle.std.proofs.Common.{◌∙◌, Some, arith, inl, refl, sym, ap}
 use Rattle.hum_read.specs.Reading.{Gave, ReadOn, Ended}
 use Rattle.hum_nodes.specs.Nodes.{StandsAs, is_source, stopped_of}
 use Rattle.hum_nodes.proofs.Standing.{source_bytes}
 use Rattle.hum_engine.specs.Scene.{at_of}
-use Rattle.hum_engine.proofs.Moving.{set_other}
+use Rattle.hum_engine.proofs.Moving.{set_here, set_other}
 use Rattle.hum_engine.proofs.Feeding.{still_here, polled_marks, polled_calls, polled_stays}
 use Rattle.hum_engine.proofs.Feeding.{fed, node_at, link_at, source_room, link_of}
 use Rattle.hum_engine.proofs.web.Web.poll.Goals as goal
@@ -39,6 +39,27 @@ returns-in-Some-clause-fed g c =
     link c.push.new.self at
     (link_at stands c.args.k web s link may.less may.at.stand c.index_mut-in-Some.ensures.value)
     (Gave c.in-Some.row) has c.push.ensures.pushed refl refl
+
+pub returns-in-Some-clause-full : goal.returns-in-Some-clause-full
+returns-in-Some-clause-full g c full =
+    let s = c.requires.turn.scene in
+    let may = c.requires.turn.holds in
+    let web = c.args.self.now in
+    let k = c.args.k in
+    let node = c.index_mut.result.now in
+    let stands = StandsAs g.S.Stage.stands in
+    let at = node_at stands k web s node may.less may.at.stand c.index_mut.ensures.value in
+    let link = c.index_mut-in-Some.result.now in
+    let its = set_here web.links.items k c.push.new.self link
+    (link_at stands k web s link may.less may.at.stand c.index_mut-in-Some.ensures.value) in
+    record {
+      node = c.next.new.self;
+      is = set_here web.nodes.items k c.next.new.self node at;
+      gives = inl c.next.ensures.kind;
+      link = c.push.new.self;
+      its = its;
+      full = c.is_full.ensures.full full c.push.new.self its;
+    }
 
 pub returns-in-Some-clause-marks : goal.returns-in-Some-clause-marks
 returns-in-Some-clause-marks g c =
