@@ -105,6 +105,25 @@ most_places (suc k) b x =
     let rest = set_places k (b + 1) (x / 2) in
     bit_cases (λ r. length (if r == 1 then b ∷ rest else rest) ≤ suc k) (omega (arith, ih)) (omega (arith, ih)) (x % 2) (mod-lt x (zero-lt-suc 1))
 
+-- half as many where no two of them stand side by side
+pub apart_places : (k b head x : ℕ) → head ≤ 1 → bit_and (head + 2 * x) x ≡ 0 → 2 * length (set_places k b x) + head ≤ suc k
+unfolding set_places
+apart_places zero b head x few apart = omega (arith, few)
+apart_places (suc k) b head x few apart =
+    let rest = set_places k (b + 1) (x / 2) in
+    let half : (head + 2 * x) / 2 ≡ x = omega (arith, few) in
+    let low : (head + 2 * x) % 2 ≡ head = omega (arith, few) in
+    let parts : bit_and (head + 2 * x) x ≡ bit_and x (x / 2) * 2 + min head (x % 2) =
+    and_step (head + 2 * x) x ∙ ap₂ (λ u v. bit_and u (x / 2) * 2 + min v (x % 2)) half low in
+    let whole : x % 2 + 2 * (x / 2) ≡ x = omega arith in
+    let again : bit_and (x % 2 + 2 * (x / 2)) (x / 2) ≡ 0 = ap (λ n. bit_and n (x / 2)) whole ∙ omega (arith, parts, apart) in
+    let bit : x % 2 ≤ 1 = omega arith in
+    let ih = apart_places k (b + 1) (x % 2) (x / 2) bit again in
+    bit_cases (λ r. x % 2 ≡ r → 2 * length (if r == 1 then b ∷ rest else rest) + head ≤ suc (suc k))
+    (λ e. omega (arith, ih, few))
+    (λ e. let free : min head 1 ≡ 0 = ap (min head) (sym e) ∙ omega (arith, parts, apart) in omega (arith, ih, e, free))
+    (x % 2) (mod-lt x (zero-lt-suc 1)) refl
+
 -- where a bit is left there is room for its place
 pub room_left : (places all : List ℕ) (j b x : ℕ) → 0 < x → x < 2 ^ 64 → j ≤ length places → length all ≤ length places
     → take j places ++ set_places 64 b x ≡ all → j < length places
