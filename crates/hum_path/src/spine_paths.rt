@@ -5,7 +5,7 @@ ghost use Rattle.std.specs.Allocator.{alloc_error};
 ghost use Rattle.hum_path.specs.Sign.{steers};
 ghost use Rattle.hum_path.specs.Spines.{Unopened, exclusives, width, moves, after};
 ghost use Rattle.hum_path.specs.Rules.{fault_of, Refuses, is_unfinished, is_closed};
-ghost use Rattle.hum_path.specs.Step.{ComeFrom, HasFollowed, HasSteered, IsStay};
+ghost use Rattle.hum_path.specs.Step.{ComeFrom, HasFollowed, HasSteered, IsStay, KeepsData};
 ghost use Rattle.hum_path.specs.declared.PathFault.TheVariants.{Memory, P8};
 
 use crate::PathFault;
@@ -109,9 +109,17 @@ impl Paths {
         ensures same { result ≡ true → after self.now.path row.now ≡ self.now.path }
     {
         match row.kind() {
-            Kind::Values => fits(self.waits, self.names.len(), row.width()),
+            Kind::Values => self.keeps_data(row.width()),
             _ => false,
         }
+    }
+
+    /// The same of data with so many tokens.
+    #[inline]
+    pub fn keeps_data(&self, width: usize) -> bool
+        ensures { result ≡ true → KeepsData self.now.path width }
+    {
+        fits(self.waits, self.names.len(), width)
     }
 
     /// Takes one more record, and says where each spine after it comes from.

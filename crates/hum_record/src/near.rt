@@ -60,7 +60,7 @@ fn is_line_end(held: &[u8], len: usize) -> bool
     held[len] == b'\n' || is_cr_lf(held, len)
 }
 
-#[inline(never)]
+#[inline(always)]
 fn is_cr_lf(held: &[u8], len: usize) -> bool
     requires { len < length held.now }
     ensures { result ≡ true → IsBehind held.now len (len + 1) }
