@@ -147,6 +147,7 @@ impl Record {
 
     /// The same of a line of any length, into what is left of any record. What another line is,
     /// [`Record::parse_into`] tells.
+    #[inline(always)]
     pub fn parse_line(spare: &mut Spare, held: &[u8], width: usize) -> Option<Record>
         ensures { IfSome result (IsRead held.now) }
     {
