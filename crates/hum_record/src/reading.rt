@@ -126,9 +126,9 @@ impl Record {
     }
 
     /// Reads the line in front of what is held, up to LF, or CR and LF, into what is left of the first
-    /// record that is done with, if the line's bytes show that it is plain data, it is short, and there is
-    /// room. Lines of so many tokens are short or not.
-    // It makes no call, so that a caller that makes none behind it keeps nothing on the stack.
+    /// record that is done with, if there is one that has room, and the first 32 bytes show that the line
+    /// ends among them and is plain data. Where it may have many tokens they aren't looked at.
+    // It makes no call, so a caller that makes none but its last one keeps nothing on the stack.
     #[inline(always)]
     pub fn parse_short(spare: &mut Spare, held: &[u8], width: usize) -> Option<Record>
         ensures { IfSome result (IsRead held.now) }
@@ -145,8 +145,8 @@ impl Record {
         Self::of_near::<SHORT>(spare, body, held, end)
     }
 
-    /// The same of a line of any length, into what is left of any record. What another line is,
-    /// [`Record::parse_into`] tells.
+    /// The same of a line of any length, into what is left of any record. By how many tokens it may have it
+    /// is known in what pieces it is best looked at. What any other line is, [`Record::parse_into`] tells.
     #[inline(always)]
     pub fn parse_line(spare: &mut Spare, held: &[u8], width: usize) -> Option<Record>
         ensures { IfSome result (IsRead held.now) }
