@@ -39,7 +39,7 @@ returns g c =
     let going = subst (λ v. v.stopped ≡ None) (sym c.self.view_is) c.requires.going in
     let ahead = subst (λ v. IsAhead v.lines row) (sym c.self.view_is) c.requires.ahead in
     let read = ahead.read in
-    let kept = c.keeps_data.ensures c.if-not-keeps_data.false row read.lawful read.kind (sym c.width.ensures) in
+    let kept = c.keeps_data.ensures.keeps c.if-not-keeps_data.false row read.lawful read.kind (sym c.width.ensures) in
     let given = c.take_line.ensures.gives in
     let t = taking lines.limits lines.given lines.taken lines.pending ahead.held ahead.behind row
     ahead.next ahead.line ahead.records ahead.bytes read in
