@@ -22,7 +22,7 @@ use Rattle.hum_path.specs.declared.signs.Sign.TheVariants.{Split, Join, Exchange
 use Rattle.hum_path.specs.declared.PathFault.TheVariants.{P1}
 use Rattle.hum_path.specs.Sign.{sign_of, is_exclusive, is_plain, all_plain, steers}
 use Rattle.hum_path.specs.Spines.{Path, Unopened, Spines, width, exchanges, moves, moves_under}
-use Rattle.hum_path.specs.Spines.{same_upto, after, path_in, texts}
+use Rattle.hum_path.specs.Spines.{same_upto, after, exclusives, path_in, texts}
 use Rattle.hum_path.specs.Rules.{breaks, breaks_as_text, in_order, fault_of, has_bare, has_unnamed}
 use Rattle.hum_path.specs.Rules.{has_lone_join, has_mixed_join}
 use Rattle.hum_path.specs.Rules.{mixes_join}
@@ -209,6 +209,12 @@ unsteered path (Spined Values tokens) other sound =
     let stays = text_stays Values path tokens sound (text_width path tokens sound) refl refl in
     (stays.sound, refl, refl, stays.sources)
 unsteered path (Spined Interpretation tokens) other sound = absurd (other refl)
+
+-- the fields show the names
+pub names_in : (opened waits : Bool) (names : List (Vec ℕ Global)) → IsTidy opened waits names
+    → exclusives (path_in opened (texts names)) ≡ texts names
+names_in true waits names tidy = refl
+names_in false waits names tidy = ap texts (sym (tidy.unopened refl))
 
 -- the fields show the width
 pub width_in : (opened waits : Bool) (names : List (Vec ℕ Global)) → IsTidy opened waits names

@@ -5,8 +5,9 @@ use Rattle.std.specs.List.{list_any, find, AllByRecursion}
 use Rattle.std.specs.declared.vec.Vec.{Vec}
 use Rattle.std.specs.declared.alloc.Global.{Global}
 use Rattle.std.specs.declared.alloc.AllocError.{AllocError}
-use Rattle.hum_record.specs.Row.{Row, Comment, Spined}
-use Rattle.hum_record.specs.Spelling.{is_empty}
+use Rattle.hum_record.specs.declared.Kind.TheVariants.{Values}
+use Rattle.hum_record.specs.Row.{Row, Comment, Spined, kind_of, text_of, width_of}
+use Rattle.hum_record.specs.Spelling.{IsTextOf, is_empty}
 use Rattle.hum_path.specs.declared.moved.Move.{Move}
 use Rattle.hum_path.specs.declared.moved.Moves.{Moves}
 use Rattle.hum_path.specs.declared.PathFault.{PathFault}
@@ -31,6 +32,12 @@ IsStay path row (Ok found) =
     × (found ≡ moves path row)
     × ComeFrom row found
 IsStay path row (Err fault) = (fault_of path row ≡ Some fault) × (fault ≢ Memory)
+
+-- Data with so many tokens breaks no rule, and all spines stay.
+abbrev pub KeepsData : Path → ℕ → Type 0
+KeepsData path width =
+    (row : Row) → IsTextOf row (text_of row) → kind_of row ≡ Values → width_of row ≡ width
+    → (fault_of path row ≡ None) × (after path row ≡ path)
 
 -- the spines before an interpretation that asks something of them, those behind it, and what it
 -- answers; behind a rule that it breaks nothing has changed

@@ -1,11 +1,14 @@
 //! The spines of a score, record by record.
 ghost use Rattle.std.specs.Prelude.{◌≡◌, ◌≢◌, ◌<◌, ◌≤◌, [], true, false, IsTrue, if◌then◌else◌};
 ghost use Rattle.std.specs.Prelude.{slice_index_or, Ok, Err, None, IfOk, IfErr, OnOk, IsErr};
+ghost use Rattle.std.specs.Prelude.{◌==◌, ◌&&◌, not, length};
+ghost use Rattle.std.specs.List.{list_any};
 ghost use Rattle.std.specs.Allocator.{alloc_error};
+ghost use Rattle.hum_record.specs.Spelling.{is_empty};
 ghost use Rattle.hum_path.specs.Sign.{steers};
 ghost use Rattle.hum_path.specs.Spines.{Unopened, exclusives, width, moves, after};
 ghost use Rattle.hum_path.specs.Rules.{fault_of, Refuses, is_unfinished, is_closed};
-ghost use Rattle.hum_path.specs.Step.{ComeFrom, HasFollowed, HasSteered, IsStay};
+ghost use Rattle.hum_path.specs.Step.{ComeFrom, HasFollowed, HasSteered, IsStay, KeepsData};
 ghost use Rattle.hum_path.specs.declared.PathFault.TheVariants.{Memory, P8};
 
 use crate::PathFault;
@@ -23,6 +26,7 @@ use std::marker::Model;
 fn fits(waits: bool, spines: usize, tokens: usize) -> bool
     ensures ready { result ≡ true → waits ≡ false }
     ensures width { result ≡ true → tokens ≡ spines }
+    ensures exact { result ≡ (tokens == spines && not waits) }
 {
     tokens == spines && !waits
 }
@@ -109,9 +113,19 @@ impl Paths {
         ensures same { result ≡ true → after self.now.path row.now ≡ self.now.path }
     {
         match row.kind() {
-            Kind::Values => fits(self.waits, self.names.len(), row.width()),
+            Kind::Values => self.keeps_data(row.width()),
             _ => false,
         }
+    }
+
+    /// The same of data with so many tokens.
+    #[inline]
+    pub fn keeps_data(&self, width: usize) -> bool
+        ensures keeps { result ≡ true → KeepsData self.now.path width }
+        ensures exact { result ≡ (width == length (exclusives self.now.path)
+            && not (list_any is_empty (exclusives self.now.path))) }
+    {
+        fits(self.waits, self.names.len(), width)
     }
 
     /// Takes one more record, and says where each spine after it comes from.

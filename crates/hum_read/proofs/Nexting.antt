@@ -99,11 +99,6 @@ consumes-none : (known : Option (List ℕ)) → Consumes known known []
 consumes-none None = tt
 consumes-none (Some xs) = refl
 
--- a reader that has not stopped
-pub none-of : (o : Option (Result EndOf ReadError)) → false ≡ is_some o → o ≡ None
-none-of None is = refl
-none-of (Some s) is = let both : false ≡ true = is in absurd cc
-
 some-none : (s : Result EndOf ReadError) → Some s ≡ None → ⊥
 some-none s is = cc
 

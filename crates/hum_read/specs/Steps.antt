@@ -6,6 +6,7 @@ use Rattle.hum_text.specs.declared.TextFault.{TextFault}
 use Rattle.hum_text.specs.declared.TextFault.TheVariants as text
 use Rattle.hum_text.specs.declared.calls.TheConstants.{LARGEST_READ}
 use Rattle.hum_text.specs.Reading.{Reader, Holds, NeedsRead, IsUnread, IsFed, bytes_read, left_to_do}
+use Rattle.hum_record.specs.Lines.{IsRead}
 use Rattle.hum_record.specs.Row.{Row}
 use Rattle.hum_path.specs.Spines.{Unopened}
 use Rattle.hum_stage.specs.declared.faults.End.{End}
@@ -36,6 +37,16 @@ pub record HasLine {R : Type 0} (v : Scores R) (all : List ℕ) (rows : List Row
   pub score : IsScore rows
   pub path : v.spines.path ≡ through Unopened rows
   pub as_many : length given ≡ length rows
+
+-- In front of the bytes that come next stands a line that keeps to the limits, and it is read as this record.
+pub record IsAhead {R : Type 0} (lines : Reader R) (row : Row) : Type 0 where
+  pub held : List ℕ
+  pub behind : List ℕ
+  pub next : lines.pending ≡ held ++ behind
+  pub line : length held ≤ lines.limits.line
+  pub records : lines.given + length held ≤ lines.limits.records
+  pub bytes : lines.taken + length held ≤ lines.limits.bytes
+  pub read : IsRead held row
 
 -- the line that was just given is read
 abbrev pub ReadsLine : {R : Type 0} → Scores R → Result Polled ReadError → Scores R → Type 0

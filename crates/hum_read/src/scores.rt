@@ -104,7 +104,7 @@ impl<R: Source> ScoreReader<R> {
     ghost use Rattle.hum_read.specs.Reading.{IsFresh, HasRead, GivesNext};
     ghost use Rattle.hum_read.specs.Reading.{IsCalledAtMostOnce, IsDue, ReadsOnce, Nears};
     ghost use Rattle.hum_read.specs.Reading.{ReadOn, stop_of, answer_of};
-    ghost use Rattle.hum_read.specs.Steps.{ReadsLine, Nexts, refusal, end_of, given_by};
+    ghost use Rattle.hum_read.specs.Steps.{IsAhead, ReadsLine, Nexts, refusal, end_of, given_by};
 
     /// The reader of a source of which nothing was read yet, as the stage of this number, from 1.
     pub fn new(alloc: Global, stage: u8, source: R) -> ScoreReader<R>
@@ -243,14 +243,45 @@ impl<R: Source> ScoreReader<R> {
         if self.stopped.is_some() {
             return None;
         }
-        let width = self.paths.width();
-        if let Some(record) = Record::parse_line(pool, self.lines.ahead(), width) {
-            if self.paths.keeps_spines(&record) {
-                self.lines.take_line(record.text().len());
-                return Some(record);
-            }
-            pool.keep(record);
+        match Record::parse_short(pool, self.lines.ahead(), self.paths.width()) {
+            Some(record) => self.give(pool, record),
+            None => self.next_long(pool),
         }
+    }
+
+    /// The same where the line is no short one of plain data.
+    #[inline(never)]
+    fn next_long(&mut self, pool: &mut Spare) -> Option<Record>
+        requires { self.old.stopped ≡ None }
+        ensures { Nexts R.remaining R.calls R.failed self.old (given_by result self.new.stopped) self.new }
+    {
+        match Record::parse_line(pool, self.lines.ahead(), self.paths.width()) {
+            Some(record) => self.give(pool, record),
+            None => self.next_any(pool),
+        }
+    }
+
+    /// The same where this is what the next line is read as, if it has a token for each spine.
+    #[inline(always)]
+    fn give(&mut self, pool: &mut Spare, row: Record) -> Option<Record>
+        requires going { self.old.stopped ≡ None }
+        requires ahead { IsAhead self.old.lines row }
+        ensures { Nexts R.remaining R.calls R.failed self.old (given_by result self.new.stopped) self.new }
+    {
+        if !self.paths.keeps_data(row.width()) {
+            return self.next_instead(pool, row);
+        }
+        self.lines.take_line(row.text().len());
+        Some(row)
+    }
+
+    /// The same where this isn't given.
+    #[inline(never)]
+    fn next_instead(&mut self, pool: &mut Spare, row: Record) -> Option<Record>
+        requires { self.old.stopped ≡ None }
+        ensures { Nexts R.remaining R.calls R.failed self.old (given_by result self.new.stopped) self.new }
+    {
+        pool.keep(row);
         self.next_any(pool)
     }
 

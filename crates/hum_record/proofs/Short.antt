@@ -9,17 +9,18 @@ use Rattle.std.specs.List.{prefix_len}
 use Rattle.std.proofs.lemmas.List.{length-map, append-nil, get_or-take}
 use Rattle.std.proofs.lemmas.Bool.{eqb-true, eq-eqb, and_parts, or_from, cases_lt}
 use lib.Bits.{bit_and, bit_or, and_step, and_self, and_zero_r}
-use lib.Count.{count_trailing_zeros, under, ones, ones_step}
+use lib.Count.{count_trailing_zeros, under}
 use lib.Pow.{pow_mono}
 use native.Mathlib.Nat.{two-pow-succ}
+use Rattle.hum_record.specs.declared.Kind.TheVariants.{Values as AnyValues}
 use Rattle.hum_record.specs.declared.SpinedKind.TheVariants.{Values}
-use Rattle.hum_record.specs.Row.{Row, Comment, Spined, text_of}
+use Rattle.hum_record.specs.Row.{Row, Comment, Spined, kind_of, text_of}
 use Rattle.hum_record.specs.Spelling.{IsTextOf, has_byte, is_comment, reading, parts}
 use Rattle.hum_record.specs.Fields.{AreFields, ends_from, row_in}
 use Rattle.hum_record.specs.Cutting.{bits_of, set_places, tabs_from}
 use Rattle.hum_record.specs.Lines.{IsBehind, IsLine, IsRead}
 use Rattle.hum_record.specs.Plain.{is_rare, is_stop, has_mark, head_after, IsPlain, HasEnds, HasPlaces, EndsLine}
-use Rattle.hum_record.proofs.Laws.{spined_fields, reads_row, reads_spined}
+use Rattle.hum_record.proofs.Laws.{spined_fields, reads_row, reads_spined, row_read}
 use Rattle.hum_record.proofs.Cuts.{tabs_append, ends_tabs}
 use Rattle.hum_record.proofs.Places.{any_bit, take_count, front_of_front, one_moved, bits_front, bits_below}
 use Rattle.hum_record.proofs.Plain.{mark_append, no_marks, plain_data, or_left, or_right}
@@ -87,16 +88,7 @@ next_place front all b x some fits e =
     ∙ ap (λ ys. front ++ ys) (sym (lowest 64 b x some fits))
     ∙ e
 
--- there are as many places as bits
-pub count_places : (k b x : ℕ) → x < 2 ^ k → length (set_places k b x) ≡ ones x
-unfolding set_places ones
-count_places zero b x h = let e : 0 ≡ x = omega (arith, h) in ap ones e
-count_places (suc k) b x h =
-    let rest = set_places k (b + 1) (x / 2) in
-    bit_cases (λ r. length (if r == 1 then b ∷ rest else rest) ≡ r + length rest) (omega arith) (omega arith) (x % 2) (mod-lt x (zero-lt-suc 1))
-    ∙ ap (λ n. x % 2 + n) (count_places k (b + 1) (x / 2) (omega (arith, pow-suc 2 k))) ∙ sym (ones_step x)
-
--- and no more of them than bits were looked at
+-- there are no more places than bits were looked at
 pub most_places : (k b x : ℕ) → length (set_places k b x) ≤ k
 unfolding set_places
 most_places zero b x = omega arith
@@ -104,6 +96,25 @@ most_places (suc k) b x =
     let ih = most_places k (b + 1) (x / 2) in
     let rest = set_places k (b + 1) (x / 2) in
     bit_cases (λ r. length (if r == 1 then b ∷ rest else rest) ≤ suc k) (omega (arith, ih)) (omega (arith, ih)) (x % 2) (mod-lt x (zero-lt-suc 1))
+
+-- half as many where no two of them stand side by side
+pub apart_places : (k b head x : ℕ) → head ≤ 1 → bit_and (head + 2 * x) x ≡ 0 → 2 * length (set_places k b x) + head ≤ suc k
+unfolding set_places
+apart_places zero b head x few apart = omega (arith, few)
+apart_places (suc k) b head x few apart =
+    let rest = set_places k (b + 1) (x / 2) in
+    let half : (head + 2 * x) / 2 ≡ x = omega (arith, few) in
+    let low : (head + 2 * x) % 2 ≡ head = omega (arith, few) in
+    let parts : bit_and (head + 2 * x) x ≡ bit_and x (x / 2) * 2 + min head (x % 2) =
+    and_step (head + 2 * x) x ∙ ap₂ (λ u v. bit_and u (x / 2) * 2 + min v (x % 2)) half low in
+    let whole : x % 2 + 2 * (x / 2) ≡ x = omega arith in
+    let again : bit_and (x % 2 + 2 * (x / 2)) (x / 2) ≡ 0 = ap (λ n. bit_and n (x / 2)) whole ∙ omega (arith, parts, apart) in
+    let bit : x % 2 ≤ 1 = omega arith in
+    let ih = apart_places k (b + 1) (x % 2) (x / 2) bit again in
+    bit_cases (λ r. x % 2 ≡ r → 2 * length (if r == 1 then b ∷ rest else rest) + head ≤ suc (suc k))
+    (λ e. omega (arith, ih, few))
+    (λ e. let free : min head 1 ≡ 0 = ap (min head) (sym e) ∙ omega (arith, parts, apart) in omega (arith, ih, e, free))
+    (x % 2) (mod-lt x (zero-lt-suc 1)) refl
 
 -- where a bit is left there is room for its place
 pub room_left : (places all : List ℕ) (j b x : ℕ) → 0 < x → x < 2 ^ 64 → j ≤ length places → length all ≤ length places
@@ -433,6 +444,10 @@ text_known (Spined kind tokens) text is = sym is.0
 pub plain_reads : (text : List ℕ) → IsPlain text → reading text ≡ Ok (row_in text)
 plain_reads text plain = reads_row text _ (reads_spined text Values plain.unbroken plain.spined plain.lawful)
 
+plain_kind : (text : List ℕ) → IsPlain text → kind_of (row_in text) ≡ AnyValues
+plain_kind text plain =
+    ap kind_of (row_read text (Spined Values (parts text)) (reads_spined text Values plain.unbroken plain.spined plain.lawful))
+
 -- a line of plain data is read as its record
 pub line_read : (held ends : List ℕ) (len : ℕ) → IsLine held len → len ≤ 1048576 → HasPlaces (take len held) ends
     → AreFields (take len held) ends × IsRead held (row_in (take len held))
@@ -447,5 +462,7 @@ line_read held ends len line few is =
         line = subst (IsLine held) (sym size) line;
         text = ap (λ n. take n held) size ∙ sym same;
         read = ap reading same ∙ plain_reads text is.plain;
+        lawful = subst (IsTextOf (row_in text)) (sym same) fields.lawful;
+        kind = plain_kind text is.plain;
       },
     )

@@ -1,5 +1,6 @@
 //! The text of a record, and where its tokens end in it.
-ghost use Rattle.std.specs.Prelude.{◌≡◌, ◌≤◌, ◌<◌, ◌+◌, ◌-◌, ◌^◌, ◌++◌, ◌∷◌, [], length, take};
+ghost use Rattle.std.specs.Prelude.{◌≡◌, ◌≤◌, ◌<◌, ◌+◌, ◌-◌, ◌*◌, ◌^◌, ◌++◌, ◌∷◌, [], length, take};
+ghost use Rattle.std.specs.Prelude.{bit_and};
 ghost use Rattle.std.specs.Prelude.{ℕ, IfOk, OnOk, IfErr, Ok, true, false, vec_len};
 ghost use Rattle.hum_record.specs.Building.{tab_between, spelled};
 ghost use Rattle.hum_record.specs.Cutting.{set_places};
@@ -23,7 +24,10 @@ use std::marker::Model;
 /// room in what another one left.
 const LEAST_BYTES: usize = 64;
 
-const LEAST_PLACES: usize = 16;
+const LEAST_PLACES: usize = 32;
+
+/// No token is empty, so no more end among the bytes that are looked at at once.
+const MOST_NEAR: usize = NEAR / 2;
 
 /// A text, and where each of its tokens ends in it.
 ///
@@ -177,23 +181,24 @@ impl Body {
     }
 
     /// Puts the first `len` bytes of what is held in place of the text, and the places of bits in place
-    /// of where tokens end, if there is room for these; and tells whether there was.
+    /// of where tokens end, no two of which stand side by side, if there is room; and tells whether there
+    /// was.
     #[inline(always)]
     pub fn put_near<const N: usize>(&mut self, held: &[u8], len: usize, ends: u64) -> bool
         requires few { N ≤ 64 }
         requires filled { N ≤ length held.now }
         requires short { len < N }
+        requires apart { bit_and (1 + 2 * ends) ends ≡ 0 }
         ensures text { result ≡ true → self.new.text ≡ take len held.now }
         ensures ends { result ≡ true → self.new.ends ≡ set_places 64 0 ends }
     {
-        let count = ends.count_ones() as usize;
-        if self.held.len() < NEAR || self.places.len() < count {
+        if self.held.len() < NEAR || self.places.len() < MOST_NEAR {
             return false;
         }
         copy_near::<N>(&mut self.held, held);
         self.held[len] = b'\n';
+        let count = put_places(&mut self.places, 0, 0, ends);
         self.len = len;
-        put_places(&mut self.places, 0, 0, ends);
         self.count = count;
         true
     }

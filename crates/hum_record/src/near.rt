@@ -60,7 +60,7 @@ fn is_line_end(held: &[u8], len: usize) -> bool
     held[len] == b'\n' || is_cr_lf(held, len)
 }
 
-#[inline(never)]
+#[inline(always)]
 fn is_cr_lf(held: &[u8], len: usize) -> bool
     requires { len < length held.now }
     ensures { result ≡ true → IsBehind held.now len (len + 1) }
@@ -109,8 +109,7 @@ pub fn put_places(places: &mut [u32], count: usize, start: u32, bits: u64) -> us
         rest &= rest - 1;
         end += 1;
     }
-    // asked of the bits: where the loop's count is wanted it is compiled to a slower one
-    count + bits.count_ones() as usize
+    end
 }
 
 /// Puts the first `N` bytes of what is held in front of what stands in a list.

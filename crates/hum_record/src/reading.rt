@@ -125,10 +125,28 @@ impl Record {
         Ok(Record { body })
     }
 
-    /// Reads the line in front of what is held, up to LF, or CR and LF, into what is left of a record that
-    /// is done with, if the line's bytes show that it is plain data and there is one that has room. What any
-    /// other line is, [`Record::parse_into`] tells. By how many tokens it may have it is known in what pieces
-    /// it is best looked at.
+    /// Reads the line in front of what is held, up to LF, or CR and LF, into what is left of the first
+    /// record that is done with, if there is one that has room, and the first 32 bytes show that the line
+    /// ends among them and is plain data. Where it may have many tokens they aren't looked at.
+    // It makes no call, so a caller that makes none but its last one keeps nothing on the stack.
+    #[inline(always)]
+    pub fn parse_short(spare: &mut Spare, held: &[u8], width: usize) -> Option<Record>
+        ensures { IfSome result (IsRead held.now) }
+    {
+        if held.len() < NEAR || width >= WIDE {
+            return None;
+        }
+        let stops = stop_bits::<SHORT>(held, 0);
+        if stops == 0 {
+            return None;
+        }
+        let end = line_end::<SHORT>(held, 0, 1, stops)?;
+        let body = spare.take_first()?;
+        Self::of_near::<SHORT>(spare, body, held, end)
+    }
+
+    /// The same of a line of any length, into what is left of any record. By how many tokens it may have it
+    /// is known in what pieces it is best looked at. What any other line is, [`Record::parse_into`] tells.
     #[inline(always)]
     pub fn parse_line(spare: &mut Spare, held: &[u8], width: usize) -> Option<Record>
         ensures { IfSome result (IsRead held.now) }
@@ -136,23 +154,6 @@ impl Record {
         if held.len() < NEAR {
             return None;
         }
-        if width >= WIDE {
-            return Self::parse_far(spare, held, width);
-        }
-        let stops = stop_bits::<SHORT>(held, 0);
-        if stops == 0 {
-            return Self::parse_far(spare, held, width);
-        }
-        let end = line_end::<SHORT>(held, 0, 1, stops)?;
-        Self::of_near::<SHORT>(spare, held, end)
-    }
-
-    /// The same of a longer line.
-    #[inline(never)]
-    fn parse_far(spare: &mut Spare, held: &[u8], width: usize) -> Option<Record>
-        requires { 64 ≤ length held.now }
-        ensures { IfSome result (IsRead held.now) }
-    {
         if width >= WIDEST {
             return Self::parse_wide(spare, held);
         }
@@ -161,19 +162,24 @@ impl Record {
             return Self::parse_wide(spare, held);
         }
         let end = line_end::<NEAR>(held, 0, 1, stops)?;
-        Self::of_near::<NEAR>(spare, held, end)
+        let body = spare.take()?;
+        Self::of_near::<NEAR>(spare, body, held, end)
     }
 
-    /// The record of a line that ends among the first `N` bytes of what is held.
+    /// The record of a line that ends among the first `N` bytes of what is held, in what was taken.
     #[inline(always)]
-    fn of_near<const N: usize>(spare: &mut Spare, held: &[u8], end: LineEnd) -> Option<Record>
+    fn of_near<const N: usize>(
+        spare: &mut Spare,
+        mut body: Box<Body>,
+        held: &[u8],
+        end: LineEnd,
+    ) -> Option<Record>
         requires few { N ≤ 64 }
         requires filled { N ≤ length held.now }
         requires near { end.len < N }
         requires ends { EndsLine held.now 0 1 end.len end.ends }
         ensures { IfSome result (IsRead held.now) }
     {
-        let mut body = spare.take()?;
         if body.put_near::<N>(held, end.len, end.ends) {
             return Some(Record { body });
         }

@@ -76,8 +76,15 @@ impl Spare {
         }
     }
 
+    /// The same of the first one alone.
+    #[inline(always)]
+    pub(crate) fn take_first(&mut self) -> Option<Box<Body>> {
+        self.first.take()
+    }
+
     /// Keeps what was taken in vain.
-    #[inline(never)]
+    // Inlined, so that a caller that has found no room in it makes no call.
+    #[inline(always)]
     pub(crate) fn put_back(&mut self, body: Box<Body>) {
         self.first = Some(body);
     }

@@ -1,9 +1,9 @@
-use Rattle.std.proofs.Common.{◌≡◌, ◌∙◌, ◌+◌, ◌++◌, length, take, ap, arith, length-append}
-use lib.Count.{count_trailing_zeros, ones}
+use Rattle.std.proofs.Common.{◌∙◌, ◌+◌, ◌++◌, length, take, ap, arith, length-append}
+use lib.Count.{count_trailing_zeros}
 use Rattle.std.proofs.lemmas.List.{take_more_set, length-set}
 use Rattle.hum_record.specs.Cutting.{set_places}
 use Rattle.hum_record.proofs.Places.{take_count}
-use Rattle.hum_record.proofs.Short.{lowest, next_place, room_left, all_put, count_places}
+use Rattle.hum_record.proofs.Short.{lowest, next_place, room_left, all_put}
 use Rattle.hum_record.proofs.near.put_places.Goals as goal
 
 pub bounds-places-end : goal.bounds-places-end
@@ -40,19 +40,17 @@ loop-rest-preserved c =
 
 pub returns-clause-count : goal.returns-clause-count
 returns-clause-count c =
-    let many = count_places 64 c.args.start c.args.bits c.ranges.bits.fits in
-    omega (arith, many)
-
-pub returns-clause-places : goal.returns-clause-places
-returns-clause-places c =
     let l = c.loop-rest in
     let old = c.args.places.now in
     let more = set_places 64 c.args.start c.args.bits in
     let done = c.loop-rest-test.false in
-    let all = all_put l.places (take c.args.count old ++ more) l.end c.args.start l.rest l.invariant.0 (omega (arith, done)) in
-    let whole = ap length all in
+    let whole = ap length (all_put l.places (take c.args.count old ++ more) l.end c.args.start l.rest l.invariant.0 (omega (arith, done))) in
     let front = take_count c.args.count old (omega (arith, c.requires.room)) in
-    let many = count_places 64 c.args.start c.args.bits c.ranges.bits.fits in
-    let end : c.args.count + ones c.args.bits ≡ l.end =
-    omega (arith, whole, many, take_count l.end l.places l.invariant.2, length-append (take c.args.count old) more, front) in
-    ap (λ n. take n l.places) end ∙ all
+    omega (arith, whole, take_count l.end l.places l.invariant.2, length-append (take c.args.count old) more, front)
+
+pub returns-clause-places : goal.returns-clause-places
+returns-clause-places c =
+    let l = c.loop-rest in
+    let done = c.loop-rest-test.false in
+    all_put l.places (take c.args.count c.args.places.now ++ set_places 64 c.args.start c.args.bits) l.end c.args.start l.rest
+    l.invariant.0 (omega (arith, done))

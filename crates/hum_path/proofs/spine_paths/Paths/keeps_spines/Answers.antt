@@ -1,54 +1,10 @@
-use Rattle.std.proofs.Common.{◌≡◌, ◌∙◌, ap, sym, refl, length, arith, Bool, false, None, List, ℕ}
-use Rattle.std.specs.declared.vec.Vec.{Vec}
-use Rattle.std.specs.declared.alloc.Global.{Global}
-use Rattle.std.specs.List.{find}
-use Rattle.hum_record.specs.declared.Kind.TheVariants.{Global as AnyGlobal, Values as AnyValues}
-use Rattle.hum_record.specs.declared.SpinedKind.TheVariants.{Local, Interpretation, Values}
-use Rattle.hum_record.specs.Row.{Row, Comment, Spined, kind_of, tokens_of, text_of, width_of}
-use Rattle.hum_record.specs.Spelling.{IsTextOf}
-use Rattle.hum_path.specs.Sign.{steers}
-use Rattle.hum_path.specs.Spines.{Path, width, path_in, texts}
-use Rattle.hum_path.specs.Step.{IsTidy}
-use Rattle.hum_path.specs.Rules.{breaks_as_text, in_order}
-use Rattle.hum_path.proofs.Staying.{quiet_stays, width_in, data_fits}
+use Rattle.std.proofs.Common.{sym}
 use Rattle.hum_path.proofs.spine_paths.Paths.keeps_spines.Goals as goal
-
-data_asks_nothing : (row : Row) → kind_of row ≡ AnyValues → steers row ≡ false
-data_asks_nothing (Comment text) h = refl
-data_asks_nothing (Spined Local tokens) h = refl
-data_asks_nothing (Spined Interpretation tokens) h = cc
-data_asks_nothing (Spined Values tokens) h = refl
-
-not_global : (row : Row) → kind_of row ≡ AnyValues → kind_of row ≡ AnyGlobal → ⊥
-not_global row h is = cc
-
-no_fault : (opened waits : Bool) (names : List (Vec ℕ Global)) (path : Path) (row : Row) → IsTidy opened waits names → kind_of row ≡ AnyValues
-    → IsTextOf row (text_of row) → path_in opened (texts names) ≡ path → width_of row ≡ length names → waits ≡ false
-    → find (breaks_as_text path (tokens_of row)) in_order ≡ None
-no_fault opened waits names path row tidy kind lawful is wide ready =
-    ap (λ p. find (breaks_as_text p (tokens_of row)) in_order) (sym is) ∙ data_fits opened waits names row tidy kind lawful wide ready
 
 pub returns-in-Values-clause-sound : goal.returns-in-Values-clause-sound
 returns-in-Values-clause-sound c = λ so.
-    let path = c.args.self.now.path in
-    let inside = c.self.inside in
-    let row = c.args.row.now in
-    let kind : kind_of row ≡ AnyValues = sym c.in-Values.ensures.kind in
-    let is : path_in inside.opened (texts inside.names.items) ≡ path = ap (λ t. t.path) c.self.view_is in
-    let wide : width path ≡ length inside.names.items = ap width (sym is) ∙ width_in inside.opened inside.waits inside.names.items c.self.invariant in
-    let quiet = quiet_stays path row (data_asks_nothing row kind) (not_global row kind) c.kind.ensures.lawful (omega (arith, wide, c.self.invariant.at_most)) in
-    let same : width_of row ≡ length inside.names.items = omega (arith, c.width.ensures, c.len.ensures, c.fits.ensures.width so, inside.names.ok.0) in
-    quiet.0 ∙ no_fault inside.opened inside.waits inside.names.items path row c.self.invariant kind c.kind.ensures.lawful is same (c.fits.ensures.ready so)
+    (c.keeps_data.ensures.keeps so c.args.row.now c.kind.ensures.lawful (sym c.in-Values.ensures.kind) (sym c.width.ensures)).0
 
 pub returns-in-Values-clause-same : goal.returns-in-Values-clause-same
 returns-in-Values-clause-same c = λ so.
-    let path = c.args.self.now.path in
-    let inside = c.self.inside in
-    let row = c.args.row.now in
-    let kind : kind_of row ≡ AnyValues = sym c.in-Values.ensures.kind in
-    let is : path_in inside.opened (texts inside.names.items) ≡ path = ap (λ t. t.path) c.self.view_is in
-    let wide : width path ≡ length inside.names.items = ap width (sym is) ∙ width_in inside.opened inside.waits inside.names.items c.self.invariant in
-    let quiet = quiet_stays path row (data_asks_nothing row kind) (not_global row kind) c.kind.ensures.lawful (omega (arith, wide, c.self.invariant.at_most)) in
-    let same : width_of row ≡ length inside.names.items = omega (arith, c.width.ensures, c.len.ensures, c.fits.ensures.width so, inside.names.ok.0) in
-    let none = no_fault inside.opened inside.waits inside.names.items path row c.self.invariant kind c.kind.ensures.lawful is same (c.fits.ensures.ready so) in
-    (quiet.1 (quiet.0 ∙ none)).path_stays
+    (c.keeps_data.ensures.keeps so c.args.row.now c.kind.ensures.lawful (sym c.in-Values.ensures.kind) (sym c.width.ensures)).1

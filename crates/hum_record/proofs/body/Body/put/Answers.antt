@@ -1,4 +1,4 @@
-use Rattle.std.proofs.Common.{◌≡◌, ◌∙◌, [], take, sym, ap, subst, arith, take_all}
+use Rattle.std.proofs.Common.{◌≡◌, ◌∙◌, [], take, sym, ap, subst, arith}
 use Rattle.std.proofs.lemmas.Result.{err_from_is_err_and}
 use Rattle.hum_record.specs.Fields.{Written, AreFields}
 use Rattle.hum_record.proofs.Held.{none_counts}

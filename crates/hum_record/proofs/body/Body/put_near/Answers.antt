@@ -1,13 +1,13 @@
-use Rattle.std.proofs.Common.{◌≡◌, ◌∙◌, length, take, ap, sym, arith}
+use Rattle.std.proofs.Common.{◌≡◌, ◌∙◌, length, take, ap, arith}
 use Rattle.std.proofs.lemmas.List.{take-set}
-use Rattle.hum_record.specs.Cutting.{set_places}
 use Rattle.hum_record.proofs.Held.{written_back, front_put}
-use Rattle.hum_record.proofs.Short.{count_places}
+use Rattle.hum_record.proofs.Short.{apart_places}
 use Rattle.hum_record.proofs.body.Body.put_near.Goals as goal
 
-pub put_places-requires-clause-room : goal.put_places-requires-clause-room
-put_places-requires-clause-room g c =
-    omega (arith, count_places 64 0 c.args.ends c.ranges.ends.fits, c.if-len-count.false, c.len-else-len-lt-NEAR.ensures, c.deref_mut-2.ensures.len)
+pub put_places-count-requires-clause-room : goal.put_places-count-requires-clause-room
+put_places-count-requires-clause-room g c =
+    let few = apart_places 64 0 1 c.args.ends (omega arith) c.requires.apart in
+    omega (arith, few, c.if-len-lt-MOST_NEAR.false, c.len-else-len-lt-NEAR.ensures, c.deref_mut-2.ensures.len)
 
 pub returns-clause-text : goal.returns-clause-text
 returns-clause-text g c _ =
@@ -22,10 +22,6 @@ returns-clause-text g c _ =
 pub returns-clause-ends : goal.returns-clause-ends
 returns-clause-ends g c _ =
     let places = c.self.inside.places in
-    let put = c.put_places.ensures in
-    let is = put.count in
-    let many : length (set_places 64 0 c.args.ends) ≡ c.put_places.result = omega (arith, is) in
-    let size : length c.put_places.new.places ≡ places.len = omega (arith, c.put_places.auto.places, c.deref_mut-2.ensures.len) in
-    ap (take _) (written_back places.len c.put_places.new.places places.items size)
-    ∙ ap (λ n. take n c.put_places.new.places) (sym (count_places 64 0 c.args.ends c.ranges.ends.fits) ∙ many)
-    ∙ put.places
+    let new = c.put_places-count.new.places in
+    let size : length new ≡ places.len = omega (arith, c.put_places-count.auto.places, c.deref_mut-2.ensures.len) in
+    ap (take _) (written_back places.len new places.items size) ∙ c.put_places-count.ensures.places
