@@ -110,7 +110,7 @@ fn each_of(
     Ok(each)
 }
 
-/// Puts a copy of a record in the place of another.
+/// Puts a copy of a record in the place of another. Most are short.
 fn replace(
     alloc: Global,
     held: &mut Record,
@@ -120,6 +120,9 @@ fn replace(
     ensures given { OnOk result (held.new ≡ given.now) }
     ensures kept { OnErr result (held.new ≡ held.old) }
 {
+    if held.copy_short(given) {
+        return Ok(());
+    }
     let copy = given.copy_into(alloc, spare)?;
     spare.keep(mem::replace(held, copy));
     Ok(())
