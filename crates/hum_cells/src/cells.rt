@@ -62,6 +62,7 @@ fn mark_after(row: &Record, paths: &Paths, kern: &mut Vec<bool>) -> Result<(), A
 ///
 /// # Errors
 /// L1; or out of memory.
+#[inline(never)]
 fn tell_heading<T: TokenRewriter>(
     alloc: Global,
     teller: &T,
@@ -91,7 +92,7 @@ fn tell_heading<T: TokenRewriter>(
 ///
 /// # Errors
 /// The rule by which it is refused; or out of memory.
-#[inline(never)]
+#[inline(always)]
 fn tell<T: TokenRewriter>(
     alloc: Global,
     teller: &mut T,

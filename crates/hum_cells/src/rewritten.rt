@@ -29,7 +29,7 @@ impl Drop for Rewritten {
 
 impl Rewritten {
     /// Puts what was decided of a record. One that gives way to another is done with.
-    #[inline]
+    #[inline(always)]
     pub(crate) fn put(self, row: Record, spare: &mut Spare, out: &mut UpToTwo)
         ensures { decision row (Ok self) ≡ Ok out.new }
     {

@@ -110,8 +110,26 @@ fn each_of(
     Ok(each)
 }
 
-/// Puts a copy of a record in the place of another.
+/// Puts a copy of a record in the place of another, most often in its own memory.
+#[inline]
 fn replace(
+    alloc: Global,
+    held: &mut Record,
+    given: &Record,
+    spare: &mut Spare,
+) -> Result<(), AllocError>
+    ensures given { OnOk result (held.new ≡ given.now) }
+    ensures kept { OnErr result (held.new ≡ held.old) }
+{
+    if held.copy_short(given) {
+        return Ok(());
+    }
+    replace_any(alloc, held, given, spare)
+}
+
+/// The same of a record of any length.
+#[inline(never)]
+fn replace_any(
     alloc: Global,
     held: &mut Record,
     given: &Record,

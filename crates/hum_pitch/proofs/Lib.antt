@@ -4,3 +4,4 @@ pub mod Steps
 pub mod Answering
 pub mod Reading
 pub mod Names
+pub mod Tables

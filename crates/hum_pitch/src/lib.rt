@@ -10,6 +10,7 @@ mod intervals;
 mod naming;
 mod pitch;
 mod spelling;
+mod widths;
 
 pub use between::interval;
 pub use intervals::Interval;

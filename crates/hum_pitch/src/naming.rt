@@ -4,14 +4,13 @@ ghost use Rattle.std.specs.Prelude.{OnOk, IfOk, IfSome};
 ghost use Rattle.std.specs.Option.{option_to_list};
 ghost use Rattle.std.specs.Fmt.{decimal};
 ghost use Rattle.hum_pitch.specs.Pitch.{IsWithin};
-ghost use Rattle.hum_pitch.specs.Intervals.{direction, upwards, natural_width, excess};
-ghost use Rattle.hum_pitch.specs.Intervals.{can_be_perfect, of_perfect, of_major};
+ghost use Rattle.hum_pitch.specs.Intervals.{direction, upwards, excess, of_perfect, of_major};
 ghost use Rattle.hum_pitch.specs.Intervals.{quality, sign, quality_letters, IsModest};
 ghost use Rattle.hum_pitch.specs.Intervals.{named};
 
 use crate::intervals::{Direction, Interval, Quality};
-use crate::pitch::natural;
 use crate::spelling::{Repeated, push_repeated};
+use crate::widths::{can_be_perfect, natural_width};
 use itoa::Buffer;
 use std::alloc::{AllocError, Global};
 
@@ -51,32 +50,13 @@ fn upwards(interval: Interval) -> i32
     }
 }
 
-/// The semitones of the perfect or major interval of so many steps.
-#[inline(always)]
-fn natural_width(steps: u32) -> u32
-    requires { steps ≤ 111 }
-    ensures exact { result ≡ natural_width steps }
-    ensures bounded { result ≤ 191 }
-{
-    u32::from(natural(steps % 7)) + 12 * (steps / 7)
-}
-
 /// By how many semitones the interval is wider than the perfect or major one.
 #[inline(always)]
 fn excess(interval: Interval) -> i32
     ensures exact { result ≡ excess interval.d interval.s }
     ensures bounded { IsWithin (negsuc 395) result (pos 205) }
 {
-    upwards(interval) - natural_width(interval.d.unsigned_abs()) as i32
-}
-
-/// Whether intervals of so many steps are perfect, and not major or minor.
-#[inline(always)]
-fn can_be_perfect(steps: u32) -> bool
-    ensures { result ≡ can_be_perfect steps }
-{
-    let within_octave = steps % 7;
-    within_octave == 0 || within_octave == 3 || within_octave == 4
+    upwards(interval) - i32::from(natural_width(interval.d.unsigned_abs()))
 }
 
 /// The quality of an interval that can be perfect.

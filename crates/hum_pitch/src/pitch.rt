@@ -51,7 +51,7 @@ fn is_within(low: i32, number: i32, high: i32) -> bool
 /// The semitones from c up to a step above it.
 #[tactic(auto, using(crate::proofs::Steps::natural_le), unfolding(crate::specs::Pitch::natural))]
 #[inline(always)]
-pub(crate) fn natural(step: u32) -> u8
+fn natural(step: u32) -> u8
     requires { step < 7 }
     ensures exact { result ≡ natural step }
     ensures small { result ≤ 11 }

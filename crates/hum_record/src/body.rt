@@ -246,10 +246,12 @@ impl Body {
         Ok(())
     }
 
-    /// Puts what another one is in place of this.
+    /// Puts what another one is in place of this where that is short, as most are, or else nothing; and
+    /// tells which.
     #[inline]
-    pub fn copy_of(&mut self, other: &Body) -> Result<(), AllocError>
-        ensures { OnOk result (self.new ≡ other.now) }
+    pub fn copy_short(&mut self, other: &Body) -> bool
+        ensures copied { result ≡ true → self.new ≡ other.now }
+        ensures kept { result ≡ false → self.new ≡ self.old }
     {
         if other.len < NEAR && other.held.len() >= NEAR && self.held.len() >= NEAR {
             if other.count <= FEW && other.places.len() >= FEW && self.places.len() >= FEW {
@@ -257,8 +259,19 @@ impl Body {
                 self.len = other.len;
                 copy_places(&mut self.places, &other.places);
                 self.count = other.count;
-                return Ok(());
+                return true;
             }
+        }
+        false
+    }
+
+    /// Puts what another one is in place of this.
+    #[inline]
+    pub fn copy_of(&mut self, other: &Body) -> Result<(), AllocError>
+        ensures { OnOk result (self.new ≡ other.now) }
+    {
+        if self.copy_short(other) {
+            return Ok(());
         }
         self.copy_any(other)
     }
@@ -325,8 +338,8 @@ impl Body {
         Ok(())
     }
 
-    /// The same where there is room for it and no doubt that the text isn't too long, or else nothing;
-    /// and tells which.
+    /// The same of a token of 1 to 16 bytes, as most are, where there is room for it and no doubt that the
+    /// text isn't too long, or else nothing; and tells which.
     #[inline]
     pub fn add_near(&mut self, token: &[u8]) -> bool
         ensures text { result ≡ true
@@ -338,6 +351,9 @@ impl Body {
         ensures kept { result ≡ false → self.new ≡ self.old }
     {
         let count = self.count;
+        if token.is_empty() || token.len() > 16 {
+            return false;
+        }
         if self.held.len() > MOST_BYTES
             || self.held.len() - self.len <= token.len() + 1
             || self.places.len() == count

@@ -241,6 +241,16 @@ impl Record {
         Ok(Record { body })
     }
 
+    /// Becomes a copy of another record where that is short, as most are, or else stays as it is; and
+    /// tells which.
+    #[inline]
+    pub fn copy_short(&mut self, other: &Record) -> bool
+        ensures copied { result ≡ true → self.new ≡ other.now }
+        ensures kept { result ≡ false → self.new ≡ self.old }
+    {
+        self.body.copy_short(&other.body)
+    }
+
     /// Leaves the selected tokens alone, at least one of which there is, in the record's own memory.
     #[inline]
     pub fn retain(&mut self, selection: &Selection)

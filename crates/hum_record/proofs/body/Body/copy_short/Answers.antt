@@ -1,10 +1,10 @@
 use Rattle.std.proofs.Common.{◌≡◌, ◌∙◌, ◌++◌, length, take, drop, ap, arith}
 use Rattle.hum_record.specs.Fields.{written}
 use Rattle.hum_record.proofs.Held.{written_back, front_put, same_place}
-use Rattle.hum_record.proofs.body.Body.copy_of.Goals as goal
+use Rattle.hum_record.proofs.body.Body.copy_short.Goals as goal
 
-pub returns-then-len-ge-FEW-2 : goal.returns-then-len-ge-FEW-2
-returns-then-len-ge-FEW-2 c =
+pub returns-then-len-ge-FEW-2-clause-copied : goal.returns-then-len-ge-FEW-2-clause-copied
+returns-then-len-ge-FEW-2-clause-copied c _ =
     let other = c.other.inside in
     let held = c.self.inside.held in
     let places = c.self.inside.places in
