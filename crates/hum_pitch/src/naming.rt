@@ -16,7 +16,6 @@ use itoa::Buffer;
 use std::alloc::{AllocError, Global};
 
 /// Up or down by the steps; where there are none, by the semitones.
-#[inline(always)]
 fn direction(interval: Interval) -> Direction
     ensures { result ≡ direction interval.d interval.s }
 {
@@ -35,7 +34,6 @@ fn direction(interval: Interval) -> Direction
 }
 
 /// The semitones of the interval as it is named, upwards.
-#[inline(always)]
 fn upwards(interval: Interval) -> i32
     ensures exact { result ≡ upwards interval.d interval.s }
     ensures bounded { IsWithin (negsuc 204) result (pos 205) }
@@ -52,7 +50,6 @@ fn upwards(interval: Interval) -> i32
 }
 
 /// The semitones of the perfect or major interval of so many steps.
-#[inline(always)]
 fn natural_width(steps: u32) -> u32
     requires { steps ≤ 111 }
     ensures exact { result ≡ natural_width steps }
@@ -62,7 +59,6 @@ fn natural_width(steps: u32) -> u32
 }
 
 /// By how many semitones the interval is wider than the perfect or major one.
-#[inline(always)]
 fn excess(interval: Interval) -> i32
     ensures exact { result ≡ excess interval.d interval.s }
     ensures bounded { IsWithin (negsuc 395) result (pos 205) }
@@ -71,7 +67,6 @@ fn excess(interval: Interval) -> i32
 }
 
 /// Whether intervals of so many steps are perfect, and not major or minor.
-#[inline(always)]
 fn can_be_perfect(steps: u32) -> bool
     ensures { result ≡ can_be_perfect steps }
 {
@@ -80,7 +75,6 @@ fn can_be_perfect(steps: u32) -> bool
 }
 
 /// The quality of an interval that can be perfect.
-#[inline(always)]
 fn of_perfect(excess: i32) -> Quality
     requires { IsWithin (negsuc 395) excess (pos 205) }
     ensures exact { result ≡ of_perfect excess }
@@ -96,7 +90,6 @@ fn of_perfect(excess: i32) -> Quality
 }
 
 /// The quality of an interval that can be major or minor.
-#[inline(always)]
 fn of_major(excess: i32) -> Quality
     requires { IsWithin (negsuc 395) excess (pos 205) }
     ensures exact { result ≡ of_major excess }
@@ -114,7 +107,6 @@ fn of_major(excess: i32) -> Quality
 }
 
 /// The quality of an interval.
-#[inline(always)]
 fn quality(interval: Interval) -> Quality
     ensures exact { result ≡ quality interval.d interval.s }
     ensures modest { IsModest result }
@@ -154,7 +146,6 @@ fn quality_letters(quality: Quality) -> Repeated
 }
 
 /// The sign of an interval's direction, where it leads up or down.
-#[inline(always)]
 pub fn direction_sign(interval: Interval) -> Option<u8>
     ensures { option_to_list result ≡ sign (direction interval.d interval.s) }
 {
@@ -166,7 +157,6 @@ pub fn direction_sign(interval: Interval) -> Option<u8>
 }
 
 /// The letter of an interval's quality, where that is one letter, as most are.
-#[inline(always)]
 pub fn quality_letter(interval: Interval) -> Option<u8>
     ensures { IfSome result (λ letter.
         quality_letters (quality interval.d interval.s) ≡ letter ∷ []) }
@@ -203,7 +193,6 @@ fn push_large(text: &mut Vec<u8>, number: u32) -> Result<(), AllocError>
 }
 
 /// Writes a number behind a text. Most have one digit.
-#[inline(always)]
 fn push_number(text: &mut Vec<u8>, number: u32) -> Result<(), AllocError>
     ensures { OnOk result (text.new.items ≡ text.old.items ++ decimal number) }
 {
