@@ -1,8 +1,8 @@
 -- Tokens that are added to a record in the making.
 use Rattle.std.proofs.Common.{◌≡◌, ◌∙◌, sym, ap, subst, ℕ, zero, suc, ◌+◌, ◌-◌, ◌<◌, ◌≤◌, Bool, not, ◌&&◌, ◌||◌}
-use Rattle.std.proofs.Common.{List, [], ◌∷◌, ◌++◌, length, take, drop, get_or, replicate, append_assoc, append-nil, arith, Option}
+use Rattle.std.proofs.Common.{List, [], ◌∷◌, ◌++◌, length, take, drop, get_or, append_assoc, append-nil, arith, Option}
 use Rattle.std.specs.List.{AllByRecursion}
-use Rattle.std.proofs.lemmas.List.{drop_all, replicate-append-replicate, take_all, take_more}
+use Rattle.std.proofs.lemmas.List.{drop_all, take_all, take_more}
 use Rattle.hum_record.specs.Building.{Draft}
 use Rattle.hum_record.specs.declared.SpinedKind.{SpinedKind}
 use Rattle.hum_record.specs.Row.{Row}
@@ -74,18 +74,6 @@ parts_added old now free going p [] all none kind spent is =
     drafted : SpinedKind → List (List ℕ) → Bool → Draft
     drafted kind tokens spent = record { kind = kind; tokens = tokens; spent = spent }
 parts_added old now free going p (x ∷ xs) all none kind spent is = absurd (omega (arith, none))
-
--- one null token more was added
-pub null_added : (old before after : Draft) (null : List ℕ) (k : ℕ) → before ≡ with old (old.tokens ++ replicate k null)
-    → after ≡ with before (before.tokens ++ null ∷ []) → after ≡ with old (old.tokens ++ replicate (k + 1) null)
-null_added old before after null k is grown =
-    grown ∙ ap (λ (d : Draft). with d (d.tokens ++ null ∷ [])) is
-    ∙ ap (with old) (append_assoc old.tokens (replicate k null) (null ∷ [])
-    ∙ ap (λ more. old.tokens ++ more) (replicate-append-replicate k 1 null))
-
-pub nulls_added : (old before : Draft) (null : List ℕ) (k n : ℕ) → k ≡ n → before ≡ with old (old.tokens ++ replicate k null)
-    → before ≡ with old (old.tokens ++ replicate n null)
-nulls_added old before null k n same is = is ∙ ap (λ m. with old (old.tokens ++ replicate m null)) same
 
 -- all sources have gone on
 pub all_gone : (free going : Bool) (p : Place) (i : ℕ) (ss all : List Source) → length ss ≤ i

@@ -1,6 +1,6 @@
 -- Tokens at the front of some for which a record has room.
 use Rattle.std.proofs.Common.{◌≡◌, ◌∙◌, refl, sym, ap, ℕ, zero, suc, ◌<◌, ◌≤◌, Bool, List, [], ◌∷◌, ◌++◌, length}
-use Rattle.std.proofs.Common.{replicate, take, get_or, append_assoc, arith}
+use Rattle.std.proofs.Common.{take, get_or, append_assoc, arith}
 use Rattle.hum_record.specs.Building.{spelled}
 use Rattle.hum_record.proofs.Drafts.{spelled_front}
 use Rattle.hum_assemble.specs.declared.places.Place.{Place}
@@ -15,30 +15,10 @@ front_fits front rest all e h =
     let same = ap (λ (ts : List (List ℕ)). length (spelled ts)) e in
     omega (arith, front_of, same, h)
 
--- one more of some that are alike
-record Further (x : List ℕ) (k n : ℕ) : Type 0 where
-  rest : List (List ℕ)
-  whole : replicate n x ≡ replicate k x ++ x ∷ rest
-
-further : (x : List ℕ) (k n : ℕ) → k < n → Further x k n
-further x k zero h = absurd (omega (arith, h))
-further x zero (suc n) h = record { rest = replicate n x; whole = refl }
-further x (suc k) (suc n) h =
-    let w = further x k n (omega (arith, h)) in
-    record { rest = w.rest; whole = ap (λ (ts : List (List ℕ)). x ∷ ts) w.whole }
-
 -- those so far, the next, and the rest
 one_more : (tokens front : List (List ℕ)) (t : List ℕ) (rest : List (List ℕ))
     → tokens ++ (front ++ t ∷ rest) ≡ ((tokens ++ front) ++ t ∷ []) ++ rest
 one_more tokens front t rest = rw (append_assoc (tokens ++ front) (t ∷ []) rest, append_assoc tokens front (t ∷ rest)) refl
-
-pub null_fits : (tokens : List (List ℕ)) (null : List ℕ) (k n : ℕ) → k < n
-    → length (spelled (tokens ++ replicate n null)) ≤ 1048576
-    → length (spelled ((tokens ++ replicate k null) ++ null ∷ [])) ≤ 1048576
-null_fits tokens null k n less h =
-    let w = further null k n less in
-    front_fits ((tokens ++ replicate k null) ++ null ∷ []) w.rest (tokens ++ replicate n null)
-    (ap (λ (ts : List (List ℕ)). tokens ++ ts) w.whole ∙ one_more tokens (replicate k null) null w.rest) h
 
 -- the token at a place, between those before it and those behind
 record Parted (all : List (List ℕ)) (j : ℕ) : Type 0 where

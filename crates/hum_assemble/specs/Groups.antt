@@ -25,7 +25,7 @@ use Rattle.hum_stage.specs.Meaning.{fault_at, resting_state}
 use Rattle.hum_assemble.specs.Change.{Input}
 use Rattle.hum_assemble.specs.Source.{is_end}
 use Rattle.hum_assemble.specs.Head.{first_of}
-use Rattle.hum_assemble.specs.Places.{null_of}
+use Rattle.hum_record.specs.Nulls.{null_of}
 use Rattle.hum_assemble.specs.Merge.{rule_broken}
 use Rattle.hum_assemble.specs.Meaning.{output, own_fault, AreScores, Moment, state_of, inputs_end}
 use Rattle.hum_assemble.specs.Meaning.{ends}

@@ -1,8 +1,8 @@
 -- The places of records, in the order in which records are given.
 use Rattle.std.specs.Prelude.{ℕ, ◌==◌, nat_le, Bool, true, false, List, [], if◌then◌else◌}
 use Rattle.std.specs.Prelude.{Option, None, Some}
-use lib.Chars.{codes}
 use Rattle.hum_record.specs.declared.SpinedKind.{SpinedKind}
+use Rattle.hum_record.specs.Nulls.{null_of}
 use Rattle.hum_record.specs.declared.SpinedKind.TheVariants.{Local, Interpretation, Values}
 use Rattle.hum_assemble.specs.declared.places.Place.{Place}
 use Rattle.hum_assemble.specs.declared.places.Place.TheVariants.{Aside, Begins, Front, Opening}
@@ -53,12 +53,7 @@ kind_at Note = Some Values
 kind_at Closing = Some Interpretation
 kind_at _ = None
 
--- the null token of a kind
-abbrev pub null_of : SpinedKind → List ℕ
-null_of Local = codes "!"
-null_of Interpretation = codes "*"
-null_of Values = codes "."
-
+-- the null token of the records there
 abbrev pub null_at : Option SpinedKind → List ℕ
 null_at None = []
 null_at (Some kind) = null_of kind

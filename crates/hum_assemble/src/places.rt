@@ -1,9 +1,9 @@
 //! The places of records in their scores, and what comes next of several.
 ghost use Rattle.std.specs.Prelude.{◌≡◌};
-ghost use Rattle.hum_assemble.specs.Places.{rank, step, is_shared, kind_at, null_of, null_at};
+ghost use Rattle.hum_assemble.specs.Places.{rank, step, is_shared, kind_at, null_at};
 ghost use Rattle.hum_assemble.specs.Places.{earlier, is_over};
 
-use hum_record::SpinedKind;
+use hum_record::{SpinedKind, null_of};
 use hum_stage::Rule;
 
 /// Where a source's next record stands, in the order in which the sources' records are given.
@@ -119,17 +119,6 @@ impl Place {
         } else {
             other
         }
-    }
-}
-
-/// The null token of a kind.
-fn null_of(kind: SpinedKind) -> &'static [u8]
-    ensures { result.now ≡ null_of kind }
-{
-    match kind {
-        SpinedKind::Local => b"!",
-        SpinedKind::Interpretation => b"*",
-        SpinedKind::Values => b".",
     }
 }
 

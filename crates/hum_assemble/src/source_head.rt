@@ -1,6 +1,6 @@
 //! One source: its spines, and its next record.
 ghost use Rattle.std.specs.Prelude.{◌≡◌, ◌++◌, ◌∷◌, ◌≤◌, [], Bool, false, None, Some, IfOk, OnOk};
-ghost use Rattle.std.specs.Prelude.{length, replicate, if◌then◌else◌};
+ghost use Rattle.std.specs.Prelude.{length, if◌then◌else◌};
 ghost use Rattle.std.specs.List.{AllByRecursion};
 ghost use Rattle.hum_record.specs.{Building.spelled, Spelling.IsToken, Row.tokens_of};
 ghost use Rattle.hum_path.specs.{Spines.width, Rules.fault_of};
@@ -54,20 +54,6 @@ impl Model for SourceHead {
     } };
 
     ghost invariant = { λ s. IsKept s.paths.path s.opened s.inside s.head };
-}
-
-/// Adds a token so many times.
-fn push_nulls(builder: &mut RecordBuilder, null: &[u8], count: usize) -> Result<(), AllocError>
-    requires token { IsToken builder.old.kind null.now }
-    requires fits { length (spelled (builder.old.tokens ++ replicate count null.now)) ≤ MOST_BYTES }
-    ensures { OnOk result (builder.new ≡ record builder.old {
-      tokens = builder.old.tokens ++ replicate count null.now;
-    }) }
-{
-    for _ in 0..count {
-        builder.push_fitting(null)?;
-    }
-    Ok(())
 }
 
 /// Adds the tokens of a record.
@@ -246,7 +232,7 @@ impl SourceHead {
         }) }
     {
         if !taken {
-            return push_nulls(builder, null_at(p.kind()), self.paths.width());
+            return builder.push_nulls(self.paths.width());
         }
         match &self.head {
             None => Ok(()),

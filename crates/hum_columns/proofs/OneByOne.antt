@@ -11,12 +11,13 @@ use Rattle.hum_record.specs.declared.SpinedKind.TheVariants.{Interpretation}
 use Rattle.hum_record.specs.Row.{Row, Spined}
 use Rattle.hum_record.specs.Spelling.{IsToken}
 use Rattle.hum_record.specs.Building.{Draft, spelled}
+use Rattle.hum_record.specs.Nulls.{nulls}
 use Rattle.hum_record.proofs.Drafts.{spelled_front}
 use Rattle.hum_columns.specs.declared.writing.Phase.{Phase}
 use Rattle.hum_columns.specs.declared.writing.Phase.TheVariants.{Before, Inside, After}
 use Rattle.hum_columns.specs.Spread.{JoinedToken, piece, joins, goes_on, tokens_in, touches, joins_in, first_alone, join_alone}
 use Rattle.hum_columns.specs.Spread.{first_done, join_done, one_by_one, before_last, spread, filled}
-use Rattle.hum_columns.specs.Writing.{Fit, draft, behind, null_each, alone_from, next_phase, shown, nulls}
+use Rattle.hum_columns.specs.Writing.{Fit, draft, behind, null_each, alone_from, next_phase, shown}
 use Rattle.hum_columns.proofs.Weights.{weight, no_longer}
 
 abbrev pub Lawful : List JoinedToken → Type 0
@@ -59,7 +60,7 @@ pub done_behind : (front : List (List ℕ)) (ps : List JoinedToken) → first_do
 done_behind [] ps = refl
 done_behind (t ∷ front) ps = ap (λ rest. piece false t ∷ rest) (done_behind front ps)
 
-pub alone_behind : (front : List (List ℕ)) (ps : List JoinedToken) → first_alone (behind front ps) ≡ nulls (length front) ++ first_alone ps
+pub alone_behind : (front : List (List ℕ)) (ps : List JoinedToken) → first_alone (behind front ps) ≡ nulls Interpretation (length front) ++ first_alone ps
 alone_behind [] ps = refl
 alone_behind (t ∷ front) ps = ap (λ rest. codes "*" ∷ rest) (alone_behind front ps)
 
@@ -194,9 +195,6 @@ pub list_push : (new : Draft) (xs : List (List ℕ)) (x : List ℕ) (rest rest' 
     → rest ≡ x ∷ rest' → xs ++ rest ≡ all → new.tokens ++ rest' ≡ all
 list_push new xs x rest rest' all e next list = rw (e, append_assoc) (ap (λ ys. xs ++ ys) (sym next) ∙ list)
 
-pub nulls_more : (n i : ℕ) → i < n → nulls (n - i) ≡ codes "*" ∷ nulls (n - (i + 1))
-nulls_more n i h = let e : n - i ≡ suc (n - (i + 1)) = omega arith in rw e refl
-
 pub alone_at : (phase : Phase) (ps : List JoinedToken) (i : ℕ) (p : JoinedToken) → i < length ps → p ≡ get_or ps i p
     → alone_from phase (drop i ps) ≡ shown (next_phase phase p) p ∷ alone_from (next_phase phase p) (drop (i + 1) ps)
 alone_at phase ps i p h e = rw (drop-cons ps i p h, ← e, add-one) (alone_step phase p (drop (suc i) ps))
@@ -212,8 +210,8 @@ lawful_at (q ∷ ps) zero p h e w = let k : p ≡ q = e in rw k (w.0, w.1)
 lawful_at (q ∷ ps) (suc i) p h e w = let ih = lawful_at ps i p (omega (arith, h)) e w in (ih.0, rw add-one (rw add-one at ih.1))
 
 -- the text of a front
-pub nulls_fit : (n : ℕ) (ps : List JoinedToken) → length (spelled (nulls n ++ first_alone ps)) ≤ MOST_BYTES → length (spelled (nulls n)) ≤ MOST_BYTES
-nulls_fit n ps fits = let less = spelled_front (nulls n) (first_alone ps) in omega (arith, less, fits)
+pub nulls_fit : (n : ℕ) (ps : List JoinedToken) → length (spelled (nulls Interpretation n ++ first_alone ps)) ≤ MOST_BYTES → length (spelled (nulls Interpretation n)) ≤ MOST_BYTES
+nulls_fit n ps fits = let less = spelled_front (nulls Interpretation n) (first_alone ps) in omega (arith, less, fits)
 
 -- passing a join
 
@@ -280,12 +278,12 @@ few_enough room n ps some h is under = rw (is, filled_count (before_last n) ps s
 -- one record more
 
 pub alone_fits_behind : (front : List (List ℕ)) (ps : List JoinedToken) → Fit (behind front ps)
-    → length (spelled (nulls (length front) ++ first_alone ps)) ≤ MOST_BYTES
+    → length (spelled (nulls Interpretation (length front) ++ first_alone ps)) ≤ MOST_BYTES
 alone_fits_behind front ps fit =
     subst (λ (ts : List (List ℕ)). length (spelled ts) ≤ MOST_BYTES) (alone_behind front ps) (alone_fits (behind front ps) fit)
 
 pub alone_filled_behind : (front : List (List ℕ)) (ps : List JoinedToken) → behind front ps ≢ []
-    → nulls (length front) ++ first_alone ps ≢ []
+    → nulls Interpretation (length front) ++ first_alone ps ≢ []
 alone_filled_behind front ps some none = alone_filled (behind front ps) some (alone_behind front ps ∙ none)
 
 pub left_behind : (front front' : List (List ℕ)) (ps : List JoinedToken) (start n : ℕ)
@@ -296,7 +294,7 @@ left_behind front front' ps start n h =
 
 pub one_written : (out : List Row) (n i : ℕ) (front : List (List ℕ)) (ps left : List JoinedToken) → i < n → behind front ps ≢ []
     → left ≡ first_done (behind front ps)
-    → (out ++ Spined Interpretation (nulls (length front) ++ first_alone ps) ∷ []) ++ filled Interpretation (one_by_one (n - (i + 1)) left)
+    → (out ++ Spined Interpretation (nulls Interpretation (length front) ++ first_alone ps) ∷ []) ++ filled Interpretation (one_by_one (n - (i + 1)) left)
     ≡ out ++ filled Interpretation (one_by_one (n - i) (behind front ps))
 one_written out n i front ps left h some is =
     let e : n - i ≡ suc (n - (i + 1)) = omega arith in

@@ -56,11 +56,6 @@ shown Before piece = codes "*"
 shown Inside piece = piece.token
 shown After piece = codes "*"
 
--- so many null tokens
-abbrev pub nulls : ℕ → List (List ℕ)
-nulls zero = []
-nulls (suc n) = codes "*" ∷ nulls n
-
 -- What of some pieces was added to a record in the making, when the first join was passed: their
 -- tokens before and after.
 abbrev pub HasPassed : List JoinedToken → Draft → Draft → Passed → Type 0

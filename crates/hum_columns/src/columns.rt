@@ -64,7 +64,6 @@ impl ChosenColumns {
     }
 
     /// The columns that are chosen.
-    #[inline]
     pub fn selection(&self) -> &Selection
         ensures { result.now ≡ self.now.each }
     {

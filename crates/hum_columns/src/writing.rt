@@ -1,11 +1,11 @@
 //! Records of pieces.
 ghost use Rattle.std.specs.Prelude.{◌≡◌, ◌≢◌, ◌≤◌, [], ◌++◌, false, drop, length, IfOk, OnOk};
 ghost use Rattle.std.specs.List.{AllByRecursion};
-ghost use Rattle.hum_record.specs.{Row.Spined, Spelling.IsToken, Building.spelled};
+ghost use Rattle.hum_record.specs.{Row.Spined, Spelling.IsToken, Building.spelled, Nulls.nulls};
 ghost use Rattle.hum_record.specs.declared.SpinedKind.TheVariants.{Interpretation};
 ghost use Rattle.hum_columns.specs.Spread.{tokens_in, touches, joins_in, first_alone, join_done};
 ghost use Rattle.hum_columns.specs.Spread.{one_by_one, before_last, filled};
-ghost use Rattle.hum_columns.specs.Writing.{Fit, MayAdd, draft, behind, next_phase, shown, nulls};
+ghost use Rattle.hum_columns.specs.Writing.{Fit, MayAdd, draft, behind, next_phase, shown};
 ghost use Rattle.hum_columns.specs.Writing.{HasPassed};
 
 use crate::pieces::JoinedToken;
@@ -83,18 +83,6 @@ fn shown<'t>(phase: Phase, piece: &JoinedToken<'t>) -> &'t [u8]
     }
 }
 
-/// Adds so many null tokens.
-fn push_nulls(builder: &mut RecordBuilder, count: usize) -> Result<(), AllocError>
-    requires made { builder.old ≡ draft builder.old.tokens }
-    requires fits { length (spelled (builder.old.tokens ++ nulls count)) ≤ MOST_BYTES }
-    ensures { OnOk result (builder.new ≡ draft (builder.old.tokens ++ nulls count)) }
-{
-    for _ in 0..count {
-        builder.push_fitting(b"*")?;
-    }
-    Ok(())
-}
-
 /// Adds the first join's tokens, and null ones elsewhere.
 fn push_alone(builder: &mut RecordBuilder, pieces: &[JoinedToken<'_>]) -> Result<(), AllocError>
     requires { MayAdd builder.old (first_alone pieces.now) pieces.now }
@@ -122,13 +110,13 @@ fn push_all(builder: &mut RecordBuilder, pieces: &[JoinedToken<'_>]) -> Result<(
 /// The record with the first join alone, after so many null tokens.
 fn alone(alloc: Global, before: usize, pieces: &[JoinedToken<'_>]) -> Result<Record, AllocError>
     requires lawful { AllByRecursion (λ piece. IsToken Interpretation piece.token) pieces.now }
-    requires fits { length (spelled (nulls before ++ first_alone pieces.now)) ≤ MOST_BYTES }
-    requires filled { nulls before ++ first_alone pieces.now ≢ [] }
+    requires fits { length (spelled (nulls Interpretation before ++ first_alone pieces.now)) ≤ MOST_BYTES }
+    requires filled { nulls Interpretation before ++ first_alone pieces.now ≢ [] }
     ensures { IfOk result
-        (λ made. made ≡ Spined Interpretation (nulls before ++ first_alone pieces.now)) }
+        (λ made. made ≡ Spined Interpretation (nulls Interpretation before ++ first_alone pieces.now)) }
 {
     let mut builder = RecordBuilder::new(alloc, SpinedKind::Interpretation);
-    push_nulls(&mut builder, before)?;
+    builder.push_nulls(before)?;
     push_alone(&mut builder, pieces)?;
     Ok(builder.finish())
 }

@@ -205,7 +205,6 @@ fn new_bytes(
 }
 
 /// More bytes, unless there are too many already.
-#[inline]
 fn plus(size: u64, more: u64) -> u64
     requires { (size ≤ 2 ^ 60) × (more ≤ 2 ^ 53) }
     ensures few { size ≤ 2 ^ 54 → result ≤ 2 ^ 54 }
@@ -215,7 +214,6 @@ fn plus(size: u64, more: u64) -> u64
 }
 
 /// What is known of new tokens that have so many bytes, with one behind each.
-#[inline]
 fn weight_of(size: u64) -> Weight
     ensures { (made : List (List ℕ)) → Counts size (bytes_of made) → Weighs (Some made) result }
 {

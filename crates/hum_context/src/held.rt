@@ -4,12 +4,11 @@ ghost use Rattle.std.specs.List.{list_all};
 ghost use lib.Chars.{codes};
 ghost use Rattle.hum_record.specs.declared.SpinedKind.TheVariants.{Values};
 ghost use Rattle.hum_record.specs.Building.{spelled};
-ghost use Rattle.hum_record.specs.Contents.{is_null};
+ghost use Rattle.hum_record.specs.{Contents.is_null, Nulls.null_row};
 ghost use Rattle.hum_record.specs.Row.{Row, kind_of, row_of, text_of, token_at, tokens_of, width_of};
 ghost use Rattle.hum_record.specs.Spelling.{IsTextOf, IsTokenOf};
-ghost use Rattle.hum_context.specs.Held.{nulls};
 
-use hum_record::{Kind, MOST_BYTES, Record, RecordBuilder, SpinedKind, is_null};
+use hum_record::{Kind, MOST_BYTES, Record, is_null, null_record};
 use std::alloc::{AllocError, Global};
 use std::marker::Model;
 
@@ -56,7 +55,7 @@ fn all_null(row: &Record) -> bool
 
 /// Whether a record is data, and null.
 fn is_null_data(row: &Record) -> bool
-    ensures { result ≡ true → row.now ≡ nulls (width_of row.now) }
+    ensures { result ≡ true → row.now ≡ null_row (width_of row.now) }
 {
     match row.kind() {
         Kind::Values => all_null(row),
@@ -64,18 +63,6 @@ fn is_null_data(row: &Record) -> bool
         Kind::Local => false,
         Kind::Global => false,
     }
-}
-
-/// The data record of so many null tokens.
-fn made_of_nulls(alloc: Global, width: usize) -> Result<Record, AllocError>
-    requires { IsTextOf (nulls width) (text_of (nulls width)) }
-    ensures { IfOk result (λ row. row ≡ nulls width) }
-{
-    let mut builder = RecordBuilder::new(alloc, SpinedKind::Values);
-    for _ in 0..width {
-        builder.push_fitting(b".")?;
-    }
-    Ok(builder.finish())
 }
 
 impl HeldRecord {
@@ -151,7 +138,7 @@ impl HeldRecord {
         let HeldRecord { holding } = self;
         match holding {
             HeldForm::Whole(row) => Ok(row),
-            HeldForm::Nulls(width) => made_of_nulls(alloc, width),
+            HeldForm::Nulls(width) => null_record(alloc, width),
         }
     }
 }

@@ -147,7 +147,6 @@ impl Queued {
     }
 
     /// How many bytes its token in a column has, and one more.
-    #[inline]
     pub(crate) fn bytes(&self, c: usize) -> u64
         ensures bytes { result ≡ length (slice_index_or (tokens_of self.now.row) c []) + 1 }
         ensures few { result ≤ 1048577 }

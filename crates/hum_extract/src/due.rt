@@ -26,7 +26,6 @@ impl Model for MostlyOne {
 
 impl MostlyOne {
     /// This record is due.
-    #[inline]
     pub fn put(&mut self, row: Record)
         requires { self.old ≡ [] }
         ensures { self.new ≡ row ∷ [] }

@@ -28,7 +28,6 @@ pub struct Moves {
 
 // Written out, so that a caller's proof sees one call and not a list that is there or not.
 impl Drop for Moves {
-    #[inline]
     fn drop(self) {
         let Moves {
             listed: _listed,

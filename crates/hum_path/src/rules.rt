@@ -172,7 +172,6 @@ pub(crate) fn sign_fault(
 }
 
 /// The first rule that a record breaks which asks nothing of the spines.
-#[inline]
 pub(crate) fn text_fault(
     opened: bool,
     waits: bool,

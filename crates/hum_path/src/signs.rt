@@ -94,7 +94,6 @@ fn all_plain(row: &Record) -> bool
 }
 
 /// Whether a record has a path indicator or an exclusive interpretation.
-#[inline]
 pub fn steers(row: &Record) -> bool
     ensures { result ≡ steers row.now }
 {

@@ -22,7 +22,6 @@ use std::marker::Model;
 
 /// Whether there is a token for each spine, and no spine waits for its exclusive interpretation. Where
 /// there is a token, the spines are open then.
-#[inline]
 fn fits(waits: bool, spines: usize, tokens: usize) -> bool
     ensures ready { result ≡ true → waits ≡ false }
     ensures width { result ≡ true → tokens ≡ spines }
@@ -107,7 +106,6 @@ impl Paths {
 
     /// Whether a record is data with a token for each spine, of which none waits for its exclusive
     /// interpretation: then it breaks no rule, and each spine goes on.
-    #[inline]
     pub fn keeps_spines(&self, row: &Record) -> bool
         ensures sound { result ≡ true → fault_of self.now.path row.now ≡ None }
         ensures same { result ≡ true → after self.now.path row.now ≡ self.now.path }
@@ -166,7 +164,6 @@ impl Paths {
     ///
     /// # Errors
     /// Out of memory, which each later call answers again.
-    #[inline]
     pub fn follow(&mut self, row: &Record) -> Result<Moves, AllocError>
         requires { fault_of self.old.path row.now ≡ None }
         ensures moves { IfOk result (λ found. found ≡ moves self.old.path row.now) }

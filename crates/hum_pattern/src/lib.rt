@@ -43,7 +43,6 @@ fn is_barline(text: &str) -> bool
 }
 
 /// Whether a token begins as a barline does.
-#[inline]
 fn begins_barline(token: &[u8]) -> bool
     ensures { result ≡ begins_with 61 token.now }
 {
@@ -166,7 +165,6 @@ impl Pattern {
     }
 
     /// Whether the pattern has a match anywhere in a token.
-    #[inline]
     pub fn matches(&mut self, token: &[u8]) -> bool
         ensures found { result ≡ matched self.old token.now }
         ensures same { self.new ≡ self.old }
@@ -204,7 +202,6 @@ impl Pattern {
 }
 
 /// Whether a pattern that may be there has a match anywhere in a token.
-#[inline]
 pub fn is_matched(pattern: &mut Option<Pattern>, token: &[u8]) -> bool
     ensures found { result ≡ matched_by pattern.old token.now }
     ensures same { pattern.new ≡ pattern.old }

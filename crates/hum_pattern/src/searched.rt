@@ -41,7 +41,6 @@ impl Searched {
     }
 
     /// Whether a match is known to be in this token.
-    #[inline]
     fn known(&self, token: &[u8]) -> Option<bool>
         ensures { (text : List ℕ) → Finds text self.now → (found : Bool) → result ≡ Some found
             → matched text token.now ≡ found }
@@ -69,7 +68,6 @@ pub(crate) fn none_searched(alloc: Global) -> Result<Vec<Searched>, AllocError>
 }
 
 /// Whether a match was found in a token, if that is remembered.
-#[inline]
 pub(crate) fn recalled(searched: &[Searched], token: &[u8]) -> Option<bool>
     ensures { (text : List ℕ) → AllFound text searched.now → (found : Bool) → result ≡ Some found
         → matched text token.now ≡ found }

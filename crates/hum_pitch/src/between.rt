@@ -7,7 +7,6 @@ use crate::intervals::Interval;
 use crate::pitch::Pitch;
 
 /// The interval from one pitch to another.
-#[inline(always)]
 pub fn interval(from: Pitch, to: Pitch) -> Interval
     ensures steps { result.d ≡ step_number (spelled to) -ℤ step_number (spelled from) }
     ensures semitones { result.s ≡ semitones (spelled to) -ℤ semitones (spelled from) }

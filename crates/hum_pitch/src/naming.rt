@@ -15,7 +15,6 @@ use itoa::Buffer;
 use std::alloc::{AllocError, Global};
 
 /// Up or down by the steps; where there are none, by the semitones.
-#[inline(always)]
 fn direction(interval: Interval) -> Direction
     ensures { result ≡ direction interval.d interval.s }
 {
@@ -34,7 +33,6 @@ fn direction(interval: Interval) -> Direction
 }
 
 /// The semitones of the interval as it is named, upwards.
-#[inline(always)]
 fn upwards(interval: Interval) -> i32
     ensures exact { result ≡ upwards interval.d interval.s }
     ensures bounded { IsWithin (negsuc 204) result (pos 205) }
@@ -51,7 +49,6 @@ fn upwards(interval: Interval) -> i32
 }
 
 /// By how many semitones the interval is wider than the perfect or major one.
-#[inline(always)]
 fn excess(interval: Interval) -> i32
     ensures exact { result ≡ excess interval.d interval.s }
     ensures bounded { IsWithin (negsuc 395) result (pos 205) }
@@ -60,7 +57,6 @@ fn excess(interval: Interval) -> i32
 }
 
 /// The quality of an interval that can be perfect.
-#[inline(always)]
 fn of_perfect(excess: i32) -> Quality
     requires { IsWithin (negsuc 395) excess (pos 205) }
     ensures exact { result ≡ of_perfect excess }
@@ -76,7 +72,6 @@ fn of_perfect(excess: i32) -> Quality
 }
 
 /// The quality of an interval that can be major or minor.
-#[inline(always)]
 fn of_major(excess: i32) -> Quality
     requires { IsWithin (negsuc 395) excess (pos 205) }
     ensures exact { result ≡ of_major excess }
@@ -94,7 +89,6 @@ fn of_major(excess: i32) -> Quality
 }
 
 /// The quality of an interval.
-#[inline(always)]
 fn quality(interval: Interval) -> Quality
     ensures exact { result ≡ quality interval.d interval.s }
     ensures modest { IsModest result }
@@ -134,7 +128,6 @@ fn quality_letters(quality: Quality) -> Repeated
 }
 
 /// The sign of an interval's direction, where it leads up or down.
-#[inline(always)]
 pub fn direction_sign(interval: Interval) -> Option<u8>
     ensures { option_to_list result ≡ sign (direction interval.d interval.s) }
 {
@@ -146,7 +139,6 @@ pub fn direction_sign(interval: Interval) -> Option<u8>
 }
 
 /// The letter of an interval's quality, where that is one letter, as most are.
-#[inline(always)]
 pub fn quality_letter(interval: Interval) -> Option<u8>
     ensures { IfSome result (λ letter.
         quality_letters (quality interval.d interval.s) ≡ letter ∷ []) }
@@ -183,7 +175,6 @@ fn push_large(text: &mut Vec<u8>, number: u32) -> Result<(), AllocError>
 }
 
 /// Writes a number behind a text. Most have one digit.
-#[inline(always)]
 fn push_number(text: &mut Vec<u8>, number: u32) -> Result<(), AllocError>
     ensures { OnOk result (text.new.items ≡ text.old.items ++ decimal number) }
 {

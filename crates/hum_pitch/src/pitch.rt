@@ -41,7 +41,6 @@ struct SpelledNote {
 const NATURALS: [u8; 7] = [0, 2, 4, 5, 7, 9, 11];
 
 /// Whether a number is neither below one limit nor above another.
-#[inline(always)]
 fn is_within(low: i32, number: i32, high: i32) -> bool
     ensures { MatchBool result (IsWithin low number high) (IsOutside low number high) }
 {
@@ -50,7 +49,6 @@ fn is_within(low: i32, number: i32, high: i32) -> bool
 
 /// The semitones from c up to a step above it.
 #[tactic(auto, using(crate::proofs::Steps::natural_le), unfolding(crate::specs::Pitch::natural))]
-#[inline(always)]
 fn natural(step: u32) -> u8
     requires { step < 7 }
     ensures exact { result ≡ natural step }
@@ -60,7 +58,6 @@ fn natural(step: u32) -> u8
 }
 
 /// The semitones from middle c up to a natural note.
-#[inline(always)]
 fn natural_semits(octave: i32, step: u32) -> i32
     requires step { step < 7 }
     requires octave { IsWithin (negsuc 99) octave (pos 100) }
@@ -73,7 +70,6 @@ fn natural_semits(octave: i32, step: u32) -> i32
 }
 
 /// The octave and the step of a step number.
-#[inline(always)]
 fn natural_at(number: i32) -> (i32, u32)
     requires { IsWithin (negsuc 76) number (pos 200) }
     ensures octave { result.0 ≡ (natural_at number).octave }
@@ -89,7 +85,6 @@ impl SpelledNote {
     ghost use Rattle.hum_pitch.specs.Given.{noted, Answers};
 
     /// The pitch, if it can be spelled.
-    #[inline(always)]
     fn spelled(self) -> Result<Pitch, PitchFault>
         requires { self.step < 7 }
         ensures { Answers (noted self) result }
@@ -114,7 +109,6 @@ impl Pitch {
     ghost use Rattle.hum_pitch.specs.Given.{spelled, noted, Answers};
 
     /// The number of its step, counted from the c of octave 0.
-    #[inline(always)]
     pub(crate) fn step_number(self) -> i32
         ensures exact { result ≡ step_number (spelled self) }
         ensures in_range { IsWithin (negsuc 27) result (pos 83) }
@@ -123,7 +117,6 @@ impl Pitch {
     }
 
     /// The semitones above middle c, which is 0; below it they are negative.
-    #[inline(always)]
     pub fn semits(self) -> i32
         ensures exact { result ≡ semitones (spelled self) }
         ensures in_range { IsWithin (negsuc 102) result (pos 102) }
@@ -132,7 +125,6 @@ impl Pitch {
     }
 
     /// The note that is some steps and some semitones away, whether it can be spelled or not.
-    #[inline(always)]
     fn away(self, steps: i32, semitones: i32) -> SpelledNote
         requires steps { IsWithin (negsuc 48) steps (pos 49) }
         requires semitones { IsWithin (negsuc 83) semitones (pos 84) }
@@ -153,7 +145,6 @@ impl Pitch {
     ///
     /// # Errors
     /// [`PitchFault::TR1`] and [`PitchFault::TR2`], the first of them where both hold.
-    #[inline(always)]
     pub fn transpose(self, steps: i32, semitones: i32) -> Result<Pitch, PitchFault>
         requires steps { IsWithin (negsuc 48) steps (pos 49) }
         requires semitones { IsWithin (negsuc 83) semitones (pos 84) }

@@ -17,7 +17,6 @@ pub struct Repeated {
 
 impl Repeated {
     /// A byte so many times.
-    #[inline(always)]
     pub(crate) fn times(count: usize, byte: u8) -> Repeated
         ensures { result ≡ record { byte = byte; count = count } }
     {
@@ -26,7 +25,6 @@ impl Repeated {
 }
 
 /// The letters of a pitch.
-#[inline(always)]
 pub fn letters(pitch: Pitch) -> Repeated
     ensures exact { replicate result.count result.byte ≡ letters_of (spelled pitch) }
     ensures few { result.count ≤ 8 }
@@ -46,7 +44,6 @@ pub fn letters(pitch: Pitch) -> Repeated
 }
 
 /// The accidentals of a pitch.
-#[inline(always)]
 pub fn accidentals(pitch: Pitch) -> Repeated
     ensures exact { replicate result.count result.byte ≡ accidentals pitch.alteration }
     ensures few { result.count ≤ 7 }
@@ -65,7 +62,6 @@ pub fn accidentals(pitch: Pitch) -> Repeated
 }
 
 /// Adds a byte some times, mostly twice at most.
-#[inline(always)]
 pub(crate) fn push_repeated(text: &mut Vec<u8>, repeated: Repeated) -> Result<(), AllocError>
     requires { repeated.count ≤ 1000 }
     ensures { OnOk result (text.new.items

@@ -1,10 +1,11 @@
 -- The records of timebase, by the multiples that they stand at.
-use Rattle.std.proofs.Common.{◌≡◌, ◌∙◌, refl, sym, ap, subst, ℕ, ◌-◌, ◌<◌, Bool, true, false, List, [], ◌∷◌, ◌++◌}
+use Rattle.std.proofs.Common.{◌≡◌, ◌∙◌, refl, sym, ap, subst, ℕ, ◌-◌, ◌<◌, Bool, true, false, List, [], ◌∷◌, ◌++◌, length}
 use Rattle.std.proofs.Common.{map, replicate, Option, None, Some, Result, Ok, Err, arith}
 use Rattle.std.specs.Prelude.{is_some}
 use Rattle.std.specs.List.{list_any}
 use Rattle.hum_record.specs.declared.SpinedKind.TheVariants.{Values}
 use Rattle.hum_record.specs.Row.{Row, Spined}
+use Rattle.hum_record.specs.Nulls.{null_row}
 use Rattle.hum_path.proofs.Cases.{by_bool}
 use Rattle.hum_path.specs.Score.{path_after}
 use Rattle.hum_frac.specs.Ratio.{Ratio}
@@ -15,7 +16,7 @@ use Rattle.hum_timebase.specs.Notes.{timed_in, notes_of, is_sounding, has_misrea
 use Rattle.hum_timebase.specs.Ends.{Note, latest, next_end, living_before, living_after}
 use Rattle.hum_timebase.specs.Clock.{Clock, clock_after, time_after, time_of, ticked}
 use Rattle.hum_choices.specs.Timebase.{Pace}
-use Rattle.hum_timebase.specs.Timebase.{null_row, clashes, is_too_long, count_before, count_after}
+use Rattle.hum_timebase.specs.Timebase.{clashes, is_too_long, count_before, count_after}
 use Rattle.hum_timebase.specs.Timebase.{on_grid, timed_rows, living_at, data_rows}
 use Rattle.hum_timebase.proofs.Lasting.{IsPositive, AllSound, all_sound}
 use Rattle.hum_timebase.proofs.Reading.{sounds_some, no_notes}
@@ -28,7 +29,7 @@ use Rattle.hum_places.proofs.LeastEnds.{next_is_least}
 record Listed (t : Ratio) (Passes : Ratio → Type 0) (tokens : List (List ℕ)) (count : ℕ) : Type 0 where
   numbers : List ℕ
   are : AreMultiples t Passes numbers
-  nulls : replicate count (null_row tokens) ≡ nulls_at tokens numbers
+  nulls : replicate count (null_row (length tokens)) ≡ nulls_at tokens numbers
 
 none_pass : (t : Ratio) (Passes : Ratio → Type 0) (tokens : List (List ℕ)) → ((m : Ratio) → ¬ Passes m) → Listed t Passes tokens 0
 none_pass t Passes tokens none = record {
@@ -47,8 +48,8 @@ module _ (t : Ratio) (top : 0 < t.top) (bottom : 0 < t.bottom) (tokens : List (L
   listed_before (Some end) time p q = record {
     numbers = run (first_from end t) (first_from time t - first_from end t);
     are = from_so t top end time p q;
-    nulls = ap (λ (n : ℕ). replicate n (null_row tokens)) (counted_from t top bottom end time p q)
-        ∙ replicated (null_row tokens) (first_from end t) (first_from time t - first_from end t);
+    nulls = ap (λ (n : ℕ). replicate n (null_row (length tokens))) (counted_from t top bottom end time p q)
+        ∙ replicated (null_row (length tokens)) (first_from end t) (first_from time t - first_from end t);
   }
 
   listed_after : (time : Ratio) (next : Option Ratio) → 0 < time.bottom → IsPositive next
@@ -57,7 +58,7 @@ module _ (t : Ratio) (top : 0 < t.top) (bottom : 0 < t.bottom) (tokens : List (L
   listed_after time (Some end) p q = record {
     numbers = run (first_after time t) (multiples_between time end t);
     are = within_so t top time end p q;
-    nulls = replicated (null_row tokens) (first_after time t) (multiples_between time end t);
+    nulls = replicated (null_row (length tokens)) (first_after time t) (multiples_between time end t);
   }
 
   abbrev own_rows : Bool → List Row
@@ -84,7 +85,7 @@ module _ (t : Ratio) (top : 0 < t.top) (bottom : 0 < t.bottom) (tokens : List (L
         stays = λ m. let z = (multiple_test time t).1 m in kept stays (sym w ∙ z);
         goes = λ no. gone stays (λ e. no ((multiple_test time t).0 (w ∙ e)));
         later = ab.1.are;
-        whole = sym e ∙ by_stays stays w ∙ ap (λ xs. xs ++ (own_rows stays ++ replicate (count_after t time next) (null_row tokens))) ab.0.nulls
+        whole = sym e ∙ by_stays stays w ∙ ap (λ xs. xs ++ (own_rows stays ++ replicate (count_after t time next) (null_row (length tokens)))) ab.0.nulls
             ∙ ap (λ xs. nulls_at tokens ab.0.numbers ++ (own_rows stays ++ xs)) ab.1.nulls;
       }
         where
@@ -97,8 +98,8 @@ module _ (t : Ratio) (top : 0 < t.top) (bottom : 0 < t.bottom) (tokens : List (L
           gone false none = refl
 
           by_stays : (stays : Bool) → is_multiple time t ≡ stays → on_grid t last time next tokens
-              ≡ replicate (count_before t last time) (null_row tokens)
-              ++ (own_rows stays ++ replicate (count_after t time next) (null_row tokens))
+              ≡ replicate (count_before t last time) (null_row (length tokens))
+              ++ (own_rows stays ++ replicate (count_after t time next) (null_row (length tokens)))
           by_stays true w = rw w refl
           by_stays false w = rw w refl
 

@@ -5,6 +5,7 @@ use Rattle.std.specs.Prelude.{slice_index_or, Option, None, Some, is_some, Ok, s
 use Rattle.std.specs.List.{list_any, Contains}
 use Rattle.hum_record.specs.declared.SpinedKind.TheVariants.{Values}
 use Rattle.hum_record.specs.Row.{Row, Spined}
+use Rattle.hum_record.specs.Nulls.{null_row}
 use Rattle.hum_path.specs.Score.{path_after}
 use Rattle.hum_frac.specs.Ratio.{Ratio, IsBefore}
 use Rattle.hum_frac.specs.Multiples.{times, IsMultiple}
@@ -12,7 +13,7 @@ use Rattle.hum_timebase.specs.Notes.{timed_in, notes_of}
 use Rattle.hum_timebase.specs.Ends.{latest}
 use Rattle.hum_timebase.specs.Clock.{clock_after}
 use Rattle.hum_choices.specs.Timebase.{Pace}
-use Rattle.hum_timebase.specs.Timebase.{timebase, null_row}
+use Rattle.hum_timebase.specs.Timebase.{timebase}
 
 -- These number the multiples of t that pass: each of them once, the least first.
 pub record AreMultiples (t : Ratio) (Passes : Ratio → Type 0) (numbers : List ℕ) : Type 0 where
@@ -32,7 +33,7 @@ IsWithin time (Some end) m = IsBefore time m × IsBefore m end
 
 -- for each multiple a null record as wide as another
 abbrev pub nulls_at : List (List ℕ) → List ℕ → List Row
-nulls_at tokens numbers = map (λ k. null_row tokens) numbers
+nulls_at tokens numbers = map (λ k. null_row (length tokens)) numbers
 
 -- A record at a time, the least end after the last one and the least after it: null records at the
 -- multiples from that end on, it included, up to its time; itself, where its time is a multiple; and

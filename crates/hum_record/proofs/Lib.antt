@@ -12,6 +12,7 @@ pub mod TooLong
 pub mod Moved
 pub mod Held
 pub mod Left
+mod Alike
 pub mod Selected
 mod Picked
 mod Added

@@ -9,3 +9,4 @@ pub mod Building
 pub mod RecordDraft
 pub mod Selecting
 pub mod Contents
+pub mod Nulls

@@ -7,7 +7,6 @@ ghost use Rattle.hum_record.specs.Spelling.{has_byte};
 use std::simd::prelude::*;
 
 /// The bits of a byte in `N` bytes of a text.
-#[inline(always)]
 pub fn bits_at<const N: usize>(text: &[u8], at: usize, byte: u8) -> u64
     requires few { N ≤ 64 }
     requires within { at + N ≤ length text.now }
@@ -20,7 +19,6 @@ pub fn bits_at<const N: usize>(text: &[u8], at: usize, byte: u8) -> u64
 
 /// The bits of a byte in a text, from those in its first bytes and in as many of its last: the two
 /// may overlap.
-#[inline(always)]
 fn joined(text: &[u8], byte: u8, each: usize, first: u64, last: u64) -> u64
     requires few { each ≤ 16 }
     requires filled { each ≤ length text.now }
@@ -48,7 +46,6 @@ fn bits_one_by_one(text: &[u8], byte: u8) -> u64
 }
 
 /// The number whose bit `k` says whether byte `k` of a text is this one.
-#[inline(always)]
 pub fn bits_of(text: &[u8], byte: u8) -> u64
     requires { length text.now ≤ 32 }
     ensures { result ≡ bits_of byte text.now }
@@ -66,7 +63,6 @@ pub fn bits_of(text: &[u8], byte: u8) -> u64
 }
 
 /// Whether a byte stands in a short text.
-#[inline(always)]
 pub fn holds(text: &[u8], byte: u8) -> bool
     requires { length text.now ≤ 32 }
     ensures { result ≡ has_byte byte text.now }

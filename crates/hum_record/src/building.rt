@@ -29,7 +29,6 @@ pub struct RecordBuilder {
 
 // Written out, so that a caller's proof sees one call and not the drop of each field.
 impl Drop for RecordBuilder {
-    #[inline]
     fn drop(self) {
         let RecordBuilder {
             alloc: _,
@@ -66,7 +65,6 @@ impl RecordBuilder {
     }
 
     /// The same in the buffers of a record that is done with. Nothing of that record shows.
-    #[inline]
     pub fn reusing(alloc: Global, kind: SpinedKind, spare: &mut Spare) -> Self
         ensures { result ≡ record { kind = kind; tokens = []; spent = false } }
     {
@@ -80,11 +78,17 @@ impl RecordBuilder {
         }
     }
 
+    /// What its tokens are.
+    pub fn kind(&self) -> SpinedKind
+        ensures { result ≡ self.now.kind }
+    {
+        self.kind
+    }
+
     /// Adds a token at the end.
     ///
     /// The fault is [`RecordFault::L1`] where the text would pass 1,048,576 bytes. The builder is
     /// then as it was.
-    #[inline]
     pub fn push(&mut self, token: &[u8]) -> Result<(), RecordFault>
         requires { IsToken self.old.kind token.now }
         ensures pushed { OnOk result
@@ -106,7 +110,6 @@ impl RecordBuilder {
     }
 
     /// Adds a token at the end where there is room for it, or else nothing; and tells which.
-    #[inline]
     pub(crate) fn push_near(&mut self, token: &[u8]) -> bool
         requires { IsToken self.old.kind token.now }
         ensures pushed { result ≡ true
@@ -123,7 +126,6 @@ impl RecordBuilder {
     }
 
     /// Adds a token at the end, as [`RecordBuilder::push`] does.
-    #[inline(never)]
     pub(crate) fn push_far(&mut self, token: &[u8]) -> Result<(), RecordFault>
         requires { IsToken self.old.kind token.now }
         ensures pushed { OnOk result
@@ -156,7 +158,6 @@ impl RecordBuilder {
     ///
     /// # Errors
     /// Out of memory. The builder is then spent: each later call answers it again.
-    #[inline]
     pub fn push_fitting(&mut self, token: &[u8]) -> Result<(), AllocError>
         requires lawful { IsToken self.old.kind token.now }
         requires fits { length (spelled (self.old.tokens ++ token.now ∷ [])) ≤ 1048576 }
@@ -193,7 +194,6 @@ impl RecordBuilder {
 }
 
 /// Leaves nothing of what stands in a body, where there is one, but its memory.
-#[inline]
 fn empty(body: &mut Option<Box<Body>>)
     ensures text { text_in body.new ≡ [] }
     ensures ends { ends_in body.new ≡ [] }
@@ -204,7 +204,6 @@ fn empty(body: &mut Option<Box<Body>>)
 }
 
 /// Whether a token may still be added.
-#[inline]
 fn has_room(text: &[u8], ends: &[u32], token: &[u8]) -> bool
     requires { length text.now ≤ 1048576 }
     ensures { result
@@ -218,7 +217,6 @@ fn has_room(text: &[u8], ends: &[u32], token: &[u8]) -> bool
 }
 
 /// Makes an empty body where there is none.
-#[inline]
 fn provide(alloc: Global, body: &mut Option<Box<Body>>) -> Result<(), AllocError>
     ensures text { OnOk result (text_in body.new ≡ text_in body.old) }
     ensures ends { OnOk result (ends_in body.new ≡ ends_in body.old) }
@@ -231,7 +229,6 @@ fn provide(alloc: Global, body: &mut Option<Box<Body>>) -> Result<(), AllocError
 }
 
 /// Adds a token behind the others where there is room for it, and tells whether there was.
-#[inline]
 fn add_near(body: &mut Option<Box<Body>>, token: &[u8]) -> bool
     ensures text { result ≡ true → text_in body.new
         ≡ text_in body.old ++ (tab_between (ends_in body.old) ++ token.now) }

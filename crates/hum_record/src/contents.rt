@@ -3,7 +3,6 @@ ghost use Rattle.std.specs.Prelude.{◌≡◌};
 ghost use Rattle.hum_record.specs.Contents.{is_data, is_null, is_filled, is_barline};
 
 /// Whether a token is data, and not an interpretation or a comment.
-#[inline]
 pub fn is_data(token: &[u8]) -> bool
     ensures { result ≡ is_data token.now }
 {
@@ -11,7 +10,6 @@ pub fn is_data(token: &[u8]) -> bool
 }
 
 /// Whether a token is the null token of data, `.`.
-#[inline]
 pub fn is_null(token: &[u8]) -> bool
     ensures { result ≡ is_null token.now }
 {
@@ -19,7 +17,6 @@ pub fn is_null(token: &[u8]) -> bool
 }
 
 /// Whether a token is data that isn't null.
-#[inline]
 pub fn is_filled(token: &[u8]) -> bool
     ensures { result ≡ is_filled token.now }
 {
@@ -27,7 +24,6 @@ pub fn is_filled(token: &[u8]) -> bool
 }
 
 /// Whether a token is a barline: it begins with `=`.
-#[inline]
 pub fn is_barline(token: &[u8]) -> bool
     ensures { result ≡ is_barline token.now }
 {

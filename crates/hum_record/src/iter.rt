@@ -28,7 +28,6 @@ impl<'r> Model for Tokens<'r> {
 
 impl<'r> Tokens<'r> {
     /// All tokens of a text, by where each ends in it.
-    #[inline]
     pub(crate) fn all(text: &'r [u8], ends: &'r [u32]) -> Tokens<'r>
         requires { LieIn text.now 0 ends.now }
         ensures { result ≡ tokens_by text.now 0 ends.now }
@@ -48,7 +47,6 @@ impl<'r> Iterator for Tokens<'r> {
 
     ghost remaining = { item_count (λ tokens. tokens) };
 
-    #[inline]
     fn next(&mut self) -> Option<&'r [u8]> {
         let (end, behind) = self.ends.split_first()?;
         let token = &self.text[self.begin..*end as usize];

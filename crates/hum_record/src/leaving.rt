@@ -10,7 +10,6 @@ use crate::selection::Selection;
 use std::simd::prelude::*;
 
 /// Moves `N` to twice as many bytes to the left, by the first `N` of them and the last.
-#[inline(always)]
 fn move_by<const N: usize>(text: &mut [u8], from: usize, end: usize, to: usize)
     requires leftward { to ≤ from }
     requires few { from + N ≤ end }
@@ -25,7 +24,6 @@ fn move_by<const N: usize>(text: &mut [u8], from: usize, end: usize, to: usize)
 }
 
 /// Moves any number of bytes to the left.
-#[inline(never)]
 fn move_any(text: &mut [u8], from: usize, end: usize, to: usize)
     requires leftward { to ≤ from }
     requires order { from ≤ end }
@@ -36,7 +34,6 @@ fn move_any(text: &mut [u8], from: usize, end: usize, to: usize)
 }
 
 /// Moves what stands between two places to the left. Most tokens are short.
-#[inline]
 fn move_left(text: &mut [u8], from: usize, end: usize, to: usize)
     requires leftward { to ≤ from }
     requires order { from ≤ end }
@@ -61,7 +58,6 @@ fn move_left(text: &mut [u8], from: usize, end: usize, to: usize)
 
 /// Where what is moved of a token begins: at the tab before it, or behind that where none is left so
 /// far.
-#[inline]
 fn moved_from(before: usize, count: usize) -> usize
     requires { before < 2 ^ 32 }
     ensures { result ≡ (if count == 0 then before + 1 else before) }
@@ -70,7 +66,6 @@ fn moved_from(before: usize, count: usize) -> usize
 }
 
 /// How long the text of the tokens in front is.
-#[inline]
 fn front_len(ends: &[u32], front: usize) -> usize
     requires { front ≤ length ends.now }
     ensures { result ≡ begins_at ends.now front - 1 }
@@ -83,7 +78,6 @@ fn front_len(ends: &[u32], front: usize) -> usize
 
 /// Moves the selected tokens of a text to its front, by where each token ends in it, and answers how
 /// many bytes and tokens these are. Those in front stay where they stand.
-#[inline]
 fn move_to_front(text: &mut [u8], ends: &mut [u32], selection: &Selection) -> (usize, usize)
     requires cut { ends.old ≡ ends_from 0 (parts text.old) }
     requires as_wide { length selection.now ≡ length ends.old }
@@ -108,7 +102,6 @@ fn move_to_front(text: &mut [u8], ends: &mut [u32], selection: &Selection) -> (u
 
 /// The same of a text that is the first `len` bytes, of whose tokens the first `count` places say where
 /// they end.
-#[inline]
 pub fn move_in_front(
     text: &mut [u8],
     len: usize,

@@ -21,6 +21,7 @@ mod contents;
 pub mod iter;
 mod leaving;
 mod near;
+mod nulls;
 mod putting;
 mod reading;
 mod record_draft;
@@ -31,6 +32,7 @@ mod wide;
 
 pub use building::RecordBuilder;
 pub use contents::{is_barline, is_data, is_filled, is_null};
+pub use nulls::{null_of, null_record};
 pub use reading::Record;
 pub use record_draft::RecordDraft;
 pub use selection::Selection;
@@ -68,7 +70,6 @@ pub enum SpinedKind {
 impl From<SpinedKind> for Kind {
     ghost from_gives = { λ spined kind. kind ≡ as_kind spined };
 
-    #[inline]
     fn from(spined: SpinedKind) -> Kind {
         match spined {
             SpinedKind::Local => Kind::Local,

@@ -6,7 +6,6 @@ ghost use lib.Seq.{paste};
 use std::simd::prelude::*;
 
 /// Puts one byte at a place.
-#[inline]
 fn put_one(text: &mut [u8], at: usize, token: &[u8])
     requires one { length token.now ≡ 1 }
     requires within { at + length token.now ≤ length text.old }
@@ -16,7 +15,6 @@ fn put_one(text: &mut [u8], at: usize, token: &[u8])
 }
 
 /// Puts `N` to twice as many bytes at a place, by the first `N` of them and the last.
-#[inline(always)]
 fn put_by<const N: usize>(text: &mut [u8], at: usize, token: &[u8])
     requires few { N ≤ length token.now }
     requires many { length token.now ≤ 2 * N }
@@ -31,7 +29,6 @@ fn put_by<const N: usize>(text: &mut [u8], at: usize, token: &[u8])
 }
 
 /// Puts any number of bytes at a place.
-#[inline(never)]
 fn put_any(text: &mut [u8], at: usize, token: &[u8])
     requires within { at + length token.now ≤ length text.old }
     ensures { text.new ≡ paste text.old at token.now (length token.now) }
@@ -40,7 +37,6 @@ fn put_any(text: &mut [u8], at: usize, token: &[u8])
 }
 
 /// Puts a token at a place of a text, and answers where it ends. Most tokens are short.
-#[inline]
 fn put_token(text: &mut [u8], at: usize, token: &[u8]) -> usize
     requires within { at + length token.now ≤ length text.old }
     ensures text { text.new ≡ paste text.old at token.now (length token.now) }
@@ -67,7 +63,6 @@ fn put_token(text: &mut [u8], at: usize, token: &[u8]) -> usize
 
 /// Puts a token behind the first `len` bytes of a text, a tab before it if tokens stand there, and LF
 /// behind it; and answers where it ends.
-#[inline]
 pub fn put_behind(text: &mut [u8], len: usize, count: usize, token: &[u8]) -> usize
     requires { len + length token.now + 1 < length text.old }
     ensures end { result ≡ len + (length (between count) + length token.now) }

@@ -71,7 +71,6 @@ impl Selection {
     }
 
     /// Whether no column is left.
-    #[inline]
     pub fn is_none(&self) -> bool
         ensures { result ≡ not (list_any (λ b. b) self.now) }
     {
@@ -79,7 +78,6 @@ impl Selection {
     }
 
     /// How many columns in front are left where they stand.
-    #[inline]
     pub(crate) fn front(&self) -> usize
         ensures { result ≡ front_of self.now }
     {
@@ -87,7 +85,6 @@ impl Selection {
     }
 
     /// Where the others stand that are left.
-    #[inline]
     pub(crate) fn moved(&self) -> &[usize]
         ensures { result.now ≡ moved_of self.now }
     {

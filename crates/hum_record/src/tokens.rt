@@ -17,7 +17,6 @@ use std::alloc::AllocError;
 const BLOCK: usize = 32;
 
 /// The kind that a token's first byte shows.
-#[inline]
 pub fn token_kind(token: &[u8]) -> SpinedKind
     ensures { result ≡ kind_of_token token.now }
 {
@@ -39,7 +38,6 @@ pub enum Cut {
 }
 
 /// Adds the place of each tab in a block of a text that begins at a place, by the bits of these.
-#[inline]
 fn push_tabs(block: &[u8], tabs: u64, start: u32, ends: &mut Vec<u32>) -> Result<(), AllocError>
     requires short { length block.now ≤ 32 }
     requires few { start + length block.now < 2 ^ 32 }
@@ -60,7 +58,6 @@ fn push_tabs(block: &[u8], tabs: u64, start: u32, ends: &mut Vec<u32>) -> Result
 
 /// Whether some token that begins in a block of a text may be none of plain data: none is where this
 /// answers no. The block is the head of a token, or not.
-#[inline]
 fn may_have_mark(block: &[u8], is_head: bool, tabs: u64, bangs: u64, stars: u64) -> bool
     requires short { length block.now ≤ 32 }
     requires tabs { tabs ≡ bits_of 9 block.now }
@@ -111,7 +108,6 @@ pub fn push_ends(ends: &mut Vec<u32>, text: &[u8]) -> Result<Cut, AllocError>
 }
 
 /// The one kind of a text's tokens, by where each ends, or the first rule that they break.
-#[inline]
 pub fn lawful_kind(text: &[u8], ends: &[u32]) -> Result<SpinedKind, RecordFault>
     requires { ends.now ≡ ends_from 0 (parts text.now) }
     ensures { result ≡ kind_of_tokens (parts text.now) }
@@ -158,7 +154,6 @@ fn has_comment(text: &[u8], ends: &[u32]) -> bool
 }
 
 /// Where the token `j` of a text begins, by where each token ends: past the tab behind the one before.
-#[inline]
 fn begin_at(ends: &[u32], j: usize) -> usize
     requires { j < length ends.now }
     ensures { result ≡ begins_at ends.now j }
@@ -170,7 +165,6 @@ fn begin_at(ends: &[u32], j: usize) -> usize
 }
 
 /// The token `j` of a text, by where each token ends.
-#[inline]
 pub fn token_at_end<'t>(text: &'t [u8], ends: &[u32], j: usize) -> &'t [u8]
     requires counted { j < length ends.now }
     requires order { begins_at ends.now j ≤ slice_index ends.now j }

@@ -5,9 +5,11 @@ use Rattle.std.specs.Prelude.{◌&&◌, ◌==◌, not, is_some, Result, Ok, Err,
 use Rattle.std.specs.List.{list_any, list_all, find, AllByRecursion}
 use Rattle.std.proofs.lemmas.Bool.{and_parts, or_parts}
 use Rattle.std.proofs.lemmas.Bool.Decides.{nat_tests}
-use Rattle.std.proofs.lemmas.List.{length-map}
+use Rattle.std.proofs.lemmas.List.{length-map, length-replicate}
+use lib.Chars.{codes}
 use Rattle.hum_record.specs.declared.SpinedKind.TheVariants.{Local, Interpretation, Values}
 use Rattle.hum_record.specs.Row.{Row, Comment, Spined}
+use Rattle.hum_record.specs.Nulls.{null_row}
 use Rattle.hum_record.specs.Spelling.{is_empty}
 use Rattle.hum_path.specs.declared.signs.Sign.{Sign}
 use Rattle.hum_path.specs.declared.signs.Sign.TheVariants.{Split, Join, Exchange, Add, End, Exclusive, Plain}
@@ -32,7 +34,7 @@ use Rattle.hum_timebase.specs.Notes.{timed_in, is_barline_record, notes_of, has_
 use Rattle.hum_timebase.specs.Ends.{latest, next_end, living_before}
 use Rattle.hum_timebase.specs.Clock.{Clock, clock_after, time_after}
 use Rattle.hum_choices.specs.Timebase.{Pace}
-use Rattle.hum_timebase.specs.Timebase.{timebase, data_rows, timed_rows, on_grid, around, null_row}
+use Rattle.hum_timebase.specs.Timebase.{timebase, data_rows, timed_rows, on_grid, around}
 use Rattle.hum_timebase.specs.Timebase.{clashes, is_too_long, living_at, names_some, tb_token, tb_row}
 use Rattle.hum_timebase.specs.Timebase.{interpretation_rows}
 use Rattle.hum_timebase.proofs.Writing.{some_named}
@@ -62,16 +64,16 @@ alike-append : (n : ℕ) (xs ys : List Row) → AllByRecursion (IsAlike n) xs �
 alike-append n [] ys p q = q
 alike-append n (x ∷ xs) ys p q = (p.0, alike-append n xs ys p.1 q)
 
-nulls_alike : (tokens : List (List ℕ)) (count : ℕ) → AllByRecursion (IsAlike (length tokens)) (replicate count (null_row tokens))
+nulls_alike : (tokens : List (List ℕ)) (count : ℕ) → AllByRecursion (IsAlike (length tokens)) (replicate count (null_row (length tokens)))
 nulls_alike tokens zero = tt
-nulls_alike tokens (suc count) = (record { tokens = _; is = refl; size = length-map tokens _ }, nulls_alike tokens count)
+nulls_alike tokens (suc count) = (record { tokens = _; is = refl; size = length-replicate (length tokens) (codes ".") }, nulls_alike tokens count)
 
 around_alike : (before after : ℕ) (stays : Bool) (tokens : List (List ℕ)) → AllByRecursion (IsAlike (length tokens)) (around before stays after tokens)
 around_alike before after true tokens =
-    alike-append (length tokens) (replicate before (null_row tokens)) _ (nulls_alike tokens before)
+    alike-append (length tokens) (replicate before (null_row (length tokens))) _ (nulls_alike tokens before)
     (record { tokens = tokens; is = refl; size = refl }, nulls_alike tokens after)
 around_alike before after false tokens =
-    alike-append (length tokens) (replicate before (null_row tokens)) _ (nulls_alike tokens before) (nulls_alike tokens after)
+    alike-append (length tokens) (replicate before (null_row (length tokens))) _ (nulls_alike tokens before) (nulls_alike tokens after)
 
 timed_alike : (step : Ratio) (end time : Option Ratio) (notes before ends : List (Option Ratio)) (tokens : List (List ℕ)) (rows : List Row)
     → timed_rows step end time notes before ends tokens ≡ Ok rows → AllByRecursion (IsAlike (length tokens)) rows

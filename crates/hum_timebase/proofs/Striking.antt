@@ -8,6 +8,7 @@ use Rattle.std.proofs.lemmas.List.{length-replicate}
 use Rattle.hum_record.specs.declared.Kind.TheVariants.{Global, Local as AnyLocal, Values as AnyValues, Interpretation as AnyInterpretation}
 use Rattle.hum_record.specs.declared.SpinedKind.TheVariants.{Local, Interpretation, Values}
 use Rattle.hum_record.specs.Row.{Row, Comment, Spined, kind_of, tokens_of}
+use Rattle.hum_record.specs.Nulls.{null_row}
 use Rattle.hum_path.specs.declared.moved.Move.{Move}
 use Rattle.hum_path.specs.Spines.{Path, after, moves}
 use Rattle.hum_path.specs.Score.{path_after}
@@ -20,7 +21,7 @@ use Rattle.hum_timebase.specs.Notes.{timed_in, timed_at, notes_of, has_misread, 
 use Rattle.hum_timebase.specs.Ends.{latest, next_end, living_before}
 use Rattle.hum_timebase.specs.Clock.{Clock, clock_after, time_after}
 use Rattle.hum_choices.specs.Timebase.{Pace}
-use Rattle.hum_timebase.specs.Timebase.{data_rows, timed_rows, on_grid, around, null_row, clashes}
+use Rattle.hum_timebase.specs.Timebase.{data_rows, timed_rows, on_grid, around, clashes}
 use Rattle.hum_timebase.specs.Timebase.{is_too_long, count_before, count_after, living_at, names_some, tb_row}
 use Rattle.hum_timebase.specs.Kept.{Kept, kept_of, rested, led, struck, ends_before, ends_at, ends_after, strike, strike_in, rows_of, sounding_rows}
 use Rattle.hum_timebase.specs.Following.{Follows, Answers, IsAbout}
@@ -61,17 +62,17 @@ place_rows before after stays (Spined Values tokens) null k is = placed before a
 pub around_length : (before after : ℕ) (stays : Bool) (tokens : List (List ℕ)) →
     length (around before stays after tokens) ≡ before + (if stays then 1 else 0) + after
 around_length before after true tokens = rw (
-  length-append (replicate before (null_row tokens))
-      (Spined Values tokens ∷ replicate after (null_row tokens)),
-  length-replicate before (null_row tokens),
-  length-replicate after (null_row tokens),
+  length-append (replicate before (null_row (length tokens)))
+      (Spined Values tokens ∷ replicate after (null_row (length tokens))),
+  length-replicate before (null_row (length tokens)),
+  length-replicate after (null_row (length tokens)),
 ) (omega arith)
 around_length before after false tokens = rw (
-  length-append (replicate before (null_row tokens))
-      (replicate after (null_row tokens)),
-  length-replicate before (null_row tokens),
+  length-append (replicate before (null_row (length tokens)))
+      (replicate after (null_row (length tokens))),
+  length-replicate before (null_row (length tokens)),
   length-replicate after
-      (null_row tokens),
+      (null_row (length tokens)),
 ) (omega arith)
 
 -- ---- a timed record

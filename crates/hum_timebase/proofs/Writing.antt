@@ -15,6 +15,7 @@ use Rattle.hum_record.specs.declared.SpinedKind.TheVariants.{Local, Interpretati
 use Rattle.hum_record.specs.Row.{Row, Comment, Spined, kind_of, tokens_of, text_of}
 use Rattle.hum_record.specs.Spelling.{IsToken, IsTextOf, has_byte}
 use Rattle.hum_record.specs.Building.{spelled}
+use Rattle.hum_record.specs.Nulls.{nulls, null_row}
 use Rattle.hum_record.proofs.Drafts.{spelled_front}
 use Rattle.hum_frac.specs.Ratio.{Ratio, reduced}
 use Rattle.hum_kern.specs.declared.Length.{Length}
@@ -25,7 +26,7 @@ use Rattle.hum_kern.specs.Parts.{AreParts, quotient_text, IsSecond}
 use Rattle.hum_kern.proofs.Parts.{are_parts}
 use Rattle.hum_kern.proofs.Laws.{recip_greater}
 use Rattle.hum_kern.proofs.Short.{recip_short}
-use Rattle.hum_timebase.specs.Timebase.{null_row, names_some, tb_token}
+use Rattle.hum_timebase.specs.Timebase.{names_some, tb_token}
 use Rattle.hum_path.specs.Sign.{sign_of, is_exclusive}
 use Rattle.hum_path.specs.Spines.{Path, Unopened, Spines}
 use Rattle.hum_path.specs.Rules.{fault_of}
@@ -177,7 +178,7 @@ some_named (token ∷ tokens) h = λ e. cc
 
 -- a null record is no longer than the one at its place
 dots_short : (kind : SpinedKind) (token : List ℕ) (tokens : List (List ℕ)) → AllByRecursion (IsToken kind) (token ∷ tokens)
-    → length (spelled (map (λ _. codes ".") (token ∷ tokens))) ≤ length (spelled (token ∷ tokens))
+    → length (spelled (nulls Values (length (token ∷ tokens)))) ≤ length (spelled (token ∷ tokens))
 dots_short kind [] tokens h = absurd (h.0.filled refl)
 dots_short kind (b ∷ bytes) [] h = omega arith
 dots_short kind (b ∷ bytes) (next ∷ tokens) h =
@@ -185,7 +186,7 @@ dots_short kind (b ∷ bytes) (next ∷ tokens) h =
     let sum = length-append (b ∷ bytes) (9 ∷ spelled (next ∷ tokens)) in
     omega (arith, ih, sum)
 
-pub null_fits : (row : Row) → IsTextOf row (text_of row) → kind_of row ≡ AnyValues → length (text_of (null_row (tokens_of row))) ≤ 1048576
+pub null_fits : (row : Row) → IsTextOf row (text_of row) → kind_of row ≡ AnyValues → length (text_of (null_row (length (tokens_of row)))) ≤ 1048576
 null_fits (Comment text) h k = absurd (no k)
   where
     no : Global ≡ AnyValues → ⊥

@@ -2,9 +2,8 @@
 use Rattle.std.specs.Prelude.{◌≡◌, ℕ, ◌+◌, ◌<◌, ◌^◌, true, List, [], ◌++◌, length, replicate}
 use Rattle.std.specs.Prelude.{Option, None, Some, is_some}
 use Rattle.std.specs.Option.{option_to_list}
-use lib.Chars.{codes}
-use Rattle.hum_record.specs.declared.SpinedKind.TheVariants.{Values}
-use Rattle.hum_record.specs.Row.{Row, Comment, Spined}
+use Rattle.hum_record.specs.Row.{Row, Comment}
+use Rattle.hum_record.specs.Nulls.{null_row}
 
 -- a record, or any where there is none
 abbrev pub row_in : Option Row → Row
@@ -24,7 +23,7 @@ pub record IsDue (before : ℕ) (single : Option Row) (after : ℕ) (other : Opt
 
 -- where it is told how wide the other is, it is the null record as wide
 abbrev pub AreNulls : ℕ → Option Row → Type 0
-AreNulls width other = 0 < width → other ≡ Some (Spined Values (replicate width (codes ".")))
+AreNulls width other = 0 < width → other ≡ Some (null_row width)
 
 pub record AreDue (before : ℕ) (single : Option Row) (after : ℕ) (other : Option Row) (width : ℕ)
     : Type 0 where

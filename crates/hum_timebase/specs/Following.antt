@@ -1,6 +1,7 @@
 -- What the state stands for.
-use Rattle.std.specs.Prelude.{◌≡◌, ℕ, Bool, List, Option, None, Some, Result, Ok, Err}
+use Rattle.std.specs.Prelude.{◌≡◌, ℕ, Bool, List, length, Option, None, Some, Result, Ok, Err}
 use Rattle.hum_record.specs.Row.{Row}
+use Rattle.hum_record.specs.Nulls.{null_row}
 use Rattle.hum_path.specs.Spines.{Path}
 use Rattle.hum_path.specs.Score.{path_after}
 use Rattle.hum_stage.specs.declared.faults.Rule.{Rule}
@@ -8,7 +9,7 @@ use Rattle.hum_stage.specs.Decided.{Decision, in_room}
 use Rattle.hum_timebase.specs.Notes.{timed_in}
 use Rattle.hum_timebase.specs.Clock.{clock_after}
 use Rattle.hum_choices.specs.Timebase.{Pace}
-use Rattle.hum_timebase.specs.Timebase.{timebase, null_row}
+use Rattle.hum_timebase.specs.Timebase.{timebase}
 use Rattle.hum_timebase.specs.Kept.{Kept, kept_of}
 
 -- It decides as the command does, has followed the spines, and keeps the ends of what lives there.
@@ -27,4 +28,4 @@ Answers decided room rows (Some rule) = in_room room decided ≡ Err rule
 -- the null record that stands about one with some tokens, if there are copies of it
 abbrev pub IsAbout : ℕ → List (List ℕ) → Option Row → Type 0
 IsAbout count tokens None = count ≡ 0
-IsAbout count tokens (Some row) = row ≡ null_row tokens
+IsAbout count tokens (Some row) = row ≡ null_row (length tokens)

@@ -1,5 +1,5 @@
 -- What timebase makes of each record.
-use Rattle.std.specs.Prelude.{ℕ, ◌+◌, Bool, false, ◌&&◌, not, List, [], ◌∷◌, ◌++◌, map}
+use Rattle.std.specs.Prelude.{ℕ, ◌+◌, Bool, false, ◌&&◌, not, List, [], ◌∷◌, ◌++◌, length, map}
 use Rattle.std.specs.Prelude.{replicate, Option, None, Some, is_some, Result, Ok, Err}
 use Rattle.std.specs.Prelude.{if◌then◌else◌}
 use Rattle.std.specs.List.{list_any, list_all}
@@ -18,6 +18,7 @@ use Rattle.hum_stage.specs.Decided.{Decision, at_once}
 use Rattle.hum_choices.specs.Timebase.{Pace}
 use Rattle.hum_timebase.specs.Pairs.{paired}
 use Rattle.hum_record.specs.Contents.{is_null}
+use Rattle.hum_record.specs.Nulls.{null_row}
 use Rattle.hum_timebase.specs.Notes.{timed_in, is_barline_record, notes_of, has_misread}
 use Rattle.hum_timebase.specs.Ends.{Note, latest, next_end, living_before, living_after}
 use Rattle.hum_timebase.specs.Clock.{Clock, clock_after, time_after}
@@ -34,10 +35,6 @@ clashes time notes ends = list_any (λ clash. clash) (paired (clash time) notes 
 abbrev pub is_too_long : Ratio → Option Ratio → Bool
 is_too_long time None = false
 is_too_long time (Some lasting) = not (fits (plus time lasting))
-
--- the null data record as wide as another
-abbrev pub null_row : List (List ℕ) → Row
-null_row tokens = Spined Values (map (λ _. codes ".") tokens)
 
 -- how many multiples of step there are from a, it included, to b, that not included
 abbrev pub multiples_from : Ratio → Ratio → Ratio → ℕ
@@ -57,8 +54,8 @@ count_after step time (Some end) = multiples_between time end step
 -- what stands on the grid: null records before a record, itself if it does, null records after it
 abbrev pub around : ℕ → Bool → ℕ → List (List ℕ) → List Row
 around before stays after tokens =
-    replicate before (null_row tokens)
-    ++ ((if stays then Spined Values tokens ∷ [] else []) ++ replicate after (null_row tokens))
+    replicate before (null_row (length tokens))
+    ++ ((if stays then Spined Values tokens ∷ [] else []) ++ replicate after (null_row (length tokens)))
 
 -- What a timed record becomes, by its time, the least ends after the last one and after this one.
 abbrev pub on_grid : Ratio → Option Ratio → Ratio → Option Ratio → List (List ℕ) → List Row

@@ -1,14 +1,13 @@
 //! Records that are due round one.
 ghost use Rattle.std.specs.Prelude.{◌≡◌, ◌+◌, ◌<◌, ◌^◌, ◌∷◌, [], true, is_some, IfOk};
 ghost use Rattle.std.specs.Prelude.{None, Some, OnOk, if◌then◌else◌};
-ghost use Rattle.hum_record.specs.Row.{kind_of, tokens_of, text_of};
-ghost use Rattle.hum_record.specs.Spelling.{IsTextOf};
+ghost use Rattle.hum_record.specs.Row.{kind_of, tokens_of, text_of, width_of};
+ghost use Rattle.hum_record.specs.{Nulls.null_row, Spelling.IsTextOf};
 ghost use Rattle.hum_record.specs.declared.Kind.TheVariants.{Values as AnyValues};
 ghost use Rattle.hum_timebase.specs.Dues.{row_in, due_rows, AreNulls};
-ghost use Rattle.hum_timebase.specs.Timebase.{around, null_row};
+ghost use Rattle.hum_timebase.specs.Timebase.{around};
 
-use crate::records::null_record;
-use hum_record::{Record, Spare};
+use hum_record::{Record, Spare, null_record};
 use hum_stage::DueRecords;
 use std::alloc::{AllocError, Global};
 use std::marker::Model;
@@ -64,7 +63,7 @@ fn make_null(
     requires kind { kind_of row.now ≡ AnyValues }
     requires nulls { AreNulls nulls.old other.old }
     ensures made { OnOk result
-        (wanted ≡ true → other.new ≡ Some (null_row (tokens_of row.now))) }
+        (wanted ≡ true → other.new ≡ Some (null_row (width_of row.now))) }
     ensures nulls { AreNulls nulls.new other.new }
 {
     if !wanted {
@@ -73,7 +72,7 @@ fn make_null(
     if *nulls == row.width() {
         return Ok(());
     }
-    let made = null_record(alloc, row)?;
+    let made = null_record(alloc, row.width())?;
     *other = Some(made);
     *nulls = row.width();
     Ok(())

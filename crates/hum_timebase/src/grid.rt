@@ -57,7 +57,6 @@ fn content_by(misread: Option<KernFault>, notes: &[NoteAt], row: &Record) -> Con
 ///
 /// # Errors
 /// L2 where there is no room for it; or out of memory.
-#[inline(always)]
 fn place(made: Strike, row: Record, room: u64, out: &mut Around) -> Result<(), Refusal>
     requires lawful { IsTextOf row (text_of row) }
     requires kind { kind_of row ≡ AnyValues }

@@ -123,7 +123,6 @@ fn cut(text: &[u8]) -> (&[u8], &[u8])
 }
 
 /// The value of a duration that was read.
-#[inline(always)]
 fn value_in(read: Result<Length, KernFault>) -> Result<Option<Frac>, KernFault>
     ensures { Reads (value_in read) (is_refused read) result }
 {
@@ -137,7 +136,6 @@ fn value_in(read: Result<Length, KernFault>) -> Result<Option<Frac>, KernFault>
 ///
 /// # Errors
 /// K3 where one of them is refused.
-#[inline(always)]
 fn first_duration(token: &[u8]) -> Result<Option<Frac>, KernFault>
     ensures { Reads (first_duration (subtokens token.now)) (some_refused (subtokens token.now))
         result }

@@ -1,40 +1,16 @@
 //! The records that are made.
-ghost use Rattle.std.specs.Prelude.{◌≡◌, ◌≢◌, ◌≤◌, ◌++◌, ◌∷◌, [], length, true, IfOk, OnOk};
+ghost use Rattle.std.specs.Prelude.{◌≡◌, ◌≤◌, length, true, IfOk};
 ghost use Rattle.std.specs.Prelude.{if◌then◌else◌};
 ghost use lib.Chars.{codes};
-ghost use Rattle.hum_record.specs.declared.SpinedKind.TheVariants.{Interpretation, Values};
-ghost use Rattle.hum_record.specs.{Row.tokens_of, Row.text_of, Spelling.IsToken, Building.spelled};
+ghost use Rattle.hum_record.specs.declared.SpinedKind.TheVariants.{Interpretation};
+ghost use Rattle.hum_record.specs.{Row.tokens_of, Spelling.IsToken};
 ghost use Rattle.hum_path.specs.Sign.{sign_of, is_exclusive};
-ghost use Rattle.hum_timebase.specs.Timebase.{null_row, names_some, tb_token, tb_row};
+ghost use Rattle.hum_timebase.specs.Timebase.{names_some, tb_token, tb_row};
 
 use crate::pace::Pace;
 use hum_path::{MOST_SPINES, token_sign};
-use hum_record::{MOST_BYTES, Record, RecordBuilder, SpinedKind};
+use hum_record::{Record, RecordBuilder, SpinedKind};
 use std::alloc::{AllocError, Global};
-
-/// Adds a null data token, which fits.
-fn push_null(builder: &mut RecordBuilder) -> Result<(), AllocError>
-    requires kind { builder.old.kind ≡ Values }
-    requires fits { length (spelled (builder.old.tokens ++ codes "." ∷ [])) ≤ MOST_BYTES }
-    ensures { OnOk result (builder.new ≡ record builder.old {
-      tokens = builder.old.tokens ++ codes "." ∷ [];
-    }) }
-{
-    builder.push_fitting(b".")
-}
-
-/// The null data record as wide as another, which is no longer than that.
-pub(crate) fn null_record(alloc: Global, row: &Record) -> Result<Record, AllocError>
-    requires tokens { tokens_of row.now ≢ [] }
-    requires fits { length (text_of (null_row (tokens_of row.now))) ≤ MOST_BYTES }
-    ensures { IfOk result (λ made. made ≡ null_row (tokens_of row.now)) }
-{
-    let mut builder = RecordBuilder::new(alloc, SpinedKind::Values);
-    for j in 0..row.width() {
-        push_null(&mut builder)?;
-    }
-    Ok(builder.finish())
-}
 
 /// The token that follows another.
 fn tb_token<'a>(named: &'a [u8], token: &[u8]) -> &'a [u8]

@@ -15,7 +15,8 @@ use Rattle.hum_assemble.specs.declared.places.Next.TheVariants.{Gives, Refused, 
 use Rattle.hum_assemble.specs.Source.{Source}
 use Rattle.hum_assemble.specs.Change.{Input}
 use Rattle.hum_assemble.specs.Head.{AreLawful, AllLawful}
-use Rattle.hum_assemble.specs.Places.{kind_at, null_of, null_at, is_over}
+use Rattle.hum_assemble.specs.Places.{kind_at, null_at, is_over}
+use Rattle.hum_record.specs.Nulls.{null_of}
 use Rattle.hum_assemble.specs.Round.{any_due, takes, still_free}
 use Rattle.hum_assemble.specs.Taking.{is_at, IsGiving}
 use Rattle.hum_assemble.specs.Merge.{Merge, ahead, given_row, given_on, made, row_of_kind, part_given, tokens_given}

@@ -1,10 +1,11 @@
 -- timebase writes lawful records.
-use Rattle.std.proofs.Common.{◌≡◌, ◌≢◌, refl, ℕ, zero, suc, Bool, true, false, cond, not, List, [], ◌∷◌, ◌++◌, map, replicate, arith}
+use Rattle.std.proofs.Common.{◌≡◌, ◌≢◌, refl, ℕ, zero, suc, Bool, true, false, cond, not, List, [], ◌∷◌, ◌++◌, length, replicate, arith}
 use Rattle.std.specs.Prelude.{Option, None, Some, is_some, Result, Ok, Err}
 use Rattle.std.specs.List.{AllByRecursion, list_any, list_all}
 use lib.Chars.{codes}
 use Rattle.hum_record.specs.declared.SpinedKind.TheVariants.{Local, Interpretation, Values}
 use Rattle.hum_record.specs.Row.{Row, Comment, Spined}
+use Rattle.hum_record.specs.Nulls.{nulls, null_row}
 use Rattle.hum_record.specs.Spelling.{IsToken}
 use Rattle.hum_record.specs.Contents.{is_null}
 use Rattle.hum_path.specs.Sign.{sign_of, is_exclusive}
@@ -17,7 +18,7 @@ use Rattle.hum_timebase.specs.Notes.{timed_in, is_barline_record, notes_of, has_
 use Rattle.hum_timebase.specs.Ends.{Note, latest, next_end, living_before}
 use Rattle.hum_timebase.specs.Clock.{Clock, clock_after, time_after}
 use Rattle.hum_choices.specs.Timebase.{Pace}
-use Rattle.hum_timebase.specs.Timebase.{clashes, is_too_long, null_row, around, on_grid, count_before, count_after, timed_rows, living_at}
+use Rattle.hum_timebase.specs.Timebase.{clashes, is_too_long, around, on_grid, count_before, count_after, timed_rows, living_at}
 use Rattle.hum_timebase.specs.Timebase.{data_rows, names_some, tb_token, tb_row, timebase}
 use Rattle.hum_timebase.specs.Writing.{IsPace}
 use Rattle.hum_timebase.proofs.Writing.{null_fits, tb_short, few_tokens}
@@ -26,17 +27,17 @@ use Rattle.hum_valid.proofs.Lists.{both, made_of, made_so, dot, star}
 use Rattle.hum_valid.proofs.Filling.{same_record}
 use Rattle.hum_valid.proofs.Stages.{DecidesRecords}
 
-dots : (tokens : List (List ℕ)) → AllByRecursion (IsToken Values) (map (λ _. codes ".") tokens)
-dots [] = tt
-dots (t ∷ ts) = (dot, dots ts)
+dots : (width : ℕ) → AllByRecursion (IsToken Values) (nulls Values width)
+dots zero = tt
+dots (suc width) = (dot, dots width)
 
-some_dots : (tokens : List (List ℕ)) → tokens ≢ [] → map (λ _. codes ".") tokens ≢ []
+some_dots : (tokens : List (List ℕ)) → tokens ≢ [] → nulls Values (length tokens) ≢ []
 some_dots [] some e = some refl
 some_dots (t ∷ ts) some e = cc
 
-null_record : (tokens : List (List ℕ)) → IsRecord (Spined Values tokens) → IsRecord (null_row tokens)
+null_record : (tokens : List (List ℕ)) → IsRecord (Spined Values tokens) → IsRecord (null_row (length tokens))
 null_record tokens is =
-    made_of Values (map (λ _. codes ".") tokens) (some_dots tokens is.1) (dots tokens) (null_fits (Spined Values tokens) is refl)
+    made_of Values (nulls Values (length tokens)) (some_dots tokens is.1) (dots (length tokens)) (null_fits (Spined Values tokens) is refl)
 
 copies : (n : ℕ) (row : Row) → IsRecord row → AreRecords (replicate n row)
 copies zero row is = tt
@@ -45,10 +46,10 @@ copies (suc n) row is = (is, copies n row is)
 around_records : (before : ℕ) (stays : Bool) (after : ℕ) (tokens : List (List ℕ)) → IsRecord (Spined Values tokens)
     → AreRecords (around before stays after tokens)
 around_records before stays after tokens is =
-    both (replicate before (null_row tokens)) (cond stays (Spined Values tokens ∷ []) [] ++ replicate after (null_row tokens))
-    (copies before (null_row tokens) (null_record tokens is))
-    (both (cond stays (Spined Values tokens ∷ []) []) (replicate after (null_row tokens)) (itself stays)
-    (copies after (null_row tokens) (null_record tokens is)))
+    both (replicate before (null_row (length tokens))) (cond stays (Spined Values tokens ∷ []) [] ++ replicate after (null_row (length tokens)))
+    (copies before (null_row (length tokens)) (null_record tokens is))
+    (both (cond stays (Spined Values tokens ∷ []) []) (replicate after (null_row (length tokens))) (itself stays)
+    (copies after (null_row (length tokens)) (null_record tokens is)))
   where
     itself : (b : Bool) → AreRecords (cond b (Spined Values tokens ∷ []) [])
     itself true = (is, tt)

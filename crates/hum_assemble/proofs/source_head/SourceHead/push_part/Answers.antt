@@ -2,6 +2,7 @@ use Rattle.std.proofs.Common.{◌≡◌, ◌∙◌, sym, ap, refl, [], replicate
 use Rattle.hum_assemble.specs.Source.{Source}
 use Rattle.hum_assemble.specs.Head.{coming}
 use Rattle.hum_record.specs.Row.{tokens_of}
+use Rattle.hum_record.specs.Nulls.{nulls as nulls_of_kind}
 use Rattle.hum_path.specs.Spines.{width}
 use Rattle.hum_assemble.specs.Places.{null_at}
 use Rattle.hum_assemble.specs.Merge.{nulls, part_given}
@@ -29,20 +30,18 @@ returns-in-Some c =
     rw (c.if-not-taken.false, coming) refl in
     rw part c.push_tokens.ensures
 
-pub push_nulls-requires-clause-fits : goal.push_nulls-requires-clause-fits
-push_nulls-requires-clause-fits c =
-    let null = c.null_at.ensures ∙ ap null_at c.kind.ensures in
-    let part : part_given c.args.taken c.args.p c.args.self.now ≡ replicate c.width.result c.null_at.result.now =
+pub push_nulls-requires : goal.push_nulls-requires
+push_nulls-requires c =
+    let part : part_given c.args.taken c.args.p c.args.self.now ≡ nulls_of_kind c.args.builder.now.kind c.width.result =
     rw c.if-not-taken.true (ap (λ (s : Source). nulls c.args.p s) (sym c.self.view_is)
-    ∙ sym (ap (λ n. replicate n c.null_at.result.now) c.width.ensures.width
-    ∙ ap (λ t. replicate (width c.self.inside.paths.path) t) null)) in
-    rw part at c.requires.fits
+    ∙ sym (ap (λ n. nulls_of_kind c.args.builder.now.kind n) c.width.ensures.width
+    ∙ ap (λ t. replicate (width c.self.inside.paths.path) (null_at t)) (sym c.requires.kind))) in
+    record { fits = rw part at c.requires.fits }
 
 pub returns-then-not-taken : goal.returns-then-not-taken
 returns-then-not-taken c =
-    let null = c.null_at.ensures ∙ ap null_at c.kind.ensures in
-    let part : part_given c.args.taken c.args.p c.args.self.now ≡ replicate c.width.result c.null_at.result.now =
+    let part : part_given c.args.taken c.args.p c.args.self.now ≡ nulls_of_kind c.args.builder.now.kind c.width.result =
     rw c.if-not-taken.true (ap (λ (s : Source). nulls c.args.p s) (sym c.self.view_is)
-    ∙ sym (ap (λ n. replicate n c.null_at.result.now) c.width.ensures.width
-    ∙ ap (λ t. replicate (width c.self.inside.paths.path) t) null)) in
+    ∙ sym (ap (λ n. nulls_of_kind c.args.builder.now.kind n) c.width.ensures.width
+    ∙ ap (λ t. replicate (width c.self.inside.paths.path) (null_at t)) (sym c.requires.kind))) in
     rw part c.push_nulls.ensures
