@@ -102,7 +102,7 @@ impl<R: Source + Drop, W: Sink> Net<R, W> {
         ensures tells { IfOk result (λ net. (bytes : ℕ → List ℕ)
             → AreTold R.remaining bytes 0 (stages_of stages.items) readers.items
             → Tells R.remaining net.web.nodes.items bytes) }
-        ensures sound { IfOk result (λ net. AreSoundFrom 0 (stages_of stages.items)) }
+        ensures valid { IfOk result (λ net. AreSoundFrom 0 (stages_of stages.items)) }
         ensures sink { IfOk result (λ net. net.sink ≡ writer) }
         ensures failure { IfOk result (λ net. net.failure ≡ None) }
         ensures err { IfErr result (λ back. back ≡ writer) }

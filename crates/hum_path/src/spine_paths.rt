@@ -107,7 +107,7 @@ impl Paths {
     /// Whether a record is data with a token for each spine, of which none waits for its exclusive
     /// interpretation: then it breaks no rule, and each spine goes on.
     pub fn keeps_spines(&self, row: &Record) -> bool
-        ensures sound { result ≡ true → fault_of self.now.path row.now ≡ None }
+        ensures valid { result ≡ true → fault_of self.now.path row.now ≡ None }
         ensures same { result ≡ true → after self.now.path row.now ≡ self.now.path }
     {
         match row.kind() {

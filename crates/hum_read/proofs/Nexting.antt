@@ -129,7 +129,7 @@ meets-stop stage given text.S3 = (_, refl)
 meets-stop stage given text.S7 = (_, refl)
 
 pub tidy-taken : {R : Type 0} (old new : Reader R) (stopped : Option (Result EndOf ReadError)) → IsTidy old stopped → GivesLine old new → IsTidy new stopped
-tidy-taken old new stopped tidy line = record { limits = line.limits ∙ tidy.limits; going = λ _. line.sound }
+tidy-taken old new stopped tidy line = record { limits = line.limits ∙ tidy.limits; going = λ _. line.no_fault }
 
 pub few-taken : {R : Type 0} (old new : Reader R) (stopped : Option (Result EndOf ReadError)) → IsTidy old stopped → GivesLine old new → new.given ≤ 4294967295
 few-taken old new stopped tidy line = subst (λ l. new.given ≤ l.records) tidy.limits line.within.2
@@ -151,7 +151,7 @@ module _ {R : Type 0} (remaining : R → Option (List ℕ)) (calls : R → ℕ) 
     within : IfOk result (λ step. KeepsLimits old.limits step new.line new.given);
     end : result ≡ Ok End → IsOver new;
     over : IsOver old → (result ≡ Ok End) × (new ≡ old);
-    sound : OnOk result (new.fault ≡ None);
+    no_fault : OnOk result (new.fault ≡ None);
     err : IfErr result (Fails old new);
     again : IfSome old.fault (λ f. (result ≡ Err f) × (new ≡ old));
     nears : IfOk result (λ step. Nears step (left_to_do old) (left_to_do new));
@@ -261,7 +261,7 @@ module _ {R : Type 0} (remaining : R → Option (List ℕ)) (calls : R → ℕ) 
   -- a reader of scores stays tidy where its lines met no fault
   pub tidy-on : (old new : Reader R) (stopped : Option (Result EndOf ReadError)) (step : Step) → IsTidy old stopped
       → Polls old (Ok step) new → IsTidy new stopped
-  tidy-on old new stopped step tidy polls = record { limits = polls.limits ∙ tidy.limits; going = λ _. polls.sound }
+  tidy-on old new stopped step tidy polls = record { limits = polls.limits ∙ tidy.limits; going = λ _. polls.no_fault }
 
   -- one that has stopped by a fault is tidy too
   pub tidy-stopped : (old new : Reader R) (before stopped : Option (Result EndOf ReadError)) (f : TextFault)

@@ -50,7 +50,7 @@ fn stop(stopped: &mut Option<Result<End, ReadError>>, stage: u8, given: u64, fau
 /// Takes the spines past a record.
 #[inline]
 fn pass(paths: &mut Paths, row: &Record) -> Result<(), PathFault>
-    ensures sound { OnOk result (fault_of paths.old.path row.now ≡ None) }
+    ensures valid { OnOk result (fault_of paths.old.path row.now ≡ None) }
     ensures after { OnOk result (paths.new.path ≡ after paths.old.path row.now) }
     ensures refused { IfErr result (λ fault. Refuses fault (fault_of paths.old.path row.now)) }
 {
@@ -63,7 +63,7 @@ fn pass(paths: &mut Paths, row: &Record) -> Result<(), PathFault>
 /// The same of any record.
 #[inline(never)]
 fn step_past(paths: &mut Paths, row: &Record) -> Result<(), PathFault>
-    ensures sound { OnOk result (fault_of paths.old.path row.now ≡ None) }
+    ensures valid { OnOk result (fault_of paths.old.path row.now ≡ None) }
     ensures after { OnOk result (paths.new.path ≡ after paths.old.path row.now) }
     ensures refused { IfErr result (λ fault. Refuses fault (fault_of paths.old.path row.now)) }
 {

@@ -116,7 +116,7 @@ impl RecordBuilder {
             → self.new ≡ record self.old { tokens = self.old.tokens ++ token.now ∷ [] } }
         ensures fits { result ≡ true
             → length (spelled (self.old.tokens ++ token.now ∷ [])) ≤ 1048576 }
-        ensures sound { result ≡ true → self.old.spent ≡ false }
+        ensures unspent { result ≡ true → self.old.spent ≡ false }
         ensures kept { result ≡ false → self.new ≡ self.old }
     {
         if add_near(&mut self.body, token) {
@@ -177,7 +177,7 @@ impl RecordBuilder {
     /// The record of the tokens that were added.
     pub fn finish(self) -> Record
         requires filled { self.tokens ≢ [] }
-        requires sound { self.spent ≡ false }
+        requires unspent { self.spent ≡ false }
         ensures { result ≡ Spined self.kind self.tokens }
     {
         let RecordBuilder {

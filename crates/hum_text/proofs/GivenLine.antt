@@ -11,7 +11,7 @@ pub given-line : {R : Type 0} (v w : Reader R) (k : ℕ) → v.fault ≡ None �
     → IsLawful v.limits (v.given + 1) v.taken (take (k + 1) v.pending)
     → v.given < v.limits.records → v.taken + (k + 1) ≤ v.limits.bytes
     → w ≡ given_of v (without_cr (take k v.pending)) (k + 1) → GivesLine v w
-given-line {R} v w k sound first lawful records bytes is =
+given-line {R} v w k no_fault first lawful records bytes is =
     let high : k < length v.pending = first.0.high in
     let left = length-drop (k + 1) v.pending in
     let Given : Reader R → Type 0 = λ r. GivesLine v r in
@@ -25,7 +25,7 @@ given-line {R} v w k sound first lawful records bytes is =
       needless = λ needs. needs.unended k high (eqb-true _ 10 first.1);
       going = λ over. let none = ap length over.handed_out in absurd (omega (arith, high, none));
       unread = (refl, refl, drop-all (drop (k + 1) v.pending) (length v.pending) (length-drop_le (k + 1) v.pending));
-      sound = sound;
+      no_fault = no_fault;
       nears = omega (arith, left, high, bytes);
       limits = refl;
       taken = bytes;

@@ -45,7 +45,7 @@ module _ {R : Type 0} (remaining : R → Option (List ℕ)) (calls : R → ℕ) 
     within : IfOk result (λ step. KeepsLimits old.limits step new.line new.given);
     end : result ≡ Ok End → IsOver new;
     over : IsOver old → (result ≡ Ok End) × (new ≡ old);
-    sound : OnOk result (new.fault ≡ None);
+    no_fault : OnOk result (new.fault ≡ None);
     err : IfErr result (Fails old new);
     again : IfSome old.fault (λ f. (result ≡ Err f) × (new ≡ old));
     nears : IfOk result (λ step. Nears step (left_to_do old) (left_to_do new));
@@ -55,12 +55,12 @@ module _ {R : Type 0} (remaining : R → Option (List ℕ)) (calls : R → ℕ) 
 
   -- without a fault nothing is said of one that is given again
   no-fault-again : (v w : Reader R) (r : Result Step TextFault) → v.fault ≡ None → IfSome v.fault (λ f. (r ≡ Err f) × (w ≡ v))
-  no-fault-again v w r sound = subst (λ o. IfSome o (λ f. (r ≡ Err f) × (w ≡ v))) (sym sound) tt
+  no-fault-again v w r no_fault = subst (λ o. IfSome o (λ f. (r ≡ Err f) × (w ≡ v))) (sym no_fault) tt
 
   -- it was made of what was pending
   pub unread-polls : (v w : Reader R) (r : Result Step TextFault) → v.fault ≡ None → ¬ NeedsRead v
       → (IsOver v → (r ≡ Ok End) × (w ≡ v)) → GoesUnread v r w → Polls v r w
-  unread-polls v w r sound needless over unread =
+  unread-polls v w r no_fault needless over unread =
       let none = unread.unread.2 in
       let goes = unread.goes in
       let By : List ℕ → Type 0 = λ bs. Consumes (remaining v.source) (remaining w.source) bs in
@@ -79,9 +79,9 @@ module _ {R : Type 0} (remaining : R → Option (List ℕ)) (calls : R → ℕ) 
         within = goes.within;
         end = goes.end;
         over = over;
-        sound = goes.sound;
+        no_fault = goes.no_fault;
         err = goes.err;
-        again = no-fault-again v w r sound;
+        again = no-fault-again v w r no_fault;
         nears = goes.nears;
         limits = goes.limits;
         taken = goes.taken;
@@ -89,13 +89,13 @@ module _ {R : Type 0} (remaining : R → Option (List ℕ)) (calls : R → ℕ) 
 
   -- the next line was handed out
   pub line-polls : (v w : Reader R) → v.fault ≡ None → GivesLine v w → Polls v (Ok Line) w
-  line-polls v w sound line =
-      unread-polls v w (Ok Line) sound line.needless (λ over. absurd (line.going over)) (line-unread v w line)
+  line-polls v w no_fault line =
+      unread-polls v w (Ok Line) no_fault line.needless (λ over. absurd (line.going over)) (line-unread v w line)
 
   -- it was made where no LF was pending
   pub reading-polls : (v w : Reader R) (r : Result Step TextFault) → v.fault ≡ None → v.ended ≡ false
       → GoesReading remaining calls failed v r w → Polls v r w
-  reading-polls v w r sound going reading =
+  reading-polls v w r no_fault going reading =
       let goes = reading.goes in
       record {
         gives = λ _. goes.gives;
@@ -111,9 +111,9 @@ module _ {R : Type 0} (remaining : R → Option (List ℕ)) (calls : R → ℕ) 
         within = goes.within;
         end = goes.end;
         over = λ is. let both : true ≡ false = sym is.ended ∙ going in absurd cc;
-        sound = goes.sound;
+        no_fault = goes.no_fault;
         err = goes.err;
-        again = no-fault-again v w r sound;
+        again = no-fault-again v w r no_fault;
         nears = goes.nears;
         limits = goes.limits;
         taken = goes.taken;
@@ -126,9 +126,9 @@ module _ {R : Type 0} (remaining : R → Option (List ℕ)) (calls : R → ℕ) 
       let By : List ℕ → Type 0 = λ bs. Consumes (remaining v.source) (remaining v.source) bs in
       let same : v ≡ record v { fault = Some f } = ap (λ o. record v { fault = o }) met in
       record {
-        gives = λ sound. unsound sound;
+        gives = λ no_fault. unsound no_fault;
         reads_not = λ _. (refl, refl, none);
-        reads_once = λ needs. unsound needs.sound;
+        reads_once = λ needs. unsound needs.no_fault;
         more = λ is. cc;
         unfed = λ _. none;
         asked = omega (arith, ap length none);
@@ -138,8 +138,8 @@ module _ {R : Type 0} (remaining : R → Option (List ℕ)) (calls : R → ℕ) 
         memory = λ is. inl (met ∙ fault-of is);
         within = tt;
         end = λ is. cc;
-        over = λ is. unsound is.sound;
-        sound = tt;
+        over = λ is. unsound is.no_fault;
+        no_fault = tt;
         err = same;
         again = subst (λ o. IfSome o (λ g. (failing f ≡ Err g) × (v ≡ v))) (sym met) (refl, refl);
         nears = tt;
@@ -148,7 +148,7 @@ module _ {R : Type 0} (remaining : R → Option (List ℕ)) (calls : R → ℕ) 
       }
     where
       unsound : {A : Type 0} → v.fault ≡ None → A
-      unsound sound = let both : Some f ≡ None = sym met ∙ sound in absurd cc
+      unsound no_fault = let both : Some f ≡ None = sym met ∙ no_fault in absurd cc
 
       failing : TextFault → Result Step TextFault
       failing g = Err g

@@ -94,7 +94,7 @@ module _ {R : Type 0} (remaining : R → Option (List ℕ)) (calls : R → ℕ) 
             done = end;
           };
           end = λ same. cc;
-          sound = needs.sound;
+          no_fault = needs.no_fault;
           err = tt;
           nears = omega (arith, length-append u.pending bs, size, some, fits);
           limits = refl;
@@ -142,7 +142,7 @@ module _ {R : Type 0} (remaining : R → Option (List ℕ)) (calls : R → ℕ) 
           gives = λ all gs rest h end. goes.gives all gs rest
               (record { stands = h.stands; done = λ _. ap (λ (zs : List ℕ). zs ++ rest) none ∙ end done }) end;
           end = goes.end;
-          sound = goes.sound;
+          no_fault = goes.no_fault;
           err = goes.err;
           nears = goes.nears;
           limits = goes.limits;

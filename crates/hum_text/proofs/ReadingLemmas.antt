@@ -186,10 +186,10 @@ no-fault v size f needs is found =
 pub needs-read : {R : Type 0} (v : Reader R) (size : ℕ) → v.fault ≡ None → v.ended ≡ false
     → IsFirstByte (is_byte 10) v.pending None
     → size ≡ length v.pending → IsLawful v.limits (v.given + 1) v.taken (take size v.pending) → NeedsRead v
-needs-read v size sound going unended is none =
+needs-read v size no_fault going unended is none =
     let L : List ℕ → Type 0 = λ zs. IsLawful v.limits (v.given + 1) v.taken zs in
     record {
-      sound = sound;
+      no_fault = no_fault;
       going = going;
       unended = none-free v.pending unended;
       lawful = subst L (take-all v.pending size is) none;

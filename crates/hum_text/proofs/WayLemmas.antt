@@ -47,7 +47,7 @@ module _ {R : Type 0} (v w : Reader R) (result : Result Step TextFault) where
         within = tt;
         gives = gives-fault v w (Err fault) fault refl tells;
         end = λ same. cc;
-        sound = tt;
+        no_fault = tt;
         err = state;
         nears = tt;
         limits = ap (λ u. u.limits) state;
@@ -100,7 +100,7 @@ line-unread v w line = record {
     within = line.within;
     gives = line.gives;
     end = λ same. cc;
-    sound = line.sound;
+    no_fault = line.no_fault;
     err = tt;
     nears = line.nears;
     limits = line.limits;
@@ -115,7 +115,7 @@ line-unread v w line = record {
 -- nothing is left, and no fault was met
 pub end-unread : {R : Type 0} (v : Reader R) → v.fault ≡ None → v.ended ≡ true → length v.pending ≡ 0
     → v.taken ≤ v.limits.bytes → GoesUnread v (Ok End) v
-end-unread {R} v sound ended empty bytes =
+end-unread {R} v no_fault ended empty bytes =
     let none = nothing-read v in
     record {
       goes = record {
@@ -124,8 +124,8 @@ end-unread {R} v sound ended empty bytes =
             let here : Holds v all gs rest = subst (λ zs. Holds v all gs (zs ++ rest)) none h in
             let done = none-left v all gs rest here ended empty in
             (done.0, done.1, here);
-        end = λ same. record { ended = ended; handed_out = nil-of v.pending empty; sound = sound };
-        sound = sound;
+        end = λ same. record { ended = ended; handed_out = nil-of v.pending empty; no_fault = no_fault };
+        no_fault = no_fault;
         err = tt;
         nears = tt;
         limits = refl;
@@ -144,7 +144,7 @@ pub last-unread : {R : Type 0} (v w : Reader R) (line : List ℕ) (size : ℕ) �
     → IsLawful v.limits (v.given + 1) v.taken (take size v.pending)
     → v.given < v.limits.records → v.taken + size ≤ v.limits.bytes
     → w ≡ given_of v (without_cr (take size v.pending)) size → GoesUnread v (Ok Line) w
-last-unread {R} v w line size sound ended unended is some cut long lawful records bytes state =
+last-unread {R} v w line size no_fault ended unended is some cut long lawful records bytes state =
     let Given : Reader R → Type 0 = λ r. GivesLine v r in
     let all : take size v.pending ≡ v.pending = ap (λ n. take n v.pending) is ∙ take-length v.pending in
     let left = length-drop size v.pending in
@@ -159,7 +159,7 @@ last-unread {R} v w line size sound ended unended is some cut long lawful record
       needless = λ needs. let both : true ≡ false = sym ended ∙ needs.going in cc;
       going = λ over. let none = ap length over.handed_out in absurd (omega (arith, is, some, none));
       unread = (refl, refl, drop-all (drop size v.pending) (length v.pending) (length-drop_le size v.pending));
-      sound = sound;
+      no_fault = no_fault;
       nears = omega (arith, left, is, some, bytes);
       limits = refl;
       taken = bytes;

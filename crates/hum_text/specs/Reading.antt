@@ -93,7 +93,7 @@ GivesNext old result new =
 -- A poll needs a read: there is no fault yet, no read gave 0 bytes, and no pending byte is LF or
 -- breaks a rule.
 pub record NeedsRead {R : Type 0} (v : Reader R) : Type 0 where
-  pub sound : v.fault ≡ None
+  pub no_fault : v.fault ≡ None
   pub going : v.ended ≡ false
   pub unended : (k : ℕ) → k < length v.pending → slice_index v.pending k ≢ lf
   pub lawful : IsLawful v.limits (v.given + 1) v.taken v.pending
@@ -141,7 +141,7 @@ Fails old new fault =
 pub record IsOver {R : Type 0} (v : Reader R) : Type 0 where
   pub ended : v.ended ≡ true
   pub handed_out : v.pending ≡ []
-  pub sound : v.fault ≡ None
+  pub no_fault : v.fault ≡ None
 
 -- A line that was given is within the limits, it and those before it, and it holds no LF.
 abbrev pub KeepsLimits : Limits → Step → List ℕ → ℕ → Type 0
@@ -168,7 +168,7 @@ pub record GivesLine {R : Type 0} (old new : Reader R) : Type 0 where
   pub needless : ¬ NeedsRead old
   pub going : ¬ IsOver old
   pub unread : IsUnread old new
-  pub sound : new.fault ≡ None
+  pub no_fault : new.fault ≡ None
   pub nears : Nears Line (left_to_do old) (left_to_do new)
   pub limits : new.limits ≡ old.limits
   pub taken : new.taken ≤ new.limits.bytes
@@ -181,7 +181,7 @@ pub record Goes {R : Type 0} (old : Reader R) (result : Result Step TextFault) (
   pub within : IfOk result (λ step. KeepsLimits old.limits step new.line new.given)
   pub gives : GivesNext old result new
   pub end : result ≡ Ok End → IsOver new
-  pub sound : OnOk result (new.fault ≡ None)
+  pub no_fault : OnOk result (new.fault ≡ None)
   pub err : IfErr result (Fails old new)
   pub nears : IfOk result (λ step. Nears step (left_to_do old) (left_to_do new))
   pub limits : new.limits ≡ old.limits

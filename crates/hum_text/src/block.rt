@@ -56,7 +56,6 @@ impl Block {
     }
 
     /// The line that was handed out last.
-    #[inline]
     pub fn line(&self) -> &[u8]
         ensures { result.now ≡ self.now.line }
     {

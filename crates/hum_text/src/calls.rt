@@ -106,7 +106,6 @@ impl<T> Marked<T> {
     }
 
     // Counts a call, and marks whether it failed, and whether it was a flush that didn't.
-    #[inline(never)]
     fn note(&mut self, failed: bool, flushed: bool)
         ensures { self.new ≡ record self.old {
           calls = counted self.old.calls;

@@ -105,7 +105,6 @@ impl<R: Source> LineReader<R> {
 
     /// The line that the last poll gave, without its line end; where it gave none, what this shows is
     /// of no use.
-    #[inline]
     pub fn line(&self) -> &[u8]
         ensures { result.now ≡ self.now.line }
     {
@@ -142,7 +141,6 @@ impl<R: Source> LineReader<R> {
     }
 
     // From here on each poll gives this fault.
-    #[inline(never)]
     fn fail(&mut self, fault: TextFault) -> Result<Step, TextFault>
         ensures result { result ≡ Err fault }
         ensures state { self.new ≡ record self.old { fault = Some fault } }
@@ -191,7 +189,7 @@ impl<R: Source> LineReader<R> {
     /// Gives the first `len` bytes as a line, and drops them and its line end: LF, or CR and LF.
     #[inline]
     pub fn take_line(&mut self, len: usize)
-        requires sound { self.old.fault ≡ None }
+        requires no_fault { self.old.fault ≡ None }
         requires first { (k : ℕ) × IsFirstByte (is_byte lf) self.old.pending (Some k)
             × (len ≡ length (without_cr (take k self.old.pending)))
             × (self.old.taken + (k + 1) ≤ self.old.limits.bytes) }
@@ -209,7 +207,7 @@ impl<R: Source> LineReader<R> {
     // its end, and drops it and that LF.
     #[inline]
     fn give_line(&mut self, k: usize, len: usize)
-        requires sound { self.old.fault ≡ None }
+        requires no_fault { self.old.fault ≡ None }
         requires first { IsFirstByte (is_byte lf) self.old.pending (Some k) }
         requires len { len ≡ length (without_cr (take k self.old.pending)) }
         requires filled { 0 < len }
@@ -244,7 +242,7 @@ impl<R: Source> LineReader<R> {
     // Hands out the line whose LF is at `k`, if it breaks no rule, and tells whether it did.
     #[inline]
     fn sound_line(&mut self, k: usize) -> bool
-        requires sound { self.old.fault ≡ None }
+        requires no_fault { self.old.fault ≡ None }
         requires first { IsFirstByte (is_byte lf) self.old.pending (Some k) }
         ensures line { result ≡ true → GivesLine self.old self.new }
         ensures same { result ≡ false → self.new ≡ self.old }
@@ -260,9 +258,8 @@ impl<R: Source> LineReader<R> {
     }
 
     // The line whose LF is at `k`, or the first fault in it.
-    #[inline(never)]
     fn check_line(&mut self, k: usize) -> Result<Step, TextFault>
-        requires sound { self.old.fault ≡ None }
+        requires no_fault { self.old.fault ≡ None }
         requires first { IsFirstByte (is_byte lf) self.old.pending (Some k) }
         ensures goes { GoesUnread self.old result self.new }
         ensures not_end { result ≢ Ok Step.End }
@@ -278,9 +275,8 @@ impl<R: Source> LineReader<R> {
     }
 
     // The last line, which no LF ends, or the first fault in it; or the end.
-    #[inline(never)]
     fn last_line(&mut self) -> Result<Step, TextFault>
-        requires sound { self.old.fault ≡ None }
+        requires no_fault { self.old.fault ≡ None }
         requires unended { IsFirstByte (is_byte lf) self.old.pending None }
         requires ended { self.old.ended ≡ true }
         ensures goes { GoesUnread self.old result self.new }
@@ -310,9 +306,8 @@ impl<R: Source> LineReader<R> {
     }
 
     // What a poll gives where no LF was read: a fault of the line so far, or what a read gives.
-    #[inline(never)]
     fn read_on(&mut self) -> Result<Step, TextFault>
-        requires sound { self.old.fault ≡ None }
+        requires no_fault { self.old.fault ≡ None }
         requires unended { IsFirstByte (is_byte lf) self.old.pending None }
         requires going { self.old.ended ≡ false }
         ensures { GoesReading R.remaining R.calls R.failed self.old result self.new }
@@ -337,7 +332,7 @@ impl<R: Source> LineReader<R> {
     // did. Where it didn't, nothing has changed.
     #[inline]
     fn next_line(&mut self) -> bool
-        requires sound { self.old.fault ≡ None }
+        requires no_fault { self.old.fault ≡ None }
         ensures line { result ≡ true → GivesLine self.old self.new }
         ensures same { result ≡ false → self.new ≡ self.old }
     {
@@ -348,9 +343,8 @@ impl<R: Source> LineReader<R> {
     }
 
     // The same where no LF is near.
-    #[inline(never)]
     fn far_line(&mut self) -> bool
-        requires sound { self.old.fault ≡ None }
+        requires no_fault { self.old.fault ≡ None }
         ensures line { result ≡ true → GivesLine self.old self.new }
         ensures same { result ≡ false → self.new ≡ self.old }
     {
@@ -392,7 +386,7 @@ impl<R: Source> LineReader<R> {
         // The end and a fault last.
         ensures end { result ≡ Ok Step.End → IsOver self.new }
         ensures over { IsOver self.old → (result ≡ Ok Step.End) × (self.new ≡ self.old) }
-        ensures sound { OnOk result (self.new.fault ≡ None) }
+        ensures no_fault { OnOk result (self.new.fault ≡ None) }
         ensures err { IfErr result (Fails self.old self.new) }
         ensures again { IfSome self.old.fault (λ f. (result ≡ Err f) × (self.new ≡ self.old)) }
 

@@ -137,7 +137,6 @@ pub fn first_fault(limits: &Limits, given: u64, taken: u64, held: &[u8]) -> Opti
 }
 
 // The same, byte by byte.
-#[inline(never)]
 fn find_fault(limits: &Limits, given: u64, taken: u64, held: &[u8]) -> Option<TextFault>
     requires one_line { (k : ℕ) → k + 1 < length held.now → slice_index held.now k ≢ lf }
     ensures found { IfSome result (BreaksFirst limits.now (given + 1) taken held.now) }

@@ -12,8 +12,8 @@ returns-in-Ok-clause-wrote g c bytes told =
     (c.in-Ok.ensures.tells bytes told) (c.in-Ok.ensures.opens bytes) in
     rw c.into_writer.ensures.sink
     (has_written bytes ran.left stages c.args.link _ _ _ _
-    (lawful_tree bytes stages c.requires.tree c.in-Ok.ensures.sound)
-    (means_valid bytes stages c.requires.tree c.in-Ok.ensures.sound (rw (← c.deref.ensures.value) c.all_keep_records.ensures)) ran.runs.outcome)
+    (lawful_tree bytes stages c.requires.tree c.in-Ok.ensures.valid)
+    (means_valid bytes stages c.requires.tree c.in-Ok.ensures.valid (rw (← c.deref.ensures.value) c.all_keep_records.ensures)) ran.runs.outcome)
 
 pub returns-in-Ok-clause-picked : goal.returns-in-Ok-clause-picked
 returns-in-Ok-clause-picked g c bytes told =

@@ -26,6 +26,6 @@ pub returns-clause-tells : goal.returns-clause-tells
 returns-clause-tells g c bytes told = rw c.in_ok-engine.ensures.nodes
     (all_tell g.R.Source.remaining bytes c.args.stages.items c.in-Ok.nodes.items (c.in-Ok.ensures.told bytes told))
 
-pub returns-clause-sound : goal.returns-clause-sound
-returns-clause-sound g c =
+pub returns-clause-valid : goal.returns-clause-valid
+returns-clause-valid g c =
     sound_from (StandsAs command.ghosts.stands) 0 c.args.stages.items c.in-Ok.nodes.items c.in-Ok.ensures.fits

@@ -17,7 +17,7 @@ take_line-requires g c =
     let t = taking lines.limits lines.given lines.taken lines.pending ahead.held ahead.behind row
     ahead.next ahead.line ahead.records ahead.bytes ahead.read in
     rw c.text.ensures.text (record {
-      sound = c.self.invariant.going going;
+      no_fault = c.self.invariant.going going;
       first = (t.line.lf, t.line.first, t.size, t.bytes);
       filled = t.filled;
       short = t.short;

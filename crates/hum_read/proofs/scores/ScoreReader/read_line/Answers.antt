@@ -27,7 +27,7 @@ returns-in-Ok-pass g c =
     let few = subst (λ v. v.lines.given ≤ 4294967295) (sym c.self.view_is) c.requires.few in
     subst (λ v. LineReads v (Ok (Gave c.in-Ok.record)) w) c.self.view_is
     (given-reads _ c.pass.new.paths c.in-Ok.record going (rw c.from_line-len.ensures.line at c.in-Ok.ensures.exact)
-    c.in-Ok-pass.ensures.sound c.in-Ok-pass.ensures.after few)
+    c.in-Ok-pass.ensures.valid c.in-Ok-pass.ensures.after few)
 
 pub returns-in-Err-pass : goal.returns-in-Err-pass
 returns-in-Err-pass g c =

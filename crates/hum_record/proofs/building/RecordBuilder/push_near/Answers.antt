@@ -50,6 +50,6 @@ returns-then-add_near-clause-fits c _ =
     subst (λ (d : Draft). length (spelled (d.tokens ++ c.args.token.now ∷ [])) ≤ 1048576)
     c.self.view_is (omega (arith, size, under))
 
-pub returns-then-add_near-clause-sound : goal.returns-then-add_near-clause-sound
-returns-then-add_near-clause-sound c _ =
+pub returns-then-add_near-clause-unspent : goal.returns-then-add_near-clause-unspent
+returns-then-add_near-clause-unspent c _ =
     ap (λ (d : Draft). d.spent) (sym c.self.view_is) ∙ not_spent _ _ c.self.invariant.1 (c.if-add_near.ensures.some refl)

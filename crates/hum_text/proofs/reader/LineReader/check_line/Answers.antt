@@ -23,4 +23,4 @@ returns-in-None-clause-goes g c =
     let records : v.given < v.limits.records = c.in-None.ensures.records (omega (arith, size)) in
     let bytes : v.taken + (c.args.k + 1) ≤ v.limits.bytes = omega (arith, size, c.in-None.ensures.bytes (omega (arith, size))) in
     let state = rw size at c.hand_out.ensures in
-    line-unread v _ (given-line v _ c.args.k c.requires.sound first lawful records bytes state)
+    line-unread v _ (given-line v _ c.args.k c.requires.no_fault first lawful records bytes state)

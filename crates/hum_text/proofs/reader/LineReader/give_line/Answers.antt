@@ -17,8 +17,8 @@ returns-clause-gives g c =
     let some : 0 < length (without_cr (take k v.pending)) = omega (arith, c.requires.len, c.requires.filled) in
     let short : length (without_cr (take k v.pending)) ≤ v.limits.line = omega (arith, c.requires.len, c.requires.short) in
     let free : NoLf (take k v.pending) = λ j less is. first-free v.pending k first j (omega (arith, less, size)) (sym (get_or-take k v.pending j 0 (omega (arith, less, size))) ∙ is) in
-    let sound : IsLawful v.limits (v.given + 1) v.taken (take k v.pending ++ 10 ∷ []) =
+    let no_fault : IsLawful v.limits (v.given + 1) v.taken (take k v.pending ++ 10 ∷ []) =
     line-lawful v.limits (v.given + 1) v.taken (take k v.pending) free some short
     (omega (arith, c.requires.records)) (omega (arith, size, c.requires.bytes)) in
-    let lawful = subst (λ zs. IsLawful v.limits (v.given + 1) v.taken zs) (to-line v.pending k first) sound in
-    given-line v _ k c.requires.sound first lawful c.requires.records c.requires.bytes c.hand_out_line.ensures
+    let lawful = subst (λ zs. IsLawful v.limits (v.given + 1) v.taken zs) (to-line v.pending k first) no_fault in
+    given-line v _ k c.requires.no_fault first lawful c.requires.records c.requires.bytes c.hand_out_line.ensures

@@ -9,7 +9,7 @@ returns-then-size-eq0-clause-goes g c =
     let v = c.args.self.now in
     let bytes : v.taken ≤ v.limits.bytes = subst (λ w. w.taken ≤ w.limits.bytes) c.self.view_is (omega (arith, c.self.invariant.bytes)) in
     let is = ap length (c.pending-size.ensures ∙ ap (λ w. w.pending) c.self.view_is) in
-    end-unread v c.requires.sound c.requires.ended (sym is ∙ c.if-size-eq0.true) bytes
+    end-unread v c.requires.no_fault c.requires.ended (sym is ∙ c.if-size-eq0.true) bytes
 
 pub returns-in-Some-clause-goes : goal.returns-in-Some-clause-goes
 returns-in-Some-clause-goes g c =
@@ -36,6 +36,6 @@ returns-in-None-2-clause-goes g c =
     let same = c.pending.ensures ∙ ap (λ w. w.pending) c.self.view_is in
     let is = ap length (c.pending-size.ensures ∙ ap (λ w. w.pending) c.self.view_is) in
     let some : 0 < length c.pending-size.result.now = omega (arith, c.if-size-eq0.false) in
-    last-unread v _ _ _ c.requires.sound c.requires.ended c.requires.unended is c.if-size-eq0.false
+    last-unread v _ _ _ c.requires.no_fault c.requires.ended c.requires.unended is c.if-size-eq0.false
     (c.strip_cr.ensures ∙ ap without_cr same) (sym c.is_empty-is_empty.ensures ∙ c.if-is_empty.false)
     c.in-None.ensures.none (c.in-None.ensures.records some) (c.in-None.ensures.bytes some) c.hand_out.ensures

@@ -21,7 +21,7 @@ pub returns-in-Err : goal.returns-in-Err
 returns-in-Err g c =
     let v = c.args.self.now in
     let is = ap length (c.pending.ensures ∙ ap (λ w. w.pending) c.self.view_is) in
-    let here = needs-read v _ c.requires.sound c.requires.going c.requires.unended is c.in-None.ensures.none in
+    let here = needs-read v _ c.requires.no_fault c.requires.going c.requires.unended is c.in-None.ensures.none in
     let needs = subst (λ w. NeedsRead w) (sym c.self.view_is) here in
     same-reading _ _ _ _ _ _ _ c.self.view_is
     (fault-reading _ _ _ _ _ _ c.in-Err.fault _ _ _ c.in-Err.ensures.err.0 needs (omega (arith, c.self.invariant.bytes))
@@ -31,7 +31,7 @@ pub returns-in-Ok-eq0 : goal.returns-in-Ok-eq0
 returns-in-Ok-eq0 g c =
     let v = c.args.self.now in
     let is = ap length (c.pending.ensures ∙ ap (λ w. w.pending) c.self.view_is) in
-    let here = needs-read v _ c.requires.sound c.requires.going c.requires.unended is c.in-None.ensures.none in
+    let here = needs-read v _ c.requires.no_fault c.requires.going c.requires.unended is c.in-None.ensures.none in
     let needs = subst (λ w. NeedsRead w) (sym c.self.view_is) here in
     let read = c.in-Ok-eq0.ensures.ok in
     same-reading _ _ _ _ _ _ _ c.self.view_is
@@ -42,7 +42,7 @@ pub returns-in-Ok : goal.returns-in-Ok
 returns-in-Ok g c =
     let v = c.args.self.now in
     let is = ap length (c.pending.ensures ∙ ap (λ w. w.pending) c.self.view_is) in
-    let here = needs-read v _ c.requires.sound c.requires.going c.requires.unended is c.in-None.ensures.none in
+    let here = needs-read v _ c.requires.no_fault c.requires.going c.requires.unended is c.in-None.ensures.none in
     let needs = subst (λ w. NeedsRead w) (sym c.self.view_is) here in
     let read = c.in-Ok.ensures.ok in
     let low = rw is at c.in-None.ensures.bytes in

@@ -20,7 +20,7 @@ give_line-requires g c =
     let k : c.lf_behind-k.result ≡ first.0 =
     same-place pending first.0 c.args.len c.lf_behind-k.result first.1 first.2 (rw same at found.lf) (rw same at found.cr) in
     record {
-      sound = c.requires.sound;
+      no_fault = c.requires.no_fault;
       first = subst (λ n. IsFirstByte (is_byte 10) pending (Some n)) (sym k) first.1;
       len = first.2 ∙ ap (λ n. length (without_cr (take n pending))) (sym k);
       filled = c.requires.filled;
