@@ -6,7 +6,8 @@ use Rattle.hum_record.specs.declared.SpinedKind.{SpinedKind}
 use Rattle.hum_record.specs.Row.{Row, Comment, Spined, text_of, tokens_of}
 use Rattle.hum_path.specs.Spines.{Path, width, after}
 use Rattle.hum_stage.specs.declared.faults.Rule.{Rule}
-use Rattle.hum_stage.specs.declared.faults.Rule.TheVariants.{A1, L1, L2}
+use Rattle.hum_stage.specs.declared.faults.Rule.TheVariants.{A1}
+use Rattle.hum_stage.specs.Limits.{limit_broken}
 use Rattle.hum_stage.specs.declared.faults.End as end
 use Rattle.hum_assemble.specs.declared.places.Place.{Place}
 use Rattle.hum_assemble.specs.declared.places.Next as next
@@ -15,9 +16,7 @@ use Rattle.hum_assemble.specs.Source.{Source, is_inside}
 use Rattle.hum_assemble.specs.Places.{kind_at, null_at, is_over}
 use Rattle.hum_assemble.specs.Round.{any_due, is_lost, is_missing, earliest, takes, still_free}
 use Rattle.hum_assemble.specs.Round.{in_round}
-use Rattle.hum_stage.specs.declared.TheConstants.{MOST_RECORDS}
 use Rattle.hum_path.specs.declared.TheConstants.{MOST_SPINES}
-use Rattle.hum_record.specs.declared.TheConstants.{MOST_BYTES}
 
 abbrev pub tokens_of_first : List Row → List (List ℕ)
 tokens_of_first [] = []
@@ -90,10 +89,7 @@ pub record Merge : Type 0 where
 -- were given before.
 abbrev pub rule_broken : ℕ → ℕ → ℕ → Option Rule
 rule_broken spines bytes given =
-    if nat_lt MOST_SPINES spines then Some A1
-    else if nat_lt MOST_BYTES bytes then Some L1
-    else if nat_le MOST_RECORDS given then Some L2
-    else None
+    if nat_lt MOST_SPINES spines then Some A1 else limit_broken bytes given
 
 abbrev pub unless_broken : Place → Option Rule → next.Next
 unless_broken p None = Gives p

@@ -13,7 +13,8 @@ use Rattle.hum_path.specs.Score.{IsOpen, path_after}
 use Rattle.hum_path.proofs.Plain.{sound_width, plain_stays, not_exclusive}
 use Rattle.hum_path.proofs.Obeyed.{opens}
 use Rattle.hum_stage.specs.declared.faults.Rule.{Rule}
-use Rattle.hum_stage.specs.Decided.{Decision, MayStep, Steps, in_room}
+use Rattle.hum_stage.specs.Decided.{Decision, MayStep, Steps}
+use Rattle.hum_stage.specs.Limits.{in_room}
 use Rattle.hum_cells.specs.declared.rewritten.Rewritten.{Rewritten}
 use Rattle.hum_cells.specs.Rewriting.{Rewriting, is_kern, kern_columns}
 use Rattle.hum_cells.specs.Rewriter.{Frames, MayFollow, HasFollowed, MayTell, HasTold, decision}

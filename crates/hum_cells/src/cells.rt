@@ -14,7 +14,7 @@ use crate::rewritten::Rewritten;
 use crate::tokens::{any_told, tell_tokens};
 use hum_path::{Paths, steers};
 use hum_record::{Kind, Record, Spare};
-use hum_stage::{AtOnce, Command, Decides, Refusal, Rule, UpToTwo};
+use hum_stage::{AtOnce, Command, Decides, Refusal, UpToTwo, unless_long};
 use std::alloc::{AllocError, Global};
 
 /// A command on the tokens of kern columns, as a stage.
@@ -79,12 +79,10 @@ fn tell_heading<T: TokenRewriter>(
         return Ok(Rewritten::Same);
     }
     let heading = teller.heading();
-    match with_heading(alloc, heading, row, spare)? {
-        None => Err(Refusal::Rule(Rule::L1)),
-        Some(made) => match heading {
-            Heading::Renamed(_) => Ok(Rewritten::Other(made)),
-            Heading::Followed(_) => Ok(Rewritten::With(made)),
-        },
+    let made = unless_long(with_heading(alloc, heading, row, spare)?)?;
+    match heading {
+        Heading::Renamed(_) => Ok(Rewritten::Other(made)),
+        Heading::Followed(_) => Ok(Rewritten::With(made)),
     }
 }
 

@@ -12,7 +12,7 @@ ghost use Rattle.hum_record.specs.RecordDraft.{Holds};
 use crate::rewriter::TokenRewriter;
 use crate::rewritten::Rewritten;
 use hum_record::{Record, RecordDraft, Spare, SpinedKind, is_barline, is_null};
-use hum_stage::{Refusal, Rule};
+use hum_stage::{Refusal, unless_long};
 use std::alloc::Global;
 
 /// Whether a data token of a kern column is told anew: it is neither null nor a barline.
@@ -91,8 +91,6 @@ pub(crate) fn tell_tokens<T: TokenRewriter>(
     for j in 0..row.width() {
         push_told(teller, j, kern[j], row.token(j), &mut making)?;
     }
-    match making.finish() {
-        Some(made) => Ok(Rewritten::Other(made)),
-        None => Err(Refusal::Rule(Rule::L1)),
-    }
+    let made = unless_long(making.finish())?;
+    Ok(Rewritten::Other(made))
 }

@@ -4,7 +4,8 @@ use Rattle.hum_record.specs.declared.SpinedKind.TheVariants.{Local, Interpretati
 use Rattle.hum_record.specs.Row.{Row, Comment, Spined}
 use Rattle.hum_path.specs.Score.{IsOpen}
 use Rattle.hum_stage.specs.declared.faults.Rule.{Rule}
-use Rattle.hum_stage.specs.Decided.{Decision, in_room, Steps}
+use Rattle.hum_stage.specs.Decided.{Decision, Steps}
+use Rattle.hum_stage.specs.Limits.{in_room}
 use Rattle.hum_columns.specs.Following.{Answers, Memory, Follows, is_interpretation}
 use Rattle.hum_columns.proofs.Taking.{follows_still}
 use Rattle.hum_choices.specs.Cleave.{Options}

@@ -13,7 +13,7 @@ ghost use Rattle.hum_choices.specs.Cleave.{fits_in_token};
 use crate::tokens::{gather, leftmost_comment};
 use hum_path::Marks;
 use hum_record::{Kind, Record, RecordDraft, Spare, SpinedKind};
-use hum_stage::{Refusal, Rule};
+use hum_stage::{Refusal, unless_long};
 use std::alloc::{AllocError, Global};
 use std::collections::VecDeque;
 use std::marker::Model;
@@ -88,14 +88,9 @@ pub fn give(
         → IsMade kind tokens made
         → Answers (one_record kind tokens) room out.new.items refused) }
 {
-    match made {
-        None => Err(Refusal::Rule(Rule::L1)),
-        Some(made) => {
-            out.push_back(made)?;
-            buffers.spare.keep(row);
-            Ok(())
-        }
-    }
+    out.push_back(unless_long(made)?)?;
+    buffers.spare.keep(row);
+    Ok(())
 }
 
 /// Gives what a record becomes that isn't an interpretation.

@@ -17,7 +17,8 @@ use Rattle.hum_path.proofs.Widths.{text_width}
 use Rattle.hum_stage.specs.declared.faults.Rule.{Rule}
 use Rattle.hum_stage.specs.declared.faults.Refusal.{Refusal}
 use Rattle.hum_stage.specs.declared.faults.Refusal.TheVariants.{Rule as Broken, Memory as OutOfMemory}
-use Rattle.hum_stage.specs.Decided.{Decision, in_room, Steps}
+use Rattle.hum_stage.specs.Decided.{Decision, Steps}
+use Rattle.hum_stage.specs.Limits.{in_room}
 use Rattle.hum_stage.specs.Refusals.{IfTold}
 use Rattle.hum_columns.specs.Chosen.{flags}
 use Rattle.hum_columns.specs.Deciding.{ColumnCommand, at_path, by_columns}

@@ -8,7 +8,8 @@ use Rattle.hum_path.specs.declared.moved.Move.{Move}
 use Rattle.hum_path.specs.Spines.{Path, source, moves, after}
 use Rattle.hum_path.specs.Score.{path_after}
 use Rattle.hum_stage.specs.declared.faults.Rule.{Rule}
-use Rattle.hum_stage.specs.Decided.{Decision, in_room}
+use Rattle.hum_stage.specs.Decided.{Decision}
+use Rattle.hum_stage.specs.Limits.{in_room}
 use Rattle.hum_columns.specs.Chosen.{flags}
 use Rattle.hum_columns.specs.Deciding.{ColumnCommand, by_columns}
 

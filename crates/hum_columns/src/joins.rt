@@ -13,7 +13,7 @@ ghost use Rattle.hum_columns.specs.{Writing.Fit, Following.AnswersInRoom};
 use crate::pieces::JoinedToken;
 use crate::writing::{joins_in, touches, write_each};
 use hum_record::Record;
-use hum_stage::{Refusal, Rule};
+use hum_stage::{Refusal, check_room};
 use std::alloc::Global;
 use std::collections::VecDeque;
 
@@ -38,9 +38,7 @@ pub fn write_pieces(
         return Ok(());
     }
     let records = records_for(pieces);
-    if records as u64 > room {
-        return Err(Refusal::Rule(Rule::L2));
-    }
+    check_room(records as u128, room)?;
     write_each(alloc, pieces, records, out)?;
     Ok(())
 }

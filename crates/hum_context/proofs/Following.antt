@@ -17,7 +17,8 @@ use Rattle.hum_choices.specs.declared.context.ContextOptions.{ContextOptions}
 use Rattle.hum_context.specs.declared.queued.Queued.{Queued}
 use Rattle.hum_context.specs.declared.walk.Walk.{Walk}
 use Rattle.hum_context.specs.Options.{extent_of, choice_of}
-use Rattle.hum_context.specs.Context.{Choice, taken, context, all_some, data_of, if_fits, new_tokens}
+use Rattle.hum_context.specs.Context.{Choice, taken, context, all_some, data_of, new_tokens}
+use Rattle.hum_stage.specs.Limits.{if_fits}
 use Rattle.hum_stage.specs.Score.{through}
 use Rattle.hum_context.specs.Memory.{Follows, follows_each}
 use Rattle.hum_context.specs.Queue.{FirstIsData, Known, Knows}

@@ -12,7 +12,8 @@ use Rattle.hum_path.specs.Score.{IsClosed, path_after, passed}
 use Rattle.hum_stage.specs.declared.faults.Rule.{Rule}
 use Rattle.hum_stage.specs.declared.faults.Rule.TheVariants.{L1}
 use Rattle.hum_stage.specs.Look.{IsSteady}
-use Rattle.hum_context.specs.Context.{Choice, context, all_some, push_front, data_of, if_fits}
+use Rattle.hum_context.specs.Context.{Choice, context, all_some, push_front, data_of}
+use Rattle.hum_stage.specs.Limits.{if_fits}
 use Rattle.hum_context.specs.Context.{is_collectable, is_last, begins, taken, chain, token_or_null}
 use Rattle.hum_context.specs.Context.{new_token, new_tokens}
 use Rattle.hum_context.specs.Columns.{column_after, under}

@@ -20,7 +20,8 @@ use Rattle.hum_context.specs.declared.becoming.Becoming.TheVariants.{Stays, Null
 use Rattle.hum_context.specs.declared.heard.Heard.TheVariants.{Passed, Taken}
 use Rattle.hum_context.specs.declared.queued.Queued.{Queued}
 use Rattle.hum_context.specs.Context.{Choice, all_some, push_front, chain, new_token, new_tokens}
-use Rattle.hum_context.specs.Context.{if_fits, context, is_collectable, begins}
+use Rattle.hum_context.specs.Context.{context, is_collectable, begins}
+use Rattle.hum_stage.specs.Limits.{if_fits}
 use Rattle.hum_context.specs.Heard.{heard_of}
 use Rattle.hum_context.specs.Queue.{Known, Knows}
 use Rattle.hum_context.specs.Walking.{Becomes, Counts, bytes_of}

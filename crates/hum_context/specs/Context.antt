@@ -1,5 +1,5 @@
 -- What context makes of a score: data tokens with those that come next in their columns.
-use Rattle.std.specs.Prelude.{ℕ, ◌+◌, ◌==◌, Bool, true, false, not, ◌&&◌, ◌||◌, nat_le}
+use Rattle.std.specs.Prelude.{ℕ, ◌+◌, ◌==◌, Bool, true, false, not, ◌&&◌, ◌||◌}
 use Rattle.std.specs.Prelude.{List, [], ◌∷◌, take, filter, length, if◌then◌else◌}
 use Rattle.std.specs.Prelude.{Option, Some, None, Result, Ok, Err}
 use Rattle.std.specs.Option.{option_map}
@@ -7,16 +7,15 @@ use Rattle.std.specs.List.{list_any, join_with_byte}
 use lib.Chars.{codes}
 use Rattle.hum_record.specs.declared.SpinedKind.TheVariants.{Values}
 use Rattle.hum_record.specs.Contents.{is_null}
-use Rattle.hum_record.specs.Row.{Row, Comment, Spined, text_of}
+use Rattle.hum_record.specs.Row.{Row, Comment, Spined}
 use Rattle.hum_path.specs.declared.signs.Sign.{Sign}
 use Rattle.hum_path.specs.declared.signs.Sign.TheVariants.{End, Exclusive}
 use Rattle.hum_path.specs.Sign.{sign_of}
 use Rattle.hum_path.specs.Spines.{Path}
 use Rattle.hum_path.specs.Score.{path_after}
 use Rattle.hum_path.specs.Chains.{future}
+use Rattle.hum_stage.specs.Limits.{if_fits}
 use Rattle.hum_stage.specs.declared.faults.Rule.{Rule}
-use Rattle.hum_stage.specs.declared.faults.Rule.TheVariants.{L1}
-use Rattle.hum_record.specs.declared.TheConstants.{MOST_BYTES}
 
 -- How many tokens are collected: so many, or, from one that begins, those through the first that
 -- ends.
@@ -107,10 +106,6 @@ push_front (Some x) xs = option_map (λ ys. x ∷ ys) xs
 abbrev pub all_some : {X : Type 0} → List (Option X) → Option (List X)
 all_some [] = Some []
 all_some (x ∷ xs) = push_front x (all_some xs)
-
--- a record, unless it is too long
-abbrev pub if_fits : Row → Result (List Row) Rule
-if_fits row = if nat_le (length (text_of row)) MOST_BYTES then Ok (row ∷ []) else Err L1
 
 -- a data record once each of its tokens is decided
 abbrev pub data_of : Option (List (List ℕ)) → Option (Result (List Row) Rule)

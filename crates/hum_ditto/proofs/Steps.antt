@@ -13,10 +13,12 @@ use Rattle.hum_path.specs.Score.{path_after}
 use Rattle.hum_path.specs.Chains.{columns}
 use Rattle.hum_path.specs.Memories.{Remember}
 use Rattle.hum_stage.specs.declared.faults.Rule.TheVariants.{L1}
-use Rattle.hum_stage.specs.Decided.{Decision, in_room}
+use Rattle.hum_stage.specs.Decided.{Decision}
+use Rattle.hum_stage.specs.Limits.{in_room}
 use Rattle.hum_choices.specs.declared.ditto.DittoOptions.{DittoOptions}
 use Rattle.hum_record.specs.Contents.{is_null}
-use Rattle.hum_ditto.specs.Ditto.{all_filled, if_fits}
+use Rattle.hum_ditto.specs.Ditto.{all_filled}
+use Rattle.hum_stage.specs.Limits.{if_fits}
 use Rattle.hum_ditto.specs.Memory.{last_seen, Follows}
 use Rattle.hum_ditto.specs.Held.{Remembered, IsGivenFor}
 use Rattle.hum_ditto.proofs.Nearest.{all_remembered}

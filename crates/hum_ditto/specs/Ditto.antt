@@ -1,15 +1,15 @@
 -- Null data tokens, and the tokens that they repeat.
-use Rattle.std.specs.Prelude.{ℕ, Bool, not, ◌&&◌, nat_le, List, [], ◌∷◌, ◌++◌, map, length}
+use Rattle.std.specs.Prelude.{ℕ, Bool, not, ◌&&◌, List, [], ◌∷◌, ◌++◌, map, length}
 use Rattle.std.specs.Prelude.{Option, None, Some, Result, Ok, Err, if◌then◌else◌}
 use Rattle.std.specs.List.{find}
 use lib.Chars.{codes}
 use Rattle.hum_record.specs.declared.SpinedKind.TheVariants.{Values}
-use Rattle.hum_record.specs.Row.{Row, Comment, Spined, text_of}
+use Rattle.hum_record.specs.Row.{Row, Comment, Spined}
 use Rattle.hum_record.specs.Contents.{is_data, is_null}
 use Rattle.hum_path.specs.Chains.{reach, columns}
 use Rattle.hum_pattern.specs.Meaning.{matched_by}
+use Rattle.hum_stage.specs.Limits.{if_fits}
 use Rattle.hum_stage.specs.declared.faults.Rule.{Rule}
-use Rattle.hum_stage.specs.declared.faults.Rule.TheVariants.{L1}
 use Rattle.hum_stage.specs.declared.faults.Command.TheVariants.{Ditto}
 use Rattle.hum_stage.specs.Meaning.{Meaning}
 use Rattle.hum_stage.specs.Decided.{Decision, at_once}
@@ -47,10 +47,6 @@ all_filled parentheses _ tokens = tokens
 abbrev pub new_tokens : DittoOptions → List Row → List (List ℕ) → List (List ℕ)
 new_tokens options past tokens =
     all_filled options.parentheses (map (repeated options.skip) (columns past)) tokens
-
--- a record, unless it is too long
-abbrev pub if_fits : Row → Result (List Row) Rule
-if_fits row = if nat_le (length (text_of row)) 1048576 then Ok (row ∷ []) else Err L1
 
 -- What a record becomes, after the records above it, the newest first.
 abbrev pub ditto : DittoOptions → Decision

@@ -29,7 +29,8 @@ use Rattle.hum_choices.specs.Extract.{choice_of}
 use Rattle.hum_extract.specs.Extract.{meaning as meaning_of_extract}
 use Rattle.hum_extract.proofs.CutLeads.{has_lone, pieces_of}
 use Rattle.hum_choices.specs.declared.ditto.DittoOptions.{DittoOptions}
-use Rattle.hum_ditto.specs.Ditto.{repeated, filled as filled_by, all_filled, new_tokens, if_fits, ditto, meaning as meaning_of_ditto}
+use Rattle.hum_ditto.specs.Ditto.{repeated, filled as filled_by, all_filled, new_tokens, ditto, meaning as meaning_of_ditto}
+use Rattle.hum_stage.specs.Limits.{if_fits}
 use Rattle.hum_ditto.specs.Memory.{last_seen}
 use Rattle.hum_ditto.proofs.Nearest.{all_remembered}
 use Rattle.hum_laws.specs.declared.given.Given.{Given}

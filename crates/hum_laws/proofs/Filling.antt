@@ -23,7 +23,8 @@ use Rattle.hum_stage.specs.declared.faults.End.TheVariants.{Closed}
 use Rattle.hum_stage.specs.Score.{IsScore}
 use Rattle.hum_stage.specs.Meaning.{KeepsScore}
 use Rattle.hum_choices.specs.declared.ditto.DittoOptions.{DittoOptions}
-use Rattle.hum_ditto.specs.Ditto.{may_repeat, repeated, written, filled, all_filled, new_tokens, if_fits, ditto, meaning}
+use Rattle.hum_ditto.specs.Ditto.{may_repeat, repeated, written, filled, all_filled, new_tokens, ditto, meaning}
+use Rattle.hum_stage.specs.Limits.{if_fits}
 use Rattle.hum_laws.specs.declared.given.Given.{Given}
 use Rattle.hum_laws.specs.Piped.{IsAlone, IsPiped}
 use Rattle.hum_laws.proofs.Runs.{out, comes_to, fine_settled, alone_runs, piped_runs}

@@ -32,7 +32,8 @@ use Rattle.hum_cleave.specs.Columns.{opening_flags as cleaved_flags, together}
 use Rattle.hum_cells.specs.Rewriting.{Rewriting, Heading, Renamed, Followed, headed, with_heading, if_fit, is_long, is_kern, data_record}
 use Rattle.hum_cells.specs.Rewriting.{all_rewritten, kern_columns, rewrite}
 use Rattle.hum_choices.specs.declared.ditto.DittoOptions.{DittoOptions}
-use Rattle.hum_ditto.specs.Ditto.{new_tokens, if_fits, ditto}
+use Rattle.hum_ditto.specs.Ditto.{new_tokens, ditto}
+use Rattle.hum_stage.specs.Limits.{if_fits}
 use Rattle.hum_tones.specs.Commands.{trans, semits, mint, recip}
 use Rattle.hum_choices.specs.declared.commands.CommandOptions.{CommandOptions}
 use Rattle.hum_choices.specs.declared.commands.CommandOptions.TheVariants.{Rid, Extract, Ditto, Timebase, Context, Trans, Semits, Mint, Recip, Yank, Cleave}

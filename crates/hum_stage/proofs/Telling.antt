@@ -26,6 +26,17 @@ told_on (Ok x) e P R is p f = absurd is
 told_on (Err y) (Broken rule) P R is p f = rw is (f rule p)
 told_on (Err y) Memory P R is p f = rw is tt
 
+-- a rule that is told
+pub told_as : {A : Type 0} (r : Result A Refusal) (e : Refusal) (rule : Rule) (R : Option Rule → Type 0)
+    → IsErrAnd r (λ y. y ≡ e) → e ≡ Broken rule → R (Some rule) → IfTold r R
+told_as (Ok x) e rule R is same p = absurd is
+told_as (Err y) e rule R is same p = rw (is, same) p
+
+pub answered_as : {A : Type 0} (r : Result A Refusal) (e : Refusal) (rule : Rule) (R : Result A Rule → Type 0)
+    → IsErrAnd r (λ y. y ≡ e) → e ≡ Broken rule → R (Err rule) → IfAnswered r R
+answered_as (Ok x) e rule R is same p = absurd is
+answered_as (Err y) e rule R is same p = rw (is, same) p
+
 pub answered_on : {A : Type 0} (r : Result A Refusal) (e : Refusal) (P : Rule → Type 0)
     (R : Result A Rule → Type 0) → IsErrAnd r (λ y. y ≡ e) → IfRule e P
     → ((rule : Rule) → P rule → R (Err rule)) → IfAnswered r R

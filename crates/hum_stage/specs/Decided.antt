@@ -10,6 +10,7 @@ use Rattle.hum_stage.specs.Score.{through, Follow}
 use Rattle.hum_stage.specs.declared.faults.Command.{Command}
 use Rattle.hum_stage.specs.declared.faults.Rule.{Rule}
 use Rattle.hum_stage.specs.declared.faults.Rule.TheVariants.{L2}
+use Rattle.hum_stage.specs.Limits.{in_room}
 use Rattle.hum_stage.specs.Outcome.{Outcome, Becomes, Refused, Undecided}
 use Rattle.hum_stage.specs.Meaning.{Meaning}
 use Rattle.hum_stage.specs.declared.TheConstants.{MOST_RECORDS}
@@ -30,7 +31,7 @@ abbrev pub decisions : Decision → List Row → List Row → List Outcome
 decisions decide past [] = []
 decisions decide past (row ∷ rows) = outcome (decide past row) ∷ decisions decide (row ∷ past) rows
 
--- No stage gives more records than there is room for.
+-- No stage gives more records than there is room for, as `in_room` says of one decision.
 abbrev pub limit : ℕ → List Outcome → List Outcome
 limit room [] = []
 limit room (Becomes rows ∷ os) =
@@ -38,11 +39,6 @@ limit room (Becomes rows ∷ os) =
     else Refused L2 ∷ os
 limit room (Refused rule ∷ os) = Refused rule ∷ os
 limit room (Undecided ∷ os) = Undecided ∷ os
-
--- the same of one decision
-abbrev pub in_room : ℕ → Result (List Row) Rule → Result (List Row) Rule
-in_room room (Ok rows) = if nat_le (length rows) room then Ok rows else Err L2
-in_room room (Err rule) = Err rule
 
 -- what the stage of such a command means
 abbrev pub at_once : ℕ → Command → Decision → Meaning

@@ -16,7 +16,8 @@ use Rattle.hum_frac.specs.Ratio.{Ratio}
 use Rattle.hum_frac.specs.Multiples.{is_multiple}
 use Rattle.hum_stage.specs.declared.faults.Rule.{Rule}
 use Rattle.hum_stage.specs.declared.faults.Rule.TheVariants.{K3, B1, B2, F1}
-use Rattle.hum_stage.specs.Decided.{Decision, in_room, Steps}
+use Rattle.hum_stage.specs.Decided.{Decision, Steps}
+use Rattle.hum_stage.specs.Limits.{in_room}
 use Rattle.hum_timebase.specs.Notes.{timed_in, timed_at, notes_of, has_misread, is_sounding}
 use Rattle.hum_timebase.specs.Ends.{latest, next_end, living_before}
 use Rattle.hum_timebase.specs.Clock.{Clock, clock_after, time_after}

@@ -5,7 +5,8 @@ use Rattle.hum_record.specs.Nulls.{null_row}
 use Rattle.hum_path.specs.Spines.{Path}
 use Rattle.hum_path.specs.Score.{path_after}
 use Rattle.hum_stage.specs.declared.faults.Rule.{Rule}
-use Rattle.hum_stage.specs.Decided.{Decision, in_room}
+use Rattle.hum_stage.specs.Decided.{Decision}
+use Rattle.hum_stage.specs.Limits.{in_room}
 use Rattle.hum_timebase.specs.Notes.{timed_in}
 use Rattle.hum_timebase.specs.Clock.{clock_after}
 use Rattle.hum_choices.specs.Timebase.{Pace}

@@ -24,7 +24,7 @@ use hum_choices::TimebaseOptions;
 use hum_kern::KernFault;
 use hum_path::{Marks, Paths, has_exclusive};
 use hum_record::{Kind, Record};
-use hum_stage::{Command, Decides, Refusal, Rule};
+use hum_stage::{Command, Decides, Refusal, Rule, check_room};
 use std::alloc::{AllocError, Global};
 
 fn has_note(notes: &[NoteAt]) -> bool
@@ -68,9 +68,7 @@ fn place(made: Strike, row: Record, room: u64, out: &mut Around) -> Result<(), R
         .before
         .saturating_add(made.after)
         .saturating_add(single(made.stays));
-    if count > room as u128 {
-        return Err(Refusal::Rule(Rule::L2));
-    }
+    check_room(count, room)?;
     let before = made.before as u64;
     let after = made.after as u64;
     out.put_among(before, row, made.stays, after)?;

@@ -16,7 +16,8 @@ use Rattle.hum_path.specs.Score.{path_after}
 use Rattle.hum_path.specs.Chains.{future}
 use Rattle.hum_context.specs.Context.{Extent, First, Between, Choice, is_data, is_collectable, is_last, to_last, chain}
 use Rattle.hum_context.specs.Context.{through, taken, begins, token_or_null, new_token, new_tokens, all_some, push_front}
-use Rattle.hum_context.specs.Context.{if_fits, data_of, context}
+use Rattle.hum_context.specs.Context.{data_of, context}
+use Rattle.hum_stage.specs.Limits.{if_fits}
 use Rattle.hum_tones.proofs.Parts.{IsPiece}
 use Rattle.hum_tones.proofs.Joined.{joined_lawful}
 use Rattle.hum_valid.specs.Records.{AreRecords}

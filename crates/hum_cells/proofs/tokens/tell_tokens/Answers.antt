@@ -1,7 +1,7 @@
 use Rattle.std.proofs.Common.{◌≡◌, ◌∙◌, ◌∷◌, refl, length, arith}
 use Rattle.hum_record.specs.Row.{tokens_of, width_of}
 use Rattle.hum_path.specs.Chains.{history}
-use Rattle.hum_stage.proofs.Telling.{answered_on}
+use Rattle.hum_stage.proofs.Telling.{answered_on, answered_as}
 use Rattle.hum_cells.proofs.Telling.{done_more, refused_at, done_all, as_wide, wider, last_cell, told_data, fits, too_long, none_done, token_of_data}
 use Rattle.hum_cells.proofs.tokens.tell_tokens.Goals as goal
 
@@ -80,26 +80,28 @@ loop-j-preserved g c = record {
       );
 }
 
-pub returns-in-Some : goal.returns-in-Some
-returns-in-Some g c = λ rewriting past h kern sound.
+pub returns : goal.returns
+returns g c = λ rewriting past h kern sound.
     let before = c.loop-j.invariant.told rewriting past h kern sound in
     let width = c.width-j-end.ensures in
     let at = c.loop-j-test.false in
     let d = before.1 in
     let all = done_all _ _ _ _ _ _ _ (omega (arith, width, at)) d in
-    let made = c.in-Some.ensures _ d.done d.holds in (
+    let made = rw c.in_ok-made.ensures.made at (c.finish.ensures _ d.done d.holds) in (
       before.0,
       told_data rewriting past c.args.row.now c.requires.kind ∙ rw (← kern, all, made.0) (fits d.done made.1),
     )
 
-pub returns-in-None : goal.returns-in-None
-returns-in-None g c = λ rewriting past h kern sound.
+pub returns-in_err-made : goal.returns-in_err-made
+returns-in_err-made g c =
+    let long = c.in_err-made.ensures.long in
+    answered_as c.from_residual-in_err-made.result c.in_err-made.field-0.0 _ _ c.from_residual-in_err-made.ensures.1 long.0 (λ rewriting past h kern sound.
     let before = c.loop-j.invariant.told rewriting past h kern sound in
     let width = c.width-j-end.ensures in
     let at = c.loop-j-test.false in
     let d = before.1 in
     let all = done_all _ _ _ _ _ _ _ (omega (arith, width, at)) d in
-    let made = c.in-None.ensures _ d.done d.holds in (
+    let made = rw long.1 at (c.finish.ensures _ d.done d.holds) in (
       before.0,
       told_data rewriting past c.args.row.now c.requires.kind ∙ rw (← kern, all) (too_long d.done made),
-    )
+    ))
