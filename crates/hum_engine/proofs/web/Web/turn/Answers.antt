@@ -82,11 +82,11 @@ returns-in-Ok g c =
     let node = node_of stands k web s may.less may.at.stand in
     record {
       turned = stage_fed g.S.Stage.stands k g.R.Source.remaining web c.pass.new.self
-        node.0 s may node.1 (doing.0 node.0 node.1)
-        (λ u turn.
-        let may = wants_may stands k web c.in-Wants.place doing u turn in
-        has_done stands k web c.pass.new.self _ u may (Takes (slice_index (u.kinds k).stage.sources c.in-Wants.place))
-        (state_takes u u.links k c.in-Wants.place may.less may.does) (c.in-Ok.ensures.passed u may)) c.pass.ensures.nodes;
+          node.0 s may node.1 (doing.0 node.0 node.1)
+          (λ u turn.
+          let may = wants_may stands k web c.in-Wants.place doing u turn in
+          has_done stands k web c.pass.new.self _ u may (Takes (slice_index (u.kinds k).stage.sources c.in-Wants.place))
+          (state_takes u u.links k c.in-Wants.place may.less may.does) (c.in-Ok.ensures.passed u may)) c.pass.ensures.nodes;
       link = λ u actor.
           let here = here_too k _ s.count u.count may.less may.at.stand.count actor.at.stand.count in
           let about = wants_about stands k web c.in-Wants.place doing u actor.at here in
@@ -148,11 +148,11 @@ returns-in-Ok-give g c =
     let node = node_of stands k web s may.less may.at.stand in
     record {
       turned = stage_fed g.S.Stage.stands k g.R.Source.remaining web c.give.new.self
-        node.0 s may node.1 (doing.0 node.0 node.1)
-        (λ u turn.
-        let may = gives_may stands k web doing u turn in
-        has_done stands k web c.give.new.self _ u may _ (state_gives u u.links k may.less may.does)
-        (c.in-Ok-give.ensures.given u may)) c.give.ensures.nodes;
+          node.0 s may node.1 (doing.0 node.0 node.1)
+          (λ u turn.
+          let may = gives_may stands k web doing u turn in
+          has_done stands k web c.give.new.self _ u may _ (state_gives u u.links k may.less may.does)
+          (c.in-Ok-give.ensures.given u may)) c.give.ensures.nodes;
       link = λ u actor.
           let here = here_too k _ s.count u.count may.less may.at.stand.count actor.at.stand.count in
           touched_gives stands k web _ u (gives_about stands k web doing u actor.at here) refl;
@@ -204,7 +204,7 @@ returns-in-Done g c =
     let node = node_of stands k web s may.less may.at.stand in
     record {
       turned = stage_fed g.S.Stage.stands k g.R.Source.remaining web c.close.new.self
-        node.0 s may node.1 (doing.0 node.0 node.1) c.close.ensures.done c.close.ensures.nodes;
+          node.0 s may node.1 (doing.0 node.0 node.1) c.close.ensures.done c.close.ensures.nodes;
       link = c.close.ensures.link;
       full = λ full. absurd (false≢true full);
       read = λ failed. cc;

@@ -75,6 +75,6 @@ returns-in-Assemble-clause-stopped g c rest t h may =
       works = works;
       knows = knows;
       takes = λ other place wants. c.taken_from-self.ensures place (knows ∙ ap readiness_of wants)
-                ∙ ap (λ l. slice_index l place) c.deref.ensures.value
-                ∙ sym (ap (λ (k : Kind). slice_index k.stage.sources place) works.kind);
+          ∙ ap (λ l. slice_index l place) c.deref.ensures.value
+          ∙ sym (ap (λ (k : Kind). slice_index k.stage.sources place) works.kind);
     }
