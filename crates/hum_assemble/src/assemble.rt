@@ -272,11 +272,12 @@ impl Assemble {
         Ok(Some(row))
     }
 
-    /// Hands out a record that was put and is done with, if there is one: another can be made in it.
+    /// Hands out a record that was put and is done with, if one is left beside that in which the
+    /// next is made.
     pub fn done_with(&mut self) -> Option<Record>
         ensures { self.new ≡ self.old }
     {
-        self.done.take()
+        self.done.take_surplus()
     }
 
     /// What it is ready for: it gives while it has records that are settled, then wants until

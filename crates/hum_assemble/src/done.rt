@@ -41,4 +41,12 @@ impl Done {
     pub fn take(&mut self) -> Option<Record> {
         self.rows.pop()
     }
+
+    /// Hands out one of several: the last stays for the record that is made next.
+    pub fn take_surplus(&mut self) -> Option<Record> {
+        if self.rows.len() < 2 {
+            return None;
+        }
+        self.rows.pop()
+    }
 }
