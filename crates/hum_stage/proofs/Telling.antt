@@ -1,10 +1,10 @@
 -- What a call that may refuse tells, passed on.
 use Rattle.std.proofs.Common.{◌≡◌, Option, None, Some}
-use Rattle.std.specs.Prelude.{Result, Ok, Err, IsErrAnd}
+use Rattle.std.specs.Prelude.{Result, Ok, Err, IsErrAnd, IsSomeAnd}
 use Rattle.hum_stage.specs.declared.faults.Rule.{Rule}
 use Rattle.hum_stage.specs.declared.faults.Refusal.{Refusal}
 use Rattle.hum_stage.specs.declared.faults.Refusal.TheVariants.{Rule as Broken, Memory}
-use Rattle.hum_stage.specs.Refusals.{IfRule, IfTold, IfAnswered}
+use Rattle.hum_stage.specs.Refusals.{rule_in, IfRule, IfTold, IfAnswered}
 
 -- from what holds of what is told to what it means
 pub told_to : {A : Type 0} (r : Result A Refusal) (P R : Option Rule → Type 0)
@@ -59,3 +59,9 @@ answered_none (Err y) R is = rw is tt
 pub both_ruled : (e : Refusal) (P Q : Rule → Type 0) → IfRule e P → IfRule e Q → IfRule e (λ rule. P rule × Q rule)
 both_ruled (Broken rule) P Q p q = (p, q)
 both_ruled Memory P Q p q = tt
+
+-- the rule that was told, with what both say of it
+pub rule_known : (e : Refusal) (P Q : Rule → Type 0) → IfRule e P → IsSomeAnd (rule_in e) Q
+    → (rule : Rule) × (P rule × Q rule)
+rule_known (Broken rule) P Q p q = (rule, (p, q))
+rule_known Memory P Q p q = absurd q

@@ -6,3 +6,8 @@ use Rattle.hum_record.specs.Row.{Row}
 abbrev pub IsNext : List Row → List Row → Option Row → Type 0
 IsNext old new None = (old ≡ []) × (new ≡ [])
 IsNext old new (Some row) = old ≡ row ∷ new
+
+-- the one record that was due was taken, or nothing was, and all that were due still are
+abbrev pub IsLone : List Row → List Row → Option Row → Type 0
+IsLone old new None = new ≡ old
+IsLone old new (Some row) = (old ≡ row ∷ []) × (new ≡ [])

@@ -1,10 +1,12 @@
 //! The stage round a command that decides each record at once.
-ghost use Rattle.std.specs.Prelude.{◌≡◌, true, length, []};
-ghost use Rattle.hum_stage.specs.Meaning.{opening};
+ghost use Rattle.std.specs.Prelude.{◌≡◌, ◌⊎◌, true, length, [], None, Some, Ok, is_some};
+ghost use Rattle.std.specs.Prelude.{MatchOption, IsSomeAnd, IfOk, OnOk, OnErr, IsErr};
+ghost use Rattle.hum_stage.specs.declared.faults.Rule.TheVariants.{L2};
+ghost use Rattle.hum_stage.specs.Meaning.{Moment, opening, MayPut, HasPut, TookFirst, ShowsReadiness};
+ghost use Rattle.hum_stage.specs.Refusals.{rule_in};
 ghost use Rattle.hum_stage.specs.Decided.{at_once};
-ghost use Rattle.hum_stage.specs.Standing.{Standing};
+ghost use Rattle.hum_stage.specs.Standing.{Standing, StandsCounted, fault_in, is_out};
 
-use crate::MOST_RECORDS;
 use crate::contract::Stage;
 use crate::deciding::Decides;
 use crate::due::DueRecords;
@@ -18,11 +20,11 @@ pub struct AtOnce<C: Decides> {
     stage: u8,
     command: Command,
     line: u64,
-    total: u64,
+    total: u32,
     due: C::Due,
-    fault: Option<Fault>,
+    // why nothing more is given: its own fault, or that memory ran out
+    stopped: Option<Result<Fault, AllocError>>,
     ended: Option<End>,
-    spent: bool,
 }
 
 // Written out, so that a caller's proof sees one call and not the drop of each field.
@@ -35,9 +37,8 @@ impl<C: Decides + Drop> Drop for AtOnce<C> {
             line: _,
             total: _,
             due: _due,
-            fault: _,
+            stopped: _,
             ended: _,
-            spent: _,
         } = self;
     }
 }
@@ -65,9 +66,8 @@ impl<C: Decides> AtOnce<C> {
             line: 0,
             total: 0,
             due: C::Due::none(alloc),
-            fault: None,
+            stopped: None,
             ended: None,
-            spent: false,
         }
     }
 
@@ -77,22 +77,158 @@ impl<C: Decides> AtOnce<C> {
     fn refuse(&mut self, rule: Rule)
         ensures fault { self.new ≡ record self.old {
           due = self.new.due;
-          fault = Some (record {
+          stopped = Some (Ok (record {
             stage = self.old.stage;
             command = self.old.command;
             line = self.old.line;
             rule = rule;
-          });
+          }));
         } }
         ensures nothing { C.Due.rows self.new.due ≡ [] }
     {
         self.due.clear();
-        self.fault = Some(Fault {
+        self.stopped = Some(Ok(Fault {
             stage: self.stage,
             command: self.command,
             line: self.line,
             rule,
-        });
+        }));
+    }
+
+    /// The same by this rule; or memory ran out.
+    #[inline(never)]
+    fn stop(&mut self, why: Refusal) -> Result<(), AllocError>
+        ensures fault { OnOk result (IsSomeAnd (rule_in why) (λ rule. self.new ≡ record self.old {
+          due = self.new.due;
+          stopped = Some (Ok (record {
+            stage = self.old.stage;
+            command = self.old.command;
+            line = self.old.line;
+            rule = rule;
+          }));
+        })) }
+        ensures nothing { OnOk result (C.Due.rows self.new.due ≡ []) }
+        ensures out { OnErr result (is_out self.new.stopped ≡ true) }
+    {
+        match why {
+            Refusal::Rule(rule) => {
+                self.refuse(rule);
+                Ok(())
+            }
+            Refusal::Memory => {
+                self.stopped = Some(Err(AllocError));
+                Err(AllocError)
+            }
+        }
+    }
+
+    /// The same by L2, where this one record is too many.
+    #[inline(never)]
+    fn refuse_lone(&mut self, _row: Record)
+        ensures fault { self.new ≡ record self.old {
+          due = self.new.due;
+          stopped = Some (Ok (record {
+            stage = self.old.stage;
+            command = self.old.command;
+            line = self.old.line;
+            rule = L2;
+          }));
+        } }
+        ensures nothing { C.Due.rows self.new.due ≡ [] }
+    {
+        self.refuse(Rule::L2);
+    }
+
+    /// Counts what is due, and breaks L2 where there is no room for it.
+    fn count(&mut self)
+        requires { self.old.stopped ≡ None }
+        ensures { (t : Moment) → StandsCounted (C.follows self.old.memory) (record {
+          stage = self.old.stage;
+          command = self.old.command;
+          line = self.old.line;
+          total = self.old.total;
+          due = C.Due.rows self.old.due;
+          fault = None;
+        }) self.old.ended t → ⟦<AtOnce<C> as Stage>⟧.stands self.new t }
+    {
+        let room = (u32::MAX - self.total) as u64;
+        let count = self.due.count();
+        if count > room {
+            self.refuse(Rule::L2);
+        } else {
+            self.total += count as u32;
+        }
+    }
+
+    /// Counts what is due, takes the first of it, if there is any, and tells what it is ready for then.
+    #[inline(never)]
+    fn count_and_take(
+        &mut self,
+        pool: &mut Spare,
+        first: &mut Option<Record>,
+    ) -> Result<Readiness, AllocError>
+        requires going { self.old.stopped ≡ None }
+        requires empty { first.old ≡ None }
+        ensures ok { OnOk result ((t : Moment) → StandsCounted (C.follows self.old.memory) (record {
+          stage = self.old.stage;
+          command = self.old.command;
+          line = self.old.line;
+          total = self.old.total;
+          due = C.Due.rows self.old.due;
+          fault = None;
+        }) self.old.ended t → MatchOption first.new (⟦<AtOnce<C> as Stage>⟧.stands self.new t)
+            (λ row. TookFirst (⟦<AtOnce<C> as Stage>⟧.stands self.new) t row)) }
+        ensures ready { IfOk result (ShowsReadiness (⟦<AtOnce<C> as Stage>⟧.stands self.new)) }
+        ensures err { OnErr result (⟦<AtOnce<C> as Stage>⟧.spent self.new) }
+    {
+        self.count();
+        if self.held() != 1 {
+            return Ok(self.readiness());
+        }
+        let (taken, behind) = self.take_and_ask(pool)?;
+        *first = taken;
+        Ok(behind)
+    }
+
+    /// Its own fault.
+    fn fault(&self) -> Option<Fault>
+        ensures { result ≡ fault_in self.now.stopped }
+    {
+        match self.stopped {
+            Some(Ok(fault)) => Some(fault),
+            Some(Err(_)) => None,
+            None => None,
+        }
+    }
+
+    /// Whether memory ran out.
+    fn is_out(&self) -> bool
+        ensures { result ≡ is_out self.now.stopped }
+    {
+        match self.stopped {
+            Some(Ok(_)) => false,
+            Some(Err(_)) => true,
+            None => false,
+        }
+    }
+
+    /// Puts one record more where it has stopped, which becomes nothing.
+    #[inline(never)]
+    fn put_in_vain(&mut self, _next: Record) -> Result<Readiness, AllocError>
+        requires may { ⟦<AtOnce<C> as Stage>⟧.spent self.old
+            ⊎ MayPut (⟦<AtOnce<C> as Stage>⟧.stands self.old) _next }
+        requires stopped { is_some self.old.stopped ≡ true }
+        ensures ok { OnOk result (HasPut (⟦<AtOnce<C> as Stage>⟧.stands self.old)
+            (⟦<AtOnce<C> as Stage>⟧.stands self.new) _next) }
+        ensures ready { IfOk result (ShowsReadiness (⟦<AtOnce<C> as Stage>⟧.stands self.new)) }
+        ensures err { OnErr result (⟦<AtOnce<C> as Stage>⟧.spent self.new) }
+        ensures stays_spent { ⟦<AtOnce<C> as Stage>⟧.spent self.old → IsErr result }
+    {
+        if self.is_out() {
+            return Err(AllocError);
+        }
+        self.line += 1;
+        Ok(self.readiness())
     }
 }
 
@@ -103,12 +239,12 @@ impl<C: Decides> Stage for AtOnce<C> {
       line = s.line;
       total = s.total;
       due = C.Due.rows s.due;
-      fault = s.fault;
-    }) s.ended s.spent t };
+      fault = fault_in s.stopped;
+    }) s.ended (is_out s.stopped) t };
 
     ghost left = { λ s. length (C.Due.rows s.due) };
 
-    ghost spent = { λ s. s.spent ≡ true };
+    ghost spent = { λ s. is_out s.stopped ≡ true };
 
     ghost use Rattle.hum_stage.specs.Laws.{standing_within};
     ghost use Rattle.hum_stage.specs.Lawful.{standing_lawful};
@@ -118,31 +254,20 @@ impl<C: Decides> Stage for AtOnce<C> {
     ghost lawful = { λ s t h. standing_lawful _ _ _ _ t h };
 
     fn put(&mut self, next: Record) -> Result<(), AllocError> {
-        if self.spent {
-            return Err(AllocError);
-        }
-        self.line += 1;
-        if self.fault.is_some() {
+        if self.stopped.is_some() {
+            self.put_in_vain(next)?;
             return Ok(());
         }
-        let room = MOST_RECORDS - self.total;
+        self.line += 1;
+        let room = (u32::MAX - self.total) as u64;
         match self.memory.step(next, room, &mut self.due) {
             Ok(()) => {}
-            Err(Refusal::Rule(rule)) => {
-                self.refuse(rule);
+            Err(why) => {
+                self.stop(why)?;
                 return Ok(());
             }
-            Err(Refusal::Memory) => {
-                self.spent = true;
-                return Err(AllocError);
-            }
         }
-        let count = self.due.count();
-        if count > room {
-            self.refuse(Rule::L2);
-        } else {
-            self.total += count;
-        }
+        self.count();
         Ok(())
     }
 
@@ -151,15 +276,20 @@ impl<C: Decides> Stage for AtOnce<C> {
     }
 
     fn take(&mut self) -> Result<Option<Record>, AllocError> {
-        if self.spent {
+        if self.is_out() {
             return Err(AllocError);
         }
-        self.spent = true;
-        let next = self.due.next()?;
-        self.spent = false;
-        Ok(next)
+        match self.due.next() {
+            Ok(next) => Ok(next),
+            Err(_) => {
+                self.stopped = Some(Err(AllocError));
+                Err(AllocError)
+            }
+        }
     }
 
+    // What happens seldom is a call, so that a record that becomes one other pays for none of it. Where
+    // nothing is due and the place is empty, no record has to be dropped.
     #[inline(never)]
     fn put_and_take(
         &mut self,
@@ -167,13 +297,36 @@ impl<C: Decides> Stage for AtOnce<C> {
         pool: &mut Spare,
         first: &mut Option<Record>,
     ) -> Result<Readiness, AllocError> {
-        self.put(next)?;
-        if self.held() != 1 {
-            return Ok(self.readiness());
+        if self.stopped.is_some() {
+            let is = self.put_in_vain(next)?;
+            return Ok(is);
         }
-        let (taken, behind) = self.take_and_ask(pool)?;
-        *first = taken;
-        Ok(behind)
+        self.line += 1;
+        if !self.due.is_empty() {
+            unreachable!()
+        }
+        let room = (u32::MAX - self.total) as u64;
+        match self.memory.step(next, room, &mut self.due) {
+            Ok(()) => {}
+            Err(why) => {
+                self.stop(why)?;
+                return Ok(Readiness::Wants);
+            }
+        }
+        let Some(row) = self.due.take_lone(pool) else {
+            let is = self.count_and_take(pool, first)?;
+            return Ok(is);
+        };
+        self.total = self.total.wrapping_add(1);
+        if self.total == 0 {
+            self.refuse_lone(row);
+            return Ok(Readiness::Wants);
+        }
+        if first.is_some() {
+            unreachable!()
+        }
+        *first = Some(row);
+        Ok(Readiness::Wants)
     }
 
     #[inline(always)]
@@ -181,20 +334,23 @@ impl<C: Decides> Stage for AtOnce<C> {
         &mut self,
         pool: &mut Spare,
     ) -> Result<(Option<Record>, Readiness), AllocError> {
-        if self.spent {
+        if self.is_out() {
             return Err(AllocError);
         }
-        self.spent = true;
-        let next = self.due.next_with(pool)?;
-        self.spent = false;
-        Ok((next, self.readiness()))
+        match self.due.next_with(pool) {
+            Ok(next) => Ok((next, self.readiness())),
+            Err(_) => {
+                self.stopped = Some(Err(AllocError));
+                Err(AllocError)
+            }
+        }
     }
 
     fn state(&self) -> State {
         if !self.due.is_empty() {
             return State::Gives;
         }
-        resting(self.ended, self.fault)
+        resting(self.ended, self.fault())
     }
 
     fn readiness(&self) -> Readiness {

@@ -2,7 +2,7 @@
 ghost use Rattle.std.specs.Prelude.{◌≡◌, [], ◌∷◌, ◌==◌, ◌<◌, List, length, IfOk};
 ghost use Rattle.std.specs.Option.{option_to_list};
 ghost use Rattle.hum_record.specs.Row.{Row};
-ghost use Rattle.hum_stage.specs.Dues.{IsNext};
+ghost use Rattle.hum_stage.specs.Dues.{IsNext, IsLone};
 
 use hum_record::{Record, Spare};
 use std::alloc::{AllocError, Global};
@@ -32,6 +32,15 @@ pub trait DueRecords: Drop {
         ensures { IfOk result (IsNext (rows self.old) (rows self.new)) }
     {
         self.next()
+    }
+
+    /// Takes the one record that is due, where there is just one and it is easily had. Else it leaves them
+    /// as they are.
+    #[inline]
+    fn take_lone(&mut self, _pool: &mut Spare) -> Option<Record>
+        ensures { IsLone (rows self.old) (rows self.new) result }
+    {
+        None
     }
 
     /// How many there are.
@@ -80,6 +89,11 @@ impl DueRecords for Option<Record> {
 
     fn next(&mut self) -> Result<Option<Record>, AllocError> {
         Ok(self.take())
+    }
+
+    #[inline]
+    fn take_lone(&mut self, _pool: &mut Spare) -> Option<Record> {
+        self.take()
     }
 
     fn count(&self) -> u64 {
@@ -146,6 +160,14 @@ impl DueRecords for UpToTwo {
             return Ok(self.first.take());
         }
         Ok(self.second.take())
+    }
+
+    #[inline]
+    fn take_lone(&mut self, _pool: &mut Spare) -> Option<Record> {
+        if self.second.is_some() {
+            return None;
+        }
+        self.first.take()
     }
 
     fn count(&self) -> u64 {
