@@ -19,6 +19,7 @@ mod body;
 mod building;
 mod contents;
 mod filling;
+mod growing;
 pub mod iter;
 mod leaving;
 mod near;
@@ -33,8 +34,8 @@ mod wide;
 
 pub use building::RecordBuilder;
 pub use contents::{is_barline, is_data, is_filled, is_null};
+pub use growing::GrowingText;
 pub use nulls::{null_of, null_record};
-pub use putting::put_token;
 pub use reading::Record;
 pub use record_draft::RecordDraft;
 pub use selection::Selection;
