@@ -1,3 +1,4 @@
+pub mod Above
 mod Examples
 pub mod Keeping
 pub mod Nearest

@@ -1,10 +1,13 @@
 -- What the memory holds behind a record.
-use Rattle.std.proofs.Common.{◌≡◌, ◌∙◌, refl, sym, ap, ℕ, false, List, [], ◌∷◌, length, map, Option, None, arith}
-use Rattle.std.specs.Prelude.{Result, Ok, Err, OnOk, OnErr}
+use Rattle.std.proofs.Common.{◌≡◌, ◌∙◌, refl, sym, ap, ℕ, false, List, [], ◌∷◌, ◌≤◌, length, map, Option, None, Some, arith}
+use Rattle.std.specs.Prelude.{Result, Ok, Err, OnOk, OnErr, IfSome}
 use Rattle.std.specs.List.{list_any}
 use Rattle.std.proofs.lemmas.List.{length-map}
 use Rattle.hum_record.specs.declared.Kind.TheVariants.{Interpretation as AnyInterpretation, Values as AnyValues}
-use Rattle.hum_record.specs.Row.{Row, kind_of, tokens_of, width_of, text_of}
+use Rattle.hum_record.specs.declared.SpinedKind.TheVariants.{Values}
+use Rattle.hum_record.specs.Contents.{filled_from}
+use Rattle.hum_record.specs.RecordDraft.{IsMade}
+use Rattle.hum_record.specs.Row.{Row, Spined, kind_of, tokens_of, width_of, text_of}
 use Rattle.hum_record.specs.Spelling.{IsTextOf}
 use Rattle.hum_path.specs.declared.moved.Move.{Move}
 use Rattle.hum_path.specs.Sign.{sign_of, is_exclusive}
@@ -15,8 +18,10 @@ use Rattle.hum_path.specs.Step.{ComeFrom}
 use Rattle.hum_choices.specs.declared.ditto.DittoOptions.{DittoOptions}
 use Rattle.hum_ditto.specs.declared.memory.Holding.{Holding}
 use Rattle.hum_ditto.specs.declared.memory.Holding.TheVariants.{Given}
+use Rattle.hum_ditto.specs.Ditto.{all_filled}
 use Rattle.hum_ditto.specs.Memory.{last_seen}
 use Rattle.hum_ditto.specs.Held.{seen_alone, remembered_in, Remembered, IsWhole, MayFollow, HasFollowed, IsGivenFor}
+use Rattle.hum_ditto.proofs.Above.{made_under}
 use Rattle.hum_ditto.proofs.Whole.{data_width, data_stays, steered_width, data_followed, plain_followed}
 use Rattle.hum_ditto.proofs.Whole.{seen_behind, stays_behind, given_width, given_some}
 
@@ -54,6 +59,21 @@ module _ (memory : Remembered) (options : DittoOptions) (holding : Holding) (old
 
   size : length memory.each ≡ width_of old
   size = ap length each ∙ length-map (tokens_of old) seen_alone
+
+  -- what null tokens become under it
+  held_filled : (row made : Row) → IsTextOf old (text_of old)
+      → made ≡ Spined Values (filled_from (tokens_of old) (tokens_of row)) → length (text_of made) ≤ 1048576
+      → IsMade Values (all_filled memory.options.parentheses memory.each (tokens_of row)) (Some made)
+  held_filled row made =
+      made_under memory.options.parentheses memory.each old row made each
+      (ap (λ m. m.options.parentheses) (sym view) ∙ whole.bare) whole.kind
+
+  pub held_filled_if : (row : Row) (result : Option Row) → IsTextOf old (text_of old)
+      → IfSome result (λ made. made ≡ Spined Values (filled_from (tokens_of old) (tokens_of row)))
+      → IfSome result (λ made. length (text_of made) ≤ 1048576)
+      → IfSome result (λ made. IsMade Values (all_filled memory.options.parentheses memory.each (tokens_of row)) (Some made))
+  held_filled_if row None lawful e most = tt
+  held_filled_if row (Some made) lawful e most = held_filled row made lawful e most
 
   -- a data record in the place of the one before
   pub goes_on_whole : (row given new : Row) (found : List Move) {A E : Type 0} (result : Result A E) → kind_of row ≡ AnyValues → IsTextOf row (text_of row)

@@ -83,7 +83,30 @@ fn push_filled(
 
 /// The record that a data record becomes, by what is remembered of its columns, unless it is too
 /// long.
+#[inline]
 pub(crate) fn rebuilt(
+    alloc: Global,
+    row: &Record,
+    memory: &LastTokens,
+    shown: &mut Vec<u8>,
+    spare: &mut Spare,
+) -> Result<Option<Record>, AllocError>
+    requires kind { kind_of row.now ≡ AnyValues }
+    requires width { length memory.now.each ≡ width_of row.now }
+    requires tokens { tokens_of row.now ≢ [] }
+    ensures { IfOk result
+        (IsMade Values (all_filled memory.now.options.parentheses memory.now.each
+        (tokens_of row.now))) }
+{
+    match memory.filled(row, spare) {
+        Some(made) => Ok(Some(made)),
+        None => rebuilt_by_tokens(alloc, row, memory, shown, spare),
+    }
+}
+
+/// The same, token by token.
+#[inline(never)]
+fn rebuilt_by_tokens(
     alloc: Global,
     row: &Record,
     memory: &LastTokens,

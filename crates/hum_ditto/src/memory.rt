@@ -1,10 +1,12 @@
 //! What null tokens would repeat.
 ghost use Rattle.std.specs.Prelude.{◌≡◌, ◌<◌, true, false, map, [], None, slice_index_or};
-ghost use Rattle.std.specs.Prelude.{IfSome, IfOk, OnOk, OnErr, option_map, length};
+ghost use Rattle.std.specs.Prelude.{Some, IfSome, IfOk, OnOk, OnErr, option_map, length};
 ghost use Rattle.hum_record.specs.declared.Kind.TheVariants.{Interpretation, Values as AnyValues};
 ghost use Rattle.hum_record.specs.declared.SpinedKind.TheVariants.{Values};
 ghost use Rattle.hum_record.specs.Row.{kind_of, tokens_of, width_of, token_at, text_of};
+ghost use Rattle.hum_record.specs.RecordDraft.{IsMade};
 ghost use Rattle.hum_record.specs.Spelling.{IsToken, IsTextOf};
+ghost use Rattle.hum_ditto.specs.Ditto.{all_filled};
 ghost use Rattle.hum_path.specs.Sign.{has_exclusive};
 ghost use Rattle.hum_path.specs.Spines.{same_upto};
 ghost use Rattle.hum_path.specs.Step.{ComeFrom};
@@ -138,6 +140,9 @@ fn replace_any(
     ensures given { OnOk result (held.new ≡ given.now) }
     ensures kept { OnErr result (held.new ≡ held.old) }
 {
+    if held.copy_far(given) {
+        return Ok(());
+    }
     let copy = given.copy_into(alloc, spare)?;
     spare.keep(mem::replace(held, copy));
     Ok(())
@@ -181,6 +186,24 @@ impl LastTokens {
         match &self.holding {
             Holding::Given(row, _) => filled_token(row, j),
             Holding::Each(each) => each.at(j).token(),
+        }
+    }
+
+    /// What a data record becomes, where that is made at once: its tokens are short, and a record is held.
+    #[inline]
+    pub fn filled(&self, row: &Record, spare: &mut Spare) -> Option<Record>
+        requires kind { kind_of row.now ≡ AnyValues }
+        requires width { length self.now.each ≡ width_of row.now }
+        ensures { IfSome result (λ made. IsMade Values
+            (all_filled self.now.options.parentheses self.now.each (tokens_of row.now)) (Some made)) }
+    {
+        match &self.holding {
+            Holding::Given(above, _) => {
+                // Its text is lawful.
+                let _kind = above.kind();
+                row.filled_from(above, spare)
+            }
+            Holding::Each(_) => None,
         }
     }
 

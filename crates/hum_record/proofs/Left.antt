@@ -381,7 +381,7 @@ some_wide [] marked = cc
 some_wide (f ∷ fs) marked = omega arith
 
 -- the tokens of a record that has some are the parts of its text
-parts_are : (text : List ℕ) (row : Row) → IsTextOf row text → 0 < width_of row → parts text ≡ tokens_of row
+pub parts_are : (text : List ℕ) (row : Row) → IsTextOf row text → 0 < width_of row → parts text ≡ tokens_of row
 parts_are text (Comment comment) h filled = absurd (omega (arith, filled))
 parts_are text (Spined k ts) h filled = ap parts h.0 ∙ again k ts h.1 h.2
 

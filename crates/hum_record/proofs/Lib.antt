@@ -17,3 +17,4 @@ pub mod Selected
 mod Picked
 mod Added
 mod Words
+mod Filled

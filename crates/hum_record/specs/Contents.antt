@@ -1,5 +1,5 @@
 -- What a token is: data or not, null, a barline.
-use Rattle.std.specs.Prelude.{ℕ, nat_eq, Bool, not, ◌&&◌, List}
+use Rattle.std.specs.Prelude.{ℕ, nat_eq, Bool, not, ◌&&◌, List, ◌∷◌, if◌then◌else◌}
 use Rattle.std.specs.List.{starts_with}
 use Rattle.std.specs.Str.{bytes_eq}
 use lib.Chars.{codes}
@@ -20,3 +20,9 @@ is_filled token = is_data token && not (is_null token)
 
 abbrev pub is_barline : List ℕ → Bool
 is_barline token = starts_with nat_eq token (codes "=")
+
+-- some tokens, and in place of each that is null what stands above it
+abbrev pub filled_from : List (List ℕ) → List (List ℕ) → List (List ℕ)
+filled_from (above ∷ more) (token ∷ tokens) =
+    (if is_null token then above else token) ∷ filled_from more tokens
+filled_from _ tokens = tokens

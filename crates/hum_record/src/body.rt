@@ -3,6 +3,7 @@ ghost use Rattle.std.specs.Prelude.{◌≡◌, ◌≤◌, ◌<◌, ◌+◌, ◌-
 ghost use Rattle.std.specs.Prelude.{bit_and};
 ghost use Rattle.std.specs.Prelude.{ℕ, IfOk, OnOk, IfErr, Ok, true, false, vec_len};
 ghost use Rattle.hum_record.specs.Building.{tab_between, spelled};
+ghost use Rattle.hum_record.specs.Contents.{filled_from};
 ghost use Rattle.hum_record.specs.Cutting.{set_places};
 ghost use Rattle.hum_record.specs.Fields.{AreFields, ends_from, row_in, written};
 ghost use Rattle.hum_record.specs.Lines.{IsLine};
@@ -10,19 +11,20 @@ ghost use Rattle.hum_record.specs.Plain.{HasPlaces};
 ghost use Rattle.hum_record.specs.Row.{chosen};
 ghost use Rattle.hum_record.specs.Spelling.{has_byte, reading, parts, Fails};
 
+use crate::filling::{WHOLE, put_filled};
 use crate::leaving::move_in_front;
 use crate::near::{FEW, NEAR, copy_near, copy_places, put_places};
 use crate::putting::put_behind;
 use crate::reading::cut;
 use crate::selection::Selection;
-use crate::wide::{copy_words, put_line};
+use crate::wide::{copy_groups, copy_words, put_line};
 use crate::{MOST_BYTES, RecordFault};
 use std::alloc::{AllocError, Global};
 use std::marker::Model;
 
 /// How many bytes and places there are at least once there are some, so that a short record finds
 /// room in what another one left.
-const LEAST_BYTES: usize = 64;
+const LEAST_BYTES: usize = NEAR + WHOLE;
 
 const LEAST_PLACES: usize = 32;
 
@@ -263,6 +265,71 @@ impl Body {
             }
         }
         false
+    }
+
+    /// The same of a longer one where there is room for it.
+    #[inline(never)]
+    pub fn copy_far(&mut self, other: &Body) -> bool
+        ensures copied { result ≡ true → self.new ≡ other.now }
+        ensures kept { result ≡ false → self.new ≡ self.old }
+    {
+        let words = other.len / NEAR + 1;
+        let groups = other.count / FEW + 1;
+        if other.held.len() / NEAR < words || self.held.len() / NEAR < words {
+            return false;
+        }
+        if other.places.len() / FEW < groups || self.places.len() / FEW < groups {
+            return false;
+        }
+        copy_words(&mut self.held, &other.held, words);
+        self.len = other.len;
+        copy_groups(&mut self.places, &other.places, groups);
+        self.count = other.count;
+        true
+    }
+
+    /// Puts the tokens of a row in place of the text, and for a null one what stands above it in another row,
+    /// if all of them are short and there is memory for them; and tells whether it did.
+    #[inline(never)]
+    pub fn put_filled(&mut self, row: &Body, above: &Body) -> bool
+        requires cut { row.now.ends ≡ ends_from 0 (parts row.now.text) }
+        requires above_cut { above.now.ends ≡ ends_from 0 (parts above.now.text) }
+        requires as_wide { length row.now.ends ≡ length above.now.ends }
+        ensures text { result ≡ true → self.new.text
+            ≡ spelled (filled_from (parts above.now.text) (parts row.now.text)) }
+        ensures ends { result ≡ true → self.new.ends
+            ≡ ends_from 0 (filled_from (parts above.now.text) (parts row.now.text)) }
+        ensures at_most { result ≡ true → length self.new.text ≤ 1048576 }
+    {
+        self.clear();
+        let most = row.len + above.len;
+        if most >= MOST_BYTES
+            || row.held.len() - row.len < WHOLE
+            || above.held.len() - above.len < WHOLE
+        {
+            return false;
+        }
+        let Ok(()) = give_bytes(&mut self.held, most + 2 * WHOLE) else {
+            return false;
+        };
+        let Ok(()) = give_places(&mut self.places, row.count) else {
+            return false;
+        };
+        let Some(len) = put_filled(
+            &mut self.held,
+            &mut self.places,
+            &row.held,
+            row.len,
+            &row.places[..row.count],
+            &above.held,
+            above.len,
+            &above.places[..above.count],
+        ) else {
+            return false;
+        };
+        self.len = len;
+        self.count = row.count;
+        true
     }
 
     /// Puts what another one is in place of this.

@@ -18,6 +18,8 @@ mod bits;
 mod body;
 mod building;
 mod contents;
+mod filling;
+mod growing;
 pub mod iter;
 mod leaving;
 mod near;
@@ -32,6 +34,7 @@ mod wide;
 
 pub use building::RecordBuilder;
 pub use contents::{is_barline, is_data, is_filled, is_null};
+pub use growing::GrowingText;
 pub use nulls::{null_of, null_record};
 pub use reading::Record;
 pub use record_draft::RecordDraft;

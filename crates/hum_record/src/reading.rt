@@ -7,7 +7,10 @@ ghost use Rattle.hum_record.specs.Fields.{AreFields, row_in};
 ghost use Rattle.hum_record.specs.Lines.{IsRead};
 ghost use Rattle.hum_record.specs.Plain.{EndsLine};
 ghost use Rattle.hum_record.specs.Row.{Row, kind_of, row_of, tokens_of, width_of, token_at, text_of};
-ghost use Rattle.hum_record.specs.Row.{with_chosen};
+ghost use Rattle.hum_record.specs.Row.{Spined, with_chosen};
+ghost use Rattle.hum_record.specs.Contents.{filled_from};
+ghost use Rattle.hum_record.specs.declared.Kind.TheVariants.{Values};
+ghost use Rattle.hum_record.specs.declared.SpinedKind.TheVariants.{Values as SpinedValues};
 ghost use Rattle.std.specs.List.{list_any};
 ghost use Rattle.hum_record.specs.declared.RecordFault.TheVariants.{Memory};
 
@@ -249,6 +252,34 @@ impl Record {
         ensures kept { result ≡ false → self.new ≡ self.old }
     {
         self.body.copy_short(&other.body)
+    }
+
+    /// The same of a longer one where there is room for it.
+    #[inline]
+    pub fn copy_far(&mut self, other: &Record) -> bool
+        ensures copied { result ≡ true → self.new ≡ other.now }
+        ensures kept { result ≡ false → self.new ≡ self.old }
+    {
+        self.body.copy_far(&other.body)
+    }
+
+    /// Data whose null tokens are filled by what stands above them in other data, in what is left of a record
+    /// that is done with, where all tokens are short; or else nothing.
+    #[inline]
+    pub fn filled_from(&self, above: &Record, spare: &mut Spare) -> Option<Record>
+        requires kind { kind_of self.now ≡ Values }
+        requires kind_above { kind_of above.now ≡ Values }
+        requires as_wide { width_of self.now ≡ width_of above.now }
+        ensures made { IfSome result (λ row.
+            row ≡ Spined SpinedValues (filled_from (tokens_of above.now) (tokens_of self.now))) }
+        ensures at_most { IfSome result (λ row. length (text_of row) ≤ 1048576) }
+    {
+        let mut body = spare.take()?;
+        if body.put_filled(&self.body, &above.body) {
+            return Some(Record { body });
+        }
+        spare.put_back(body);
+        None
     }
 
     /// Leaves the selected tokens alone, at least one of which there is, in the record's own memory.

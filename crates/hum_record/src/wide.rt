@@ -6,7 +6,7 @@ ghost use Rattle.hum_record.specs.Plain.{HasPlaces};
 use crate::MOST_BYTES;
 use crate::bits::bits_at;
 use crate::body::give_places;
-use crate::near::{NEAR, is_apart, line_end, put_places, stop_bits};
+use crate::near::{FEW, NEAR, is_apart, line_end, put_places, stop_bits};
 use std::simd::prelude::*;
 
 /// How many words are looked at: a record has no more.
@@ -68,5 +68,17 @@ pub fn copy_words(text: &mut [u8], held: &[u8], words: usize)
 {
     for k in 0..words {
         u8x64::from_slice(&held[NEAR * k..]).copy_to_slice(&mut text[NEAR * k..]);
+    }
+}
+
+/// Puts the first groups of eight places in front of what stands in a list.
+#[inline]
+pub fn copy_groups(places: &mut [u32], held: &[u32], groups: usize)
+    requires filled { 8 * groups ≤ length held.now }
+    requires room { 8 * groups ≤ length places.old }
+    ensures { take (8 * groups) places.new ≡ take (8 * groups) held.now }
+{
+    for k in 0..groups {
+        u32x8::from_slice(&held[FEW * k..]).copy_to_slice(&mut places[FEW * k..]);
     }
 }

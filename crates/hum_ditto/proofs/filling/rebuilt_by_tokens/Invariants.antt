@@ -3,7 +3,7 @@ use Rattle.hum_record.specs.Row.{tokens_of}
 use Rattle.hum_record.specs.RecordDraft.{Holds}
 use Rattle.hum_record.specs.declared.SpinedKind.TheVariants.{Values}
 use Rattle.hum_ditto.specs.Ditto.{all_filled}
-use Rattle.hum_ditto.proofs.filling.rebuilt.Given as goal
+use Rattle.hum_ditto.proofs.filling.rebuilt_by_tokens.Given as goal
 
 abbrev pub invariant-loop-j : goal.invariant-loop-j
 invariant-loop-j l = record {

@@ -2,7 +2,7 @@ use Rattle.std.proofs.Common.{arith}
 use Rattle.hum_record.specs.Row.{tokens_of}
 use Rattle.hum_record.specs.declared.SpinedKind.TheVariants.{Values}
 use Rattle.hum_ditto.proofs.Tokens.{some_filled, fill_more, fill_all}
-use Rattle.hum_ditto.proofs.filling.rebuilt.Goals as goal
+use Rattle.hum_ditto.proofs.filling.rebuilt_by_tokens.Goals as goal
 
 pub loop-j-preserved : goal.loop-j-preserved
 loop-j-preserved c =
