@@ -16,7 +16,7 @@ use crate::done::Done;
 use crate::places::Next;
 use crate::round::{ahead, ahead_open, any_due, give};
 use crate::source_head::SourceHead;
-use hum_record::Record;
+use hum_record::{Record, Spare};
 use hum_stage::{Command, End, Fault, MOST_RECORDS, Rule, State};
 use std::alloc::{AllocError, Global};
 use std::marker::Model;
@@ -272,12 +272,17 @@ impl Assemble {
         Ok(Some(row))
     }
 
-    /// Hands out a record that was put and is done with, if one is left beside that in which the
-    /// next is made.
-    pub fn done_with(&mut self) -> Option<Record>
+    /// Hands a record that was put and is done with to the pool, where none stands in front there, and one is
+    /// left beside that in which the next is made.
+    pub fn give_back(&mut self, pool: &mut Spare)
         ensures { self.new ≡ self.old }
     {
-        self.done.take_surplus()
+        if pool.has_first() {
+            return;
+        }
+        if let Some(row) = self.done.take_surplus() {
+            pool.keep(row);
+        }
     }
 
     /// What it is ready for: it gives while it has records that are settled, then wants until

@@ -325,9 +325,7 @@ impl<S: Stage + Drop, R: Source + Drop> Node<S, R> {
             }
             Work::Assemble(stage, sources) => {
                 stage.put(place, next)?;
-                if let Some(row) = stage.done_with() {
-                    pool.keep(row);
-                }
+                stage.give_back(pool);
                 self.readiness = of_assemble(stage);
                 self.from = taken_from(self.readiness, sources);
                 Ok(false)

@@ -41,6 +41,12 @@ impl Spare {
         }
     }
 
+    /// Whether one stands in front, in which the next record is made at once.
+    #[inline(always)]
+    pub fn has_first(&self) -> bool {
+        self.first.is_some()
+    }
+
     /// Keeps a record that is done with, behind the first one where it is short and not too many are.
     #[inline]
     pub fn keep(&mut self, row: Record) {

@@ -50,15 +50,15 @@ put-requires g c =
           (single.few_before k.input.items c.args.next 4294967295 k.fine.few);
     })
 
-pub returns-after-done_with-clause-put : goal.returns-after-done_with-clause-put
-returns-after-done_with-clause-put g c rest t h may =
+pub returns-in-Assemble-clause-put : goal.returns-in-Assemble-clause-put
+returns-in-Assemble-clause-put g c rest t h may =
     let stands = Stands c.in-Assemble.stage in
     let w = subst (λ w. WorksAs g.S.Stage.stands w c.args.self.now.from rest t) c.in-Assemble.is h.works in
     let k = merging.changes stands c.in-Assemble.sources.items t w (with_record c.args.next)
     c.args.place may in
-    let works = merging.put_stands (Stands c.done_with.new.self) c.in-Assemble.sources.items t
+    let works = merging.put_stands (Stands c.give_back.new.self) c.in-Assemble.sources.items t
     c.args.place c.args.next w.moment w.kind w.inputs w.given
-    (rw c.done_with.ensures (c.in_ok-put-in-Assemble.ensures.ok w.moment w.stand k.wants)) in
+    (rw c.give_back.ensures (c.in_ok-put-in-Assemble.ensures.ok w.moment w.stand k.wants)) in
     let knows = c.of_assemble-self.ensures c.in-Assemble.sources.items _ works in
     record {
       works = works;
