@@ -1,7 +1,7 @@
 //! Records that are due, mostly one.
 ghost use Rattle.std.specs.Prelude.{◌≡◌, ◌∷◌, []};
 
-use hum_record::Record;
+use hum_record::{Record, Spare};
 use hum_stage::DueRecords;
 use std::alloc::{AllocError, Global};
 use std::collections::VecDeque;
@@ -49,6 +49,14 @@ impl DueRecords for MostlyOne {
             return Ok(self.one.take());
         }
         Ok(self.many.pop_front())
+    }
+
+    #[inline]
+    fn take_lone(&mut self, _pool: &mut Spare) -> Option<Record> {
+        if !self.many.is_empty() {
+            return None;
+        }
+        self.one.take()
     }
 
     fn count(&self) -> u64 {

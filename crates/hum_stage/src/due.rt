@@ -67,6 +67,14 @@ impl DueRecords for VecDeque<Record> {
         Ok(self.pop_front())
     }
 
+    #[inline]
+    fn take_lone(&mut self, _pool: &mut Spare) -> Option<Record> {
+        if self.len() != 1 {
+            return None;
+        }
+        self.pop_front()
+    }
+
     fn count(&self) -> u64 {
         self.len() as u64
     }

@@ -187,6 +187,17 @@ impl DueRecords for Around {
         Ok(None)
     }
 
+    #[inline]
+    fn take_lone(&mut self, pool: &mut Spare) -> Option<Record> {
+        if self.before > 0 || self.after > 0 {
+            return None;
+        }
+        if let Some(gone) = self.gone.take() {
+            pool.keep(gone);
+        }
+        self.single.take()
+    }
+
     fn count(&self) -> u64 {
         let single = if self.single.is_some() { 1 } else { 0 };
         self.before + single + self.after
