@@ -1,5 +1,6 @@
 //! The barlines that stand to the left in the cleaved columns of a record.
-ghost use Rattle.std.specs.Prelude.{◌≡◌, [], IfOk};
+ghost use Rattle.std.specs.Prelude.{◌≡◌, [], true, false, IfOk};
+ghost use Rattle.hum_record.specs.Contents.{is_barline, is_null};
 ghost use Rattle.hum_cleave.specs.Barlines.{Tells};
 
 use hum_record::{is_barline, is_null};
@@ -38,6 +39,7 @@ impl<'r> Barlines<'r> {
 
     /// Whether a data token is left out, behind those that were asked of before: it is null, or a
     /// barline that stands among them.
+    #[inline]
     pub fn leaves_out(&mut self, token: &'r [u8]) -> Result<bool, AllocError>
         ensures { IfOk result (Tells self.old self.new token.now) }
     {
@@ -47,6 +49,16 @@ impl<'r> Barlines<'r> {
         if !is_barline(token) {
             return Ok(false);
         }
+        self.leaves_out_barline(token)
+    }
+
+    /// The same of a barline.
+    #[inline(never)]
+    fn leaves_out_barline(&mut self, token: &'r [u8]) -> Result<bool, AllocError>
+        requires barline { is_barline token.now ≡ true }
+        requires filled { is_null token.now ≡ false }
+        ensures { IfOk result (Tells self.old self.new token.now) }
+    {
         match self.first {
             None => {
                 self.first = Some(token);

@@ -12,7 +12,7 @@ ghost use Rattle.hum_choices.specs.Cleave.{fits_in_token};
 
 use crate::tokens::{gather, leftmost_comment};
 use hum_path::Marks;
-use hum_record::{Kind, Record, RecordDraft, Spare, SpinedKind};
+use hum_record::{GrowingText, Kind, Record, RecordDraft, Spare, SpinedKind};
 use hum_stage::{Refusal, unless_long};
 use std::alloc::{AllocError, Global};
 use std::collections::VecDeque;
@@ -23,7 +23,7 @@ use std::marker::Model;
 /// Nothing of what stands in them shows.
 #[derive(Drop)]
 pub struct Buffers {
-    text: Vec<u8>,
+    text: GrowingText,
     pub spare: Spare,
 }
 
@@ -39,7 +39,7 @@ impl Buffers {
     /// Nothing was made yet.
     pub fn new(alloc: Global) -> Buffers {
         Buffers {
-            text: Vec::new(alloc),
+            text: GrowingText::new(alloc),
             spare: Spare::none(alloc),
         }
     }

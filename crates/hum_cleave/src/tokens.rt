@@ -8,7 +8,7 @@ ghost use Rattle.hum_cleave.specs.Tokens.{is_null_comment, comment_of, is_silent
 ghost use Rattle.hum_cleave.specs.Tokens.{interpretation_of, data_of, added};
 
 use crate::barlines::Barlines;
-use hum_record::Record;
+use hum_record::{GrowingText, Record};
 use std::alloc::{AllocError, Global};
 
 fn is_null_comment(token: &[u8]) -> bool
@@ -53,14 +53,14 @@ pub fn leftmost_interpretation<'r>(marks: &[bool], row: &'r Record) -> &'r [u8]
 }
 
 /// Adds a token to a text, with the separator between.
-fn add(separator: &[u8], token: &[u8], text: &mut Vec<u8>) -> Result<(), AllocError>
-    ensures { OnOk result (text.new.items
-        ≡ added separator.now text.old.items token.now) }
+fn add(separator: &[u8], token: &[u8], text: &mut GrowingText) -> Result<(), AllocError>
+    ensures { OnOk result (text.new
+        ≡ added separator.now text.old token.now) }
 {
     if !text.is_empty() {
-        text.extend_from_slice(separator)?;
+        text.add(separator)?;
     }
-    text.extend_from_slice(token)?;
+    text.add(token)?;
     Ok(())
 }
 
@@ -70,15 +70,15 @@ pub fn gather(
     separator: &[u8],
     marks: &[bool],
     row: &Record,
-    text: &mut Vec<u8>,
+    text: &mut GrowingText,
 ) -> Result<(), AllocError>
     requires kind { row.now ≡ Spined Values (tokens_of row.now) }
     requires valid { IsTextOf row.now (text_of row.now) }
     requires between { fits_in_token separator.now ≡ true }
     requires as_wide { length marks.now ≡ width_of row.now }
-    ensures text { OnOk result (text.new.items
+    ensures text { OnOk result (text.new
         ≡ data_of separator.now (chosen marks.now (tokens_of row.now))) }
-    ensures lawful { OnOk result (IsToken Values text.new.items) }
+    ensures lawful { OnOk result (IsToken Values text.new) }
 {
     text.clear();
     let mut barlines = Barlines::none(alloc);
@@ -92,7 +92,7 @@ pub fn gather(
         }
     }
     if text.is_empty() {
-        text.push(b'.')?;
+        text.add(b".")?;
     }
     Ok(())
 }

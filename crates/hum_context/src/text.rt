@@ -4,14 +4,14 @@ ghost use Rattle.hum_record.specs.Spelling.{IsToken};
 ghost use Rattle.hum_record.specs.declared.SpinedKind.TheVariants.{Values};
 ghost use Rattle.hum_context.specs.Walking.{add_token};
 
-use hum_record::MOST_BYTES;
+use hum_record::{GrowingText, MOST_BYTES};
 use std::alloc::{AllocError, Global};
 use std::marker::Model;
 
 /// Data tokens that are joined by spaces: a token, unless there are none.
 #[derive(Drop)]
 pub(crate) struct Text {
-    bytes: Vec<u8>,
+    bytes: GrowingText,
 }
 
 impl Model for Text {
@@ -21,20 +21,20 @@ impl Model for Text {
 
     ghost Value = { List ℕ };
 
-    ghost view = { λ t. t.bytes.items };
+    ghost view = { λ t. t.bytes };
 
-    ghost invariant = { λ t. t.bytes.items ≢ [] → IsToken Values t.bytes.items };
+    ghost invariant = { λ t. t.bytes ≢ [] → IsToken Values t.bytes };
 }
 
 /// A token behind those so far, and a space before it if there are any.
 #[inline]
-fn add_bytes(bytes: &mut Vec<u8>, token: &[u8]) -> Result<(), AllocError>
-    ensures { OnOk result (bytes.new.items ≡ add_token bytes.old.items token.now) }
+fn add_bytes(bytes: &mut GrowingText, token: &[u8]) -> Result<(), AllocError>
+    ensures { OnOk result (bytes.new ≡ add_token bytes.old token.now) }
 {
     if !bytes.is_empty() {
-        bytes.push(b' ')?;
+        bytes.add(b" ")?;
     }
-    bytes.extend_from_slice(token)
+    bytes.add(token)
 }
 
 impl Text {
@@ -43,7 +43,7 @@ impl Text {
         ensures { result ≡ [] }
     {
         Text {
-            bytes: Vec::new(alloc),
+            bytes: GrowingText::new(alloc),
         }
     }
 
@@ -64,7 +64,7 @@ impl Text {
         match add_bytes(&mut self.bytes, token) {
             Ok(()) => Ok(()),
             Err(_) => {
-                self.bytes.truncate(0);
+                self.bytes.clear();
                 Err(AllocError)
             }
         }

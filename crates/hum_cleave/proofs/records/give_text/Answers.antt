@@ -47,5 +47,5 @@ returns-in_ok-made-in-Values c = told_to c.give-in-Values.result _ _
     (λ (r : Row). Answers (text_told c.args.separator.now c.args.marks.now r) room c.give-in-Values.new.out.items refused)
     (sym c.in-Values.ensures.shape) (given Values
     (together (data_of c.args.separator.now (chosen c.args.marks.now (tokens_of c.args.row))) c.args.marks.now (tokens_of c.args.row))
-    room (rw (c.as_slice-one.ensures.value, c.in_ok-gather-in-Values.ensures.text, c.each-marks-in-Values.ensures) at c.in_ok-made-in-Values.ensures)))
+    room (rw (c.as_slice-one.ensures, c.in_ok-gather-in-Values.ensures.text, c.each-marks-in-Values.ensures) at c.in_ok-made-in-Values.ensures)))
     c.give-in-Values.ensures

@@ -7,7 +7,7 @@ use Rattle.hum_cleave.specs.Barlines.{Knows}
 use Rattle.hum_cleave.proofs.Gathering.{so_far, taken_from, passes, leaves_out, takes, adds, all_taken, none_taken, front_passes, front_takes}
 use Rattle.hum_cleave.proofs.Fitted.{lawful_tokens, chosen_lawful, token_lawful, data_lawful, no_bytes, some_bytes}
 use Rattle.hum_cleave.proofs.tokens.gather.Goals as goal
-use Rattle.hum_cleave.proofs.tokens.gather.Goals.{then-not-branch+in_ok-add, else-not-branch, then-is_empty+in_ok-push, else-is_empty}
+use Rattle.hum_cleave.proofs.tokens.gather.Goals.{then-not-branch+in_ok-add, else-not-branch, then-is_empty+in_ok-add-2, else-is_empty}
 
 pub loop-j-preserved : goal.loop-j-preserved
 loop-j-preserved c =
@@ -18,7 +18,7 @@ loop-j-preserved c =
     let at = c.loop-j-test.true in
     let wide = c.requires.as_wide in
     let on = c.if-not-mark.false in
-    let so = so_far c.args.separator.now c.loop-j.text.items in
+    let so = so_far c.args.separator.now c.loop-j.text in
     let before = chosen (take j fs) (take j ts) in
     let token : c.token-token.result.now ≡ get_or ts j [] = c.token-token.ensures.token in
     let some : get_or ts j [] ≢ [] = λ none. (token_lawful Values row c.token-token.result.now c.requires.kind c.token-token.ensures.lawful).filled (token
@@ -29,7 +29,7 @@ loop-j-preserved c =
     (elim c.if-not-branch.branch [
       | then-not-branch+in_ok-add w ↦ (
         rw (w.text-is, w.in_ok-add.ensures, token)
-            (adds c.args.separator.now c.loop-j.text.items (get_or ts j []) (taken_from fs ts (j + 1)) some
+            (adds c.args.separator.now c.loop-j.text (get_or ts j []) (taken_from fs ts (j + 1)) some
             ∙ ap so (takes fs ts j at wide on (sym out ∙ w.if-not-branch.true)) ∙ c.loop-j.invariant.0),
         knows,
       )
@@ -45,7 +45,7 @@ loop-j-preserved-then-not-mark c =
     let at = c.loop-j-test.true in
     let wide = c.requires.as_wide in
     let off = c.if-not-mark.true in (
-      ap (so_far c.args.separator.now c.loop-j.text.items) (passes fs ts j at wide off) ∙ c.loop-j.invariant.0,
+      ap (so_far c.args.separator.now c.loop-j.text) (passes fs ts j at wide off) ∙ c.loop-j.invariant.0,
       rw (front_passes fs ts j at wide off) c.loop-j.invariant.1,
     )
 
@@ -56,15 +56,15 @@ returns c =
     let fs = c.args.marks.now in
     let ts = tokens_of row in
     let j = c.loop-j.j in
-    let so = c.loop-j.text.items in
+    let so = c.loop-j.text in
     let all = c.loop-j.invariant.0 in
-    let text : c.if-is_empty.text.items ≡ data_of separator (chosen fs ts) =
+    let text : c.if-is_empty.text ≡ data_of separator (chosen fs ts) =
     (elim c.if-is_empty.branch [
-      | then-is_empty+in_ok-push w ↦
-          let none = no_bytes so (rw c.loop-j.text.ok.0 at (sym c.is_empty.ensures ∙ w.if-is_empty.true)) in
-          rw (w.text-is, w.in_ok-push.ensures.items, none) (none_taken separator so fs ts j c.loop-j-test.false none all)
+      | then-is_empty+in_ok-add-2 w ↦
+          let none = no_bytes so (sym c.is_empty.ensures ∙ w.if-is_empty.true) in
+          rw (w.text-is, w.in_ok-add-2.ensures.added, none) (none_taken separator so fs ts j c.loop-j-test.false none all)
       | else-is_empty w ↦
-          let some = some_bytes so (rw c.loop-j.text.ok.0 at (sym c.is_empty.ensures ∙ w.if-is_empty.false)) in
+          let some = some_bytes so (sym c.is_empty.ensures ∙ w.if-is_empty.false) in
           rw w.text-is (all_taken separator so fs ts j c.loop-j-test.false some all)
     ]) in
     let lawful = chosen_lawful fs ts (lawful_tokens Values row c.requires.kind c.requires.valid).0 in

@@ -7,6 +7,6 @@ use Rattle.hum_cleave.proofs.tokens.gather.Given as goal
 
 abbrev pub invariant-loop-j : goal.invariant-loop-j
 invariant-loop-j l =
-    (so_far l.separator l.text.items (taken_from l.marks (tokens_of l.row) l.j)
+    (so_far l.separator l.text (taken_from l.marks (tokens_of l.row) l.j)
     ≡ data_of l.separator (chosen l.marks (tokens_of l.row)))
     × Knows l.barlines (chosen (take l.j l.marks) (take l.j (tokens_of l.row)))
