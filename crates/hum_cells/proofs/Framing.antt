@@ -4,7 +4,8 @@ use Rattle.std.specs.Prelude.{None, Bool, Ok, Err}
 use Rattle.std.specs.List.{list_all, find}
 use Rattle.std.proofs.lemmas.Bool.{and_parts, not-false, false≢true}
 use Rattle.hum_record.specs.declared.SpinedKind.TheVariants.{Local, Interpretation, Values}
-use Rattle.hum_record.specs.Row.{Row, Comment, Spined}
+use Rattle.hum_record.specs.declared.Kind.TheVariants.{Values as AnyValues}
+use Rattle.hum_record.specs.Row.{Row, Comment, Spined, kind_of}
 use Rattle.hum_path.specs.Sign.{sign_of, is_exclusive, is_plain, all_plain, steers}
 use Rattle.hum_path.specs.declared.moved.Move.{Move}
 use Rattle.hum_path.specs.Spines.{Path, Unopened, Spines, exclusives, names_after, moves, after}
@@ -36,6 +37,16 @@ kern_stays past (Spined Local tokens) quiets sound = refl
 kern_stays past (Spined Values tokens) quiets sound = refl
 kern_stays past (Spined Interpretation tokens) quiets sound =
     ap (map is_kern) (quiet (path_after past) tokens (not-false (all_plain tokens) quiets) sound.1)
+
+-- data asks nothing of the spines
+pub data_stays : (past : List Row) (row : Row) → kind_of row ≡ AnyValues → IsOpen (row ∷ past) → kern_columns past ≡ kern_columns (row ∷ past)
+data_stays past row is sound = kern_stays past row (quiet_data row is) sound
+  where
+    quiet_data : (row : Row) → kind_of row ≡ AnyValues → steers row ≡ false
+    quiet_data (Comment text) is = refl
+    quiet_data (Spined Local tokens) is = refl
+    quiet_data (Spined Values tokens) is = refl
+    quiet_data (Spined Interpretation tokens) is = absurd cc
 
 -- What one step asks of its parts.
 moved : {follows : Rewriting → List Row → Type 0} {path : Path} {kern : List Bool} {decide : Decision} {past : List Row} (row : Row) (found : List Move)

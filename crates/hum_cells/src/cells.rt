@@ -1,10 +1,11 @@
 //! The frame round what is a command's own.
-ghost use Rattle.std.specs.Prelude.{◌≡◌, ◌≤◌, ◌∷◌, OnOk, List, length, map};
-ghost use Rattle.hum_record.specs.declared.Kind.TheVariants.{Interpretation as AnyInterpretation};
+ghost use Rattle.std.specs.Prelude.{◌≡◌, ◌≢◌, ◌≤◌, ◌∷◌, OnOk, List, length, map};
+ghost use Rattle.hum_record.specs.declared.Kind.TheVariants.{Interpretation as AnyInterpretation, Values as AnyValues};
 ghost use Rattle.hum_record.specs.Row.{Row, kind_of, text_of};
 ghost use Rattle.hum_path.specs.Spines.{exclusives};
 ghost use Rattle.hum_path.specs.Score.{IsOpen, path_after};
-ghost use Rattle.hum_stage.specs.Refusals.{IfAnswered};
+ghost use Rattle.hum_stage.specs.Decided.{MayStep, HasStepped};
+ghost use Rattle.hum_stage.specs.Refusals.{IfAnswered, IfTold};
 ghost use Rattle.hum_cells.specs.Rewriting.{is_kern, kern_columns, rewrite};
 ghost use Rattle.hum_cells.specs.Rewriter.{MayTell, HasTold};
 
@@ -86,12 +87,12 @@ fn tell_heading<T: TokenRewriter>(
     }
 }
 
-/// What a record becomes.
+/// What a data record becomes.
 ///
 /// # Errors
 /// The rule by which it is refused; or out of memory.
 #[inline(always)]
-fn tell<T: TokenRewriter>(
+fn tell_data<T: TokenRewriter>(
     alloc: Global,
     teller: &mut T,
     kern: &[bool],
@@ -99,19 +100,93 @@ fn tell<T: TokenRewriter>(
     spare: &mut Spare,
 ) -> Result<Rewritten, Refusal>
     requires score { MayTell (T.follows teller.old) kern.now row.now }
+    requires kind { kind_of row.now ≡ AnyValues }
+    requires at_most { length (text_of row.now) ≤ 1048576 }
     ensures { IfAnswered result (HasTold (T.follows teller.old) (T.follows teller.new) kern.now row.now) }
 {
+    if any_told(kern, row) {
+        tell_tokens(alloc, teller, kern, row, spare)
+    } else {
+        Ok(Rewritten::Same)
+    }
+}
+
+/// What a record becomes that is no data.
+///
+/// # Errors
+/// L1; or out of memory.
+fn tell_other<T: TokenRewriter>(
+    alloc: Global,
+    teller: &T,
+    kern: &[bool],
+    row: &Record,
+    spare: &mut Spare,
+) -> Result<Rewritten, Refusal>
+    requires score { MayTell (T.follows teller.now) kern.now row.now }
+    requires kind { kind_of row.now ≢ AnyValues }
+    ensures { IfAnswered result (HasTold (T.follows teller.now) (T.follows teller.now) kern.now row.now) }
+{
     match row.kind() {
-        Kind::Values => {
-            if any_told(kern, row) {
-                tell_tokens(alloc, teller, kern, row, spare)
-            } else {
-                Ok(Rewritten::Same)
-            }
-        }
         Kind::Interpretation => tell_heading(alloc, teller, kern, row, spare),
         Kind::Local => Ok(Rewritten::Same),
         Kind::Global => Ok(Rewritten::Same),
+        Kind::Values => unreachable!(),
+    }
+}
+
+impl<T: TokenRewriter> Cells<T> {
+    ghost use Rattle.hum_cells.specs.Rewriter.{Frames};
+
+    /// Puts what a data record becomes. Behind it each column is under what it was.
+    ///
+    /// # Errors
+    /// The rule by which it is refused; or out of memory.
+    #[inline(always)]
+    fn step_data(&mut self, next: Record, _room: u64, out: &mut UpToTwo) -> Result<(), Refusal>
+        requires score { MayStep (Frames (T.follows self.old.teller) self.old.paths.path self.old.kern.items) next }
+        requires kind { kind_of next ≡ AnyValues }
+        requires at_most { length (text_of next) ≤ 1048576 }
+        ensures { IfTold result (HasStepped
+            (Frames (T.follows self.old.teller) self.old.paths.path self.old.kern.items)
+            (Frames (T.follows self.new.teller) self.new.paths.path self.new.kern.items)
+            next _room out.new) }
+    {
+        self.teller.follow(&next, &self.paths.follow(&next)?)?;
+        let told = tell_data(
+            self.alloc,
+            &mut self.teller,
+            &self.kern,
+            &next,
+            &mut self.spare,
+        )?;
+        told.put(next, &mut self.spare, out);
+        Ok(())
+    }
+
+    /// Puts what a record becomes that is no data.
+    ///
+    /// # Errors
+    /// L1; or out of memory.
+    #[inline(never)]
+    fn step_other(&mut self, next: Record, _room: u64, out: &mut UpToTwo) -> Result<(), Refusal>
+        requires score { MayStep (Frames (T.follows self.old.teller) self.old.paths.path self.old.kern.items) next }
+        requires kind { kind_of next ≢ AnyValues }
+        ensures { IfTold result (HasStepped
+            (Frames (T.follows self.old.teller) self.old.paths.path self.old.kern.items)
+            (Frames (T.follows self.new.teller) self.new.paths.path self.new.kern.items)
+            next _room out.new) }
+    {
+        self.teller.follow(&next, &self.paths.follow(&next)?)?;
+        let told = tell_other(
+            self.alloc,
+            &self.teller,
+            &self.kern,
+            &next,
+            &mut self.spare,
+        )?;
+        mark_after(&next, &self.paths, &mut self.kern)?;
+        told.put(next, &mut self.spare, out);
+        Ok(())
     }
 }
 
@@ -143,16 +218,9 @@ impl<T: TokenRewriter> Decides for Cells<T> {
     }
 
     fn step(&mut self, next: Record, _room: u64, out: &mut UpToTwo) -> Result<(), Refusal> {
-        self.teller.follow(&next, &self.paths.follow(&next)?)?;
-        let told = tell(
-            self.alloc,
-            &mut self.teller,
-            &self.kern,
-            &next,
-            &mut self.spare,
-        )?;
-        mark_after(&next, &self.paths, &mut self.kern)?;
-        told.put(next, &mut self.spare, out);
-        Ok(())
+        match next.kind() {
+            Kind::Values => self.step_data(next, _room, out),
+            _ => self.step_other(next, _room, out),
+        }
     }
 }

@@ -76,6 +76,7 @@ fn push_told<T: TokenRewriter>(
 ///
 /// # Errors
 /// The first rule by which one of its tokens is refused, or L1; or out of memory.
+#[inline]
 pub(crate) fn tell_tokens<T: TokenRewriter>(
     alloc: Global,
     teller: &mut T,

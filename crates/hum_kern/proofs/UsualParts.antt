@@ -15,7 +15,6 @@ use Rattle.hum_kern.specs.Note.{Notation, Reading, is_uniform, alteration_of, pi
 use Rattle.hum_kern.specs.NoteParts.{AreNoteParts}
 use Rattle.hum_kern.specs.Subtokens.{subtokens}
 use Rattle.hum_kern.specs.Usual.{tie_at_end, IsReadAlone}
-use Rattle.hum_kern.proofs.Leading.{empty_is}
 use Rattle.hum_kern.proofs.Notations.{one_notation}
 use Rattle.hum_kern.proofs.Parts.{run_maximal, front-behind}
 use Rattle.hum_kern.proofs.Placing.{no_more, off, neither, not_of, otherwise, not_over, same_marks, rest_letter, rest_sign, grace_letter, grace_sign, continued_letter, continued_sign}
@@ -287,10 +286,10 @@ pitch_is letter more signs step octave alteration read is =
     ∙ ap (λ (a : ℤ). altered_by (Some (natural_note step octave)) (Some a)) (sym is)
 
 -- what is read of a rest whose sign stands last
-abbrev lone_rest : Reading
+abbrev pub lone_rest : Reading
 lone_rest = record { pitch = None; start = 0; end = 0; rest = true; grace = false; continued = false }
 
-rest_at_end : (before : List ℕ) → AllByRecursion (λ b. is_plain b ≡ true) before → IsReadAlone (before ++ (114 ∷ [])) lone_rest
+pub rest_at_end : (before : List ℕ) → AllByRecursion (λ b. is_plain b ≡ true) before → IsReadAlone (before ++ (114 ∷ [])) lone_rest
 rest_at_end before h =
     let rest : is_rest (before ++ (114 ∷ [])) ≡ true =
     rw (list_any-append is_rest_sign before (114 ∷ []), off is_rest_sign is_plain plain_rest before h) refl in
@@ -301,9 +300,3 @@ rest_at_end before h =
     let space : list_any is_space (before ++ (114 ∷ [])) ≡ false =
     rw (list_any-append is_space before (114 ∷ []), off is_space is_plain plain_space before h) refl in
     record { read = rw (rest, grace, continued) refl; alone = one_part (before ++ (114 ∷ [])) space }
-
--- the same where the sign was tested
-pub rest_alone : (before : List ℕ) (first : ℕ) (rest : List ℕ) → AllByRecursion (λ b. is_plain b ≡ true) before → first ≡ 114 → (length rest == 0) ≡ true
-    → IsReadAlone (before ++ (first ∷ rest)) lone_rest
-rest_alone before first [] h is none = rw is (rest_at_end before h)
-rest_alone before first (b ∷ rest) h is none = let no : true ≡ false = sym none ∙ empty_is (b ∷ rest) in cc

@@ -1,7 +1,7 @@
 //! Maximal runs of bytes of one class.
 
-ghost use Rattle.std.specs.Prelude.{◌≡◌, ◌+◌, length};
-ghost use Rattle.hum_kern.specs.Runs.{front, behind, starts_with};
+ghost use Rattle.std.specs.Prelude.{◌≡◌, ◌+◌, ◌≤◌, length, drop};
+ghost use Rattle.hum_kern.specs.Runs.{run, front, behind, starts_with};
 ghost use Rattle.hum_kern.specs.Classes.{is_digit, is_letter, is_sign, is_plain, is_in};
 
 /// What a run consists of.
@@ -116,6 +116,22 @@ pub(crate) fn split_run(bytes: &[u8], class: Class) -> (&[u8], &[u8])
 {
     let rest = behind_run(bytes, class);
     (bytes.split_at(bytes.len() - rest.len()).0, rest)
+}
+
+/// Where the run ends that begins at a place.
+#[inline(always)]
+pub(crate) fn run_end(bytes: &[u8], from: usize, class: Class) -> usize
+    requires { from ≤ length bytes.now }
+    ensures run { result ≡ from + run (is_in class) (drop from bytes.now) }
+    ensures behind { drop result bytes.now ≡ behind (is_in class) (drop from bytes.now) }
+    ensures within { result ≤ length bytes.now }
+{
+    for end in from..bytes.len() {
+        if !class.has(bytes[end]) {
+            return end;
+        }
+    }
+    bytes.len()
 }
 
 /// Whether a percent sign stands at the front.

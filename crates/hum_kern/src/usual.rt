@@ -1,5 +1,5 @@
 //! Subtokens as most are: a pitch with at most one sign, among bytes that say nothing of a note.
-ghost use Rattle.std.specs.Prelude.{◌≡◌, ◌∷◌, ◌++◌, ◌+◌, ◌<◌, ◌≤◌, ◌^◌, length, take, true, IfSome};
+ghost use Rattle.std.specs.Prelude.{◌≡◌, ◌∷◌, ◌+◌, ◌<◌, ◌≤◌, ◌^◌, length, take, drop, true, IfSome};
 ghost use Rattle.std.specs.List.{AllByRecursion};
 ghost use Rattle.hum_kern.specs.Classes.{is_letter, is_sign, is_plain};
 ghost use Rattle.hum_pitch.specs.Pitch.{IsAlteration};
@@ -7,19 +7,20 @@ ghost use Rattle.hum_kern.specs.Note.{reading, alteration_of};
 ghost use Rattle.hum_kern.specs.Usual.{tie_at_end, IsReadAlone};
 
 use crate::notes::{Note, natural};
-use crate::runs::{Class, is_letter, split_run};
+use crate::runs::{Class, is_letter, run_end};
 use hum_pitch::Pitch;
 
-/// The alteration by the sign at the front, and how many signs that are: one, or none.
+/// The alteration by the sign at a place, and how many signs stand there: one, or none.
 #[inline(always)]
-fn read_sign(bytes: &[u8]) -> (i8, usize)
+fn sign_at(bytes: &[u8], at: usize) -> (i8, usize)
+    requires { at ≤ length bytes.now }
     ensures few { result.1 ≤ 1 }
-    ensures within { result.1 ≤ length bytes.now }
-    ensures signs { AllByRecursion (λ b. is_sign b ≡ true) (take result.1 bytes.now) }
-    ensures alteration { result.0 ≡ alteration_of (take result.1 bytes.now) }
+    ensures within { result.1 ≤ length (drop at bytes.now) }
+    ensures signs { AllByRecursion (λ b. is_sign b ≡ true) (take result.1 (drop at bytes.now)) }
+    ensures alteration { result.0 ≡ alteration_of (take result.1 (drop at bytes.now)) }
     ensures in_range { IsAlteration result.0 }
 {
-    match bytes {
+    match bytes.split_at(at).1 {
         [b'#', ..] => (1, 1),
         [b'-', ..] => (-1, 1),
         [b'n', ..] => (0, 1),
@@ -46,22 +47,28 @@ fn tie_at_end(last: &[u8]) -> Option<bool>
     }
 }
 
-/// What a subtoken says by its first letter and what stands behind, if it is as most are.
+// The places in the token are all counted from its front: what stands between them is never taken as a
+// text of its own, so that no length is worked out.
+
+/// What a subtoken says by its first letter, which stands behind plain bytes, if it is as most are.
 #[inline(always)]
-fn read_pitch(before: &[u8], letter: u8, rest: &[u8]) -> Option<Note>
-    requires fits { length before.now + 1 + length rest.now < 2 ^ 64 }
-    requires plain { AllByRecursion (λ b. is_plain b ≡ true) before.now }
+fn read_pitch(bytes: &[u8], start: usize, letter: u8) -> Option<Note>
+    requires within { start < length bytes.now }
+    requires fits { length bytes.now < 2 ^ 64 }
+    requires plain { AllByRecursion (λ b. is_plain b ≡ true) (take start bytes.now) }
+    requires at { drop start bytes.now ≡ letter ∷ drop (start + 1) bytes.now }
     requires letter { is_letter letter ≡ true }
-    ensures { IfSome result (λ found. IsReadAlone (before.now ++ (letter ∷ rest.now)) (reading found)) }
+    ensures { IfSome result (λ found. IsReadAlone bytes.now (reading found)) }
 {
-    let (more, behind) = split_run(rest, Class::Repeat(letter));
-    let (alteration, signs) = read_sign(behind);
-    let (_plain, last) = split_run(behind.split_at(signs).1, Class::Plain);
-    let continued = match tie_at_end(last) {
+    let behind = run_end(bytes, start + 1, Class::Repeat(letter));
+    let (alteration, signs) = sign_at(bytes, behind);
+    let end = behind + signs;
+    let last = run_end(bytes, end, Class::Plain);
+    let continued = match tie_at_end(bytes.split_at(last).1) {
         Some(continued) => continued,
         None => return None,
     };
-    let letters = more.len() + 1;
+    let letters = behind - start;
     if letters > 8 {
         return None;
     }
@@ -72,22 +79,24 @@ fn read_pitch(before: &[u8], letter: u8, rest: &[u8]) -> Option<Note>
             octave: note.octave,
             alteration,
         }),
-        start: before.len(),
-        end: before.len() + letters + signs,
+        start,
+        end,
         rest: false,
         grace: false,
         continued,
     })
 }
 
-/// What a subtoken says by its first byte that isn't plain and what stands behind, if it is as most are.
+/// What a subtoken says by its first byte that isn't plain, if it is as most are.
 #[inline(always)]
-fn read_behind(before: &[u8], first: u8, rest: &[u8]) -> Option<Note>
-    requires fits { length before.now + 1 + length rest.now < 2 ^ 64 }
-    requires plain { AllByRecursion (λ b. is_plain b ≡ true) before.now }
-    ensures { IfSome result (λ found. IsReadAlone (before.now ++ (first ∷ rest.now)) (reading found)) }
+fn read_behind(bytes: &[u8], start: usize, first: u8) -> Option<Note>
+    requires within { start < length bytes.now }
+    requires fits { length bytes.now < 2 ^ 64 }
+    requires plain { AllByRecursion (λ b. is_plain b ≡ true) (take start bytes.now) }
+    requires at { drop start bytes.now ≡ first ∷ drop (start + 1) bytes.now }
+    ensures { IfSome result (λ found. IsReadAlone bytes.now (reading found)) }
 {
-    if first == b'r' && rest.is_empty() {
+    if first == b'r' && start + 1 == bytes.len() {
         return Some(Note {
             pitch: None,
             start: 0,
@@ -98,7 +107,7 @@ fn read_behind(before: &[u8], first: u8, rest: &[u8]) -> Option<Note>
         });
     }
     if is_letter(first) {
-        return read_pitch(before, first, rest);
+        return read_pitch(bytes, start, first);
     }
     None
 }
@@ -110,9 +119,9 @@ fn read_behind(before: &[u8], first: u8, rest: &[u8]) -> Option<Note>
 pub fn read_lone(bytes: &[u8]) -> Option<Note>
     ensures { IfSome result (λ found. IsReadAlone bytes.now (reading found)) }
 {
-    let (before, rest) = split_run(bytes, Class::Plain);
-    match rest {
-        [first, behind @ ..] => read_behind(before, *first, behind),
-        [] => None,
+    let start = run_end(bytes, 0, Class::Plain);
+    if start == bytes.len() {
+        return None;
     }
+    read_behind(bytes, start, bytes[start])
 }

@@ -37,14 +37,9 @@ fn upwards(interval: Interval) -> i32
     ensures exact { result ≡ upwards interval.d interval.s }
     ensures bounded { IsWithin (negsuc 204) result (pos 205) }
 {
-    if interval.d > 0 {
-        interval.s
-    } else if interval.d < 0 {
-        0 - interval.s
-    } else if interval.s < 0 {
-        0 - interval.s
-    } else {
-        interval.s
+    match direction(interval) {
+        Direction::Down => 0 - interval.s,
+        _ => interval.s,
     }
 }
 
@@ -138,18 +133,43 @@ pub fn direction_sign(interval: Interval) -> Option<u8>
     }
 }
 
+/// The letter of the quality of an interval that can be perfect, where that is one letter.
+#[inline(always)]
+fn perfect_letter(excess: i32) -> Option<u8>
+    ensures { IfSome result (λ letter. quality_letters (of_perfect excess) ≡ letter ∷ []) }
+{
+    match excess {
+        -1 => Some(b'd'),
+        0 => Some(b'P'),
+        1 => Some(b'A'),
+        _ => None,
+    }
+}
+
+/// The same of an interval that can be major or minor.
+#[inline(always)]
+fn major_letter(excess: i32) -> Option<u8>
+    ensures { IfSome result (λ letter. quality_letters (of_major excess) ≡ letter ∷ []) }
+{
+    match excess {
+        -2 => Some(b'd'),
+        -1 => Some(b'm'),
+        0 => Some(b'M'),
+        1 => Some(b'A'),
+        _ => None,
+    }
+}
+
 /// The letter of an interval's quality, where that is one letter, as most are.
 pub fn quality_letter(interval: Interval) -> Option<u8>
     ensures { IfSome result (λ letter.
         quality_letters (quality interval.d interval.s) ≡ letter ∷ []) }
 {
-    match quality(interval) {
-        Quality::Perfect => Some(b'P'),
-        Quality::Major => Some(b'M'),
-        Quality::Minor => Some(b'm'),
-        Quality::Augmented(1) => Some(b'A'),
-        Quality::Diminished(1) => Some(b'd'),
-        _ => None,
+    let excess = excess(interval);
+    if can_be_perfect(interval.d.unsigned_abs()) {
+        perfect_letter(excess)
+    } else {
+        major_letter(excess)
     }
 }
 

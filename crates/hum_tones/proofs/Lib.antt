@@ -6,6 +6,7 @@ pub mod Parts
 pub mod Told
 pub mod Written
 pub mod Numbers
+pub mod SemitoneTexts
 pub mod ShortNames
 pub mod Joined
 pub mod Lone

@@ -1,7 +1,7 @@
 -- Numbers, as they are written, may stand in a token.
-use Rattle.std.proofs.Common.{◌≡◌, ◌≢◌, refl, ap, ◌∙◌, ℕ, zero, suc, ◌+◌, ◌≤◌, ◌<◌, ◌/◌, ◌%◌, ◌^◌, ◌==◌, Bool}
-use Rattle.std.proofs.Common.{true, false, List, [], ◌∷◌, ◌++◌, drop, ◌-◌, arith}
-use Rattle.std.specs.Prelude.{ℤ, pos, negsuc, if◌then◌else◌}
+use Rattle.std.proofs.Common.{◌≡◌, ◌≢◌, refl, ap, ◌∙◌, ℕ, zero, suc, ◌+◌, ◌≤◌, ◌<◌, ◌/◌, ◌%◌, ◌^◌, ◌==◌}
+use Rattle.std.proofs.Common.{false, List, [], ◌∷◌, ◌++◌, arith}
+use Rattle.std.specs.Prelude.{ℤ, pos, negsuc}
 use Rattle.std.specs.List.{AllByRecursion}
 use Rattle.std.specs.Fmt.{decimal, signed_decimal}
 use Rattle.std.specs.Int.Signed.{mag}
@@ -84,37 +84,6 @@ pub three_digits : (n : ℕ) → 100 ≤ n → n < 1000 → decimal n ≡ (48 + 
 three_digits n large small =
     decimal_step n (omega (arith, large)) (omega (arith, small))
     ∙ ap (λ (xs : List ℕ). xs ++ (48 + n % 10) ∷ []) (two_digits (n / 10) (omega (arith, large)) (omega (arith, small)))
-
--- the same with a sign in front
-pub one_text : (negative : Bool) (n from : ℕ) → n < 10 → from ≡ (if negative then 3 - 1 else 3)
-    → drop from (0 ∷ 0 ∷ 45 ∷ (48 + n % 10) ∷ []) ≡ (if negative then 45 ∷ decimal n else decimal n)
-one_text negative n from small is =
-    let digit : n % 10 ≡ n = omega (arith, small) in
-    rw (is, digit, one_digit n small) (go negative)
-  where
-    go : (negative : Bool) → drop (if negative then 3 - 1 else 3) (0 ∷ 0 ∷ 45 ∷ (48 + n) ∷ []) ≡ (if negative then 45 ∷ (48 + n) ∷ [] else (48 + n) ∷ [])
-    go true = refl
-    go false = refl
-
-pub two_text : (negative : Bool) (n from : ℕ) → 10 ≤ n → n < 100 → from ≡ (if negative then 2 - 1 else 2)
-    → drop from (0 ∷ 45 ∷ (48 + n / 10 % 10) ∷ (48 + n % 10) ∷ []) ≡ (if negative then 45 ∷ decimal n else decimal n)
-two_text negative n from large small is =
-    let digit : n / 10 % 10 ≡ n / 10 = omega (arith, small) in
-    rw (is, digit, two_digits n large small) (go negative)
-  where
-    go : (negative : Bool) → drop (if negative then 2 - 1 else 2) (0 ∷ 45 ∷ (48 + n / 10) ∷ (48 + n % 10) ∷ [])
-        ≡ (if negative then 45 ∷ (48 + n / 10) ∷ (48 + n % 10) ∷ [] else (48 + n / 10) ∷ (48 + n % 10) ∷ [])
-    go true = refl
-    go false = refl
-
-pub three_text : (negative : Bool) (n from : ℕ) → 100 ≤ n → n < 1000 → from ≡ (if negative then 1 - 1 else 1)
-    → drop from (45 ∷ (48 + n / 10 / 10) ∷ (48 + n / 10 % 10) ∷ (48 + n % 10) ∷ []) ≡ (if negative then 45 ∷ decimal n else decimal n)
-three_text negative n from large small is = rw (is, three_digits n large small) (go negative)
-  where
-    go : (negative : Bool) → drop (if negative then 1 - 1 else 1) (45 ∷ (48 + n / 10 / 10) ∷ (48 + n / 10 % 10) ∷ (48 + n % 10) ∷ [])
-        ≡ (if negative then 45 ∷ (48 + n / 10 / 10) ∷ (48 + n / 10 % 10) ∷ (48 + n % 10) ∷ [] else (48 + n / 10 / 10) ∷ (48 + n / 10 % 10) ∷ (48 + n % 10) ∷ [])
-    go true = refl
-    go false = refl
 
 -- a number behind a letter
 pub one_behind : (n : ℕ) (letter : ℕ) → n < 10 → letter ∷ (48 + n) ∷ [] ≡ letter ∷ decimal n

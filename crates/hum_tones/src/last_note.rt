@@ -174,6 +174,7 @@ impl ColumnMemory for LastNote {
     }
 
     // Where no pattern is to be found, most cells are seen at once.
+    #[inline(always)]
     fn see(&mut self, options: &mut MintOptions, token: &[u8]) -> Result<(), AllocError> {
         if options.breaks.is_some() || !is_data(token) {
             self.hear_any(options, token);

@@ -11,6 +11,7 @@ mod minting;
 mod part_rule;
 mod partwise;
 mod recip;
+mod semitone_texts;
 mod semits;
 mod short_text;
 mod short_token;

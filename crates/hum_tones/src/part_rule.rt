@@ -1,23 +1,23 @@
 //! Tokens in whose place stands what their parts give.
-ghost use Rattle.std.specs.Prelude.{◌≡◌, ◌++◌, [], codes, ◌&&◌, OnOk, option_map};
+ghost use Rattle.std.specs.Prelude.{◌≡◌, ◌++◌, [], codes, ◌&&◌, OnOk, IfOk, option_map, true, false, None};
 ghost use Rattle.hum_record.specs.declared.SpinedKind.TheVariants.{Values};
 ghost use Rattle.hum_record.specs.Spelling.{IsToken};
 ghost use Rattle.hum_record.specs.RecordDraft.{Holds};
 ghost use Rattle.hum_stage.specs.Refusals.{IfTold};
 ghost use Rattle.hum_cells.specs.Rewriter.{Pushes};
 ghost use Rattle.hum_tones.specs.Subtokens.{lone_text, HasAdded, IsRewritten};
-ghost use Rattle.hum_tones.specs.ShortText.{text_of};
 ghost use Rattle.hum_kern.specs.Note.{reading, is_rest};
 ghost use Rattle.hum_tones.specs.Faults.{rule_of};
 ghost use Rattle.hum_tones.specs.Recip.{rest_sign, recip_of};
 ghost use Rattle.hum_tones.specs.Semits.{of_reading, semits_of};
 
-use crate::short_text::ShortText;
+use crate::semitone_texts::semitones_text;
 use crate::transposing::{add_transposed, push_transposed};
 use hum_choices::TransOptions;
 use hum_kern::{KernFault, Note, leading_text, read_duration, read_lone, read_note};
 use hum_record::RecordDraft;
 use hum_stage::{Refusal, Rule};
+use std::alloc::AllocError;
 
 /// What each part of a token gives.
 #[derive(Clone, Copy)]
@@ -93,11 +93,11 @@ fn is_left_out(ties_left_out: bool, note: &Note) -> bool
 /// What a part gives by what it says: the semitones of its note, unless that is left out, or `r`
 /// for a rest.
 #[inline(always)]
-fn note_text(note: Note, ties_left_out: bool) -> Option<ShortText>
-    ensures { option_map text_of result ≡ of_reading ties_left_out (reading note) }
+fn note_text(note: Note, ties_left_out: bool) -> Option<&'static [u8]>
+    ensures { option_map (λ text. text.now) result ≡ of_reading ties_left_out (reading note) }
 {
     if note.rest {
-        return Some(ShortText::of_byte(b'r'));
+        return Some(b"r".as_slice());
     }
     match note.pitch {
         None => None,
@@ -105,19 +105,19 @@ fn note_text(note: Note, ties_left_out: bool) -> Option<ShortText>
             if is_left_out(ties_left_out, &note) {
                 return None;
             }
-            Some(ShortText::of_semitones(pitch.semits()))
+            Some(semitones_text(pitch.semits()))
         }
     }
 }
 
 /// A text, or a null token where there is none.
 #[inline(always)]
-fn or_null(text: Option<ShortText>) -> ShortText
-    ensures { text_of result ≡ lone_text (option_map text_of text) }
+fn or_null(text: Option<&'static [u8]>) -> &'static [u8]
+    ensures { result.now ≡ lone_text (option_map (λ text. text.now) text.entry) }
 {
     match text {
         Some(text) => text,
-        None => ShortText::of_byte(b'.'),
+        None => b".".as_slice(),
     }
 }
 
@@ -133,7 +133,7 @@ fn add_semitones(part: &[u8], ties_left_out: bool, text: &mut Vec<u8>) -> Result
     match note_text(note, ties_left_out) {
         None => Ok(()),
         Some(given) => {
-            text.extend_from_slice(given.as_bytes())?;
+            text.extend_from_slice(given)?;
             text.push(b' ')?;
             Ok(())
         }
@@ -202,40 +202,43 @@ impl PartRule {
         Ok(())
     }
 
-    /// Adds what a data token becomes to a record in the making. Where its text has to be made, it
-    /// is made in `text`.
+    /// Adds what a data token becomes to a record in the making where it is one subtoken, as most are,
+    /// or else nothing; and tells which.
     ///
     /// # Errors
-    /// The rule by which it is refused; or out of memory.
+    /// Out of memory.
     #[inline(always)]
-    pub(crate) fn push(
+    pub(crate) fn push_usual(
         self,
         token: &[u8],
-        text: &mut Vec<u8>,
         making: &mut RecordDraft,
-    ) -> Result<(), Refusal>
+    ) -> Result<bool, AllocError>
         requires lawful { IsToken Values token.now }
         requires kind { making.old.builder.kind ≡ Values }
-        ensures pushed { IfTold result (Pushes (given self token.now)
+        ensures pushed { IfOk result (λ pushed. pushed ≡ true → Pushes (given self token.now)
             (Holds Values making.old.builder making.old.is_long)
-            (Holds Values making.new.builder making.new.is_long)) }
-        ensures kind { OnOk result (making.new.builder.kind ≡ Values) }
+            (Holds Values making.new.builder making.new.is_long) None) }
+        ensures kept { IfOk result (λ pushed. pushed ≡ false → making.new ≡ making.old) }
+        ensures kind { making.new.builder.kind ≡ Values }
     {
         match self {
             PartRule::Semitones { ties_left_out } => match read_lone(token) {
                 Some(note) => {
-                    let given = or_null(note_text(note, ties_left_out));
-                    Ok(making.push(given.as_bytes())?)
+                    making.push(or_null(note_text(note, ties_left_out)))?;
+                    Ok(true)
                 }
-                None => self.push_parts(token, text, making),
+                None => Ok(false),
             },
             PartRule::Durations => match leading_text(token) {
-                Some(given) => Ok(making.push(given)?),
-                None => self.push_parts(token, text, making),
+                Some(given) => {
+                    making.push(given)?;
+                    Ok(true)
+                }
+                None => Ok(false),
             },
             PartRule::Transposed(options) => match read_lone(token) {
-                Some(note) => push_transposed(options, token, note, text, making),
-                None => self.push_parts(token, text, making),
+                Some(note) => push_transposed(options, token, note, making),
+                None => Ok(false),
             },
         }
     }

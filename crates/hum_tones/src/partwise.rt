@@ -1,9 +1,14 @@
 //! Commands whose tokens become what their parts give, the same wherever they stand.
-ghost use Rattle.std.specs.Prelude.{◌≡◌};
+ghost use Rattle.std.specs.Prelude.{◌≡◌, OnOk};
+ghost use Rattle.hum_record.specs.declared.SpinedKind.TheVariants.{Values};
+ghost use Rattle.hum_record.specs.Spelling.{IsToken};
+ghost use Rattle.hum_record.specs.RecordDraft.{Holds};
+ghost use Rattle.hum_stage.specs.Refusals.{IfTold};
 ghost use Rattle.hum_stage.specs.declared.faults.Command.{Command};
 ghost use Rattle.hum_cells.specs.Rewriting.{Rewriting, Heading, IsHeading};
-ghost use Rattle.hum_cells.specs.Rewriter.{shown};
+ghost use Rattle.hum_cells.specs.Rewriter.{shown, Pushes};
 ghost use Rattle.hum_tones.specs.Commands.{given_under};
+ghost use Rattle.hum_tones.specs.PartRule.{given};
 ghost use Rattle.hum_tones.specs.declared.part_rule.PartRule.{PartRule};
 
 use crate::part_rule::PartRule;
@@ -57,6 +62,27 @@ pub struct PartwiseColumns<G> {
     text: Vec<u8>,
 }
 
+impl<G: Partwise> PartwiseColumns<G> {
+    /// Adds what any data token becomes to a record in the making.
+    ///
+    /// # Errors
+    /// The rule by which it is refused; or out of memory.
+    #[inline(never)]
+    fn rewrite_any(&mut self, token: &[u8], making: &mut RecordDraft) -> Result<(), Refusal>
+        requires lawful { IsToken Values token.now }
+        requires kind { making.old.builder.kind ≡ Values }
+        ensures same { self.new.command ≡ self.old.command }
+        ensures pushed { IfTold result (Pushes (given (G.giving self.old.command) token.now)
+            (Holds Values making.old.builder making.old.is_long)
+            (Holds Values making.new.builder making.new.is_long)) }
+        ensures kind { OnOk result (making.new.builder.kind ≡ Values) }
+    {
+        self.command
+            .giving()
+            .push_parts(token, &mut self.text, making)
+    }
+}
+
 impl<G: Partwise> TokenRewriter for PartwiseColumns<G> {
     type Options = G::Options;
 
@@ -92,7 +118,11 @@ impl<G: Partwise> TokenRewriter for PartwiseColumns<G> {
         token: &[u8],
         making: &mut RecordDraft,
     ) -> Result<(), Refusal> {
-        self.command.giving().push(token, &mut self.text, making)
+        let pushed = self.command.giving().push_usual(token, making)?;
+        if pushed {
+            return Ok(());
+        }
+        self.rewrite_any(token, making)
     }
 
     fn follow(&mut self, _row: &Record, _found: &Moves) -> Result<(), AllocError> {

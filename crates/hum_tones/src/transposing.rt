@@ -1,5 +1,5 @@
 //! Tokens whose pitches are some steps and some semitones away.
-ghost use Rattle.std.specs.Prelude.{◌≡◌, [], OnOk, IfSome, Ok, None};
+ghost use Rattle.std.specs.Prelude.{◌≡◌, [], IfOk, IfSome, Ok, None, true, false};
 ghost use Rattle.hum_record.specs.declared.SpinedKind.TheVariants.{Values};
 ghost use Rattle.hum_record.specs.Spelling.{IsToken};
 ghost use Rattle.hum_record.specs.RecordDraft.{Holds};
@@ -14,13 +14,14 @@ ghost use Rattle.hum_tones.specs.Trans.{transposed_part};
 ghost use Rattle.hum_tones.specs.declared.part_rule.PartRule.TheVariants.{Transposed};
 ghost use Rattle.hum_tones.specs.PartRule.{given};
 
-use crate::part_rule::{PartRule, rule_of};
+use crate::part_rule::rule_of;
 use crate::short_token::{ShortToken, with_pitch};
 use hum_choices::TransOptions;
 use hum_kern::{Note, read_note};
 use hum_pitch::{Pitch, PitchFault, push_pitch};
 use hum_record::RecordDraft;
 use hum_stage::{Refusal, Rule};
+use std::alloc::AllocError;
 
 /// The pitch so far away, where it can be spelled.
 #[inline(always)]
@@ -96,33 +97,37 @@ fn short_transposed(options: TransOptions, part: &[u8], found: Note) -> Option<S
 }
 
 /// Adds what a token becomes that is one subtoken, by what was read of it, to a record in the
-/// making. A token without a pitch stays, and most others become short ones; any other text is made in `text`.
+/// making, where it has no pitch and stays, or becomes a short text, as most do, or else nothing; and
+/// tells which.
+///
+/// # Errors
+/// Out of memory.
 #[inline(always)]
 pub(crate) fn push_transposed(
     options: TransOptions,
     token: &[u8],
     found: Note,
-    text: &mut Vec<u8>,
     making: &mut RecordDraft,
-) -> Result<(), Refusal>
+) -> Result<bool, AllocError>
     requires lawful { IsToken Values token.now }
     requires read { IsReadAlone token.now (reading found) }
     requires kind { making.old.builder.kind ≡ Values }
-    ensures pushed { IfTold result
-        (Pushes (given (Transposed options) token.now)
+    ensures pushed { IfOk result (λ pushed. pushed ≡ true →
+        Pushes (given (Transposed options) token.now)
         (Holds Values making.old.builder making.old.is_long)
-        (Holds Values making.new.builder making.new.is_long)) }
-    ensures kind { OnOk result (making.new.builder.kind ≡ Values) }
+        (Holds Values making.new.builder making.new.is_long) None) }
+    ensures kept { IfOk result (λ pushed. pushed ≡ false → making.new ≡ making.old) }
+    ensures kind { making.new.builder.kind ≡ Values }
 {
     if found.pitch.is_none() {
         making.push(token)?;
-        return Ok(());
+        return Ok(true);
     }
     match short_transposed(options, token, found) {
         Some(short) => {
             making.push(short.as_slice())?;
-            Ok(())
+            Ok(true)
         }
-        None => PartRule::Transposed(options).push_parts(token, text, making),
+        None => Ok(false),
     }
 }

@@ -13,7 +13,7 @@ push-requires-in-Some c =
     rw (c.requires.kind, c.as_slice.ensures.value) (given_lawful (Transposed c.args.options) c.args.token.now _ told c.requires.lawful)
 
 pub returns-in_ok-push-in-Some-clause-pushed : goal.returns-in_ok-push-in-Some-clause-pushed
-returns-in_ok-push-in-Some-clause-pushed c = (
+returns-in_ok-push-in-Some-clause-pushed c = λ _. (
   c.in-Some.short.items,
   trans_lone c.args.options c.args.token.now c.in-Some.short.items c.requires.read.alone
       (rw c.in-Some.is at c.short_transposed.ensures),
@@ -21,7 +21,7 @@ returns-in_ok-push-in-Some-clause-pushed c = (
 )
 
 pub returns-then-is_none-clause-pushed : goal.returns-then-is_none-clause-pushed
-returns-then-is_none-clause-pushed c = (
+returns-then-is_none-clause-pushed c = λ _. (
   c.args.token.now,
   trans_stays c.args.options c.args.token.now c.args.found c.requires.read.read c.requires.read.alone (search rules),
   λ tokens held. c.in_ok-push.ensures.pushed _ tokens held,

@@ -4,14 +4,14 @@ use Rattle.hum_tones.specs.PartRule.{given}
 use Rattle.hum_tones.specs.Subtokens.{lone_text}
 use Rattle.hum_tones.proofs.GivenLawful.{given_lawful}
 use Rattle.hum_tones.proofs.Lone.{semits_lone, recip_lone}
-use Rattle.hum_tones.proofs.part_rule.PartRule.push.Goals as goal
+use Rattle.hum_tones.proofs.part_rule.PartRule.push_usual.Goals as goal
 
 pub push-requires : goal.push-requires
 push-requires c =
-    let told : given c.args.self c.args.token.now ≡ Ok c.as_bytes.result.now =
+    let told : given c.args.self c.args.token.now ≡ Ok c.or_null.result.now =
     rw c.in-Semitones.is (semits_lone c.in-Semitones.ties_left_out c.args.token.now (reading c.in-Some.note) c.in-Some.ensures)
-    ∙ ap (λ (t : List ℕ). Ok t) (sym (c.as_bytes.ensures ∙ c.or_null-given.ensures ∙ ap lone_text c.note_text.ensures)) in
-    rw c.requires.kind (given_lawful c.args.self c.args.token.now c.as_bytes.result.now told c.requires.lawful)
+    ∙ ap (λ (t : List ℕ). Ok t) (sym (c.or_null.ensures ∙ ap lone_text c.note_text.ensures)) in
+    rw c.requires.kind (given_lawful c.args.self c.args.token.now c.or_null.result.now told c.requires.lawful)
 
 pub push-requires-in-Some-leading_text : goal.push-requires-in-Some-leading_text
 push-requires-in-Some-leading_text c =
@@ -20,15 +20,15 @@ push-requires-in-Some-leading_text c =
     rw c.requires.kind (given_lawful c.args.self c.args.token.now c.in-Some-leading_text.given.now told c.requires.lawful)
 
 pub returns-in_ok-push-in-Some-clause-pushed : goal.returns-in_ok-push-in-Some-clause-pushed
-returns-in_ok-push-in-Some-clause-pushed c = (
-  c.as_bytes.result.now,
+returns-in_ok-push-in-Some-clause-pushed c = λ _. (
+  c.or_null.result.now,
   rw c.in-Semitones.is (semits_lone c.in-Semitones.ties_left_out c.args.token.now (reading c.in-Some.note) c.in-Some.ensures)
-      ∙ ap (λ (t : List ℕ). Ok t) (sym (c.as_bytes.ensures ∙ c.or_null-given.ensures ∙ ap lone_text c.note_text.ensures)),
+      ∙ ap (λ (t : List ℕ). Ok t) (sym (c.or_null.ensures ∙ ap lone_text c.note_text.ensures)),
   λ tokens held. c.in_ok-push-in-Some.ensures.pushed _ tokens held,
 )
 
 pub returns-in_ok-push-in-Some-leading_text-clause-pushed : goal.returns-in_ok-push-in-Some-leading_text-clause-pushed
-returns-in_ok-push-in-Some-leading_text-clause-pushed c = (
+returns-in_ok-push-in-Some-leading_text-clause-pushed c = λ _. (
   c.in-Some-leading_text.given.now,
   rw c.in-Durations.is (recip_lone c.args.token.now c.in-Some-leading_text.given.now c.in-Some-leading_text.ensures),
   λ tokens held. c.in_ok-push-in-Some-leading_text.ensures.pushed _ tokens held,
