@@ -177,13 +177,7 @@ impl<T: TokenRewriter> Cells<T> {
             next _room out.new) }
     {
         self.teller.follow(&next, &self.paths.follow(&next)?)?;
-        let told = tell_other(
-            self.alloc,
-            &self.teller,
-            &self.kern,
-            &next,
-            &mut self.spare,
-        )?;
+        let told = tell_other(self.alloc, &self.teller, &self.kern, &next, &mut self.spare)?;
         mark_after(&next, &self.paths, &mut self.kern)?;
         told.put(next, &mut self.spare, out);
         Ok(())

@@ -12,7 +12,7 @@ returns c =
     let alteration : to_z w8 (of_z w8 c.sign_at-alteration.result.0) ≡ c.sign_at-alteration.result.0 = omega (arith, ints, by) in
     let few = c.if-letters-gt8.false in
     rw (octave, alteration) (usual_at c.args.bytes.now c.args.start c.args.letter c.run_end-behind.result c.sign_at-alteration.result.1
-        c.run_end-last.result c.in-Some.continued _ _ _ c.requires.within c.requires.plain c.requires.at c.requires.letter
-        c.run_end-behind.ensures.run c.run_end-behind.ensures.behind c.sign_at-alteration.ensures.within c.sign_at-alteration.ensures.signs
-        c.sign_at-alteration.ensures.few c.run_end-last.ensures.behind (c.in-Some.ensures ∙ ap tie_at_end c.split_at.ensures.back)
-        (omega (arith, few)) c.natural-note.ensures.exact c.sign_at-alteration.ensures.alteration)
+    c.run_end-last.result c.in-Some.continued _ _ _ c.requires.within c.requires.plain c.requires.at c.requires.letter
+    c.run_end-behind.ensures.run c.run_end-behind.ensures.behind c.sign_at-alteration.ensures.within c.sign_at-alteration.ensures.signs
+    c.sign_at-alteration.ensures.few c.run_end-last.ensures.behind (c.in-Some.ensures ∙ ap tie_at_end c.split_at.ensures.back)
+    (omega (arith, few)) c.natural-note.ensures.exact c.sign_at-alteration.ensures.alteration)
