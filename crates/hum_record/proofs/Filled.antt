@@ -84,9 +84,6 @@ pub record Filling (all : List (List ℕ)) (j len : ℕ) (text places : List ℕ
   pub ends_are : take j places ≡ ends_from 0 (take j all)
   pub within : len ≤ length text
 
-pub none_filled : (all : List (List ℕ)) (text places : List ℕ) → Filling all 0 0 text places
-none_filled all text places = record { done = refl; ends_are = refl; within = omega arith }
-
 -- one more
 pub one_filled : (all : List (List ℕ)) (j len to : ℕ) (text places put : List ℕ) → Filling all j len text places
     → j < length all → j < length places → to < length put → take to put ≡ take len text ++ get_or all j []
