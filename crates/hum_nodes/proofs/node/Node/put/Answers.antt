@@ -50,8 +50,8 @@ put-requires g c =
           (single.few_before k.input.items c.args.next 4294967295 k.fine.few);
     })
 
-pub returns-in-Assemble-clause-put : goal.returns-in-Assemble-clause-put
-returns-in-Assemble-clause-put g c rest t h may =
+pub returns-in_ok-put-in-Assemble-clause-put : goal.returns-in_ok-put-in-Assemble-clause-put
+returns-in_ok-put-in-Assemble-clause-put g c rest t h may =
     let stands = Stands c.in-Assemble.stage in
     let w = subst (λ w. WorksAs g.S.Stage.stands w c.args.self.now.from rest t) c.in-Assemble.is h.works in
     let k = merging.changes stands c.in-Assemble.sources.items t w (with_record c.args.next)
