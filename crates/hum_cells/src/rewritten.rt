@@ -36,8 +36,8 @@ impl Rewritten {
         match self {
             Rewritten::Same => out.put(row),
             Rewritten::Other(made) => {
-                out.put(made);
                 spare.keep(row);
+                out.put(made);
             }
             Rewritten::With(behind) => out.put_both(row, behind),
         }

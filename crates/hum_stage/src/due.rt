@@ -135,9 +135,21 @@ impl Model for UpToTwo {
 }
 
 impl UpToTwo {
-    /// This record is due, in place of those that were.
-    #[inline]
+    /// This record is due, in place of those that were. Mostly there were none.
+    #[inline(always)]
     pub fn put(&mut self, row: Record)
+        ensures { self.new ≡ row ∷ [] }
+    {
+        if self.first.is_some() || self.second.is_some() {
+            self.put_instead(row);
+            return;
+        }
+        self.first = Some(row);
+    }
+
+    /// The same whatever was due.
+    #[inline(never)]
+    fn put_instead(&mut self, row: Record)
         ensures { self.new ≡ row ∷ [] }
     {
         self.first = Some(row);

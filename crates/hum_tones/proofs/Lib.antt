@@ -7,7 +7,7 @@ pub mod Told
 pub mod Written
 pub mod Numbers
 pub mod SemitoneTexts
-pub mod ShortNames
+pub mod IntervalNames
 pub mod Joined
 pub mod Lone
 pub mod SoFar

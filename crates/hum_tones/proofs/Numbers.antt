@@ -85,13 +85,6 @@ three_digits n large small =
     decimal_step n (omega (arith, large)) (omega (arith, small))
     ∙ ap (λ (xs : List ℕ). xs ++ (48 + n % 10) ∷ []) (two_digits (n / 10) (omega (arith, large)) (omega (arith, small)))
 
--- a number behind a letter
-pub one_behind : (n : ℕ) (letter : ℕ) → n < 10 → letter ∷ (48 + n) ∷ [] ≡ letter ∷ decimal n
-one_behind n letter small = rw (one_digit n small) refl
-
-pub two_behind : (n : ℕ) (letter : ℕ) → 10 ≤ n → n < 100 → letter ∷ (48 + n / 10) ∷ (48 + n % 10) ∷ [] ≡ letter ∷ decimal n
-two_behind n letter large small = rw (two_digits n large small) refl
-
 -- a number with its sign
 pub number_piece : (z : ℤ) → mag z < 2 ^ 63 → IsPiece (signed_decimal z)
 number_piece (pos n) fits = digits_piece (decimal n) (digits_of (suc n) n (omega arith) (omega (arith, fits)))

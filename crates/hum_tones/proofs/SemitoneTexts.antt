@@ -13,11 +13,11 @@ use lib.Chars.{codes}
 use Rattle.hum_tones.proofs.Numbers.{one_digit, two_digits, three_digits}
 
 -- whether a test holds of all numbers below one
-abbrev every : (ℕ → Bool) → ℕ → Bool
+abbrev pub every : (ℕ → Bool) → ℕ → Bool
 every test zero = true
 every test (suc n) = test n && every test n
 
-every_at : (test : ℕ → Bool) (n i : ℕ) → every test n ≡ true → i < n → test i ≡ true
+pub every_at : (test : ℕ → Bool) (n i : ℕ) → every test n ≡ true → i < n → test i ≡ true
 every_at test zero i all below = absurd (omega (arith, below))
 every_at test (suc n) i all below = elim (cases_lt i n) [
   | inl less ↦ every_at test n i (and_parts (test n) (every test n) all).1 less
@@ -28,13 +28,13 @@ every_at test (suc n) i all below = elim (cases_lt i n) [
 ]
 
 -- a number of at most three digits, and one with its sign
-abbrev spell : ℕ → List ℕ
+abbrev pub spell : ℕ → List ℕ
 spell n =
     if nat_lt n 10 then (48 + n) ∷ []
     else if nat_lt n 100 then (48 + n / 10) ∷ (48 + n % 10) ∷ []
     else (48 + n / 10 / 10) ∷ (48 + n / 10 % 10) ∷ (48 + n % 10) ∷ []
 
-spell_is : (n : ℕ) → n < 1000 → spell n ≡ decimal n
+pub spell_is : (n : ℕ) → n < 1000 → spell n ≡ decimal n
 spell_is n small = go (nat_lt n 10) (nat_lt n 100) refl refl
   where
     go : (a b : Bool) → nat_lt n 10 ≡ a → nat_lt n 100 ≡ b

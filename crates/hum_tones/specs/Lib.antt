@@ -1,5 +1,5 @@
 pub mod Subtokens
-pub mod ShortText
+pub mod IntervalNames
 pub mod Faults
 pub mod Semits
 pub mod Recip

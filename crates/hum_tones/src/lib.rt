@@ -5,6 +5,7 @@
 #![tactic(auto)]
 
 mod hearing;
+mod interval_names;
 mod last_note;
 mod mint;
 mod minting;
@@ -13,7 +14,6 @@ mod partwise;
 mod recip;
 mod semitone_texts;
 mod semits;
-mod short_text;
 mod short_token;
 mod trans;
 mod transposing;

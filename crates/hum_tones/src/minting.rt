@@ -7,11 +7,10 @@ ghost use Rattle.hum_stage.specs.Refusals.{IfTold};
 ghost use Rattle.hum_cells.specs.Rewriter.{Pushes};
 ghost use Rattle.hum_tones.specs.Mint.{approached};
 ghost use Rattle.hum_tones.specs.Memory.{told_as};
-ghost use Rattle.hum_tones.specs.ShortText.{text_of};
 
 use crate::hearing::{TokenTone, Tone};
+use crate::interval_names::interval_name;
 use crate::last_note::LastNote;
-use crate::short_text::ShortText;
 use hum_choices::MintOptions;
 use hum_pitch::{Pitch, interval, push_interval, push_pitch};
 use hum_record::RecordDraft;
@@ -49,8 +48,8 @@ fn add_tone(
 
 /// The interval from the note before to a pitch, where its name is short and shown whole, as it mostly is.
 #[inline(always)]
-fn short_name(options: &MintOptions, before: Option<Pitch>, pitch: Pitch) -> Option<ShortText>
-    ensures { IfSome result (λ name. text_of name
+fn short_name(options: &MintOptions, before: Option<Pitch>, pitch: Pitch) -> Option<&'static [u8]>
+    ensures { IfSome result (λ name. name.now
         ≡ approached options.now.signless options.now.sizeonly
         (option_map spelled before) (spelled pitch)) }
 {
@@ -58,7 +57,7 @@ fn short_name(options: &MintOptions, before: Option<Pitch>, pitch: Pitch) -> Opt
         return None;
     }
     match before {
-        Some(before) => ShortText::of_interval(interval(before, pitch)),
+        Some(before) => interval_name(interval(before, pitch)),
         None => None,
     }
 }
@@ -103,7 +102,7 @@ fn push_tone(
     ensures kind { making.new.builder.kind ≡ Values }
 {
     match short_name(options, before, pitch) {
-        Some(name) => making.push(name.as_bytes()),
+        Some(name) => making.push(name),
         None => push_any_tone(options, before, pitch, text, making),
     }
 }

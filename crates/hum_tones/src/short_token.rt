@@ -11,7 +11,7 @@ use hum_pitch::{Pitch, Repeated, accidentals, letters};
 pub(crate) type ShortToken = ArrayVec<u8, 16>;
 
 /// Adds any number of bytes.
-#[inline(never)]
+#[inline(always)]
 fn put_many(text: &mut ShortToken, bytes: &[u8])
     requires { array_vec_len text.old + length bytes.now ≤ 16 }
     ensures items { text.new.items ≡ text.old.items ++ bytes.now }
@@ -43,7 +43,7 @@ fn put_bytes(text: &mut ShortToken, bytes: &[u8])
 }
 
 /// Adds a byte any number of times.
-#[inline(never)]
+#[inline(always)]
 fn put_often(text: &mut ShortToken, byte: u8, count: usize)
     requires { array_vec_len text.old + count ≤ 16 }
     ensures items { text.new.items ≡ text.old.items ++ replicate count byte }
