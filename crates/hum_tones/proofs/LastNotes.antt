@@ -20,7 +20,8 @@ use Rattle.hum_stage.specs.declared.faults.Rule.{Rule}
 use Rattle.hum_tones.specs.Hearing.{heard_in}
 use Rattle.hum_tones.specs.Mint.{is_break, is_some, settles, settled, note_before, remembered_of, readings, new_pitch, pitch_in, TokenTone}
 use Rattle.hum_tones.specs.Mint.{heard as all_heard}
-use Rattle.hum_tones.specs.Memory.{note_after, or_before, unheard, heard_after, HeardColumn, silence}
+use Rattle.hum_choices.specs.declared.mint.MintOptions.{MintOptions}
+use Rattle.hum_tones.specs.Memory.{note_after, or_before, unheard, heard_after, HeardColumn, silence, told_as}
 
 others : (a b c d e : Bool) → is_exclusive (if a then Split else if b then Join else if c then Exchange else if
     d then Add else if e then End else Plain) ≡ false
@@ -64,24 +65,39 @@ data_not_exclusive token h = elim (cases_Bool (is_exclusive (sign_of token))) [
   | inr isnt ↦ isnt
 ]
 
-abbrev cell : Option Spelled → Result TokenTone Rule → Option Spelled → HeardColumn
-cell before heard note = record { before = before; heard = heard; note = note }
+abbrev cell : Result (List ℕ) Rule → Option Spelled → HeardColumn
+cell told note = record { told = told; note = note }
 
 -- what is heard of data that is neither null nor a barline, and the note behind it
-pub note_heard : (token : List ℕ) (heard : TokenTone) → is_data token ≡ true → (is_null token || is_barline token) ≡ false
-    → Ok heard ≡ heard_in (readings token) → (column : HeardColumn)
-    → heard_after None token column ≡ cell column.note (Ok heard) (or_before (new_pitch heard.tone) column.note)
-note_heard token heard filled is read column =
-    rw (data_not_exclusive token filled, filled) (go (is_null token) (is_barline token) is (readings token) read)
+pub note_heard : (options : MintOptions) (token : List ℕ) (heard : TokenTone) → options.breaks ≡ None → is_data token ≡ true
+    → (is_null token || is_barline token) ≡ false → Ok heard ≡ heard_in (readings token) → (column : HeardColumn)
+    → heard_after options token column
+    ≡ cell (told_as options.signless options.sizeonly column.note (Ok heard)) (or_before (new_pitch heard.tone) column.note)
+note_heard options token heard whole filled is read column =
+    rw (whole, data_not_exclusive token filled, filled) (go (is_null token) (is_barline token) is (readings token) read)
   where
     go : (n b : Bool) → (n || b) ≡ false → (r : Result (List Reading) Rule) → Ok heard ≡ heard_in r
-        → cell column.note (if not n && not b then heard_in r else Ok silence)
+        → cell (if not n && not b then told_as options.signless options.sizeonly column.note (if not n && not b then heard_in r else Ok silence) else column.told)
         (or_before (if not n && not b then pitch_in r else None) column.note)
-        ≡ cell column.note (Ok heard) (or_before (new_pitch heard.tone) column.note)
+        ≡ cell (told_as options.signless options.sizeonly column.note (Ok heard)) (or_before (new_pitch heard.tone) column.note)
     go true b is r h = absurd (let no : true ≡ false = is in cc)
     go false true is r h = absurd (let no : true ≡ false = is in cc)
     go false false is (Ok rs) h = let same : heard ≡ all_heard rs = cc in rw same refl
     go false false is (Err rule) h = cc
+
+-- and nothing of data that is null or a barline
+pub nothing_heard : (options : MintOptions) (token : List ℕ) → options.breaks ≡ None → is_data token ≡ true
+    → (is_null token || is_barline token) ≡ true → (column : HeardColumn) → heard_after options token column ≡ column
+nothing_heard options token whole filled is column =
+    rw (whole, data_not_exclusive token filled, filled) (go (is_null token) (is_barline token) is (readings token))
+  where
+    go : (n b : Bool) → (n || b) ≡ true → (r : Result (List Reading) Rule)
+        → cell (if not n && not b then told_as options.signless options.sizeonly column.note (if not n && not b then heard_in r else Ok silence) else column.told)
+        (or_before (if not n && not b then pitch_in r else None) column.note)
+        ≡ column
+    go true b is r = refl
+    go false true is r = refl
+    go false false is r = absurd (let no : false ≡ true = is in cc)
 
 no_break : (breaks : Option (List ℕ)) (token : List ℕ) → is_filled token ≡ false → is_break breaks token ≡ false
 no_break None token h = refl
@@ -115,10 +131,10 @@ remembers_note breaks (token ∷ above) =
     (is_exclusive (sign_of token)) (exclusive_not_filled token) (remembers_note breaks above)
     (is_break breaks token) refl (remembered_of token) refl
 
--- so it is where what was heard is kept beside it
-pub note_kept : (breaks : Option (List ℕ)) (above : List (List ℕ)) → (remembered (heard_after breaks) unheard above).note ≡ note_before breaks above
-note_kept breaks above = same above ∙ remembers_note breaks above
+-- so it is where what is told is kept beside it
+pub note_kept : (options : MintOptions) (above : List (List ℕ)) → (remembered (heard_after options) unheard above).note ≡ note_before options.breaks above
+note_kept options above = same above ∙ remembers_note options.breaks above
   where
-    same : (above : List (List ℕ)) → (remembered (heard_after breaks) unheard above).note ≡ remembered (note_after breaks) None above
+    same : (above : List (List ℕ)) → (remembered (heard_after options) unheard above).note ≡ remembered (note_after options.breaks) None above
     same [] = refl
-    same (token ∷ above) = ap (note_after breaks token) (same above)
+    same (token ∷ above) = ap (note_after options.breaks token) (same above)

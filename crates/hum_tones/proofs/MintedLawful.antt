@@ -58,7 +58,7 @@ front_lawful front text f piece =
     some [] ys h = h
     some (x ∷ xs) ys h = λ e. cc
 
-named_lawful : (signless sizeonly : Bool) (d s : ℤ) → mag (pos (size d)) < 2 ^ 63 → IsToken Values (named signless sizeonly d s)
+pub named_lawful : (signless sizeonly : Bool) (d s : ℤ) → mag (pos (size d)) < 2 ^ 63 → IsToken Values (named signless sizeonly d s)
 named_lawful signless sizeonly d s fits =
     front_lawful (cond signless [] (sign (direction d s)) ++ cond sizeonly [] (quality_letters (quality d s))) (decimal (size d))
     (over_front (cond signless [] (sign (direction d s)) ++ cond sizeonly [] (quality_letters (quality d s))) (name_over signless sizeonly d s))

@@ -61,7 +61,7 @@ pub record Mints (options : MintOptions) (memories : List HeardColumn) (rewritin
     (past : List Row) : Type 0 where
   pub command : rewriting ≡ mint options
   pub lawful : IsHeading rewriting.heading
-  pub remembered : Remember (heard_after options.breaks) unheard past memories
+  pub remembered : Remember (heard_after options) unheard past memories
 
 -- what the stages of these numbers mean
 abbrev pub meaning_of_trans : ℕ → TransOptions → Meaning

@@ -8,4 +8,5 @@ pub mod PartRule
 pub mod Mint
 pub mod Hearing
 pub mod Memory
+pub mod Minted
 pub mod Commands

@@ -6,6 +6,7 @@ use Rattle.hum_path.specs.Sign.{sign_of, is_exclusive}
 use Rattle.hum_pitch.specs.Pitch.{Spelled}
 use Rattle.hum_stage.specs.declared.faults.Rule.{Rule}
 use Rattle.hum_tones.specs.Mint.{TokenTone, readings, remembered_of, is_break, told}
+use Rattle.hum_choices.specs.declared.mint.MintOptions.{MintOptions}
 use Rattle.hum_tones.specs.Hearing.{heard_in}
 
 abbrev pub or_before : Option Spelled → Option Spelled → Option Spelled
@@ -33,20 +34,19 @@ told_as signless sizeonly before (Ok heard) =
     Ok (told signless sizeonly before heard.tone heard.rest)
 told_as signless sizeonly before (Err rule) = Err rule
 
--- A column by its last cell: the note before that, what was heard of it, and the note before the
--- next cell.
+-- A column by its cells: what the last that is told becomes, and the note before the next cell.
 pub record HeardColumn : Type 0 where
-  pub before : Option Spelled
-  pub heard : Result TokenTone Rule
+  pub told : Result (List ℕ) Rule
   pub note : Option Spelled
 
 abbrev pub unheard : HeardColumn
-unheard = record { before = None; heard = Ok silence; note = None }
+unheard = record { told = told_as false false None (Ok silence); note = None }
 
 -- the same after one cell more
-abbrev pub heard_after : Option (List ℕ) → List ℕ → HeardColumn → HeardColumn
-heard_after breaks token column = record {
-  before = column.note;
-  heard = heard_of token;
-  note = note_after breaks token column.note;
+abbrev pub heard_after : MintOptions → List ℕ → HeardColumn → HeardColumn
+heard_after options token column = record {
+  told = if is_filled token && not (is_barline token)
+      then told_as options.signless options.sizeonly column.note (heard_of token)
+      else column.told;
+  note = note_after options.breaks token column.note;
 }

@@ -1,8 +1,10 @@
-//! The names of most intervals.
-ghost use Rattle.std.specs.Prelude.{◌≡◌, ◌≤◌, pos, negsuc, false, IfSome};
+//! The short texts that most notes become.
+ghost use Rattle.std.specs.Prelude.{◌≡◌, ◌≤◌, pos, negsuc, false, IfSome, codes, if◌then◌else◌};
+ghost use Rattle.hum_record.specs.declared.SpinedKind.TheVariants.{Values};
+ghost use Rattle.hum_record.specs.Spelling.{IsToken};
 ghost use Rattle.hum_pitch.specs.Pitch.{IsWithin};
 ghost use Rattle.hum_pitch.specs.Intervals.{named};
-ghost use Rattle.hum_tones.specs.IntervalNames.{steps_at, semitones_at};
+ghost use Rattle.hum_tones.specs.IntervalNames.{steps_at, semitones_at, text_at};
 
 use hum_pitch::Interval;
 
@@ -16,8 +18,9 @@ const WIDTHS: [u8; 64] = [
     92, 93, 95, 97, 99, 100, 102, 104, 105, 107, 109, 111, 112, 114, 116, 117,
 ];
 
-/// The names whose quality is one letter, each in four bytes, of which not all may count.
-const NAMES: &[u8; 1280] = b"\
+/// The names whose quality is one letter, each in four bytes, of which not all may count; and behind
+/// them a null token and a rest.
+const NAMES: &[u8; 1288] = b"\
     ....-A33-P33-d33........-A32-P32-d32........-A31-M31-m31-d31....-A30-M30-m30-d30\
     ....-A29-P29-d29........-A28-M28-m28-d28....-A27-M27-m27-d27....-A26-P26-d26....\
     ....-A25-P25-d25........-A24-M24-m24-d24....-A23-M23-m23-d23....-A22-P22-d22....\
@@ -33,10 +36,11 @@ const NAMES: &[u8; 1280] = b"\
     +d17+m17+M17+A17........+d18+P18+A18........+d19+P19+A19....+d20+m20+M20+A20....\
     +d21+m21+M21+A21........+d22+P22+A22....+d23+m23+M23+A23....+d24+m24+M24+A24....\
     ....+d25+P25+A25........+d26+P26+A26....+d27+m27+M27+A27....+d28+m28+M28+A28....\
-    ....+d29+P29+A29....+d30+m30+M30+A30....+d31+m31+M31+A31........+d32+P32+A32....";
+    ....+d29+P29+A29....+d30+m30+M30+A30....+d31+m31+M31+A31........+d32+P32+A32....\
+    ....r...";
 
 /// How many bytes of each count: none where no name stands there.
-const SIZES: [u8; 320] = [
+const SIZES: [u8; 322] = [
     0, 4, 4, 4, 0, 0, 4, 4, 4, 0, 0, 4, 4, 4, 4, 0, 4, 4, 4, 4, 0, 4, 4, 4, 0, 0, 4, 4, 4, 4, 0, 4,
     4, 4, 4, 0, 4, 4, 4, 0, 0, 4, 4, 4, 0, 0, 4, 4, 4, 4, 0, 4, 4, 4, 4, 0, 4, 4, 4, 0, 0, 4, 4, 4,
     4, 0, 4, 4, 4, 4, 0, 4, 4, 4, 0, 0, 4, 4, 4, 0, 0, 4, 4, 4, 4, 0, 4, 4, 4, 4, 0, 4, 4, 4, 0, 0,
@@ -47,6 +51,7 @@ const SIZES: [u8; 320] = [
     0, 4, 4, 4, 4, 0, 0, 4, 4, 4, 0, 4, 4, 4, 4, 0, 4, 4, 4, 4, 0, 0, 4, 4, 4, 0, 0, 4, 4, 4, 0, 4,
     4, 4, 4, 0, 4, 4, 4, 4, 0, 0, 4, 4, 4, 0, 4, 4, 4, 4, 0, 4, 4, 4, 4, 0, 0, 4, 4, 4, 0, 0, 4, 4,
     4, 0, 4, 4, 4, 4, 0, 4, 4, 4, 4, 0, 0, 4, 4, 4, 0, 4, 4, 4, 4, 0, 4, 4, 4, 4, 0, 0, 4, 4, 4, 0,
+    1, 1,
 ];
 
 /// The row of so many steps, if there is one.
@@ -76,26 +81,61 @@ fn place_in(row: usize, semitones: i32) -> Option<usize>
     Some(from as usize)
 }
 
+/// A short text that may stand as a token: by its place in the table.
+#[derive(Clone, Copy)]
+pub(crate) struct ShortName {
+    place: u16,
+    pub ghost within: { place ≤ 321 },
+    pub ghost lawful: { IsToken Values (text_at place) },
+}
+
+/// What a token becomes that has no new note: `r` for a rest.
+#[inline(always)]
+pub(crate) fn still(rest: bool) -> ShortName
+    ensures { text_at result.place ≡ (if rest then codes "r" else codes ".") }
+{
+    if rest {
+        return ShortName { place: 321 };
+    }
+    ShortName { place: 320 }
+}
+
+impl ShortName {
+    /// The text.
+    #[inline(always)]
+    pub(crate) fn as_bytes(self) -> &'static [u8]
+        ensures { result.now ≡ text_at self.place }
+    {
+        let place = self.place as usize;
+        NAMES
+            .split_at(4 * place)
+            .1
+            .split_at(SIZES[place] as usize)
+            .0
+    }
+}
+
 /// The name that stands at a place in a row, if there is one.
 #[inline(always)]
-fn name_at(row: usize, from: usize) -> Option<&'static [u8]>
+fn name_at(row: usize, from: usize) -> Option<ShortName>
     requires row { row ≤ 63 }
     requires from { from ≤ 4 }
     ensures { IfSome result (λ name.
-        name.now ≡ named false false (steps_at row) (semitones_at row from)) }
+        text_at name.place ≡ named false false (steps_at row) (semitones_at row from)) }
 {
     let place = 5 * row + from;
-    let size = SIZES[place] as usize;
-    if size == 0 {
+    if SIZES[place] == 0 {
         return None;
     }
-    Some(NAMES.split_at(4 * place).1.split_at(size).0)
+    Some(ShortName {
+        place: place as u16,
+    })
 }
 
 /// The name of an interval, where it has few steps and its quality is one letter, as most are.
 #[inline(always)]
-pub(crate) fn interval_name(interval: Interval) -> Option<&'static [u8]>
-    ensures { IfSome result (λ name. name.now ≡ named false false interval.d interval.s) }
+pub(crate) fn interval_name(interval: Interval) -> Option<ShortName>
+    ensures { IfSome result (λ name. text_at name.place ≡ named false false interval.d interval.s) }
 {
     let Some(row) = row_of(interval.d) else {
         return None;

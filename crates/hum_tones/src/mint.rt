@@ -2,7 +2,6 @@
 ghost use Rattle.hum_stage.specs.declared.faults.Command.TheVariants.{Mint as MintCommand};
 
 use crate::last_note::LastNote;
-use crate::minting::push_minted;
 use hum_cells::{CellStage, Heading, TokenRewriter};
 use hum_choices::MintOptions;
 use hum_path::{Carried, Moves};
@@ -59,7 +58,7 @@ impl TokenRewriter for MintTokens {
         _token: &[u8],
         making: &mut RecordDraft,
     ) -> Result<(), Refusal> {
-        push_minted(&self.options, self.carried.at(j), &mut self.text, making)
+        self.carried.at(j).push(&mut self.text, making)
     }
 
     fn follow(&mut self, row: &Record, found: &Moves) -> Result<(), AllocError> {

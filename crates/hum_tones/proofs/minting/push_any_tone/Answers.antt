@@ -10,11 +10,11 @@ use Rattle.hum_tones.proofs.minting.push_any_tone.Goals as goal
 pub push-requires : goal.push-requires
 push-requires c =
     rw (c.requires, c.deref.ensures.value, c.in_ok-add_tone.ensures, c.clear.ensures.items)
-    (approached_lawful c.args.options.now.signless c.args.options.now.sizeonly c.args.before c.args.pitch)
+    (approached_lawful c.args.naming.signless c.args.naming.sizeonly c.args.before c.args.pitch)
 
 pub returns-clause-pushed : goal.returns-clause-pushed
 returns-clause-pushed c =
-    let name = approached c.args.options.now.signless c.args.options.now.sizeonly (option_map spelled c.args.before) (spelled c.args.pitch) in
+    let name = approached c.args.naming.signless c.args.naming.sizeonly (option_map spelled c.args.before) (spelled c.args.pitch) in
     let written : c.deref.result.now ≡ name =
     c.deref.ensures.value ∙ c.in_ok-add_tone.ensures ∙ ap (λ (xs : List ℕ). xs ++ name) c.clear.ensures.items in
     on_ok c.push.result (λ pushed tokens held. rw (← written) (pushed Values tokens held)) c.push.ensures.pushed

@@ -1,4 +1,6 @@
-use Rattle.std.proofs.Common.{refl}
+use Rattle.std.proofs.Common.{ap, ◌∙◌, Some}
+use Rattle.hum_pitch.specs.Given.{spelled}
+use Rattle.hum_tones.specs.Memory.{HeardColumn}
 use Rattle.hum_kern.specs.Note.{reading}
 use Rattle.hum_tones.specs.Hearing.{hearing}
 use Rattle.hum_tones.proofs.TokenTone.{one_heard}
@@ -10,7 +12,15 @@ returns-in_default c =
     let read = one_heard c.args.token.now (reading c.args.note) c.with-heard.result c.requires.read c.with-heard.ensures in
     let none = rw c.in_default.is at c.new_pitch.ensures in
     rw (
-      note_heard c.args.token.now (hearing c.with-heard.result) c.requires.data c.requires.told read c.args.self.now,
+      note_heard c.args.options.now c.args.token.now (hearing c.with-heard.result) c.requires.whole c.requires.data c.requires.told read c.args.self.now,
       ← none,
-      ← c.self.view_is,
-    ) refl
+    ) c.tell.ensures
+
+pub returns-in-Some : goal.returns-in-Some
+returns-in-Some c =
+    let read = one_heard c.args.token.now (reading c.args.note) c.with-heard.result c.requires.read c.with-heard.ensures in
+    let some = rw c.in-Some.is at c.new_pitch.ensures in
+    rw (
+      note_heard c.args.options.now c.args.token.now (hearing c.with-heard.result) c.requires.whole c.requires.data c.requires.told read c.args.self.now,
+      ← some,
+    ) (ap (λ (m : HeardColumn). record { told = m.told; note = Some (spelled c.in-Some.pitch) }) (c.self.view_is ∙ c.tell.ensures))
