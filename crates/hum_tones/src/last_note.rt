@@ -75,7 +75,11 @@ fn note_after(
 fn is_silent(token: &[u8]) -> bool
     ensures { result ≡ (is_null token.now || is_barline token.now) }
 {
-    is_null(token) || is_barline(token)
+    match token {
+        [first] => *first == b'.' || *first == b'=',
+        [first, ..] => *first == b'=',
+        [] => false,
+    }
 }
 
 /// Whether a cell is told: whether it is data that is neither null nor a barline.
@@ -169,7 +173,10 @@ impl LastNote {
         if !is_told(token) {
             return;
         }
-        self.keep(options, heard);
+        match heard {
+            Ok(heard) => self.tell(options, heard),
+            Err(rule) => self.keep(options, Err(rule)),
+        }
     }
 
     /// Goes on with a null token or a barline, behind which no note is forgotten: nothing is told.
