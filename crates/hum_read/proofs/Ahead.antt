@@ -72,9 +72,11 @@ longer held behind len line =
     }
 
 -- What is asked where a line is taken, and what it is then.
-pub record Taking (limits : Limits) (given taken : ℕ) (pending : List ℕ) (row : Row) : Type 0 where
+pub record Taking (limits : Limits) (given taken : ℕ) (pending : List ℕ) (row : Row) (lf : ℕ) : Type 0 where
   pub line : IsLine pending (length (text_of row))
+  pub place : line.lf ≡ lf
   pub text : take (length (text_of row)) pending ≡ text_of row
+  pub whole : without_cr (take line.lf pending) ≡ text_of row
   pub size : length (text_of row) ≡ length (without_cr (take line.lf pending))
   pub filled : 0 < length (text_of row)
   pub short : length (text_of row) ≤ limits.line
@@ -83,7 +85,7 @@ pub record Taking (limits : Limits) (given taken : ℕ) (pending : List ℕ) (ro
 
 pub taking : (limits : Limits) (given taken : ℕ) (pending held behind : List ℕ) (row : Row) → pending ≡ held ++ behind
     → length held ≤ limits.line → given + length held ≤ limits.records → taken + length held ≤ limits.bytes
-    → IsRead held row → Taking limits given taken pending row
+    → (read : IsRead held row) → Taking limits given taken pending row read.line.lf
 unfolding longer
 taking limits given taken pending held behind row is most records bytes read =
     let text = text_of row in
@@ -107,8 +109,10 @@ taking limits given taken pending held behind row is most records bytes read =
     let all : without_cr (take lf (held ++ behind)) ≡ text =
     ap without_cr (take-append-le lf held behind (omega (arith, within))) ∙ clean in
     let front : take len (held ++ behind) ≡ text = take-append-le len held behind (omega (arith, before, within)) ∙ read.text in
-    subst (λ (xs : List ℕ). Taking limits given taken xs row) (sym is) (record {
+    subst (λ (xs : List ℕ). Taking limits given taken xs row lf) (sym is) (record {
       line = longer held behind len line;
+      place = refl;
+      whole = all;
       text = front;
       size = sym (ap length all);
       filled = some;
@@ -116,3 +120,33 @@ taking limits given taken pending held behind row is most records bytes read =
       records = omega (arith, within, records);
       bytes = omega (arith, within, bytes);
     })
+
+-- The same where it is known how many bytes the line has.
+pub record TakingTo (limits : Limits) (given taken : ℕ) (pending : List ℕ) (row : Row) (size : ℕ) : Type 0 where
+  pub some : 0 < size
+  pub line : IsLine pending (length (text_of row))
+  pub place : line.lf ≡ size - 1
+  pub len : length (text_of row) ≡ length (without_cr (take (size - 1) pending))
+  pub text : without_cr (take (size - 1) pending) ≡ text_of row
+  pub filled : 0 < length (text_of row)
+  pub short : length (text_of row) ≤ limits.line
+  pub records : given < limits.records
+  pub bytes : taken + size ≤ limits.bytes
+
+pub taking_to : (limits : Limits) (given taken : ℕ) (pending held behind : List ℕ) (row : Row) (size : ℕ) → pending ≡ held ++ behind
+    → length held ≤ limits.line → given + length held ≤ limits.records → taken + length held ≤ limits.bytes
+    → (read : IsRead held row) → size ≡ read.line.lf + 1 → TakingTo limits given taken pending row size
+taking_to limits given taken pending held behind row size is most records bytes read whole =
+    let t = taking limits given taken pending held behind row is most records bytes read in
+    let place : t.line.lf ≡ size - 1 = omega (arith, t.place, whole) in
+    record {
+      some = omega (arith, whole);
+      line = t.line;
+      place = place;
+      len = t.size ∙ ap (λ n. length (without_cr (take n pending))) place;
+      text = ap (λ n. without_cr (take n pending)) (sym place) ∙ t.whole;
+      filled = t.filled;
+      short = t.short;
+      records = t.records;
+      bytes = omega (arith, whole, t.place, t.bytes);
+    }

@@ -48,6 +48,11 @@ pub record IsAhead {R : Type 0} (lines : Reader R) (row : Row) : Type 0 where
   pub bytes : lines.taken + length held ≤ lines.limits.bytes
   pub read : IsRead held row
 
+-- It has so many bytes with its line end.
+pub record IsAheadTo {R : Type 0} (lines : Reader R) (row : Row) (size : ℕ) : Type 0 where
+  pub ahead : IsAhead lines row
+  pub whole : size ≡ ahead.read.line.lf + 1
+
 -- the line that was just given is read
 abbrev pub ReadsLine : {R : Type 0} → Scores R → Result Polled ReadError → Scores R → Type 0
 ReadsLine old result new =

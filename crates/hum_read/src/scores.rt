@@ -13,7 +13,7 @@ ghost use Rattle.hum_text.specs.Reading.{NeedsRead, IsUnread, IsFed, bytes_read,
 use crate::ReadError;
 use crate::rules::text_rule;
 use hum_path::{PathFault, Paths};
-use hum_record::{Record, Spare};
+use hum_record::{Record, ShortLine, Spare};
 use hum_stage::{Command, End, Fault, Refusal, Rule};
 use hum_text::calls::{LARGEST_READ, Source};
 use hum_text::reader::LineReader;
@@ -104,7 +104,7 @@ impl<R: Source> ScoreReader<R> {
     ghost use Rattle.hum_read.specs.Reading.{IsFresh, HasRead, GivesNext};
     ghost use Rattle.hum_read.specs.Reading.{IsCalledAtMostOnce, IsDue, ReadsOnce, Nears};
     ghost use Rattle.hum_read.specs.Reading.{ReadOn, stop_of, answer_of};
-    ghost use Rattle.hum_read.specs.Steps.{IsAhead, ReadsLine, Nexts, refusal, end_of, given_by};
+    ghost use Rattle.hum_read.specs.Steps.{IsAhead, IsAheadTo, ReadsLine, Nexts, refusal, end_of, given_by};
 
     /// The reader of a source of which nothing was read yet, as the stage of this number, from 1.
     pub fn new(alloc: Global, stage: u8, source: R) -> ScoreReader<R>
@@ -244,7 +244,19 @@ impl<R: Source> ScoreReader<R> {
             return None;
         }
         match Record::parse_short(pool, self.lines.ahead(), self.paths.width()) {
-            Some(record) => self.give(pool, record),
+            Some(line) => self.give_short(pool, line),
+            None => self.next_near(pool),
+        }
+    }
+
+    /// The same where the line may be a longer one.
+    #[inline(always)]
+    fn next_near(&mut self, pool: &mut Spare) -> Option<Record>
+        requires { self.old.stopped ≡ None }
+        ensures { Nexts R.remaining R.calls R.failed self.old (given_by result self.new.stopped) self.new }
+    {
+        match Record::parse_near(pool, self.lines.ahead(), self.paths.width()) {
+            Some(line) => self.give_short(pool, line),
             None => self.next_long(pool),
         }
     }
@@ -272,6 +284,21 @@ impl<R: Source> ScoreReader<R> {
             return self.next_instead(pool, row);
         }
         self.lines.take_line(row.text().len());
+        Some(row)
+    }
+
+    /// The same where it is known how many bytes the line has.
+    #[inline(always)]
+    fn give_short(&mut self, pool: &mut Spare, line: ShortLine) -> Option<Record>
+        requires going { self.old.stopped ≡ None }
+        requires ahead { IsAheadTo self.old.lines line.record line.size }
+        ensures { Nexts R.remaining R.calls R.failed self.old (given_by result self.new.stopped) self.new }
+    {
+        let ShortLine { record: row, size } = line;
+        if !self.paths.keeps_data(row.width()) {
+            return self.next_instead(pool, row);
+        }
+        self.lines.give_line(row.text().len(), size);
         Some(row)
     }
 

@@ -18,3 +18,4 @@ mod Picked
 mod Added
 mod Words
 mod Filled
+mod Bytes

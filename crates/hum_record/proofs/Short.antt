@@ -1,24 +1,26 @@
 -- Short lines of plain data, by the bits of their bytes.
-use Rattle.std.proofs.Common.{◌≡◌, ◌∙◌, refl, sym, ap, ap₂, ℕ, suc, zero, ◌+◌, ◌*◌, ◌-◌, ◌/◌, ◌%◌, ◌≤◌, ◌<◌, ◌^◌, min, Bool, true, false, not, ◌||◌}
-use Rattle.std.proofs.Common.{List, [], ◌∷◌, ◌++◌, map, length, take, drop, get_or, cond, eqb, Ok, arith, append_assoc, length-append, subst, ⊎_elim}
+use Rattle.std.proofs.Common.{◌≡◌, ◌∙◌, refl, sym, ap, ap₂, ◌⊎◌, ℕ, suc, zero, ◌+◌, ◌*◌, ◌-◌, ◌/◌, ◌%◌, ◌≤◌, ◌<◌, ◌^◌, min, Bool, true, false, not, ◌||◌}
+use Rattle.std.proofs.Common.{List, [], ◌∷◌, ◌++◌, map, length, take, drop, get_or, replicate, cond, eqb, Ok, Some, Fits, w8, arith, append_assoc, length-append, subst, ⊎_elim}
 use Rattle.std.proofs.Common.{mod-lt, zero-lt-suc, pow-suc, add-zero}
 use Rattle.std.specs.Prelude.{◌==◌, if◌then◌else◌}
-use Rattle.std.specs.Simd.Lanes.{chunk, mask_l, top}
-use Rattle.std.proofs.lemmas.Simd.{mask_l-mod, length-chunk, trailing_mask_l}
+use Rattle.std.specs.Simd.Lanes.{chunk, mask_l, top, zip2, Each1}
+use Rattle.std.proofs.lemmas.Simd.{mask_l-mod, length-chunk, trailing_mask_l, zip2_splat, map-map}
 use Rattle.std.specs.List.{prefix_len}
 use Rattle.std.proofs.lemmas.List.{length-map, append-nil, get_or-take}
 use Rattle.std.proofs.lemmas.Bool.{eqb-true, eq-eqb, and_parts, or_from, cases_lt}
+use Rattle.hum_record.proofs.Bytes.{upto_sound, same, same_is}
 use lib.Bits.{bit_and, bit_or, and_step, and_self, and_zero_r}
 use lib.Count.{count_trailing_zeros, under}
 use lib.Pow.{pow_mono}
 use native.Mathlib.Nat.{two-pow-succ}
+use Rattle.memchr.specs.Find.{IsFirstByte, is_byte}
 use Rattle.hum_record.specs.declared.Kind.TheVariants.{Values as AnyValues}
 use Rattle.hum_record.specs.declared.SpinedKind.TheVariants.{Values}
 use Rattle.hum_record.specs.Row.{Row, Comment, Spined, kind_of, text_of}
 use Rattle.hum_record.specs.Spelling.{IsTextOf, has_byte, is_comment, reading, parts}
 use Rattle.hum_record.specs.Fields.{AreFields, ends_from, row_in}
 use Rattle.hum_record.specs.Cutting.{bits_of, set_places, tabs_from}
-use Rattle.hum_record.specs.Lines.{IsBehind, IsLine, IsRead}
+use Rattle.hum_record.specs.Lines.{IsBehind, IsLine, IsRead, IsReadTo}
 use Rattle.hum_record.specs.Plain.{is_rare, is_stop, has_mark, head_after, IsPlain, HasEnds, HasPlaces, EndsLine}
 use Rattle.hum_record.proofs.Laws.{spined_fields, reads_row, reads_spined, row_read}
 use Rattle.hum_record.proofs.Cuts.{tabs_append, ends_tabs}
@@ -189,34 +191,26 @@ abbrev pub hit : ℕ → ℕ → ℕ
 hit a b = cond (eqb a b) 255 0
 
 abbrev pub stop_lane : ℕ → ℕ
-stop_lane x = bit_or (bit_or (bit_or (hit x 33) (hit x 42)) (hit x 13)) (hit x 10)
+stop_lane x = bit_or (bit_or (hit (bit_or x 32) 42) (hit x 33)) (hit x 13)
 
-one_lane : (a b c d : Bool) → top 7 (bit_or (bit_or (bit_or (cond a 255 0) (cond b 255 0)) (cond c 255 0)) (cond d 255 0)) ≡ (((a || b) || c) || d)
-one_lane true true true true = refl
-one_lane true true true false = refl
-one_lane true true false true = refl
-one_lane true true false false = refl
-one_lane true false true true = refl
-one_lane true false true false = refl
-one_lane true false false true = refl
-one_lane true false false false = refl
-one_lane false true true true = refl
-one_lane false true true false = refl
-one_lane false true false true = refl
-one_lane false true false false = refl
-one_lane false false true true = refl
-one_lane false false true false = refl
-one_lane false false false true = refl
-one_lane false false false false = refl
+-- it shows a stop at each of the 256 bytes
+abbrev agrees : ℕ → Bool
+agrees x = same (top 7 (stop_lane x)) (is_stop x)
 
-each_lane : (v : List ℕ) → map (top 7) (map stop_lane v) ≡ map is_stop v
-each_lane [] = refl
-each_lane (x ∷ xs) = ap₂ (λ (a : Bool) (b : List Bool). a ∷ b) (one_lane (x == 33) (x == 42) (x == 13) (x == 10)) (each_lane xs)
+each_lane : (v : List ℕ) → Each1 (Fits w8) v → map (top 7) (map stop_lane v) ≡ map is_stop v
+each_lane [] fits = refl
+each_lane (x ∷ xs) fits =
+    ap₂ (λ (a : Bool) (b : List Bool). a ∷ b) (same_is _ _ (upto_sound agrees 256 tt x fits.0.fits)) (each_lane xs fits.1)
 
-pub stop_mask : (v z : List ℕ) → length v ≤ 64 → z ≡ map stop_lane v → mask_l (map (top 7) z) % 2 ^ 64 ≡ mask_l (map is_stop v)
-stop_mask v z short e =
-    ap (λ (l : List Bool). mask_l l % 2 ^ 64) (ap (map (top 7)) e ∙ each_lane v)
+pub stop_mask : (v z : List ℕ) → length v ≤ 64 → Each1 (Fits w8) v → z ≡ map stop_lane v → mask_l (map (top 7) z) % 2 ^ 64 ≡ mask_l (map is_stop v)
+stop_mask v z short fits e =
+    ap (λ (l : List Bool). mask_l l % 2 ^ 64) (ap (map (top 7)) e ∙ each_lane v fits)
     ∙ mask_l-mod (map is_stop v) 64 (omega (arith, length-map v is_stop, short))
+
+-- the lanes of a vector that are equal to one value, once they were changed
+pub equal_lanes : (f : ℕ → ℕ) (y n : ℕ) (v : List ℕ) {a : List ℕ} → length v ≡ n → a ≡ map f v → zip2 hit a (replicate n y) ≡ map (λ x. hit (f x) y) v
+equal_lanes f y n v long p =
+    ap (λ a. zip2 hit a (replicate n y)) p ∙ zip2_splat hit (map f v) n y (length-map v f ∙ long) ∙ map-map (λ x. hit x y) f v
 
 -- no bit is set of a byte
 pub record NoneRare (xs : List ℕ) : Type 0 where
@@ -274,8 +268,9 @@ not_true true h = absurd (h refl)
 not_true false h = refl
 
 -- The line ends at the first LF.
-pub front_line : (held : List ℕ) (len lf : ℕ) → mask_l (map is_stop (take len held)) ≡ 0 → IsBehind held len lf → IsLine held len
-front_line held len lf free behind =
+pub front_lf : (held : List ℕ) (len lf : ℕ) → mask_l (map is_stop (take len held)) ≡ 0 → IsBehind held len lf
+    → IsFirstByte (is_byte 10) held (Some lf)
+front_lf held len lf free behind =
     let within : lf < length held = behind.0 in
     let short : len ≤ lf = ⊎_elim (λ same. omega (arith, same)) (λ one. let more = one.0 in omega (arith, more)) behind.2 in
     let size : length (take len held) ≡ len = take_count len held (omega (arith, short, within)) in
@@ -290,19 +285,17 @@ front_line held len lf free behind =
     let cr : 13 ≡ 10 = sym one.1 ∙ ap (λ n. get_or held n 0) (sym at) ∙ ten in
     absurd (omega (arith, cr)))
     behind.2)
-    (cases_lt k len) in
-    record {
-      lf = lf;
-      first = (
-        record {
-          low = omega arith;
-          high = within;
-          before = λ k low less ten. before k less (eqb-true _ 10 ten);
-        },
-        eq-eqb _ 10 behind.1,
-      );
-      text = behind.2;
-    }
+    (cases_lt k len) in (
+      record {
+        low = omega arith;
+        high = within;
+        before = λ k low less ten. before k less (eqb-true _ 10 ten);
+      },
+      eq-eqb _ 10 behind.1,
+    )
+
+pub front_line : (held : List ℕ) (len lf : ℕ) → mask_l (map is_stop (take len held)) ≡ 0 → IsBehind held len lf → IsLine held len
+front_line held len lf free behind = record { lf = lf; first = front_lf held len lf free behind; text = behind.2 }
 
 -- and none stands in its text
 no_lf : (xs : List ℕ) → ((k : ℕ) → k < length xs → get_or xs k 0 ≡ 10 → ⊥) → has_byte 10 xs ≡ false
@@ -403,8 +396,8 @@ unmarked_by head xs apart bangs stars =
     let heads = mask_l (head ∷ map (λ x. x == 9) xs) in
     no_marks head xs apart (ap (bit_and heads) bangs ∙ and_zero_r heads) (ap (bit_and heads) stars ∙ and_zero_r heads)
 
-pub near_ends : (held : List ℕ) (len ends : ℕ) → EndsLine held 0 1 len ends → HasEnds (take len held) ends
-near_ends held len ends line =
+pub near_ends : (held : List ℕ) (len size ends : ℕ) → EndsLine held 0 1 len size ends → HasEnds (take len held) ends
+near_ends held len size ends line =
     let text = take len held in
     let place : len ≡ line.rest = omega (arith, line.place) in
     let same : take line.rest held ≡ text = ap (λ n. take n held) (sym place) in
@@ -418,8 +411,8 @@ near_ends held len ends line =
       bits = bits;
     }
 
-pub near_free : (held : List ℕ) (len ends : ℕ) → EndsLine held 0 1 len ends → mask_l (map is_stop (take len held)) ≡ 0
-near_free held len ends line =
+pub near_free : (held : List ℕ) (len size ends : ℕ) → EndsLine held 0 1 len size ends → mask_l (map is_stop (take len held)) ≡ 0
+near_free held len size ends line =
     let place : len ≡ line.rest = omega (arith, line.place) in
     ap (λ n. mask_l (map is_stop (take n held))) place ∙ line.free
 
@@ -466,3 +459,28 @@ line_read held ends len line few is =
         kind = plain_kind text is.plain;
       },
     )
+
+-- and with its line end it has so many bytes
+pub line_read_to : (held ends : List ℕ) (len lf size : ℕ) → mask_l (map is_stop (take len held)) ≡ 0 → IsBehind held len lf → size ≡ lf + 1
+    → len ≤ 1048576 → HasPlaces (take len held) ends → IsReadTo held (row_in (take len held)) size
+line_read_to held ends len lf size free behind whole few is =
+    let text = take len held in
+    let line = front_line held len lf free behind in
+    let known = line_text held len line in
+    let fields = plain_fields text ends (omega (arith, known.1, few)) known.0 is in
+    let count : length (text_of (row_in text)) ≡ len = ap length (text_known (row_in text) text fields.lawful) ∙ known.1 in
+    let read = (line_read held ends len line few is).1 in
+    record {
+      read = record {
+        line = record {
+          lf = lf;
+          first = front_lf held len lf free behind;
+          text = subst (λ n. (lf ≡ n) ⊎ ((lf ≡ n + 1) × (get_or held n 0 ≡ 13))) (sym count) behind.2;
+        };
+        text = read.text;
+        read = read.read;
+        lawful = read.lawful;
+        kind = read.kind;
+      };
+      whole = whole;
+    }

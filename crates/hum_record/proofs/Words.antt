@@ -120,9 +120,9 @@ pub record FarLine (held places : List ℕ) (len : ℕ) : Type 0 where
   pub line : IsLine held len
   pub plain : HasPlaces (take len held) places
 
-pub last_word : (held places next : List ℕ) (at head len ends : ℕ) → len < at + 64 → Words (take at held) places head
-    → EndsLine held at head len ends → next ≡ places ++ set_places 64 at ends → FarLine held next len
-last_word held places next at head len ends short w end put =
+pub last_word : (held places next : List ℕ) (at head len size ends : ℕ) → len < at + 64 → Words (take at held) places head
+    → EndsLine held at head len size ends → next ≡ places ++ set_places 64 at ends → FarLine held next len
+last_word held places next at head len whole_size ends short w end put =
     let rest = take end.rest (drop at held) in
     let block = rest ++ 9 ∷ [] in
     let text = take len held in

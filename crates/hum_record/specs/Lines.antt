@@ -25,6 +25,11 @@ pub record IsRead (held : List ℕ) (row : Row) : Type 0 where
   pub lawful : IsTextOf row (text_of row)
   pub kind : kind_of row ≡ Values
 
+-- It is read so, and with its line end it has so many bytes.
+pub record IsReadTo (held : List ℕ) (row : Row) (size : ℕ) : Type 0 where
+  pub read : IsRead held row
+  pub whole : size ≡ read.line.lf + 1
+
 -- LF stands behind a text that is the first of these bytes, unless it is empty.
 abbrev pub IsEnded : List ℕ → ℕ → Type 0
 IsEnded held len = 0 < len → (len < length held) × (slice_index held len ≡ 10)

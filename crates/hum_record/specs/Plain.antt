@@ -48,12 +48,13 @@ pub record HasPlaces (text places : List ℕ) : Type 0 where
 
 -- A line ends among the bytes from a place on. None of these that stand in front of its end is a stop, these
 -- bits say where its tokens end among them, as if a tab stood behind it, and none that begins among them is
--- empty; with the first of them begins one, or not.
-pub record EndsLine (held : List ℕ) (at head len ends : ℕ) : Type 0 where
+-- empty; with the first of them begins one, or not. With its line end the line has so many bytes.
+pub record EndsLine (held : List ℕ) (at head len size ends : ℕ) : Type 0 where
   pub rest : ℕ
   pub lf : ℕ
   pub place : len ≡ at + rest
   pub behind : IsBehind held len lf
+  pub whole : size ≡ lf + 1
   pub free : mask_l (map is_stop (take rest (drop at held))) ≡ 0
   pub bits : ends ≡ bits_of 9 (take rest (drop at held) ++ 9 ∷ [])
   pub apart : bit_and (head + 2 * ends) ends ≡ 0

@@ -36,7 +36,7 @@ pub use building::RecordBuilder;
 pub use contents::{is_barline, is_data, is_filled, is_null};
 pub use growing::GrowingText;
 pub use nulls::{null_of, null_record};
-pub use reading::Record;
+pub use reading::{Record, ShortLine};
 pub use record_draft::RecordDraft;
 pub use selection::Selection;
 pub use spare::Spare;

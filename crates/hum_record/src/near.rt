@@ -18,11 +18,12 @@ pub const SHORT: usize = 32;
 /// How many places are copied at once: most lines have fewer tokens.
 pub const FEW: usize = 8;
 
-/// Where the text of a line ends, and where tokens end in the last bytes that were looked at, as the bits of a
-/// number.
+/// Where the text of a line ends, how many bytes the line has with its line end, and where tokens end in the
+/// last bytes that were looked at, as the bits of a number.
 #[derive(Clone, Copy)]
 pub struct LineEnd {
     pub len: usize,
+    pub size: usize,
     pub ends: u64,
 }
 
@@ -34,10 +35,10 @@ pub fn stop_bits<const N: usize>(held: &[u8], at: usize) -> u64
     ensures { result ≡ mask_l (map is_stop (chunk at N held.now)) }
 {
     let lanes = Simd::<u8, N>::from_slice(&held[at..]);
-    (lanes.simd_eq(Simd::splat(b'!'))
-        | lanes.simd_eq(Simd::splat(b'*'))
-        | lanes.simd_eq(Simd::splat(b'\r'))
-        | lanes.simd_eq(Simd::splat(b'\n'))).to_bitmask()
+    // LF and `*` differ in one bit
+    ((lanes | Simd::splat(32)).simd_eq(Simd::splat(b'*'))
+        | lanes.simd_eq(Simd::splat(b'!'))
+        | lanes.simd_eq(Simd::splat(b'\r'))).to_bitmask()
 }
 
 /// Whether no token is empty of those that begin in a word, by the bits of where its tokens end. `head` is
@@ -51,13 +52,19 @@ pub fn is_apart(head: u64, ends: u64) -> bool
     heads & ends == 0
 }
 
-/// Whether a line ends at a place: LF stands there, or CR and LF.
+/// How many bytes a line has with its line end, if LF stands behind its text, or CR and LF.
 #[inline(always)]
-fn is_line_end(held: &[u8], len: usize) -> bool
+fn line_size(held: &[u8], len: usize) -> Option<usize>
     requires { len < length held.now }
-    ensures { result ≡ true → (lf : ℕ) × IsBehind held.now len lf }
+    ensures { IfSome result (λ size. (lf : ℕ) × IsBehind held.now len lf × (size ≡ lf + 1)) }
 {
-    held[len] == b'\n' || is_cr_lf(held, len)
+    if held[len] == b'\n' {
+        return Some(len + 1);
+    }
+    if is_cr_lf(held, len) {
+        return Some(len + 2);
+    }
+    None
 }
 
 #[inline(always)]
@@ -78,19 +85,32 @@ pub fn line_end<const N: usize>(held: &[u8], at: usize, head: u64, stops: u64) -
     requires stops { stops ≡ mask_l (map is_stop (chunk at N held.now)) }
     requires some { 0 < stops }
     ensures near { IfSome result (λ end. end.len < at + N) }
-    ensures ends { IfSome result (λ end. EndsLine held.now at head end.len end.ends) }
+    ensures ends { IfSome result (λ end. EndsLine held.now at head end.len end.size end.ends) }
 {
     let rest = stops.trailing_zeros() as usize;
     let len = at + rest;
-    if !is_line_end(held, len) {
-        return None;
-    }
+    let size = line_size(held, len)?;
     let tabs = bits_at::<N>(held, at, b'\t') & ((1u64 << rest) - 1);
     let ends = tabs + (1u64 << rest);
     if !is_apart(head, ends) {
         return None;
     }
-    Some(LineEnd { len, ends })
+    Some(LineEnd { len, size, ends })
+}
+
+/// Puts the place of the lowest of some bits into a list, and answers the others.
+#[inline(always)]
+fn put_place(places: &mut [u32], end: usize, start: u32, bits: u64) -> u64
+    requires some { 0 < bits }
+    requires room { end < length places.old }
+    requires few { start + 64 < 2 ^ 32 }
+    ensures put { take (end + 1) places.new ++ set_places 64 start result
+        ≡ take end places.old ++ set_places 64 start bits }
+    ensures within { end < length places.new }
+    ensures less { result < bits }
+{
+    places[end] = start + bits.trailing_zeros();
+    bits & (bits - 1)
 }
 
 /// Puts the places of bits, of which the lowest has this place, behind the first `count` of a list, and
@@ -104,9 +124,15 @@ pub fn put_places(places: &mut [u32], count: usize, start: u32, bits: u64) -> us
 {
     let mut end = count;
     let mut rest = bits;
+    for _ in 0..FEW {
+        if rest == 0 {
+            return end;
+        }
+        rest = put_place(places, end, start, rest);
+        end += 1;
+    }
     while rest != 0 {
-        places[end] = start + rest.trailing_zeros();
-        rest &= rest - 1;
+        rest = put_place(places, end, start, rest);
         end += 1;
     }
     end

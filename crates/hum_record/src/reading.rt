@@ -4,7 +4,7 @@ ghost use Rattle.std.specs.Prelude.{IfSome, length, take, ◌++◌, ◌∷◌, [
 ghost use Rattle.hum_record.specs.Spelling.{IsTokenOf, IsTextOf, has_byte, is_comment, reading};
 ghost use Rattle.hum_record.specs.Spelling.{Gives, Fails, Breaks};
 ghost use Rattle.hum_record.specs.Fields.{AreFields, row_in};
-ghost use Rattle.hum_record.specs.Lines.{IsRead};
+ghost use Rattle.hum_record.specs.Lines.{IsRead, IsReadTo};
 ghost use Rattle.hum_record.specs.Plain.{EndsLine};
 ghost use Rattle.hum_record.specs.Row.{Row, kind_of, row_of, tokens_of, width_of, token_at, text_of};
 ghost use Rattle.hum_record.specs.Row.{Spined, with_chosen};
@@ -35,6 +35,13 @@ const WIDEST: usize = 16;
 /// It is as large as a pointer, so that it is moved as quickly.
 pub struct Record {
     body: Box<Body>,
+}
+
+/// The record of a line, and how many bytes the line has with its line end.
+#[derive(Drop)]
+pub struct ShortLine {
+    pub record: Record,
+    pub size: usize,
 }
 
 // Written out, so that a caller's proof sees one call and not the drop of each field.
@@ -133,22 +140,47 @@ impl Record {
     /// ends among them and is plain data. Where it may have many tokens they aren't looked at.
     // It makes no call, so a caller that makes none but its last one keeps nothing on the stack.
     #[inline(always)]
-    pub fn parse_short(spare: &mut Spare, held: &[u8], width: usize) -> Option<Record>
-        ensures { IfSome result (IsRead held.now) }
+    pub fn parse_short(spare: &mut Spare, held: &[u8], width: usize) -> Option<ShortLine>
+        ensures { IfSome result (λ line. IsReadTo held.now line.record line.size) }
     {
         if held.len() < NEAR || width >= WIDE {
             return None;
         }
-        let stops = stop_bits::<SHORT>(held, 0);
+        Self::of_first::<SHORT>(spare, held)
+    }
+
+    /// The same by the first 64 bytes.
+    #[inline(always)]
+    pub fn parse_near(spare: &mut Spare, held: &[u8], width: usize) -> Option<ShortLine>
+        ensures { IfSome result (λ line. IsReadTo held.now line.record line.size) }
+    {
+        if held.len() < NEAR || width >= WIDEST {
+            return None;
+        }
+        Self::of_first::<NEAR>(spare, held)
+    }
+
+    /// The same by the first `N`.
+    #[inline(always)]
+    fn of_first<const N: usize>(spare: &mut Spare, held: &[u8]) -> Option<ShortLine>
+        requires few { N ≤ 64 }
+        requires filled { N ≤ length held.now }
+        ensures { IfSome result (λ line. IsReadTo held.now line.record line.size) }
+    {
+        let stops = stop_bits::<N>(held, 0);
         if stops == 0 {
             return None;
         }
-        let end = line_end::<SHORT>(held, 0, 1, stops)?;
+        let end = line_end::<N>(held, 0, 1, stops)?;
         let body = spare.take_first()?;
-        Self::of_near::<SHORT>(spare, body, held, end)
+        let record = Self::of_near::<N>(spare, body, held, end)?;
+        Some(ShortLine {
+            record,
+            size: end.size,
+        })
     }
 
-    /// The same of a line of any length, into what is left of any record. By how many tokens it may have it
+    /// The record of a line of any length, into what is left of any record. By how many tokens it may have it
     /// is known in what pieces it is best looked at. What any other line is, [`Record::parse_into`] tells.
     #[inline(always)]
     pub fn parse_line(spare: &mut Spare, held: &[u8], width: usize) -> Option<Record>
@@ -180,8 +212,8 @@ impl Record {
         requires few { N ≤ 64 }
         requires filled { N ≤ length held.now }
         requires near { end.len < N }
-        requires ends { EndsLine held.now 0 1 end.len end.ends }
-        ensures { IfSome result (IsRead held.now) }
+        requires ends { EndsLine held.now 0 1 end.len end.size end.ends }
+        ensures { IfSome result (λ row. IsReadTo held.now row end.size) }
     {
         if body.put_near::<N>(held, end.len, end.ends) {
             return Some(Record { body });

@@ -149,8 +149,15 @@ IsWindow-moved xs s m e j n w low middle high which = record {
   ];
 }
 
-pub either_max : (m j : ℕ) → (max m j ≡ j) ⊎ (max m j ≡ m)
-either_max m j = elim (cases_lt m j) [ inl less ↦ inl (omega (arith, less)) | inr more ↦ inr (omega (arith, more)) ]
+-- the same where what was searched is told from a place that may stand before the window
+pub moved_on : (xs : List ℕ) (s m e n : ℕ) → IsWindow xs s (max m s) e → s + n ≤ e → IsWindow xs (s + n) (max m (s + n)) e
+moved_on xs s m e n w fits =
+    let middle = w.middle in
+    IsWindow-moved xs s (max m s) e (s + n) (max m (s + n)) w (omega arith) (omega arith) (omega (arith, middle, fits))
+    (elim (cases_lt m (s + n)) [ inl less ↦ inl (omega (arith, less)) | inr more ↦ inr (omega (arith, more)) ])
+
+pub max_behind : (f x : ℕ) → max (f + x) f ≡ f + x
+max_behind f x = omega arith
 
 pub shorter : (n m : ℕ) (zs : List ℕ) → n ≤ m → take n (take m zs) ≡ take n zs
 shorter zero m zs h = refl

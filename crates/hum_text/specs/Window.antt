@@ -9,11 +9,6 @@ pub record IsWindow (bytes : List ℕ) (start scanned end : ℕ) : Type 0 where
   pub high : end ≤ length bytes
   pub searched : (k : ℕ) → start ≤ k → k < scanned → slice_index bytes k ≡ lf → ⊥
 
--- the line that was handed out last, which ends where the window does or before
-pub record IsBefore (line_start line_end end : ℕ) : Type 0 where
-  pub order : line_start ≤ line_end
-  pub before : line_end ≤ end
-
 -- A buffer, as contracts see it: the line that was handed out last, and the bytes that were read
 -- and not yet handed out.
 pub record Held : Type 0 where

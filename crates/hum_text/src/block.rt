@@ -20,25 +20,25 @@ use std::marker::Model;
 pub struct Block {
     bytes: Vec<u8>,
     line_start: usize,
-    line_end: usize,
+    line_len: usize,
     start: usize,
     scanned: usize,
     end: usize,
 }
 
 impl Model for Block {
-    ghost use Rattle.std.specs.Prelude.{slice_range};
-    ghost use Rattle.hum_text.specs.Window.{Held, IsWindow, IsBefore};
+    ghost use Rattle.std.specs.Prelude.{slice_range, max, ◌+◌, ◌≤◌};
+    ghost use Rattle.hum_text.specs.Window.{Held, IsWindow};
 
     ghost Value = { Held };
 
     ghost view = { λ b. record {
-      line = slice_range b.bytes.items b.line_start b.line_end;
+      line = slice_range b.bytes.items b.line_start (b.line_start + b.line_len);
       pending = slice_range b.bytes.items b.start b.end;
     } };
 
-    ghost invariant = { λ b. IsWindow b.bytes.items b.start b.scanned b.end
-        × IsBefore b.line_start b.line_end b.end };
+    ghost invariant = { λ b. IsWindow b.bytes.items b.start (max b.scanned b.start) b.end
+        × (b.line_start + b.line_len ≤ b.end) };
 }
 
 impl Block {
@@ -48,7 +48,7 @@ impl Block {
         Block {
             bytes: Vec::new(alloc),
             line_start: 0,
-            line_end: 0,
+            line_len: 0,
             start: 0,
             scanned: 0,
             end: 0,
@@ -59,7 +59,7 @@ impl Block {
     pub fn line(&self) -> &[u8]
         ensures { result.now ≡ self.now.line }
     {
-        &self.bytes[self.line_start..self.line_end]
+        &self.bytes[self.line_start..self.line_start + self.line_len]
     }
 
     /// The buffer from that line on, and how many bytes of it are the line.
@@ -68,10 +68,7 @@ impl Block {
         ensures within { result.1 ≤ length result.0.now }
         ensures line { take result.1 result.0.now ≡ self.now.line }
     {
-        (
-            &self.bytes[self.line_start..],
-            self.line_end - self.line_start,
-        )
+        (&self.bytes[self.line_start..], self.line_len)
     }
 
     /// The bytes that were not yet handed out.
@@ -87,7 +84,7 @@ impl Block {
         ensures found { IsFirstByte (is_byte lf) self.old.pending result }
         ensures same { self.new ≡ self.old }
     {
-        let from = self.scanned;
+        let from = self.scanned.max(self.start);
         match memchr(b'\n', &self.bytes[from..self.end]) {
             None => {
                 self.scanned = self.end;
@@ -108,28 +105,8 @@ impl Block {
         } }
     {
         self.line_start = self.start;
-        self.line_end = self.start + len;
+        self.line_len = len;
         self.start += size;
-        self.scanned = self.scanned.max(self.start);
-    }
-
-    /// Hands out the first `len` bytes as a line, and drops all up to place `k`, where the first LF
-    /// stands.
-    #[inline]
-    pub fn hand_out_line(&mut self, k: usize, len: usize)
-        requires order { len ≤ k }
-        requires within { k < length self.old.pending }
-        ensures { self.new ≡ record {
-          line = take len self.old.pending;
-          pending = drop (k + 1) self.old.pending;
-        } }
-    {
-        let start = self.start;
-        let next = start + k + 1;
-        self.line_start = start;
-        self.line_end = start + len;
-        self.start = next;
-        self.scanned = next;
     }
 
     /// Makes one read, and takes what it gives to the end. The line is gone.
@@ -147,12 +124,12 @@ impl Block {
             ⊎ ((f ≡ TextFault.Read) × IsCalled R.calls R.failed reader.old reader.new true)) }
     {
         self.line_start = 0;
-        self.line_end = 0;
+        self.line_len = 0;
         let Ok(from) = make_room(&mut self.bytes, self.start, self.end) else {
             return Err(TextFault::Memory);
         };
         self.end = from + (self.end - self.start);
-        self.scanned = from + (self.scanned - self.start);
+        self.scanned = from + (self.scanned.max(self.start) - self.start);
         self.start = from;
         match read_at(&mut self.bytes, self.end, reader) {
             Ok(n) => {

@@ -1,6 +1,6 @@
 //! The lines of a source, one at a time.
 ghost use Rattle.std.specs.Prelude.{◌≡◌, ◌≢◌, ◌==◌, ℕ, ◌+◌, ◌<◌, ◌≤◌, true, false, List, []};
-ghost use Rattle.std.specs.Prelude.{length, take, drop, slice_index, ◌⊎◌, ◌++◌, Some, None};
+ghost use Rattle.std.specs.Prelude.{◌-◌, length, take, drop, slice_index, ◌⊎◌, ◌++◌, Some, None};
 ghost use Rattle.std.specs.Prelude.{IfOk, IfErr, OnOk, IfSome, IfNone};
 ghost use Rattle.std.specs.Io.KnownBytes.{Consumes, IsAtEnd};
 ghost use Rattle.memchr.specs.Find.{IsFirstByte, is_byte};
@@ -13,6 +13,9 @@ use crate::rules::{first_fault, sound_len, strip_cr, within_limits};
 use crate::{Limits, TextFault};
 use std::alloc::Global;
 use std::marker::Model;
+
+/// As many bytes at least are shown ahead, if any are.
+const NEAR: u64 = 64;
 
 /// What a poll gives.
 #[derive(Debug, Clone, Copy, PartialEq, Eq)]
@@ -34,6 +37,8 @@ pub struct LineReader<R> {
     given: u64,
     // how many bytes may be handed out in all before a limit is to be asked for again
     free: u64,
+    // the same, but so that more than 63 are left
+    near: u64,
     taken: u64,
     ended: bool,
     fault: Option<TextFault>,
@@ -55,10 +60,11 @@ impl<R> Model for LineReader<R> {
       fault = r.fault;
     } };
 
-    ghost use Rattle.std.specs.Prelude.{◌-◌};
+    ghost use Rattle.std.specs.Prelude.{◌-◌, ◌≤◌};
     ghost use Rattle.hum_text.specs.Reading.{IsWithin};
 
-    ghost invariant = { λ r. IsWithin r.limits r.given r.taken r.block.pending (r.free - r.taken) };
+    ghost invariant = { λ r. IsWithin r.limits r.given r.taken r.block.pending (r.free - r.taken)
+        × (r.near ≤ r.free - 63) };
 }
 
 // How many bytes stand up to place k, it included.
@@ -70,14 +76,18 @@ fn through(held: &[u8], k: usize) -> usize
     held[..k].len() + 1
 }
 
-// Where LF stands behind a text that ends at a place: there, or behind a CR.
+// How many bytes a line has with its line end, by its text: LF stands behind that, or CR and LF.
 #[inline]
-fn lf_behind(held: &[u8], len: usize) -> usize
+fn size_of_line(held: &[u8], len: usize) -> usize
     requires { len < length held.now }
-    ensures lf { slice_index held.now len ≡ lf → result ≡ len }
-    ensures cr { slice_index held.now len ≢ lf → result ≡ len + 1 }
+    ensures lf { slice_index held.now len ≡ lf → result ≡ len + 1 }
+    ensures cr { slice_index held.now len ≢ lf → result ≡ len + 2 }
 {
-    if held[len] == b'\n' { len } else { len + 1 }
+    if held[len] == b'\n' {
+        len + 1
+    } else {
+        len + 2
+    }
 }
 
 impl<R: Source> LineReader<R> {
@@ -100,6 +110,7 @@ impl<R: Source> LineReader<R> {
             ended: false,
             fault: None,
             free: 0,
+            near: 0,
         }
     }
 
@@ -129,7 +140,8 @@ impl<R: Source> LineReader<R> {
         self.given
     }
 
-    /// Bytes that come next: whatever line LF ends among them, it keeps to the limits.
+    /// Bytes that come next, or none where these are few: whatever line LF ends among them, it keeps to the
+    /// limits.
     #[inline]
     pub fn ahead(&self) -> &[u8]
         ensures next { (behind : List ℕ) × (self.now.pending ≡ result.now ++ behind) }
@@ -137,7 +149,11 @@ impl<R: Source> LineReader<R> {
         ensures records { self.now.given + length result.now ≤ self.now.limits.records }
         ensures bytes { self.now.taken + length result.now ≤ self.now.limits.bytes }
     {
-        &self.block.pending()[..self.free.saturating_sub(self.taken) as usize]
+        if self.taken >= self.near {
+            return &[];
+        }
+        // that there are as many is known, but written so, nobody asks it again
+        &self.block.pending()[..(self.free - self.taken).max(NEAR) as usize]
     }
 
     // From here on each poll gives this fault.
@@ -199,44 +215,45 @@ impl<R: Source> LineReader<R> {
         ensures gives { GivesLine self.old self.new }
         ensures line { self.new.line ≡ take len self.old.pending }
     {
-        let k = lf_behind(self.block.pending(), len);
-        self.give_line(k, len);
+        let size = size_of_line(self.block.pending(), len);
+        self.give_line(len, size);
     }
 
-    // Gives what stands in front of the LF at `k` as a line, of which `len` bytes are left without a CR at
-    // its end, and drops it and that LF.
+    /// Gives the first `len` bytes as a line, and drops `size` bytes: these and its line end.
     #[inline]
-    fn give_line(&mut self, k: usize, len: usize)
+    pub fn give_line(&mut self, len: usize, size: usize)
         requires no_fault { self.old.fault ≡ None }
-        requires first { IsFirstByte (is_byte lf) self.old.pending (Some k) }
-        requires len { len ≡ length (without_cr (take k self.old.pending)) }
+        requires some { 0 < size }
+        requires first { IsFirstByte (is_byte lf) self.old.pending (Some (size - 1)) }
+        requires len { len ≡ length (without_cr (take (size - 1) self.old.pending)) }
         requires filled { 0 < len }
         requires short { len ≤ self.old.limits.line }
         requires records { self.old.given < self.old.limits.records }
-        requires bytes { self.old.taken + (k + 1) ≤ self.old.limits.bytes }
+        requires bytes { self.old.taken + size ≤ self.old.limits.bytes }
         ensures gives { GivesLine self.old self.new }
-        ensures line { self.new.line ≡ without_cr (take k self.old.pending) }
+        ensures line { self.new.line ≡ without_cr (take (size - 1) self.old.pending) }
     {
-        self.hand_out_line(k, len);
+        self.hand_out_line(len, size);
     }
 
     // Hands it out, whatever the line is.
     #[inline]
-    fn hand_out_line(&mut self, k: usize, len: usize)
-        requires within { k < length self.old.pending }
-        requires len { len ≡ length (without_cr (take k self.old.pending)) }
+    fn hand_out_line(&mut self, len: usize, size: usize)
+        requires some { 0 < size }
+        requires within { size ≤ length self.old.pending }
+        requires len { len ≡ length (without_cr (take (size - 1) self.old.pending)) }
         requires records { self.old.given < self.old.limits.records }
-        requires bytes { self.old.taken + (k + 1) ≤ self.old.limits.bytes }
+        requires bytes { self.old.taken + size ≤ self.old.limits.bytes }
         ensures { self.new ≡ record self.old {
-          line = without_cr (take k self.old.pending);
-          pending = drop (k + 1) self.old.pending;
+          line = without_cr (take (size - 1) self.old.pending);
+          pending = drop size self.old.pending;
           given = self.old.given + 1;
-          taken = self.old.taken + (k + 1);
+          taken = self.old.taken + size;
         } }
     {
-        self.block.hand_out_line(k, len);
+        self.block.hand_out(len, size);
         self.given += 1;
-        self.taken += k as u64 + 1;
+        self.taken += size as u64;
     }
 
     // Hands out the line whose LF is at `k`, if it breaks no rule, and tells whether it did.
@@ -250,7 +267,8 @@ impl<R: Source> LineReader<R> {
         let piece = &self.block.pending()[..k];
         match sound_len(&self.limits, self.given, self.taken, piece) {
             Some(len) => {
-                self.give_line(k, len);
+                let size = piece.len() + 1;
+                self.give_line(len, size);
                 true
             }
             None => false,
@@ -303,6 +321,7 @@ impl<R: Source> LineReader<R> {
     {
         let held = self.block.pending().len();
         self.free = self.taken + within_limits(&self.limits, self.given, self.taken, held);
+        self.near = self.free.saturating_sub(NEAR - 1);
     }
 
     // What a poll gives where no LF was read: a fault of the line so far, or what a read gives.

@@ -26,7 +26,7 @@ returns-then-stops-ne0-clause-line c =
     let end = c.in_ok-end.end in
     let at = 64 * l.words in
     let front = take l.count l.places.items in
-    (last_word c.args.held.now front (front ++ set_places 64 at end.ends) at l.head end.len end.ends
+    (last_word c.args.held.now front (front ++ set_places 64 at end.ends) at l.head end.len end.size end.ends
     c.in_ok-end.ensures.near l.invariant.0 c.in_ok-end.ensures.ends refl).line
 
 pub returns-then-stops-ne0-clause-plain : goal.returns-then-stops-ne0-clause-plain
@@ -39,7 +39,7 @@ returns-then-stops-ne0-clause-plain c =
     let size : length written ≡ new.len = omega (arith, c.put_places.auto.places, c.deref_mut.ensures.len) in
     let put = rw c.deref_mut.ensures.value at c.put_places.ensures.places in
     let kept = front_kept l.count l.places.len l.places.items new.items l.invariant.2 c.in-Ok.ensures.kept in
-    (last_word c.args.held.now (take l.count l.places.items) _ at l.head end.len end.ends
+    (last_word c.args.held.now (take l.count l.places.items) _ at l.head end.len end.size end.ends
     c.in_ok-end.ensures.near l.invariant.0 c.in_ok-end.ensures.ends
     (front_written _ new.len written new.items size ∙ put ∙ ap (λ (xs : List ℕ). xs ++ set_places 64 at end.ends) kept)).plain
 

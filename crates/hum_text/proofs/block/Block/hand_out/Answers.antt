@@ -1,17 +1,9 @@
-use Rattle.std.proofs.Common.{◌≡◌, ◌+◌, ◌-◌, ◌≤◌, ◌∙◌, sym, ap, arith, take, drop, length, slice_range}
-use Rattle.hum_text.proofs.WindowLemmas.{front-window, drop-window, length-window, IsWindow-moved, either_max}
+use Rattle.std.proofs.Common.{◌≡◌, ◌+◌, ◌-◌, ◌≤◌, ◌∙◌, sym, ap, arith, take, drop, length, slice_range, max}
+use Rattle.hum_text.proofs.WindowLemmas.{front-window, drop-window, length-window, moved_on}
 use Rattle.hum_text.proofs.block.Block.hand_out.Goals as goal
 
 pub overflow_add-self : goal.overflow_add-self
 overflow_add-self c =
-    let b = c.self.inside in
-    let is = ap (λ h. length h.pending) c.self.view_is in
-    let held = length-window b.bytes.items b.start b.end c.self.invariant.0.high in
-    let range = c.self.ranges in
-    omega (arith, is, held, c.requires.order, c.requires.within, c.self.invariant.0.low, c.self.invariant.0.middle, range)
-
-pub overflow_add-self-2 : goal.overflow_add-self-2
-overflow_add-self-2 c =
     let b = c.self.inside in
     let is = ap (λ h. length h.pending) c.self.view_is in
     let held = length-window b.bytes.items b.start b.end c.self.invariant.0.high in
@@ -24,12 +16,11 @@ invariant_of-self c =
     let is = ap (λ h. length h.pending) c.self.view_is in
     let w = c.self.invariant.0 in
     let held = length-window b.bytes.items b.start b.end w.high in
-    let fits : b.start + c.args.size ≤ b.end = omega (arith, is, held, c.requires.within, w.low, w.middle) in
-    let most = c.max-self-inside.ensures in
-    let middle = w.middle in (
-      IsWindow-moved _ b.start b.scanned _ _ _ w (omega arith) (omega (arith, most)) (omega (arith, most, fits, middle))
-          (rw most (either_max b.scanned (b.start + c.args.size))),
-      record { order = omega arith; before = let o = c.requires.order in omega (arith, fits, o) },
+    let low = w.low in
+    let middle = w.middle in
+    let fits : b.start + c.args.size ≤ b.end = omega (arith, is, held, c.requires.within, low, middle) in (
+      moved_on b.bytes.items b.start b.scanned b.end c.args.size w fits,
+      omega (arith, fits, c.requires.order),
     )
 
 pub returns : goal.returns

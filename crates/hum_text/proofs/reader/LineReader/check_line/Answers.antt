@@ -8,7 +8,7 @@ pub returns-in-Some-clause-goes : goal.returns-in-Some-clause-goes
 returns-in-Some-clause-goes g c =
     let v = c.args.self.now in
     let high : c.args.k < length v.pending = c.requires.first.0.high in
-    let bytes : v.taken ≤ v.limits.bytes = subst (λ w. w.taken ≤ w.limits.bytes) c.self.view_is (omega (arith, c.self.invariant.bytes)) in
+    let bytes : v.taken ≤ v.limits.bytes = subst (λ w. w.taken ≤ w.limits.bytes) c.self.view_is (omega (arith, c.self.invariant.0.bytes)) in
     fault-unread v _ _ c.in-Some.fault bytes c.fail.ensures.result c.fail.ensures.state (of-text _ _ _ _ _ c.in-Some.ensures.found)
     (λ all gs rest h text. found-fault v c.through-size.result c.in-Some.fault (omega (arith, c.through-size.ensures))
     (λ j low. first-free _ c.args.k c.requires.first j (omega (arith, c.through-size.ensures)))

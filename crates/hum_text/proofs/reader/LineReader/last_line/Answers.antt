@@ -7,14 +7,14 @@ use Rattle.hum_text.proofs.reader.LineReader.last_line.Goals as goal
 pub returns-then-size-eq0-clause-goes : goal.returns-then-size-eq0-clause-goes
 returns-then-size-eq0-clause-goes g c =
     let v = c.args.self.now in
-    let bytes : v.taken ≤ v.limits.bytes = subst (λ w. w.taken ≤ w.limits.bytes) c.self.view_is (omega (arith, c.self.invariant.bytes)) in
+    let bytes : v.taken ≤ v.limits.bytes = subst (λ w. w.taken ≤ w.limits.bytes) c.self.view_is (omega (arith, c.self.invariant.0.bytes)) in
     let is = ap length (c.pending-size.ensures ∙ ap (λ w. w.pending) c.self.view_is) in
     end-unread v c.requires.no_fault c.requires.ended (sym is ∙ c.if-size-eq0.true) bytes
 
 pub returns-in-Some-clause-goes : goal.returns-in-Some-clause-goes
 returns-in-Some-clause-goes g c =
     let v = c.args.self.now in
-    let bytes : v.taken ≤ v.limits.bytes = subst (λ w. w.taken ≤ w.limits.bytes) c.self.view_is (omega (arith, c.self.invariant.bytes)) in
+    let bytes : v.taken ≤ v.limits.bytes = subst (λ w. w.taken ≤ w.limits.bytes) c.self.view_is (omega (arith, c.self.invariant.0.bytes)) in
     let is = ap length (c.pending-size.ensures ∙ ap (λ w. w.pending) c.self.view_is) in
     fault-unread v _ _ c.in-Some.fault bytes c.fail.ensures.result c.fail.ensures.state (of-text _ _ _ _ _ c.in-Some.ensures.found)
     (λ all gs rest h text. found-fault v _ c.in-Some.fault (omega (arith, is))
@@ -23,7 +23,7 @@ returns-in-Some-clause-goes g c =
 pub returns-in-None-clause-goes : goal.returns-in-None-clause-goes
 returns-in-None-clause-goes g c =
     let v = c.args.self.now in
-    let bytes : v.taken ≤ v.limits.bytes = subst (λ w. w.taken ≤ w.limits.bytes) c.self.view_is (omega (arith, c.self.invariant.bytes)) in
+    let bytes : v.taken ≤ v.limits.bytes = subst (λ w. w.taken ≤ w.limits.bytes) c.self.view_is (omega (arith, c.self.invariant.0.bytes)) in
     let same = c.pending.ensures ∙ ap (λ w. w.pending) c.self.view_is in
     let is = ap length (c.pending-size.ensures ∙ ap (λ w. w.pending) c.self.view_is) in
     fault-unread v _ _ _ bytes c.fail-in-None.ensures.result c.fail-in-None.ensures.state tt (λ all gs rest h text.

@@ -8,7 +8,7 @@ use Rattle.hum_text.proofs.reader.LineReader.poll.Goals as goal
 pub returns-in-Some : goal.returns-in-Some
 returns-in-Some g c =
     let fault = subst (λ u. u.fault ≡ Some c.in-Some.fault) c.self.view_is c.in-Some.is in
-    let bytes = subst (λ u. u.taken ≤ u.limits.bytes) c.self.view_is (omega (arith, c.self.invariant.bytes)) in
+    let bytes = subst (λ u. u.taken ≤ u.limits.bytes) c.self.view_is (omega (arith, c.self.invariant.0.bytes)) in
     fault-polls g.R.Source.remaining g.R.Source.calls g.R.Source.failed _ _ fault bytes
 
 pub returns-then-next_line : goal.returns-then-next_line

@@ -10,7 +10,7 @@ pub returns-in-Some : goal.returns-in-Some
 returns-in-Some g c =
     let v = c.args.self.now in
     let is = ap length (c.pending.ensures ∙ ap (λ w. w.pending) c.self.view_is) in
-    let bytes : v.taken ≤ v.limits.bytes = subst (λ w. w.taken ≤ w.limits.bytes) c.self.view_is (omega (arith, c.self.invariant.bytes)) in
+    let bytes : v.taken ≤ v.limits.bytes = subst (λ w. w.taken ≤ w.limits.bytes) c.self.view_is (omega (arith, c.self.invariant.0.bytes)) in
     let found = c.in-Some.ensures.found in
     unread-reading _ _ _ v _ _ c.requires.going (λ needs. no-fault v _ c.in-Some.fault needs is found)
     (fault-unread v _ _ c.in-Some.fault bytes c.fail.ensures.result c.fail.ensures.state (of-text _ _ _ _ _ found)
@@ -24,7 +24,7 @@ returns-in-Err g c =
     let here = needs-read v _ c.requires.no_fault c.requires.going c.requires.unended is c.in-None.ensures.none in
     let needs = subst (λ w. NeedsRead w) (sym c.self.view_is) here in
     same-reading _ _ _ _ _ _ _ c.self.view_is
-    (fault-reading _ _ _ _ _ _ c.in-Err.fault _ _ _ c.in-Err.ensures.err.0 needs (omega (arith, c.self.invariant.bytes))
+    (fault-reading _ _ _ _ _ _ c.in-Err.fault _ _ _ c.in-Err.ensures.err.0 needs (omega (arith, c.self.invariant.0.bytes))
     c.in-Err.ensures.err.1 c.in-Err.ensures.kind c.fail-in-Err.ensures.result c.fail-in-Err.ensures.state)
 
 pub returns-in-Ok-eq0 : goal.returns-in-Ok-eq0
@@ -48,7 +48,7 @@ returns-in-Ok g c =
     let low = rw is at c.in-None.ensures.bytes in
     let room = subst (λ w. 0 < length w.pending → w.taken + length w.pending ≤ w.limits.bytes) (sym c.self.view_is) low in
     rw c.count_free.ensures (same-reading _ _ _ _ _ _ _ c.self.view_is
-    (more-reading _ _ _ _ _ _ _ read.0 _ read.1 needs room (omega (arith, c.self.invariant.bytes))
+    (more-reading _ _ _ _ _ _ _ read.0 _ read.1 needs room (omega (arith, c.self.invariant.0.bytes))
     c.in-Ok.ensures.line read.2 c.in-Ok.field-0-test.1 c.in-Ok.ensures.asked read.3 c.in-Ok.ensures.read))
 
 pub last_line-requires-clause-unended : goal.last_line-requires-clause-unended

@@ -1,0 +1,59 @@
+use Rattle.std.proofs.Common.{◌≡◌, ◌∙◌, ℕ, subst, sym, ap, None, Ok}
+use Rattle.hum_record.specs.Row.{text_of}
+use Rattle.hum_record.specs.Spelling.{reading}
+use Rattle.hum_read.specs.Reading.{Scores, Gave}
+use Rattle.hum_read.specs.Steps.{IsAheadTo, Nexts}
+use Rattle.hum_read.proofs.Ahead.{taking_to}
+use Rattle.hum_read.proofs.LineRead.{given-reads}
+use Rattle.hum_read.proofs.Nexting.{taken-nexts, tidy-taken, few-taken}
+use Rattle.hum_read.proofs.scores.ScoreReader.give_short.Goals as goal
+
+pub give_line-requires : goal.give_line-requires
+give_line-requires g c =
+    let lines = c.self.inside.lines in
+    let row = c.args.line.record in
+    let size = c.args.line.size in
+    let going = subst (λ v. v.stopped ≡ None) (sym c.self.view_is) c.requires.going in
+    let to = subst (λ v. IsAheadTo v.lines row size) (sym c.self.view_is) c.requires.ahead in
+    let ahead = to.ahead in
+    let t = taking_to lines.limits lines.given lines.taken lines.pending ahead.held ahead.behind row size
+    ahead.next ahead.line ahead.records ahead.bytes ahead.read to.whole in
+    rw c.text.ensures.text (record {
+      no_fault = c.self.invariant.going going;
+      some = t.some;
+      first = rw (← t.place) t.line.first;
+      len = t.len;
+      filled = t.filled;
+      short = t.short;
+      records = t.records;
+      bytes = t.bytes;
+    })
+
+pub invariant_of-self : goal.invariant_of-self
+invariant_of-self g c = tidy-taken c.self.inside.lines c.give_line.new.self c.self.inside.stopped c.self.invariant c.give_line.ensures.gives
+
+pub returns : goal.returns
+returns g c =
+    let remaining = g.R.Source.remaining in
+    let calls = g.R.Source.calls in
+    let failed = g.R.Source.failed in
+    let inside = c.self.inside in
+    let lines = inside.lines in
+    let new = c.give_line.new.self in
+    let row = c.args.line.record in
+    let size = c.args.line.size in
+    let going = subst (λ v. v.stopped ≡ None) (sym c.self.view_is) c.requires.going in
+    let to = subst (λ v. IsAheadTo v.lines row size) (sym c.self.view_is) c.requires.ahead in
+    let ahead = to.ahead in
+    let read = ahead.read in
+    let kept = c.keeps_data.ensures.keeps c.if-not-keeps_data.false row read.lawful read.kind (sym c.width.ensures) in
+    let given = c.give_line.ensures.gives in
+    let t = taking_to lines.limits lines.given lines.taken lines.pending ahead.held ahead.behind row size
+    ahead.next ahead.line ahead.records ahead.bytes read to.whole in
+    let line : new.line ≡ text_of row = c.give_line.ensures.line ∙ t.text in
+    let v : Scores _ = record { stage = inside.stage; lines = lines; spines = inside.paths; stopped = inside.stopped } in
+    let w : Scores _ = record { stage = inside.stage; lines = new; spines = inside.paths; stopped = inside.stopped } in
+    let reads = given-reads w inside.paths row going (ap reading line ∙ read.read)
+    kept.0 (sym kept.1) (few-taken lines new inside.stopped c.self.invariant given) in
+    subst (λ u. Nexts remaining calls failed u (Ok (Gave row)) w) c.self.view_is
+    (taken-nexts remaining calls failed v new row c.self.invariant going given reads.gives)
