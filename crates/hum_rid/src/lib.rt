@@ -1,7 +1,7 @@
 //! The command rid: drops records by their kinds.
 #![tactic(auto)]
 
-ghost use Rattle.std.specs.Prelude.{◌≡◌, false};
+ghost use Rattle.std.specs.Prelude.{◌≡◌, true, false};
 ghost use Rattle.std.specs.List.{list_all};
 ghost use Rattle.std.specs.Str.{bytes_eq};
 ghost use Rattle.hum_record.specs.Row.{tokens_of};
@@ -10,7 +10,7 @@ ghost use Rattle.hum_rid.specs.Rid.{rid, drops, all_are};
 pub use hum_choices::RidOptions;
 use hum_path::steers;
 use hum_record::{Kind, Record};
-use hum_stage::{AtOnce, Command, Decides, Refusal};
+use hum_stage::{AtMostOne, AtOnce, Command, Decides, Refusal};
 use std::alloc::Global;
 
 /// Whether each token of a record is this one.
@@ -27,6 +27,7 @@ fn none_differs(row: &Record, token: &[u8]) -> bool
 }
 
 /// Whether a record is dropped.
+#[inline(never)]
 fn drops(options: &RidOptions, row: &Record) -> bool
     ensures { result ≡ drops options.now row.now }
 {
@@ -47,6 +48,17 @@ fn drops(options: &RidOptions, row: &Record) -> bool
     }
 }
 
+/// Whether a record is data, and none of those is dropped.
+#[inline(always)]
+fn keeps_data(options: &RidOptions, row: &Record) -> bool
+    ensures { result ≡ true → drops options.now row.now ≡ false }
+{
+    match row.kind() {
+        Kind::Global | Kind::Local | Kind::Interpretation => false,
+        Kind::Values => !options.values && !options.null_values,
+    }
+}
+
 /// What is dropped.
 #[derive(Drop)]
 pub struct Dropping {
@@ -56,7 +68,7 @@ pub struct Dropping {
 impl Decides for Dropping {
     type Options = RidOptions;
 
-    type Due = Option<Record>;
+    type Due = AtMostOne;
 
     ghost use Rattle.hum_stage.specs.declared.faults.Command.TheVariants.{Rid as RidCommand};
 
@@ -76,9 +88,16 @@ impl Decides for Dropping {
         Dropping { options }
     }
 
-    fn step(&mut self, next: Record, _room: u64, out: &mut Option<Record>) -> Result<(), Refusal> {
-        if !drops(&self.options, &next) {
-            *out = Some(next);
+    #[inline(always)]
+    fn leaves(&self, next: &Record) -> bool {
+        keeps_data(&self.options, next)
+    }
+
+    fn step(&mut self, next: Record, _room: u64, out: &mut AtMostOne) -> Result<(), Refusal> {
+        if drops(&self.options, &next) {
+            out.let_go(next);
+        } else {
+            out.put(next);
         }
         Ok(())
     }

@@ -3,7 +3,7 @@ use Rattle.std.proofs.Common.{◌≡◌, ◌∙◌, refl, sym, ap, ℕ, suc, ◌
 use Rattle.std.proofs.Common.{false, List, [], ◌∷◌, ◌++◌, length}
 use Rattle.std.proofs.Common.{arith, Option, Some, None, slice_get, ◌⊎◌, inl}
 use Rattle.std.proofs.Common.{inr}
-use Rattle.std.specs.Prelude.{is_some, Result, Ok, Err, nat_lt, ◌||◌}
+use Rattle.std.specs.Prelude.{is_some, Result, Ok, Err, nat_lt, ◌||◌, MatchOption}
 use Rattle.std.proofs.lemmas.Bool.Decides.{nat_tests}
 use Rattle.std.proofs.lemmas.List.{length_push}
 use Rattle.std.proofs.lemmas.Option.{none-some, slice_get_past, slice_get_within}
@@ -15,7 +15,7 @@ use Rattle.hum_stage.specs.declared.faults.End.{End}
 use Rattle.hum_stage.specs.Score.{IsScore}
 use Rattle.hum_stage.specs.Outcome.{held_of}
 use Rattle.hum_stage.specs.Meaning.{Moment, MayPut, MayEnd, opening, after_put, after_take, after_end}
-use Rattle.hum_stage.specs.Meaning.{all_of, held_at, state_of, resting_state}
+use Rattle.hum_stage.specs.Meaning.{all_of, held_at, state_of, resting_state, TookFirst}
 use Rattle.hum_stage.specs.declared.faults.State.TheVariants.{Gives, Wants}
 use Rattle.hum_stage.proofs.Moves.{wants_all, is_some_at}
 use Rattle.hum_stage.specs.Order.{open_score}
@@ -356,3 +356,61 @@ due_none (Some row) e = cc
 pub due_some : (due : Option Row) → is_some due ≡ true → (row : Row) × (due ≡ Some row)
 due_some None e = cc
 due_some (Some row) e = (row, refl)
+
+-- A memory that goes on standing for what it stood for.
+pub lags_same : (room : ℕ) (follows follows' : Look → List Row → List Row → Type 0) (x : Lagged)
+    (ended : Option End) (spent : Bool) (t : Moment)
+    → ((look : Look) (past rows : List Row) → follows look past rows → follows' look past rows)
+    → Lags room follows x ended spent t → Lags room follows' x ended spent t
+lags_same room follows follows' x ended spent t same h = record {
+  look = h.look;
+  steady = h.steady;
+  meaning = h.meaning;
+  alive = h.alive;
+  ending = h.ending;
+  rests = h.rests;
+  at = record {
+    line = h.at.line;
+    gone = h.at.gone;
+    rest = h.at.rest;
+    outcomes = h.at.outcomes;
+    counted = h.at.counted;
+    stopped = h.at.stopped;
+    fault = h.at.fault;
+    faultless = h.at.faultless;
+    ahead = λ ok.
+        let a = h.at.ahead ok in
+        record {
+          front = a.front;
+          waits = a.waits;
+          split = a.split;
+          counted = a.counted;
+          memory = same h.look (passed [] a.front) a.waits a.memory;
+          few = a.few;
+          outcomes = a.outcomes;
+        };
+  };
+}
+
+-- where none waits, none comes next
+none_next_waits : (room n : ℕ) (follows : Look → List Row → List Row → Type 0)
+    → ((look : Look) (past rows : List Row) → follows look past rows → rows ≡ [])
+    → HasSettledNext room follows follows n (Ok None)
+none_next_waits room n follows none look past rows h few =
+    let empty = none look past rows h in
+    rw empty (record { dropped = []; rest = []; split = refl; outcomes = refl; behind = rw empty at h })
+
+-- What is due where none waits is taken, and was all that was held.
+pub lags_lone : (room : ℕ) (follows : Look → List Row → List Row → Type 0) (x : Lagged)
+    (ended : Option End) (spent : Bool) (t : Moment) (due : Option Row)
+    → Lags room follows x ended spent t → t.ended ≡ None → x.due ≡ due
+    → ((look : Look) (past rows : List Row) → follows look past rows → rows ≡ [])
+    → MatchOption due (Lags room follows (due_lagged x None) ended spent t)
+    (λ row. TookFirst (λ u. Lags room follows (due_lagged x None) ended spent u) t row)
+lags_lone room follows x ended spent t None h going e none = rw (← e) h
+lags_lone room follows x ended spent t (Some row) h going e none =
+    let took = lags_take room follows follows x ended spent t row 0 None h e (none_next_waits room 0 follows none) in
+    let ok = h.at.faultless row e in
+    let held = held_open room follows x ended spent t 0 h (rw (h.ending ∙ going) refl) (rw ok refl)
+    (λ look past rows f. rw (none look past rows f) refl) in
+    record { next = took.0; held = sym held ∙ ap (λ (o : Option Row). with_due o 0) e; stand = rw h.alive took.1 }

@@ -74,6 +74,12 @@ HasStepped before after next room out refused =
     (decide : Decision) (past : List Row)
     → before decide past → IsOpen (next ∷ past) → Steps decide past next after room out refused
 
+-- a memory that stands for records stands for them and one more, which becomes itself
+abbrev pub Leaves : (Decision → List Row → Type 0) → Row → Type 0
+Leaves follows next =
+    (decide : Decision) (past : List Row) → follows decide past → IsOpen (next ∷ past)
+    → (decide past next ≡ Ok (next ∷ [])) × follows decide (next ∷ past)
+
 -- How a command that decides each record at once keeps scores: after records, those given lead to
 -- spines in some relation to them.
 pub record Keeps (decide : Decision)

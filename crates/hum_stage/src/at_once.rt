@@ -1,10 +1,10 @@
 //! The stage round a command that decides each record at once.
-ghost use Rattle.std.specs.Prelude.{◌≡◌, ◌⊎◌, true, length, [], None, Some, Ok, is_some};
+ghost use Rattle.std.specs.Prelude.{◌≡◌, ◌<◌, ◌⊎◌, true, length, [], None, Some, Ok, is_some};
 ghost use Rattle.std.specs.Prelude.{MatchOption, IsSomeAnd, IfOk, OnOk, OnErr, IsErr};
 ghost use Rattle.hum_stage.specs.declared.faults.Rule.TheVariants.{L2};
-ghost use Rattle.hum_stage.specs.Meaning.{Moment, opening, MayPut, HasPut, TookFirst, ShowsReadiness};
+ghost use Rattle.hum_stage.specs.Meaning.{Moment, opening, MayPut, HasPut, HasPutAndTaken, TookFirst, ShowsReadiness};
 ghost use Rattle.hum_stage.specs.Refusals.{rule_in};
-ghost use Rattle.hum_stage.specs.Decided.{at_once};
+ghost use Rattle.hum_stage.specs.Decided.{at_once, Leaves};
 ghost use Rattle.hum_stage.specs.Standing.{Standing, StandsCounted, fault_in, is_out};
 
 use crate::contract::Stage;
@@ -13,6 +13,7 @@ use crate::due::DueRecords;
 use crate::faults::{Command, End, Fault, Readiness, Refusal, Rule, State, resting};
 use hum_record::{Record, Spare};
 use std::alloc::{AllocError, Global};
+use std::mem::{forget, replace};
 
 /// A command that decides each record at once, as a stage.
 pub struct AtOnce<C: Decides> {
@@ -182,9 +183,6 @@ impl<C: Decides> AtOnce<C> {
         ensures err { OnErr result (⟦<AtOnce<C> as Stage>⟧.spent self.new) }
     {
         self.count();
-        if self.held() != 1 {
-            return Ok(self.readiness());
-        }
         let (taken, behind) = self.take_and_ask(pool)?;
         *first = taken;
         Ok(behind)
@@ -214,12 +212,12 @@ impl<C: Decides> AtOnce<C> {
 
     /// Puts one record more where it has stopped, which becomes nothing.
     #[inline(never)]
-    fn put_in_vain(&mut self, _next: Record) -> Result<Readiness, AllocError>
+    fn put_in_vain(&mut self, next: &Record) -> Result<Readiness, AllocError>
         requires may { ⟦<AtOnce<C> as Stage>⟧.spent self.old
-            ⊎ MayPut (⟦<AtOnce<C> as Stage>⟧.stands self.old) _next }
+            ⊎ MayPut (⟦<AtOnce<C> as Stage>⟧.stands self.old) next.now }
         requires stopped { is_some self.old.stopped ≡ true }
         ensures ok { OnOk result (HasPut (⟦<AtOnce<C> as Stage>⟧.stands self.old)
-            (⟦<AtOnce<C> as Stage>⟧.stands self.new) _next) }
+            (⟦<AtOnce<C> as Stage>⟧.stands self.new) next.now) }
         ensures ready { IfOk result (ShowsReadiness (⟦<AtOnce<C> as Stage>⟧.stands self.new)) }
         ensures err { OnErr result (⟦<AtOnce<C> as Stage>⟧.spent self.new) }
         ensures stays_spent { ⟦<AtOnce<C> as Stage>⟧.spent self.old → IsErr result }
@@ -229,6 +227,62 @@ impl<C: Decides> AtOnce<C> {
         }
         self.line += 1;
         Ok(self.readiness())
+    }
+
+    /// Whether the next record becomes itself, there is room for it, and nothing has to be remembered of it.
+    #[inline(always)]
+    fn leaves(&self, next: &Record) -> bool
+        ensures going { result ≡ true → self.now.stopped ≡ None }
+        ensures left { result ≡ true → Leaves (C.follows self.now.memory) next.now }
+        ensures room { result ≡ true → self.now.total < 4294967295 }
+    {
+        self.memory.leaves(next) && self.stopped.is_none() && self.total < u32::MAX
+    }
+
+    /// Puts one record more, as [`Stage::put_and_take`] does, whatever becomes of it.
+    // What happens seldom is a call, so that a record that becomes one other pays for none of it. The place is
+    // empty, so that nothing in it has to be dropped.
+    #[inline(never)]
+    fn put_any(
+        &mut self,
+        next: Record,
+        pool: &mut Spare,
+        first: &mut Option<Record>,
+    ) -> Result<Readiness, AllocError>
+        requires may { ⟦<AtOnce<C> as Stage>⟧.spent self.old
+            ⊎ MayPut (⟦<AtOnce<C> as Stage>⟧.stands self.old) next }
+        requires empty { first.old ≡ None }
+        ensures ok { OnOk result (HasPutAndTaken (⟦<AtOnce<C> as Stage>⟧.stands self.old)
+            (⟦<AtOnce<C> as Stage>⟧.stands self.new) next first.new) }
+        ensures ready { IfOk result (ShowsReadiness (⟦<AtOnce<C> as Stage>⟧.stands self.new)) }
+        ensures err { OnErr result (⟦<AtOnce<C> as Stage>⟧.spent self.new) }
+        ensures stays_spent { ⟦<AtOnce<C> as Stage>⟧.spent self.old → IsErr result }
+    {
+        if self.stopped.is_some() {
+            let is = self.put_in_vain(&next)?;
+            pool.keep(next);
+            return Ok(is);
+        }
+        self.line += 1;
+        let room = (u32::MAX - self.total) as u64;
+        match self.memory.step(next, room, &mut self.due) {
+            Ok(()) => {}
+            Err(why) => {
+                self.stop(why)?;
+                return Ok(Readiness::Wants);
+            }
+        }
+        let Some(row) = self.due.take_lone(pool) else {
+            let is = self.count_and_take(pool, first)?;
+            return Ok(is);
+        };
+        self.total = self.total.wrapping_add(1);
+        if self.total == 0 {
+            self.refuse_lone(row);
+            return Ok(Readiness::Wants);
+        }
+        forget(replace(first, Some(row)));
+        Ok(Readiness::Wants)
     }
 }
 
@@ -255,7 +309,7 @@ impl<C: Decides> Stage for AtOnce<C> {
 
     fn put(&mut self, next: Record) -> Result<(), AllocError> {
         if self.stopped.is_some() {
-            self.put_in_vain(next)?;
+            self.put_in_vain(&next)?;
             return Ok(());
         }
         self.line += 1;
@@ -288,45 +342,21 @@ impl<C: Decides> Stage for AtOnce<C> {
         }
     }
 
-    // What happens seldom is a call, so that a record that becomes one other pays for none of it. Where
-    // nothing is due and the place is empty, no record has to be dropped.
-    #[inline(never)]
+    // Inlined, so that a record that becomes itself costs no call.
+    #[inline(always)]
     fn put_and_take(
         &mut self,
         next: Record,
         pool: &mut Spare,
         first: &mut Option<Record>,
     ) -> Result<Readiness, AllocError> {
-        if self.stopped.is_some() {
-            let is = self.put_in_vain(next)?;
-            return Ok(is);
-        }
-        self.line += 1;
-        if !self.due.is_empty() {
-            unreachable!()
-        }
-        let room = (u32::MAX - self.total) as u64;
-        match self.memory.step(next, room, &mut self.due) {
-            Ok(()) => {}
-            Err(why) => {
-                self.stop(why)?;
-                return Ok(Readiness::Wants);
-            }
-        }
-        let Some(row) = self.due.take_lone(pool) else {
-            let is = self.count_and_take(pool, first)?;
-            return Ok(is);
-        };
-        self.total = self.total.wrapping_add(1);
-        if self.total == 0 {
-            self.refuse_lone(row);
+        if self.leaves(&next) {
+            self.line += 1;
+            self.total += 1;
+            forget(replace(first, Some(next)));
             return Ok(Readiness::Wants);
         }
-        if first.is_some() {
-            unreachable!()
-        }
-        *first = Some(row);
-        Ok(Readiness::Wants)
+        self.put_any(next, pool, first)
     }
 
     #[inline(always)]

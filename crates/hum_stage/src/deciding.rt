@@ -1,10 +1,10 @@
 //! A command that decides each record at once.
-ghost use Rattle.std.specs.Prelude.{◌≡◌, [], List, Result};
+ghost use Rattle.std.specs.Prelude.{◌≡◌, true, [], List, Result};
 ghost use Rattle.hum_record.specs.Row.{Row};
 ghost use Rattle.hum_stage.specs.declared.faults.Rule.{Rule};
 ghost use Rattle.hum_stage.specs.declared.faults.Command.{Command};
 ghost use Rattle.hum_stage.specs.Meaning.{KeepsScore};
-ghost use Rattle.hum_stage.specs.Decided.{Decision, at_once, MayStep, HasStepped};
+ghost use Rattle.hum_stage.specs.Decided.{Decision, at_once, MayStep, HasStepped, Leaves};
 ghost use Rattle.hum_stage.specs.Refusals.{IfTold};
 
 use crate::due::DueRecords;
@@ -43,6 +43,15 @@ pub trait Decides {
 
         // Of scores it makes scores.
         ensures keeps { keeps options → KeepsScore (at_once 0 command (decide options)).outcomes };
+
+    /// Whether the next record becomes itself, and nothing has to be remembered of it. What takes long to find
+    /// out isn't told.
+    #[inline(always)]
+    fn leaves(&self, _next: &Record) -> bool
+        ensures { result ≡ true → Leaves (follows self.now) _next.now }
+    {
+        false
+    }
 
     /// Puts what the next record becomes where nothing is due. There is room for so many records: a
     /// command that would give more may stop and refuse by L2.

@@ -8,6 +8,7 @@ use hum_record::{Record, Spare};
 use std::alloc::{AllocError, Global};
 use std::collections::VecDeque;
 use std::marker::Model;
+use std::mem::{forget, replace};
 
 /// Records that are due, in their order.
 ///
@@ -114,6 +115,92 @@ impl DueRecords for Option<Record> {
 
     fn clear(&mut self) {
         *self = None;
+    }
+}
+
+/// At most one record that is due, and the last one that was dropped: where nothing is due, that goes to
+/// the pool.
+#[derive(Drop)]
+pub struct AtMostOne {
+    one: Option<Record>,
+    // it became nothing
+    gone: Option<Record>,
+}
+
+impl Model for AtMostOne {
+    ghost use Rattle.std.specs.Prelude.{List};
+    ghost use Rattle.std.specs.Option.{option_to_list};
+    ghost use Rattle.hum_record.specs.Row.{Row};
+
+    ghost Value = { List Row };
+
+    ghost view = { λ due. option_to_list due.one };
+}
+
+impl AtMostOne {
+    /// This record is due.
+    #[inline]
+    pub fn put(&mut self, row: Record)
+        requires { self.old ≡ [] }
+        ensures { self.new ≡ row ∷ [] }
+    {
+        forget(replace(&mut self.one, Some(row)));
+    }
+
+    /// This record is dropped.
+    #[inline]
+    pub fn let_go(&mut self, row: Record)
+        ensures { self.new ≡ self.old }
+    {
+        self.gone = Some(row);
+    }
+
+    // Not inlined: a record that is due comes with none that was dropped.
+    #[inline(never)]
+    fn give_back(&mut self, pool: &mut Spare)
+        ensures { self.new ≡ self.old }
+    {
+        if let Some(gone) = self.gone.take() {
+            pool.keep(gone);
+        }
+    }
+}
+
+impl DueRecords for AtMostOne {
+    ghost rows = { λ s. s };
+
+    fn none(_alloc: Global) -> Self {
+        AtMostOne {
+            one: None,
+            gone: None,
+        }
+    }
+
+    fn next(&mut self) -> Result<Option<Record>, AllocError> {
+        Ok(self.one.take())
+    }
+
+    #[inline]
+    fn next_with(&mut self, pool: &mut Spare) -> Result<Option<Record>, AllocError> {
+        self.give_back(pool);
+        Ok(self.one.take())
+    }
+
+    #[inline]
+    fn take_lone(&mut self, _pool: &mut Spare) -> Option<Record> {
+        self.one.take()
+    }
+
+    fn count(&self) -> u64 {
+        if self.one.is_some() { 1 } else { 0 }
+    }
+
+    fn is_empty(&self) -> bool {
+        self.one.is_none()
+    }
+
+    fn clear(&mut self) {
+        self.one = None;
     }
 }
 

@@ -11,9 +11,10 @@ use crate::contract::Stage;
 use crate::faults::{Command, End, Fault, Readiness, Refusal, Rule, State, resting};
 use crate::looks_ahead::LooksAhead;
 use crate::settling::settle_next;
-use hum_record::Record;
+use hum_record::{Record, Spare};
 use std::alloc::{AllocError, Global};
 use std::collections::VecDeque;
+use std::mem::{forget, replace};
 
 /// A command whose records wait for later ones, as a stage.
 ///
@@ -179,6 +180,24 @@ impl<C: LooksAhead> Stage for Lagging<C> {
             Err(Refusal::Memory) => return Err(AllocError),
         }
         Ok(Some(row))
+    }
+
+    // Where no more wait, the record that is due is all that is held, and none is looked at once it is taken. The
+    // place is empty, so that nothing in it has to be dropped.
+    #[inline(never)]
+    fn put_and_take(
+        &mut self,
+        next: Record,
+        pool: &mut Spare,
+        first: &mut Option<Record>,
+    ) -> Result<Readiness, AllocError> {
+        self.put(next)?;
+        self.memory.give_back(pool);
+        if !self.waiting.is_empty() {
+            return Ok(self.readiness());
+        }
+        forget(replace(first, self.due.take()));
+        Ok(self.readiness())
     }
 
     // Inlined, its answer would be taken to pieces as small as a fault's fields.

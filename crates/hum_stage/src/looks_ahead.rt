@@ -10,7 +10,7 @@ ghost use Rattle.hum_stage.specs.Settles.{MayWait, HasWaited, HasSettled, Lasts,
 
 use crate::MOST_WAITING;
 use crate::faults::{Command, Refusal};
-use hum_record::Record;
+use hum_record::{Record, Spare};
 use std::alloc::{AllocError, Global};
 use std::collections::VecDeque;
 
@@ -76,6 +76,13 @@ pub trait LooksAhead {
             ≡ left_by v (deque_len held.new)) }
         ensures settles { IfAnswered result (HasSettled
             (follows self.old held.old.items) (follows self.new held.new.items)) };
+
+    /// Gives the pool what is left of a record that was dropped, if there is any.
+    #[inline(always)]
+    fn give_back(&mut self, _pool: &mut Spare)
+        ensures { (held : List Self.Held) (look : Look) (past rows : List Row)
+            → follows self.old held look past rows → follows self.new held look past rows }
+    {}
 
     /// How many of those that wait stand before the first that is known to be refused.
     fn lasting(&self, held: &VecDeque<Self::Held>) -> usize

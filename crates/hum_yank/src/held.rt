@@ -1,5 +1,6 @@
 //! What is kept of a record that waits.
 ghost use Rattle.std.specs.Prelude.{◌≡◌};
+ghost use Rattle.hum_yank.specs.declared.held.Held.TheVariants.{Goes};
 ghost use Rattle.hum_yank.specs.Memory.{numbered_held, held_of, decided_of, given, adds};
 
 use crate::ranges::{any_early, is_chosen};
@@ -28,12 +29,27 @@ impl Drop for Held {
 }
 
 impl Held {
+    /// What is kept of a record that is dropped: it is gone, to be made use of.
+    #[inline(never)]
+    fn dropped(row: Record, gone: &mut Option<Record>) -> Held
+        ensures { result ≡ Goes }
+    {
+        *gone = Some(row);
+        Held::Goes
+    }
+
     /// What is kept of a record of a passage with this number, or without one.
-    fn numbered(ranges: &[YankRange], within: bool, row: Record, number: Option<u32>) -> Held
+    fn numbered(
+        ranges: &[YankRange],
+        within: bool,
+        row: Record,
+        number: Option<u32>,
+        gone: &mut Option<Record>,
+    ) -> Held
         ensures { result ≡ numbered_held ranges.now within row number }
     {
         let Some(number) = number else {
-            return Held::Goes;
+            return Held::dropped(row, gone);
         };
         if any_early(ranges, number) {
             return Held::Stays(row);
@@ -41,17 +57,23 @@ impl Held {
         if within {
             return Held::Waits(row, number);
         }
-        Held::Goes
+        Held::dropped(row, gone)
     }
 
     /// What is kept of a record, by its passage and whether a spine is open.
-    pub(crate) fn of(ranges: &[YankRange], within: bool, row: Record, number: Option<u32>) -> Held
+    pub(crate) fn of(
+        ranges: &[YankRange],
+        within: bool,
+        row: Record,
+        number: Option<u32>,
+        gone: &mut Option<Record>,
+    ) -> Held
         ensures { result ≡ held_of ranges.now within row number }
     {
         match row.kind() {
             Kind::Interpretation => Held::Stays(row),
             Kind::Global | Kind::Local | Kind::Values => {
-                Held::numbered(ranges, within, row, number)
+                Held::numbered(ranges, within, row, number, gone)
             }
         }
     }
@@ -68,13 +90,19 @@ impl Held {
     }
 
     /// The record, if it stays.
-    pub(crate) fn given(self, stays: bool) -> Option<Record>
+    pub(crate) fn given(self, stays: bool, gone: &mut Option<Record>) -> Option<Record>
         ensures { result ≡ given self stays }
     {
         match self {
             Held::Stays(row) => Some(row),
             Held::Goes => None,
-            Held::Waits(row, _) => if stays { Some(row) } else { None },
+            Held::Waits(row, _) => {
+                if stays {
+                    return Some(row);
+                }
+                *gone = Some(row);
+                None
+            }
         }
     }
 }

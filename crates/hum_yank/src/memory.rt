@@ -6,7 +6,7 @@ use crate::held::{Held, adds};
 use crate::passages::Passages;
 use hum_choices::{Markers, YankOptions};
 use hum_path::Paths;
-use hum_record::Record;
+use hum_record::{Record, Spare};
 use hum_stage::{Command, LooksAhead, Refusal, Verdict};
 use std::alloc::{AllocError, Global};
 use std::collections::VecDeque;
@@ -19,6 +19,8 @@ pub struct PassageMemory {
     passages: Passages,
     // the last number so far: comments after the end of the last spine add nothing to it
     last: u32,
+    // the last record that was dropped
+    gone: Option<Record>,
 }
 
 /// The last number after a record, given whether no spine was open before it.
@@ -30,6 +32,14 @@ fn last_after(passages: &Passages, markers: &Markers, row: &Record, closed: bool
         passages.last(markers)
     } else {
         last
+    }
+}
+
+/// Gives the pool what is left of a record.
+#[inline(never)]
+fn hand_over(gone: &mut Option<Record>, pool: &mut Spare) {
+    if let Some(row) = gone.take() {
+        pool.keep(row);
     }
 }
 
@@ -62,6 +72,7 @@ impl LooksAhead for PassageMemory {
             paths: Paths::new(alloc),
             passages,
             last: 0,
+            gone: None,
         }
     }
 
@@ -76,7 +87,7 @@ impl LooksAhead for PassageMemory {
             closed,
             self.last,
         );
-        let kept = Held::of(&self.options.ranges, !closed, next, number);
+        let kept = Held::of(&self.options.ranges, !closed, next, number, &mut self.gone);
         held.push_back(kept)?;
         Ok(())
     }
@@ -91,7 +102,14 @@ impl LooksAhead for PassageMemory {
         };
         match held.pop_front() {
             None => Ok(Verdict::Waits),
-            Some(first) => Ok(Verdict::Gives(first.given(stays))),
+            Some(first) => Ok(Verdict::Gives(first.given(stays, &mut self.gone))),
+        }
+    }
+
+    #[inline(always)]
+    fn give_back(&mut self, pool: &mut Spare) {
+        if self.gone.is_some() {
+            hand_over(&mut self.gone, pool);
         }
     }
 
