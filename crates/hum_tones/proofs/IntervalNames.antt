@@ -68,9 +68,3 @@ all_small = refl
 pub small_width : (row : ℕ) → row ≤ 63 → get_or widths row 0 ≤ 117
 small_width row few =
     let test = every_at (λ row. nat_le (get_or widths row 0) 117) 64 row all_small (omega (arith, few)) in grind (arith, nat_tests, test)
-
-pub null_lawful : IsToken Values (text_at 320)
-null_lawful = record { filled = λ e. cc; one_token = refl; one_line = refl; no_line_end = refl; of_kind = refl; no_comment = refl }
-
-pub rest_lawful : IsToken Values (text_at 321)
-rest_lawful = record { filled = λ e. cc; one_token = refl; one_line = refl; no_line_end = refl; of_kind = refl; no_comment = refl }
