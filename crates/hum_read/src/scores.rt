@@ -243,6 +243,9 @@ impl<R: Source> ScoreReader<R> {
         if self.stopped.is_some() {
             return None;
         }
+        if !pool.has_first() {
+            return self.next_long(pool);
+        }
         let held = self.lines.ahead();
         let width = self.paths.width();
         if let Some(line) = Record::parse_short(pool, held, width) {
