@@ -243,19 +243,15 @@ impl<R: Source> ScoreReader<R> {
         if self.stopped.is_some() {
             return None;
         }
-        match Record::parse_short(pool, self.lines.ahead(), self.paths.width()) {
-            Some(line) => self.give_short(pool, line),
-            None => self.next_near(pool),
+        if !pool.has_first() {
+            return self.next_long(pool);
         }
-    }
-
-    /// The same where the line may be a longer one.
-    #[inline(always)]
-    fn next_near(&mut self, pool: &mut Spare) -> Option<Record>
-        requires { self.old.stopped ≡ None }
-        ensures { Nexts R.remaining R.calls R.failed self.old (given_by result self.new.stopped) self.new }
-    {
-        match Record::parse_near(pool, self.lines.ahead(), self.paths.width()) {
+        let held = self.lines.ahead();
+        let width = self.paths.width();
+        if let Some(line) = Record::parse_short(pool, held, width) {
+            return self.give_short(pool, line);
+        }
+        match Record::parse_near(pool, held, width) {
             Some(line) => self.give_short(pool, line),
             None => self.next_long(pool),
         }

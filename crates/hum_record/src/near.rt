@@ -15,6 +15,9 @@ pub const NEAR: usize = 64;
 /// How many of a short line: most lines are shorter.
 pub const SHORT: usize = 32;
 
+/// How many tokens are put without a loop: most lines have no more.
+const USUAL: usize = 16;
+
 /// How many places are copied at once: most lines have fewer tokens.
 pub const FEW: usize = 8;
 
@@ -52,27 +55,29 @@ pub fn is_apart(head: u64, ends: u64) -> bool
     heads & ends == 0
 }
 
-/// How many bytes a line has with its line end, if LF stands behind its text, or CR and LF.
+/// Where LF stands behind a text that ends at a place: there, or behind a CR, in front of another place.
 #[inline(always)]
-fn line_size(held: &[u8], len: usize) -> Option<usize>
-    requires { len < length held.now }
-    ensures { IfSome result (λ size. (lf : ℕ) × IsBehind held.now len lf × (size ≡ lf + 1)) }
+fn lf_behind(held: &[u8], len: usize, end: usize) -> Option<usize>
+    requires near { len < end }
+    requires within { end ≤ length held.now }
+    ensures { IfSome result (IsBehind held.now len) }
 {
     if held[len] == b'\n' {
-        return Some(len + 1);
+        return Some(len);
     }
-    if is_cr_lf(held, len) {
-        return Some(len + 2);
+    if is_cr_lf(held, len, end) {
+        return Some(len + 1);
     }
     None
 }
 
 #[inline(always)]
-fn is_cr_lf(held: &[u8], len: usize) -> bool
-    requires { len < length held.now }
+fn is_cr_lf(held: &[u8], len: usize, end: usize) -> bool
+    requires near { len < end }
+    requires within { end ≤ length held.now }
     ensures { result ≡ true → IsBehind held.now len (len + 1) }
 {
-    held[len] == b'\r' && len + 1 < held.len() && held[len + 1] == b'\n'
+    held[len] == b'\r' && len + 1 < end && held[len + 1] == b'\n'
 }
 
 /// The end of a line that ends among the `N` bytes from a place on, by the bits of the stops among these, if
@@ -89,13 +94,17 @@ pub fn line_end<const N: usize>(held: &[u8], at: usize, head: u64, stops: u64) -
 {
     let rest = stops.trailing_zeros() as usize;
     let len = at + rest;
-    let size = line_size(held, len)?;
+    let lf = lf_behind(held, len, at + N)?;
     let tabs = bits_at::<N>(held, at, b'\t') & ((1u64 << rest) - 1);
     let ends = tabs + (1u64 << rest);
     if !is_apart(head, ends) {
         return None;
     }
-    Some(LineEnd { len, size, ends })
+    Some(LineEnd {
+        len,
+        size: lf + 1,
+        ends,
+    })
 }
 
 /// Puts the place of the lowest of some bits into a list, and answers the others.
@@ -124,7 +133,7 @@ pub fn put_places(places: &mut [u32], count: usize, start: u32, bits: u64) -> us
 {
     let mut end = count;
     let mut rest = bits;
-    for _ in 0..FEW {
+    for _ in 0..USUAL {
         if rest == 0 {
             return end;
         }

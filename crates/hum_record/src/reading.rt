@@ -189,7 +189,7 @@ impl Record {
         if held.len() < NEAR {
             return None;
         }
-        if width >= WIDEST {
+        if width >= WIDE {
             return Self::parse_wide(spare, held);
         }
         let stops = stop_bits::<NEAR>(held, 0);

@@ -85,6 +85,9 @@ impl Spare {
     /// The same of the first one alone.
     #[inline(always)]
     pub(crate) fn take_first(&mut self) -> Option<Box<Body>> {
+        if self.first.is_none() {
+            return None;
+        }
         self.first.take()
     }
 

@@ -83,11 +83,7 @@ fn size_of_line(held: &[u8], len: usize) -> usize
     ensures lf { slice_index held.now len ≡ lf → result ≡ len + 1 }
     ensures cr { slice_index held.now len ≢ lf → result ≡ len + 2 }
 {
-    if held[len] == b'\n' {
-        len + 1
-    } else {
-        len + 2
-    }
+    if held[len] == b'\n' { len + 1 } else { len + 2 }
 }
 
 impl<R: Source> LineReader<R> {

@@ -3,8 +3,8 @@ use lib.Count.{count_trailing_zeros}
 use Rattle.hum_record.proofs.Short.{first_stop, tabs_at, ends_at, ends_fit}
 use Rattle.hum_record.proofs.near.line_end.Goals as goal
 
-pub line_size-requires : goal.line_size-requires
-line_size-requires g c =
+pub lf_behind-requires-clause-near : goal.lf_behind-requires-clause-near
+lf_behind-requires-clause-near g c =
     let stop = first_stop c.args.held.now c.args.at g.row.N c.args.stops c.requires.few c.requires.within c.requires.stops c.requires.some in
     omega (arith, stop.near, c.requires.within)
 
@@ -34,10 +34,10 @@ returns-clause-ends g c =
     let tabs = tabs_at held g.row.N rest c.bits_at.result (omega (arith, near)) (omega (arith, near, c.requires.few)) room c.bits_at.ensures in
     record {
       rest = rest;
-      lf = c.in_ok-size.ensures.0;
+      lf = c.in_ok-lf.lf;
       place = refl;
-      behind = c.in_ok-size.ensures.1;
-      whole = c.in_ok-size.ensures.2;
+      behind = c.in_ok-lf.ensures;
+      whole = refl;
       free = stop.free;
       bits = ends_at held rest _ (omega (arith, near, c.requires.few)) (omega (arith, near, room)) tabs;
       apart = c.is_apart.ensures c.if-not-is_apart.false;

@@ -8,7 +8,7 @@ use Rattle.hum_record.proofs.near.put_places.Goals as goal
 left : (old places : List ℕ) (count end start bits rest : ℕ)
     → count + length (set_places 64 start bits) ≤ length old
     → (take end places ++ set_places 64 start rest ≡ take count old ++ set_places 64 start bits)
-        × (length places ≡ length old) × (end ≤ length places) × (rest < 2 ^ 64)
+    × (length places ≡ length old) × (end ≤ length places) × (rest < 2 ^ 64)
     → 0 < rest → end < length places
 left old places count end start bits rest room put some =
     let front = take_count count old (omega (arith, room)) in
@@ -21,7 +21,7 @@ left old places count end start bits rest room put some =
 done : (old places : List ℕ) (count end start bits rest : ℕ)
     → count + length (set_places 64 start bits) ≤ length old
     → (take end places ++ set_places 64 start rest ≡ take count old ++ set_places 64 start bits)
-        × (length places ≡ length old) × (end ≤ length places) × (rest < 2 ^ 64)
+    × (length places ≡ length old) × (end ≤ length places) × (rest < 2 ^ 64)
     → rest ≡ 0
     → (end ≡ count + length (set_places 64 start bits)) × (take end places ≡ take count old ++ set_places 64 start bits)
 done old places count end start bits rest room put none =

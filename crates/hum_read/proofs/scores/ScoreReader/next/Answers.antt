@@ -1,4 +1,7 @@
-use Rattle.std.proofs.Common.{subst, None}
+use Rattle.std.proofs.Common.{◌≡◌, ◌≤◌, ◌+◌, ◌++◌, ℕ, List, length, subst, None}
+use Rattle.hum_record.specs.Lines.{IsReadTo}
+use Rattle.hum_record.specs.Row.{Row}
+use Rattle.hum_read.specs.Reading.{Scores}
 use Rattle.hum_read.specs.Steps.{IsAheadTo, Nexts, given_by}
 use Rattle.hum_read.proofs.Nexting.{stopped-nexts}
 use Rattle.hum_read.proofs.scores.ScoreReader.next.Goals as goal
@@ -11,18 +14,29 @@ returns-then-is_some g c =
     subst (λ v. Nexts remaining calls failed v (given_by None v.stopped) v) c.self.view_is
     (stopped-nexts remaining calls failed _ c.if-is_some.ensures)
 
+ahead_to : {R : Type 0} (u v : Scores R) (held : List ℕ) (row : Row) (size : ℕ) → (behind : List ℕ) × (u.lines.pending ≡ held ++ behind)
+    → length held ≤ u.lines.limits.line → u.lines.given + length held ≤ u.lines.limits.records
+    → u.lines.taken + length held ≤ u.lines.limits.bytes → IsReadTo held row size → u ≡ v → IsAheadTo v.lines row size
+ahead_to u v held row size next line records bytes to is =
+    subst (λ w. IsAheadTo w.lines row size) is (record {
+      ahead = record {
+        held = held;
+        behind = next.0;
+        next = next.1;
+        line = line;
+        records = records;
+        bytes = bytes;
+        read = to.read;
+      };
+      whole = to.whole;
+    })
+
 pub give_short-requires-clause-ahead : goal.give_short-requires-clause-ahead
 give_short-requires-clause-ahead g c =
-    let ahead = c.ahead.ensures in
-    subst (λ v. IsAheadTo v.lines c.in-Some.line.record c.in-Some.line.size) c.self.view_is (record {
-      ahead = record {
-        held = c.ahead.result.now;
-        behind = ahead.next.0;
-        next = ahead.next.1;
-        line = ahead.line;
-        records = ahead.records;
-        bytes = ahead.bytes;
-        read = c.in-Some.ensures.read;
-      };
-      whole = c.in-Some.ensures.whole;
-    })
+    let ahead = c.ahead-held.ensures in
+    ahead_to _ _ _ _ _ ahead.next ahead.line ahead.records ahead.bytes c.in-Some.ensures c.self.view_is
+
+pub give_short-requires-in-Some-parse_near-clause-ahead : goal.give_short-requires-in-Some-parse_near-clause-ahead
+give_short-requires-in-Some-parse_near-clause-ahead g c =
+    let ahead = c.ahead-held.ensures in
+    ahead_to _ _ _ _ _ ahead.next ahead.line ahead.records ahead.bytes c.in-Some-parse_near.ensures c.self.view_is

@@ -10,9 +10,11 @@ invariant_of-self g c =
     let bytes : b.taken + size ≤ b.limits.bytes = subst (λ w. w.taken + size ≤ w.limits.bytes) (sym c.self.view_is) c.requires.bytes in
     let left = ap (λ h. length h.pending) c.hand_out.ensures in
     let some = c.requires.some in (
-    record {
-      lines = omega (arith, i.lines, records, some);
-      bytes = omega (arith, i.bytes, bytes);
-      line = omega (arith, i.line);
-      held = omega (arith, i.held, left, length-drop size b.block.pending);
-    }, c.self.invariant.1)
+      record {
+        lines = omega (arith, i.lines, records, some);
+        bytes = omega (arith, i.bytes, bytes);
+        line = omega (arith, i.line);
+        held = omega (arith, i.held, left, length-drop size b.block.pending);
+      },
+      c.self.invariant.1,
+    )
