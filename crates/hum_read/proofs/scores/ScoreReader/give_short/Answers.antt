@@ -1,4 +1,4 @@
-use Rattle.std.proofs.Common.{◌≡◌, ◌∙◌, ℕ, subst, sym, ap, None, Ok}
+use Rattle.std.proofs.Common.{◌≡◌, ◌∙◌, subst, sym, ap, None, Ok}
 use Rattle.hum_record.specs.Row.{text_of}
 use Rattle.hum_record.specs.Spelling.{reading}
 use Rattle.hum_read.specs.Reading.{Scores, Gave}

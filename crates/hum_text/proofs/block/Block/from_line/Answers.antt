@@ -1,4 +1,4 @@
-use Rattle.std.proofs.Common.{◌≡◌, ◌+◌, ◌-◌, ◌∙◌, sym, ap, arith, length, slice_range}
+use Rattle.std.proofs.Common.{◌∙◌, sym, ap, arith, length}
 use Rattle.hum_text.proofs.WindowLemmas.{front-window}
 use Rattle.hum_text.proofs.block.Block.from_line.Goals as goal
 

@@ -1,4 +1,4 @@
-use Rattle.std.proofs.Common.{◌≡◌, ◌+◌, ◌-◌, ◌≤◌, ◌∙◌, sym, ap, arith, take, drop, length, slice_range, max}
+use Rattle.std.proofs.Common.{◌≡◌, ◌+◌, ◌-◌, ◌≤◌, ◌∙◌, sym, ap, arith, take, drop, length, slice_range}
 use Rattle.hum_text.proofs.WindowLemmas.{front-window, drop-window, length-window, moved_on}
 use Rattle.hum_text.proofs.block.Block.hand_out.Goals as goal
 
