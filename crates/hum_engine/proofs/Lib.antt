@@ -18,6 +18,7 @@ pub mod Leaning
 pub mod HeldUp
 pub mod Searching
 pub mod Running
+pub mod Advancing
 pub mod Choosing
 pub mod Telling
 pub mod Beginning

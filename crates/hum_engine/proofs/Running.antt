@@ -235,7 +235,7 @@ told_write None None r e = absurd (none-some r e)
 -- The steps of a run.
 
 -- what an order drives, and what it drives then
-driven_on : {O : Type 0} (order : Order O) (s : Scene) (ks js : List ℕ) (o p q : O) (old mid new : Now Row)
+pub driven_on : {O : Type 0} (order : Order O) (s : Scene) (ks js : List ℕ) (o p q : O) (old mid new : Now Row)
     → Driven order (plan_of s) s.size text_of o old ks mid p
     → Driven order (plan_of s) s.size text_of p mid js new q
     → Driven order (plan_of s) s.size text_of o old (ks ++ js) new q

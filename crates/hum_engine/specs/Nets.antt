@@ -31,7 +31,7 @@ use Rattle.hum_engine.specs.declared.net.Net.{Net}
 use Rattle.hum_engine.specs.declared.net.Turned.{Turned}
 use Rattle.hum_engine.specs.Readers.{ended_at, remaining_at, calls_at, failed_at, is_read_of, is_write, ShowsSame}
 use Rattle.hum_engine.specs.Scene.{Scene, plan_of, moved, before_all, Stands, IsAt, IsNetPlan, IsBegun, Done}
-use Rattle.hum_engine.specs.Scene.{MayTurn, IsActor, AreTakers, TakesFrom, IsFull}
+use Rattle.hum_engine.specs.Scene.{MayTurn, IsActor, AreTakers, TakesFrom, IsFull, HasRoom}
 use Rattle.hum_engine.specs.declared.search.Search.{Search}
 use Rattle.hum_engine.specs.Search.{IsNearer, left_to_ask}
 
@@ -224,6 +224,26 @@ pub record HasGone {S R W : Type 0} (stands : Node S R → List ℕ → At → T
   pub actors : new.actors ≡ old.actors
   pub takers : new.takers ≡ old.takers
   pub full : answer.is_full ≡ true → IsFull k new.web
+  pub room : answer.has_taken ≡ true → (answer.link < k) × HasRoom answer.link new.web
+
+-- Stage k was ready and has had its turn, in which it has changed its own link; or nothing has moved.
+pub record HasGivenOn {S R W : Type 0} (stands : Node S R → List ℕ → At → Type 0)
+    (remaining : R → Option (List ℕ)) (contents : W → Option (List ℕ)) (flushed : W → Bool) (k : ℕ)
+    (old new : Net S R W) : Type 0 where
+  pub ready : AtEach stands contents flushed old (λ start s now. result (plan_of s) now ≡ None
+      → (k < s.count) × (is_ready (plan_of s) s.size now k ≡ true))
+  pub turned : HasTurned stands remaining contents flushed k old new false
+  pub link : (s : Scene) → IsActor stands k old.web s → IsChanged k s new.failure k
+  pub turns : new.turns ≡ old.turns + 1
+
+pub record HasRefilled {S R W : Type 0} (stands : Node S R → List ℕ → At → Type 0)
+    (remaining : R → Option (List ℕ)) (failed : R → Bool) (contents : W → Option (List ℕ))
+    (flushed broken : W → Bool) (k : ℕ) (old new : Net S R W) : Type 0 where
+  pub given : HasGivenOn stands remaining contents flushed k old new ⊎ (new ≡ old)
+  pub reads : (i : ℕ) → failed_at failed i new.web.nodes.items ≡ failed_at failed i old.web.nodes.items
+  pub sink : new.sink ≡ old.sink
+  pub failure : new.failure ≡ old.failure
+  pub takers : new.takers ≡ old.takers
 
 -- In a turn of an actor its reader is called once at most, and no other. The sink is asked for no write
 -- but those of the record that it takes, or for one flush at the end; by a stage for nothing.
@@ -308,11 +328,11 @@ abbrev pub still_to_ask : Option Search → ℕ
 still_to_ask None = 0
 still_to_ask (Some look) = left_to_ask look.side look.from
 
--- A step that doesn't end the run is a turn, or leaves fewer actors to ask.
+-- Steps that don't end the run are some turns, or leave fewer actors to ask.
 abbrev pub IsCloser : {S R W : Type 0} → Option Search → Option Search → Net S R W → Net S R W
     → Bool → Type 0
 IsCloser before after old new is_over =
-    (is_over ≡ true) ⊎ (new.turns ≡ old.turns + 1)
+    (is_over ≡ true) ⊎ (old.turns < new.turns)
     ⊎ ((new.turns ≡ old.turns) × (still_to_ask after < still_to_ask before))
 
 -- The order's picks have led it to its end. What the plan means is a score, where the last stage too

@@ -203,6 +203,12 @@ pub record HoldsFew (s : Scene) (m : Moment Row) (k many : ℕ) : Type 0 where
 abbrev pub HasFullLink : {S R : Type 0} → ℕ → Web S R → Type 0
 HasFullLink k web = (link : Link) → slice_get web.links.items k ≡ Some link → room link ≡ false
 
+-- The link of stage k has room.
+pub record HasRoom {S R : Type 0} (k : ℕ) (web : Web S R) : Type 0 where
+  pub link : Link
+  pub its : slice_get web.links.items k ≡ Some link
+  pub room : room link ≡ true
+
 -- Stage k reads bytes or gives next, and its link is full.
 pub record IsFull {S R : Type 0} (k : ℕ) (web : Web S R) : Type 0 where
   pub node : Node S R

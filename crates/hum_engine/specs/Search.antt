@@ -1,8 +1,12 @@
 -- Where a run by an order that leans to a side looks for an actor that is ready.
-use Rattle.std.specs.Prelude.{ℕ, ◌+◌, ◌-◌, ◌<◌, nat_eq, if◌then◌else◌, Option, None, Some}
+use Rattle.std.specs.Prelude.{ℕ, ◌+◌, ◌-◌, ◌<◌, Bool, true, false, nat_eq, if◌then◌else◌, Option, None, Some}
 use Rattle.hum_turns.specs.declared.order.Side.{Side}
 use Rattle.hum_turns.specs.declared.order.Side.TheVariants as side
 use Rattle.hum_engine.specs.declared.search.Search.{Search}
+
+abbrev pub is_left : Side → Bool
+is_left side.Left = true
+is_left side.Right = false
 
 -- actor a stands nearer to this side than actor b
 abbrev pub IsNearer : Side → ℕ → ℕ → Type 0

@@ -1,5 +1,5 @@
 //! The link of a stage.
-ghost use Rattle.std.specs.Prelude.{◌≡◌, ◌≤◌, ℕ, true, is_none, is_some, IfOk, ◌||◌};
+ghost use Rattle.std.specs.Prelude.{◌≡◌, ◌≤◌, ℕ, true, is_none, is_some, IfOk, IfSome, ◌||◌};
 ghost use Rattle.std.specs.Prelude.{nat_lt, length};
 ghost use Rattle.hum_turns.specs.Links.{fresh, linked, has_room, has_some};
 ghost use Rattle.hum_turns.specs.Turns.{pushed, popped};
@@ -51,7 +51,9 @@ impl Link {
     pub fn next(&mut self) -> Option<Record>
         ensures popped { Goes self.old self.new (λ l. popped l l.waiting) }
         ensures next { Tells self.old result (λ size l. next_of l.waiting) }
+        ensures room { IfSome result (λ row. room self.new ≡ true) }
     {
+        prove!(self.waiting.len() <= self.waiting.capacity());
         if let Some(row) = self.waiting.pop_front() {
             return Some(row);
         }

@@ -1,5 +1,5 @@
 //! A web whose last stage is written.
-ghost use Rattle.std.specs.Prelude.{◌≡◌, ◌≢◌, ◌≤◌, ◌<◌, ◌+◌, ◌||◌, ℕ, List, [], Option, None, Some};
+ghost use Rattle.std.specs.Prelude.{◌≡◌, ◌≢◌, ◌≤◌, ◌<◌, ◌+◌, ◌-◌, ◌||◌, ℕ, List, [], Option, None, Some};
 ghost use Rattle.std.specs.Prelude.{IfSome, IfOk, IfErr, length, is_some, true, false};
 ghost use Rattle.std.specs.Prelude.{slice_set};
 ghost use Rattle.hum_record.specs.Row.{Row, text_of};
@@ -12,14 +12,15 @@ ghost use Rattle.hum_nodes.specs.Polls.{AsksAtMostOnce, HasStayed};
 ghost use Rattle.hum_engine.specs.Readers.{ShowsSame, remaining_at, ended_at, calls_at, failed_at};
 ghost use Rattle.hum_engine.specs.Readers.{is_read_of, is_write};
 ghost use Rattle.hum_engine.specs.Scene.{Scene, plan_of, Somewhere, IsActor, IsAt, IsNetPlan, IsBegun, MayTurn};
-ghost use Rattle.hum_engine.specs.Scene.{KeepsOthers, Fed, held_of, HoldsFew, DoesNext, IsFull};
+ghost use Rattle.hum_engine.specs.Scene.{KeepsOthers, Fed, held_of, HoldsFew, DoesNext, IsFull, HasRoom};
 ghost use Rattle.hum_turns.specs.Plan.{last};
+ghost use Rattle.hum_engine.specs.Search.{is_left};
 ghost use Rattle.hum_engine.specs.Nets.{MayWrite, CallsSink, SinkWent, MayTurnFew, MayGo, IsRunning};
 ghost use Rattle.hum_turns.specs.Counts.{turns_of, most, most_in_all};
 ghost use Rattle.hum_turns.specs.Holds.{SomeReady};
 ghost use Rattle.hum_engine.specs.Nets.{WroteFront, IsGoing, IsChanged};
 ghost use Rattle.hum_engine.specs.Nets.{IsAmong, NetAt, AreBegun, RunsBy, IsNet};
-ghost use Rattle.hum_engine.specs.Nets.{Sees, MayPick, HasPicked, MayAsk, HasGone, MayStep, HasStepped};
+ghost use Rattle.hum_engine.specs.Nets.{Sees, MayPick, HasPicked, MayAsk, HasGone, HasRefilled, MayStep, HasStepped};
 ghost use Rattle.hum_engine.specs.Nets.{IsCloser, AsksLittle, AtEach};
 
 use crate::search::Search;
@@ -55,6 +56,17 @@ pub struct Turned {
     pub is_over: bool,
     /// Whether the actor is known to give or to read next, and its link to be full.
     pub is_full: bool,
+    /// Whether the actor has taken a record from that link, which then has room, and the run isn't over.
+    pub has_taken: bool,
+}
+
+/// What a step of a run has come to.
+#[derive(Clone, Copy)]
+struct Stepped {
+    /// Whether the run is over.
+    is_over: bool,
+    /// Whether a record was taken from a link.
+    has_taken: bool,
 }
 
 impl<S: Stage + Drop, R: Source + Drop, W: Sink> Net<S, R, W> {
@@ -75,6 +87,8 @@ impl<S: Stage + Drop, R: Source + Drop, W: Sink> Net<S, R, W> {
         ensures marked { W.failed self.new.sink
             ≡ (W.failed self.old.sink || is_write self.new.failure) }
         ensures unread { (k : ℕ) → is_read_of k self.new.failure ≡ false }
+        ensures room { result ≡ false
+            → HasRoom (length self.old.web.links.items - 1) self.new.web }
         ensures shows { (k : ℕ) → ShowsSame R.remaining R.calls R.failed
             self.old.web.nodes.items self.new.web.nodes.items k }
         ensures turns { self.new.turns ≡ self.old.turns }
@@ -133,6 +147,8 @@ impl<S: Stage + Drop, R: Source + Drop, W: Sink> Net<S, R, W> {
             → IsChanged k s self.new.failure result.link }
         ensures over { result.is_over ≡ is_some self.new.failure }
         ensures full { result.is_full ≡ true → IsFull k self.new.web }
+        ensures room { result.has_taken ≡ true
+            → (result.link < k) × HasRoom result.link self.new.web }
         ensures failed { IfSome self.new.failure (λ by. (s : Scene)
             → MayTurn (StandsAs S.stands) k self.old.web s
             → MayFail (plan_of s) k text_of s.links by []) }
@@ -161,6 +177,7 @@ impl<S: Stage + Drop, R: Source + Drop, W: Sink> Net<S, R, W> {
                     link: moved.link,
                     is_over: false,
                     is_full: moved.is_full,
+                    has_taken: moved.has_taken,
                 };
             }
             Err(ReadError::Read) => self.fail_to_read(k),
@@ -170,6 +187,7 @@ impl<S: Stage + Drop, R: Source + Drop, W: Sink> Net<S, R, W> {
             link: k,
             is_over: true,
             is_full: false,
+            has_taken: false,
         }
     }
 
@@ -291,9 +309,90 @@ impl<S: Stage + Drop, R: Source + Drop, W: Sink> Net<S, R, W> {
         choose(&self.actors, pick)
     }
 
-    // Asks the actor that is next and, if it is ready, gives it its turn. Tells whether the run is over.
+    // Asks the actor that is next and, if it is ready, gives it its turn.
     #[inline(always)]
-    fn step<O: Order>(&mut self, order: &mut O, search: &mut Option<Search>) -> bool
+    fn step<O: Order>(&mut self, order: &mut O, search: &mut Option<Search>) -> Stepped
+        requires may { MayStep (StandsAs S.stands) W.contents W.flushed search.old self.old }
+        requires leans { IfSome search.old
+            (λ search. LeansTo search.side O.picks O.after order.old) }
+        ensures stepped { HasStepped (StandsAs S.stands) R.remaining W.contents W.flushed
+            (record { pick = O.picks; next = O.after }) order.old order.new search.old
+            search.new self.old self.new result.is_over }
+        ensures leans { IfSome search.new
+            (λ search. LeansTo search.side O.picks O.after order.new) }
+        ensures closer { IsCloser search.old search.new self.old self.new result.is_over }
+        ensures room { result.has_taken ≡ true → IfSome search.new
+            (λ search. is_left search.side ≡ true → HasRoom search.from self.new.web) }
+        ensures turns { result.has_taken ≡ true → self.new.turns ≡ self.old.turns + 1 }
+        ensures reads { (i : ℕ) → failed_at R.failed i self.new.web.nodes.items
+            ≡ (failed_at R.failed i self.old.web.nodes.items || is_read_of i self.new.failure) }
+        ensures writes { W.failed self.new.sink
+            ≡ (W.failed self.old.sink || is_write self.new.failure) }
+    {
+        let actor = self.next(order, search);
+        let Some(turned) = self.turn_if_ready(actor) else {
+            if let Some(search) = search {
+                search.pass();
+            }
+            return Stepped {
+                is_over: false,
+                has_taken: false,
+            };
+        };
+        if turned.is_over {
+            return Stepped {
+                is_over: true,
+                has_taken: false,
+            };
+        }
+        match search {
+            Some(search) => {
+                if turned.is_full {
+                    search.skip(turned.link, &self.takers);
+                } else {
+                    search.change(turned.link, &self.takers);
+                }
+            }
+            None => {
+                let taker = self.takers[turned.link];
+                self.ask_both(turned.link, taker);
+            }
+        }
+        Stepped {
+            is_over: false,
+            has_taken: turned.has_taken,
+        }
+    }
+
+    // Where a search from the left stands at a stage whose link has room, and that stage has taken its next
+    // record ahead, it has its turn: it was to be asked next in any case.
+    #[inline(always)]
+    fn go_on<O: Order>(&mut self, order: &O, search: &Option<Search>)
+        requires may { MayStep (StandsAs S.stands) W.contents W.flushed search.now self.old }
+        requires leans { IfSome search.now
+            (λ search. LeansTo search.side O.picks O.after order.now) }
+        requires room { IfSome search.now
+            (λ search. is_left search.side ≡ true → HasRoom search.from self.old.web) }
+        ensures stepped { HasStepped (StandsAs S.stands) R.remaining W.contents W.flushed
+            (record { pick = O.picks; next = O.after }) order.now order.now search.now
+            search.now self.old self.new false }
+        ensures turns { self.old.turns ≤ self.new.turns }
+        ensures reads { (i : ℕ) → failed_at R.failed i self.new.web.nodes.items
+            ≡ failed_at R.failed i self.old.web.nodes.items }
+        ensures failure { self.new.failure ≡ self.old.failure }
+        ensures sink { self.new.sink ≡ self.old.sink }
+    {
+        if let Some(search) = search {
+            if search.is_left() {
+                self.refill(search.from());
+            }
+        }
+    }
+
+    // A step and, on the left, the turn of the stage onto whose link room has come by it, if that one has the
+    // next record already. Tells whether the run is over.
+    #[inline(always)]
+    fn advance<O: Order>(&mut self, order: &mut O, search: &mut Option<Search>) -> bool
         requires may { MayStep (StandsAs S.stands) W.contents W.flushed search.old self.old }
         requires leans { IfSome search.old
             (λ search. LeansTo search.side O.picks O.after order.old) }
@@ -308,28 +407,12 @@ impl<S: Stage + Drop, R: Source + Drop, W: Sink> Net<S, R, W> {
         ensures writes { W.failed self.new.sink
             ≡ (W.failed self.old.sink || is_write self.new.failure) }
     {
-        let actor = self.next(order, search);
-        let Some(turned) = self.turn_if_ready(actor) else {
-            if let Some(search) = search {
-                search.pass();
-            }
-            return false;
-        };
-        if turned.is_over {
+        let stepped = self.step(order, search);
+        if stepped.is_over {
             return true;
         }
-        match search {
-            Some(search) => {
-                if turned.is_full {
-                    search.skip(turned.link, &self.takers);
-                } else {
-                    search.change(turned.link, &self.takers);
-                }
-            }
-            None => {
-                let taker = self.takers[turned.link];
-                self.ask_both(turned.link, taker);
-            }
+        if stepped.has_taken {
+            self.go_on(order, search);
         }
         false
     }
@@ -349,7 +432,7 @@ impl<S: Stage + Drop, R: Source + Drop, W: Sink> Net<S, R, W> {
         self.mark();
         let mut search = Search::new(order.side(), self.web.count());
         'turns: loop {
-            if self.step(order, &mut search) {
+            if self.advance(order, &mut search) {
                 return self.told();
             }
         }
@@ -368,6 +451,20 @@ impl<S: Stage + Drop, R: Source + Drop, W: Sink> Net<S, R, W> {
     {
         let kind = self.web.ready_for(k)?;
         Some(self.turn_as(k, kind))
+    }
+
+    // The turn of a stage whose link has room, if it has taken the record ahead that it gives next.
+    #[inline(always)]
+    fn refill(&mut self, k: usize)
+        requires ask { MayAsk (StandsAs S.stands) W.contents W.flushed k self.old }
+        requires room { HasRoom k self.old.web }
+        ensures refilled { HasRefilled (StandsAs S.stands) R.remaining R.failed W.contents
+            W.flushed W.failed k self.old self.new }
+    {
+        if !self.web.refill(k) {
+            return;
+        }
+        self.turns += 1;
     }
 
     /// One turn of an actor that is ready: a stage by its number, from 0, or the sink by the number of
@@ -398,10 +495,13 @@ impl<S: Stage + Drop, R: Source + Drop, W: Sink> Net<S, R, W> {
     {
         if k == self.web.count() {
             self.turns += 1;
+            let link = self.web.last();
+            let is_over = self.sink_turn();
             return Turned {
-                link: self.web.last(),
-                is_over: self.sink_turn(),
+                link,
+                is_over,
                 is_full: false,
+                has_taken: !is_over,
             };
         }
         let turned = self.stage_turn(k, kind);

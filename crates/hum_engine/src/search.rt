@@ -1,7 +1,7 @@
 //! Where a run by an order that leans to a side looks for an actor that is ready.
 ghost use Rattle.std.specs.Prelude.{◌≡◌, ◌<◌, ◌-◌, ◌^◌, ℕ, Some, length, slice_get};
 ghost use Rattle.hum_engine.specs.Search.{beginning, away, outer, passed, changed, skipped, kept_behind};
-ghost use Rattle.hum_engine.specs.Search.{skipped_left};
+ghost use Rattle.hum_engine.specs.Search.{skipped_left, is_left};
 
 use hum_turns::Side;
 
@@ -51,6 +51,17 @@ impl Search {
         ensures { result ≡ self.now.from }
     {
         self.from
+    }
+
+    /// Whether it looks from the left.
+    #[inline(always)]
+    pub fn is_left(&self) -> bool
+        ensures { result ≡ is_left self.now.side }
+    {
+        match self.side {
+            Side::Left => true,
+            Side::Right => false,
+        }
     }
 
     /// The actor that was asked isn't ready.

@@ -1,6 +1,6 @@
 //! Nodes and their links.
 ghost use Rattle.std.specs.Prelude.{◌≡◌, ◌≢◌, ◌≤◌, ◌<◌, ◌⊎◌, ℕ, true, false, slice_index, length};
-ghost use Rattle.std.specs.Prelude.{IfSome, is_some};
+ghost use Rattle.std.specs.Prelude.{IfSome, is_some, ◌-◌};
 ghost use Rattle.std.specs.Prelude.{IfOk, OnOk, OnErr, Err, Some, ◌||◌};
 ghost use Rattle.hum_turns.specs.Turns.{Gives, Takes, Ends, state, can, ready};
 ghost use Rattle.hum_turns.specs.Plan.{last};
@@ -14,7 +14,7 @@ ghost use Rattle.hum_engine.specs.Links.{next_of};
 ghost use Rattle.hum_engine.specs.Scene.{Scene, plan_of, Somewhere, IsAt, IsActor, MayTurn, MayAct};
 ghost use Rattle.hum_engine.specs.Scene.{IsKind, Keeps, KeepsOthers, Fed, Done, IsAbout};
 ghost use Rattle.hum_engine.specs.Scene.{IsAboutKind, IsDoing, DoesNext, HasActor};
-ghost use Rattle.hum_engine.specs.Scene.{IsBegun, Stands, HasStage, held_of, HasFullLink, IsFull};
+ghost use Rattle.hum_engine.specs.Scene.{IsBegun, Stands, HasStage, held_of, HasFullLink, IsFull, HasRoom};
 ghost use Rattle.hum_engine.specs.Readers.{ShowsSame, remaining_at, ended_at, calls_at, failed_at};
 ghost use Rattle.hum_nodes.specs.Polls.{AsksAtMostOnce, HasStayed, is_failed_read};
 
@@ -33,6 +33,8 @@ pub struct Moved {
     pub link: usize,
     /// Whether the stage is known to give or to read next, and its link to be full.
     pub is_full: bool,
+    /// Whether it has taken a record from that link, which then has room.
+    pub has_taken: bool,
 }
 
 /// Nodes, and the link of each.
@@ -102,6 +104,7 @@ impl<S: Stage + Drop, R: Source + Drop> Web<S, R> {
             (Fed (StandsAs S.stands) R.remaining k self.old self.new) }
         ensures link { IfOk result (λ moved. moved.link ≡ k) }
         ensures full { IfOk result (λ moved. moved.is_full ≡ true → IsFull k self.new) }
+        ensures apart { IfOk result (λ moved. moved.has_taken ≡ false) }
         ensures others { KeepsOthers k self.old self.new }
         ensures marks { failed_at R.failed k self.new.nodes.items
             ≡ (failed_at R.failed k self.old.nodes.items || is_failed_read result) }
@@ -119,6 +122,7 @@ impl<S: Stage + Drop, R: Source + Drop> Web<S, R> {
                 return Ok(Moved {
                     link: k,
                     is_full: self.is_full(k, true),
+                    has_taken: false,
                 });
             }
             None => match self.nodes[k].stopped() {
@@ -130,6 +134,7 @@ impl<S: Stage + Drop, R: Source + Drop> Web<S, R> {
         Ok(Moved {
             link: k,
             is_full: false,
+            has_taken: false,
         })
     }
 
@@ -141,6 +146,8 @@ impl<S: Stage + Drop, R: Source + Drop> Web<S, R> {
             → Done (StandsAs S.stands) s.count (Takes (last (plan_of s))) self.new s }
         ensures next { (s : Scene) → IsAt (StandsAs S.stands) self.old s
             → result ≡ next_of (s.links (last (plan_of s))).waiting }
+        ensures room { IfSome result (λ row. HasRoom (length self.old.links.items - 1) self.new) }
+        ensures links { length self.new.links.items ≡ length self.old.links.items }
         ensures nodes { self.new.nodes ≡ self.old.nodes }
     {
         let last = self.links.len() - 1;
@@ -213,6 +220,8 @@ impl<S: Stage + Drop, R: Source + Drop> Web<S, R> {
             → IsAbout (StandsAs S.stands) k (does.Wants place) self.old s
             → moved.link ≡ slice_index (s.kinds k).stage.sources place) }
         ensures full { IfOk result (λ moved. moved.is_full ≡ true → IsFull k self.new) }
+        ensures room { IfOk result (λ moved. moved.has_taken ≡ true
+            → (moved.link < k) × HasRoom moved.link self.new) }
         ensures nodes { Keeps k self.old self.new }
     {
         let source = self.nodes[k].source();
@@ -222,6 +231,7 @@ impl<S: Stage + Drop, R: Source + Drop> Web<S, R> {
                 return Ok(Moved {
                     link: source,
                     is_full: self.is_full(k, gives),
+                    has_taken: true,
                 });
             }
             None => {
@@ -233,6 +243,7 @@ impl<S: Stage + Drop, R: Source + Drop> Web<S, R> {
         Ok(Moved {
             link: source,
             is_full: false,
+            has_taken: false,
         })
     }
 
@@ -250,6 +261,8 @@ impl<S: Stage + Drop, R: Source + Drop> Web<S, R> {
             → IsActor (StandsAs S.stands) k self.old s
             → moved.link ≡ touched k (state (plan_of s) s.links k)) }
         ensures full { IfOk result (λ moved. moved.is_full ≡ true → IsFull k self.new) }
+        ensures room { IfOk result (λ moved. moved.has_taken ≡ true
+            → (moved.link < k) × HasRoom moved.link self.new) }
         ensures read { result ≡ Err ReadError.Read → IsKind true k self.old }
         ensures others { KeepsOthers k self.old self.new }
         ensures marks { failed_at R.failed k self.new.nodes.items
@@ -272,6 +285,7 @@ impl<S: Stage + Drop, R: Source + Drop> Web<S, R> {
                 Ok(()) => Ok(Moved {
                     link: k,
                     is_full: false,
+                    has_taken: false,
                 }),
                 Err(_) => Err(ReadError::Memory),
             },
@@ -280,6 +294,7 @@ impl<S: Stage + Drop, R: Source + Drop> Web<S, R> {
                 Ok(Moved {
                     link: k,
                     is_full: false,
+                    has_taken: false,
                 })
             }
         }
@@ -363,6 +378,30 @@ impl<S: Stage + Drop, R: Source + Drop> Web<S, R> {
         }
     }
 
+    /// The turn of a stage whose link has room and which has taken the record ahead that it gives next. Tells
+    /// whether it has; else nothing changes.
+    #[inline(always)]
+    pub fn refill(&mut self, k: usize) -> bool
+        requires at { Somewhere (IsAt (StandsAs S.stands) self.old) }
+        requires room { HasRoom k self.old }
+        ensures ready { result ≡ true → (s : Scene) → IsAt (StandsAs S.stands) self.old s
+            → MayTurn (StandsAs S.stands) k self.old s }
+        ensures fed { result ≡ true → Fed (StandsAs S.stands) R.remaining k self.old self.new }
+        ensures link { result ≡ true → (s : Scene) → IsActor (StandsAs S.stands) k self.old s
+            → k ≡ touched k (state (plan_of s) s.links k) }
+        ensures others { KeepsOthers k self.old self.new }
+        ensures marks { failed_at R.failed k self.new.nodes.items
+            ≡ failed_at R.failed k self.old.nodes.items }
+        ensures same { result ≡ false → self.new ≡ self.old }
+    {
+        if !self.nodes[k].gives_ahead() {
+            return false;
+        }
+        let row = self.nodes[k].take_ahead();
+        self.links[k].push(row);
+        true
+    }
+
     /// Whether an actor is ready.
     #[inline(always)]
     pub fn ready(&self, k: usize) -> bool
@@ -376,8 +415,9 @@ impl<S: Stage + Drop, R: Source + Drop> Web<S, R> {
     /// The number of the last stage, whose link the sink takes from.
     pub fn last(&self) -> usize
         requires { Somewhere (IsAt (StandsAs S.stands) self.now) }
-        ensures { (s : Scene) → IsAt (StandsAs S.stands) self.now s
+        ensures last { (s : Scene) → IsAt (StandsAs S.stands) self.now s
             → result ≡ last (plan_of s) }
+        ensures place { result ≡ length self.now.links.items - 1 }
     {
         self.links.len() - 1
     }

@@ -1,5 +1,5 @@
 -- What a node stands for.
-use Rattle.std.specs.Prelude.{◌≡◌, ℕ, Bool, true, false, List, Option, None, Result, slice_index}
+use Rattle.std.specs.Prelude.{◌≡◌, ℕ, Bool, true, false, List, Option, None, is_some, Result, slice_index}
 use Rattle.hum_stage.specs.declared.faults.End.{End}
 use Rattle.hum_stage.specs.Meaning.{Moment}
 use Rattle.hum_assemble.specs.Standing.{Stands}
@@ -22,6 +22,15 @@ reads (Assemble stage sources) = false
 
 abbrev pub is_source : {S R : Type 0} → Node S R → Bool
 is_source node = reads node.work
+
+-- whether the record that it gives next was taken ahead
+abbrev pub stands_ahead : {S R : Type 0} → Work S R → Bool
+stands_ahead (Read reader) = false
+stands_ahead (Command stage ahead is) = is_some ahead
+stands_ahead (Assemble stage sources) = false
+
+abbrev pub gives_ahead : {S R : Type 0} → Node S R → Bool
+gives_ahead node = stands_ahead node.work
 
 -- A source reads at each turn; another stage does what it is about to do.
 abbrev pub readiness_at : Bool → Doing → Readiness

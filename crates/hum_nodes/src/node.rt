@@ -1,6 +1,6 @@
 //! The stages of a plan as nodes of a net.
-ghost use Rattle.std.specs.Prelude.{◌≡◌, ℕ, ◌<◌, ◌≤◌, ◌||◌, List, [], Some, true, false};
-ghost use Rattle.std.specs.Prelude.{length, slice_index, slice_set, IfOk, OnOk, OnErr, Ok};
+ghost use Rattle.std.specs.Prelude.{◌≡◌, ℕ, ◌<◌, ◌≤◌, ◌||◌, List, [], Some, None, true, false};
+ghost use Rattle.std.specs.Prelude.{length, slice_index, slice_set, IfOk, IfSome, OnOk, OnErr, Ok};
 ghost use Rattle.hum_stage.specs.Meaning.{Meaning, opening, IsLawful};
 ghost use Rattle.hum_assemble.specs.Standing.{Stands};
 ghost use Rattle.hum_read.specs.Steps.{given_by};
@@ -13,7 +13,7 @@ ghost use Rattle.hum_nodes.specs.Single.{single, readiness_for};
 ghost use Rattle.hum_nodes.specs.Merging.{IsMerging, merging};
 ghost use Rattle.hum_nodes.specs.Reading.{reading};
 ghost use Rattle.hum_nodes.specs.Polls.{HasPolled, HasStayed, AsksAtMostOnce, is_failed_read};
-ghost use Rattle.hum_nodes.specs.Nodes.{StandsAs, is_source, readiness_at};
+ghost use Rattle.hum_nodes.specs.Nodes.{StandsAs, is_source, gives_ahead, readiness_at};
 ghost use Rattle.hum_nodes.specs.Nodes.{remaining_of, ended_of, calls_of, failed_of, stopped_of};
 
 use hum_assemble::Assemble;
@@ -24,17 +24,18 @@ use hum_text::calls::Source;
 use std::alloc::{AllocError, Global};
 
 /// What a node does next. It is as small as a number, so a net asks for it quickly; the end is asked
-/// for once, where it is done.
+/// for once, where it is done. The first three stand in the order of what a stage is ready for, so that one
+/// becomes the other without a table.
 #[derive(Clone, Copy, Drop)]
 pub enum Readiness {
-    /// It gives a record that is settled.
-    Gives,
-    /// It reads bytes.
-    Reads,
-    /// It has given all.
-    Done,
     /// It takes a record or the end of its input at this place, from 0.
     Wants(usize),
+    /// It gives a record that is settled.
+    Gives,
+    /// It has given all.
+    Done,
+    /// It reads bytes.
+    Reads,
 }
 
 /// A stage of a plan in a net, what it does next, and where it wants, the number of the stage that it takes
@@ -196,6 +197,43 @@ impl<S: Stage + Drop, R: Source + Drop> Node<S, R> {
             → result ≡ readiness_at (is_source self.now) (doing_of t) }
     {
         self.readiness
+    }
+
+    /// Whether the record that it gives next was taken ahead.
+    #[inline(always)]
+    pub fn gives_ahead(&self) -> bool
+        ensures { result ≡ gives_ahead self.now }
+    {
+        match &self.work {
+            Work::Read(_) => false,
+            Work::Command(_, Some(_), _) => true,
+            Work::Command(_, None, _) => false,
+            Work::Assemble(..) => false,
+        }
+    }
+
+    /// That record.
+    #[inline(always)]
+    pub fn take_ahead(&mut self) -> Record
+        requires { gives_ahead self.old ≡ true }
+        ensures kind { is_source self.old ≡ false }
+        ensures stays { is_source self.new ≡ false }
+        ensures gives { (rest : List ℕ) (t : At) → StandsAs S.stands self.old rest t
+            → doing_of t ≡ does.Gives }
+        ensures taken { (rest : List ℕ) → HasTaken (StandsAs S.stands self.old rest)
+            (StandsAs S.stands self.new rest) (Some result) }
+    {
+        match &mut self.work {
+            Work::Read(_) => unreachable!(),
+            Work::Command(_, ahead, behind) => {
+                let Some(row) = ahead.take() else {
+                    unreachable!()
+                };
+                self.readiness = of_stage(*behind);
+                row
+            }
+            Work::Assemble(..) => unreachable!(),
+        }
     }
 
     /// Its end, where it is done and isn't a source.

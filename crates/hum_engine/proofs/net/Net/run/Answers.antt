@@ -100,8 +100,8 @@ turns-init g c =
       going = λ start s now h. not_over _ (c.over.ensures.over start s now h) c.if-over.false;
     }
 
-pub step-requires-clause-may : goal.step-requires-clause-may
-step-requires-clause-may g c =
+pub advance-requires-clause-may : goal.advance-requires-clause-may
+advance-requires-clause-may g c =
     let stands = StandsAs g.S.Stage.stands in
     let contents = g.W.Sink.contents in
     let flushed = g.W.Sink.flushed in
@@ -124,9 +124,9 @@ turns-smaller g c =
     let few = turns_few stands contents flushed w.start w.scene c.turns.self w.now (reads_few g.S.Stage.stands) w.at
     (sym w.at.failure ∙ none_yet) in
     let counted = w.at.counted in
-    let most = few_still c.step.new.search in
+    let most = few_still c.advance.new.search in
     ⊎_elim
-    (λ over. absurd (false≢true (sym c.if-step.false ∙ over)))
+    (λ over. absurd (false≢true (sym c.if-advance.false ∙ over)))
     (λ on. ⊎_elim
     (λ turned. omega (arith, few, counted, turned, most))
     (λ past.
@@ -134,7 +134,7 @@ turns-smaller g c =
     let fewer = past.1 in
     omega (arith, few, counted, same, fewer))
     on)
-    c.step.ensures.closer
+    c.advance.ensures.closer
 
 pub turns-preserved : goal.turns-preserved
 turns-preserved g c =
@@ -142,24 +142,24 @@ turns-preserved g c =
     let contents = g.W.Sink.contents in
     let flushed = g.W.Sink.flushed in
     let order : Order g.row.O.Denot = record { pick = g.O.Order.picks; next = g.O.Order.after } in
-    let ran = ran_more stands g.R.Source.remaining contents flushed order c.turns.search c.step.new.search c.step.result c.args.order.now c.turns.order
-    c.step.new.order c.args.self.now c.turns.self c.step.new.self
-    c.turns.invariant.ran c.step.ensures.stepped in
+    let ran = ran_more stands g.R.Source.remaining contents flushed order c.turns.search c.advance.new.search c.advance.result c.args.order.now c.turns.order
+    c.advance.new.order c.args.self.now c.turns.self c.advance.new.self
+    c.turns.invariant.ran c.advance.ensures.stepped in
     let may = may_step stands g.R.Source.remaining contents flushed order c.turns.search
     false c.args.order.now c.turns.order c.args.self.now c.turns.self c.turns.invariant.ran c.requires refl in
     let none_yet = unfailed stands contents flushed c.turns.search c.turns.self may in
     let inv = c.turns.invariant in
     let net = c.args.self.now in
     record {
-      ran = subst (λ b. Ran stands g.R.Source.remaining contents flushed order c.step.new.search b c.args.order.now c.step.new.order net c.step.new.self) c.if-step.false ran;
-      leans = c.step.ensures.leans;
-      reads = λ none i. c.step.ensures.reads i
-          ∙ ap (λ b. b || is_read_of i c.step.new.self.failure)
+      ran = subst (λ b. Ran stands g.R.Source.remaining contents flushed order c.advance.new.search b c.args.order.now c.advance.new.order net c.advance.new.self) c.if-advance.false ran;
+      leans = c.advance.ensures.leans;
+      reads = λ none i. c.advance.ensures.reads i
+          ∙ ap (λ b. b || is_read_of i c.advance.new.self.failure)
           (inv.reads none i
           ∙ ap (λ f. failed_at g.R.Source.failed i net.web.nodes.items || is_read_of i f) none_yet
           ∙ sym (or_false _));
-      writes = λ none. c.step.ensures.writes
-          ∙ ap (λ b. b || is_write c.step.new.self.failure)
+      writes = λ none. c.advance.ensures.writes
+          ∙ ap (λ b. b || is_write c.advance.new.self.failure)
           (inv.writes none
           ∙ ap (λ f. g.W.Sink.failed net.sink || is_write f) none_yet
           ∙ sym (or_false _));
@@ -168,95 +168,95 @@ turns-preserved g c =
 
 -- Where a step ends the run.
 
-pub told-requires-then-step : goal.told-requires-then-step
-told-requires-then-step g c =
+pub told-requires-then-advance : goal.told-requires-then-advance
+told-requires-then-advance g c =
     let stands = StandsAs g.S.Stage.stands in
     let contents = g.W.Sink.contents in
     let flushed = g.W.Sink.flushed in
     let order : Order g.row.O.Denot = record { pick = g.O.Order.picks; next = g.O.Order.after } in
-    let ran = ran_more stands g.R.Source.remaining contents flushed order c.turns.search c.step.new.search c.step.result c.args.order.now c.turns.order
-    c.step.new.order c.args.self.now c.turns.self c.step.new.self
-    c.turns.invariant.ran c.step.ensures.stepped in
-    now_running stands g.R.Source.remaining contents flushed order c.step.new.search c.step.result
-    c.args.order.now c.step.new.order c.args.self.now c.step.new.self ran c.requires
+    let ran = ran_more stands g.R.Source.remaining contents flushed order c.turns.search c.advance.new.search c.advance.result c.args.order.now c.turns.order
+    c.advance.new.order c.args.self.now c.turns.self c.advance.new.self
+    c.turns.invariant.ran c.advance.ensures.stepped in
+    now_running stands g.R.Source.remaining contents flushed order c.advance.new.search c.advance.result
+    c.args.order.now c.advance.new.order c.args.self.now c.advance.new.self ran c.requires
 
-pub returns-then-step : goal.returns-then-step
-returns-then-step g c =
+pub returns-then-advance : goal.returns-then-advance
+returns-then-advance g c =
     let ran = (
     let stands = StandsAs g.S.Stage.stands in
     let contents = g.W.Sink.contents in
     let flushed = g.W.Sink.flushed in
     let order : Order g.row.O.Denot = record { pick = g.O.Order.picks; next = g.O.Order.after } in
-    let ran = ran_more stands g.R.Source.remaining contents flushed order c.turns.search c.step.new.search c.step.result c.args.order.now c.turns.order
-    c.step.new.order c.args.self.now c.turns.self c.step.new.self
-    c.turns.invariant.ran c.step.ensures.stepped in
-    ran_to stands g.R.Source.remaining contents flushed order c.step.new.search c.step.result
-    c.args.order.now c.step.new.order c.args.self.now c.step.new.self ran
-    c.told-then-step.result
+    let ran = ran_more stands g.R.Source.remaining contents flushed order c.turns.search c.advance.new.search c.advance.result c.args.order.now c.turns.order
+    c.advance.new.order c.args.self.now c.turns.self c.advance.new.self
+    c.turns.invariant.ran c.advance.ensures.stepped in
+    ran_to stands g.R.Source.remaining contents flushed order c.advance.new.search c.advance.result
+    c.args.order.now c.advance.new.order c.args.self.now c.advance.new.self ran
+    c.told-then-advance.result
     (λ start s now h.
-    has_told _ c.told-then-step.result (told_all stands g.R.Source.remaining contents flushed order c.step.new.search c.step.result
-    c.args.order.now c.step.new.order c.args.self.now c.step.new.self ran c.requires start s now h) c.if-step.true
-    (λ by e. c.told-then-step.ensures start s now h by e))
+    has_told _ c.told-then-advance.result (told_all stands g.R.Source.remaining contents flushed order c.advance.new.search c.advance.result
+    c.args.order.now c.advance.new.order c.args.self.now c.advance.new.self ran c.requires start s now h) c.if-advance.true
+    (λ by e. c.told-then-advance.ensures start s now h by e))
     ) in
     record {
       ran = ran;
       whole = λ start s now tells h.
           let order : Order g.row.O.Denot = record { pick = g.O.Order.picks; next = g.O.Order.after } in
           run_on g.S.Stage.stands g.R.Source.remaining g.W.Sink.contents g.W.Sink.flushed order c.args.order.now
-          c.step.new.order c.args.self.now c.step.new.self c.told-then-step.result ran s.rests
+          c.advance.new.order c.args.self.now c.advance.new.self c.told-then-advance.result ran s.rests
           tells start s now refl h;
       reads = λ none i.
           let stands = StandsAs g.S.Stage.stands in
           let contents = g.W.Sink.contents in
           let flushed = g.W.Sink.flushed in
           let order : Order g.row.O.Denot = record { pick = g.O.Order.picks; next = g.O.Order.after } in
-          let ran = ran_more stands g.R.Source.remaining contents flushed order c.turns.search c.step.new.search c.step.result c.args.order.now c.turns.order
-          c.step.new.order c.args.self.now c.turns.self c.step.new.self
-          c.turns.invariant.ran c.step.ensures.stepped in
+          let ran = ran_more stands g.R.Source.remaining contents flushed order c.turns.search c.advance.new.search c.advance.result c.args.order.now c.turns.order
+          c.advance.new.order c.args.self.now c.turns.self c.advance.new.self
+          c.turns.invariant.ran c.advance.ensures.stepped in
           let may = may_step stands g.R.Source.remaining contents flushed order c.turns.search
           false c.args.order.now c.turns.order c.args.self.now c.turns.self c.turns.invariant.ran c.requires refl in
           let none_yet = unfailed stands contents flushed c.turns.search c.turns.self may in
-          let w = now_running stands g.R.Source.remaining contents flushed order c.step.new.search c.step.result
-          c.args.order.now c.step.new.order c.args.self.now c.step.new.self ran c.requires in
+          let w = now_running stands g.R.Source.remaining contents flushed order c.advance.new.search c.advance.result
+          c.args.order.now c.advance.new.order c.args.self.now c.advance.new.self ran c.requires in
           let net = c.args.self.now in
           let heard = (w.now.links (last (plan_of w.scene))).heard in
-          c.step.ensures.reads i
-          ∙ ap (λ b. b || is_read_of i c.step.new.self.failure)
+          c.advance.ensures.reads i
+          ∙ ap (λ b. b || is_read_of i c.advance.new.self.failure)
           (c.turns.invariant.reads none i
           ∙ ap (λ f. failed_at g.R.Source.failed i net.web.nodes.items || is_read_of i f) none_yet
           ∙ sym (or_false _))
           ∙ ap (λ b. failed_at g.R.Source.failed i net.web.nodes.items || b)
-          (told_read i c.step.new.self.failure heard c.told-then-step.result
+          (told_read i c.advance.new.self.failure heard c.told-then-advance.result
           (ap (λ f. ended_by f heard) w.at.failure
-          ∙ has_told _ c.told-then-step.result (told_all stands g.R.Source.remaining contents flushed order c.step.new.search c.step.result
-          c.args.order.now c.step.new.order c.args.self.now c.step.new.self ran c.requires w.start w.scene w.now w.at) c.if-step.true
-          (λ by e. c.told-then-step.ensures w.start w.scene w.now w.at by e)));
+          ∙ has_told _ c.told-then-advance.result (told_all stands g.R.Source.remaining contents flushed order c.advance.new.search c.advance.result
+          c.args.order.now c.advance.new.order c.args.self.now c.advance.new.self ran c.requires w.start w.scene w.now w.at) c.if-advance.true
+          (λ by e. c.told-then-advance.ensures w.start w.scene w.now w.at by e)));
       writes = λ none.
           let stands = StandsAs g.S.Stage.stands in
           let contents = g.W.Sink.contents in
           let flushed = g.W.Sink.flushed in
           let order : Order g.row.O.Denot = record { pick = g.O.Order.picks; next = g.O.Order.after } in
-          let ran = ran_more stands g.R.Source.remaining contents flushed order c.turns.search c.step.new.search c.step.result c.args.order.now c.turns.order
-          c.step.new.order c.args.self.now c.turns.self c.step.new.self
-          c.turns.invariant.ran c.step.ensures.stepped in
+          let ran = ran_more stands g.R.Source.remaining contents flushed order c.turns.search c.advance.new.search c.advance.result c.args.order.now c.turns.order
+          c.advance.new.order c.args.self.now c.turns.self c.advance.new.self
+          c.turns.invariant.ran c.advance.ensures.stepped in
           let may = may_step stands g.R.Source.remaining contents flushed order c.turns.search
           false c.args.order.now c.turns.order c.args.self.now c.turns.self c.turns.invariant.ran c.requires refl in
           let none_yet = unfailed stands contents flushed c.turns.search c.turns.self may in
-          let w = now_running stands g.R.Source.remaining contents flushed order c.step.new.search c.step.result
-          c.args.order.now c.step.new.order c.args.self.now c.step.new.self ran c.requires in
+          let w = now_running stands g.R.Source.remaining contents flushed order c.advance.new.search c.advance.result
+          c.args.order.now c.advance.new.order c.args.self.now c.advance.new.self ran c.requires in
           let net = c.args.self.now in
           let heard = (w.now.links (last (plan_of w.scene))).heard in
-          c.step.ensures.writes
-          ∙ ap (λ b. b || is_write c.step.new.self.failure)
+          c.advance.ensures.writes
+          ∙ ap (λ b. b || is_write c.advance.new.self.failure)
           (c.turns.invariant.writes none
           ∙ ap (λ f. g.W.Sink.failed net.sink || is_write f) none_yet
           ∙ sym (or_false _))
           ∙ ap (λ b. g.W.Sink.failed net.sink || b)
-          (told_write c.step.new.self.failure heard c.told-then-step.result
+          (told_write c.advance.new.self.failure heard c.told-then-advance.result
           (ap (λ f. ended_by f heard) w.at.failure
-          ∙ has_told _ c.told-then-step.result (told_all stands g.R.Source.remaining contents flushed order c.step.new.search c.step.result
-          c.args.order.now c.step.new.order c.args.self.now c.step.new.self ran c.requires w.start w.scene w.now w.at) c.if-step.true
-          (λ by e. c.told-then-step.ensures w.start w.scene w.now w.at by e)));
+          ∙ has_told _ c.told-then-advance.result (told_all stands g.R.Source.remaining contents flushed order c.advance.new.search c.advance.result
+          c.args.order.now c.advance.new.order c.args.self.now c.advance.new.self ran c.requires w.start w.scene w.now w.at) c.if-advance.true
+          (λ by e. c.told-then-advance.ensures w.start w.scene w.now w.at by e)));
       again = λ start s now h by e.
           absurd (none-some by (sym (c.turns.invariant.going start s now h) ∙ e));
     }

@@ -1,10 +1,10 @@
-use Rattle.std.proofs.Common.{refl, [], ◌∙◌, ◌||◌, true, false, ap, sym, subst}
-use Rattle.std.proofs.lemmas.Bool.{or_right}
+use Rattle.std.proofs.Common.{refl, [], ◌∙◌, ◌||◌, ◌-◌, length, true, false, ap, sym, subst}
+use Rattle.std.proofs.lemmas.Bool.{or_right, false≢true}
 use Rattle.hum_turns.specs.Plan.{last}
 use Rattle.hum_nodes.specs.Nodes.{StandsAs}
 use Rattle.hum_turns.specs.Turns.{Takes}
 use Rattle.hum_engine.specs.Readers.{is_read_of, is_write}
-use Rattle.hum_engine.specs.Scene.{plan_of, moved, Done, Stands}
+use Rattle.hum_engine.specs.Scene.{plan_of, moved, Done, Stands, HasRoom}
 use Rattle.hum_engine.proofs.Appending.{keeps_appends}
 use Rattle.hum_engine.proofs.Netting.{or_false}
 use Rattle.hum_engine.proofs.Showing.{shows_nodes}
@@ -41,6 +41,7 @@ returns-in-Ok g c =
           (sym c.in-Some.is ∙ t) c.in-Ok.ensures.few;
       marked = c.in-Ok.ensures.sound ∙ or_false _ ∙ ap (λ b. g.W.Sink.failed net.sink || b) (sym (ap is_write none));
       unread = λ k. ap (is_read_of k) none;
+      room = λ on. subst (HasRoom (length net.web.links.items - 1)) (sym c.keep.ensures) c.in-Some.ensures.room;
       shows = λ k. shows_nodes g.R.Source.remaining g.R.Source.calls g.R.Source.failed net.web
           c.keep.new.self k (ap (λ w. w.nodes) c.keep.ensures ∙ c.take_out.ensures.nodes);
       turns = refl;
@@ -63,6 +64,7 @@ returns-in-Err g c =
           (sym c.in-Some.is ∙ t) c.in-Err.ensures.few;
       marked = c.in-Err.ensures.marked ∙ sym (or_right (g.W.Sink.failed net.sink) true refl);
       unread = λ k. refl;
+      room = λ on. absurd (false≢true (sym on));
       shows = λ k. shows_nodes g.R.Source.remaining g.R.Source.calls g.R.Source.failed net.web
           c.take_out.new.self k c.take_out.ensures.nodes;
       turns = refl;
@@ -88,6 +90,7 @@ returns-in-Ok-flush g c =
           (sym c.in-None.is ∙ c.take_out.ensures.next s h.at) c.in-Ok-flush.ensures.calls;
       marked = c.in-Ok-flush.ensures.failed ∙ ap (λ b. g.W.Sink.failed net.sink || b) (sym (ap is_write none));
       unread = λ k. ap (is_read_of k) none;
+      room = λ on. absurd (false≢true (sym on));
       shows = λ k. shows_nodes g.R.Source.remaining g.R.Source.calls g.R.Source.failed net.web
           c.take_out.new.self k c.take_out.ensures.nodes;
       turns = refl;
@@ -106,6 +109,7 @@ returns-in-Err-flush g c =
           (sym c.in-None.is ∙ c.take_out.ensures.next s h.at) c.in-Err-flush.ensures.calls;
       marked = c.in-Err-flush.ensures.failed;
       unread = λ k. refl;
+      room = λ on. absurd (false≢true (sym on));
       shows = λ k. shows_nodes g.R.Source.remaining g.R.Source.calls g.R.Source.failed net.web
           c.take_out.new.self k c.take_out.ensures.nodes;
       turns = refl;

@@ -21,6 +21,7 @@ returns-in-Ok g c =
       link = λ s h. inl (c.in-Ok.ensures.link s h);
       over = sym (ap is_some none);
       full = c.in-Ok.ensures.full;
+      room = c.in-Ok.ensures.room;
       failed = rw none tt;
       others = c.turn.ensures.others;
       marked = marks
@@ -44,6 +45,7 @@ returns-in-Err-Read g c =
       link = λ s h. inr (refl, λ e. none-some _ (sym e));
       over = refl;
       full = λ full. absurd (false≢true full);
+      room = λ taken. absurd (false≢true taken);
       failed = λ s may. (
         source_here g.S.Stage.stands c.args.k c.args.self.now.web s may (c.turn.ensures.read read),
         refl,
@@ -71,6 +73,7 @@ returns-in-Err-Memory g c =
       link = λ s h. inr (refl, λ e. none-some _ (sym e));
       over = refl;
       full = λ full. absurd (false≢true full);
+      room = λ taken. absurd (false≢true taken);
       failed = λ s may. refl;
       others = c.turn.ensures.others;
       marked = c.turn.ensures.marks

@@ -2,7 +2,8 @@ use Rattle.std.proofs.lemmas.Bool.{false≢true}
 use Rattle.hum_engine.specs.Readers.{failed_at}
 use Rattle.hum_engine.proofs.Showing.{shows_alike}
 use Rattle.hum_engine.proofs.Netting.{or_false}
-use Rattle.std.proofs.Common.{◌≡◌, ap, inl, ◌||◌, ◌∙◌, ◌+◌, refl, sym, arith}
+use Rattle.std.proofs.Common.{◌≡◌, ap, inl, ◌||◌, ◌∙◌, ◌+◌, Bool, true, false, refl, sym, arith}
+use Rattle.std.specs.Prelude.{not}
 use Rattle.hum_nodes.proofs.Standing.{reads_few}
 use Rattle.hum_engine.proofs.Bounds.{turns_few}
 use Rattle.hum_nodes.specs.Nodes.{StandsAs}
@@ -12,8 +13,12 @@ use Rattle.hum_engine.proofs.Netting.{no_failure, is_at, now_ready, below_count,
 use Rattle.hum_engine.proofs.Stepping.{sink_touches}
 use Rattle.hum_engine.proofs.net.Net.turn_as.Goals as goal
 
-pub sink_turn-requires-clause-none : goal.sink_turn-requires-clause-none
-sink_turn-requires-clause-none g c =
+not_true : (b : Bool) → not b ≡ true → b ≡ false
+not_true true h = absurd (false≢true h)
+not_true false h = refl
+
+pub sink_turn-is_over-requires-clause-none : goal.sink_turn-is_over-requires-clause-none
+sink_turn-is_over-requires-clause-none g c =
     let m = c.requires.may in
     m.at.failure ∙ no_failure (StandsAs g.S.Stage.stands) g.W.Sink.contents g.W.Sink.flushed
     m.start m.scene c.args.self.now m.now c.args.k m.at m.ready
@@ -24,8 +29,8 @@ stage_turn-turned-requires-clause-none g c =
     m.at.failure ∙ no_failure (StandsAs g.S.Stage.stands) g.W.Sink.contents g.W.Sink.flushed
     m.start m.scene c.args.self.now m.now c.args.k m.at m.ready
 
-pub sink_turn-requires-clause-may : goal.sink_turn-requires-clause-may
-sink_turn-requires-clause-may g c =
+pub sink_turn-is_over-requires-clause-may : goal.sink_turn-is_over-requires-clause-may
+sink_turn-is_over-requires-clause-may g c =
     let m = c.requires.may in
     let at = is_at (StandsAs g.S.Stage.stands) g.W.Sink.contents g.W.Sink.flushed m.start
     m.scene c.args.self.now m.now c.args.k m.at m.ready in
@@ -52,8 +57,8 @@ stage_turn-turned-requires-clause-may g c =
       };
     }
 
-pub last-requires : goal.last-requires
-last-requires g c =
+pub last-link-requires : goal.last-link-requires
+last-link-requires g c =
     let m = c.requires.may in
     let at = is_at (StandsAs g.S.Stage.stands) g.W.Sink.contents g.W.Sink.flushed m.start
     m.scene c.args.self.now m.now c.args.k m.at m.ready in
@@ -63,12 +68,12 @@ pub returns-then-k-count-clause-gone : goal.returns-then-k-count-clause-gone
 returns-then-k-count-clause-gone g c =
     let stands = StandsAs g.S.Stage.stands in
     let here = c.if-k-count.true ∙ c.count.ensures in
-    let e = c.sink_turn.ensures in
+    let e = c.sink_turn-is_over.ensures in
     record {
       turned = sink_turned stands g.R.Source.remaining g.W.Sink.contents g.W.Sink.flushed c.args.k
-          c.args.self.now _ c.sink_turn.result g.R.Source.calls g.R.Source.failed c.sink_turn.new.self.failure here
+          c.args.self.now _ c.sink_turn-is_over.result g.R.Source.calls g.R.Source.failed c.sink_turn-is_over.new.self.failure here
           e.went e.shows refl e.turns e.actors e.takers;
-      link = λ s h. inl (sink_touches s c.args.k c.last.result (here ∙ h.at.stand.count) (c.last.ensures s h.at));
+      link = λ s h. inl (sink_touches s c.args.k c.last-link.result (here ∙ h.at.stand.count) (c.last-link.ensures.last s h.at));
       reads = λ i. (e.shows i).mark ∙ or_false _
           ∙ ap (λ b. failed_at g.R.Source.failed i c.args.self.now.web.nodes.items || b) (sym (e.unread i));
       writes = e.marked;
@@ -76,6 +81,17 @@ returns-then-k-count-clause-gone g c =
       actors = e.actors;
       takers = e.takers;
       full = λ full. absurd (false≢true full);
+      room = λ taken.
+          let m = c.requires.may in
+          let at = is_at stands g.W.Sink.contents g.W.Sink.flushed m.start m.scene c.args.self.now m.now c.args.k m.at
+          m.ready in
+          let place = c.last-link.ensures.place in
+          let many = at.stand.as_many in
+          let count = here ∙ at.stand.count in
+          let some = m.at.plan.ok.some in (
+            omega (arith, place, many, count, some),
+            rw place (e.room (not_true c.sink_turn-is_over.result taken)),
+          );
     }
 
 pub returns-clause-gone : goal.returns-clause-gone
@@ -98,6 +114,7 @@ returns-clause-gone g c =
       actors = e.actors;
       takers = e.takers;
       full = e.full;
+      room = e.room;
     }
 
 pub overflow_add-self : goal.overflow_add-self
@@ -135,12 +152,12 @@ returns-then-k-count-clause-little g c =
     let contents = g.W.Sink.contents in
     let flushed = g.W.Sink.flushed in
     let net = c.args.self.now in
-    let mine = c.sink_turn.ensures.shows c.args.k in
+    let mine = c.sink_turn-is_over.ensures.shows c.args.k in
     record {
       once = inl (mine.calls_made, mine.mark);
-      others = λ i o. c.sink_turn.ensures.shows i;
+      others = λ i o. c.sink_turn-is_over.ensures.shows i;
       sink = λ start s now h ready here.
-          c.sink_turn.ensures.asked (moved s now.links) (record {
+          c.sink_turn-is_over.ensures.asked (moved s now.links) (record {
             at = is_at stands contents flushed start s net now c.args.k h ready;
             some = sym (ready_sink (plan_of s) s.size c.args.k now.links (omega (arith, here)))
                 ∙ now_ready stands contents flushed start s net now c.args.k h ready;

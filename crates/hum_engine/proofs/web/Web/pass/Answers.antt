@@ -125,6 +125,32 @@ returns-in-Some-clause-full g c full =
       full = c.is_full.ensures.full full its.0 its.1;
     }
 
+pub returns-in-Some-clause-room : goal.returns-in-Some-clause-room
+returns-in-Some-clause-room g c taken =
+    let s = c.requires.may.scene in
+    let may = c.requires.may.holds in
+    let web = c.args.self.now in
+    let k = c.args.k in
+    let stands = StandsAs g.S.Stage.stands in
+    let node = c.index.result.now in
+    let there = node_at stands k web s node may.less may.at.stand c.index.ensures in
+    let i = c.source-source.result in
+    let e = c.source-source.ensures (c.requires.stage node there) (s.rests k) (at_of s.kinds s.links k) c.args.place
+    (may.at.stand.nodes k node there) may.does in
+    let w = passing stands k c.args.place web s i c.index_mut.result.now may e c.index_mut.ensures.value in (
+      w.lower,
+      record {
+        link = c.next.new.self;
+        its = set_here web.links.items i c.next.new.self c.index_mut.result.now w.at_link;
+        room = c.in-Some.ensures.room;
+      },
+    )
+
+pub returns-in_err-gives-in-Some-clause-room : goal.returns-in_err-gives-in-Some-clause-room
+returns-in_err-gives-in-Some-clause-room g c =
+    let p = err_from_is_err_and c.from_residual.result c.from_residual.ensures.1 in
+    rw p.1 tt
+
 pub returns-in_err-gives-in-Some-clause-nodes : goal.returns-in_err-gives-in-Some-clause-nodes
 returns-in_err-gives-in-Some-clause-nodes g c =
     keeps c.args.k c.args.self.now _ c.put.new.self c.put.ensures.kind refl

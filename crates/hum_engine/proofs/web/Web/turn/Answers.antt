@@ -1,4 +1,4 @@
-use Rattle.std.proofs.Common.{◌≡◌, ◌∙◌, ◌<◌, ℕ, Result, Ok, Err, refl, sym, subst, arith, slice_index}
+use Rattle.std.proofs.Common.{◌≡◌, ◌∙◌, ◌<◌, ℕ, true, false, Result, Ok, Err, refl, sym, subst, arith, slice_index}
 use Rattle.std.specs.Prelude.{IfOk, List}
 use Rattle.std.proofs.lemmas.Bool.{false≢true}
 use Rattle.hum_nodes.specs.Doing as does
@@ -13,7 +13,7 @@ use Rattle.hum_turns.specs.Turns.{Takes, state}
 use Rattle.hum_turns.specs.Near.{touched}
 use Rattle.hum_engine.specs.declared.web.Web.{Web}
 use Rattle.hum_engine.specs.declared.web.Moved.{Moved}
-use Rattle.hum_engine.specs.Scene.{Scene, IsActor, IsAt, IsAbout, IsDoing, DoesNext, MayAct, MayTurn, plan_of, at_of}
+use Rattle.hum_engine.specs.Scene.{Scene, HasRoom, IsActor, IsAt, IsAbout, IsDoing, DoesNext, MayAct, MayTurn, plan_of, at_of}
 use Rattle.hum_engine.proofs.Doings.{reads_is, gives_of, wants_of}
 use Rattle.hum_engine.proofs.Feeding.{node_of}
 use Rattle.hum_engine.proofs.Polling.{state_gives, state_takes}
@@ -92,6 +92,7 @@ returns-in-Ok g c =
           let about = wants_about stands k web c.in-Wants.place doing u actor.at here in
           touched_takes stands k web _ u about c.in-Wants.place c.in-Ok.moved.link refl (c.in-Ok.ensures.source u about);
       full = c.in-Ok.ensures.full;
+      room = c.in-Ok.ensures.room;
       read = λ failed. cc;
       others = c.pass.ensures.nodes.others;
       marks = act_marks g.R.Source.remaining g.R.Source.calls g.R.Source.failed k web
@@ -111,6 +112,7 @@ returns-in-Err g c =
       turned = tt;
       link = tt;
       full = tt;
+      room = tt;
       read = λ failed. cc;
       others = c.pass.ensures.nodes.others;
       marks = act_marks g.R.Source.remaining g.R.Source.calls g.R.Source.failed k web
@@ -157,6 +159,7 @@ returns-in-Ok-give g c =
           let here = here_too k _ s.count u.count may.less may.at.stand.count actor.at.stand.count in
           touched_gives stands k web _ u (gives_about stands k web doing u actor.at here) refl;
       full = λ full. absurd (false≢true full);
+      room = λ taken. absurd (false≢true taken);
       read = λ failed. cc;
       others = c.give.ensures.nodes.others;
       marks = act_marks g.R.Source.remaining g.R.Source.calls g.R.Source.failed k web
@@ -176,6 +179,7 @@ returns-in-Err-give g c =
       turned = tt;
       link = tt;
       full = tt;
+      room = tt;
       read = λ failed. cc;
       others = c.give.ensures.nodes.others;
       marks = act_marks g.R.Source.remaining g.R.Source.calls g.R.Source.failed k web
@@ -207,6 +211,7 @@ returns-in-Done g c =
           node.0 s may node.1 (doing.0 node.0 node.1) c.close.ensures.done c.close.ensures.nodes;
       link = c.close.ensures.link;
       full = λ full. absurd (false≢true full);
+      room = λ taken. absurd (false≢true taken);
       read = λ failed. cc;
       others = c.close.ensures.nodes.others;
       marks = act_marks g.R.Source.remaining g.R.Source.calls g.R.Source.failed k web
@@ -256,3 +261,9 @@ returns-in-Reads-clause-stays g c = c.poll.ensures.stays
 
 pub returns-in-Reads-clause-full : goal.returns-in-Reads-clause-full
 returns-in-Reads-clause-full g c = c.poll.ensures.full
+
+pub returns-in-Reads-clause-room : goal.returns-in-Reads-clause-room
+returns-in-Reads-clause-room g c =
+    on_ok (λ moved. moved.has_taken ≡ false)
+    (λ moved. moved.has_taken ≡ true → (moved.link < c.args.k) × HasRoom moved.link c.poll.new.self)
+    c.poll.result c.poll.ensures.apart (λ moved none taken. absurd (false≢true (sym none ∙ taken)))

@@ -1,0 +1,143 @@
+-- One step behind another.
+use Rattle.std.proofs.Common.{◌≡◌, ◌∙◌, ℕ, ◌<◌, Bool, true, false, List, [], ◌++◌, Option, None, nat_eq, refl, sym, ap, subst, append_assoc, arith}
+use Rattle.std.proofs.lemmas.Bool.{false≢true, cond-true, cond-false, eq-eqb, ne_eqb}
+use Rattle.std.proofs.Math.Path.{fun_ext}
+use Rattle.std.specs.Prelude.{is_some}
+use Rattle.hum_record.specs.Row.{Row}
+use Rattle.hum_turns.specs.Failures.{Now, result}
+use Rattle.hum_turns.specs.Orders.{Order}
+use Rattle.hum_turns.proofs.Writing.{still}
+use Rattle.hum_nodes.specs.At.{At}
+use Rattle.hum_nodes.specs.declared.node.Node.{Node}
+use Rattle.hum_nodes.proofs.Followed.{read_none, read_more}
+use Rattle.hum_engine.specs.declared.net.Net.{Net}
+use Rattle.hum_engine.specs.declared.search.Search.{Search}
+use Rattle.hum_engine.specs.Search.{outer, changed, skipped, skipped_to, kept_behind, is_left}
+use Rattle.hum_turns.specs.declared.order.Side.{Side}
+use Rattle.hum_turns.specs.declared.order.Side.TheVariants as side
+use Rattle.hum_engine.specs.Scene.{Scene, plan_of, before_all}
+use Rattle.hum_engine.specs.Nets.{NetAt, AreOver, HasStepped, MayStep, Leads, Watches}
+use Rattle.hum_engine.proofs.Netting.{not_over}
+use Rattle.hum_engine.proofs.Running.{driven_on, seen}
+
+-- What a search from the left does behind a turn that has changed a link to the left of its actor.
+left_is : (s : Side) → is_left s ≡ true → s ≡ side.Left
+left_is side.Left h = refl
+left_is side.Right h = absurd (false≢true h)
+
+apart : (link from : ℕ) → link < from → link ≡ from → ⊥
+apart link from less e = omega (arith, less, e)
+
+pub from_changed : (look : Search) (link taker : ℕ) → is_left look.side ≡ true → link < look.from
+    → (changed look (outer look.side link taker)).from ≡ link
+from_changed look link taker left less =
+    let own : outer look.side link taker ≡ link = ap (λ s. outer s link taker) (left_is look.side left) in
+    let other : nat_eq (outer look.side link taker) look.from ≡ false =
+    ne_eqb _ look.from (λ e. apart link look.from less (sym own ∙ e)) in
+    ap (λ (to : Search). to.from) (cond-false _ _ _ other) ∙ own
+
+pub from_skipped : (look : Search) (link taker : ℕ) → is_left look.side ≡ true → link < look.from
+    → (skipped look link taker).from ≡ link
+from_skipped look link taker left less =
+    ap (λ s. (skipped_to s look link taker).from) (left_is look.side left)
+    ∙ ap (λ (to : Search). to.from) (cond-false _ _ _ (ne_eqb link look.from (apart link look.from less)))
+
+-- Behind a turn that has changed the own link of its actor it stands where it stood.
+pub stays_there : (look : Search) (link taker : ℕ) → is_left look.side ≡ true → link ≡ look.from
+    → look ≡ changed look (outer look.side link taker)
+stays_there look link taker left own =
+    let is = left_is look.side left in
+    let at : outer look.side link taker ≡ look.from = ap (λ s. outer s link taker) is ∙ own in
+    let kept : kept_behind look.side look ≡ look.behind = ap (λ s. kept_behind s look) is in
+    sym (cond-true _ _ _ (eq-eqb _ look.from at) ∙ ap (λ b. record look { behind = b }) kept)
+
+module _ {S R W O : Type 0} (stands : Node S R → List ℕ → At → Type 0)
+    (remaining : R → Option (List ℕ)) (contents : W → Option (List ℕ))
+    (flushed : W → Bool) (order : Order O) where
+  -- Nothing has moved.
+  pub stepped_none : (look : Option Search) (o : O) (old new : Net S R W) → new ≡ old
+      → HasStepped stands remaining contents flushed order o o look look old new false
+  stepped_none look o old new same =
+      subst (λ n. HasStepped stands remaining contents flushed order o o look look old n false) (sym same) (record {
+        reads = λ i. [];
+        read = λ i. read_none _ _;
+        goes = λ start s now over h none sees. (
+          record { turns = []; to = now; driven = (still now, refl); at = h },
+          record { tells = ap is_some (sym none); sees = λ going. sees },
+        );
+      })
+
+  -- Two steps are one.
+  pub stepped_twice : (before look after : Option Search) (is_over : Bool) (o p q : O) (old net new : Net S R W)
+      → HasStepped stands remaining contents flushed order o p before look old net false
+      → HasStepped stands remaining contents flushed order p q look after net new is_over
+      → HasStepped stands remaining contents flushed order o q before after old new is_over
+  stepped_twice before look after is_over o p q old net new one two = record {
+    reads = λ i. one.reads i ++ two.reads i;
+    read = λ i. read_more _ _ _ _ _ _ _ _ (one.read i) (two.read i);
+    goes = λ start s now over h none sees.
+        let mid : Scene = before_all two.reads s in
+        let at : NetAt stands contents flushed start (before_all one.reads mid) old now =
+        subst
+        (λ (f : ℕ → List ℕ). NetAt stands contents flushed start (record s { rests = f }) old now)
+        (fun_ext (λ i. append_assoc (one.reads i) (two.reads i) (s.rests i))) h in
+        let over_mid : AreOver net.web.nodes.items mid.rests = λ i e.
+        let t = (two.read i).still e in
+        ap (λ l. l ++ s.rests i) t.0 ∙ over i t.1 in
+        let d = one.goes start mid now over_mid at none (seen before s mid.rests now old sees) in
+        let going = not_over _ d.1.tells refl in
+        let g = two.goes start s d.0.to over d.0.at going (seen look mid s.rests d.0.to net (d.1.sees going)) in (
+          record {
+            turns = d.0.turns ++ g.0.turns;
+            to = g.0.to;
+            driven = driven_on order s d.0.turns g.0.turns o p q now d.0.to g.0.to d.0.driven g.0.driven;
+            at = g.0.at;
+          },
+          record { tells = g.1.tells; sees = g.1.sees },
+        );
+  }
+
+  -- Behind a step that doesn't end the run another may follow.
+  module _ (before look : Option Search) (o p : O) (old net : Net S R W)
+      (may : MayStep stands contents flushed before old)
+      (one : HasStepped stands remaining contents flushed order o p before look old net false) where
+    -- the bytes that were read and those still to come
+    all_of : (ℕ → List ℕ) → ℕ → List ℕ
+    all_of rests i = one.reads i ++ rests i
+
+    over_all : (rests : ℕ → List ℕ) → AreOver net.web.nodes.items rests → AreOver old.web.nodes.items (all_of rests)
+    unfolding all_of
+    over_all rests over i e =
+        let t = (one.read i).still e in
+        ap (λ l. l ++ rests i) t.0 ∙ over i t.1
+
+    scene_on : (rests : ℕ → List ℕ) → AreOver net.web.nodes.items rests → Scene
+    scene_on rests over = record (may.scene (all_of rests) (over_all rests over)) { rests = rests }
+
+    led_on : (rests : ℕ → List ℕ) (over : AreOver net.web.nodes.items rests)
+        → (d : Leads stands contents flushed order o p may.start (scene_on rests over)
+        (may.now (all_of rests) (over_all rests over)) net)
+        × Watches look false (scene_on rests over) d.to net
+    unfolding scene_on all_of
+    led_on rests over =
+        let was = over_all rests over in
+        let all = may.scene (all_of rests) was in
+        let now = may.now (all_of rests) was in
+        let s : Scene = record all { rests = rests } in
+        let at : NetAt stands contents flushed may.start (before_all one.reads s) old now =
+        subst (λ f. NetAt stands contents flushed may.start (record all { rests = f }) old now)
+        (may.rests (all_of rests) was) (may.at (all_of rests) was) in
+        one.goes may.start s now over at (may.going (all_of rests) was)
+        (seen before all rests now old (may.sees (all_of rests) was))
+
+    pub may_on : MayStep stands contents flushed look net
+    unfolding scene_on
+    may_on = record {
+      start = may.start;
+      scene = scene_on;
+      now = λ rests over. (led_on rests over).0.to;
+      rests = λ rests over. refl;
+      at = λ rests over. (led_on rests over).0.at;
+      going = λ rests over. not_over _ (led_on rests over).1.tells refl;
+      sees = λ rests over. (led_on rests over).1.sees (not_over _ (led_on rests over).1.tells refl);
+    }

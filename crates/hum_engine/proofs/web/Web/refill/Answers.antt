@@ -1,0 +1,146 @@
+use Rattle.std.proofs.Common.{◌≡◌, ◌∙◌, ◌<◌, ℕ, length, true, false, List, Option, Some, slice_get, refl, sym, ap, arith}
+use Rattle.std.specs.Prelude.{nat_lt}
+use Rattle.std.specs.Vec.{with_item}
+use Rattle.std.proofs.lemmas.Option.{slice_get_within}
+use Rattle.hum_stage.specs.Meaning.{Moment}
+use Rattle.hum_turns.specs.Links.{has_room}
+use Rattle.hum_turns.specs.Turns.{Gives, can, state}
+use Rattle.hum_turns.specs.Near.{touched}
+use Rattle.hum_nodes.specs.At.{At, doing_of}
+use Rattle.hum_nodes.specs.Doing as does
+use Rattle.hum_nodes.specs.Nodes.{StandsAs, is_source, readiness_at}
+use Rattle.hum_nodes.specs.declared.node.Node.{Node}
+use Rattle.hum_nodes.specs.declared.node.Readiness.TheVariants as kinds
+use Rattle.hum_engine.specs.declared.link.Link as port
+use Rattle.hum_engine.specs.declared.web.Web.{Web}
+use Rattle.hum_engine.specs.Links.{Goes, room}
+use Rattle.hum_engine.specs.Scene.{Scene, plan_of, at_of, IsAt, IsDoing, MayAct, MayTurn, Stands}
+use Rattle.hum_engine.proofs.Acting.{keeps, gave}
+use Rattle.hum_engine.proofs.Doings.{about_it, doing_is, gives_not_reads, gives_of}
+use Rattle.hum_engine.proofs.Feeding.{node_at, link_at}
+use Rattle.hum_engine.proofs.Polling.{state_gives}
+use Rattle.hum_engine.proofs.Stepping.{about_by, has_done}
+use Rattle.hum_engine.proofs.Turning.{stage_fed, stage_ready, act_marks}
+use Rattle.hum_engine.proofs.Netting.{or_false}
+use Rattle.hum_engine.proofs.web.Web.refill.Goals as goal
+
+-- A link that has room has room in the plan.
+room_in : {S R : Type 0} (stands : Node S R → List ℕ → At → Type 0) (k : ℕ) (web : Web S R) (s : Scene) (link : port.Link)
+    → Stands stands web s → slice_get web.links.items k ≡ Some link → room link ≡ true
+    → has_room s.size (s.links k) ≡ true
+room_in stands k web s link st at h =
+    let p = st.links k link at in
+    sym (ap (λ n. nat_lt n link.waiting.capacity) (ap length p.waiting)
+    ∙ ap (nat_lt (length (s.links k).waiting)) p.capacity) ∙ h
+
+-- A node that has taken a record ahead is a stage that gives next, and can where its link has room.
+module _ {S R : Type 0} (stage : S → Moment → Type 0) (k : ℕ) (web : Web S R) (node : Node S R) (link : port.Link)
+    (is : is_source node ≡ false)
+    (gives : (rest : List ℕ) (t : At) → StandsAs stage node rest t → doing_of t ≡ does.Gives)
+    (there : slice_get web.nodes.items k ≡ Some node)
+    (its : slice_get web.links.items k ≡ Some link) (has : room link ≡ true)
+    (s : Scene) (at : IsAt (StandsAs stage) web s) (less : k < s.count) where
+  doing : IsDoing (StandsAs stage) k web kinds.Gives
+  doing = doing_is stage k web node kinds.Gives
+      (λ rest t stands. sym (ap (λ b. readiness_at b (doing_of t)) is ∙ ap (readiness_at false) (gives rest t stands)))
+      there s at less gives_not_reads
+
+  can_give : can s.size s.links k (state (plan_of s) s.links k) ≡ true
+  can_give =
+      let about = about_by (StandsAs stage) k web kinds.Gives s (doing.1 s at less) does.Gives (λ h. gives_of _ h) in
+      ap (can s.size s.links k) (state_gives s s.links k less about.does)
+      ∙ room_in (StandsAs stage) k web s link at.stand its has
+
+  may_give : MayAct (StandsAs stage) k does.Gives web s
+  may_give =
+      let about = about_by (StandsAs stage) k web kinds.Gives s (doing.1 s at less) does.Gives (λ h. gives_of _ h) in
+      record { at = at; less = less; bytes = about.bytes; does = about.does; can = can_give }
+
+  may_turn : MayTurn (StandsAs stage) k web s
+  may_turn =
+      let a = doing.1 s at less in
+      record {
+        at = at;
+        less = less;
+        ready = stage_ready (StandsAs stage) k web (doing_of (at_of s.kinds s.links k)) s (about_it (StandsAs stage) k kinds.Gives web s a)
+            ∙ can_give;
+      }
+
+-- a place that a list has is one of the scene's
+within : {A : Type 0} (xs : List A) (k count : ℕ) (x : A) → length xs ≡ count → slice_get xs k ≡ Some x → k < count
+within xs k count x many at = let less = slice_get_within xs k x at in omega (arith, less, many)
+
+pub returns-clause-ready : goal.returns-clause-ready
+returns-clause-ready g c has s at =
+    let web = c.args.self.now in
+    let its = c.requires.room in
+    let node = c.index_mut.result.now in
+    let less = within web.links.items c.args.k s.count its.link at.stand.as_many its.its in
+    let there = node_at (StandsAs g.S.Stage.stands) c.args.k web s node less at.stand c.index_mut.ensures.value in
+    may_turn g.S.Stage.stands c.args.k web node its.link c.take_ahead-row.ensures.kind c.take_ahead-row.ensures.gives there
+    its.its its.room s at less
+
+pub returns-clause-fed : goal.returns-clause-fed
+returns-clause-fed g c has =
+    let web = c.args.self.now in
+    let k = c.args.k in
+    let stands = StandsAs g.S.Stage.stands in
+    let its = c.requires.room in
+    let node = c.index_mut.result.now in
+    let e = c.take_ahead-row.ensures in
+    let s = c.requires.at.scene in
+    let at = c.requires.at.holds in
+    let less = within web.links.items k s.count its.link at.stand.as_many its.its in
+    let there = node_at stands k web s node less at.stand c.index_mut.ensures.value in
+    stage_fed g.S.Stage.stands k g.R.Source.remaining web _ node s
+    (may_turn g.S.Stage.stands k web node its.link e.kind e.gives there its.its its.room s at less) there e.kind
+    (λ u turn.
+    let may = may_give g.S.Stage.stands k web node its.link e.kind e.gives there its.its its.room u turn.at turn.less in
+    has_done stands k web _ _ u may Gives (state_gives u u.links k may.less may.does)
+    (gave stands k web u _ node c.take_ahead-row.new.self c.index_mut-2.result.now c.push.new.self (Some c.take_ahead-row.result)
+    c.take_ahead-row.result may there
+    (link_at stands k web u c.index_mut-2.result.now turn.less turn.at.stand c.index_mut-2.ensures.value)
+    refl e.taken c.push.ensures.pushed refl refl))
+    (keeps k web _ c.take_ahead-row.new.self e.stays refl)
+
+pub returns-clause-link : goal.returns-clause-link
+returns-clause-link g c has s actor =
+    let web = c.args.self.now in
+    let k = c.args.k in
+    let stands = StandsAs g.S.Stage.stands in
+    let its = c.requires.room in
+    let node = c.index_mut.result.now in
+    let e = c.take_ahead-row.ensures in
+    let less = within web.links.items k s.count its.link actor.at.stand.as_many its.its in
+    let there = node_at stands k web s node less actor.at.stand c.index_mut.ensures.value in
+    let may = may_give g.S.Stage.stands k web node its.link e.kind e.gives there its.its its.room s actor.at less in
+    sym (ap (touched k) (state_gives s s.links k less may.does))
+
+pub returns-clause-others : goal.returns-clause-others
+returns-clause-others g c =
+    let web = c.args.self.now in
+    let new = record web {
+      nodes = with_item web.nodes c.args.k c.take_ahead-row.new.self;
+      links = with_item web.links c.args.k c.push.new.self;
+    } in
+    (keeps c.args.k web new c.take_ahead-row.new.self c.take_ahead-row.ensures.stays refl).others
+
+pub returns-clause-marks : goal.returns-clause-marks
+returns-clause-marks g c =
+    let web = c.args.self.now in
+    let k = c.args.k in
+    let stands = StandsAs g.S.Stage.stands in
+    let its = c.requires.room in
+    let node = c.index_mut.result.now in
+    let e = c.take_ahead-row.ensures in
+    let s = c.requires.at.scene in
+    let at = c.requires.at.holds in
+    let less = within web.links.items k s.count its.link at.stand.as_many its.its in
+    let there = node_at stands k web s node less at.stand c.index_mut.ensures.value in
+    let new = record web {
+      nodes = with_item web.nodes k c.take_ahead-row.new.self;
+      links = with_item web.links k c.push.new.self;
+    } in
+    act_marks g.R.Source.remaining g.R.Source.calls g.R.Source.failed k web new
+    (doing g.S.Stage.stands k web node its.link e.kind e.gives there its.its its.room s at less).0
+    (keeps k web new c.take_ahead-row.new.self e.stays refl).kind ∙ sym (or_false _)
