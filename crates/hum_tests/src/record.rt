@@ -5,7 +5,7 @@ ghost use Rattle.hum_record.specs.declared.SpinedKind.TheVariants.{Values};
 
 use crate::compared::{same, same_bytes};
 use hum_record::{
-    Kind, MOST_BYTES, Record, RecordBuilder, RecordFault, Selection, Spare, SpinedKind,
+    GrowingText, Kind, MOST_BYTES, Record, RecordBuilder, RecordFault, Selection, Spare, SpinedKind,
 };
 use std::alloc::{AllocError, Global};
 use std::process::Abort;
@@ -235,5 +235,92 @@ fn refuses_what_would_be_too_long(rt: HostRuntime) {
         let other = long_token(alloc, len.max(1)).expect(&rt, "memory");
         let answer = second_push(&rt, alloc, &half, &other);
         same(&rt, answer, want, len);
+    }
+}
+
+/// A record of data, one above it that is as wide, and the first with its null tokens filled by that.
+const FILLED: &[(&[u8], &[u8], &[u8])] = &[
+    (b".\t4c\t.", b"2a\t8b\t16.dd#", b"2a\t4c\t16.dd#"),
+    (b"4c", b"8e", b"4c"),
+    (b".", b"(8ee-L", b"(8ee-L"),
+    (b".\t.", b".\t4r", b".\t4r"),
+];
+
+#[test]
+fn fills_null_tokens_from_above(rt: HostRuntime) {
+    let alloc = rt.alloc();
+    let mut spare = Spare::none(alloc);
+    spare.keep(read(&rt, alloc, b"4c\t4e\t4g\t4cc"));
+    for row in FILLED {
+        let (text, above, filled) = *row;
+        let record = read(&rt, alloc, text);
+        let above = read(&rt, alloc, above);
+        assert!(&rt; record.width() == above.width());
+        let (Kind::Values, Kind::Values) = (record.kind(), above.kind()) else {
+            continue;
+        };
+        let made = record
+            .filled_from(&above, &mut spare)
+            .expect(&rt, "a record");
+        check_alike(&rt, &made, &read(&rt, alloc, filled));
+        same_bytes(&rt, made.text(), filled, text);
+        spare.keep(made);
+    }
+}
+
+/// Texts of fewer than 64 bytes.
+const COPIED: &[&[u8]] = &[b"4c\t2e", b"*^\t*", b"!!!COM: Bach"];
+
+/// A record with room for 200 bytes.
+const ROOMY: &[u8] = &[b'a'; 200];
+
+/// A line of 67 bytes, and as many bytes behind it.
+const FURTHER: &[u8] = b"123456789ABCDEF\t123456789ABCDEF\t123456789ABCDEF\t123456789ABCDEF\tXYZ\n\
+    123456789ABCDEF\t123456789ABCDEF\t123456789ABCDEF\t123456789ABCDEF\tXYZ\n";
+
+#[test]
+fn becomes_a_copy_in_its_own_memory(rt: HostRuntime) {
+    let alloc = rt.alloc();
+    let roomy = read(&rt, alloc, ROOMY);
+    let mut held = roomy.copy(alloc).expect(&rt, "memory");
+    for text in COPIED {
+        let other = read(&rt, alloc, text).copy(alloc).expect(&rt, "memory");
+        assert!(&rt; held.copy_short(&other));
+        same_bytes(&rt, held.text(), text, *text);
+        check_alike(&rt, &held, &other);
+    }
+    let mut spare = Spare::none(alloc);
+    spare.keep(roomy.copy(alloc).expect(&rt, "memory"));
+    let further = Record::parse_line(&mut spare, FURTHER, 5).expect(&rt, "a line of data");
+    assert!(&rt; held.copy_far(&further));
+    same_bytes(&rt, held.text(), &FURTHER[..67], "a longer text");
+    check_alike(&rt, &held, &further);
+}
+
+/// Parts, one of which is longer than the room that there is for others.
+const PARTS: &[&[u8]] = &[
+    b"",
+    b"4",
+    b"c#",
+    b"16.",
+    b"(4dd--J",
+    b"123456789ABCDEFGH",
+    &[b'x'; 700],
+    b"z",
+];
+
+#[test]
+fn grows_by_parts(rt: HostRuntime) {
+    let mut text = GrowingText::new(rt.alloc());
+    let mut whole = Vec::new(rt.alloc());
+    for _ in 0..2 {
+        for part in PARTS {
+            text.add(part).expect(&rt, "memory");
+            whole.extend_from_slice(part).expect(&rt, "memory");
+            same_bytes(&rt, text.as_slice(), &whole, part.len());
+        }
+        text.clear();
+        whole.clear();
+        same(&rt, text.is_empty(), true, "a text that was cleared");
     }
 }
