@@ -1,10 +1,8 @@
 -- One step behind another.
-use Rattle.std.proofs.Common.{◌≡◌, ◌∙◌, ℕ, ◌<◌, Bool, true, false, List, [], ◌++◌, Option, None, nat_eq, refl, sym, ap, subst, append_assoc, arith}
+use Rattle.std.proofs.Common.{◌≡◌, ◌∙◌, ℕ, ◌<◌, Bool, true, false, List, [], ◌++◌, Option, nat_eq, refl, sym, ap, subst, append_assoc, arith}
 use Rattle.std.proofs.lemmas.Bool.{false≢true, cond-true, cond-false, eq-eqb, ne_eqb}
 use Rattle.std.proofs.Math.Path.{fun_ext}
 use Rattle.std.specs.Prelude.{is_some}
-use Rattle.hum_record.specs.Row.{Row}
-use Rattle.hum_turns.specs.Failures.{Now, result}
 use Rattle.hum_turns.specs.Orders.{Order}
 use Rattle.hum_turns.proofs.Writing.{still}
 use Rattle.hum_nodes.specs.At.{At}
@@ -15,7 +13,7 @@ use Rattle.hum_engine.specs.declared.search.Search.{Search}
 use Rattle.hum_engine.specs.Search.{outer, changed, skipped, skipped_to, kept_behind, is_left}
 use Rattle.hum_turns.specs.declared.order.Side.{Side}
 use Rattle.hum_turns.specs.declared.order.Side.TheVariants as side
-use Rattle.hum_engine.specs.Scene.{Scene, plan_of, before_all}
+use Rattle.hum_engine.specs.Scene.{Scene, before_all}
 use Rattle.hum_engine.specs.Nets.{NetAt, AreOver, HasStepped, MayStep, Leads, Watches}
 use Rattle.hum_engine.proofs.Netting.{not_over}
 use Rattle.hum_engine.proofs.Running.{driven_on, seen}

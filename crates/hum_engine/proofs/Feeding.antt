@@ -27,6 +27,10 @@ as_many (Gave row) links k after = length-set links k after
 as_many ReadOn links k after = refl
 as_many (Ended e) links k after = length-set links k after
 
+-- A place that a list has is one of a scene with as many stages.
+pub within : {A : Type 0} (xs : List A) (k count : ℕ) (x : A) → length xs ≡ count → slice_get xs k ≡ Some x → k < count
+within xs k count x many at = let less = slice_get_within xs k x at in omega (arith, less, many)
+
 module _ {S R : Type 0} (stage : S → Moment → Type 0)
     (tells : R → Option (List ℕ)) (k : ℕ) (old new : Web S R)
     (node after : Node S R) (link put : port.Link)

@@ -226,7 +226,7 @@ pub record HasGone {S R W : Type 0} (stands : Node S R → List ℕ → At → T
   pub full : answer.is_full ≡ true → IsFull k new.web
   pub room : answer.has_taken ≡ true → (answer.link < k) × HasRoom answer.link new.web
 
--- Stage k was ready and has had its turn, in which it has changed its own link; or nothing has moved.
+-- Stage k was ready and has had its turn, in which it has changed its own link.
 pub record HasGivenOn {S R W : Type 0} (stands : Node S R → List ℕ → At → Type 0)
     (remaining : R → Option (List ℕ)) (contents : W → Option (List ℕ)) (flushed : W → Bool) (k : ℕ)
     (old new : Net S R W) : Type 0 where
@@ -236,6 +236,7 @@ pub record HasGivenOn {S R W : Type 0} (stands : Node S R → List ℕ → At �
   pub link : (s : Scene) → IsActor stands k old.web s → IsChanged k s new.failure k
   pub turns : new.turns ≡ old.turns + 1
 
+-- That, or nothing has moved. Nothing has failed, and nothing was written.
 pub record HasRefilled {S R W : Type 0} (stands : Node S R → List ℕ → At → Type 0)
     (remaining : R → Option (List ℕ)) (failed : R → Bool) (contents : W → Option (List ℕ))
     (flushed broken : W → Bool) (k : ℕ) (old new : Net S R W) : Type 0 where

@@ -4,6 +4,7 @@ use Rattle.hum_turns.specs.declared.order.Side.{Side}
 use Rattle.hum_turns.specs.declared.order.Side.TheVariants as side
 use Rattle.hum_engine.specs.declared.search.Search.{Search}
 
+-- whether a side is the left one
 abbrev pub is_left : Side → Bool
 is_left side.Left = true
 is_left side.Right = false

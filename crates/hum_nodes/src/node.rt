@@ -1,6 +1,6 @@
 //! The stages of a plan as nodes of a net.
-ghost use Rattle.std.specs.Prelude.{◌≡◌, ℕ, ◌<◌, ◌≤◌, ◌||◌, List, [], Some, None, true, false};
-ghost use Rattle.std.specs.Prelude.{length, slice_index, slice_set, IfOk, IfSome, OnOk, OnErr, Ok};
+ghost use Rattle.std.specs.Prelude.{◌≡◌, ℕ, ◌<◌, ◌≤◌, ◌||◌, List, [], Some, true, false};
+ghost use Rattle.std.specs.Prelude.{length, slice_index, slice_set, IfOk, OnOk, OnErr, Ok};
 ghost use Rattle.hum_stage.specs.Meaning.{Meaning, opening, IsLawful};
 ghost use Rattle.hum_assemble.specs.Standing.{Stands};
 ghost use Rattle.hum_read.specs.Steps.{given_by};

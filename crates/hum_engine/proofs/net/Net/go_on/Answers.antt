@@ -1,4 +1,4 @@
-use Rattle.std.proofs.Common.{◌≡◌, ◌∙◌, false, Some, None, refl, sym, subst, ⊎_elim}
+use Rattle.std.proofs.Common.{◌∙◌, false, refl, sym, subst, ⊎_elim}
 use Rattle.std.proofs.lemmas.Option.{none-some}
 use Rattle.hum_turns.specs.Orders.{Order}
 use Rattle.hum_nodes.specs.Nodes.{StandsAs}

@@ -1,15 +1,11 @@
-use Rattle.std.proofs.Common.{◌≡◌, ◌∙◌, ◌+◌, ℕ, ◌<◌, ◌≤◌, length, false, true, List, None, Some, slice_get, refl, sym, ap, arith, inl}
-use Rattle.std.proofs.lemmas.Option.{slice_get_within}
+use Rattle.std.proofs.Common.{◌∙◌, ◌≤◌, false, true, None, refl, sym, arith, inl}
 use Rattle.hum_nodes.proofs.Standing.{reads_few}
 use Rattle.hum_nodes.specs.Nodes.{StandsAs}
 use Rattle.hum_engine.specs.Scene.{moved}
 use Rattle.hum_engine.proofs.Bounds.{turns_few}
+use Rattle.hum_engine.proofs.Feeding.{within}
 use Rattle.hum_engine.proofs.Netting.{actor_now, ready_by, marks_by, or_false, stage_turned, unfailed_now}
 use Rattle.hum_engine.proofs.net.Net.refill.Goals as goal
-
--- a place that a list has is one of the scene's
-within : {A : Type 0} (xs : List A) (k count : ℕ) (x : A) → length xs ≡ count → slice_get xs k ≡ Some x → k < count
-within xs k count x many at = let less = slice_get_within xs k x at in omega (arith, less, many)
 
 pub refill-requires-clause-at : goal.refill-requires-clause-at
 refill-requires-clause-at g c =

@@ -1,7 +1,6 @@
-use Rattle.std.proofs.Common.{◌≡◌, ◌∙◌, ◌<◌, ℕ, length, true, false, List, Option, Some, slice_get, refl, sym, ap, arith}
+use Rattle.std.proofs.Common.{◌≡◌, ◌∙◌, ◌<◌, ℕ, length, true, false, List, Some, slice_get, refl, sym, ap}
 use Rattle.std.specs.Prelude.{nat_lt}
 use Rattle.std.specs.Vec.{with_item}
-use Rattle.std.proofs.lemmas.Option.{slice_get_within}
 use Rattle.hum_stage.specs.Meaning.{Moment}
 use Rattle.hum_turns.specs.Links.{has_room}
 use Rattle.hum_turns.specs.Turns.{Gives, can, state}
@@ -13,11 +12,11 @@ use Rattle.hum_nodes.specs.declared.node.Node.{Node}
 use Rattle.hum_nodes.specs.declared.node.Readiness.TheVariants as kinds
 use Rattle.hum_engine.specs.declared.link.Link as port
 use Rattle.hum_engine.specs.declared.web.Web.{Web}
-use Rattle.hum_engine.specs.Links.{Goes, room}
+use Rattle.hum_engine.specs.Links.{room}
 use Rattle.hum_engine.specs.Scene.{Scene, plan_of, at_of, IsAt, IsDoing, MayAct, MayTurn, Stands}
 use Rattle.hum_engine.proofs.Acting.{keeps, gave}
 use Rattle.hum_engine.proofs.Doings.{about_it, doing_is, gives_not_reads, gives_of}
-use Rattle.hum_engine.proofs.Feeding.{node_at, link_at}
+use Rattle.hum_engine.proofs.Feeding.{node_at, link_at, within}
 use Rattle.hum_engine.proofs.Polling.{state_gives}
 use Rattle.hum_engine.proofs.Stepping.{about_by, has_done}
 use Rattle.hum_engine.proofs.Turning.{stage_fed, stage_ready, act_marks}
@@ -65,10 +64,6 @@ module _ {S R : Type 0} (stage : S → Moment → Type 0) (k : ℕ) (web : Web S
         ready = stage_ready (StandsAs stage) k web (doing_of (at_of s.kinds s.links k)) s (about_it (StandsAs stage) k kinds.Gives web s a)
             ∙ can_give;
       }
-
--- a place that a list has is one of the scene's
-within : {A : Type 0} (xs : List A) (k count : ℕ) (x : A) → length xs ≡ count → slice_get xs k ≡ Some x → k < count
-within xs k count x many at = let less = slice_get_within xs k x at in omega (arith, less, many)
 
 pub returns-clause-ready : goal.returns-clause-ready
 returns-clause-ready g c has s at =
