@@ -14,6 +14,6 @@ mod widths;
 
 pub use between::interval;
 pub use intervals::Interval;
-pub use naming::{direction_sign, push_interval, quality_letter, write_interval};
+pub use naming::{push_interval, write_interval};
 pub use pitch::{Pitch, PitchFault};
 pub use spelling::{Repeated, accidentals, letters, push_pitch, write_pitch};

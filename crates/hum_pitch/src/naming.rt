@@ -1,7 +1,6 @@
 //! Intervals as text.
-ghost use Rattle.std.specs.Prelude.{◌≡◌, ◌≤◌, ◌∷◌, ◌++◌, [], cond, pos, negsuc, replicate};
-ghost use Rattle.std.specs.Prelude.{OnOk, IfOk, IfSome};
-ghost use Rattle.std.specs.Option.{option_to_list};
+ghost use Rattle.std.specs.Prelude.{◌≡◌, ◌≤◌, ◌++◌, [], cond, pos, negsuc, replicate};
+ghost use Rattle.std.specs.Prelude.{OnOk, IfOk};
 ghost use Rattle.std.specs.Fmt.{decimal};
 ghost use Rattle.hum_pitch.specs.Pitch.{IsWithin};
 ghost use Rattle.hum_pitch.specs.Intervals.{direction, upwards, excess, of_perfect, of_major};
@@ -119,57 +118,6 @@ fn quality_letters(quality: Quality) -> Repeated
         Quality::Minor => Repeated::times(1, b'm'),
         Quality::Augmented(more) => Repeated::times(more as usize, b'A'),
         Quality::Diminished(less) => Repeated::times(less as usize, b'd'),
-    }
-}
-
-/// The sign of an interval's direction, where it leads up or down.
-pub fn direction_sign(interval: Interval) -> Option<u8>
-    ensures { option_to_list result ≡ sign (direction interval.d interval.s) }
-{
-    match direction(interval) {
-        Direction::Up => Some(b'+'),
-        Direction::Down => Some(b'-'),
-        Direction::Level => None,
-    }
-}
-
-/// The letter of the quality of an interval that can be perfect, where that is one letter.
-#[inline(always)]
-fn perfect_letter(excess: i32) -> Option<u8>
-    ensures { IfSome result (λ letter. quality_letters (of_perfect excess) ≡ letter ∷ []) }
-{
-    match excess {
-        -1 => Some(b'd'),
-        0 => Some(b'P'),
-        1 => Some(b'A'),
-        _ => None,
-    }
-}
-
-/// The same of an interval that can be major or minor.
-#[inline(always)]
-fn major_letter(excess: i32) -> Option<u8>
-    ensures { IfSome result (λ letter. quality_letters (of_major excess) ≡ letter ∷ []) }
-{
-    match excess {
-        -2 => Some(b'd'),
-        -1 => Some(b'm'),
-        0 => Some(b'M'),
-        1 => Some(b'A'),
-        _ => None,
-    }
-}
-
-/// The letter of an interval's quality, where that is one letter, as most are.
-pub fn quality_letter(interval: Interval) -> Option<u8>
-    ensures { IfSome result (λ letter.
-        quality_letters (quality interval.d interval.s) ≡ letter ∷ []) }
-{
-    let excess = excess(interval);
-    if can_be_perfect(interval.d.unsigned_abs()) {
-        perfect_letter(excess)
-    } else {
-        major_letter(excess)
     }
 }
 
