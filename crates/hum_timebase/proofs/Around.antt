@@ -1,10 +1,8 @@
 -- The records that are due round one.
-use Rattle.std.proofs.Common.{◌≡◌, ◌≢◌, ℕ, zero, suc, ◌+◌, ◌<◌, ◌≤◌, List, [], ◌∷◌, ◌∙◌, map, length, replicate, refl, sym, ap, arith, Bool}
+use Rattle.std.proofs.Common.{◌≡◌, ◌≢◌, ℕ, zero, suc, ◌+◌, ◌<◌, ◌≤◌, List, [], ◌∷◌, ◌∙◌, length, refl, sym, ap, arith, Bool}
 use Rattle.std.specs.Prelude.{Option, None, Some, if◌then◌else◌}
-use lib.Chars.{codes}
 use Rattle.hum_record.specs.declared.Kind.TheVariants.{Values as AnyValues}
-use Rattle.hum_record.specs.declared.SpinedKind.TheVariants.{Values}
-use Rattle.hum_record.specs.Row.{Row, Spined, kind_of, tokens_of, text_of}
+use Rattle.hum_record.specs.Row.{Row, kind_of, tokens_of, text_of}
 use Rattle.hum_record.specs.Spelling.{IsTextOf}
 use Rattle.hum_record.specs.Nulls.{null_row}
 use Rattle.hum_record.proofs.Drafts.{filled_tokens}

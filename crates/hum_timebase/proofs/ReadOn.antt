@@ -1,9 +1,10 @@
 -- Reading the notes of a record's tokens, one token after another.
 use Rattle.std.proofs.Common.{◌≡◌, ◌∙◌, refl, sym, ap, arith, ℕ, ◌+◌, ◌-◌, ◌≤◌, Bool, true, false, ◌||◌, Option, None, Some}
 use Rattle.std.proofs.Common.{List, [], ◌∷◌, ◌++◌, length, take, drop, get_or, take_all, append_assoc}
-use Rattle.hum_record.specs.Contents.{is_null}
+use Rattle.std.specs.Prelude.{not}
+use Rattle.hum_record.specs.Contents.{is_null, is_barline}
 use Rattle.hum_frac.specs.Ratio.{Ratio}
-use Rattle.hum_timebase.specs.Notes.{note_of, notes_of, is_misread, has_misread}
+use Rattle.hum_timebase.specs.Notes.{is_sounding, note_of, notes_of, is_misread, has_misread}
 use Rattle.hum_timebase.specs.Placed.{placed}
 use Rattle.hum_timebase.specs.declared.notes.NoteAt.{NoteAt}
 
@@ -47,6 +48,19 @@ noted_more timed tokens made column (c ∷ cs) d token found {new} {rest} {next}
 pub null_noted : (timed : Bool) (token : List ℕ) → true ≡ is_null token → (None ≡ note_of timed token) × (is_misread timed token ≡ false)
 null_noted true token null = rw (← null) (refl, refl)
 null_noted false token null = (refl, refl)
+
+-- so has a barline
+barline_silent : (token : List ℕ) → true ≡ is_barline token → is_sounding token ≡ false
+barline_silent token barline = go (is_null token) (is_barline token) barline
+  where
+    go : (n b : Bool) → true ≡ b → not (n || b) ≡ false
+    go true true e = refl
+    go false true e = refl
+    go n false e = cc
+
+pub barline_noted : (timed : Bool) (token : List ℕ) → true ≡ is_barline token → (None ≡ note_of timed token) × (is_misread timed token ≡ false)
+barline_noted true token barline = rw (barline_silent token barline) (refl, refl)
+barline_noted false token barline = (refl, refl)
 
 -- a token is refused
 pub refused_here : (timed : List Bool) (tokens : List (List ℕ)) (made : List NoteAt) (column : ℕ) (columns : List Bool) (d : Bool)

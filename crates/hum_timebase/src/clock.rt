@@ -1,5 +1,5 @@
 //! The time of each record.
-ghost use Rattle.std.specs.Prelude.{◌≡◌, ◌+◌, ◌<◌, ◌^◌, IfOk, OnOk, IfErr, Ok, Err, None, Some, []};
+ghost use Rattle.std.specs.Prelude.{◌≡◌, ◌==◌, ◌&&◌, ◌+◌, ◌<◌, ◌^◌, IfOk, OnOk, IfErr, Ok, Err, None, Some, []};
 ghost use Rattle.hum_frac.specs.Multiples.{is_multiple};
 ghost use Rattle.hum_timebase.specs.{Clock.time_after, Placed.OfColumns};
 ghost use Rattle.hum_timebase.specs.Timebase.{multiples_from, count_before, count_after};
@@ -67,6 +67,16 @@ pub(crate) struct Strike {
     pub(crate) before: u128,
     pub(crate) stays: bool,
     pub(crate) after: u128,
+}
+
+impl Strike {
+    /// Whether the record stays, and no null records stand round it.
+    #[inline]
+    pub(crate) fn is_lone(self) -> bool
+        ensures { result ≡ (self.stays && ((self.before == 0) && (self.after == 0))) }
+    {
+        self.stays && self.before == 0 && self.after == 0
+    }
 }
 
 /// The time of the last timed record, the least end after it, and one end for each spine.

@@ -11,6 +11,7 @@ use hum_record::{Record, Spare, null_record};
 use hum_stage::DueRecords;
 use std::alloc::{AllocError, Global};
 use std::marker::Model;
+use std::mem::{forget, replace};
 
 /// So many copies of a record, a single one if it is there, and so many copies again. Copies are
 /// counted, and made when they are taken. The record that they are of stays for later ones: most
@@ -96,14 +97,23 @@ fn kept_if(stays: bool, row: Record, gone: &mut Option<Record>) -> Option<Record
     None
 }
 
+/// Gives the pool a record that is done with.
+// Not inlined: most often each record stays.
+#[inline(never)]
+fn keep_gone(gone: &mut Option<Record>, pool: &mut Spare) {
+    if let Some(gone) = gone.take() {
+        pool.keep(gone);
+    }
+}
+
 impl Around {
-    /// One record alone is due, in place of those that were.
+    /// This record alone is due.
+    #[inline]
     pub fn put(&mut self, row: Record)
+        requires { self.old ≡ [] }
         ensures { self.new ≡ row ∷ [] }
     {
-        self.before = 0;
-        self.single = Some(row);
-        self.after = 0;
+        forget(replace(&mut self.single, Some(row)));
     }
 
     /// One record is due and then another, in place of those that were.
@@ -145,6 +155,17 @@ impl Around {
         self.after = after;
         Ok(())
     }
+
+    /// Gives the pool the last record that didn't stay, if there is one.
+    #[inline(always)]
+    fn give_back(&mut self, pool: &mut Spare)
+        ensures { self.new ≡ self.old }
+    {
+        if self.gone.is_none() {
+            return;
+        }
+        keep_gone(&mut self.gone, pool);
+    }
 }
 
 impl DueRecords for Around {
@@ -168,9 +189,7 @@ impl DueRecords for Around {
     }
 
     fn next_with(&mut self, pool: &mut Spare) -> Result<Option<Record>, AllocError> {
-        if let Some(gone) = self.gone.take() {
-            pool.keep(gone);
-        }
+        self.give_back(pool);
         if self.before > 0 {
             let row = copy_of(self.alloc, &self.other, pool)?;
             self.before -= 1;
@@ -192,9 +211,7 @@ impl DueRecords for Around {
         if self.before > 0 || self.after > 0 {
             return None;
         }
-        if let Some(gone) = self.gone.take() {
-            pool.keep(gone);
-        }
+        self.give_back(pool);
         self.single.take()
     }
 

@@ -64,6 +64,10 @@ fn place(made: Strike, row: Record, room: u64, out: &mut Around) -> Result<(), R
     ensures { IfTold result (Answers
         (Ok (around made.before made.stays made.after (tokens_of row))) room out.new) }
 {
+    if made.is_lone() && room > 0 {
+        out.put(row);
+        return Ok(());
+    }
     let count = made
         .before
         .saturating_add(made.after)

@@ -223,6 +223,9 @@ pub(crate) fn read_notes(
             put_note(notes, here, lasting)?;
             continue;
         }
+        if is_barline(token) {
+            continue;
+        }
         match note(*timed, token) {
             Ok(None) => {}
             Ok(Some(lasting)) => put_note(notes, here, lasting)?,

@@ -3,7 +3,7 @@ use Rattle.hum_record.specs.Row.{tokens_of}
 use Rattle.hum_timebase.specs.Notes.{notes_of, has_misread}
 use Rattle.hum_timebase.specs.Placed.{placed}
 use Rattle.hum_timebase.proofs.Reading.{none_noted, none_misread}
-use Rattle.hum_timebase.proofs.ReadOn.{noted_more, null_noted, refused_here}
+use Rattle.hum_timebase.proofs.ReadOn.{noted_more, null_noted, barline_noted, refused_here}
 use Rattle.hum_timebase.proofs.notes.read_notes.Goals as goal
 
 pub loop-token-preserved-then-is_null : goal.loop-token-preserved-then-is_null
@@ -19,6 +19,12 @@ loop-token-preserved-in-Some-plain_note c =
     c.in-Some.token.now (Some lasting)
     c.in-len1-up.len_at_least c.in-Some.ensures.steps (sym c.in-Some-plain_note.ensures.note.0) c.in-Some-plain_note.ensures.note.1
     c.in_ok-put_note.ensures c.loop-token.invariant
+
+pub loop-token-preserved-then-is_barline : goal.loop-token-preserved-then-is_barline
+loop-token-preserved-then-is_barline c =
+    let none = barline_noted (get_or c.loop-token.columns.now 0 false) c.in-Some.token.now c.if-is_barline.ensures in
+    noted_more c.args.timed.now (tokens_of c.args.row.now) c.loop-token.notes.items c.loop-token.column c.loop-token.columns.now false c.in-Some.token.now None
+    c.in-len1-up.len_at_least c.in-Some.ensures.steps none.0 none.1 (sym (append-nil c.loop-token.notes.items)) c.loop-token.invariant
 
 pub loop-token-preserved-in-Ok-None : goal.loop-token-preserved-in-Ok-None
 loop-token-preserved-in-Ok-None c =
