@@ -60,7 +60,7 @@ fn started(walks: &[Walk], at: u64, j: usize) -> Walk
     if j < walks.len() {
         let walk = walks[j];
         if at < walk.at {
-            return walk.by_fields();
+            return walk;
         }
     }
     Walk::from(at, j)
@@ -82,7 +82,9 @@ fn walk_at(
         → taken o.extent [] ≡ None → Knows o path (drop k held.now.items) rows
         → AllStand o path (gone + k) rows walks.now → Halts o path (gone + k) rows j result }
 {
-    started(walks, gone + k as u64, j).go_on(held, gone, wanted)
+    let mut walk = started(walks, gone + k as u64, j);
+    walk.go_on(held, gone, wanted);
+    walk
 }
 
 /// What the token of a cell becomes from which others are collected, by the walk from it.
@@ -367,6 +369,34 @@ fn widen(walks: &mut Vec<Walk>, gone: u64, count: usize) -> Result<(), AllocErro
     Ok(())
 }
 
+/// A walk that isn't known begins at its cell, in the first record that waits.
+#[inline(always)]
+fn begin_at(walk: &mut Walk, gone: u64, j: usize)
+    requires { gone ≤ MOST_RECORDS }
+    ensures behind { gone ≤ walk.new.at }
+    ensures stands { (o : Choice) (path : Path) (rows : List Row) → taken o.extent [] ≡ None
+        → (gone < walk.old.at → Stands o path gone rows j walk.old)
+        → Stands o path gone rows j walk.new }
+{
+    if gone < walk.at {
+        return;
+    }
+    *walk = Walk::from(gone, j);
+}
+
+/// A walk from a cell of the first record that waits goes on, down to where it is decided.
+#[inline(always)]
+fn go_on_at(walk: &mut Walk, held: &VecDeque<Queued>, gone: u64, j: usize, wanted: Option<u16>)
+    requires { gone + length held.now.items ≤ MOST_RECORDS }
+    ensures { (o : Choice) (path : Path) (rows : List Row) → wanted ≡ wanted_of o.extent
+        → taken o.extent [] ≡ None → Knows o path held.now.items rows
+        → (gone < walk.old.at → Stands o path gone rows j walk.old)
+        → Halts o path gone rows j walk.new }
+{
+    begin_at(walk, gone, j);
+    walk.go_on(held, gone, wanted);
+}
+
 /// The walk from a cell of the first record that waits goes on. What the token of the cell becomes,
 /// from which others are collected.
 #[inline(never)]
@@ -389,9 +419,8 @@ fn advance_walk(
         → (token : List ℕ) → is_collectable o token ≡ true → begins o.extent token ≡ true
         → Becomes o token (chain path rows j) result }
 {
-    let walk = walk_at(held, 0, gone, walks, j, wanted);
-    walks[j] = walk;
-    becoming_by(walk)
+    go_on_at(&mut walks[j], held, gone, j, wanted);
+    becoming_by(walks[j])
 }
 
 /// What the token at place j becomes of the first record that waits. The walk from it goes on.

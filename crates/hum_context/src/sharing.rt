@@ -11,50 +11,52 @@ use crate::queued::Queued;
 use crate::walk::Walk;
 use std::alloc::AllocError;
 
-/// A walk whose first token is taken away.
-fn without(walk: Walk, enough: bool) -> Walk
-    ensures at { result.at ≡ walk.at }
-    ensures column { (result.column ≡ walk.column) × (result.ended ≡ walk.ended) }
-    ensures less { result.count ≡ walk.count - 1 }
-    ensures enough { result.enough ≡ enough }
-{
-    Walk {
-        at: walk.at,
-        column: walk.column,
-        count: walk.count.saturating_sub(1),
-        enough,
-        ended: walk.ended,
+impl Walk {
+    /// Its first token is taken away.
+    #[inline]
+    fn lose_first(&mut self, enough: bool)
+        ensures at { self.new.at ≡ self.old.at }
+        ensures column { (self.new.column ≡ self.old.column) × (self.new.ended ≡ self.old.ended) }
+        ensures less { self.new.count ≡ self.old.count - 1 }
+        ensures enough { self.new.enough ≡ enough }
+    {
+        self.count = self.count.saturating_sub(1);
+        self.enough = enough;
     }
-}
 
-/// The same of a token that is collected, which ends a group or doesn't; a walk that ended with it
-/// is made anew.
-fn behind_taken(walk: Walk, wanted: Option<u16>, ends: bool) -> Walk
-    ensures at { (result.at ≡ walk.at) ⊎ (result.at ≡ 0) }
-    ensures has { Shortens wanted ends walk result }
-{
-    match wanted {
-        Some(_) => without(walk, false),
-        None => {
-            if ends {
-                return Walk::from(0, 0);
+    /// The same of a token that is collected, which ends a group or doesn't; a walk that ended with it
+    /// is made anew.
+    #[inline]
+    fn lose_taken(&mut self, wanted: Option<u16>, ends: bool)
+        ensures at { (self.new.at ≡ self.old.at) ⊎ (self.new.at ≡ 0) }
+        ensures has { Shortens wanted ends self.old self.new }
+    {
+        match wanted {
+            Some(_) => self.lose_first(false),
+            None => {
+                if ends {
+                    *self = Walk::from(0, 0);
+                    return;
+                }
+                self.lose_first(self.enough);
             }
-            without(walk, walk.enough)
         }
     }
-}
 
-/// The walk from the cell below, by the walk from a cell of the record that is gone.
-fn behind(walk: Walk, kept: &Queued, j: usize, wanted: Option<u16>) -> Walk
-    ensures at { (result.at ≡ walk.at) ⊎ (result.at ≡ 0) }
-    ensures has { (o : Choice) (path : Path) (row : Row) (front : List Row) (i : ℕ)
-        → wanted ≡ wanted_of o.extent → Known o path row kept.now
-        → column_below path row j ≡ Some i → Has o path (row ∷ front) j walk → 0 < result.at
-        → Has o (after path row) front i result }
-{
-    match kept.heard(j) {
-        Heard::Passed => walk.by_fields(),
-        Heard::Taken { begins: _, ends } => behind_taken(walk, wanted, ends),
+    /// It becomes the walk from the cell below, where it was one from a cell of the record that is gone.
+    // In place: what pads its fields isn't moved along with them.
+    #[inline]
+    fn lose(&mut self, kept: &Queued, j: usize, wanted: Option<u16>)
+        ensures at { (self.new.at ≡ self.old.at) ⊎ (self.new.at ≡ 0) }
+        ensures has { (o : Choice) (path : Path) (row : Row) (front : List Row) (i : ℕ)
+            → wanted ≡ wanted_of o.extent → Known o path row kept.now
+            → column_below path row j ≡ Some i → Has o path (row ∷ front) j self.old
+            → 0 < self.new.at → Has o (after path row) front i self.new }
+    {
+        match kept.heard(j) {
+            Heard::Passed => {}
+            Heard::Taken { begins: _, ends } => self.lose_taken(wanted, ends),
+        }
     }
 }
 
@@ -97,7 +99,9 @@ fn share_one(
     match kept.below(j) {
         None => Ok(()),
         Some(i) => {
-            place(next, i, behind(walk, kept, j, wanted))?;
+            let mut behind = walk;
+            behind.lose(kept, j, wanted);
+            place(next, i, behind)?;
             Ok(())
         }
     }
@@ -132,7 +136,6 @@ pub(crate) fn shorten(walks: &mut Vec<Walk>, kept: &Queued, wanted: Option<u16>)
         → AllStand o (after path row) (first + 1) rows walks.new.items }
 {
     for j in 0..walks.len() {
-        let walk = walks[j];
-        walks[j] = behind(walk, kept, j, wanted);
+        walks[j].lose(kept, j, wanted);
     }
 }

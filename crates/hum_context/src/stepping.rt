@@ -45,20 +45,6 @@ impl Walk {
         }
     }
 
-    /// The same, put together anew: what pads its fields isn't moved along with them.
-    #[inline(always)]
-    pub(crate) fn by_fields(self) -> Walk
-        ensures { result ≡ self }
-    {
-        Walk {
-            at: self.at,
-            column: self.column,
-            count: self.count,
-            enough: self.enough,
-            ended: self.ended,
-        }
-    }
-
     /// One record more, whose token in its column isn't collected.
     #[inline(always)]
     fn pass_by(&mut self, c: usize, next: &Queued)
@@ -69,10 +55,12 @@ impl Walk {
         ensures same { self.new.count ≡ self.old.count }
         ensures short { self.new.enough ≡ false }
     {
+        let column = next.column_below(c);
+        let ended = next.is_last(c);
         self.at += 1;
-        self.column = next.below(c);
+        self.column = column;
         self.enough = false;
-        self.ended = next.is_last(c);
+        self.ended = ended;
     }
 
     /// One record more, whose token in its column is collected, and ends a group or doesn't. It is
@@ -113,24 +101,22 @@ impl Walk {
     /// It goes on until its tokens are enough, its column ends or no more records wait, of which so
     /// many are gone.
     #[inline(always)]
-    pub(crate) fn go_on(self, held: &VecDeque<Queued>, gone: u64, wanted: Option<u16>) -> Walk
-        requires behind { gone ≤ self.at }
+    pub(crate) fn go_on(&mut self, held: &VecDeque<Queued>, gone: u64, wanted: Option<u16>)
+        requires behind { gone ≤ self.old.at }
         requires few { gone + length held.now.items ≤ MOST_RECORDS }
-        ensures behind { gone ≤ result.at }
+        ensures behind { gone ≤ self.new.at }
         ensures halts { (o : Choice) (path : Path) (k : ℕ) (rows : List Row) (j : ℕ)
             → wanted ≡ wanted_of o.extent → Knows o path (drop k held.now.items) rows
-            → Stands o path (gone + k) rows j self → Halts o path (gone + k) rows j result }
+            → Stands o path (gone + k) rows j self.old → Halts o path (gone + k) rows j self.new }
     {
-        let mut walk = self;
         for n in (self.at - gone) as usize..held.len() {
-            if walk.enough {
-                return walk;
+            if self.enough {
+                return;
             }
-            let Some(c) = walk.column else {
-                return walk;
+            let Some(c) = self.column else {
+                return;
             };
-            walk.pass(c, &held[n], wanted);
+            self.pass(c, &held[n], wanted);
         }
-        walk
     }
 }

@@ -2,7 +2,8 @@
 ghost use Rattle.std.specs.Prelude.{◌≡◌, ◌≢◌, ◌==◌, ◌+◌, ◌≤◌, ℕ, [], true, length, Some, IfOk};
 ghost use Rattle.std.specs.Prelude.{slice_index_or};
 ghost use Rattle.hum_record.specs.declared.SpinedKind.TheVariants.{Values};
-ghost use Rattle.hum_record.specs.{Row.token_at, Row.tokens_of, Spelling.IsToken};
+ghost use Rattle.hum_record.specs.declared.Kind.TheVariants.{Interpretation as AnyInterpretation};
+ghost use Rattle.hum_record.specs.{Row.kind_of, Row.token_at, Row.tokens_of, Spelling.IsToken};
 ghost use Rattle.hum_path.specs.Spines.{Path};
 ghost use Rattle.hum_context.specs.{Context.is_last, Options.choice_of};
 ghost use Rattle.hum_context.specs.Queue.{IsStill, Known, LeadsBelow, column_in, is_last_in};
@@ -129,17 +130,26 @@ impl Queued {
         }
     }
 
+    /// The same under an interpretation.
+    // Not inlined: most records are data.
+    #[inline(never)]
+    fn column_under(&self, c: usize) -> Option<usize>
+        requires { kind_of self.now.row ≡ AnyInterpretation }
+        ensures { result ≡ column_in self.now.row self.now.below c }
+    {
+        if is_last_at(&self.row, c) {
+            return None;
+        }
+        self.below.of(c)
+    }
+
     /// The same, by what the record is.
+    #[inline(always)]
     pub(crate) fn column_below(&self, c: usize) -> Option<usize>
         ensures { result ≡ column_in self.now.row self.now.below c }
     {
         match self.row.kind() {
-            Kind::Interpretation => {
-                if is_last_at(&self.row, c) {
-                    return None;
-                }
-                self.below.of(c)
-            }
+            Kind::Interpretation => self.column_under(c),
             Kind::Values => Some(c),
             Kind::Local => Some(c),
             Kind::Global => Some(c),

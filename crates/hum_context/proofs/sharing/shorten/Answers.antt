@@ -19,18 +19,18 @@ loop-j-preserved c =
     let end = c.len-j-end.ensures in
     let test = c.loop-j-test.true in
     let walks = c.loop-j.walks.items in
-    let old = c.index-walk.result.now in
+    let old = c.index_mut.result.now in
     let at : slice_get walks c.loop-j.j ≡ Some old =
     get_there walks c.loop-j.j old (omega (arith, wide, size, end, test))
-    ∙ ap (λ (w : Walk). Some w) (sym c.index-walk.ensures) in
+    ∙ ap (λ (w : Walk). Some w) (sym c.index_mut.ensures.value) in
     record {
-      wide = length-set walks c.loop-j.j c.behind.result ∙ wide;
+      wide = length-set walks c.loop-j.j c.lose.new.self ∙ wide;
       stand = λ o path first row rows want known h.
           let s = c.loop-j.invariant.stand o path first row rows want known h in
-          short_more o path first row rows c.loop-j.j walks c.behind.result s
-          (shared_stand o path first row rows c.loop-j.j c.loop-j.j c.args.kept.now old c.behind.result
-          known (c.requires c.loop-j.j) (s.long c.loop-j.j old at (omega arith)) c.behind.ensures.at
-          (λ front below has moved. c.behind.ensures.has o path row front c.loop-j.j want known below has moved));
+          short_more o path first row rows c.loop-j.j walks c.lose.new.self s
+          (shared_stand o path first row rows c.loop-j.j c.loop-j.j c.args.kept.now old c.lose.new.self
+          known (c.requires c.loop-j.j) (s.long c.loop-j.j old at (omega arith)) c.lose.ensures.at
+          (λ front below has moved. c.lose.ensures.has o path row front c.loop-j.j want known below has moved));
     }
 
 pub returns : goal.returns

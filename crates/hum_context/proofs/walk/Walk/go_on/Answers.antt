@@ -13,11 +13,11 @@ loop-n-preserved c =
       at = omega (arith, next, at);
       stands = λ o path k rows j want knows s.
           stands_pass o path c.args.gone k rows j c.loop-n.n c.args.held.now.items
-          c.index.result.now c.loop-n.walk c.pass.new.self knows
+          c.index.result.now c.loop-n.self c.pass.new.self knows
           (c.loop-n.invariant.stands o path k rows j want knows s) at
           (omega (arith, size, end, below)) c.index.ensures next
           (λ front row known h. c.pass.ensures.has o path front row j want known c.in-Some.is
-          c.if-walk.false h);
+          c.if-self.false h);
     }
 
 pub returns-clause-halts : goal.returns-clause-halts
@@ -29,7 +29,7 @@ returns-clause-halts c o path k rows j want knows s =
     record {
       stands = h;
       halts = inr (inr (stands_out o path c.args.gone k rows j c.loop-n.n c.args.held.now.items
-          c.loop-n.walk knows h c.loop-n.invariant.at (omega (arith, size, end, over))));
+          c.loop-n.self knows h c.loop-n.invariant.at (omega (arith, size, end, over))));
     }
 
 pub loop-n-init : goal.loop-n-init
@@ -52,9 +52,9 @@ pass-requires c =
     let few = c.requires.few in
     record { few = omega (arith, size, end, below, at, few) }
 
-pub returns-then-walk-clause-halts : goal.returns-then-walk-clause-halts
-returns-then-walk-clause-halts c o path k rows j want knows s =
-    record { stands = c.loop-n.invariant.stands o path k rows j want knows s; halts = inl c.if-walk.true }
+pub returns-then-self-clause-halts : goal.returns-then-self-clause-halts
+returns-then-self-clause-halts c o path k rows j want knows s =
+    record { stands = c.loop-n.invariant.stands o path k rows j want knows s; halts = inl c.if-self.true }
 
 pub returns-in_default-clause-halts : goal.returns-in_default-clause-halts
 returns-in_default-clause-halts c o path k rows j want knows s = record {

@@ -9,8 +9,8 @@ use Rattle.hum_context.proofs.walk.Walk.go_on.Given as goal
 
 abbrev pub invariant-loop-n : goal.invariant-loop-n
 invariant-loop-n l = record {
-  at : l.walk.at ≡ l.gone + l.n;
+  at : l.self.at ≡ l.gone + l.n;
   stands : (o : Choice) (path : Path) (k : ℕ) (rows : List Row) (j : ℕ)
       → l.wanted ≡ wanted_of o.extent → Knows o path (drop k l.held.items) rows
-      → Stands o path (l.gone + k) rows j l.fn.self → Stands o path (l.gone + k) rows j l.walk;
+      → Stands o path (l.gone + k) rows j l.fn.self → Stands o path (l.gone + k) rows j l.self;
 }
