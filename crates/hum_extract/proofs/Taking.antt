@@ -23,7 +23,7 @@ use Rattle.hum_columns.proofs.ChosenJoins.{chosen_tokens}
 use Rattle.hum_columns.proofs.Flags.{flags_width, flags_plain, opening_steers}
 use Rattle.hum_columns.proofs.Taking.{wide_still as wide_text, follows_still as follows_text, names_in}
 use Rattle.hum_choices.specs.Extract.{Choice}
-use Rattle.hum_extract.specs.Choice.{each_chosen, opening_flags}
+use Rattle.hum_extract.specs.Choice.{each_chosen, misses, opening_flags}
 use Rattle.hum_extract.specs.Extract.{exchanged_flags, softened, cut, opened, column_command}
 use Rattle.hum_extract.specs.Kept.{kept}
 
@@ -164,3 +164,13 @@ each_length choice width j (name ∷ names) = ap suc (each_length choice width (
 
 pub opening_length : (choice : Choice) (names : List (List ℕ)) → length (opening_flags choice names) ≡ length names
 opening_length choice names = each_length choice (length names) 0 names
+
+-- the opening record is left with its chosen tokens
+pub gives_opening : (choice : Choice) (row : Row) (each : List Bool) (out : List Row) → row ≡ Spined Interpretation (tokens_of row)
+    → misses choice (tokens_of row) ≡ false → each ≡ opening_flags choice (tokens_of row) → out ≡ kept each row
+    → opened choice (tokens_of row) ≡ Ok out
+gives_opening choice (Comment text) each out is found marked given = cc
+gives_opening choice (Spined kind tokens) each out is found marked given =
+    let k : kind ≡ Interpretation = cc in
+    rw found (ap Ok (sym (given ∙ ap (λ k. filled k (chosen each tokens ∷ [])) k
+    ∙ ap (λ fs. filled Interpretation (chosen fs tokens ∷ [])) marked)))

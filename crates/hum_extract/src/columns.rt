@@ -1,12 +1,12 @@
 //! The chosen columns, record by record.
-ghost use Rattle.std.specs.Prelude.{◌≡◌, ℕ, None, [], OnOk};
+ghost use Rattle.std.specs.Prelude.{◌≡◌, false, None, Err, IfSome, OnOk};
 ghost use Rattle.hum_record.specs.Row.{Spined, tokens_of, text_of};
 ghost use Rattle.hum_record.specs.Spelling.{IsTextOf};
 ghost use Rattle.hum_record.specs.declared.SpinedKind.TheVariants.{Interpretation};
 ghost use Rattle.hum_path.specs.{Sign.steers, Spines.after, Rules.fault_of};
 ghost use Rattle.hum_stage.specs.Refusals.{IfTold};
-ghost use Rattle.hum_columns.specs.Following.{Answers, memory};
-ghost use Rattle.hum_extract.specs.Choice.{opening_flags};
+ghost use Rattle.hum_columns.specs.Following.{memory};
+ghost use Rattle.hum_extract.specs.Choice.{misses, opening_flags};
 ghost use Rattle.hum_extract.specs.Extract.{opened, extract, column_command};
 ghost use Rattle.hum_choices.specs.Extract.{choice_of};
 
@@ -32,31 +32,30 @@ fn asks(row: &Record) -> bool
     }
 }
 
-/// What the opening record becomes, and its columns that are chosen.
+/// Opens the columns of the opening record that are chosen.
 ///
 /// # Errors
 /// X2; or out of memory.
+// Not inlined: it happens once.
+#[inline(never)]
 fn open(
     alloc: Global,
     choice: &ExtractOptions,
     columns: &mut ChosenColumns,
-    row: Record,
-    out: &mut MostlyOne,
+    row: &Record,
 ) -> Result<(), Refusal>
-    requires kind { row ≡ Spined Interpretation (tokens_of row) }
-    requires lawful { IsTextOf row (text_of row) }
-    requires valid { fault_of columns.old.path row ≡ None }
-    requires empty { out.old ≡ [] }
-    ensures decided { IfTold result (λ refused. (room : ℕ)
-        → Answers (opened (choice_of choice.now) (tokens_of row)) room out.new refused) }
-    ensures columns { OnOk result (columns.new ≡ memory (after columns.old.path row)
-        (opening_flags (choice_of choice.now) (tokens_of row))) }
+    requires kind { row.now ≡ Spined Interpretation (tokens_of row.now) }
+    requires valid { fault_of columns.old.path row.now ≡ None }
+    ensures refused { IfTold result (λ refused. IfSome refused (λ rule.
+        opened (choice_of choice.now) (tokens_of row.now) ≡ Err rule)) }
+    ensures found { OnOk result (misses (choice_of choice.now) (tokens_of row.now) ≡ false) }
+    ensures columns { OnOk result (columns.new ≡ memory (after columns.old.path row.now)
+        (opening_flags (choice_of choice.now) (tokens_of row.now))) }
 {
-    match marks(alloc, choice, &row)? {
+    match marks(alloc, choice, row)? {
         None => Err(Refusal::Rule(Rule::X2)),
         Some(marks) => {
-            columns.open(&row, marks)?;
-            keep(columns.selection(), row, out);
+            columns.open(row, marks)?;
             Ok(())
         }
     }
@@ -97,21 +96,21 @@ impl Decides for ExtractColumns {
     }
 
     fn step(&mut self, next: Record, room: u64, out: &mut MostlyOne) -> Result<(), Refusal> {
-        if !asks(&next) {
-            keep(self.columns.selection(), next, out);
-            return Ok(());
+        if asks(&next) {
+            if !self.columns.is_unopened() {
+                cut(
+                    self.alloc,
+                    self.columns.marks().each(),
+                    &next,
+                    room,
+                    &mut out.many,
+                )?;
+                self.columns.pass(self.alloc, &next)?;
+                return Ok(());
+            }
+            open(self.alloc, &self.choice, &mut self.columns, &next)?;
         }
-        if self.columns.is_unopened() {
-            return open(self.alloc, &self.choice, &mut self.columns, next, out);
-        }
-        cut(
-            self.alloc,
-            self.columns.marks().each(),
-            &next,
-            room,
-            &mut out.many,
-        )?;
-        self.columns.pass(self.alloc, &next)?;
+        keep(self.columns.selection(), next, out);
         Ok(())
     }
 }

@@ -6,6 +6,7 @@ use hum_stage::DueRecords;
 use std::alloc::{AllocError, Global};
 use std::collections::VecDeque;
 use std::marker::Model;
+use std::mem::{forget, replace};
 
 /// Records that are due: one, without a list of them, or as many as an interpretation becomes.
 #[derive(Drop)]
@@ -26,11 +27,12 @@ impl Model for MostlyOne {
 
 impl MostlyOne {
     /// This record is due.
+    #[inline]
     pub fn put(&mut self, row: Record)
         requires { self.old ≡ [] }
         ensures { self.new ≡ row ∷ [] }
     {
-        self.one = Some(row);
+        forget(replace(&mut self.one, Some(row)));
     }
 }
 

@@ -9,6 +9,7 @@ use hum_record::{Record, Selection};
 
 /// Gives what is left of a record with the chosen tokens alone, if there are any. A global comment has
 /// none, and stays.
+#[inline(always)]
 pub fn keep(selection: &Selection, mut row: Record, out: &mut MostlyOne)
     requires as_wide { AsWide selection.now row }
     requires lawful { IsTextOf row (text_of row) }
