@@ -1,5 +1,5 @@
 //! Tokens in the making that are short, as most are.
-ghost use Rattle.std.specs.Prelude.{◌≡◌, ◌+◌, ◌≤◌, ◌++◌, IfSome, length, replicate, take, drop};
+ghost use Rattle.std.specs.Prelude.{◌≡◌, ◌+◌, ◌≤◌, ◌++◌, [], true, length, replicate, take, drop};
 ghost use Rattle.arrayvec.specs.ArrayVec.{array_vec_len};
 ghost use Rattle.hum_pitch.specs.Given.{spelled};
 ghost use Rattle.hum_pitch.specs.Spelling.{spelling};
@@ -74,28 +74,35 @@ fn put_repeated(text: &mut ShortToken, repeated: Repeated)
     }
 }
 
-/// A token with a pitch in the place of what stands from `start` to `end`, unless it is long.
+/// Makes the empty text a token with a pitch in the place of what stands from `start` to `end`, unless one
+/// of them is long; and tells which.
 #[inline(always)]
-pub(crate) fn with_pitch(token: &[u8], start: usize, end: usize, pitch: Pitch) -> Option<ShortToken>
+pub(crate) fn put_with_pitch(
+    text: &mut ShortToken,
+    token: &[u8],
+    start: usize,
+    end: usize,
+    pitch: Pitch,
+) -> bool
+    requires empty { text.old.items ≡ [] }
     requires start { start ≤ length token.now }
     requires end { end ≤ length token.now }
-    ensures { IfSome result (λ text. text.items
-        ≡ take start token.now ++ (spelling (spelled pitch) ++ drop end token.now)) }
+    ensures { result ≡ true → text.new.items
+        ≡ take start token.now ++ (spelling (spelled pitch) ++ drop end token.now) }
 {
+    if token.len() > 16 {
+        return false;
+    }
     let before = token.split_at(start).0;
     let behind = token.split_at(end).1;
-    if before.len() > 16 || behind.len() > 16 {
-        return None;
-    }
     let letters = letters(pitch);
     let accidentals = accidentals(pitch);
     if before.len() + letters.count + accidentals.count + behind.len() > 16 {
-        return None;
+        return false;
     }
-    let mut text = ArrayVec::new();
-    put_bytes(&mut text, before);
-    put_repeated(&mut text, letters);
-    put_repeated(&mut text, accidentals);
-    put_bytes(&mut text, behind);
-    Some(text)
+    put_bytes(text, before);
+    put_repeated(text, letters);
+    put_repeated(text, accidentals);
+    put_bytes(text, behind);
+    true
 }

@@ -1,5 +1,5 @@
 //! Tokens whose pitches are some steps and some semitones away.
-ghost use Rattle.std.specs.Prelude.{◌≡◌, [], IfOk, IfSome, Ok, None, true, false};
+ghost use Rattle.std.specs.Prelude.{◌≡◌, [], IfOk, Ok, None, true, false};
 ghost use Rattle.hum_record.specs.declared.SpinedKind.TheVariants.{Values};
 ghost use Rattle.hum_record.specs.Spelling.{IsToken};
 ghost use Rattle.hum_record.specs.RecordDraft.{Holds};
@@ -15,7 +15,7 @@ ghost use Rattle.hum_tones.specs.declared.part_rule.PartRule.TheVariants.{Transp
 ghost use Rattle.hum_tones.specs.PartRule.{given};
 
 use crate::part_rule::rule_of;
-use crate::short_token::{ShortToken, with_pitch};
+use crate::short_token::{ShortToken, put_with_pitch};
 use hum_choices::TransOptions;
 use hum_kern::{Note, read_note};
 use hum_pitch::{Pitch, PitchFault, push_pitch};
@@ -79,20 +79,22 @@ pub(crate) fn add_transposed(
     Ok(())
 }
 
-/// What a part becomes, by what was read of it, where it has a pitch and becomes a short text.
+/// Makes the empty text what a part becomes, by what was read of it, where it has a pitch and that is
+/// short; and tells whether it is.
 #[inline(always)]
-fn short_transposed(options: TransOptions, part: &[u8], found: Note) -> Option<ShortToken>
-    requires { Ok (reading found) ≡ note part.now }
-    ensures { IfSome result (λ text. HasPut
-        (transposed_part options.steps options.semitones part.now) [] text.items None) }
+fn put_short(options: TransOptions, part: &[u8], found: Note, text: &mut ShortToken) -> bool
+    requires read { Ok (reading found) ≡ note part.now }
+    requires empty { text.old.items ≡ [] }
+    ensures { result ≡ true → HasPut
+        (transposed_part options.steps options.semitones part.now) [] text.new.items None }
 {
     let pitch = match found.pitch {
         Some(pitch) => pitch,
-        None => return None,
+        None => return false,
     };
     match there(options, pitch) {
-        Ok(there) => with_pitch(part, found.start, found.end, there),
-        Err(_) => None,
+        Ok(there) => put_with_pitch(text, part, found.start, found.end, there),
+        Err(_) => false,
     }
 }
 
@@ -123,11 +125,10 @@ pub(crate) fn push_transposed(
         making.push(token)?;
         return Ok(true);
     }
-    match short_transposed(options, token, found) {
-        Some(short) => {
-            making.push(short.as_slice())?;
-            Ok(true)
-        }
-        None => Ok(false),
+    let mut text = ShortToken::new();
+    if !put_short(options, token, found, &mut text) {
+        return Ok(false);
     }
+    making.push(text.as_slice())?;
+    Ok(true)
 }

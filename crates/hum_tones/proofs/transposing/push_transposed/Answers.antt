@@ -5,19 +5,19 @@ use Rattle.hum_tones.proofs.GivenLawful.{given_lawful}
 use Rattle.hum_tones.proofs.Lone.{trans_lone, trans_stays}
 use Rattle.hum_tones.proofs.transposing.push_transposed.Goals as goal
 
-pub push-requires-in-Some : goal.push-requires-in-Some
-push-requires-in-Some c =
-    let told : given (Transposed c.args.options) c.args.token.now ≡ Ok c.in-Some.short.items =
-    trans_lone c.args.options c.args.token.now c.in-Some.short.items c.requires.read.alone
-    (rw c.in-Some.is at c.short_transposed.ensures) in
+pub push-requires-2 : goal.push-requires-2
+push-requires-2 c =
+    let told : given (Transposed c.args.options) c.args.token.now ≡ Ok c.put_short.new.text.items =
+    trans_lone c.args.options c.args.token.now c.put_short.new.text.items c.requires.read.alone
+    (c.put_short.ensures c.if-not-put_short.false) in
     rw (c.requires.kind, c.as_slice.ensures.value) (given_lawful (Transposed c.args.options) c.args.token.now _ told c.requires.lawful)
 
-pub returns-in_ok-push-in-Some-clause-pushed : goal.returns-in_ok-push-in-Some-clause-pushed
-returns-in_ok-push-in-Some-clause-pushed c = λ _. (
-  c.in-Some.short.items,
-  trans_lone c.args.options c.args.token.now c.in-Some.short.items c.requires.read.alone
-      (rw c.in-Some.is at c.short_transposed.ensures),
-  λ tokens held. rw c.as_slice.ensures.value at (c.in_ok-push-in-Some.ensures.pushed _ tokens held),
+pub returns-clause-pushed : goal.returns-clause-pushed
+returns-clause-pushed c = λ _. (
+  c.put_short.new.text.items,
+  trans_lone c.args.options c.args.token.now c.put_short.new.text.items c.requires.read.alone
+      (c.put_short.ensures c.if-not-put_short.false),
+  λ tokens held. rw c.as_slice.ensures.value at (c.in_ok-push-2.ensures.pushed _ tokens held),
 )
 
 pub returns-then-is_none-clause-pushed : goal.returns-then-is_none-clause-pushed
