@@ -1,5 +1,5 @@
 -- What the memory holds behind a record.
-use Rattle.std.proofs.Common.{◌≡◌, ◌∙◌, refl, sym, ap, ℕ, false, List, [], ◌∷◌, ◌≤◌, length, map, Option, None, Some, arith}
+use Rattle.std.proofs.Common.{◌≡◌, ◌∙◌, refl, sym, ap, ℕ, Bool, true, false, List, [], ◌∷◌, ◌≤◌, length, map, Option, None, Some, arith}
 use Rattle.std.specs.Prelude.{Result, Ok, Err, OnOk, OnErr, IfSome}
 use Rattle.std.specs.List.{list_any}
 use Rattle.std.proofs.lemmas.List.{length-map}
@@ -20,10 +20,10 @@ use Rattle.hum_ditto.specs.declared.memory.Holding.{Holding}
 use Rattle.hum_ditto.specs.declared.memory.Holding.TheVariants.{Given}
 use Rattle.hum_ditto.specs.Ditto.{all_filled}
 use Rattle.hum_ditto.specs.Memory.{last_seen}
-use Rattle.hum_ditto.specs.Held.{seen_alone, remembered_in, Remembered, IsWhole, MayFollow, HasFollowed, IsGivenFor}
+use Rattle.hum_ditto.specs.Held.{seen_alone, remembered_in, Remembered, IsWhole, MayFollow, HasFollowed, HasSeen, IsGivenFor}
 use Rattle.hum_ditto.proofs.Above.{made_under}
 use Rattle.hum_ditto.proofs.Whole.{data_width, data_stays, steered_width, data_followed, plain_followed}
-use Rattle.hum_ditto.proofs.Whole.{seen_behind, stays_behind, given_width, given_some}
+use Rattle.hum_ditto.proofs.Whole.{seen_behind, stays_behind, comes_same, given_width, given_some}
 
 abbrev pub seen_in : DittoOptions → Holding → Remembered
 seen_in options holding = record { options = options; each = remembered_in holding }
@@ -76,13 +76,10 @@ module _ (memory : Remembered) (options : DittoOptions) (holding : Holding) (old
   held_filled_if row (Some made) lawful e most = held_filled row made lawful e most
 
   -- a data record in the place of the one before
-  pub goes_on_whole : (row given new : Row) (found : List Move) {A E : Type 0} (result : Result A E) → kind_of row ≡ AnyValues → IsTextOf row (text_of row)
-      → MayFollow memory row found → IsGivenFor memory row given → OnOk result (new ≡ given) → OnErr result (new ≡ old)
-      → IsWhole options new stays
-  goes_on_whole row given new found (Err fault) k lawful may becomes made kept = rw kept whole
-  goes_on_whole row given new found (Ok done) k lawful may becomes made kept =
-      let same : width_of old ≡ width_of given =
-      sym size ∙ data_width memory.options.skip may.past row memory.each may.remembered may.score k ∙ sym (given_width memory row given k becomes) in
+  in_place : (row given new : Row) → kind_of row ≡ AnyValues → IsTextOf row (text_of row) → length memory.each ≡ width_of row
+      → IsGivenFor memory row given → new ≡ given → IsWhole options new stays
+  in_place row given new k lawful wide becomes made =
+      let same : width_of old ≡ width_of given = sym size ∙ wide ∙ sym (given_width memory row given k becomes) in
       rw made (record {
         skips_none = whole.skips_none;
         bare = whole.bare;
@@ -91,11 +88,32 @@ module _ (memory : Remembered) (options : DittoOptions) (holding : Holding) (old
         stays = whole.stays ∙ ap (same_upto 0) same;
       })
 
+  pub goes_on_whole : (row given new : Row) (found : List Move) {A E : Type 0} (result : Result A E) → kind_of row ≡ AnyValues → IsTextOf row (text_of row)
+      → MayFollow memory row found → IsGivenFor memory row given → OnOk result (new ≡ given) → OnErr result (new ≡ old)
+      → IsWhole options new stays
+  goes_on_whole row given new found (Err fault) k lawful may becomes made kept = rw kept whole
+  goes_on_whole row given new found (Ok done) k lawful may becomes made kept =
+      in_place row given new k lawful (data_width memory.options.skip may.past row memory.each may.remembered may.score k) becomes made
+
+  pub sees_whole : (row given new : Row) (b : Bool) → kind_of row ≡ AnyValues → IsTextOf row (text_of row) → length memory.each ≡ width_of row
+      → IsGivenFor memory row given → (b ≡ true → new ≡ given) → (b ≡ false → new ≡ old) → IsWhole options new stays
+  sees_whole row given new false k lawful wide becomes made kept = rw (kept refl) whole
+  sees_whole row given new true k lawful wide becomes made kept = in_place row given new k lawful wide becomes (made refl)
+
   pub goes_on_followed : (row given new : Row) (found : List Move) → kind_of row ≡ AnyValues → IsTextOf row (text_of row)
       → ComeFrom row found → IsGivenFor memory row given → new ≡ given → HasFollowed memory row found (map seen_alone (tokens_of new))
   goes_on_followed row given new found k lawful come becomes made =
       data_followed memory (map seen_alone (tokens_of new)) row given found none (ap (λ m. m.options.parentheses) (sym view) ∙ whole.bare)
       k lawful come becomes (ap (λ r. map seen_alone (tokens_of r)) made)
+
+  pub sees_followed : (row given new : Row) → kind_of row ≡ AnyValues → IsTextOf row (text_of row) → IsGivenFor memory row given → new ≡ given
+      → HasSeen memory row (map seen_alone (tokens_of new))
+  sees_followed row given new k lawful becomes made past remember sound =
+      let found = moves (path_after past) row in
+      goes_on_followed row given new found k lawful (comes_same row found (data_stays past row found refl sound k)) becomes made past remember sound refl
+
+  pub sees_kept : (new : Row) → new ≡ old → seen_in options (Given new stays) ≡ memory
+  sees_kept new kept = rw kept (ap (seen_in options) (sym is) ∙ view)
 
   -- an interpretation that moves and names nothing
   pub stays_followed : (row : Row) (found : List Move) (wide : ℕ) → kind_of row ≡ AnyInterpretation → IsTextOf row (text_of row) → ComeFrom row found

@@ -33,6 +33,13 @@ told found path past row is spines = rw spines at is
 pub stays_given : (memory : Remembered) (row : Row) → (kind_of row ≡ AnyValues → list_any is_null (tokens_of row) ≡ false) → IsGivenFor memory row row
 stays_given memory row none k = (k, sym (nothing_filled memory.options.parentheses memory.each (tokens_of row) (none k)))
 
+-- data leave the spines as they are
+pub data_path : (path : Path) (row : Row) → kind_of row ≡ AnyValues → path ≡ after path row
+data_path path (Comment text) k = refl
+data_path path (Spined Local tokens) k = refl
+data_path path (Spined Interpretation tokens) k = absurd cc
+data_path path (Spined Values tokens) k = refl
+
 comment_no_data : Global ≡ AnyValues → ⊥
 comment_no_data e = cc
 

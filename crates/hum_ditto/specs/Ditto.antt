@@ -1,6 +1,6 @@
 -- Null data tokens, and the tokens that they repeat.
-use Rattle.std.specs.Prelude.{ℕ, Bool, not, ◌&&◌, List, [], ◌∷◌, ◌++◌, map, length}
-use Rattle.std.specs.Prelude.{Option, None, Some, Result, Ok, Err, if◌then◌else◌}
+use Rattle.std.specs.Prelude.{ℕ, Bool, not, ◌&&◌, List, [], ◌∷◌, ◌++◌, map}
+use Rattle.std.specs.Prelude.{Option, None, Some, Ok, if◌then◌else◌}
 use Rattle.std.specs.List.{find}
 use lib.Chars.{codes}
 use Rattle.hum_record.specs.declared.SpinedKind.TheVariants.{Values}
@@ -9,7 +9,6 @@ use Rattle.hum_record.specs.Contents.{is_data, is_null}
 use Rattle.hum_path.specs.Chains.{reach, columns}
 use Rattle.hum_pattern.specs.Meaning.{matched_by}
 use Rattle.hum_stage.specs.Limits.{if_fits}
-use Rattle.hum_stage.specs.declared.faults.Rule.{Rule}
 use Rattle.hum_stage.specs.declared.faults.Command.TheVariants.{Ditto}
 use Rattle.hum_stage.specs.Meaning.{Meaning}
 use Rattle.hum_stage.specs.Decided.{Decision, at_once}

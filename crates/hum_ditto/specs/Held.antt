@@ -52,6 +52,13 @@ HasFollowed before row found after = (past : List Row)
     → IsOpen (row ∷ past) → found ≡ moves (path_after past) row
     → Remember (last_seen before.options.skip) None (row ∷ past) after
 
+-- The same of a data record, whose moves needn't be known.
+abbrev pub HasSeen : Remembered → Row → List (Option (List ℕ)) → Type 0
+HasSeen before row after = (past : List Row)
+    → Remember (last_seen before.options.skip) None past before.each
+    → IsOpen (row ∷ past)
+    → Remember (last_seen before.options.skip) None (row ∷ past) after
+
 -- a record is what another becomes, if that is data
 abbrev pub IsGivenFor : Remembered → Row → Row → Type 0
 IsGivenFor memory row given = kind_of row ≡ AnyValues

@@ -1,9 +1,9 @@
 -- What is remembered of a column.
-use Rattle.std.specs.Prelude.{◌≡◌, ℕ, Bool, List, Option, None, Some, if◌then◌else◌}
+use Rattle.std.specs.Prelude.{◌≡◌, ℕ, Bool, List, ◌∷◌, Option, None, Some, if◌then◌else◌}
 use Rattle.hum_record.specs.Row.{Row}
 use Rattle.hum_path.specs.Sign.{sign_of, is_exclusive}
 use Rattle.hum_path.specs.Spines.{Path}
-use Rattle.hum_path.specs.Score.{path_after}
+use Rattle.hum_path.specs.Score.{IsOpen, path_after}
 use Rattle.hum_path.specs.Memories.{Remember}
 use Rattle.hum_stage.specs.Decided.{Decision}
 use Rattle.hum_choices.specs.declared.ditto.DittoOptions.{DittoOptions}
@@ -26,3 +26,9 @@ pub record Follows (options : DittoOptions) (path : Path) (memories : List (Opti
   pub command : decide ≡ ditto options
   pub spines : path ≡ path_after past
   pub remembered : Remember (last_seen options.skip) None past memories
+
+-- Whatever the state followed, with one record more it follows that too.
+abbrev pub HasRemembered : (Decision → List Row → Type 0) → (Decision → List Row → Type 0) → Row
+    → Type 0
+HasRemembered before after row = (decide : Decision) (past : List Row) → before decide past
+    → IsOpen (row ∷ past) → after decide (row ∷ past)

@@ -12,27 +12,15 @@ ghost use Rattle.hum_record.specs.Contents.{is_null};
 ghost use Rattle.hum_ditto.specs.Ditto.{written, filled, all_filled};
 
 use crate::memory::LastTokens;
-use hum_record::{Kind, Record, RecordDraft, Spare, SpinedKind, is_null};
+use hum_record::{Record, RecordDraft, Spare, SpinedKind, is_null};
 use std::alloc::{AllocError, Global};
 
 /// Whether a record has a null data token.
 #[inline]
-fn has_null(row: &Record) -> bool
+pub(crate) fn has_null(row: &Record) -> bool
     ensures { result ≡ list_any is_null (tokens_of row.now) }
 {
     row.tokens().any(|token| is_null(token))
-}
-
-/// Whether a record is data with a null token.
-#[inline]
-pub(crate) fn is_to_fill(row: &Record) -> bool
-    ensures kind { result ≡ true → kind_of row.now ≡ AnyValues }
-    ensures tokens { result ≡ true → tokens_of row.now ≢ [] }
-    ensures kept { result ≡ false → kind_of row.now ≡ AnyValues
-        → list_any is_null (tokens_of row.now) ≡ false }
-    ensures at_most { length (text_of row.now) ≤ 1048576 }
-{
-    row.kind() == Kind::Values && has_null(row)
 }
 
 /// Writes a token in parentheses.

@@ -5,17 +5,28 @@
 //! exclusive interpretation.
 #![tactic(auto)]
 
+ghost use Rattle.std.specs.Prelude.{◌≡◌, ◌≤◌, length, OnOk};
+ghost use Rattle.std.specs.Option.{option_to_list};
+ghost use Rattle.hum_record.specs.declared.Kind.TheVariants.{Values};
+ghost use Rattle.hum_record.specs.Row.{kind_of, text_of};
+ghost use Rattle.hum_record.specs.Spelling.{IsTextOf};
+ghost use Rattle.hum_stage.specs.Decided.{MayStep, HasStepped};
+ghost use Rattle.hum_stage.specs.Refusals.{IfTold};
+ghost use Rattle.hum_ditto.specs.Memory.{Follows, HasRemembered};
+ghost use Rattle.hum_ditto.specs.Held.{IsGivenFor};
+
 mod filling;
 mod last_seen;
 mod memory;
 
-use filling::{is_to_fill, rebuilt};
+use filling::{has_null, rebuilt};
 pub use hum_choices::DittoOptions;
 use hum_path::Paths;
-use hum_record::{Record, Spare};
+use hum_record::{Kind, Record, Spare};
 use hum_stage::{AtOnce, Command, Decides, Refusal, Rule};
 use memory::LastTokens;
-use std::alloc::Global;
+use std::alloc::{AllocError, Global};
+use std::mem::{forget, replace};
 
 /// The spines, and what is remembered of each.
 #[derive(Drop)]
@@ -27,6 +38,81 @@ pub struct Repeats {
     shown: Vec<u8>,
     // what is left of records that gave way to others
     spare: Spare,
+}
+
+impl Repeats {
+    /// Remembers a data record, and what it became. Where one is held the spines needn't be asked.
+    #[inline(always)]
+    fn remember(&mut self, row: &Record, given: &Record) -> Result<(), AllocError>
+        requires score { MayStep
+            (Follows self.old.memory.options self.old.paths.path self.old.memory.each) row.now }
+        requires kind { kind_of row.now ≡ Values }
+        requires lawful { IsTextOf row.now (text_of row.now) }
+        requires given { IsGivenFor self.old.memory row.now given.now }
+        ensures { OnOk result (HasRemembered
+            (Follows self.old.memory.options self.old.paths.path self.old.memory.each)
+            (Follows self.new.memory.options self.new.paths.path self.new.memory.each) row.now) }
+    {
+        if self.memory.see(row, given) {
+            return Ok(());
+        }
+        self.remember_any(row, given)
+    }
+
+    /// The same of any record.
+    #[inline(never)]
+    fn remember_any(&mut self, row: &Record, given: &Record) -> Result<(), AllocError>
+        requires score { MayStep
+            (Follows self.old.memory.options self.old.paths.path self.old.memory.each) row.now }
+        requires given { IsGivenFor self.old.memory row.now given.now }
+        ensures { OnOk result (HasRemembered
+            (Follows self.old.memory.options self.old.paths.path self.old.memory.each)
+            (Follows self.new.memory.options self.new.paths.path self.new.memory.each) row.now) }
+    {
+        let found = self.paths.follow(row)?;
+        self.memory.follow(row, given, found)
+    }
+
+    /// Puts what a data record becomes.
+    #[inline(always)]
+    fn step_data(
+        &mut self,
+        next: Record,
+        _room: u64,
+        out: &mut Option<Record>,
+    ) -> Result<(), Refusal>
+        requires score { MayStep
+            (Follows self.old.memory.options self.old.paths.path self.old.memory.each) next }
+        requires kind { kind_of next ≡ Values }
+        requires lawful { IsTextOf next (text_of next) }
+        requires at_most { length (text_of next) ≤ 1048576 }
+        ensures { IfTold result (HasStepped
+            (Follows self.old.memory.options self.old.paths.path self.old.memory.each)
+            (Follows self.new.memory.options self.new.paths.path self.new.memory.each)
+            next _room (option_to_list out.new)) }
+    {
+        if !has_null(&next) {
+            self.remember(&next, &next)?;
+            forget(replace(out, Some(next)));
+            return Ok(());
+        }
+        let rebuilt = rebuilt(
+            self.alloc,
+            &next,
+            &self.memory,
+            &mut self.shown,
+            &mut self.spare,
+        )?;
+        match rebuilt {
+            Some(made) => {
+                self.remember(&next, &made)?;
+                forget(replace(out, Some(made)));
+                self.spare.keep(next);
+                Ok(())
+            }
+            None => Err(Refusal::Rule(Rule::L1)),
+        }
+    }
 }
 
 impl Decides for Repeats {
@@ -58,28 +144,15 @@ impl Decides for Repeats {
         }
     }
 
+    #[inline(always)]
     fn step(&mut self, next: Record, _room: u64, out: &mut Option<Record>) -> Result<(), Refusal> {
-        let found = self.paths.follow(&next)?;
-        if !is_to_fill(&next) {
-            self.memory.follow(&next, &next, found)?;
-            *out = Some(next);
-            return Ok(());
-        }
-        let rebuilt = rebuilt(
-            self.alloc,
-            &next,
-            &self.memory,
-            &mut self.shown,
-            &mut self.spare,
-        )?;
-        match rebuilt {
-            Some(made) => {
-                self.memory.follow(&next, &made, found)?;
-                *out = Some(made);
-                self.spare.keep(next);
+        match next.kind() {
+            Kind::Values => self.step_data(next, _room, out),
+            _ => {
+                self.remember_any(&next, &next)?;
+                *out = Some(next);
                 Ok(())
             }
-            None => Err(Refusal::Rule(Rule::L1)),
         }
     }
 }

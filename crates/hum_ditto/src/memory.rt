@@ -11,7 +11,7 @@ ghost use Rattle.hum_path.specs.Sign.{has_exclusive};
 ghost use Rattle.hum_path.specs.Spines.{same_upto};
 ghost use Rattle.hum_path.specs.Step.{ComeFrom};
 ghost use Rattle.hum_ditto.specs.Held.{seen_alone, remembered_in, MayHold, MayFollow, HasFollowed};
-ghost use Rattle.hum_ditto.specs.Held.{IsGivenFor};
+ghost use Rattle.hum_ditto.specs.Held.{HasSeen, IsGivenFor};
 
 use crate::DittoOptions;
 use crate::last_seen::LastSeen;
@@ -112,8 +112,16 @@ fn each_of(
     Ok(each)
 }
 
-/// Puts a copy of a record in the place of another, most often in its own memory.
+/// Puts a copy of a record in the place of another, where that has room for it; and tells whether it had.
 #[inline]
+fn copy_over(held: &mut Record, given: &Record) -> bool
+    ensures given { result ≡ true → held.new ≡ given.now }
+    ensures kept { result ≡ false → held.new ≡ held.old }
+{
+    held.copy_short(given) || held.copy_far(given)
+}
+
+/// The same, in other memory.
 fn replace(
     alloc: Global,
     held: &mut Record,
@@ -123,26 +131,6 @@ fn replace(
     ensures given { OnOk result (held.new ≡ given.now) }
     ensures kept { OnErr result (held.new ≡ held.old) }
 {
-    if held.copy_short(given) {
-        return Ok(());
-    }
-    replace_any(alloc, held, given, spare)
-}
-
-/// The same of a record of any length.
-#[inline(never)]
-fn replace_any(
-    alloc: Global,
-    held: &mut Record,
-    given: &Record,
-    spare: &mut Spare,
-) -> Result<(), AllocError>
-    ensures given { OnOk result (held.new ≡ given.now) }
-    ensures kept { OnErr result (held.new ≡ held.old) }
-{
-    if held.copy_far(given) {
-        return Ok(());
-    }
     let copy = given.copy_into(alloc, spare)?;
     spare.keep(mem::replace(held, copy));
     Ok(())
@@ -205,6 +193,24 @@ impl LastTokens {
             }
             Holding::Each(_) => None,
         }
+    }
+
+    /// Goes on under a data record, and what it became, where a record is held whose memory has room for
+    /// that; and tells whether it did.
+    #[inline]
+    pub fn see(&mut self, row: &Record, given: &Record) -> bool
+        requires kind { kind_of row.now ≡ AnyValues }
+        requires lawful { IsTextOf row.now (text_of row.now) }
+        requires width { length self.old.each ≡ width_of row.now }
+        requires given { IsGivenFor self.old row.now given.now }
+        ensures options { self.new.options ≡ self.old.options }
+        ensures memories { result ≡ true → HasSeen self.old row.now self.new.each }
+        ensures kept { result ≡ false → self.new ≡ self.old }
+    {
+        let Holding::Given(held, _) = &mut self.holding else {
+            return false;
+        };
+        copy_over(held, given)
     }
 
     /// Goes on under a record, and what it became.
